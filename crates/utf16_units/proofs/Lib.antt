@@ -1,0 +1,3 @@
+pub mod UnitLemmas
+pub mod CharLemmas
+pub mod EncodingLemmas

@@ -1,0 +1,48 @@
+-- The encoding of a text in UTF-16, in either byte order. A text is a list of scalar values.
+use Rattle.std.specs.Prelude.{◌≡◌, ℕ, ◌*◌, Bool, ◌&&◌, List, [], ◌∷◌, length, All}
+use Rattle.std.specs.Char.{IsScalar}
+use Rattle.std.specs.Char.Escape.{encode_utf16}
+use Rattle.std.specs.Char.Utf16.{utf16_lossy_chars}
+use Rattle.std.specs.List.{flat_map}
+use Rattle.std.specs.Str.{all_scalars, bytes_eq}
+use Rattle.utf16_units.specs.Unit.{unit_bytes, unit_of}
+
+-- the bytes of a character: those of its one or two units (Unicode 3.9, UTF-16 encoding form)
+abbrev pub char_bytes : Bool → ℕ → List ℕ
+char_bytes big c = flat_map (unit_bytes big) (encode_utf16 c)
+
+-- the bytes of a text: those of its characters, one after another (Unicode 3.10, UTF-16BE and UTF-16LE)
+unfoldable pub encode : Bool → List ℕ → List ℕ
+encode big text = flat_map (char_bytes big) text
+
+-- how many bytes a character takes: two for each unit
+abbrev pub char_size : ℕ → ℕ
+char_size c = 2 * length (encode_utf16 c)
+
+-- how many bytes a text takes, in either order: two for each unit
+unfoldable pub size : List ℕ → ℕ
+size text = 2 * length (flat_map encode_utf16 text)
+
+-- the bytes are the encoding of the text, whose characters are scalar values (Unicode 3.9, scalar value)
+pub record Encodes (big : Bool) (text bytes : List ℕ) : Type 0 where
+  pub scalars : All IsScalar text
+  pub spelled : encode big text ≡ bytes
+
+-- the bytes are well formed: some text is encoded so (Unicode 3.9, well-formed UTF-16)
+pub record IsText (big : Bool) (bytes : List ℕ) : Type 0 where
+  pub text : List ℕ
+  pub encodes : Encodes big text bytes
+
+-- the units that bytes spell, two bytes each; a last odd byte is in none
+unfoldable pub units_of : Bool → List ℕ → List ℕ
+units_of big [] = []
+units_of big (last ∷ []) = []
+units_of big (first ∷ second ∷ bytes) = unit_of big first second ∷ units_of big bytes
+
+-- the text that bytes encode, computed; where they encode none, a surrogate with no partner gives U+FFFD
+unfoldable pub text_of : Bool → List ℕ → List ℕ
+text_of big bytes = utf16_lossy_chars (units_of big bytes)
+
+-- whether bytes are well formed, computed: they are the encoding of the text that they spell
+unfoldable pub is_text : Bool → List ℕ → Bool
+is_text big bytes = all_scalars (text_of big bytes) && bytes_eq (encode big (text_of big bytes)) bytes

@@ -1,0 +1,44 @@
+//! The error of bytes that are not well-formed UTF-16.
+
+ghost use Rattle.std.specs.Prelude.{◌≡◌, Some};
+ghost use Rattle.std.specs.Option.{ForSome};
+
+use std::error::Error;
+use std::fmt;
+
+/// Why bytes are not well-formed UTF-16: how far they are, and whether more bytes could help.
+#[derive(Clone, Copy, Debug, PartialEq, Eq)]
+pub struct Utf16Error {
+    pub(crate) valid_up_to: usize,
+    pub(crate) error_len: Option<u8>,
+    ghost one_unit: { ForSome error_len (λ n. n ≡ 2) },
+}
+
+impl Utf16Error {
+    ghost use Rattle.utf16_units.specs.Utf16Error.{error_len, valid_up_to};
+
+    /// The length in bytes of the longest beginning that is well formed.
+    #[inline]
+    pub fn valid_up_to(&self) -> usize
+        ensures { result ≡ valid_up_to self.now }
+    {
+        self.valid_up_to
+    }
+
+    /// `Some(2)` where a surrogate has no partner: decoding can resume two bytes behind `valid_up_to`. `None`
+    /// where the bytes end inside a character: the last 1 to 3 bytes may be its beginning.
+    #[inline]
+    pub fn error_len(&self) -> Option<usize>
+        ensures { result ≡ error_len self.now }
+    {
+        self.error_len.map(usize::from)
+    }
+}
+
+impl fmt::Display for Utf16Error {
+    fn fmt<W: fmt::Write>(&self, f: &mut fmt::Formatter<W>) -> fmt::Result {
+        f.write_str("Invalid UTF-16LE data in byte slice")
+    }
+}
+
+impl Error for Utf16Error {}

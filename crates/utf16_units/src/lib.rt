@@ -1,0 +1,14 @@
+//! UTF-16 units and bytes: byte orders, surrogates, one character, the validator and its error.
+#![tactic(auto)]
+
+mod char;
+mod error;
+mod order;
+mod unit;
+mod validate;
+
+pub use crate::char::Utf16CharExt;
+pub use crate::error::Utf16Error;
+pub use crate::order::{BE, BigEndian, LE, LittleEndian, Utf16Order};
+pub use crate::unit::{decode_surrogates, is_leading_surrogate, is_trailing_surrogate};
+pub use crate::validate::validate_raw_utf16;

@@ -1,0 +1,32 @@
+//! Code units: the two classes of surrogates, and the character of a pair.
+
+ghost use Rattle.std.specs.Prelude.{◌≡◌, ◌↔◌, IsTrue, [], ◌∷◌};
+ghost use Rattle.std.specs.Char.Escape.{encode_utf16};
+ghost use Rattle.utf16_units.specs.Unit.{IsLeading, IsTrailing};
+
+/// Whether a code unit is a leading (high) surrogate, from 0xD800 to 0xDBFF.
+#[inline]
+pub fn is_leading_surrogate(unit: u16) -> bool
+    ensures { IsTrue result ↔ IsLeading unit }
+{
+    unit & 0xFC00 == 0xD800
+}
+
+/// Whether a code unit is a trailing (low) surrogate, from 0xDC00 to 0xDFFF.
+#[inline]
+pub fn is_trailing_surrogate(unit: u16) -> bool
+    ensures { IsTrue result ↔ IsTrailing unit }
+{
+    unit & 0xFC00 == 0xDC00
+}
+
+/// The character of a surrogate pair. Test the two units by `is_leading_surrogate` and `is_trailing_surrogate`.
+#[inline]
+pub fn decode_surrogates(u: u16, u2: u16) -> char
+    requires leading { IsLeading u }
+    requires trailing { IsTrailing u2 }
+    ensures { encode_utf16 result ≡ u ∷ u2 ∷ [] }
+{
+    let code = 0x1_0000 + ((u - 0xD800) as u32 * 0x400 + (u2 - 0xDC00) as u32);
+    unsafe { char::from_u32_unchecked(code) }
+}
