@@ -1,3 +1,5 @@
 pub mod UnitLemmas
 pub mod CharLemmas
 pub mod EncodingLemmas
+pub mod FirstChar
+pub mod FaultLemmas

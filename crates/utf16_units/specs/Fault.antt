@@ -1,7 +1,9 @@
 -- Where bytes stop being well formed, and what stands there.
-use Rattle.std.specs.Prelude.{◌≡◌, ℕ, zero, suc, ◌≤◌, Bool, true, false, ◌&&◌, List, [], ◌∷◌, Option, None, Some, length, take, drop, nat_le, if◌then◌else◌}
+use Rattle.std.specs.Prelude.{◌≡◌, ◌≢◌, ◌++◌, ℕ, zero, suc, ◌≤◌, Bool, true, false, ◌&&◌, List, [], ◌∷◌, Option, None, Some, length, take, drop, nat_le, if◌then◌else◌}
 use Rattle.utf16_units.specs.Unit.{IsLeading, unit_of}
-use Rattle.utf16_units.specs.Encoding.{IsText, is_text}
+use Rattle.std.specs.Char.{IsScalar}
+use Rattle.std.specs.Option.{ForSome}
+use Rattle.utf16_units.specs.Encoding.{char_bytes, IsText, is_text}
 
 -- n is the length of the longest valid beginning: the first n bytes are well formed, and no more than n are
 pub record IsFront (big : Bool) (bytes : List ℕ) (n : ℕ) : Type 0 where
@@ -45,3 +47,18 @@ is_cut_off big (first ∷ second ∷ after) =
 -- the fault of bytes that are not well formed, computed
 unfoldable pub fault : Bool → List ℕ → Option ℕ
 fault big bytes = if is_cut_off big (drop (front big bytes) bytes) then None else Some 2
+
+-- the first n bytes are one character's
+pub record BeginsWithChar (big : Bool) (bytes : List ℕ) (n : ℕ) : Type 0 where
+  pub char : ℕ
+  pub scalar : IsScalar char
+  pub within : n ≤ length bytes
+  pub spelled : take n bytes ≡ char_bytes big char
+
+-- no beginning of the bytes is one character's
+abbrev pub BeginsWithNoChar : Bool → List ℕ → Type 0
+BeginsWithNoChar big bytes = (c : ℕ) (rest : List ℕ) → IsScalar c → bytes ≢ char_bytes big c ++ rest
+
+-- what stands where no character begins, and whether more bytes could make one
+abbrev pub IsFaultAt : Bool → List ℕ → Option ℕ → Type 0
+IsFaultAt big rest error_len = BeginsWithNoChar big rest × IsErrorLen big rest error_len × ForSome error_len (λ n. n ≡ 2)

@@ -1,0 +1,96 @@
+-- The longest valid beginning and the fault at it.
+use Rattle.std.proofs.Common.{◌≡◌, ◌≢◌, ℕ, zero, suc, ◌+◌, ◌-◌, ◌<◌, ◌≤◌, ◌⊎◌, Bool, true, false, List, [], ◌∷◌, ◌++◌, length, take, drop, Option, None, Some, All, refl, sym, ap, ap₂, ◌∙◌, subst, ⊎_elim, inl, inr, arith, append_assoc, length-append, length-take-le, length-drop, take-append-drop, take_at, drop_at, take_all, take-add}
+use Rattle.std.proofs.lemmas.List.{take_rest}
+use Rattle.std.proofs.lemmas.Bool.{cases_lt}
+use Rattle.std.proofs.lemmas.List.Elements.{All-head}
+use Rattle.std.specs.Char.{IsScalar}
+use Rattle.utf16_units.specs.Encoding.{char_bytes, encode, Encodes, IsText}
+use Rattle.utf16_units.specs.Fault.{BeginsWithChar, BeginsWithNoChar, IsErrorLen, IsFault, IsFaultAt, IsFront}
+use Rattle.utf16_units.proofs.EncodingLemmas.{encode-nil, encode-cons, IsText-append, IsText-char, IsText-rest}
+
+-- the bytes from a place on, as `&bytes[at..]` gives them
+abbrev pub rest_from : List ℕ → ℕ → List ℕ
+rest_from bytes at = take (length bytes - at) (drop at bytes)
+
+-- where no character begins, no beginning but the empty one is well formed
+pub no_text_begins : (big : Bool) (rest : List ℕ) (n : ℕ) → BeginsWithNoChar big rest → n ≤ length rest → IsText big (take n rest) → n ≡ 0
+no_text_begins big rest n none within t = at_text t.text t.encodes where
+  at_text : (text : List ℕ) → Encodes big text (take n rest) → n ≡ 0
+  at_text [] e = sym (length-take-le n rest within) ∙ ap length (sym e.spelled ∙ encode-nil big)
+  at_text (c ∷ text) e =
+      absurd (none c (encode big text ++ drop n rest) (All-head IsScalar c text e.scalars)
+      (sym (take-append-drop n rest) ∙ ap (λ t. t ++ drop n rest) (sym e.spelled ∙ encode-cons big c text)
+      ∙ append_assoc (char_bytes big c) (encode big text) (drop n rest)))
+
+take-past : (front rest : List ℕ) (n : ℕ) → take (length front + n) (front ++ rest) ≡ front ++ take n rest
+take-past [] rest n =
+    let same : 0 + n ≡ n = omega arith in
+    ap (λ k. take k rest) same
+take-past (x ∷ front) rest n =
+    let same : suc (length front) + n ≡ suc (length front + n) = omega arith in
+    ap (λ k. take k (x ∷ (front ++ rest))) same ∙ ap (λ t. x ∷ t) (take-past front rest n)
+
+-- well-formed bytes behind which no character begins are the longest valid beginning
+pub IsFront-before : (big : Bool) (front rest : List ℕ) → IsText big front → BeginsWithNoChar big rest → IsFront big (front ++ rest) (length front)
+IsFront-before big front rest t none =
+    let long = length-append front rest in
+    record {
+      within = omega arith;
+      valid = subst (IsText big) (sym (take_at front rest (length front) refl)) t;
+      longest = λ m within valid. ⊎_elim
+          (λ (past : length front < m).
+              let n = m - length front in
+              let same : m ≡ length front + n = omega arith in
+              let split : take m (front ++ rest) ≡ front ++ take n rest = ap (λ k. take k (front ++ rest)) same ∙ take-past front rest n in
+              let zero_n : n ≡ 0 = no_text_begins big rest n none (omega arith) (IsText-rest big front (take n rest) t (subst (IsText big) split valid)) in
+              omega arith)
+          (λ (le : m ≤ length front). le)
+          (cases_lt (length front) m);
+    }
+
+-- the longest valid beginning is one
+pub IsFront-unique : (big : Bool) (bytes : List ℕ) (m n : ℕ) → IsFront big bytes m → IsFront big bytes n → m ≡ n
+IsFront-unique big bytes m n f g =
+    let le : m ≤ n = g.longest m f.within f.valid in
+    let ge : n ≤ m = f.longest n g.within g.valid in
+    omega arith
+
+-- at a place in the bytes
+pub IsFront-at : (big : Bool) (bytes : List ℕ) (n : ℕ) → n ≤ length bytes → IsText big (take n bytes) → BeginsWithNoChar big (drop n bytes) → IsFront big bytes n
+IsFront-at big bytes n within t none =
+    subst (λ m. IsFront big bytes m) (length-take-le n bytes within)
+    (subst (λ b. IsFront big b (length (take n bytes))) (take-append-drop n bytes) (IsFront-before big (take n bytes) (drop n bytes) t none))
+
+pub IsFault-at : (big : Bool) (bytes : List ℕ) (n : ℕ) (error_len : Option ℕ) → IsFront big bytes n → IsErrorLen big (drop n bytes) error_len → IsFault big bytes error_len
+IsFault-at big bytes n error_len f e = record { valid_up_to = n; front = f; at_front = e }
+
+-- bytes with a shorter longest valid beginning are not well formed
+pub not_IsText-front : (big : Bool) (bytes : List ℕ) (n : ℕ) → IsFront big bytes n → n < length bytes → ¬ (IsText big bytes)
+not_IsText-front big bytes n f short t =
+    let all : take (length bytes) bytes ≡ bytes = take_all (length bytes) bytes (omega arith) in
+    let le : length bytes ≤ n = f.longest (length bytes) (omega arith) (subst (IsText big) (sym all) t) in
+    absurd (omega arith)
+
+-- one more character behind well-formed bytes
+pub IsText-step : (big : Bool) (bytes : List ℕ) (at n : ℕ) → at ≤ length bytes → IsText big (take at bytes)
+    → BeginsWithChar big (rest_from bytes at) n → (at + n ≤ length bytes) × IsText big (take (at + n) bytes)
+IsText-step big bytes at n within t begins =
+    let long : length (rest_from bytes at) ≡ length bytes - at = ap length (take_rest bytes at) ∙ length-drop at bytes in
+    let le : n ≤ length (rest_from bytes at) = begins.within in
+    let char : take n (drop at bytes) ≡ char_bytes big begins.char = ap (take n) (sym (take_rest bytes at)) ∙ begins.spelled in
+    (omega arith, subst (IsText big) (ap (λ t. take at bytes ++ t) (sym char) ∙ sym (take-add at n bytes)) (IsText-append big (take at bytes) (char_bytes big begins.char) t (IsText-char big begins.char begins.scalar)))
+
+module _ (big : Bool) (bytes : List ℕ) (at : ℕ) (error_len : Option ℕ) (within : at < length bytes) (t : IsText big (take at bytes))
+    (found : IsFaultAt big (rest_from bytes at) error_len) where
+  here : IsFaultAt big (drop at bytes) error_len
+  here = subst (λ rest. IsFaultAt big rest error_len) (take_rest bytes at) found
+
+  -- a fault behind well-formed bytes is where the longest valid beginning ends
+  pub IsFront-fault : IsFront big bytes at
+  IsFront-fault = IsFront-at big bytes at (omega arith) t here.0
+
+  pub IsFault-fault : IsFault big bytes error_len
+  IsFault-fault = IsFault-at big bytes at error_len IsFront-fault here.1
+
+  pub not_IsText-fault : ¬ (IsText big bytes)
+  not_IsText-fault = not_IsText-front big bytes at IsFront-fault within

@@ -1,0 +1,28 @@
+use Rattle.std.proofs.Common.{arith, rules}
+use Rattle.utf16_units.proofs.EncodingLemmas.{IsText-nil}
+use Rattle.utf16_units.proofs.FaultLemmas.{IsText-step, IsFront-fault, IsFault-fault, not_IsText-fault}
+use Rattle.utf16_units.proofs.validate.validate_raw_utf16.Goals as goal
+
+pub loop-valid_up_to-init : goal.loop-valid_up_to-init
+loop-valid_up_to-init g c = (omega arith, IsText-nil g.E.Utf16Order.BIG)
+
+pub loop-valid_up_to-preserved : goal.loop-valid_up_to-preserved
+loop-valid_up_to-preserved g c =
+    let kept = c.loop-valid_up_to.invariant in
+    IsText-step g.E.Utf16Order.BIG c.args.raw.now c.loop-valid_up_to.valid_up_to c.in-Ok.len kept.0 kept.1 c.in-Ok.ensures.char
+
+pub returns-in-Err-clause-text : goal.returns-in-Err-clause-text
+returns-in-Err-clause-text g c =
+    let none = not_IsText-fault g.E.Utf16Order.BIG c.args.raw.now c.loop-valid_up_to.valid_up_to c.in-Err.error_len
+        c.loop-valid_up_to-test.true c.loop-valid_up_to.invariant.1 c.in-Err.ensures.fault in
+    (λ ok. cc, λ text. absurd (none text))
+
+pub returns-in-Err-clause-front : goal.returns-in-Err-clause-front
+returns-in-Err-clause-front g c =
+    IsFront-fault g.E.Utf16Order.BIG c.args.raw.now c.loop-valid_up_to.valid_up_to c.in-Err.error_len
+    c.loop-valid_up_to-test.true c.loop-valid_up_to.invariant.1 c.in-Err.ensures.fault
+
+pub returns-in-Err-clause-fault : goal.returns-in-Err-clause-fault
+returns-in-Err-clause-fault g c =
+    IsFault-fault g.E.Utf16Order.BIG c.args.raw.now c.loop-valid_up_to.valid_up_to c.in-Err.error_len
+    c.loop-valid_up_to-test.true c.loop-valid_up_to.invariant.1 c.in-Err.ensures.fault
