@@ -23,18 +23,18 @@ utf16_chars-char c units scalar =
     let cases = no_surrogate c scalar in
     ⊎_elim
     (λ (one : c < 0x1_0000).
-        ap (λ us. utf16_chars (us ++ units)) (one_unit c one)
-        ∙ utf16_chars_lone c units (λ (pair : IsPair c (get_or units 0 0)). ⊎_elim (λ (low : c < 0xD800). omega arith) (λ (high : (0xE000 ≤ c) × (c < 0x11_0000)). omega arith) cases)
-        ∙ ap (λ o. o ∷ utf16_chars units) (lone_char c scalar))
+    ap (λ us. utf16_chars (us ++ units)) (one_unit c one)
+    ∙ utf16_chars_lone c units (λ (pair : IsPair c (get_or units 0 0)). ⊎_elim (λ (low : c < 0xD800). omega arith) (λ (high : (0xE000 ≤ c) × (c < 0x11_0000)). omega arith) cases)
+    ∙ ap (λ o. o ∷ utf16_chars units) (lone_char c scalar))
     (λ (two : 0x1_0000 ≤ c).
-        let bound : c < 0x11_0000 = ⊎_elim (λ (low : c < 0xD800). omega arith) (λ (high : (0xE000 ≤ c) × (c < 0x11_0000)). omega arith) cases in
-        let lead = 0xD800 + (c - 0x1_0000) / 0x400 in
-        let trail = 0xDC00 + (c - 0x1_0000) % 0x400 in
-        let pair : IsPair lead trail = (omega arith, omega arith, omega arith, omega arith) in
-        let same : surrogate_pair_char lead trail ≡ c = omega arith in
-        ap (λ us. utf16_chars (us ++ units)) (two_units c two)
-        ∙ utf16_chars_pair lead trail units pair
-        ∙ ap (λ d. Some d ∷ utf16_chars units) same)
+    let bound : c < 0x11_0000 = ⊎_elim (λ (low : c < 0xD800). omega arith) (λ (high : (0xE000 ≤ c) × (c < 0x11_0000)). omega arith) cases in
+    let lead = 0xD800 + (c - 0x1_0000) / 0x400 in
+    let trail = 0xDC00 + (c - 0x1_0000) % 0x400 in
+    let pair : IsPair lead trail = (omega arith, omega arith, omega arith, omega arith) in
+    let same : surrogate_pair_char lead trail ≡ c = omega arith in
+    ap (λ us. utf16_chars (us ++ units)) (two_units c two)
+    ∙ utf16_chars_pair lead trail units pair
+    ∙ ap (λ d. Some d ∷ utf16_chars units) same)
     (cases_lt c 0x1_0000)
 
 -- a character has two bytes, or four from U+10000 on

@@ -6,6 +6,7 @@ use Rattle.std.proofs.lemmas.List.Elements.{All-nil, All-cons, All-head, All-tai
 use Rattle.std.proofs.Math.Utf8.{scalar}
 use Rattle.std.proofs.lemmas.Slice.Eq.{bytes_eq-Decides}
 use Rattle.std.specs.Char.{IsScalar}
+use Rattle.std.proofs.lemmas.Bool.{and_parts, and_from}
 use Rattle.std.specs.Char.Escape.{encode_utf16}
 use Rattle.std.specs.Char.Utf16.{utf16_chars}
 use Rattle.std.specs.Option.{unwrap_or}
@@ -14,10 +15,6 @@ use Rattle.utf16_units.specs.Unit.{unit_bytes}
 use Rattle.utf16_units.specs.Encoding.{char_bytes, char_size, encode, size, Encodes, IsText, units_of, text_of, is_text}
 use Rattle.utf16_units.proofs.UnitLemmas.{units_of-units}
 use Rattle.utf16_units.proofs.CharLemmas.{utf16_chars-char, length-char_bytes, char_size_cases}
-
-both_true : (x y : Bool) → (x && y) ≡ true → (x ≡ true) × (y ≡ true)
-both_true true y h = (refl, h)
-both_true false y h = cc
 
 All-after : (xs ys : List ℕ) → All IsScalar (xs ++ ys) → All IsScalar ys
 All-after [] ys scalars = scalars
@@ -94,7 +91,7 @@ all_scalars-from_All (c ∷ text) scalars =
 pub All-from_all_scalars : (text : List ℕ) → all_scalars text ≡ true → All IsScalar text
 All-from_all_scalars [] scalars = All-nil IsScalar
 All-from_all_scalars (c ∷ text) scalars =
-    let parts = both_true (scalar c) (all_scalars text) scalars in
+    let parts = and_parts (scalar c) (all_scalars text) scalars in
     All-cons IsScalar c text parts.0 (All-from_all_scalars text parts.1)
 
 -- a text that bytes encode is the text that they spell
@@ -121,7 +118,7 @@ pub IsText-from_is_text : (big : Bool) (bytes : List ℕ) → is_text big bytes 
 unfolding is_text
 IsText-from_is_text big bytes passes =
     let text = text_of big bytes in
-    let parts = both_true (all_scalars text) (bytes_eq (encode big text) bytes) passes in
+    let parts = and_parts (all_scalars text) (bytes_eq (encode big text) bytes) passes in
     record {
       text = text;
       encodes = record {
@@ -172,8 +169,8 @@ IsText-rest big front back f whole =
     let ys = text_of big back in
     let scalars = subst (All IsScalar) split (scalars-text_of big (front ++ back) whole) in
     let spelled : front ++ encode big ys ≡ front ++ back =
-        ap (λ t. t ++ encode big ys) (sym (encode-text_of big front f)) ∙ sym (encode-append big xs ys)
-        ∙ ap (encode big) (sym split) ∙ encode-text_of big (front ++ back) whole in
+    ap (λ t. t ++ encode big ys) (sym (encode-text_of big front f)) ∙ sym (encode-append big xs ys)
+    ∙ ap (encode big) (sym split) ∙ encode-text_of big (front ++ back) whole in
     record {
       text = ys;
       encodes = record {

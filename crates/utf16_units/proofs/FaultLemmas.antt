@@ -39,11 +39,11 @@ IsFront-before big front rest t none =
       valid = subst (IsText big) (sym (take_at front rest (length front) refl)) t;
       longest = λ m within valid. ⊎_elim
           (λ (past : length front < m).
-              let n = m - length front in
-              let same : m ≡ length front + n = omega arith in
-              let split : take m (front ++ rest) ≡ front ++ take n rest = ap (λ k. take k (front ++ rest)) same ∙ take-past front rest n in
-              let zero_n : n ≡ 0 = no_text_begins big rest n none (omega arith) (IsText-rest big front (take n rest) t (subst (IsText big) split valid)) in
-              omega arith)
+          let n = m - length front in
+          let same : m ≡ length front + n = omega arith in
+          let split : take m (front ++ rest) ≡ front ++ take n rest = ap (λ k. take k (front ++ rest)) same ∙ take-past front rest n in
+          let zero_n : n ≡ 0 = no_text_begins big rest n none (omega arith) (IsText-rest big front (take n rest) t (subst (IsText big) split valid)) in
+          omega arith)
           (λ (le : m ≤ length front). le)
           (cases_lt (length front) m);
     }

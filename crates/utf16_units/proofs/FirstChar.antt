@@ -35,12 +35,12 @@ pub scalar_unit : (unit : ℕ) → unit < 0x1_0000 → ¬ (IsLeading unit) → �
 scalar_unit unit below leading trailing = ⊎_elim
     (λ (low : unit < 0xD800). low_scalar unit low)
     (λ (high : 0xD800 ≤ unit). ⊎_elim
-        (λ (lead : unit < 0xDC00). absurd (leading (high, omega arith)))
-        (λ (past : 0xDC00 ≤ unit). ⊎_elim
-            (λ (trail : unit < 0xE000). absurd (trailing (past, omega arith)))
-            (λ (above : 0xE000 ≤ unit). high_scalar unit above (omega arith))
-            (cases_lt unit 0xE000))
-        (cases_lt unit 0xDC00))
+    (λ (lead : unit < 0xDC00). absurd (leading (high, omega arith)))
+    (λ (past : 0xDC00 ≤ unit). ⊎_elim
+    (λ (trail : unit < 0xE000). absurd (trailing (past, omega arith)))
+    (λ (above : 0xE000 ≤ unit). high_scalar unit above (omega arith))
+    (cases_lt unit 0xE000))
+    (cases_lt unit 0xDC00))
     (cases_lt unit 0xD800)
 
 pub one_unit_first : (big : Bool) (bytes : List ℕ) → AreBytes bytes → 2 ≤ length bytes

@@ -3,3 +3,5 @@ pub mod CharLemmas
 pub mod EncodingLemmas
 pub mod FirstChar
 pub mod FaultLemmas
+pub mod Computed
+pub mod Rows

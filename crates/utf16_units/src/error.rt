@@ -1,6 +1,6 @@
 //! The error of bytes that are not well-formed UTF-16.
 
-ghost use Rattle.std.specs.Prelude.{◌≡◌, Some};
+ghost use Rattle.std.specs.Prelude.{◌≡◌, Some, codes};
 ghost use Rattle.std.specs.Option.{ForSome};
 
 use std::error::Error;
@@ -36,6 +36,9 @@ impl Utf16Error {
 }
 
 impl fmt::Display for Utf16Error {
+    // The same words in both byte orders.
+    ghost output = { λ _. Some (codes "Invalid UTF-16LE data in byte slice") };
+
     fn fmt<W: fmt::Write>(&self, f: &mut fmt::Formatter<W>) -> fmt::Result {
         f.write_str("Invalid UTF-16LE data in byte slice")
     }

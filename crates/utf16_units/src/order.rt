@@ -4,7 +4,6 @@ ghost use Rattle.std.specs.Prelude.{◌≡◌, ℕ, Bool, true, false, slice_ind
 ghost use Rattle.utf16_units.specs.Unit.{unit_bytes, unit_of};
 
 use byteorder::ByteOrder;
-
 pub use byteorder::{BigEndian, LittleEndian};
 
 /// Big endian, the high byte of a unit first.

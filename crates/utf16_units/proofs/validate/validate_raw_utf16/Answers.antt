@@ -14,7 +14,7 @@ loop-valid_up_to-preserved g c =
 pub returns-in-Err-clause-text : goal.returns-in-Err-clause-text
 returns-in-Err-clause-text g c =
     let none = not_IsText-fault g.E.Utf16Order.BIG c.args.raw.now c.loop-valid_up_to.valid_up_to c.in-Err.error_len
-        c.loop-valid_up_to-test.true c.loop-valid_up_to.invariant.1 c.in-Err.ensures.fault in
+    c.loop-valid_up_to-test.true c.loop-valid_up_to.invariant.1 c.in-Err.ensures.fault in
     (λ ok. cc, λ text. absurd (none text))
 
 pub returns-in-Err-clause-front : goal.returns-in-Err-clause-front

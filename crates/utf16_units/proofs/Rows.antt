@@ -1,0 +1,88 @@
+-- The definitions computed at known characters and at known faults: each row is checked by evaluation alone.
+use Rattle.std.specs.Prelude.{◌≡◌, ◌==◌, ℕ, Bool, true, false, not, ◌&&◌, List, [], ◌∷◌, Option, None, Some, refl, length, encode_utf8_all, bytes_eq}
+use Rattle.std.specs.List.{list_all}
+use Rattle.std.specs.Char.{encode_utf8}
+use Rattle.std.specs.Char.Utf16.{utf16_chars}
+use Rattle.utf16_units.specs.Encoding.{encode, is_text, size, text_of, units_of}
+use Rattle.utf16_units.specs.Fault.{fault, front, front_within, is_cut_off}
+
+record Character : Type 0 where
+  char : ℕ
+  little : List ℕ
+  big : List ℕ
+  utf8 : List ℕ
+
+-- the character has these bytes in each order and in UTF-8, and they spell it
+abbrev is_encoded : Character → Bool
+is_encoded row =
+    bytes_eq (encode false (row.char ∷ [])) row.little && bytes_eq (encode true (row.char ∷ [])) row.big
+    && bytes_eq (encode_utf8_all (row.char ∷ [])) row.utf8 && (size (row.char ∷ []) == length row.little)
+    && is_text false row.little && is_text true row.big
+    && bytes_eq (text_of false row.little) (row.char ∷ []) && bytes_eq (text_of true row.big) (row.char ∷ [])
+
+abbrev character : ℕ → List ℕ → List ℕ → List ℕ → Character
+character c little big utf8 = record { char = c; little = little; big = big; utf8 = utf8 }
+
+abbrev characters : List Character
+characters =
+    character 0x0061 (0x61 ∷ 0x00 ∷ []) (0x00 ∷ 0x61 ∷ []) (0x61 ∷ [])
+    ∷ character 0x007F (0x7F ∷ 0x00 ∷ []) (0x00 ∷ 0x7F ∷ []) (0x7F ∷ [])
+    ∷ character 0x0080 (0x80 ∷ 0x00 ∷ []) (0x00 ∷ 0x80 ∷ []) (0xC2 ∷ 0x80 ∷ [])
+    ∷ character 0x07FF (0xFF ∷ 0x07 ∷ []) (0x07 ∷ 0xFF ∷ []) (0xDF ∷ 0xBF ∷ [])
+    ∷ character 0x0800 (0x00 ∷ 0x08 ∷ []) (0x08 ∷ 0x00 ∷ []) (0xE0 ∷ 0xA0 ∷ 0x80 ∷ [])
+    ∷ character 0x4E00 (0x00 ∷ 0x4E ∷ []) (0x4E ∷ 0x00 ∷ []) (0xE4 ∷ 0xB8 ∷ 0x80 ∷ [])
+    ∷ character 0xD7FF (0xFF ∷ 0xD7 ∷ []) (0xD7 ∷ 0xFF ∷ []) (0xED ∷ 0x9F ∷ 0xBF ∷ [])
+    ∷ character 0xE000 (0x00 ∷ 0xE0 ∷ []) (0xE0 ∷ 0x00 ∷ []) (0xEE ∷ 0x80 ∷ 0x80 ∷ [])
+    ∷ character 0xF841 (0x41 ∷ 0xF8 ∷ []) (0xF8 ∷ 0x41 ∷ []) (0xEF ∷ 0xA1 ∷ 0x81 ∷ [])
+    ∷ character 0xFEFF (0xFF ∷ 0xFE ∷ []) (0xFE ∷ 0xFF ∷ []) (0xEF ∷ 0xBB ∷ 0xBF ∷ [])
+    ∷ character 0xFFFD (0xFD ∷ 0xFF ∷ []) (0xFF ∷ 0xFD ∷ []) (0xEF ∷ 0xBF ∷ 0xBD ∷ [])
+    ∷ character 0xFFFF (0xFF ∷ 0xFF ∷ []) (0xFF ∷ 0xFF ∷ []) (0xEF ∷ 0xBF ∷ 0xBF ∷ [])
+    ∷ character 0x10000 (0x00 ∷ 0xD8 ∷ 0x00 ∷ 0xDC ∷ []) (0xD8 ∷ 0x00 ∷ 0xDC ∷ 0x00 ∷ []) (0xF0 ∷ 0x90 ∷ 0x80 ∷ 0x80 ∷ [])
+    ∷ character 0x1F600 (0x3D ∷ 0xD8 ∷ 0x00 ∷ 0xDE ∷ []) (0xD8 ∷ 0x3D ∷ 0xDE ∷ 0x00 ∷ []) (0xF0 ∷ 0x9F ∷ 0x98 ∷ 0x80 ∷ [])
+    ∷ character 0x10FFFF (0xFF ∷ 0xDB ∷ 0xFF ∷ 0xDF ∷ []) (0xDB ∷ 0xFF ∷ 0xDF ∷ 0xFF ∷ []) (0xF4 ∷ 0x8F ∷ 0xBF ∷ 0xBF ∷ [])
+    ∷ []
+
+characters_encoded : list_all is_encoded characters ≡ true
+unfolding encode encode_utf8 is_text size text_of units_of utf16_chars
+characters_encoded = refl
+
+record Faulty : Type 0 where
+  order : Bool
+  bytes : List ℕ
+  valid_up_to : ℕ
+  error_len : Option ℕ
+
+abbrev same_error_len : Option ℕ → Option ℕ → Bool
+same_error_len None None = true
+same_error_len None (Some m) = false
+same_error_len (Some n) None = false
+same_error_len (Some n) (Some m) = n == m
+
+-- the bytes are not well formed, and have this longest valid beginning and this fault
+abbrev is_refused : Faulty → Bool
+is_refused row = not (is_text row.order row.bytes) && (front row.order row.bytes == row.valid_up_to) && same_error_len (fault row.order row.bytes) row.error_len
+
+abbrev faulty : Bool → List ℕ → ℕ → Option ℕ → Faulty
+faulty order bytes valid_up_to error_len = record { order = order; bytes = bytes; valid_up_to = valid_up_to; error_len = error_len }
+
+abbrev faults : List Faulty
+faults =
+    faulty false (0x00 ∷ 0xDC ∷ []) 0 (Some 2)
+    ∷ faulty false (0x00 ∷ 0xD8 ∷ []) 0 None
+    ∷ faulty false (0x00 ∷ 0xD8 ∷ 0x00 ∷ []) 0 None
+    ∷ faulty false (0xDC ∷ []) 0 None
+    ∷ faulty false (0x41 ∷ []) 0 None
+    ∷ faulty false (0x00 ∷ 0xD8 ∷ 0x41 ∷ 0x00 ∷ []) 0 (Some 2)
+    ∷ faulty false (0x00 ∷ 0xD8 ∷ 0x00 ∷ 0xD8 ∷ []) 0 (Some 2)
+    ∷ faulty false (0x00 ∷ 0xDC ∷ 0x00 ∷ 0xD8 ∷ []) 0 (Some 2)
+    ∷ faulty false (0x00 ∷ 0xD8 ∷ 0x00 ∷ 0xDC ∷ 0x00 ∷ 0xD8 ∷ 0x00 ∷ 0xDC ∷ 0x00 ∷ []) 8 None
+    ∷ faulty true (0xDC ∷ []) 0 None
+    ∷ faulty true (0xD8 ∷ []) 0 None
+    ∷ faulty true (0xD8 ∷ 0x00 ∷ 0xDC ∷ []) 0 None
+    ∷ faulty true (0xD8 ∷ 0x00 ∷ 0x00 ∷ []) 0 None
+    ∷ faulty true (0x00 ∷ 0x41 ∷ 0xD8 ∷ 0x00 ∷ []) 2 None
+    ∷ []
+
+faults_refused : list_all is_refused faults ≡ true
+unfolding encode fault front front_within is_cut_off is_text text_of units_of utf16_chars
+faults_refused = refl
