@@ -178,3 +178,11 @@ IsText-rest big front back f whole =
         spelled = append_cancel_left front (encode big ys) back spelled;
       };
     }
+
+-- well-formed bytes are as long as the size of their text
+pub length-text : (big : Bool) (bytes : List ℕ) → IsText big bytes → length bytes ≡ size (text_of big bytes)
+length-text big bytes t = ap length (sym (encode-text_of big bytes t)) ∙ length-encode big (text_of big bytes)
+
+-- well-formed bytes are empty exactly where their text is
+pub nil-from_text : (big : Bool) (bytes : List ℕ) → IsText big bytes → text_of big bytes ≡ [] → bytes ≡ []
+nil-from_text big bytes t none = sym (encode-text_of big bytes t) ∙ ap (encode big) none ∙ encode-nil big

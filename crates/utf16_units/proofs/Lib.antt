@@ -5,3 +5,4 @@ pub mod FirstChar
 pub mod FaultLemmas
 pub mod Computed
 pub mod Rows
+pub mod FrontChar

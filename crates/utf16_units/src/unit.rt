@@ -2,6 +2,7 @@
 
 ghost use Rattle.std.specs.Prelude.{◌≡◌, ◌↔◌, IsTrue, [], ◌∷◌};
 ghost use Rattle.std.specs.Char.Escape.{encode_utf16};
+ghost use Rattle.std.specs.Char.Utf16.{surrogate_pair_char};
 ghost use Rattle.utf16_units.specs.Unit.{IsLeading, IsTrailing};
 
 /// Whether a code unit is a leading (high) surrogate, from 0xD800 to 0xDBFF.
@@ -25,7 +26,8 @@ pub fn is_trailing_surrogate(unit: u16) -> bool
 pub fn decode_surrogates(u: u16, u2: u16) -> char
     requires leading { IsLeading u }
     requires trailing { IsTrailing u2 }
-    ensures { encode_utf16 result ≡ u ∷ u2 ∷ [] }
+    ensures units { encode_utf16 result ≡ u ∷ u2 ∷ [] }
+    ensures code { result ≡ surrogate_pair_char u u2 }
 {
     let code = 0x1_0000 + ((u - 0xD800) as u32 * 0x400 + (u2 - 0xDC00) as u32);
     unsafe { char::from_u32_unchecked(code) }

@@ -2,8 +2,8 @@
 
 ghost use Rattle.std.specs.Prelude.{◌≡◌, ◌↔◌, ◌<◌, length, IsOk, IfOk, IfErr};
 ghost use Rattle.utf16_units.specs.Encoding.{IsText};
-ghost use Rattle.utf16_units.specs.Fault.{BeginsWithChar, IsFault, IsFaultAt, IsFront};
-ghost use Rattle.utf16_units.specs.Utf16Error.{error_len, valid_up_to};
+ghost use Rattle.utf16_units.specs.Fault.{BeginsWithChar, IsFaultAt};
+ghost use Rattle.utf16_units.specs.Utf16Error.{IsErrorOf};
 
 use crate::{Utf16Error, Utf16Order, is_leading_surrogate, is_trailing_surrogate};
 
@@ -11,8 +11,7 @@ use crate::{Utf16Error, Utf16Order, is_leading_surrogate, is_trailing_surrogate}
 /// are, and what stands there: see [`Utf16Error`].
 pub fn validate_raw_utf16<E: Utf16Order>(raw: &[u8]) -> Result<(), Utf16Error>
     ensures text { IsOk result ↔ IsText E.BIG raw.now }
-    ensures front { IfErr result (λ e. IsFront E.BIG raw.now (valid_up_to e)) }
-    ensures fault { IfErr result (λ e. IsFault E.BIG raw.now (error_len e)) }
+    ensures error { IfErr result (IsErrorOf E.BIG raw.now) }
 {
     let mut valid_up_to = 0;
     while valid_up_to < raw.len() {

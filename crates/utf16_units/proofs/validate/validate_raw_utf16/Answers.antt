@@ -17,12 +17,10 @@ returns-in-Err-clause-text g c =
     c.loop-valid_up_to-test.true c.loop-valid_up_to.invariant.1 c.in-Err.ensures.fault in
     (λ ok. cc, λ text. absurd (none text))
 
-pub returns-in-Err-clause-front : goal.returns-in-Err-clause-front
-returns-in-Err-clause-front g c =
-    IsFront-fault g.E.Utf16Order.BIG c.args.raw.now c.loop-valid_up_to.valid_up_to c.in-Err.error_len
-    c.loop-valid_up_to-test.true c.loop-valid_up_to.invariant.1 c.in-Err.ensures.fault
-
-pub returns-in-Err-clause-fault : goal.returns-in-Err-clause-fault
-returns-in-Err-clause-fault g c =
-    IsFault-fault g.E.Utf16Order.BIG c.args.raw.now c.loop-valid_up_to.valid_up_to c.in-Err.error_len
-    c.loop-valid_up_to-test.true c.loop-valid_up_to.invariant.1 c.in-Err.ensures.fault
+pub returns-in-Err-clause-error : goal.returns-in-Err-clause-error
+returns-in-Err-clause-error g c = record {
+  front = IsFront-fault g.E.Utf16Order.BIG c.args.raw.now c.loop-valid_up_to.valid_up_to c.in-Err.error_len
+      c.loop-valid_up_to-test.true c.loop-valid_up_to.invariant.1 c.in-Err.ensures.fault;
+  fault = IsFault-fault g.E.Utf16Order.BIG c.args.raw.now c.loop-valid_up_to.valid_up_to c.in-Err.error_len
+      c.loop-valid_up_to-test.true c.loop-valid_up_to.invariant.1 c.in-Err.ensures.fault;
+}

@@ -1,0 +1,5 @@
+pub use Rattle.utf16_units.specs.Unit
+pub use Rattle.utf16_units.specs.Encoding
+pub use Rattle.utf16_units.specs.Fault
+pub use Rattle.utf16_units.specs.Utf16Error
+pub mod WStr

@@ -1,0 +1,9 @@
+//! UTF-16 strings in either byte order: `WStr` is to UTF-16 bytes what `str` is to UTF-8.
+#![tactic(auto)]
+
+mod iters;
+mod wstr;
+
+pub use crate::iters::WStrChars;
+pub use crate::wstr::WStr;
+pub use utf16_units::{BE, BigEndian, LE, LittleEndian, Utf16Error, Utf16Order};
