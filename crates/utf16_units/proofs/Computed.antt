@@ -1,8 +1,7 @@
 -- The computed forms of the longest valid beginning and of the fault are the relations' only answers.
-use Rattle.std.proofs.Common.{◌≡◌, ℕ, zero, suc, ◌+◌, ◌-◌, ◌<◌, ◌≤◌, ◌⊎◌, ◌↔◌, Bool, true, false, ◌&&◌, cond, List, [], ◌∷◌, length, take, drop, nat_le, Option, None, Some, refl, sym, ap, ap₂, ◌∙◌, subst, ⊎_elim, inl, inr, arith, leb-true, le-leb, true≢false}
-use Rattle.std.proofs.lemmas.Bool.{cases_lt, cases_Bool, cond-true, cond-false}
-use Rattle.std.proofs.lemmas.Bool.{and_parts, and_from}
-use Rattle.utf16_units.specs.Unit.{IsLeading, unit_of}
+use Rattle.std.proofs.Common.{◌≡◌, ℕ, zero, suc, ◌<◌, ◌≤◌, Bool, true, false, ◌&&◌, cond, List, [], ◌∷◌, length, take, drop, Option, None, Some, refl, sym, ap, ap₂, ◌∙◌, subst, ⊎_elim, arith, leb-true, le-leb, true≢false}
+use Rattle.std.proofs.lemmas.Bool.{cases_lt, cases_Bool}
+use Rattle.std.proofs.lemmas.Bool.{and_parts}
 use Rattle.utf16_units.specs.Encoding.{IsText, is_text}
 use Rattle.utf16_units.specs.Fault.{IsCutOff, IsErrorLen, IsFault, IsFront, fault, front, front_within, is_cut_off}
 use Rattle.utf16_units.proofs.EncodingLemmas.{IsText-nil, IsText-from_is_text, is_text-from_IsText}
@@ -92,9 +91,10 @@ IsErrorLen-unique big rest (Some n) None h k = absurd (h.1 k)
 IsErrorLen-unique big rest (Some n) (Some m) h k = ap Some (h.0 ∙ sym k.0)
 
 -- the computed fault is the fault
-pub IsFault-fault : (big : Bool) (bytes : List ℕ) → IsFault big bytes (fault big bytes)
+pub IsFault-computed : (big : Bool) (bytes : List ℕ) → ¬ (IsText big bytes) → IsFault big bytes (fault big bytes)
 unfolding fault error_len_of
-IsFault-fault big bytes = record {
+IsFault-computed big bytes refused = record {
+  refused = refused;
   valid_up_to = front big bytes;
   front = IsFront-front big bytes;
   at_front = IsErrorLen-computed big (drop (front big bytes) bytes);
@@ -103,7 +103,7 @@ IsFault-fault big bytes = record {
 -- and the only one
 pub fault-unique : (big : Bool) (bytes : List ℕ) (error_len : Option ℕ) → IsFault big bytes error_len → error_len ≡ fault big bytes
 fault-unique big bytes error_len f =
-    let other = IsFault-fault big bytes in
+    let other = IsFault-computed big bytes f.refused in
     let same : f.valid_up_to ≡ other.valid_up_to = IsFront-unique big bytes f.valid_up_to other.valid_up_to f.front other.front in
     IsErrorLen-unique big (drop other.valid_up_to bytes) error_len (fault big bytes)
     (subst (λ n. IsErrorLen big (drop n bytes) error_len) same f.at_front) other.at_front

@@ -1,20 +1,19 @@
 -- Encoding and decoding undo each other.
-use Rattle.std.proofs.Common.{◌≡◌, ℕ, ◌+◌, ◌*◌, ◌<◌, ◌≤◌, Bool, true, false, ◌&&◌, List, [], ◌∷◌, ◌++◌, length, map, take, drop, Some, All, refl, sym, ap, ap₂, ◌∙◌, subst, arith, append_assoc, append-nil, length-append, flat_map, sum_by, bytes_eq}
+use Rattle.std.proofs.Common.{◌≡◌, ℕ, ◌+◌, ◌*◌, Bool, true, ◌&&◌, List, [], ◌∷◌, ◌++◌, length, map, All, refl, sym, ap, ap₂, ◌∙◌, subst, arith, append_assoc, append-nil, length-append, flat_map, bytes_eq}
 use Rattle.std.proofs.lemmas.Grind.{flat_map-append}
 use Rattle.std.proofs.lemmas.List.{append_cancel_left}
 use Rattle.std.proofs.lemmas.List.Elements.{All-nil, All-cons, All-head, All-tail, All-append}
 use Rattle.std.proofs.Math.Utf8.{scalar}
 use Rattle.std.proofs.lemmas.Slice.Eq.{bytes_eq-Decides}
 use Rattle.std.specs.Char.{IsScalar}
-use Rattle.std.proofs.lemmas.Bool.{and_parts, and_from}
+use Rattle.std.proofs.lemmas.Bool.{and_parts}
 use Rattle.std.specs.Char.Escape.{encode_utf16}
 use Rattle.std.specs.Char.Utf16.{utf16_chars}
 use Rattle.std.specs.Option.{unwrap_or}
 use Rattle.std.specs.Str.{all_scalars}
-use Rattle.utf16_units.specs.Unit.{unit_bytes}
 use Rattle.utf16_units.specs.Encoding.{char_bytes, char_size, encode, size, Encodes, IsText, units_of, text_of, is_text}
 use Rattle.utf16_units.proofs.UnitLemmas.{units_of-units}
-use Rattle.utf16_units.proofs.CharLemmas.{utf16_chars-char, length-char_bytes, char_size_cases}
+use Rattle.utf16_units.proofs.CharLemmas.{utf16_chars-char, length-char_bytes}
 
 All-after : (xs ys : List ℕ) → All IsScalar (xs ++ ys) → All IsScalar ys
 All-after [] ys scalars = scalars

@@ -1,11 +1,11 @@
 -- The longest valid beginning and the fault at it.
-use Rattle.std.proofs.Common.{◌≡◌, ◌≢◌, ℕ, zero, suc, ◌+◌, ◌-◌, ◌<◌, ◌≤◌, ◌⊎◌, Bool, true, false, List, [], ◌∷◌, ◌++◌, length, take, drop, Option, None, Some, All, refl, sym, ap, ap₂, ◌∙◌, subst, ⊎_elim, inl, inr, arith, append_assoc, length-append, length-take-le, length-drop, take-append-drop, take_at, drop_at, take_all, take-add}
+use Rattle.std.proofs.Common.{◌≡◌, ℕ, suc, ◌+◌, ◌-◌, ◌<◌, ◌≤◌, Bool, List, [], ◌∷◌, ◌++◌, length, take, drop, Option, refl, sym, ap, ◌∙◌, subst, ⊎_elim, arith, append_assoc, length-append, length-take-le, length-drop, take-append-drop, take_at, take_all, take-add}
 use Rattle.std.proofs.lemmas.List.{take_rest}
 use Rattle.std.proofs.lemmas.Bool.{cases_lt}
 use Rattle.std.proofs.lemmas.List.Elements.{All-head}
 use Rattle.std.specs.Char.{IsScalar}
 use Rattle.utf16_units.specs.Encoding.{char_bytes, encode, Encodes, IsText}
-use Rattle.utf16_units.specs.Fault.{BeginsWithChar, BeginsWithNoChar, IsErrorLen, IsFault, IsFaultAt, IsFront}
+use Rattle.utf16_units.specs.Fault.{BeginsWithChar, BeginsWithNoChar, IsFault, IsFaultAt, IsFront}
 use Rattle.utf16_units.proofs.EncodingLemmas.{encode-nil, encode-cons, IsText-append, IsText-char, IsText-rest}
 
 -- the bytes from a place on, as `&bytes[at..]` gives them
@@ -55,14 +55,11 @@ IsFront-unique big bytes m n f g =
     let ge : n ≤ m = f.longest n g.within g.valid in
     omega arith
 
--- at a place in the bytes
+-- the same at a place in the bytes
 pub IsFront-at : (big : Bool) (bytes : List ℕ) (n : ℕ) → n ≤ length bytes → IsText big (take n bytes) → BeginsWithNoChar big (drop n bytes) → IsFront big bytes n
 IsFront-at big bytes n within t none =
     subst (λ m. IsFront big bytes m) (length-take-le n bytes within)
     (subst (λ b. IsFront big b (length (take n bytes))) (take-append-drop n bytes) (IsFront-before big (take n bytes) (drop n bytes) t none))
-
-pub IsFault-at : (big : Bool) (bytes : List ℕ) (n : ℕ) (error_len : Option ℕ) → IsFront big bytes n → IsErrorLen big (drop n bytes) error_len → IsFault big bytes error_len
-IsFault-at big bytes n error_len f e = record { valid_up_to = n; front = f; at_front = e }
 
 -- bytes with a shorter longest valid beginning are not well formed
 pub not_IsText-front : (big : Bool) (bytes : List ℕ) (n : ℕ) → IsFront big bytes n → n < length bytes → ¬ (IsText big bytes)
@@ -85,12 +82,9 @@ module _ (big : Bool) (bytes : List ℕ) (at : ℕ) (error_len : Option ℕ) (wi
   here : IsFaultAt big (drop at bytes) error_len
   here = subst (λ rest. IsFaultAt big rest error_len) (take_rest bytes at) found
 
+  ends : IsFront big bytes at
+  ends = IsFront-at big bytes at (omega arith) t here.0
+
   -- a fault behind well-formed bytes is where the longest valid beginning ends
-  pub IsFront-fault : IsFront big bytes at
-  IsFront-fault = IsFront-at big bytes at (omega arith) t here.0
-
-  pub IsFault-fault : IsFault big bytes error_len
-  IsFault-fault = IsFault-at big bytes at error_len IsFront-fault here.1
-
-  pub not_IsText-fault : ¬ (IsText big bytes)
-  not_IsText-fault = not_IsText-front big bytes at IsFront-fault within
+  pub faults : IsFront big bytes at × IsFault big bytes error_len
+  faults = (ends, record { refused = not_IsText-front big bytes at ends within; valid_up_to = at; front = ends; at_front = here.1 })

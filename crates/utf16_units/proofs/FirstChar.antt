@@ -1,15 +1,13 @@
 -- What the first units of bytes say of the character at their front.
-use Rattle.std.proofs.Common.{◌≡◌, ◌≢◌, ℕ, zero, suc, ◌+◌, ◌-◌, ◌*◌, ◌/◌, ◌%◌, ◌<◌, ◌≤◌, ◌⊎◌, Bool, true, false, List, [], ◌∷◌, ◌++◌, length, take, drop, slice_index, Option, None, Some, refl, sym, ap, ap₂, ◌∙◌, subst, ⊎_elim, inl, inr, arith, flat_map, append_assoc, le-ltb, le-leb, lt-ltb}
+use Rattle.std.proofs.Common.{◌≡◌, ℕ, ◌+◌, ◌-◌, ◌*◌, ◌<◌, ◌≤◌, Bool, true, false, List, [], ◌∷◌, ◌++◌, length, slice_index, refl, sym, ap, ap₂, ◌∙◌, ⊎_elim, arith, flat_map, le-ltb, le-leb, lt-ltb}
 use Rattle.std.proofs.lemmas.Bool.{cases_lt}
 use Rattle.std.proofs.Math.Utf8.{low_scalar}
-use Rattle.std.proofs.str.Utf16.{one_unit, two_units, pair_units}
+use Rattle.std.proofs.str.Utf16.{one_unit, pair_units}
 use Rattle.std.specs.Char.{IsScalar}
 use Rattle.std.specs.Char.Escape.{encode_utf16}
 use Rattle.utf16_units.specs.Unit.{IsLeading, IsTrailing, unit_bytes, unit_of}
-use Rattle.utf16_units.specs.Encoding.{char_bytes, units_of}
-use Rattle.utf16_units.specs.Fault.{BeginsWithChar, BeginsWithNoChar, IsCutOff, IsErrorLen, IsFaultAt}
-use Rattle.utf16_units.proofs.UnitLemmas.{unit_bytes-unit_of, units_of-units}
-use Rattle.utf16_units.proofs.CharLemmas.{no_surrogate}
+use Rattle.utf16_units.specs.Fault.{BeginsWithChar}
+use Rattle.utf16_units.proofs.UnitLemmas.{unit_bytes-unit_of}
 
 -- each of the numbers is a byte
 abbrev pub AreBytes : List ℕ → Type 0

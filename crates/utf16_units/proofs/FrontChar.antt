@@ -1,14 +1,14 @@
 -- The first character of well-formed bytes, by the units at their front.
-use Rattle.std.proofs.Common.{◌≡◌, ◌≢◌, ℕ, zero, suc, ◌+◌, ◌-◌, ◌*◌, ◌/◌, ◌%◌, ◌<◌, ◌≤◌, ◌⊎◌, Bool, true, false, List, [], ◌∷◌, ◌++◌, length, take, drop, slice_index, All, refl, sym, ap, ap₂, ◌∙◌, subst, ⊎_elim, inl, inr, arith, append_assoc, append-nil, length-append, drop_at, flat_map}
+use Rattle.std.proofs.Common.{◌≡◌, ℕ, ◌+◌, ◌-◌, ◌/◌, ◌%◌, ◌<◌, ◌≤◌, Bool, true, false, List, [], ◌∷◌, ◌++◌, length, drop, All, refl, sym, ap, ◌∙◌, subst, ⊎_elim, arith, append_assoc, append-nil, length-append, drop_at, flat_map}
 use Rattle.std.proofs.lemmas.Bool.{cases_lt}
 use Rattle.std.proofs.lemmas.List.Elements.{All-head, All-tail}
 use Rattle.std.proofs.str.Utf16.{one_unit, two_units}
 use Rattle.std.specs.Char.{IsScalar}
 use Rattle.std.specs.Char.Utf16.{surrogate_pair_char}
-use Rattle.utf16_units.specs.Unit.{IsLeading, IsTrailing, unit_bytes, unit_of}
-use Rattle.utf16_units.specs.Encoding.{char_bytes, char_size, encode, Encodes, IsText, size, text_of, units_of}
+use Rattle.utf16_units.specs.Unit.{IsLeading, IsTrailing, unit_bytes}
+use Rattle.utf16_units.specs.Encoding.{char_bytes, char_size, encode, Encodes, IsText, text_of}
 use Rattle.utf16_units.proofs.CharLemmas.{char_size_four, char_size_two, length-char_bytes, no_surrogate}
-use Rattle.utf16_units.proofs.EncodingLemmas.{encode-cons, encode-nil, encode-text_of, length-encode, scalars-text_of, size-nil, text_of-Encodes, text_of-char, text_of-nil}
+use Rattle.utf16_units.proofs.EncodingLemmas.{encode-cons, encode-nil, text_of-char}
 use Rattle.utf16_units.proofs.FirstChar.{first_unit, second_unit}
 
 -- the bytes are a character's and then those of a text
@@ -48,7 +48,7 @@ splits_first big bytes f =
     let char_long = length-char_bytes big f.char in
     let whole_long : length bytes ≡ length (char_bytes big f.char ++ rest) = ap length f.spelled in
     let cut : drop (char_size f.char) bytes ≡ rest =
-        ap (drop (char_size f.char)) f.spelled ∙ drop_at (char_bytes big f.char) rest (char_size f.char) char_long in
+    ap (drop (char_size f.char)) f.spelled ∙ drop_at (char_bytes big f.char) rest (char_size f.char) char_long in
     record {
       scalar = f.scalar;
       within = omega arith;

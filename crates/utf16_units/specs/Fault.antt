@@ -24,6 +24,7 @@ IsErrorLen big rest (Some n) = (n ≡ 2) × ¬ (IsCutOff big rest)
 
 -- the fault of bytes that are not well formed: what stands behind their longest valid beginning
 pub record IsFault (big : Bool) (bytes : List ℕ) (error_len : Option ℕ) : Type 0 where
+  pub refused : ¬ (IsText big bytes)
   pub valid_up_to : ℕ
   pub front : IsFront big bytes valid_up_to
   pub at_front : IsErrorLen big (drop valid_up_to bytes) error_len

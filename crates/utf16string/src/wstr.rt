@@ -61,7 +61,7 @@ impl<'a, E: Utf16Order> WStr<'a, E> {
         ensures bytes { result ≡ length (wstr_bytes self.now) }
         ensures size { result ≡ size (wstr_text self.now) }
     {
-        self.raw.len()
+        self.as_bytes().len()
     }
 
     /// Whether the text has no character.
@@ -69,7 +69,7 @@ impl<'a, E: Utf16Order> WStr<'a, E> {
     pub fn is_empty(&self) -> bool
         ensures { IsTrue result ↔ (wstr_text self.now ≡ []) }
     {
-        self.raw.is_empty()
+        self.as_bytes().is_empty()
     }
 
     /// The bytes, the encoding of the text, for as long as they were lent.
@@ -93,7 +93,7 @@ impl<'a, E: Utf16Order> WStr<'a, E> {
     pub fn to_utf8<A: Allocator>(&self, alloc: A) -> Result<String<A>, AllocError>
         ensures { IfOk result (λ s. string_bytes s ≡ encode_utf8_all (wstr_text self.now)) }
     {
-        let mut text = String::with_capacity(alloc, self.raw.len() / 2)?;
+        let mut text = String::with_capacity(alloc, self.len() / 2)?;
         for c in self.chars() {
             text.push(c)?;
         }
@@ -111,7 +111,7 @@ impl<'a> WStr<'a, LittleEndian> {
         ensures bytes { IfOk result (λ s. wstr_bytes s ≡ raw.now) }
         ensures error { IfErr result (IsErrorOf false raw.now) }
     {
-        Self::from_utf16(raw)
+        WStr::<LittleEndian>::from_utf16(raw)
     }
 
     /// `from_utf16_unchecked` in little endian.
@@ -120,7 +120,7 @@ impl<'a> WStr<'a, LittleEndian> {
         requires { IsText false raw.now }
         ensures { wstr_bytes result ≡ raw.now }
     {
-        Self::from_utf16_unchecked(raw)
+        WStr::<LittleEndian>::from_utf16_unchecked(raw)
     }
 }
 
@@ -134,7 +134,7 @@ impl<'a> WStr<'a, BigEndian> {
         ensures bytes { IfOk result (λ s. wstr_bytes s ≡ raw.now) }
         ensures error { IfErr result (IsErrorOf true raw.now) }
     {
-        Self::from_utf16(raw)
+        WStr::<BigEndian>::from_utf16(raw)
     }
 
     /// `from_utf16_unchecked` in big endian.
@@ -143,6 +143,6 @@ impl<'a> WStr<'a, BigEndian> {
         requires { IsText true raw.now }
         ensures { wstr_bytes result ≡ raw.now }
     {
-        Self::from_utf16_unchecked(raw)
+        WStr::<BigEndian>::from_utf16_unchecked(raw)
     }
 }

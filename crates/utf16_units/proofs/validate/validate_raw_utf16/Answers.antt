@@ -1,6 +1,6 @@
-use Rattle.std.proofs.Common.{arith, rules}
+use Rattle.std.proofs.Common.{arith}
 use Rattle.utf16_units.proofs.EncodingLemmas.{IsText-nil}
-use Rattle.utf16_units.proofs.FaultLemmas.{IsText-step, IsFront-fault, IsFault-fault, not_IsText-fault}
+use Rattle.utf16_units.proofs.FaultLemmas.{IsText-step, faults}
 use Rattle.utf16_units.proofs.validate.validate_raw_utf16.Goals as goal
 
 pub loop-valid_up_to-init : goal.loop-valid_up_to-init
@@ -13,14 +13,12 @@ loop-valid_up_to-preserved g c =
 
 pub returns-in-Err-clause-text : goal.returns-in-Err-clause-text
 returns-in-Err-clause-text g c =
-    let none = not_IsText-fault g.E.Utf16Order.BIG c.args.raw.now c.loop-valid_up_to.valid_up_to c.in-Err.error_len
+    let found = faults g.E.Utf16Order.BIG c.args.raw.now c.loop-valid_up_to.valid_up_to c.in-Err.error_len
     c.loop-valid_up_to-test.true c.loop-valid_up_to.invariant.1 c.in-Err.ensures.fault in
-    (λ ok. cc, λ text. absurd (none text))
+    (λ ok. cc, λ text. absurd (found.1.refused text))
 
 pub returns-in-Err-clause-error : goal.returns-in-Err-clause-error
-returns-in-Err-clause-error g c = record {
-  front = IsFront-fault g.E.Utf16Order.BIG c.args.raw.now c.loop-valid_up_to.valid_up_to c.in-Err.error_len
-      c.loop-valid_up_to-test.true c.loop-valid_up_to.invariant.1 c.in-Err.ensures.fault;
-  fault = IsFault-fault g.E.Utf16Order.BIG c.args.raw.now c.loop-valid_up_to.valid_up_to c.in-Err.error_len
-      c.loop-valid_up_to-test.true c.loop-valid_up_to.invariant.1 c.in-Err.ensures.fault;
-}
+returns-in-Err-clause-error g c =
+    let found = faults g.E.Utf16Order.BIG c.args.raw.now c.loop-valid_up_to.valid_up_to c.in-Err.error_len
+    c.loop-valid_up_to-test.true c.loop-valid_up_to.invariant.1 c.in-Err.ensures.fault in
+    record { front = found.0; fault = found.1 }

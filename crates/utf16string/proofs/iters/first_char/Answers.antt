@@ -1,7 +1,6 @@
-use Rattle.std.proofs.Common.{◌≡◌, ◌∷◌, ◌≤◌, ◌∙◌, length, slice_index, sym, ap, subst, arith, rules}
+use Rattle.std.proofs.Common.{arith, rules}
 use Rattle.std.specs.Char.Utf16.{surrogate_pair_char}
 use Rattle.utf16_units.specs.Unit.{IsTrailing}
-use Rattle.utf16_units.specs.Encoding.{text_of}
 use Rattle.utf16_units.proofs.FirstChar.{second_unit}
 use Rattle.utf16_units.proofs.FrontChar.{SplitsAt, splits_one, splits_two, two_bytes}
 use Rattle.utf16string.proofs.iters.first_char.Given.{Over}

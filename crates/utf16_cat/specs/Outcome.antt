@@ -1,0 +1,16 @@
+-- What `whole` did to the bytes that its reader has left and to those that its writer holds, where these are known.
+use Rattle.std.specs.Prelude.{ℕ, Bool, List, Option, IfSome, encode_utf8_all}
+use Rattle.std.specs.Io.KnownBytes.{Appends, IsAtEnd, Keeps}
+use Rattle.utf16string.specs.declared.Utf16Error.{Utf16Error}
+use Rattle.utf16string.specs.Encoding.{IsText, text_of}
+use Rattle.utf16string.specs.Utf16Error.{IsErrorOf}
+
+-- the input was read to its end, is well formed, and its characters were written in UTF-8
+abbrev pub Transcodes : Bool → Option (List ℕ) → Option (List ℕ) → Option (List ℕ) → Option (List ℕ) → Type 0
+Transcodes big input left old new =
+    IsAtEnd left × IfSome input (λ bytes. IsText big bytes × Appends old new (encode_utf8_all (text_of big bytes)))
+
+-- the input was read to its end, is not well formed, as the error says, and nothing was written
+abbrev pub Refuses : Bool → Option (List ℕ) → Option (List ℕ) → Option (List ℕ) → Option (List ℕ) → Utf16Error → Type 0
+Refuses big input left old new e =
+    IsAtEnd left × Keeps old new × IfSome input (λ bytes. ¬ (IsText big bytes) × IsErrorOf big bytes e)

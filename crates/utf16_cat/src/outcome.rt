@@ -1,0 +1,57 @@
+//! The arguments of the program, and how its run ended.
+
+ghost use Rattle.std.specs.Prelude.{◌≡◌, ◌↔◌, Some, [], ◌∷◌, map, codes, string_bytes};
+ghost use Rattle.utf16_cat.specs.Status.{status_of};
+
+use std::io::Write;
+use utf16string::Utf16Error;
+
+/// The byte order that the arguments ask for.
+#[derive(Clone, Copy, Debug, PartialEq, Eq)]
+pub enum Choice {
+    Le,
+    Be,
+}
+
+/// How a run ended.
+#[derive(Clone, Copy, Debug, PartialEq, Eq)]
+pub enum Outcome {
+    Done,
+    Text(Utf16Error),
+    Read,
+    Write,
+    Memory,
+    Usage,
+}
+
+/// The order that the words after the program's name ask for: the one word `le` or the one word `be`.
+pub fn order(words: &[String]) -> Option<Choice>
+    ensures le { (result ≡ Some Choice.Le) ↔ (map string_bytes words.now ≡ codes "le" ∷ []) }
+    ensures be { (result ≡ Some Choice.Be) ↔ (map string_bytes words.now ≡ codes "be" ∷ []) }
+{
+    let [word] = words else {
+        return None;
+    };
+    match word.as_str() {
+        "le" => Some(Choice::Le),
+        "be" => Some(Choice::Be),
+        _ => None,
+    }
+}
+
+/// Writes the line that tells of the outcome, nothing for `Done`, and answers the exit status. A failure to write is
+/// ignored.
+pub fn report<W: Write>(outcome: &Outcome, to: &mut W) -> u8
+    ensures { result ≡ status_of outcome.now }
+{
+    let (written, status) = match outcome {
+        Outcome::Done => (Ok(()), 0),
+        Outcome::Text(e) => (writeln!(to, "utf16_cat: {e}"), 1),
+        Outcome::Read => (writeln!(to, "utf16_cat: read failed"), 1),
+        Outcome::Write => (writeln!(to, "utf16_cat: write failed"), 1),
+        Outcome::Memory => (writeln!(to, "utf16_cat: out of memory"), 1),
+        Outcome::Usage => (writeln!(to, "usage: utf16_cat le|be"), 2),
+    };
+    let _ = written;
+    status
+}

@@ -1,0 +1,9 @@
+//! Tests that cross the crates: known characters and faults, worked inputs.
+#![tactic(auto)]
+
+#[cfg(test)]
+mod characters;
+#[cfg(test)]
+mod faults;
+#[cfg(test)]
+mod worked;
