@@ -15,7 +15,7 @@ use Rattle.utf16_units.specs.Encoding.{char_bytes, char_size, encode, size, Enco
 use Rattle.utf16_units.proofs.UnitLemmas.{units_of-units}
 use Rattle.utf16_units.proofs.CharLemmas.{utf16_chars-char, length-char_bytes}
 
-All-after : (xs ys : List ℕ) → All IsScalar (xs ++ ys) → All IsScalar ys
+pub All-after : (xs ys : List ℕ) → All IsScalar (xs ++ ys) → All IsScalar ys
 All-after [] ys scalars = scalars
 All-after (x ∷ xs) ys scalars = All-after xs ys (All-tail IsScalar x (xs ++ ys) scalars)
 

@@ -56,7 +56,7 @@ splits_first big bytes f =
       text = ap (text_of big) f.spelled ∙ text_of-char big f.char rest f.scalar ∙ ap (λ t. f.char ∷ text_of big t) (sym cut);
     }
 
-first_unit-bytes : (big : Bool) (unit : ℕ) (bytes : List ℕ) → first_unit big (unit_bytes big unit ++ bytes) ≡ unit
+pub first_unit-bytes : (big : Bool) (unit : ℕ) (bytes : List ℕ) → first_unit big (unit_bytes big unit ++ bytes) ≡ unit
 first_unit-bytes true unit bytes = omega arith
 first_unit-bytes false unit bytes = omega arith
 
@@ -65,7 +65,7 @@ second_unit-bytes true unit next bytes = omega arith
 second_unit-bytes false unit next bytes = omega arith
 
 module _ (big : Bool) (bytes : List ℕ) (f : HasFirst big bytes) (one : f.char < 0x1_0000) where
-  one_spelled : bytes ≡ unit_bytes big f.char ++ encode big f.text
+  pub one_spelled : bytes ≡ unit_bytes big f.char ++ encode big f.text
   one_spelled =
       f.spelled ∙ ap (λ us. flat_map (unit_bytes big) us ++ encode big f.text) (one_unit f.char one)
       ∙ ap (λ t. t ++ encode big f.text) (append-nil (unit_bytes big f.char))
@@ -73,7 +73,7 @@ module _ (big : Bool) (bytes : List ℕ) (f : HasFirst big bytes) (one : f.char 
   one_is : first_unit big bytes ≡ f.char
   one_is = ap (first_unit big) one_spelled ∙ first_unit-bytes big f.char (encode big f.text)
 
-  one_not_leading : ¬ (IsLeading (first_unit big bytes))
+  pub one_not_leading : ¬ (IsLeading (first_unit big bytes))
   one_not_leading leading =
       let same = one_is in
       ⊎_elim (λ (low : f.char < 0xD800). omega arith) (λ (high : (0xE000 ≤ f.char) × (f.char < 0x11_0000)). omega arith) (no_surrogate f.char f.scalar)
@@ -84,14 +84,13 @@ module _ (big : Bool) (bytes : List ℕ) (f : HasFirst big bytes) (one : f.char 
       (subst (SplitsAt big bytes f.char) (char_size_two f.char one) (splits_first big bytes f))
 
 module _ (big : Bool) (bytes : List ℕ) (f : HasFirst big bytes) (two : 0x1_0000 ≤ f.char) where
-  lead : ℕ
+  abbrev pub lead : ℕ
   lead = 0xD800 + (f.char - 0x1_0000) / 0x400
 
-  trail : ℕ
+  abbrev pub trail : ℕ
   trail = 0xDC00 + (f.char - 0x1_0000) % 0x400
 
-  two_spelled : bytes ≡ unit_bytes big lead ++ (unit_bytes big trail ++ encode big f.text)
-  unfolding lead trail
+  pub two_spelled : bytes ≡ unit_bytes big lead ++ (unit_bytes big trail ++ encode big f.text)
   two_spelled =
       f.spelled ∙ ap (λ us. flat_map (unit_bytes big) us ++ encode big f.text) (two_units f.char two)
       ∙ append_assoc (unit_bytes big lead) (unit_bytes big trail ++ []) (encode big f.text)
@@ -103,24 +102,21 @@ module _ (big : Bool) (bytes : List ℕ) (f : HasFirst big bytes) (two : 0x1_000
   trail_is : second_unit big bytes ≡ trail
   trail_is = ap (second_unit big) two_spelled ∙ second_unit-bytes big lead trail (encode big f.text)
 
-  two_below : f.char < 0x11_0000
+  pub two_below : f.char < 0x11_0000
   two_below = ⊎_elim (λ (low : f.char < 0xD800). omega arith) (λ (high : (0xE000 ≤ f.char) × (f.char < 0x11_0000)). high.1) (no_surrogate f.char f.scalar)
 
-  two_leading : IsLeading (first_unit big bytes)
-  unfolding lead
+  pub two_leading : IsLeading (first_unit big bytes)
   two_leading =
       let same = lead_is in
       let below = two_below in
       (omega arith, omega arith)
 
-  two_trailing : IsTrailing (second_unit big bytes)
-  unfolding trail
+  pub two_trailing : IsTrailing (second_unit big bytes)
   two_trailing =
       let same = trail_is in
       (omega arith, omega arith)
 
   pair_is : surrogate_pair_char (first_unit big bytes) (second_unit big bytes) ≡ f.char
-  unfolding lead trail
   pair_is =
       let first = lead_is in
       let second = trail_is in
@@ -158,3 +154,21 @@ module _ (big : Bool) (bytes : List ℕ) (t : IsText big bytes) (some : 0 < leng
       (λ one. let two = char_size_two f.char one in omega arith)
       (λ two. let four = char_size_four f.char two in omega arith)
       (cases_lt f.char 0x1_0000)
+
+-- no character begins with a trailing surrogate
+pub first_unit-char : (big : Bool) (c : ℕ) (bytes : List ℕ) → IsScalar c → ¬ (IsTrailing (first_unit big (char_bytes big c ++ bytes)))
+first_unit-char big c bytes scalar trailing =
+    let cases = no_surrogate c scalar in
+    ⊎_elim
+    (λ (one : c < 0x1_0000).
+        let unit : first_unit big (char_bytes big c ++ bytes) ≡ c =
+            ap (λ us. first_unit big (flat_map (unit_bytes big) us ++ bytes)) (one_unit c one)
+            ∙ ap (λ t. first_unit big (t ++ bytes)) (append-nil (unit_bytes big c)) ∙ first_unit-bytes big c bytes in
+        ⊎_elim (λ (low : c < 0xD800). omega arith) (λ (high : (0xE000 ≤ c) × (c < 0x11_0000)). omega arith) cases)
+    (λ (two : 0x1_0000 ≤ c).
+        let unit : first_unit big (char_bytes big c ++ bytes) ≡ 0xD800 + (c - 0x1_0000) / 0x400 =
+            ap (λ us. first_unit big (flat_map (unit_bytes big) us ++ bytes)) (two_units c two)
+            ∙ ap (first_unit big) (append_assoc (unit_bytes big (0xD800 + (c - 0x1_0000) / 0x400)) (unit_bytes big (0xDC00 + (c - 0x1_0000) % 0x400) ++ []) bytes)
+            ∙ first_unit-bytes big (0xD800 + (c - 0x1_0000) / 0x400) ((unit_bytes big (0xDC00 + (c - 0x1_0000) % 0x400) ++ []) ++ bytes) in
+        ⊎_elim (λ (low : c < 0xD800). omega arith) (λ (high : (0xE000 ≤ c) × (c < 0x11_0000)). omega arith) cases)
+    (cases_lt c 0x1_0000)

@@ -6,3 +6,6 @@ pub mod FaultLemmas
 pub mod Computed
 pub mod Rows
 pub mod FrontChar
+pub mod BoundaryLemmas
+pub mod ContinuedLemmas
+pub mod LawProofs

@@ -3,6 +3,7 @@
 
 mod char;
 mod error;
+pub mod laws;
 mod order;
 mod unit;
 mod validate;

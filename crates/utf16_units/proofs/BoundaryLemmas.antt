@@ -1,0 +1,138 @@
+-- Boundaries, the parts between them, and where a unit's class shows one.
+use Rattle.std.proofs.Common.{◌≡◌, ◌≢◌, ℕ, zero, suc, ◌+◌, ◌-◌, ◌*◌, ◌/◌, ◌%◌, ◌<◌, ◌≤◌, ◌⊎◌, Bool, true, false, List, [], ◌∷◌, ◌++◌, length, take, drop, All, refl, sym, ap, ap₂, ◌∙◌, subst, ⊎_elim, inl, inr, arith, append_assoc, append-nil, length-append, drop_at, flat_map, le-leb, nat_le, cond}
+use Rattle.std.proofs.lemmas.Bool.{cases_eq, cases_lt, lt-leb}
+use Rattle.std.proofs.lemmas.List.Elements.{All-head, All-tail}
+use Rattle.std.proofs.str.Utf16.{two_units}
+use Rattle.std.specs.Char.{IsScalar}
+use Rattle.utf16_units.specs.Unit.{IsTrailing, unit_bytes}
+use Rattle.utf16_units.specs.Encoding.{char_bytes, char_size, encode, size}
+use Rattle.utf16_units.specs.Boundary.{IsBoundary, text_from, text_to}
+use Rattle.utf16_units.proofs.UnitLemmas.{length-unit_bytes}
+use Rattle.utf16_units.proofs.CharLemmas.{char_size_cases, char_size_two, length-char_bytes, no_surrogate}
+use Rattle.utf16_units.proofs.EncodingLemmas.{encode-cons, size-cons, size-nil}
+use Rattle.utf16_units.proofs.FirstChar.{first_unit}
+use Rattle.utf16_units.proofs.FrontChar.{first_unit-bytes}
+
+text_to-whole : (c : ℕ) (text : List ℕ) (i : ℕ) → char_size c ≤ i → text_to (c ∷ text) i ≡ c ∷ text_to text (i - char_size c)
+unfolding text_to
+text_to-whole c text i fits = ap (λ t. cond t (c ∷ text_to text (i - char_size c)) []) (le-leb (char_size c) i fits)
+
+text_to-none : (c : ℕ) (text : List ℕ) (i : ℕ) → i < char_size c → text_to (c ∷ text) i ≡ []
+unfolding text_to
+text_to-none c text i short = ap (λ t. cond t (c ∷ text_to text (i - char_size c)) []) (lt-leb (char_size c) i short)
+
+text_from-whole : (c : ℕ) (text : List ℕ) (i : ℕ) → char_size c ≤ i → text_from (c ∷ text) i ≡ text_from text (i - char_size c)
+unfolding text_from
+text_from-whole c text i fits = ap (λ t. cond t (text_from text (i - char_size c)) (c ∷ text)) (le-leb (char_size c) i fits)
+
+text_from-none : (c : ℕ) (text : List ℕ) (i : ℕ) → i < char_size c → text_from (c ∷ text) i ≡ c ∷ text
+unfolding text_from
+text_from-none c text i short = ap (λ t. cond t (text_from text (i - char_size c)) (c ∷ text)) (lt-leb (char_size c) i short)
+
+pub char_size-pos : (c : ℕ) → 0 < char_size c
+char_size-pos c = ⊎_elim (λ (two : char_size c ≡ 2). omega arith) (λ (four : char_size c ≡ 4). omega arith) (char_size_cases c)
+
+text_to-zero : (text : List ℕ) → text_to text 0 ≡ []
+unfolding text_to
+text_to-zero [] = refl
+text_to-zero (c ∷ text) = text_to-none c text 0 (char_size-pos c)
+
+text_from-zero : (text : List ℕ) → text_from text 0 ≡ text
+unfolding text_from
+text_from-zero [] = refl
+text_from-zero (c ∷ text) = text_from-none c text 0 (char_size-pos c)
+
+-- at the size of a prefix stand that prefix and the rest
+pub text_to-at : (front back : List ℕ) (i : ℕ) → size front ≡ i → text_to (front ++ back) i ≡ front
+text_to-at [] back i e = ap (text_to back) (sym e ∙ size-nil) ∙ text_to-zero back
+text_to-at (c ∷ front) back i e =
+    let whole = size-cons c front in
+    text_to-whole c (front ++ back) i (omega arith)
+    ∙ ap (λ t. c ∷ t) (text_to-at front back (i - char_size c) (omega arith))
+
+pub text_from-at : (front back : List ℕ) (i : ℕ) → size front ≡ i → text_from (front ++ back) i ≡ back
+text_from-at [] back i e = ap (text_from back) (sym e ∙ size-nil) ∙ text_from-zero back
+text_from-at (c ∷ front) back i e =
+    let whole = size-cons c front in
+    text_from-whole c (front ++ back) i (omega arith) ∙ text_from-at front back (i - char_size c) (omega arith)
+
+-- the two parts joined are the text
+pub text_to-text_from : (text : List ℕ) (i : ℕ) → text_to text i ++ text_from text i ≡ text
+unfolding text_to text_from
+text_to-text_from [] i = refl
+text_to-text_from (c ∷ text) i = ⊎_elim
+    (λ (short : i < char_size c). ap₂ (λ x y. x ++ y) (text_to-none c text i short) (text_from-none c text i short))
+    (λ (fits : char_size c ≤ i).
+        ap₂ (λ x y. x ++ y) (text_to-whole c text i fits) (text_from-whole c text i fits)
+        ∙ ap (λ t. c ∷ t) (text_to-text_from text (i - char_size c)))
+    (cases_lt i (char_size c))
+
+-- at a boundary the part before it has that size
+pub size-text_to : (text : List ℕ) (i : ℕ) → IsBoundary text i → size (text_to text i) ≡ i
+size-text_to text i b = ap size (ap (λ t. text_to t i) (sym b.split) ∙ text_to-at b.front b.back i b.offset) ∙ b.offset
+
+pub IsBoundary-start : (text : List ℕ) → IsBoundary text 0
+IsBoundary-start text = record { front = []; back = text; split = refl; offset = size-nil }
+
+IsBoundary-cons : (c : ℕ) (text : List ℕ) (i : ℕ) → char_size c ≤ i → IsBoundary text (i - char_size c) → IsBoundary (c ∷ text) i
+IsBoundary-cons c text i fits b =
+    let whole = size-cons c b.front in
+    let rest = b.offset in
+    record { front = c ∷ b.front; back = b.back; split = ap (λ t. c ∷ t) b.split; offset = omega arith }
+
+drop-past : (xs ys : List ℕ) (n : ℕ) → length xs ≤ n → drop n (xs ++ ys) ≡ drop (n - length xs) ys
+drop-past [] ys n le =
+    let same : n ≡ n - 0 = omega arith in
+    ap (λ k. drop k ys) same
+drop-past (x ∷ xs) ys zero le = absurd (omega arith)
+drop-past (x ∷ xs) ys (suc n) le =
+    let same : n - length xs ≡ suc n - suc (length xs) = omega arith in
+    drop-past xs ys n (omega arith) ∙ ap (λ k. drop k ys) same
+
+-- the second unit of a pair is a trailing surrogate
+pair_trailing : (big : Bool) (c : ℕ) (bytes : List ℕ) → IsScalar c → 0x1_0000 ≤ c → IsTrailing (first_unit big (drop 2 (char_bytes big c ++ bytes)))
+pair_trailing big c bytes scalar two =
+    let lead = 0xD800 + (c - 0x1_0000) / 0x400 in
+    let trail = 0xDC00 + (c - 0x1_0000) % 0x400 in
+    let spelled : char_bytes big c ++ bytes ≡ unit_bytes big lead ++ (unit_bytes big trail ++ bytes) =
+        ap (λ us. flat_map (unit_bytes big) us ++ bytes) (two_units c two)
+        ∙ append_assoc (unit_bytes big lead) (unit_bytes big trail ++ []) bytes
+        ∙ ap (λ t. unit_bytes big lead ++ (t ++ bytes)) (append-nil (unit_bytes big trail)) in
+    let unit : first_unit big (drop 2 (char_bytes big c ++ bytes)) ≡ trail =
+        ap (λ t. first_unit big (drop 2 t)) spelled
+        ∙ ap (first_unit big) (drop_at (unit_bytes big lead) (unit_bytes big trail ++ bytes) 2 (length-unit_bytes big lead))
+        ∙ first_unit-bytes big trail bytes in
+    let class : IsTrailing trail = (omega arith, omega arith) in
+    subst IsTrailing (sym unit) class
+
+-- an even offset at which no trailing surrogate stands is a boundary
+pub IsBoundary-at_unit : (big : Bool) (text : List ℕ) (i : ℕ) → All IsScalar text → i % 2 ≡ 0 → i < size text
+    → ¬ (IsTrailing (first_unit big (drop i (encode big text)))) → IsBoundary text i
+IsBoundary-at_unit big [] i scalars even within class =
+    let none = size-nil in
+    absurd (omega arith)
+IsBoundary-at_unit big (c ∷ text) i scalars even within class =
+    let scalar = All-head IsScalar c text scalars in
+    let whole = size-cons c text in
+    let long = length-char_bytes big c in
+    let cons = encode-cons big c text in
+    ⊎_elim
+    (λ (short : i < char_size c). ⊎_elim
+        (λ (start : i ≡ 0). subst (IsBoundary (c ∷ text)) (sym start) (IsBoundary-start (c ∷ text)))
+        (λ (inside : i ≡ 0 → ⊥). ⊎_elim
+            (λ (one : c < 0x1_0000).
+                let two = char_size_two c one in
+                absurd (omega arith))
+            (λ (pair : 0x1_0000 ≤ c).
+                let middle : i ≡ 2 = ⊎_elim (λ (s : char_size c ≡ 2). absurd (omega arith)) (λ (s : char_size c ≡ 4). omega arith) (char_size_cases c) in
+                absurd (class (subst (λ k. IsTrailing (first_unit big (drop k (encode big (c ∷ text))))) (sym middle)
+                    (subst (λ t. IsTrailing (first_unit big (drop 2 t))) (sym cons) (pair_trailing big c (encode big text) scalar pair)))))
+            (cases_lt c 0x1_0000))
+        (cases_eq i 0))
+    (λ (fits : char_size c ≤ i).
+        let even_size : char_size c % 2 ≡ 0 = ⊎_elim (λ (s : char_size c ≡ 2). omega arith) (λ (s : char_size c ≡ 4). omega arith) (char_size_cases c) in
+        let moved : drop i (encode big (c ∷ text)) ≡ drop (i - char_size c) (encode big text) =
+            ap (drop i) cons ∙ drop-past (char_bytes big c) (encode big text) i (omega arith) ∙ ap (λ k. drop (i - k) (encode big text)) long in
+        IsBoundary-cons c text i fits (IsBoundary-at_unit big text (i - char_size c) (All-tail IsScalar c text scalars) (omega arith) (omega arith)
+            (λ trailing. class (subst (λ t. IsTrailing (first_unit big t)) (sym moved) trailing))))
+    (cases_lt i (char_size c))

@@ -1,0 +1,146 @@
+-- The proofs of the laws, each under its law's name.
+use Rattle.std.proofs.Common.{◌≡◌, ◌≢◌, ℕ, ◌+◌, ◌-◌, ◌%◌, ◌<◌, ◌≤◌, Bool, true, false, not, List, [], ◌∷◌, ◌++◌, length, take, drop, slice_get, Some, All, refl, sym, ap, ap₂, ◌∙◌, subst, ⊎_elim, inl, inr, arith, append_assoc, append-nil, length-append, length-take, length-drop, take-append-drop, drop_at, take_at, flat_map, chars, encode_utf8_all}
+use Rattle.std.proofs.lemmas.Bool.{cases_lt}
+use Rattle.std.proofs.lemmas.List.Elements.{All-head}
+use Rattle.std.proofs.lemmas.Str.{chars-encodes}
+use Rattle.std.specs.Char.{IsScalar}
+use Rattle.std.specs.Char.Escape.{encode_utf16}
+use Rattle.utf16_units.specs.Unit.{IsTrailing, unit_bytes}
+use Rattle.utf16_units.specs.Encoding.{char_bytes, char_size, encode, IsText, size, text_of}
+use Rattle.utf16_units.specs.Boundary.{IsBoundary, text_between, text_from, text_to}
+use Rattle.utf16_units.specs.Edit.{char_at, insert_at, push_text, remove_at, split_back, split_front}
+use Rattle.utf16_units.specs.Laws.{FoundAligned, InsertThenRemove, JoinedText, NoneContinues, SplitThenPush, StandsAt, SwappedOrders, TwoNeverContinues, UniqueText, Utf8Back, swap_bytes}
+use Rattle.utf16_units.proofs.BoundaryLemmas.{IsBoundary-at_unit, char_size-pos, size-text_to, text_from-at, text_to-at, text_to-text_from}
+use Rattle.utf16_units.proofs.ContinuedLemmas.{none_where, two_never}
+use Rattle.utf16_units.proofs.FirstChar.{first_unit}
+use Rattle.utf16_units.proofs.FrontChar.{first_unit-char}
+use Rattle.utf16_units.proofs.EncodingLemmas.{All-after, all_scalars-from_All, encode-append, encode-cons, encode-nil, length-encode, size-append, size-cons, text_of-encode, text_of-encode_then}
+
+pub unique_text : UniqueText
+unique_text big text other scalars others same = sym (text_of-encode big text scalars) ∙ ap (text_of big) same ∙ text_of-encode big other others
+
+pub joined_text : JoinedText
+joined_text big front back = encode-append big front back
+
+pub utf8_back : Utf8Back
+utf8_back text scalars = chars-encodes text (all_scalars-from_All text scalars)
+
+pub two_never_continues : TwoNeverContinues
+two_never_continues big bytes fault = two_never big bytes fault
+
+pub none_continues : NoneContinues
+none_continues big bytes n are fault front = none_where big bytes n are fault front
+
+pub split_then_push : SplitThenPush
+split_then_push text i b = (size-text_to text i b, text_to-text_from text i)
+
+pub insert_then_remove : InsertThenRemove
+insert_then_remove text i c b =
+    let front = text_to text i in
+    let back = text_from text i in
+    let at = size-text_to text i b in
+    let before : text_to (insert_at text i (c ∷ [])) i ≡ front = text_to-at front (c ∷ back) i at in
+    let after : text_from (insert_at text i (c ∷ [])) i ≡ c ∷ back = text_from-at front (c ∷ back) i at in
+    (
+      ap (λ t. slice_get t 0) after,
+      ap₂ (λ x y. x ++ drop 1 y) before after ∙ text_to-text_from text i,
+    )
+
+-- ---- the two orders
+
+swap_bytes-unit : (big : Bool) (unit : ℕ) (bytes : List ℕ) → swap_bytes (unit_bytes big unit ++ bytes) ≡ unit_bytes (not big) unit ++ swap_bytes bytes
+unfolding swap_bytes
+swap_bytes-unit true unit bytes = refl
+swap_bytes-unit false unit bytes = refl
+
+swap_bytes-units : (big : Bool) (units bytes : List ℕ) → swap_bytes (flat_map (unit_bytes big) units ++ bytes) ≡ flat_map (unit_bytes (not big)) units ++ swap_bytes bytes
+swap_bytes-units big [] bytes = refl
+swap_bytes-units big (unit ∷ units) bytes =
+    ap swap_bytes (append_assoc (unit_bytes big unit) (flat_map (unit_bytes big) units) bytes)
+    ∙ swap_bytes-unit big unit (flat_map (unit_bytes big) units ++ bytes)
+    ∙ ap (λ t. unit_bytes (not big) unit ++ t) (swap_bytes-units big units bytes)
+    ∙ sym (append_assoc (unit_bytes (not big) unit) (flat_map (unit_bytes (not big)) units) (swap_bytes bytes))
+
+swap_bytes-nil : swap_bytes [] ≡ []
+unfolding swap_bytes
+swap_bytes-nil = refl
+
+pub swapped_orders : SwappedOrders
+swapped_orders big [] = encode-nil (not big) ∙ sym (ap swap_bytes (encode-nil big) ∙ swap_bytes-nil)
+swapped_orders big (c ∷ text) =
+    encode-cons (not big) c text ∙ ap (λ t. char_bytes (not big) c ++ t) (swapped_orders big text)
+    ∙ sym (ap swap_bytes (encode-cons big c text) ∙ swap_bytes-units big (encode_utf16 c) (encode big text))
+
+-- ---- a match at an even offset
+
+-- no text begins with a trailing surrogate, whatever bytes follow it
+text_begins : (big : Bool) (text bytes : List ℕ) → All IsScalar text → text ≢ [] → ¬ (IsTrailing (first_unit big (encode big text ++ bytes)))
+text_begins big [] bytes scalars some trailing = absurd (some refl)
+text_begins big (c ∷ text) bytes scalars some trailing =
+    first_unit-char big c (encode big text ++ bytes) (All-head IsScalar c text scalars)
+    (subst (λ t. IsTrailing (first_unit big t)) (ap (λ t. t ++ bytes) (encode-cons big c text) ∙ append_assoc (char_bytes big c) (encode big text) bytes) trailing)
+
+size-some : (text : List ℕ) → text ≢ [] → 0 < size text
+size-some [] some = absurd (some refl)
+size-some (c ∷ text) some = omega (arith, size-cons c text, char_size-pos c)
+
+module _ (big : Bool) (text found : List ℕ) (i : ℕ) (scalars : All IsScalar text) (founds : All IsScalar found) (some : found ≢ [])
+    (even : i % 2 ≡ 0) (stands : StandsAt (encode big text) i (encode big found)) where
+  tail : List ℕ
+  tail = drop (length (encode big found)) (drop i (encode big text))
+
+  split : drop i (encode big text) ≡ encode big found ++ tail
+  unfolding tail
+  split =
+      sym (take-append-drop (length (encode big found)) (drop i (encode big text)))
+      ∙ ap (λ t. t ++ drop (length (encode big found)) (drop i (encode big text))) stands
+
+  within : i < size text
+  within =
+      let whole = length-encode big text in
+      let left = length-drop i (encode big text) in
+      let long = ap length split ∙ length-append (encode big found) tail in
+      let found_long = length-encode big found in
+      let pos = size-some found some in
+      omega arith
+
+  start : IsBoundary text i
+  start = IsBoundary-at_unit big text i scalars even within
+      (λ trailing. text_begins big found tail founds some (subst (λ t. IsTrailing (first_unit big t)) split trailing))
+
+  back : List ℕ
+  back = start.back
+
+  -- what stands from i on is the text that was found, and then a text
+  back_is : back ≡ found ++ text_of big tail
+  unfolding back
+  back_is =
+      let whole : encode big text ≡ encode big start.front ++ encode big start.back = ap (encode big) (sym start.split) ∙ encode-append big start.front start.back in
+      let rest : drop i (encode big text) ≡ encode big start.back =
+          ap (drop i) whole ∙ drop_at (encode big start.front) (encode big start.back) i (length-encode big start.front ∙ start.offset) in
+      let rest_scalars = All-after start.front start.back (subst (All IsScalar) (sym start.split) scalars) in
+      sym (text_of-encode big start.back rest_scalars) ∙ ap (text_of big) (sym rest ∙ split) ∙ text_of-encode_then big found tail founds
+
+  end : IsBoundary text (i + size found)
+  unfolding back
+  end = record {
+    front = start.front ++ found;
+    back = text_of big tail;
+    split = append_assoc start.front found (text_of big tail) ∙ ap (λ t. start.front ++ t) (sym back_is) ∙ start.split;
+    offset = size-append start.front found ∙ ap (λ n. n + size found) start.offset;
+  }
+
+  between : text_between text i (i + size found) ≡ found
+  unfolding back
+  between =
+      let from : text_from text i ≡ found ++ text_of big tail =
+          ap (λ t. text_from t i) (sym start.split) ∙ text_from-at start.front start.back i start.offset ∙ back_is in
+      let cut : size found ≡ i + size found - i = omega arith in
+      ap (λ t. text_to t (i + size found - i)) from ∙ text_to-at found (text_of big tail) (i + size found - i) cut
+
+pub found_aligned : FoundAligned
+found_aligned big text found i scalars founds some even stands = (
+  start big text found i scalars founds some even stands,
+  end big text found i scalars founds some even stands,
+  between big text found i scalars founds some even stands,
+)

@@ -1,0 +1,24 @@
+-- Character boundaries of a text, and its parts between them. Offsets count bytes of the encoding, in either order.
+use Rattle.std.specs.Prelude.{◌≡◌, ℕ, ◌+◌, ◌-◌, List, [], ◌∷◌, ◌++◌, nat_le, if◌then◌else◌}
+use Rattle.utf16_units.specs.Encoding.{char_size, size}
+
+-- i is a boundary: some prefix of the text has that size
+pub record IsBoundary (text : List ℕ) (i : ℕ) : Type 0 where
+  pub front : List ℕ
+  pub back : List ℕ
+  pub split : front ++ back ≡ text
+  pub offset : size front ≡ i
+
+-- the characters before an offset, those whose bytes all stand before it: at a boundary, the prefix of that size
+unfoldable pub text_to : List ℕ → ℕ → List ℕ
+text_to [] i = []
+text_to (c ∷ text) i = if nat_le (char_size c) i then c ∷ text_to text (i - char_size c) else []
+
+-- the characters from an offset on, what is left without those before it
+unfoldable pub text_from : List ℕ → ℕ → List ℕ
+text_from [] i = []
+text_from (c ∷ text) i = if nat_le (char_size c) i then text_from text (i - char_size c) else c ∷ text
+
+-- the part between two boundaries: the text without its prefix of size i, cut to the size j - i
+abbrev pub text_between : List ℕ → ℕ → ℕ → List ℕ
+text_between text i j = text_to (text_from text i) (j - i)

@@ -1,0 +1,61 @@
+-- The laws of UTF-16 that users of the format rest on, each a statement over the definitions alone.
+use Rattle.std.specs.Prelude.{◌≡◌, ◌≢◌, ◌↔◌, ℕ, ◌+◌, ◌%◌, ◌<◌, Bool, not, List, [], ◌∷◌, ◌++◌, Option, None, Some, All, length, take, drop, encode_utf8_all, chars}
+use Rattle.std.specs.Char.{IsScalar}
+use Rattle.utf16_units.specs.Boundary.{IsBoundary, text_between}
+use Rattle.utf16_units.specs.Continued.{IsBeginning, IsDeadEnd}
+use Rattle.utf16_units.specs.Edit.{char_at, insert_at, push_text, remove_at, split_back, split_front}
+use Rattle.utf16_units.specs.Encoding.{encode, size}
+use Rattle.utf16_units.specs.Fault.{IsFault, IsFront}
+
+-- two texts with equal encodings in one order are equal
+abbrev pub UniqueText : Type 0
+UniqueText = (big : Bool) (text other : List ℕ) → All IsScalar text → All IsScalar other → encode big text ≡ encode big other → text ≡ other
+
+-- the encoding of two texts joined is their encodings joined
+abbrev pub JoinedText : Type 0
+JoinedText = (big : Bool) (front back : List ℕ) → encode big (front ++ back) ≡ encode big front ++ encode big back
+
+-- the bytes from i on begin with the part
+abbrev pub StandsAt : List ℕ → ℕ → List ℕ → Type 0
+StandsAt bytes i part = take (length part) (drop i bytes) ≡ part
+
+-- where the encoding of a text that is not empty stands in a text's bytes at an even offset, both its ends are boundaries,
+-- and the characters between them are that text
+abbrev pub FoundAligned : Type 0
+FoundAligned = (big : Bool) (text found : List ℕ) (i : ℕ) → All IsScalar text → All IsScalar found → found ≢ [] → i % 2 ≡ 0
+    → StandsAt (encode big text) i (encode big found)
+    → IsBoundary text i × IsBoundary text (i + size found) × (text_between text i (i + size found) ≡ found)
+
+-- each two bytes the other way round; a last odd byte stays
+unfoldable pub swap_bytes : List ℕ → List ℕ
+swap_bytes [] = []
+swap_bytes (last ∷ []) = last ∷ []
+swap_bytes (first ∷ second ∷ bytes) = second ∷ first ∷ swap_bytes bytes
+
+-- the encodings of a text in the two orders differ by the swap of the two bytes of each unit, and by nothing else
+abbrev pub SwappedOrders : Type 0
+SwappedOrders = (big : Bool) (text : List ℕ) → encode (not big) text ≡ swap_bytes (encode big text)
+
+-- a character put in at a boundary is the character there, and taking it out gives the text from before
+abbrev pub InsertThenRemove : Type 0
+InsertThenRemove = (text : List ℕ) (i c : ℕ) → IsBoundary text i
+    → (char_at (insert_at text i (c ∷ [])) i ≡ Some c) × (remove_at (insert_at text i (c ∷ [])) i ≡ text)
+
+-- a text split at a boundary has a front of that size, and the back put last again gives the text from before
+abbrev pub SplitThenPush : Type 0
+SplitThenPush = (text : List ℕ) (i : ℕ) → IsBoundary text i
+    → (size (split_front text i) ≡ i) × (push_text (split_front text i) (split_back text i) ≡ text)
+
+-- the characters read from a text's UTF-8 are the text
+abbrev pub Utf8Back : Type 0
+Utf8Back = (text : List ℕ) → All IsScalar text → chars (encode_utf8_all text) ≡ text
+
+-- bytes with a fault of length 2 are the beginning of no text
+abbrev pub TwoNeverContinues : Type 0
+TwoNeverContinues = (big : Bool) (bytes : List ℕ) → IsFault big bytes (Some 2) → ¬ (IsBeginning big bytes)
+
+-- bytes with a fault of no length are the beginning of a text exactly where what is left behind their longest valid beginning
+-- is no dead end: in little endian always
+abbrev pub NoneContinues : Type 0
+NoneContinues = (big : Bool) (bytes : List ℕ) (n : ℕ) → All (λ b. b < 256) bytes → IsFault big bytes None → IsFront big bytes n
+    → (IsBeginning big bytes ↔ ¬ (IsDeadEnd big (drop n bytes)))
