@@ -1,15 +1,15 @@
 -- Boundaries, the parts between them, and where a unit's class shows one.
-use Rattle.std.proofs.Common.{◌≡◌, ◌≢◌, ℕ, zero, suc, ◌+◌, ◌-◌, ◌*◌, ◌/◌, ◌%◌, ◌<◌, ◌≤◌, ◌⊎◌, Bool, true, false, List, [], ◌∷◌, ◌++◌, length, take, drop, All, refl, sym, ap, ap₂, ◌∙◌, subst, ⊎_elim, inl, inr, arith, append_assoc, append-nil, length-append, drop_at, flat_map, le-leb, nat_le, cond}
+use Rattle.std.proofs.Common.{◌≡◌, ◌≢◌, ℕ, zero, suc, ◌+◌, ◌-◌, ◌*◌, ◌/◌, ◌%◌, ◌<◌, ◌≤◌, ◌⊎◌, Bool, true, false, List, [], ◌∷◌, ◌++◌, length, take, drop, All, refl, sym, ap, ap₂, ◌∙◌, subst, ⊎_elim, inl, inr, arith, append_assoc, append-nil, length-append, drop_at, take_at, flat_map, le-leb, nat_le, cond}
 use Rattle.std.proofs.lemmas.Bool.{cases_eq, cases_lt, lt-leb}
 use Rattle.std.proofs.lemmas.List.Elements.{All-head, All-tail}
 use Rattle.std.proofs.str.Utf16.{two_units}
 use Rattle.std.specs.Char.{IsScalar}
 use Rattle.utf16_units.specs.Unit.{IsTrailing, unit_bytes}
-use Rattle.utf16_units.specs.Encoding.{char_bytes, char_size, encode, size}
+use Rattle.utf16_units.specs.Encoding.{char_bytes, char_size, encode, Encodes, size}
 use Rattle.utf16_units.specs.Boundary.{IsBoundary, text_from, text_to}
 use Rattle.utf16_units.proofs.UnitLemmas.{length-unit_bytes}
 use Rattle.utf16_units.proofs.CharLemmas.{char_size_cases, char_size_two, length-char_bytes, no_surrogate}
-use Rattle.utf16_units.proofs.EncodingLemmas.{encode-cons, size-cons, size-nil}
+use Rattle.utf16_units.proofs.EncodingLemmas.{All-after, All-before, encode-append, encode-cons, length-encode, size-append, size-cons, size-nil}
 use Rattle.utf16_units.proofs.FirstChar.{first_unit}
 use Rattle.utf16_units.proofs.FrontChar.{first_unit-bytes}
 
@@ -136,3 +136,41 @@ IsBoundary-at_unit big (c ∷ text) i scalars even within class =
         IsBoundary-cons c text i fits (IsBoundary-at_unit big text (i - char_size c) (All-tail IsScalar c text scalars) (omega arith) (omega arith)
             (λ trailing. class (subst (λ t. IsTrailing (first_unit big t)) (sym moved) trailing))))
     (cases_lt i (char_size c))
+
+-- ---- bytes cut at a boundary
+
+pub text_to-front : (text : List ℕ) (i : ℕ) → (b : IsBoundary text i) → text_to text i ≡ b.front
+text_to-front text i b = ap (λ t. text_to t i) (sym b.split) ∙ text_to-at b.front b.back i b.offset
+
+pub text_from-back : (text : List ℕ) (i : ℕ) → (b : IsBoundary text i) → text_from text i ≡ b.back
+text_from-back text i b = ap (λ t. text_from t i) (sym b.split) ∙ text_from-at b.front b.back i b.offset
+
+pub IsBoundary-within : (text : List ℕ) (i : ℕ) → IsBoundary text i → i ≤ size text
+IsBoundary-within text i b =
+    let whole = ap size (sym b.split) ∙ size-append b.front b.back in
+    let at = b.offset in
+    omega arith
+
+pub IsBoundary-end : (text : List ℕ) → IsBoundary text (size text)
+IsBoundary-end text = record { front = text; back = []; split = append-nil text; offset = refl }
+
+-- the bytes before a boundary encode the characters before it, and the bytes behind it those behind it
+pub Encodes-to : (big : Bool) (text bytes : List ℕ) (i : ℕ) → Encodes big text bytes → IsBoundary text i → Encodes big (text_to text i) (take i bytes)
+Encodes-to big text bytes i e b = record {
+  scalars = All-before (text_to text i) (text_from text i) (subst (All IsScalar) (sym (text_to-text_from text i)) e.scalars);
+  spelled =
+      let parts = encode-append big b.front b.back in
+      let long = length-encode big b.front ∙ b.offset in
+      ap (encode big) (text_to-front text i b) ∙ sym (take_at (encode big b.front) (encode big b.back) i long)
+      ∙ ap (take i) (sym parts ∙ ap (encode big) b.split ∙ e.spelled);
+}
+
+pub Encodes-from : (big : Bool) (text bytes : List ℕ) (i : ℕ) → Encodes big text bytes → IsBoundary text i → Encodes big (text_from text i) (drop i bytes)
+Encodes-from big text bytes i e b = record {
+  scalars = All-after (text_to text i) (text_from text i) (subst (All IsScalar) (sym (text_to-text_from text i)) e.scalars);
+  spelled =
+      let parts = encode-append big b.front b.back in
+      let long = length-encode big b.front ∙ b.offset in
+      ap (encode big) (text_from-back text i b) ∙ sym (drop_at (encode big b.front) (encode big b.back) i long)
+      ∙ ap (drop i) (sym parts ∙ ap (encode big) b.split ∙ e.spelled);
+}

@@ -19,6 +19,11 @@ pub All-after : (xs ys : List ℕ) → All IsScalar (xs ++ ys) → All IsScalar 
 All-after [] ys scalars = scalars
 All-after (x ∷ xs) ys scalars = All-after xs ys (All-tail IsScalar x (xs ++ ys) scalars)
 
+pub All-before : (xs ys : List ℕ) → All IsScalar (xs ++ ys) → All IsScalar xs
+All-before [] ys scalars = All-nil IsScalar
+All-before (x ∷ xs) ys scalars =
+    All-cons IsScalar x xs (All-head IsScalar x (xs ++ ys) scalars) (All-before xs ys (All-tail IsScalar x (xs ++ ys) scalars))
+
 pub encode-nil : (big : Bool) → encode big [] ≡ []
 unfolding encode
 encode-nil big = refl
@@ -185,3 +190,6 @@ length-text big bytes t = ap length (sym (encode-text_of big bytes t)) ∙ lengt
 -- well-formed bytes are empty exactly where their text is
 pub nil-from_text : (big : Bool) (bytes : List ℕ) → IsText big bytes → text_of big bytes ≡ [] → bytes ≡ []
 nil-from_text big bytes t none = sym (encode-text_of big bytes t) ∙ ap (encode big) none ∙ encode-nil big
+
+pub IsText-from_Encodes : (big : Bool) (text bytes : List ℕ) → Encodes big text bytes → IsText big bytes
+IsText-from_Encodes big text bytes e = record { text = text; encodes = e }
