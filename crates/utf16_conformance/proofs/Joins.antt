@@ -19,7 +19,7 @@ Encodes-between big front back c front_bytes char back_bytes f b scalar same =
     subst (Encodes big (front ++ ((c ∷ []) ++ back)))
     (ap (λ t. front_bytes ++ (t ++ back_bytes)) (sym same) ∙ sym (append_assoc front_bytes char back_bytes))
     (Encodes-append big front ((c ∷ []) ++ back) front_bytes (char_bytes big c ++ back_bytes) f
-        (Encodes-append big (c ∷ []) back (char_bytes big c) back_bytes (Encodes-char big c scalar) b))
+    (Encodes-append big (c ∷ []) back (char_bytes big c) back_bytes (Encodes-char big c scalar) b))
 
 -- what a buffer holds after a character was written at its front
 pub written-char : (big : Bool) (c : ℕ) (buf rest : List ℕ) (n : ℕ) → buf ≡ char_bytes big c ++ rest → n ≡ char_size c → take n buf ≡ char_bytes big c

@@ -63,5 +63,5 @@ pub swap_bytes-at : (bytes : List ℕ) (at : ℕ) → 2 ≤ length bytes - at
 swap_bytes-at bytes at long =
     let next : at + 1 + 1 ≡ at + 2 = omega arith in
     ap swap_bytes (drop_more bytes at 0 (omega arith)
-        ∙ ap (λ t. slice_index bytes at ∷ t) (drop_more bytes (at + 1) 0 (omega arith) ∙ ap (λ k. slice_index bytes (at + 1) ∷ drop k bytes) next))
+    ∙ ap (λ t. slice_index bytes at ∷ t) (drop_more bytes (at + 1) 0 (omega arith) ∙ ap (λ k. slice_index bytes (at + 1) ∷ drop k bytes) next))
     ∙ swap_bytes-two (slice_index bytes at) (slice_index bytes (at + 1)) (drop (at + 2) bytes)

@@ -13,7 +13,7 @@ returns g c =
     let raw = c.args.raw.now in
     let n = valid_up_to c.in-Err.e in
     let none : error_len c.in-Err.e ≡ None =
-        sym c.error_len.ensures ∙ none_from_test c.error_len.result (sym c.is_some.ensures ∙ c.if-is_some.false) in
+    sym c.error_len.ensures ∙ none_from_test c.error_len.result (sym c.is_some.ensures ∙ c.if-is_some.false) in
     let fault : IsFault big raw None = subst (IsFault big raw) none c.in-Err.ensures.error.fault in
     let bytes : All (λ b. b < 256) raw = All-from_get_or (λ b. b < 256) raw 0 (λ k l. omega (arith, c.type_inv.raw k)) in
     let law = c.none_continues.ensures big raw n bytes fault c.in-Err.ensures.error.front in

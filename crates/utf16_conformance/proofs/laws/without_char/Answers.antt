@@ -11,5 +11,5 @@ cut-requires-2 g c = rw c.cut.ensures.back (IsBoundary-after c.args.c _ c.encode
 pub returns : goal.returns
 returns g c =
     let back = c.cut-2.ensures.back ∙ ap (λ t. text_from t c.encoded_utf16_len.result) c.cut.ensures.back
-        ∙ text_from-after c.args.c _ c.encoded_utf16_len.result c.requires.char c.encoded_utf16_len.ensures in
+    ∙ text_from-after c.args.c _ c.encoded_utf16_len.result c.requires.char c.encoded_utf16_len.ensures in
     rw (← c.cut.ensures.front, ← back) c.joined.ensures
