@@ -45,10 +45,6 @@ module _ (law : FoundAligned) (big : Bool) (record_bytes key_bytes : List ℕ) (
       sym (text_to-text_from (text_of big record_bytes) at)
       ∙ ap (λ t. text_to (text_of big record_bytes) at ++ t) (sym (key_split n size_is))
 
-pub size-even : (text : List ℕ) → size text % 2 ≡ 0
-unfolding size
-size-even text = omega arith
-
 swap_bytes-two : (x y : ℕ) (bytes : List ℕ) → swap_bytes (x ∷ y ∷ bytes) ≡ y ∷ x ∷ swap_bytes bytes
 unfolding swap_bytes
 swap_bytes-two x y bytes = refl

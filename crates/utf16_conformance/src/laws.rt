@@ -66,17 +66,17 @@ pub fn cut_and_joined<E: Utf16Order, A: Allocator>(
     joined(alloc, front, back)
 }
 
-/// A record cut at a key whose bytes stand at an even offset: what stands before the key, and what stands behind it. `None`
+/// A text cut at a key whose bytes stand at an even offset: what stands before the key, and what stands behind it. `None`
 /// where the key is empty, the offset is odd, or the key's bytes do not stand there.
 pub fn cut_at_key<'a, E: Utf16Order>(
-    record: WStr<'a, E>,
+    text: WStr<'a, E>,
     key: WStr<'_, E>,
     at: usize,
 ) -> Option<(WStr<'a, E>, WStr<'a, E>)>
     ensures found { IfSome result (λ parts.
-        wstr_text record.entry ≡ wstr_text parts.0 ++ (wstr_text key.entry ++ wstr_text parts.1)) }
+        wstr_text text.entry ≡ wstr_text parts.0 ++ (wstr_text key.entry ++ wstr_text parts.1)) }
     ensures offset { IfSome result (λ parts. length (wstr_bytes parts.0) ≡ at) }
-    ensures none { IsNone result → (wstr_text key.entry ≡ []) ⊎ (at % 2 ≡ 1) ⊎ ¬ (StandsAt (wstr_bytes record.entry) at (wstr_bytes key.entry)) }
+    ensures none { IsNone result → (wstr_text key.entry ≡ []) ⊎ (at % 2 ≡ 1) ⊎ ¬ (StandsAt (wstr_bytes text.entry) at (wstr_bytes key.entry)) }
 {
     if key.is_empty() {
         return None;
@@ -84,11 +84,11 @@ pub fn cut_at_key<'a, E: Utf16Order>(
     if at % 2 != 0 {
         return None;
     }
-    if !stands_at(record.as_bytes(), at, key.as_bytes()) {
+    if !stands_at(text.as_bytes(), at, key.as_bytes()) {
         return None;
     }
     found_aligned();
-    let (front, rest) = cut(record, at);
+    let (front, rest) = cut(text, at);
     let (_, back) = cut(rest, key.len());
     Some((front, back))
 }

@@ -63,8 +63,8 @@ text_to-text_from [] i = refl
 text_to-text_from (c ∷ text) i = ⊎_elim
     (λ (short : i < char_size c). ap₂ (λ x y. x ++ y) (text_to-none c text i short) (text_from-none c text i short))
     (λ (fits : char_size c ≤ i).
-        ap₂ (λ x y. x ++ y) (text_to-whole c text i fits) (text_from-whole c text i fits)
-        ∙ ap (λ t. c ∷ t) (text_to-text_from text (i - char_size c)))
+    ap₂ (λ x y. x ++ y) (text_to-whole c text i fits) (text_from-whole c text i fits)
+    ∙ ap (λ t. c ∷ t) (text_to-text_from text (i - char_size c)))
     (cases_lt i (char_size c))
 
 -- at a boundary the part before it has that size
@@ -95,13 +95,13 @@ pair_trailing big c bytes scalar two =
     let lead = 0xD800 + (c - 0x1_0000) / 0x400 in
     let trail = 0xDC00 + (c - 0x1_0000) % 0x400 in
     let spelled : char_bytes big c ++ bytes ≡ unit_bytes big lead ++ (unit_bytes big trail ++ bytes) =
-        ap (λ us. flat_map (unit_bytes big) us ++ bytes) (two_units c two)
-        ∙ append_assoc (unit_bytes big lead) (unit_bytes big trail ++ []) bytes
-        ∙ ap (λ t. unit_bytes big lead ++ (t ++ bytes)) (append-nil (unit_bytes big trail)) in
+    ap (λ us. flat_map (unit_bytes big) us ++ bytes) (two_units c two)
+    ∙ append_assoc (unit_bytes big lead) (unit_bytes big trail ++ []) bytes
+    ∙ ap (λ t. unit_bytes big lead ++ (t ++ bytes)) (append-nil (unit_bytes big trail)) in
     let unit : first_unit big (drop 2 (char_bytes big c ++ bytes)) ≡ trail =
-        ap (λ t. first_unit big (drop 2 t)) spelled
-        ∙ ap (first_unit big) (drop_at (unit_bytes big lead) (unit_bytes big trail ++ bytes) 2 (length-unit_bytes big lead))
-        ∙ first_unit-bytes big trail bytes in
+    ap (λ t. first_unit big (drop 2 t)) spelled
+    ∙ ap (first_unit big) (drop_at (unit_bytes big lead) (unit_bytes big trail ++ bytes) 2 (length-unit_bytes big lead))
+    ∙ first_unit-bytes big trail bytes in
     let class : IsTrailing trail = (omega arith, omega arith) in
     subst IsTrailing (sym unit) class
 
@@ -118,23 +118,23 @@ IsBoundary-at_unit big (c ∷ text) i scalars even within class =
     let cons = encode-cons big c text in
     ⊎_elim
     (λ (short : i < char_size c). ⊎_elim
-        (λ (start : i ≡ 0). subst (IsBoundary (c ∷ text)) (sym start) (IsBoundary-start (c ∷ text)))
-        (λ (inside : i ≡ 0 → ⊥). ⊎_elim
-            (λ (one : c < 0x1_0000).
-                let two = char_size_two c one in
-                absurd (omega arith))
-            (λ (pair : 0x1_0000 ≤ c).
-                let middle : i ≡ 2 = ⊎_elim (λ (s : char_size c ≡ 2). absurd (omega arith)) (λ (s : char_size c ≡ 4). omega arith) (char_size_cases c) in
-                absurd (class (subst (λ k. IsTrailing (first_unit big (drop k (encode big (c ∷ text))))) (sym middle)
-                    (subst (λ t. IsTrailing (first_unit big (drop 2 t))) (sym cons) (pair_trailing big c (encode big text) scalar pair)))))
-            (cases_lt c 0x1_0000))
-        (cases_eq i 0))
+    (λ (start : i ≡ 0). subst (IsBoundary (c ∷ text)) (sym start) (IsBoundary-start (c ∷ text)))
+    (λ (inside : i ≡ 0 → ⊥). ⊎_elim
+    (λ (one : c < 0x1_0000).
+    let two = char_size_two c one in
+    absurd (omega arith))
+    (λ (pair : 0x1_0000 ≤ c).
+    let middle : i ≡ 2 = ⊎_elim (λ (s : char_size c ≡ 2). absurd (omega arith)) (λ (s : char_size c ≡ 4). omega arith) (char_size_cases c) in
+    absurd (class (subst (λ k. IsTrailing (first_unit big (drop k (encode big (c ∷ text))))) (sym middle)
+    (subst (λ t. IsTrailing (first_unit big (drop 2 t))) (sym cons) (pair_trailing big c (encode big text) scalar pair)))))
+    (cases_lt c 0x1_0000))
+    (cases_eq i 0))
     (λ (fits : char_size c ≤ i).
-        let even_size : char_size c % 2 ≡ 0 = ⊎_elim (λ (s : char_size c ≡ 2). omega arith) (λ (s : char_size c ≡ 4). omega arith) (char_size_cases c) in
-        let moved : drop i (encode big (c ∷ text)) ≡ drop (i - char_size c) (encode big text) =
-            ap (drop i) cons ∙ drop-past (char_bytes big c) (encode big text) i (omega arith) ∙ ap (λ k. drop (i - k) (encode big text)) long in
-        IsBoundary-cons c text i fits (IsBoundary-at_unit big text (i - char_size c) (All-tail IsScalar c text scalars) (omega arith) (omega arith)
-            (λ trailing. class (subst (λ t. IsTrailing (first_unit big t)) (sym moved) trailing))))
+    let even_size : char_size c % 2 ≡ 0 = ⊎_elim (λ (s : char_size c ≡ 2). omega arith) (λ (s : char_size c ≡ 4). omega arith) (char_size_cases c) in
+    let moved : drop i (encode big (c ∷ text)) ≡ drop (i - char_size c) (encode big text) =
+    ap (drop i) cons ∙ drop-past (char_bytes big c) (encode big text) i (omega arith) ∙ ap (λ k. drop (i - k) (encode big text)) long in
+    IsBoundary-cons c text i fits (IsBoundary-at_unit big text (i - char_size c) (All-tail IsScalar c text scalars) (omega arith) (omega arith)
+    (λ trailing. class (subst (λ t. IsTrailing (first_unit big t)) (sym moved) trailing))))
     (cases_lt i (char_size c))
 
 -- ---- bytes cut at a boundary

@@ -20,7 +20,7 @@ nothing_more big bytes n k front some within t =
     let long = length-drop n bytes in
     let fits = front.within in
     let longer : n + k ≤ n = front.longest (n + k) (omega arith)
-        (subst (IsText big) (sym (take-add n k bytes)) (IsText-append big (take n bytes) (take k (drop n bytes)) front.valid t)) in
+    (subst (IsText big) (sym (take-add n k bytes)) (IsText-append big (take n bytes) (take k (drop n bytes)) front.valid t)) in
     omega arith
 
 -- where bytes are the beginning of a text, what stands behind their longest valid beginning is one too
@@ -41,8 +41,8 @@ first_is_text : (big : Bool) (bytes more : List ℕ) (h : HasFirst big (bytes ++
 first_is_text big bytes more h within =
     let s = char_size h.char in
     let same : take s bytes ≡ char_bytes big h.char =
-        sym (take-append-le s bytes more within) ∙ ap (take s) h.spelled
-        ∙ take_at (char_bytes big h.char) (encode big h.text) s (length-char_bytes big h.char) in
+    sym (take-append-le s bytes more within) ∙ ap (take s) h.spelled
+    ∙ take_at (char_bytes big h.char) (encode big h.text) s (length-char_bytes big h.char) in
     subst (IsText big) (sym same) (IsText-char big h.char h.scalar)
 
 -- a fault of length 2 is never continued
@@ -57,20 +57,20 @@ no_more_after_two big bytes (x ∷ y ∷ after) n front at refused whole b =
     let long = length-append rest b.more in
     let h = first_of big (rest ++ b.more) goes_on (omega arith) in
     let impossible : char_size h.char ≤ length rest → 0 < char_size h.char → ⊥ = λ within some.
-        nothing_more big bytes n (char_size h.char) front some (subst (λ t. char_size h.char ≤ length t) (sym at) within)
-        (subst (λ t. IsText big (take (char_size h.char) t)) (sym at) (first_is_text big rest b.more h within)) in
+    nothing_more big bytes n (char_size h.char) front some (subst (λ t. char_size h.char ≤ length t) (sym at) within)
+    (subst (λ t. IsText big (take (char_size h.char) t)) (sym at) (first_is_text big rest b.more h within)) in
     ⊎_elim
     (λ (one : h.char < 0x1_0000).
-        let two = char_size_two h.char one in
-        impossible (omega arith) (omega arith))
+    let two = char_size_two h.char one in
+    impossible (omega arith) (omega arith))
     (λ (pair : 0x1_0000 ≤ h.char).
-        let four = char_size_four h.char pair in
-        let leading : IsLeading (unit_of big x y) = two_leading big (rest ++ b.more) h pair in
-        let there : 2 ≤ length after = ⊎_elim
-            (λ (short : length after < 2). absurd (whole (leading, omega arith)))
-            (λ (le : 2 ≤ length after). le)
-            (cases_lt (length after) 2) in
-        impossible (omega arith) (omega arith))
+    let four = char_size_four h.char pair in
+    let leading : IsLeading (unit_of big x y) = two_leading big (rest ++ b.more) h pair in
+    let there : 2 ≤ length after = ⊎_elim
+    (λ (short : length after < 2). absurd (whole (leading, omega arith)))
+    (λ (le : 2 ≤ length after). le)
+    (cases_lt (length after) 2) in
+    impossible (omega arith) (omega arith))
     (cases_lt h.char 0x1_0000)
 
 pub two_never : (big : Bool) (bytes : List ℕ) → IsFault big bytes (Some 2) → ¬ (IsBeginning big bytes)
@@ -98,8 +98,8 @@ four_bytes_text : (big : Bool) (x y z w : ℕ) → x < 256 → y < 256 → z < 2
 four_bytes_text big x y z w bx by bz bw leading trailing =
     let bytes = x ∷ y ∷ z ∷ w ∷ [] in
     IsText-begins big bytes 4 (pair_first big bytes
-        (AreBytes-cons x (y ∷ z ∷ w ∷ []) bx (AreBytes-cons y (z ∷ w ∷ []) by (AreBytes-cons z (w ∷ []) bz (AreBytes-cons w [] bw AreBytes-nil))))
-        (omega arith) leading trailing)
+    (AreBytes-cons x (y ∷ z ∷ w ∷ []) bx (AreBytes-cons y (z ∷ w ∷ []) by (AreBytes-cons z (w ∷ []) bz (AreBytes-cons w [] bw AreBytes-nil))))
+    (omega arith) leading trailing)
 
 -- some bytes make what is left of a character that was cut off a text, unless it is a dead end
 completed : (big : Bool) (rest : List ℕ) → All (λ b. b < 256) rest → IsCutOff big rest → ¬ (IsDeadEnd big rest) → (more : List ℕ) × IsText big (rest ++ more)
@@ -112,13 +112,13 @@ completed true (x ∷ []) bytes cut alive =
     ⊎_elim
     (λ (low : x < 0xD8). (0 ∷ [], two_bytes_text true x 0 bx (omega arith) (λ leading. omega (arith, leading.0)) (λ trailing. omega (arith, trailing.0))))
     (λ (from : 0xD8 ≤ x). ⊎_elim
-        (λ (lead_byte : x < 0xDC).
-            (0 ∷ 0xDC ∷ 0 ∷ [], four_bytes_text true x 0 0xDC 0 bx (omega arith) (omega arith) (omega arith) (omega arith, omega arith) (omega arith, omega arith)))
-        (λ (past : 0xDC ≤ x). ⊎_elim
-            (λ (trail_byte : x < 0xE0). absurd (alive (past, omega arith)))
-            (λ (high : 0xE0 ≤ x). (0 ∷ [], two_bytes_text true x 0 bx (omega arith) (λ leading. omega (arith, leading.1)) (λ trailing. omega (arith, trailing.1))))
-            (cases_lt x 0xE0))
-        (cases_lt x 0xDC))
+    (λ (lead_byte : x < 0xDC).
+    (0 ∷ 0xDC ∷ 0 ∷ [], four_bytes_text true x 0 0xDC 0 bx (omega arith) (omega arith) (omega arith) (omega arith, omega arith) (omega arith, omega arith)))
+    (λ (past : 0xDC ≤ x). ⊎_elim
+    (λ (trail_byte : x < 0xE0). absurd (alive (past, omega arith)))
+    (λ (high : 0xE0 ≤ x). (0 ∷ [], two_bytes_text true x 0 bx (omega arith) (λ leading. omega (arith, leading.1)) (λ trailing. omega (arith, trailing.1))))
+    (cases_lt x 0xE0))
+    (cases_lt x 0xDC))
     (cases_lt x 0xD8)
 completed false (x ∷ y ∷ []) bytes cut alive =
     let bx : x < 256 = All-head (λ b. b < 256) x (y ∷ []) bytes in
@@ -145,9 +145,9 @@ completed true (x ∷ y ∷ z ∷ []) bytes cut alive =
     ⊎_elim
     (λ (low : z < 0xDC). absurd (alive (cut.0, λ high. omega (arith, high.0))))
     (λ (from : 0xDC ≤ z). ⊎_elim
-        (λ (below : z < 0xE0). (0 ∷ [], four_bytes_text true x y z 0 bx by bz (omega arith) cut.0 (omega arith, omega arith)))
-        (λ (past : 0xE0 ≤ z). absurd (alive (cut.0, λ high. omega (arith, high.1))))
-        (cases_lt z 0xE0))
+    (λ (below : z < 0xE0). (0 ∷ [], four_bytes_text true x y z 0 bx by bz (omega arith) cut.0 (omega arith, omega arith)))
+    (λ (past : 0xE0 ≤ z). absurd (alive (cut.0, λ high. omega (arith, high.1))))
+    (cases_lt z 0xE0))
     (cases_lt z 0xDC)
 
 head_of : List ℕ → ℕ
@@ -163,12 +163,12 @@ first_byte bytes h high =
     let cases = no_surrogate h.char h.scalar in
     ⊎_elim
     (λ (one : h.char < 0x1_0000).
-        let byte : head_of bytes ≡ h.char / 256 = ap head_of (one_spelled true bytes h one) in
-        ⊎_elim (λ (low : h.char < 0xD800). omega (arith, high.0, high.1)) (λ (above : (0xE000 ≤ h.char) × (h.char < 0x11_0000)). omega (arith, high.0, high.1)) cases)
+    let byte : head_of bytes ≡ h.char / 256 = ap head_of (one_spelled true bytes h one) in
+    ⊎_elim (λ (low : h.char < 0xD800). omega (arith, high.0, high.1)) (λ (above : (0xE000 ≤ h.char) × (h.char < 0x11_0000)). omega (arith, high.0, high.1)) cases)
     (λ (pair : 0x1_0000 ≤ h.char).
-        let byte : head_of bytes ≡ (0xD800 + (h.char - 0x1_0000) / 0x400) / 256 = ap head_of (two_spelled true bytes h pair) in
-        let below = two_below true bytes h pair in
-        omega (arith, high.0, high.1))
+    let byte : head_of bytes ≡ (0xD800 + (h.char - 0x1_0000) / 0x400) / 256 = ap head_of (two_spelled true bytes h pair) in
+    let below = two_below true bytes h pair in
+    omega (arith, high.0, high.1))
     (cases_lt h.char 0x1_0000)
 
 -- and behind a leading surrogate stands the high byte of a trailing one
@@ -177,8 +177,8 @@ unfolding third_of
 third_byte bytes h leading = ⊎_elim
     (λ (one : h.char < 0x1_0000). absurd (one_not_leading true bytes h one leading))
     (λ (pair : 0x1_0000 ≤ h.char).
-        let byte : third_of bytes ≡ (0xDC00 + (h.char - 0x1_0000) % 0x400) / 256 = ap third_of (two_spelled true bytes h pair) in
-        (omega arith, omega arith))
+    let byte : third_of bytes ≡ (0xDC00 + (h.char - 0x1_0000) % 0x400) / 256 = ap third_of (two_spelled true bytes h pair) in
+    (omega arith, omega arith))
     (cases_lt h.char 0x1_0000)
 
 dead_end : (big : Bool) (rest more : List ℕ) → IsDeadEnd big rest → ¬ (IsText big (rest ++ more))
@@ -192,10 +192,9 @@ pub none_where : (big : Bool) (bytes : List ℕ) (n : ℕ) → All (λ b. b < 25
     → (IsBeginning big bytes ↔ ¬ (IsDeadEnd big (drop n bytes)))
 none_where big bytes n are f front =
     let same : f.valid_up_to ≡ n = IsFront-unique big bytes f.valid_up_to n f.front front in
-    let cut : IsCutOff big (drop n bytes) = subst (λ k. IsCutOff big (drop k bytes)) same f.at_front in
-    (
+    let cut : IsCutOff big (drop n bytes) = subst (λ k. IsCutOff big (drop k bytes)) same f.at_front in (
       λ b dead. dead_end big (drop n bytes) b.more dead (rest_continues big bytes n front b),
       λ alive.
-      let found = completed big (drop n bytes) (All-drop (λ b. b < 256) n bytes are) cut alive in
-      rest_begins big bytes n found.0 front found.1,
+          let found = completed big (drop n bytes) (All-drop (λ b. b < 256) n bytes are) cut alive in
+          rest_begins big bytes n found.0 front found.1,
     )

@@ -193,3 +193,8 @@ nil-from_text big bytes t none = sym (encode-text_of big bytes t) ∙ ap (encode
 
 pub IsText-from_Encodes : (big : Bool) (text bytes : List ℕ) → Encodes big text bytes → IsText big bytes
 IsText-from_Encodes big text bytes e = record { text = text; encodes = e }
+
+-- the bytes of a character spell it
+pub char_text : (big : Bool) (c : ℕ) → IsScalar c → text_of big (char_bytes big c) ≡ c ∷ []
+char_text big c scalar =
+    ap (text_of big) (sym (append-nil (char_bytes big c))) ∙ text_of-char big c [] scalar ∙ ap (λ t. c ∷ t) (text_of-nil big)

@@ -161,14 +161,14 @@ first_unit-char big c bytes scalar trailing =
     let cases = no_surrogate c scalar in
     ⊎_elim
     (λ (one : c < 0x1_0000).
-        let unit : first_unit big (char_bytes big c ++ bytes) ≡ c =
-            ap (λ us. first_unit big (flat_map (unit_bytes big) us ++ bytes)) (one_unit c one)
-            ∙ ap (λ t. first_unit big (t ++ bytes)) (append-nil (unit_bytes big c)) ∙ first_unit-bytes big c bytes in
-        ⊎_elim (λ (low : c < 0xD800). omega arith) (λ (high : (0xE000 ≤ c) × (c < 0x11_0000)). omega arith) cases)
+    let unit : first_unit big (char_bytes big c ++ bytes) ≡ c =
+    ap (λ us. first_unit big (flat_map (unit_bytes big) us ++ bytes)) (one_unit c one)
+    ∙ ap (λ t. first_unit big (t ++ bytes)) (append-nil (unit_bytes big c)) ∙ first_unit-bytes big c bytes in
+    ⊎_elim (λ (low : c < 0xD800). omega arith) (λ (high : (0xE000 ≤ c) × (c < 0x11_0000)). omega arith) cases)
     (λ (two : 0x1_0000 ≤ c).
-        let unit : first_unit big (char_bytes big c ++ bytes) ≡ 0xD800 + (c - 0x1_0000) / 0x400 =
-            ap (λ us. first_unit big (flat_map (unit_bytes big) us ++ bytes)) (two_units c two)
-            ∙ ap (first_unit big) (append_assoc (unit_bytes big (0xD800 + (c - 0x1_0000) / 0x400)) (unit_bytes big (0xDC00 + (c - 0x1_0000) % 0x400) ++ []) bytes)
-            ∙ first_unit-bytes big (0xD800 + (c - 0x1_0000) / 0x400) ((unit_bytes big (0xDC00 + (c - 0x1_0000) % 0x400) ++ []) ++ bytes) in
-        ⊎_elim (λ (low : c < 0xD800). omega arith) (λ (high : (0xE000 ≤ c) × (c < 0x11_0000)). omega arith) cases)
+    let unit : first_unit big (char_bytes big c ++ bytes) ≡ 0xD800 + (c - 0x1_0000) / 0x400 =
+    ap (λ us. first_unit big (flat_map (unit_bytes big) us ++ bytes)) (two_units c two)
+    ∙ ap (first_unit big) (append_assoc (unit_bytes big (0xD800 + (c - 0x1_0000) / 0x400)) (unit_bytes big (0xDC00 + (c - 0x1_0000) % 0x400) ++ []) bytes)
+    ∙ first_unit-bytes big (0xD800 + (c - 0x1_0000) / 0x400) ((unit_bytes big (0xDC00 + (c - 0x1_0000) % 0x400) ++ []) ++ bytes) in
+    ⊎_elim (λ (low : c < 0xD800). omega arith) (λ (high : (0xE000 ≤ c) × (c < 0x11_0000)). omega arith) cases)
     (cases_lt c 0x1_0000)

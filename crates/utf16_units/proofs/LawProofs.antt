@@ -40,8 +40,7 @@ insert_then_remove text i c b =
     let back = text_from text i in
     let at = size-text_to text i b in
     let before : text_to (insert_at text i (c ∷ [])) i ≡ front = text_to-at front (c ∷ back) i at in
-    let after : text_from (insert_at text i (c ∷ [])) i ≡ c ∷ back = text_from-at front (c ∷ back) i at in
-    (
+    let after : text_from (insert_at text i (c ∷ [])) i ≡ c ∷ back = text_from-at front (c ∷ back) i at in (
       ap (λ t. slice_get t 0) after,
       ap₂ (λ x y. x ++ drop 1 y) before after ∙ text_to-text_from text i,
     )
@@ -117,7 +116,7 @@ module _ (big : Bool) (text found : List ℕ) (i : ℕ) (scalars : All IsScalar 
   back_is =
       let whole : encode big text ≡ encode big start.front ++ encode big start.back = ap (encode big) (sym start.split) ∙ encode-append big start.front start.back in
       let rest : drop i (encode big text) ≡ encode big start.back =
-          ap (drop i) whole ∙ drop_at (encode big start.front) (encode big start.back) i (length-encode big start.front ∙ start.offset) in
+      ap (drop i) whole ∙ drop_at (encode big start.front) (encode big start.back) i (length-encode big start.front ∙ start.offset) in
       let rest_scalars = All-after start.front start.back (subst (All IsScalar) (sym start.split) scalars) in
       sym (text_of-encode big start.back rest_scalars) ∙ ap (text_of big) (sym rest ∙ split) ∙ text_of-encode_then big found tail founds
 
@@ -134,7 +133,7 @@ module _ (big : Bool) (text found : List ℕ) (i : ℕ) (scalars : All IsScalar 
   unfolding back
   between =
       let from : text_from text i ≡ found ++ text_of big tail =
-          ap (λ t. text_from t i) (sym start.split) ∙ text_from-at start.front start.back i start.offset ∙ back_is in
+      ap (λ t. text_from t i) (sym start.split) ∙ text_from-at start.front start.back i start.offset ∙ back_is in
       let cut : size found ≡ i + size found - i = omega arith in
       ap (λ t. text_to t (i + size found - i)) from ∙ text_to-at found (text_of big tail) (i + size found - i) cut
 

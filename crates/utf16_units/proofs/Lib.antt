@@ -9,3 +9,4 @@ pub mod FrontChar
 pub mod BoundaryLemmas
 pub mod ContinuedLemmas
 pub mod LawProofs
+pub mod BackChar

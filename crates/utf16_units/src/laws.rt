@@ -8,55 +8,46 @@ ghost use Rattle.utf16_units.specs.Laws.{FoundAligned, InsertThenRemove, JoinedT
 /// Two texts with equal encodings in one order are equal.
 pub fn unique_text()
     ensures { UniqueText }
-{
-}
+{}
 
 /// The encoding of two texts joined is their encodings joined.
 pub fn joined_text()
     ensures { JoinedText }
-{
-}
+{}
 
 /// Where the encoding of a text that is not empty stands in a text's bytes at an even offset, both its ends are
 /// boundaries.
 pub fn found_aligned()
     ensures { FoundAligned }
-{
-}
+{}
 
 /// The encodings of a text in the two orders differ exactly by the swap of the two bytes of each unit.
 pub fn swapped_orders()
     ensures { SwappedOrders }
-{
-}
+{}
 
 /// A character put in at a boundary and the one at that boundary taken out: that character, and the text from before.
 pub fn insert_then_remove()
     ensures { InsertThenRemove }
-{
-}
+{}
 
 /// The part from a boundary on taken off and put last again: the text from before.
 pub fn split_then_push()
     ensures { SplitThenPush }
-{
-}
+{}
 
 /// The characters read from a text's UTF-8 are the text.
 pub fn utf8_back()
     ensures { Utf8Back }
-{
-}
+{}
 
 /// Bytes whose fault has length 2 are the beginning of no text.
 pub fn two_never_continues()
     ensures { TwoNeverContinues }
-{
-}
+{}
 
 /// Bytes whose fault has no length are the beginning of a text: in little endian always; in big endian exactly where what
 /// is left is neither one byte 0xDC to 0xDF nor a leading surrogate and one byte outside 0xDC to 0xDF.
 pub fn none_continues()
     ensures { NoneContinues }
-{
-}
+{}

@@ -2,9 +2,10 @@ use Rattle.std.proofs.Common.{◌≡◌, ◌+◌, ◌++◌, ◌∷◌, [], ◌�
 use Rattle.std.proofs.lemmas.List.{drop_all}
 use Rattle.utf16_units.specs.Laws.{swap_bytes}
 use Rattle.utf16_units.specs.Encoding.{size}
+use Rattle.utf16_units.proofs.BackChar.{size-even}
 use Rattle.utf16_units.proofs.EncodingLemmas.{length-encode}
 use Rattle.utf16string.specs.WStr.{wstr_text}
-use Rattle.utf16_conformance.proofs.KeyCut.{size-even, swap_bytes-at, swap_bytes-nil}
+use Rattle.utf16_conformance.proofs.KeyCut.{swap_bytes-at, swap_bytes-nil}
 use Rattle.utf16_conformance.proofs.laws.to_big_endian.Goals as goal
 
 pub loop-at-preserved : goal.loop-at-preserved
