@@ -4,11 +4,7 @@ use Rattle.std.proofs.lemmas.Bool.Decides.{Decides-eqb}
 use Rattle.std.proofs.lemmas.Slice.Eq.{slice_eq-Decides}
 use Rattle.std.specs.List.{starts_with}
 
--- a test of what rules a fact out, turned round, is a test of the fact
-pub not_decides : {P Q : Type 0} (d : Bool) → (IsTrue d ↔ Q) → (P ↔ ¬ Q) → (IsTrue (not d) ↔ P)
-not_decides true decides apart = (λ no. absurd (true≢false (sym no)), λ p. absurd (apart.0 p (decides.0 refl)))
-not_decides false decides apart = (λ yes. apart.1 (λ q. true≢false (sym (decides.1 q))), λ p. refl)
-
+-- an option that has nothing by its test
 pub none_from_test : (o : Option ℕ) → is_some o ≡ false → o ≡ None
 none_from_test None e = refl
 none_from_test (Some n) e = absurd (true≢false e)

@@ -1,5 +1,5 @@
 -- The last character of well-formed bytes, by the units at their end, and boundaries by the unit at an offset.
-use Rattle.std.proofs.Common.{◌≡◌, ◌≢◌, ℕ, zero, suc, ◌+◌, ◌-◌, ◌*◌, ◌/◌, ◌%◌, ◌<◌, ◌≤◌, ◌⊎◌, Bool, true, false, List, [], ◌∷◌, ◌++◌, length, take, drop, slice_index, All, refl, sym, ap, ap₂, ◌∙◌, subst, ⊎_elim, inl, inr, arith, append_assoc, append-nil, length-append, drop_at, take_at, flat_map}
+use Rattle.std.proofs.Common.{◌≡◌, ◌≢◌, ℕ, zero, suc, ◌+◌, ◌-◌, ◌*◌, ◌/◌, ◌%◌, ◌<◌, ◌≤◌, ◌⊎◌, Bool, true, false, List, [], ◌∷◌, ◌++◌, length, take, drop, slice_index, All, refl, sym, ap, ap₂, ◌∙◌, subst, ⊎_elim, inl, inr, arith, append_assoc, append-nil, length-append, drop_at, take_at, flat_map, get_or-drop}
 use Rattle.std.proofs.lemmas.Bool.{cases_lt}
 use Rattle.std.proofs.lemmas.List.Elements.{All-head}
 use Rattle.std.proofs.str.Utf16.{one_unit, two_units}
@@ -217,3 +217,9 @@ module _ (big : Bool) (bytes : List ℕ) (i : ℕ) (t : IsText big bytes) where
       inr (omega arith, found.0, λ trailing. found.1 (subst (λ b. IsTrailing (first_unit big (drop i b))) (sym encoded.spelled) trailing)))
       (λ (end : size (text_of big bytes) ≤ i). inl (omega arith))
       (cases_lt i (size (text_of big bytes)))
+
+-- the unit at an offset
+pub first_unit-drop : (big : Bool) (bytes : List ℕ) (i : ℕ) → first_unit big (drop i bytes) ≡ unit_of big (slice_index bytes i) (slice_index bytes (i + 1))
+first_unit-drop big bytes i =
+    let here : i + 0 ≡ i = omega arith in
+    ap₂ (unit_of big) (get_or-drop i bytes 0 0 ∙ ap (slice_index bytes) here) (get_or-drop i bytes 1 0)

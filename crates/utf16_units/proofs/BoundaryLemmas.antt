@@ -6,7 +6,7 @@ use Rattle.std.proofs.str.Utf16.{two_units}
 use Rattle.std.specs.Char.{IsScalar}
 use Rattle.utf16_units.specs.Unit.{IsTrailing, unit_bytes}
 use Rattle.utf16_units.specs.Encoding.{char_bytes, char_size, encode, Encodes, size}
-use Rattle.utf16_units.specs.Boundary.{IsBoundary, text_from, text_to}
+use Rattle.utf16_units.specs.Boundary.{IsBoundary, text_between, text_from, text_to}
 use Rattle.utf16_units.proofs.UnitLemmas.{length-unit_bytes}
 use Rattle.utf16_units.proofs.CharLemmas.{char_size_cases, char_size_two, length-char_bytes, no_surrogate}
 use Rattle.utf16_units.proofs.EncodingLemmas.{All-after, All-before, encode-append, encode-cons, length-encode, size-append, size-cons, size-nil}
@@ -174,3 +174,37 @@ Encodes-from big text bytes i e b = record {
       ap (encode big) (text_from-back text i b) ∙ sym (drop_at (encode big b.front) (encode big b.back) i long)
       ∙ ap (drop i) (sym parts ∙ ap (encode big) b.split ∙ e.spelled);
 }
+
+-- of two prefixes the longer one ends at a boundary of what follows the shorter
+longer_prefix : (front back other rest : List ℕ) → front ++ back ≡ other ++ rest → size front ≤ size other → IsBoundary back (size other - size front)
+longer_prefix [] back other rest e le =
+    let none = size-nil in
+    record { front = other; back = rest; split = sym e; offset = omega arith }
+longer_prefix (x ∷ front) back [] rest e le =
+    let some = char_size-pos x in
+    let whole = size-cons x front in
+    let none = size-nil in
+    absurd (omega arith)
+longer_prefix (x ∷ front) back (y ∷ other) rest e le =
+    let head : x ≡ y = cc in
+    let tail : front ++ back ≡ other ++ rest = cc in
+    let first = ap char_size head in
+    let whole = size-cons x front in
+    let longer = size-cons y other in
+    let same : size other - size front ≡ size (y ∷ other) - size (x ∷ front) = omega arith in
+    subst (IsBoundary back) same (longer_prefix front back other rest tail (omega arith))
+
+-- a boundary is one of what follows an earlier boundary
+pub IsBoundary-rest : (text : List ℕ) (i j : ℕ) → i ≤ j → IsBoundary text i → IsBoundary text j → IsBoundary (text_from text i) (j - i)
+IsBoundary-rest text i j le a b =
+    let start = a.offset in
+    let end = b.offset in
+    let cut : size b.front - size a.front ≡ j - i = omega arith in
+    subst (λ t. IsBoundary t (j - i)) (sym (text_from-back text i a))
+    (subst (IsBoundary a.back) cut (longer_prefix a.front a.back b.front b.back (a.split ∙ sym b.split) (omega arith)))
+
+-- the bytes between two boundaries encode the characters between them
+pub Encodes-between : (big : Bool) (text bytes : List ℕ) (i j : ℕ) → Encodes big text bytes → i ≤ j → IsBoundary text i → IsBoundary text j
+    → Encodes big (text_between text i j) (take (j - i) (drop i bytes))
+Encodes-between big text bytes i j e le a b =
+    Encodes-to big (text_from text i) (drop i bytes) (j - i) (Encodes-from big text bytes i e a) (IsBoundary-rest text i j le a b)

@@ -10,3 +10,4 @@ pub mod BoundaryLemmas
 pub mod ContinuedLemmas
 pub mod LawProofs
 pub mod BackChar
+pub mod Tests

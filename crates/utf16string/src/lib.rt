@@ -2,8 +2,10 @@
 #![tactic(auto)]
 
 mod iters;
+mod slicing;
 mod wstr;
 
 pub use crate::iters::WStrChars;
+pub use crate::slicing::SliceIndex;
 pub use crate::wstr::WStr;
 pub use utf16_units::{BE, BigEndian, LE, LittleEndian, Utf16Error, Utf16Order};

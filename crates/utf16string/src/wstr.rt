@@ -1,13 +1,17 @@
 //! A borrowed UTF-16 string.
 
-ghost use Rattle.std.specs.Prelude.{◌≡◌, ◌↔◌, ⊤, [], true, false, length, IsTrue, IsOk, IfOk, IfErr, encode_utf8_all, string_bytes};
+ghost use Rattle.std.specs.Prelude.{◌≡◌, ◌↔◌, ⊤, [], true, false, length, IsTrue, IsOk, IfOk, IfErr, IsSome, IfSome, Some, encode_utf8_all, string_bytes};
+ghost use Rattle.utf16_units.specs.Boundary.{IsBoundary, text_between};
 ghost use Rattle.utf16_units.specs.Encoding.{Encodes, IsText, is_text, size};
 ghost use Rattle.utf16_units.specs.Utf16Error.{IsErrorOf};
+ghost use Rattle.utf16string.specs.Window.{IsWindowOf, window_text};
 
-use crate::WStrChars;
+use crate::{SliceIndex, WStrChars};
 use std::alloc::{AllocError, Allocator};
 use std::marker::PhantomData;
-use utf16_units::{BigEndian, LittleEndian, Utf16Error, Utf16Order, validate_raw_utf16};
+use utf16_units::{
+    BigEndian, LittleEndian, Utf16Error, Utf16Order, is_trailing_surrogate, validate_raw_utf16,
+};
 
 /// A borrowed UTF-16 string in the byte order `E`, a view of the caller's bytes. It always holds well-formed text, and is
 /// `Copy`. Lengths and offsets count bytes.
@@ -70,6 +74,70 @@ impl<'a, E: Utf16Order> WStr<'a, E> {
         ensures { IsTrue result ↔ (wstr_text self.now ≡ []) }
     {
         self.as_bytes().is_empty()
+    }
+
+    /// Whether a byte offset is a character boundary: the start, the end, or where one character ends and the next begins.
+    /// Any offset may be asked about. One read of a unit at most.
+    #[inline]
+    pub fn is_char_boundary(&self, index: usize) -> bool
+        ensures { IsTrue result ↔ IsBoundary (wstr_text self.now) index }
+    {
+        let raw = self.as_bytes();
+        if index >= raw.len() {
+            return index == raw.len();
+        }
+        if index % 2 != 0 {
+            return false;
+        }
+        !is_trailing_surrogate(E::read_unit([raw[index], raw[index + 1]]))
+    }
+
+    /// The part of a range, or `None` where its window is reversed, or an end is no character boundary.
+    #[inline]
+    pub fn get<I: SliceIndex<E>>(self, index: I) -> Option<WStr<'a, E>>
+        ensures some { IsSome result ↔ IsWindowOf (wstr_text self.entry) (I.window index (length (wstr_bytes self.entry))) }
+        ensures part { IfSome result (λ part. wstr_text part ≡ window_text (wstr_text self.entry) (I.window index (length (wstr_bytes self.entry)))) }
+    {
+        index.get(self)
+    }
+
+    /// The part of a range, where there is one, as `get` tests.
+    #[inline]
+    pub fn get_unchecked<I: SliceIndex<E>>(self, index: I) -> WStr<'a, E>
+        requires { IsWindowOf (wstr_text self) (I.window index (length (wstr_bytes self))) }
+        ensures { wstr_text result ≡ window_text (wstr_text self.entry) (I.window index (length (wstr_bytes self.entry))) }
+    {
+        index.get_unchecked(self)
+    }
+
+    /// The part of a range, where there is one, as `get` tests. It stands for brackets.
+    #[inline]
+    pub fn index<I: SliceIndex<E>>(self, index: I) -> WStr<'a, E>
+        requires { IsWindowOf (wstr_text self) (I.window index (length (wstr_bytes self))) }
+        ensures { wstr_text result ≡ window_text (wstr_text self.entry) (I.window index (length (wstr_bytes self.entry))) }
+    {
+        index.index(self)
+    }
+
+    // The part from one offset up to another, where both are boundaries in this order.
+    #[inline]
+    pub(crate) fn part(self, start: usize, end: usize) -> Option<WStr<'a, E>>
+        ensures some { IsSome result ↔ IsWindowOf (wstr_text self.entry) (Some (start, end)) }
+        ensures part { IfSome result (λ part. wstr_text part ≡ text_between (wstr_text self.entry) start end) }
+    {
+        if start <= end && self.is_char_boundary(start) && self.is_char_boundary(end) {
+            Some(self.part_unchecked(start, end))
+        } else {
+            None
+        }
+    }
+
+    #[inline]
+    pub(crate) fn part_unchecked(self, start: usize, end: usize) -> WStr<'a, E>
+        requires { IsWindowOf (wstr_text self) (Some (start, end)) }
+        ensures { wstr_text result ≡ text_between (wstr_text self.entry) start end }
+    {
+        WStr::from_utf16_unchecked(&self.as_bytes()[start..end])
     }
 
     /// The bytes, the encoding of the text, for as long as they were lent.

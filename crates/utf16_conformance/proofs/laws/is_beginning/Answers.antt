@@ -4,7 +4,8 @@ use Rattle.std.proofs.lemmas.List.Elements.{All-from_get_or}
 use Rattle.utf16_units.specs.Continued.{IsDeadEnd}
 use Rattle.utf16_units.specs.Fault.{IsFault}
 use Rattle.utf16_units.specs.Utf16Error.{error_len, valid_up_to}
-use Rattle.utf16_conformance.proofs.Tests.{none_from_test, not_decides}
+use Rattle.utf16_units.proofs.Tests.{not_decides}
+use Rattle.utf16_conformance.proofs.Tests.{none_from_test}
 use Rattle.utf16_conformance.proofs.laws.is_beginning.Goals as goal
 
 pub returns : goal.returns

@@ -1,0 +1,17 @@
+-- Windows of ranges over a string, and the part of its text in a window. Offsets count bytes.
+use Rattle.std.specs.Prelude.{ℕ, ◌+◌, ◌<◌, ◌≤◌, List, [], Option, None, Some, nat_lt, if◌then◌else◌}
+use Rattle.utf16_units.specs.Boundary.{IsBoundary, text_between}
+
+-- the window is one of the text: its start is at most its end, and both are boundaries
+abbrev pub IsWindowOf : List ℕ → Option (ℕ × ℕ) → Type 0
+IsWindowOf text None = ⊥
+IsWindowOf text (Some window) = (window.0 ≤ window.1) × IsBoundary text window.0 × IsBoundary text window.1
+
+-- the part of the text in a window
+abbrev pub window_text : List ℕ → Option (ℕ × ℕ) → List ℕ
+window_text text None = []
+window_text text (Some window) = text_between text window.0 window.1
+
+-- the window from start up to and with last, where there is an offset behind it
+abbrev pub inclusive_window : ℕ → ℕ → Option (ℕ × ℕ)
+inclusive_window start last = if nat_lt last 0xFFFF_FFFF_FFFF_FFFF then Some (start, last + 1) else None
