@@ -223,3 +223,15 @@ pub first_unit-drop : (big : Bool) (bytes : List ℕ) (i : ℕ) → first_unit b
 first_unit-drop big bytes i =
     let here : i + 0 ≡ i = omega arith in
     ap₂ (unit_of big) (get_or-drop i bytes 0 0 ∙ ap (slice_index bytes) here) (get_or-drop i bytes 1 0)
+
+-- the unit before an offset, by its two bytes
+pub unit_before-is : (big : Bool) (bytes : List ℕ) (n : ℕ) → 2 ≤ n → unit_before big bytes n ≡ unit_of big (slice_index bytes (n - 2)) (slice_index bytes (n - 1))
+unit_before-is big bytes n le =
+    let next : n - 2 + 1 ≡ n - 1 = omega arith in
+    first_unit-drop big bytes (n - 2) ∙ ap (λ k. unit_of big (slice_index bytes (n - 2)) (slice_index bytes k)) next
+
+pub unit_before-two : (big : Bool) (bytes : List ℕ) (n : ℕ) → 4 ≤ n → unit_before big bytes (n - 2) ≡ unit_of big (slice_index bytes (n - 4)) (slice_index bytes (n - 3))
+unit_before-two big bytes n le =
+    let first : n - 2 - 2 ≡ n - 4 = omega arith in
+    let second : n - 2 - 1 ≡ n - 3 = omega arith in
+    unit_before-is big bytes (n - 2) (omega arith) ∙ ap₂ (λ i j. unit_of big (slice_index bytes i) (slice_index bytes j)) first second

@@ -208,3 +208,8 @@ pub Encodes-between : (big : Bool) (text bytes : List ℕ) (i j : ℕ) → Encod
     → Encodes big (text_between text i j) (take (j - i) (drop i bytes))
 Encodes-between big text bytes i j e le a b =
     Encodes-to big (text_from text i) (drop i bytes) (j - i) (Encodes-from big text bytes i e a) (IsBoundary-rest text i j le a b)
+
+-- a text has no more characters than bytes
+pub length-le-size : (text : List ℕ) → length text ≤ size text
+length-le-size [] = omega (arith, size-nil)
+length-le-size (c ∷ text) = omega (arith, size-cons c text, char_size-pos c, length-le-size text)

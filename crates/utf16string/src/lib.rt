@@ -5,7 +5,7 @@ mod iters;
 mod slicing;
 mod wstr;
 
-pub use crate::iters::WStrChars;
+pub use crate::iters::{WStrCharIndices, WStrChars};
 pub use crate::slicing::SliceIndex;
 pub use crate::wstr::WStr;
 pub use utf16_units::{BE, BigEndian, LE, LittleEndian, Utf16Error, Utf16Order};

@@ -1,13 +1,21 @@
 //! A borrowed UTF-16 string.
 
-ghost use Rattle.std.specs.Prelude.{◌≡◌, ◌↔◌, ⊤, [], true, false, length, IsTrue, IsOk, IfOk, IfErr, IsSome, IfSome, Some, encode_utf8_all, string_bytes};
+ghost use Rattle.std.specs.Prelude.{◌≡◌, ◌↔◌, ⊤, [], true, false, length, IsTrue, IsOk, IfOk, IfErr, IsSome, IfSome, Some, All, ◌<◌, nat_eq, encode_utf8_all, string_bytes};
+ghost use Rattle.std.specs.Cmp.{on_equiv, on_per, partial_equiv_from_equiv};
+ghost use Rattle.std.specs.Cmp.Lexicographic.{nat_list_eq_equiv, pointwise};
+ghost use Rattle.std.specs.Cmp.Rules.{hashing};
+ghost use Rattle.std.specs.Hash as fed;
+ghost use Rattle.std.proofs.Common.{rules};
 ghost use Rattle.utf16_units.specs.Boundary.{IsBoundary, text_between};
 ghost use Rattle.utf16_units.specs.Encoding.{Encodes, IsText, is_text, size};
 ghost use Rattle.utf16_units.specs.Utf16Error.{IsErrorOf};
+ghost use Rattle.utf16string.specs.Offsets.{char_offsets};
 ghost use Rattle.utf16string.specs.Window.{IsWindowOf, window_text};
 
-use crate::{SliceIndex, WStrChars};
+use crate::{SliceIndex, WStrCharIndices, WStrChars};
 use std::alloc::{AllocError, Allocator};
+use std::fmt;
+use std::hash::{Hash, Hasher};
 use std::marker::PhantomData;
 use utf16_units::{
     BigEndian, LittleEndian, Utf16Error, Utf16Order, is_trailing_surrogate, validate_raw_utf16,
@@ -157,6 +165,21 @@ impl<'a, E: Utf16Order> WStr<'a, E> {
         WStrChars::new(self)
     }
 
+    /// The characters, in order, each beside its byte offset.
+    #[inline]
+    pub fn char_indices(self) -> WStrCharIndices<'a, E>
+        ensures { result ≡ char_offsets 0 (wstr_text self.entry) }
+    {
+        WStrCharIndices::new(self)
+    }
+
+    /// Whether every character is ASCII, below U+0080. It asks the characters and not the bytes.
+    pub fn is_ascii(&self) -> bool
+        ensures { IsTrue result ↔ All (λ c. c < 0x80) (wstr_text self.now) }
+    {
+        self.chars().all(|c| (c as u32) < 0x80)
+    }
+
     /// The same characters in UTF-8. The only error is a refused request for memory.
     pub fn to_utf8<A: Allocator>(&self, alloc: A) -> Result<String<A>, AllocError>
         ensures { IfOk result (λ s. string_bytes s ≡ encode_utf8_all (wstr_text self.now)) }
@@ -166,6 +189,58 @@ impl<'a, E: Utf16Order> WStr<'a, E> {
             text.push(c)?;
         }
         Ok(text)
+    }
+}
+
+impl<'a, E: Utf16Order> fmt::Display for WStr<'a, E> {
+    ghost use Rattle.utf16string.specs.WStr.{wstr_text};
+
+    // The characters one by one, whatever width and fill are asked for.
+    ghost output = { λ s. Some (encode_utf8_all (wstr_text s)) };
+
+    fn fmt<W: fmt::Write>(&self, f: &mut fmt::Formatter<W>) -> fmt::Result {
+        for c in self.chars() {
+            f.write_char(c)?;
+        }
+        Ok(())
+    }
+}
+
+impl<'a, E: Utf16Order> fmt::Debug for WStr<'a, E> {
+    fn fmt<W: fmt::Write>(&self, f: &mut fmt::Formatter<W>) -> fmt::Result {
+        f.debug_struct("WStr").field("raw", &self.as_bytes()).finish()
+    }
+}
+
+impl<'a, E: Utf16Order> PartialEq for WStr<'a, E> {
+    ghost use Rattle.utf16string.specs.WStr.{wstr_bytes};
+
+    ghost eq = { λ x y. pointwise nat_eq (wstr_bytes x) (wstr_bytes y) };
+
+    ghost laws = { on_per wstr_bytes (partial_equiv_from_equiv nat_list_eq_equiv) };
+
+    #[inline]
+    fn eq(&self, other: &Self) -> bool {
+        self.as_bytes() == other.as_bytes()
+    }
+}
+
+impl<'a, E: Utf16Order> Eq for WStr<'a, E> {
+    ghost use Rattle.utf16string.specs.WStr.{wstr_bytes};
+
+    ghost laws = { on_equiv wstr_bytes nat_list_eq_equiv };
+}
+
+impl<'a, E: Utf16Order> Hash for WStr<'a, E> {
+    ghost use Rattle.utf16string.specs.WStr.{wstr_bytes};
+
+    ghost hash_input = { λ s. fed.slice fed.u8 (wstr_bytes s) };
+
+    ghost respects_eq = { Prim.search (hashing, rules) };
+
+    #[inline]
+    fn hash<H: Hasher>(&self, state: &mut H) {
+        self.as_bytes().hash(state);
     }
 }
 
