@@ -1,5 +1,5 @@
 -- Windows of ranges over a string, and the part of its text in a window. Offsets count bytes.
-use Rattle.std.specs.Prelude.{ℕ, ◌+◌, ◌<◌, ◌≤◌, List, [], Option, None, Some, nat_lt, if◌then◌else◌}
+use Rattle.std.specs.Prelude.{ℕ, ◌+◌, ◌≤◌, List, [], Option, None, Some, nat_lt, if◌then◌else◌}
 use Rattle.utf16_units.specs.Boundary.{IsBoundary, text_between}
 
 -- the window is one of the text: its start is at most its end, and both are boundaries

@@ -2,13 +2,15 @@
 
 ghost use Rattle.std.specs.Prelude.{◌≡◌, ◌<◌, ◌≤◌, ◌+◌, ◌-◌, ◌^◌, ℕ, List, [], ◌∷◌, ◌++◌, length, take, drop, slice_get};
 ghost use Rattle.std.specs.Iterator.{YieldsFirst, YieldsLast, item_count};
-ghost use Rattle.utf16_units.specs.Encoding.{IsText, char_size, text_of};
-ghost use Rattle.utf16string.specs.Offsets.{char_offsets};
+ghost use Rattle.utf16_units.specs.Encoding.{IsText, char_size, size, text_of};
+ghost use Rattle.utf16string.specs.Offsets.{char_offsets, offset_behind};
 
 use crate::WStr;
 use std::fmt;
 use std::marker::Model;
-use utf16_units::{Utf16CharExt, Utf16Order, decode_surrogates, is_leading_surrogate, is_trailing_surrogate};
+use utf16_units::{
+    Utf16CharExt, Utf16Order, decode_surrogates, is_leading_surrogate, is_trailing_surrogate,
+};
 
 /// The characters left of a [`WStr`], from either end. Where none is left, `next` and `next_back` answer `None` for good.
 #[derive(Drop)]
@@ -30,6 +32,14 @@ impl<'a, E: Utf16Order> WStrChars<'a, E> {
         ensures { result ≡ wstr_text rest.entry }
     {
         WStrChars { rest }
+    }
+
+    // How many bytes the characters left take.
+    #[inline]
+    fn byte_len(&self) -> usize
+        ensures { result ≡ size self.now }
+    {
+        self.rest.len()
     }
 
     /// How many characters are left. One pass over what is left.
@@ -85,7 +95,9 @@ impl<'a, E: Utf16Order> DoubleEndedIterator for WStrChars<'a, E> {
 
 impl<'a, E: Utf16Order> fmt::Debug for WStrChars<'a, E> {
     fn fmt<W: fmt::Write>(&self, f: &mut fmt::Formatter<W>) -> fmt::Result {
-        f.debug_struct("WStrChars").field("rest", &self.rest).finish()
+        f.debug_struct("WStrChars")
+            .field("rest", &self.rest)
+            .finish()
     }
 }
 
@@ -94,15 +106,15 @@ impl<'a, E: Utf16Order> fmt::Debug for WStrChars<'a, E> {
 #[derive(Drop)]
 pub struct WStrCharIndices<'a, E: Utf16Order> {
     offset: usize,
-    rest: WStr<'a, E>,
+    chars: WStrChars<'a, E>,
 }
 
 impl<'a, E: Utf16Order> Model for WStrCharIndices<'a, E> {
     ghost Value = { List (ℕ × ℕ) };
 
-    ghost view = { λ it. char_offsets it.offset (text_of E.BIG it.rest.raw.now) };
+    ghost view = { λ it. char_offsets it.offset it.chars };
 
-    ghost invariant = { λ it. it.offset + length it.rest.raw.now < 2 ^ 64 };
+    ghost invariant = { λ it. offset_behind it.offset it.chars < 2 ^ 64 };
 }
 
 impl<'a, E: Utf16Order> WStrCharIndices<'a, E> {
@@ -112,14 +124,17 @@ impl<'a, E: Utf16Order> WStrCharIndices<'a, E> {
     pub(crate) fn new(rest: WStr<'a, E>) -> Self
         ensures { result ≡ char_offsets 0 (wstr_text rest.entry) }
     {
-        WStrCharIndices { offset: 0, rest }
+        WStrCharIndices {
+            offset: 0,
+            chars: rest.chars(),
+        }
     }
 
     /// How many characters are left. One pass over what is left.
     pub fn count(self) -> usize
         ensures { result ≡ length self.entry }
     {
-        count_chars::<E>(self.rest.as_bytes())
+        self.chars.count()
     }
 
     /// The last character left and its offset, or `None` where none is. One look at the end.
@@ -127,8 +142,8 @@ impl<'a, E: Utf16Order> WStrCharIndices<'a, E> {
     pub fn last(self) -> Option<(usize, char)>
         ensures { result ≡ slice_get self.entry (length self.entry - 1) }
     {
-        let mut rest = self;
-        rest.next_back()
+        let mut left = self;
+        left.next_back()
     }
 }
 
@@ -141,15 +156,12 @@ impl<'a, E: Utf16Order> Iterator for WStrCharIndices<'a, E> {
 
     #[inline]
     fn next(&mut self) -> Option<(usize, char)> {
-        let raw = self.rest.as_bytes();
-        if raw.is_empty() {
+        let Some(c) = self.chars.next() else {
             return None;
-        }
-        let (first, size) = first_char::<E>(raw);
+        };
         let offset = self.offset;
-        self.offset = offset + size;
-        self.rest = WStr::from_utf16_unchecked(&raw[size..]);
-        Some((offset, first))
+        self.offset += c.encoded_utf16_len();
+        Some((offset, c))
     }
 }
 
@@ -158,14 +170,10 @@ impl<'a, E: Utf16Order> DoubleEndedIterator for WStrCharIndices<'a, E> {
 
     #[inline]
     fn next_back(&mut self) -> Option<(usize, char)> {
-        let raw = self.rest.as_bytes();
-        if raw.is_empty() {
+        let Some(c) = self.chars.next_back() else {
             return None;
-        }
-        let (last, size) = last_char::<E>(raw);
-        let left = raw.len() - size;
-        self.rest = WStr::from_utf16_unchecked(&raw[..left]);
-        Some((self.offset + left, last))
+        };
+        Some((self.offset + self.chars.byte_len(), c))
     }
 }
 
@@ -173,7 +181,7 @@ impl<'a, E: Utf16Order> fmt::Debug for WStrCharIndices<'a, E> {
     fn fmt<W: fmt::Write>(&self, f: &mut fmt::Formatter<W>) -> fmt::Result {
         f.debug_struct("WStrCharIndices")
             .field("offset", &self.offset)
-            .field("rest", &self.rest)
+            .field("chars", &self.chars)
             .finish()
     }
 }

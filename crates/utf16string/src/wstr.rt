@@ -208,7 +208,9 @@ impl<'a, E: Utf16Order> fmt::Display for WStr<'a, E> {
 
 impl<'a, E: Utf16Order> fmt::Debug for WStr<'a, E> {
     fn fmt<W: fmt::Write>(&self, f: &mut fmt::Formatter<W>) -> fmt::Result {
-        f.debug_struct("WStr").field("raw", &self.as_bytes()).finish()
+        f.debug_struct("WStr")
+            .field("raw", &self.as_bytes())
+            .finish()
     }
 }
 

@@ -1,4 +1,4 @@
-use Rattle.std.proofs.Common.{◌≡◌, ◌∙◌, [], ap, sym, arith, length, eqb-true, rules}
+use Rattle.std.proofs.Common.{◌≡◌, ◌∙◌, [], ap, arith, length, eqb-true, rules}
 use Rattle.std.proofs.lemmas.List.{nil_from_length}
 use Rattle.utf16_units.specs.Encoding.{text_of}
 use Rattle.utf16_units.proofs.BoundaryLemmas.{length-le-size}

@@ -1,4 +1,4 @@
-use Rattle.std.proofs.Common.{◌≡◌, ◌-◌, ◌≤◌, ◌∙◌, sym, subst, arith, length, rules}
+use Rattle.std.proofs.Common.{◌-◌, ◌∙◌, sym, subst, arith, length, rules}
 use Rattle.std.specs.Char.Utf16.{surrogate_pair_char}
 use Rattle.utf16_units.specs.Unit.{IsLeading}
 use Rattle.utf16_units.proofs.BackChar.{EndsAt, ends_one, ends_two, unit_before, unit_before-is, unit_before-two}

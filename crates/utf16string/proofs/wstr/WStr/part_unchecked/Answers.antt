@@ -1,8 +1,8 @@
-use Rattle.std.proofs.Common.{◌≡◌, ◌-◌, ◌∙◌, ap, arith, length, take, drop}
+use Rattle.std.proofs.Common.{◌-◌, ◌∙◌, ap, arith, length, take, drop}
 use Rattle.utf16_units.specs.Boundary.{text_between}
 use Rattle.utf16_units.specs.Encoding.{Encodes, text_of}
 use Rattle.utf16_units.proofs.BoundaryLemmas.{Encodes-between, IsBoundary-within}
-use Rattle.utf16_units.proofs.EncodingLemmas.{Encodes-text_of, IsText-from_Encodes, IsText-from_is_text, length-text, text_of-Encodes}
+use Rattle.utf16_units.proofs.EncodingLemmas.{IsText-from_Encodes, IsText-from_is_text, length-text, text_of-Encodes}
 use Rattle.utf16string.specs.WStr.{wstr_bytes, wstr_text}
 use Rattle.utf16string.proofs.wstr.WStr.part_unchecked.Given.{Over}
 use Rattle.utf16string.proofs.wstr.WStr.part_unchecked.Goals as goal

@@ -1,4 +1,4 @@
-use Rattle.std.proofs.Common.{◌≡◌, ◌++◌, [], ◌∷◌, ◌∙◌, sym, ap, append-nil, encode_utf8, encode_utf8_all, rules}
+use Rattle.std.proofs.Common.{◌++◌, [], ◌∷◌, ◌∙◌, sym, ap, append-nil, encode_utf8, encode_utf8_all, rules}
 use Rattle.std.proofs.Output.{has_written_append, has_written_of_eq}
 use Rattle.std.proofs.lemmas.Str.{encodes-append}
 use Rattle.utf16string.proofs.wstr.WStrDisplay.fmt.Goals as goal
