@@ -8,7 +8,11 @@ mod faults;
 #[cfg(test)]
 mod law_callers;
 pub mod laws;
+pub mod ranges;
 #[cfg(test)]
 mod units;
+#[cfg(test)]
+mod views;
+pub mod walks;
 #[cfg(test)]
 mod worked;

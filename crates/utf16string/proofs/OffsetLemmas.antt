@@ -1,6 +1,8 @@
 -- Characters beside their offsets, from either end.
 use Rattle.std.proofs.Common.{◌≡◌, ℕ, ◌+◌, ◌<◌, List, [], ◌∷◌, ◌++◌, length, length-append, Some, refl, sym, ap, ◌∙◌, subst, arith}
-use Rattle.std.specs.Iterator.{MakesProgress, item_count}
+use Rattle.std.proofs.iter.runs.Sources.{as_is, as_is_back, from_back, from_front}
+use Rattle.std.specs.Iterator.{MakesProgress, YieldsFirst, YieldsLast, item_count}
+use Rattle.std.specs.Iterator.Runs.{YieldsInOrder, YieldsInReverse}
 use Rattle.utf16_units.specs.Encoding.{char_size, size}
 use Rattle.utf16_units.proofs.EncodingLemmas.{size-cons, size-nil}
 use Rattle.utf16string.specs.Offsets.{char_offsets}
@@ -44,3 +46,11 @@ module _ {A : Type 0} (can : List A → Type 0) (always : (items : List A) → c
     keeps = always after;
     rests = λ _. tt;
   }
+
+-- an iterator that shows the list of what is left gives that list, in order and from the back
+module _ {A : Type 0} where
+  pub in_order : YieldsInOrder (YieldsFirst {A = A} (λ (rest : List A). rest)) (λ rest. rest)
+  in_order p s = as_is p p.from (from_front (YieldsFirst {A = A} (λ (rest : List A). rest)) (λ x. x) (λ rest. rest) (λ s t h. ap length h.0) (λ s x t h. h) p s)
+
+  pub in_reverse : YieldsInReverse (YieldsLast {A = A} (λ (rest : List A). rest)) (λ rest. rest)
+  in_reverse p s = as_is_back p p.from (from_back (YieldsLast {A = A} (λ (rest : List A). rest)) (λ x. x) (λ rest. rest) (λ s t h. ap length h.0) (λ s x t h. h) p s)

@@ -1,10 +1,12 @@
 //! A borrowed UTF-16 string.
 
-ghost use Rattle.std.specs.Prelude.{◌≡◌, ◌↔◌, ⊤, [], true, false, length, IsTrue, IsOk, IfOk, IfErr, IsSome, IfSome, Some, All, ◌<◌, nat_eq, encode_utf8_all, string_bytes};
+ghost use Rattle.std.specs.Prelude.{◌≡◌, ◌↔◌, ⊤, [], true, false, length, IsTrue, IsOk, IfOk, IfErr, IsSome, IfSome, Some, All, ◌<◌, ◌^◌, ℕ, List, nat_eq, encode_utf8_all, string_bytes};
 ghost use Rattle.std.specs.Cmp.{on_equiv, on_per, partial_equiv_from_equiv};
 ghost use Rattle.std.specs.Cmp.Lexicographic.{nat_list_eq_equiv, pointwise};
 ghost use Rattle.std.specs.Cmp.Rules.{hashing};
 ghost use Rattle.std.specs.Hash as fed;
+ghost use Rattle.std.specs.Iterator.{YieldsFirst, YieldsLast};
+ghost use Rattle.std.specs.Iterator.Runs.{YieldsInOrder, YieldsInReverse};
 ghost use Rattle.std.proofs.Common.{rules};
 ghost use Rattle.utf16_units.specs.Boundary.{IsBoundary, text_between};
 ghost use Rattle.utf16_units.specs.Encoding.{Encodes, IsText, is_text, size};
@@ -160,7 +162,10 @@ impl<'a, E: Utf16Order> WStr<'a, E> {
     /// The characters, in order.
     #[inline]
     pub fn chars(self) -> WStrChars<'a, E>
-        ensures { result ≡ wstr_text self.entry }
+        ensures text { result ≡ wstr_text self.entry }
+        ensures bound { length result < 2 ^ 64 }
+        ensures runs { YieldsInOrder (YieldsFirst (λ (rest : List ℕ). rest)) (λ rest. rest) }
+        ensures runs_back { YieldsInReverse (YieldsLast (λ (rest : List ℕ). rest)) (λ rest. rest) }
     {
         WStrChars::new(self)
     }
@@ -168,7 +173,10 @@ impl<'a, E: Utf16Order> WStr<'a, E> {
     /// The characters, in order, each beside its byte offset.
     #[inline]
     pub fn char_indices(self) -> WStrCharIndices<'a, E>
-        ensures { result ≡ char_offsets 0 (wstr_text self.entry) }
+        ensures text { result ≡ char_offsets 0 (wstr_text self.entry) }
+        ensures bound { length result < 2 ^ 64 }
+        ensures runs { YieldsInOrder (YieldsFirst (λ (rest : List (ℕ × ℕ)). rest)) (λ rest. rest) }
+        ensures runs_back { YieldsInReverse (YieldsLast (λ (rest : List (ℕ × ℕ)). rest)) (λ rest. rest) }
     {
         WStrCharIndices::new(self)
     }

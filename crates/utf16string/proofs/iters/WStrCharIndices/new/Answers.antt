@@ -8,4 +8,4 @@ pub invariant_of-result : goal.invariant_of-result
 invariant_of-result g c =
     let bytes = wstr_bytes c.args.rest in
     let long = length-text g.E.Utf16Order.BIG bytes (IsText-from_is_text g.E.Utf16Order.BIG bytes c.args.rest.well_formed) in
-    omega (arith, long, ap size c.chars.ensures)
+    omega (arith, long, ap size c.chars.ensures.text)

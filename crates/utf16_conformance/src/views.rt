@@ -1,0 +1,439 @@
+//! Views cut, walked, compared and shown, with the Rust crate's names of tests.
+
+use crate::laws::{cut_and_joined, typed_and_undone};
+use crate::ranges::{Field, part_to_utf8};
+use crate::walks::{
+    agree, collected, count_of, indexed, indexed_back, looped, place_of, reversed, shown,
+};
+use std::hash::{FoldHasher, Hash, Hasher};
+use std::process::Abort;
+use std::test::Fail;
+use utf16string::{BE, LE, SliceIndex, Utf16Order, WStr};
+
+const HELLO: [u8; 10] = [0x68, 0, 0x65, 0, 0x6C, 0, 0x6C, 0, 0x6F, 0];
+
+// " he".
+const HELLO_THERE: [u8; 6] = [0x20, 0, 0x68, 0, 0x65, 0];
+
+// U+10000, "x".
+const PX: [u8; 6] = [0x00, 0xD8, 0x00, 0xDC, 0x78, 0x00];
+
+// U+10000, "x", U+1F600.
+const PXG: [u8; 10] = [0x00, 0xD8, 0x00, 0xDC, 0x78, 0x00, 0x3D, 0xD8, 0x00, 0xDE];
+
+// The part of a range, in UTF-8.
+fn part_is<I: SliceIndex<LE> + Drop>(
+    rt: &(impl Abort + AllocGlobal),
+    raw: &[u8],
+    range: I,
+    wanted: Option<&str>,
+) -> Result<(), Fail> {
+    let part = part_to_utf8(rt.alloc(), WStr::from_utf16le(raw)?, range)?;
+    assert_eq!(rt; part.as_ref().map(|utf8| utf8.as_str()), wanted);
+    Ok(())
+}
+
+fn utf8_is<E: Utf16Order>(
+    rt: &(impl Abort + AllocGlobal),
+    text: WStr<E>,
+    wanted: &str,
+) -> Result<(), Fail> {
+    let utf8 = text.to_utf8(rt.alloc())?;
+    assert_eq!(rt; utf8.as_str(), wanted);
+    Ok(())
+}
+
+#[test]
+fn test_wstr_range(rt: HostRuntime) -> Result<(), Fail> {
+    part_is(&rt, &HELLO, 2..8, Some("ell"))?;
+    part_is(&rt, &HELLO, 0..8, Some("hell"))?;
+    part_is(&rt, &HELLO, 1..8, None)?;
+    part_is(&rt, &HELLO, 8..2, None)?;
+    part_is(&rt, &HELLO, 10..10, Some(""))?;
+    part_is(&rt, &HELLO, 12..12, None)?;
+    part_is(&rt, &PXG, 4..10, Some("x\u{1F600}"))?;
+    part_is(&rt, &PXG, 4..8, None)
+}
+
+#[test]
+fn test_wstr_range_to(rt: HostRuntime) -> Result<(), Fail> {
+    part_is(&rt, &HELLO, ..8, Some("hell"))
+}
+
+#[test]
+fn test_wstr_range_from(rt: HostRuntime) -> Result<(), Fail> {
+    part_is(&rt, &HELLO, 2.., Some("ello"))?;
+    part_is(&rt, &PXG, 10.., Some(""))?;
+    part_is(&rt, &PXG, 11.., None)
+}
+
+#[test]
+fn test_wstr_range_full(rt: HostRuntime) -> Result<(), Fail> {
+    part_is(&rt, &HELLO, .., Some("hello"))
+}
+
+#[test]
+fn test_wstr_range_inclusive(rt: HostRuntime) -> Result<(), Fail> {
+    part_is(&rt, &HELLO, 2..=7, Some("ell"))?;
+    part_is(&rt, &HELLO, 2..=1, Some(""))?;
+    part_is(&rt, &PXG, 6..=5, Some(""))?;
+    part_is(&rt, &PXG, 5..=4, None)?;
+    part_is(&rt, &HELLO, 0..=usize::MAX, None)
+}
+
+#[test]
+fn test_wstr_range_to_inclusive(rt: HostRuntime) -> Result<(), Fail> {
+    part_is(&rt, &HELLO, ..=7, Some("hell"))?;
+    part_is(&rt, &HELLO, ..=usize::MAX, None)?;
+    part_is(&rt, &PXG, ..=3, Some("\u{10000}"))?;
+    part_is(&rt, &PXG, ..=2, None)
+}
+
+#[test]
+fn a_range_of_a_users_own(rt: HostRuntime) -> Result<(), Fail> {
+    part_is(&rt, &PXG, Field { start: 4, len: 2 }, Some("x"))?;
+    part_is(&rt, &PXG, Field { start: 4, len: 3 }, None)?;
+    part_is(
+        &rt,
+        &PXG,
+        Field {
+            start: 4,
+            len: usize::MAX,
+        },
+        None,
+    )
+}
+
+// Both calls without a test, where `get` gave a part.
+fn taken_untested<E: Utf16Order>(rt: &impl Abort, text: WStr<E>, start: usize, end: usize) {
+    let Some(part) = text.get(start..end) else {
+        return;
+    };
+    assert!(rt; text.index(start..end) == part);
+    assert!(rt; text.get_unchecked(start..end) == part);
+}
+
+#[test]
+fn test_wstr_slice(rt: HostRuntime) -> Result<(), Fail> {
+    let text = WStr::from_utf16le(&HELLO)?;
+    if text.get(..).is_some() {
+        utf8_is(&rt, text.index(..), "hello")?;
+    }
+    taken_untested(&rt, text, 2, 8);
+    taken_untested(&rt, WStr::from_utf16be(&[0, 0x61, 0xD8, 0, 0xDC, 0])?, 2, 6);
+    let Some(part) = text.get(2..8) else {
+        return Err(Fail::from("no part"));
+    };
+    utf8_is(&rt, part, "ell")
+}
+
+#[test]
+fn test_wstr_get(rt: HostRuntime) -> Result<(), Fail> {
+    part_is(&rt, &HELLO, 0..8, Some("hell"))?;
+    part_is(&rt, &HELLO, 1..8, None)
+}
+
+// The Rust crate's call panics here. `get` says beforehand that there is no part.
+#[test]
+fn test_wstr_bad_index(rt: HostRuntime) -> Result<(), Fail> {
+    part_is(&rt, &HELLO, 2..7, None)
+}
+
+fn boundaries<E: Utf16Order>(rt: &impl Abort, raw: &[u8], wanted: &[bool]) -> Result<(), Fail> {
+    let text = WStr::<E>::from_utf16(raw)?;
+    for (index, is) in wanted.iter().enumerate() {
+        assert_eq!(rt; text.is_char_boundary(index), *is, "{index} of {raw:?}");
+    }
+    assert!(rt; !text.is_char_boundary(usize::MAX));
+    Ok(())
+}
+
+#[test]
+fn test_wstr_is_char_boundary(rt: HostRuntime) -> Result<(), Fail> {
+    let wanted = [true, false, false, false, true, false, true, false];
+    boundaries::<LE>(&rt, &PX, &wanted)?;
+    boundaries::<BE>(&rt, &[0xD8, 0x00, 0xDC, 0x00, 0x00, 0x78], &wanted)?;
+    boundaries::<LE>(&rt, &[], &[true, false])
+}
+
+fn chars_are<E: Utf16Order>(
+    rt: &(impl Abort + AllocGlobal),
+    raw: &[u8],
+    wanted: &[char],
+) -> Result<(), Fail> {
+    let text = WStr::<E>::from_utf16(raw)?;
+    assert_eq!(rt; collected(rt.alloc(), text)?.as_slice(), wanted);
+    assert_eq!(rt; looped(rt.alloc(), text)?.as_slice(), wanted);
+    let mut back = reversed(rt.alloc(), text)?;
+    back.reverse();
+    assert_eq!(rt; back.as_slice(), wanted);
+    assert_eq!(rt; text.chars().count(), wanted.len());
+    assert_eq!(rt; text.chars().last(), wanted.last().copied());
+    Ok(())
+}
+
+#[test]
+fn test_wstr_chars(rt: HostRuntime) -> Result<(), Fail> {
+    chars_are::<LE>(&rt, &HELLO, &['h', 'e', 'l', 'l', 'o'])?;
+    chars_are::<LE>(&rt, &PX, &['\u{10000}', 'x'])?;
+    chars_are::<LE>(&rt, &[0x41, 0xF8, 0x41, 0x00], &['\u{F841}', 'A'])?;
+    chars_are::<BE>(
+        &rt,
+        &[0xD8, 0x00, 0xDC, 0x00, 0x00, 0x78],
+        &['\u{10000}', 'x'],
+    )?;
+    chars_are::<LE>(&rt, &[], &[])
+}
+
+#[test]
+fn characters_at_the_edges_of_a_unit(rt: HostRuntime) -> Result<(), Fail> {
+    let raw = [
+        0xFF, 0xD7, 0x00, 0xE0, 0xFF, 0xFF, 0x00, 0xD8, 0x00, 0xDC, 0xFF, 0xDB, 0xFF, 0xDF,
+    ];
+    chars_are::<LE>(
+        &rt,
+        &raw,
+        &[
+            '\u{D7FF}',
+            '\u{E000}',
+            '\u{FFFF}',
+            '\u{10000}',
+            '\u{10FFFF}',
+        ],
+    )?;
+    assert_eq!(rt; WStr::from_utf16le(&raw)?.len(), 14);
+    Ok(())
+}
+
+#[test]
+fn test_wstr_chars_reverse(rt: HostRuntime) -> Result<(), Fail> {
+    let back = reversed(rt.alloc(), WStr::from_utf16le(&HELLO)?)?;
+    assert_eq!(rt; back.as_slice(), ['o', 'l', 'l', 'e', 'h'].as_slice());
+    let back = reversed(rt.alloc(), WStr::from_utf16le(&PX)?)?;
+    assert_eq!(rt; back.as_slice(), ['x', '\u{10000}'].as_slice());
+    Ok(())
+}
+
+#[test]
+fn test_wstr_chars_last(rt: HostRuntime) -> Result<(), Fail> {
+    assert_eq!(rt; WStr::from_utf16le(&HELLO)?.chars().last(), Some('o'));
+    assert_eq!(rt; WStr::from_utf16le(&PX)?.chars().last(), Some('x'));
+    Ok(())
+}
+
+#[test]
+fn test_wstr_chars_count(rt: HostRuntime) -> Result<(), Fail> {
+    assert_eq!(rt; WStr::from_utf16le(&HELLO)?.chars().count(), 5);
+    assert_eq!(rt; WStr::from_utf16le(&PX)?.chars().count(), 2);
+    Ok(())
+}
+
+#[test]
+fn test_wstr_char_indices(rt: HostRuntime) -> Result<(), Fail> {
+    let found = indexed(rt.alloc(), WStr::from_utf16le(&HELLO)?)?;
+    let wanted = [(0, 'h'), (2, 'e'), (4, 'l'), (6, 'l'), (8, 'o')];
+    assert_eq!(rt; found.as_slice(), wanted.as_slice());
+    let found = indexed(rt.alloc(), WStr::from_utf16le(&PX)?)?;
+    assert_eq!(rt; found.as_slice(), [(0, '\u{10000}'), (4, 'x')].as_slice());
+    Ok(())
+}
+
+#[test]
+fn test_wstr_char_indices_reverse(rt: HostRuntime) -> Result<(), Fail> {
+    let found = indexed_back(rt.alloc(), WStr::from_utf16le(&HELLO)?)?;
+    let wanted = [(8, 'o'), (6, 'l'), (4, 'l'), (2, 'e'), (0, 'h')];
+    assert_eq!(rt; found.as_slice(), wanted.as_slice());
+    let found = indexed_back(rt.alloc(), WStr::from_utf16le(&PX)?)?;
+    assert_eq!(rt; found.as_slice(), [(4, 'x'), (0, '\u{10000}')].as_slice());
+    Ok(())
+}
+
+#[test]
+fn test_wstr_char_indices_count(rt: HostRuntime) -> Result<(), Fail> {
+    assert_eq!(rt; WStr::from_utf16le(&HELLO)?.char_indices().count(), 5);
+    assert_eq!(rt; WStr::from_utf16le(&PX)?.char_indices().count(), 2);
+    Ok(())
+}
+
+#[test]
+fn test_wstr_char_indices_last(rt: HostRuntime) -> Result<(), Fail> {
+    assert_eq!(rt;
+        WStr::from_utf16le(&HELLO)?.char_indices().last(),
+        Some((8, 'o'))
+    );
+    assert_eq!(rt;
+        WStr::from_utf16le(&PX)?.char_indices().last(),
+        Some((4, 'x'))
+    );
+    Ok(())
+}
+
+#[test]
+fn both_ends_in_turn(rt: HostRuntime) -> Result<(), Fail> {
+    let mut indices = WStr::from_utf16le(&PX)?.char_indices();
+    assert_eq!(rt; indices.next(), Some((0, '\u{10000}')));
+    assert_eq!(rt; indices.next_back(), Some((4, 'x')));
+    assert_eq!(rt; indices.next(), None);
+    assert_eq!(rt; indices.next_back(), None);
+    assert_eq!(rt; indices.next(), None);
+
+    let mut indices = WStr::from_utf16le(&PXG)?.char_indices();
+    assert_eq!(rt; indices.next(), Some((0, '\u{10000}')));
+    assert_eq!(rt; indices.next_back(), Some((6, '\u{1F600}')));
+    assert_eq!(rt; indices.count(), 1);
+    let mut indices = WStr::from_utf16le(&PXG)?.char_indices();
+    assert_eq!(rt; indices.next(), Some((0, '\u{10000}')));
+    assert_eq!(rt; indices.next_back(), Some((6, '\u{1F600}')));
+    assert_eq!(rt; indices.last(), Some((4, 'x')));
+
+    let mut chars = WStr::from_utf16be(&[])?.chars();
+    assert_eq!(rt; chars.next(), None);
+    assert_eq!(rt; chars.next_back(), None);
+    Ok(())
+}
+
+#[test]
+fn test_wstr_from_utf16le(rt: HostRuntime) -> Result<(), Fail> {
+    assert_eq!(rt; WStr::from_utf16le(&HELLO)?.as_bytes(), HELLO.as_slice());
+    let refused: [&[u8]; 3] = [
+        &HELLO[..9],
+        &[0x00, 0xD8, 0x78, 0x00],
+        &[0x00, 0xDC, 0x78, 0x00],
+    ];
+    for raw in refused {
+        assert!(rt; WStr::from_utf16le(raw).is_err(), "{raw:?}");
+    }
+    Ok(())
+}
+
+// The unchecked constructors, after the checked one's test.
+fn unchecked_is(rt: &impl Abort, little: &[u8], big: &[u8]) {
+    if WStr::from_utf16le(little).is_ok() {
+        assert_eq!(rt; WStr::from_utf16le_unchecked(little).as_bytes(), little);
+    }
+    if WStr::from_utf16be(big).is_ok() {
+        assert_eq!(rt; WStr::from_utf16be_unchecked(big).as_bytes(), big);
+        assert_eq!(rt; WStr::<BE>::from_utf16_unchecked(big).as_bytes(), big);
+    }
+}
+
+#[test]
+fn test_wstr_from_utf16le_unchecked(rt: HostRuntime) {
+    unchecked_is(&rt, &[0x68, 0, 0x69, 0], &[0, 0x68, 0, 0x69]);
+}
+
+#[test]
+fn test_wstr_to_utf8(rt: HostRuntime) -> Result<(), Fail> {
+    utf8_is(&rt, WStr::from_utf16le(&HELLO)?, "hello")
+}
+
+#[test]
+fn test_display(rt: HostRuntime) -> Result<(), Fail> {
+    let text = WStr::from_utf16le(&HELLO)?;
+    assert_eq!(rt; shown(rt.alloc(), text)?.as_str(), "hello");
+    let wide = format!(in rt.alloc(); "{text:>8}")?;
+    assert_eq!(rt; wide.as_str(), "hello", "width and fill are ignored");
+    let debug = format!(in rt.alloc(); "{text:?} {:?} {:?}", text.chars(), text.char_indices())?;
+    assert!(rt; !debug.is_empty());
+    Ok(())
+}
+
+#[test]
+fn test_wstr_len(rt: HostRuntime) -> Result<(), Fail> {
+    assert_eq!(rt; WStr::from_utf16le(&HELLO)?.len(), 10);
+    Ok(())
+}
+
+#[test]
+fn test_wstr_is_empty(rt: HostRuntime) -> Result<(), Fail> {
+    assert!(rt; !WStr::from_utf16le(&HELLO)?.is_empty());
+    assert!(rt; WStr::from_utf16le(&[])?.is_empty());
+    Ok(())
+}
+
+#[test]
+fn test_wstr_as_bytes(rt: HostRuntime) -> Result<(), Fail> {
+    assert_eq!(rt; WStr::from_utf16le(&HELLO)?.as_bytes(), HELLO.as_slice());
+    Ok(())
+}
+
+// The Rust crate's `as_ref` gives what `as_bytes` gives.
+#[test]
+fn test_wstr_as_ref(rt: HostRuntime) -> Result<(), Fail> {
+    assert_eq!(rt; WStr::from_utf16le(&HELLO)?.as_bytes(), HELLO.as_slice());
+    Ok(())
+}
+
+#[test]
+fn test_wstr_is_ascii(rt: HostRuntime) -> Result<(), Fail> {
+    let table: [(&[u8], bool); 6] = [
+        (&HELLO, true),
+        (&PX, false),
+        (&[0x00, 0x4E], false),
+        (&[0x7F, 0x00], true),
+        (&[0x00, 0x01], false),
+        (&[], true),
+    ];
+    for (raw, wanted) in table {
+        assert_eq!(rt; WStr::from_utf16le(raw)?.is_ascii(), wanted, "{raw:?}");
+    }
+    assert!(rt; WStr::from_utf16be(&[0x00, 0x7F])?.is_ascii());
+    assert!(rt; !WStr::from_utf16be(&[0x00, 0x80])?.is_ascii());
+    Ok(())
+}
+
+fn hash_of<E: Utf16Order>(text: WStr<E>) -> u64 {
+    let mut hasher = FoldHasher::default();
+    text.hash(&mut hasher);
+    hasher.finish()
+}
+
+#[test]
+fn equal_views_hash_alike(rt: HostRuntime) -> Result<(), Fail> {
+    let here = WStr::from_utf16le(&HELLO[..4])?;
+    let there = WStr::from_utf16le(&HELLO_THERE[2..])?;
+    let other = WStr::from_utf16le(&PX)?;
+    assert!(rt; here == there);
+    assert!(rt; here != other);
+    assert_eq!(rt; hash_of(here), hash_of(there));
+    assert_ne!(rt; hash_of(here), hash_of(other));
+    Ok(())
+}
+
+#[test]
+fn walks_that_search(rt: HostRuntime) -> Result<(), Fail> {
+    let text = WStr::from_utf16le(&HELLO)?;
+    assert_eq!(rt; place_of(text, 'l'), Some(2));
+    assert_eq!(rt; place_of(text, 'x'), None);
+    assert_eq!(rt; count_of(text, 'l'), 2);
+    assert!(rt; agree(text, WStr::from_utf16le(&HELLO[..4])?));
+    assert!(rt; !agree(text, WStr::from_utf16le(&PX)?));
+    Ok(())
+}
+
+// A text cut, joined, typed into and undone, at every boundary.
+fn edits_undone<E: Utf16Order>(rt: &(impl Abort + AllocGlobal), raw: &[u8]) -> Result<usize, Fail> {
+    let text = WStr::<E>::from_utf16(raw)?;
+    let mut boundaries = 0usize;
+    for at in 0..raw.len() {
+        if text.is_char_boundary(at) {
+            boundaries = boundaries.saturating_add(1);
+            assert_eq!(rt; cut_and_joined(rt.alloc(), text, at)?.as_slice(), raw);
+            assert_eq!(rt;
+                typed_and_undone(rt.alloc(), text, at, '\u{1F600}')?.as_slice(),
+                raw
+            );
+        }
+    }
+    Ok(boundaries)
+}
+
+#[test]
+fn cuts_and_edits_at_every_boundary(rt: HostRuntime) -> Result<(), Fail> {
+    assert_eq!(rt; edits_undone::<LE>(&rt, &PXG)?, 3);
+    assert_eq!(rt;
+        edits_undone::<BE>(&rt, &[0, 0x61, 0xD8, 0x00, 0xDC, 0x00])?,
+        2
+    );
+    Ok(())
+}
