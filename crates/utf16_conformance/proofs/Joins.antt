@@ -1,11 +1,11 @@
 -- Texts and their bytes put together.
-use Rattle.std.proofs.Common.{◌≡◌, ℕ, ◌+◌, Bool, List, [], ◌∷◌, ◌++◌, length, take, drop, slice_get, Some, refl, sym, ap, ap₂, ◌∙◌, subst, arith, append_assoc, take_at}
+use Rattle.std.proofs.Common.{◌≡◌, ℕ, Bool, List, [], ◌∷◌, ◌++◌, take, drop, slice_get, Some, refl, sym, ap, ◌∙◌, subst, arith, append_assoc, take_at}
 use Rattle.std.proofs.lemmas.List.Elements.{All-cons, All-nil}
 use Rattle.std.specs.Char.{IsScalar}
 use Rattle.utf16_units.specs.Boundary.{IsBoundary, text_from, text_to}
-use Rattle.utf16_units.specs.Edit.{char_at, insert_at, remove_at}
-use Rattle.utf16_units.specs.Encoding.{char_bytes, char_size, encode, Encodes, size}
-use Rattle.utf16_units.proofs.BoundaryLemmas.{size-text_to, text_from-at, text_to-text_from}
+use Rattle.utf16_units.specs.Edit.{insert_at}
+use Rattle.utf16_units.specs.Encoding.{char_bytes, char_size, Encodes}
+use Rattle.utf16_units.proofs.BoundaryLemmas.{size-text_to, text_from-at}
 use Rattle.utf16_units.proofs.CharLemmas.{length-char_bytes}
 use Rattle.utf16_units.proofs.EncodingLemmas.{Encodes-append, encode-one, size-cons, size-nil}
 

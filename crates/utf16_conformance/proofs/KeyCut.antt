@@ -1,7 +1,7 @@
 -- A key found in a record, and bytes swapped two by two.
-use Rattle.std.proofs.Common.{◌≡◌, ◌≢◌, ℕ, zero, suc, ◌+◌, ◌-◌, ◌*◌, ◌%◌, ◌<◌, ◌≤◌, Bool, List, [], ◌∷◌, ◌++◌, length, take, drop, slice_index, refl, sym, ap, ap₂, ◌∙◌, subst, arith}
+use Rattle.std.proofs.Common.{◌≡◌, ◌≢◌, ℕ, ◌+◌, ◌-◌, ◌%◌, ◌≤◌, Bool, List, [], ◌∷◌, ◌++◌, length, drop, slice_index, refl, sym, ap, ◌∙◌, subst, arith}
 use Rattle.std.proofs.lemmas.List.{drop_more}
-use Rattle.utf16_units.specs.Boundary.{IsBoundary, text_between, text_from, text_to}
+use Rattle.utf16_units.specs.Boundary.{IsBoundary, text_from, text_to}
 use Rattle.utf16_units.specs.Encoding.{encode, IsText, size, text_of}
 use Rattle.utf16_units.specs.Laws.{FoundAligned, StandsAt, swap_bytes}
 use Rattle.utf16_units.proofs.BoundaryLemmas.{text_to-text_from}

@@ -1,5 +1,5 @@
 -- What tests of a `Bool` and of an `Option` mean.
-use Rattle.std.proofs.Common.{◌≡◌, ◌↔◌, ℕ, Bool, true, false, not, IsTrue, List, length, take, nat_eq, Option, None, Some, is_some, refl, sym, true≢false}
+use Rattle.std.proofs.Common.{◌≡◌, ◌↔◌, ℕ, Bool, false, IsTrue, List, length, take, nat_eq, Option, None, Some, is_some, refl, sym, true≢false}
 use Rattle.std.proofs.lemmas.Bool.Decides.{Decides-eqb}
 use Rattle.std.proofs.lemmas.Slice.Eq.{slice_eq-Decides}
 use Rattle.std.specs.List.{starts_with}

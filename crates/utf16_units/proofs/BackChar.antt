@@ -1,5 +1,5 @@
 -- The last character of well-formed bytes, by the units at their end, and boundaries by the unit at an offset.
-use Rattle.std.proofs.Common.{◌≡◌, ◌≢◌, ℕ, zero, suc, ◌+◌, ◌-◌, ◌*◌, ◌/◌, ◌%◌, ◌<◌, ◌≤◌, ◌⊎◌, Bool, true, false, List, [], ◌∷◌, ◌++◌, length, take, drop, slice_index, All, refl, sym, ap, ap₂, ◌∙◌, subst, ⊎_elim, inl, inr, arith, append_assoc, append-nil, length-append, drop_at, take_at, flat_map, get_or-drop}
+use Rattle.std.proofs.Common.{◌≡◌, ◌≢◌, ℕ, ◌+◌, ◌-◌, ◌/◌, ◌%◌, ◌<◌, ◌≤◌, ◌⊎◌, Bool, List, [], ◌∷◌, ◌++◌, length, take, drop, slice_index, All, refl, sym, ap, ap₂, ◌∙◌, subst, ⊎_elim, inl, inr, arith, append_assoc, append-nil, length-append, drop_at, take_at, flat_map, get_or-drop}
 use Rattle.std.proofs.lemmas.Bool.{cases_lt}
 use Rattle.std.proofs.lemmas.List.Elements.{All-head}
 use Rattle.std.proofs.str.Utf16.{one_unit, two_units}
@@ -7,10 +7,10 @@ use Rattle.std.specs.Char.{IsScalar}
 use Rattle.std.specs.Char.Utf16.{surrogate_pair_char}
 use Rattle.utf16_units.specs.Unit.{IsLeading, IsTrailing, unit_bytes, unit_of}
 use Rattle.utf16_units.specs.Encoding.{char_bytes, char_size, encode, Encodes, IsText, size, text_of}
-use Rattle.utf16_units.specs.Boundary.{IsBoundary, text_from, text_to}
+use Rattle.utf16_units.specs.Boundary.{IsBoundary}
 use Rattle.utf16_units.proofs.UnitLemmas.{length-unit_bytes}
 use Rattle.utf16_units.proofs.CharLemmas.{char_size_four, char_size_two, length-char_bytes, no_surrogate}
-use Rattle.utf16_units.proofs.EncodingLemmas.{All-after, All-before, char_text, Encodes-text_of, encode-append, encode-cons, encode-nil, encode-one, length-encode, length-text, size-append, text_of-append}
+use Rattle.utf16_units.proofs.EncodingLemmas.{All-after, All-before, char_text, Encodes-text_of, encode-append, encode-cons, encode-nil, encode-one, length-encode, length-text, text_of-append}
 use Rattle.utf16_units.proofs.BoundaryLemmas.{IsBoundary-at_unit, IsBoundary-end, IsBoundary-within}
 use Rattle.utf16_units.proofs.FirstChar.{first_unit}
 use Rattle.utf16_units.proofs.FrontChar.{first_unit-bytes, first_unit-char}

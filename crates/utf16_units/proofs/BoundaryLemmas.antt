@@ -1,5 +1,5 @@
 -- Boundaries, the parts between them, and where a unit's class shows one.
-use Rattle.std.proofs.Common.{◌≡◌, ◌≢◌, ℕ, zero, suc, ◌+◌, ◌-◌, ◌*◌, ◌/◌, ◌%◌, ◌<◌, ◌≤◌, ◌⊎◌, Bool, true, false, List, [], ◌∷◌, ◌++◌, length, take, drop, All, refl, sym, ap, ap₂, ◌∙◌, subst, ⊎_elim, inl, inr, arith, append_assoc, append-nil, length-append, drop_at, take_at, flat_map, le-leb, nat_le, cond}
+use Rattle.std.proofs.Common.{◌≡◌, ℕ, zero, suc, ◌+◌, ◌-◌, ◌/◌, ◌%◌, ◌<◌, ◌≤◌, Bool, List, [], ◌∷◌, ◌++◌, length, take, drop, All, refl, sym, ap, ap₂, ◌∙◌, subst, ⊎_elim, arith, append_assoc, append-nil, drop_at, take_at, flat_map, le-leb, cond}
 use Rattle.std.proofs.lemmas.Bool.{cases_eq, cases_lt, lt-leb}
 use Rattle.std.proofs.lemmas.List.Elements.{All-head, All-tail}
 use Rattle.std.proofs.str.Utf16.{two_units}
@@ -8,7 +8,7 @@ use Rattle.utf16_units.specs.Unit.{IsTrailing, unit_bytes}
 use Rattle.utf16_units.specs.Encoding.{char_bytes, char_size, encode, Encodes, size}
 use Rattle.utf16_units.specs.Boundary.{IsBoundary, text_between, text_from, text_to}
 use Rattle.utf16_units.proofs.UnitLemmas.{length-unit_bytes}
-use Rattle.utf16_units.proofs.CharLemmas.{char_size_cases, char_size_two, length-char_bytes, no_surrogate}
+use Rattle.utf16_units.proofs.CharLemmas.{char_size_cases, char_size_two, length-char_bytes}
 use Rattle.utf16_units.proofs.EncodingLemmas.{All-after, All-before, encode-append, encode-cons, length-encode, size-append, size-cons, size-nil}
 use Rattle.utf16_units.proofs.FirstChar.{first_unit}
 use Rattle.utf16_units.proofs.FrontChar.{first_unit-bytes}

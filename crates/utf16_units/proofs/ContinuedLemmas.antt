@@ -1,12 +1,11 @@
 -- Which bytes with a fault are the beginning of a text.
-use Rattle.std.proofs.Common.{◌≡◌, ◌≢◌, ◌↔◌, ℕ, zero, suc, ◌+◌, ◌-◌, ◌*◌, ◌/◌, ◌%◌, ◌<◌, ◌≤◌, ◌⊎◌, Bool, true, false, List, [], ◌∷◌, ◌++◌, length, take, drop, slice_index, get_or, Option, None, Some, All, refl, sym, ap, ap₂, ◌∙◌, subst, ⊎_elim, inl, inr, arith, append_assoc, append-nil, length-append, length-drop, take-append-drop, take_at, take-add}
+use Rattle.std.proofs.Common.{◌≡◌, ◌↔◌, ℕ, zero, suc, ◌+◌, ◌-◌, ◌/◌, ◌%◌, ◌<◌, ◌≤◌, Bool, true, false, List, [], ◌∷◌, ◌++◌, length, take, drop, slice_index, None, Some, All, refl, sym, ap, ◌∙◌, subst, ⊎_elim, arith, append_assoc, append-nil, length-append, length-drop, take-append-drop, take_at, take-add}
 use Rattle.std.proofs.lemmas.Bool.{cases_lt}
 use Rattle.std.proofs.lemmas.List.{take-append-le}
 use Rattle.std.proofs.lemmas.List.Elements.{All-head, All-tail, All-drop}
-use Rattle.std.specs.Char.{IsScalar}
 use Rattle.utf16_units.specs.Unit.{IsLeading, IsTrailing, unit_of}
 use Rattle.utf16_units.specs.Encoding.{char_bytes, char_size, encode, IsText}
-use Rattle.utf16_units.specs.Fault.{BeginsWithChar, IsCutOff, IsErrorLen, IsFault, IsFront}
+use Rattle.utf16_units.specs.Fault.{BeginsWithChar, IsCutOff, IsFault, IsFront}
 use Rattle.utf16_units.specs.Continued.{IsBeginning, IsDeadEnd, IsTrailingHigh}
 use Rattle.utf16_units.proofs.CharLemmas.{char_size_four, char_size_two, length-char_bytes, no_surrogate}
 use Rattle.utf16_units.proofs.EncodingLemmas.{IsText-append, IsText-char, IsText-rest}

@@ -1,14 +1,13 @@
 -- The proofs of the laws, each under its law's name.
-use Rattle.std.proofs.Common.{◌≡◌, ◌≢◌, ℕ, ◌+◌, ◌-◌, ◌%◌, ◌<◌, ◌≤◌, Bool, true, false, not, List, [], ◌∷◌, ◌++◌, length, take, drop, slice_get, Some, All, refl, sym, ap, ap₂, ◌∙◌, subst, ⊎_elim, inl, inr, arith, append_assoc, append-nil, length-append, length-take, length-drop, take-append-drop, drop_at, take_at, flat_map, chars, encode_utf8_all}
-use Rattle.std.proofs.lemmas.Bool.{cases_lt}
+use Rattle.std.proofs.Common.{◌≡◌, ◌≢◌, ℕ, ◌+◌, ◌-◌, ◌%◌, ◌<◌, Bool, true, false, not, List, [], ◌∷◌, ◌++◌, length, drop, slice_get, All, refl, sym, ap, ap₂, ◌∙◌, subst, arith, append_assoc, length-append, length-drop, take-append-drop, drop_at, flat_map}
 use Rattle.std.proofs.lemmas.List.Elements.{All-head}
 use Rattle.std.proofs.lemmas.Str.{chars-encodes}
 use Rattle.std.specs.Char.{IsScalar}
 use Rattle.std.specs.Char.Escape.{encode_utf16}
 use Rattle.utf16_units.specs.Unit.{IsTrailing, unit_bytes}
-use Rattle.utf16_units.specs.Encoding.{char_bytes, char_size, encode, IsText, size, text_of}
+use Rattle.utf16_units.specs.Encoding.{char_bytes, encode, size, text_of}
 use Rattle.utf16_units.specs.Boundary.{IsBoundary, text_between, text_from, text_to}
-use Rattle.utf16_units.specs.Edit.{char_at, insert_at, push_text, remove_at, split_back, split_front}
+use Rattle.utf16_units.specs.Edit.{insert_at}
 use Rattle.utf16_units.specs.Laws.{FoundAligned, InsertThenRemove, JoinedText, NoneContinues, SplitThenPush, StandsAt, SwappedOrders, TwoNeverContinues, UniqueText, Utf8Back, swap_bytes}
 use Rattle.utf16_units.proofs.BoundaryLemmas.{IsBoundary-at_unit, char_size-pos, size-text_to, text_from-at, text_to-at, text_to-text_from}
 use Rattle.utf16_units.proofs.ContinuedLemmas.{none_where, two_never}

@@ -1,5 +1,5 @@
 -- What a test turned round means.
-use Rattle.std.proofs.Common.{◌≡◌, ◌↔◌, Bool, true, false, not, IsTrue, refl, sym, true≢false}
+use Rattle.std.proofs.Common.{◌↔◌, Bool, true, false, not, IsTrue, refl, sym, true≢false}
 
 -- a test of what rules a fact out, turned round, is a test of the fact
 pub not_decides : {P Q : Type 0} (d : Bool) → (IsTrue d ↔ Q) → (P ↔ ¬ Q) → (IsTrue (not d) ↔ P)

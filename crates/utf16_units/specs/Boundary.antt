@@ -1,5 +1,5 @@
 -- Character boundaries of a text, and its parts between them. Offsets count bytes of the encoding, in either order.
-use Rattle.std.specs.Prelude.{◌≡◌, ℕ, ◌+◌, ◌-◌, List, [], ◌∷◌, ◌++◌, nat_le, if◌then◌else◌}
+use Rattle.std.specs.Prelude.{◌≡◌, ℕ, ◌-◌, List, [], ◌∷◌, ◌++◌, nat_le, if◌then◌else◌}
 use Rattle.utf16_units.specs.Encoding.{char_size, size}
 
 -- i is a boundary: some prefix of the text has that size

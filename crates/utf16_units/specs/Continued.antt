@@ -1,5 +1,5 @@
 -- Which bytes are the beginning of a text, and which can never be.
-use Rattle.std.specs.Prelude.{ℕ, ◌≤◌, Bool, true, false, List, [], ◌∷◌, ◌++◌}
+use Rattle.std.specs.Prelude.{ℕ, ◌≤◌, Bool, true, List, [], ◌∷◌, ◌++◌}
 use Rattle.utf16_units.specs.Unit.{IsLeading, unit_of}
 use Rattle.utf16_units.specs.Encoding.{IsText}
 

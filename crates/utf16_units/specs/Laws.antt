@@ -1,5 +1,5 @@
 -- The laws of UTF-16 that users of the format rest on, each a statement over the definitions alone.
-use Rattle.std.specs.Prelude.{◌≡◌, ◌≢◌, ◌↔◌, ℕ, ◌+◌, ◌%◌, ◌<◌, Bool, not, List, [], ◌∷◌, ◌++◌, Option, None, Some, All, length, take, drop, encode_utf8_all, chars}
+use Rattle.std.specs.Prelude.{◌≡◌, ◌≢◌, ◌↔◌, ℕ, ◌+◌, ◌%◌, ◌<◌, Bool, not, List, [], ◌∷◌, ◌++◌, None, Some, All, length, take, drop, encode_utf8_all, chars}
 use Rattle.std.specs.Char.{IsScalar}
 use Rattle.utf16_units.specs.Boundary.{IsBoundary, text_between}
 use Rattle.utf16_units.specs.Continued.{IsBeginning, IsDeadEnd}

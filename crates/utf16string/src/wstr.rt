@@ -223,14 +223,17 @@ impl<'a, E: Utf16Order> fmt::Debug for WStr<'a, E> {
 }
 
 impl<'a, E: Utf16Order> PartialEq for WStr<'a, E> {
-    ghost use Rattle.utf16string.specs.WStr.{wstr_bytes};
+    ghost use Rattle.utf16string.specs.WStr.{wstr_bytes, wstr_text};
 
     ghost eq = { λ x y. pointwise nat_eq (wstr_bytes x) (wstr_bytes y) };
 
     ghost laws = { on_per wstr_bytes (partial_equiv_from_equiv nat_list_eq_equiv) };
 
     #[inline]
-    fn eq(&self, other: &Self) -> bool {
+    fn eq(&self, other: &Self) -> bool
+        ensures bytes { result ≡ pointwise nat_eq (wstr_bytes self.now) (wstr_bytes other.now) }
+        ensures texts { IsTrue result ↔ (wstr_text self.now ≡ wstr_text other.now) }
+    {
         self.as_bytes() == other.as_bytes()
     }
 }

@@ -1,5 +1,5 @@
-use Rattle.std.proofs.Common.{◌≡◌, ◌≤◌, ◌∙◌, ap, sym, subst, arith, length, take, drop}
-use Rattle.utf16_units.specs.Encoding.{Encodes, IsText, text_of}
+use Rattle.std.proofs.Common.{◌∙◌, ap, sym, arith, length}
+use Rattle.utf16_units.specs.Encoding.{text_of}
 use Rattle.utf16_units.proofs.BoundaryLemmas.{Encodes-from, Encodes-to, IsBoundary-within}
 use Rattle.utf16_units.proofs.EncodingLemmas.{IsText-from_Encodes, length-encode, text_of-Encodes}
 use Rattle.utf16string.specs.WStr.{wstr_text}

@@ -1,5 +1,4 @@
-use Rattle.std.proofs.Common.{◌≡◌, ◌≢◌, ◌%◌, ◌∙◌, [], length, ap, sym, subst, arith, rules}
-use Rattle.utf16_units.specs.Boundary.{IsBoundary, text_from}
+use Rattle.std.proofs.Common.{◌∙◌, ap, arith, rules}
 use Rattle.utf16_units.specs.Encoding.{size}
 use Rattle.utf16_units.specs.Laws.{StandsAt}
 use Rattle.utf16_units.proofs.BoundaryLemmas.{size-text_to}

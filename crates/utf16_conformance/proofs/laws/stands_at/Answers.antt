@@ -1,4 +1,4 @@
-use Rattle.std.proofs.Common.{◌≡◌, ◌↔◌, IsTrue, length, take, drop, subst}
+use Rattle.std.proofs.Common.{◌≡◌, ◌↔◌, IsTrue, length, take, subst}
 use Rattle.std.proofs.lemmas.List.{take_rest}
 use Rattle.utf16_conformance.proofs.Tests.{starts_stands}
 use Rattle.utf16_conformance.proofs.laws.stands_at.Goals as goal

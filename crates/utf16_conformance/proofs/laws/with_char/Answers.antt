@@ -1,6 +1,4 @@
-use Rattle.std.proofs.Common.{◌≡◌, ◌++◌, ◌∙◌, ap, take}
-use Rattle.utf16_units.specs.Encoding.{Encodes}
-use Rattle.utf16string.specs.WStr.{wstr_text}
+use Rattle.std.proofs.Common.{◌++◌, ◌∙◌, ap, take}
 use Rattle.utf16_conformance.proofs.Joins.{Encodes-between, written-char}
 use Rattle.utf16_conformance.proofs.laws.with_char.Goals as goal
 

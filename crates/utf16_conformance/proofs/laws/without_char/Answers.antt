@@ -1,7 +1,5 @@
-use Rattle.std.proofs.Common.{◌≡◌, ◌∙◌, ap, sym, subst, rules}
-use Rattle.utf16_units.specs.Encoding.{Encodes}
+use Rattle.std.proofs.Common.{◌∙◌, ap}
 use Rattle.utf16_units.specs.Boundary.{text_from}
-use Rattle.utf16string.specs.WStr.{wstr_text}
 use Rattle.utf16_conformance.proofs.Joins.{IsBoundary-after, text_from-after}
 use Rattle.utf16_conformance.proofs.laws.without_char.Goals as goal
 
