@@ -6,6 +6,8 @@ mod characters;
 #[cfg(test)]
 mod faults;
 #[cfg(test)]
+mod iterators;
+#[cfg(test)]
 mod law_callers;
 pub mod laws;
 pub mod ranges;

@@ -2,24 +2,22 @@
 
 use crate::laws::{cut_and_joined, typed_and_undone};
 use crate::ranges::{Field, part_to_utf8};
-use crate::walks::{
-    agree, collected, count_of, indexed, indexed_back, looped, place_of, reversed, shown,
-};
+use crate::walks::shown;
 use std::hash::{FoldHasher, Hash, Hasher};
 use std::process::Abort;
 use std::test::Fail;
 use utf16string::{BE, LE, SliceIndex, Utf16Order, WStr};
 
-const HELLO: [u8; 10] = [0x68, 0, 0x65, 0, 0x6C, 0, 0x6C, 0, 0x6F, 0];
+pub const HELLO: [u8; 10] = [0x68, 0, 0x65, 0, 0x6C, 0, 0x6C, 0, 0x6F, 0];
 
 // " he".
 const HELLO_THERE: [u8; 6] = [0x20, 0, 0x68, 0, 0x65, 0];
 
 // U+10000, "x".
-const PX: [u8; 6] = [0x00, 0xD8, 0x00, 0xDC, 0x78, 0x00];
+pub const PX: [u8; 6] = [0x00, 0xD8, 0x00, 0xDC, 0x78, 0x00];
 
 // U+10000, "x", U+1F600.
-const PXG: [u8; 10] = [0x00, 0xD8, 0x00, 0xDC, 0x78, 0x00, 0x3D, 0xD8, 0x00, 0xDE];
+pub const PXG: [u8; 10] = [0x00, 0xD8, 0x00, 0xDC, 0x78, 0x00, 0x3D, 0xD8, 0x00, 0xDE];
 
 // The part of a range, in UTF-8.
 fn part_is<I: SliceIndex<LE> + Drop>(
@@ -156,142 +154,6 @@ fn test_wstr_is_char_boundary(rt: HostRuntime) -> Result<(), Fail> {
     boundaries::<LE>(&rt, &[], &[true, false])
 }
 
-fn chars_are<E: Utf16Order>(
-    rt: &(impl Abort + AllocGlobal),
-    raw: &[u8],
-    wanted: &[char],
-) -> Result<(), Fail> {
-    let text = WStr::<E>::from_utf16(raw)?;
-    assert_eq!(rt; collected(rt.alloc(), text)?.as_slice(), wanted);
-    assert_eq!(rt; looped(rt.alloc(), text)?.as_slice(), wanted);
-    let mut back = reversed(rt.alloc(), text)?;
-    back.reverse();
-    assert_eq!(rt; back.as_slice(), wanted);
-    assert_eq!(rt; text.chars().count(), wanted.len());
-    assert_eq!(rt; text.chars().last(), wanted.last().copied());
-    Ok(())
-}
-
-#[test]
-fn test_wstr_chars(rt: HostRuntime) -> Result<(), Fail> {
-    chars_are::<LE>(&rt, &HELLO, &['h', 'e', 'l', 'l', 'o'])?;
-    chars_are::<LE>(&rt, &PX, &['\u{10000}', 'x'])?;
-    chars_are::<LE>(&rt, &[0x41, 0xF8, 0x41, 0x00], &['\u{F841}', 'A'])?;
-    chars_are::<BE>(
-        &rt,
-        &[0xD8, 0x00, 0xDC, 0x00, 0x00, 0x78],
-        &['\u{10000}', 'x'],
-    )?;
-    chars_are::<LE>(&rt, &[], &[])
-}
-
-#[test]
-fn characters_at_the_edges_of_a_unit(rt: HostRuntime) -> Result<(), Fail> {
-    let raw = [
-        0xFF, 0xD7, 0x00, 0xE0, 0xFF, 0xFF, 0x00, 0xD8, 0x00, 0xDC, 0xFF, 0xDB, 0xFF, 0xDF,
-    ];
-    chars_are::<LE>(
-        &rt,
-        &raw,
-        &[
-            '\u{D7FF}',
-            '\u{E000}',
-            '\u{FFFF}',
-            '\u{10000}',
-            '\u{10FFFF}',
-        ],
-    )?;
-    assert_eq!(rt; WStr::from_utf16le(&raw)?.len(), 14);
-    Ok(())
-}
-
-#[test]
-fn test_wstr_chars_reverse(rt: HostRuntime) -> Result<(), Fail> {
-    let back = reversed(rt.alloc(), WStr::from_utf16le(&HELLO)?)?;
-    assert_eq!(rt; back.as_slice(), ['o', 'l', 'l', 'e', 'h'].as_slice());
-    let back = reversed(rt.alloc(), WStr::from_utf16le(&PX)?)?;
-    assert_eq!(rt; back.as_slice(), ['x', '\u{10000}'].as_slice());
-    Ok(())
-}
-
-#[test]
-fn test_wstr_chars_last(rt: HostRuntime) -> Result<(), Fail> {
-    assert_eq!(rt; WStr::from_utf16le(&HELLO)?.chars().last(), Some('o'));
-    assert_eq!(rt; WStr::from_utf16le(&PX)?.chars().last(), Some('x'));
-    Ok(())
-}
-
-#[test]
-fn test_wstr_chars_count(rt: HostRuntime) -> Result<(), Fail> {
-    assert_eq!(rt; WStr::from_utf16le(&HELLO)?.chars().count(), 5);
-    assert_eq!(rt; WStr::from_utf16le(&PX)?.chars().count(), 2);
-    Ok(())
-}
-
-#[test]
-fn test_wstr_char_indices(rt: HostRuntime) -> Result<(), Fail> {
-    let found = indexed(rt.alloc(), WStr::from_utf16le(&HELLO)?)?;
-    let wanted = [(0, 'h'), (2, 'e'), (4, 'l'), (6, 'l'), (8, 'o')];
-    assert_eq!(rt; found.as_slice(), wanted.as_slice());
-    let found = indexed(rt.alloc(), WStr::from_utf16le(&PX)?)?;
-    assert_eq!(rt; found.as_slice(), [(0, '\u{10000}'), (4, 'x')].as_slice());
-    Ok(())
-}
-
-#[test]
-fn test_wstr_char_indices_reverse(rt: HostRuntime) -> Result<(), Fail> {
-    let found = indexed_back(rt.alloc(), WStr::from_utf16le(&HELLO)?)?;
-    let wanted = [(8, 'o'), (6, 'l'), (4, 'l'), (2, 'e'), (0, 'h')];
-    assert_eq!(rt; found.as_slice(), wanted.as_slice());
-    let found = indexed_back(rt.alloc(), WStr::from_utf16le(&PX)?)?;
-    assert_eq!(rt; found.as_slice(), [(4, 'x'), (0, '\u{10000}')].as_slice());
-    Ok(())
-}
-
-#[test]
-fn test_wstr_char_indices_count(rt: HostRuntime) -> Result<(), Fail> {
-    assert_eq!(rt; WStr::from_utf16le(&HELLO)?.char_indices().count(), 5);
-    assert_eq!(rt; WStr::from_utf16le(&PX)?.char_indices().count(), 2);
-    Ok(())
-}
-
-#[test]
-fn test_wstr_char_indices_last(rt: HostRuntime) -> Result<(), Fail> {
-    assert_eq!(rt;
-        WStr::from_utf16le(&HELLO)?.char_indices().last(),
-        Some((8, 'o'))
-    );
-    assert_eq!(rt;
-        WStr::from_utf16le(&PX)?.char_indices().last(),
-        Some((4, 'x'))
-    );
-    Ok(())
-}
-
-#[test]
-fn both_ends_in_turn(rt: HostRuntime) -> Result<(), Fail> {
-    let mut indices = WStr::from_utf16le(&PX)?.char_indices();
-    assert_eq!(rt; indices.next(), Some((0, '\u{10000}')));
-    assert_eq!(rt; indices.next_back(), Some((4, 'x')));
-    assert_eq!(rt; indices.next(), None);
-    assert_eq!(rt; indices.next_back(), None);
-    assert_eq!(rt; indices.next(), None);
-
-    let mut indices = WStr::from_utf16le(&PXG)?.char_indices();
-    assert_eq!(rt; indices.next(), Some((0, '\u{10000}')));
-    assert_eq!(rt; indices.next_back(), Some((6, '\u{1F600}')));
-    assert_eq!(rt; indices.count(), 1);
-    let mut indices = WStr::from_utf16le(&PXG)?.char_indices();
-    assert_eq!(rt; indices.next(), Some((0, '\u{10000}')));
-    assert_eq!(rt; indices.next_back(), Some((6, '\u{1F600}')));
-    assert_eq!(rt; indices.last(), Some((4, 'x')));
-
-    let mut chars = WStr::from_utf16be(&[])?.chars();
-    assert_eq!(rt; chars.next(), None);
-    assert_eq!(rt; chars.next_back(), None);
-    Ok(())
-}
-
 #[test]
 fn test_wstr_from_utf16le(rt: HostRuntime) -> Result<(), Fail> {
     assert_eq!(rt; WStr::from_utf16le(&HELLO)?.as_bytes(), HELLO.as_slice());
@@ -397,17 +259,6 @@ fn equal_views_hash_alike(rt: HostRuntime) -> Result<(), Fail> {
     assert!(rt; here != other);
     assert_eq!(rt; hash_of(here), hash_of(there));
     assert_ne!(rt; hash_of(here), hash_of(other));
-    Ok(())
-}
-
-#[test]
-fn walks_that_search(rt: HostRuntime) -> Result<(), Fail> {
-    let text = WStr::from_utf16le(&HELLO)?;
-    assert_eq!(rt; place_of(text, 'l'), Some(2));
-    assert_eq!(rt; place_of(text, 'x'), None);
-    assert_eq!(rt; count_of(text, 'l'), 2);
-    assert!(rt; agree(text, WStr::from_utf16le(&HELLO[..4])?));
-    assert!(rt; !agree(text, WStr::from_utf16le(&PX)?));
     Ok(())
 }
 
