@@ -1,29 +1,13 @@
-use Rattle.std.proofs.Common.{◌-◌, ◌∙◌, sym, subst, arith, length, rules}
-use Rattle.std.specs.Char.Utf16.{surrogate_pair_char}
+use Rattle.std.proofs.Common.{◌-◌, ◌∙◌, sym, subst, arith, length}
 use Rattle.utf16_units.specs.Unit.{IsLeading}
-use Rattle.utf16_units.proofs.BackChar.{EndsAt, ends_one, ends_two, unit_before, unit_before-is, unit_before-two}
+use Rattle.utf16_units.proofs.BackChar.{unit_before-two}
 use Rattle.utf16_units.proofs.FrontChar.{two_bytes}
-use Rattle.utf16string.proofs.iters.last_char.Given.{Over}
+use Rattle.utf16string.proofs.iters.last_char.Answers.Ends.{one, two}
 use Rattle.utf16string.proofs.iters.last_char.Goals as goal
-use Rattle.utf16string.proofs.iters.last_char.Goals.{Then-not-is_trailing_surrogate, Else-not-is_trailing_surrogate}
+mod Ends
 
 pub overflow_sub-end : goal.overflow_sub-end
 overflow_sub-end g c = two_bytes g.E.Utf16Order.BIG c.args.raw.now c.requires.text c.requires.some
-
-one : (g : Over) (c : Then-not-is_trailing_surrogate g) → EndsAt g.E.Utf16Order.BIG c.args.raw.now c.read_unit-unit.result 2
-one g c =
-    let big = g.E.Utf16Order.BIG in
-    let raw = c.args.raw.now in
-    let unit = unit_before-is big raw (length raw) (two_bytes big raw c.requires.text c.requires.some) ∙ sym c.read_unit-unit.ensures in
-    rw (← unit) (ends_one big raw c.requires.text c.requires.some (rw unit (search rules)))
-
-two : (g : Over) (c : Else-not-is_trailing_surrogate g) → IsLeading (unit_before g.E.Utf16Order.BIG c.args.raw.now (length c.args.raw.now - 2))
-    × EndsAt g.E.Utf16Order.BIG c.args.raw.now (surrogate_pair_char (unit_before g.E.Utf16Order.BIG c.args.raw.now (length c.args.raw.now - 2)) c.read_unit-unit.result) 4
-two g c =
-    let big = g.E.Utf16Order.BIG in
-    let raw = c.args.raw.now in
-    let unit = unit_before-is big raw (length raw) (two_bytes big raw c.requires.text c.requires.some) ∙ sym c.read_unit-unit.ensures in
-    rw (← unit) (ends_two big raw c.requires.text c.requires.some (rw unit (search rules)))
 
 pub from_u32_unchecked-requires : goal.from_u32_unchecked-requires
 from_u32_unchecked-requires g c = (one g c).scalar
