@@ -1,5 +1,5 @@
 -- What `whole` did to the bytes that its reader has left and to those that its writer holds, where these are known.
-use Rattle.std.specs.Prelude.{ℕ, Bool, List, Option, IfSome, encode_utf8_all}
+use Rattle.std.specs.Prelude.{ℕ, Bool, List, Option, IfSome, encode_utf8_all, take}
 use Rattle.std.specs.Io.KnownBytes.{Appends, IsAtEnd, Keeps}
 use Rattle.utf16string.specs.declared.Utf16Error.{Utf16Error}
 use Rattle.utf16string.specs.Encoding.{IsText, text_of}
@@ -14,3 +14,12 @@ Transcodes big input left old new =
 abbrev pub Refuses : Bool → Option (List ℕ) → Option (List ℕ) → Option (List ℕ) → Option (List ℕ) → Utf16Error → Type 0
 Refuses big input left old new e =
     IsAtEnd left × Keeps old new × IfSome input (λ bytes. ¬ (IsText big bytes) × IsErrorOf big bytes e)
+
+-- a beginning of the bytes was written, all of them or none or some
+abbrev pub AppendsBeginning : Option (List ℕ) → Option (List ℕ) → List ℕ → Type 0
+AppendsBeginning old new bytes = (n : ℕ) × Appends old new (take n bytes)
+
+-- the input was read to its end, is well formed, and a beginning of its characters' UTF-8 was written
+abbrev pub Falters : Bool → Option (List ℕ) → Option (List ℕ) → Option (List ℕ) → Option (List ℕ) → Type 0
+Falters big input left old new =
+    IsAtEnd left × IfSome input (λ bytes. IsText big bytes × AppendsBeginning old new (encode_utf8_all (text_of big bytes)))

@@ -1,6 +1,7 @@
 //! The arguments of the program, and how its run ended.
 
 ghost use Rattle.std.specs.Prelude.{◌≡◌, ◌↔◌, Some, [], ◌∷◌, map, codes, string_bytes};
+ghost use Rattle.std.specs.Io.KnownBytes.{Keeps};
 ghost use Rattle.utf16_cat.specs.Status.{status_of};
 
 use std::io::Write;
@@ -42,7 +43,8 @@ pub fn order(words: &[String]) -> Option<Choice>
 /// Writes the line that tells of the outcome, nothing for `Done`, and answers the exit status. A failure to write is
 /// ignored.
 pub fn report<W: Write>(outcome: &Outcome, to: &mut W) -> u8
-    ensures { result ≡ status_of outcome.now }
+    ensures status { result ≡ status_of outcome.now }
+    ensures quiet { outcome.now ≡ Outcome.Done → Keeps (W.contents to.old) (W.contents to.new) }
 {
     let (written, status) = match outcome {
         Outcome::Done => (Ok(()), 0),

@@ -3,7 +3,7 @@
 ghost use Rattle.std.specs.Prelude.{◌≡◌, ◌≢◌, ◌⊎◌, IfOk, OnOk, IfErr, IfSome};
 ghost use Rattle.std.specs.Io.KnownBytes.{Appends, IsAtEnd, Keeps};
 ghost use Rattle.utf16string.specs.declared.Utf16Error.{Utf16Error};
-ghost use Rattle.utf16_cat.specs.Outcome.{Refuses, Transcodes};
+ghost use Rattle.utf16_cat.specs.Outcome.{AppendsBeginning, Falters, Refuses, Transcodes};
 
 use crate::outcome::Outcome;
 use std::alloc::Allocator;
@@ -23,6 +23,8 @@ pub fn whole<E: Utf16Order, R: Read, W: Write, A: Allocator>(
         (R.remaining reader.old) (R.remaining reader.new) (W.contents writer.old) (W.contents writer.new) }
     ensures text { (e : Utf16Error) → result ≡ Outcome.Text e → Refuses E.BIG
         (R.remaining reader.old) (R.remaining reader.new) (W.contents writer.old) (W.contents writer.new) e }
+    ensures write { result ≡ Outcome.Write → Falters E.BIG
+        (R.remaining reader.old) (R.remaining reader.new) (W.contents writer.old) (W.contents writer.new) }
     ensures quiet { (result ≡ Outcome.Read) ⊎ (result ≡ Outcome.Memory) → Keeps (W.contents writer.old) (W.contents writer.new) }
     ensures usage { result ≢ Outcome.Usage }
 {
@@ -66,6 +68,7 @@ fn read_all<R: Read, A: Allocator>(alloc: A, reader: &mut R) -> Result<Vec<u8, A
 // Writes all of the text, and flushes once.
 fn write_all<W: Write>(writer: &mut W, text: &[u8]) -> Outcome
     ensures done { result ≡ Outcome.Done → Appends (W.contents writer.old) (W.contents writer.new) text.now }
+    ensures write { result ≡ Outcome.Write → AppendsBeginning (W.contents writer.old) (W.contents writer.new) text.now }
     ensures cases { (result ≡ Outcome.Done) ⊎ (result ≡ Outcome.Write) }
 {
     let mut written = 0;
