@@ -15,7 +15,7 @@ abbrev pub Refuses : Bool → Option (List ℕ) → Option (List ℕ) → Option
 Refuses big input left old new e =
     IsAtEnd left × Keeps old new × IfSome input (λ bytes. ¬ (IsText big bytes) × IsErrorOf big bytes e)
 
--- a beginning of the bytes was written, all of them or none or some
+-- a beginning of the bytes was written, perhaps none or all of them
 abbrev pub AppendsBeginning : Option (List ℕ) → Option (List ℕ) → List ℕ → Type 0
 AppendsBeginning old new bytes = (n : ℕ) × Appends old new (take n bytes)
 
