@@ -102,23 +102,30 @@ fn a_range_of_a_users_own(rt: HostRuntime) -> Result<(), Fail> {
     )
 }
 
-// Both calls without a test, where `get` gave a part.
-fn taken_untested<E: Utf16Order>(rt: &impl Abort, text: WStr<E>, start: usize, end: usize) {
+// Both calls without a test, where `get` gave a part, as it must.
+fn taken_untested<E: Utf16Order>(
+    rt: &impl Abort,
+    text: WStr<E>,
+    start: usize,
+    end: usize,
+) -> Result<(), Fail> {
     let Some(part) = text.get(start..end) else {
-        return;
+        return Err(Fail::from("no part"));
     };
     assert!(rt; text.index(start..end) == part);
     assert!(rt; text.get_unchecked(start..end) == part);
+    Ok(())
 }
 
 #[test]
 fn test_wstr_slice(rt: HostRuntime) -> Result<(), Fail> {
     let text = WStr::from_utf16le(&HELLO)?;
-    if text.get(..).is_some() {
-        utf8_is(&rt, text.index(..), "hello")?;
+    if text.get(..).is_none() {
+        return Err(Fail::from("no part"));
     }
-    taken_untested(&rt, text, 2, 8);
-    taken_untested(&rt, WStr::from_utf16be(&[0, 0x61, 0xD8, 0, 0xDC, 0])?, 2, 6);
+    utf8_is(&rt, text.index(..), "hello")?;
+    taken_untested(&rt, text, 2, 8)?;
+    taken_untested(&rt, WStr::from_utf16be(&[0, 0x61, 0xD8, 0, 0xDC, 0])?, 2, 6)?;
     let Some(part) = text.get(2..8) else {
         return Err(Fail::from("no part"));
     };
@@ -168,20 +175,21 @@ fn test_wstr_from_utf16le(rt: HostRuntime) -> Result<(), Fail> {
     Ok(())
 }
 
-// The unchecked constructors, after the checked one's test.
-fn unchecked_is(rt: &impl Abort, little: &[u8], big: &[u8]) {
-    if WStr::from_utf16le(little).is_ok() {
-        assert_eq!(rt; WStr::from_utf16le_unchecked(little).as_bytes(), little);
+// The unchecked constructors, after the checked one took the bytes, as it must.
+fn unchecked_is(rt: &impl Abort, little: &[u8], big: &[u8]) -> Result<(), Fail> {
+    if WStr::from_utf16le(little).is_err() || WStr::from_utf16be(big).is_err() {
+        return Err(Fail::from("refused"));
     }
-    if WStr::from_utf16be(big).is_ok() {
-        assert_eq!(rt; WStr::from_utf16be_unchecked(big).as_bytes(), big);
-        assert_eq!(rt; WStr::<BE>::from_utf16_unchecked(big).as_bytes(), big);
-    }
+    assert_eq!(rt; WStr::from_utf16le_unchecked(little).as_bytes(), little);
+    assert_eq!(rt; WStr::<LE>::from_utf16_unchecked(little).as_bytes(), little);
+    assert_eq!(rt; WStr::from_utf16be_unchecked(big).as_bytes(), big);
+    assert_eq!(rt; WStr::<BE>::from_utf16_unchecked(big).as_bytes(), big);
+    Ok(())
 }
 
 #[test]
-fn test_wstr_from_utf16le_unchecked(rt: HostRuntime) {
-    unchecked_is(&rt, &[0x68, 0, 0x69, 0], &[0, 0x68, 0, 0x69]);
+fn test_wstr_from_utf16le_unchecked(rt: HostRuntime) -> Result<(), Fail> {
+    unchecked_is(&rt, &[0x68, 0, 0x69, 0], &[0, 0x68, 0, 0x69])
 }
 
 #[test]
