@@ -1,6 +1,7 @@
 -- Edits of a text at a boundary.
-use Rattle.std.specs.Prelude.{ℕ, List, ◌++◌, Option, drop, slice_get}
+use Rattle.std.specs.Prelude.{ℕ, ◌+◌, List, ◌++◌, Option, drop, slice_get}
 use Rattle.utf16_units.specs.Boundary.{text_from, text_to}
+use Rattle.utf16_units.specs.Encoding.{size}
 
 -- another text put in at i: what stands before i, then it, then what stands from i on
 abbrev pub insert_at : List ℕ → ℕ → List ℕ → List ℕ
@@ -24,3 +25,7 @@ split_front text i = text_to text i
 
 abbrev pub split_back : List ℕ → ℕ → List ℕ
 split_back text i = text_from text i
+
+-- another text put over as many bytes from i on: what stands before i, then it, then what stands behind those bytes
+abbrev pub overwrite_at : List ℕ → ℕ → List ℕ → List ℕ
+overwrite_at text i other = text_to text i ++ (other ++ text_from text (i + size other))

@@ -6,3 +6,4 @@ pub use Rattle.utf16_units.specs.Boundary
 pub mod Offsets
 pub mod Window
 pub mod WStr
+pub mod WString

@@ -203,7 +203,7 @@ fn count_chars<E: Utf16Order>(raw: &[u8]) -> usize
 
 // The first character of a text that is not empty, and how many bytes it takes.
 #[inline]
-fn first_char<E: Utf16Order>(raw: &[u8]) -> (char, usize)
+pub(crate) fn first_char<E: Utf16Order>(raw: &[u8]) -> (char, usize)
     requires text { IsText E.BIG raw.now }
     requires some { 0 < length raw.now }
     ensures size { result.1 ≡ char_size result.0 }

@@ -4,8 +4,11 @@
 mod iters;
 mod slicing;
 mod wstr;
+mod wstr_mut;
+mod wstring;
 
 pub use crate::iters::{WStrCharIndices, WStrChars};
 pub use crate::slicing::SliceIndex;
 pub use crate::wstr::WStr;
+pub use crate::wstring::WString;
 pub use utf16_units::{BE, BigEndian, LE, LittleEndian, Utf16Error, Utf16Order};

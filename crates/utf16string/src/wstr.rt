@@ -1,6 +1,6 @@
 //! A borrowed UTF-16 string.
 
-ghost use Rattle.std.specs.Prelude.{◌≡◌, ◌↔◌, ⊤, [], true, false, length, IsTrue, IsOk, IfOk, IfErr, IsSome, IfSome, Some, All, ◌<◌, ◌^◌, ℕ, List, nat_eq, encode_utf8_all, string_bytes};
+ghost use Rattle.std.specs.Prelude.{◌≡◌, ◌↔◌, ⊤, [], true, false, length, IsTrue, IsOk, IfOk, IfErr, IsSome, IfSome, Some, All, ◌+◌, ◌<◌, ◌^◌, ℕ, List, nat_eq, encode_utf8_all, string_bytes};
 ghost use Rattle.std.specs.Cmp.{on_equiv, on_per, partial_equiv_from_equiv};
 ghost use Rattle.std.specs.Cmp.Lexicographic.{nat_list_eq_equiv, pointwise};
 ghost use Rattle.std.specs.Cmp.Rules.{hashing};
@@ -148,6 +148,17 @@ impl<'a, E: Utf16Order> WStr<'a, E> {
         ensures { wstr_text result ≡ text_between (wstr_text self.entry) start end }
     {
         WStr::from_utf16_unchecked(&self.as_bytes()[start..end])
+    }
+
+    // Whether the offset and the one behind a text put there are both boundaries.
+    #[inline]
+    pub(crate) fn fits(self, idx: usize, text: WStr<E>) -> bool
+        ensures { IsTrue result ↔ (IsBoundary (wstr_text self.entry) idx × IsBoundary (wstr_text self.entry) (idx + size (wstr_text text.entry))) }
+    {
+        let Some(end) = idx.checked_add(text.len()) else {
+            return false;
+        };
+        self.is_char_boundary(idx) && self.is_char_boundary(end)
     }
 
     /// The bytes, the encoding of the text, for as long as they were lent.

@@ -1,0 +1,91 @@
+-- The bytes of an edited text are the edited bytes.
+use Rattle.std.proofs.Common.{◌≡◌, ℕ, ◌+◌, ◌<◌, ◌≤◌, Bool, true, List, [], ◌∷◌, ◌++◌, length, take, drop, Some, All, slice_get, refl, sym, ap, ◌∙◌, subst, arith, drop-drop, take_at, inl, inr, ⊎_elim}
+use Rattle.std.specs.List.{remove_range, splice}
+use Rattle.std.specs.Char.{IsScalar}
+use Rattle.utf16_units.specs.Boundary.{IsBoundary, text_from, text_to}
+use Rattle.utf16_units.specs.Edit.{char_at, insert_at, overwrite_at, push_text, remove_at}
+use Rattle.utf16_units.specs.Encoding.{char_bytes, char_size, encode, Encodes, IsText, is_text, size, text_of}
+use Rattle.utf16_units.proofs.BoundaryLemmas.{Encodes-from, Encodes-to, IsBoundary-within, text_to-front}
+use Rattle.utf16_units.proofs.CharLemmas.{length-char_bytes}
+use Rattle.std.proofs.lemmas.Bool.{cases_lt}
+use Rattle.std.proofs.lemmas.List.{take_all}
+use Rattle.std.proofs.lemmas.List.Elements.{All-cons, All-nil}
+use Rattle.utf16_units.proofs.EncodingLemmas.{Encodes-append, Encodes-text_of, IsText-from_Encodes, IsText-from_is_text, encode-one, is_text-from_IsText, length-text, text_of-Encodes}
+
+-- bytes that pass the test of `is_text` encode the text that they spell
+pub Encodes-checked : (big : Bool) (bytes : List ℕ) → is_text big bytes ≡ true → Encodes big (text_of big bytes) bytes
+Encodes-checked big bytes checked = Encodes-text_of big bytes (IsText-from_is_text big bytes checked)
+
+-- bytes that encode a text pass the test of `is_text`
+pub checked-Encodes : (big : Bool) (text bytes : List ℕ) → Encodes big text bytes → is_text big bytes ≡ true
+checked-Encodes big text bytes e = is_text-from_IsText big bytes (IsText-from_Encodes big text bytes e)
+
+pub Encodes-inserted : (big : Bool) (text bytes : List ℕ) (i : ℕ) (other more : List ℕ) → Encodes big text bytes → IsBoundary text i → Encodes big other more
+    → Encodes big (insert_at text i other) (splice bytes i i more)
+Encodes-inserted big text bytes i other more e b o =
+    Encodes-append big (text_to text i) (other ++ text_from text i) (take i bytes) (more ++ drop i bytes)
+    (Encodes-to big text bytes i e b)
+    (Encodes-append big other (text_from text i) more (drop i bytes) o (Encodes-from big text bytes i e b))
+
+pub Encodes-overwritten : (big : Bool) (text bytes : List ℕ) (i : ℕ) (other more : List ℕ) → Encodes big text bytes → IsBoundary text i
+    → IsBoundary text (i + size other) → Encodes big other more → Encodes big (overwrite_at text i other) (splice bytes i (i + size other) more)
+Encodes-overwritten big text bytes i other more e b behind o =
+    Encodes-append big (text_to text i) (other ++ text_from text (i + size other)) (take i bytes) (more ++ drop (i + size other) bytes)
+    (Encodes-to big text bytes i e b)
+    (Encodes-append big other (text_from text (i + size other)) more (drop (i + size other) bytes) o (Encodes-from big text bytes (i + size other) e behind))
+
+-- the character at a boundary, found at the front of the bytes from there on, and what is left without its n bytes
+pub char-found : (big : Bool) (text bytes : List ℕ) (i c n : ℕ) → Encodes big text bytes → IsBoundary text i
+    → text_of big (drop i bytes) ≡ c ∷ text_of big (drop n (drop i bytes)) → text_from text i ≡ c ∷ text_of big (drop n (drop i bytes))
+char-found big text bytes i c n e b first =
+    sym (text_of-Encodes big (text_from text i) (drop i bytes) (Encodes-from big text bytes i e b)) ∙ first
+
+pub char_at-found : (big : Bool) (text bytes : List ℕ) (i c n : ℕ) → Encodes big text bytes → IsBoundary text i
+    → text_of big (drop i bytes) ≡ c ∷ text_of big (drop n (drop i bytes)) → char_at text i ≡ Some c
+char_at-found big text bytes i c n e b first = ap (λ t. slice_get t 0) (char-found big text bytes i c n e b first)
+
+pub Encodes-removed : (big : Bool) (text bytes : List ℕ) (i c n : ℕ) → Encodes big text bytes → IsBoundary text i
+    → text_of big (drop i bytes) ≡ c ∷ text_of big (drop n (drop i bytes)) → IsText big (drop n (drop i bytes))
+    → Encodes big (remove_at text i) (remove_range bytes i (i + n))
+Encodes-removed big text bytes i c n e b first rest =
+    let found : drop 1 (text_from text i) ≡ text_of big (drop n (drop i bytes)) = ap (drop 1) (char-found big text bytes i c n e b first) in
+    let behind : Encodes big (text_of big (drop n (drop i bytes))) (drop (i + n) bytes) =
+    subst (Encodes big (text_of big (drop n (drop i bytes)))) (drop-drop n i bytes) (Encodes-text_of big (drop n (drop i bytes)) rest) in
+    Encodes-append big (text_to text i) (drop 1 (text_from text i)) (take i bytes) (drop (i + n) bytes)
+    (Encodes-to big text bytes i e b)
+    (subst (λ t. Encodes big t (drop (i + n) bytes)) (sym found) behind)
+
+-- a character's bytes, where they were written at the front of others
+pub Encodes-written : (big : Bool) (c n : ℕ) (buf rest : List ℕ) → IsScalar c → n ≡ char_size c → buf ≡ char_bytes big c ++ rest → Encodes big (c ∷ []) (take n buf)
+Encodes-written big c n buf rest scalar len written = record {
+  scalars = All-cons IsScalar c [] scalar (All-nil IsScalar);
+  spelled =
+      encode-one big c
+      ∙ sym (ap (take n) written ∙ take_at (char_bytes big c) rest n (length-char_bytes big c ∙ sym len));
+}
+
+pub Encodes-pushed : (big : Bool) (bytes other more : List ℕ) → is_text big bytes ≡ true → Encodes big other more
+    → Encodes big (push_text (text_of big bytes) other) (bytes ++ more)
+Encodes-pushed big bytes other more checked o = Encodes-append big (text_of big bytes) other bytes more (Encodes-checked big bytes checked) o
+
+-- a boundary is no further than the bytes
+pub boundary-within : (big : Bool) (bytes : List ℕ) (i : ℕ) → is_text big bytes ≡ true → IsBoundary (text_of big bytes) i → i ≤ length bytes
+boundary-within big bytes i checked b =
+    omega (arith, length-text big bytes (IsText-from_is_text big bytes checked), IsBoundary-within (text_of big bytes) i b)
+
+-- the bytes of a prefix
+pub Encodes-prefix : (big : Bool) (text bytes front back : List ℕ) (n : ℕ) → Encodes big text bytes → text ≡ front ++ back → n ≡ size front → Encodes big front (take n bytes)
+Encodes-prefix big text bytes front back n e split at =
+    let b : IsBoundary text n = record { front = front; back = back; split = sym split; offset = sym at } in
+    subst (λ t. Encodes big t (take n bytes)) (text_to-front text n b) (Encodes-to big text bytes n e b)
+
+-- a cut at a boundary below the length, or past all bytes
+pub cut-checked : (big : Bool) (bytes : List ℕ) (n : ℕ) → is_text big bytes ≡ true → (n < size (text_of big bytes) → IsBoundary (text_of big bytes) n)
+    → is_text big (take n bytes) ≡ true
+cut-checked big bytes n checked cut =
+    let long = length-text big bytes (IsText-from_is_text big bytes checked) in
+    ⊎_elim
+    (λ (before : n < size (text_of big bytes)).
+    checked-Encodes big (text_to (text_of big bytes) n) (take n bytes) (Encodes-to big (text_of big bytes) bytes n (Encodes-checked big bytes checked) (cut before)))
+    (λ (past : size (text_of big bytes) ≤ n). subst (λ b. is_text big b ≡ true) (sym (take_all n bytes (omega arith))) checked)
+    (cases_lt n (size (text_of big bytes)))

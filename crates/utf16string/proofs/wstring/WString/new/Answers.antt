@@ -1,0 +1,11 @@
+use Rattle.std.proofs.Common.{◌∙◌, ap, subst, sym}
+use Rattle.utf16_units.specs.Encoding.{IsText, text_of}
+use Rattle.utf16_units.proofs.EncodingLemmas.{IsText-nil, text_of-nil}
+use Rattle.utf16string.proofs.wstring.WString.new.Goals as goal
+
+pub from_utf16_unchecked-requires : goal.from_utf16_unchecked-requires
+from_utf16_unchecked-requires g c = subst (IsText g.E.Utf16Order.BIG) (sym c.new.ensures.items) (IsText-nil _)
+
+pub returns-clause-text : goal.returns-clause-text
+returns-clause-text g c =
+    ap (λ v. text_of g.E.Utf16Order.BIG v.items) c.from_utf16_unchecked.ensures ∙ ap (text_of g.E.Utf16Order.BIG) c.new.ensures.items ∙ text_of-nil _

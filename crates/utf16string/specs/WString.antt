@@ -1,0 +1,28 @@
+-- What a clause sees of a `WString`.
+use Rattle.std.specs.Prelude.{◌≡◌, ℕ, List}
+use Rattle.std.specs.Prelude.{Vec}
+use Rattle.std.specs.Vec.{vec_capacity, vec_items}
+use Rattle.utf16_units.specs.declared.order.Utf16Order.{Ghosts}
+use Rattle.utf16_units.specs.Encoding.{text_of}
+use Rattle.utf16string.specs.declared.wstring.WString.{WString}
+
+module _ {E Z : Type 0} {order : Ghosts E} where
+  -- `s.into_bytes()`
+  abbrev pub wstring_vec : WString E Z order → Vec ℕ Z
+  wstring_vec s = s.raw
+
+  -- `s.as_bytes()`
+  abbrev pub wstring_bytes : WString E Z order → List ℕ
+  wstring_bytes s = vec_items (wstring_vec s)
+
+  -- the characters of the string
+  abbrev pub wstring_text : WString E Z order → List ℕ
+  wstring_text s = text_of order.BIG (wstring_bytes s)
+
+  -- `s.capacity()`
+  abbrev pub wstring_capacity : WString E Z order → ℕ
+  wstring_capacity s = vec_capacity (wstring_vec s)
+
+  -- the string holds what it held, in as much room
+  abbrev pub IsUnchanged : WString E Z order → WString E Z order → Type 0
+  IsUnchanged old new = (wstring_bytes new ≡ wstring_bytes old) × (wstring_capacity new ≡ wstring_capacity old)

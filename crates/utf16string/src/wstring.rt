@@ -1,0 +1,312 @@
+//! An owned UTF-16 string.
+
+mod cuts;
+mod inserts;
+mod overwrites;
+mod room;
+
+ghost use Rattle.std.specs.Prelude.{◌≡◌, ◌↔◌, ℕ, [], length, IsTrue, IsOk, IfOk, IfErr, IsSome, IfSome, Some, All, ◌+◌, ◌<◌, ◌≤◌, ◌^◌, List, OnErr, OnOk, chars, nat_eq, encode_utf8_all, string_bytes, true, false};
+ghost use Rattle.std.specs.Cmp.{on_equiv, on_per, partial_equiv_from_equiv};
+ghost use Rattle.std.specs.Cmp.Lexicographic.{nat_list_eq_equiv, pointwise};
+ghost use Rattle.std.specs.Cmp.Rules.{hashing};
+ghost use Rattle.std.specs.Hash as fed;
+ghost use Rattle.std.specs.Iterator.{YieldsFirst, YieldsLast};
+ghost use Rattle.std.specs.Iterator.Runs.{YieldsInOrder, YieldsInReverse};
+ghost use Rattle.std.proofs.Common.{rules};
+ghost use Rattle.utf16_units.specs.Boundary.{IsBoundary};
+ghost use Rattle.utf16_units.specs.Encoding.{Encodes, IsText, is_text, size};
+ghost use Rattle.utf16_units.specs.Utf16Error.{IsErrorOf};
+ghost use Rattle.utf16string.specs.Offsets.{char_offsets};
+ghost use Rattle.utf16string.specs.WStr.{wstr_bytes, wstr_text};
+ghost use Rattle.utf16string.specs.Window.{IsWindowOf, window_text};
+
+use crate::{SliceIndex, WStr, WStrCharIndices, WStrChars};
+use std::alloc::{AllocError, Allocator, Global};
+use std::fmt;
+use std::hash::{Hash, Hasher};
+use std::marker::PhantomData;
+use utf16_units::{BigEndian, LittleEndian, Utf16Error, Utf16Order, validate_raw_utf16};
+
+/// An owned UTF-16 string in the byte order `E`, in memory of the allocator `A`. It always holds well-formed text. Lengths,
+/// offsets and capacities count bytes.
+#[derive(Drop)]
+pub struct WString<E: Utf16Order, A: Allocator = Global> {
+    pub(crate) raw: Vec<u8, A>,
+    order: PhantomData<E>,
+    ghost well_formed: { is_text E.BIG raw.items ≡ true },
+}
+
+impl<E: Utf16Order, A: Allocator> WString<E, A> {
+    ghost use Rattle.utf16string.specs.WString.{wstring_bytes, wstring_capacity, wstring_text, wstring_vec};
+
+    /// An empty string. It takes no memory and keeps the allocator for later.
+    #[inline]
+    pub fn new(alloc: A) -> Self
+        ensures text { wstring_text result ≡ [] }
+        ensures bytes { wstring_bytes result ≡ [] }
+    {
+        Self::from_utf16_unchecked(Vec::new(alloc))
+    }
+
+    /// An empty string with room for `capacity` bytes. The only error is a refused request for memory.
+    #[inline]
+    pub fn with_capacity(alloc: A, capacity: usize) -> Result<Self, AllocError>
+        ensures text { IfOk result (λ s. wstring_text s ≡ []) }
+        ensures bytes { IfOk result (λ s. wstring_bytes s ≡ []) }
+        ensures capacity { IfOk result (λ s. capacity ≤ wstring_capacity s) }
+    {
+        let buf = Vec::with_capacity(alloc, capacity)?;
+        Ok(Self::from_utf16_unchecked(buf))
+    }
+
+    /// Takes a vector as text, where its bytes are well formed in the order `E`. One pass over the bytes, no copy. Where
+    /// they are not, the vector is dropped.
+    #[inline]
+    pub fn from_utf16(buf: Vec<u8, A>) -> Result<Self, Utf16Error>
+        ensures text { IsOk result ↔ IsText E.BIG buf.items }
+        ensures vec { IfOk result (λ s. wstring_vec s ≡ buf) }
+        ensures error { IfErr result (IsErrorOf E.BIG buf.items) }
+    {
+        validate_raw_utf16::<E>(&buf)?;
+        Ok(Self::from_utf16_unchecked(buf))
+    }
+
+    /// Takes a vector as text without a test. Its bytes are well formed in the order `E`, which `from_utf16` tests.
+    #[inline]
+    pub fn from_utf16_unchecked(buf: Vec<u8, A>) -> Self
+        requires { IsText E.BIG buf.items }
+        ensures { wstring_vec result ≡ buf }
+    {
+        WString {
+            raw: buf,
+            order: PhantomData,
+        }
+    }
+
+    /// The bytes, the encoding of the text, in the string's own vector.
+    #[inline]
+    pub fn into_bytes(self) -> Vec<u8, A>
+        ensures vec { result ≡ wstring_vec self }
+        ensures encoding { Encodes E.BIG (wstring_text self) result.items }
+    {
+        self.raw
+    }
+
+    /// The whole text as a view.
+    #[inline]
+    pub fn as_wstr(&self) -> WStr<'_, E>
+        ensures bytes { wstr_bytes result ≡ wstring_bytes self.now }
+        ensures text { wstr_text result ≡ wstring_text self.now }
+    {
+        WStr::from_utf16_unchecked(&self.raw)
+    }
+
+    /// How many bytes fit without another request for memory, those held among them.
+    #[inline]
+    pub fn capacity(&self) -> usize
+        ensures room { result ≡ wstring_capacity self.now }
+        ensures held { length (wstring_bytes self.now) ≤ result }
+    {
+        self.raw.capacity()
+    }
+
+    /// How many bytes the text takes.
+    #[inline]
+    pub fn len(&self) -> usize
+        ensures bytes { result ≡ length (wstring_bytes self.now) }
+        ensures size { result ≡ size (wstring_text self.now) }
+    {
+        self.as_wstr().len()
+    }
+
+    /// Whether the text has no character.
+    #[inline]
+    pub fn is_empty(&self) -> bool
+        ensures { IsTrue result ↔ (wstring_text self.now ≡ []) }
+    {
+        self.as_wstr().is_empty()
+    }
+
+    /// The bytes, the encoding of the text.
+    #[inline]
+    pub fn as_bytes(&self) -> &[u8]
+        ensures bytes { result.now ≡ wstring_bytes self.now }
+        ensures encoding { Encodes E.BIG (wstring_text self.now) result.now }
+    {
+        self.as_wstr().as_bytes()
+    }
+
+    /// Whether a byte offset is a character boundary: the start, the end, or where one character ends and the next begins.
+    /// Any offset may be asked about.
+    #[inline]
+    pub fn is_char_boundary(&self, index: usize) -> bool
+        ensures { IsTrue result ↔ IsBoundary (wstring_text self.now) index }
+    {
+        self.as_wstr().is_char_boundary(index)
+    }
+
+    /// The part of a range, or `None` where its window is reversed, or an end is no character boundary.
+    #[inline]
+    pub fn get<I: SliceIndex<E>>(&self, index: I) -> Option<WStr<'_, E>>
+        ensures some { IsSome result ↔ IsWindowOf (wstring_text self.now) (I.window index (length (wstring_bytes self.now))) }
+        ensures part { IfSome result (λ part. wstr_text part ≡ window_text (wstring_text self.now) (I.window index (length (wstring_bytes self.now)))) }
+    {
+        self.as_wstr().get(index)
+    }
+
+    /// The part of a range, where there is one, as `get` tests.
+    #[inline]
+    pub fn get_unchecked<I: SliceIndex<E>>(&self, index: I) -> WStr<'_, E>
+        requires { IsWindowOf (wstring_text self.now) (I.window index (length (wstring_bytes self.now))) }
+        ensures { wstr_text result ≡ window_text (wstring_text self.now) (I.window index (length (wstring_bytes self.now))) }
+    {
+        self.as_wstr().get_unchecked(index)
+    }
+
+    /// The part of a range, where there is one, as `get` tests. It stands for brackets.
+    #[inline]
+    pub fn index<I: SliceIndex<E>>(&self, index: I) -> WStr<'_, E>
+        requires { IsWindowOf (wstring_text self.now) (I.window index (length (wstring_bytes self.now))) }
+        ensures { wstr_text result ≡ window_text (wstring_text self.now) (I.window index (length (wstring_bytes self.now))) }
+    {
+        self.as_wstr().index(index)
+    }
+
+    /// The characters, in order.
+    #[inline]
+    pub fn chars(&self) -> WStrChars<'_, E>
+        ensures text { result ≡ wstring_text self.now }
+        ensures bound { length result < 2 ^ 64 }
+        ensures runs { YieldsInOrder (YieldsFirst (λ (rest : List ℕ). rest)) (λ rest. rest) }
+        ensures runs_back { YieldsInReverse (YieldsLast (λ (rest : List ℕ). rest)) (λ rest. rest) }
+    {
+        self.as_wstr().chars()
+    }
+
+    /// The characters, in order, each beside its byte offset.
+    #[inline]
+    pub fn char_indices(&self) -> WStrCharIndices<'_, E>
+        ensures text { result ≡ char_offsets 0 (wstring_text self.now) }
+        ensures bound { length result < 2 ^ 64 }
+        ensures runs { YieldsInOrder (YieldsFirst (λ (rest : List (ℕ × ℕ)). rest)) (λ rest. rest) }
+        ensures runs_back { YieldsInReverse (YieldsLast (λ (rest : List (ℕ × ℕ)). rest)) (λ rest. rest) }
+    {
+        self.as_wstr().char_indices()
+    }
+
+    /// Whether every character is ASCII, below U+0080.
+    #[inline]
+    pub fn is_ascii(&self) -> bool
+        ensures { IsTrue result ↔ All (λ c. c < 0x80) (wstring_text self.now) }
+    {
+        self.as_wstr().is_ascii()
+    }
+
+    /// The same characters in UTF-8. The only error is a refused request for memory.
+    #[inline]
+    pub fn to_utf8<B: Allocator>(&self, alloc: B) -> Result<String<B>, AllocError>
+        ensures { IfOk result (λ s. string_bytes s ≡ encode_utf8_all (wstring_text self.now)) }
+    {
+        self.as_wstr().to_utf8(alloc)
+    }
+}
+
+impl<A: Allocator> WString<LittleEndian, A> {
+    ghost use Rattle.utf16string.specs.WString.{wstring_vec};
+
+    /// `from_utf16` in little endian.
+    #[inline]
+    pub fn from_utf16le(buf: Vec<u8, A>) -> Result<Self, Utf16Error>
+        ensures text { IsOk result ↔ IsText false buf.items }
+        ensures vec { IfOk result (λ s. wstring_vec s ≡ buf) }
+        ensures error { IfErr result (IsErrorOf false buf.items) }
+    {
+        WString::<LittleEndian, A>::from_utf16(buf)
+    }
+
+    /// `from_utf16_unchecked` in little endian.
+    #[inline]
+    pub fn from_utf16le_unchecked(buf: Vec<u8, A>) -> Self
+        requires { IsText false buf.items }
+        ensures { wstring_vec result ≡ buf }
+    {
+        WString::<LittleEndian, A>::from_utf16_unchecked(buf)
+    }
+}
+
+impl<A: Allocator> WString<BigEndian, A> {
+    ghost use Rattle.utf16string.specs.WString.{wstring_vec};
+
+    /// `from_utf16` in big endian.
+    #[inline]
+    pub fn from_utf16be(buf: Vec<u8, A>) -> Result<Self, Utf16Error>
+        ensures text { IsOk result ↔ IsText true buf.items }
+        ensures vec { IfOk result (λ s. wstring_vec s ≡ buf) }
+        ensures error { IfErr result (IsErrorOf true buf.items) }
+    {
+        WString::<BigEndian, A>::from_utf16(buf)
+    }
+
+    /// `from_utf16_unchecked` in big endian.
+    #[inline]
+    pub fn from_utf16be_unchecked(buf: Vec<u8, A>) -> Self
+        requires { IsText true buf.items }
+        ensures { wstring_vec result ≡ buf }
+    {
+        WString::<BigEndian, A>::from_utf16_unchecked(buf)
+    }
+}
+
+impl<E: Utf16Order, A: Allocator> fmt::Display for WString<E, A> {
+    ghost use Rattle.utf16string.specs.WString.{wstring_text};
+
+    // The characters one by one, whatever width and fill are asked for.
+    ghost output = { λ s. Some (encode_utf8_all (wstring_text s)) };
+
+    fn fmt<W: fmt::Write>(&self, f: &mut fmt::Formatter<W>) -> fmt::Result {
+        fmt::Display::fmt(&self.as_wstr(), f)
+    }
+}
+
+impl<E: Utf16Order, A: Allocator> fmt::Debug for WString<E, A> {
+    fn fmt<W: fmt::Write>(&self, f: &mut fmt::Formatter<W>) -> fmt::Result {
+        f.debug_struct("WString")
+            .field("raw", &self.as_bytes())
+            .finish()
+    }
+}
+
+impl<E: Utf16Order, A: Allocator> PartialEq for WString<E, A> {
+    ghost use Rattle.utf16string.specs.WString.{wstring_bytes, wstring_text};
+
+    ghost eq = { λ x y. pointwise nat_eq (wstring_bytes x) (wstring_bytes y) };
+
+    ghost laws = { on_per wstring_bytes (partial_equiv_from_equiv nat_list_eq_equiv) };
+
+    #[inline]
+    fn eq(&self, other: &Self) -> bool
+        ensures bytes { result ≡ pointwise nat_eq (wstring_bytes self.now) (wstring_bytes other.now) }
+        ensures texts { IsTrue result ↔ (wstring_text self.now ≡ wstring_text other.now) }
+    {
+        self.as_wstr() == other.as_wstr()
+    }
+}
+
+impl<E: Utf16Order, A: Allocator> Eq for WString<E, A> {
+    ghost use Rattle.utf16string.specs.WString.{wstring_bytes};
+
+    ghost laws = { on_equiv wstring_bytes nat_list_eq_equiv };
+}
+
+impl<E: Utf16Order, A: Allocator> Hash for WString<E, A> {
+    ghost use Rattle.utf16string.specs.WString.{wstring_bytes};
+
+    ghost hash_input = { λ s. fed.slice fed.u8 (wstring_bytes s) };
+
+    ghost respects_eq = { Prim.search (hashing, rules) };
+
+    #[inline]
+    fn hash<H: Hasher>(&self, state: &mut H) {
+        self.as_wstr().hash(state);
+    }
+}

@@ -1,0 +1,37 @@
+//! Texts written over a part of a string.
+
+ghost use Rattle.std.specs.Prelude.{◌≡◌, ◌↔◌, ◌+◌, IsTrue};
+ghost use Rattle.utf16_units.specs.Boundary.{IsBoundary};
+ghost use Rattle.utf16_units.specs.Edit.{overwrite_at};
+ghost use Rattle.utf16_units.specs.Encoding.{size};
+ghost use Rattle.utf16string.specs.WStr.{wstr_text};
+
+use crate::wstr_mut::overwrite_bytes;
+use crate::{WStr, WString};
+use std::alloc::Allocator;
+use utf16_units::Utf16Order;
+
+impl<E: Utf16Order, A: Allocator> WString<E, A> {
+    ghost use Rattle.utf16string.specs.WString.{wstring_capacity, wstring_text};
+
+    /// Whether a text can be written over as many bytes from a byte offset on: the offset and the one behind those bytes
+    /// are both character boundaries. Any offset may be asked about.
+    #[inline]
+    pub fn fits(&self, idx: usize, text: WStr<E>) -> bool
+        ensures { IsTrue result ↔ (IsBoundary (wstring_text self.now) idx × IsBoundary (wstring_text self.now) (idx + size (wstr_text text.entry))) }
+    {
+        self.as_wstr().fits(idx, text)
+    }
+
+    /// Writes a text over as many bytes from a byte offset on, as `fits` tests. All other bytes stay, and so does the
+    /// capacity.
+    #[inline]
+    pub fn overwrite(&mut self, idx: usize, text: WStr<E>)
+        requires start { IsBoundary (wstring_text self.old) idx }
+        requires end { IsBoundary (wstring_text self.old) (idx + size (wstr_text text)) }
+        ensures text { wstring_text self.new ≡ overwrite_at (wstring_text self.old) idx (wstr_text text.entry) }
+        ensures capacity { wstring_capacity self.new ≡ wstring_capacity self.old }
+    {
+        overwrite_bytes(self.raw.as_mut_slice(), idx, text.as_bytes());
+    }
+}
