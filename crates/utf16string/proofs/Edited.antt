@@ -1,5 +1,6 @@
 -- Bytes after a call that edits them, or is refused and leaves them.
-use Rattle.std.proofs.Common.{◌≡◌, ℕ, Bool, true, List, Result, Ok, Err, OnOk, OnErr, sym, ap, subst, ◌∙◌}
+use Rattle.std.proofs.Common.{◌≡◌, ℕ, Bool, true, List, Result, Ok, Err, OnOk, OnErr, drop, length, sym, ap, subst, take_at, ◌∙◌}
+use Rattle.std.specs.List.{refill}
 use Rattle.utf16_units.specs.Encoding.{Encodes, is_text, text_of}
 use Rattle.utf16_units.proofs.EditLemmas.{checked-Encodes}
 use Rattle.utf16_units.proofs.EncodingLemmas.{text_of-Encodes}
@@ -15,3 +16,7 @@ module _ {X Y : Type 0} (big : Bool) (new edited more : List ℕ) where
   pub edited_text : (r : Result X Y) → Encodes big edited more → OnOk r (new ≡ more) → OnOk r (text_of big new ≡ edited)
   edited_text (Ok x) e ok = ap (text_of big) ok ∙ text_of-Encodes big edited more e
   edited_text (Err y) e ok = tt
+
+-- a vector whose elements were lent and all written holds what was written
+pub written_back : (bytes new : List ℕ) (n : ℕ) → n ≡ length bytes → length new ≡ length bytes → refill n bytes new ≡ new
+written_back bytes new n len same = take_at new (drop (length new) bytes) n (same ∙ sym len)

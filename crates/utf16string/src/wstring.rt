@@ -4,6 +4,7 @@ mod cuts;
 mod inserts;
 mod overwrites;
 mod room;
+mod utf8;
 
 ghost use Rattle.std.specs.Prelude.{◌≡◌, ◌↔◌, ℕ, [], length, IsTrue, IsOk, IfOk, IfErr, IsSome, IfSome, Some, All, ◌+◌, ◌<◌, ◌≤◌, ◌^◌, List, OnErr, OnOk, chars, nat_eq, encode_utf8_all, string_bytes, true, false};
 ghost use Rattle.std.specs.Cmp.{on_equiv, on_per, partial_equiv_from_equiv};

@@ -6,13 +6,10 @@ use Rattle.utf16_units.proofs.EditLemmas.{Encodes-checked, Encodes-overwritten, 
 use Rattle.utf16_units.proofs.EncodingLemmas.{IsText-from_Encodes, length-text, text_of-Encodes}
 use Rattle.utf16string.specs.WStr.{wstr_bytes, wstr_text}
 use Rattle.utf16string.specs.WString.{wstring_bytes, wstring_text}
+use Rattle.utf16string.proofs.Edited.{written_back}
 use Rattle.utf16string.proofs.wstring.WString.overwrite.Given.{Over}
 use Rattle.utf16string.proofs.wstring.WString.overwrite.Goals as goal
 use Rattle.utf16string.proofs.wstring.WString.overwrite.Goals.{After-overwrite_bytes}
-
--- written back, the bytes are the vector's as they are
-written : (bytes new : List ℕ) (n : ℕ) → n ≡ length bytes → length new ≡ length bytes → refill n bytes new ≡ new
-written bytes new n len same = take_at new (drop (length new) bytes) n (same ∙ sym len)
 
 module _ (g : Over) (c : After-overwrite_bytes g) where
   over : Encodes g.E.Utf16Order.BIG (overwrite_at (wstring_text c.args.self.now) c.args.idx (wstr_text c.args.text)) c.overwrite_bytes.new.raw
@@ -26,7 +23,7 @@ module _ (g : Over) (c : After-overwrite_bytes g) where
       (Encodes-overwritten _ _ _ _ _ _ (Encodes-checked _ _ c.args.self.now.well_formed) c.requires.start c.requires.end c.as_bytes.ensures.encoding)
 
   back : refill c.args.self.now.raw.len (wstring_bytes c.args.self.now) c.overwrite_bytes.new.raw ≡ c.overwrite_bytes.new.raw
-  back = written (wstring_bytes c.args.self.now) c.overwrite_bytes.new.raw c.args.self.now.raw.len c.args.self.now.raw.ok.0 (c.overwrite_bytes.ensures.len ∙ ap length c.as_mut_slice.ensures.value)
+  back = written_back (wstring_bytes c.args.self.now) c.overwrite_bytes.new.raw c.args.self.now.raw.len c.args.self.now.raw.ok.0 (c.overwrite_bytes.ensures.len ∙ ap length c.as_mut_slice.ensures.value)
 
 pub overwrite_bytes-requires : goal.overwrite_bytes-requires
 overwrite_bytes-requires g c =

@@ -1,0 +1,225 @@
+//! An allocator for tests, which passes calls on to an inner one and refuses the requests for memory that it is told to.
+
+use std::alloc::{AllocError, Allocator};
+use std::cell::Cell;
+
+// Which requests are refused, counted from 0.
+#[derive(Clone, Copy)]
+enum Refused {
+    None,
+    One(u64),
+    From(u64),
+}
+
+// What to refuse, and what happened since that was set.
+#[derive(Clone, Copy)]
+struct Plan {
+    refused: Refused,
+    requests: u64,
+    refusals: u64,
+}
+
+impl Plan {
+    fn new(refused: Refused) -> Plan {
+        Plan {
+            refused,
+            requests: 0,
+            refusals: 0,
+        }
+    }
+}
+
+/// An allocator that passes each call on to an inner one, except the requests for memory that it is told to refuse. To grow
+/// or to shrink a block is a request too. A test makes its values over a `&` to it, and then says what it refuses.
+pub struct Refusing<B: Allocator> {
+    inner: B,
+    plan: Cell<Plan>,
+}
+
+impl<B: Allocator> Refusing<B> {
+    /// An allocator over `inner` that refuses nothing yet.
+    pub fn new(inner: B) -> Refusing<B> {
+        Refusing {
+            inner,
+            plan: Cell::new(Plan::new(Refused::None)),
+        }
+    }
+
+    /// From now on the `k`-th request is refused, where 0 is the next, and no other. Both counts start anew.
+    pub fn refuse_one(&self, k: u64) {
+        self.plan.set(Plan::new(Refused::One(k)));
+    }
+
+    /// From now on the `k`-th request is refused, where 0 is the next, and all after it. Both counts start anew.
+    pub fn refuse_from(&self, k: u64) {
+        self.plan.set(Plan::new(Refused::From(k)));
+    }
+
+    /// From now on no request is refused. Both counts start anew.
+    pub fn refuse_none(&self) {
+        self.plan.set(Plan::new(Refused::None));
+    }
+
+    /// How many requests came since the counts started.
+    pub fn requests(&self) -> u64 {
+        self.plan.get().requests
+    }
+
+    /// How many requests were refused since the counts started.
+    pub fn refusals(&self) -> u64 {
+        self.plan.get().refusals
+    }
+}
+
+impl<B: Allocator> Drop for Refusing<B> {
+    fn drop(self) {
+        let Self { inner: _, plan: _ } = self;
+    }
+}
+
+// Whether the request that comes now is refused. It is counted.
+fn refuses(plan: &Cell<Plan>) -> bool {
+    let before = plan.get();
+    let is_refused = match before.refused {
+        Refused::None => false,
+        Refused::One(k) => before.requests == k,
+        Refused::From(k) => k <= before.requests,
+    };
+    plan.set(Plan {
+        refused: before.refused,
+        requests: before.requests.saturating_add(1),
+        refusals: before.refusals.saturating_add(is_refused as u64),
+    });
+    is_refused
+}
+
+unsafe impl<B: Allocator> Allocator for Refusing<B> {
+    ghost dealloc_token = { λ heap ty ptr. B.dealloc_token heap.inner ty ptr };
+
+    fn allocate(&self, size: usize, align: usize) -> Result<*mut u8, AllocError> {
+        if refuses(&self.plan) {
+            return Err(AllocError);
+        }
+        self.inner.allocate(size, align)
+    }
+
+    unsafe fn deallocate(&self, ptr: *mut u8, size: usize, align: usize) {
+        self.inner.deallocate(ptr, size, align);
+    }
+}
+
+#[cfg(test)]
+mod tests {
+    use super::Refusing;
+    use std::alloc::{AllocError, Allocator};
+    use std::test::Fail;
+
+    #[test]
+    fn a_request_is_refused_or_given(rt: HostRuntime) -> Result<(), Fail> {
+        let heap = Refusing::new(rt.alloc());
+        heap.refuse_one(0);
+        assert!(rt; Vec::<u8, _>::with_capacity(&heap, 4).is_err());
+        assert_eq!(rt; (heap.requests(), heap.refusals()), (1, 1));
+        heap.refuse_one(1);
+        assert!(rt; Vec::<u8, _>::with_capacity(&heap, 4).is_ok());
+        assert_eq!(rt; (heap.requests(), heap.refusals()), (1, 0));
+        Ok(())
+    }
+
+    #[test]
+    fn only_one_request_is_refused(rt: HostRuntime) -> Result<(), Fail> {
+        let heap = Refusing::new(rt.alloc());
+        heap.refuse_one(1);
+        for (index, is_given) in [(0, true), (1, false), (2, true)] {
+            assert_eq!(rt; Box::new(&heap, 7).is_ok(), is_given, "request {index}");
+        }
+        assert_eq!(rt; (heap.requests(), heap.refusals()), (3, 1));
+        Ok(())
+    }
+
+    #[test]
+    fn all_requests_from_one_on_are_refused(rt: HostRuntime) -> Result<(), Fail> {
+        let heap = Refusing::new(rt.alloc());
+        heap.refuse_from(1);
+        for (index, is_given) in [(0, true), (1, false), (2, false)] {
+            assert_eq!(rt; Box::new(&heap, 7).is_ok(), is_given, "request {index}");
+        }
+        assert_eq!(rt; (heap.requests(), heap.refusals()), (3, 2));
+        Ok(())
+    }
+
+    #[test]
+    fn a_vec_that_may_not_grow_keeps_its_elements(rt: HostRuntime) -> Result<(), Fail> {
+        let heap = Refusing::new(rt.alloc());
+        let mut numbers = Vec::with_capacity(&heap, 2)?;
+        numbers.push(3)?;
+        numbers.push(5)?;
+        heap.refuse_from(0);
+        assert!(rt; numbers.reserve(100).is_err());
+        assert_eq!(rt; numbers.as_slice(), [3, 5].as_slice());
+        heap.refuse_none();
+        numbers.reserve(100)?;
+        assert!(rt; 102 <= numbers.capacity());
+        assert_eq!(rt; numbers.as_slice(), [3, 5].as_slice());
+        assert_eq!(rt; (heap.requests(), heap.refusals()), (1, 0));
+        Ok(())
+    }
+
+    #[test]
+    fn growing_and_shrinking_are_requests(rt: HostRuntime) -> Result<(), Fail> {
+        let heap = Refusing::new(rt.alloc());
+        let mut numbers = Vec::with_capacity(&heap, 2)?;
+        numbers.push(3)?;
+        numbers.reserve(100)?;
+        assert_eq!(rt; heap.requests(), 2);
+        heap.refuse_one(0);
+        numbers.shrink_to_fit();
+        assert_eq!(rt; (heap.requests(), heap.refusals()), (1, 1));
+        assert!(rt; 101 <= numbers.capacity());
+        numbers.shrink_to_fit();
+        assert_eq!(rt; (heap.requests(), heap.refusals()), (2, 1));
+        assert_eq!(rt; numbers.capacity(), 1);
+        assert_eq!(rt; numbers.as_slice(), [3].as_slice());
+        Ok(())
+    }
+
+    #[test]
+    fn a_handle_is_cloned(rt: HostRuntime) -> Result<(), Fail> {
+        let heap = Refusing::new(rt.alloc());
+        let text = String::from_str(&heap, "text")?;
+        let numbers = vec![in &heap; 3, 5]?;
+        heap.refuse_one(0);
+        assert!(rt; text.clone().is_err());
+        assert_eq!(rt; text.clone()?.as_str(), "text");
+        heap.refuse_one(0);
+        assert!(rt; numbers.clone().is_err());
+        assert_eq!(rt; numbers.clone()?.as_slice(), [3, 5].as_slice());
+        Ok(())
+    }
+
+    #[test]
+    fn each_request_of_a_call_is_refused_in_turn(rt: HostRuntime) -> Result<(), Fail> {
+        let heap = Refusing::new(rt.alloc());
+        for k in 0..10 {
+            heap.refuse_none();
+            let mut text = String::from_str(&heap, "text")?;
+            heap.refuse_one(k);
+            let doubled = double(&mut text);
+            if heap.refusals() == 0 {
+                assert!(rt; doubled.is_ok());
+                assert_eq!(rt; text.as_str(), "texttext");
+                assert_eq!(rt; k, 2);
+                return Ok(());
+            }
+            assert!(rt; doubled.is_err(), "request {k}");
+            assert_eq!(rt; text.as_str(), "text", "request {k}");
+        }
+        Err(Fail::new("no run met no refusal"))
+    }
+
+    // It makes two requests: for the copy, and to grow.
+    fn double<A: Allocator + Clone>(text: &mut String<A>) -> Result<(), AllocError> {
+        let copy = text.clone()?;
+        text.push_str(copy.as_str())
+    }
+}
