@@ -7,3 +7,4 @@ pub mod Offsets
 pub mod Window
 pub mod WStr
 pub mod WString
+pub mod WStrMut

@@ -10,5 +10,6 @@ mod wstring;
 pub use crate::iters::{WStrCharIndices, WStrChars};
 pub use crate::slicing::SliceIndex;
 pub use crate::wstr::WStr;
+pub use crate::wstr_mut::WStrMut;
 pub use crate::wstring::WString;
 pub use utf16_units::{BE, BigEndian, LE, LittleEndian, Utf16Error, Utf16Order};
