@@ -1,10 +1,10 @@
 -- The bytes of an edited text are the edited bytes.
-use Rattle.std.proofs.Common.{◌≡◌, ℕ, ◌+◌, ◌<◌, ◌≤◌, Bool, true, List, [], ◌∷◌, ◌++◌, length, take, drop, Some, All, slice_get, refl, sym, ap, ◌∙◌, subst, arith, drop-drop, take_at, inl, inr, ⊎_elim}
+use Rattle.std.proofs.Common.{◌≡◌, ℕ, ◌+◌, ◌<◌, ◌≤◌, Bool, true, List, [], ◌∷◌, ◌++◌, length, take, drop, Some, slice_get, sym, ap, ◌∙◌, subst, arith, drop-drop, take_at, ⊎_elim}
 use Rattle.std.specs.List.{remove_range, splice}
 use Rattle.std.specs.Char.{IsScalar}
 use Rattle.utf16_units.specs.Boundary.{IsBoundary, text_from, text_to}
 use Rattle.utf16_units.specs.Edit.{char_at, insert_at, overwrite_at, push_text, remove_at}
-use Rattle.utf16_units.specs.Encoding.{char_bytes, char_size, encode, Encodes, IsText, is_text, size, text_of}
+use Rattle.utf16_units.specs.Encoding.{char_bytes, char_size, Encodes, IsText, is_text, size, text_of}
 use Rattle.utf16_units.proofs.BoundaryLemmas.{Encodes-from, Encodes-to, IsBoundary-within, text_to-front}
 use Rattle.utf16_units.proofs.CharLemmas.{length-char_bytes}
 use Rattle.std.proofs.lemmas.Bool.{cases_lt}

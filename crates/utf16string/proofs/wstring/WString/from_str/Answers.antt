@@ -2,7 +2,7 @@ use Rattle.std.proofs.Common.{◌≡◌, ◌∙◌, ap, arith, length, subst, sy
 use Rattle.std.proofs.lemmas.Str.{scalars-chars}
 use Rattle.std.specs.List.{refill}
 use Rattle.std.specs.Str.{chars}
-use Rattle.utf16_units.specs.Encoding.{IsText, encode, size, text_of}
+use Rattle.utf16_units.specs.Encoding.{IsText, encode, text_of}
 use Rattle.utf16_units.proofs.EncodingLemmas.{All-from_all_scalars, IsText-encode, length-encode, text_of-encode}
 use Rattle.utf16string.proofs.Edited.{written_back}
 use Rattle.utf16string.proofs.wstring.WString.from_str.Given.{Over}

@@ -1,4 +1,4 @@
-use Rattle.std.proofs.Common.{◌∙◌, [], ◌∷◌, arith, drop, take}
+use Rattle.std.proofs.Common.{[], ◌∷◌, arith, take}
 use Rattle.std.specs.List.{splice}
 use Rattle.std.proofs.lemmas.Result.{on_err_weaker}
 use Rattle.utf16_units.specs.Edit.{insert_at}

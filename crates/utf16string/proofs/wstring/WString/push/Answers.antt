@@ -1,4 +1,4 @@
-use Rattle.std.proofs.Common.{[], ◌∷◌, ◌++◌, drop, take}
+use Rattle.std.proofs.Common.{[], ◌∷◌, ◌++◌, take}
 use Rattle.std.proofs.lemmas.Result.{on_err_weaker}
 use Rattle.utf16_units.specs.Edit.{push_text}
 use Rattle.utf16_units.specs.Encoding.{Encodes}

@@ -1,12 +1,11 @@
-use Rattle.std.proofs.Common.{◌≡◌, ◌+◌, ◌-◌, ◌∙◌, ◌≤◌, List, ℕ, ap, arith, drop, length, length-drop, length-take, map-id, refl, sym, take}
+use Rattle.std.proofs.Common.{◌≡◌, ◌-◌, ◌∙◌, ◌≤◌, List, ℕ, ap, arith, drop, length, length-drop, map-id, refl, sym}
 use Rattle.std.proofs.lemmas.Iterator.{YieldsList-from_chars}
 use Rattle.std.proofs.lemmas.Iterator.Consumers.{YieldsList-end, YieldsList-turn}
 use Rattle.std.proofs.lemmas.List.{take_all}
 use Rattle.std.specs.Str.{chars}
-use Rattle.utf16_units.specs.Encoding.{char_size, encode, size}
+use Rattle.utf16_units.specs.Encoding.{encode, size}
 use Rattle.utf16_units.proofs.EncodingLemmas.{encode-nil, size-nil}
 use Rattle.utf16string.proofs.Utf8Lemmas.{IsBeginningOf, beginning-more, size-beginning, size-push, written-more}
-use Rattle.utf16string.proofs.wstring.utf8.write_chars.Given.{Over}
 use Rattle.utf16string.proofs.wstring.utf8.write_chars.Goals as goal
 
 -- what was written stands in the buffer
