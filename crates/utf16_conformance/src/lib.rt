@@ -9,8 +9,11 @@ mod faults;
 mod iterators;
 #[cfg(test)]
 mod law_callers;
+pub mod edits;
 pub mod laws;
 pub mod ranges;
+#[cfg(test)]
+mod refusing;
 #[cfg(test)]
 mod units;
 #[cfg(test)]

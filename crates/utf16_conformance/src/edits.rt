@@ -1,0 +1,104 @@
+//! Edits behind the tests of their conditions, by public calls alone: what a caller writes, and what it then knows.
+
+ghost use Rattle.std.specs.Prelude.{◌≡◌, ◌+◌, [], ◌∷◌, length, false, true, Ok, Some, IfOk, IfSome, IsNone, IsTrue, OnErr};
+ghost use Rattle.std.specs.List.{splice};
+ghost use Rattle.utf16_units.specs.Boundary.{text_to};
+ghost use Rattle.utf16_units.specs.Edit.{char_at, insert_at, overwrite_at, remove_at, split_back, split_front};
+ghost use Rattle.utf16string.specs.WStr.{wstr_bytes, wstr_text};
+ghost use Rattle.utf16string.specs.WString.{wstring_text};
+
+use std::alloc::{AllocError, Allocator};
+use utf16string::{Utf16Error, Utf16Order, WStr, WStrMut, WString};
+
+/// Puts a text in at an offset, where that is a character boundary: whether it is.
+pub fn inserted<E: Utf16Order, A: Allocator>(
+    text: &mut WString<E, A>,
+    idx: usize,
+    part: WStr<E>,
+) -> Result<bool, AllocError>
+    ensures put { result ≡ Ok true → wstring_text text.new ≡ insert_at (wstring_text text.old) idx (wstr_text part.entry) }
+    ensures kept { result ≡ Ok false → wstring_text text.new ≡ wstring_text text.old }
+    ensures refused { OnErr result (wstring_text text.new ≡ wstring_text text.old) }
+{
+    if !text.is_char_boundary(idx) {
+        return Ok(false);
+    }
+    text.insert_wstr(idx, part)?;
+    Ok(true)
+}
+
+/// Takes out the character at an offset, where one begins there.
+pub fn removed<E: Utf16Order, A: Allocator>(text: &mut WString<E, A>, idx: usize) -> Option<char>
+    ensures char { IfSome result (λ c. char_at (wstring_text text.old) idx ≡ Some c) }
+    ensures cut { IfSome result (λ _. wstring_text text.new ≡ remove_at (wstring_text text.old) idx) }
+    ensures kept { IsNone result → wstring_text text.new ≡ wstring_text text.old }
+{
+    if idx < text.len() && text.is_char_boundary(idx) {
+        Some(text.remove(idx))
+    } else {
+        None
+    }
+}
+
+/// Keeps the front up to an offset, where that is a character boundary or past the text: whether it is.
+pub fn truncated<E: Utf16Order, A: Allocator>(text: &mut WString<E, A>, len: usize) -> bool
+    ensures kept { result ≡ false → wstring_text text.new ≡ wstring_text text.old }
+{
+    let cuts = text.len() <= len || text.is_char_boundary(len);
+    if cuts {
+        text.truncate(len);
+    }
+    cuts
+}
+
+/// Takes off the part from an offset on, where that is a character boundary.
+pub fn split<E: Utf16Order, A: Allocator + Clone>(
+    text: &mut WString<E, A>,
+    at: usize,
+) -> Result<Option<WString<E, A>>, AllocError>
+    ensures front { IfOk result (λ back. IfSome back (λ _. wstring_text text.new ≡ split_front (wstring_text text.old) at)) }
+    ensures back { IfOk result (λ back. IfSome back (λ back. wstring_text back ≡ split_back (wstring_text text.old) at)) }
+    ensures refused { OnErr result (wstring_text text.new ≡ wstring_text text.old) }
+{
+    if !text.is_char_boundary(at) {
+        return Ok(None);
+    }
+    Ok(Some(text.split_off(at)?))
+}
+
+/// Writes a text over as many bytes from an offset on, where it fits there: whether it does.
+pub fn overwritten<E: Utf16Order, A: Allocator>(
+    text: &mut WString<E, A>,
+    idx: usize,
+    part: WStr<E>,
+) -> bool
+    ensures over { IsTrue result → wstring_text text.new ≡ overwrite_at (wstring_text text.old) idx (wstr_text part.entry) }
+    ensures kept { result ≡ false → wstring_text text.new ≡ wstring_text text.old }
+{
+    let fits = text.fits(idx, part);
+    if fits {
+        text.overwrite(idx, part);
+    }
+    fits
+}
+
+/// The same in the caller's bytes, where they are text: once the view has ended they are its bytes, and after a refusal
+/// they are as they were. The bytes are tested before they are lent: of bytes lent into a `Result`, a caller's proof
+/// knows the length alone.
+pub fn overwritten_in_place<E: Utf16Order>(
+    buf: &mut [u8],
+    idx: usize,
+    part: WStr<E>,
+) -> Result<bool, Utf16Error>
+    ensures over { result ≡ Ok true → buf.new ≡ splice buf.old idx (idx + length (wstr_bytes part.entry)) (wstr_bytes part.entry) }
+    ensures kept { result ≡ Ok false → buf.new ≡ buf.old }
+    ensures refused { OnErr result (buf.new ≡ buf.old) }
+{
+    WStr::<E>::from_utf16(buf)?;
+    let mut view = WStrMut::<E>::from_utf16_unchecked(buf);
+    let fits = view.fits(idx, part);
+    if fits {
+        view.overwrite(idx, part);
+    }
+    Ok(fits)
+}
