@@ -3,17 +3,21 @@
 
 #[cfg(test)]
 mod characters;
+pub mod edits;
 #[cfg(test)]
 mod faults;
 #[cfg(test)]
 mod iterators;
 #[cfg(test)]
 mod law_callers;
-pub mod edits;
 pub mod laws;
 pub mod ranges;
 #[cfg(test)]
+mod refusals;
+#[cfg(test)]
 mod refusing;
+#[cfg(test)]
+mod strings;
 #[cfg(test)]
 mod units;
 #[cfg(test)]
@@ -21,3 +25,5 @@ mod views;
 pub mod walks;
 #[cfg(test)]
 mod worked;
+#[cfg(test)]
+mod writing;

@@ -31,7 +31,7 @@ fn part_is<I: SliceIndex<LE> + Drop>(
     Ok(())
 }
 
-fn utf8_is<E: Utf16Order>(
+pub fn utf8_is<E: Utf16Order>(
     rt: &(impl Abort + AllocGlobal),
     text: WStr<E>,
     wanted: &str,

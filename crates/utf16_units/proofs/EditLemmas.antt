@@ -56,13 +56,15 @@ Encodes-removed big text bytes i c n e b first rest =
     (subst (λ t. Encodes big t (drop (i + n) bytes)) (sym found) behind)
 
 -- a character's bytes, where they were written at the front of others
+pub take-written : (big : Bool) (c n : ℕ) (buf rest : List ℕ) → n ≡ char_size c → buf ≡ char_bytes big c ++ rest → take n buf ≡ char_bytes big c
+take-written big c n buf rest len written = ap (take n) written ∙ take_at (char_bytes big c) rest n (length-char_bytes big c ∙ sym len)
+
+pub Encodes-char : (big : Bool) (c : ℕ) → IsScalar c → Encodes big (c ∷ []) (char_bytes big c)
+Encodes-char big c scalar = record { scalars = All-cons IsScalar c [] scalar (All-nil IsScalar); spelled = encode-one big c }
+
 pub Encodes-written : (big : Bool) (c n : ℕ) (buf rest : List ℕ) → IsScalar c → n ≡ char_size c → buf ≡ char_bytes big c ++ rest → Encodes big (c ∷ []) (take n buf)
-Encodes-written big c n buf rest scalar len written = record {
-  scalars = All-cons IsScalar c [] scalar (All-nil IsScalar);
-  spelled =
-      encode-one big c
-      ∙ sym (ap (take n) written ∙ take_at (char_bytes big c) rest n (length-char_bytes big c ∙ sym len));
-}
+Encodes-written big c n buf rest scalar len written =
+    subst (Encodes big (c ∷ [])) (sym (take-written big c n buf rest len written)) (Encodes-char big c scalar)
 
 pub Encodes-pushed : (big : Bool) (bytes other more : List ℕ) → is_text big bytes ≡ true → Encodes big other more
     → Encodes big (push_text (text_of big bytes) other) (bytes ++ more)

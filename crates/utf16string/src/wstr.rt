@@ -69,11 +69,12 @@ impl<'a, E: Utf16Order> WStr<'a, E> {
         }
     }
 
-    /// How many bytes the text takes.
+    /// How many bytes the text takes. It is a character boundary.
     #[inline]
     pub fn len(&self) -> usize
         ensures bytes { result ≡ length (wstr_bytes self.now) }
         ensures size { result ≡ size (wstr_text self.now) }
+        ensures end { IsBoundary (wstr_text self.now) result }
     {
         self.as_bytes().len()
     }

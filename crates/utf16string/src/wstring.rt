@@ -111,11 +111,12 @@ impl<E: Utf16Order, A: Allocator> WString<E, A> {
         self.raw.capacity()
     }
 
-    /// How many bytes the text takes.
+    /// How many bytes the text takes. It is a character boundary.
     #[inline]
     pub fn len(&self) -> usize
         ensures bytes { result ≡ length (wstring_bytes self.now) }
         ensures size { result ≡ size (wstring_text self.now) }
+        ensures end { IsBoundary (wstring_text self.now) result }
     {
         self.as_wstr().len()
     }

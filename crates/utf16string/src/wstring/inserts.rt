@@ -5,7 +5,7 @@ ghost use Rattle.std.specs.List.{splice};
 ghost use Rattle.std.specs.Vec.{VecUnchanged, vec_capacity, vec_len};
 ghost use Rattle.utf16_units.specs.Boundary.{IsBoundary};
 ghost use Rattle.utf16_units.specs.Edit.{insert_at, push_text};
-ghost use Rattle.utf16_units.specs.Encoding.{char_size, size};
+ghost use Rattle.utf16_units.specs.Encoding.{char_bytes, char_size, size};
 ghost use Rattle.utf16string.specs.WStr.{wstr_bytes, wstr_text};
 
 use crate::{WStr, WString};
@@ -24,9 +24,7 @@ impl<E: Utf16Order, A: Allocator> WString<E, A> {
         ensures room { length (wstring_bytes self.old) + char_size ch ≤ wstring_capacity self.old → IsOk result }
         ensures grows { wstring_capacity self.old ≤ wstring_capacity self.new }
     {
-        let mut units = [0; 4];
-        let len = ch.encode_utf16_into::<E>(&mut units);
-        append(&mut self.raw, &units[..len])
+        push_char::<E, A>(&mut self.raw, ch)
     }
 
     /// Puts a text last. The only error is a refused request for memory; it leaves the string as it was. One copy of the
@@ -65,6 +63,22 @@ impl<E: Utf16Order, A: Allocator> WString<E, A> {
         ensures grows { wstring_capacity self.old ≤ wstring_capacity self.new }
     {
         insert_bytes(&mut self.raw, idx, string.as_bytes())
+    }
+}
+
+// Puts a character's bytes last. The two sizes are told apart, so that each copy is of a size known beforehand.
+#[inline]
+fn push_char<E: Utf16Order, A: Allocator>(raw: &mut Vec<u8, A>, ch: char) -> Result<(), AllocError>
+    ensures items { OnOk result (raw.new.items ≡ raw.old.items ++ char_bytes E.BIG ch) }
+    ensures refused { OnErr result (VecUnchanged raw.old raw.new × (vec_capacity raw.new ≡ vec_capacity raw.old)) }
+    ensures room { vec_len raw.old + char_size ch ≤ vec_capacity raw.old → IsOk result }
+    ensures grows { vec_capacity raw.old ≤ vec_capacity raw.new }
+{
+    let mut units = [0; 4];
+    if ch.encode_utf16_into::<E>(&mut units) == 2 {
+        append(raw, &units[..2])
+    } else {
+        append(raw, &units)
     }
 }
 

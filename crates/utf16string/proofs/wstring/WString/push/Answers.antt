@@ -1,24 +1,22 @@
-use Rattle.std.proofs.Common.{[], ◌∷◌, ◌++◌, take}
+use Rattle.std.proofs.Common.{[], ◌∷◌, ◌++◌}
 use Rattle.std.proofs.lemmas.Result.{on_err_weaker}
 use Rattle.utf16_units.specs.Edit.{push_text}
-use Rattle.utf16_units.specs.Encoding.{Encodes}
-use Rattle.utf16_units.proofs.EditLemmas.{Encodes-pushed, Encodes-written}
+use Rattle.utf16_units.specs.Encoding.{Encodes, char_bytes}
+use Rattle.utf16_units.proofs.EditLemmas.{Encodes-char, Encodes-pushed}
 use Rattle.utf16string.specs.WString.{wstring_bytes, wstring_text}
 use Rattle.utf16string.proofs.Edited.{edited_text, still_text}
 use Rattle.utf16string.proofs.wstring.WString.push.Given.{Over}
 use Rattle.utf16string.proofs.wstring.WString.push.Goals as goal
-use Rattle.utf16string.proofs.wstring.WString.push.Goals.{After-append}
+use Rattle.utf16string.proofs.wstring.WString.push.Goals.{After-push_char}
 
-pushed : (g : Over) (c : After-append g)
-    → Encodes g.E.Utf16Order.BIG (push_text (wstring_text c.args.self.now) (c.args.ch ∷ []))
-    (wstring_bytes c.args.self.now ++ take c.encode_utf16_into-len.result c.encode_utf16_into-len.new.buf)
-pushed g c =
-    let units = c.encode_utf16_into-len in
-    Encodes-pushed _ _ _ _ c.args.self.now.well_formed (Encodes-written _ _ _ _ _ c.ranges.ch.0 units.ensures.len units.ensures.bytes)
+pushed : (g : Over) (c : After-push_char g)
+    → Encodes g.E.Utf16Order.BIG (push_text (wstring_text c.args.self.now) (c.args.ch ∷ [])) (wstring_bytes c.args.self.now ++ char_bytes g.E.Utf16Order.BIG c.args.ch)
+pushed g c = Encodes-pushed _ _ _ _ c.args.self.now.well_formed (Encodes-char _ c.args.ch c.ranges.ch.0)
 
 pub invariant_of-self : goal.invariant_of-self
 invariant_of-self g c =
-    record { well_formed = still_text _ _ _ _ _ c.append.result c.args.self.now.well_formed (pushed g c) c.append.ensures.items (on_err_weaker c.append.result (λ left. left.0.0) c.append.ensures.refused) }
+    let put = c.push_char in
+    record { well_formed = still_text _ _ _ _ _ put.result c.args.self.now.well_formed (pushed g c) put.ensures.items (on_err_weaker put.result (λ left. left.0.0) put.ensures.refused) }
 
 pub returns-clause-text : goal.returns-clause-text
-returns-clause-text g c = edited_text _ _ _ _ c.append.result (pushed g (goal.at.returns-clause-text g c).After-append) c.append.ensures.items
+returns-clause-text g c = edited_text _ _ _ _ c.push_char.result (pushed g (goal.at.returns-clause-text g c).After-push_char) c.push_char.ensures.items

@@ -1,0 +1,508 @@
+//! Owned strings made, grown, edited and cut, with the Rust crate's names of tests.
+
+use crate::edits::{inserted, overwritten, removed, split, truncated};
+use crate::ranges::part_to_utf8;
+use crate::views::{HELLO, PX, utf8_is};
+use std::hash::{FoldHasher, Hash, Hasher};
+use std::process::Abort;
+use std::test::Fail;
+use utf16string::{BE, BigEndian, LE, SliceIndex, Utf16Order, WStr, WString};
+
+pub const HELLO_BE: [u8; 10] = [0, 0x68, 0, 0x65, 0, 0x6C, 0, 0x6C, 0, 0x6F];
+
+// "a", U+10000, "hi".
+const APHI: [u8; 10] = [0x61, 0, 0x00, 0xD8, 0x00, 0xDC, 0x68, 0, 0x69, 0];
+
+// "a", U+10000, "z".
+const APZ_BE: [u8; 8] = [0, 0x61, 0xD8, 0x00, 0xDC, 0x00, 0, 0x7A];
+
+fn string_of<E: Utf16Order>(
+    rt: &(impl Abort + AllocGlobal),
+    raw: &[u8],
+) -> Result<WString<E>, Fail> {
+    Ok(WString::from_utf16(raw.to_vec(rt.alloc())?)?)
+}
+
+fn bytes_are<E: Utf16Order>(rt: &impl Abort, text: &WString<E>, wanted: &[u8]) -> Result<(), Fail> {
+    assert_eq!(rt; text.as_bytes(), wanted);
+    assert_eq!(rt; text.len(), wanted.len());
+    assert_eq!(rt; text.is_empty(), wanted.is_empty());
+    assert!(rt; wanted.len() <= text.capacity());
+    Ok(())
+}
+
+#[test]
+fn test_new(rt: HostRuntime) -> Result<(), Fail> {
+    let text = WString::<LE>::new(rt.alloc());
+    assert_eq!(rt; (text.len(), text.capacity()), (0, 0));
+    bytes_are(&rt, &text, &[])?;
+    bytes_are(&rt, &WString::<BE>::new(rt.alloc()), &[])
+}
+
+#[test]
+fn test_with_capacity(rt: HostRuntime) -> Result<(), Fail> {
+    let text = WString::<LE>::with_capacity(rt.alloc(), 5)?;
+    assert!(rt; 5 <= text.capacity());
+    bytes_are(&rt, &text, &[])?;
+    bytes_are(&rt, &WString::<BE>::with_capacity(rt.alloc(), 0)?, &[])
+}
+
+#[test]
+fn test_from_utf16(rt: HostRuntime) -> Result<(), Fail> {
+    utf8_is(&rt, string_of::<LE>(&rt, &HELLO)?.as_wstr(), "hello")?;
+    utf8_is(&rt, string_of::<BE>(&rt, &HELLO_BE)?.as_wstr(), "hello")
+}
+
+#[test]
+fn test_from_utf16_le_be(rt: HostRuntime) -> Result<(), Fail> {
+    let little = WString::from_utf16le(HELLO.to_vec(rt.alloc())?)?;
+    utf8_is(&rt, little.as_wstr(), "hello")?;
+    let big = WString::from_utf16be(HELLO_BE.to_vec(rt.alloc())?)?;
+    utf8_is(&rt, big.as_wstr(), "hello")
+}
+
+// The errors of the three checked constructors, the vector dropped.
+fn refused_is<E: Utf16Order>(
+    rt: &(impl Abort + AllocGlobal),
+    raw: &[u8],
+    valid_up_to: usize,
+    error_len: Option<usize>,
+) -> Result<(), Fail> {
+    let Err(error) = WString::<E>::from_utf16(raw.to_vec(rt.alloc())?) else {
+        return Err(Fail::from("taken"));
+    };
+    assert_eq!(rt; error.valid_up_to(), valid_up_to, "{raw:?}");
+    assert_eq!(rt; error.error_len(), error_len, "{raw:?}");
+    Ok(())
+}
+
+#[test]
+fn bytes_that_are_no_text_are_refused(rt: HostRuntime) -> Result<(), Fail> {
+    refused_is::<LE>(&rt, &[0x68, 0, 0x00, 0xDC, 0x65, 0], 2, Some(2))?;
+    refused_is::<LE>(&rt, &[0x68, 0, 0x00, 0xD8, 0x65, 0], 2, Some(2))?;
+    refused_is::<LE>(&rt, &[0x68, 0, 0x00, 0xD8], 2, None)?;
+    refused_is::<BE>(&rt, &[0xDC], 0, None)?;
+    refused_is::<BE>(&rt, &[0xDC, 0x00], 0, Some(2))?;
+    assert!(rt; WString::from_utf16le(HELLO_BE[1..].to_vec(rt.alloc())?).is_err());
+    assert!(rt; WString::from_utf16be(HELLO[1..].to_vec(rt.alloc())?).is_err());
+    Ok(())
+}
+
+// The unchecked constructors, after a view took the bytes, as it must.
+fn unchecked_is(rt: &(impl Abort + AllocGlobal), little: &[u8], big: &[u8]) -> Result<(), Fail> {
+    if WStr::from_utf16le(little).is_err() || WStr::from_utf16be(big).is_err() {
+        return Err(Fail::from("refused"));
+    }
+    let alloc = rt.alloc();
+    bytes_are(
+        rt,
+        &WString::from_utf16le_unchecked(little.to_vec(alloc)?),
+        little,
+    )?;
+    bytes_are(
+        rt,
+        &WString::<LE>::from_utf16_unchecked(little.to_vec(alloc)?),
+        little,
+    )?;
+    bytes_are(
+        rt,
+        &WString::from_utf16be_unchecked(big.to_vec(alloc)?),
+        big,
+    )?;
+    bytes_are(
+        rt,
+        &WString::<BE>::from_utf16_unchecked(big.to_vec(alloc)?),
+        big,
+    )
+}
+
+#[test]
+fn test_from_utf16_unchecked(rt: HostRuntime) -> Result<(), Fail> {
+    unchecked_is(&rt, &HELLO, &HELLO_BE)
+}
+
+#[test]
+fn test_from_str(rt: HostRuntime) -> Result<(), Fail> {
+    bytes_are(&rt, &WString::<LE>::from_str(rt.alloc(), "hello")?, &HELLO)?;
+    bytes_are(
+        &rt,
+        &WString::<BE>::from_str(rt.alloc(), "hello")?,
+        &HELLO_BE,
+    )?;
+    bytes_are(
+        &rt,
+        &WString::<BE>::from_str(rt.alloc(), "a\u{10000}z")?,
+        &APZ_BE,
+    )?;
+    bytes_are(
+        &rt,
+        &WString::<LE>::from_str(rt.alloc(), "\u{10000}x")?,
+        &PX,
+    )?;
+    bytes_are(&rt, &WString::<LE>::from_str(rt.alloc(), "")?, &[])?;
+    let one = WString::<LE>::from_str(rt.alloc(), "\u{4E00}")?;
+    assert!(rt; !one.is_ascii());
+    bytes_are(&rt, &one, &[0x00, 0x4E])
+}
+
+#[test]
+fn test_from_string(rt: HostRuntime) -> Result<(), Fail> {
+    let text = String::from_str(rt.alloc(), "hello")?;
+    bytes_are(&rt, &WString::<LE>::from_str(rt.alloc(), &text)?, &HELLO)?;
+    bytes_are(&rt, &WString::<BE>::from_str(rt.alloc(), &text)?, &HELLO_BE)
+}
+
+#[test]
+fn test_into_bytes(rt: HostRuntime) -> Result<(), Fail> {
+    assert_eq!(rt;
+        string_of::<LE>(&rt, &HELLO)?.into_bytes().as_slice(),
+        HELLO.as_slice()
+    );
+    assert_eq!(rt;
+        string_of::<BE>(&rt, &APZ_BE)?.into_bytes().as_slice(),
+        APZ_BE.as_slice()
+    );
+    Ok(())
+}
+
+// What a string shows of itself, beside a view of its bytes.
+fn shows_what_a_view_shows<E: Utf16Order>(
+    rt: &(impl Abort + AllocGlobal),
+    raw: &[u8],
+) -> Result<(), Fail> {
+    let view = WStr::<E>::from_utf16(raw)?;
+    let text = string_of::<E>(rt, raw)?;
+    assert!(rt; text.as_wstr() == view);
+    assert_eq!(rt; text.as_bytes(), raw);
+    assert_eq!(rt; text.is_ascii(), view.is_ascii());
+    assert_eq!(rt; text.chars().count(), view.chars().count());
+    assert_eq!(rt; text.char_indices().last(), view.char_indices().last());
+    for offset in 0..12 {
+        assert_eq!(rt;
+            text.is_char_boundary(offset),
+            view.is_char_boundary(offset)
+        );
+        assert!(rt; text.get(offset..) == view.get(offset..));
+        if text.is_char_boundary(offset) && offset <= text.len() {
+            assert!(rt; Some(text.get_unchecked(..offset)) == view.get(..offset));
+            assert!(rt; Some(text.index(..offset)) == view.get(..offset));
+        }
+    }
+    let utf8 = text.to_utf8(rt.alloc())?;
+    assert_eq!(rt; utf8.as_str(), format!(in rt.alloc(); "{text}")?.as_str());
+    assert_eq!(rt; utf8.as_str(), view.to_utf8(rt.alloc())?.as_str());
+    Ok(())
+}
+
+#[test]
+fn test_as_wstr(rt: HostRuntime) -> Result<(), Fail> {
+    shows_what_a_view_shows::<LE>(&rt, &HELLO)?;
+    shows_what_a_view_shows::<LE>(&rt, &APHI)?;
+    shows_what_a_view_shows::<BE>(&rt, &APZ_BE)?;
+    shows_what_a_view_shows::<BE>(&rt, &[])
+}
+
+// The names of two tests more of a `WString` as its view: here the view is a value.
+#[test]
+fn test_as_mut_wstr(rt: HostRuntime) -> Result<(), Fail> {
+    let text = string_of::<BE>(&rt, &HELLO_BE)?;
+    assert!(rt; text.as_wstr() == WStr::from_utf16be(&HELLO_BE)?);
+    Ok(())
+}
+
+#[test]
+fn test_deref(rt: HostRuntime) -> Result<(), Fail> {
+    let text = string_of::<LE>(&rt, &HELLO)?;
+    assert!(rt; text.as_wstr() == WStr::from_utf16le(&HELLO)?);
+    Ok(())
+}
+
+#[test]
+fn test_deref_mut(rt: HostRuntime) -> Result<(), Fail> {
+    let mut text = string_of::<LE>(&rt, &HELLO)?;
+    let world = WString::<LE>::from_str(rt.alloc(), "world")?;
+    assert!(rt; overwritten(&mut text, 0, world.as_wstr()));
+    utf8_is(&rt, text.as_wstr(), "world")
+}
+
+#[test]
+fn test_push_wstr(rt: HostRuntime) -> Result<(), Fail> {
+    let mut text = string_of::<LE>(&rt, &HELLO)?;
+    text.push_wstr(WString::from_str(rt.alloc(), " world")?.as_wstr())?;
+    utf8_is(&rt, text.as_wstr(), "hello world")
+}
+
+#[test]
+fn test_reserve(rt: HostRuntime) -> Result<(), Fail> {
+    let mut text = WString::<LE>::new(rt.alloc());
+    assert_eq!(rt; text.capacity(), 0);
+    text.reserve(42)?;
+    assert!(rt; 42 <= text.capacity());
+    bytes_are(&rt, &text, &[])?;
+    let mut text = string_of::<BE>(&rt, &APZ_BE)?;
+    text.reserve(100)?;
+    assert!(rt; 108 <= text.capacity());
+    bytes_are(&rt, &text, &APZ_BE)
+}
+
+#[test]
+fn test_shrink_to_fit(rt: HostRuntime) -> Result<(), Fail> {
+    let mut text = WString::<LE>::with_capacity(rt.alloc(), 42)?;
+    assert!(rt; 42 <= text.capacity());
+    text.shrink_to_fit()?;
+    assert_eq!(rt; text.capacity(), 0);
+    let mut text = string_of::<BE>(&rt, &APZ_BE)?;
+    text.reserve(100)?;
+    text.shrink_to_fit()?;
+    assert_eq!(rt; text.capacity(), 8);
+    bytes_are(&rt, &text, &APZ_BE)
+}
+
+#[test]
+fn test_push(rt: HostRuntime) -> Result<(), Fail> {
+    let mut text = WString::<LE>::new(rt.alloc());
+    for c in ['h', 'i', '\u{10000}'] {
+        text.push(c)?;
+    }
+    bytes_are(&rt, &text, &[0x68, 0, 0x69, 0, 0x00, 0xD8, 0x00, 0xDC])?;
+    let mut text = WString::<BE>::new(rt.alloc());
+    for c in ['a', '\u{10000}', 'z'] {
+        text.push(c)?;
+    }
+    bytes_are(&rt, &text, &APZ_BE)
+}
+
+#[test]
+fn test_truncate(rt: HostRuntime) -> Result<(), Fail> {
+    let mut text = string_of::<LE>(&rt, &HELLO)?;
+    assert!(rt; truncated(&mut text, 20));
+    bytes_are(&rt, &text, &HELLO)?;
+    assert!(rt; truncated(&mut text, 4));
+    bytes_are(&rt, &text, &[0x68, 0, 0x65, 0])
+}
+
+#[test]
+fn test_truncate_no_char_boundary(rt: HostRuntime) -> Result<(), Fail> {
+    let mut text = string_of::<LE>(&rt, &HELLO)?;
+    assert!(rt; !text.is_char_boundary(1));
+    assert!(rt; !truncated(&mut text, 1));
+    bytes_are(&rt, &text, &HELLO)
+}
+
+#[test]
+fn test_pop(rt: HostRuntime) -> Result<(), Fail> {
+    let mut text = string_of::<LE>(&rt, &APHI)?;
+    for (c, left) in [('i', 8), ('h', 6), ('\u{10000}', 2), ('a', 0)] {
+        assert_eq!(rt; text.pop(), Some(c));
+        bytes_are(&rt, &text, &APHI[..left])?;
+    }
+    assert_eq!(rt; text.pop(), None);
+    bytes_are(&rt, &text, &[])
+}
+
+#[test]
+fn test_remove(rt: HostRuntime) -> Result<(), Fail> {
+    let mut text = string_of::<LE>(&rt, &APHI)?;
+    assert_eq!(rt; removed(&mut text, 4), None);
+    assert_eq!(rt; removed(&mut text, 2), Some('\u{10000}'));
+    assert_eq!(rt; removed(&mut text, 2), Some('h'));
+    bytes_are(&rt, &text, &[0x61, 0, 0x69, 0])?;
+    assert_eq!(rt; removed(&mut text, 4), None);
+    assert!(rt; truncated(&mut text, 21));
+    bytes_are(&rt, &text, &[0x61, 0, 0x69, 0])
+}
+
+#[test]
+fn cut_from_the_back_in_big_endian(rt: HostRuntime) -> Result<(), Fail> {
+    let mut text = string_of::<BE>(&rt, &APZ_BE)?;
+    assert!(rt; truncated(&mut text, 9));
+    bytes_are(&rt, &text, &APZ_BE)?;
+    assert_eq!(rt; text.pop(), Some('z'));
+    assert_eq!(rt; removed(&mut text, 2), Some('\u{10000}'));
+    bytes_are(&rt, &text, &[0, 0x61])
+}
+
+// Puts a character in, where that is a boundary.
+fn typed<E: Utf16Order>(text: &mut WString<E>, idx: usize, c: char) -> Result<(), Fail> {
+    if !text.is_char_boundary(idx) {
+        return Err(Fail::from("no boundary"));
+    }
+    Ok(text.insert(idx, c)?)
+}
+
+#[test]
+fn test_insert(rt: HostRuntime) -> Result<(), Fail> {
+    let mut text = WString::<LE>::from_str(rt.alloc(), "hllo")?;
+    typed(&mut text, 2, 'e')?;
+    bytes_are(&rt, &text, &HELLO)?;
+    let mut text = string_of::<BE>(&rt, &APZ_BE[..6])?;
+    typed(&mut text, 6, 'z')?;
+    bytes_are(&rt, &text, &APZ_BE)?;
+    typed(&mut text, 0, '\u{10FFFF}')?;
+    assert_eq!(rt; &text.as_bytes()[..4], [0xDB, 0xFF, 0xDF, 0xFF].as_slice());
+    assert_eq!(rt; &text.as_bytes()[4..], APZ_BE.as_slice());
+    Ok(())
+}
+
+#[test]
+fn test_insert_wstr(rt: HostRuntime) -> Result<(), Fail> {
+    let mut text = WString::<LE>::from_str(rt.alloc(), "ho")?;
+    let ell = WString::from_str(rt.alloc(), "ell")?;
+    assert!(rt; inserted(&mut text, 2, ell.as_wstr())?);
+    bytes_are(&rt, &text, &HELLO)?;
+    assert!(rt; !inserted(&mut text, 3, ell.as_wstr())?);
+    bytes_are(&rt, &text, &HELLO)
+}
+
+#[test]
+fn test_as_mut_vec(rt: HostRuntime) -> Result<(), Fail> {
+    let mut bytes = string_of::<LE>(&rt, &HELLO)?.into_bytes();
+    bytes.extend_from_slice(WString::<LE>::from_str(rt.alloc(), " world")?.as_bytes())?;
+    utf8_is(&rt, WString::from_utf16le(bytes)?.as_wstr(), "hello world")
+}
+
+#[test]
+fn test_split_off(rt: HostRuntime) -> Result<(), Fail> {
+    let mut text = WString::<LE>::from_str(rt.alloc(), "helloworld")?;
+    let Some(back) = split(&mut text, 10)? else {
+        return Err(Fail::from("no boundary"));
+    };
+    bytes_are(&rt, &text, &HELLO)?;
+    utf8_is(&rt, back.as_wstr(), "world")
+}
+
+#[test]
+fn test_split_off_bad_index(rt: HostRuntime) -> Result<(), Fail> {
+    let mut text = WString::<LE>::from_str(rt.alloc(), "hi")?;
+    assert!(rt; !text.is_char_boundary(1));
+    assert!(rt; split(&mut text, 1)?.is_none());
+    assert_eq!(rt; text.len(), 4);
+    Ok(())
+}
+
+#[test]
+fn split_and_pushed_again(rt: HostRuntime) -> Result<(), Fail> {
+    let mut text = string_of::<BE>(&rt, &APZ_BE[..6])?;
+    let Some(back) = split(&mut text, 2)? else {
+        return Err(Fail::from("no boundary"));
+    };
+    bytes_are(&rt, &text, &APZ_BE[..2])?;
+    bytes_are(&rt, &back, &[0xD8, 0x00, 0xDC, 0x00])?;
+    text.push_wstr(back.as_wstr())?;
+    bytes_are(&rt, &text, &[0, 0x61, 0xD8, 0x00, 0xDC, 0x00])
+}
+
+#[test]
+fn test_clear(rt: HostRuntime) -> Result<(), Fail> {
+    let mut text = string_of::<LE>(&rt, &HELLO)?;
+    let capacity = text.capacity();
+    text.truncate(10);
+    assert!(rt; truncated(&mut text, 4));
+    assert_eq!(rt; text.capacity(), capacity);
+    text.clear();
+    assert_eq!(rt; text.capacity(), capacity);
+    bytes_are(&rt, &text, &[])
+}
+
+// The part of a range, in UTF-8.
+fn part_is<I: SliceIndex<LE> + Drop>(
+    rt: &(impl Abort + AllocGlobal),
+    range: I,
+    wanted: &str,
+) -> Result<(), Fail> {
+    let text = string_of::<LE>(rt, &HELLO)?;
+    let part = part_to_utf8(rt.alloc(), text.as_wstr(), range)?;
+    assert_eq!(rt; part.as_ref().map(|utf8| utf8.as_str()), Some(wanted));
+    Ok(())
+}
+
+#[test]
+fn test_wstring_range(rt: HostRuntime) -> Result<(), Fail> {
+    part_is(&rt, 2..8, "ell")
+}
+
+#[test]
+fn test_wstring_range_to(rt: HostRuntime) -> Result<(), Fail> {
+    part_is(&rt, ..8, "hell")
+}
+
+#[test]
+fn test_wstring_range_from(rt: HostRuntime) -> Result<(), Fail> {
+    part_is(&rt, 2.., "ello")
+}
+
+#[test]
+fn test_wstring_range_full(rt: HostRuntime) -> Result<(), Fail> {
+    part_is(&rt, .., "hello")
+}
+
+#[test]
+fn test_wstring_range_inclusive(rt: HostRuntime) -> Result<(), Fail> {
+    part_is(&rt, 2..=7, "ell")
+}
+
+#[test]
+fn test_wstring_range_to_inclusive(rt: HostRuntime) -> Result<(), Fail> {
+    part_is(&rt, ..=7, "hell")
+}
+
+// A character put in at each boundary and taken out again, and the text split at each boundary and put together again.
+fn undone<E: Utf16Order>(rt: &(impl Abort + AllocGlobal), raw: &[u8]) -> Result<(), Fail> {
+    for offset in 0..=raw.len() {
+        let mut text = string_of::<E>(rt, raw)?;
+        if text.is_char_boundary(offset) {
+            typed(&mut text, offset, '\u{1F600}')?;
+            assert_eq!(rt; text.len(), raw.len() + 4);
+            assert_eq!(rt; removed(&mut text, offset), Some('\u{1F600}'));
+            bytes_are(rt, &text, raw)?;
+            let Some(back) = split(&mut text, offset)? else {
+                return Err(Fail::from("no boundary"));
+            };
+            assert_eq!(rt; text.len(), offset);
+            text.push_wstr(back.as_wstr())?;
+            bytes_are(rt, &text, raw)?;
+        }
+    }
+    let back = WString::<E>::from_str(rt.alloc(), &string_of::<E>(rt, raw)?.to_utf8(rt.alloc())?)?;
+    bytes_are(rt, &back, raw)
+}
+
+#[test]
+fn insert_then_remove_split_then_push_and_utf8_back(rt: HostRuntime) -> Result<(), Fail> {
+    undone::<LE>(&rt, &APHI)?;
+    undone::<BE>(&rt, &APZ_BE)?;
+    undone::<LE>(
+        &rt,
+        &[0xFF, 0xD7, 0x00, 0xE0, 0xFF, 0xFF, 0xFF, 0xDB, 0xFF, 0xDF],
+    )
+}
+
+fn hash_of<T: Hash>(value: &T) -> u64 {
+    let mut hasher = FoldHasher::default();
+    value.hash(&mut hasher);
+    hasher.finish()
+}
+
+#[test]
+fn equal_strings_hash_alike_whatever_their_capacity(rt: HostRuntime) -> Result<(), Fail> {
+    let text = string_of::<LE>(&rt, &APHI)?;
+    let mut roomy = string_of::<LE>(&rt, &APHI)?;
+    roomy.reserve(100)?;
+    assert!(rt; text == roomy);
+    assert_eq!(rt; hash_of(&text), hash_of(&roomy));
+    assert_eq!(rt; hash_of(&text), hash_of(&text.as_wstr()));
+    assert_eq!(rt; roomy.pop(), Some('i'));
+    assert!(rt; text != roomy);
+    Ok(())
+}
+
+#[test]
+fn the_same_text_by_each_name(rt: HostRuntime) -> Result<(), Fail> {
+    let big = WString::<BigEndian>::from_str(rt.alloc(), "hello")?;
+    assert_eq!(rt; big.len(), 10);
+    assert!(rt; big == WString::<BE>::from_str(rt.alloc(), "hello")?);
+    let little = string_of::<LE>(&rt, &HELLO)?;
+    assert_eq!(rt; little.len(), 10);
+    assert!(rt; little.chars().eq(['h', 'e', 'l', 'l', 'o']));
+    Ok(())
+}
