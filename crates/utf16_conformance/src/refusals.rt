@@ -1,5 +1,6 @@
 //! Each request for memory refused in turn: the string stays as it was, and with memory the same call gives its answer.
 
+use crate::edits::truncated;
 use crate::refusing::Refusing;
 use crate::strings::HELLO_BE;
 use crate::views::HELLO;
@@ -237,7 +238,7 @@ fn edits_that_ask_for_nothing(rt: HostRuntime) -> Result<(), Fail> {
     if text.is_char_boundary(2) && 2 < text.len() {
         assert_eq!(rt; text.remove(2), 'e');
     }
-    text.truncate(100);
+    assert!(rt; truncated(&mut text, 100));
     text.clear();
     assert_eq!(rt; (text.len(), heap.requests()), (0, 0));
     Ok(())

@@ -111,20 +111,7 @@ unsafe impl<B: Allocator> Allocator for Refusing<B> {
 #[cfg(test)]
 mod tests {
     use super::Refusing;
-    use std::alloc::{AllocError, Allocator};
     use std::test::Fail;
-
-    #[test]
-    fn a_request_is_refused_or_given(rt: HostRuntime) -> Result<(), Fail> {
-        let heap = Refusing::new(rt.alloc());
-        heap.refuse_one(0);
-        assert!(rt; Vec::<u8, _>::with_capacity(&heap, 4).is_err());
-        assert_eq!(rt; (heap.requests(), heap.refusals()), (1, 1));
-        heap.refuse_one(1);
-        assert!(rt; Vec::<u8, _>::with_capacity(&heap, 4).is_ok());
-        assert_eq!(rt; (heap.requests(), heap.refusals()), (1, 0));
-        Ok(())
-    }
 
     #[test]
     fn only_one_request_is_refused(rt: HostRuntime) -> Result<(), Fail> {
@@ -149,23 +136,6 @@ mod tests {
     }
 
     #[test]
-    fn a_vec_that_may_not_grow_keeps_its_elements(rt: HostRuntime) -> Result<(), Fail> {
-        let heap = Refusing::new(rt.alloc());
-        let mut numbers = Vec::with_capacity(&heap, 2)?;
-        numbers.push(3)?;
-        numbers.push(5)?;
-        heap.refuse_from(0);
-        assert!(rt; numbers.reserve(100).is_err());
-        assert_eq!(rt; numbers.as_slice(), [3, 5].as_slice());
-        heap.refuse_none();
-        numbers.reserve(100)?;
-        assert!(rt; 102 <= numbers.capacity());
-        assert_eq!(rt; numbers.as_slice(), [3, 5].as_slice());
-        assert_eq!(rt; (heap.requests(), heap.refusals()), (1, 0));
-        Ok(())
-    }
-
-    #[test]
     fn growing_and_shrinking_are_requests(rt: HostRuntime) -> Result<(), Fail> {
         let heap = Refusing::new(rt.alloc());
         let mut numbers = Vec::with_capacity(&heap, 2)?;
@@ -181,45 +151,5 @@ mod tests {
         assert_eq!(rt; numbers.capacity(), 1);
         assert_eq!(rt; numbers.as_slice(), [3].as_slice());
         Ok(())
-    }
-
-    #[test]
-    fn a_handle_is_cloned(rt: HostRuntime) -> Result<(), Fail> {
-        let heap = Refusing::new(rt.alloc());
-        let text = String::from_str(&heap, "text")?;
-        let numbers = vec![in &heap; 3, 5]?;
-        heap.refuse_one(0);
-        assert!(rt; text.clone().is_err());
-        assert_eq!(rt; text.clone()?.as_str(), "text");
-        heap.refuse_one(0);
-        assert!(rt; numbers.clone().is_err());
-        assert_eq!(rt; numbers.clone()?.as_slice(), [3, 5].as_slice());
-        Ok(())
-    }
-
-    #[test]
-    fn each_request_of_a_call_is_refused_in_turn(rt: HostRuntime) -> Result<(), Fail> {
-        let heap = Refusing::new(rt.alloc());
-        for k in 0..10 {
-            heap.refuse_none();
-            let mut text = String::from_str(&heap, "text")?;
-            heap.refuse_one(k);
-            let doubled = double(&mut text);
-            if heap.refusals() == 0 {
-                assert!(rt; doubled.is_ok());
-                assert_eq!(rt; text.as_str(), "texttext");
-                assert_eq!(rt; k, 2);
-                return Ok(());
-            }
-            assert!(rt; doubled.is_err(), "request {k}");
-            assert_eq!(rt; text.as_str(), "text", "request {k}");
-        }
-        Err(Fail::new("no run met no refusal"))
-    }
-
-    // It makes two requests: for the copy, and to grow.
-    fn double<A: Allocator + Clone>(text: &mut String<A>) -> Result<(), AllocError> {
-        let copy = text.clone()?;
-        text.push_str(copy.as_str())
     }
 }

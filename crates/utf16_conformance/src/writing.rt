@@ -44,8 +44,12 @@ fn write_over<E: Utf16Order>(
     if view.fits(idx, part) {
         view.overwrite(idx, part);
     }
-    let end = idx + part.len();
-    assert!(rt; view.as_wstr().get(idx..end) == Some(part));
+    assert_eq!(rt;
+        view.as_wstr()
+            .get(idx..)
+            .map(|rest| rest.as_bytes().starts_with(part.as_bytes())),
+        Some(true)
+    );
     Ok(())
 }
 
