@@ -1,9 +1,10 @@
 //! Edits behind the tests of their conditions, by public calls alone: what a caller writes, and what it then knows.
 
-ghost use Rattle.std.specs.Prelude.{◌≡◌, ◌+◌, [], ◌∷◌, length, false, true, Ok, Some, IfOk, IfSome, IsNone, IsTrue, OnErr};
+ghost use Rattle.std.specs.Prelude.{◌≡◌, ◌+◌, ◌<◌, length, false, true, Ok, Some, IfOk, IfSome, IsNone, IsTrue, OnErr};
 ghost use Rattle.std.specs.List.{splice};
 ghost use Rattle.utf16_units.specs.Boundary.{text_to};
 ghost use Rattle.utf16_units.specs.Edit.{char_at, insert_at, overwrite_at, remove_at, split_back, split_front};
+ghost use Rattle.utf16_units.specs.Encoding.{size};
 ghost use Rattle.utf16string.specs.WStr.{wstr_bytes, wstr_text};
 ghost use Rattle.utf16string.specs.WString.{wstring_text};
 
@@ -42,6 +43,7 @@ pub fn removed<E: Utf16Order, A: Allocator>(text: &mut WString<E, A>, idx: usize
 
 /// Keeps the front up to an offset, where that is a character boundary or past the text: whether it is.
 pub fn truncated<E: Utf16Order, A: Allocator>(text: &mut WString<E, A>, len: usize) -> bool
+    ensures cut { IsTrue result → len < size (wstring_text text.old) → wstring_text text.new ≡ text_to (wstring_text text.old) len }
     ensures kept { result ≡ false → wstring_text text.new ≡ wstring_text text.old }
 {
     let cuts = text.len() <= len || text.is_char_boundary(len);

@@ -1,4 +1,4 @@
-//! UTF-16 strings in either byte order: `WStr` is to UTF-16 bytes what `str` is to UTF-8.
+//! UTF-16 strings in either byte order: `WStr` and `WString` are to UTF-16 bytes what `str` and `String` are to UTF-8.
 #![tactic(auto)]
 
 mod iters;

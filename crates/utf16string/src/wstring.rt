@@ -49,12 +49,14 @@ impl<E: Utf16Order, A: Allocator> WString<E, A> {
         Self::from_utf16_unchecked(Vec::new(alloc))
     }
 
-    /// An empty string with room for `capacity` bytes. The only error is a refused request for memory.
+    /// An empty string with room for `capacity` bytes. The only error is a refused request for memory; for no room nothing is
+    /// asked.
     #[inline]
     pub fn with_capacity(alloc: A, capacity: usize) -> Result<Self, AllocError>
         ensures text { IfOk result (λ s. wstring_text s ≡ []) }
         ensures bytes { IfOk result (λ s. wstring_bytes s ≡ []) }
         ensures capacity { IfOk result (λ s. capacity ≤ wstring_capacity s) }
+        ensures nothing { capacity ≡ 0 → IsOk result }
     {
         let buf = Vec::with_capacity(alloc, capacity)?;
         Ok(Self::from_utf16_unchecked(buf))
