@@ -1,9 +1,9 @@
 //! Characters and texts taken out of a string.
 
-ghost use Rattle.std.specs.Prelude.{◌≡◌, ◌≢◌, ◌↔◌, ◌+◌, ◌<◌, ◌≤◌, [], ◌++◌, length, take, Some, IsSome, IfOk, OnErr, OnOk};
+ghost use Rattle.std.specs.Prelude.{◌≡◌, ◌≢◌, ◌↔◌, ◌+◌, ◌<◌, ◌≤◌, [], ◌++◌, length, take, Some, IsOk, IsSome, IfOk, OnErr, OnOk};
 ghost use Rattle.std.specs.List.{remove_range};
 ghost use Rattle.std.specs.Option.{option_to_list};
-ghost use Rattle.std.specs.Vec.{vec_capacity, vec_len};
+ghost use Rattle.std.specs.Vec.{vec_allocator, vec_capacity, vec_len};
 ghost use Rattle.utf16_units.specs.Boundary.{IsBoundary, text_to};
 ghost use Rattle.utf16_units.specs.Edit.{char_at, push_text, remove_at, split_back, split_front};
 ghost use Rattle.utf16_units.specs.Encoding.{size};
@@ -14,7 +14,7 @@ use std::alloc::{AllocError, Allocator};
 use utf16_units::{Utf16CharExt, Utf16Order};
 
 impl<E: Utf16Order, A: Allocator> WString<E, A> {
-    ghost use Rattle.utf16string.specs.WString.{IsUnchanged, wstring_bytes, wstring_capacity, wstring_text};
+    ghost use Rattle.utf16string.specs.WString.{IsUnchanged, wstring_bytes, wstring_capacity, wstring_text, wstring_vec};
 
     /// Takes off the last character, or answers `None` where there is none. The capacity stays.
     #[inline]
@@ -66,7 +66,7 @@ impl<E: Utf16Order, A: Allocator> WString<E, A> {
 
     /// Splits the text at a byte offset, which is a character boundary, as `is_char_boundary` tests: the string keeps the
     /// front and its capacity, and the back is answered. The only error is a refused request for memory; it leaves the
-    /// string as it was. One copy of the back's bytes.
+    /// string as it was; an empty back asks for nothing. One copy of the back's bytes.
     pub fn split_off(&mut self, at: usize) -> Result<WString<E, A>, AllocError>
     where
         A: Clone,
@@ -74,6 +74,7 @@ impl<E: Utf16Order, A: Allocator> WString<E, A> {
         ensures front { OnOk result (wstring_text self.new ≡ split_front (wstring_text self.old) at) }
         ensures back { IfOk result (λ back. wstring_text back ≡ split_back (wstring_text self.old) at) }
         ensures refused { OnErr result (IsUnchanged self.old self.new) }
+        ensures nothing { at ≡ size (wstring_text self.old) → A.is_infallible (vec_allocator (wstring_vec self.old)) → IsOk result }
         ensures capacity { wstring_capacity self.new ≡ wstring_capacity self.old }
     {
         let back = self.raw.split_off(at)?;

@@ -1,6 +1,6 @@
 //! Room in a string for more bytes.
 
-ghost use Rattle.std.specs.Prelude.{◌≡◌, ◌+◌, ◌≤◌, length, IsOk, OnErr, OnOk};
+ghost use Rattle.std.specs.Prelude.{◌≡◌, ◌+◌, ◌≤◌, [], length, IsOk, OnErr, OnOk};
 
 use crate::WString;
 use std::alloc::{AllocError, Allocator};
@@ -23,12 +23,13 @@ impl<E: Utf16Order, A: Allocator> WString<E, A> {
     }
 
     /// Gives back the room that the text does not take. The only error is a refused request for the smaller block; the
-    /// text stays where it is.
+    /// text stays where it is. Where there is no such room, or no text, nothing is asked for.
     pub fn shrink_to_fit(&mut self) -> Result<(), AllocError>
         ensures bytes { wstring_bytes self.new ≡ wstring_bytes self.old }
         ensures fits { OnOk result (wstring_capacity self.new ≡ length (wstring_bytes self.new)) }
         ensures shrinks { wstring_capacity self.new ≤ wstring_capacity self.old }
-        ensures room { wstring_capacity self.old ≡ length (wstring_bytes self.old) → IsOk result }
+        ensures full { wstring_capacity self.old ≡ length (wstring_bytes self.old) → IsOk result }
+        ensures empty { wstring_bytes self.old ≡ [] → IsOk result }
     {
         self.raw.shrink_to_fit();
         if self.raw.capacity() > self.raw.len() {

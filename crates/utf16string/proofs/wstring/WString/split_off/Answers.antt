@@ -1,9 +1,9 @@
-use Rattle.std.proofs.Common.{◌∙◌, ap, arith, subst, sym}
+use Rattle.std.proofs.Common.{◌∙◌, ap, arith, rules, subst, sym}
 use Rattle.std.proofs.lemmas.Result.{on_err_weaker}
 use Rattle.utf16_units.specs.Encoding.{IsText, text_of}
 use Rattle.utf16_units.proofs.BoundaryLemmas.{Encodes-from, Encodes-to}
 use Rattle.utf16_units.proofs.EditLemmas.{Encodes-checked, boundary-within}
-use Rattle.utf16_units.proofs.EncodingLemmas.{IsText-from_Encodes, text_of-Encodes}
+use Rattle.utf16_units.proofs.EncodingLemmas.{IsText-from_Encodes, IsText-from_is_text, length-text, text_of-Encodes}
 use Rattle.utf16string.proofs.Edited.{still_text}
 use Rattle.utf16string.proofs.wstring.WString.split_off.Goals as goal
 
@@ -37,3 +37,10 @@ returns-clause-back g c =
     ap (λ v. text_of g.E.Utf16Order.BIG v.items) c.from_utf16_unchecked.ensures
     ∙ ap (text_of g.E.Utf16Order.BIG) c.in_ok-back.ensures.tail
     ∙ text_of-Encodes _ _ _ (Encodes-from _ _ _ _ (Encodes-checked _ _ c.args.self.now.well_formed) c.requires)
+
+pub returns-in_err-back-clause-nothing : goal.returns-in_err-back-clause-nothing
+returns-in_err-back-clause-nothing g c at_end infallible =
+    let vec = c.args.self.now.raw in
+    let long = length-text _ _ (IsText-from_is_text _ _ c.args.self.now.well_formed) in
+    let never = c.in_err-back.ensures.succeeds (omega (arith, vec.ok.0)) infallible in
+    search rules
