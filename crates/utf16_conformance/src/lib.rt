@@ -3,6 +3,8 @@
 
 #[cfg(test)]
 mod characters;
+#[cfg(test)]
+mod edited;
 pub mod edits;
 #[cfg(test)]
 mod faults;
