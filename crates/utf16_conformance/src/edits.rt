@@ -1,9 +1,9 @@
 //! Edits behind the tests of their conditions, by public calls alone: what a caller writes, and what it then knows.
 
-ghost use Rattle.std.specs.Prelude.{◌≡◌, ◌+◌, ◌<◌, length, false, true, Ok, Some, IfOk, IfSome, IsNone, IsTrue, OnErr};
+ghost use Rattle.std.specs.Prelude.{◌≡◌, ◌+◌, ◌<◌, length, false, true, Ok, Some, IfOk, IfSome, IsNone, IsTrue, OnErr, OnOk};
 ghost use Rattle.std.specs.List.{splice};
 ghost use Rattle.utf16_units.specs.Boundary.{text_to};
-ghost use Rattle.utf16_units.specs.Edit.{char_at, insert_at, overwrite_at, remove_at, split_back, split_front};
+ghost use Rattle.utf16_units.specs.Edit.{char_at, insert_at, overwrite_at, push_text, remove_at, split_back, split_front};
 ghost use Rattle.utf16_units.specs.Encoding.{size};
 ghost use Rattle.utf16string.specs.WStr.{wstr_bytes, wstr_text};
 ghost use Rattle.utf16string.specs.WString.{wstring_text};
@@ -26,6 +26,20 @@ pub fn inserted<E: Utf16Order, A: Allocator>(
     }
     text.insert_wstr(idx, part)?;
     Ok(true)
+}
+
+/// Puts two texts last, both or neither: once there is room for both, none is refused.
+pub fn pushed_both<E: Utf16Order, A: Allocator>(
+    text: &mut WString<E, A>,
+    first: WStr<E>,
+    second: WStr<E>,
+) -> Result<(), AllocError>
+    ensures both { OnOk result (wstring_text text.new ≡ push_text (push_text (wstring_text text.old) (wstr_text first.entry)) (wstr_text second.entry)) }
+    ensures neither { OnErr result (wstring_text text.new ≡ wstring_text text.old) }
+{
+    text.reserve(first.len() + second.len())?;
+    text.push_wstr(first)?;
+    text.push_wstr(second)
 }
 
 /// Takes out the character at an offset, where one begins there.

@@ -1,6 +1,6 @@
 //! Each request for memory refused in turn: the string stays as it was, and with memory the same call gives its answer.
 
-use crate::edits::truncated;
+use crate::edits::{pushed_both, truncated};
 use crate::refusing::Refusing;
 use crate::strings::HELLO_BE;
 use crate::views::HELLO;
@@ -16,6 +16,7 @@ const HO: [u8; 4] = [0x68, 0, 0x6F, 0];
 enum Edit {
     Push(char),
     PushText(&'static str),
+    PushBoth(&'static str, &'static str),
     Insert(usize, char),
     InsertText(usize, &'static str),
     Reserve(usize),
@@ -31,6 +32,11 @@ fn make_edit<E: Utf16Order>(
     match edit {
         Edit::Push(c) => text.push(c),
         Edit::PushText(part) => { text.push_wstr(WString::from_str(rt.alloc(), part)?.as_wstr()) }
+        Edit::PushBoth(first, second) => {
+            let first = WString::from_str(rt.alloc(), first)?;
+            let second = WString::from_str(rt.alloc(), second)?;
+            pushed_both(text, first.as_wstr(), second.as_wstr())
+        }
         Edit::Insert(idx, c) if text.is_char_boundary(idx) => text.insert(idx, c),
         Edit::InsertText(idx, part) if text.is_char_boundary(idx) => {
             text.insert_wstr(idx, WString::from_str(rt.alloc(), part)?.as_wstr())
@@ -78,6 +84,7 @@ fn edits_that_are_refused(rt: HostRuntime) -> Result<(), Fail> {
     let table = [
         ("hell", Edit::Push('o')),
         ("h", Edit::PushText("ello")),
+        ("h", Edit::PushBoth("el", "lo")),
         ("hllo", Edit::Insert(2, 'e')),
         ("ello", Edit::Insert(0, 'h')),
         ("ho", Edit::InsertText(2, "ell")),

@@ -29,7 +29,7 @@ use std::marker::PhantomData;
 use utf16_units::{BigEndian, LittleEndian, Utf16Error, Utf16Order, validate_raw_utf16};
 
 /// An owned UTF-16 string in the byte order `E`, in memory of the allocator `A`. It always holds well-formed text. Lengths,
-/// offsets and capacities count bytes.
+/// offsets and capacities count bytes. A size past what a vector can hold is refused as a request for memory is.
 #[derive(Drop)]
 pub struct WString<E: Utf16Order, A: Allocator = Global> {
     pub(crate) raw: Vec<u8, A>,
@@ -45,6 +45,7 @@ impl<E: Utf16Order, A: Allocator> WString<E, A> {
     pub fn new(alloc: A) -> Self
         ensures text { wstring_text result ≡ [] }
         ensures bytes { wstring_bytes result ≡ [] }
+        ensures capacity { wstring_capacity result ≡ 0 }
     {
         Self::from_utf16_unchecked(Vec::new(alloc))
     }

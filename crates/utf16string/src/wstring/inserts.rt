@@ -20,6 +20,7 @@ impl<E: Utf16Order, A: Allocator> WString<E, A> {
     #[inline]
     pub fn push(&mut self, ch: char) -> Result<(), AllocError>
         ensures text { OnOk result (wstring_text self.new ≡ push_text (wstring_text self.old) (ch ∷ [])) }
+        ensures len { OnOk result (length (wstring_bytes self.new) ≡ length (wstring_bytes self.old) + char_size ch) }
         ensures refused { OnErr result (IsUnchanged self.old self.new) }
         ensures room { length (wstring_bytes self.old) + char_size ch ≤ wstring_capacity self.old → IsOk result }
         ensures grows { wstring_capacity self.old ≤ wstring_capacity self.new }
@@ -32,6 +33,7 @@ impl<E: Utf16Order, A: Allocator> WString<E, A> {
     #[inline]
     pub fn push_wstr(&mut self, string: WStr<E>) -> Result<(), AllocError>
         ensures text { OnOk result (wstring_text self.new ≡ push_text (wstring_text self.old) (wstr_text string.entry)) }
+        ensures len { OnOk result (length (wstring_bytes self.new) ≡ length (wstring_bytes self.old) + length (wstr_bytes string.entry)) }
         ensures refused { OnErr result (IsUnchanged self.old self.new) }
         ensures room { length (wstring_bytes self.old) + length (wstr_bytes string.entry) ≤ wstring_capacity self.old → IsOk result }
         ensures grows { wstring_capacity self.old ≤ wstring_capacity self.new }
@@ -44,6 +46,7 @@ impl<E: Utf16Order, A: Allocator> WString<E, A> {
     pub fn insert(&mut self, idx: usize, ch: char) -> Result<(), AllocError>
         requires { IsBoundary (wstring_text self.old) idx }
         ensures text { OnOk result (wstring_text self.new ≡ insert_at (wstring_text self.old) idx (ch ∷ [])) }
+        ensures len { OnOk result (length (wstring_bytes self.new) ≡ length (wstring_bytes self.old) + char_size ch) }
         ensures refused { OnErr result (IsUnchanged self.old self.new) }
         ensures room { length (wstring_bytes self.old) + char_size ch ≤ wstring_capacity self.old → IsOk result }
         ensures grows { wstring_capacity self.old ≤ wstring_capacity self.new }
@@ -58,6 +61,7 @@ impl<E: Utf16Order, A: Allocator> WString<E, A> {
     pub fn insert_wstr(&mut self, idx: usize, string: WStr<E>) -> Result<(), AllocError>
         requires { IsBoundary (wstring_text self.old) idx }
         ensures text { OnOk result (wstring_text self.new ≡ insert_at (wstring_text self.old) idx (wstr_text string.entry)) }
+        ensures len { OnOk result (length (wstring_bytes self.new) ≡ length (wstring_bytes self.old) + length (wstr_bytes string.entry)) }
         ensures refused { OnErr result (IsUnchanged self.old self.new) }
         ensures room { length (wstring_bytes self.old) + length (wstr_bytes string.entry) ≤ wstring_capacity self.old → IsOk result }
         ensures grows { wstring_capacity self.old ≤ wstring_capacity self.new }

@@ -1,10 +1,11 @@
 //! Texts written over a part of a string.
 
-ghost use Rattle.std.specs.Prelude.{◌≡◌, ◌↔◌, ◌+◌, IsTrue};
+ghost use Rattle.std.specs.Prelude.{◌≡◌, ◌↔◌, ◌+◌, length, IsTrue};
+ghost use Rattle.std.specs.List.{splice};
 ghost use Rattle.utf16_units.specs.Boundary.{IsBoundary};
 ghost use Rattle.utf16_units.specs.Edit.{overwrite_at};
 ghost use Rattle.utf16_units.specs.Encoding.{size};
-ghost use Rattle.utf16string.specs.WStr.{wstr_text};
+ghost use Rattle.utf16string.specs.WStr.{wstr_bytes, wstr_text};
 
 use crate::wstr_mut::overwrite_bytes;
 use crate::{WStr, WString};
@@ -12,7 +13,7 @@ use std::alloc::Allocator;
 use utf16_units::Utf16Order;
 
 impl<E: Utf16Order, A: Allocator> WString<E, A> {
-    ghost use Rattle.utf16string.specs.WString.{wstring_capacity, wstring_text};
+    ghost use Rattle.utf16string.specs.WString.{wstring_bytes, wstring_capacity, wstring_text};
 
     /// Whether a text can be written over as many bytes from a byte offset on: the offset and the one behind those bytes
     /// are both character boundaries. Any offset may be asked about.
@@ -30,6 +31,7 @@ impl<E: Utf16Order, A: Allocator> WString<E, A> {
         requires start { IsBoundary (wstring_text self.old) idx }
         requires end { IsBoundary (wstring_text self.old) (idx + size (wstr_text text)) }
         ensures text { wstring_text self.new ≡ overwrite_at (wstring_text self.old) idx (wstr_text text.entry) }
+        ensures bytes { wstring_bytes self.new ≡ splice (wstring_bytes self.old) idx (idx + length (wstr_bytes text.entry)) (wstr_bytes text.entry) }
         ensures capacity { wstring_capacity self.new ≡ wstring_capacity self.old }
     {
         overwrite_bytes(self.raw.as_mut_slice(), idx, text.as_bytes());

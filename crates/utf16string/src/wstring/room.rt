@@ -1,6 +1,6 @@
 //! Room in a string for more bytes.
 
-ghost use Rattle.std.specs.Prelude.{◌≡◌, ◌+◌, ◌≤◌, [], length, IsOk, OnErr, OnOk};
+ghost use Rattle.std.specs.Prelude.{◌≡◌, ◌↔◌, ◌+◌, ◌≤◌, [], length, IsOk, OnErr, OnOk};
 
 use crate::WString;
 use std::alloc::{AllocError, Allocator};
@@ -26,9 +26,8 @@ impl<E: Utf16Order, A: Allocator> WString<E, A> {
     /// text stays where it is. Where there is no such room, or no text, nothing is asked for.
     pub fn shrink_to_fit(&mut self) -> Result<(), AllocError>
         ensures bytes { wstring_bytes self.new ≡ wstring_bytes self.old }
-        ensures fits { OnOk result (wstring_capacity self.new ≡ length (wstring_bytes self.new)) }
+        ensures fits { IsOk result ↔ (wstring_capacity self.new ≡ length (wstring_bytes self.new)) }
         ensures shrinks { wstring_capacity self.new ≤ wstring_capacity self.old }
-        ensures full { wstring_capacity self.old ≡ length (wstring_bytes self.old) → IsOk result }
         ensures empty { wstring_bytes self.old ≡ [] → IsOk result }
     {
         self.raw.shrink_to_fit();
