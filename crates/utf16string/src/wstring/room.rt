@@ -23,7 +23,7 @@ impl<E: Utf16Order, A: Allocator> WString<E, A> {
     }
 
     /// Gives back the room that the text does not take. The only error is a refused request for the smaller block; the
-    /// text stays where it is. Where there is no such room, or no text, nothing is asked for.
+    /// text stays as it was. Where there is no such room, or no text, nothing is asked for.
     pub fn shrink_to_fit(&mut self) -> Result<(), AllocError>
         ensures bytes { wstring_bytes self.new ≡ wstring_bytes self.old }
         ensures fits { IsOk result ↔ (wstring_capacity self.new ≡ length (wstring_bytes self.new)) }
