@@ -15,6 +15,7 @@ pub const APHI: [u8; 10] = [0x61, 0, 0x00, 0xD8, 0x00, 0xDC, 0x68, 0, 0x69, 0];
 // "a", U+10000, "z".
 pub const APZ_BE: [u8; 8] = [0, 0x61, 0xD8, 0x00, 0xDC, 0x00, 0, 0x7A];
 
+/// A string of these bytes, which are text.
 pub fn string_of<E: Utf16Order>(
     rt: &(impl Abort + AllocGlobal),
     raw: &[u8],
@@ -22,6 +23,7 @@ pub fn string_of<E: Utf16Order>(
     Ok(WString::from_utf16(raw.to_vec(rt.alloc())?)?)
 }
 
+/// The string holds just these bytes, and says so by each of its measures.
 pub fn bytes_are<E: Utf16Order>(
     rt: &impl Abort,
     text: &WString<E>,

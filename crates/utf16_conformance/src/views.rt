@@ -31,6 +31,7 @@ fn part_is<I: SliceIndex<LE> + Drop>(
     Ok(())
 }
 
+/// The text in UTF-8 is what is wanted.
 pub fn utf8_is<E: Utf16Order>(
     rt: &(impl Abort + AllocGlobal),
     text: WStr<E>,

@@ -1,3 +1,4 @@
 pub mod OffsetLemmas
 pub mod Edited
 pub mod Utf8Lemmas
+pub mod Removed
