@@ -1,3 +1,4 @@
 pub mod Tests
 pub mod Joins
 pub mod KeyCut
+pub mod Refuses

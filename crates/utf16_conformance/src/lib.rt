@@ -16,8 +16,7 @@ pub mod laws;
 pub mod ranges;
 #[cfg(test)]
 mod refusals;
-#[cfg(test)]
-mod refusing;
+pub mod refusing;
 #[cfg(test)]
 mod strings;
 #[cfg(test)]

@@ -1,79 +1,50 @@
 -- It answers `Err` where `refuses` says so, and else what the inner allocator answers. Assumes `Logic`.
-use Rattle.std.proofs.Common.{◌≡◌, ℕ, ◌+◌, ◌^◌, ◌<◌, true, false, List, [], ◌∷◌, Ok, Err, refl, w64, Bor, ap}
+use Rattle.std.proofs.Common.{◌≡◌, ℕ, ◌+◌, ◌^◌, ◌<◌, true, false, List, [], ◌∷◌, Ok, Err, refl, w64, Bor}
 use mathlib.Core.Bool.{Bool}
 use seplogic.Ra.Ura.{Ura}
 use mir.Syntax.{Ty, Args, Fn, a_type, dnil, dcons}
 use mir.Val.{Val, vbool, vint, vptr}
 use mir.MapTy.{inst_fn}
-use base.Logic.{SProp, ent, id⊢, sep, ex, guard}
-use base.Fml.{Lft, Share, ftrue, flft, fsep}
+use base.Logic.{SProp, ent, id⊢}
+use base.Fml.{Lft, Share, ftrue, flft}
 use prog.Memory.{Memory, size, align, capped, up}
 use prog.Routine.{Routine}
 use prog.Wp.{WpFn, Tables}
-use types.Logic.{Logic, sem}
+use types.Logic.{Logic}
 use types.Part.{agg}
 use types.Run.{stop, fld, lit, addr, no_more, and_then, first, branches, skips, exec, returns, returns_within, enter}
-use types.Kit.{‵, raw, ◌⊛◌, some, later, given, learn, pick, at_ret, ◌$◌, ◌∵◌, !, qed, move, keep, drop, use0, use1, use2, split, join, fsplit, fjoin, suffices, await, done, feq_i, feq_l, check, show, updating, now as at_once}
+use types.Kit.{‵, raw, ◌⊛◌, some, later, given, learn, pick, at_ret, ◌$◌, ◌∵◌, !, qed, move, keep, drop, use0, use1, use2, split, join, fsplit, fjoin, suffices, await, done}
 use types.ByLocal.{alloc_all, pass_all, free_all, look_at, get, through, sets, lands_as, env}
 use contract.BorrowLft.{◌⊑◌, ⊑_trans}
 use contract.Monad.{Fun, fact}
 use contract.Running.{tables, tables_of}
 use sound.WpLaws.{fm_of, WpFn-mono}
 use denote.Exit.{yes}
-use denote.RattleType.{owns, RattleType}
+use denote.RattleType.{owns}
 use denote.Ref.{shr_vals}
 use denote.Opens.{unhide}
 use denote.Param.{bounded, param}
 use denote.Plain.{uint_vals, uint_Tells}
 use denote.Signature.{Slot, plain, types_at}
-use denote.Steps.{heard, nothing, only}
+use denote.Steps.{heard, nothing}
 use denote.Triple.Clauses.{Ended, Clauses}
 use denote.Triple.Spec.{triple_of}
-use denote.Triple.Statement.{Triple, Contract}
+use denote.Triple.Statement.{Triple}
 use denote.Triple.Table.{entered, cited}
 use denote.Triple.Walked.{Stays, stay_dropped, walk_of, ends_at, walked, Goes-dropped, walk_Meets}
 use denote.RawPtr.{block_ptr}
-use denote.Builtin.{usize, RefOf, bool}
+use denote.Builtin.{usize, RefOf}
 use denote.Triple.Call.{calls_at}
-use denote.Memory.{hidden_shr}
 use Rattle.std.proofs.VecSteps.Shapes.{after}
 use Rattle.std.proofs.alloc.Calls.{Al, α, seen, Answer, answer_val, Answer-typed, Answer-Ok, Answer-err, takes_key, Takes, at_takes, Answered, Takes-goes, Takes-gives, answers}
-use Rattle.std.specs.contracts.cell.Cell as CE
 use Rattle.utf16_conformance.specs.contracts.refusing.Refusing as wrapper
 use Rattle.utf16_conformance.specs.contracts.refusing.RefusingAllocator.allocate as F
 use Rattle.utf16_conformance.specs.contracts.refusing.RefusingAllocator.allocate.Key as key
-use Rattle.utf16_conformance.specs.contracts.refusing.Plan as PL
-use Rattle.utf16_conformance.specs.contracts.refusing.refuses as RF
+use Rattle.utf16_conformance.proofs.Refuses.{Refuses, at_refuses, Refuses-goes, Refuses-gives}
 use Rattle.utf16_conformance.proofs.refusing.refuses.Symbol as symbol
 use Rattle.utf16_conformance.proofs.refusing.refuses.Met as refuses_is
 use Rattle.utf16_conformance.proofs.refusing.RefusingAllocator.allocate.Statement as stated
 use Rattle.utf16_conformance.proofs.refusing.RefusingAllocator.allocate.Code as code
-
--- `refuses` at a call: what it is handed, and what a caller has of it.
-abbrev PlanCell : RattleType
-PlanCell = CE.the_row PL.the_row
-
-module _ {M : Type 1} {𝓤 : Ura M} (𝓛 : Logic 𝓤) (at_mem : Memory → SProp 𝓤) (run : Routine → Fun 𝓤) where
-  abbrev Refuses : Contract 𝓤
-  Refuses = triple_of 𝓛 RF.signature (RF.spec 𝓛 at_mem run)
-
-  abbrev at_refuses : Lft → Share → ℕ × ℕ → Refuses.Ghost
-  at_refuses κ q c = (((κ, tt), (q, tt), tt, (record { ref_ptr = c; now = record { value = tt } }, tt), (vptr c.0 c.1 ∷ [], tt)), tt)
-
-module _ {M : Type 1} {𝓤 : Ura M} (𝓛 : Logic 𝓤) (at_mem : Memory → SProp 𝓤) (run : Routine → Fun 𝓤) (κ : Lft) (q : Share) (c : ℕ × ℕ) where
-  open 𝓛 use {H, A}
-
-  Refuses-goes : ent 𝓤 (sep 𝓤 (sem 𝓛 (hidden_shr PlanCell κ (record { value = tt }) c.0 c.1)) (A.lft κ q)) ((Refuses 𝓛 at_mem run).pre (at_refuses 𝓛 at_mem run κ q c))
-  Refuses-goes =
-      qed 𝓛 (‵ (hidden_shr PlanCell κ (record { value = tt }) c.0 c.1) ∷ ‵ (flft κ q) ∷ []) ∵ feq_i ! (List Val) (vptr c.0 c.1 ∷ []) (vptr c.0 c.1 ∷ []) refl $ fjoin ! $
-      nothing ! $ move ! (1 ∷ []) $ fjoin ! $ nothing ! $ move ! (2 ∷ []) $ join ! $ join ! $ nothing ! $ move ! (1 ∷ []) $ done !
-
-  -- its answer is one truth value, of which nothing is known
-  Refuses-gives : (v : Val) → ent 𝓤 ((Refuses 𝓛 at_mem run).post (at_refuses 𝓛 at_mem run κ q c) v) (H.⇛ (ex 𝓤 (λ (y : Bool). guard 𝓤 (v ≡ vbool y) (A.lft κ q))))
-  Refuses-gives v =
-      qed 𝓛 (raw ((Refuses 𝓛 at_mem run).post (at_refuses 𝓛 at_mem run κ q c) v) ∷ []) ∵ updating ! $
-      use1 𝓛 (later (some (λ (y : Bool). ((‵ (flft κ q) ⊛ ‵ ftrue) ⊛ ‵ (bool.own_val y (v ∷ []))) ⊛ some (λ (ws : Unit {0} × Unit {0}). ‵ (fsep ftrue ftrue) ⊛ ‵ ftrue)))) (id⊢ 𝓤 _) $ await ! tt $ pick ! (λ y.
-      split ! $ split ! $ move ! (1 ∷ []) $ feq_l ! (λ e. split ! $ at_once ! $ show ! (λ (t : Bool). guard 𝓤 (v ≡ vbool t) (A.lft κ q)) y $ check ! (ap only e) $ keep ! (0 ∷ []) $ done !))
 
 module _ (Z : Al) where
   abbrev args : Args
