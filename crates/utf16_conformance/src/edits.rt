@@ -1,10 +1,10 @@
 //! Edits behind the tests of their conditions, by public calls alone: what a caller writes, and what it then knows.
 
-ghost use Rattle.std.specs.Prelude.{◌≡◌, ◌+◌, ◌<◌, length, false, true, Ok, Some, IfOk, IfSome, IsNone, IsTrue, OnErr, OnOk};
+ghost use Rattle.std.specs.Prelude.{◌≡◌, ◌↔◌, ◌⊎◌, ◌+◌, ◌<◌, ◌≤◌, length, false, true, Ok, Some, IfOk, IfSome, IsNone, IsOk, IsSome, IsTrue, OnErr, OnOk};
 ghost use Rattle.std.specs.List.{splice};
-ghost use Rattle.utf16_units.specs.Boundary.{text_to};
+ghost use Rattle.utf16_units.specs.Boundary.{IsBoundary, text_to};
 ghost use Rattle.utf16_units.specs.Edit.{char_at, insert_at, overwrite_at, push_text, remove_at, split_back, split_front};
-ghost use Rattle.utf16_units.specs.Encoding.{size};
+ghost use Rattle.utf16_units.specs.Encoding.{IsText, size};
 ghost use Rattle.utf16string.specs.WStr.{wstr_bytes, wstr_text};
 ghost use Rattle.utf16string.specs.WString.{wstring_text};
 
@@ -17,6 +17,7 @@ pub fn inserted<E: Utf16Order, A: Allocator>(
     idx: usize,
     part: WStr<E>,
 ) -> Result<bool, AllocError>
+    ensures fits { IfOk result (λ put. IsTrue put ↔ IsBoundary (wstring_text text.old) idx) }
     ensures put { result ≡ Ok true → wstring_text text.new ≡ insert_at (wstring_text text.old) idx (wstr_text part.entry) }
     ensures kept { result ≡ Ok false → wstring_text text.new ≡ wstring_text text.old }
     ensures refused { OnErr result (wstring_text text.new ≡ wstring_text text.old) }
@@ -44,6 +45,7 @@ pub fn pushed_both<E: Utf16Order, A: Allocator>(
 
 /// Takes out the character at an offset, where one begins there.
 pub fn removed<E: Utf16Order, A: Allocator>(text: &mut WString<E, A>, idx: usize) -> Option<char>
+    ensures some { IsSome result ↔ ((idx < size (wstring_text text.old)) × IsBoundary (wstring_text text.old) idx) }
     ensures char { IfSome result (λ c. char_at (wstring_text text.old) idx ≡ Some c) }
     ensures cut { IfSome result (λ _. wstring_text text.new ≡ remove_at (wstring_text text.old) idx) }
     ensures kept { IsNone result → wstring_text text.new ≡ wstring_text text.old }
@@ -57,6 +59,7 @@ pub fn removed<E: Utf16Order, A: Allocator>(text: &mut WString<E, A>, idx: usize
 
 /// Keeps the front up to an offset, where that is a character boundary or past the text: whether it is.
 pub fn truncated<E: Utf16Order, A: Allocator>(text: &mut WString<E, A>, len: usize) -> bool
+    ensures fits { IsTrue result ↔ ((size (wstring_text text.old) ≤ len) ⊎ IsBoundary (wstring_text text.old) len) }
     ensures cut { IsTrue result → len < size (wstring_text text.old) → wstring_text text.new ≡ text_to (wstring_text text.old) len }
     ensures kept { result ≡ false → wstring_text text.new ≡ wstring_text text.old }
 {
@@ -72,6 +75,7 @@ pub fn split<E: Utf16Order, A: Allocator + Clone>(
     text: &mut WString<E, A>,
     at: usize,
 ) -> Result<Option<WString<E, A>>, AllocError>
+    ensures some { IfOk result (λ back. IsSome back ↔ IsBoundary (wstring_text text.old) at) }
     ensures front { IfOk result (λ back. IfSome back (λ _. wstring_text text.new ≡ split_front (wstring_text text.old) at)) }
     ensures back { IfOk result (λ back. IfSome back (λ back. wstring_text back ≡ split_back (wstring_text text.old) at)) }
     ensures refused { OnErr result (wstring_text text.new ≡ wstring_text text.old) }
@@ -88,6 +92,7 @@ pub fn overwritten<E: Utf16Order, A: Allocator>(
     idx: usize,
     part: WStr<E>,
 ) -> bool
+    ensures fits { IsTrue result ↔ (IsBoundary (wstring_text text.old) idx × IsBoundary (wstring_text text.old) (idx + size (wstr_text part.entry))) }
     ensures over { IsTrue result → wstring_text text.new ≡ overwrite_at (wstring_text text.old) idx (wstr_text part.entry) }
     ensures kept { result ≡ false → wstring_text text.new ≡ wstring_text text.old }
 {
@@ -106,6 +111,7 @@ pub fn overwritten_in_place<E: Utf16Order>(
     idx: usize,
     part: WStr<E>,
 ) -> Result<bool, Utf16Error>
+    ensures text { IsOk result ↔ IsText E.BIG buf.old }
     ensures over { result ≡ Ok true → buf.new ≡ splice buf.old idx (idx + length (wstr_bytes part.entry)) (wstr_bytes part.entry) }
     ensures kept { result ≡ Ok false → buf.new ≡ buf.old }
     ensures refused { OnErr result (buf.new ≡ buf.old) }
