@@ -32,8 +32,8 @@ first_char-removed-requires-clause-some g c = lent-some _ _ _ _ c.deref.ensures.
 pub invariant_of-self : goal.invariant_of-self
 invariant_of-self g c = record {
   well_formed =
-    subst (λ bytes. is_text g.E.Utf16Order.BIG bytes ≡ true) (sym c.remove_bytes.ensures.items)
-    (checked-Encodes _ _ _ (removed g (goal.at.invariant_of-self g c).After-first_char-removed));
+      subst (λ bytes. is_text g.E.Utf16Order.BIG bytes ≡ true) (sym c.remove_bytes.ensures.items)
+      (checked-Encodes _ _ _ (removed g (goal.at.invariant_of-self g c).After-first_char-removed));
 }
 
 pub returns-clause-char : goal.returns-clause-char
