@@ -1,4 +1,3 @@
 pub mod Tests
 pub mod Joins
 pub mod KeyCut
-pub mod Refuses

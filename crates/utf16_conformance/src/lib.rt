@@ -16,7 +16,6 @@ pub mod laws;
 pub mod ranges;
 #[cfg(test)]
 mod refusals;
-pub mod refusing;
 #[cfg(test)]
 mod strings;
 #[cfg(test)]

@@ -1,12 +1,12 @@
 //! Each request for memory refused in turn: the string stays as it was, and with memory the same call gives its answer.
 
 use crate::edits::{pushed_both, truncated};
-use crate::refusing::Refusing;
 use crate::strings::HELLO_BE;
 use crate::views::HELLO;
 use std::alloc::{AllocError, Global};
 use std::process::Abort;
 use std::test::Fail;
+use utf16_testing::refusing::Refusing;
 use utf16string::{BE, LE, Utf16Order, WStr, WString};
 
 const HO: [u8; 4] = [0x68, 0, 0x6F, 0];

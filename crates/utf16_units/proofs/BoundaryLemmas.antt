@@ -203,6 +203,16 @@ IsBoundary-rest text i j le a b =
     subst (λ t. IsBoundary t (j - i)) (sym (text_from-back text i a))
     (subst (IsBoundary a.back) cut (longer_prefix a.front a.back b.front b.back (a.split ∙ sym b.split) (omega arith)))
 
+-- between a boundary and the end stands all from the boundary on
+pub text_between-end : (text : List ℕ) (i : ℕ) → IsBoundary text i → text_between text i (size text) ≡ text_from text i
+text_between-end text i b =
+    let from = text_from-back text i b in
+    let whole = ap size (sym b.split) ∙ size-append b.front b.back in
+    let at = b.offset in
+    ap (λ t. text_to t (size text - i)) (from ∙ sym (append-nil b.back))
+    ∙ text_to-at b.back [] (size text - i) (omega arith)
+    ∙ sym from
+
 -- the bytes between two boundaries encode the characters between them
 pub Encodes-between : (big : Bool) (text bytes : List ℕ) (i j : ℕ) → Encodes big text bytes → i ≤ j → IsBoundary text i → IsBoundary text j
     → Encodes big (text_between text i j) (take (j - i) (drop i bytes))

@@ -1,16 +1,16 @@
 -- The bytes of an edited text are the edited bytes.
-use Rattle.std.proofs.Common.{◌≡◌, ℕ, ◌+◌, ◌<◌, ◌≤◌, Bool, true, List, [], ◌∷◌, ◌++◌, length, take, drop, Some, slice_get, sym, ap, ◌∙◌, subst, arith, drop-drop, take_at, ⊎_elim}
+use Rattle.std.proofs.Common.{◌≡◌, ℕ, ◌+◌, ◌<◌, ◌≤◌, Bool, true, List, [], ◌∷◌, ◌++◌, length, take, drop, Some, slice_get, sym, ap, ◌∙◌, subst, append_assoc, arith, take_at, ⊎_elim}
 use Rattle.std.specs.List.{remove_range, splice}
 use Rattle.std.specs.Char.{IsScalar}
 use Rattle.utf16_units.specs.Boundary.{IsBoundary, text_from, text_to}
 use Rattle.utf16_units.specs.Edit.{char_at, insert_at, overwrite_at, push_text, remove_at}
-use Rattle.utf16_units.specs.Encoding.{char_bytes, char_size, Encodes, IsText, is_text, size, text_of}
-use Rattle.utf16_units.proofs.BoundaryLemmas.{Encodes-from, Encodes-to, IsBoundary-within, text_to-front}
+use Rattle.utf16_units.specs.Encoding.{char_bytes, char_size, Encodes, is_text, size, text_of}
+use Rattle.utf16_units.proofs.BoundaryLemmas.{Encodes-from, Encodes-to, IsBoundary-within, size-text_to, text_from-at, text_to-front, text_to-text_from}
 use Rattle.utf16_units.proofs.CharLemmas.{length-char_bytes}
 use Rattle.std.proofs.lemmas.Bool.{cases_lt}
 use Rattle.std.proofs.lemmas.List.{take_all}
 use Rattle.std.proofs.lemmas.List.Elements.{All-cons, All-nil}
-use Rattle.utf16_units.proofs.EncodingLemmas.{Encodes-append, Encodes-text_of, IsText-from_Encodes, IsText-from_is_text, encode-one, is_text-from_IsText, length-text, text_of-Encodes}
+use Rattle.utf16_units.proofs.EncodingLemmas.{Encodes-append, Encodes-text_of, IsText-from_Encodes, IsText-from_is_text, encode-one, is_text-from_IsText, length-text, size-append, size-cons, size-nil}
 
 -- bytes that pass the test of `is_text` encode the text that they spell
 pub Encodes-checked : (big : Bool) (bytes : List ℕ) → is_text big bytes ≡ true → Encodes big (text_of big bytes) bytes
@@ -34,26 +34,31 @@ Encodes-overwritten big text bytes i other more e b behind o =
     (Encodes-to big text bytes i e b)
     (Encodes-append big other (text_from text (i + size other)) more (drop (i + size other) bytes) o (Encodes-from big text bytes (i + size other) e behind))
 
--- the character at a boundary, found at the front of the bytes from there on, and what is left without its n bytes
-pub char-found : (big : Bool) (text bytes : List ℕ) (i c n : ℕ) → Encodes big text bytes → IsBoundary text i
-    → text_of big (drop i bytes) ≡ c ∷ text_of big (drop n (drop i bytes)) → text_from text i ≡ c ∷ text_of big (drop n (drop i bytes))
-char-found big text bytes i c n e b first =
-    sym (text_of-Encodes big (text_from text i) (drop i bytes) (Encodes-from big text bytes i e b)) ∙ first
+-- the character at a boundary, which is the first from there on, taken out
+module _ (text : List ℕ) (i c : ℕ) (rest : List ℕ) (b : IsBoundary text i) (first : text_from text i ≡ c ∷ rest) where
+  pub char_at-first : char_at text i ≡ Some c
+  char_at-first = ap (λ t. slice_get t 0) first
 
-pub char_at-found : (big : Bool) (text bytes : List ℕ) (i c n : ℕ) → Encodes big text bytes → IsBoundary text i
-    → text_of big (drop i bytes) ≡ c ∷ text_of big (drop n (drop i bytes)) → char_at text i ≡ Some c
-char_at-found big text bytes i c n e b first = ap (λ t. slice_get t 0) (char-found big text bytes i c n e b first)
+  split : text_to text i ++ (c ∷ rest) ≡ text
+  split = ap (λ t. text_to text i ++ t) (sym first) ∙ text_to-text_from text i
 
-pub Encodes-removed : (big : Bool) (text bytes : List ℕ) (i c n : ℕ) → Encodes big text bytes → IsBoundary text i
-    → text_of big (drop i bytes) ≡ c ∷ text_of big (drop n (drop i bytes)) → IsText big (drop n (drop i bytes))
-    → Encodes big (remove_at text i) (remove_range bytes i (i + n))
-Encodes-removed big text bytes i c n e b first rest =
-    let found : drop 1 (text_from text i) ≡ text_of big (drop n (drop i bytes)) = ap (drop 1) (char-found big text bytes i c n e b first) in
-    let behind : Encodes big (text_of big (drop n (drop i bytes))) (drop (i + n) bytes) =
-    subst (Encodes big (text_of big (drop n (drop i bytes)))) (drop-drop n i bytes) (Encodes-text_of big (drop n (drop i bytes)) rest) in
-    Encodes-append big (text_to text i) (drop 1 (text_from text i)) (take i bytes) (drop (i + n) bytes)
-    (Encodes-to big text bytes i e b)
-    (subst (λ t. Encodes big t (drop (i + n) bytes)) (sym found) behind)
+  before : size (text_to text i ++ c ∷ []) ≡ i + char_size c
+  before = omega (arith, size-append (text_to text i) (c ∷ []), size-cons c [], size-nil, size-text_to text i b)
+
+  joined : (text_to text i ++ c ∷ []) ++ rest ≡ text
+  joined = append_assoc (text_to text i) (c ∷ []) rest ∙ split
+
+  -- it ends at a boundary too
+  pub behind-first : IsBoundary text (i + char_size c)
+  behind-first = record { front = text_to text i ++ c ∷ []; back = rest; split = joined; offset = before }
+
+  pub Encodes-removed : (big : Bool) (bytes : List ℕ) → Encodes big text bytes → Encodes big (remove_at text i) (remove_range bytes i (i + char_size c))
+  Encodes-removed big bytes e =
+      let left : text_from text (i + char_size c) ≡ drop 1 (text_from text i) =
+      ap (λ t. text_from t (i + char_size c)) (sym joined) ∙ text_from-at (text_to text i ++ c ∷ []) rest (i + char_size c) before ∙ ap (drop 1) (sym first) in
+      Encodes-append big (text_to text i) (drop 1 (text_from text i)) (take i bytes) (drop (i + char_size c) bytes)
+      (Encodes-to big text bytes i e b)
+      (subst (λ t. Encodes big t (drop (i + char_size c) bytes)) left (Encodes-from big text bytes (i + char_size c) e behind-first))
 
 -- a character's bytes, where they were written at the front of others
 pub take-written : (big : Bool) (c n : ℕ) (buf rest : List ℕ) → n ≡ char_size c → buf ≡ char_bytes big c ++ rest → take n buf ≡ char_bytes big c

@@ -1,4 +1,3 @@
-pub mod OffsetLemmas
 pub mod Edited
 pub mod Utf8Lemmas
 pub mod Removed

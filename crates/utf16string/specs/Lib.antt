@@ -3,8 +3,9 @@ pub use Rattle.utf16_units.specs.Encoding
 pub use Rattle.utf16_units.specs.Fault
 pub use Rattle.utf16_units.specs.Utf16Error
 pub use Rattle.utf16_units.specs.Boundary
-pub mod Offsets
-pub mod Window
-pub mod WStr
+pub use Rattle.utf16_units.specs.Edit
+pub use Rattle.utf16_str.specs.Offsets
+pub use Rattle.utf16_str.specs.Window
+pub use Rattle.utf16_str.specs.WStr
+pub use Rattle.utf16_str.specs.WStrMut
 pub mod WString
-pub mod WStrMut

@@ -1,15 +1,12 @@
 //! UTF-16 strings in either byte order: `WStr` and `WString` are to UTF-16 bytes what `str` and `String` are to UTF-8.
+//!
+//! The owned string stands here. All of `utf16_str` and the byte orders are re-exported, so that a user names this crate alone.
 #![tactic(auto)]
 
-mod iters;
-mod slicing;
-mod wstr;
-mod wstr_mut;
 mod wstring;
 
-pub use crate::iters::{WStrCharIndices, WStrChars};
-pub use crate::slicing::SliceIndex;
-pub use crate::wstr::WStr;
-pub use crate::wstr_mut::WStrMut;
 pub use crate::wstring::WString;
-pub use utf16_units::{BE, BigEndian, LE, LittleEndian, Utf16Error, Utf16Order};
+pub use utf16_str::{
+    BE, BigEndian, LE, LittleEndian, SliceIndex, Utf16Error, Utf16Order, WStr, WStrCharIndices,
+    WStrChars, WStrMut,
+};

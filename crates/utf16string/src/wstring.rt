@@ -17,22 +17,22 @@ ghost use Rattle.std.proofs.Common.{rules};
 ghost use Rattle.utf16_units.specs.Boundary.{IsBoundary};
 ghost use Rattle.utf16_units.specs.Encoding.{Encodes, IsText, is_text, size};
 ghost use Rattle.utf16_units.specs.Utf16Error.{IsErrorOf};
-ghost use Rattle.utf16string.specs.Offsets.{char_offsets};
-ghost use Rattle.utf16string.specs.WStr.{wstr_bytes, wstr_text};
-ghost use Rattle.utf16string.specs.Window.{IsWindowOf, window_text};
+ghost use Rattle.utf16_str.specs.Offsets.{char_offsets};
+ghost use Rattle.utf16_str.specs.WStr.{wstr_bytes, wstr_text};
+ghost use Rattle.utf16_str.specs.Window.{IsWindowOf, window_text};
 
-use crate::{SliceIndex, WStr, WStrCharIndices, WStrChars};
 use std::alloc::{AllocError, Allocator, Global};
 use std::fmt;
 use std::hash::{Hash, Hasher};
 use std::marker::PhantomData;
+use utf16_str::{SliceIndex, WStr, WStrCharIndices, WStrChars};
 use utf16_units::{BigEndian, LittleEndian, Utf16Error, Utf16Order, validate_raw_utf16};
 
 /// An owned UTF-16 string in the byte order `E`, in memory of the allocator `A`. It always holds well-formed text. Lengths,
 /// offsets and capacities count bytes. A size past what a vector can hold is refused as a request for memory is.
 #[derive(Drop)]
 pub struct WString<E: Utf16Order, A: Allocator = Global> {
-    pub(crate) raw: Vec<u8, A>,
+    raw: Vec<u8, A>,
     order: PhantomData<E>,
     ghost well_formed: { is_text E.BIG raw.items ≡ true },
 }

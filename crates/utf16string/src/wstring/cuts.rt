@@ -9,7 +9,6 @@ ghost use Rattle.utf16_units.specs.Edit.{char_at, push_text, remove_at, split_ba
 ghost use Rattle.utf16_units.specs.Encoding.{size};
 
 use crate::WString;
-use crate::iters::first_char;
 use std::alloc::{AllocError, Allocator};
 use utf16_units::{Utf16CharExt, Utf16Order};
 
@@ -38,8 +37,8 @@ impl<E: Utf16Order, A: Allocator> WString<E, A> {
         ensures text { wstring_text self.new ≡ remove_at (wstring_text self.old) idx }
         ensures capacity { wstring_capacity self.new ≡ wstring_capacity self.old }
     {
-        let (removed, size) = first_char::<E>(&self.raw[idx..]);
-        remove_bytes(&mut self.raw, idx, idx + size);
+        let removed = self.index(idx..).chars().next().unwrap();
+        remove_bytes(&mut self.raw, idx, idx + removed.encoded_utf16_len());
         removed
     }
 

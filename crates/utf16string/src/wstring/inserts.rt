@@ -6,10 +6,11 @@ ghost use Rattle.std.specs.Vec.{VecUnchanged, vec_capacity, vec_len};
 ghost use Rattle.utf16_units.specs.Boundary.{IsBoundary};
 ghost use Rattle.utf16_units.specs.Edit.{insert_at, push_text};
 ghost use Rattle.utf16_units.specs.Encoding.{char_bytes, char_size, size};
-ghost use Rattle.utf16string.specs.WStr.{wstr_bytes, wstr_text};
+ghost use Rattle.utf16_str.specs.WStr.{wstr_bytes, wstr_text};
 
-use crate::{WStr, WString};
+use crate::WString;
 use std::alloc::{AllocError, Allocator};
+use utf16_str::WStr;
 use utf16_units::{Utf16CharExt, Utf16Order};
 
 impl<E: Utf16Order, A: Allocator> WString<E, A> {

@@ -4,12 +4,12 @@ ghost use Rattle.std.specs.Prelude.{◌≡◌, ◌↔◌, ◌+◌, length, IsTru
 ghost use Rattle.std.specs.List.{splice};
 ghost use Rattle.utf16_units.specs.Boundary.{IsBoundary};
 ghost use Rattle.utf16_units.specs.Edit.{overwrite_at};
-ghost use Rattle.utf16_units.specs.Encoding.{size};
-ghost use Rattle.utf16string.specs.WStr.{wstr_bytes, wstr_text};
+ghost use Rattle.utf16_units.specs.Encoding.{IsText, size, text_of};
+ghost use Rattle.utf16_str.specs.WStr.{wstr_bytes, wstr_text};
 
-use crate::wstr_mut::overwrite_bytes;
-use crate::{WStr, WString};
+use crate::WString;
 use std::alloc::Allocator;
+use utf16_str::{WStr, WStrMut};
 use utf16_units::Utf16Order;
 
 impl<E: Utf16Order, A: Allocator> WString<E, A> {
@@ -24,8 +24,8 @@ impl<E: Utf16Order, A: Allocator> WString<E, A> {
         self.as_wstr().fits(idx, text)
     }
 
-    /// Writes a text over as many bytes from a byte offset on, as `fits` tests. All other bytes stay, and so does the
-    /// capacity.
+    /// Writes a text over as many bytes from a byte offset on. The caller proves that both ends are character boundaries;
+    /// `fits` tests it. All other bytes stay, and so does the capacity.
     #[inline]
     pub fn overwrite(&mut self, idx: usize, text: WStr<E>)
         requires start { IsBoundary (wstring_text self.old) idx }
@@ -34,6 +34,17 @@ impl<E: Utf16Order, A: Allocator> WString<E, A> {
         ensures bytes { wstring_bytes self.new ≡ splice (wstring_bytes self.old) idx (idx + length (wstr_bytes text.entry)) (wstr_bytes text.entry) }
         ensures capacity { wstring_capacity self.new ≡ wstring_capacity self.old }
     {
-        overwrite_bytes(self.raw.as_mut_slice(), idx, text.as_bytes());
+        overwrite_text(self.raw.as_mut_slice(), idx, text);
     }
+}
+
+// Writes a text over as many bytes from an offset on, in bytes that are text.
+#[inline]
+fn overwrite_text<E: Utf16Order>(raw: &mut [u8], idx: usize, text: WStr<E>)
+    requires text { IsText E.BIG raw.old }
+    requires start { IsBoundary (text_of E.BIG raw.old) idx }
+    requires end { IsBoundary (text_of E.BIG raw.old) (idx + size (wstr_text text)) }
+    ensures { raw.new ≡ splice raw.old idx (idx + length (wstr_bytes text.entry)) (wstr_bytes text.entry) }
+{
+    WStrMut::from_utf16_unchecked(raw).overwrite(idx, text);
 }

@@ -4,7 +4,7 @@ use Rattle.std.proofs.lemmas.Result.{on_err_weaker}
 use Rattle.utf16_units.specs.Edit.{insert_at}
 use Rattle.utf16_units.specs.Encoding.{Encodes}
 use Rattle.utf16_units.proofs.EditLemmas.{Encodes-checked, Encodes-inserted, boundary-within}
-use Rattle.utf16string.specs.WStr.{wstr_text}
+use Rattle.utf16_str.specs.WStr.{wstr_text}
 use Rattle.utf16string.specs.WString.{wstring_bytes, wstring_text}
 use Rattle.utf16string.proofs.Edited.{edited_text, still_text}
 use Rattle.utf16string.proofs.wstring.WString.insert_wstr.Given.{Over}

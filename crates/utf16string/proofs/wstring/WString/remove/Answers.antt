@@ -1,46 +1,60 @@
-use Rattle.std.proofs.Common.{◌≡◌, ◌+◌, ◌∙◌, ap, arith, subst, sym, true}
+use Rattle.std.proofs.Common.{◌≡◌, ◌∷◌, ◌∙◌, ◌+◌, ◌≤◌, ap, arith, subst, sym, true}
+use Rattle.std.specs.Iterator.{YieldsFirst}
 use Rattle.std.specs.List.{remove_range}
+use Rattle.utf16_units.specs.Boundary.{text_from}
 use Rattle.utf16_units.specs.Edit.{remove_at}
 use Rattle.utf16_units.specs.Encoding.{Encodes, is_text, text_of}
-use Rattle.utf16_units.proofs.EditLemmas.{checked-Encodes}
+use Rattle.utf16_units.proofs.EditLemmas.{Encodes-checked, Encodes-removed, behind-first, boundary-within, char_at-first, checked-Encodes}
 use Rattle.utf16_units.proofs.EncodingLemmas.{text_of-Encodes}
 use Rattle.utf16string.specs.WString.{wstring_bytes, wstring_text}
-use Rattle.utf16string.proofs.Removed.{Encodes-without, char-there, lent-some, lent-text, within}
+use Rattle.utf16string.proofs.Removed.{part, some, to_end}
 use Rattle.utf16string.proofs.wstring.WString.remove.Given.{Over}
 use Rattle.utf16string.proofs.wstring.WString.remove.Goals as goal
-use Rattle.utf16string.proofs.wstring.WString.remove.Goals.{After-first_char-removed}
+use Rattle.utf16string.proofs.wstring.WString.remove.Goals.{After-encoded_utf16_len}
 
-removed : (g : Over) (c : After-first_char-removed g)
-    → Encodes g.E.Utf16Order.BIG (remove_at (wstring_text c.args.self.now) c.args.idx)
-    (remove_range (wstring_bytes c.args.self.now) c.args.idx (c.args.idx + c.first_char-removed.result.1))
-removed g c =
-    let first = c.first_char-removed.ensures in
-    Encodes-without _ _ _ _ c.deref.ensures.value c.args.self.now.well_formed c.requires.within c.requires.boundary _ _ first.text first.rest
+module _ (g : Over) (c : After-encoded_utf16_len g) where
+  first : text_from (wstring_text c.args.self.now) c.args.idx ≡ c.unwrap-removed.result ∷ c.next.new.self
+  first =
+      let steps = subst (λ r. YieldsFirst (λ rest. rest) c.chars.result r c.next.new.self) c.unwrap-removed.ensures c.next.ensures.steps in
+      sym (c.chars.ensures.text ∙ c.index.ensures ∙ part _ _ _ c.args.self.now.well_formed c.requires.within c.requires.boundary) ∙ steps
 
-pub slice_bounds-first_char-count : goal.slice_bounds-first_char-count
-slice_bounds-first_char-count g c = omega (arith, within _ _ _ _ c.deref.ensures.value c.args.self.now.well_formed c.requires.within)
+  behind : c.args.idx + c.encoded_utf16_len.result ≤ c.args.self.now.raw.len
+  behind =
+      omega (arith, boundary-within _ _ _ c.args.self.now.well_formed (behind-first _ _ _ _ c.requires.boundary first), c.encoded_utf16_len.ensures, c.args.self.now.raw.ok.0)
 
-pub slice_bounds-first_char-start : goal.slice_bounds-first_char-start
-slice_bounds-first_char-start g c = omega (arith, within _ _ _ _ c.deref.ensures.value c.args.self.now.well_formed c.requires.within)
+  removed : Encodes g.E.Utf16Order.BIG (remove_at (wstring_text c.args.self.now) c.args.idx)
+      (remove_range (wstring_bytes c.args.self.now) c.args.idx (c.args.idx + c.encoded_utf16_len.result))
+  removed =
+      subst (λ n. Encodes g.E.Utf16Order.BIG (remove_at (wstring_text c.args.self.now) c.args.idx) (remove_range (wstring_bytes c.args.self.now) c.args.idx (c.args.idx + n)))
+      (sym c.encoded_utf16_len.ensures)
+      (Encodes-removed _ _ _ _ c.requires.boundary first _ _ (Encodes-checked _ _ c.args.self.now.well_formed))
 
-pub first_char-removed-requires-clause-text : goal.first_char-removed-requires-clause-text
-first_char-removed-requires-clause-text g c = lent-text _ _ _ _ c.deref.ensures.value c.args.self.now.well_formed c.requires.within c.requires.boundary
+pub index-requires : goal.index-requires
+index-requires g c = to_end _ _ _ c.args.self.now.well_formed c.requires.within c.requires.boundary
 
-pub first_char-removed-requires-clause-some : goal.first_char-removed-requires-clause-some
-first_char-removed-requires-clause-some g c = lent-some _ _ _ _ c.deref.ensures.value c.args.self.now.well_formed c.requires.within
+pub unwrap-removed-requires : goal.unwrap-removed-requires
+unwrap-removed-requires g c =
+    some _ _ _ c.args.self.now.well_formed c.requires.within c.requires.boundary c.next.result c.next.new.self
+    (subst (λ text. YieldsFirst (λ rest. rest) text c.next.result c.next.new.self) (c.chars.ensures.text ∙ c.index.ensures) c.next.ensures.steps)
+
+pub overflow_add-idx : goal.overflow_add-idx
+overflow_add-idx g c = omega (arith, behind g c)
+
+pub remove_bytes-requires-clause-within : goal.remove_bytes-requires-clause-within
+remove_bytes-requires-clause-within g c = behind g c
 
 pub invariant_of-self : goal.invariant_of-self
 invariant_of-self g c = record {
   well_formed =
       subst (λ bytes. is_text g.E.Utf16Order.BIG bytes ≡ true) (sym c.remove_bytes.ensures.items)
-      (checked-Encodes _ _ _ (removed g (goal.at.invariant_of-self g c).After-first_char-removed));
+      (checked-Encodes _ _ _ (removed g (goal.at.invariant_of-self g c).After-encoded_utf16_len));
 }
 
 pub returns-clause-char : goal.returns-clause-char
 returns-clause-char g c =
-    char-there _ _ _ _ c.deref.ensures.value c.args.self.now.well_formed c.requires.within c.requires.boundary _ _ c.first_char-removed.ensures.text
+    char_at-first _ _ _ _ c.requires.boundary (first g (goal.at.returns-clause-char g c).After-encoded_utf16_len)
 
 pub returns-clause-text : goal.returns-clause-text
 returns-clause-text g c =
     ap (text_of g.E.Utf16Order.BIG) c.remove_bytes.ensures.items
-    ∙ text_of-Encodes _ _ _ (removed g (goal.at.returns-clause-text g c).After-first_char-removed)
+    ∙ text_of-Encodes _ _ _ (removed g (goal.at.returns-clause-text g c).After-encoded_utf16_len)

@@ -1,0 +1,8 @@
+use Rattle.std.proofs.Common.{encode_utf8_all}
+use Rattle.std.specs.Fmt.{HasWritten, IsPlainFormatter}
+use Rattle.utf16_str.proofs.wstr.WStrDisplay.fmt.Given as goal
+
+-- the characters so far were written
+abbrev pub invariant-loop-c : goal.invariant-loop-c
+invariant-loop-c g l =
+    IsPlainFormatter l.initial.f → HasWritten g.W.Write.write_str_gives l.initial.f (encode_utf8_all l.yielded) l.f

@@ -1,0 +1,5 @@
+use Rattle.utf16_units.proofs.EncodingLemmas.{is_text-from_IsText}
+use Rattle.utf16_str.proofs.wstr_mut.WStrMut.from_utf16_unchecked.Goals as goal
+
+pub invariant_of-result : goal.invariant_of-result
+invariant_of-result g c = record { well_formed = is_text-from_IsText _ _ c.requires }

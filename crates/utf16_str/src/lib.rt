@@ -1,0 +1,13 @@
+//! Views of UTF-16 strings in either byte order: what `&str` and `&mut str` are to UTF-8.
+#![tactic(auto)]
+
+mod iters;
+mod slicing;
+mod wstr;
+mod wstr_mut;
+
+pub use crate::iters::{WStrCharIndices, WStrChars};
+pub use crate::slicing::SliceIndex;
+pub use crate::wstr::WStr;
+pub use crate::wstr_mut::WStrMut;
+pub use utf16_units::{BE, BigEndian, LE, LittleEndian, Utf16Error, Utf16Order};

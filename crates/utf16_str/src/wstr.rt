@@ -1,0 +1,317 @@
+//! A borrowed UTF-16 string.
+
+ghost use Rattle.std.specs.Prelude.{◌≡◌, ◌↔◌, ⊤, [], true, false, length, IsTrue, IsOk, IfOk, IfErr, IsSome, IfSome, Some, All, ◌+◌, ◌<◌, ◌^◌, ℕ, List, nat_eq, encode_utf8_all, string_bytes};
+ghost use Rattle.std.specs.Cmp.{on_equiv, on_per, partial_equiv_from_equiv};
+ghost use Rattle.std.specs.Cmp.Lexicographic.{nat_list_eq_equiv, pointwise};
+ghost use Rattle.std.specs.Cmp.Rules.{hashing};
+ghost use Rattle.std.specs.Hash as fed;
+ghost use Rattle.std.specs.Iterator.{YieldsFirst, YieldsLast};
+ghost use Rattle.std.specs.Iterator.Runs.{YieldsInOrder, YieldsInReverse};
+ghost use Rattle.std.proofs.Common.{rules};
+ghost use Rattle.utf16_units.specs.Boundary.{IsBoundary, text_between};
+ghost use Rattle.utf16_units.specs.Encoding.{Encodes, IsText, is_text, size};
+ghost use Rattle.utf16_units.specs.Utf16Error.{IsErrorOf};
+ghost use Rattle.utf16_str.specs.Offsets.{char_offsets};
+ghost use Rattle.utf16_str.specs.Window.{IsWindowOf, window_text};
+
+use crate::{SliceIndex, WStrCharIndices, WStrChars};
+use std::alloc::{AllocError, Allocator};
+use std::fmt;
+use std::hash::{Hash, Hasher};
+use std::marker::PhantomData;
+use utf16_units::{
+    BigEndian, LittleEndian, Utf16Error, Utf16Order, is_trailing_surrogate, validate_raw_utf16,
+};
+
+/// A borrowed UTF-16 string in the byte order `E`, a view of the caller's bytes. It always holds well-formed text, and is
+/// `Copy`. Lengths and offsets count bytes.
+pub struct WStr<'a, E: Utf16Order> {
+    raw: &'a [u8],
+    order: PhantomData<E>,
+    ghost well_formed: { is_text E.BIG raw.now ≡ true },
+}
+
+impl<'a, E: Utf16Order> Copy for WStr<'a, E> {}
+
+impl<'a, E: Utf16Order> Clone for WStr<'a, E> {
+    ghost is_clone = { λ s copy. copy ≡ s };
+
+    ghost is_infallible = { λ _. ⊤ };
+
+    fn clone(&self) -> Result<Self, AllocError> {
+        Ok(*self)
+    }
+}
+
+impl<'a, E: Utf16Order> WStr<'a, E> {
+    ghost use Rattle.utf16_str.specs.WStr.{wstr_bytes, wstr_text};
+
+    /// Takes bytes as text, where they are well formed in the order `E`. One pass over the bytes, no copy.
+    #[inline]
+    pub fn from_utf16(raw: &'a [u8]) -> Result<Self, Utf16Error>
+        ensures text { IsOk result ↔ IsText E.BIG raw.now }
+        ensures bytes { IfOk result (λ s. wstr_bytes s ≡ raw.now) }
+        ensures error { IfErr result (IsErrorOf E.BIG raw.now) }
+    {
+        validate_raw_utf16::<E>(raw)?;
+        Ok(Self::from_utf16_unchecked(raw))
+    }
+
+    /// Takes bytes as text without a test. They are well formed in the order `E`, which `from_utf16` tests.
+    #[inline]
+    pub fn from_utf16_unchecked(raw: &'a [u8]) -> Self
+        requires { IsText E.BIG raw.now }
+        ensures { wstr_bytes result ≡ raw.now }
+    {
+        WStr {
+            raw,
+            order: PhantomData,
+        }
+    }
+
+    /// How many bytes the text takes. It is a character boundary.
+    #[inline]
+    pub fn len(&self) -> usize
+        ensures bytes { result ≡ length (wstr_bytes self.now) }
+        ensures size { result ≡ size (wstr_text self.now) }
+        ensures end { IsBoundary (wstr_text self.now) result }
+    {
+        self.as_bytes().len()
+    }
+
+    /// Whether the text has no character.
+    #[inline]
+    pub fn is_empty(&self) -> bool
+        ensures { IsTrue result ↔ (wstr_text self.now ≡ []) }
+    {
+        self.as_bytes().is_empty()
+    }
+
+    /// Whether a byte offset is a character boundary: the start, the end, or where one character ends and the next begins.
+    /// Any offset may be asked about. One read of a unit at most.
+    #[inline]
+    pub fn is_char_boundary(&self, index: usize) -> bool
+        ensures { IsTrue result ↔ IsBoundary (wstr_text self.now) index }
+    {
+        let raw = self.as_bytes();
+        if index >= raw.len() {
+            return index == raw.len();
+        }
+        if index % 2 != 0 {
+            return false;
+        }
+        !is_trailing_surrogate(E::read_unit([raw[index], raw[index + 1]]))
+    }
+
+    /// The part of a range, or `None` where its window is reversed, or an end is no character boundary.
+    #[inline]
+    pub fn get<I: SliceIndex<E>>(self, index: I) -> Option<WStr<'a, E>>
+        ensures some { IsSome result ↔ IsWindowOf (wstr_text self.entry) (I.window index (length (wstr_bytes self.entry))) }
+        ensures part { IfSome result (λ part. wstr_text part ≡ window_text (wstr_text self.entry) (I.window index (length (wstr_bytes self.entry)))) }
+    {
+        index.get(self)
+    }
+
+    /// The part of a range, where there is one, as `get` tests.
+    #[inline]
+    pub fn get_unchecked<I: SliceIndex<E>>(self, index: I) -> WStr<'a, E>
+        requires { IsWindowOf (wstr_text self) (I.window index (length (wstr_bytes self))) }
+        ensures { wstr_text result ≡ window_text (wstr_text self.entry) (I.window index (length (wstr_bytes self.entry))) }
+    {
+        index.get_unchecked(self)
+    }
+
+    /// The part of a range, where there is one, as `get` tests. It stands for brackets.
+    #[inline]
+    pub fn index<I: SliceIndex<E>>(self, index: I) -> WStr<'a, E>
+        requires { IsWindowOf (wstr_text self) (I.window index (length (wstr_bytes self))) }
+        ensures { wstr_text result ≡ window_text (wstr_text self.entry) (I.window index (length (wstr_bytes self.entry))) }
+    {
+        index.index(self)
+    }
+
+    // The part from one offset up to another, where both are boundaries in this order.
+    #[inline]
+    pub(crate) fn part(self, start: usize, end: usize) -> Option<WStr<'a, E>>
+        ensures some { IsSome result ↔ IsWindowOf (wstr_text self.entry) (Some (start, end)) }
+        ensures part { IfSome result (λ part. wstr_text part ≡ text_between (wstr_text self.entry) start end) }
+    {
+        if start <= end && self.is_char_boundary(start) && self.is_char_boundary(end) {
+            Some(self.part_unchecked(start, end))
+        } else {
+            None
+        }
+    }
+
+    #[inline]
+    pub(crate) fn part_unchecked(self, start: usize, end: usize) -> WStr<'a, E>
+        requires { IsWindowOf (wstr_text self) (Some (start, end)) }
+        ensures { wstr_text result ≡ text_between (wstr_text self.entry) start end }
+    {
+        WStr::from_utf16_unchecked(&self.as_bytes()[start..end])
+    }
+
+    /// Whether a text could be written over as many bytes from a byte offset on: the offset and the one behind those bytes
+    /// are both character boundaries. Any offset may be asked about.
+    #[inline]
+    pub fn fits(self, idx: usize, text: WStr<E>) -> bool
+        ensures { IsTrue result ↔ (IsBoundary (wstr_text self.entry) idx × IsBoundary (wstr_text self.entry) (idx + size (wstr_text text.entry))) }
+    {
+        let Some(end) = idx.checked_add(text.len()) else {
+            return false;
+        };
+        self.is_char_boundary(idx) && self.is_char_boundary(end)
+    }
+
+    /// The bytes, the encoding of the text, for as long as they were lent.
+    #[inline]
+    pub fn as_bytes(self) -> &'a [u8]
+        ensures bytes { result.now ≡ wstr_bytes self.entry }
+        ensures encoding { Encodes E.BIG (wstr_text self.entry) result.now }
+    {
+        self.raw
+    }
+
+    /// The characters, in order.
+    #[inline]
+    pub fn chars(self) -> WStrChars<'a, E>
+        ensures text { result ≡ wstr_text self.entry }
+        ensures bound { length result < 2 ^ 64 }
+        ensures runs { YieldsInOrder (YieldsFirst (λ (rest : List ℕ). rest)) (λ rest. rest) }
+        ensures runs_back { YieldsInReverse (YieldsLast (λ (rest : List ℕ). rest)) (λ rest. rest) }
+    {
+        WStrChars::new(self)
+    }
+
+    /// The characters, in order, each beside its byte offset.
+    #[inline]
+    pub fn char_indices(self) -> WStrCharIndices<'a, E>
+        ensures text { result ≡ char_offsets 0 (wstr_text self.entry) }
+        ensures bound { length result < 2 ^ 64 }
+        ensures runs { YieldsInOrder (YieldsFirst (λ (rest : List (ℕ × ℕ)). rest)) (λ rest. rest) }
+        ensures runs_back { YieldsInReverse (YieldsLast (λ (rest : List (ℕ × ℕ)). rest)) (λ rest. rest) }
+    {
+        WStrCharIndices::new(self)
+    }
+
+    /// Whether every character is ASCII, below U+0080. It asks the characters and not the bytes.
+    pub fn is_ascii(&self) -> bool
+        ensures { IsTrue result ↔ All (λ c. c < 0x80) (wstr_text self.now) }
+    {
+        self.chars().all(|c| (c as u32) < 0x80)
+    }
+
+    /// The same characters in UTF-8. The only error is a refused request for memory.
+    pub fn to_utf8<A: Allocator>(&self, alloc: A) -> Result<String<A>, AllocError>
+        ensures { IfOk result (λ s. string_bytes s ≡ encode_utf8_all (wstr_text self.now)) }
+    {
+        let mut text = String::with_capacity(alloc, self.len() / 2)?;
+        for c in self.chars() {
+            text.push(c)?;
+        }
+        Ok(text)
+    }
+}
+
+impl<'a, E: Utf16Order> fmt::Display for WStr<'a, E> {
+    ghost use Rattle.utf16_str.specs.WStr.{wstr_text};
+
+    // The characters one by one, whatever width and fill are asked for.
+    ghost output = { λ s. Some (encode_utf8_all (wstr_text s)) };
+
+    fn fmt<W: fmt::Write>(&self, f: &mut fmt::Formatter<W>) -> fmt::Result {
+        for c in self.chars() {
+            f.write_char(c)?;
+        }
+        Ok(())
+    }
+}
+
+impl<'a, E: Utf16Order> fmt::Debug for WStr<'a, E> {
+    fn fmt<W: fmt::Write>(&self, f: &mut fmt::Formatter<W>) -> fmt::Result {
+        f.debug_struct("WStr")
+            .field("raw", &self.as_bytes())
+            .finish()
+    }
+}
+
+impl<'a, E: Utf16Order> PartialEq for WStr<'a, E> {
+    ghost use Rattle.utf16_str.specs.WStr.{wstr_bytes, wstr_text};
+
+    ghost eq = { λ x y. pointwise nat_eq (wstr_bytes x) (wstr_bytes y) };
+
+    ghost laws = { on_per wstr_bytes (partial_equiv_from_equiv nat_list_eq_equiv) };
+
+    #[inline]
+    fn eq(&self, other: &Self) -> bool
+        ensures bytes { result ≡ pointwise nat_eq (wstr_bytes self.now) (wstr_bytes other.now) }
+        ensures texts { IsTrue result ↔ (wstr_text self.now ≡ wstr_text other.now) }
+    {
+        self.as_bytes() == other.as_bytes()
+    }
+}
+
+impl<'a, E: Utf16Order> Eq for WStr<'a, E> {
+    ghost use Rattle.utf16_str.specs.WStr.{wstr_bytes};
+
+    ghost laws = { on_equiv wstr_bytes nat_list_eq_equiv };
+}
+
+impl<'a, E: Utf16Order> Hash for WStr<'a, E> {
+    ghost use Rattle.utf16_str.specs.WStr.{wstr_bytes};
+
+    ghost hash_input = { λ s. fed.slice fed.u8 (wstr_bytes s) };
+
+    ghost respects_eq = { Prim.search (hashing, rules) };
+
+    #[inline]
+    fn hash<H: Hasher>(&self, state: &mut H) {
+        self.as_bytes().hash(state);
+    }
+}
+
+impl<'a> WStr<'a, LittleEndian> {
+    ghost use Rattle.utf16_str.specs.WStr.{wstr_bytes, wstr_text};
+
+    /// `from_utf16` in little endian.
+    #[inline]
+    pub fn from_utf16le(raw: &'a [u8]) -> Result<Self, Utf16Error>
+        ensures text { IsOk result ↔ IsText false raw.now }
+        ensures bytes { IfOk result (λ s. wstr_bytes s ≡ raw.now) }
+        ensures error { IfErr result (IsErrorOf false raw.now) }
+    {
+        WStr::<LittleEndian>::from_utf16(raw)
+    }
+
+    /// `from_utf16_unchecked` in little endian.
+    #[inline]
+    pub fn from_utf16le_unchecked(raw: &'a [u8]) -> Self
+        requires { IsText false raw.now }
+        ensures { wstr_bytes result ≡ raw.now }
+    {
+        WStr::<LittleEndian>::from_utf16_unchecked(raw)
+    }
+}
+
+impl<'a> WStr<'a, BigEndian> {
+    ghost use Rattle.utf16_str.specs.WStr.{wstr_bytes, wstr_text};
+
+    /// `from_utf16` in big endian.
+    #[inline]
+    pub fn from_utf16be(raw: &'a [u8]) -> Result<Self, Utf16Error>
+        ensures text { IsOk result ↔ IsText true raw.now }
+        ensures bytes { IfOk result (λ s. wstr_bytes s ≡ raw.now) }
+        ensures error { IfErr result (IsErrorOf true raw.now) }
+    {
+        WStr::<BigEndian>::from_utf16(raw)
+    }
+
+    /// `from_utf16_unchecked` in big endian.
+    #[inline]
+    pub fn from_utf16be_unchecked(raw: &'a [u8]) -> Self
+        requires { IsText true raw.now }
+        ensures { wstr_bytes result ≡ raw.now }
+    {
+        WStr::<BigEndian>::from_utf16_unchecked(raw)
+    }
+}
