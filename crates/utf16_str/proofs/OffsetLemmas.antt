@@ -1,10 +1,11 @@
 -- Characters beside their offsets, from either end.
-use Rattle.std.proofs.Common.{◌≡◌, ℕ, ◌+◌, ◌<◌, List, [], ◌∷◌, ◌++◌, length, length-append, Some, refl, sym, ap, ◌∙◌, subst, arith}
+use Rattle.std.proofs.Common.{◌≡◌, ℕ, ◌+◌, ◌<◌, Bool, true, nat_eq, eqb-true, List, [], ◌∷◌, ◌++◌, length, length-append, Some, refl, sym, ap, ◌∙◌, subst, arith}
 use Rattle.std.proofs.iter.runs.Sources.{as_is, as_is_back, from_back, from_front}
 use Rattle.std.specs.Iterator.{MakesProgress, YieldsFirst, YieldsLast, item_count}
 use Rattle.std.specs.Iterator.Runs.{YieldsInOrder, YieldsInReverse}
-use Rattle.utf16_units.specs.Encoding.{char_size, size}
-use Rattle.utf16_units.proofs.EncodingLemmas.{size-cons, size-nil}
+use Rattle.std.proofs.lemmas.List.{nil_from_length}
+use Rattle.utf16_units.specs.Encoding.{char_size, size, text_of}
+use Rattle.utf16_units.proofs.EncodingLemmas.{size-cons, size-nil, text_of-nil}
 use Rattle.utf16_str.specs.Offsets.{char_offsets}
 
 pub char_offsets-nil : (offset : ℕ) → char_offsets offset [] ≡ []
@@ -30,6 +31,20 @@ pub length-char_offsets : (offset : ℕ) (text : List ℕ) → length (char_offs
 unfolding char_offsets
 length-char_offsets offset [] = refl
 length-char_offsets offset (c ∷ text) = omega (arith, length-char_offsets (offset + char_size c) text)
+
+-- where no character is left, nothing is shown
+pub char_offsets-none : (offset : ℕ) (text rest : List ℕ) (shown : List (ℕ × ℕ)) → char_offsets offset text ≡ shown → (text ≡ []) × (rest ≡ [])
+    → (shown ≡ []) × (char_offsets offset rest ≡ [])
+char_offsets-none offset text rest shown view none =
+    (sym view ∙ ap (char_offsets offset) none.0 ∙ char_offsets-nil offset, ap (char_offsets offset) none.1 ∙ char_offsets-nil offset)
+
+-- no bytes left, by their test, show no character
+pub none-left : (big : Bool) (raw bytes shown : List ℕ) (test : Bool) → text_of big bytes ≡ shown → raw ≡ bytes → test ≡ nat_eq (length raw) 0 → test ≡ true
+    → (shown ≡ []) × (shown ≡ [])
+none-left big raw bytes shown test view same tested empty =
+    let nil = nil_from_length raw (eqb-true (length raw) 0 (sym tested ∙ empty)) in
+    let none = sym view ∙ ap (text_of big) (sym same ∙ nil) ∙ text_of-nil big in
+    (none, none)
 
 -- a call that gave the first item left, or the last, leaves fewer
 module _ {A : Type 0} (can : List A → Type 0) (always : (items : List A) → can items) (before after : List A) (x : A) where

@@ -17,8 +17,8 @@ pub trait SliceIndex<E: Utf16Order> {
     // The window over a string of so many bytes, where there is one.
     ghost window: { Self → ℕ → Option (ℕ × ℕ) };
 
-    /// The window over a string of `len` bytes, or `None` where there is none. It need not be one of a string: `get` tests
-    /// that.
+    /// The window over a string of `len` bytes, or `None` where there is none. It may be reversed, out of range or off the
+    /// boundaries; `get` tests that.
     fn window(self, len: usize) -> Option<(usize, usize)>
         ensures { result ≡ window self len };
 
@@ -33,7 +33,7 @@ pub trait SliceIndex<E: Utf16Order> {
         slice.part(start, end)
     }
 
-    /// The part. There is one, as `get` tests.
+    /// The part. The caller proves that there is one; `get` tests it.
     final fn get_unchecked<'a>(self, slice: WStr<'a, E>) -> WStr<'a, E>
     where
         Self: Sized,
@@ -44,7 +44,7 @@ pub trait SliceIndex<E: Utf16Order> {
         slice.part_unchecked(start, end)
     }
 
-    /// The part. There is one, as `get` tests.
+    /// The part. The caller proves that there is one; `get` tests it.
     final fn index<'a>(self, slice: WStr<'a, E>) -> WStr<'a, E>
     where
         Self: Sized,

@@ -51,17 +51,20 @@ impl<'a, E: Utf16Order> WStr<'a, E> {
     pub fn from_utf16(raw: &'a [u8]) -> Result<Self, Utf16Error>
         ensures text { IsOk result ↔ IsText E.BIG raw.now }
         ensures bytes { IfOk result (λ s. wstr_bytes s ≡ raw.now) }
+        ensures encoding { IfOk result (λ s. Encodes E.BIG (wstr_text s) raw.now) }
         ensures error { IfErr result (IsErrorOf E.BIG raw.now) }
     {
         validate_raw_utf16::<E>(raw)?;
         Ok(Self::from_utf16_unchecked(raw))
     }
 
-    /// Takes bytes as text without a test. They are well formed in the order `E`, which `from_utf16` tests.
+    /// Takes bytes as text without a test. The caller proves that they are well formed in the order `E`; `from_utf16`
+    /// tests it.
     #[inline]
     pub fn from_utf16_unchecked(raw: &'a [u8]) -> Self
         requires { IsText E.BIG raw.now }
-        ensures { wstr_bytes result ≡ raw.now }
+        ensures bytes { wstr_bytes result ≡ raw.now }
+        ensures encoding { Encodes E.BIG (wstr_text result) raw.now }
     {
         WStr {
             raw,
@@ -112,7 +115,7 @@ impl<'a, E: Utf16Order> WStr<'a, E> {
         index.get(self)
     }
 
-    /// The part of a range, where there is one, as `get` tests.
+    /// The part of a range. The caller proves that there is one; `get` tests it.
     #[inline]
     pub fn get_unchecked<I: SliceIndex<E>>(self, index: I) -> WStr<'a, E>
         requires { IsWindowOf (wstr_text self) (I.window index (length (wstr_bytes self))) }
@@ -121,7 +124,7 @@ impl<'a, E: Utf16Order> WStr<'a, E> {
         index.get_unchecked(self)
     }
 
-    /// The part of a range, where there is one, as `get` tests. It stands for brackets.
+    /// The part of a range: write it for `s[a..b]`. The caller proves that there is one; `get` tests it.
     #[inline]
     pub fn index<I: SliceIndex<E>>(self, index: I) -> WStr<'a, E>
         requires { IsWindowOf (wstr_text self) (I.window index (length (wstr_bytes self))) }
@@ -173,6 +176,10 @@ impl<'a, E: Utf16Order> WStr<'a, E> {
     }
 
     /// The characters, in order.
+    ///
+    /// Of the result the clause `text` says all. The clauses `runs` and `runs_back` say that this type of iterator gives what
+    /// it shows, from the front and from the back: by them the proof of a caller knows what `collect`, `rev`, `position` and
+    /// other calls of a chain give.
     #[inline]
     pub fn chars(self) -> WStrChars<'a, E>
         ensures text { result ≡ wstr_text self.entry }
@@ -183,7 +190,7 @@ impl<'a, E: Utf16Order> WStr<'a, E> {
         WStrChars::new(self)
     }
 
-    /// The characters, in order, each beside its byte offset.
+    /// The characters, in order, each beside its byte offset. The clauses are those of `chars`.
     #[inline]
     pub fn char_indices(self) -> WStrCharIndices<'a, E>
         ensures text { result ≡ char_offsets 0 (wstr_text self.entry) }
@@ -201,10 +208,14 @@ impl<'a, E: Utf16Order> WStr<'a, E> {
         self.chars().all(|c| (c as u32) < 0x80)
     }
 
-    /// The same characters in UTF-8. The only error is a refused request for memory.
+    /// The same characters in UTF-8. The only error is a refused request for memory; for the empty text nothing is asked.
     pub fn to_utf8<A: Allocator>(&self, alloc: A) -> Result<String<A>, AllocError>
-        ensures { IfOk result (λ s. string_bytes s ≡ encode_utf8_all (wstr_text self.now)) }
+        ensures text { IfOk result (λ s. string_bytes s ≡ encode_utf8_all (wstr_text self.now)) }
+        ensures nothing { wstr_text self.now ≡ [] → IsOk result }
     {
+        if self.is_empty() {
+            return Ok(String::new(alloc));
+        }
         let mut text = String::with_capacity(alloc, self.len() / 2)?;
         for c in self.chars() {
             text.push(c)?;
@@ -216,8 +227,10 @@ impl<'a, E: Utf16Order> WStr<'a, E> {
 impl<'a, E: Utf16Order> fmt::Display for WStr<'a, E> {
     ghost use Rattle.utf16_str.specs.WStr.{wstr_text};
 
-    // The characters one by one, whatever width and fill are asked for.
     ghost output = { λ s. Some (encode_utf8_all (wstr_text s)) };
+
+    // Width, fill and precision are ignored.
+    ghost styled_output = { λ s _. Some (encode_utf8_all (wstr_text s)) };
 
     fn fmt<W: fmt::Write>(&self, f: &mut fmt::Formatter<W>) -> fmt::Result {
         for c in self.chars() {
@@ -278,6 +291,7 @@ impl<'a> WStr<'a, LittleEndian> {
     pub fn from_utf16le(raw: &'a [u8]) -> Result<Self, Utf16Error>
         ensures text { IsOk result ↔ IsText false raw.now }
         ensures bytes { IfOk result (λ s. wstr_bytes s ≡ raw.now) }
+        ensures encoding { IfOk result (λ s. Encodes false (wstr_text s) raw.now) }
         ensures error { IfErr result (IsErrorOf false raw.now) }
     {
         WStr::<LittleEndian>::from_utf16(raw)
@@ -287,7 +301,8 @@ impl<'a> WStr<'a, LittleEndian> {
     #[inline]
     pub fn from_utf16le_unchecked(raw: &'a [u8]) -> Self
         requires { IsText false raw.now }
-        ensures { wstr_bytes result ≡ raw.now }
+        ensures bytes { wstr_bytes result ≡ raw.now }
+        ensures encoding { Encodes false (wstr_text result) raw.now }
     {
         WStr::<LittleEndian>::from_utf16_unchecked(raw)
     }
@@ -301,6 +316,7 @@ impl<'a> WStr<'a, BigEndian> {
     pub fn from_utf16be(raw: &'a [u8]) -> Result<Self, Utf16Error>
         ensures text { IsOk result ↔ IsText true raw.now }
         ensures bytes { IfOk result (λ s. wstr_bytes s ≡ raw.now) }
+        ensures encoding { IfOk result (λ s. Encodes true (wstr_text s) raw.now) }
         ensures error { IfErr result (IsErrorOf true raw.now) }
     {
         WStr::<BigEndian>::from_utf16(raw)
@@ -310,7 +326,8 @@ impl<'a> WStr<'a, BigEndian> {
     #[inline]
     pub fn from_utf16be_unchecked(raw: &'a [u8]) -> Self
         requires { IsText true raw.now }
-        ensures { wstr_bytes result ≡ raw.now }
+        ensures bytes { wstr_bytes result ≡ raw.now }
+        ensures encoding { Encodes true (wstr_text result) raw.now }
     {
         WStr::<BigEndian>::from_utf16_unchecked(raw)
     }

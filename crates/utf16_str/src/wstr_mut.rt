@@ -4,7 +4,7 @@ ghost use Rattle.std.specs.Prelude.{◌≡◌, ◌↔◌, ◌+◌, ◌≤◌, le
 ghost use Rattle.std.specs.List.{splice};
 ghost use Rattle.utf16_units.specs.Boundary.{IsBoundary};
 ghost use Rattle.utf16_units.specs.Edit.{overwrite_at};
-ghost use Rattle.utf16_units.specs.Encoding.{IsText, is_text, size};
+ghost use Rattle.utf16_units.specs.Encoding.{Encodes, IsText, is_text, size};
 ghost use Rattle.utf16_units.specs.Utf16Error.{IsErrorOf};
 ghost use Rattle.utf16_str.specs.WStr.{wstr_bytes, wstr_text};
 
@@ -26,23 +26,29 @@ impl<'a, E: Utf16Order> WStrMut<'a, E> {
 
     /// Takes bytes as text, where they are well formed in the order `E`. Where they are not, they stay as they were. One
     /// pass over the bytes, no copy.
+    ///
+    /// A view in a `Result` hides from the proof of a caller which bytes are left when it ends. End it by `into_bytes`, which
+    /// gives them back; or test by `WStr::from_utf16` and lend by `from_utf16_unchecked`.
     #[inline]
     pub fn from_utf16(raw: &'a mut [u8]) -> Result<Self, Utf16Error>
         ensures text { IsOk result ↔ IsText E.BIG raw.old }
         ensures same_reference { IfOk result (λ s. (wstr_mut_lent s).ghost_name ≡ raw.entry.ghost_name) }
         ensures bytes { IfOk result (λ s. wstr_mut_bytes s ≡ raw.old) }
+        ensures encoding { IfOk result (λ s. Encodes E.BIG (wstr_mut_text s) raw.old) }
         ensures error { IfErr result (IsErrorOf E.BIG raw.old) }
     {
         validate_raw_utf16::<E>(raw)?;
         Ok(Self::from_utf16_unchecked(raw))
     }
 
-    /// Takes bytes as text without a test. They are well formed in the order `E`, which `from_utf16` tests.
+    /// Takes bytes as text without a test. The caller proves that they are well formed in the order `E`;
+    /// `WStr::from_utf16` tests it. When the view ends, the proof of a caller knows the bytes that are left.
     #[inline]
     pub fn from_utf16_unchecked(raw: &'a mut [u8]) -> Self
         requires { IsText E.BIG raw.old }
         ensures same_reference { (wstr_mut_lent result).ghost_name ≡ raw.entry.ghost_name }
         ensures bytes { wstr_mut_bytes result ≡ raw.old }
+        ensures encoding { Encodes E.BIG (wstr_mut_text result) raw.old }
     {
         WStrMut {
             raw,
@@ -68,7 +74,8 @@ impl<'a, E: Utf16Order> WStrMut<'a, E> {
         self.as_wstr().fits(idx, text)
     }
 
-    /// Writes a text over as many bytes from a byte offset on, as `fits` tests. All other bytes stay.
+    /// Writes a text over as many bytes from a byte offset on. The caller proves that both ends are character boundaries;
+    /// `fits` tests it. All other bytes stay.
     #[inline]
     pub fn overwrite(&mut self, idx: usize, text: WStr<E>)
         requires start { IsBoundary (wstr_mut_text self.old) idx }
@@ -79,10 +86,20 @@ impl<'a, E: Utf16Order> WStrMut<'a, E> {
     {
         overwrite_bytes(self.raw, idx, text.as_bytes());
     }
+
+    /// The caller's bytes, for as long as they were lent. The view ends.
+    #[inline]
+    pub fn into_bytes(self) -> &'a mut [u8]
+        ensures same_reference { result.ghost_name ≡ (wstr_mut_lent self.entry).ghost_name }
+        ensures bytes { result.now ≡ wstr_mut_bytes self.entry }
+        ensures encoding { Encodes E.BIG (wstr_mut_text self.entry) result.now }
+    {
+        self.raw
+    }
 }
 
 impl<'a> WStrMut<'a, LittleEndian> {
-    ghost use Rattle.utf16_str.specs.WStrMut.{wstr_mut_bytes, wstr_mut_lent};
+    ghost use Rattle.utf16_str.specs.WStrMut.{wstr_mut_bytes, wstr_mut_lent, wstr_mut_text};
 
     /// `from_utf16` in little endian.
     #[inline]
@@ -90,6 +107,7 @@ impl<'a> WStrMut<'a, LittleEndian> {
         ensures text { IsOk result ↔ IsText false raw.old }
         ensures same_reference { IfOk result (λ s. (wstr_mut_lent s).ghost_name ≡ raw.entry.ghost_name) }
         ensures bytes { IfOk result (λ s. wstr_mut_bytes s ≡ raw.old) }
+        ensures encoding { IfOk result (λ s. Encodes false (wstr_mut_text s) raw.old) }
         ensures error { IfErr result (IsErrorOf false raw.old) }
     {
         WStrMut::<LittleEndian>::from_utf16(raw)
@@ -101,13 +119,14 @@ impl<'a> WStrMut<'a, LittleEndian> {
         requires { IsText false raw.old }
         ensures same_reference { (wstr_mut_lent result).ghost_name ≡ raw.entry.ghost_name }
         ensures bytes { wstr_mut_bytes result ≡ raw.old }
+        ensures encoding { Encodes false (wstr_mut_text result) raw.old }
     {
         WStrMut::<LittleEndian>::from_utf16_unchecked(raw)
     }
 }
 
 impl<'a> WStrMut<'a, BigEndian> {
-    ghost use Rattle.utf16_str.specs.WStrMut.{wstr_mut_bytes, wstr_mut_lent};
+    ghost use Rattle.utf16_str.specs.WStrMut.{wstr_mut_bytes, wstr_mut_lent, wstr_mut_text};
 
     /// `from_utf16` in big endian.
     #[inline]
@@ -115,6 +134,7 @@ impl<'a> WStrMut<'a, BigEndian> {
         ensures text { IsOk result ↔ IsText true raw.old }
         ensures same_reference { IfOk result (λ s. (wstr_mut_lent s).ghost_name ≡ raw.entry.ghost_name) }
         ensures bytes { IfOk result (λ s. wstr_mut_bytes s ≡ raw.old) }
+        ensures encoding { IfOk result (λ s. Encodes true (wstr_mut_text s) raw.old) }
         ensures error { IfErr result (IsErrorOf true raw.old) }
     {
         WStrMut::<BigEndian>::from_utf16(raw)
@@ -126,6 +146,7 @@ impl<'a> WStrMut<'a, BigEndian> {
         requires { IsText true raw.old }
         ensures same_reference { (wstr_mut_lent result).ghost_name ≡ raw.entry.ghost_name }
         ensures bytes { wstr_mut_bytes result ≡ raw.old }
+        ensures encoding { Encodes true (wstr_mut_text result) raw.old }
     {
         WStrMut::<BigEndian>::from_utf16_unchecked(raw)
     }

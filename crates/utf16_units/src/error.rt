@@ -39,6 +39,9 @@ impl fmt::Display for Utf16Error {
     // The same words in both byte orders.
     ghost output = { λ _. Some (codes "Invalid UTF-16LE data in byte slice") };
 
+    // Width, fill and precision are ignored.
+    ghost styled_output = { λ _ _. Some (codes "Invalid UTF-16LE data in byte slice") };
+
     fn fmt<W: fmt::Write>(&self, f: &mut fmt::Formatter<W>) -> fmt::Result {
         f.write_str("Invalid UTF-16LE data in byte slice")
     }

@@ -5,17 +5,15 @@ use Rattle.utf16_units.specs.Encoding.{Encodes, is_text, text_of}
 use Rattle.utf16_units.proofs.EditLemmas.{checked-Encodes}
 use Rattle.utf16_units.proofs.EncodingLemmas.{text_of-Encodes}
 
-module _ {X Y : Type 0} (big : Bool) (old new edited more : List ℕ) where
-  -- they are still well formed
-  pub still_text : (r : Result X Y) → is_text big old ≡ true → Encodes big edited more → OnOk r (new ≡ more) → OnErr r (new ≡ old) → is_text big new ≡ true
-  still_text (Ok x) checked e ok err = checked-Encodes big edited new (subst (Encodes big edited) (sym ok) e)
-  still_text (Err y) checked e ok err = subst (λ bytes. is_text big bytes ≡ true) (sym err) checked
+-- a string in bytes that spell the edited text where the call was not refused, and else are as they were
+module _ {X Y : Type 0} (big : Bool) (old new edited more : List ℕ) (checked : is_text big old ≡ true) (e : Encodes big edited more) where
+  pub edited_text : (r : Result X Y) → OnOk r (new ≡ more) → OnOk r (text_of big new ≡ edited)
+  edited_text (Ok x) ok = ap (text_of big) ok ∙ text_of-Encodes big edited more e
+  edited_text (Err y) ok = tt
 
-module _ {X Y : Type 0} (big : Bool) (new edited more : List ℕ) where
-  -- where the call was not refused, they spell the edited text
-  pub edited_text : (r : Result X Y) → Encodes big edited more → OnOk r (new ≡ more) → OnOk r (text_of big new ≡ edited)
-  edited_text (Ok x) e ok = ap (text_of big) ok ∙ text_of-Encodes big edited more e
-  edited_text (Err y) e ok = tt
+  pub still_text : {P : Type 0} → (P → new ≡ old) → (r : Result X Y) → OnOk r (new ≡ more) → OnErr r P → is_text big new ≡ true
+  still_text left (Ok x) ok err = checked-Encodes big edited new (subst (Encodes big edited) (sym ok) e)
+  still_text left (Err y) ok err = subst (λ bytes. is_text big bytes ≡ true) (sym (left err)) checked
 
 -- a vector whose elements were lent and all written holds what was written
 pub written_back : (bytes new : List ℕ) (n : ℕ) → n ≡ length bytes → length new ≡ length bytes → refill n bytes new ≡ new

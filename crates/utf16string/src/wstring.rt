@@ -69,17 +69,20 @@ impl<E: Utf16Order, A: Allocator> WString<E, A> {
     pub fn from_utf16(buf: Vec<u8, A>) -> Result<Self, Utf16Error>
         ensures text { IsOk result ↔ IsText E.BIG buf.items }
         ensures vec { IfOk result (λ s. wstring_vec s ≡ buf) }
+        ensures encoding { IfOk result (λ s. Encodes E.BIG (wstring_text s) buf.items) }
         ensures error { IfErr result (IsErrorOf E.BIG buf.items) }
     {
         validate_raw_utf16::<E>(&buf)?;
         Ok(Self::from_utf16_unchecked(buf))
     }
 
-    /// Takes a vector as text without a test. Its bytes are well formed in the order `E`, which `from_utf16` tests.
+    /// Takes a vector as text without a test. The caller proves that its bytes are well formed in the order `E`;
+    /// `WStr::from_utf16` tests it.
     #[inline]
     pub fn from_utf16_unchecked(buf: Vec<u8, A>) -> Self
         requires { IsText E.BIG buf.items }
-        ensures { wstring_vec result ≡ buf }
+        ensures vec { wstring_vec result ≡ buf }
+        ensures encoding { Encodes E.BIG (wstring_text result) buf.items }
     {
         WString {
             raw: buf,
@@ -159,7 +162,7 @@ impl<E: Utf16Order, A: Allocator> WString<E, A> {
         self.as_wstr().get(index)
     }
 
-    /// The part of a range, where there is one, as `get` tests.
+    /// The part of a range. The caller proves that there is one; `get` tests it.
     #[inline]
     pub fn get_unchecked<I: SliceIndex<E>>(&self, index: I) -> WStr<'_, E>
         requires { IsWindowOf (wstring_text self.now) (I.window index (length (wstring_bytes self.now))) }
@@ -168,7 +171,7 @@ impl<E: Utf16Order, A: Allocator> WString<E, A> {
         self.as_wstr().get_unchecked(index)
     }
 
-    /// The part of a range, where there is one, as `get` tests. It stands for brackets.
+    /// The part of a range: write it for `s[a..b]`. The caller proves that there is one; `get` tests it.
     #[inline]
     pub fn index<I: SliceIndex<E>>(&self, index: I) -> WStr<'_, E>
         requires { IsWindowOf (wstring_text self.now) (I.window index (length (wstring_bytes self.now))) }
@@ -177,7 +180,7 @@ impl<E: Utf16Order, A: Allocator> WString<E, A> {
         self.as_wstr().index(index)
     }
 
-    /// The characters, in order.
+    /// The characters, in order. The clauses are those of `WStr::chars`.
     #[inline]
     pub fn chars(&self) -> WStrChars<'_, E>
         ensures text { result ≡ wstring_text self.now }
@@ -188,7 +191,7 @@ impl<E: Utf16Order, A: Allocator> WString<E, A> {
         self.as_wstr().chars()
     }
 
-    /// The characters, in order, each beside its byte offset.
+    /// The characters, in order, each beside its byte offset. The clauses are those of `WStr::chars`.
     #[inline]
     pub fn char_indices(&self) -> WStrCharIndices<'_, E>
         ensures text { result ≡ char_offsets 0 (wstring_text self.now) }
@@ -207,23 +210,25 @@ impl<E: Utf16Order, A: Allocator> WString<E, A> {
         self.as_wstr().is_ascii()
     }
 
-    /// The same characters in UTF-8. The only error is a refused request for memory.
+    /// The same characters in UTF-8. The only error is a refused request for memory; for the empty text nothing is asked.
     #[inline]
     pub fn to_utf8<B: Allocator>(&self, alloc: B) -> Result<String<B>, AllocError>
-        ensures { IfOk result (λ s. string_bytes s ≡ encode_utf8_all (wstring_text self.now)) }
+        ensures text { IfOk result (λ s. string_bytes s ≡ encode_utf8_all (wstring_text self.now)) }
+        ensures nothing { wstring_text self.now ≡ [] → IsOk result }
     {
         self.as_wstr().to_utf8(alloc)
     }
 }
 
 impl<A: Allocator> WString<LittleEndian, A> {
-    ghost use Rattle.utf16string.specs.WString.{wstring_vec};
+    ghost use Rattle.utf16string.specs.WString.{wstring_text, wstring_vec};
 
     /// `from_utf16` in little endian.
     #[inline]
     pub fn from_utf16le(buf: Vec<u8, A>) -> Result<Self, Utf16Error>
         ensures text { IsOk result ↔ IsText false buf.items }
         ensures vec { IfOk result (λ s. wstring_vec s ≡ buf) }
+        ensures encoding { IfOk result (λ s. Encodes false (wstring_text s) buf.items) }
         ensures error { IfErr result (IsErrorOf false buf.items) }
     {
         WString::<LittleEndian, A>::from_utf16(buf)
@@ -233,20 +238,22 @@ impl<A: Allocator> WString<LittleEndian, A> {
     #[inline]
     pub fn from_utf16le_unchecked(buf: Vec<u8, A>) -> Self
         requires { IsText false buf.items }
-        ensures { wstring_vec result ≡ buf }
+        ensures vec { wstring_vec result ≡ buf }
+        ensures encoding { Encodes false (wstring_text result) buf.items }
     {
         WString::<LittleEndian, A>::from_utf16_unchecked(buf)
     }
 }
 
 impl<A: Allocator> WString<BigEndian, A> {
-    ghost use Rattle.utf16string.specs.WString.{wstring_vec};
+    ghost use Rattle.utf16string.specs.WString.{wstring_text, wstring_vec};
 
     /// `from_utf16` in big endian.
     #[inline]
     pub fn from_utf16be(buf: Vec<u8, A>) -> Result<Self, Utf16Error>
         ensures text { IsOk result ↔ IsText true buf.items }
         ensures vec { IfOk result (λ s. wstring_vec s ≡ buf) }
+        ensures encoding { IfOk result (λ s. Encodes true (wstring_text s) buf.items) }
         ensures error { IfErr result (IsErrorOf true buf.items) }
     {
         WString::<BigEndian, A>::from_utf16(buf)
@@ -256,7 +263,8 @@ impl<A: Allocator> WString<BigEndian, A> {
     #[inline]
     pub fn from_utf16be_unchecked(buf: Vec<u8, A>) -> Self
         requires { IsText true buf.items }
-        ensures { wstring_vec result ≡ buf }
+        ensures vec { wstring_vec result ≡ buf }
+        ensures encoding { Encodes true (wstring_text result) buf.items }
     {
         WString::<BigEndian, A>::from_utf16_unchecked(buf)
     }
@@ -265,8 +273,10 @@ impl<A: Allocator> WString<BigEndian, A> {
 impl<E: Utf16Order, A: Allocator> fmt::Display for WString<E, A> {
     ghost use Rattle.utf16string.specs.WString.{wstring_text};
 
-    // The characters one by one, whatever width and fill are asked for.
     ghost output = { λ s. Some (encode_utf8_all (wstring_text s)) };
+
+    // Width, fill and precision are ignored.
+    ghost styled_output = { λ s _. Some (encode_utf8_all (wstring_text s)) };
 
     fn fmt<W: fmt::Write>(&self, f: &mut fmt::Formatter<W>) -> fmt::Result {
         fmt::Display::fmt(&self.as_wstr(), f)

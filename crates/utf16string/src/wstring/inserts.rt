@@ -42,8 +42,9 @@ impl<E: Utf16Order, A: Allocator> WString<E, A> {
         append(&mut self.raw, string.as_bytes())
     }
 
-    /// Puts a character in at a byte offset, which is a character boundary, as `is_char_boundary` tests. The only error is
-    /// a refused request for memory; it leaves the string as it was. What stands behind is moved in one block.
+    /// Puts a character in at a byte offset. The caller proves that it is a character boundary; `is_char_boundary` tests it.
+    /// The only error is a refused request for memory; it leaves the string as it was. What stands behind is moved in one
+    /// block.
     pub fn insert(&mut self, idx: usize, ch: char) -> Result<(), AllocError>
         requires { IsBoundary (wstring_text self.old) idx }
         ensures text { OnOk result (wstring_text self.new ≡ insert_at (wstring_text self.old) idx (ch ∷ [])) }
@@ -54,11 +55,11 @@ impl<E: Utf16Order, A: Allocator> WString<E, A> {
     {
         let mut units = [0; 4];
         let len = ch.encode_utf16_into::<E>(&mut units);
-        insert_bytes(&mut self.raw, idx, &units[..len])
+        self.insert_wstr(idx, WStr::from_utf16_unchecked(&units[..len]))
     }
 
-    /// Puts a text in at a byte offset, which is a character boundary, as `is_char_boundary` tests. The only error is a
-    /// refused request for memory; it leaves the string as it was. What stands behind is moved in one block.
+    /// Puts a text in at a byte offset. The caller proves that it is a character boundary; `is_char_boundary` tests it. The
+    /// only error is a refused request for memory; it leaves the string as it was. What stands behind is moved in one block.
     pub fn insert_wstr(&mut self, idx: usize, string: WStr<E>) -> Result<(), AllocError>
         requires { IsBoundary (wstring_text self.old) idx }
         ensures text { OnOk result (wstring_text self.new ≡ insert_at (wstring_text self.old) idx (wstr_text string.entry)) }

@@ -1,6 +1,6 @@
 //! Strings made from UTF-8.
 
-ghost use Rattle.std.specs.Prelude.{◌≡◌, length, IfOk};
+ghost use Rattle.std.specs.Prelude.{◌≡◌, [], length, IfOk, IsOk};
 ghost use Rattle.std.specs.Str.{chars};
 ghost use Rattle.utf16_units.specs.Encoding.{encode, size};
 
@@ -11,11 +11,15 @@ use utf16_units::{Utf16CharExt, Utf16Order};
 impl<E: Utf16Order, A: Allocator> WString<E, A> {
     ghost use Rattle.utf16string.specs.WString.{wstring_text};
 
-    /// The same characters in UTF-16. The only error is a refused request for memory. Room is asked for once; two passes
-    /// over the text.
+    /// The same characters in UTF-16. The only error is a refused request for memory. Room is asked for once, for the empty
+    /// text not at all; two passes over the text.
     pub fn from_str(alloc: A, s: &str) -> Result<Self, AllocError>
-        ensures { IfOk result (λ t. wstring_text t ≡ chars s.now) }
+        ensures text { IfOk result (λ t. wstring_text t ≡ chars s.now) }
+        ensures nothing { s.now ≡ [] → IsOk result }
     {
+        if s.is_empty() {
+            return Ok(Self::new(alloc));
+        }
         let mut raw = vec![in alloc; 0; encoded_len(s)]?;
         write_chars::<E>(s, &mut raw);
         Ok(Self::from_utf16_unchecked(raw))

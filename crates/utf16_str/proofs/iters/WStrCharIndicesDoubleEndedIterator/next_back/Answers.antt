@@ -2,7 +2,7 @@ use Rattle.std.proofs.Common.{◌+◌, ◌∷◌, ◌++◌, [], ap, sym, ◌∙�
 use Rattle.utf16_units.proofs.EncodingLemmas.{size-append}
 use Rattle.utf16_units.specs.Encoding.{size}
 use Rattle.utf16_str.specs.Offsets.{char_offsets}
-use Rattle.utf16_str.proofs.OffsetLemmas.{char_offsets-nil, char_offsets-push, progress-last}
+use Rattle.utf16_str.proofs.OffsetLemmas.{char_offsets-none, char_offsets-push, progress-last}
 use Rattle.utf16_str.proofs.iters.WStrCharIndicesDoubleEndedIterator.next_back.Goals as goal
 
 pub overflow_add-result : goal.overflow_add-result
@@ -21,17 +21,7 @@ returns-clause-steps g c =
     ∙ ap (λ n. char_offsets offset left ++ (offset + n, c.in-Some.c) ∷ []) (sym c.byte_len.ensures)
 
 pub returns-clause-goes : goal.returns-clause-goes
-returns-clause-goes g c =
-    let offset = c.self.inside.offset in
-    let left = c.next_back.new.self in
-    progress-last _ (λ _. tt) _ _ _
-    (sym c.self.view_is ∙ ap (char_offsets offset) c.in-Some.ensures.steps ∙ char_offsets-push offset left c.in-Some.c
-    ∙ ap (λ n. char_offsets offset left ++ (offset + n, c.in-Some.c) ∷ []) (sym c.byte_len.ensures))
+returns-clause-goes g c = progress-last _ (λ _. tt) _ _ _ (returns-clause-steps g c)
 
 pub returns-in_default-clause-steps : goal.returns-in_default-clause-steps
-returns-in_default-clause-steps g c =
-    let offset = c.self.inside.offset in
-    let none = c.in_default.ensures.steps in (
-      sym c.self.view_is ∙ ap (char_offsets offset) none.0 ∙ char_offsets-nil offset,
-      ap (char_offsets offset) none.1 ∙ char_offsets-nil offset,
-    )
+returns-in_default-clause-steps g c = char_offsets-none c.self.inside.offset _ _ _ c.self.view_is c.in_default.ensures.steps

@@ -1,5 +1,8 @@
-use Rattle.utf16_units.proofs.EncodingLemmas.{is_text-from_IsText}
+use Rattle.utf16_units.proofs.EncodingLemmas.{Encodes-text_of, is_text-from_IsText}
 use Rattle.utf16_str.proofs.wstr.WStr.from_utf16_unchecked.Goals as goal
 
 pub invariant_of-result : goal.invariant_of-result
-invariant_of-result g c = record { well_formed = is_text-from_IsText g.E.Utf16Order.BIG c.args.raw.now c.requires }
+invariant_of-result g c = record { well_formed = is_text-from_IsText _ _ c.requires }
+
+pub returns-clause-encoding : goal.returns-clause-encoding
+returns-clause-encoding g c = Encodes-text_of _ _ c.requires

@@ -25,4 +25,4 @@ from_utf16_unchecked-requires g c = IsText-from_Encodes _ _ _ (part g (goal.at.f
 
 pub returns : goal.returns
 returns g c =
-    ap (text_of g.E.Utf16Order.BIG) c.from_utf16_unchecked.ensures ∙ text_of-Encodes _ _ _ (part g (goal.at.returns g c).After-as_bytes)
+    ap (text_of g.E.Utf16Order.BIG) c.from_utf16_unchecked.ensures.bytes ∙ text_of-Encodes _ _ _ (part g (goal.at.returns g c).After-as_bytes)

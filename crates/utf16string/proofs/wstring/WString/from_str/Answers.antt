@@ -1,4 +1,5 @@
-use Rattle.std.proofs.Common.{◌≡◌, ◌∙◌, ap, arith, length, subst, sym}
+use Rattle.std.proofs.Common.{◌≡◌, ◌∙◌, ap, arith, eqb-true, length, subst, sym}
+use Rattle.std.proofs.lemmas.List.{nil_from_length}
 use Rattle.std.proofs.lemmas.Str.{scalars-chars}
 use Rattle.std.specs.List.{refill}
 use Rattle.std.specs.Str.{chars}
@@ -21,8 +22,13 @@ from_utf16_unchecked-requires g c =
     subst (IsText g.E.Utf16Order.BIG) (sym (written g (goal.at.from_utf16_unchecked-requires g c).After-write_chars))
     (IsText-encode _ _ (All-from_all_scalars _ (scalars-chars c.args.s.now c.utf8.s)))
 
-pub returns : goal.returns
-returns g c =
-    ap (λ v. text_of g.E.Utf16Order.BIG v.items) c.from_utf16_unchecked.ensures
-    ∙ ap (text_of g.E.Utf16Order.BIG) (written g (goal.at.returns g c).After-write_chars)
+pub returns-clause-text : goal.returns-clause-text
+returns-clause-text g c =
+    ap (λ v. text_of g.E.Utf16Order.BIG v.items) c.from_utf16_unchecked.ensures.vec
+    ∙ ap (text_of g.E.Utf16Order.BIG) (written g (goal.at.returns-clause-text g c).After-write_chars)
     ∙ text_of-encode _ _ (All-from_all_scalars _ (scalars-chars c.args.s.now c.utf8.s))
+
+pub returns-then-is_empty-clause-text : goal.returns-then-is_empty-clause-text
+unfolding chars
+returns-then-is_empty-clause-text g c =
+    c.new.ensures.text ∙ ap chars (sym (nil_from_length c.args.s.now (eqb-true (length c.args.s.now) 0 (sym c.is_empty.ensures ∙ c.if-is_empty.true))))

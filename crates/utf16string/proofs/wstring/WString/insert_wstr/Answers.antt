@@ -1,6 +1,5 @@
 use Rattle.std.proofs.Common.{arith}
 use Rattle.std.specs.List.{splice}
-use Rattle.std.proofs.lemmas.Result.{on_err_weaker}
 use Rattle.utf16_units.specs.Edit.{insert_at}
 use Rattle.utf16_units.specs.Encoding.{Encodes}
 use Rattle.utf16_units.proofs.EditLemmas.{Encodes-checked, Encodes-inserted, boundary-within}
@@ -23,8 +22,8 @@ insert_bytes-requires g c =
 
 pub invariant_of-self : goal.invariant_of-self
 invariant_of-self g c =
-    let put = c.insert_bytes in
-    record { well_formed = still_text _ _ _ _ _ put.result c.args.self.now.well_formed (inserted g c) put.ensures.items (on_err_weaker put.result (λ left. left.0.0) put.ensures.refused) }
+    record { well_formed = still_text _ _ _ _ _ c.args.self.now.well_formed (inserted g c) (λ left. left.0.0) c.insert_bytes.result c.insert_bytes.ensures.items c.insert_bytes.ensures.refused }
 
 pub returns-clause-text : goal.returns-clause-text
-returns-clause-text g c = edited_text _ _ _ _ c.insert_bytes.result (inserted g (goal.at.returns-clause-text g c).After-insert_bytes) c.insert_bytes.ensures.items
+returns-clause-text g c =
+    edited_text _ _ _ _ _ c.args.self.now.well_formed (inserted g (goal.at.returns-clause-text g c).After-insert_bytes) c.insert_bytes.result c.insert_bytes.ensures.items

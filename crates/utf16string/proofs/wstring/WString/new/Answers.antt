@@ -8,4 +8,4 @@ from_utf16_unchecked-requires g c = subst (IsText g.E.Utf16Order.BIG) (sym c.new
 
 pub returns-clause-text : goal.returns-clause-text
 returns-clause-text g c =
-    ap (λ v. text_of g.E.Utf16Order.BIG v.items) c.from_utf16_unchecked.ensures ∙ ap (text_of g.E.Utf16Order.BIG) c.new.ensures.items ∙ text_of-nil _
+    ap (λ v. text_of g.E.Utf16Order.BIG v.items) c.from_utf16_unchecked.ensures.vec ∙ ap (text_of g.E.Utf16Order.BIG) c.new.ensures.items ∙ text_of-nil _

@@ -1,5 +1,4 @@
 use Rattle.std.proofs.Common.{[], ◌∷◌, ◌++◌}
-use Rattle.std.proofs.lemmas.Result.{on_err_weaker}
 use Rattle.utf16_units.specs.Edit.{push_text}
 use Rattle.utf16_units.specs.Encoding.{Encodes, char_bytes}
 use Rattle.utf16_units.proofs.EditLemmas.{Encodes-char, Encodes-pushed}
@@ -15,8 +14,8 @@ pushed g c = Encodes-pushed _ _ _ _ c.args.self.now.well_formed (Encodes-char _ 
 
 pub invariant_of-self : goal.invariant_of-self
 invariant_of-self g c =
-    let put = c.push_char in
-    record { well_formed = still_text _ _ _ _ _ put.result c.args.self.now.well_formed (pushed g c) put.ensures.items (on_err_weaker put.result (λ left. left.0.0) put.ensures.refused) }
+    record { well_formed = still_text _ _ _ _ _ c.args.self.now.well_formed (pushed g c) (λ left. left.0.0) c.push_char.result c.push_char.ensures.items c.push_char.ensures.refused }
 
 pub returns-clause-text : goal.returns-clause-text
-returns-clause-text g c = edited_text _ _ _ _ c.push_char.result (pushed g (goal.at.returns-clause-text g c).After-push_char) c.push_char.ensures.items
+returns-clause-text g c =
+    edited_text _ _ _ _ _ c.args.self.now.well_formed (pushed g (goal.at.returns-clause-text g c).After-push_char) c.push_char.result c.push_char.ensures.items

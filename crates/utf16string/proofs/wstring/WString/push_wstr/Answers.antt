@@ -1,5 +1,4 @@
 use Rattle.std.proofs.Common.{◌++◌}
-use Rattle.std.proofs.lemmas.Result.{on_err_weaker}
 use Rattle.utf16_units.specs.Edit.{push_text}
 use Rattle.utf16_units.specs.Encoding.{Encodes}
 use Rattle.utf16_units.proofs.EditLemmas.{Encodes-pushed}
@@ -16,7 +15,8 @@ pushed g c = Encodes-pushed _ _ _ _ c.args.self.now.well_formed c.as_bytes.ensur
 
 pub invariant_of-self : goal.invariant_of-self
 invariant_of-self g c =
-    record { well_formed = still_text _ _ _ _ _ c.append.result c.args.self.now.well_formed (pushed g c) c.append.ensures.items (on_err_weaker c.append.result (λ left. left.0.0) c.append.ensures.refused) }
+    record { well_formed = still_text _ _ _ _ _ c.args.self.now.well_formed (pushed g c) (λ left. left.0.0) c.append.result c.append.ensures.items c.append.ensures.refused }
 
 pub returns-clause-text : goal.returns-clause-text
-returns-clause-text g c = edited_text _ _ _ _ c.append.result (pushed g (goal.at.returns-clause-text g c).After-append) c.append.ensures.items
+returns-clause-text g c =
+    edited_text _ _ _ _ _ c.args.self.now.well_formed (pushed g (goal.at.returns-clause-text g c).After-append) c.append.result c.append.ensures.items

@@ -1,11 +1,21 @@
-use Rattle.std.proofs.Common.{◌∙◌, ap, arith, rules, subst, sym}
-use Rattle.std.proofs.lemmas.Result.{on_err_weaker}
-use Rattle.utf16_units.specs.Encoding.{IsText, text_of}
+use Rattle.std.proofs.Common.{◌∙◌, ap, arith, drop, rules, subst, sym, take}
+use Rattle.utf16_units.specs.Boundary.{text_from, text_to}
+use Rattle.utf16_units.specs.Encoding.{Encodes, IsText, text_of}
 use Rattle.utf16_units.proofs.BoundaryLemmas.{Encodes-from, Encodes-to}
 use Rattle.utf16_units.proofs.EditLemmas.{Encodes-checked, boundary-within}
 use Rattle.utf16_units.proofs.EncodingLemmas.{IsText-from_Encodes, IsText-from_is_text, length-text, text_of-Encodes}
+use Rattle.utf16string.specs.WString.{wstring_bytes, wstring_text}
 use Rattle.utf16string.proofs.Edited.{still_text}
+use Rattle.utf16string.proofs.wstring.WString.split_off.Given.{Over}
 use Rattle.utf16string.proofs.wstring.WString.split_off.Goals as goal
+use Rattle.utf16string.proofs.wstring.WString.split_off.Goals.{Start}
+
+module _ (g : Over) (c : Start g) where
+  kept : Encodes g.E.Utf16Order.BIG (text_to (wstring_text c.args.self.now) c.args.at) (take c.args.at (wstring_bytes c.args.self.now))
+  kept = Encodes-to _ _ _ _ (Encodes-checked _ _ c.args.self.now.well_formed) c.requires
+
+  taken : Encodes g.E.Utf16Order.BIG (text_from (wstring_text c.args.self.now) c.args.at) (drop c.args.at (wstring_bytes c.args.self.now))
+  taken = Encodes-from _ _ _ _ (Encodes-checked _ _ c.args.self.now.well_formed) c.requires
 
 pub split_off-requires : goal.split_off-requires
 split_off-requires g c =
@@ -15,28 +25,20 @@ split_off-requires g c =
 pub invariant_of-self : goal.invariant_of-self
 invariant_of-self g c =
     let cut = c.split_off in
-    record {
-      well_formed =
-          still_text _ _ _ _ _ cut.result c.args.self.now.well_formed
-          (Encodes-to _ _ _ _ (Encodes-checked _ _ c.args.self.now.well_formed) c.requires)
-          cut.ensures.items (on_err_weaker cut.result (ap (λ v. v.items)) cut.ensures.err);
-    }
+    record { well_formed = still_text _ _ _ _ _ c.args.self.now.well_formed (kept g (goal.at.invariant_of-self g c).Start) (ap (λ v. v.items)) cut.result cut.ensures.items cut.ensures.err }
 
 pub from_utf16_unchecked-requires : goal.from_utf16_unchecked-requires
 from_utf16_unchecked-requires g c =
-    subst (IsText g.E.Utf16Order.BIG) (sym c.in_ok-back.ensures.tail)
-    (IsText-from_Encodes _ _ _ (Encodes-from _ _ _ _ (Encodes-checked _ _ c.args.self.now.well_formed) c.requires))
+    subst (IsText g.E.Utf16Order.BIG) (sym c.in_ok-back.ensures.tail) (IsText-from_Encodes _ _ _ (taken g (goal.at.from_utf16_unchecked-requires g c).Start))
 
 pub returns-clause-front : goal.returns-clause-front
-returns-clause-front g c =
-    ap (text_of g.E.Utf16Order.BIG) c.in_ok-back.ensures.items
-    ∙ text_of-Encodes _ _ _ (Encodes-to _ _ _ _ (Encodes-checked _ _ c.args.self.now.well_formed) c.requires)
+returns-clause-front g c = ap (text_of g.E.Utf16Order.BIG) c.in_ok-back.ensures.items ∙ text_of-Encodes _ _ _ (kept g (goal.at.returns-clause-front g c).Start)
 
 pub returns-clause-back : goal.returns-clause-back
 returns-clause-back g c =
-    ap (λ v. text_of g.E.Utf16Order.BIG v.items) c.from_utf16_unchecked.ensures
+    ap (λ v. text_of g.E.Utf16Order.BIG v.items) c.from_utf16_unchecked.ensures.vec
     ∙ ap (text_of g.E.Utf16Order.BIG) c.in_ok-back.ensures.tail
-    ∙ text_of-Encodes _ _ _ (Encodes-from _ _ _ _ (Encodes-checked _ _ c.args.self.now.well_formed) c.requires)
+    ∙ text_of-Encodes _ _ _ (taken g (goal.at.returns-clause-back g c).Start)
 
 pub returns-in_err-back-clause-nothing : goal.returns-in_err-back-clause-nothing
 returns-in_err-back-clause-nothing g c at_end infallible =

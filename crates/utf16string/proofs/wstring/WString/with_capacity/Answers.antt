@@ -8,5 +8,5 @@ from_utf16_unchecked-requires g c = subst (IsText g.E.Utf16Order.BIG) (sym c.in_
 
 pub returns-clause-text : goal.returns-clause-text
 returns-clause-text g c =
-    ap (λ v. text_of g.E.Utf16Order.BIG v.items) c.from_utf16_unchecked.ensures
+    ap (λ v. text_of g.E.Utf16Order.BIG v.items) c.from_utf16_unchecked.ensures.vec
     ∙ ap (text_of g.E.Utf16Order.BIG) c.in_ok-buf.ensures.items ∙ text_of-nil _
