@@ -1,7 +1,8 @@
 //! The laws of UTF-16 that users of the format rest on, each proved as the contract of a function that does nothing.
 //!
-//! A proof cites a law by calling its function, or by the lemma of the same name in `proofs/`. The statements are in
-//! `specs/Laws.antt`: they speak of the definitions alone, for all texts, all bytes and both byte orders.
+//! A function's body cites a law by a call of its function, a proof file by the lemma of that name in the module
+//! `Rattle.utf16_units.proofs.LawProofs`. The statements are in `specs/Laws.antt`: they speak of the definitions alone, for
+//! all texts, all bytes and both byte orders.
 
 ghost use Rattle.utf16_units.specs.Laws.{FoundAligned, InsertThenRemove, JoinedText, NoneContinues, SplitThenPush, SwappedOrders, TwoNeverContinues, UniqueText, Utf8Back};
 

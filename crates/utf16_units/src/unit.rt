@@ -21,7 +21,8 @@ pub fn is_trailing_surrogate(unit: u16) -> bool
     unit & 0xFC00 == 0xDC00
 }
 
-/// The character of a surrogate pair. Test the two units by `is_leading_surrogate` and `is_trailing_surrogate`.
+/// The character of a surrogate pair. The caller proves that the first unit is a leading surrogate and the second a trailing
+/// one; `is_leading_surrogate` and `is_trailing_surrogate` test it.
 #[inline]
 pub fn decode_surrogates(u: u16, u2: u16) -> char
     requires leading { IsLeading u }
