@@ -1,6 +1,8 @@
 -- What `whole` did to the bytes that its reader has left and to those that its writer holds, where these are known.
 use Rattle.std.specs.Prelude.{ℕ, Bool, List, Option, IfSome, encode_utf8_all, take}
 use Rattle.std.specs.Io.KnownBytes.{Appends, IsAtEnd, Keeps}
+use Rattle.utf16_cat.specs.declared.outcome.Outcome.{Outcome}
+use Rattle.utf16_cat.specs.declared.outcome.Outcome.TheVariants.{Done, Memory, Read, Text, Usage, Write}
 use Rattle.utf16string.specs.declared.Utf16Error.{Utf16Error}
 use Rattle.utf16string.specs.Encoding.{IsText, text_of}
 use Rattle.utf16string.specs.Utf16Error.{IsErrorOf}
@@ -23,3 +25,12 @@ AppendsBeginning old new bytes = (n : ℕ) × Appends old new (take n bytes)
 abbrev pub Falters : Bool → Option (List ℕ) → Option (List ℕ) → Option (List ℕ) → Option (List ℕ) → Type 0
 Falters big input left old new =
     IsAtEnd left × IfSome input (λ bytes. IsText big bytes × AppendsBeginning old new (encode_utf8_all (text_of big bytes)))
+
+-- what was read and written, by the outcome: `Read` and `Memory` wrote nothing, and an input that was looked at is never `Usage`
+abbrev pub EndsAs : Outcome → Bool → Option (List ℕ) → Option (List ℕ) → Option (List ℕ) → Option (List ℕ) → Type 0
+EndsAs Done big input left old new = Transcodes big input left old new
+EndsAs (Text e) big input left old new = Refuses big input left old new e
+EndsAs Write big input left old new = Falters big input left old new
+EndsAs Read big input left old new = Keeps old new
+EndsAs Memory big input left old new = Keeps old new
+EndsAs Usage big input left old new = ⊥

@@ -10,18 +10,26 @@ use utf16string::Utf16Error;
 /// The byte order that the arguments ask for.
 #[derive(Clone, Copy, Debug, PartialEq, Eq)]
 pub enum Choice {
+    /// Little endian: the low byte of a unit comes first.
     Le,
+    /// Big endian: the high byte comes first.
     Be,
 }
 
 /// How a run ended.
 #[derive(Clone, Copy, Debug, PartialEq, Eq)]
 pub enum Outcome {
+    /// The whole input was decoded and written.
     Done,
+    /// The input is not UTF-16 in the order asked for. Nothing was written.
     Text(Utf16Error),
+    /// A read failed. Nothing was written.
     Read,
+    /// A write or the flush failed. A beginning of the text was written.
     Write,
+    /// Memory was refused. Nothing was written.
     Memory,
+    /// The arguments are neither `le` alone nor `be` alone. Nothing was read or written.
     Usage,
 }
 

@@ -1,105 +1,181 @@
-//! The program's functions on worked inputs, and on devices that fail.
+//! The program's functions on worked inputs, and on devices that fail or count.
 
-use crate::outcome::{Choice, Outcome, order, report};
-use crate::whole::whole;
-use std::io::{self, Error, ErrorKind, Read, Write};
+use crate::devices::{Arguments, Counter, FailingReader};
+use crate::outcome::{Outcome, report};
+use crate::program::{program, words};
+use crate::run::run;
+use std::alloc::AllocError;
+use std::process::ExitCode;
 use std::test::Fail;
-use utf16string::{BE, LE};
 
-// Gives its bytes in one read, and then fails.
-#[derive(Drop)]
-struct FailingReader<'a> {
-    bytes: &'a [u8],
-}
+// "hi" little endian; big endian two Chinese characters, U+6800 and U+6900.
+const HI: [u8; 4] = [0x68, 0x00, 0x69, 0x00];
 
-impl<'a> Read for FailingReader<'a> {
-    fn read(&mut self, buf: &mut [u8]) -> io::Result<usize> {
-        if self.bytes.is_empty() {
-            return Err(Error::from(ErrorKind::Interrupted));
-        }
-        self.bytes.read(buf)
+// The words, each owned.
+fn owned(rt: &HostRuntime, words: &[&str]) -> Result<Vec<String>, AllocError> {
+    let mut all = Vec::new(rt.alloc());
+    for word in words {
+        all.push(String::from_str(rt.alloc(), word)?)?;
     }
-}
-
-// Takes a byte a write, and fails once it holds `room`.
-#[derive(Drop)]
-struct FailingWriter {
-    taken: Vec<u8>,
-    room: usize,
-    flushes: bool,
-}
-
-impl Write for FailingWriter {
-    fn write(&mut self, buf: &[u8]) -> io::Result<usize> {
-        let [first, ..] = buf else {
-            return Ok(0);
-        };
-        if self.taken.len() >= self.room || self.taken.push(*first).is_err() {
-            return Err(Error::from(ErrorKind::Other));
-        }
-        Ok(1)
-    }
-
-    fn flush(&mut self) -> io::Result<()> {
-        if self.flushes {
-            Ok(())
-        } else {
-            Err(Error::from(ErrorKind::Other))
-        }
-    }
+    Ok(all)
 }
 
 #[test]
-fn writes_the_utf8_of_text(rt: HostRuntime) -> Result<(), Fail> {
-    let hello = [0x68, 0, 0x65, 0, 0x6C, 0, 0x6C, 0, 0x6F, 0];
-    let mut out = Vec::new(rt.alloc());
-    let outcome = whole::<LE, _, _, _>(rt.alloc(), &mut hello.as_slice(), &mut out);
-    assert_eq!(rt; outcome, Outcome::Done);
-    assert_eq!(rt; out.as_slice(), b"hello".as_slice());
-
-    let pair = [0x00, 0x68, 0xD8, 0x00, 0xDC, 0x00];
-    let mut out = Vec::new(rt.alloc());
-    let outcome = whole::<BE, _, _, _>(rt.alloc(), &mut pair.as_slice(), &mut out);
-    assert_eq!(rt; outcome, Outcome::Done);
-    assert_eq!(rt; out.as_slice(), [0x68, 0xF0, 0x90, 0x80, 0x80].as_slice());
-
-    let mut out = Vec::new(rt.alloc());
-    let outcome = whole::<LE, _, _, _>(rt.alloc(), &mut [].as_slice(), &mut out);
-    assert_eq!(rt; outcome, Outcome::Done);
-    assert!(rt; out.is_empty());
+fn run_answers_for_its_words(rt: HostRuntime) -> Result<(), Fail> {
+    let table: [(&[&str], Outcome, usize, &[u8]); 8] = [
+        (&["le"], Outcome::Done, 0, b"hi"),
+        (
+            &["be"],
+            Outcome::Done,
+            0,
+            &[0xE6, 0xA0, 0x80, 0xE6, 0xA4, 0x80],
+        ),
+        (&[], Outcome::Usage, 4, b""),
+        (&["le", "be"], Outcome::Usage, 4, b""),
+        (&["le", ""], Outcome::Usage, 4, b""),
+        (&["LE"], Outcome::Usage, 4, b""),
+        (&[""], Outcome::Usage, 4, b""),
+        (&["auto"], Outcome::Usage, 4, b""),
+    ];
+    for (i, (words, outcome, left, written)) in table.iter().enumerate() {
+        let words = owned(&rt, words)?;
+        let mut reader = HI.as_slice();
+        let mut out = Vec::new(rt.alloc());
+        assert_eq!(rt;
+            run(rt.alloc(), &words, &mut reader, &mut out),
+            *outcome,
+            "case {i}"
+        );
+        assert_eq!(rt; reader.len(), *left, "case {i}");
+        assert_eq!(rt; out.as_slice(), *written, "case {i}");
+    }
     Ok(())
 }
 
 #[test]
-fn writes_nothing_where_the_input_is_no_text(rt: HostRuntime) -> Result<(), Fail> {
+fn run_writes_the_utf8_of_text(rt: HostRuntime) -> Result<(), Fail> {
+    let table: [(&str, &[u8], &[u8]); 4] = [
+        (
+            "le",
+            &[0x68, 0, 0x65, 0, 0x6C, 0, 0x6C, 0, 0x6F, 0],
+            b"hello",
+        ),
+        ("le", &[], b""),
+        ("le", &[0x00, 0xD8, 0x00, 0xDC], &[0xF0, 0x90, 0x80, 0x80]),
+        (
+            "be",
+            &[0x00, 0x68, 0xD8, 0x00, 0xDC, 0x00],
+            &[0x68, 0xF0, 0x90, 0x80, 0x80],
+        ),
+    ];
+    for (i, (word, input, written)) in table.iter().enumerate() {
+        let words = owned(&rt, &[*word])?;
+        let mut reader = *input;
+        let mut out = Vec::new(rt.alloc());
+        assert_eq!(rt;
+            run(rt.alloc(), &words, &mut reader, &mut out),
+            Outcome::Done,
+            "case {i}"
+        );
+        assert_eq!(rt; out.as_slice(), *written, "case {i}");
+    }
+    Ok(())
+}
+
+#[test]
+fn program_ends_with_the_status_of_its_run(rt: HostRuntime) -> Result<(), Fail> {
+    let table: [(&[&[u8]], &[u8], u8, &str, &str); 6] = [
+        (&[b"cat", b"le"], &HI, 0, "hi", ""),
+        (&[b"cat", b"be"], &[], 0, "", ""),
+        (
+            &[b"cat", b"be"],
+            &[0x68],
+            1,
+            "",
+            "utf16_cat: Invalid UTF-16LE data in byte slice\n",
+        ),
+        (&[b"cat"], &HI, 2, "", "usage: utf16_cat le|be\n"),
+        (
+            &[b"cat", b"le", b"be"],
+            &HI,
+            2,
+            "",
+            "usage: utf16_cat le|be\n",
+        ),
+        (&[b"cat", b"\xFF"], &HI, 2, "", "usage: utf16_cat le|be\n"),
+    ];
+    for (i, (arguments, input, status, written, line)) in table.iter().enumerate() {
+        let env = (Arguments { all: *arguments }, rt.alloc());
+        let mut reader = *input;
+        let mut out = Vec::new(rt.alloc());
+        let mut errors = Vec::new(rt.alloc());
+        let ended = program(&env, &mut reader, &mut out, &mut errors);
+        assert_eq!(rt; ended, ExitCode::from(*status), "case {i}");
+        assert_eq!(rt; out.as_slice(), written.as_bytes(), "case {i}");
+        assert_eq!(rt; errors.as_slice(), line.as_bytes(), "case {i}");
+    }
+    Ok(())
+}
+
+#[test]
+fn words_are_all_but_the_first(rt: HostRuntime) -> Result<(), Fail> {
+    let table: [(&[&[u8]], &[&str]); 4] = [
+        (&[], &[]),
+        (&[b"cat"], &[]),
+        (&[b"cat", b"le"], &["le"]),
+        (&[b"cat", b"le", b"", b"be"], &["le", "", "be"]),
+    ];
+    for (i, (arguments, wanted)) in table.iter().enumerate() {
+        let given = words(&(Arguments { all: *arguments }, rt.alloc()));
+        let wanted = owned(&rt, wanted)?;
+        assert!(rt; given == Ok(wanted), "case {i}");
+    }
+    Ok(())
+}
+
+#[test]
+fn run_flushes_once_and_only_what_is_text(rt: HostRuntime) -> Result<(), Fail> {
+    let table: [(&str, &[u8], u64); 4] = [
+        ("le", &HI, 1),
+        ("le", &[], 1),
+        ("le", &[0x68, 0x00, 0x00, 0xDC], 0),
+        ("auto", &HI, 0),
+    ];
+    for (i, (word, input, flushed)) in table.iter().enumerate() {
+        let words = owned(&rt, &[*word])?;
+        let mut reader = *input;
+        let mut out = Counter::new(&rt, 9, true);
+        let _ = run(rt.alloc(), &words, &mut reader, &mut out);
+        assert_eq!(rt; out.flushed, *flushed, "case {i}");
+    }
+    Ok(())
+}
+
+#[test]
+fn text_says_where_the_input_is_at_fault(rt: HostRuntime) -> Result<(), Fail> {
+    let words = owned(&rt, &["le"])?;
     let lone = [0x68, 0x00, 0x00, 0xDC];
     let mut out = Vec::new(rt.alloc());
-    let outcome = whole::<LE, _, _, _>(rt.alloc(), &mut lone.as_slice(), &mut out);
+    let outcome = run(rt.alloc(), &words, &mut lone.as_slice(), &mut out);
     assert!(rt; out.is_empty());
     let Outcome::Text(e) = outcome else {
         return Err(Fail::from("taken as text"));
     };
     assert_eq!(rt; e.valid_up_to(), 2);
     assert_eq!(rt; e.error_len(), Some(2));
-
-    let mut line = Vec::new(rt.alloc());
-    assert_eq!(rt; report(&outcome, &mut line), 1);
-    assert_eq!(rt;
-        line.as_slice(),
-        b"utf16_cat: Invalid UTF-16LE data in byte slice\n".as_slice()
-    );
     Ok(())
 }
 
 #[test]
-fn reads_more_than_one_block(rt: HostRuntime) -> Result<(), Fail> {
+fn run_reads_more_than_one_block(rt: HostRuntime) -> Result<(), Fail> {
+    let words = owned(&rt, &["le"])?;
     let mut input = Vec::new(rt.alloc());
     for _ in 0..70_000 {
         input.extend_from_slice(&[0x61, 0x00])?;
     }
     input.extend_from_slice(&[0x00, 0xD8, 0x00, 0xDC])?;
     let mut out = Vec::new(rt.alloc());
-    let outcome = whole::<LE, _, _, _>(rt.alloc(), &mut input.as_slice(), &mut out);
+    let outcome = run(rt.alloc(), &words, &mut input.as_slice(), &mut out);
     assert_eq!(rt; outcome, Outcome::Done);
     assert_eq!(rt; out.len(), 70_004);
     assert!(rt; out.iter().take(70_000).all(|b| *b == b'a'));
@@ -108,62 +184,45 @@ fn reads_more_than_one_block(rt: HostRuntime) -> Result<(), Fail> {
 }
 
 #[test]
-fn says_which_device_failed(rt: HostRuntime) -> Result<(), Fail> {
-    let mut reader = FailingReader {
-        bytes: &[0x68, 0x00],
-    };
-    let mut out = Vec::new(rt.alloc());
-    let outcome = whole::<LE, _, _, _>(rt.alloc(), &mut reader, &mut out);
-    assert_eq!(rt; outcome, Outcome::Read);
-    assert!(rt; out.is_empty());
+fn run_says_that_a_read_failed(rt: HostRuntime) -> Result<(), Fail> {
+    let words = owned(&rt, &["le"])?;
+    let mut reader = FailingReader { bytes: &HI };
+    let mut out = Counter::new(&rt, 9, true);
+    assert_eq!(rt;
+        run(rt.alloc(), &words, &mut reader, &mut out),
+        Outcome::Read
+    );
+    assert!(rt; out.taken.is_empty());
+    assert_eq!(rt; out.flushed, 0);
+    Ok(())
+}
 
-    let text = [0x68, 0x00, 0x69, 0x00];
-    for (room, flushes, wanted, written) in [
-        (0, true, Outcome::Write, 0),
-        (1, true, Outcome::Write, 1),
-        (2, false, Outcome::Write, 2),
-        (2, true, Outcome::Done, 2),
-    ] {
-        let mut writer = FailingWriter {
-            taken: Vec::new(rt.alloc()),
-            room,
-            flushes,
-        };
-        let outcome = whole::<LE, _, _, _>(rt.alloc(), &mut text.as_slice(), &mut writer);
-        assert_eq!(rt; outcome, wanted, "room for {room}");
+#[test]
+fn run_says_that_a_write_or_the_flush_failed(rt: HostRuntime) -> Result<(), Fail> {
+    let words = owned(&rt, &["le"])?;
+    for (i, (room, flushes, wanted, written, flushed)) in [
+        (0, true, Outcome::Write, "", 0),
+        (1, true, Outcome::Write, "h", 0),
+        (2, false, Outcome::Write, "hi", 1),
+        (2, true, Outcome::Done, "hi", 1),
+    ]
+    .into_iter()
+    .enumerate()
+    {
+        let mut out = Counter::new(&rt, room, flushes);
         assert_eq!(rt;
-            writer.taken.as_slice(),
-            &b"hi"[..written],
-            "room for {room}"
+            run(rt.alloc(), &words, &mut HI.as_slice(), &mut out),
+            wanted,
+            "case {i}"
         );
+        assert_eq!(rt; out.taken.as_slice(), written.as_bytes(), "case {i}");
+        assert_eq!(rt; out.flushed, flushed, "case {i}");
     }
     Ok(())
 }
 
 #[test]
-fn takes_one_word(rt: HostRuntime) -> Result<(), Fail> {
-    let table: [(&[&str], Option<Choice>); 8] = [
-        (&["le"], Some(Choice::Le)),
-        (&["be"], Some(Choice::Be)),
-        (&["le", "be"], None),
-        (&["LE"], None),
-        (&[""], None),
-        (&[], None),
-        (&["le", ""], None),
-        (&["auto"], None),
-    ];
-    for (i, (words, wanted)) in table.iter().enumerate() {
-        let mut owned = Vec::new(rt.alloc());
-        for word in words.iter() {
-            owned.push(String::from_str(rt.alloc(), word)?)?;
-        }
-        assert_eq!(rt; order(&owned), *wanted, "case {i}");
-    }
-    Ok(())
-}
-
-#[test]
-fn reports_each_outcome(rt: HostRuntime) -> Result<(), Fail> {
+fn report_tells_of_each_outcome(rt: HostRuntime) -> Result<(), Fail> {
     let table = [
         (Outcome::Done, 0, ""),
         (Outcome::Read, 1, "utf16_cat: read failed\n"),
@@ -175,12 +234,7 @@ fn reports_each_outcome(rt: HostRuntime) -> Result<(), Fail> {
         let mut out = Vec::new(rt.alloc());
         assert_eq!(rt; report(&outcome, &mut out), status, "{line}");
         assert_eq!(rt; out.as_slice(), line.as_bytes(), "{line}");
-
-        let mut broken = FailingWriter {
-            taken: Vec::new(rt.alloc()),
-            room: 0,
-            flushes: true,
-        };
+        let mut broken = Counter::new(&rt, 0, true);
         assert_eq!(rt; report(&outcome, &mut broken), status, "{line}");
     }
     Ok(())

@@ -1,9 +1,8 @@
 //! One whole input, read, decoded and written.
 
-ghost use Rattle.std.specs.Prelude.{◌≡◌, ◌≢◌, ◌⊎◌, IfOk, OnOk, IfErr, IfSome};
-ghost use Rattle.std.specs.Io.KnownBytes.{Appends, IsAtEnd, Keeps};
-ghost use Rattle.utf16string.specs.declared.Utf16Error.{Utf16Error};
-ghost use Rattle.utf16_cat.specs.Outcome.{AppendsBeginning, Falters, Refuses, Transcodes};
+ghost use Rattle.std.specs.Prelude.{◌≡◌, ◌⊎◌, IfOk, OnOk, IfErr, IfSome};
+ghost use Rattle.std.specs.Io.KnownBytes.{Appends, IsAtEnd};
+ghost use Rattle.utf16_cat.specs.Outcome.{AppendsBeginning, EndsAs};
 
 use crate::outcome::Outcome;
 use std::alloc::Allocator;
@@ -19,14 +18,8 @@ pub fn whole<E: Utf16Order, R: Read, W: Write, A: Allocator>(
     reader: &mut R,
     writer: &mut W,
 ) -> Outcome
-    ensures done { result ≡ Outcome.Done → Transcodes E.BIG
+    ensures { EndsAs result E.BIG
         (R.remaining reader.old) (R.remaining reader.new) (W.contents writer.old) (W.contents writer.new) }
-    ensures text { (e : Utf16Error) → result ≡ Outcome.Text e → Refuses E.BIG
-        (R.remaining reader.old) (R.remaining reader.new) (W.contents writer.old) (W.contents writer.new) e }
-    ensures write { result ≡ Outcome.Write → Falters E.BIG
-        (R.remaining reader.old) (R.remaining reader.new) (W.contents writer.old) (W.contents writer.new) }
-    ensures quiet { (result ≡ Outcome.Read) ⊎ (result ≡ Outcome.Memory) → Keeps (W.contents writer.old) (W.contents writer.new) }
-    ensures usage { result ≢ Outcome.Usage }
 {
     let input = match read_all(&alloc, reader) {
         Ok(input) => input,
