@@ -86,7 +86,7 @@ fn run_writes_the_utf8_of_text(rt: HostRuntime) -> Result<(), Fail> {
 fn program_ends_with_the_status_of_its_run(rt: HostRuntime) -> Result<(), Fail> {
     let table: [(&[&[u8]], &[u8], u8, &str, &str); 6] = [
         (&[b"cat", b"le"], &HI, 0, "hi", ""),
-        (&[b"cat", b"be"], &[], 0, "", ""),
+        (&[b"cat", b"be"], &HI, 0, "\u{6800}\u{6900}", ""),
         (
             &[b"cat", b"be"],
             &[0x68],
