@@ -239,6 +239,18 @@ mod tests {
     }
 
     #[test]
+    fn what_the_inner_allocator_refuses_is_no_block(rt: HostRuntime) {
+        let inner = Refusing::new(rt.alloc());
+        let heap = Refusing::new(&inner);
+        inner.refuse_one(0);
+        assert!(rt; Box::new(&heap, 7).is_err());
+        assert_eq!(rt;
+            (heap.requests(), heap.refusals(), heap.live_blocks()),
+            (1, 0, 0)
+        );
+    }
+
+    #[test]
     fn a_leaked_block_counts(rt: HostRuntime) -> Result<(), Fail> {
         let heap = Refusing::new(rt.alloc());
         std::mem::forget(Box::new(&heap, 7)?);
