@@ -1,2 +1,3 @@
 pub mod AtCell
+pub mod Steps
 pub mod Walks

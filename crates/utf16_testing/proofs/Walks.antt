@@ -1,26 +1,9 @@
 -- What the walks of `allocate` and `deallocate` share. Assumes `Logic`.
---     args, self           the type arguments of both functions, and the `&` to the allocator as their first parameter
---     inner_at, plan_at, live_blocks_at    where its fields lie
+--     Heap, args, self     the allocator's type, the type arguments of both functions, and their first parameter, a `&` to it
+--     inner_at, plan_at, live_blocks_at    where its fields lie. The plan takes 32 bytes
+--     Self, Plans, Blocks  what that `&` owns, and a `&` to the plan and to the count
 --     starts               a proof's step, the first of both: what the bound says of a lifetime, and the `&` as a `&` to each field
-use Rattle.std.proofs.Common.{ℕ, ◌+◌, List, [], ◌∷◌, Bor}
-use seplogic.Ra.Ura.{Ura}
-use mir.Syntax.{Args, a_type, dnil, dcons}
-use base.Logic.{ent}
-use base.Fml.{Lft, Share, Fml, ftrue, fsep, flft}
-use prog.Memory.{size, align, up}
-use types.Logic.{Logic, sem}
-use types.Kit.{Item, Goal, Seq, ‵, raw, ◌⊛◌, mean, ◌$◌, ◌∵◌, !, qed, move, keep, drop, use1, split, split3, fsplit, done}
-use contract.BorrowLft.{◌⊑◌}
-use contract.Monad.{fact}
-use denote.Builtin.{u64, RefOf}
-use denote.Memory.{hidden_shr}
-use denote.Opens.{unhide}
-use denote.Param.{bounded, param}
-use denote.RattleType.{RattleType}
-use denote.Ref.{shr_vals}
-use denote.Signature.{Slot, plain, type_at}
-use denote.Steps.{heard}
-use Rattle.std.proofs.alloc.Calls.{Al, α, seen}
+use Rattle.utf16_testing.proofs.Steps.{ℕ, ◌+◌, List, [], ◌∷◌, Bor, Ura, Args, a_type, dnil, dcons, ent, Lft, Share, Fml, ftrue, fsep, flft, size, align, up, Logic, sem, Item, Goal, Seq, ‵, raw, ◌⊛◌, mean, ◌$◌, ◌∵◌, !, qed, move, keep, drop, use1, split, split3, fsplit, done, ◌⊑◌, fact, u64, RefOf, hidden_shr, unhide, bounded, param, RattleType, shr_vals, Slot, plain, type_at, heard, Al, α, seen}
 use Rattle.std.specs.contracts.cell.Cell as CE
 use Rattle.utf16_testing.specs.contracts.refusing.Plan as PL
 use Rattle.utf16_testing.specs.contracts.refusing.Refusing as wrapper
