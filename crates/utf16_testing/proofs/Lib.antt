@@ -1,1 +1,3 @@
-pub mod Refuses
+pub mod AtCell
+pub mod Steps
+pub mod Walks
