@@ -1,1 +1,2 @@
-pub mod Refuses
+pub mod AtCell
+pub mod Walks

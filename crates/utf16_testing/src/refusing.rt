@@ -1,4 +1,5 @@
-//! An allocator for tests, which passes calls on to an inner one and refuses the requests for memory that it is told to.
+//! An allocator for tests, which passes calls on to an inner one, refuses the requests for memory that it is told to, and
+//! counts the blocks that are handed out and not given back.
 
 use std::alloc::{AllocError, Allocator};
 use std::cell::Cell;
@@ -30,10 +31,12 @@ impl Plan {
 }
 
 /// An allocator that passes each call on to an inner one, except the requests for memory that it is told to refuse. To grow
-/// or to shrink a block is a request too. A test makes its values over a `&` to it, and then says what it refuses.
+/// or to shrink a block is a request too. A test makes its values over a `&` to it, and then says what it refuses. Once they
+/// are dropped, [`live_blocks`](Refusing::live_blocks) shows whether they gave all their memory back.
 pub struct Refusing<B: Allocator> {
     inner: B,
     plan: Cell<Plan>,
+    live_blocks: Cell<u64>,
 }
 
 impl<B: Allocator> Refusing<B> {
@@ -42,6 +45,7 @@ impl<B: Allocator> Refusing<B> {
         Refusing {
             inner,
             plan: Cell::new(Plan::new(Refused::None)),
+            live_blocks: Cell::new(0),
         }
     }
 
@@ -69,11 +73,21 @@ impl<B: Allocator> Refusing<B> {
     pub fn refusals(&self) -> u64 {
         self.plan.get().refusals
     }
+
+    /// How many blocks are handed out and not given back. A refused request hands none out, and a block that grows or shrinks
+    /// stays one block. What is refused has no part in this count, which never starts anew.
+    pub fn live_blocks(&self) -> u64 {
+        self.live_blocks.get()
+    }
 }
 
 impl<B: Allocator> Drop for Refusing<B> {
     fn drop(self) {
-        let Self { inner: _, plan: _ } = self;
+        let Self {
+            inner: _,
+            plan: _,
+            live_blocks: _,
+        } = self;
     }
 }
 
@@ -93,6 +107,16 @@ fn refuses(plan: &Cell<Plan>) -> bool {
     is_refused
 }
 
+// Counts a block that is handed out.
+fn count_taken(live_blocks: &Cell<u64>) {
+    live_blocks.set(live_blocks.get().saturating_add(1));
+}
+
+// Counts a block that is given back.
+fn count_given_back(live_blocks: &Cell<u64>) {
+    live_blocks.set(live_blocks.get().saturating_sub(1));
+}
+
 unsafe impl<B: Allocator> Allocator for Refusing<B> {
     ghost dealloc_token = { λ heap ty ptr. B.dealloc_token heap.inner ty ptr };
 
@@ -100,11 +124,16 @@ unsafe impl<B: Allocator> Allocator for Refusing<B> {
         if refuses(&self.plan) {
             return Err(AllocError);
         }
-        self.inner.allocate(size, align)
+        let answer = self.inner.allocate(size, align);
+        if let Ok(_) = answer {
+            count_taken(&self.live_blocks);
+        }
+        answer
     }
 
     unsafe fn deallocate(&self, ptr: *mut u8, size: usize, align: usize) {
         self.inner.deallocate(ptr, size, align);
+        count_given_back(&self.live_blocks);
     }
 }
 
@@ -150,6 +179,70 @@ mod tests {
         assert_eq!(rt; (heap.requests(), heap.refusals()), (2, 1));
         assert_eq!(rt; numbers.capacity(), 1);
         assert_eq!(rt; numbers.as_slice(), [3].as_slice());
+        Ok(())
+    }
+
+    #[test]
+    fn a_block_counts_until_it_is_given_back(rt: HostRuntime) -> Result<(), Fail> {
+        let heap = Refusing::new(rt.alloc());
+        let at_first = heap.live_blocks();
+        let number = Box::new(&heap, 7)?;
+        let with_one = heap.live_blocks();
+        let numbers = Vec::<u8, _>::with_capacity(&heap, 2)?;
+        let with_both = heap.live_blocks();
+        drop(number);
+        let with_the_other = heap.live_blocks();
+        drop(numbers);
+        let counts = [
+            at_first,
+            with_one,
+            with_both,
+            with_the_other,
+            heap.live_blocks(),
+        ];
+        assert_eq!(rt; counts, [0, 1, 2, 1, 0]);
+        Ok(())
+    }
+
+    #[test]
+    fn an_empty_vector_has_no_block(rt: HostRuntime) {
+        let heap = Refusing::new(rt.alloc());
+        let _numbers = Vec::<u8, _>::new(&heap);
+        assert_eq!(rt; (heap.requests(), heap.live_blocks()), (0, 0));
+    }
+
+    #[test]
+    fn a_block_that_grows_or_shrinks_stays_one(rt: HostRuntime) -> Result<(), Fail> {
+        let heap = Refusing::new(rt.alloc());
+        let mut numbers = Vec::with_capacity(&heap, 2)?;
+        numbers.push(3)?;
+        numbers.reserve(100)?;
+        let grown = heap.live_blocks();
+        numbers.shrink_to_fit();
+        assert_eq!(rt; (heap.requests(), grown, heap.live_blocks()), (3, 1, 1));
+        Ok(())
+    }
+
+    #[test]
+    fn a_refused_request_leaves_the_blocks(rt: HostRuntime) -> Result<(), Fail> {
+        let heap = Refusing::new(rt.alloc());
+        let mut numbers = Vec::<u8, _>::with_capacity(&heap, 2)?;
+        heap.refuse_from(0);
+        let is_refused = [Box::new(&heap, 7).is_err(), numbers.reserve(100).is_err()];
+        let left = heap.live_blocks();
+        drop(numbers);
+        assert_eq!(rt;
+            (is_refused, left, heap.live_blocks()),
+            ([true, true], 1, 0)
+        );
+        Ok(())
+    }
+
+    #[test]
+    fn a_leaked_block_counts(rt: HostRuntime) -> Result<(), Fail> {
+        let heap = Refusing::new(rt.alloc());
+        std::mem::forget(Box::new(&heap, 7)?);
+        assert_eq!(rt; heap.live_blocks(), 1);
         Ok(())
     }
 }
