@@ -4,8 +4,7 @@ use std::alloc::AllocError;
 use std::process::Abort;
 use std::test::Fail;
 use utf16_callers::edits::{inserted, overwritten, removed, split, truncated};
-use utf16_callers::laws::{cut_and_joined, typed_and_undone};
-use utf16_testing::texts::{APHI, APZ_BE, HELLO, PXG};
+use utf16_testing::texts::{APHI, APZ_BE, HELLO};
 use utf16string::{BE, LE, Utf16Order, WStr, WString};
 
 // A string of these bytes, which are text.
@@ -249,31 +248,4 @@ fn insert_then_remove_split_then_push_and_utf8_back(rt: HostRuntime) -> Result<(
         &rt,
         &[0xFF, 0xD7, 0x00, 0xE0, 0xFF, 0xFF, 0xFF, 0xDB, 0xFF, 0xDF],
     )
-}
-
-// A text cut, joined, typed into and undone, at every boundary.
-fn edits_undone<E: Utf16Order>(rt: &(impl Abort + AllocGlobal), raw: &[u8]) -> Result<usize, Fail> {
-    let text = WStr::<E>::from_utf16(raw)?;
-    let mut boundaries = 0usize;
-    for at in 0..raw.len() {
-        if text.is_char_boundary(at) {
-            boundaries = boundaries.saturating_add(1);
-            assert_eq!(rt; cut_and_joined(rt.alloc(), text, at)?.as_slice(), raw);
-            assert_eq!(rt;
-                typed_and_undone(rt.alloc(), text, at, '\u{1F600}')?.as_slice(),
-                raw
-            );
-        }
-    }
-    Ok(boundaries)
-}
-
-#[test]
-fn cuts_and_edits_at_every_boundary(rt: HostRuntime) -> Result<(), Fail> {
-    assert_eq!(rt; edits_undone::<LE>(&rt, &PXG)?, 3);
-    assert_eq!(rt;
-        edits_undone::<BE>(&rt, &[0, 0x61, 0xD8, 0x00, 0xDC, 0x00])?,
-        2
-    );
-    Ok(())
 }

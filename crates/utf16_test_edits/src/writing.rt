@@ -4,7 +4,7 @@ use std::process::Abort;
 use std::test::Fail;
 use utf16_callers::edits::{overwritten, overwritten_in_place};
 use utf16_testing::texts::{APB_BE, HELLO, HELLO_BE};
-use utf16string::{BE, LE, Utf16Order, WStr, WStrMut, WString};
+use utf16string::{BE, LE, Utf16Error, Utf16Order, WStr, WStrMut, WString};
 
 // Writes a text over a part of bytes by a view of them, and looks at the bytes once the view has ended.
 fn written<E: Utf16Order>(
@@ -29,6 +29,15 @@ fn written<E: Utf16Order>(
     Ok(())
 }
 
+// Writes a text over a part, where it fits there: whether it does.
+fn put_over<E: Utf16Order>(view: &mut WStrMut<E>, idx: usize, part: WStr<E>) -> bool {
+    let fits = view.fits(idx, part);
+    if fits {
+        view.overwrite(idx, part);
+    }
+    fits
+}
+
 fn write_over<E: Utf16Order>(
     rt: &impl Abort,
     buf: &mut [u8],
@@ -37,10 +46,7 @@ fn write_over<E: Utf16Order>(
     wanted: &[u8],
 ) -> Result<(), Fail> {
     let mut view = WStrMut::<E>::from_utf16(buf)?;
-    if !view.fits(idx, part) {
-        return Err(Fail::from("does not fit"));
-    }
-    view.overwrite(idx, part);
+    assert!(rt; put_over(&mut view, idx, part));
     assert_eq!(rt; view.as_wstr().as_bytes(), wanted);
     Ok(())
 }
@@ -90,8 +96,8 @@ fn fits_is<E: Utf16Order>(
     part: WStr<E>,
     wanted: bool,
 ) {
-    assert_eq!(rt; text.fits(idx, part), wanted, "{idx} {part}");
-    assert_eq!(rt; view.fits(idx, part), wanted, "{idx} {part}");
+    assert_eq!(rt; text.fits(idx, part), wanted, "{idx}");
+    assert_eq!(rt; view.fits(idx, part), wanted, "{idx}");
 }
 
 fn fits_are<E: Utf16Order>(
@@ -123,6 +129,11 @@ fn both_offsets_must_be_boundaries(rt: HostRuntime) -> Result<(), Fail> {
     fits_are::<BE>(&rt, &APB_BE, &[(8, "", true), (2, "xy", true)])
 }
 
+fn error_is(rt: &impl Abort, error: Utf16Error, valid_up_to: usize, error_len: Option<usize>) {
+    assert_eq!(rt; error.valid_up_to(), valid_up_to);
+    assert_eq!(rt; error.error_len(), error_len);
+}
+
 // A view that refuses bytes leaves them as they were.
 fn refused_is<E: Utf16Order>(
     rt: &(impl Abort + AllocGlobal),
@@ -134,8 +145,7 @@ fn refused_is<E: Utf16Order>(
     let Err(error) = WStrMut::<E>::from_utf16(&mut buf) else {
         return Err(Fail::from("taken"));
     };
-    assert_eq!(rt; error.valid_up_to(), valid_up_to, "{raw:?}");
-    assert_eq!(rt; error.error_len(), error_len, "{raw:?}");
+    error_is(rt, error, valid_up_to, error_len);
     assert_eq!(rt; buf.as_slice(), raw);
     Ok(())
 }

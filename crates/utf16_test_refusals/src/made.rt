@@ -4,13 +4,12 @@ use std::alloc::{AllocError, Global};
 use std::process::Abort;
 use std::test::Fail;
 use utf16_testing::refusing::Refusing;
-use utf16_testing::texts::{HELLO, MIXED};
+use utf16_testing::texts::{HELLO, MIXED_BE};
 use utf16string::{BE, LE, Utf16Order, WStr, WString};
 
-// All memory was given back, now that each value over the allocator is gone.
-fn no_block_is_left(rt: &impl Abort, heap: &Refusing<Global>) {
-    // assert_eq!(rt; heap.live(), 0);
-    assert!(rt; heap.refusals() <= heap.requests());
+/// All memory was given back, now that each value over the allocator is gone.
+pub fn no_block_is_left(rt: &impl Abort, heap: &Refusing<Global>) {
+    assert_eq!(rt; heap.live_blocks(), 0);
 }
 
 // Makes a call, with each of its requests refused in turn until a run meets no refusal: that one gives a right answer.
@@ -52,7 +51,7 @@ fn strings_made_without_memory(rt: HostRuntime) -> Result<(), Fail> {
 
 #[test]
 fn utf8_made_without_memory(rt: HostRuntime) -> Result<(), Fail> {
-    let text = WStr::<LE>::from_utf16(&MIXED)?;
+    let text = WString::<BE>::from_utf16(MIXED_BE.to_vec(rt.alloc())?)?;
     let requests = made_in_turn(&rt, |heap| {
         Ok(text.to_utf8(heap)?.as_str() == "a\u{4E00}\u{10000}")
     })?;

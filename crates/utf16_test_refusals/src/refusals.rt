@@ -1,6 +1,7 @@
 //! Edits with each request for memory refused in turn: the string stays as it was, and with memory the same call gives its
 //! answer. Once a string is gone, all its memory was given back.
 
+use crate::made::no_block_is_left;
 use std::alloc::{AllocError, Global};
 use std::process::Abort;
 use std::test::Fail;
@@ -121,12 +122,6 @@ fn holds<E: Utf16Order>(
 ) {
     assert_eq!(rt; text.as_bytes(), wanted);
     assert_eq!(rt; text.capacity(), capacity);
-}
-
-// All memory was given back, now that each value over the allocator is gone.
-fn no_block_is_left(rt: &impl Abort, heap: &Refusing<Global>) {
-    // assert_eq!(rt; heap.live(), 0);
-    assert!(rt; heap.refusals() <= heap.requests());
 }
 
 // The string is as it was at the start: this text, with room for so many bytes.

@@ -3,10 +3,11 @@
 use std::process::Abort;
 use std::test::Fail;
 use utf16_callers::laws::{
-    cut_at_key, is_beginning, joined, same_text, through_utf8, to_big_endian,
+    cut_and_joined, cut_at_key, is_beginning, joined, same_text, through_utf8, to_big_endian,
+    typed_and_undone,
 };
-use utf16_testing::texts::{APB, APB_BE};
-use utf16string::{BE, LE, Utf16Order, WStr};
+use utf16_testing::texts::{APB, APB_BE, PXG};
+use utf16string::{BE, LE, Utf16Error, Utf16Order, WStr};
 
 // Whether the order is big endian, bytes with a fault, and bytes that make them a text, where there are any.
 const CONTINUED: [(bool, &[u8], Option<&[u8]>); 14] = [
@@ -78,36 +79,60 @@ fn texts_joined_and_compared(rt: HostRuntime) -> Result<(), Fail> {
     Ok(())
 }
 
-// A record cut at a key: what stands before it and behind it, or nothing.
-fn cut_is(
-    rt: &impl Abort,
-    record: &[u8],
+// What stands before the key in a record, and what behind it.
+fn parts_of<'a>(
+    record: &'a [u8],
     key: &[u8],
     at: usize,
-    wanted: Option<(&[u8], &[u8])>,
-) -> Result<(), Fail> {
-    let parts = cut_at_key(WStr::from_utf16le(record)?, WStr::from_utf16le(key)?, at);
-    assert_eq!(rt; parts.is_some(), wanted.is_some(), "{at}");
-    if let (Some((front, back)), Some((before, behind))) = (parts, wanted) {
-        assert_eq!(rt; front.as_bytes(), before, "{at}");
-        assert_eq!(rt; back.as_bytes(), behind, "{at}");
-    }
-    Ok(())
+) -> Result<Option<(&'a [u8], &'a [u8])>, Utf16Error> {
+    let (record, key) = (WStr::from_utf16le(record)?, WStr::from_utf16le(key)?);
+    let Some((front, back)) = cut_at_key(record, key, at) else {
+        return Ok(None);
+    };
+    Ok(Some((front.as_bytes(), back.as_bytes())))
 }
 
 #[test]
 fn records_cut_at_a_key(rt: HostRuntime) -> Result<(), Fail> {
-    cut_is(&rt, &APB, &APB[2..6], 2, Some((&APB[..2], &APB[6..])))?;
-    cut_is(&rt, &APB, &APB[2..6], 4, None)?;
-    cut_is(&rt, &APB, &APB[2..6], usize::MAX, None)?;
+    let key = &APB[2..6];
+    let Some((front, back)) = parts_of(&APB, key, 2)? else {
+        return Err(Fail::from("not found"));
+    };
+    assert_eq!(rt; front, &APB[..2]);
+    assert_eq!(rt; back, &APB[6..]);
+    assert!(rt; parts_of(&APB, key, 4)?.is_none());
+    assert!(rt; parts_of(&APB, key, usize::MAX)?.is_none());
     // The bytes of U+0100 stand at the odd offset 1 of "a" and U+0001, where no character does.
     let odd = [0x61, 0x00, 0x01, 0x00];
-    cut_is(&rt, &odd, &odd[1..3], 1, None)
+    assert!(rt; parts_of(&odd, &odd[1..3], 1)?.is_none());
+    Ok(())
 }
 
 #[test]
 fn characters_through_utf8(rt: HostRuntime) -> Result<(), Fail> {
     let chars = through_utf8(rt.alloc(), WStr::from_utf16be(&APB_BE)?)?;
     assert_eq!(rt; chars.as_slice(), ['a', '\u{10000}', 'b'].as_slice());
+    Ok(())
+}
+
+// A text cut, joined, typed into and undone, at every boundary.
+fn edits_undone<E: Utf16Order>(rt: &(impl Abort + AllocGlobal), raw: &[u8]) -> Result<usize, Fail> {
+    let text = WStr::<E>::from_utf16(raw)?;
+    let mut boundaries = 0usize;
+    for at in 0..raw.len() {
+        if text.is_char_boundary(at) {
+            boundaries = boundaries.saturating_add(1);
+            assert_eq!(rt; cut_and_joined(rt.alloc(), text, at)?.as_slice(), raw);
+            let undone = typed_and_undone(rt.alloc(), text, at, '\u{1F600}')?;
+            assert_eq!(rt; undone.as_slice(), raw);
+        }
+    }
+    Ok(boundaries)
+}
+
+#[test]
+fn cuts_and_edits_at_every_boundary(rt: HostRuntime) -> Result<(), Fail> {
+    assert_eq!(rt; edits_undone::<LE>(&rt, &PXG)?, 3);
+    assert_eq!(rt; edits_undone::<BE>(&rt, &APB_BE)?, 3);
     Ok(())
 }
