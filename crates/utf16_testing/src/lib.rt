@@ -2,3 +2,4 @@
 #![tactic(auto)]
 
 pub mod refusing;
+pub mod texts;

@@ -1,0 +1,7 @@
+//! Proved callers of the strings, by public calls alone: walks, edits, ranges, and what users build on a law.
+#![tactic(auto)]
+
+pub mod edits;
+pub mod laws;
+pub mod ranges;
+pub mod walks;

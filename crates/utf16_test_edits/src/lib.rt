@@ -1,0 +1,7 @@
+//! Tests of strings edited, cut, grown and written over.
+#![tactic(auto)]
+
+#[cfg(test)]
+mod edited;
+#[cfg(test)]
+mod writing;

@@ -1,0 +1,65 @@
+//! Units and one character, with the Rust crate's names of tests.
+
+use std::process::Abort;
+use utf16_units::{Utf16CharExt, is_leading_surrogate, is_trailing_surrogate};
+use utf16string::{BE, LE, Utf16Order};
+
+#[test]
+fn test_is_leading_surrogate(rt: HostRuntime) {
+    assert!(rt; is_leading_surrogate(0xD800));
+    assert!(rt; !is_leading_surrogate(0xF800));
+}
+
+#[test]
+fn test_is_trailing_surrogate(rt: HostRuntime) {
+    assert!(rt; is_trailing_surrogate(0xDC00));
+    assert!(rt; !is_trailing_surrogate(0xFC00));
+}
+
+// "a" and U+10000 written one after the other into ten bytes.
+fn two_are_written<E: Utf16Order>(rt: &impl Abort, wanted: [u8; 10]) {
+    let mut buf = [0; 10];
+    assert_eq!(rt; 'a'.encode_utf16_into::<E>(&mut buf), 2);
+    assert_eq!(rt; '\u{10000}'.encode_utf16_into::<E>(&mut buf[2..]), 4);
+    assert_eq!(rt; buf, wanted);
+}
+
+#[test]
+fn test_utf16_char_ext_encode_utf16_into(rt: HostRuntime) {
+    two_are_written::<LE>(&rt, [0x61, 0, 0x00, 0xD8, 0x00, 0xDC, 0, 0, 0, 0]);
+    two_are_written::<BE>(&rt, [0, 0x61, 0xD8, 0x00, 0xDC, 0x00, 0, 0, 0, 0]);
+}
+
+// The Rust crate's call panics here. The length says beforehand that the buffer is too small.
+#[test]
+fn test_utf16_char_ext_encode_utf16_into_too_small_single_unit(rt: HostRuntime) {
+    let buf = [0; 1];
+    assert!(rt; 'a'.encoded_utf16_len() > buf.len());
+}
+
+#[test]
+fn test_utf16_char_ext_encode_utf16_into_too_small_surrogate(rt: HostRuntime) {
+    let buf = [0; 3];
+    assert!(rt; '\u{10000}'.encoded_utf16_len() > buf.len());
+}
+
+#[test]
+fn test_utf16_char_ext_len_utf16_bytes(rt: HostRuntime) {
+    for (c, len) in [('c', 2), ('\u{10000}', 4)] {
+        assert_eq!(rt; c.encoded_utf16_len(), len);
+        assert_eq!(rt; c.encoded_utf16_len(), 2 * c.len_utf16());
+    }
+}
+
+// A unit through its two bytes and back, through the bound.
+fn through_bytes<E: Utf16Order>(rt: &impl Abort, unit: u16, two: [u8; 2]) {
+    assert_eq!(rt; E::write_unit(unit), two);
+    assert_eq!(rt; E::read_unit(two), unit);
+}
+
+#[test]
+fn bytes_of_units(rt: HostRuntime) {
+    through_bytes::<LE>(&rt, 0xD83D, [0x3D, 0xD8]);
+    through_bytes::<BE>(&rt, 0xD83D, [0xD8, 0x3D]);
+    assert!(rt; BE::BIG && !LE::BIG);
+}

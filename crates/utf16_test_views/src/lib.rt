@@ -1,0 +1,7 @@
+//! Tests of views and of their iterators.
+#![tactic(auto)]
+
+#[cfg(test)]
+mod iterators;
+#[cfg(test)]
+mod views;
