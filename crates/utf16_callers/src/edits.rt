@@ -4,7 +4,7 @@ ghost use Rattle.std.specs.Prelude.{◌≡◌, ◌↔◌, ◌⊎◌, ◌+◌, �
 ghost use Rattle.std.specs.List.{splice};
 ghost use Rattle.utf16_units.specs.Boundary.{IsBoundary, text_to};
 ghost use Rattle.utf16_units.specs.Edit.{char_at, insert_at, overwrite_at, push_text, remove_at, split_back, split_front};
-ghost use Rattle.utf16_units.specs.Encoding.{IsText, size};
+ghost use Rattle.utf16_units.specs.Encoding.{IsText, size, text_of};
 ghost use Rattle.utf16string.specs.WStr.{wstr_bytes, wstr_text};
 ghost use Rattle.utf16string.specs.WString.{wstring_text};
 
@@ -112,6 +112,7 @@ pub fn overwritten_in_place<E: Utf16Order>(
     part: WStr<E>,
 ) -> Result<bool, Utf16Error>
     ensures text { IsOk result ↔ IsText E.BIG buf.old }
+    ensures fits { IfOk result (λ put. IsTrue put ↔ (IsBoundary (text_of E.BIG buf.old) idx × IsBoundary (text_of E.BIG buf.old) (idx + size (wstr_text part.entry)))) }
     ensures over { result ≡ Ok true → buf.new ≡ splice buf.old idx (idx + length (wstr_bytes part.entry)) (wstr_bytes part.entry) }
     ensures kept { result ≡ Ok false → buf.new ≡ buf.old }
     ensures refused { OnErr result (buf.new ≡ buf.old) }
@@ -123,4 +124,24 @@ pub fn overwritten_in_place<E: Utf16Order>(
         view.overwrite(idx, part);
     }
     Ok(fits)
+}
+
+/// The same by a checked view, which is ended by giving the bytes back: the caller goes on with them.
+pub fn overwritten_and_returned<'a, E: Utf16Order>(
+    buf: &'a mut [u8],
+    idx: usize,
+    part: WStr<E>,
+) -> Result<&'a mut [u8], Utf16Error>
+    ensures text { IsOk result ↔ IsText E.BIG buf.old }
+    ensures same_reference { IfOk result (λ left. left.ghost_name ≡ buf.entry.ghost_name) }
+    ensures over { IfOk result (λ left. IsBoundary (text_of E.BIG buf.old) idx → IsBoundary (text_of E.BIG buf.old) (idx + size (wstr_text part.entry))
+        → left.now ≡ splice buf.old idx (idx + length (wstr_bytes part.entry)) (wstr_bytes part.entry)) }
+    ensures kept { IfOk result (λ left. ¬ (IsBoundary (text_of E.BIG buf.old) idx × IsBoundary (text_of E.BIG buf.old) (idx + size (wstr_text part.entry)))
+        → left.now ≡ buf.old) }
+{
+    let mut view = WStrMut::<E>::from_utf16(buf)?;
+    if view.fits(idx, part) {
+        view.overwrite(idx, part);
+    }
+    Ok(view.into_bytes())
 }

@@ -22,10 +22,10 @@ from_utf16_unchecked-requires-2 g c =
 
 pub returns-clause-front : goal.returns-clause-front
 returns-clause-front g c =
-    ap (text_of g.E.Utf16Order.BIG) (c.from_utf16_unchecked.ensures ∙ c.split_at.ensures.front)
+    ap (text_of g.E.Utf16Order.BIG) (c.from_utf16_unchecked.ensures.bytes ∙ c.split_at.ensures.front)
     ∙ text_of-Encodes _ _ _ (Encodes-to g.E.Utf16Order.BIG (wstr_text c.args.text) c.as_bytes.result.now c.args.at c.as_bytes.ensures.encoding c.requires)
 
 pub returns-clause-back : goal.returns-clause-back
 returns-clause-back g c =
-    ap (text_of g.E.Utf16Order.BIG) (c.from_utf16_unchecked-2.ensures ∙ c.split_at.ensures.back)
+    ap (text_of g.E.Utf16Order.BIG) (c.from_utf16_unchecked-2.ensures.bytes ∙ c.split_at.ensures.back)
     ∙ text_of-Encodes _ _ _ (Encodes-from g.E.Utf16Order.BIG (wstr_text c.args.text) c.as_bytes.result.now c.args.at c.as_bytes.ensures.encoding c.requires)

@@ -7,5 +7,5 @@ pub returns : goal.returns
 returns g c =
     let big = g.E.Utf16Order.BIG in
     let scalars = scalars-text_of big (wstr_bytes c.args.text) (IsText-from_is_text big (wstr_bytes c.args.text) c.args.text.well_formed) in
-    let read = ap chars (c.deref.ensures ∙ c.in_ok-utf8.ensures) ∙ c.utf8_back.ensures (wstr_text c.args.text) scalars in
+    let read = ap chars (c.deref.ensures ∙ c.in_ok-utf8.ensures.text) ∙ c.utf8_back.ensures (wstr_text c.args.text) scalars in
     subst (λ t. IfOk c.chars_of.result (λ found. found.items ≡ t)) read c.chars_of.ensures

@@ -12,7 +12,7 @@ use Rattle.utf16_callers.proofs.laws.typed_and_undone.Goals.{After-from_utf16_un
 -- the view of what was typed has the text with the character put in
 typed : (g : Over) (c : After-from_utf16_unchecked g) → wstr_text c.from_utf16_unchecked.result ≡ insert_at (wstr_text c.args.text) c.args.at (c.args.c ∷ [])
 typed g c =
-    ap (text_of g.E.Utf16Order.BIG) (c.from_utf16_unchecked.ensures ∙ c.deref.ensures.value)
+    ap (text_of g.E.Utf16Order.BIG) (c.from_utf16_unchecked.ensures.bytes ∙ c.deref.ensures.value)
     ∙ text_of-Encodes g.E.Utf16Order.BIG (insert_at (wstr_text c.args.text) c.args.at (c.args.c ∷ [])) c.in_ok-typed.typed.items c.in_ok-typed.ensures
 
 pub without_char-requires-clause-boundary : goal.without_char-requires-clause-boundary
