@@ -31,20 +31,38 @@ fn debugs<T: fmt::Debug>(rt: &(impl Abort + AllocGlobal), value: &T) -> Result<(
     Ok(())
 }
 
+fn view_writes<E: Utf16Order>(
+    rt: &(impl Abort + AllocGlobal),
+    view: WStr<E>,
+    utf8: &[u8],
+) -> Result<(), Fail> {
+    displays(rt, &view, utf8)?;
+    debugs(rt, &view)?;
+    debugs(rt, &view.chars())?;
+    debugs(rt, &view.char_indices())
+}
+
+fn string_writes<E: Utf16Order>(
+    rt: &(impl Abort + AllocGlobal),
+    string: &WString<E>,
+    utf8: &[u8],
+) -> Result<(), Fail> {
+    displays(rt, string, utf8)?;
+    debugs(rt, string)
+}
+
 // A view of the bytes and a string of them write this UTF-8.
 fn writes<E: Utf16Order>(
     rt: &(impl Abort + AllocGlobal),
     raw: &[u8],
     utf8: &[u8],
 ) -> Result<(), Fail> {
-    let view = WStr::<E>::from_utf16(raw)?;
-    let string = WString::<E>::from_utf16(raw.to_vec(rt.alloc())?)?;
-    displays(rt, &view, utf8)?;
-    displays(rt, &string, utf8)?;
-    debugs(rt, &view)?;
-    debugs(rt, &string)?;
-    debugs(rt, &view.chars())?;
-    debugs(rt, &view.char_indices())
+    view_writes(rt, WStr::<E>::from_utf16(raw)?, utf8)?;
+    string_writes(
+        rt,
+        &WString::<E>::from_utf16(raw.to_vec(rt.alloc())?)?,
+        utf8,
+    )
 }
 
 #[test]
