@@ -2,7 +2,7 @@
 
 use std::process::Abort;
 use std::test::Fail;
-use utf16_callers::edits::{overwritten, overwritten_in_place};
+use utf16_callers::edits::{overwritten, overwritten_and_returned, overwritten_in_place};
 use utf16_testing::texts::{APB_BE, HELLO, HELLO_BE};
 use utf16string::{BE, LE, Utf16Error, Utf16Order, WStr, WStrMut, WString};
 
@@ -21,6 +21,9 @@ fn written<E: Utf16Order>(
     let mut buf = raw.to_vec(rt.alloc())?;
     assert_eq!(rt; overwritten_in_place(&mut buf, idx, part.as_wstr())?, true);
     assert_eq!(rt; buf.as_slice(), wanted);
+    let mut buf = raw.to_vec(rt.alloc())?;
+    let left: &[u8] = overwritten_and_returned(&mut buf, idx, part.as_wstr())?;
+    assert_eq!(rt; left, wanted);
     let mut text = WString::from_utf16(raw.to_vec(rt.alloc())?)?;
     let capacity = text.capacity();
     assert!(rt; overwritten(&mut text, idx, part.as_wstr()));
