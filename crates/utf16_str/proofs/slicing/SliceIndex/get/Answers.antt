@@ -1,0 +1,5 @@
+use Rattle.std.proofs.Common.{rules}
+use Rattle.utf16_str.proofs.slicing.SliceIndex.get.Goals as goal
+
+pub returns-clause-some : goal.returns-clause-some
+returns-clause-some g c = search rules

@@ -1,0 +1,5 @@
+use Rattle.std.proofs.Common.{rules}
+use Rattle.utf16string.proofs.wstring.WString.from_utf16.Goals as goal
+
+pub from_utf16_unchecked-requires : goal.from_utf16_unchecked-requires
+from_utf16_unchecked-requires g c = search rules
