@@ -4,4 +4,5 @@
 pub mod edits;
 pub mod laws;
 pub mod ranges;
+pub mod retains;
 pub mod walks;

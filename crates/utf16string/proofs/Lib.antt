@@ -1,3 +1,5 @@
 pub mod Edited
 pub mod Utf8Lemmas
 pub mod Removed
+pub mod Retained
+pub mod Predicates

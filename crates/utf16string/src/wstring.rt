@@ -3,6 +3,7 @@
 mod cuts;
 mod inserts;
 mod overwrites;
+mod retains;
 mod room;
 mod utf8;
 

@@ -1,0 +1,83 @@
+//! Characters kept by a predicate.
+
+ghost use Rattle.std.specs.Prelude.{◌≡◌, ◌+◌, ◌-◌, ◌≤◌, ◌++◌, length, take, drop};
+ghost use Rattle.utf16_units.specs.Encoding.{IsText, text_of};
+ghost use Rattle.utf16string.specs.Retain.{IsAskable, MayBeAsked, Retains, RetainsTo};
+
+use crate::WString;
+use std::alloc::Allocator;
+use utf16_str::WStr;
+use utf16_units::{Utf16CharExt, Utf16Order};
+
+impl<E: Utf16Order, A: Allocator> WString<E, A> {
+    ghost use Rattle.utf16string.specs.WString.{wstring_capacity, wstring_text};
+
+    /// Keeps the characters of which the predicate answers `true`, in order. The predicate is asked once about each character,
+    /// from the front to the back, and its state runs through. In place, in time linear in the length: it takes no memory and
+    /// the capacity stays; nothing is moved before the first character that goes, and what is kept in a row is moved in one
+    /// block.
+    ///
+    /// The caller proves that the predicate may be asked about each character in turn. A closure that may be called on anything
+    /// meets this with nothing written. For another one, as a counter that must not overflow, the lemma `IsAskable-by` takes a
+    /// fact that each call keeps.
+    #[inline]
+    pub fn retain<F: FnMut(char) -> bool>(&mut self, f: F)
+        requires { IsAskable F.FnMut f (wstring_text self.old) }
+        ensures text { Retains F.FnMut f (wstring_text self.old) (wstring_text self.new) }
+        ensures capacity { wstring_capacity self.new ≡ wstring_capacity self.old }
+    {
+        let mut f = f;
+        self.retain_by(&mut f);
+    }
+
+    /// As `retain`, by a predicate that stays the caller's: what it has noted down can be looked at afterwards.
+    pub fn retain_by<F: FnMut(char) -> bool>(&mut self, f: &mut F)
+        requires { IsAskable F.FnMut f.old (wstring_text self.old) }
+        ensures text { RetainsTo F.FnMut f.old (wstring_text self.old) (wstring_text self.new) f.new }
+        ensures capacity { wstring_capacity self.new ≡ wstring_capacity self.old }
+    {
+        let kept = move_kept::<E, F>(self.raw.as_mut_slice(), f);
+        self.raw.truncate(kept);
+    }
+}
+
+// Moves the characters that the predicate keeps to the front, and answers how many bytes they take.
+fn move_kept<E: Utf16Order, F: FnMut(char) -> bool>(bytes: &mut [u8], keep: &mut F) -> usize
+    requires text { IsText E.BIG bytes.old }
+    requires askable { MayBeAsked F.FnMut keep.old (text_of E.BIG bytes.old) }
+    ensures kept { IsText E.BIG (take result bytes.new) }
+    ensures text { RetainsTo F.FnMut keep.old (text_of E.BIG bytes.old) (text_of E.BIG (take result bytes.new)) keep.new }
+    ensures within { result ≤ length bytes.old }
+{
+    let mut kept = 0;
+    let mut run = 0;
+    let mut read = 0;
+    while let Some(c) = WStr::<E>::from_utf16_unchecked(&bytes[read..])
+        .chars()
+        .next()
+    {
+        let next = read + c.encoded_utf16_len();
+        if !keep(c) {
+            kept = move_down(bytes, kept, run, read);
+            run = next;
+        }
+        read = next;
+    }
+    move_down(bytes, kept, run, read)
+}
+
+// Moves the bytes between two indices down to a third, and answers where they end there.
+#[inline]
+fn move_down(bytes: &mut [u8], to: usize, start: usize, end: usize) -> usize
+    requires down { to ≤ start }
+    requires order { start ≤ end }
+    requires within { end ≤ length bytes.old }
+    ensures moved { take result bytes.new ≡ take to bytes.old ++ take (end - start) (drop start bytes.old) }
+    ensures behind { drop end bytes.new ≡ drop end bytes.old }
+    ensures end { result ≡ to + (end - start) }
+{
+    if to < start {
+        bytes.copy_within(start..end, to);
+    }
+    to + (end - start)
+}
