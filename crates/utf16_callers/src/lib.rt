@@ -2,6 +2,7 @@
 #![tactic(auto)]
 
 pub mod edits;
+pub mod headline;
 pub mod laws;
 pub mod ranges;
 pub mod retains;

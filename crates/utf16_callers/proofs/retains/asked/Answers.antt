@@ -6,8 +6,6 @@ use Rattle.utf16string.specs.Retain.{Answers, RetainsTo}
 use Rattle.utf16string.specs.WString.{wstring_text}
 use Rattle.utf16string.proofs.Predicates.{IsAskable-by, RetainsTo-told, told, told-last}
 use Rattle.utf16_callers.specs.contracts.retains.fn.asked.count as closure
-use Rattle.utf16_callers.proofs.retains.asked.Given.{Over}
-use Rattle.utf16_callers.proofs.retains.asked.Goals.{After-calls-2-1, After-count-1}
 use Rattle.utf16_callers.proofs.retains.asked.Goals as goal
 
 module _ {X : Type 0} where
@@ -21,13 +19,10 @@ module _ {X : Type 0} where
   counted s [] = ap (λ n. (n, s.1)) (omega arith)
   counted s (c ∷ text) = counted (s.0 + 1, s.1) text ∙ ap (λ n. (n, s.1)) (omega arith)
 
--- the text has no more characters than a number can count
-short : (g : Over) (c : After-count-1 g) → length (wstring_text c.args.string.now) < 2 ^ 64
-short g c = let s = c.args.string.now in omega (arith, length-le-size (wstring_text s), length-text _ _ (IsText-from_is_text _ _ s.well_formed), s.raw.ok)
-
 pub retain_by-requires : goal.retain_by-requires
 retain_by-requires g c =
-    IsAskable-by _ (λ f text. (closure.captures f).calls + length text < 2 ^ 64) (λ f d text i. omega (arith, i)) (λ f d text answer u i k. let told : u.0.now ≡ f.0.now + 1 = search rules in omega (arith, i, told)) _ _ (omega (arith, short g c))
+    IsAskable-by _ (λ f text. (closure.captures f).calls + length text < 2 ^ 64) (λ f d text i. omega (arith, i)) (λ f d text answer u i k. let told : u.0.now ≡ f.0.now + 1 = search rules in omega (arith, i, told)) _ _
+    (let s = c.args.string.now in omega (arith, length-le-size (wstring_text s), length-text _ _ (IsText-from_is_text _ _ s.well_formed), s.raw.ok))
 
 -- a predicate that always answers true, adds one to its number and keeps its name
 module _ {F X : Type 0} (calls : Mut F (ℕ × Unit {0}) Bool) (number : F → ℕ) (name : F → X)
@@ -46,5 +41,7 @@ returns-clause-text g c =
 -- each call adds one, and leaves the reference
 pub returns-clause-count : goal.returns-clause-count
 returns-clause-count g c =
-    let all = (seen _ (λ f. f.0.now) (λ f. f.0.ghost_name) (λ f d answer u k. (search rules, search rules, search rules)) _ _ _ _ c.retain_by.ensures.text).1 in
-    let counted = c.calls-2-1.given.1 (sym all.1) ∙ all.0 in omega (arith, counted)
+    let last = (seen _ (λ f. f.0.now) (λ f. f.0.ghost_name) (λ f d answer u k. (search rules, search rules, search rules)) _ _ _ _ c.retain_by.ensures.text).1 in
+    let number = last.0 in
+    let name = sym last.1 in
+    search rules
