@@ -1,0 +1,136 @@
+//! Characters kept by a predicate, by closures that count their calls.
+
+use std::process::Abort;
+use std::test::Fail;
+use utf16_callers::retains::{asked, first_chars, without};
+use utf16string::{BE, LE, Utf16Order, WString};
+
+// A string of these characters.
+fn string<E: Utf16Order>(rt: &impl AllocGlobal, text: &str) -> Result<WString<E>, Fail> {
+    Ok(WString::from_str(rt.alloc(), text)?)
+}
+
+// The string holds this text, in this many bytes.
+fn holds<E: Utf16Order>(
+    rt: &(impl Abort + AllocGlobal),
+    string: &WString<E>,
+    text: &str,
+    len: usize,
+) -> Result<(), Fail> {
+    let utf8 = string.to_utf8(rt.alloc())?;
+    assert_eq!(rt; utf8.as_str(), text);
+    assert_eq!(rt; string.len(), len);
+    Ok(())
+}
+
+// Of five characters those are left of which the answer is true, after one call for each. No room is given back.
+fn left_of_five<E: Utf16Order>(
+    rt: &(impl Abort + AllocGlobal),
+    answers: &[bool; 5],
+    left: &[u8],
+) -> Result<(), Fail> {
+    let mut five = string::<E>(rt, "a\u{10000}b\u{10000}c")?;
+    let room = five.capacity();
+    let mut calls = 0usize;
+    five.retain(|_| {
+        let answer = calls < 5 && answers[calls];
+        calls = calls.wrapping_add(1);
+        answer
+    });
+    assert_eq!(rt; five.as_bytes(), left);
+    assert_eq!(rt; calls, 5);
+    assert_eq!(rt; five.capacity(), room);
+    Ok(())
+}
+
+#[test]
+fn some_of_five_characters_stay(rt: HostRuntime) -> Result<(), Fail> {
+    left_of_five::<LE>(
+        &rt,
+        &[true, false, true, false, true],
+        &[0x61, 0, 0x62, 0, 0x63, 0],
+    )?;
+    left_of_five::<LE>(
+        &rt,
+        &[false, true, false, true, false],
+        &[0, 0xD8, 0, 0xDC, 0, 0xD8, 0, 0xDC],
+    )?;
+    left_of_five::<BE>(
+        &rt,
+        &[true, false, true, false, true],
+        &[0, 0x61, 0, 0x62, 0, 0x63],
+    )?;
+    left_of_five::<BE>(
+        &rt,
+        &[false, true, true, true, false],
+        &[0xD8, 0, 0xDC, 0, 0, 0x62, 0xD8, 0, 0xDC, 0],
+    )
+}
+
+// What is kept of each character's place is what the characters say that are asked about, in order.
+fn order_of_calls<E: Utf16Order>(rt: &(impl Abort + AllocGlobal)) -> Result<(), Fail> {
+    let mut text = string::<E>(rt, "x\u{1F600}\u{4E00}z")?;
+    let mut seen = ['\0'; 4];
+    let mut calls = 0usize;
+    text.retain(|c| {
+        if calls < 4 {
+            seen[calls] = c;
+        }
+        calls = calls.wrapping_add(1);
+        false
+    });
+    assert_eq!(rt; seen, ['x', '\u{1F600}', '\u{4E00}', 'z']);
+    assert_eq!(rt; calls, 4);
+    assert!(rt; text.is_empty());
+    Ok(())
+}
+
+#[test]
+fn characters_are_asked_in_order(rt: HostRuntime) -> Result<(), Fail> {
+    order_of_calls::<LE>(&rt)?;
+    order_of_calls::<BE>(&rt)
+}
+
+#[test]
+fn test_retain(rt: HostRuntime) -> Result<(), Fail> {
+    let mut text = string::<LE>(&rt, "h_e__ll_o")?;
+    text.retain(|c| c != '_');
+    holds(&rt, &text, "hello", 10)?;
+    let mut text = string::<BE>(&rt, "h_e__ll_o")?;
+    text.retain(|c| c != '_');
+    holds(&rt, &text, "hello", 10)
+}
+
+// The callers keep what their contracts say.
+fn callers_keep<E: Utf16Order>(rt: &(impl Abort + AllocGlobal)) -> Result<(), Fail> {
+    let mut text = string::<E>(rt, "a\u{10000}b\u{10000}c")?;
+    assert_eq!(rt; asked(&mut text), 5);
+    holds(rt, &text, "a\u{10000}b\u{10000}c", 14)?;
+    first_chars(&mut text, 4);
+    holds(rt, &text, "a\u{10000}b\u{10000}", 12)?;
+    without(&mut text, &['\u{10000}', 'x']);
+    holds(rt, &text, "ab", 4)?;
+    first_chars(&mut text, 0);
+    holds(rt, &text, "", 0)?;
+    assert_eq!(rt; asked(&mut text), 0);
+    Ok(())
+}
+
+#[test]
+fn callers_keep_in_both_orders(rt: HostRuntime) -> Result<(), Fail> {
+    callers_keep::<LE>(&rt)?;
+    callers_keep::<BE>(&rt)
+}
+
+#[test]
+fn a_predicate_is_looked_at_afterwards(rt: HostRuntime) -> Result<(), Fail> {
+    let mut text = string::<LE>(&rt, "a1b22")?;
+    let mut digits = 0u32;
+    let mut letters = |c: char| {
+        digits = digits.wrapping_add(c.is_ascii_digit() as u32);
+        !c.is_ascii_digit()
+    };
+    text.retain_by(&mut letters);
+    assert_eq!(rt; digits, 3);
+    holds(&rt, &text, "ab", 4)
+}
