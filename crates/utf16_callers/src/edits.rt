@@ -78,6 +78,7 @@ pub fn split<E: Utf16Order, A: Allocator + Clone>(
     ensures some { IfOk result (λ back. IsSome back ↔ IsBoundary (wstring_text text.old) at) }
     ensures front { IfOk result (λ back. IfSome back (λ _. wstring_text text.new ≡ split_front (wstring_text text.old) at)) }
     ensures back { IfOk result (λ back. IfSome back (λ back. wstring_text back ≡ split_back (wstring_text text.old) at)) }
+    ensures kept { IfOk result (λ back. IsNone back → wstring_text text.new ≡ wstring_text text.old) }
     ensures refused { OnErr result (wstring_text text.new ≡ wstring_text text.old) }
 {
     if !text.is_char_boundary(at) {

@@ -33,10 +33,10 @@ pub fn joined<E: Utf16Order, A: Allocator>(
     ensures { IfOk result (λ bytes. Encodes E.BIG (wstr_text front.entry ++ wstr_text back.entry) bytes.items) }
 {
     joined_text();
-    let mut bytes = Vec::with_capacity(alloc, 0)?;
-    bytes.extend_from_slice(front.as_bytes())?;
-    bytes.extend_from_slice(back.as_bytes())?;
-    Ok(bytes)
+    let mut both = Vec::new(alloc);
+    both.extend_from_slice(front.as_bytes())?;
+    both.extend_from_slice(back.as_bytes())?;
+    Ok(both)
 }
 
 /// A text cut at a boundary, with no second test of any byte.
@@ -62,8 +62,8 @@ pub fn cut_and_joined<E: Utf16Order, A: Allocator>(
     ensures { IfOk result (λ bytes. Encodes E.BIG (wstr_text text.entry) bytes.items) }
 {
     split_then_push();
-    let (front, back) = cut(text, at);
-    joined(alloc, front, back)
+    let (head, tail) = cut(text, at);
+    joined(alloc, head, tail)
 }
 
 /// A text cut at a key whose bytes stand at an even offset: what stands before the key, and what stands behind it. `None`
@@ -131,7 +131,7 @@ pub fn with_char<E: Utf16Order, A: Allocator>(
     let (front, back) = cut(text, at);
     let mut buf = [0; 4];
     let size = c.encode_utf16_into::<E>(&mut buf);
-    let mut bytes = Vec::with_capacity(alloc, 0)?;
+    let mut bytes = Vec::new(alloc);
     bytes.extend_from_slice(front.as_bytes())?;
     bytes.extend_from_slice(&buf[..size])?;
     bytes.extend_from_slice(back.as_bytes())?;

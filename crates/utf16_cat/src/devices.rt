@@ -28,6 +28,7 @@ pub struct Counter {
 }
 
 impl Counter {
+    /// An empty one.
     pub fn new(rt: &HostRuntime, room: usize, flushes: bool) -> Counter {
         Counter {
             taken: Vec::new(rt.alloc()),

@@ -155,25 +155,27 @@ pub IsBoundary-end : (text : List ℕ) → IsBoundary text (size text)
 IsBoundary-end text = record { front = text; back = []; split = append-nil text; offset = refl }
 
 -- the bytes before a boundary encode the characters before it, and the bytes behind it those behind it
-pub Encodes-to : (big : Bool) (text bytes : List ℕ) (i : ℕ) → Encodes big text bytes → IsBoundary text i → Encodes big (text_to text i) (take i bytes)
-Encodes-to big text bytes i e b = record {
-  scalars = All-before (text_to text i) (text_from text i) (subst (All IsScalar) (sym (text_to-text_from text i)) e.scalars);
-  spelled =
-      let parts = encode-append big b.front b.back in
-      let long = length-encode big b.front ∙ b.offset in
-      ap (encode big) (text_to-front text i b) ∙ sym (take_at (encode big b.front) (encode big b.back) i long)
-      ∙ ap (take i) (sym parts ∙ ap (encode big) b.split ∙ e.spelled);
-}
+module _ (big : Bool) (text bytes : List ℕ) (i : ℕ) (e : Encodes big text bytes) (b : IsBoundary text i) where
+  scalars : All IsScalar (text_to text i ++ text_from text i)
+  scalars = subst (All IsScalar) (sym (text_to-text_from text i)) e.scalars
 
-pub Encodes-from : (big : Bool) (text bytes : List ℕ) (i : ℕ) → Encodes big text bytes → IsBoundary text i → Encodes big (text_from text i) (drop i bytes)
-Encodes-from big text bytes i e b = record {
-  scalars = All-after (text_to text i) (text_from text i) (subst (All IsScalar) (sym (text_to-text_from text i)) e.scalars);
-  spelled =
-      let parts = encode-append big b.front b.back in
-      let long = length-encode big b.front ∙ b.offset in
-      ap (encode big) (text_from-back text i b) ∙ sym (drop_at (encode big b.front) (encode big b.back) i long)
-      ∙ ap (drop i) (sym parts ∙ ap (encode big) b.split ∙ e.spelled);
-}
+  parts : encode big b.front ++ encode big b.back ≡ bytes
+  parts = sym (encode-append big b.front b.back) ∙ ap (encode big) b.split ∙ e.spelled
+
+  long : length (encode big b.front) ≡ i
+  long = length-encode big b.front ∙ b.offset
+
+  pub Encodes-to : Encodes big (text_to text i) (take i bytes)
+  Encodes-to = record {
+    scalars = All-before (text_to text i) (text_from text i) scalars;
+    spelled = ap (encode big) (text_to-front text i b) ∙ sym (take_at (encode big b.front) (encode big b.back) i long) ∙ ap (take i) parts;
+  }
+
+  pub Encodes-from : Encodes big (text_from text i) (drop i bytes)
+  Encodes-from = record {
+    scalars = All-after (text_to text i) (text_from text i) scalars;
+    spelled = ap (encode big) (text_from-back text i b) ∙ sym (drop_at (encode big b.front) (encode big b.back) i long) ∙ ap (drop i) parts;
+  }
 
 -- of two prefixes the longer one ends at a boundary of what follows the shorter
 longer_prefix : (front back other rest : List ℕ) → front ++ back ≡ other ++ rest → size front ≤ size other → IsBoundary back (size other - size front)

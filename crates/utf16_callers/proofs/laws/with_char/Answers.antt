@@ -11,7 +11,7 @@ returns g c =
     let char = take size c.encode_utf16_into-size.new.buf in
     let all = c.in_ok-extend_from_slice-3.ensures.items
     ∙ ap (λ t. t ++ back) (c.in_ok-extend_from_slice-2.ensures.items
-    ∙ ap (λ t. t ++ char) (c.in_ok-extend_from_slice.ensures.items ∙ ap (λ t. t ++ front) c.in_ok-bytes.ensures.items)) in
+    ∙ ap (λ t. t ++ char) (c.in_ok-extend_from_slice.ensures.items ∙ ap (λ t. t ++ front) c.new-bytes.ensures.items)) in
     rw (all, ← c.cut.ensures.front, ← c.cut.ensures.back)
     (Encodes-between big _ _ c.args.c front char back c.as_bytes.ensures.encoding c.as_bytes-2.ensures.encoding c.ranges.c.0
     (written-char big c.args.c c.encode_utf16_into-size.new.buf _ size c.encode_utf16_into-size.ensures.bytes c.encode_utf16_into-size.ensures.len))

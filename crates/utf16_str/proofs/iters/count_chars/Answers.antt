@@ -1,4 +1,5 @@
 use Rattle.std.proofs.Common.{◌≡◌, ◌∙◌, [], ap, arith, length, eqb-true, rules}
+use Rattle.std.proofs.lemmas.Grind.{common_steps}
 use Rattle.std.proofs.lemmas.List.{nil_from_length}
 use Rattle.utf16_units.specs.Encoding.{text_of}
 use Rattle.utf16_units.proofs.BoundaryLemmas.{length-le-size}
@@ -17,3 +18,6 @@ returns g c =
     let rest = c.loop-rest.rest.now in
     let none : rest ≡ [] = nil_from_length rest (eqb-true (length rest) 0 (search rules)) in
     omega (arith, c.loop-rest.invariant.counted, ap length (ap (text_of big) none ∙ text_of-nil big))
+
+pub loop-rest-preserved : goal.loop-rest-preserved
+loop-rest-preserved g c = grind (arith, common_steps)

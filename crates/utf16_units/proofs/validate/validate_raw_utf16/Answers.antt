@@ -1,4 +1,5 @@
 use Rattle.std.proofs.Common.{arith}
+use Rattle.std.proofs.lemmas.Grind.{common_steps}
 use Rattle.utf16_units.proofs.EncodingLemmas.{IsText-nil}
 use Rattle.utf16_units.proofs.FaultLemmas.{IsText-step, faults}
 use Rattle.utf16_units.proofs.validate.validate_raw_utf16.Goals as goal
@@ -22,3 +23,6 @@ returns-in-Err-clause-error g c =
     let found = faults g.E.Utf16Order.BIG c.args.raw.now c.loop-valid_up_to.valid_up_to c.in-Err.error_len
     c.loop-valid_up_to-test.true c.loop-valid_up_to.invariant.1 c.in-Err.ensures.fault in
     record { front = found.0; fault = found.1 }
+
+pub returns-clause-text : goal.returns-clause-text
+returns-clause-text g c = grind (arith, common_steps)

@@ -1,4 +1,4 @@
-use Rattle.std.proofs.Common.{◌≡◌, ◌∙◌, ap, subst, sym, true}
+use Rattle.std.proofs.Common.{◌≡◌, ◌∙◌, ap, rules, subst, sym, true}
 use Rattle.utf16_units.specs.Encoding.{is_text, text_of}
 use Rattle.utf16_units.proofs.EncodingLemmas.{IsText-nil, is_text-from_IsText, text_of-nil}
 use Rattle.utf16string.proofs.wstring.WString.clear.Goals as goal
@@ -10,3 +10,6 @@ invariant_of-self g c = record {
 
 pub returns-clause-text : goal.returns-clause-text
 returns-clause-text g c = ap (text_of g.E.Utf16Order.BIG) c.clear.ensures.items ∙ text_of-nil _
+
+pub returns-clause-capacity : goal.returns-clause-capacity
+returns-clause-capacity g c = search rules

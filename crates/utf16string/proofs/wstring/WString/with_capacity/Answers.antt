@@ -1,4 +1,4 @@
-use Rattle.std.proofs.Common.{◌∙◌, ap, subst, sym}
+use Rattle.std.proofs.Common.{◌∙◌, ap, rules, subst, sym}
 use Rattle.utf16_units.specs.Encoding.{IsText, text_of}
 use Rattle.utf16_units.proofs.EncodingLemmas.{IsText-nil, text_of-nil}
 use Rattle.utf16string.proofs.wstring.WString.with_capacity.Goals as goal
@@ -10,3 +10,6 @@ pub returns-clause-text : goal.returns-clause-text
 returns-clause-text g c =
     ap (λ v. text_of g.E.Utf16Order.BIG v.items) c.from_utf16_unchecked.ensures.vec
     ∙ ap (text_of g.E.Utf16Order.BIG) c.in_ok-buf.ensures.items ∙ text_of-nil _
+
+pub returns-clause-capacity : goal.returns-clause-capacity
+returns-clause-capacity g c = search rules
