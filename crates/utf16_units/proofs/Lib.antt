@@ -7,6 +7,7 @@ pub mod Computed
 pub mod Rows
 pub mod FrontChar
 pub mod BoundaryLemmas
+pub mod BoundaryComputed
 pub mod EditLemmas
 pub mod ContinuedLemmas
 pub mod LawProofs

@@ -1,5 +1,5 @@
 -- Character boundaries of a text, and its parts between them. Offsets count bytes of the encoding, in either order.
-use Rattle.std.specs.Prelude.{◌≡◌, ℕ, ◌-◌, List, [], ◌∷◌, ◌++◌, nat_le, if◌then◌else◌}
+use Rattle.std.specs.Prelude.{◌≡◌, ◌==◌, ℕ, ◌-◌, Bool, ◌&&◌, ◌||◌, List, [], ◌∷◌, ◌++◌, nat_le, if◌then◌else◌}
 use Rattle.utf16_units.specs.Encoding.{char_size, size}
 
 -- i is a boundary: some prefix of the text has that size
@@ -22,3 +22,8 @@ text_from (c ∷ text) i = if nat_le (char_size c) i then text_from text (i - ch
 -- the part between two boundaries: the text without its prefix of size i, cut to the size j - i
 abbrev pub text_between : List ℕ → ℕ → ℕ → List ℕ
 text_between text i j = text_to (text_from text i) (j - i)
+
+-- whether i is a boundary, computed: 0 is one, and behind the first character i is one if i less its size is one of what follows
+unfoldable pub is_boundary : List ℕ → ℕ → Bool
+is_boundary [] i = i == 0
+is_boundary (c ∷ text) i = (i == 0) || (nat_le (char_size c) i && is_boundary text (i - char_size c))
