@@ -1,6 +1,5 @@
 -- A text of which a predicate keeps some characters, while their bytes are moved to the front.
-use Rattle.std.proofs.Common.{◌≡◌, ℕ, ◌+◌, ◌-◌, ◌<◌, ◌≤◌, Bool, true, false, List, [], ◌∷◌, ◌++◌, length, take, drop, inl, inr, refl, sym, ap, ◌∙◌, subst, arith, append_assoc, append-nil}
-use Rattle.std.proofs.Math.Seq.{take-add}
+use Rattle.std.proofs.Common.{◌≡◌, ℕ, ◌+◌, ◌<◌, ◌≤◌, Bool, true, false, List, [], ◌∷◌, ◌++◌, length, take, drop, inl, inr, refl, sym, ap, ◌∙◌, subst, arith, append_assoc, append-nil}
 use Rattle.std.proofs.lemmas.List.{drop-drop, length-append, length-drop}
 use Rattle.std.proofs.lemmas.List.Elements.{All-nil}
 use Rattle.std.specs.Char.{IsScalar}
@@ -62,21 +61,21 @@ module _ {F : Type 0} (calls : Mut F (ℕ × Unit {0}) Bool) where
 
   module _ (big : Bool) (first : F) (text : List ℕ) where
     -- the predicate was asked about `done` and left the state f, and `rest` is to come. What it keeps of `done` stands in the
-    -- first `kept` bytes and, not moved yet, in those from `run` up to `read`
-    pub record Retaining (f : F) (bytes : List ℕ) (kept run read : ℕ) : Type 0 where
+    -- first `kept` bytes, and `rest` in those from `read` on
+    pub record Retaining (f : F) (bytes : List ℕ) (kept read : ℕ) : Type 0 where
       pub done : List ℕ
       pub answers : List Bool
       pub rest : List ℕ
       pub split : done ++ rest ≡ text
       pub many : length answers ≡ length done
       pub asked : ReturnsInTurn (Answers calls) first answers done f
-      pub held : Encodes big (items_where_true answers done) (take kept bytes ++ take (read - run) (drop run bytes))
+      pub held : Encodes big (items_where_true answers done) (take kept bytes)
       pub left : Encodes big rest (drop read bytes)
       pub may : MayBeAsked calls f rest
-      pub order : (kept ≤ run) × (run ≤ read) × (read ≤ length bytes)
+      pub order : (kept ≤ read) × (read ≤ length bytes)
 
     -- nothing was asked yet
-    pub Retaining-start : (bytes : List ℕ) → Encodes big text bytes → MayBeAsked calls first text → Retaining first bytes 0 0 0
+    pub Retaining-start : (bytes : List ℕ) → Encodes big text bytes → MayBeAsked calls first text → Retaining first bytes 0 0
     Retaining-start bytes e may = record {
       done = [];
       answers = [];
@@ -87,22 +86,20 @@ module _ {F : Type 0} (calls : Mut F (ℕ × Unit {0}) Bool) where
       held = record { scalars = All-nil IsScalar; spelled = encode-nil big };
       left = e;
       may = may;
-      order = (omega arith, omega arith, omega arith);
+      order = (omega arith, omega arith);
     }
 
-    module _ (f : F) (bytes : List ℕ) (kept run read : ℕ) (at : Retaining f bytes kept run read) where
-      -- all was asked, once the bytes behind `read` spell nothing
+    module _ (f : F) (bytes : List ℕ) (kept read : ℕ) (at : Retaining f bytes kept read) where
+      -- all was asked, once the bytes from `read` on spell nothing
       module _ (none : text_of big (drop read bytes) ≡ []) where
         all-asked : at.done ≡ text
         all-asked = sym (append-nil at.done) ∙ ap (λ l. at.done ++ l) (sym none ∙ text_of-Encodes _ _ _ at.left) ∙ at.split
 
-        pub Retaining-end : (moved : List ℕ) → moved ≡ take kept bytes ++ take (read - run) (drop run bytes)
-            → IsText big moved × RetainsTo calls first text (text_of big moved) f
-        Retaining-end moved is =
-            let e : Encodes big (items_where_true at.answers at.done) moved = subst (Encodes big _) (sym is) at.held in (
-              IsText-from_Encodes _ _ _ e,
-              subst (λ l. RetainsTo calls first l (text_of big moved) f) all-asked (at.answers, at.many, at.asked, text_of-Encodes _ _ _ e),
-            )
+        pub Retaining-end : IsText big (take kept bytes) × RetainsTo calls first text (text_of big (take kept bytes)) f
+        Retaining-end = (
+          IsText-from_Encodes _ _ _ at.held,
+          subst (λ l. RetainsTo calls first l (text_of big (take kept bytes)) f) all-asked (at.answers, at.many, at.asked, text_of-Encodes _ _ _ at.held),
+        )
 
       -- c comes next, and it takes n bytes
       module _ (c n : ℕ) (tail : List ℕ) (step : text_of big (drop read bytes) ≡ c ∷ tail) (size : n ≡ char_size c) where
@@ -118,46 +115,36 @@ module _ {F : Type 0} (calls : Mut F (ℕ × Unit {0}) Bool) where
         pub next-within : (0 < n) × (read + n ≤ length bytes)
         next-within =
             let long = length-text big (drop read bytes) (IsText-from_Encodes _ _ _ at.left) ∙ ap encoded step in
-            (omega (arith, char_size-pos c, size), omega (arith, long, size-cons c tail, length-drop read bytes, size, at.order.2))
+            (omega (arith, char_size-pos c, size), omega (arith, long, size-cons c tail, length-drop read bytes, size, at.order.1))
 
-        asked-on : (u : F) (answer : Bool) → Answers calls f c answer u → (moved : List ℕ) (k r : ℕ) → length moved ≡ length bytes
-            → Encodes big (items_where_true at.answers at.done ++ (if answer then c ∷ [] else [])) (take k moved ++ take (read + n - r) (drop r moved))
-            → drop read moved ≡ drop read bytes → k ≤ r → r ≤ read + n → Retaining u moved k r (read + n)
-        asked-on u answer call moved k r long held same down behind = record {
+        asked-on : (u : F) (answer : Bool) → Answers calls f c answer u → (moved : List ℕ) (k : ℕ) → length moved ≡ length bytes
+            → Encodes big (items_where_true at.answers at.done ++ (if answer then c ∷ [] else [])) (take k moved)
+            → drop (read + n) moved ≡ drop (read + n) bytes → k ≤ read + n → Retaining u moved k (read + n)
+        asked-on u answer call moved k long held same down = record {
           done = at.done ++ c ∷ [];
           answers = at.answers ++ answer ∷ [];
           rest = tail;
           split = append_assoc at.done (c ∷ []) tail ∙ ap (λ l. at.done ++ l) (sym step ∙ text_of-Encodes _ _ _ at.left) ∙ at.split;
           many = omega (arith, length-append at.answers (answer ∷ []), length-append at.done (c ∷ []), at.many);
           asked = asked-push first f u at.answers at.done answer c at.many at.asked call;
-          held = subst (λ l. Encodes big l (take k moved ++ take (read + n - r) (drop r moved))) (sym (kept-push at.answers at.done answer c at.many)) held;
+          held = subst (λ l. Encodes big l (take k moved)) (sym (kept-push at.answers at.done answer c at.many)) held;
           left =
               subst (Encodes big tail)
-              (ap (λ i. drop i (drop read bytes)) (sym size) ∙ ap (drop n) (sym same) ∙ drop-drop n read moved)
+              (ap (λ i. drop i (drop read bytes)) (sym size) ∙ drop-drop n read bytes ∙ sym same)
               (other-bytes big c tail (drop read bytes) ahead);
           may = ask.1 answer u call;
-          order = (down, behind, omega (arith, next-within.1, long));
+          order = (down, omega (arith, next-within.1, long));
         }
 
-        -- it is kept where it stands
-        pub Retaining-keep : (u : F) → Answers calls f c true u → Retaining u bytes kept run (read + n)
-        Retaining-keep u call =
-            let up : read + n - run ≡ read - run + n = omega (arith, at.order) in
-            let here : run + (read - run) ≡ read = omega (arith, at.order) in
-            let last = drop-drop (read - run) run bytes ∙ ap (λ i. drop i bytes) here in
-            let held =
-            ap (λ l. take kept bytes ++ l) (ap (λ i. take i (drop run bytes)) up ∙ take-add (read - run) n (drop run bytes) ∙ ap (λ l. take (read - run) (drop run bytes) ++ take n l) last)
-            ∙ sym (append_assoc (take kept bytes) _ _)
-            in
+        -- it is kept, and its bytes are moved behind those in place
+        pub Retaining-keep : (u : F) (moved : List ℕ) → Answers calls f c true u → length moved ≡ length bytes
+            → take (kept + n) moved ≡ take kept bytes ++ take n (drop read bytes) → drop (read + n) moved ≡ drop (read + n) bytes
+            → Retaining u moved (kept + n) (read + n)
+        Retaining-keep u moved call long front same =
             let one = subst (λ i. Encodes big (c ∷ []) (take i (drop read bytes))) (sym size) (first-bytes big c tail (drop read bytes) ahead) in
-            asked-on u true call bytes kept run refl (subst (Encodes big _) (sym held) (Encodes-append _ _ _ _ _ at.held one)) refl at.order.0 (omega (arith, at.order))
+            asked-on u true call moved (kept + n) long (subst (Encodes big _) (sym front) (Encodes-append _ _ _ _ _ at.held one)) same (omega (arith, at.order))
 
-        -- it is dropped, and the kept characters before it are moved to those in place
-        pub Retaining-drop : (u : F) (moved : List ℕ) (k : ℕ) → Answers calls f c false u → length moved ≡ length bytes
-            → take k moved ≡ take kept bytes ++ take (read - run) (drop run bytes) → drop read moved ≡ drop read bytes → k ≡ kept + (read - run)
-            → Retaining u moved k (read + n) (read + n)
-        Retaining-drop u moved k call long front same end =
-            let none : read + n - (read + n) ≡ 0 = omega arith in
-            let held = ap (λ i. take k moved ++ take i (drop (read + n) moved)) none ∙ append-nil (take k moved) ∙ front in
-            asked-on u false call moved k (read + n) long
-            (subst (Encodes big _) (sym held) (subst (λ l. Encodes big l (take kept bytes ++ take (read - run) (drop run bytes))) (sym (append-nil _)) at.held)) same (omega (arith, at.order, end)) (omega arith)
+        -- it goes, and nothing is moved
+        pub Retaining-drop : (u : F) → Answers calls f c false u → Retaining u bytes kept (read + n)
+        Retaining-drop u call =
+            asked-on u false call bytes kept refl (subst (λ l. Encodes big l (take kept bytes)) (sym (append-nil _)) at.held) refl (omega (arith, at.order))

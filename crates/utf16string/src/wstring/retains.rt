@@ -1,6 +1,6 @@
 //! Characters kept by a predicate.
 
-ghost use Rattle.std.specs.Prelude.{◌≡◌, ◌+◌, ◌-◌, ◌≤◌, ◌++◌, length, take, drop};
+ghost use Rattle.std.specs.Prelude.{◌≡◌, ◌⊎◌, ◌+◌, ◌≤◌, ◌++◌, length, take, drop};
 ghost use Rattle.utf16_units.specs.Encoding.{IsText, text_of};
 ghost use Rattle.utf16string.specs.Retain.{IsAskable, MayBeAsked, Retains, RetainsTo};
 
@@ -14,8 +14,7 @@ impl<E: Utf16Order, A: Allocator> WString<E, A> {
 
     /// Keeps the characters of which the predicate answers `true`, in order. The predicate is asked once about each character,
     /// from the front to the back, and its state runs through. In place, in time linear in the length: it takes no memory and
-    /// the capacity stays; nothing is moved before the first character that goes, and what is kept in a row is moved in one
-    /// block.
+    /// the capacity stays; nothing is moved before the first character that goes.
     ///
     /// The caller proves that the predicate may be asked about each character in turn. A closure that may be called on anything
     /// meets this with nothing written. For another one, as a counter that must not overflow, the lemma `IsAskable-by` takes a
@@ -50,34 +49,45 @@ fn move_kept<E: Utf16Order, F: FnMut(char) -> bool>(bytes: &mut [u8], keep: &mut
     ensures within { result ≤ length bytes.old }
 {
     let mut kept = 0;
-    let mut run = 0;
     let mut read = 0;
     while let Some(c) = WStr::<E>::from_utf16_unchecked(&bytes[read..])
         .chars()
         .next()
     {
-        let next = read + c.encoded_utf16_len();
-        if !keep(c) {
-            kept = move_down(bytes, kept, run, read);
-            run = next;
+        let size = c.encoded_utf16_len();
+        if ask(keep, c) {
+            move_down(bytes, kept, read, size);
+            kept += size;
         }
-        read = next;
+        read += size;
     }
-    move_down(bytes, kept, run, read)
+    kept
 }
 
-// Moves the bytes between two indices down to a third, and answers where they end there.
+// Asks about one character, once.
 #[inline]
-fn move_down(bytes: &mut [u8], to: usize, start: usize, end: usize) -> usize
+fn ask<F: FnMut(char) -> bool>(keep: &mut F, c: char) -> bool
+    requires { F.pre keep.old c }
+    ensures { F.step keep.old c result keep.new }
+{
+    keep(c)
+}
+
+// Moves the two or four bytes of a character down, if they are not in place.
+#[inline]
+fn move_down(bytes: &mut [u8], to: usize, start: usize, size: usize)
     requires down { to ≤ start }
-    requires order { start ≤ end }
-    requires within { end ≤ length bytes.old }
-    ensures moved { take result bytes.new ≡ take to bytes.old ++ take (end - start) (drop start bytes.old) }
-    ensures behind { drop end bytes.new ≡ drop end bytes.old }
-    ensures end { result ≡ to + (end - start) }
+    requires size { (size ≡ 2) ⊎ (size ≡ 4) }
+    requires within { start + size ≤ length bytes.old }
+    ensures moved { take (to + size) bytes.new ≡ take to bytes.old ++ take size (drop start bytes.old) }
+    ensures behind { drop (start + size) bytes.new ≡ drop (start + size) bytes.old }
 {
     if to < start {
-        bytes.copy_within(start..end, to);
+        // two sizes known beforehand, in place of one that is not
+        if size == 2 {
+            bytes.copy_within(start..start + 2, to);
+        } else {
+            bytes.copy_within(start..start + 4, to);
+        }
     }
-    to + (end - start)
 }

@@ -5,7 +5,7 @@ use Rattle.utf16string.proofs.wstring.retains.move_kept.Given as goal
 
 abbrev pub invariant-loop-c : goal.invariant-loop-c
 invariant-loop-c g l =
-    Retaining g.F.FnMut g.E.Utf16Order.BIG l.initial.keep (text_of g.E.Utf16Order.BIG l.initial.bytes) l.keep l.bytes l.kept l.run l.read
+    Retaining g.F.FnMut g.E.Utf16Order.BIG l.initial.keep (text_of g.E.Utf16Order.BIG l.initial.bytes) l.keep l.bytes l.kept l.read
     × (length l.bytes ≡ length l.initial.bytes)
 
 abbrev pub decreases-loop-c : goal.decreases-loop-c
