@@ -181,14 +181,22 @@ fn the_constructors_of_one_order_and_the_unchecked_ones(rt: HostRuntime) {
     shows(&rt, &view, &[0x68, 0]);
     let view = WStrMut::from_utf16be(&mut big).expect(&rt, "text");
     shows(&rt, &view, &[0, 0x68]);
-    unchecked_is(&rt, &mut little, &mut big);
+    unchecked_le_is(&rt, &mut little, &[0x68, 0]);
+    unchecked_is::<LE>(&rt, &mut little, &[0x68, 0]);
+    unchecked_be_is(&rt, &mut big, &[0, 0x68]);
 }
 
-fn unchecked_is(rt: &impl Abort, little: &mut [u8], big: &mut [u8]) {
-    assert!(rt; WStr::from_utf16le(little).is_ok());
-    shows(rt, &WStrMut::from_utf16le_unchecked(little), &[0x68, 0]);
-    assert!(rt; WStr::from_utf16le(little).is_ok());
-    shows(rt, &WStrMut::<LE>::from_utf16_unchecked(little), &[0x68, 0]);
-    assert!(rt; WStr::from_utf16be(big).is_ok());
-    shows(rt, &WStrMut::from_utf16be_unchecked(big), &[0, 0x68]);
+fn unchecked_le_is(rt: &impl Abort, raw: &mut [u8], wanted: &[u8]) {
+    assert!(rt; WStr::from_utf16le(raw).is_ok());
+    shows(rt, &WStrMut::from_utf16le_unchecked(raw), wanted);
+}
+
+fn unchecked_is<E: Utf16Order>(rt: &impl Abort, raw: &mut [u8], wanted: &[u8]) {
+    assert!(rt; WStr::<E>::from_utf16(raw).is_ok());
+    shows(rt, &WStrMut::<E>::from_utf16_unchecked(raw), wanted);
+}
+
+fn unchecked_be_is(rt: &impl Abort, raw: &mut [u8], wanted: &[u8]) {
+    assert!(rt; WStr::from_utf16be(raw).is_ok());
+    shows(rt, &WStrMut::from_utf16be_unchecked(raw), wanted);
 }

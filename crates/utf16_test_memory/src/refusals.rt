@@ -9,8 +9,8 @@ use utf16_testing::refusing::Refusing;
 use utf16_testing::texts::{HELLO, HELLO_BE, MIXED_BE};
 use utf16string::{BE, LE, Utf16Order, WStr, WString};
 
-// Whether what was made is right.
-type Judged = Result<bool, AllocError>;
+/// Whether what was made is right.
+pub type Judged = Result<bool, AllocError>;
 
 // What is made over an allocator.
 #[derive(Clone, Copy)]
@@ -38,7 +38,8 @@ fn make<A: Allocator>(rt: &(impl Abort + AllocGlobal), alloc: A, made: Made) -> 
     }
 }
 
-fn is_utf8<E: Utf16Order, A: Allocator>(alloc: A, text: WStr<E>, wanted: &str) -> Judged {
+/// Whether the text in UTF-8 is what is wanted.
+pub fn is_utf8<E: Utf16Order, A: Allocator>(alloc: A, text: WStr<E>, wanted: &str) -> Judged {
     Ok(text.to_utf8(alloc)?.as_str() == wanted)
 }
 
@@ -157,15 +158,18 @@ fn resplit<E: Utf16Order, A: Allocator + Clone>(text: &mut WString<E, A>, at: us
     }
 }
 
-// The string has these bytes and room for so many.
-fn holds<E: Utf16Order, A: Allocator>(
-    rt: &impl Abort,
-    text: &WString<E, A>,
+// Makes an edit, which is refused or not, and looks at the bytes that it leaves. What is refused leaves the room that was there.
+fn edit_gives<E: Utf16Order, A: Allocator + Clone>(
+    rt: &(impl Abort + AllocGlobal),
+    text: &mut WString<E, A>,
+    edit: Edit,
+    is_refused: bool,
     wanted: &[u8],
-    capacity: usize,
 ) {
+    let capacity = text.capacity();
+    equal(rt, make_edit(rt, text, edit).is_err(), is_refused);
     equal(rt, text.as_bytes(), wanted);
-    equal(rt, text.capacity(), capacity);
+    assert!(rt; !is_refused || text.capacity() == capacity);
 }
 
 // Makes an edit of a string with each of its requests refused in turn: so many. A refused run leaves the string as it was,
@@ -182,14 +186,11 @@ fn makes_requests<E: Utf16Order>(
     for k in 0..=requests {
         heap.refuse_none();
         let mut text = encoded::<E, _>(rt, &heap, start);
-        let capacity = text.capacity();
         heap.refuse_one(k);
-        let result = make_edit(rt, &mut text, edit);
-        equal(rt, (start, k, result.is_err()), (start, k, k < requests));
-        if result.is_err() {
-            holds(rt, &text, before.as_bytes(), capacity);
+        if k < requests {
+            edit_gives(rt, &mut text, edit, true, before.as_bytes());
         } else {
-            equal(rt, text.as_bytes(), wanted);
+            edit_gives(rt, &mut text, edit, false, wanted);
         }
         drop(text);
         equal(
@@ -229,12 +230,11 @@ fn edits_that_are_refused(rt: HostRuntime) {
 fn a_text_put_in_once_there_is_memory(rt: HostRuntime) {
     let heap = Refusing::new(rt.alloc());
     let mut text = encoded::<LE, _>(&rt, &heap, "ho");
+    let put_in = Edit::InsertText(2, "ell");
     heap.refuse_from(0);
-    assert!(rt; make_edit(&rt, &mut text, Edit::InsertText(2, "ell")).is_err());
-    holds(&rt, &text, &[0x68, 0, 0x6F, 0], 4);
+    edit_gives(&rt, &mut text, put_in, true, &[0x68, 0, 0x6F, 0]);
     heap.refuse_none();
-    assert!(rt; make_edit(&rt, &mut text, Edit::InsertText(2, "ell")).is_ok());
-    equal(&rt, text.as_bytes(), HELLO.as_slice());
+    edit_gives(&rt, &mut text, put_in, false, &HELLO);
     drop(text);
     equal(&rt, heap.live_blocks(), 0);
 }
@@ -246,10 +246,10 @@ fn more_room_than_there_can_be(rt: HostRuntime) {
     let mut text = encoded::<LE, _>(&rt, &heap, "hello");
     heap.refuse_none();
     for additional in [usize::MAX, usize::MAX - 9, usize::MAX / 2] {
-        assert!(rt; make_edit(&rt, &mut text, Edit::Reserve(additional)).is_err());
+        edit_gives(&rt, &mut text, Edit::Reserve(additional), true, &HELLO);
     }
     assert!(rt; WString::<BE, _>::with_capacity(&heap, usize::MAX).is_err());
-    holds(&rt, &text, &HELLO, 10);
+    equal(&rt, text.capacity(), 10);
     drop(text);
     equal(&rt, (heap.requests(), heap.live_blocks()), (0, 0));
 }
@@ -258,19 +258,14 @@ fn more_room_than_there_can_be(rt: HostRuntime) {
 fn a_smaller_block_that_is_refused(rt: HostRuntime) {
     let heap = Refusing::new(rt.alloc());
     let mut text = encoded::<LE, _>(&rt, &heap, "hello");
-    assert!(rt; make_edit(&rt, &mut text, Edit::Reserve(100)).is_ok());
-    let capacity = text.capacity();
+    edit_gives(&rt, &mut text, Edit::Reserve(100), false, &HELLO);
     heap.refuse_one(0);
-    assert!(rt; make_edit(&rt, &mut text, Edit::Shrink).is_err());
-    holds(&rt, &text, &HELLO, capacity);
-    assert!(rt; make_edit(&rt, &mut text, Edit::Shrink).is_ok());
-    holds(&rt, &text, &HELLO, 10);
+    edit_gives(&rt, &mut text, Edit::Shrink, true, &HELLO);
+    edit_gives(&rt, &mut text, Edit::Shrink, false, &HELLO);
+    equal(&rt, text.capacity(), 10);
     drop(text);
-    equal(
-        &rt,
-        (heap.requests(), heap.refusals(), heap.live_blocks()),
-        (2, 1, 0),
-    );
+    equal(&rt, (heap.requests(), heap.refusals()), (2, 1));
+    equal(&rt, heap.live_blocks(), 0);
 }
 
 #[test]
@@ -281,7 +276,8 @@ fn a_split_asks_for_the_back_alone(rt: HostRuntime) {
     let back = split(&mut text, 2).expect(&rt, "memory");
     let back = back.expect(&rt, "a boundary");
     equal(&rt, back.as_bytes(), &HELLO_BE[2..]);
-    holds(&rt, &text, &HELLO_BE[..2], 10);
+    equal(&rt, text.as_bytes(), &HELLO_BE[..2]);
+    equal(&rt, text.capacity(), 10);
     drop(text);
     drop(back);
     equal(&rt, (heap.requests(), heap.live_blocks()), (1, 0));
@@ -305,8 +301,8 @@ fn edits_that_ask_for_nothing(rt: HostRuntime) {
         (Edit::Clear, &[]),
     ];
     for (edit, wanted) in steps {
-        assert!(rt; make_edit(&rt, &mut text, edit).is_ok());
-        holds(&rt, &text, wanted, 10);
+        edit_gives(&rt, &mut text, edit, false, wanted);
+        equal(&rt, text.capacity(), 10);
     }
     drop(text);
     equal(&rt, (heap.requests(), heap.live_blocks()), (0, 0));

@@ -30,7 +30,15 @@ fn debugs<T: fmt::Debug>(rt: &(impl Abort + AllocGlobal), value: &T) {
 fn view_writes<E: Utf16Order>(rt: &(impl Abort + AllocGlobal), view: WStr<E>, utf8: &[u8]) {
     displays(rt, &view, utf8);
     debugs(rt, &view);
+    debugs_chars(rt, view);
+    debugs_indices(rt, view);
+}
+
+fn debugs_chars<E: Utf16Order>(rt: &(impl Abort + AllocGlobal), view: WStr<E>) {
     debugs(rt, &view.chars());
+}
+
+fn debugs_indices<E: Utf16Order>(rt: &(impl Abort + AllocGlobal), view: WStr<E>) {
     debugs(rt, &view.char_indices());
 }
 
@@ -72,10 +80,7 @@ fn short_and_long_texts_are_written(rt: HostRuntime) {
 }
 
 fn error_of<E: Utf16Order>(rt: &impl Abort, raw: &[u8]) -> Utf16Error {
-    let Err(error) = WStr::<E>::from_utf16(raw) else {
-        panic!(rt; "taken as text: {raw:?}");
-    };
-    error
+    WStr::<E>::from_utf16(raw).err().expect(rt, "no text")
 }
 
 #[test]
