@@ -176,7 +176,7 @@ fn test_clear(rt: HostRuntime) {
 fn undone_at<E: Utf16Order>(rt: &(impl Abort + AllocGlobal), raw: &[u8], offset: usize) {
     let mut text = string::<E>(rt, raw);
     if typed(rt, &mut text, offset, '\u{1F600}') {
-        equal(rt, text.len().saturating_sub(4), raw.len());
+        equal(rt, text.len(), raw.len() + 4);
         equal(rt, removed(&mut text, offset), Some('\u{1F600}'));
         bytes_are(rt, &text, raw);
         let back = split_at(rt, &mut text, offset);
