@@ -4,6 +4,8 @@
 #[cfg(test)]
 mod characters;
 #[cfg(test)]
+mod checks;
+#[cfg(test)]
 mod faults;
 #[cfg(test)]
 mod law_callers;

@@ -107,25 +107,33 @@ pub const CHARACTERS: [(char, &[u8], &[u8], &[u8]); 15] = [
     ),
 ];
 
-/// Known faults: whether the order is big endian, the bytes, and the error's `valid_up_to` and `error_len`.
-pub const FAULTS: [(bool, &[u8], usize, Option<usize>); 14] = [
-    (false, &[0x00, 0xDC], 0, Some(2)),
-    (false, &[0x00, 0xD8], 0, None),
-    (false, &[0x00, 0xD8, 0x00], 0, None),
-    (false, &[0xDC], 0, None),
-    (false, &[0x41], 0, None),
-    (false, &[0x00, 0xD8, 0x41, 0x00], 0, Some(2)),
-    (false, &[0x00, 0xD8, 0x00, 0xD8], 0, Some(2)),
-    (false, &[0x00, 0xDC, 0x00, 0xD8], 0, Some(2)),
+/// Known faults: whether the order is big endian, the bytes, the error's `valid_up_to` and `error_len`, and bytes that make
+/// them a text, where there are any.
+pub const FAULTS: [(bool, &[u8], usize, Option<usize>, Option<&[u8]>); 14] = [
+    (false, &[0x00, 0xDC], 0, Some(2), None),
+    (false, &[0x00, 0xD8], 0, None, Some(&[0x00, 0xDC])),
+    (false, &[0x00, 0xD8, 0x00], 0, None, Some(&[0xDC])),
+    (false, &[0xDC], 0, None, Some(&[0x00])),
+    (false, &[0x41], 0, None, Some(&[0x00])),
+    (false, &[0x00, 0xD8, 0x41, 0x00], 0, Some(2), None),
+    (false, &[0x00, 0xD8, 0x00, 0xD8], 0, Some(2), None),
+    (false, &[0x00, 0xDC, 0x00, 0xD8], 0, Some(2), None),
     (
         false,
         &[0x00, 0xD8, 0x00, 0xDC, 0x00, 0xD8, 0x00, 0xDC, 0x00],
         8,
         None,
+        Some(&[0x00]),
     ),
-    (true, &[0xDC], 0, None),
-    (true, &[0xD8], 0, None),
-    (true, &[0xD8, 0x00, 0xDC], 0, None),
-    (true, &[0xD8, 0x00, 0x00], 0, None),
-    (true, &[0x00, 0x41, 0xD8, 0x00], 2, None),
+    (true, &[0xDC], 0, None, None),
+    (true, &[0xD8], 0, None, Some(&[0x00, 0xDC, 0x00])),
+    (true, &[0xD8, 0x00, 0xDC], 0, None, Some(&[0x00])),
+    (true, &[0xD8, 0x00, 0x00], 0, None, None),
+    (
+        true,
+        &[0x00, 0x41, 0xD8, 0x00],
+        2,
+        None,
+        Some(&[0xDC, 0x00]),
+    ),
 ];

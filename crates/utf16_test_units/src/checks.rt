@@ -1,0 +1,31 @@
+//! What the tests of this crate share: assertions, and bytes taken as text.
+
+use std::fmt::Debug;
+use std::process::Abort;
+use utf16string::{Utf16Order, WStr};
+
+/// What is found is what is wanted.
+pub fn equal<T: PartialEq + Debug + Drop>(rt: &impl Abort, found: T, wanted: T) {
+    assert_eq!(rt; found, wanted);
+}
+
+/// The same in a row of a table, which a failure shows.
+pub fn equal_at<R: Debug, T: PartialEq + Debug + Drop>(
+    rt: &impl Abort,
+    row: &R,
+    found: T,
+    wanted: T,
+) {
+    assert_eq!(rt; found, wanted, "{row:?}");
+}
+
+/// A view of these bytes, which are text.
+pub fn view<'a, E: Utf16Order>(rt: &impl Abort, raw: &'a [u8]) -> WStr<'a, E> {
+    WStr::from_utf16(raw).expect(rt, "text")
+}
+
+/// The text in UTF-8 is what is wanted.
+pub fn utf8_is<E: Utf16Order>(rt: &(impl Abort + AllocGlobal), text: WStr<E>, wanted: &[u8]) {
+    let utf8 = text.to_utf8(rt.alloc()).expect(rt, "memory");
+    equal(rt, utf8.as_bytes(), wanted);
+}

@@ -1,0 +1,25 @@
+//! What the tests of this crate share: assertions, and bytes taken as text.
+
+use std::fmt::Debug;
+use std::process::Abort;
+use utf16string::{Utf16Order, WStr};
+
+/// What is found is what is wanted.
+pub fn equal<T: PartialEq + Debug + Drop>(rt: &impl Abort, found: T, wanted: T) {
+    assert_eq!(rt; found, wanted);
+}
+
+/// The same in a row of a table, which a failure shows.
+pub fn equal_at<R: Debug, T: PartialEq + Debug + Drop>(
+    rt: &impl Abort,
+    row: &R,
+    found: T,
+    wanted: T,
+) {
+    assert_eq!(rt; found, wanted, "{row:?}");
+}
+
+/// A view of these bytes, which are text.
+pub fn view<'a, E: Utf16Order>(rt: &impl Abort, raw: &'a [u8]) -> WStr<'a, E> {
+    WStr::from_utf16(raw).expect(rt, "text")
+}
