@@ -42,6 +42,14 @@ impl<'a, E: Utf16Order> WStrChars<'a, E> {
         self.rest.len()
     }
 
+    /// What is left, as a view.
+    #[inline]
+    pub fn as_wstr(&self) -> WStr<'a, E>
+        ensures { wstr_text result ≡ self.now }
+    {
+        self.rest
+    }
+
     /// How many characters are left. One pass over what is left.
     pub fn count(self) -> usize
         ensures { result ≡ length self.entry }

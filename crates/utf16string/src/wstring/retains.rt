@@ -1,13 +1,14 @@
 //! Characters kept by a predicate.
 
-ghost use Rattle.std.specs.Prelude.{◌≡◌, ◌⊎◌, ◌+◌, ◌≤◌, ◌++◌, length, take, drop};
-ghost use Rattle.utf16_units.specs.Encoding.{IsText, text_of};
+ghost use Rattle.std.specs.Prelude.{◌≡◌, ◌⊎◌, ◌+◌, ◌≤◌, [], ◌∷◌, ◌++◌, List, ℕ, length, take, drop};
+ghost use Rattle.std.specs.Option.{MatchOption};
+ghost use Rattle.utf16_units.specs.Encoding.{IsText, char_size, text_of};
 ghost use Rattle.utf16string.specs.Retain.{IsAskable, MayBeAsked, Retains, RetainsTo};
 
 use crate::WString;
 use std::alloc::Allocator;
 use utf16_str::WStr;
-use utf16_units::{Utf16CharExt, Utf16Order};
+use utf16_units::Utf16Order;
 
 impl<E: Utf16Order, A: Allocator> WString<E, A> {
     ghost use Rattle.utf16string.specs.WString.{wstring_capacity, wstring_text};
@@ -50,11 +51,7 @@ fn move_kept<E: Utf16Order, F: FnMut(char) -> bool>(bytes: &mut [u8], keep: &mut
 {
     let mut kept = 0;
     let mut read = 0;
-    while let Some(c) = WStr::<E>::from_utf16_unchecked(&bytes[read..])
-        .chars()
-        .next()
-    {
-        let size = c.encoded_utf16_len();
+    while let Some((c, size)) = char_from::<E>(bytes, read) {
         if ask(keep, c) {
             move_down(bytes, kept, read, size);
             kept += size;
@@ -62,6 +59,20 @@ fn move_kept<E: Utf16Order, F: FnMut(char) -> bool>(bytes: &mut [u8], keep: &mut
         read += size;
     }
     kept
+}
+
+// The character that begins at an index, and how many bytes it takes; none at the end. The size is what the walk went on by: so
+// the next place does not wait for the character's comparison.
+#[inline]
+fn char_from<E: Utf16Order>(bytes: &[u8], at: usize) -> Option<(char, usize)>
+    requires within { at ≤ length bytes.now }
+    requires text { IsText E.BIG (drop at bytes.now) }
+    ensures { MatchOption result (text_of E.BIG (drop at bytes.now) ≡ []) (λ first. (rest : List ℕ) × (text_of E.BIG (drop at bytes.now) ≡ first.0 ∷ rest) × (first.1 ≡ char_size first.0)) }
+{
+    let text = WStr::<E>::from_utf16_unchecked(&bytes[at..]);
+    let mut chars = text.chars();
+    let first = chars.next()?;
+    Some((first, text.len() - chars.as_wstr().len()))
 }
 
 // Asks about one character, once.
@@ -73,7 +84,7 @@ fn ask<F: FnMut(char) -> bool>(keep: &mut F, c: char) -> bool
     keep(c)
 }
 
-// Moves the two or four bytes of a character down, if they are not in place.
+// Moves the one or two units of a character down, if they are not in place.
 #[inline]
 fn move_down(bytes: &mut [u8], to: usize, start: usize, size: usize)
     requires down { to ≤ start }
@@ -83,11 +94,21 @@ fn move_down(bytes: &mut [u8], to: usize, start: usize, size: usize)
     ensures behind { drop (start + size) bytes.new ≡ drop (start + size) bytes.old }
 {
     if to < start {
-        // two sizes known beforehand, in place of one that is not
-        if size == 2 {
-            bytes.copy_within(start..start + 2, to);
-        } else {
-            bytes.copy_within(start..start + 4, to);
+        move_unit(bytes, to, start);
+        if size == 4 {
+            move_unit(bytes, to + 2, start + 2);
         }
     }
+}
+
+// Moves two bytes down.
+#[inline]
+fn move_unit(bytes: &mut [u8], to: usize, start: usize)
+    requires down { to ≤ start }
+    requires within { start + 2 ≤ length bytes.old }
+    ensures moved { take (to + 2) bytes.new ≡ take to bytes.old ++ take 2 (drop start bytes.old) }
+    ensures behind { drop (start + 2) bytes.new ≡ drop (start + 2) bytes.old }
+{
+    bytes[to] = bytes[start];
+    bytes[to + 1] = bytes[start + 1];
 }

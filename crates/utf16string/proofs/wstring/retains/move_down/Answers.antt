@@ -1,56 +1,36 @@
-use Rattle.std.proofs.Common.{◌≡◌, ◌∙◌, ◌+◌, ◌-◌, ◌≤◌, ◌++◌, ℕ, List, ◌⊎◌, ap, arith, drop, inl, inr, length, sym, take}
-use Rattle.std.specs.List.{copy_within}
-use Rattle.std.proofs.Math.Seq.{paste, take-add}
-use Rattle.std.proofs.lemmas.List.{drop-drop, length-drop}
-use Rattle.std.proofs.lemmas.List.Edits.{drop-paste, take-paste}
+use Rattle.std.proofs.Common.{◌≡◌, ◌∙◌, ◌+◌, ◌++◌, ℕ, List, ap, append_assoc, arith, drop, sym, take}
+use Rattle.std.proofs.Math.Seq.{take-add}
+use Rattle.std.proofs.lemmas.List.{drop-drop}
 use Rattle.utf16string.proofs.wstring.retains.move_down.Goals as goal
 
-module _ (bytes : List ℕ) (to start n : ℕ) (down : to ≤ start) (within : start + n ≤ length bytes) where
-  whole : start + n - start ≡ n
-  whole = omega arith
+-- two units moved, one after the other
+module _ (old once twice : List ℕ) (to start : ℕ) (first : take (to + 2) once ≡ take to old ++ take 2 (drop start old)) (rest : drop (start + 2) once ≡ drop (start + 2) old)
+    (second : take (to + 2 + 2) twice ≡ take (to + 2) once ++ take 2 (drop (start + 2) once)) (behind : drop (start + 2 + 2) twice ≡ drop (start + 2 + 2) once) where
+  four : (n : ℕ) → n + 4 ≡ n + 2 + 2
+  four n = omega arith
 
-  copied : take (to + n) (copy_within bytes start (start + n) to) ≡ take to bytes ++ take n (drop start bytes)
-  copied =
-      ap (λ k. take (to + n) (paste bytes to (drop start bytes) k)) whole
-      ∙ take-paste bytes to (drop start bytes) n (omega arith) (omega (arith, length-drop start bytes))
+  moved : take (to + 4) twice ≡ take to old ++ take 4 (drop start old)
+  moved =
+      ap (λ i. take i twice) (four to) ∙ second ∙ ap (λ l. l ++ take 2 (drop (start + 2) once)) first ∙ append_assoc (take to old) _ _
+      ∙ ap (λ l. take to old ++ (take 2 (drop start old) ++ take 2 l)) (rest ∙ sym (drop-drop 2 start old))
+      ∙ ap (λ l. take to old ++ l) (sym (take-add 2 2 (drop start old)))
 
-  left : drop (start + n) (copy_within bytes start (start + n) to) ≡ drop (start + n) bytes
+  left : drop (start + 4) twice ≡ drop (start + 4) old
   left =
-      let all : to + n + (start - to) ≡ start + n = omega arith in
-      ap (λ k. drop (start + n) (paste bytes to (drop start bytes) k)) whole
-      ∙ ap (λ i. drop i (paste bytes to (drop start bytes) n)) (sym all)
-      ∙ sym (drop-drop (start - to) (to + n) _)
-      ∙ ap (drop (start - to)) (drop-paste bytes to (drop start bytes) n (omega arith) (omega (arith, length-drop start bytes)))
-      ∙ drop-drop (start - to) (to + n) bytes
-      ∙ ap (λ i. drop i bytes) all
+      ap (λ i. drop i twice) (four start) ∙ behind ∙ sym (drop-drop 2 (start + 2) once) ∙ ap (drop 2) rest ∙ drop-drop 2 (start + 2) old
+      ∙ ap (λ i. drop i old) (sym (four start))
 
-module _ (bytes new : List ℕ) (to start n size : ℕ) (is : size ≡ n) (down : to ≤ start) (within : start + size ≤ length bytes)
-    (after : new ≡ copy_within bytes start (start + n) to) where
-  moved : take (to + size) new ≡ take to bytes ++ take size (drop start bytes)
-  moved = rw is (ap (take (to + n)) after ∙ copied bytes to start n down (omega (arith, is, within)))
+pub returns-then-size-eq4-clause-moved : goal.returns-then-size-eq4-clause-moved
+returns-then-size-eq4-clause-moved c =
+    let first = c.move_unit.ensures in
+    let second = c.move_unit-then-size-eq4.ensures in
+    rw c.if-size-eq4.true (moved _ _ _ c.args.to c.args.start first.moved first.behind second.moved second.behind)
 
-  behind : drop (start + size) new ≡ drop (start + size) bytes
-  behind = rw is (ap (drop (start + n)) after ∙ left bytes to start n down (omega (arith, is, within)))
-
-four : (size : ℕ) → (size ≡ 2 → ⊥) → (size ≡ 2) ⊎ (size ≡ 4) → size ≡ 4
-four size other (inl two) = absurd (other two)
-four size other (inr is) = is
-
-pub returns-then-size-eq2-clause-moved : goal.returns-then-size-eq2-clause-moved
-returns-then-size-eq2-clause-moved c =
-    moved c.args.bytes.now c.copy_within.new.self c.args.to c.args.start 2 c.args.size (c.if-size-eq2.true) c.requires.down c.requires.within c.copy_within.ensures.after
-
-pub returns-then-size-eq2-clause-behind : goal.returns-then-size-eq2-clause-behind
-returns-then-size-eq2-clause-behind c =
-    behind c.args.bytes.now c.copy_within.new.self c.args.to c.args.start 2 c.args.size (c.if-size-eq2.true) c.requires.down c.requires.within c.copy_within.ensures.after
-
-pub returns-else-size-eq2-clause-moved : goal.returns-else-size-eq2-clause-moved
-returns-else-size-eq2-clause-moved c =
-    moved c.args.bytes.now c.copy_within-else-size-eq2.new.self c.args.to c.args.start 4 c.args.size (four c.args.size c.if-size-eq2.false c.requires.size) c.requires.down c.requires.within c.copy_within-else-size-eq2.ensures.after
-
-pub returns-else-size-eq2-clause-behind : goal.returns-else-size-eq2-clause-behind
-returns-else-size-eq2-clause-behind c =
-    behind c.args.bytes.now c.copy_within-else-size-eq2.new.self c.args.to c.args.start 4 c.args.size (four c.args.size c.if-size-eq2.false c.requires.size) c.requires.down c.requires.within c.copy_within-else-size-eq2.ensures.after
+pub returns-then-size-eq4-clause-behind : goal.returns-then-size-eq4-clause-behind
+returns-then-size-eq4-clause-behind c =
+    let first = c.move_unit.ensures in
+    let second = c.move_unit-then-size-eq4.ensures in
+    rw c.if-size-eq4.true (left _ _ _ c.args.to c.args.start first.moved first.behind second.moved second.behind)
 
 pub returns-else-to-start-clause-moved : goal.returns-else-to-start-clause-moved
 returns-else-to-start-clause-moved c =
