@@ -47,7 +47,8 @@ impl<'a, E: Utf16Order> WStrChars<'a, E> {
     pub fn as_wstr(&self) -> WStr<'a, E>
         ensures { wstr_text result ≡ self.now }
     {
-        self.rest
+        let WStrChars { rest } = self;
+        *rest
     }
 
     /// How many characters are left. One pass over what is left.

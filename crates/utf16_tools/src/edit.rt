@@ -102,7 +102,8 @@ pub fn run<E: Utf16Order, A: Allocator + Clone, B: Allocator, C: Allocator>(
 {
     let mut replies = Vec::with_capacity(alloc, edits.len())?;
     for edit in edits {
-        replies.push(apply(string, edit))?;
+        let reply = apply(string, edit);
+        replies.push(reply)?;
     }
     Ok(replies)
 }
