@@ -3,6 +3,7 @@
 
 mod iters;
 mod slicing;
+mod utf8;
 mod wstr;
 mod wstr_mut;
 

@@ -207,21 +207,6 @@ impl<'a, E: Utf16Order> WStr<'a, E> {
     {
         self.chars().all(|c| (c as u32) < 0x80)
     }
-
-    /// The same characters in UTF-8. The only error is a refused request for memory; for the empty text nothing is asked.
-    pub fn to_utf8<A: Allocator>(&self, alloc: A) -> Result<String<A>, AllocError>
-        ensures text { IfOk result (λ s. string_bytes s ≡ encode_utf8_all (wstr_text self.now)) }
-        ensures nothing { wstr_text self.now ≡ [] → IsOk result }
-    {
-        if self.is_empty() {
-            return Ok(String::new(alloc));
-        }
-        let mut text = String::with_capacity(alloc, self.len() / 2)?;
-        for c in self.chars() {
-            text.push(c)?;
-        }
-        Ok(text)
-    }
 }
 
 impl<'a, E: Utf16Order> fmt::Display for WStr<'a, E> {

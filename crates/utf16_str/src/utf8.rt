@@ -1,0 +1,49 @@
+//! The characters of a view in UTF-8.
+
+ghost use Rattle.std.specs.Prelude.{◌≡◌, ◌+◌, ◌≤◌, [], ◌++◌, length, IfOk, IsOk, OnErr, OnOk, encode_utf8_all, string_bytes};
+ghost use Rattle.std.specs.String.{string_capacity, string_len};
+ghost use Rattle.utf16_str.specs.WStr.{wstr_text};
+
+use crate::WStr;
+use std::alloc::{AllocError, Allocator};
+use utf16_units::Utf16Order;
+
+impl<'a, E: Utf16Order> WStr<'a, E> {
+    /// The same characters in UTF-8. The only error is a refused request for memory. Room is asked for once, for the empty text
+    /// not at all; two passes over the text.
+    pub fn to_utf8<A: Allocator>(&self, alloc: A) -> Result<String<A>, AllocError>
+        ensures text { IfOk result (λ s. string_bytes s ≡ encode_utf8_all (wstr_text self.now)) }
+        ensures nothing { wstr_text self.now ≡ [] → IsOk result }
+    {
+        let mut utf8 = String::new(alloc);
+        self.push_utf8(&mut utf8)?;
+        Ok(utf8)
+    }
+
+    /// Puts the same characters in UTF-8 behind a text. The only error is a refused request for memory; it leaves the text as it
+    /// was. Room is asked for once, and not where it is there; two passes over the view.
+    pub fn push_utf8<A: Allocator>(self, to: &mut String<A>) -> Result<(), AllocError>
+        ensures text { OnOk result (string_bytes to.new ≡ string_bytes to.old ++ encode_utf8_all (wstr_text self.entry)) }
+        ensures refused { OnErr result ((string_bytes to.new ≡ string_bytes to.old) × (string_capacity to.new ≡ string_capacity to.old)) }
+        ensures grows { string_capacity to.old ≤ string_capacity to.new }
+        ensures room { string_len to.old + length (encode_utf8_all (wstr_text self.entry)) ≤ string_capacity to.old → IsOk result }
+        ensures nothing { wstr_text self.entry ≡ [] → IsOk result }
+    {
+        to.reserve(utf8_len(self))?;
+        for c in self.chars() {
+            to.push(c)?;
+        }
+        Ok(())
+    }
+}
+
+// How many bytes the characters take in UTF-8.
+fn utf8_len<E: Utf16Order>(text: WStr<E>) -> usize
+    ensures { result ≡ length (encode_utf8_all (wstr_text text.entry)) }
+{
+    let mut len = 0;
+    for c in text.chars() {
+        len += c.len_utf8();
+    }
+    len
+}

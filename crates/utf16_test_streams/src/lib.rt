@@ -1,0 +1,5 @@
+//! Tests of views decoded into a text, one after another.
+#![tactic(auto)]
+
+#[cfg(test)]
+mod appended;
