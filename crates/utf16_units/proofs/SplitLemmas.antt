@@ -1,16 +1,17 @@
 -- The computed split is a split, and the only one.
-use Rattle.std.proofs.Common.{◌≡◌, ◌≢◌, ℕ, suc, ◌+◌, ◌-◌, ◌*◌, ◌/◌, ◌%◌, ◌<◌, ◌≤◌, ◌⊎◌, Bool, true, false, cond, List, [], ◌∷◌, ◌++◌, length, slice_index, All, refl, sym, ap, ap₂, ◌∙◌, subst, ⊎_elim, inl, inr, arith, append_assoc, append-nil, length-append, flat_map, le-leb, lt-ltb, le-ltb, true≢false}
+use Rattle.std.proofs.Common.{◌≡◌, ℕ, suc, ◌+◌, ◌-◌, ◌*◌, ◌/◌, ◌%◌, ◌<◌, ◌≤◌, Bool, true, false, cond, List, [], ◌∷◌, ◌++◌, length, map, All, refl, sym, ap, ap₂, ◌∙◌, subst, ⊎_elim, inl, inr, arith, append_assoc, append-nil, length-append, flat_map, le-leb, lt-ltb, le-ltb, true≢false}
 use Rattle.std.proofs.lemmas.Bool.{cases_lt, cases_Bool, lt-leb}
 use Rattle.std.proofs.lemmas.List.Elements.{All-nil, All-cons, All-head, All-tail}
-use Rattle.std.proofs.str.Utf16.{one_unit, two_units, pair_units}
+use Rattle.std.proofs.str.Utf16.{one_unit, pair_units}
 use Rattle.std.specs.Char.{IsScalar}
-use Rattle.std.specs.Char.Utf16.{is_high_surrogate, is_low_surrogate, surrogate_pair_char}
+use Rattle.std.specs.Char.Utf16.{surrogate_pair_char}
 use Rattle.utf16_units.specs.Unit.{IsLeading, IsTrailing, unit_bytes, unit_of}
 use Rattle.utf16_units.specs.Encoding.{char_bytes, encode}
-use Rattle.utf16_units.specs.Fault.{IsCutOff, is_cut_off}
-use Rattle.utf16_units.specs.Split.{BeginsUnpaired, IsItem, IsTail, Item, Split, good, item_bytes, items_bytes, lone_lead, lone_trail, put_leading, put_unit, split_items, split_tail}
+use Rattle.utf16_units.specs.Fault.{is_cut_off}
+use Rattle.utf16_units.specs.Split.{BeginsUnpaired, IsItem, IsTail, Item, Split, good, item_bytes, items_bytes, lone_lead, lone_trail, marked, put_leading, put_unit, split_items, split_tail}
 use Rattle.utf16_units.proofs.UnitLemmas.{length-unit_bytes, unit_bytes-unit_of}
 use Rattle.utf16_units.proofs.CharLemmas.{no_surrogate}
+use Rattle.utf16_units.proofs.EncodingLemmas.{encode-cons, encode-nil}
 use Rattle.utf16_units.proofs.FirstChar.{AreBytes, first_unit, high_scalar, scalar_unit, unit_below}
 use Rattle.utf16_units.proofs.FrontChar.{first_unit-bytes, first_unit-char}
 use Rattle.utf16_units.proofs.Computed.{IsCutOff-from_is_cut_off, is_cut_off-from_IsCutOff}
@@ -138,6 +139,12 @@ module _ (big : Bool) (first second : ℕ) (bytes : List ℕ) where
       (λ (no : is_cut_off big (first ∷ second ∷ bytes) ≡ false). no)
       (cases_Bool (is_cut_off big (first ∷ second ∷ bytes)))
 
+  not_cut_long : is_cut_off big (first ∷ second ∷ bytes) ≡ false → IsLeading (unit_of big first second) → 2 ≤ length bytes
+  not_cut_long e l = ⊎_elim
+      (λ (short : length bytes < 2). absurd (true≢false (sym (is_cut_off-from_IsCutOff big (first ∷ second ∷ bytes) (l, omega arith)) ∙ e)))
+      (λ (two : 2 ≤ length bytes). two)
+      (cases_lt (length bytes) 2)
+
 -- ---- the computed split is a split
 
 BeginsUnpaired-first : (big : Bool) (bytes : List ℕ) → 2 ≤ length bytes → ¬ (IsTrailing (first_unit big bytes)) → BeginsUnpaired big bytes
@@ -226,18 +233,14 @@ module _ (big : Bool) (first second : ℕ) (bytes : List ℕ) (first_byte : firs
   two_more =
       let unit = unit_of big first second in
       ⊎_elim
-      (λ (yes : is_cut_off big all ≡ true).
-      subst (λ i. Split big all i (split_tail big all)) (sym (cut_items big first second bytes yes))
-      (subst (Split big all []) (sym (cut_tail big first second bytes yes)) (Split-nil big all (IsCutOff-from_is_cut_off big all yes))))
-      (λ (no : is_cut_off big all ≡ false).
-      let long : IsLeading unit → 2 ≤ length bytes = λ l. ⊎_elim
-          (λ (short : length bytes < 2). absurd (true≢false (sym (is_cut_off-from_IsCutOff big all (l, omega arith)) ∙ no)))
-          (λ (two : 2 ≤ length bytes). two)
-          (cases_lt (length bytes) 2) in
-      subst (λ i. Split big all i (split_tail big all)) (sym (whole_items big first second bytes no))
-      (subst (Split big all (put_unit unit (split_items big bytes))) (sym (whole_tail big first second bytes no))
+      (λ (cut : is_cut_off big all ≡ true).
+      subst (λ i. Split big all i (split_tail big all)) (sym (cut_items big first second bytes cut))
+      (subst (Split big all []) (sym (cut_tail big first second bytes cut)) (Split-nil big all (IsCutOff-from_is_cut_off big all cut))))
+      (λ (whole : is_cut_off big all ≡ false).
+      subst (λ i. Split big all i (split_tail big all)) (sym (whole_items big first second bytes whole))
+      (subst (Split big all (put_unit unit (split_items big bytes))) (sym (whole_tail big first second bytes whole))
       (subst (λ b. Split big (b ++ bytes) (put_unit unit (split_items big bytes)) (split_tail big bytes)) (unit_bytes-unit_of big first second first_byte second_byte)
-      (Split-put_unit big unit bytes (split_items big bytes) (split_tail big bytes) (unit_below big first second first_byte second_byte) long s))))
+      (Split-put_unit big unit bytes (split_items big bytes) (split_tail big bytes) (unit_below big first second first_byte second_byte) (not_cut_long big first second bytes whole) s))))
       (cases_Bool (is_cut_off big all))
 
 -- the computed split is a split
@@ -367,3 +370,56 @@ Split-unique big bytes (item ∷ items) tail s =
     (sym (append_assoc (item_bytes big item) (items_bytes big items) tail) ∙ s.spelled)
     (item_computed big item items tail behind.made (All-head IsItem item items s.made) (Follows-first big bytes item items tail s)
     (Split-unique big rest items tail behind))
+
+-- ---- the tail's length, and the split of an encoding
+
+-- the computed tail is a tail, whatever the numbers are
+pub IsTail-split_tail : (big : Bool) (bytes : List ℕ) → IsTail big (split_tail big bytes)
+unfolding split_tail
+IsTail-split_tail big [] = tt
+IsTail-split_tail big (last ∷ []) = tt
+IsTail-split_tail big (first ∷ second ∷ bytes) = ⊎_elim
+    (λ (cut : is_cut_off big (first ∷ second ∷ bytes) ≡ true).
+    subst (IsTail big) (sym (cut_tail big first second bytes cut)) (IsCutOff-from_is_cut_off big (first ∷ second ∷ bytes) cut))
+    (λ (whole : is_cut_off big (first ∷ second ∷ bytes) ≡ false).
+    subst (IsTail big) (sym (whole_tail big first second bytes whole)) (IsTail-split_tail big bytes))
+    (cases_Bool (is_cut_off big (first ∷ second ∷ bytes)))
+
+-- a tail has at most three bytes
+pub length-IsTail : (big : Bool) (tail : List ℕ) → IsTail big tail → length tail ≤ 3
+length-IsTail big [] ends = omega arith
+length-IsTail big (last ∷ []) ends = omega arith
+length-IsTail big (first ∷ second ∷ after) ends =
+    let one = ends.1 in
+    omega arith
+
+pub length-split_tail : (big : Bool) (bytes : List ℕ) → length (split_tail big bytes) ≤ 3
+length-split_tail big bytes = length-IsTail big (split_tail big bytes) (IsTail-split_tail big bytes)
+
+-- a text put before a split
+pub Split-text : (big : Bool) (text bytes : List ℕ) (items : List Item) (tail : List ℕ) → All IsScalar text
+    → Split big bytes items tail → Split big (encode big text ++ bytes) (map good text ++ items) tail
+Split-text big [] bytes items tail scalars s = subst (λ b. Split big (b ++ bytes) items tail) (sym (encode-nil big)) s
+Split-text big (c ∷ text) bytes items tail scalars s =
+    subst (λ b. Split big b (good c ∷ (map good text ++ items)) tail)
+    (sym (append_assoc (char_bytes big c) (encode big text) bytes) ∙ ap (λ b. b ++ bytes) (sym (encode-cons big c text)))
+    (Split-cons big (good c) (encode big text ++ bytes) (map good text ++ items) tail (All-head IsScalar c text scalars) tt
+    (Split-text big text bytes items tail (All-tail IsScalar c text scalars) s))
+
+-- an encoding splits into the text's characters, and no tail
+pub Split-encode : (big : Bool) (text : List ℕ) → All IsScalar text → Split big (encode big text) (map good text) []
+Split-encode big text scalars =
+    subst (λ b. Split big b (map good text) []) (append-nil (encode big text))
+    (subst (λ i. Split big (encode big text ++ []) i []) (append-nil (map good text))
+    (Split-text big text [] [] [] scalars (Split-nil big [] tt)))
+
+pub split-encode : (big : Bool) (text : List ℕ) → All IsScalar text
+    → (split_items big (encode big text) ≡ map good text) × (split_tail big (encode big text) ≡ [])
+split-encode big text scalars =
+    let only = Split-unique big (encode big text) (map good text) [] (Split-encode big text scalars) in
+    (sym only.0, sym only.1)
+
+-- characters are shown by themselves
+pub marked-good : (text : List ℕ) → marked (map good text) ≡ text
+marked-good [] = refl
+marked-good (c ∷ text) = ap (λ t. c ∷ t) (marked-good text)

@@ -7,7 +7,7 @@ use Rattle.utf16_units.specs.Unit.{IsLeading, IsTrailing, unit_bytes, unit_of}
 use Rattle.utf16_units.specs.Encoding.{char_bytes}
 use Rattle.utf16_units.specs.Fault.{is_cut_off}
 
--- a character, or a surrogate code unit without its partner (Unicode 3.9, unpaired surrogate code units)
+-- a character, or a surrogate code unit without its partner (Unicode 3.8, isolated surrogate code units)
 pub data Item : Type 0 where
   good : ℕ → Item
   lone_trail : ℕ → Item
@@ -41,8 +41,8 @@ BeginsUnpaired big [] = ⊥
 BeginsUnpaired big (last ∷ []) = ⊥
 BeginsUnpaired big (first ∷ second ∷ after) = ¬ (IsTrailing (unit_of big first second))
 
--- the bytes are those of the items and then the tail, and behind each lone leading unit a unit stands that is not trailing
--- (Unicode 3.9, surrogate pairs)
+-- the bytes are those of the items and then of the tail, and behind each lone leading unit stands a whole unit that is not
+-- trailing (Unicode 3.8, surrogate pair)
 pub record Split (big : Bool) (bytes : List ℕ) (items : List Item) (tail : List ℕ) : Type 0 where
   pub made : All IsItem items
   pub spelled : items_bytes big items ++ tail ≡ bytes
@@ -67,10 +67,8 @@ full items (first ∷ after) = marked items ++ 0xFFFD ∷ []
 
 -- a leading unit put before items: it makes a pair with a trailing unit that had no partner
 unfoldable pub put_leading : ℕ → List Item → List Item
-put_leading lead [] = lone_lead lead ∷ []
-put_leading lead (good c ∷ items) = lone_lead lead ∷ good c ∷ items
 put_leading lead (lone_trail trail ∷ items) = good (surrogate_pair_char lead trail) ∷ items
-put_leading lead (lone_lead next ∷ items) = lone_lead lead ∷ lone_lead next ∷ items
+put_leading lead items = lone_lead lead ∷ items
 
 -- a unit put before items
 unfoldable pub put_unit : ℕ → List Item → List Item
