@@ -413,9 +413,9 @@ Split-encode big text scalars =
     (subst (λ i. Split big (encode big text ++ []) i []) (append-nil (map good text))
     (Split-text big text [] [] [] scalars (Split-nil big [] tt)))
 
-pub split-encode : (big : Bool) (text : List ℕ) → All IsScalar text
+pub computed-encode : (big : Bool) (text : List ℕ) → All IsScalar text
     → (split_items big (encode big text) ≡ map good text) × (split_tail big (encode big text) ≡ [])
-split-encode big text scalars =
+computed-encode big text scalars =
     let only = Split-unique big (encode big text) (map good text) [] (Split-encode big text scalars) in
     (sym only.0, sym only.1)
 
