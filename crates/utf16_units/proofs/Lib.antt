@@ -5,6 +5,8 @@ pub mod FirstChar
 pub mod FaultLemmas
 pub mod Computed
 pub mod Rows
+pub mod SplitRows
+pub mod SplitLemmas
 pub mod FrontChar
 pub mod BoundaryLemmas
 pub mod BoundaryComputed

@@ -6,3 +6,4 @@ pub mod Boundary
 pub mod Edit
 pub mod Continued
 pub mod Laws
+pub mod Split
