@@ -1,2 +1,3 @@
 pub mod Step
 pub mod Edited
+pub mod Watched

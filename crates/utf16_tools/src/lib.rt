@@ -1,6 +1,8 @@
-//! Edit commands over owned UTF-16 strings.
+//! Edits of owned UTF-16 strings as values, and devices whose faults are counted.
 #![tactic(auto)]
 
 mod edit;
+mod watched;
 
 pub use edit::{Edit, Reply, apply, run};
+pub use watched::{DeviceFault, Watched};
