@@ -1,4 +1,4 @@
-//! The headline, phrase by phrase, each the contract of a function on public calls.
+//! The sentence of the README that the project is to carry, phrase by phrase, each the contract of a function on public calls.
 
 ghost use Rattle.std.specs.Prelude.{◌≡◌, IfOk, List, OnErr, ℕ};
 ghost use Rattle.utf16_tools.specs.Step.{Run};

@@ -6,4 +6,5 @@ pub mod headline;
 pub mod laws;
 pub mod ranges;
 pub mod retains;
+pub mod scripts;
 pub mod walks;

@@ -172,10 +172,11 @@ fn test_clear(rt: HostRuntime) {
     bytes_are(&rt, &text, &[]);
 }
 
-// At a boundary, a character put in and taken out again, and the text split and put together again.
-fn undone_at<E: Utf16Order>(rt: &(impl Abort + AllocGlobal), raw: &[u8], offset: usize) {
+// At a boundary, a character put in and taken out again, and the text split and put together again: whether it is one.
+fn undone_at<E: Utf16Order>(rt: &(impl Abort + AllocGlobal), raw: &[u8], offset: usize) -> bool {
     let mut text = string::<E>(rt, raw);
-    if typed(rt, &mut text, offset, '\u{1F600}') {
+    let is_boundary = typed(rt, &mut text, offset, '\u{1F600}');
+    if is_boundary {
         equal(rt, text.len(), raw.len() + 4);
         equal(rt, removed(&mut text, offset), Some('\u{1F600}'));
         bytes_are(rt, &text, raw);
@@ -184,23 +185,24 @@ fn undone_at<E: Utf16Order>(rt: &(impl Abort + AllocGlobal), raw: &[u8], offset:
         text.push_wstr(back.as_wstr()).expect(rt, "memory");
         bytes_are(rt, &text, raw);
     }
+    is_boundary
 }
 
-// The same at each boundary, and the text through UTF-8 and back.
-fn undone<E: Utf16Order>(rt: &(impl Abort + AllocGlobal), raw: &[u8]) {
+// The same at each boundary, of which there are so many, and the text through UTF-8 and back.
+fn undone<E: Utf16Order>(rt: &(impl Abort + AllocGlobal), raw: &[u8], boundaries: u64) {
+    let mut found = 0u64;
     for offset in 0..=raw.len() {
-        undone_at::<E>(rt, raw, offset);
+        found = found.wrapping_add(undone_at::<E>(rt, raw, offset) as u64);
     }
-    let utf8 = string::<E>(rt, raw)
-        .to_utf8(rt.alloc())
-        .expect(rt, "memory");
-    bytes_are(rt, &encoded::<E>(rt, &utf8), raw);
+    equal(rt, found, boundaries);
+    let utf8 = string::<E>(rt, raw).to_utf8(rt.alloc());
+    bytes_are(rt, &encoded::<E>(rt, &utf8.expect(rt, "memory")), raw);
 }
 
 #[test]
 fn insert_then_remove_split_then_push_and_utf8_back(rt: HostRuntime) {
-    undone::<LE>(&rt, &APHI);
-    undone::<BE>(&rt, &APZ_BE);
+    undone::<LE>(&rt, &APHI, 5);
+    undone::<BE>(&rt, &APZ_BE, 4);
     let raw = [0xFF, 0xD7, 0x00, 0xE0, 0xFF, 0xFF, 0xFF, 0xDB, 0xFF, 0xDF];
-    undone::<LE>(&rt, &raw);
+    undone::<LE>(&rt, &raw, 5);
 }

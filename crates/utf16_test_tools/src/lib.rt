@@ -1,7 +1,7 @@
-//! Tests of characters kept by a predicate, and of edits as values.
+//! Tests of edits as values: what they do, what they answer, and what a refused request for memory leaves.
 #![tactic(auto)]
 
 #[cfg(test)]
 mod lists;
 #[cfg(test)]
-mod retained;
+mod refused;

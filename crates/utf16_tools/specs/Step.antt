@@ -1,4 +1,4 @@
--- What an edit command does to a text, and what a list of them does.
+-- What an edit does to a text, and what a list of edits does.
 use Rattle.std.specs.Prelude.{◌≡◌, ℕ, ◌+◌, ◌<◌, Bool, List, [], ◌∷◌, ◌⊎◌, ⊤, Some, filter, nat_lt, if◌then◌else◌}
 use Rattle.std.specs.Bool.{◌==◌}
 use Rattle.std.specs.List.{list_any}
@@ -48,24 +48,24 @@ module _ {E Z : Type 0} {order : Ghosts E} where
   IsDone old Clear reply new = (reply ≡ Done) × (new ≡ [])
 
   -- the edit asks for memory, which may be refused
-  abbrev pub Grows : Edit E Z order → Type 0
-  Grows (Push c) = ⊤
-  Grows (PushText t) = ⊤
-  Grows Pop = ⊥
-  Grows (Insert i c) = ⊤
-  Grows (InsertText i t) = ⊤
-  Grows (Remove i) = ⊥
-  Grows (Retain set) = ⊥
-  Grows (Truncate n) = ⊥
-  Grows (SplitOff i) = ⊤
-  Grows (Overwrite i t) = ⊥
-  Grows Clear = ⊥
+  abbrev pub AsksForMemory : Edit E Z order → Type 0
+  AsksForMemory (Push c) = ⊤
+  AsksForMemory (PushText t) = ⊤
+  AsksForMemory Pop = ⊥
+  AsksForMemory (Insert i c) = ⊤
+  AsksForMemory (InsertText i t) = ⊤
+  AsksForMemory (Remove i) = ⊥
+  AsksForMemory (Retain set) = ⊥
+  AsksForMemory (Truncate n) = ⊥
+  AsksForMemory (SplitOff i) = ⊤
+  AsksForMemory (Overwrite i t) = ⊥
+  AsksForMemory Clear = ⊥
 
   -- one edit: it is done where its offset is possible, unless it grows and memory is refused; else the text stays
   abbrev pub Step : List ℕ → Edit E Z order → Reply E Z order → List ℕ → Type 0
   Step old edit reply new =
       (IsPossible old edit × IsDone old edit reply new)
-      ⊎ ((IsPossible old edit × Grows edit × (reply ≡ NoMemory) × (new ≡ old)) ⊎ (¬ (IsPossible old edit) × (reply ≡ BadOffset) × (new ≡ old)))
+      ⊎ ((IsPossible old edit × AsksForMemory edit × (reply ≡ NoMemory) × (new ≡ old)) ⊎ (¬ (IsPossible old edit) × (reply ≡ BadOffset) × (new ≡ old)))
 
   -- a list of edits: a reply for each, and each a step from where the one before left
   abbrev pub Run : List ℕ → List (Edit E Z order) → List (Reply E Z order) → List ℕ → Type 0

@@ -1,9 +1,9 @@
 //! Edits as values, and what they do.
 
-ghost use Rattle.std.specs.Prelude.{◌≡◌, ◌↔◌, IfOk, IfSome, IsTrue, None, OnErr, filter, if◌then◌else◌, is_ok};
+ghost use Rattle.std.specs.Prelude.{◌≡◌, ◌⊎◌, ◌≤◌, ◌↔◌, IfOk, IfSome, IsTrue, None, OnErr, filter, if◌then◌else◌, is_ok};
 ghost use Rattle.utf16_tools.specs.Step.{IsPossible, Run, Step, is_in};
 ghost use Rattle.utf16string.specs.Boundary.{IsBoundary};
-ghost use Rattle.utf16string.specs.WString.{IsUnchanged, wstring_text};
+ghost use Rattle.utf16string.specs.WString.{IsUnchanged, wstring_capacity, wstring_text};
 
 use std::alloc::{AllocError, Allocator, Global};
 use utf16string::{Utf16Order, WString};
@@ -57,7 +57,9 @@ pub fn apply<E: Utf16Order, A: Allocator + Clone>(
     string: &mut WString<E, A>,
     edit: Edit<E, A>,
 ) -> Reply<E, A>
-    ensures { Step (wstring_text string.old) edit result (wstring_text string.new) }
+    ensures step { Step (wstring_text string.old) edit result (wstring_text string.new) }
+    ensures kept { (result ≡ Reply.BadOffset) ⊎ (result ≡ Reply.NoMemory) → IsUnchanged string.old string.new }
+    ensures room { wstring_capacity string.old ≤ wstring_capacity string.new }
 {
     if !is_possible(string, &edit) {
         return Reply::BadOffset;
@@ -125,7 +127,8 @@ fn is_possible<E: Utf16Order, A: Allocator>(string: &WString<E, A>, edit: &Edit<
 
 // Keeps the characters that are in a set.
 fn keep<E: Utf16Order, A: Allocator>(string: &mut WString<E, A>, set: &[char])
-    ensures { wstring_text string.new ≡ filter (is_in set.now) (wstring_text string.old) }
+    ensures text { wstring_text string.new ≡ filter (is_in set.now) (wstring_text string.old) }
+    ensures room { wstring_capacity string.new ≡ wstring_capacity string.old }
 {
     string.retain(|c| set.contains(&c));
 }
@@ -136,7 +139,10 @@ fn split_off<E: Utf16Order, A: Allocator + Clone>(
     at: usize,
 ) -> Reply<E, A>
     requires { IsBoundary (wstring_text string.old) at }
-    ensures { Step (wstring_text string.old) (Edit.SplitOff at) result (wstring_text string.new) }
+    ensures step { Step (wstring_text string.old) (Edit.SplitOff at) result (wstring_text string.new) }
+    ensures kept { result ≡ Reply.NoMemory → IsUnchanged string.old string.new }
+    ensures room { wstring_capacity string.old ≤ wstring_capacity string.new }
+    ensures possible { ¬ (result ≡ Reply.BadOffset) }
 {
     match string.split_off(at) {
         Ok(rest) => Reply::Rest(rest),

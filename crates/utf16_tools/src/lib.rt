@@ -1,4 +1,4 @@
-//! Edits of owned UTF-16 strings as values, and devices whose faults are counted.
+//! Edits of UTF-16 strings as values, and readers and writers whose faults are counted.
 #![tactic(auto)]
 
 mod edit;

@@ -18,8 +18,8 @@ impl<E: Utf16Order, A: Allocator> WString<E, A> {
     /// the capacity stays; nothing is moved before the first character that goes.
     ///
     /// The caller proves that the predicate may be asked about each character in turn. A closure that may be called on anything
-    /// meets this with nothing written. For another one, as a counter that must not overflow, the lemma `IsAskable-by` takes a
-    /// fact that each call keeps.
+    /// meets this with nothing written. For another one, as a counter that must not overflow, the lemma `IsAskable-by` of
+    /// `proofs/Predicates.antt` takes a fact that each call keeps.
     #[inline]
     pub fn retain<F: FnMut(char) -> bool>(&mut self, f: F)
         requires { IsAskable F.FnMut f (wstring_text self.old) }
@@ -61,8 +61,8 @@ fn move_kept<E: Utf16Order, F: FnMut(char) -> bool>(bytes: &mut [u8], keep: &mut
     kept
 }
 
-// The character that begins at an index, and how many bytes it takes; none at the end. The size is what the walk went on by: so
-// the next place does not wait for the character's comparison.
+// The character that begins at an index, and how many bytes it takes; none at the end. The size is how far the walk went, so
+// that the next read does not wait for a comparison of the character.
 #[inline]
 fn char_from<E: Utf16Order>(bytes: &[u8], at: usize) -> Option<(char, usize)>
     requires within { at ≤ length bytes.now }

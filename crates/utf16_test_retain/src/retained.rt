@@ -1,8 +1,9 @@
-//! Characters kept by a predicate, by closures that count their calls.
+//! Characters kept by a predicate: which, in what order they are asked about, and how often.
 
 use std::process::Abort;
 use std::test::Fail;
 use utf16_callers::retains::{asked, first_chars, without};
+use utf16_testing::refusing::Refusing;
 use utf16string::{BE, LE, Utf16Order, WString};
 
 // A string of these characters.
@@ -67,7 +68,7 @@ fn some_of_five_characters_stay(rt: HostRuntime) -> Result<(), Fail> {
     )
 }
 
-// What is kept of each character's place is what the characters say that are asked about, in order.
+// The predicate is asked about each character once, from the front.
 fn order_of_calls<E: Utf16Order>(rt: &(impl Abort + AllocGlobal)) -> Result<(), Fail> {
     let mut text = string::<E>(rt, "x\u{1F600}\u{4E00}z")?;
     let mut seen = ['\0'; 4];
@@ -133,4 +134,15 @@ fn a_predicate_is_looked_at_afterwards(rt: HostRuntime) -> Result<(), Fail> {
     text.retain_by(&mut letters);
     assert_eq!(rt; digits, 3);
     holds(&rt, &text, "ab", 4)
+}
+
+// `retain` makes no request.
+#[test]
+fn retain_asks_for_nothing(rt: HostRuntime) {
+    let heap = Refusing::new(rt.alloc());
+    let mut text = WString::<LE, _>::from_str(&heap, "ab").expect(&rt, "memory");
+    heap.refuse_from(0);
+    text.retain(|c| c != 'a');
+    assert_eq!(rt; text.as_bytes(), [0x62, 0].as_slice());
+    assert_eq!(rt; heap.requests(), 0);
 }

@@ -1,0 +1,5 @@
+//! Tests of characters kept by a predicate.
+#![tactic(auto)]
+
+#[cfg(test)]
+mod retained;
