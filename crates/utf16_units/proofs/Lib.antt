@@ -7,6 +7,7 @@ pub mod Computed
 pub mod Rows
 pub mod SplitRows
 pub mod SplitLemmas
+pub mod SplitUnique
 pub mod FrontChar
 pub mod BoundaryLemmas
 pub mod BoundaryComputed
