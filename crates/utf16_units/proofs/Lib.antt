@@ -8,6 +8,7 @@ pub mod Rows
 pub mod SplitRows
 pub mod SplitLemmas
 pub mod SplitUnique
+pub mod SplitJoin
 pub mod FrontChar
 pub mod BoundaryLemmas
 pub mod BoundaryComputed

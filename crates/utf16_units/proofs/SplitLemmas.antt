@@ -17,12 +17,12 @@ use Rattle.utf16_units.proofs.Computed.{IsCutOff-from_is_cut_off, is_cut_off-fro
 -- ---- the class of a unit
 
 -- a unit is leading, trailing or neither
-data Class (unit : ℕ) : Type 0 where
+pub data Class (unit : ℕ) : Type 0 where
   leading : IsLeading unit → Class unit
   trailing : IsTrailing unit → Class unit
   neither : ¬ (IsLeading unit) → ¬ (IsTrailing unit) → Class unit
 
-class_of : (unit : ℕ) → Class unit
+pub class_of : (unit : ℕ) → Class unit
 class_of unit = ⊎_elim
     (λ (low : unit < 0xD800). neither (λ l. omega arith) (λ t. omega arith))
     (λ (high : 0xD800 ≤ unit). ⊎_elim
@@ -137,7 +137,7 @@ module _ (big : Bool) (first second : ℕ) (bytes : List ℕ) where
       (λ (no : is_cut_off big (first ∷ second ∷ bytes) ≡ false). no)
       (cases_Bool (is_cut_off big (first ∷ second ∷ bytes)))
 
-  not_cut_long : is_cut_off big (first ∷ second ∷ bytes) ≡ false → IsLeading (unit_of big first second) → 2 ≤ length bytes
+  pub not_cut_long : is_cut_off big (first ∷ second ∷ bytes) ≡ false → IsLeading (unit_of big first second) → 2 ≤ length bytes
   not_cut_long e l = ⊎_elim
       (λ (short : length bytes < 2). absurd (true≢false (sym (is_cut_off-from_IsCutOff big (first ∷ second ∷ bytes) (l, omega arith)) ∙ e)))
       (λ (two : 2 ≤ length bytes). two)
