@@ -9,6 +9,7 @@ pub mod SplitRows
 pub mod SplitLemmas
 pub mod SplitUnique
 pub mod SplitJoin
+pub mod SplitFault
 pub mod FrontChar
 pub mod BoundaryLemmas
 pub mod BoundaryComputed
