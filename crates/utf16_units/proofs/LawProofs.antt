@@ -1,6 +1,6 @@
 -- The proofs of the laws, each under its law's name.
-use Rattle.std.proofs.Common.{◌≡◌, ◌≢◌, ℕ, ◌+◌, ◌-◌, ◌%◌, ◌<◌, Bool, true, false, not, List, [], ◌∷◌, ◌++◌, length, drop, slice_get, All, refl, sym, ap, ap₂, ◌∙◌, subst, arith, append_assoc, length-append, length-drop, take-append-drop, drop_at, flat_map}
-use Rattle.std.proofs.lemmas.List.Elements.{All-head}
+use Rattle.std.proofs.Common.{◌≡◌, ◌≢◌, ℕ, zero, suc, ◌+◌, ◌-◌, ◌%◌, ◌<◌, Bool, true, false, not, List, [], ◌∷◌, ◌++◌, length, drop, slice_get, All, refl, sym, ap, ap₂, ◌∙◌, subst, arith, append_assoc, length-append, length-drop, take-append-drop, drop_at, flat_map}
+use Rattle.std.proofs.lemmas.List.Elements.{All-head, All-tail}
 use Rattle.std.proofs.lemmas.Str.{chars-encodes}
 use Rattle.std.specs.Char.{IsScalar}
 use Rattle.std.specs.Char.Escape.{encode_utf16}
@@ -8,12 +8,15 @@ use Rattle.utf16_units.specs.Unit.{IsTrailing, unit_bytes}
 use Rattle.utf16_units.specs.Encoding.{char_bytes, encode, size, text_of}
 use Rattle.utf16_units.specs.Boundary.{IsBoundary, text_between, text_from, text_to}
 use Rattle.utf16_units.specs.Edit.{insert_at}
-use Rattle.utf16_units.specs.Laws.{FoundAligned, InsertThenRemove, JoinedText, NoneContinues, SplitThenPush, StandsAt, SwappedOrders, TwoNeverContinues, UniqueText, Utf8Back, swap_bytes}
+use Rattle.utf16_units.specs.Laws.{FoundAligned, InsertThenRemove, JoinedText, NoneContinues, SplitExists, SplitExtends, SplitThenPush, SplitUnique, StandsAt, SwappedOrders, TwoNeverContinues, UniqueText, Utf8Back, swap_bytes}
 use Rattle.utf16_units.proofs.BoundaryLemmas.{IsBoundary-at_unit, char_size-pos, size-text_to, text_from-at, text_to-at, text_to-text_from}
 use Rattle.utf16_units.proofs.ContinuedLemmas.{none_where, two_never}
-use Rattle.utf16_units.proofs.FirstChar.{first_unit}
+use Rattle.utf16_units.proofs.FirstChar.{AreBytes, first_unit}
 use Rattle.utf16_units.proofs.FrontChar.{first_unit-char}
 use Rattle.utf16_units.proofs.EncodingLemmas.{All-after, all_scalars-from_All, encode-append, encode-cons, encode-nil, length-encode, size-append, size-cons, text_of-encode, text_of-encode_then}
+use Rattle.utf16_units.proofs.SplitLemmas.{Split-computed}
+use Rattle.utf16_units.proofs.SplitUnique.{Split-unique}
+use Rattle.utf16_units.proofs.SplitJoin.{split_items-append, split_tail-append}
 
 pub unique_text : UniqueText
 unique_text big text other scalars others same = sym (text_of-encode big text scalars) ∙ ap (text_of big) same ∙ text_of-encode big other others
@@ -29,6 +32,23 @@ two_never_continues big bytes fault = two_never big bytes fault
 
 pub none_continues : NoneContinues
 none_continues big bytes n are fault front = none_where big bytes n are fault front
+
+AreBytes-from_All : (bytes : List ℕ) → All (λ b. b < 256) bytes → AreBytes bytes
+AreBytes-from_All [] are k = omega arith
+AreBytes-from_All (b ∷ bytes) are zero = All-head (λ b. b < 256) b bytes are
+AreBytes-from_All (b ∷ bytes) are (suc k) = AreBytes-from_All bytes (All-tail (λ b. b < 256) b bytes are) k
+
+pub split_exists : SplitExists
+split_exists big bytes are = Split-computed big bytes (AreBytes-from_All bytes are)
+
+pub split_unique : SplitUnique
+split_unique big bytes items others tail other s o =
+    let one = Split-unique big bytes items tail s in
+    let two = Split-unique big bytes others other o in
+    (one.0 ∙ sym two.0, one.1 ∙ sym two.1)
+
+pub split_extends : SplitExtends
+split_extends big front back = (split_items-append big front back, split_tail-append big front back)
 
 pub split_then_push : SplitThenPush
 split_then_push text i b = (size-text_to text i b, text_to-text_from text i)

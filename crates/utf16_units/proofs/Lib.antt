@@ -7,6 +7,9 @@ pub mod Computed
 pub mod Rows
 pub mod SplitRows
 pub mod SplitLemmas
+pub mod SplitUnique
+pub mod SplitJoin
+pub mod SplitFault
 pub mod FrontChar
 pub mod BoundaryLemmas
 pub mod BoundaryComputed

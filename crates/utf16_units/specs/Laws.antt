@@ -6,6 +6,7 @@ use Rattle.utf16_units.specs.Continued.{IsBeginning, IsDeadEnd}
 use Rattle.utf16_units.specs.Edit.{char_at, insert_at, push_text, remove_at, split_back, split_front}
 use Rattle.utf16_units.specs.Encoding.{encode, size}
 use Rattle.utf16_units.specs.Fault.{IsFault, IsFront}
+use Rattle.utf16_units.specs.Split.{Item, Split, split_items, split_tail}
 
 -- two texts with equal encodings in one order are equal
 abbrev pub UniqueText : Type 0
@@ -59,3 +60,18 @@ TwoNeverContinues = (big : Bool) (bytes : List ℕ) → IsFault big bytes (Some 
 abbrev pub NoneContinues : Type 0
 NoneContinues = (big : Bool) (bytes : List ℕ) (n : ℕ) → All (λ b. b < 256) bytes → IsFault big bytes None → IsFront big bytes n
     → (IsBeginning big bytes ↔ ¬ (IsDeadEnd big (drop n bytes)))
+
+-- any bytes have a split, the computed one
+abbrev pub SplitExists : Type 0
+SplitExists = (big : Bool) (bytes : List ℕ) → All (λ b. b < 256) bytes → Split big bytes (split_items big bytes) (split_tail big bytes)
+
+-- bytes have no two splits
+abbrev pub SplitUnique : Type 0
+SplitUnique = (big : Bool) (bytes : List ℕ) (items others : List Item) (tail other : List ℕ)
+    → Split big bytes items tail → Split big bytes others other → (items ≡ others) × (tail ≡ other)
+
+-- with more bytes behind, the items stay, and what the tail and these bytes split into follows them
+abbrev pub SplitExtends : Type 0
+SplitExtends = (big : Bool) (front back : List ℕ)
+    → (split_items big (front ++ back) ≡ split_items big front ++ split_items big (split_tail big front ++ back))
+    × (split_tail big (front ++ back) ≡ split_tail big (split_tail big front ++ back))

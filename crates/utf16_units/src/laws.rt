@@ -4,7 +4,7 @@
 //! `Rattle.utf16_units.proofs.LawProofs`. The statements are in `specs/Laws.antt`: they speak of the definitions alone, for
 //! all texts, all bytes and both byte orders.
 
-ghost use Rattle.utf16_units.specs.Laws.{FoundAligned, InsertThenRemove, JoinedText, NoneContinues, SplitThenPush, SwappedOrders, TwoNeverContinues, UniqueText, Utf8Back};
+ghost use Rattle.utf16_units.specs.Laws.{FoundAligned, InsertThenRemove, JoinedText, NoneContinues, SplitExists, SplitExtends, SplitThenPush, SplitUnique, SwappedOrders, TwoNeverContinues, UniqueText, Utf8Back};
 
 /// Two texts with equal encodings in one order are equal.
 pub fn unique_text()
@@ -51,4 +51,21 @@ pub fn two_never_continues()
 /// is left is neither one byte 0xDC to 0xDF nor a leading surrogate and one byte outside 0xDC to 0xDF.
 pub fn none_continues()
     ensures { NoneContinues }
+{}
+
+/// Any bytes split into characters, surrogates without a partner and a tail that more bytes could change; the computed
+/// split is one.
+pub fn split_exists()
+    ensures { SplitExists }
+{}
+
+/// Bytes split in one way only.
+pub fn split_unique()
+    ensures { SplitUnique }
+{}
+
+/// With more bytes behind, the items of the split stay, and the tail put before these bytes gives the rest: a stream can
+/// be split piece by piece, with no more kept of a piece than its tail.
+pub fn split_extends()
+    ensures { SplitExtends }
 {}
