@@ -2,7 +2,10 @@
 #![tactic(auto)]
 
 mod edit;
+mod held;
+mod lossy;
 mod watched;
 
 pub use edit::{Edit, Reply, apply, run};
+pub use lossy::{Lossy, decode_pieces};
 pub use watched::{DeviceFault, Watched};

@@ -95,7 +95,7 @@ begins_lone big [] are some none whole = absurd (omega arith)
 begins_lone big (last ∷ []) are some none whole = absurd (whole tt)
 begins_lone big (first ∷ second ∷ bytes) are some none whole = unit_lone big first second bytes are none whole
 
-AreBytes-drop : (n : ℕ) (bytes : List ℕ) → AreBytes bytes → AreBytes (drop n bytes)
+pub AreBytes-drop : (n : ℕ) (bytes : List ℕ) → AreBytes bytes → AreBytes (drop n bytes)
 AreBytes-drop n bytes are k = subst (λ b. b < 256) (sym (get_or-drop n bytes k 0)) (are (n + k))
 
 module _ (big : Bool) (bytes : List ℕ) (n : ℕ) (error_len : Option ℕ) (fault : IsFault big bytes error_len) (front : IsFront big bytes n) where

@@ -75,7 +75,7 @@ put_unit-append unit items more begins = by_class (class_of unit) where
 -- ---- one piece and then the next
 
 -- a unit put before items leaves some
-some_put_unit : (unit : ℕ) (items : List Item) → ¬ (put_unit unit items ≡ [])
+pub some_put_unit : (unit : ℕ) (items : List Item) → ¬ (put_unit unit items ≡ [])
 unfolding put_leading
 some_put_unit unit items none = by_class (class_of unit) where
   some : (items : List Item) → ¬ (put_leading unit items ≡ [])

@@ -1,0 +1,249 @@
+-- Steps of decoding, one after another, and the step that an error's fields tell.
+use Rattle.std.proofs.Common.{◌≡◌, ℕ, ◌+◌, ◌-◌, ◌≤◌, Bool, true, false, List, [], ◌∷◌, ◌++◌, Option, None, Some, length, map, take, drop, encode_utf8_all, refl, sym, ap, ap₂, ◌∙◌, subst, ⊎_elim, arith, append_assoc, append-nil, take-append-drop, length-append}
+use Rattle.std.proofs.lemmas.Bool.{cases_Bool}
+use Rattle.std.proofs.lemmas.List.{drop-append-le, length-take-le, map-append}
+use Rattle.std.proofs.Math.Seq.{drop-append-add, drop-append_seam}
+use Rattle.std.proofs.lemmas.List.Concat.{flat_map-append}
+use Rattle.std.specs.Char.{encode_utf8}
+use Rattle.std.specs.Char.Utf16.{is_high_surrogate}
+use Rattle.utf16_units.specs.Encoding.{Encodes, text_of}
+use Rattle.utf16_units.specs.Unit.{unit_of}
+use Rattle.utf16_units.specs.Fault.{IsFault, IsFront, is_cut_off}
+use Rattle.utf16_units.specs.Split.{Item, good, lone_lead, lone_trail, mark, marked, split_items, split_tail}
+use Rattle.utf16_units.proofs.FirstChar.{AreBytes, first_unit}
+use Rattle.utf16_units.proofs.EncodingLemmas.{Encodes-text_of}
+use Rattle.utf16_units.proofs.Computed.{IsCutOff-from_is_cut_off}
+use Rattle.utf16_units.proofs.SplitLemmas.{cut_items, cut_tail, whole_items, whole_tail}
+use Rattle.utf16_units.proofs.SplitJoin.{some_put_unit, split_items-append, split_items-text, split_tail-append, split_tail-text}
+use Rattle.utf16_units.proofs.SplitFault.{lone_item, split_items-cut_off, split_items-fault, split_tail-fault}
+use Rattle.utf16_tools.specs.Decodes.{Decodes}
+
+-- the UTF-8 of what items are shown by
+abbrev pub shown : List Item → List ℕ
+shown items = encode_utf8_all (marked items)
+
+pub shown-append : (items more : List Item) → shown (items ++ more) ≡ shown items ++ shown more
+shown-append items more = ap encode_utf8_all (map-append mark items more) ∙ flat_map-append encode_utf8 (marked items) (marked more)
+
+-- characters are shown by themselves
+pub marked-good : (text : List ℕ) → marked (map good text) ≡ text
+marked-good [] = refl
+marked-good (c ∷ text) = ap (λ t. c ∷ t) (marked-good text)
+
+mark-lone_item : (unit : ℕ) → mark (lone_item unit) ≡ 0xFFFD
+mark-lone_item unit = ⊎_elim (λ (e : is_high_surrogate unit ≡ true). rw e refl) (λ (e : is_high_surrogate unit ≡ false). rw e refl) (cases_Bool (is_high_surrogate unit))
+
+shown-lone : (unit : ℕ) → encode_utf8 0xFFFD ≡ shown (lone_item unit ∷ [])
+unfolding encode_utf8
+shown-lone unit = ap (λ c. encode_utf8_all (c ∷ [])) (sym (mark-lone_item unit))
+
+-- the items of a text, and what it leaves
+pub split_text : (big : Bool) (text bytes : List ℕ) → Encodes big text bytes → (split_items big bytes ≡ map good text) × (split_tail big bytes ≡ [])
+unfolding split_items split_tail
+split_text big text bytes e = (
+  ap (split_items big) (sym (append-nil bytes)) ∙ split_items-text big text bytes [] e ∙ append-nil (map good text),
+  ap (split_tail big) (sym (append-nil bytes)) ∙ split_tail-text big text bytes [] e,
+)
+
+-- nothing is decided
+pub Decodes-none : (big : Bool) (bytes old : List ℕ) → Decodes big bytes bytes old old
+Decodes-none big bytes old = record { taken = []; items = refl; tail = refl; text = sym (append-nil old) }
+
+-- one step and then another
+pub Decodes-then : (big : Bool) (bytes rest last old mid new : List ℕ) → Decodes big bytes rest old mid → Decodes big rest last mid new
+    → Decodes big bytes last old new
+Decodes-then big bytes rest last old mid new first second = record {
+  taken = first.taken ++ second.taken;
+  items = first.items ∙ ap (λ i. first.taken ++ i) second.items ∙ sym (append_assoc first.taken second.taken (split_items big last));
+  tail = first.tail ∙ second.tail;
+  text =
+      second.text ∙ ap (λ t. t ++ shown second.taken) first.text ∙ append_assoc old (shown first.taken) (shown second.taken)
+      ∙ ap (λ t. old ++ t) (sym (shown-append first.taken second.taken));
+}
+
+-- all that a piece decides, with more bytes behind it
+pub Decodes-piece : (big : Bool) (piece behind old new : List ℕ) → new ≡ old ++ shown (split_items big piece)
+    → Decodes big (piece ++ behind) (split_tail big piece ++ behind) old new
+Decodes-piece big piece behind old new text = record {
+  taken = split_items big piece;
+  items = split_items-append big piece behind;
+  tail = split_tail-append big piece behind;
+  text = text;
+}
+
+-- steps, and then all that the rest decides
+pub Decodes-last : (big : Bool) (bytes rest old mid new : List ℕ) → Decodes big bytes rest old mid → new ≡ mid ++ shown (split_items big rest)
+    → new ≡ old ++ shown (split_items big bytes)
+Decodes-last big bytes rest old mid new steps last =
+    last ∙ ap (λ t. t ++ shown (split_items big rest)) steps.text ∙ append_assoc old (shown steps.taken) (shown (split_items big rest))
+    ∙ ap (λ t. old ++ t) (sym (shown-append steps.taken (split_items big rest)) ∙ ap shown (sym steps.items))
+
+-- steps that leave bytes of which nothing is decided
+pub Decodes-end : (big : Bool) (bytes rest old new : List ℕ) → Decodes big bytes rest old new → split_items big rest ≡ []
+    → new ≡ old ++ shown (split_items big bytes)
+Decodes-end big bytes rest old new steps none =
+    steps.text ∙ ap (λ i. old ++ shown i) (sym (append-nil steps.taken) ∙ ap (λ i. steps.taken ++ i) (sym none) ∙ sym steps.items)
+
+-- bytes of which nothing is decided have no step that decides something
+pub Decodes-empty : (big : Bool) (bytes rest old new : List ℕ) → Decodes big bytes rest old new → split_items big bytes ≡ [] → split_items big rest ≡ []
+Decodes-empty big bytes rest old new steps none = behind steps.taken (sym steps.items ∙ none) where
+  behind : (taken : List Item) → taken ++ split_items big rest ≡ [] → split_items big rest ≡ []
+  behind [] e = e
+  behind (item ∷ taken) e = absurd (cc)
+
+-- a fault that has a length is of two bytes
+pub two : {big : Bool} {bytes : List ℕ} {n : ℕ} → IsFault big bytes (Some n) → IsFault big bytes (Some 2)
+two {big} {bytes} fault = subst (λ k. IsFault big bytes (Some k)) fault.at_front.0 fault
+
+-- the longest valid beginning and U+FFFD for the surrogate behind it
+pub Decodes-fault : (big : Bool) (bytes : List ℕ) (n : ℕ) (old mid new : List ℕ) → AreBytes bytes → IsFault big bytes (Some 2) → IsFront big bytes n
+    → mid ≡ old ++ encode_utf8_all (text_of big (take n bytes)) → new ≡ mid ++ encode_utf8 0xFFFD → Decodes big bytes (drop (n + 2) bytes) old new
+Decodes-fault big bytes n old mid new are fault front valid marked_behind =
+    let unit = first_unit big (drop n bytes) in
+    let text = text_of big (take n bytes) in
+    record {
+      taken = map good text ++ lone_item unit ∷ [];
+      items =
+          split_items-fault big bytes n are fault front
+          ∙ sym (append_assoc (map good text) (lone_item unit ∷ []) (split_items big (drop (n + 2) bytes)));
+      tail = split_tail-fault big bytes n are fault front;
+      text =
+          marked_behind ∙ ap (λ t. t ++ encode_utf8 0xFFFD) valid ∙ append_assoc old (encode_utf8_all text) (encode_utf8 0xFFFD)
+          ∙ ap (λ t. old ++ t) (
+          ap₂ (λ t u. encode_utf8_all t ++ u) (sym (marked-good text)) (shown-lone unit) ∙ sym (shown-append (map good text) (lone_item unit ∷ []))
+          );
+    }
+
+-- a text is all that its bytes decide
+pub text_shown : (big : Bool) (text bytes old new : List ℕ) → Encodes big text bytes → new ≡ old ++ encode_utf8_all text → new ≡ old ++ shown (split_items big bytes)
+text_shown big text bytes old new e behind =
+    behind ∙ ap (λ t. old ++ encode_utf8_all t) (sym (marked-good text)) ∙ ap (λ i. old ++ shown i) (sym (split_text big text bytes e).0)
+
+-- where a character is cut off, the longest valid beginning is all that is decided
+pub cut_off_shown : (big : Bool) (bytes : List ℕ) (n : ℕ) (old new : List ℕ) → IsFault big bytes None → IsFront big bytes n
+    → new ≡ old ++ encode_utf8_all (text_of big (take n bytes)) → new ≡ old ++ shown (split_items big bytes)
+cut_off_shown big bytes n old new fault front behind =
+    behind ∙ ap (λ t. old ++ encode_utf8_all t) (sym (marked-good (text_of big (take n bytes))))
+    ∙ ap (λ i. old ++ shown i) (sym (split_items-cut_off big bytes n fault front))
+
+-- ---- nothing decided
+
+no_good : (text : List ℕ) → map good text ≡ [] → text ≡ []
+no_good [] e = refl
+no_good (c ∷ text) e = absurd (cc)
+
+front_none : (items more : List Item) → items ++ more ≡ [] → items ≡ []
+front_none [] more e = refl
+front_none (item ∷ items) more e = absurd (cc)
+
+-- bytes that have no item are no text but the empty one
+pub no_text : (big : Bool) (text bytes : List ℕ) → Encodes big text bytes → split_items big bytes ≡ [] → text ≡ []
+no_text big text bytes e none = no_good text (sym (split_text big text bytes e).0 ∙ none)
+
+-- and have none at the front
+pub no_front : (big : Bool) (bytes : List ℕ) (n : ℕ) → IsFront big bytes n → split_items big bytes ≡ [] → text_of big (take n bytes) ≡ []
+no_front big bytes n front none = no_good (text_of big (take n bytes)) (front_none _ (split_items big (drop n bytes)) (sym items ∙ none)) where
+  items : split_items big bytes ≡ map good (text_of big (take n bytes)) ++ split_items big (drop n bytes)
+  items =
+      ap (split_items big) (sym (take-append-drop n bytes))
+      ∙ split_items-text big (text_of big (take n bytes)) (take n bytes) (drop n bytes) (Encodes-text_of big (take n bytes) front.valid)
+
+-- and no surrogate without its partner
+pub no_fault : (big : Bool) (bytes : List ℕ) (n : ℕ) → AreBytes bytes → IsFault big bytes (Some 2) → IsFront big bytes n → ¬ (split_items big bytes ≡ [])
+no_fault big bytes n are fault front none = some (map good (text_of big (take n bytes))) _ _ (sym (split_items-fault big bytes n are fault front) ∙ none) where
+  some : (items : List Item) (item : Item) (more : List Item) → ¬ (items ++ item ∷ more ≡ [])
+  some [] item more e = absurd (cc)
+  some (first ∷ items) item more e = absurd (cc)
+
+-- ---- where pending bytes and a piece meet
+
+-- bytes that are not decided are cut off: before more bytes they are what they were
+pub split_tail-again : (big : Bool) (bytes : List ℕ) → split_tail big (split_tail big bytes) ≡ split_tail big bytes
+split_tail-again big bytes =
+    ap (split_tail big) (sym (append-nil (split_tail big bytes))) ∙ sym (split_tail-append big bytes []) ∙ ap (split_tail big) (append-nil bytes)
+
+-- the tail stands at the end
+pub before_tail : (big : Bool) (bytes : List ℕ) → (front : List ℕ) × (front ++ split_tail big bytes ≡ bytes)
+unfolding split_tail
+before_tail big [] = ([], refl)
+before_tail big (last ∷ []) = ([], refl)
+before_tail big (first ∷ second ∷ bytes) = ⊎_elim
+    (λ (cut : is_cut_off big (first ∷ second ∷ bytes) ≡ true). ([], cut_tail big first second bytes cut))
+    (λ (whole : is_cut_off big (first ∷ second ∷ bytes) ≡ false).
+    let behind = before_tail big bytes in
+    (first ∷ second ∷ behind.0, ap (λ t. first ∷ second ∷ (behind.0 ++ t)) (whole_tail big first second bytes whole) ∙ ap (λ t. first ∷ second ∷ t) behind.1))
+    (cases_Bool (is_cut_off big (first ∷ second ∷ bytes)))
+
+-- a tail that is no longer than what stands behind some bytes is the end of that
+tail_within : (big : Bool) (bytes more : List ℕ) → length (split_tail big (bytes ++ more)) ≤ length more
+    → split_tail big (bytes ++ more) ≡ drop (length more - length (split_tail big (bytes ++ more))) more
+tail_within big bytes more short =
+    let tail = split_tail big (bytes ++ more) in
+    let before = before_tail big (bytes ++ more) in
+    let both = sym (length-append before.0 tail) ∙ ap length before.1 ∙ length-append bytes more in
+    let at : length before.0 ≡ length bytes + (length more - length tail) = omega arith in
+    sym (drop-append_seam before.0 tail) ∙ ap₂ drop at before.1 ∙ drop-append-add bytes more (length more - length tail)
+
+-- the tail is no longer than the bytes
+pub length-split_tail-le : (big : Bool) (bytes : List ℕ) → length (split_tail big bytes) ≤ length bytes
+length-split_tail-le big bytes =
+    let before = before_tail big bytes in
+    let both = sym (length-append before.0 (split_tail big bytes)) ∙ ap length before.1 in
+    omega arith
+
+-- bytes that are all tail have no item
+pub undecided_items : (big : Bool) (bytes : List ℕ) → split_tail big bytes ≡ bytes → split_items big bytes ≡ []
+unfolding split_items
+undecided_items big [] same = refl
+undecided_items big (last ∷ []) same = refl
+undecided_items big (first ∷ second ∷ bytes) same = ⊎_elim
+    (λ (cut : is_cut_off big (first ∷ second ∷ bytes) ≡ true). cut_items big first second bytes cut)
+    (λ (whole : is_cut_off big (first ∷ second ∷ bytes) ≡ false).
+    let long = ap length (sym (whole_tail big first second bytes whole) ∙ same) in
+    let short = length-split_tail-le big bytes in
+    absurd (omega arith))
+    (cases_Bool (is_cut_off big (first ∷ second ∷ bytes)))
+
+-- the seam: pending bytes and then the first n of a piece
+module _ (big : Bool) (pending piece seam tail : List ℕ) (n : ℕ) (within : n ≤ length piece) (is_seam : seam ≡ pending ++ take n piece)
+    (is_tail : tail ≡ split_tail big seam) where
+  abbrev rest : List ℕ
+  rest = drop n piece
+
+  whole : seam ++ rest ≡ pending ++ piece
+  whole =
+      ap (λ t. t ++ rest) is_seam ∙ append_assoc pending (take n piece) rest ∙ ap (λ t. pending ++ t) (take-append-drop n piece)
+
+  -- all that the seam decides
+  pub Decodes-seam : (old new : List ℕ) → new ≡ old ++ shown (split_items big seam) → Decodes big (pending ++ piece) (tail ++ rest) old new
+  Decodes-seam old new text =
+      subst (λ b. Decodes big b (tail ++ rest) old new) whole
+      (subst (λ t. Decodes big (seam ++ rest) (t ++ rest) old new) (sym is_tail) (Decodes-piece big seam rest old new text))
+
+  -- a tail that lies in the piece is the piece from where it begins
+  pub tail_in_piece : length tail ≤ n → tail ++ rest ≡ drop (n - length tail) piece
+  tail_in_piece short =
+      let long = length-take-le n piece within in
+      let tail_is : tail ≡ split_tail big (pending ++ take n piece) = is_tail ∙ ap (split_tail big) is_seam in
+      let lengths = ap length tail_is in
+      let from = tail_within big pending (take n piece) (omega (arith, short, long, lengths)) in
+      ap (λ t. t ++ rest) (tail_is ∙ from ∙ ap₂ (λ k m. drop (k - m) (take n piece)) long (sym lengths))
+      ∙ sym (drop-append-le (n - length tail) (take n piece) rest (omega (arith, long)))
+      ∙ ap (drop (n - length tail)) (take-append-drop n piece)
+
+  -- where pending bytes and the piece decide nothing, nor does the seam
+  pub no_seam : split_items big (pending ++ piece) ≡ [] → split_items big seam ≡ []
+  no_seam none =
+      front_none (split_items big seam) (split_items big (split_tail big seam ++ rest)) (sym (split_items-append big seam rest) ∙ ap (split_items big) whole ∙ none)
+
+-- four bytes or more decide something
+pub four_decide : (big : Bool) (bytes : List ℕ) → 4 ≤ length bytes → ¬ (split_items big bytes ≡ [])
+four_decide big [] long none = absurd (omega arith)
+four_decide big (first ∷ []) long none = absurd (omega arith)
+four_decide big (first ∷ second ∷ bytes) long none = ⊎_elim
+    (λ (cut : is_cut_off big (first ∷ second ∷ bytes) ≡ true).
+    let short = IsCutOff-from_is_cut_off big (first ∷ second ∷ bytes) cut in
+    absurd (omega (arith, short.1)))
+    (λ (whole : is_cut_off big (first ∷ second ∷ bytes) ≡ false).
+    absurd (some_put_unit (unit_of big first second) (split_items big bytes) (sym (whole_items big first second bytes whole) ∙ none)))
+    (cases_Bool (is_cut_off big (first ∷ second ∷ bytes)))
