@@ -3,3 +3,4 @@ pub mod Runs
 pub mod EditedLemmas
 pub mod Rows
 pub mod DecodesLemmas
+pub mod StreamLemmas

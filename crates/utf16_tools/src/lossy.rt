@@ -105,9 +105,10 @@ pub fn decode_pieces<E: Utf16Order, A: Allocator, B: Allocator>(
     for piece in pieces {
         decoder.feed_into(piece, &mut text)?;
     }
-    if let Some(mark) = decoder.finish() {
-        text.push(mark)?;
-    }
+    let Some(mark) = decoder.finish() else {
+        return Ok(text);
+    };
+    text.push(mark)?;
     Ok(text)
 }
 
