@@ -1,5 +1,5 @@
 -- Steps of decoding, one after another, and the step that an error's fields tell.
-use Rattle.std.proofs.Common.{◌≡◌, ℕ, ◌+◌, ◌-◌, ◌≤◌, Bool, true, false, List, [], ◌∷◌, ◌++◌, Option, None, Some, length, map, take, drop, encode_utf8_all, refl, sym, ap, ap₂, ◌∙◌, subst, ⊎_elim, arith, append_assoc, append-nil, take-append-drop, length-append}
+use Rattle.std.proofs.Common.{◌≡◌, ℕ, ◌+◌, ◌-◌, ◌≤◌, Bool, true, false, List, [], ◌∷◌, ◌++◌, None, Some, length, map, take, drop, encode_utf8_all, refl, sym, ap, ap₂, ◌∙◌, subst, ⊎_elim, arith, append_assoc, append-nil, take-append-drop, length-append}
 use Rattle.std.proofs.lemmas.Bool.{cases_Bool}
 use Rattle.std.proofs.lemmas.List.{drop-append-le, length-take-le, map-append}
 use Rattle.std.proofs.Math.Seq.{drop-append-add, drop-append_seam}
@@ -9,7 +9,7 @@ use Rattle.std.specs.Char.Utf16.{is_high_surrogate}
 use Rattle.utf16_units.specs.Encoding.{Encodes, text_of}
 use Rattle.utf16_units.specs.Unit.{unit_of}
 use Rattle.utf16_units.specs.Fault.{IsFault, IsFront, is_cut_off}
-use Rattle.utf16_units.specs.Split.{Item, good, lone_lead, lone_trail, mark, marked, split_items, split_tail}
+use Rattle.utf16_units.specs.Split.{Item, good, mark, marked, split_items, split_tail}
 use Rattle.utf16_units.proofs.FirstChar.{AreBytes, first_unit}
 use Rattle.utf16_units.proofs.EncodingLemmas.{Encodes-text_of}
 use Rattle.utf16_units.proofs.Computed.{IsCutOff-from_is_cut_off}

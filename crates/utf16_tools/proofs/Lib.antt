@@ -4,3 +4,4 @@ pub mod EditedLemmas
 pub mod Rows
 pub mod DecodesLemmas
 pub mod StreamLemmas
+pub mod FilterLemmas

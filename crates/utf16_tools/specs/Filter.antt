@@ -1,9 +1,11 @@
 -- What `filter` did to the bytes that its reader has left and to those that its writer holds, where these are known.
-use Rattle.std.specs.Prelude.{◌≡◌, ℕ, ◌+◌, ◌-◌, ◌<◌, ◌≤◌, ◌^◌, Bool, List, ◌++◌, Option, Result, Ok, Err, encode_utf8_all, length, take}
+use Rattle.std.specs.Prelude.{ℕ, ◌+◌, ◌-◌, ◌<◌, ◌≤◌, ◌^◌, Bool, List, [], ◌∷◌, Option, Result, Ok, Err, encode_utf8_all, length, take}
+use Rattle.std.specs.Char.{encode_utf8}
+use Rattle.std.specs.Io.{StartsWith}
 use Rattle.std.specs.Io.KnownBytes.{Appends, Consumes, IsAtEnd}
 use Rattle.utf16_units.specs.Split.{full, marked, split_items, split_tail}
-use Rattle.utf16_tools.specs.declared.filter.FilterFault.{FilterFault}
-use Rattle.utf16_tools.specs.declared.filter.FilterFault.TheVariants.{Long, Memory, Read, Write}
+use Rattle.utf16_tools.specs.declared.filters.FilterFault.{FilterFault}
+use Rattle.utf16_tools.specs.declared.filters.FilterFault.TheVariants.{Long, Memory, Read, Write}
 
 -- the UTF-8 of what the bytes decide: of the marked text of the items of their split
 abbrev pub decided_utf8 : Bool → List ℕ → List ℕ
@@ -13,25 +15,58 @@ decided_utf8 big bytes = encode_utf8_all (marked (split_items big bytes))
 abbrev pub whole_utf8 : Bool → List ℕ → List ℕ
 whole_utf8 big bytes = encode_utf8_all (full (split_items big bytes) (split_tail big bytes))
 
--- n is the length of a beginning of the bytes that is at most so much shorter
-abbrev pub IsNearEnd : List ℕ → ℕ → ℕ → Type 0
-IsNearEnd bytes block n = (n ≤ length bytes) × (length bytes ≤ n + block)
+-- the UTF-8 of what a tail adds to the whole text
+abbrev pub mark_utf8 : List ℕ → List ℕ
+mark_utf8 [] = []
+mark_utf8 (first ∷ after) = encode_utf8 0xFFFD
+
+-- a beginning of the bytes was written, perhaps none or all of them
+abbrev pub AppendsFront : Option (List ℕ) → Option (List ℕ) → List ℕ → Type 0
+AppendsFront old new bytes = (n : ℕ) × Appends old new (take n bytes)
+
+-- n is the length of a beginning of the bytes that is at most 4,096 bytes shorter
+abbrev pub IsNearEnd : List ℕ → ℕ → Type 0
+IsNearEnd bytes n = (n ≤ length bytes) × (length bytes ≤ n + 4096)
 
 module _ (big : Bool) (input left old new : Option (List ℕ)) where
   -- the input was read to its end, and its whole text was written
   abbrev pub Filters : Type 0
   Filters = (bytes : List ℕ) × Consumes input left bytes × IsAtEnd left × Appends old new (whole_utf8 big bytes)
 
-  -- some bytes were read, and what they decide was written
+  -- at least so many bytes were read, and what they decide was written
   abbrev pub FiltersSome : ℕ → Type 0
-  FiltersSome n = (bytes : List ℕ) × (n ≤ length bytes) × Consumes input left bytes × Appends old new (decided_utf8 big bytes)
+  FiltersSome least = (bytes : List ℕ) × Consumes input left bytes × (least ≤ length bytes) × Appends old new (decided_utf8 big bytes)
 
-  -- some bytes were read; what a beginning of them decides was written, and not what the last 1 to 4,096 bytes do
+  -- some bytes were read; what all but the last 1 to 4,096 of them decide was written
   abbrev pub FiltersBefore : Type 0
-  FiltersBefore = (bytes : List ℕ) × (n : ℕ) × (n < length bytes) × IsNearEnd bytes 4096 n × Consumes input left bytes
-      × Appends old new (decided_utf8 big (take n bytes))
+  FiltersBefore = (bytes : List ℕ) × Consumes input left bytes × ((n : ℕ) × (n < length bytes) × IsNearEnd bytes n
+      × Appends old new (decided_utf8 big (take n bytes)))
 
-  -- some bytes were read; a beginning of their whole text was written, with at least what all but the last 4,096 bytes decide
+  -- some bytes were read; a beginning of their whole text was written, and at least what all but the last 4,096 of them decide
   abbrev pub FiltersFront : Type 0
-  FiltersFront = (bytes written : List ℕ) × (n : ℕ) × IsNearEnd bytes 4096 n × Consumes input left bytes × Appends old new written
-      × Begins written (whole_utf8 big bytes) × Begins (decided_utf8 big (take n bytes)) written
+  FiltersFront = (bytes : List ℕ) × Consumes input left bytes × ((written : List ℕ) × Appends old new written
+      × StartsWith (whole_utf8 big bytes) written × ((n : ℕ) × IsNearEnd bytes n × StartsWith written (decided_utf8 big (take n bytes))))
+
+  -- by the answer
+  abbrev pub FiltersAs : Result (Unit {0}) FilterFault → Type 0
+  FiltersAs (Ok done) = Filters
+  FiltersAs (Err Read) = FiltersSome 0
+  FiltersAs (Err Write) = FiltersFront
+  FiltersAs (Err Memory) = FiltersBefore
+  FiltersAs (Err Long) = FiltersSome (2 ^ 64 - 1)
+
+-- how many faults of the reader the answer tells of
+abbrev pub read_faults : Result (Unit {0}) FilterFault → ℕ
+read_faults (Ok done) = 0
+read_faults (Err Read) = 1
+read_faults (Err Write) = 0
+read_faults (Err Memory) = 0
+read_faults (Err Long) = 0
+
+-- and of the writer
+abbrev pub write_faults : Result (Unit {0}) FilterFault → ℕ
+write_faults (Ok done) = 0
+write_faults (Err Read) = 0
+write_faults (Err Write) = 1
+write_faults (Err Memory) = 0
+write_faults (Err Long) = 0

@@ -5,3 +5,4 @@ pub mod Watched
 pub mod Decodes
 pub mod Held
 pub mod Lossy
+pub mod Filter

@@ -2,10 +2,12 @@
 #![tactic(auto)]
 
 mod edit;
+mod filters;
 mod held;
 mod lossy;
 mod watched;
 
 pub use edit::{Edit, Reply, apply, run};
+pub use filters::{FilterFault, filter};
 pub use lossy::{Lossy, decode_pieces};
 pub use watched::{DeviceFault, Watched};

@@ -63,7 +63,7 @@ impl<E: Utf16Order> Lossy<E> {
     }
 
     // As `feed`, with the answer put behind a text. After an error a beginning of it may stand there.
-    fn feed_into<A: Allocator>(
+    pub(crate) fn feed_into<A: Allocator>(
         &mut self,
         piece: &[u8],
         to: &mut String<A>,

@@ -1,5 +1,4 @@
-use Rattle.std.proofs.Common.{◌≡◌, ◌+◌, ◌-◌, ◌++◌, [], None, Some, length, take, drop, string_bytes, sym, ap, ap₂, ◌∙◌, subst, arith, rules, true≢false}
-use Rattle.utf16_units.specs.Encoding.{text_of}
+use Rattle.std.proofs.Common.{◌≡◌, ◌+◌, ◌-◌, length, take, drop, string_bytes, sym, ap₂, ◌∙◌, subst, arith, true≢false}
 use Rattle.utf16_units.specs.Fault.{IsFault, IsFront}
 use Rattle.utf16_units.proofs.SplitFault.{AreBytes-drop, split_tail-cut_off}
 use Rattle.std.proofs.lemmas.List.{drop-drop, take_rest}

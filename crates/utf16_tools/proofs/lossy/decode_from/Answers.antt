@@ -1,9 +1,8 @@
-use Rattle.std.proofs.Common.{◌≡◌, ◌≤◌, ◌++◌, [], length, string_bytes, refl, sym, ap, ap₂, ◌∙◌, subst, arith, rules, append-nil, true≢false}
+use Rattle.std.proofs.Common.{◌≡◌, ◌≤◌, ◌++◌, [], length, string_bytes, sym, ap, ◌∙◌, subst, rules, append-nil, true≢false}
 use Rattle.std.proofs.lemmas.List.{nil_from_length}
-use Rattle.utf16_units.specs.Split.{split_items, split_tail}
+use Rattle.utf16_units.specs.Split.{split_items}
 use Rattle.utf16_units.proofs.SplitUnique.{length-split_tail}
 use Rattle.utf16_tools.proofs.DecodesLemmas.{Decodes-empty, Decodes-end, Decodes-last, Decodes-then, shown, undecided_items}
-use Rattle.utf16_tools.specs.Decodes.{Decodes}
 use Rattle.utf16_tools.specs.Held.{held_bytes}
 use Rattle.utf16_tools.proofs.lossy.decode_from.Goals as goal
 

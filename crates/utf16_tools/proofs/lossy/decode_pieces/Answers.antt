@@ -1,8 +1,8 @@
-use Rattle.std.proofs.Common.{◌≡◌, ◌+◌, ◌++◌, [], ◌∷◌, List, encode_utf8_all, string_bytes, take, take_all, refl, sym, ap, ap₂, ◌∙◌, subst, arith, rules}
+use Rattle.std.proofs.Common.{◌≡◌, ◌+◌, ◌++◌, [], encode_utf8_all, take, take_all, sym, ap, ap₂, ◌∙◌}
 use Rattle.std.specs.Char.{encode_utf8}
 use Rattle.std.specs.List.{flat_map}
 use Rattle.std.specs.Vec.{vec_items}
-use Rattle.utf16_units.specs.Split.{full, marked, split_items, split_tail}
+use Rattle.utf16_units.specs.Split.{full, split_items, split_tail}
 use Rattle.utf16_units.proofs.SplitJoin.{split_tail-append}
 use Rattle.utf16_tools.proofs.StreamLemmas.{full-mark, joined-more, shown-piece}
 use Rattle.utf16_tools.proofs.DecodesLemmas.{shown}
@@ -23,9 +23,9 @@ loop-piece-preserved g c =
     joined-more vec_items pieces i piece c.loop-piece-test.true c.piece-item.is in
     let same = ap₂ (λ p b. p ++ b) c.loop-piece.invariant.1 c.deref.ensures.value in (
       c.in_ok-feed_into.ensures.text ∙ ap₂ (λ t b. t ++ shown (split_items g.E.Utf16Order.BIG b)) c.loop-piece.invariant.0 same
-      ∙ sym (shown-piece g.E.Utf16Order.BIG front (vec_items piece)) ∙ ap (λ b. shown (split_items g.E.Utf16Order.BIG b)) (sym joined),
+          ∙ sym (shown-piece g.E.Utf16Order.BIG front (vec_items piece)) ∙ ap (λ b. shown (split_items g.E.Utf16Order.BIG b)) (sym joined),
       c.in_ok-feed_into.ensures.pending ∙ ap (split_tail g.E.Utf16Order.BIG) same ∙ sym (split_tail-append g.E.Utf16Order.BIG front (vec_items piece))
-      ∙ ap (split_tail g.E.Utf16Order.BIG) (sym joined),
+          ∙ ap (split_tail g.E.Utf16Order.BIG) (sym joined),
     )
 
 pub returns : goal.returns
@@ -34,8 +34,8 @@ returns g c =
     let front = flat_map vec_items (take c.loop-piece.piece-index pieces) in
     let all : front ≡ flat_map vec_items pieces = ap (flat_map vec_items) (take_all c.loop-piece.piece-index pieces c.loop-piece-test.false) in
     let left : ¬ (lossy_pending c.loop-piece.decoder ≡ []) = λ none. (
-      let e = sym c.in-Some.is ∙ c.finish.ensures.none.1 none in
-      absurd (cc)
+    let e = sym c.in-Some.is ∙ c.finish.ensures.none.1 none in
+    absurd (cc)
     ) in
     let is = sym c.in-Some.is ∙ c.finish.ensures.mark.1 left in
     let mark : c.in-Some.mark ≡ 0xFFFD = cc in

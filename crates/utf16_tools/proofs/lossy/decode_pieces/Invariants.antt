@@ -1,4 +1,4 @@
-use Rattle.std.proofs.Common.{◌≡◌, ◌++◌, encode_utf8_all, string_bytes, take}
+use Rattle.std.proofs.Common.{◌≡◌, encode_utf8_all, string_bytes, take}
 use Rattle.std.specs.List.{flat_map}
 use Rattle.std.specs.Vec.{vec_items}
 use Rattle.utf16_units.specs.Split.{marked, split_items, split_tail}

@@ -1,6 +1,6 @@
-use Rattle.std.proofs.Common.{◌≡◌, ◌+◌, ◌-◌, ◌≤◌, ◌++◌, [], length, take, drop, string_bytes, refl, sym, ap, ap₂, ◌∙◌, subst, arith, rules, true≢false, length-append, length-drop, ◌<◌}
+use Rattle.std.proofs.Common.{◌-◌, ◌≤◌, ◌++◌, length, take, drop, string_bytes, refl, sym, ap, ap₂, ◌∙◌, subst, arith, rules, true≢false, length-append, length-drop, ◌<◌}
 use Rattle.std.proofs.lemmas.List.{length-take-le, take_rest}
-use Rattle.utf16_units.specs.Split.{split_items, split_tail}
+use Rattle.utf16_units.specs.Split.{split_tail}
 use Rattle.utf16_units.proofs.SplitUnique.{length-split_tail}
 use Rattle.utf16_tools.proofs.DecodesLemmas.{Decodes-seam, length-split_tail-le, no_seam, split_tail-again, tail_in_piece}
 use Rattle.utf16_tools.specs.Decodes.{Decodes}

@@ -1,4 +1,4 @@
-use Rattle.std.proofs.Common.{◌≡◌, ◌+◌, ◌-◌, ◌≤◌, ℕ, List, [], ◌∷◌, ◌++◌, drop, length, take, sym, ap₂, ◌∙◌, arith, length-append, take_at, rules}
+use Rattle.std.proofs.Common.{◌≡◌, ◌+◌, ◌-◌, ◌≤◌, ℕ, List, [], ◌∷◌, ◌++◌, drop, length, ap₂, ◌∙◌, arith, length-append, take_at, rules}
 use Rattle.std.proofs.lemmas.Slice.{take-put_mid}
 use Rattle.utf16_tools.proofs.lossy.seam.Goals as goal
 
