@@ -1,13 +1,31 @@
 -- The exit status of a run.
 use Rattle.std.specs.Prelude.{ℕ}
 use Rattle.utf16_cat.specs.declared.outcome.Outcome.{Outcome}
-use Rattle.utf16_cat.specs.declared.outcome.Outcome.TheVariants.{Done, Memory, Read, Text, Usage, Write}
+use Rattle.utf16_cat.specs.declared.outcome.Outcome.TheVariants.{Done, Long, Memory, Read, Usage, Write}
 
 -- 0 where the input was decoded, 2 where the arguments name no order, else 1
 abbrev pub status_of : Outcome → ℕ
 status_of Done = 0
-status_of (Text e) = 1
 status_of Read = 1
 status_of Write = 1
 status_of Memory = 1
+status_of Long = 1
 status_of Usage = 2
+
+-- how many faults of the reader the outcome tells of
+abbrev pub reads_failed : Outcome → ℕ
+reads_failed Done = 0
+reads_failed Read = 1
+reads_failed Write = 0
+reads_failed Memory = 0
+reads_failed Long = 0
+reads_failed Usage = 0
+
+-- and of the writer
+abbrev pub writes_failed : Outcome → ℕ
+writes_failed Done = 0
+writes_failed Read = 0
+writes_failed Write = 1
+writes_failed Memory = 0
+writes_failed Long = 0
+writes_failed Usage = 0

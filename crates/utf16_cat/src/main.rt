@@ -8,11 +8,13 @@ mod program;
 mod run;
 #[cfg(test)]
 mod tests;
-mod whole;
 
 use crate::program::program;
 use std::process::ExitCode;
+use utf16_tools::Watched;
 
 fn main(rt: HostRuntime) -> ExitCode {
-    program(&rt, &mut rt.stdin(), &mut rt.stdout(), &mut rt.stderr())
+    let mut input = Watched::new(rt.stdin());
+    let mut output = Watched::new(rt.stdout());
+    program(&rt, &mut input, &mut output, &mut rt.stderr())
 }

@@ -2,10 +2,11 @@
 
 ghost use Rattle.std.specs.Prelude.{◌≡◌, ◌↔◌, Some, [], ◌∷◌, map, codes, string_bytes};
 ghost use Rattle.std.specs.Io.KnownBytes.{Keeps};
+ghost use Rattle.utf16_cat.specs.Outcome.{outcome};
 ghost use Rattle.utf16_cat.specs.Status.{status_of};
 
 use std::io::Write;
-use utf16string::Utf16Error;
+use utf16_tools::FilterFault;
 
 /// The byte order that the arguments ask for.
 #[derive(Clone, Copy, Debug, PartialEq, Eq)]
@@ -19,18 +20,31 @@ pub enum Choice {
 /// How a run ended.
 #[derive(Clone, Copy, Debug, PartialEq, Eq)]
 pub enum Outcome {
-    /// The whole input was decoded and written.
+    /// The whole input was decoded and written, with a mark for each fault.
     Done,
-    /// The input is not UTF-16 in the order asked for. Nothing was written.
-    Text(Utf16Error),
-    /// A read failed. Nothing was written.
+    /// A read failed. What was read before was decoded and written.
     Read,
     /// A write or the flush failed. A beginning of the text was written.
     Write,
-    /// Memory was refused. Nothing was written.
+    /// Memory was refused. What was read before the last piece was decoded and written, if anything was read.
     Memory,
+    /// The input gave bytes at 2^64 - 1 reads. They were decoded and written.
+    Long,
     /// The arguments are neither `le` alone nor `be` alone. Nothing was read or written.
     Usage,
+}
+
+/// The outcome of a filter's answer.
+pub fn outcome_of(answer: Result<(), FilterFault>) -> Outcome
+    ensures { result ≡ outcome answer }
+{
+    match answer {
+        Ok(()) => Outcome::Done,
+        Err(FilterFault::Read) => Outcome::Read,
+        Err(FilterFault::Write) => Outcome::Write,
+        Err(FilterFault::Memory) => Outcome::Memory,
+        Err(FilterFault::Long) => Outcome::Long,
+    }
 }
 
 /// The order that the words after the program's name ask for: the one word `le` or the one word `be`.
@@ -56,10 +70,10 @@ pub fn report<W: Write>(outcome: &Outcome, to: &mut W) -> u8
 {
     let (written, status) = match outcome {
         Outcome::Done => (Ok(()), 0),
-        Outcome::Text(e) => (writeln!(to, "utf16_cat: {e}"), 1),
         Outcome::Read => (writeln!(to, "utf16_cat: read failed"), 1),
         Outcome::Write => (writeln!(to, "utf16_cat: write failed"), 1),
         Outcome::Memory => (writeln!(to, "utf16_cat: out of memory"), 1),
+        Outcome::Long => (writeln!(to, "utf16_cat: input too long"), 1),
         Outcome::Usage => (writeln!(to, "usage: utf16_cat le|be"), 2),
     };
     let _ = written;

@@ -1,29 +1,38 @@
 //! The program, over any environment and any three devices.
 
-ghost use Rattle.std.specs.Prelude.{◌≡◌, ◌⊎◌, ◌≤◌, Bool, IfErr};
+ghost use Rattle.std.specs.Prelude.{◌≡◌, ◌⊎◌, ◌-◌, ◌<◌, ◌≤◌, ◌^◌, Bool, Err, IfErr, Ok};
 ghost use Rattle.std.specs.Io.KnownBytes.{Keeps};
 ghost use Rattle.std.specs.Process.{exit_status};
-ghost use Rattle.utf16_cat.specs.Outcome.{Falters, Transcodes};
+ghost use Rattle.utf16_tools.specs.Filter.{Filters, FiltersAs};
+ghost use Rattle.utf16_tools.specs.Watched.{watched_faults, watched_inner};
+ghost use Rattle.utf16_tools.specs.declared.filters.FilterFault.{FilterFault};
 
 use crate::outcome::{Outcome, report};
 use crate::run::run;
 use std::env::{self, Env};
 use std::io::{ErrorKind, Read, Write};
 use std::process::ExitCode;
+use utf16_tools::Watched;
 
 /// Runs on the words of the environment, writes the line that tells of the outcome to `errors`, and answers the status: 0
-/// where the input was decoded, 2 where the words name no order, and else 1.
+/// where the input was decoded, 2 where the words name no order, and else 1. The caller proves that there is a number for a
+/// fault of the reader, and for one of the writer.
 pub fn program<E: Env + AllocGlobal, R: Read, W: Write, T: Write>(
     env: &E,
-    reader: &mut R,
-    writer: &mut W,
+    reader: &mut Watched<R>,
+    writer: &mut Watched<W>,
     errors: &mut T,
 ) -> ExitCode
-    ensures done { exit_status result ≡ 0 → (big : Bool) × Transcodes big
-        (R.remaining reader.old) (R.remaining reader.new) (W.contents writer.old) (W.contents writer.new) }
+    requires reader { watched_faults reader.old < 2 ^ 64 - 1 }
+    requires writer { watched_faults writer.old < 2 ^ 64 - 1 }
+    ensures done { exit_status result ≡ 0 → (big : Bool) × Filters big
+        (R.remaining (watched_inner reader.old)) (R.remaining (watched_inner reader.new))
+        (W.contents (watched_inner writer.old)) (W.contents (watched_inner writer.new)) }
     ensures quiet { exit_status result ≡ 0 → Keeps (T.contents errors.old) (T.contents errors.new) }
-    ensures failed { exit_status result ≡ 1 → Keeps (W.contents writer.old) (W.contents writer.new) ⊎ ((big : Bool) × Falters big
-        (R.remaining reader.old) (R.remaining reader.new) (W.contents writer.old) (W.contents writer.new)) }
+    ensures failed { exit_status result ≡ 1 → ((reader.new ≡ reader.old) × (writer.new ≡ writer.old))
+        ⊎ ((big : Bool) × (fault : FilterFault) × FiltersAs big
+        (R.remaining (watched_inner reader.old)) (R.remaining (watched_inner reader.new))
+        (W.contents (watched_inner writer.old)) (W.contents (watched_inner writer.new)) (Err fault)) }
     ensures usage { exit_status result ≡ 2 → (reader.new ≡ reader.old) × (writer.new ≡ writer.old) }
     ensures cases { exit_status result ≤ 2 }
 {

@@ -7,6 +7,7 @@ use crate::run::run;
 use std::alloc::AllocError;
 use std::process::ExitCode;
 use std::test::Fail;
+use utf16_tools::Watched;
 
 // "hi" little endian; big endian two Chinese characters, U+6800 and U+6900.
 const HI: [u8; 4] = [0x68, 0x00, 0x69, 0x00];
@@ -39,22 +40,22 @@ fn run_answers_for_its_words(rt: HostRuntime) -> Result<(), Fail> {
     ];
     for (i, (words, outcome, left, written)) in table.iter().enumerate() {
         let words = owned(&rt, words)?;
-        let mut reader = HI.as_slice();
-        let mut out = Vec::new(rt.alloc());
+        let mut reader = Watched::new(HI.as_slice());
+        let mut out = Watched::new(Vec::new(rt.alloc()));
         assert_eq!(rt;
             run(rt.alloc(), &words, &mut reader, &mut out),
             *outcome,
             "case {i}"
         );
-        assert_eq!(rt; reader.len(), *left, "case {i}");
-        assert_eq!(rt; out.as_slice(), *written, "case {i}");
+        assert_eq!(rt; reader.inner().len(), *left, "case {i}");
+        assert_eq!(rt; out.inner().as_slice(), *written, "case {i}");
     }
     Ok(())
 }
 
 #[test]
 fn run_writes_the_utf8_of_text(rt: HostRuntime) -> Result<(), Fail> {
-    let table: [(&str, &[u8], &[u8]); 4] = [
+    let table: [(&str, &[u8], &[u8]); 6] = [
         (
             "le",
             &[0x68, 0, 0x65, 0, 0x6C, 0, 0x6C, 0, 0x6F, 0],
@@ -63,6 +64,12 @@ fn run_writes_the_utf8_of_text(rt: HostRuntime) -> Result<(), Fail> {
         ("le", &[], b""),
         ("le", &[0x00, 0xD8, 0x00, 0xDC], &[0xF0, 0x90, 0x80, 0x80]),
         (
+            "le",
+            &[0x68, 0, 0x00, 0xDC, 0x69],
+            b"h\xEF\xBF\xBD\xEF\xBF\xBD",
+        ),
+        ("be", &[0x00, 0x68, 0xD8, 0x00, 0x00], b"h\xEF\xBF\xBD"),
+        (
             "be",
             &[0x00, 0x68, 0xD8, 0x00, 0xDC, 0x00],
             &[0x68, 0xF0, 0x90, 0x80, 0x80],
@@ -70,14 +77,14 @@ fn run_writes_the_utf8_of_text(rt: HostRuntime) -> Result<(), Fail> {
     ];
     for (i, (word, input, written)) in table.iter().enumerate() {
         let words = owned(&rt, &[*word])?;
-        let mut reader = *input;
-        let mut out = Vec::new(rt.alloc());
+        let mut reader = Watched::new(*input);
+        let mut out = Watched::new(Vec::new(rt.alloc()));
         assert_eq!(rt;
             run(rt.alloc(), &words, &mut reader, &mut out),
             Outcome::Done,
             "case {i}"
         );
-        assert_eq!(rt; out.as_slice(), *written, "case {i}");
+        assert_eq!(rt; out.inner().as_slice(), *written, "case {i}");
     }
     Ok(())
 }
@@ -87,13 +94,7 @@ fn program_ends_with_the_status_of_its_run(rt: HostRuntime) -> Result<(), Fail> 
     let table: [(&[&[u8]], &[u8], u8, &str, &str); 6] = [
         (&[b"cat", b"le"], &HI, 0, "hi", ""),
         (&[b"cat", b"be"], &HI, 0, "\u{6800}\u{6900}", ""),
-        (
-            &[b"cat", b"be"],
-            &[0x68],
-            1,
-            "",
-            "utf16_cat: Invalid UTF-16LE data in byte slice\n",
-        ),
+        (&[b"cat", b"be"], &[0x68], 0, "\u{FFFD}", ""),
         (&[b"cat"], &HI, 2, "", "usage: utf16_cat le|be\n"),
         (
             &[b"cat", b"le", b"be"],
@@ -106,12 +107,12 @@ fn program_ends_with_the_status_of_its_run(rt: HostRuntime) -> Result<(), Fail> 
     ];
     for (i, (arguments, input, status, written, line)) in table.iter().enumerate() {
         let env = (Arguments { all: *arguments }, rt.alloc());
-        let mut reader = *input;
-        let mut out = Vec::new(rt.alloc());
+        let mut reader = Watched::new(*input);
+        let mut out = Watched::new(Vec::new(rt.alloc()));
         let mut errors = Vec::new(rt.alloc());
         let ended = program(&env, &mut reader, &mut out, &mut errors);
         assert_eq!(rt; ended, ExitCode::from(*status), "case {i}");
-        assert_eq!(rt; out.as_slice(), written.as_bytes(), "case {i}");
+        assert_eq!(rt; out.inner().as_slice(), written.as_bytes(), "case {i}");
         assert_eq!(rt; errors.as_slice(), line.as_bytes(), "case {i}");
     }
     Ok(())
@@ -134,35 +135,19 @@ fn words_are_all_but_the_first(rt: HostRuntime) -> Result<(), Fail> {
 }
 
 #[test]
-fn run_flushes_once_and_only_what_is_text(rt: HostRuntime) -> Result<(), Fail> {
+fn run_flushes_once_and_only_what_it_decodes(rt: HostRuntime) -> Result<(), Fail> {
     let table: [(&str, &[u8], u64); 4] = [
         ("le", &HI, 1),
         ("le", &[], 1),
-        ("le", &[0x68, 0x00, 0x00, 0xDC], 0),
+        ("le", &[0x68, 0x00, 0x00, 0xDC], 1),
         ("auto", &HI, 0),
     ];
     for (i, (word, input, flushed)) in table.iter().enumerate() {
         let words = owned(&rt, &[*word])?;
-        let mut reader = *input;
-        let mut out = Counter::new(&rt, 9, true);
-        let _ = run(rt.alloc(), &words, &mut reader, &mut out);
-        assert_eq!(rt; out.flushed, *flushed, "case {i}");
+        let mut out = Watched::new(Counter::new(&rt, 9, true));
+        let _ = run(rt.alloc(), &words, &mut Watched::new(*input), &mut out);
+        assert_eq!(rt; out.inner().flushed, *flushed, "case {i}");
     }
-    Ok(())
-}
-
-#[test]
-fn text_says_where_the_input_is_at_fault(rt: HostRuntime) -> Result<(), Fail> {
-    let words = owned(&rt, &["le"])?;
-    let lone = [0x68, 0x00, 0x00, 0xDC];
-    let mut out = Vec::new(rt.alloc());
-    let outcome = run(rt.alloc(), &words, &mut lone.as_slice(), &mut out);
-    assert!(rt; out.is_empty());
-    let Outcome::Text(e) = outcome else {
-        return Err(Fail::from("taken as text"));
-    };
-    assert_eq!(rt; e.valid_up_to(), 2);
-    assert_eq!(rt; e.error_len(), Some(2));
     Ok(())
 }
 
@@ -174,9 +159,11 @@ fn run_reads_more_than_one_block(rt: HostRuntime) -> Result<(), Fail> {
         input.extend_from_slice(&[0x61, 0x00])?;
     }
     input.extend_from_slice(&[0x00, 0xD8, 0x00, 0xDC])?;
-    let mut out = Vec::new(rt.alloc());
-    let outcome = run(rt.alloc(), &words, &mut input.as_slice(), &mut out);
+    let mut reader = Watched::new(input.as_slice());
+    let mut out = Watched::new(Vec::new(rt.alloc()));
+    let outcome = run(rt.alloc(), &words, &mut reader, &mut out);
     assert_eq!(rt; outcome, Outcome::Done);
+    let out = out.into_inner();
     assert_eq!(rt; out.len(), 70_004);
     assert!(rt; out.iter().take(70_000).all(|b| *b == b'a'));
     assert!(rt; out.as_slice().ends_with(&[b'a', 0xF0, 0x90, 0x80, 0x80]));
@@ -186,14 +173,14 @@ fn run_reads_more_than_one_block(rt: HostRuntime) -> Result<(), Fail> {
 #[test]
 fn run_says_that_a_read_failed(rt: HostRuntime) -> Result<(), Fail> {
     let words = owned(&rt, &["le"])?;
-    let mut reader = FailingReader { bytes: &HI };
-    let mut out = Counter::new(&rt, 9, true);
+    let mut reader = Watched::new(FailingReader { bytes: &HI });
+    let mut out = Watched::new(Counter::new(&rt, 9, true));
     assert_eq!(rt;
         run(rt.alloc(), &words, &mut reader, &mut out),
         Outcome::Read
     );
-    assert!(rt; out.taken.is_empty());
-    assert_eq!(rt; out.flushed, 0);
+    assert_eq!(rt; out.inner().taken.as_slice(), b"hi".as_slice());
+    assert_eq!(rt; out.inner().flushed, 0);
     Ok(())
 }
 
@@ -209,14 +196,19 @@ fn run_says_that_a_write_or_the_flush_failed(rt: HostRuntime) -> Result<(), Fail
     .into_iter()
     .enumerate()
     {
-        let mut out = Counter::new(&rt, room, flushes);
+        let mut reader = Watched::new(HI.as_slice());
+        let mut out = Watched::new(Counter::new(&rt, room, flushes));
         assert_eq!(rt;
-            run(rt.alloc(), &words, &mut HI.as_slice(), &mut out),
+            run(rt.alloc(), &words, &mut reader, &mut out),
             wanted,
             "case {i}"
         );
-        assert_eq!(rt; out.taken.as_slice(), written.as_bytes(), "case {i}");
-        assert_eq!(rt; out.flushed, flushed, "case {i}");
+        assert_eq!(rt;
+            out.inner().taken.as_slice(),
+            written.as_bytes(),
+            "case {i}"
+        );
+        assert_eq!(rt; out.inner().flushed, flushed, "case {i}");
     }
     Ok(())
 }
@@ -228,6 +220,7 @@ fn report_tells_of_each_outcome(rt: HostRuntime) -> Result<(), Fail> {
         (Outcome::Read, 1, "utf16_cat: read failed\n"),
         (Outcome::Write, 1, "utf16_cat: write failed\n"),
         (Outcome::Memory, 1, "utf16_cat: out of memory\n"),
+        (Outcome::Long, 1, "utf16_cat: input too long\n"),
         (Outcome::Usage, 2, "usage: utf16_cat le|be\n"),
     ];
     for (outcome, status, line) in table {
