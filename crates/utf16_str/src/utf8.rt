@@ -21,7 +21,8 @@ impl<'a, E: Utf16Order> WStr<'a, E> {
     }
 
     /// Puts the same characters in UTF-8 behind a text. The only error is a refused request for memory; it leaves the text as it
-    /// was. Room is asked for once, and not where it is there; two passes over the view.
+    /// was. Room is asked for once, and not where it is there. One pass over the view where there is room for three bytes a code
+    /// unit, else two.
     pub fn push_utf8<A: Allocator>(self, to: &mut String<A>) -> Result<(), AllocError>
         ensures text { OnOk result (string_bytes to.new ≡ string_bytes to.old ++ encode_utf8_all (wstr_text self.entry)) }
         ensures refused { OnErr result ((string_bytes to.new ≡ string_bytes to.old) × (string_capacity to.new ≡ string_capacity to.old)) }
@@ -29,12 +30,30 @@ impl<'a, E: Utf16Order> WStr<'a, E> {
         ensures room { string_len to.old + length (encode_utf8_all (wstr_text self.entry)) ≤ string_capacity to.old → IsOk result }
         ensures nothing { wstr_text self.entry ≡ [] → IsOk result }
     {
-        to.reserve(utf8_len(self))?;
+        make_room(self, to)?;
         for c in self.chars() {
             to.push(c)?;
         }
         Ok(())
     }
+}
+
+// Makes room for the characters in UTF-8. They are counted where there is no room for three bytes a code unit.
+#[inline]
+fn make_room<E: Utf16Order, A: Allocator>(
+    text: WStr<E>,
+    to: &mut String<A>,
+) -> Result<(), AllocError>
+    ensures bytes { string_bytes to.new ≡ string_bytes to.old }
+    ensures room { OnOk result (string_len to.new + length (encode_utf8_all (wstr_text text.entry)) ≤ string_capacity to.new) }
+    ensures refused { OnErr result (string_capacity to.new ≡ string_capacity to.old) }
+    ensures grows { string_capacity to.old ≤ string_capacity to.new }
+    ensures enough { string_len to.old + length (encode_utf8_all (wstr_text text.entry)) ≤ string_capacity to.old → IsOk result }
+{
+    if text.len() / 2 * 3 <= to.capacity() - to.len() {
+        return Ok(());
+    }
+    to.reserve(utf8_len(text))
 }
 
 // How many bytes the characters take in UTF-8.
