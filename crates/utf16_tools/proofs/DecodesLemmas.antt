@@ -5,7 +5,6 @@ use Rattle.std.proofs.lemmas.List.{drop-append-le, length-take-le, map-append}
 use Rattle.std.proofs.Math.Seq.{drop-append-add, drop-append_seam}
 use Rattle.std.proofs.lemmas.List.Concat.{flat_map-append}
 use Rattle.std.specs.Char.{encode_utf8}
-use Rattle.std.specs.Char.Utf16.{is_high_surrogate}
 use Rattle.utf16_units.specs.Encoding.{Encodes, text_of}
 use Rattle.utf16_units.specs.Unit.{unit_of}
 use Rattle.utf16_units.specs.Fault.{IsFault, IsFront, is_cut_off}
@@ -14,8 +13,9 @@ use Rattle.utf16_units.proofs.FirstChar.{AreBytes, first_unit}
 use Rattle.utf16_units.proofs.EncodingLemmas.{Encodes-text_of}
 use Rattle.utf16_units.proofs.Computed.{IsCutOff-from_is_cut_off}
 use Rattle.utf16_units.proofs.SplitLemmas.{cut_items, cut_tail, whole_items, whole_tail}
-use Rattle.utf16_units.proofs.SplitJoin.{some_put_unit, split_items-append, split_items-text, split_tail-append, split_tail-text}
+use Rattle.utf16_units.proofs.SplitJoin.{some_put_unit, split_items-append, split_items-text, split_tail-append}
 use Rattle.utf16_units.proofs.SplitFault.{lone_item, split_items-cut_off, split_items-fault, split_tail-fault}
+use Rattle.utf16_units.proofs.RecipeLemmas.{mark-lone_item, marked-good, split_text}
 use Rattle.utf16_tools.specs.Decodes.{Decodes}
 
 -- the UTF-8 of what items are shown by
@@ -25,25 +25,9 @@ shown items = encode_utf8_all (marked items)
 pub shown-append : (items more : List Item) → shown (items ++ more) ≡ shown items ++ shown more
 shown-append items more = ap encode_utf8_all (map-append mark items more) ∙ flat_map-append encode_utf8 (marked items) (marked more)
 
--- characters are shown by themselves
-pub marked-good : (text : List ℕ) → marked (map good text) ≡ text
-marked-good [] = refl
-marked-good (c ∷ text) = ap (λ t. c ∷ t) (marked-good text)
-
-mark-lone_item : (unit : ℕ) → mark (lone_item unit) ≡ 0xFFFD
-mark-lone_item unit = ⊎_elim (λ (e : is_high_surrogate unit ≡ true). rw e refl) (λ (e : is_high_surrogate unit ≡ false). rw e refl) (cases_Bool (is_high_surrogate unit))
-
 shown-lone : (unit : ℕ) → encode_utf8 0xFFFD ≡ shown (lone_item unit ∷ [])
 unfolding encode_utf8
 shown-lone unit = ap (λ c. encode_utf8_all (c ∷ [])) (sym (mark-lone_item unit))
-
--- the items of a text, and what it leaves
-pub split_text : (big : Bool) (text bytes : List ℕ) → Encodes big text bytes → (split_items big bytes ≡ map good text) × (split_tail big bytes ≡ [])
-unfolding split_items split_tail
-split_text big text bytes e = (
-  ap (split_items big) (sym (append-nil bytes)) ∙ split_items-text big text bytes [] e ∙ append-nil (map good text),
-  ap (split_tail big) (sym (append-nil bytes)) ∙ split_tail-text big text bytes [] e,
-)
 
 -- nothing is decided
 pub Decodes-none : (big : Bool) (bytes old : List ℕ) → Decodes big bytes bytes old old
@@ -90,10 +74,6 @@ Decodes-empty big bytes rest old new steps none = behind steps.taken (sym steps.
   behind : (taken : List Item) → taken ++ split_items big rest ≡ [] → split_items big rest ≡ []
   behind [] e = e
   behind (item ∷ taken) e = absurd (cc)
-
--- a fault that has a length is of two bytes
-pub two : {big : Bool} {bytes : List ℕ} {n : ℕ} → IsFault big bytes (Some n) → IsFault big bytes (Some 2)
-two {big} {bytes} fault = subst (λ k. IsFault big bytes (Some k)) fault.at_front.0 fault
 
 -- the longest valid beginning and U+FFFD for the surrogate behind it
 pub Decodes-fault : (big : Bool) (bytes : List ℕ) (n : ℕ) (old mid new : List ℕ) → AreBytes bytes → IsFault big bytes (Some 2) → IsFront big bytes n

@@ -1,6 +1,7 @@
 -- The proofs of the laws, each under its law's name.
 use Rattle.std.proofs.Common.{◌≡◌, ◌≢◌, ℕ, zero, suc, ◌+◌, ◌-◌, ◌%◌, ◌<◌, Bool, true, false, not, List, [], ◌∷◌, ◌++◌, length, drop, slice_get, All, refl, sym, ap, ap₂, ◌∙◌, subst, arith, append_assoc, length-append, length-drop, take-append-drop, drop_at, flat_map}
 use Rattle.std.proofs.lemmas.List.Elements.{All-head, All-tail}
+use Rattle.std.proofs.lemmas.List.{map-append}
 use Rattle.std.proofs.lemmas.Str.{chars-encodes}
 use Rattle.std.specs.Char.{IsScalar}
 use Rattle.std.specs.Char.Escape.{encode_utf16}
@@ -8,15 +9,19 @@ use Rattle.utf16_units.specs.Unit.{IsTrailing, unit_bytes}
 use Rattle.utf16_units.specs.Encoding.{char_bytes, encode, size, text_of}
 use Rattle.utf16_units.specs.Boundary.{IsBoundary, text_between, text_from, text_to}
 use Rattle.utf16_units.specs.Edit.{insert_at}
-use Rattle.utf16_units.specs.Laws.{FoundAligned, InsertThenRemove, JoinedText, NoneContinues, SplitExists, SplitExtends, SplitThenPush, SplitUnique, StandsAt, SwappedOrders, TwoNeverContinues, UniqueText, Utf8Back, swap_bytes}
+use Rattle.utf16_units.specs.Laws.{CutAnywhere, FoundAligned, InsertThenRemove, ItemsStay, JoinedText, NoneContinues, RecipeIsSplit, ShownWithin, SplitExists, SplitExtends, SplitThenPush, SplitUnique, StandsAt, SwappedOrders, TextIsShown, TwoNeverContinues, UniqueText, Utf8Back, swap_bytes}
 use Rattle.utf16_units.proofs.BoundaryLemmas.{IsBoundary-at_unit, char_size-pos, size-text_to, text_from-at, text_to-at, text_to-text_from}
 use Rattle.utf16_units.proofs.ContinuedLemmas.{none_where, two_never}
 use Rattle.utf16_units.proofs.FirstChar.{AreBytes, first_unit}
 use Rattle.utf16_units.proofs.FrontChar.{first_unit-char}
 use Rattle.utf16_units.proofs.EncodingLemmas.{All-after, all_scalars-from_All, encode-append, encode-cons, encode-nil, length-encode, size-append, size-cons, text_of-encode, text_of-encode_then}
+use Rattle.utf16_units.specs.Recipe.{Recipe}
+use Rattle.utf16_units.specs.Split.{mark, marked, split_items, split_tail}
+use Rattle.utf16_units.proofs.RecipeLemmas.{marked-good, recipe_of_split, split_of_recipe, split_text}
+use Rattle.utf16_units.proofs.ShownLemmas.{split_within}
 use Rattle.utf16_units.proofs.SplitLemmas.{Split-computed}
 use Rattle.utf16_units.proofs.SplitUnique.{Split-unique}
-use Rattle.utf16_units.proofs.SplitJoin.{split_items-append, split_tail-append}
+use Rattle.utf16_units.proofs.SplitJoin.{split_items-front, split_items-append, split_tail-append}
 
 pub unique_text : UniqueText
 unique_text big text other scalars others same = sym (text_of-encode big text scalars) ∙ ap (text_of big) same ∙ text_of-encode big other others
@@ -49,6 +54,32 @@ split_unique big bytes items others tail other s o =
 
 pub split_extends : SplitExtends
 split_extends big front back = (split_items-append big front back, split_tail-append big front back)
+
+pub recipe_is_split : RecipeIsSplit
+recipe_is_split big bytes text kept all =
+    let are = AreBytes-from_All bytes all in (
+      (λ recipe.
+          let same = recipe_of_split are recipe in
+          (same.shown, same.tail)),
+      (λ same.
+          subst (λ t. Recipe big bytes t kept) (sym same.0)
+          (subst (Recipe big bytes (marked (split_items big bytes))) (sym same.1) (split_of_recipe big bytes are))),
+    )
+
+pub text_is_shown : TextIsShown
+text_is_shown big text bytes e =
+    let split = split_text big text bytes e in
+    (ap marked split.0 ∙ marked-good text, split.1)
+
+pub items_stay : ItemsStay
+items_stay = split_items-front
+
+pub cut_anywhere : CutAnywhere
+cut_anywhere big front back =
+    ap marked (split_items-append big front back) ∙ map-append mark (split_items big front) (split_items big (split_tail big front ++ back))
+
+pub shown_within : ShownWithin
+shown_within big bytes all = split_within big bytes (split_items big bytes) (split_tail big bytes) (split_exists big bytes all)
 
 pub split_then_push : SplitThenPush
 split_then_push text i b = (size-text_to text i b, text_to-text_from text i)

@@ -10,6 +10,8 @@ pub mod SplitLemmas
 pub mod SplitUnique
 pub mod SplitJoin
 pub mod SplitFault
+pub mod RecipeLemmas
+pub mod ShownLemmas
 pub mod FrontChar
 pub mod BoundaryLemmas
 pub mod BoundaryComputed

@@ -1,12 +1,13 @@
 -- The laws of UTF-16 that users of the format rest on, each a statement over the definitions alone.
-use Rattle.std.specs.Prelude.{◌≡◌, ◌≢◌, ◌↔◌, ℕ, ◌+◌, ◌%◌, ◌<◌, Bool, not, List, [], ◌∷◌, ◌++◌, None, Some, All, length, take, drop, encode_utf8_all, chars}
+use Rattle.std.specs.Prelude.{◌≡◌, ◌≢◌, ◌↔◌, ℕ, ◌+◌, ◌*◌, ◌%◌, ◌<◌, ◌≤◌, Bool, not, List, [], ◌∷◌, ◌++◌, None, Some, All, length, take, drop, encode_utf8_all, chars}
 use Rattle.std.specs.Char.{IsScalar}
 use Rattle.utf16_units.specs.Boundary.{IsBoundary, text_between}
 use Rattle.utf16_units.specs.Continued.{IsBeginning, IsDeadEnd}
 use Rattle.utf16_units.specs.Edit.{char_at, insert_at, push_text, remove_at, split_back, split_front}
-use Rattle.utf16_units.specs.Encoding.{encode, size}
+use Rattle.utf16_units.specs.Encoding.{Encodes, encode, size}
 use Rattle.utf16_units.specs.Fault.{IsFault, IsFront}
-use Rattle.utf16_units.specs.Split.{Item, Split, split_items, split_tail}
+use Rattle.utf16_units.specs.Recipe.{Recipe}
+use Rattle.utf16_units.specs.Split.{Item, Split, full, marked, split_items, split_tail}
 
 -- two texts with equal encodings in one order are equal
 abbrev pub UniqueText : Type 0
@@ -75,3 +76,28 @@ abbrev pub SplitExtends : Type 0
 SplitExtends = (big : Bool) (front back : List ℕ)
     → (split_items big (front ++ back) ≡ split_items big front ++ split_items big (split_tail big front ++ back))
     × (split_tail big (front ++ back) ≡ split_tail big (split_tail big front ++ back))
+
+-- what a reader gets who resumes by the fields of the error is the marked text of the split's items, and what is kept its tail
+abbrev pub RecipeIsSplit : Type 0
+RecipeIsSplit = (big : Bool) (bytes text kept : List ℕ) → All (λ b. b < 256) bytes
+    → (Recipe big bytes text kept ↔ ((text ≡ marked (split_items big bytes)) × (kept ≡ split_tail big bytes)))
+
+-- the text of a text's encoding is that text, and nothing is left
+abbrev pub TextIsShown : Type 0
+TextIsShown = (big : Bool) (text bytes : List ℕ) → Encodes big text bytes → (marked (split_items big bytes) ≡ text) × (split_tail big bytes ≡ [])
+
+-- with more bytes behind, the items that stand stay
+abbrev pub ItemsStay : Type 0
+ItemsStay = (big : Bool) (front back : List ℕ) → take (length (split_items big front)) (split_items big (front ++ back)) ≡ split_items big front
+
+-- what a stream shows, however it is cut in two: what the first piece does, and then its tail with the second
+abbrev pub CutAnywhere : Type 0
+CutAnywhere = (big : Bool) (front back : List ℕ)
+    → marked (split_items big (front ++ back)) ≡ marked (split_items big front) ++ marked (split_items big (split_tail big front ++ back))
+
+-- an item has two bytes at least, and two bytes are shown by three of UTF-8 at most; a tail adds at most three
+abbrev pub ShownWithin : Type 0
+ShownWithin = (big : Bool) (bytes : List ℕ) → All (λ b. b < 256) bytes
+    → (2 * length (split_items big bytes) ≤ length bytes)
+    × (2 * length (encode_utf8_all (marked (split_items big bytes))) ≤ 3 * length bytes)
+    × (2 * length (encode_utf8_all (full (split_items big bytes) (split_tail big bytes))) ≤ 3 * length bytes + 3)

@@ -4,7 +4,7 @@
 //! `Rattle.utf16_units.proofs.LawProofs`. The statements are in `specs/Laws.antt`: they speak of the definitions alone, for
 //! all texts, all bytes and both byte orders.
 
-ghost use Rattle.utf16_units.specs.Laws.{FoundAligned, InsertThenRemove, JoinedText, NoneContinues, SplitExists, SplitExtends, SplitThenPush, SplitUnique, SwappedOrders, TwoNeverContinues, UniqueText, Utf8Back};
+ghost use Rattle.utf16_units.specs.Laws.{CutAnywhere, FoundAligned, InsertThenRemove, ItemsStay, JoinedText, NoneContinues, RecipeIsSplit, ShownWithin, SplitExists, SplitExtends, SplitThenPush, SplitUnique, SwappedOrders, TextIsShown, TwoNeverContinues, UniqueText, Utf8Back};
 
 /// Two texts with equal encodings in one order are equal.
 pub fn unique_text()
@@ -68,4 +68,31 @@ pub fn split_unique()
 /// be split piece by piece, with no more kept of a piece than its tail.
 pub fn split_extends()
     ensures { SplitExtends }
+{}
+
+/// What a reader gets who resumes decoding by `valid_up_to` and `error_len` is the text of the split, with one U+FFFD for each
+/// surrogate without its partner, and what the reader keeps is its tail.
+pub fn recipe_is_split()
+    ensures { RecipeIsSplit }
+{}
+
+/// The text of well-formed bytes is what they encode, and nothing is left.
+pub fn text_is_shown()
+    ensures { TextIsShown }
+{}
+
+/// An item that was given never changes, whatever comes later.
+pub fn items_stay()
+    ensures { ItemsStay }
+{}
+
+/// Two cuttings of one stream give one text: that of the first piece, and then that of its tail with the second.
+pub fn cut_anywhere()
+    ensures { CutAnywhere }
+{}
+
+/// So many bytes have at most half as many items, and take at most half as many again in UTF-8; what is left at the end adds at
+/// most three bytes.
+pub fn shown_within()
+    ensures { ShownWithin }
 {}

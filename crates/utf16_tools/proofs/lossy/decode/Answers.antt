@@ -4,7 +4,8 @@ use Rattle.utf16_units.proofs.SplitFault.{AreBytes-drop, split_tail-cut_off}
 use Rattle.std.proofs.lemmas.List.{drop-drop, take_rest}
 use Rattle.utf16_units.proofs.FirstChar.{AreBytes}
 use Rattle.utf16_tools.specs.Decodes.{Decodes}
-use Rattle.utf16_tools.proofs.DecodesLemmas.{two, Decodes-empty, Decodes-fault, Decodes-last, Decodes-none, Decodes-then, cut_off_shown, no_fault, no_front, no_text, split_text, text_shown}
+use Rattle.utf16_units.proofs.RecipeLemmas.{split_text, two}
+use Rattle.utf16_tools.proofs.DecodesLemmas.{Decodes-empty, Decodes-fault, Decodes-last, Decodes-none, Decodes-then, cut_off_shown, no_fault, no_front, no_text, text_shown}
 use Rattle.utf16_tools.proofs.lossy.decode.Goals as goal
 
 pub loop-text-init : goal.loop-text-init
