@@ -7,7 +7,7 @@ need() { # what has to succeed, and what is missing where it does not
     eval "$1" > /dev/null 2>&1 || { echo "bench: missing: $2" >&2; missing=1; }
 }
 need 'command -v rt' 'rt, the toolchain'
-need 'command -v rustc' 'rustc (1.85 or later)'
+need 'rustc --edition 2024 --print sysroot' 'rustc 1.85 or later'
 need 'command -v gcc' 'gcc (Debian: gcc)'
 need 'command -v iconv' 'iconv (Debian: libc-bin)'
 need 'command -v uconv' 'uconv (Debian: icu-devtools)'
@@ -19,8 +19,8 @@ need "ls $registry/cfg-if-*/src/lib.rs" 'the Rust crate cfg-if (Debian: librust-
 
 kit=$(dirname "$(rt doc)")
 mkdir -p out
-(cd ../crates/utf16_c && rt lib > ../../bench/out/rt.log 2>&1) || { cat out/rt.log; exit 1; }
-(cd ../crates/utf16_cat && rt run -- le < /dev/null > ../../bench/out/rt.log 2>&1) || { cat out/rt.log; exit 1; }
+(cd ../crates/utf16_c && rt lib > ../../bench/out/rt.log 2>&1) || { cat out/rt.log >&2; exit 1; }
+(cd ../crates/utf16_cat && rt run -- le < /dev/null > ../../bench/out/rt.log 2>&1) || { cat out/rt.log >&2; exit 1; }
 
 # The processor that rt builds for.
 level=x86-64-v2
@@ -44,5 +44,6 @@ for order in le be; do
     done
 done
 out/calls out > out/lines.tsv
-out/programs out ../crates/utf16_cat/out/utf16_cat "${MIB:-1024}" >> out/lines.tsv
+out/programs out ../crates/utf16_cat/out/utf16_cat 1024 >> out/lines.tsv
 awk -v chart=out/chart.svg -f report.awk out/lines.tsv | tee out/table.md
+! grep "^differs" out/lines.tsv >&2

@@ -2,6 +2,9 @@
 //! whether the bytes are in big endian. Nothing tests what a function requires: it is the caller's to know.
 #![tactic(auto)]
 
+#[cfg(test)]
+mod tests;
+
 ghost use Rattle.std.specs.Prelude.{◌≡◌, ◌⊎◌, ◌↔◌, ◌<◌, ◌≤◌, ◌-◌, ◌^◌, ◌++◌, All, IsTrue, drop, encode_utf8_all, length};
 ghost use Rattle.std.specs.Str.{IsUtf8, chars};
 ghost use Rattle.utf16string.specs.Encoding.{IsText, encode, text_of};
