@@ -11,6 +11,7 @@ need 'rustc --edition 2024 --print sysroot' 'rustc 1.85 or later'
 need 'command -v gcc' 'gcc (Debian: gcc)'
 need 'command -v iconv' 'iconv (Debian: libc-bin)'
 need 'command -v uconv' 'uconv (Debian: icu-devtools)'
+need 'command -v cmp' 'cmp (Debian: diffutils)'
 need 'echo "#include <unicode/ustring.h>" | gcc -E -' "ICU's headers (Debian: libicu-dev)"
 registry=/usr/share/cargo/registry
 need "ls $registry/encoding_rs-*/src/lib.rs" 'the Rust crate encoding_rs (Debian: librust-encoding-rs-dev)'
@@ -47,5 +48,6 @@ for order in le be; do
 done
 out/calls out > out/lines.tsv
 out/programs out ../crates/utf16_cat/out/utf16_cat 1024 >> out/lines.tsv
+rm out/*.made
 awk -v chart=out/chart.svg -f report.awk out/lines.tsv | tee out/table.md
 ! grep "^differs" out/lines.tsv >&2
