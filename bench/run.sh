@@ -1,0 +1,53 @@
+#!/bin/sh
+# Builds what is compared, makes the texts, runs all of it, and leaves in bench/out the tables (table.md) and the chart (chart.svg).
+set -eu
+cd "$(dirname "$0")"
+missing=0
+need() { # what has to succeed, and what is missing where it does not
+    eval "$1" > /dev/null 2>&1 || { echo "bench: missing: $2" >&2; missing=1; }
+}
+need 'command -v rt' 'rt, the toolchain'
+need 'rustc --edition 2024 --print sysroot' 'rustc 1.85 or later'
+need 'command -v gcc' 'gcc (Debian: gcc)'
+need 'command -v iconv' 'iconv (Debian: libc-bin)'
+need 'command -v uconv' 'uconv (Debian: icu-devtools)'
+need 'command -v cmp' 'cmp (Debian: diffutils)'
+need 'echo "#include <unicode/ustring.h>" | gcc -E -' "ICU's headers (Debian: libicu-dev)"
+registry=/usr/share/cargo/registry
+need "ls $registry/encoding_rs-*/src/lib.rs" 'the Rust crate encoding_rs (Debian: librust-encoding-rs-dev)'
+need "ls $registry/cfg-if-*/src/lib.rs" 'the Rust crate cfg-if (Debian: librust-cfg-if-dev)'
+[ "$missing" = 0 ] || exit 1
+
+kit=$(dirname "$(rt doc)")
+mkdir -p out
+(cd ../crates/utf16_c && rt lib > ../../bench/out/rt.log 2>&1) || { cat out/rt.log >&2; exit 1; }
+(cd ../crates/utf16_cat && rt run -- le < /dev/null > ../../bench/out/rt.log 2>&1) || { cat out/rt.log >&2; exit 1; }
+
+# The processor that rt builds for. No branch lies across 32 bytes, since where one does some processors halve the speed of a loop.
+level=x86-64-v2
+rust() {
+    rustc -C opt-level=3 -C target-cpu=$level -C llvm-args=-x86-branches-within-32B-boundaries --out-dir out -L out "$@"
+}
+crate() { rust --edition 2018 --crate-type rlib --cap-lints allow --crate-name "$@"; }
+crate cfg_if $registry/cfg-if-*/src/lib.rs
+crate encoding_rs $registry/encoding_rs-*/src/lib.rs --cfg 'feature="alloc"' --extern cfg_if=out/libcfg_if.rlib
+gcc -O3 -march=$level -Wa,-mbranches-within-32B-boundaries -c icu.c -o out/icu.o
+rust --edition 2024 texts.rs
+rust --edition 2024 programs.rs
+rust --edition 2024 cat.rs --extern encoding_rs=out/libencoding_rs.rlib
+rust --edition 2024 calls.rs --extern encoding_rs=out/libencoding_rs.rlib -l icuuc \
+    -C link-args="out/icu.o ../crates/utf16_c/out/libutf16_c.a $kit/c/liblibc_c.a"
+
+for order in le be; do
+    for class in ascii latin_cyrillic cjk emoji random; do
+        size=67108864
+        [ $class != random ] || size=16777216
+        out/texts $class $order $size > out/$class.$order
+        out/texts $class $order 1048576 > out/$class.$order.small
+    done
+done
+out/calls out > out/lines.tsv
+out/programs out ../crates/utf16_cat/out/utf16_cat 1024 >> out/lines.tsv
+rm out/*.made
+awk -v chart=out/chart.svg -f report.awk out/lines.tsv | tee out/table.md
+! grep "^differs" out/lines.tsv >&2

@@ -1,0 +1,55 @@
+//! Writes UTF-16 to standard output: `texts CLASS ORDER BYTES`, of a class of text or of random bytes. The same words give the
+//! same bytes each time.
+use std::io::Write;
+
+struct Random {
+    state: u64,
+    cyrillic: bool,
+}
+
+impl Random {
+    // A number from first to last, by the steps of splitmix64.
+    fn among(&mut self, first: u32, last: u32) -> u32 {
+        self.state = self.state.wrapping_add(0x9E37_79B9_7F4A_7C15);
+        let mixed = (self.state ^ self.state >> 30).wrapping_mul(0xBF58_476D_1CE4_E5B9);
+        let mixed = (mixed ^ mixed >> 27).wrapping_mul(0x94D0_49BB_1331_11EB);
+        first + ((mixed ^ mixed >> 31) >> 32) as u32 % (last - first + 1)
+    }
+
+    fn next(&mut self, class: &str) -> u32 {
+        match (class, self.among(0, 7)) {
+            ("ascii", _) => self.among(0x20, 0x7E),
+            ("latin_cyrillic", 0) => {
+                // A space, and behind it a word in either script.
+                self.cyrillic = self.among(0, 1) == 1;
+                0x20
+            }
+            ("latin_cyrillic", _) if self.cyrillic => self.among(0x430, 0x44F),
+            ("latin_cyrillic", 1 | 2) => self.among(0xE0, 0x17F),
+            ("latin_cyrillic", _) | ("emoji", 0 | 1) => self.among(0x61, 0x7A),
+            ("emoji", _) => self.among(0x1F300, 0x1F64F),
+            ("cjk", _) => self.among(0x4E00, 0x9FFF),
+            _ => self.among(0, 0xFFFF),
+        }
+    }
+}
+
+fn main() {
+    let words: Vec<String> = std::env::args().collect();
+    let (class, big, mut left) = (words[1].as_str(), words[2] == "be", words[3].parse::<usize>().unwrap() / 2);
+    let (mut random, mut out) = (Random { state: 1, cyrillic: false }, std::io::stdout().lock());
+    while left > 0 {
+        let mut bytes = Vec::new();
+        while bytes.len() < 65536 && left > 0 {
+            let (mut pair, next) = ([0; 2], random.next(class));
+            let units = match char::from_u32(next) {
+                // Where no pair fits a letter stands.
+                Some(c) => (if left > 1 || next < 0x10000 { c } else { 'a' }).encode_utf16(&mut pair),
+                None => &mut [next as u16][..],
+            };
+            left -= units.len();
+            bytes.extend(units.iter().flat_map(|unit| if big { unit.to_be_bytes() } else { unit.to_le_bytes() }));
+        }
+        out.write_all(&bytes).unwrap();
+    }
+}
