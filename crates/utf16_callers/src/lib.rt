@@ -2,7 +2,6 @@
 #![tactic(auto)]
 
 pub mod edits;
-pub mod headline;
 pub mod laws;
 pub mod ranges;
 pub mod retains;

@@ -2,7 +2,7 @@
 
 use std::alloc::Global;
 use std::process::Abort;
-use utf16_callers::headline::every_list_of_edits;
+use utf16_callers_streams::headline::every_list_of_edits;
 use utf16_testing::refusing::Refusing;
 use utf16_tools::{Edit, Reply, apply, run};
 use utf16string::{LE, WString};

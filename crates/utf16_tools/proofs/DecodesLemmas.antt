@@ -1,12 +1,14 @@
 -- Steps of decoding, one after another, and the step that an error's fields tell.
 use Rattle.std.proofs.Common.{◌≡◌, ℕ, ◌+◌, ◌-◌, ◌≤◌, Bool, true, false, List, [], ◌∷◌, ◌++◌, None, Some, length, map, take, drop, encode_utf8_all, refl, sym, ap, ap₂, ◌∙◌, subst, ⊎_elim, arith, append_assoc, append-nil, take-append-drop, length-append}
 use Rattle.std.proofs.lemmas.Bool.{cases_Bool}
-use Rattle.std.proofs.lemmas.List.{drop-append-le, length-take-le, map-append}
+use Rattle.std.proofs.lemmas.List.{drop-append-le, drop-drop, length-take-le, map-append}
 use Rattle.std.proofs.Math.Seq.{drop-append-add, drop-append_seam}
 use Rattle.std.proofs.lemmas.List.Concat.{flat_map-append}
 use Rattle.std.specs.Char.{encode_utf8}
 use Rattle.utf16_units.specs.Encoding.{Encodes, text_of}
 use Rattle.utf16_units.specs.Unit.{unit_of}
+use Rattle.utf16_units.specs.Utf16Error.{IsErrorOf, error_len, valid_up_to}
+use Rattle.utf16_units.specs.declared.error.Utf16Error.{Utf16Error}
 use Rattle.utf16_units.specs.Fault.{IsFault, IsFront, is_cut_off}
 use Rattle.utf16_units.specs.Split.{Item, good, mark, marked, split_items, split_tail}
 use Rattle.utf16_units.proofs.FirstChar.{AreBytes, first_unit}
@@ -14,8 +16,8 @@ use Rattle.utf16_units.proofs.EncodingLemmas.{Encodes-text_of}
 use Rattle.utf16_units.proofs.Computed.{IsCutOff-from_is_cut_off}
 use Rattle.utf16_units.proofs.SplitLemmas.{cut_items, cut_tail, whole_items, whole_tail}
 use Rattle.utf16_units.proofs.SplitJoin.{some_put_unit, split_items-append, split_items-text, split_tail-append}
-use Rattle.utf16_units.proofs.SplitFault.{lone_item, split_items-cut_off, split_items-fault, split_tail-fault}
-use Rattle.utf16_units.proofs.RecipeLemmas.{mark-lone_item, marked-good, split_text}
+use Rattle.utf16_units.proofs.SplitFault.{lone_item, split_items-cut_off, split_items-fault, split_tail-cut_off, split_tail-fault}
+use Rattle.utf16_units.proofs.RecipeLemmas.{mark-lone_item, marked-good, split_text, two}
 use Rattle.utf16_tools.specs.Decodes.{Decodes}
 
 -- the UTF-8 of what items are shown by
@@ -76,7 +78,7 @@ Decodes-empty big bytes rest old new steps none = behind steps.taken (sym steps.
   behind (item ∷ taken) e = absurd (cc)
 
 -- the longest valid beginning and U+FFFD for the surrogate behind it
-pub Decodes-fault : (big : Bool) (bytes : List ℕ) (n : ℕ) (old mid new : List ℕ) → AreBytes bytes → IsFault big bytes (Some 2) → IsFront big bytes n
+Decodes-fault : (big : Bool) (bytes : List ℕ) (n : ℕ) (old mid new : List ℕ) → AreBytes bytes → IsFault big bytes (Some 2) → IsFront big bytes n
     → mid ≡ old ++ encode_utf8_all (text_of big (take n bytes)) → new ≡ mid ++ encode_utf8 0xFFFD → Decodes big bytes (drop (n + 2) bytes) old new
 Decodes-fault big bytes n old mid new are fault front valid marked_behind =
     let unit = first_unit big (drop n bytes) in
@@ -99,13 +101,6 @@ pub text_shown : (big : Bool) (text bytes old new : List ℕ) → Encodes big te
 text_shown big text bytes old new e behind =
     behind ∙ ap (λ t. old ++ encode_utf8_all t) (sym (marked-good text)) ∙ ap (λ i. old ++ shown i) (sym (split_text big text bytes e).0)
 
--- where a character is cut off, the longest valid beginning is all that is decided
-pub cut_off_shown : (big : Bool) (bytes : List ℕ) (n : ℕ) (old new : List ℕ) → IsFault big bytes None → IsFront big bytes n
-    → new ≡ old ++ encode_utf8_all (text_of big (take n bytes)) → new ≡ old ++ shown (split_items big bytes)
-cut_off_shown big bytes n old new fault front behind =
-    behind ∙ ap (λ t. old ++ encode_utf8_all t) (sym (marked-good (text_of big (take n bytes))))
-    ∙ ap (λ i. old ++ shown i) (sym (split_items-cut_off big bytes n fault front))
-
 -- ---- nothing decided
 
 no_good : (text : List ℕ) → map good text ≡ [] → text ≡ []
@@ -121,7 +116,7 @@ pub no_text : (big : Bool) (text bytes : List ℕ) → Encodes big text bytes �
 no_text big text bytes e none = no_good text (sym (split_text big text bytes e).0 ∙ none)
 
 -- and have none at the front
-pub no_front : (big : Bool) (bytes : List ℕ) (n : ℕ) → IsFront big bytes n → split_items big bytes ≡ [] → text_of big (take n bytes) ≡ []
+no_front : (big : Bool) (bytes : List ℕ) (n : ℕ) → IsFront big bytes n → split_items big bytes ≡ [] → text_of big (take n bytes) ≡ []
 no_front big bytes n front none = no_good (text_of big (take n bytes)) (front_none _ (split_items big (drop n bytes)) (sym items ∙ none)) where
   items : split_items big bytes ≡ map good (text_of big (take n bytes)) ++ split_items big (drop n bytes)
   items =
@@ -129,11 +124,49 @@ no_front big bytes n front none = no_good (text_of big (take n bytes)) (front_no
       ∙ split_items-text big (text_of big (take n bytes)) (take n bytes) (drop n bytes) (Encodes-text_of big (take n bytes) front.valid)
 
 -- and no surrogate without its partner
-pub no_fault : (big : Bool) (bytes : List ℕ) (n : ℕ) → AreBytes bytes → IsFault big bytes (Some 2) → IsFront big bytes n → ¬ (split_items big bytes ≡ [])
+no_fault : (big : Bool) (bytes : List ℕ) (n : ℕ) → AreBytes bytes → IsFault big bytes (Some 2) → IsFront big bytes n → ¬ (split_items big bytes ≡ [])
 no_fault big bytes n are fault front none = some (map good (text_of big (take n bytes))) _ _ (sym (split_items-fault big bytes n are fault front) ∙ none) where
   some : (items : List Item) (item : Item) (more : List Item) → ¬ (items ++ item ∷ more ≡ [])
   some [] item more e = absurd (cc)
   some (first ∷ items) item more e = absurd (cc)
+
+-- ---- the error's fields
+
+module _ (big : Bool) (bytes : List ℕ) (e : Utf16Error) (is : IsErrorOf big bytes e) (n : ℕ) (at : n ≡ valid_up_to e) where
+  front : IsFront big bytes n
+  front = subst (IsFront big bytes) (sym at) is.front
+
+  -- where nothing is decided, the valid beginning is empty
+  pub nothing_valid : split_items big bytes ≡ [] → text_of big (take n bytes) ≡ []
+  nothing_valid none = no_front big bytes n front none
+
+  module _ (none : error_len e ≡ None) where
+    fault : IsFault big bytes None
+    fault = subst (IsFault big bytes) none is.fault
+
+    -- a character was cut off: the valid beginning is all that is decided, and what stands behind it is the tail
+    pub cut_off_decides : (old new : List ℕ) → new ≡ old ++ encode_utf8_all (text_of big (take n bytes)) → new ≡ old ++ shown (split_items big bytes)
+    cut_off_decides old new valid =
+        valid ∙ ap (λ t. old ++ encode_utf8_all t) (sym (marked-good (text_of big (take n bytes))))
+        ∙ ap (λ i. old ++ shown i) (sym (split_items-cut_off big bytes n fault front))
+
+    pub cut_off_leaves : drop n bytes ≡ split_tail big bytes
+    cut_off_leaves = sym (split_tail-cut_off big bytes n fault front)
+
+  module _ (are : AreBytes bytes) (len : ℕ) (some : error_len e ≡ Some len) where
+    faulty : IsFault big bytes (Some 2)
+    faulty = two (subst (IsFault big bytes) some is.fault)
+
+    -- a surrogate has no partner: the valid beginning and U+FFFD are decided, and the rest begins behind the surrogate
+    pub fault_decides : (old mid new : List ℕ) → mid ≡ old ++ encode_utf8_all (text_of big (take n bytes)) → new ≡ mid ++ encode_utf8 0xFFFD
+        → Decodes big bytes (drop len (drop n bytes)) old new
+    fault_decides old mid new valid mark =
+        subst (λ r. Decodes big bytes r old new)
+        (sym (drop-drop len n bytes ∙ ap (λ t. drop (n + t) bytes) (subst (IsFault big bytes) some is.fault).at_front.0))
+        (Decodes-fault big bytes n old mid new are faulty front valid mark)
+
+    pub fault_is_something : ¬ (split_items big bytes ≡ [])
+    fault_is_something none = no_fault big bytes n are faulty front none
 
 -- ---- where pending bytes and a piece meet
 
@@ -183,6 +216,10 @@ undecided_items big (first ∷ second ∷ bytes) same = ⊎_elim
     let short = length-split_tail-le big bytes in
     absurd (omega arith))
     (cases_Bool (is_cut_off big (first ∷ second ∷ bytes)))
+
+-- so the tail is what is left from there on
+pub tail_at_end : (big : Bool) (bytes : List ℕ) → split_tail big bytes ≡ drop (length bytes - length (split_tail big bytes)) bytes
+tail_at_end big bytes = tail_within big [] bytes (length-split_tail-le big bytes)
 
 -- the seam: pending bytes and then the first n of a piece
 module _ (big : Bool) (pending piece seam tail : List ℕ) (n : ℕ) (within : n ≤ length piece) (is_seam : seam ≡ pending ++ take n piece)

@@ -1,0 +1,125 @@
+//! The sentence of the README that the project carries, phrase by phrase, each the contract of a function on public calls.
+//!
+//! In either byte order, bytes are taken as text exactly when they encode a list of characters, and only one; every list of
+//! edits leaves the encoding of the equally edited list; where bytes are refused, the error marks the longest valid beginning;
+//! and resuming by it, over every cutting of a stream, yields the text of the stream's one split.
+
+ghost use Rattle.std.specs.Prelude.{◌≡◌, ◌↔◌, ◌-◌, ◌<◌, ◌≤◌, ◌++◌, All, IfOk, IfSome, IsSome, List, OnErr, OnOk, ℕ, drop, encode_utf8_all, length, string_bytes};
+ghost use Rattle.std.specs.List.{flat_map};
+ghost use Rattle.std.specs.Vec.{vec_items};
+ghost use Rattle.utf16_tools.specs.Split.{full, marked, split_items, split_tail};
+ghost use Rattle.utf16_tools.specs.Step.{Run};
+ghost use Rattle.utf16string.specs.Encoding.{Encodes, IsText};
+ghost use Rattle.utf16string.specs.Fault.{IsFault, IsFront};
+ghost use Rattle.utf16string.specs.WStr.{wstr_text};
+ghost use Rattle.utf16string.specs.WString.{wstring_bytes, wstring_text};
+ghost use Rattle.utf16_callers_streams.specs.OneSplit.{IsTextOfOneSplit};
+
+use std::alloc::{AllocError, Allocator};
+use utf16_tools::{Edit, Reply, run};
+use utf16_units::laws::{split_exists, split_unique, unique_text};
+use utf16string::{Utf16Order, WStr, WString};
+
+/// Bytes are taken as text exactly when they encode a list of characters, and only one: the view has that list, and there is no
+/// other.
+pub fn taken_as_text<E: Utf16Order>(bytes: &[u8]) -> Option<WStr<E>>
+    ensures taken { IsSome result ↔ ((text : List ℕ) × Encodes E.BIG text bytes.now) }
+    ensures one { IfSome result (λ s. Encodes E.BIG (wstr_text s) bytes.now × ((other : List ℕ) → Encodes E.BIG other bytes.now → other ≡ wstr_text s)) }
+{
+    unique_text();
+    WStr::<E>::from_utf16(bytes).ok()
+}
+
+/// Every list of edits leaves the encoding of the equally edited list: the replies and the last text are a run of the list
+/// from the text at the start, and the bytes are the encoding of that last text. Where room for the replies is refused, they
+/// are the bytes of before.
+pub fn every_list_of_edits<E: Utf16Order, A: Allocator + Clone, B: Allocator, C: Allocator>(
+    alloc: B,
+    string: WString<E, A>,
+    edits: Vec<Edit<E, A>, C>,
+) -> (Result<Vec<Reply<E, A>, B>, AllocError>, Vec<u8, A>)
+    ensures edited { IfOk result.0 (λ replies. (last : List ℕ) × Run (wstring_text string) edits.items replies.items last × Encodes E.BIG last result.1.items) }
+    ensures refused { OnErr result.0 (result.1.items ≡ wstring_bytes string) }
+{
+    let mut string = string;
+    let replies = run(alloc, &mut string, edits);
+    (replies, string.into_bytes())
+}
+
+/// Where bytes are refused, the error marks the longest valid beginning, and the fault behind it: the two fields of the error,
+/// and none exactly where the bytes are text.
+pub fn marked_where_refused<E: Utf16Order>(bytes: &[u8]) -> Option<(usize, Option<usize>)>
+    ensures refused { IsSome result ↔ ¬ (IsText E.BIG bytes.now) }
+    ensures marked { IfSome result (λ fields. IsFront E.BIG bytes.now fields.0 × IsFault E.BIG bytes.now fields.1) }
+{
+    let error = WStr::<E>::from_utf16(bytes).err()?;
+    Some((error.valid_up_to(), error.error_len()))
+}
+
+/// Resuming by the error, over every cutting of a stream, yields the text of the stream's one split: a plain loop that follows
+/// `valid_up_to` and `error_len`, and keeps what is cut off for the next piece. The text in UTF-8 is what `decode_pieces`
+/// answers, and what a `Lossy` that is fed the pieces does.
+pub fn resumed<E: Utf16Order, A: Allocator, B: Allocator, C: Allocator>(
+    text_alloc: A,
+    rest_alloc: B,
+    pieces: &[Vec<u8, C>],
+) -> Result<String<A>, AllocError>
+    ensures one { IfOk result (λ text. IsTextOfOneSplit E.BIG (flat_map vec_items pieces.now) (string_bytes text)) }
+    ensures same { IfOk result (λ text. string_bytes text ≡ encode_utf8_all
+        (full (split_items E.BIG (flat_map vec_items pieces.now)) (split_tail E.BIG (flat_map vec_items pieces.now)))) }
+{
+    split_exists();
+    split_unique();
+    let mut text = String::new(text_alloc);
+    let mut rest = Vec::new(rest_alloc);
+    for piece in pieces {
+        rest.extend_from_slice(piece)?;
+        let kept = resume::<E, A>(&rest, &mut text)?.len();
+        keep_last(&mut rest, kept);
+    }
+    if rest.is_empty() {
+        return Ok(text);
+    }
+    text.push('\u{FFFD}')?;
+    Ok(text)
+}
+
+// Puts the text of the bytes behind another, with U+FFFD for each fault that has a length; answers what is cut off at the end.
+fn resume<'a, E: Utf16Order, A: Allocator>(
+    bytes: &'a [u8],
+    to: &mut String<A>,
+) -> Result<&'a [u8], AllocError>
+    ensures text { OnOk result (string_bytes to.new ≡ string_bytes to.old ++ encode_utf8_all (marked (split_items E.BIG bytes.now))) }
+    ensures kept { IfOk result (λ kept. kept.now ≡ split_tail E.BIG bytes.now) }
+    ensures bytes { All (λ b. b < 256) bytes.now }
+{
+    let mut rest = bytes;
+    loop {
+        let error = match WStr::<E>::from_utf16(rest) {
+            Ok(text) => {
+                text.push_utf8(to)?;
+                return Ok(&[]);
+            }
+            Err(error) => error,
+        };
+        let (valid, faulty) = rest.split_at(error.valid_up_to());
+        WStr::<E>::from_utf16_unchecked(valid).push_utf8(to)?;
+        match error.error_len() {
+            Some(len) => {
+                to.push('\u{FFFD}')?;
+                rest = &faulty[len..];
+            }
+            None => return Ok(faulty),
+        }
+    }
+}
+
+// Takes off all but the last bytes.
+fn keep_last<A: Allocator>(bytes: &mut Vec<u8, A>, count: usize)
+    requires { count ≤ length (vec_items bytes.old) }
+    ensures { vec_items bytes.new ≡ drop (length (vec_items bytes.old) - count) (vec_items bytes.old) }
+{
+    let from = bytes.len() - count;
+    bytes.copy_within(from.., 0);
+    bytes.truncate(count);
+}
