@@ -52,6 +52,7 @@ fn move_kept<E: Utf16Order, F: FnMut(char) -> bool>(bytes: &mut [u8], keep: &mut
 {
     let mut kept = 0;
     let mut read = 0;
+    // Before this index no block is tried again: the last one that was tried ends here.
     let mut single = 0;
     while read < bytes.len() {
         if single <= read && bytes.len() - read >= BLOCK {
