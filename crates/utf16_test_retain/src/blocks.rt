@@ -46,14 +46,25 @@ fn stays(kept: u64, at: u32) -> bool {
     kept >> (at % 64) & 1 == 1
 }
 
-// Of these characters the same are left as std leaves, and they were asked about in order, once each.
-fn left_as_std_leaves<E: Utf16Order>(
+// What std leaves of these characters.
+fn std_leaves(rt: &impl AllocGlobal, text: &str, kept: u64) -> Result<String, Fail> {
+    let mut left = String::from_str(rt.alloc(), text)?;
+    let mut at = 0u32;
+    left.retain(|_| {
+        let answer = stays(kept, at);
+        at = at.wrapping_add(1);
+        answer
+    });
+    Ok(left)
+}
+
+// Keeps these characters of the string, and sees that they are asked about in order, once each.
+fn asked_in_order<E: Utf16Order>(
     rt: &(impl Abort + AllocGlobal),
+    string: &mut WString<E>,
     text: &str,
     kept: u64,
-) -> Result<(), Fail> {
-    let mut string = WString::<E>::from_str(rt.alloc(), text)?;
-    let mut expected = String::from_str(rt.alloc(), text)?;
+) {
     let mut at = 0u32;
     let mut in_order = true;
     let mut chars = text.chars();
@@ -65,13 +76,18 @@ fn left_as_std_leaves<E: Utf16Order>(
     });
     assert!(rt; in_order);
     assert!(rt; chars.next().is_none());
-    let mut at = 0u32;
-    expected.retain(|_| {
-        let answer = stays(kept, at);
-        at = at.wrapping_add(1);
-        answer
-    });
+}
+
+// Of these characters the same are left as std leaves.
+fn left_as_std_leaves<E: Utf16Order>(
+    rt: &(impl Abort + AllocGlobal),
+    text: &str,
+    kept: u64,
+) -> Result<(), Fail> {
+    let mut string = WString::<E>::from_str(rt.alloc(), text)?;
+    asked_in_order(rt, &mut string, text, kept);
     let left = string.to_utf8(rt.alloc())?;
+    let expected = std_leaves(rt, text, kept)?;
     assert_eq!(rt; left.as_str(), expected.as_str());
     Ok(())
 }
