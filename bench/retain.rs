@@ -1,11 +1,14 @@
-//! Times `String::retain` and `Vec<u16>::retain` on the characters of `retain.rt.txt`, and prints the best of five in nanoseconds.
+//! Times `String::retain` and `Vec<u16>::retain` on the characters of `retain.rt.txt`: three lines for each text and predicate, as
+//! there.
 use std::hint::black_box;
 use std::time::Instant;
 
-const TEXTS: [&str; 3] = [
+const TEXTS: [&str; 5] = [
     "aaaaaaaaaa",
+    "a\u{44F}b\u{436}\u{E9}\u{44E}c\u{F6}\u{449}\u{44B}",
     "\u{4E00}\u{4E00}\u{4E00}\u{4E00}\u{4E00}\u{4E00}\u{4E00}\u{4E00}\u{4E00}\u{4E00}",
     "\u{1F600}\u{1F600}\u{1F600}\u{1F600}\u{1F600}",
+    "aaaaaaaa\u{1F600}",
 ];
 
 // The predicates: keep all, none, every other one, all but the first, fifteen of sixteen.
@@ -66,22 +69,22 @@ fn kept_units(units: &mut Vec<u16>, mode: u8) {
 }
 
 fn main() {
-    for text in TEXTS {
+    for (number, text) in TEXTS.iter().enumerate() {
         for mode in 0..5 {
-            let (mut chars, mut units) = (u128::MAX, u128::MAX);
-            for _ in 0..5 {
+            for _ in 0..3 {
                 let mut string = text.repeat(16_777_216 / 20);
                 let mut vec: Vec<u16> = string.encode_utf16().collect();
                 let start = Instant::now();
                 kept_chars(&mut string, mode);
-                chars = chars.min(start.elapsed().as_nanos());
+                let chars = start.elapsed().as_nanos();
                 black_box(&string);
                 let start = Instant::now();
                 kept_units(&mut vec, mode);
-                units = units.min(start.elapsed().as_nanos());
+                let units = start.elapsed().as_nanos();
                 black_box(&vec);
+                println!("{number} {mode} String {chars}");
+                println!("{number} {mode} Vec {units}");
             }
-            println!("{} {} {} {}", text.len(), mode, chars, units);
         }
     }
 }

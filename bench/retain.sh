@@ -1,6 +1,7 @@
 #!/bin/sh
-# Times `retain` beside Rust's `String::retain` and `Vec::retain`, in one run: for each text (bytes of UTF-8 a repeat) and
-# predicate, milliseconds here, of `String`, of `Vec<u16>`, and the ratio of the first two.
+# Times `retain` beside Rust's `String::retain` and `Vec::retain`, in one run: for each text and predicate the best of twelve in
+# milliseconds here in little and in big endian, of `String` and of `Vec<u16>`, then each order's ratio to `String` and to `Vec`.
+# The two programs run in turn, four times, so that what else the machine does falls on both.
 set -e
 top=$(cd "$(dirname "$0")/.." && pwd)
 room=$(mktemp -d)
@@ -9,8 +10,18 @@ for crate in utf16_units utf16_str utf16string; do cp -r "$top/crates/$crate" "$
 cp "$top/bench/retain.rt.txt" "$room/crates/retain_bench/src/main.rt"
 printf 'utf16_units: byteorder\nutf16_str: utf16_units\nutf16string: utf16_str utf16_units\nretain_bench: utf16string\n' > "$room/crates.txt"
 rustc -O -o "$room/retain" "$top/bench/retain.rs"
-(cd "$room/crates/retain_bench" && rt run) > "$room/here" 2> "$room/said"
-"$room/retain" > "$room/there"
-awk '{ k = $1 " " $2; if (!(k in best) || $3 < best[k]) best[k] = $3 } END { for (k in best) print k, best[k] }' "$room/here" | sort > "$room/best"
-sort "$room/there" | paste "$room/best" - | awk '{ printf "%s %s  %.1f  %.1f  %.1f  %.2f\n", $1, $2, $3 / 1e6, $6 / 1e6, $7 / 1e6, $3 / $6 }'
+(cd "$room/crates/retain_bench" && rt run) > "$room/times" 2> "$room/said"
+for _ in 1 2 3; do
+    "$room/retain" >> "$room/times"
+    "$room/crates/retain_bench/out/retain_bench" >> "$room/times"
+done
+"$room/retain" >> "$room/times"
+awk '
+{ k = $1 " " $2; if (!((k, $3) in best) || $4 < best[k, $3]) best[k, $3] = $4 }
+END {
+    for (t = 0; t < 5; t++) for (m = 0; m < 5; m++) {
+        k = t " " m; l = best[k, "LE"]; b = best[k, "BE"]; s = best[k, "String"]; v = best[k, "Vec"]
+        printf "%s  %.1f %.1f %.1f %.1f  %.2f %.2f  %.2f %.2f\n", k, l / 1e6, b / 1e6, s / 1e6, v / 1e6, l / s, b / s, l / v, b / v
+    }
+}' "$room/times"
 rm -r "$room"

@@ -1,5 +1,7 @@
 pub mod Edited
 pub mod Utf8Lemmas
 pub mod Removed
+pub mod Asked
+pub mod Blocks
 pub mod Retained
 pub mod Predicates

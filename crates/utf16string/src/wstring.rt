@@ -1,5 +1,6 @@
 //! An owned UTF-16 string.
 
+mod blocks;
 mod cuts;
 mod inserts;
 mod overwrites;

@@ -1,14 +1,14 @@
 //! Characters kept by a predicate.
 
-ghost use Rattle.std.specs.Prelude.{◌≡◌, ◌⊎◌, ◌+◌, ◌≤◌, [], ◌∷◌, ◌++◌, List, ℕ, length, take, drop};
-ghost use Rattle.std.specs.Option.{MatchOption};
-ghost use Rattle.utf16_units.specs.Encoding.{IsText, char_size, text_of};
+ghost use Rattle.std.specs.Prelude.{◌≡◌, ◌⊎◌, ◌+◌, ◌<◌, ◌≤◌, [], ◌∷◌, ◌++◌, IfSome, List, ℕ, length, take, drop};
+ghost use Rattle.utf16_units.specs.Encoding.{Encodes, IsText, char_size, text_of};
 ghost use Rattle.utf16string.specs.Retain.{IsAskable, MayBeAsked, Retains, RetainsTo};
 
+use super::blocks::{BLOCK, ask_each, move_block, plain_units};
 use crate::WString;
 use std::alloc::Allocator;
 use utf16_str::WStr;
-use utf16_units::Utf16Order;
+use utf16_units::{Utf16Order, is_leading_surrogate};
 
 impl<E: Utf16Order, A: Allocator> WString<E, A> {
     ghost use Rattle.utf16string.specs.WString.{wstring_capacity, wstring_text};
@@ -41,7 +41,8 @@ impl<E: Utf16Order, A: Allocator> WString<E, A> {
     }
 }
 
-// Moves the characters that the predicate keeps to the front, and answers how many bytes they take.
+// Moves the characters that the predicate keeps to the front, and answers how many bytes they take. Sixteen that have one unit
+// each are asked about together. Where there is a pair among the next sixteen units, these are walked by single characters.
 fn move_kept<E: Utf16Order, F: FnMut(char) -> bool>(bytes: &mut [u8], keep: &mut F) -> usize
     requires text { IsText E.BIG bytes.old }
     requires askable { MayBeAsked F.FnMut keep.old (text_of E.BIG bytes.old) }
@@ -51,7 +52,27 @@ fn move_kept<E: Utf16Order, F: FnMut(char) -> bool>(bytes: &mut [u8], keep: &mut
 {
     let mut kept = 0;
     let mut read = 0;
-    while let Some((c, size)) = char_from::<E>(bytes, read) {
+    // Before this index no block is tried again: the last one that was tried ends here.
+    let mut single = 0;
+    while read < bytes.len() {
+        if single <= read && bytes.len() - read >= BLOCK {
+            if let Some(units) = plain_units::<E>(&bytes[read..]) {
+                let (answers, many) = ask_each(keep, &units);
+                kept = move_block::<E>(bytes, kept, read, &units, &answers, many);
+                read += BLOCK;
+                continue;
+            }
+            single = read + BLOCK;
+        }
+        if let Some(c) = single_at::<E>(bytes, read) {
+            if ask(keep, c) {
+                move_down(bytes, kept, read, 2);
+                kept += 2;
+            }
+            read += 2;
+            continue;
+        }
+        let (c, size) = char_from::<E>(bytes, read);
         if ask(keep, c) {
             move_down(bytes, kept, read, size);
             kept += size;
@@ -61,18 +82,37 @@ fn move_kept<E: Utf16Order, F: FnMut(char) -> bool>(bytes: &mut [u8], keep: &mut
     kept
 }
 
-// The character that begins at an index, and how many bytes it takes; none at the end. The size is how far the walk went, so
-// that the next read does not wait for a comparison of the character.
+// The character at an index, if it has one unit. Those of one unit have a branch of their own in the loop, so that the next place
+// does not wait for a size computed from what was read.
 #[inline]
-fn char_from<E: Utf16Order>(bytes: &[u8], at: usize) -> Option<(char, usize)>
-    requires within { at ≤ length bytes.now }
+fn single_at<E: Utf16Order>(bytes: &[u8], at: usize) -> Option<char>
+    requires within { at < length bytes.now }
     requires text { IsText E.BIG (drop at bytes.now) }
-    ensures { MatchOption result (text_of E.BIG (drop at bytes.now) ≡ []) (λ first. (rest : List ℕ) × (text_of E.BIG (drop at bytes.now) ≡ first.0 ∷ rest) × (first.1 ≡ char_size first.0)) }
+    ensures char { IfSome result (λ c. Encodes E.BIG (c ∷ []) (take 2 (drop at bytes.now))) }
+    ensures within { at + 2 ≤ length bytes.now }
+{
+    let unit = E::read_unit([bytes[at], bytes[at + 1]]);
+    if is_leading_surrogate(unit) {
+        None
+    } else {
+        Some(unsafe { char::from_u32_unchecked(unit as u32) })
+    }
+}
+
+// The character that begins at an index, and how many bytes it takes. The size is how far the walk went, so that the next read
+// does not wait for a comparison of the character.
+#[inline]
+fn char_from<E: Utf16Order>(bytes: &[u8], at: usize) -> (char, usize)
+    requires within { at < length bytes.now }
+    requires text { IsText E.BIG (drop at bytes.now) }
+    ensures char { Encodes E.BIG (result.0 ∷ []) (take result.1 (drop at bytes.now)) }
+    ensures size { result.1 ≡ char_size result.0 }
+    ensures within { at + result.1 ≤ length bytes.now }
 {
     let text = WStr::<E>::from_utf16_unchecked(&bytes[at..]);
     let mut chars = text.chars();
-    let first = chars.next()?;
-    Some((first, text.len() - chars.as_wstr().len()))
+    let first = chars.next().unwrap();
+    (first, text.len() - chars.as_wstr().len())
 }
 
 // Asks about one character, once.
@@ -109,6 +149,7 @@ fn move_unit(bytes: &mut [u8], to: usize, start: usize)
     ensures moved { take (to + 2) bytes.new ≡ take to bytes.old ++ take 2 (drop start bytes.old) }
     ensures behind { drop (start + 2) bytes.new ≡ drop (start + 2) bytes.old }
 {
-    bytes[to] = bytes[start];
-    bytes[to + 1] = bytes[start + 1];
+    let two = [bytes[start], bytes[start + 1]];
+    bytes[to] = two[0];
+    bytes[to + 1] = two[1];
 }

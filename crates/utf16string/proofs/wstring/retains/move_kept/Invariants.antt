@@ -3,10 +3,10 @@ use Rattle.utf16_units.specs.Encoding.{text_of}
 use Rattle.utf16string.proofs.Retained.{Retaining}
 use Rattle.utf16string.proofs.wstring.retains.move_kept.Given as goal
 
-abbrev pub invariant-loop-c : goal.invariant-loop-c
-invariant-loop-c g l =
+abbrev pub invariant-loop-read : goal.invariant-loop-read
+invariant-loop-read g l =
     Retaining g.F.FnMut g.E.Utf16Order.BIG l.initial.keep (text_of g.E.Utf16Order.BIG l.initial.bytes) l.keep l.bytes l.kept l.read
     × (length l.bytes ≡ length l.initial.bytes)
 
-abbrev pub decreases-loop-c : goal.decreases-loop-c
-decreases-loop-c g l = length l.initial.bytes - l.read
+abbrev pub decreases-loop-read : goal.decreases-loop-read
+decreases-loop-read g l = length l.initial.bytes - l.read

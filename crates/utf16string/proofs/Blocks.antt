@@ -1,0 +1,121 @@
+-- Blocks of units, each a character by itself: their test, their bytes, and those of which a predicate answers true.
+use Rattle.std.proofs.Common.{◌≡◌, ℕ, suc, ◌+◌, ◌-◌, ◌*◌, ◌/◌, ◌%◌, ◌<◌, ◌≤◌, Bool, true, false, not, nat_eq, ◌&&◌, bit_and, List, [], ◌∷◌, ◌++◌, All, get_or, length, take, drop, refl, sym, ap, ap₂, ◌∙◌, subst, arith, append_assoc, append-nil, length-append, flat_map}
+use Rattle.std.proofs.lemmas.Bool.{and_parts, eqb-false, false≢true}
+use Rattle.std.proofs.lemmas.Grind.{flat_map-append}
+use Rattle.std.proofs.lemmas.List.{drop-drop, length-take-le, take_more}
+use Rattle.std.proofs.lemmas.List.Elements.{All-append, All-cons, All-nil}
+use Rattle.std.proofs.lemmas.Nat.Bits.{and_high}
+use Rattle.std.specs.Char.{IsScalar}
+use Rattle.std.specs.List.{items_where_true}
+use mir.Val.{bool_byte}
+use Rattle.std.proofs.str.Utf16.{one_unit}
+use Rattle.utf16_units.specs.Encoding.{char_bytes, encode}
+use Rattle.utf16_units.proofs.EncodingLemmas.{encode-cons, encode-nil}
+use Rattle.utf16_units.specs.Unit.{unit_bytes, unit_of}
+use Rattle.utf16_units.proofs.FirstChar.{scalar_unit}
+use Rattle.utf16string.proofs.Asked.{kept-append}
+use Rattle.utf16_units.proofs.UnitLemmas.{unit_bytes-unit_of}
+
+-- a unit whose high five bits are not those of a surrogate is a character
+scalar-high : (u : ℕ) → u < 0x1_0000 → nat_eq (bit_and u 0xF800) 0xD800 ≡ false → IsScalar u
+scalar-high u below other =
+    let high : bit_and u 0xF800 ≡ u / 2048 % 32 * 2048 = and_high u 5 11 in
+    let apart = eqb-false _ _ other in
+    scalar_unit u below (λ leading. apart (omega (arith, high, leading.0, leading.1))) (λ trailing. apart (omega (arith, high, trailing.0, trailing.1)))
+
+not-true : (b : Bool) → not b ≡ true → b ≡ false
+not-true true e = absurd (false≢true e)
+not-true false e = refl
+
+-- one unit more that is no surrogate
+pub plain-more : (units : List ℕ) (i : ℕ) (plain : Bool) → i < length units → get_or units i 0 < 0x1_0000 → (plain ≡ true → All IsScalar (take i units))
+    → plain && not (nat_eq (bit_and (get_or units i 0) 0xF800) 0xD800) ≡ true → All IsScalar (take (i + 1) units)
+plain-more units i plain lt below so_far more =
+    let parts = and_parts plain _ more in
+    subst (All IsScalar) (sym (take_more units i 0 lt))
+    (All-append IsScalar _ _ (so_far parts.0) (All-cons IsScalar _ [] (scalar-high _ below (not-true _ parts.1)) (All-nil IsScalar)))
+
+-- the bytes of one unit more
+pub units-more : (big : Bool) (raw units : List ℕ) (i first second : ℕ) → i < length units → 2 * i + 1 < length raw → get_or raw (2 * i) 0 ≡ first → get_or raw (2 * i + 1) 0 ≡ second
+    → first < 256 → second < 256 → flat_map (unit_bytes big) (take i units) ≡ take (2 * i) raw → (more : List ℕ) → more ≡ take i units ++ unit_of big first second ∷ []
+    → flat_map (unit_bytes big) more ≡ take (2 * (i + 1)) raw
+units-more big raw units i first second lt room one two h l so_far more is =
+    let twice : 2 * i + 1 + 1 ≡ 2 * (i + 1) = omega arith in
+    let grown : take (2 * (i + 1)) raw ≡ take (2 * i) raw ++ first ∷ second ∷ [] =
+    ap (λ n. take n raw) (sym twice) ∙ take_more raw (2 * i + 1) 0 room ∙ ap (λ t. t ++ get_or raw (2 * i + 1) 0 ∷ []) (take_more raw (2 * i) 0 (omega arith))
+    ∙ append_assoc (take (2 * i) raw) _ _ ∙ ap₂ (λ x y. take (2 * i) raw ++ x ∷ y ∷ []) one two in
+    ap (flat_map (unit_bytes big)) is ∙ flat_map-append (unit_bytes big) (take i units) _
+    ∙ ap₂ (λ x y. x ++ y) so_far (append-nil (unit_bytes big (unit_of big first second)) ∙ unit_bytes-unit_of big first second h l) ∙ sym grown
+
+-- no more are kept than there are
+length-kept : {X : Type 0} → (answers : List Bool) (items : List X) → length (items_where_true answers items) ≤ length items
+length-kept [] items = omega arith
+length-kept (b ∷ answers) [] = elim b [ true ↦ omega arith | false ↦ omega arith ]
+length-kept (true ∷ answers) (d ∷ items) = omega (arith, length-kept answers items)
+length-kept (false ∷ answers) (d ∷ items) = omega (arith, length-kept answers items)
+
+-- where as many are kept as there are, all are
+pub kept-all : {X : Type 0} → (answers : List Bool) (items : List X) → length (items_where_true answers items) ≡ length items → items_where_true answers items ≡ items
+kept-all [] [] many = refl
+kept-all [] (d ∷ items) many = absurd (omega (arith, many))
+kept-all (true ∷ answers) [] many = refl
+kept-all (false ∷ answers) [] many = refl
+kept-all (true ∷ answers) (d ∷ items) many = ap (λ l. d ∷ l) (kept-all answers items (omega (arith, many)))
+kept-all (false ∷ answers) (d ∷ items) many = absurd (omega (arith, many, length-kept answers items))
+
+-- what is kept of the first units and one more, where the answer about it is known
+module _ (answers : List Bool) (units : List ℕ) (i : ℕ) (answer : Bool) (long : i < length answers) (room : i < length units) where
+  same : length (take i answers) ≡ length (take i units)
+  same = length-take-le i answers (omega arith) ∙ sym (length-take-le i units (omega arith))
+
+  pub kept-more : items_where_true (take i answers ++ answer ∷ []) (take (i + 1) units)
+      ≡ items_where_true (take i answers) (take i units) ++ items_where_true (answer ∷ []) (get_or units i 0 ∷ [])
+  kept-more = ap (items_where_true (take i answers ++ answer ∷ [])) (take_more units i 0 room) ∙ kept-append (take i answers) (answer ∷ []) (take i units) _ same
+
+  pub length-kept-more : length (items_where_true (take i answers ++ answer ∷ []) (take (i + 1) units))
+      ≡ length (items_where_true (take i answers) (take i units)) + bool_byte answer
+  length-kept-more = ap length kept-more ∙ length-append (items_where_true (take i answers) (take i units)) _ ∙ ap (λ n. length (items_where_true (take i answers) (take i units)) + n) (one answer)
+    where
+      one : (b : Bool) → length (items_where_true (b ∷ []) (get_or units i 0 ∷ [])) ≡ bool_byte b
+      one true = refl
+      one false = refl
+
+pub bool_byte-below : (b : Bool) → bool_byte b ≤ 1
+bool_byte-below true = omega arith
+bool_byte-below false = omega arith
+
+-- a step of writing those kept, behind what stands in front
+pub written-more : (big : Bool) (front : List ℕ) (answers : List Bool) (units : List ℕ) (i : ℕ) (answer : Bool) → i < length answers → i < length units
+    → get_or answers i false ≡ answer → (old new : List ℕ) → old ≡ front ++ flat_map (unit_bytes big) (items_where_true (take i answers) (take i units))
+    → new ≡ old ++ flat_map (unit_bytes big) (items_where_true (answer ∷ []) (get_or units i 0 ∷ []))
+    → new ≡ front ++ flat_map (unit_bytes big) (items_where_true (take (i + 1) answers) (take (i + 1) units))
+written-more big front answers units i answer long room is old new so_far more =
+    more ∙ ap (λ l. l ++ flat_map (unit_bytes big) (items_where_true (answer ∷ []) (get_or units i 0 ∷ []))) so_far ∙ append_assoc front _ _
+    ∙ ap (λ l. front ++ l) (sym (flat_map-append (unit_bytes big) (items_where_true (take i answers) (take i units)) _))
+    ∙ ap (λ l. front ++ flat_map (unit_bytes big) l) (sym (kept-more answers units i answer long room))
+    ∙ ap (λ l. front ++ flat_map (unit_bytes big) (items_where_true l (take (i + 1) units)))
+    (ap (λ b. take i answers ++ b ∷ []) (sym is) ∙ sym (take_more answers i false long))
+
+-- what agrees from one place on agrees from each later one on
+pub drop-later : (a b : ℕ) (xs ys : List ℕ) → a ≤ b → drop a xs ≡ drop a ys → drop b xs ≡ drop b ys
+drop-later a b xs ys le same_from =
+    let all : a + (b - a) ≡ b = omega arith in
+    ap (λ i. drop i xs) (sym all) ∙ sym (drop-drop (b - a) a xs) ∙ ap (drop (b - a)) same_from ∙ drop-drop (b - a) a ys ∙ ap (λ i. drop i ys) all
+
+-- the bytes of characters of one unit each are those of the units
+unit-char : (big : Bool) (u : ℕ) → u < 0x1_0000 → char_bytes big u ≡ unit_bytes big u
+unit-char big u below = ap (flat_map (unit_bytes big)) (one_unit u below) ∙ append-nil (unit_bytes big u)
+
+pub encode-units : (big : Bool) (units : List ℕ) → ((i : ℕ) → get_or units i 0 < 0x1_0000) → encode big units ≡ flat_map (unit_bytes big) units
+encode-units big [] below = encode-nil big
+encode-units big (u ∷ units) below = encode-cons big u units ∙ ap₂ (λ x y. x ++ y) (unit-char big u (below 0)) (encode-units big units (λ i. below (suc i)))
+
+-- the same of those kept
+pub encode-kept : (big : Bool) (answers : List Bool) (units : List ℕ) → ((i : ℕ) → get_or units i 0 < 0x1_0000)
+    → encode big (items_where_true answers units) ≡ flat_map (unit_bytes big) (items_where_true answers units)
+encode-kept big [] units below = encode-nil big
+encode-kept big (true ∷ answers) [] below = encode-nil big
+encode-kept big (false ∷ answers) [] below = encode-nil big
+encode-kept big (true ∷ answers) (u ∷ units) below =
+    encode-cons big u _ ∙ ap₂ (λ x y. x ++ y) (unit-char big u (below 0)) (encode-kept big answers units (λ i. below (suc i)))
+encode-kept big (false ∷ answers) (u ∷ units) below = encode-kept big answers units (λ i. below (suc i))

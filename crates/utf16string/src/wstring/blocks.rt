@@ -1,0 +1,150 @@
+//! Blocks of sixteen characters of one unit each, which a predicate is asked about before any of them is moved.
+
+ghost use Rattle.std.specs.Prelude.{◌≡◌, ◌+◌, ◌*◌, ◌≤◌, ◌++◌, All, IfSome, IsTrue, length, take, drop};
+ghost use Rattle.std.specs.Char.{IsScalar};
+ghost use Rattle.std.specs.List.{flat_map, items_where_true};
+ghost use Rattle.utf16_units.specs.Encoding.{Encodes, encode};
+ghost use Rattle.utf16_units.specs.Unit.{unit_bytes};
+ghost use Rattle.utf16string.specs.Retain.{MayBeAsked, RetainsTo};
+
+use utf16_units::Utf16Order;
+
+/// How many units a block has.
+const UNITS: usize = 16;
+
+/// How many bytes a block takes.
+pub(crate) const BLOCK: usize = 32;
+
+// The units of the block at the front, where each is a character by itself.
+#[inline]
+pub(crate) fn plain_units<E: Utf16Order>(raw: &[u8]) -> Option<[u16; UNITS]>
+    requires { BLOCK ≤ length raw.now }
+    ensures { IfSome result (λ units. Encodes E.BIG units (take BLOCK raw.now)) }
+{
+    let units = first_units::<E>(raw);
+    if are_plain(&units) { Some(units) } else { None }
+}
+
+// The units of the block at the front.
+#[inline]
+fn first_units<E: Utf16Order>(raw: &[u8]) -> [u16; UNITS]
+    requires { BLOCK ≤ length raw.now }
+    ensures { flat_map (unit_bytes E.BIG) result ≡ take BLOCK raw.now }
+{
+    let mut units = [0; UNITS];
+    for i in 0..UNITS {
+        units[i] = E::read_unit([raw[2 * i], raw[2 * i + 1]]);
+    }
+    units
+}
+
+// Whether no unit is a surrogate.
+#[inline]
+fn are_plain(units: &[u16; UNITS]) -> bool
+    ensures { IsTrue result → All IsScalar units.now }
+{
+    let mut plain = true;
+    for i in 0..UNITS {
+        plain &= units[i] & 0xF800 != 0xD800;
+    }
+    plain
+}
+
+// Asks about each character of a block, in turn, and counts those that stay.
+#[inline]
+pub(crate) fn ask_each<F: FnMut(char) -> bool>(
+    keep: &mut F,
+    units: &[u16; UNITS],
+) -> ([bool; UNITS], usize)
+    requires scalars { All IsScalar units.now }
+    requires askable { MayBeAsked F.FnMut keep.old units.now }
+    ensures asked { RetainsTo F.FnMut keep.old units.now (items_where_true result.0 units.now) keep.new }
+    ensures many { result.1 ≡ length (items_where_true result.0 units.now) }
+{
+    let mut answers = [false; UNITS];
+    let mut many = 0;
+    for i in 0..UNITS {
+        let stays = keep(unsafe { char::from_u32_unchecked(units[i] as u32) });
+        answers[i] = stays;
+        many += stays as usize;
+    }
+    (answers, many)
+}
+
+// Moves the characters of a block that stay down, and answers where they end. All of them are moved at once.
+#[inline]
+pub(crate) fn move_block<E: Utf16Order>(
+    bytes: &mut [u8],
+    to: usize,
+    start: usize,
+    units: &[u16; UNITS],
+    answers: &[bool; UNITS],
+    many: usize,
+) -> usize
+    requires down { to ≤ start }
+    requires within { start + BLOCK ≤ length bytes.old }
+    requires here { Encodes E.BIG units.now (take BLOCK (drop start bytes.old)) }
+    requires many { many ≡ length (items_where_true answers.now units.now) }
+    ensures moved { take result bytes.new ≡ take to bytes.old ++ encode E.BIG (items_where_true answers.now units.now) }
+    ensures behind { drop (start + BLOCK) bytes.new ≡ drop (start + BLOCK) bytes.old }
+    ensures down { result ≤ start + BLOCK }
+{
+    if many == UNITS {
+        move_all(bytes, to, start);
+        return to + BLOCK;
+    }
+    if many == 0 {
+        return to;
+    }
+    write_some::<E>(bytes, to, start, units, answers)
+}
+
+// Moves a whole block down, if it is not in place.
+#[inline]
+fn move_all(bytes: &mut [u8], to: usize, start: usize)
+    requires down { to ≤ start }
+    requires within { start + BLOCK ≤ length bytes.old }
+    ensures moved { take (to + BLOCK) bytes.new ≡ take to bytes.old ++ take BLOCK (drop start bytes.old) }
+    ensures behind { drop (start + BLOCK) bytes.new ≡ drop (start + BLOCK) bytes.old }
+{
+    if to < start {
+        bytes.copy_within(start..start + BLOCK, to);
+    }
+}
+
+// Writes the units that stay one behind another, over bytes up to the end of their block.
+#[inline]
+fn write_some<E: Utf16Order>(
+    bytes: &mut [u8],
+    to: usize,
+    start: usize,
+    units: &[u16; UNITS],
+    answers: &[bool; UNITS],
+) -> usize
+    requires down { to ≤ start }
+    requires within { start + BLOCK ≤ length bytes.old }
+    ensures written { take result bytes.new ≡ take to bytes.old ++ flat_map (unit_bytes E.BIG) (items_where_true answers.now units.now) }
+    ensures behind { drop (start + BLOCK) bytes.new ≡ drop (start + BLOCK) bytes.old }
+    ensures down { result ≤ start + BLOCK }
+{
+    let mut end = to;
+    for i in 0..UNITS {
+        if answers[i] {
+            write_unit::<E>(bytes, end, units[i]);
+            end += 2;
+        }
+    }
+    end
+}
+
+// Writes a unit at an index.
+#[inline]
+fn write_unit<E: Utf16Order>(bytes: &mut [u8], at: usize, unit: u16)
+    requires { at + 2 ≤ length bytes.old }
+    ensures written { take (at + 2) bytes.new ≡ take at bytes.old ++ unit_bytes E.BIG unit }
+    ensures behind { drop (at + 2) bytes.new ≡ drop (at + 2) bytes.old }
+{
+    let two = E::write_unit(unit);
+    bytes[at] = two[0];
+    bytes[at + 1] = two[1];
+}
