@@ -1,10 +1,12 @@
 -- A stream that is read piece by piece: its text so far, and what is kept.
-use Rattle.std.proofs.Common.{◌≡◌, ◌≢◌, ℕ, ◌+◌, ◌<◌, Bool, List, [], ◌++◌, All, length, encode_utf8_all, refl, sym, ap, ◌∙◌, subst, arith, length-append}
-use Rattle.std.proofs.lemmas.List.{get_or-append-add}
+use Rattle.std.proofs.Common.{◌≡◌, ◌≢◌, ℕ, ◌+◌, ◌<◌, Bool, List, [], ◌++◌, All, length, take, drop, encode_utf8_all, append_assoc, take-append-drop, take_at, refl, sym, ap, ◌∙◌, subst, arith, length-append}
+use Rattle.std.proofs.lemmas.List.{get_or-append-add, map-append}
+use Rattle.std.proofs.lemmas.List.Concat.{flat_map-append}
 use Rattle.std.proofs.lemmas.List.Elements.{All-append}
 use Rattle.std.specs.Char.{encode_utf8}
-use Rattle.utf16_units.specs.Laws.{SplitExists, SplitExtends, SplitUnique}
-use Rattle.utf16_tools.specs.Split.{full, marked, split_items, split_tail}
+use Rattle.std.specs.Io.{StartsWith}
+use Rattle.utf16_units.specs.Laws.{CutAnywhere, ItemsStay, SplitExists, SplitUnique}
+use Rattle.utf16_tools.specs.Split.{full, mark, marked, split_items, split_tail}
 use Rattle.utf16_tools.proofs.StreamLemmas.{full-mark, full-none, shown-piece}
 use Rattle.utf16_units.proofs.SplitJoin.{split_tail-append}
 use Rattle.utf16_callers_streams.specs.OneSplit.{IsTextOfOneSplit}
@@ -51,3 +53,31 @@ module _ (exists : SplitExists) (unique : SplitUnique) (big : Bool) (bytes text 
   pub some_kept : (whole : List ℕ) → kept ≢ [] → whole ≡ text ++ encode_utf8 0xFFFD → whole ≡ encode_utf8_all (full (split_items big bytes) (split_tail big bytes))
   some_kept whole some mark =
       mark ∙ ap (λ t. t ++ encode_utf8 0xFFFD) all.shown ∙ sym (full-mark (split_items big bytes) (split_tail big bytes) (λ none. some (all.tail ∙ none)))
+
+-- ---- what a decoder shows
+
+-- of a text's bytes as they are, where nothing is pending before them
+pub fresh : (big : Bool) (pending bytes utf8 : List ℕ) → pending ≡ [] → utf8 ≡ encode_utf8_all (marked (split_items big (pending ++ bytes)))
+    → utf8 ≡ encode_utf8_all (marked (split_items big bytes))
+fresh big pending bytes utf8 none shown = shown ∙ ap (λ p. encode_utf8_all (marked (split_items big (p ++ bytes)))) none
+
+-- of two pieces, one after the other
+pub two_pieces : CutAnywhere → (big : Bool) (pending first second : List ℕ)
+    → encode_utf8_all (marked (split_items big (pending ++ first))) ++ encode_utf8_all (marked (split_items big (split_tail big (pending ++ first) ++ second)))
+    ≡ encode_utf8_all (marked (split_items big (pending ++ (first ++ second))))
+two_pieces cut big pending first second =
+    sym (flat_map-append encode_utf8 (marked (split_items big (pending ++ first))) (marked (split_items big (split_tail big (pending ++ first) ++ second))))
+    ∙ ap encode_utf8_all (sym (cut big (pending ++ first) second)) ∙ ap (λ b. encode_utf8_all (marked (split_items big b))) (append_assoc pending first second)
+
+-- of a beginning, and then of all
+pub shown_early : ItemsStay → (big : Bool) (whole : List ℕ) (at : ℕ)
+    → StartsWith (encode_utf8_all (marked (split_items big whole))) (encode_utf8_all (marked (split_items big (take at whole))))
+shown_early stay big whole at =
+    let front = split_items big (take at whole) in
+    let all = split_items big whole in
+    let first : take (length front) all ≡ front = ap (λ b. take (length front) (split_items big b)) (sym (take-append-drop at whole)) ∙ stay big (take at whole) (drop at whole) in
+    let rest = drop (length front) all in
+    let split : encode_utf8_all (marked all) ≡ encode_utf8_all (marked front) ++ encode_utf8_all (marked rest) =
+    ap (λ i. encode_utf8_all (marked i)) (sym (take-append-drop (length front) all) ∙ ap (λ f. f ++ rest) first)
+    ∙ ap encode_utf8_all (map-append mark front rest) ∙ flat_map-append encode_utf8 (marked front) (marked rest) in
+    ap (take (length (encode_utf8_all (marked front)))) split ∙ take_at (encode_utf8_all (marked front)) (encode_utf8_all (marked rest)) (length (encode_utf8_all (marked front))) refl

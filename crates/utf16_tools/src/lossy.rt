@@ -5,7 +5,7 @@ ghost use Rattle.std.specs.List.{flat_map};
 ghost use Rattle.std.specs.Vec.{vec_items};
 ghost use Rattle.utf16_units.specs.Encoding.{text_of};
 ghost use Rattle.utf16_units.specs.Fault.{IsFront};
-ghost use Rattle.utf16_units.specs.Split.{full, marked, split_items, split_tail};
+ghost use Rattle.utf16_units.specs.Split.{IsTail, full, marked, split_items, split_tail};
 ghost use Rattle.utf16_tools.specs.Decodes.{Decodes};
 ghost use Rattle.utf16_tools.specs.Held.{held_bytes};
 
@@ -42,6 +42,7 @@ impl<E: Utf16Order> Lossy<E> {
     pub fn pending(&self) -> &[u8]
         ensures bytes { result.now ≡ lossy_pending self.now }
         ensures undecided { split_tail E.BIG result.now ≡ result.now }
+        ensures tail { IsTail E.BIG result.now }
         ensures few { length result.now ≤ 3 }
     {
         self.pending.as_slice()

@@ -1,4 +1,4 @@
-use Rattle.std.proofs.Common.{ℕ, length, string_bytes}
+use Rattle.std.proofs.Common.{length, string_bytes}
 use Rattle.utf16_units.proofs.FirstChar.{AreBytes}
 use Rattle.utf16_tools.specs.Decodes.{Decodes}
 use Rattle.utf16_callers_streams.proofs.headline.resume.Given as goal

@@ -1,4 +1,4 @@
-use Rattle.std.proofs.Common.{◌≡◌, ◌+◌, ◌-◌, ◌<◌, ◌++◌, [], All, drop, encode_utf8_all, length, string_bytes, take, take_all, sym, ap, ap₂, ◌∙◌, subst, arith, rules}
+use Rattle.std.proofs.Common.{◌≡◌, ◌-◌, ◌<◌, ◌++◌, [], All, drop, encode_utf8_all, length, string_bytes, take_all, sym, ap, ◌∙◌, subst, arith, rules}
 use Rattle.std.proofs.lemmas.List.{nil_from_length}
 use Rattle.std.proofs.lemmas.List.Elements.{All-nil}
 use Rattle.std.specs.List.{flat_map}
@@ -11,7 +11,7 @@ use Rattle.utf16_callers_streams.proofs.headline.resumed.Goals as goal
 
 pub loop-piece-init : goal.loop-piece-init
 unfolding split_items split_tail
-loop-piece-init g c = record { shown = c.new-text.ensures.bytes; tail = c.new-rest.ensures.items; are = All-nil _; }
+loop-piece-init g c = record { shown = c.new-text.ensures.bytes; tail = c.new-rest.ensures.items; are = All-nil _ }
 
 pub keep_last-requires : goal.keep_last-requires
 keep_last-requires g c =
@@ -56,9 +56,9 @@ pub returns-clause-same : goal.returns-clause-same
 returns-clause-same g c =
     let all = take_all c.loop-piece.piece-index c.args.pieces.now c.loop-piece-test.false in
     let some : ¬ (c.loop-piece.rest.items ≡ []) = λ none. (
-      let short = ap length none in
-      let long : 0 < length c.loop-piece.rest.items = search rules in
-      absurd (omega arith)
+    let short = ap length none in
+    let long : 0 < length c.loop-piece.rest.items = search rules in
+    absurd (omega arith)
     ) in
     some_kept c.split_exists.ensures c.split_unique.ensures g.E.Utf16Order.BIG _ _ _
     (subst (λ p. Reads g.E.Utf16Order.BIG (flat_map vec_items p) (string_bytes c.loop-piece.text) c.loop-piece.rest.items) all c.loop-piece.invariant)
