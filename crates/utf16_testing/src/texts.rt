@@ -137,3 +137,21 @@ pub const FAULTS: [(bool, &[u8], usize, Option<usize>, Option<&[u8]>); 14] = [
         Some(&[0xDC, 0x00]),
     ),
 ];
+
+/// The text of each of [`FAULTS`] as a whole stream.
+pub const FAULT_TEXTS: [&str; 14] = [
+    "\u{FFFD}",
+    "\u{FFFD}",
+    "\u{FFFD}",
+    "\u{FFFD}",
+    "\u{FFFD}",
+    "\u{FFFD}A",
+    "\u{FFFD}\u{FFFD}",
+    "\u{FFFD}\u{FFFD}",
+    "\u{10000}\u{10000}\u{FFFD}",
+    "\u{FFFD}",
+    "\u{FFFD}",
+    "\u{FFFD}",
+    "\u{FFFD}",
+    "A\u{FFFD}",
+];
