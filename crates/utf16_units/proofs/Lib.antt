@@ -18,3 +18,5 @@ pub mod ContinuedLemmas
 pub mod LawProofs
 pub mod BackChar
 pub mod Tests
+pub mod LaneLemmas
+pub mod PairLemmas

@@ -7,3 +7,4 @@ pub mod Edit
 pub mod Continued
 pub mod Laws
 pub mod Split
+pub mod Lanes

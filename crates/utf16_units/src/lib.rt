@@ -3,6 +3,7 @@
 
 mod char;
 mod error;
+mod lanes;
 pub mod laws;
 mod order;
 mod unit;
