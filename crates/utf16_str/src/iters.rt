@@ -8,6 +8,7 @@ ghost use Rattle.utf16_str.specs.Offsets.{char_offsets, offset_behind};
 use crate::WStr;
 use std::fmt;
 use std::marker::Model;
+use utf16_units::text::count_chars;
 use utf16_units::{
     Utf16CharExt, Utf16Order, decode_surrogates, is_leading_surrogate, is_trailing_surrogate,
 };
@@ -193,21 +194,6 @@ impl<'a, E: Utf16Order> fmt::Debug for WStrCharIndices<'a, E> {
             .field("chars", &self.chars)
             .finish()
     }
-}
-
-// How many characters a text has.
-fn count_chars<E: Utf16Order>(raw: &[u8]) -> usize
-    requires { IsText E.BIG raw.now }
-    ensures { result ≡ length (text_of E.BIG raw.now) }
-{
-    let mut count = 0;
-    let mut rest = raw;
-    while !rest.is_empty() {
-        let (_, size) = first_char::<E>(rest);
-        rest = &rest[size..];
-        count += 1;
-    }
-    count
 }
 
 // The first character of a text that is not empty, and how many bytes it takes.

@@ -19,4 +19,7 @@ pub mod LawProofs
 pub mod BackChar
 pub mod Tests
 pub mod LaneLemmas
+pub mod UnitsUpTo
+pub mod CountLemmas
+pub mod AsciiLemmas
 pub mod PairLemmas

@@ -1,31 +1,18 @@
 -- Units whose surrogates are paired are those of a text, and of a leading unit behind it where the last one is leading.
-use Rattle.std.proofs.Common.{◌≡◌, ℕ, suc, ◌+◌, ◌-◌, ◌*◌, ◌%◌, ◌<◌, ◌≤◌, ◌&&◌, Bool, true, false, cond, leb, ltb, List, [], ◌∷◌, ◌++◌, length, map, take, drop, slice_index, refl, sym, ap, ap₂, ◌∙◌, subst, arith, append_assoc, Fits, w8, length-append, take-add, length-take-le}
+use Rattle.std.proofs.Common.{◌≡◌, ℕ, ◌+◌, ◌-◌, ◌*◌, ◌%◌, ◌<◌, ◌≤◌, Bool, true, false, cond, leb, ltb, List, [], ◌∷◌, ◌++◌, length, map, take, drop, slice_index, refl, sym, ap, ◌∙◌, subst, arith, append_assoc, Fits, w8, length-append, length-take-le}
 use Rattle.std.proofs.lemmas.Bool.{and_from, and_parts, false≢true, false_from_ne_true, leb-true, le-leb, lt-ltb, ltb-true}
 use Rattle.std.proofs.lemmas.List.{map-append, take-take}
 use Rattle.std.proofs.lemmas.Simd.{chunk-fits}
 use lib.Lanes.{Each1}
 use Rattle.std.specs.Char.Utf16.{is_high_surrogate, is_low_surrogate}
-use Rattle.utf16_units.specs.Unit.{IsLeading, IsTrailing, unit_of}
+use Rattle.utf16_units.specs.Unit.{IsLeading, unit_of}
 use Rattle.utf16_units.specs.Encoding.{IsText, units_of}
 use Rattle.utf16_units.specs.Lanes.{Paired, PairedTo}
 use Rattle.utf16_units.proofs.ContinuedLemmas.{four_bytes_text, two_bytes_text}
 use Rattle.utf16_units.proofs.EncodingLemmas.{IsText-append, IsText-nil}
 use Rattle.utf16_units.proofs.FaultLemmas.{take-past}
 use Rattle.utf16_units.proofs.LaneLemmas.{in_class}
-
--- the units of bytes joined at an even place
-pub units_of-append : (big : Bool) (front back : List ℕ) → length front % 2 ≡ 0 → units_of big (front ++ back) ≡ units_of big front ++ units_of big back
-unfolding units_of
-units_of-append big [] back even = refl
-units_of-append big (x ∷ []) back even = absurd (omega arith)
-units_of-append big (x ∷ y ∷ front) back even = ap (λ us. unit_of big x y ∷ us) (units_of-append big front back (omega arith))
-
--- the units up to a place, and those of the next n bytes
-pub units_of-next : (big : Bool) (bytes : List ℕ) (at n : ℕ) → at % 2 ≡ 0 → at ≤ length bytes
-    → units_of big (take (at + n) bytes) ≡ units_of big (take at bytes) ++ units_of big (take n (drop at bytes))
-units_of-next big bytes at n even within =
-    let long = length-take-le at bytes within in
-    ap (units_of big) (take-add at n bytes) ∙ units_of-append big (take at bytes) (take n (drop at bytes)) (omega (arith, long))
+use Rattle.utf16_units.proofs.UnitsUpTo.{units_of-next}
 
 -- pairs in one block and then in the next
 pub Paired-append : (before between after : Bool) (front back : List ℕ) → Paired before front between → Paired between back after → Paired before (front ++ back) after
@@ -54,7 +41,7 @@ PairedTo-next big bytes at n before after p even long block =
 
 -- ---- the tests of the two classes
 
-is_of : (m unit : ℕ) → in_class m unit ≡ true → (1024 * m ≤ unit) × (unit ≤ 1024 * m + 1023)
+pub is_of : (m unit : ℕ) → in_class m unit ≡ true → (1024 * m ≤ unit) × (unit ≤ 1024 * m + 1023)
 is_of m unit e =
     let parts = and_parts (leb (1024 * m) unit) (ltb unit (1024 * m + 1024)) e in
     let below = ltb-true _ _ parts.1 in

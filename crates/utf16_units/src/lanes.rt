@@ -1,6 +1,6 @@
 //! Code units by lanes: the surrogates of a block as bits, and whether they are paired.
 
-ghost use Rattle.std.specs.Prelude.{◌≡◌, ◌≤◌, ◌==◌, ℕ, List, IfSome, bit_and, map};
+ghost use Rattle.std.specs.Prelude.{◌≡◌, ◌↔◌, ◌<◌, ◌≤◌, ◌==◌, ℕ, All, List, IfSome, IsTrue, bit_and, map};
 ghost use Rattle.std.specs.Char.Utf16.{is_high_surrogate, is_low_surrogate};
 ghost use Rattle.std.specs.Simd.Lanes.{mask_l};
 ghost use Rattle.utf16_units.specs.Encoding.{units_of};
@@ -81,4 +81,14 @@ pub(crate) fn paired<const N: usize>(highs: Simd<u8, N>, before: bool) -> Option
     } else {
         None
     }
+}
+
+// Whether thirty-two units are ASCII: no byte is above that of U+007F in its place.
+#[inline(always)]
+pub(crate) fn is_ascii_block<E: Utf16Order>(block: u8x64) -> bool
+    ensures { IsTrue result ↔ All (λ unit. unit < 0x80) (units_of E.BIG block) }
+{
+    let last = E::write_unit(0x7F);
+    let (limits, _) = u8x64::splat(last[0]).interleave(u8x64::splat(last[1]));
+    block.simd_gt(limits).to_bitmask() == 0
 }

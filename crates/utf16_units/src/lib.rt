@@ -6,6 +6,7 @@ mod error;
 mod lanes;
 pub mod laws;
 mod order;
+pub mod text;
 mod unit;
 mod validate;
 
