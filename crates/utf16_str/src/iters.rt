@@ -56,7 +56,12 @@ impl<'a, E: Utf16Order> WStrChars<'a, E> {
     pub fn count(self) -> usize
         ensures { result ≡ length self.entry }
     {
-        count_chars::<E>(self.rest.as_bytes())
+        let raw = self.rest.as_bytes();
+        if raw.len() < 64 {
+            count_few::<E>(raw)
+        } else {
+            count_chars::<E>(raw)
+        }
     }
 
     /// The last character left, or `None` where none is. One look at the end.
@@ -194,6 +199,21 @@ impl<'a, E: Utf16Order> fmt::Debug for WStrCharIndices<'a, E> {
             .field("chars", &self.chars)
             .finish()
     }
+}
+
+// How many characters a short text has, one after another.
+fn count_few<E: Utf16Order>(raw: &[u8]) -> usize
+    requires { IsText E.BIG raw.now }
+    ensures { result ≡ length (text_of E.BIG raw.now) }
+{
+    let mut count = 0;
+    let mut rest = raw;
+    while !rest.is_empty() {
+        let (_, size) = first_char::<E>(rest);
+        rest = &rest[size..];
+        count += 1;
+    }
+    count
 }
 
 // The first character of a text that is not empty, and how many bytes it takes.

@@ -207,7 +207,12 @@ impl<'a, E: Utf16Order> WStr<'a, E> {
     pub fn is_ascii(&self) -> bool
         ensures { IsTrue result ↔ All (λ c. c < 0x80) (wstr_text self.now) }
     {
-        text::is_ascii::<E>(self.as_bytes())
+        let raw = self.as_bytes();
+        if raw.len() < 64 {
+            self.chars().all(|c| (c as u32) < 0x80)
+        } else {
+            text::is_ascii::<E>(raw)
+        }
     }
 }
 
