@@ -1,4 +1,4 @@
-//! Code units by lanes: the surrogates of a block as bits, and whether they are paired.
+//! Code units by lanes: the surrogates of a block as bits, whether they are paired, and whether a block is ASCII.
 
 ghost use Rattle.std.specs.Prelude.{◌≡◌, ◌↔◌, ◌<◌, ◌≤◌, ◌==◌, ℕ, All, List, IfSome, IsTrue, bit_and, map};
 ghost use Rattle.std.specs.Char.Utf16.{is_high_surrogate, is_low_surrogate};
