@@ -201,7 +201,8 @@ impl<'a, E: Utf16Order> fmt::Debug for WStrCharIndices<'a, E> {
     }
 }
 
-// How many characters a short text has, one after another.
+// How many characters a short text has, one after another. A call stays a call: so this loop is compiled by itself.
+#[inline(never)]
 fn count_few<E: Utf16Order>(raw: &[u8]) -> usize
     requires { IsText E.BIG raw.now }
     ensures { result ≡ length (text_of E.BIG raw.now) }

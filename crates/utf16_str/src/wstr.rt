@@ -209,10 +209,18 @@ impl<'a, E: Utf16Order> WStr<'a, E> {
     {
         let raw = self.as_bytes();
         if raw.len() < 64 {
-            self.chars().all(|c| (c as u32) < 0x80)
+            self.is_ascii_few()
         } else {
             text::is_ascii::<E>(raw)
         }
+    }
+
+    // The same of a short text, one character after another. A call stays a call: so this loop is compiled by itself.
+    #[inline(never)]
+    fn is_ascii_few(self) -> bool
+        ensures { IsTrue result ↔ All (λ c. c < 0x80) (wstr_text self.entry) }
+    {
+        self.chars().all(|c| (c as u32) < 0x80)
     }
 }
 
