@@ -84,8 +84,9 @@ pub fn resumed<E: Utf16Order, A: Allocator, B: Allocator, C: Allocator>(
     Ok(text)
 }
 
-// Puts the text of the bytes behind another, with U+FFFD for each fault that has a length; answers what is cut off at the end.
-fn resume<'a, E: Utf16Order, A: Allocator>(
+/// Puts the text of bytes behind another, with U+FFFD for each fault that has a length, and answers what is cut off at the end:
+/// the loop that Rust documents beside `Utf8Error::error_len`. The only error is a refused request for memory.
+pub fn resume<'a, E: Utf16Order, A: Allocator>(
     bytes: &'a [u8],
     to: &mut String<A>,
 ) -> Result<&'a [u8], AllocError>

@@ -8,6 +8,7 @@ ghost use Rattle.utf16_str.specs.Offsets.{char_offsets, offset_behind};
 use crate::WStr;
 use std::fmt;
 use std::marker::Model;
+use utf16_units::text::count_chars;
 use utf16_units::{
     Utf16CharExt, Utf16Order, decode_surrogates, is_leading_surrogate, is_trailing_surrogate,
 };
@@ -55,7 +56,12 @@ impl<'a, E: Utf16Order> WStrChars<'a, E> {
     pub fn count(self) -> usize
         ensures { result ≡ length self.entry }
     {
-        count_chars::<E>(self.rest.as_bytes())
+        let raw = self.rest.as_bytes();
+        if raw.len() < 64 {
+            count_few::<E>(raw)
+        } else {
+            count_chars::<E>(raw)
+        }
     }
 
     /// The last character left, or `None` where none is. One look at the end.
@@ -195,8 +201,9 @@ impl<'a, E: Utf16Order> fmt::Debug for WStrCharIndices<'a, E> {
     }
 }
 
-// How many characters a text has.
-fn count_chars<E: Utf16Order>(raw: &[u8]) -> usize
+// How many characters a short text has, one after another. A call stays a call: so this loop is compiled by itself.
+#[inline(never)]
+fn count_few<E: Utf16Order>(raw: &[u8]) -> usize
     requires { IsText E.BIG raw.now }
     ensures { result ≡ length (text_of E.BIG raw.now) }
 {

@@ -20,7 +20,8 @@ use std::fmt;
 use std::hash::{Hash, Hasher};
 use std::marker::PhantomData;
 use utf16_units::{
-    BigEndian, LittleEndian, Utf16Error, Utf16Order, is_trailing_surrogate, validate_raw_utf16,
+    BigEndian, LittleEndian, Utf16Error, Utf16Order, is_trailing_surrogate, text,
+    validate_raw_utf16,
 };
 
 /// A borrowed UTF-16 string in the byte order `E`, a view of the caller's bytes. It always holds well-formed text, and is
@@ -201,9 +202,23 @@ impl<'a, E: Utf16Order> WStr<'a, E> {
         WStrCharIndices::new(self)
     }
 
-    /// Whether every character is ASCII, below U+0080. It asks the characters and not the bytes.
+    /// Whether every character is ASCII, below U+0080. It asks the characters and not the bytes. One pass, up to the first block
+    /// that has another character.
     pub fn is_ascii(&self) -> bool
         ensures { IsTrue result ↔ All (λ c. c < 0x80) (wstr_text self.now) }
+    {
+        let raw = self.as_bytes();
+        if raw.len() < 64 {
+            self.is_ascii_few()
+        } else {
+            text::is_ascii::<E>(raw)
+        }
+    }
+
+    // The same of a short text, one character after another. A call stays a call: so this loop is compiled by itself.
+    #[inline(never)]
+    fn is_ascii_few(self) -> bool
+        ensures { IsTrue result ↔ All (λ c. c < 0x80) (wstr_text self.entry) }
     {
         self.chars().all(|c| (c as u32) < 0x80)
     }

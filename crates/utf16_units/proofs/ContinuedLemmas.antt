@@ -88,12 +88,12 @@ IsText-begins : (big : Bool) (bytes : List ℕ) (n : ℕ) → BeginsWithChar big
 IsText-begins big bytes n b = subst (IsText big) (sym b.spelled) (IsText-char big b.char b.scalar)
 
 -- two bytes of a unit that is no surrogate are a text, and so are four of a pair
-two_bytes_text : (big : Bool) (x y : ℕ) → x < 256 → y < 256 → ¬ (IsLeading (unit_of big x y)) → ¬ (IsTrailing (unit_of big x y)) → IsText big (x ∷ y ∷ [])
+pub two_bytes_text : (big : Bool) (x y : ℕ) → x < 256 → y < 256 → ¬ (IsLeading (unit_of big x y)) → ¬ (IsTrailing (unit_of big x y)) → IsText big (x ∷ y ∷ [])
 two_bytes_text big x y bx by leading trailing =
     let bytes = x ∷ y ∷ [] in
     IsText-begins big bytes 2 (one_unit_first big bytes (AreBytes-cons x (y ∷ []) bx (AreBytes-cons y [] by AreBytes-nil)) (omega arith) leading trailing)
 
-four_bytes_text : (big : Bool) (x y z w : ℕ) → x < 256 → y < 256 → z < 256 → w < 256 → IsLeading (unit_of big x y) → IsTrailing (unit_of big z w) → IsText big (x ∷ y ∷ z ∷ w ∷ [])
+pub four_bytes_text : (big : Bool) (x y z w : ℕ) → x < 256 → y < 256 → z < 256 → w < 256 → IsLeading (unit_of big x y) → IsTrailing (unit_of big z w) → IsText big (x ∷ y ∷ z ∷ w ∷ [])
 four_bytes_text big x y z w bx by bz bw leading trailing =
     let bytes = x ∷ y ∷ z ∷ w ∷ [] in
     IsText-begins big bytes 4 (pair_first big bytes

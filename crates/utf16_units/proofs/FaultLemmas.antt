@@ -22,7 +22,7 @@ no_text_begins big rest n none within t = at_text t.text t.encodes where
       (sym (take-append-drop n rest) ∙ ap (λ t. t ++ drop n rest) (sym e.spelled ∙ encode-cons big c text)
       ∙ append_assoc (char_bytes big c) (encode big text) (drop n rest)))
 
-take-past : (front rest : List ℕ) (n : ℕ) → take (length front + n) (front ++ rest) ≡ front ++ take n rest
+pub take-past : (front rest : List ℕ) (n : ℕ) → take (length front + n) (front ++ rest) ≡ front ++ take n rest
 take-past [] rest n =
     let same : 0 + n ≡ n = omega arith in
     ap (λ k. take k rest) same

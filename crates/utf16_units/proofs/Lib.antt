@@ -20,3 +20,8 @@ pub mod ContinuedLemmas
 pub mod LawProofs
 pub mod BackChar
 pub mod Tests
+pub mod LaneLemmas
+pub mod UnitsUpTo
+pub mod CountLemmas
+pub mod AsciiLemmas
+pub mod PairLemmas

@@ -8,3 +8,4 @@ pub mod Continued
 pub mod Laws
 pub mod Split
 pub mod Recipe
+pub mod Lanes

@@ -1,10 +1,14 @@
 //! UTF-16 units and bytes: byte orders, surrogates, one character, the validator and its error.
 #![tactic(auto)]
 
+#[cfg(test)]
+mod block_tests;
 mod char;
 mod error;
+mod lanes;
 pub mod laws;
 mod order;
+pub mod text;
 mod unit;
 mod validate;
 

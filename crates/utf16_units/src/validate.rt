@@ -1,11 +1,14 @@
 //! The test whether bytes are well-formed UTF-16.
 
-ghost use Rattle.std.specs.Prelude.{◌≡◌, ◌↔◌, ◌<◌, length, IsOk, IfOk, IfErr};
+ghost use Rattle.std.specs.Prelude.{◌≡◌, ◌↔◌, ◌<◌, ◌≤◌, length, take, IsOk, IfOk, IfErr};
 ghost use Rattle.utf16_units.specs.Encoding.{IsText};
 ghost use Rattle.utf16_units.specs.Fault.{BeginsWithChar, IsFaultAt};
+ghost use Rattle.utf16_units.specs.Lanes.{PairedTo};
 ghost use Rattle.utf16_units.specs.Utf16Error.{IsErrorOf};
 
+use crate::lanes::{high_bytes16, high_bytes32, paired};
 use crate::{Utf16Error, Utf16Order, is_leading_surrogate, is_trailing_surrogate};
+use std::simd::prelude::*;
 
 /// Tests in one pass whether `raw` is well-formed UTF-16 in the order `E`. The error says how many bytes from the front
 /// are, and what stands there: see [`Utf16Error`].
@@ -13,7 +16,62 @@ pub fn validate_raw_utf16<E: Utf16Order>(raw: &[u8]) -> Result<(), Utf16Error>
     ensures text { IsOk result ↔ IsText E.BIG raw.now }
     ensures error { IfErr result (IsErrorOf E.BIG raw.now) }
 {
-    let mut valid_up_to = 0;
+    validate_units::<E>(raw, passed_blocks::<E>(raw))
+}
+
+// How many bytes from the front are well formed, as far as whole blocks show it. Short fields are left to the unit loop.
+fn passed_blocks<E: Utf16Order>(raw: &[u8]) -> usize
+    ensures within { result ≤ length raw.now }
+    ensures text { IsText E.BIG (take result raw.now) }
+{
+    if raw.len() < 32 {
+        return 0;
+    }
+    let (whole, leading) = paired_blocks::<E>(raw);
+    let (at, leading) = paired_half_block::<E>(raw, whole, leading);
+    if leading { at - 2 } else { at }
+}
+
+// How far blocks of 64 bytes pass, and whether the last unit there is leading.
+fn paired_blocks<E: Utf16Order>(raw: &[u8]) -> (usize, bool)
+    ensures { PairedTo E.BIG raw.now result.0 result.1 }
+{
+    let mut at = 0;
+    let mut leading = false;
+    while raw.len() - at >= 64 {
+        let block = u8x64::from_slice(&raw[at..]);
+        let Some(last) = paired(high_bytes32::<E>(block), leading) else {
+            break;
+        };
+        leading = last;
+        at += 64;
+    }
+    (at, leading)
+}
+
+// The same with one block of 32 bytes behind them, where it passes.
+fn paired_half_block<E: Utf16Order>(raw: &[u8], at: usize, leading: bool) -> (usize, bool)
+    requires { PairedTo E.BIG raw.now at leading }
+    ensures { PairedTo E.BIG raw.now result.0 result.1 }
+{
+    if raw.len() - at < 32 {
+        return (at, leading);
+    }
+    let block = u8x32::from_slice(&raw[at..]);
+    match paired(high_bytes16::<E>(block), leading) {
+        Some(last) => (at + 32, last),
+        None => (at, leading),
+    }
+}
+
+// The same test unit by unit, from a place on that well-formed bytes end at.
+pub(crate) fn validate_units<E: Utf16Order>(raw: &[u8], from: usize) -> Result<(), Utf16Error>
+    requires within { from ≤ length raw.now }
+    requires before { IsText E.BIG (take from raw.now) }
+    ensures text { IsOk result ↔ IsText E.BIG raw.now }
+    ensures error { IfErr result (IsErrorOf E.BIG raw.now) }
+{
+    let mut valid_up_to = from;
     while valid_up_to < raw.len() {
         match first_char_len::<E>(&raw[valid_up_to..]) {
             Ok(len) => valid_up_to += len,

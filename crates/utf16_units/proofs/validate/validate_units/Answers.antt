@@ -1,11 +1,7 @@
 use Rattle.std.proofs.Common.{arith}
 use Rattle.std.proofs.lemmas.Grind.{common_steps}
-use Rattle.utf16_units.proofs.EncodingLemmas.{IsText-nil}
 use Rattle.utf16_units.proofs.FaultLemmas.{IsText-step, faults}
-use Rattle.utf16_units.proofs.validate.validate_raw_utf16.Goals as goal
-
-pub loop-valid_up_to-init : goal.loop-valid_up_to-init
-loop-valid_up_to-init g c = (omega arith, IsText-nil g.E.Utf16Order.BIG)
+use Rattle.utf16_units.proofs.validate.validate_units.Goals as goal
 
 pub loop-valid_up_to-preserved : goal.loop-valid_up_to-preserved
 loop-valid_up_to-preserved g c =

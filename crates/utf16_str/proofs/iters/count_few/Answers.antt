@@ -4,7 +4,7 @@ use Rattle.std.proofs.lemmas.List.{nil_from_length}
 use Rattle.utf16_units.specs.Encoding.{text_of}
 use Rattle.utf16_units.proofs.BoundaryLemmas.{length-le-size}
 use Rattle.utf16_units.proofs.EncodingLemmas.{length-text, text_of-nil}
-use Rattle.utf16_str.proofs.iters.count_chars.Goals as goal
+use Rattle.utf16_str.proofs.iters.count_few.Goals as goal
 
 pub overflow_add-count : goal.overflow_add-count
 overflow_add-count g c =

@@ -1,6 +1,6 @@
 use Rattle.std.proofs.Common.{length, take, ◌-◌, ◌≤◌}
 use Rattle.utf16_units.specs.Encoding.{IsText}
-use Rattle.utf16_units.proofs.validate.validate_raw_utf16.Given as goal
+use Rattle.utf16_units.proofs.validate.validate_units.Given as goal
 
 -- the bytes before `valid_up_to` are well formed
 abbrev pub invariant-loop-valid_up_to : goal.invariant-loop-valid_up_to

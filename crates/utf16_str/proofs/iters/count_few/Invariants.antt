@@ -1,6 +1,6 @@
 use Rattle.std.proofs.Common.{◌≡◌, ◌+◌, length}
 use Rattle.utf16_units.specs.Encoding.{IsText, text_of}
-use Rattle.utf16_str.proofs.iters.count_chars.Given as goal
+use Rattle.utf16_str.proofs.iters.count_few.Given as goal
 
 -- the characters counted and those left are all of them
 abbrev pub invariant-loop-rest : goal.invariant-loop-rest

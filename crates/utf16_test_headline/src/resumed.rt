@@ -1,0 +1,118 @@
+//! The plain loop that follows the error's fields, beside the decoder of streams: the same text, and the same bytes kept.
+
+use std::fmt::Debug;
+use std::process::Abort;
+use utf16_callers_streams::headline::{resume, resumed};
+use utf16_testing::texts::{FAULT_TEXTS, FAULTS};
+use utf16_tools::Lossy;
+use utf16string::{BE, LE, Utf16Order};
+
+// Whether the order is big endian, the bytes, what they show, and what is kept.
+const ROWS: [(bool, &[u8], &str, &[u8]); 6] = [
+    (
+        false,
+        &[0x00, 0xD8, 0x00, 0xD8, 0x00, 0xDC],
+        "\u{FFFD}\u{10000}",
+        &[],
+    ),
+    (
+        false,
+        &[0x00, 0xD8, 0x00, 0xD8, 0x00],
+        "\u{FFFD}",
+        &[0x00, 0xD8, 0x00],
+    ),
+    (false, &[0x00, 0xD8, 0x00], "", &[0x00, 0xD8, 0x00]),
+    (
+        true,
+        &[0x00, 0x68, 0xDC, 0x00, 0xD8, 0x00, 0xDC],
+        "h\u{FFFD}",
+        &[0xD8, 0x00, 0xDC],
+    ),
+    (true, &[0xD8, 0x00, 0x00, 0x41, 0x00], "\u{FFFD}A", &[0x00]),
+    (true, &[], "", &[]),
+];
+
+fn equal<T: PartialEq + Debug + Drop>(rt: &impl Abort, found: T, wanted: T) {
+    assert_eq!(rt; found, wanted);
+}
+
+// The plain loop and a decoder that is fed the bytes at once: what both show, and what both keep.
+fn shows<E: Utf16Order>(rt: &(impl Abort + AllocGlobal), bytes: &[u8], wanted: &str, kept: &[u8]) {
+    let mut text = String::new(rt.alloc());
+    let rest = resume::<E, _>(bytes, &mut text).expect(rt, "memory");
+    equal(rt, text.as_str(), wanted);
+    equal(rt, rest, kept);
+    let mut decoder = Lossy::<E>::new();
+    let fed = decoder.feed(rt.alloc(), bytes).expect(rt, "memory");
+    equal(rt, fed.as_str(), wanted);
+    equal(rt, decoder.pending(), kept);
+}
+
+// The plain loop and a decoder agree on the bytes, both in what they show and in what they keep.
+fn agree<E: Utf16Order>(rt: &(impl Abort + AllocGlobal), bytes: &[u8]) {
+    let mut decoder = Lossy::<E>::new();
+    let fed = decoder.feed(rt.alloc(), bytes).expect(rt, "memory");
+    shows::<E>(rt, bytes, fed.as_str(), decoder.pending());
+}
+
+// The bytes, cut behind each of them whose bit is set, the first byte's being the lowest.
+fn cut(rt: &(impl Abort + AllocGlobal), bytes: &[u8], cuts: u64) -> Vec<Vec<u8>> {
+    let mut pieces = Vec::new(rt.alloc());
+    let mut piece = Vec::new(rt.alloc());
+    let mut cuts = cuts;
+    for byte in bytes {
+        piece.push(*byte).expect(rt, "memory");
+        if cuts % 2 == 1 {
+            pieces.push(piece).expect(rt, "memory");
+            piece = Vec::new(rt.alloc());
+        }
+        cuts /= 2;
+    }
+    pieces.push(piece).expect(rt, "memory");
+    pieces
+}
+
+fn every_cutting_is<E: Utf16Order>(rt: &(impl Abort + AllocGlobal), bytes: &[u8], wanted: &str) {
+    let mut ways: u64 = 1;
+    for _ in bytes {
+        ways = ways.saturating_mul(2);
+    }
+    for cuts in 0..ways / 2 {
+        let pieces = cut(rt, bytes, cuts);
+        let text = resumed::<E, _, _, _>(rt.alloc(), rt.alloc(), &pieces).expect(rt, "memory");
+        equal(rt, text.as_str(), wanted);
+    }
+}
+
+#[test]
+fn known_streams_and_what_is_kept(rt: HostRuntime) {
+    for (big, bytes, wanted, kept) in &ROWS {
+        if *big {
+            shows::<BE>(&rt, bytes, wanted, kept);
+        } else {
+            shows::<LE>(&rt, bytes, wanted, kept);
+        }
+    }
+}
+
+#[test]
+fn each_known_fault_by_both(rt: HostRuntime) {
+    for (big, bytes, ..) in &FAULTS {
+        if *big {
+            agree::<BE>(&rt, bytes);
+        } else {
+            agree::<LE>(&rt, bytes);
+        }
+    }
+}
+
+#[test]
+fn each_known_fault_resumed_over_every_cutting(rt: HostRuntime) {
+    for ((big, bytes, ..), wanted) in FAULTS.iter().zip(&FAULT_TEXTS) {
+        if *big {
+            every_cutting_is::<BE>(&rt, bytes, wanted);
+        } else {
+            every_cutting_is::<LE>(&rt, bytes, wanted);
+        }
+    }
+}

@@ -1,0 +1,161 @@
+-- The lanes of a block: the high bytes of its units, and the bits of its surrogates.
+use Rattle.std.proofs.Common.{◌≡◌, ℕ, zero, suc, ◌+◌, ◌-◌, ◌*◌, ◌/◌, ◌%◌, ◌^◌, ◌<◌, ◌≤◌, ◌&&◌, Bool, true, false, cond, eqb, leb, ltb, List, [], ◌∷◌, ◌++◌, map, length, get_or, replicate, bit_and, refl, sym, ap, ap₂, ◌∙◌, subst, ⊎_elim, arith, Fits, w8, length-append}
+use Rattle.std.proofs.lemmas.Bool.{and_parts, cases_Bool, cases_lt, eqb-false, eqb-true, false_from_ne_true, le-leb, leb-true, lt-leb, lt-ltb, ltb-true}
+use Rattle.std.proofs.lemmas.List.{length-map}
+use Rattle.std.proofs.lemmas.Nat.{mod_low, one_shl}
+use Rattle.std.proofs.lemmas.Nat.Bits.{and_high}
+use Rattle.std.proofs.lemmas.Simd.{bitmask_splat, map-map, mask_l-lt, zip2_splat}
+use Rattle.std.proofs.Math.Nat.{mod-eq_of_lt, pow-le-pow_right, two-pow-succ}
+use Rattle.std.specs.Char.Utf16.{is_high_surrogate, is_low_surrogate}
+use lib.Lanes.{Each1, mask_l, pick_l, top, zip2}
+use mir.Val.{bool_byte}
+use Rattle.utf16_units.specs.Encoding.{units_of}
+use Rattle.utf16_units.specs.Lanes.{Paired, high_byte}
+
+-- every second position, from i on
+abbrev pub positions : ℕ → ℕ → List ℕ
+positions i zero = []
+positions i (suc n) = i ∷ positions (suc (suc i)) n
+
+-- where the high byte of the first unit stands
+abbrev pub high_at : Bool → ℕ
+high_at big = cond big 0 1
+
+positions-past : (x y i n : ℕ) (bytes : List ℕ) → pick_l 0 (x ∷ y ∷ bytes) (positions (suc (suc i)) n) ≡ pick_l 0 bytes (positions i n)
+positions-past x y i zero bytes = refl
+positions-past x y i (suc n) bytes = ap (λ t. get_or bytes i 0 ∷ t) (positions-past x y (suc (suc i)) n bytes)
+
+-- every second byte is the high byte of a unit
+pub high_bytes-picked : (big : Bool) (n : ℕ) (bytes more : List ℕ) → length bytes ≡ n + n → Each1 (Fits w8) bytes
+    → pick_l 0 (bytes ++ more) (positions (high_at big) n) ≡ map high_byte (units_of big bytes)
+unfolding units_of
+high_bytes-picked big zero [] more long fit = refl
+high_bytes-picked big zero (x ∷ bytes) more long fit = absurd (omega arith)
+high_bytes-picked big (suc n) [] more long fit = absurd (omega arith)
+high_bytes-picked big (suc n) (x ∷ []) more long fit = absurd (omega arith)
+high_bytes-picked true (suc n) (x ∷ y ∷ bytes) more long fit =
+    let here : (256 * x + y) / 256 ≡ x = omega (arith, fit.1.0.fits) in
+    ap₂ (λ b t. b ∷ t) (sym here) (positions-past x y 0 n (bytes ++ more) ∙ high_bytes-picked true n bytes more (omega arith) fit.1.1)
+high_bytes-picked false (suc n) (x ∷ y ∷ bytes) more long fit =
+    let here : (256 * y + x) / 256 ≡ y = omega (arith, fit.0.fits) in
+    ap₂ (λ b t. b ∷ t) (sym here) (positions-past x y 1 n (bytes ++ more) ∙ high_bytes-picked false n bytes more (omega arith) fit.1.1)
+
+-- the bits of the bytes that a mask makes equal to a class
+pub class_bits-mask_l : (highs : List ℕ) (n mask class : ℕ) → length highs ≡ n → n ≤ 64
+    → mask_l (map (top 7) (zip2 (λ a b. cond (eqb a b) 255 0) (zip2 bit_and highs (replicate n mask)) (replicate n class))) % 2 ^ 64
+    ≡ mask_l (map (λ high. eqb (bit_and high mask) class) highs)
+class_bits-mask_l highs n mask class long few =
+    let masked = zip2_splat bit_and highs n mask long in
+    bitmask_splat w8 eqb (zip2 bit_and highs (replicate n mask)) n class (ap length masked ∙ length-map highs _ ∙ long) few
+    ∙ ap (λ bs. mask_l (map (λ b. eqb b class) bs)) masked
+    ∙ ap mask_l (map-map (λ b. eqb b class) (λ high. bit_and high mask) highs)
+
+-- ---- the two classes of surrogates, each of 1024 units: at 54 the leading ones, at 55 the trailing ones
+
+abbrev pub in_class : ℕ → ℕ → Bool
+in_class m unit = leb (1024 * m) unit && ltb unit (1024 * m + 1024)
+
+class_of_high : (m unit : ℕ) → unit / 256 < 256 → m < 64 → eqb (bit_and (high_byte unit) 0xFC) (4 * m) ≡ in_class m unit
+class_of_high m unit byte few =
+    let upper : bit_and (unit / 256) 0xFC ≡ unit / 256 / 4 % 64 * 4 = and_high (unit / 256) 6 2 in
+    ⊎_elim
+    (λ (yes : eqb (bit_and (unit / 256) 0xFC) (4 * m) ≡ true).
+    let same = eqb-true _ _ yes in
+    yes ∙ sym (ap₂ (λ x y. x && y) (le-leb (1024 * m) unit (omega arith)) (lt-ltb unit (1024 * m + 1024) (omega arith))))
+    (λ (no : eqb (bit_and (unit / 256) 0xFC) (4 * m) ≡ false).
+    no ∙ sym (false_from_ne_true (in_class m unit) (λ yes.
+    let parts = and_parts (leb (1024 * m) unit) (ltb unit (1024 * m + 1024)) yes in
+    let from = leb-true _ _ parts.0 in
+    let below = ltb-true _ _ parts.1 in
+    eqb-false _ _ no (omega arith))))
+    (cases_Bool (eqb (bit_and (unit / 256) 0xFC) (4 * m)))
+
+classes_of_highs : (m : ℕ) (units : List ℕ) → m < 64 → Each1 (Fits w8) (map high_byte units)
+    → map (λ high. eqb (bit_and high 0xFC) (4 * m)) (map high_byte units) ≡ map (in_class m) units
+classes_of_highs m [] few fit = refl
+classes_of_highs m (unit ∷ units) few fit = ap₂ (λ b bs. b ∷ bs) (class_of_high m unit fit.0.fits few) (classes_of_highs m units few fit.1)
+
+-- the bits of a class, of the units that have these high bytes
+pub class_bits-units : (m : ℕ) (units highs : List ℕ) → m < 64 → Each1 (Fits w8) highs → map high_byte units ≡ highs
+    → mask_l (map (λ high. eqb (bit_and high 0xFC) (4 * m)) highs) ≡ mask_l (map (in_class m) units)
+class_bits-units m units highs few fit e =
+    ap (λ hs. mask_l (map (λ high. eqb (bit_and high 0xFC) (4 * m)) hs)) (sym e)
+    ∙ ap mask_l (classes_of_highs m units few (subst (Each1 (Fits w8)) (sym e) fit))
+
+-- each list of bytes is the high bytes of some units
+pub some_units : (highs : List ℕ) → map high_byte (map (λ high. 256 * high) highs) ≡ highs
+some_units [] = refl
+some_units (high ∷ highs) = ap₂ (λ h hs. h ∷ hs) (omega arith) (some_units highs)
+
+-- ---- pairs, by bits
+
+mask_l-last : (bits : List Bool) (last : Bool) → mask_l (bits ++ last ∷ []) ≡ mask_l bits + cond last (2 ^ length bits) 0
+mask_l-last [] true = refl
+mask_l-last [] false = refl
+mask_l-last (b ∷ bits) true = omega (arith, mask_l-last bits true, two-pow-succ (length bits))
+mask_l-last (b ∷ bits) false = omega (arith, mask_l-last bits false)
+
+same_bit : (a b : Bool) (m n : ℕ) → cond a 1 0 + 2 * m ≡ cond b 1 0 + 2 * n → (a ≡ b) × (m ≡ n)
+same_bit true true m n e = (refl, omega arith)
+same_bit true false m n e = absurd (omega arith)
+same_bit false true m n e = absurd (omega arith)
+same_bit false false m n e = (refl, omega arith)
+
+mask_l-injective : (xs ys : List Bool) → length xs ≡ length ys → mask_l xs ≡ mask_l ys → xs ≡ ys
+mask_l-injective [] [] long e = refl
+mask_l-injective [] (y ∷ ys) long e = absurd (omega arith)
+mask_l-injective (x ∷ xs) [] long e = absurd (omega arith)
+mask_l-injective (x ∷ xs) (y ∷ ys) long e =
+    let parts = same_bit x y (mask_l xs) (mask_l ys) e in
+    ap₂ (λ b bs. b ∷ bs) parts.0 (mask_l-injective xs ys (omega arith) parts.1)
+
+-- a number below twice a power of two, by its last bits and the one above them
+halves : (e k : ℕ) → e < 2 ^ k + 2 ^ k → e % 2 ^ k + cond (leb (2 ^ k) e) (2 ^ k) 0 ≡ e
+halves e k below = ⊎_elim
+    (λ (low : e < 2 ^ k). ap₂ (λ r b. r + cond b (2 ^ k) 0) (mod-eq_of_lt low) (lt-leb (2 ^ k) e low) ∙ omega arith)
+    (λ (high : 2 ^ k ≤ e).
+    let split : e ≡ 1 * 2 ^ k + (e - 2 ^ k) = omega arith in
+    ap₂ (λ r b. r + cond b (2 ^ k) 0) (ap (λ n. n % 2 ^ k) split ∙ mod_low 1 k (e - 2 ^ k) (omega arith)) (le-leb (2 ^ k) e high) ∙ omega arith)
+    (cases_lt e (2 ^ k))
+
+byte-cond : (b : Bool) → bool_byte b ≡ cond b 1 0
+byte-cond true = refl
+byte-cond false = refl
+
+bit-below : (b : Bool) → cond b 1 0 < 2
+bit-below true = omega arith
+bit-below false = omega arith
+
+module _ (highs : List ℕ) (n leading : ℕ) (long : length highs ≡ n)
+    (bits : (units : List ℕ) → map high_byte units ≡ highs → leading ≡ mask_l (map is_high_surrogate units)) where
+  count : {A : Type 0} (f : ℕ → A) (units : List ℕ) → map high_byte units ≡ highs → length (map f units) ≡ n
+  count f units e = length-map units f ∙ sym (length-map units high_byte) ∙ ap length e ∙ long
+
+  leading-below : leading < 2 ^ n
+  leading-below =
+      let units = map (λ high. 256 * high) highs in
+      subst (λ k. leading < 2 ^ k) (count is_high_surrogate units (some_units highs))
+      (subst (λ l. l < 2 ^ length (map is_high_surrogate units)) (sym (bits units (some_units highs))) (mask_l-lt (map is_high_surrogate units)))
+
+  pub expected-fits : (before : Bool) → n ≤ 32 → 2 * leading + bool_byte before < 2 ^ 34
+  expected-fits before few =
+      let most : 2 ^ n ≤ 2 ^ 32 = pow-le-pow_right {n = 2} (omega arith) few in
+      omega (arith, leading-below, byte-cond before, bit-below before)
+
+  -- where the trailing units are the leading ones one place on, the surrogates are paired, and the bit above says whether the
+  -- last unit is leading
+  pub paired_by_bits : (before : Bool) (units : List ℕ) → n ≤ 32 → map high_byte units ≡ highs
+      → mask_l (map is_low_surrogate units) ≡ (2 * leading + bool_byte before) % (1 * 2 ^ n % 2 ^ 64)
+      → Paired before units (leb (1 * 2 ^ n % 2 ^ 64) (2 * leading + bool_byte before))
+  paired_by_bits before units few have e =
+      let expected = 2 * leading + bool_byte before in
+      let power : 1 * 2 ^ n % 2 ^ 64 ≡ 2 ^ n = one_shl n 64 (omega arith) in
+      let after = leb (1 * 2 ^ n % 2 ^ 64) expected in
+      let lows = map is_low_surrogate units in
+      let low_count = count is_low_surrogate units have in
+      mask_l-injective (lows ++ after ∷ []) (before ∷ map is_high_surrogate units)
+      (omega (arith, length-append lows (after ∷ []), low_count, count is_high_surrogate units have))
+      (mask_l-last lows after ∙ ap (λ k. mask_l lows + cond after (2 ^ k) 0) low_count
+      ∙ ap₂ (λ m b. m + cond b (2 ^ n) 0) (e ∙ ap (λ p. expected % p) power) (ap (λ p. leb p expected) power)
+      ∙ halves expected n (omega (arith, leading-below, byte-cond before, bit-below before))
+      ∙ omega (arith, bits units have, byte-cond before))

@@ -1,0 +1,7 @@
+use Rattle.utf16_units.proofs.AsciiLemmas.{ascii_bytes}
+use Rattle.utf16_units.proofs.text.is_ascii.Goals as goal
+
+pub returns : goal.returns
+returns g c =
+    let same = ascii_bytes g.E.Utf16Order.BIG c.args.raw.now c.requires in
+    (λ e. same.0 (c.has_ascii_units.ensures.0 e), λ all. c.has_ascii_units.ensures.1 (same.1 all))

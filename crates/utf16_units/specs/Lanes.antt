@@ -1,0 +1,19 @@
+-- Blocks of code units: what lanes see of a unit, and how surrogates are paired.
+use Rattle.std.specs.Prelude.{◌≡◌, ℕ, ◌/◌, ◌%◌, ◌≤◌, Bool, false, List, [], ◌∷◌, ◌++◌, length, map, take}
+use Rattle.std.specs.Char.Utf16.{is_high_surrogate, is_low_surrogate}
+use Rattle.utf16_units.specs.Encoding.{units_of}
+
+-- the high byte of a unit: it alone says whether the unit is a surrogate, and of which class
+abbrev pub high_byte : ℕ → ℕ
+high_byte unit = unit / 256
+
+-- each unit is a trailing surrogate exactly where the one before it is a leading one (Unicode 3.8, surrogate pair): `before`
+-- says whether the unit before the first is leading, `after` whether the last one is
+abbrev pub Paired : Bool → List ℕ → Bool → Type 0
+Paired before units after = map is_low_surrogate units ++ after ∷ [] ≡ before ∷ map is_high_surrogate units
+
+-- the bytes up to `at` are whole units whose surrogates are paired, and `after` says whether the last one is leading
+pub record PairedTo (big : Bool) (bytes : List ℕ) (at : ℕ) (after : Bool) : Type 0 where
+  pub within : at ≤ length bytes
+  pub even : at % 2 ≡ 0
+  pub paired : Paired false (units_of big (take at bytes)) after

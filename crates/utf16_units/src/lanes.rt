@@ -1,0 +1,94 @@
+//! Code units by lanes: the surrogates of a block as bits, whether they are paired, and whether a block is ASCII.
+
+ghost use Rattle.std.specs.Prelude.{◌≡◌, ◌↔◌, ◌<◌, ◌≤◌, ◌==◌, ℕ, All, List, IfSome, IsTrue, bit_and, map};
+ghost use Rattle.std.specs.Char.Utf16.{is_high_surrogate, is_low_surrogate};
+ghost use Rattle.std.specs.Simd.Lanes.{mask_l};
+ghost use Rattle.utf16_units.specs.Encoding.{units_of};
+ghost use Rattle.utf16_units.specs.Lanes.{Paired, high_byte};
+
+use crate::Utf16Order;
+use std::simd::prelude::*;
+
+// The high bytes of thirty-two units.
+#[inline(always)]
+pub(crate) fn high_bytes32<E: Utf16Order>(block: u8x64) -> u8x32
+    ensures { result ≡ map high_byte (units_of E.BIG block) }
+{
+    if E::BIG {
+        block.swizzle([
+            0, 2, 4, 6, 8, 10, 12, 14, 16, 18, 20, 22, 24, 26, 28, 30, 32, 34, 36, 38, 40, 42, 44,
+            46, 48, 50, 52, 54, 56, 58, 60, 62,
+        ])
+    } else {
+        block.swizzle([
+            1, 3, 5, 7, 9, 11, 13, 15, 17, 19, 21, 23, 25, 27, 29, 31, 33, 35, 37, 39, 41, 43, 45,
+            47, 49, 51, 53, 55, 57, 59, 61, 63,
+        ])
+    }
+}
+
+// The high bytes of sixteen units.
+#[inline(always)]
+pub(crate) fn high_bytes16<E: Utf16Order>(block: u8x32) -> u8x16
+    ensures { result ≡ map high_byte (units_of E.BIG block) }
+{
+    if E::BIG {
+        block.swizzle([0, 2, 4, 6, 8, 10, 12, 14, 16, 18, 20, 22, 24, 26, 28, 30])
+    } else {
+        block.swizzle([1, 3, 5, 7, 9, 11, 13, 15, 17, 19, 21, 23, 25, 27, 29, 31])
+    }
+}
+
+// A bit for each unit whose high byte has these upper six bits.
+#[inline(always)]
+fn class_bits<const N: usize>(highs: Simd<u8, N>, class: u8) -> u64
+    requires { N ≤ 64 }
+    ensures { result ≡ mask_l (map (λ high. bit_and high 0xFC == class) highs.entry) }
+{
+    (highs & Simd::splat(0xFC))
+        .simd_eq(Simd::splat(class))
+        .to_bitmask()
+}
+
+// A bit for each leading surrogate.
+#[inline(always)]
+fn leading_bits<const N: usize>(highs: Simd<u8, N>) -> u64
+    requires { N ≤ 64 }
+    ensures { (units : List ℕ) → map high_byte units ≡ highs.entry → result ≡ mask_l (map is_high_surrogate units) }
+{
+    class_bits(highs, 0xD8)
+}
+
+// A bit for each trailing surrogate.
+#[inline(always)]
+pub(crate) fn trailing_bits<const N: usize>(highs: Simd<u8, N>) -> u64
+    requires { N ≤ 64 }
+    ensures { (units : List ℕ) → map high_byte units ≡ highs.entry → result ≡ mask_l (map is_low_surrogate units) }
+{
+    class_bits(highs, 0xDC)
+}
+
+// Whether the last unit is leading, where the surrogates are paired: each unit is trailing exactly where the one before it
+// is leading, and of the unit before the first `before` says it.
+#[inline(always)]
+pub(crate) fn paired<const N: usize>(highs: Simd<u8, N>, before: bool) -> Option<bool>
+    requires { N ≤ 32 }
+    ensures { IfSome result (λ after. (units : List ℕ) → map high_byte units ≡ highs.entry → Paired before units after) }
+{
+    let expected = 2 * leading_bits(highs) + before as u64;
+    if trailing_bits(highs) == expected % (1 << N) {
+        Some(expected >= 1 << N)
+    } else {
+        None
+    }
+}
+
+// Whether thirty-two units are ASCII: no byte is above that of U+007F in its place.
+#[inline(always)]
+pub(crate) fn is_ascii_block<E: Utf16Order>(block: u8x64) -> bool
+    ensures { IsTrue result ↔ All (λ unit. unit < 0x80) (units_of E.BIG block) }
+{
+    let last = E::write_unit(0x7F);
+    let (limits, _) = u8x64::splat(last[0]).interleave(u8x64::splat(last[1]));
+    block.simd_gt(limits).to_bitmask() == 0
+}
