@@ -113,7 +113,7 @@ pub fn decode_pieces<E: Utf16Order, A: Allocator, B: Allocator>(
     Ok(text)
 }
 
-// Asks for room for the longest answer to so many bytes: a code unit takes at most three bytes of UTF-8. Helder than four bytes may
+// Asks for room for the longest answer to so many bytes: a code unit takes at most three bytes of UTF-8. Fewer than four bytes may
 // have no answer, and have one character at most, whose room is asked for where it is put.
 fn make_room<A: Allocator>(
     pending: usize,
