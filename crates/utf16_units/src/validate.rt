@@ -16,17 +16,17 @@ pub fn validate_raw_utf16<E: Utf16Order>(raw: &[u8]) -> Result<(), Utf16Error>
     ensures text { IsOk result ↔ IsText E.BIG raw.now }
     ensures error { IfErr result (IsErrorOf E.BIG raw.now) }
 {
+    if raw.len() < 32 {
+        return validate_units::<E>(raw, 0);
+    }
     validate_units::<E>(raw, passed_blocks::<E>(raw))
 }
 
-// How many bytes from the front are well formed, as far as whole blocks show it. Short fields are left to the unit loop.
+// How many bytes from the front are well formed, as far as whole blocks show it.
 fn passed_blocks<E: Utf16Order>(raw: &[u8]) -> usize
     ensures within { result ≤ length raw.now }
     ensures text { IsText E.BIG (take result raw.now) }
 {
-    if raw.len() < 32 {
-        return 0;
-    }
     let (whole, leading) = paired_blocks::<E>(raw);
     let (at, leading) = paired_half_block::<E>(raw, whole, leading);
     if leading { at - 2 } else { at }
@@ -64,7 +64,9 @@ fn paired_half_block<E: Utf16Order>(raw: &[u8], at: usize, leading: bool) -> (us
     }
 }
 
-// The same test unit by unit, from a place on that well-formed bytes end at.
+// The same test unit by unit, from a place on that well-formed bytes end at. A copy at each call: that of short fields starts
+// at 0, and costs them what it would without blocks.
+#[inline(always)]
 pub(crate) fn validate_units<E: Utf16Order>(raw: &[u8], from: usize) -> Result<(), Utf16Error>
     requires within { from ≤ length raw.now }
     requires before { IsText E.BIG (take from raw.now) }

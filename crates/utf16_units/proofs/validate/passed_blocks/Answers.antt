@@ -1,9 +1,5 @@
-use Rattle.utf16_units.proofs.EncodingLemmas.{IsText-nil}
 use Rattle.utf16_units.proofs.PairLemmas.{PairedTo-some, PairedTo-text, PairedTo-text_before}
 use Rattle.utf16_units.proofs.validate.passed_blocks.Goals as goal
-
-pub returns-then-raw-lt32-clause-text : goal.returns-then-raw-lt32-clause-text
-returns-then-raw-lt32-clause-text g c = IsText-nil g.E.Utf16Order.BIG
 
 pub overflow_sub-result : goal.overflow_sub-result
 overflow_sub-result g c = PairedTo-some g.E.Utf16Order.BIG c.args.raw.now _ c.type_inv.raw _ c.if-leading.true c.paired_half_block-at.ensures
