@@ -1,5 +1,5 @@
 -- What the first units of bytes say of the character at their front.
-use Rattle.std.proofs.Common.{◌≡◌, ℕ, ◌+◌, ◌-◌, ◌*◌, ◌<◌, ◌≤◌, Bool, true, false, List, [], ◌∷◌, ◌++◌, length, slice_index, refl, sym, ap, ap₂, ◌∙◌, ⊎_elim, arith, flat_map, le-ltb, le-leb, lt-ltb}
+use Rattle.std.proofs.Common.{◌≡◌, ℕ, ◌+◌, ◌-◌, ◌*◌, ◌/◌, ◌<◌, ◌≤◌, Bool, true, false, List, [], ◌∷◌, ◌++◌, length, slice_index, refl, sym, ap, ap₂, ◌∙◌, ⊎_elim, arith, flat_map, le-ltb, le-leb, lt-ltb}
 use Rattle.std.proofs.lemmas.Bool.{cases_lt}
 use Rattle.std.proofs.Math.Utf8.{low_scalar}
 use Rattle.std.proofs.str.Utf16.{one_unit, pair_units}
@@ -40,6 +40,13 @@ scalar_unit unit below leading trailing = ⊎_elim
     (cases_lt unit 0xE000))
     (cases_lt unit 0xDC00))
     (cases_lt unit 0xD800)
+
+-- the surrogates are the units from 0xD800 to 0xDFFF: one that is not trailing is leading
+pub leading_of_surrogate : (unit : ℕ) → unit / 0x800 ≡ 0x1B → ¬ (IsTrailing unit) → IsLeading unit
+leading_of_surrogate unit surrogate not_trailing = ⊎_elim
+    (λ (low : unit < 0xDC00). (omega arith, omega arith))
+    (λ (high : 0xDC00 ≤ unit). absurd (not_trailing (high, omega arith)))
+    (cases_lt unit 0xDC00)
 
 pub one_unit_first : (big : Bool) (bytes : List ℕ) → AreBytes bytes → 2 ≤ length bytes
     → ¬ (IsLeading (first_unit big bytes)) → ¬ (IsTrailing (first_unit big bytes)) → BeginsWithChar big bytes 2

@@ -7,7 +7,7 @@ ghost use Rattle.utf16_units.specs.Lanes.{PairedTo};
 ghost use Rattle.utf16_units.specs.Utf16Error.{IsErrorOf};
 
 use crate::lanes::{high_bytes16, high_bytes32, paired};
-use crate::{Utf16Error, Utf16Order, is_leading_surrogate, is_trailing_surrogate};
+use crate::{Utf16Error, Utf16Order, is_trailing_surrogate};
 use std::simd::prelude::*;
 
 /// Tests in one pass whether `raw` is well-formed UTF-16 in the order `E`. The error says how many bytes from the front
@@ -100,11 +100,12 @@ fn first_char_len<E: Utf16Order>(rest: &[u8]) -> Result<usize, Option<u8>>
         return Err(None);
     }
     let unit = E::read_unit([rest[0], rest[1]]);
+    // The surrogates are the units from 0xD800 to 0xDFFF: one test for all others.
+    if unit / 0x800 != 0x1B {
+        return Ok(2);
+    }
     if is_trailing_surrogate(unit) {
         return Err(Some(2));
-    }
-    if !is_leading_surrogate(unit) {
-        return Ok(2);
     }
     if rest.len() < 4 {
         return Err(None);
