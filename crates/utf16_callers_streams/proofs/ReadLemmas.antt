@@ -1,5 +1,5 @@
 -- A stream that is read piece by piece: its text so far, and what is kept.
-use Rattle.std.proofs.Common.{◌≡◌, ◌≢◌, ℕ, ◌+◌, ◌<◌, Bool, List, [], ◌++◌, All, length, take, drop, encode_utf8_all, append_assoc, take-append-drop, take_at, refl, sym, ap, ◌∙◌, subst, arith, length-append}
+use Rattle.std.proofs.Common.{◌≡◌, ◌≢◌, ℕ, ◌+◌, ◌<◌, ◌≤◌, Bool, List, [], ◌++◌, All, get_or, flat_map, length, take, take_all, drop, encode_utf8_all, append_assoc, take-append-drop, take_at, refl, sym, ap, ◌∙◌, subst, arith, length-append}
 use Rattle.std.proofs.lemmas.List.{get_or-append-add, map-append}
 use Rattle.std.proofs.lemmas.List.Concat.{flat_map-append}
 use Rattle.std.proofs.lemmas.List.Elements.{All-append}
@@ -7,11 +7,11 @@ use Rattle.std.specs.Char.{encode_utf8}
 use Rattle.std.specs.Io.{StartsWith}
 use Rattle.utf16_units.specs.Laws.{CutAnywhere, ItemsStay, SplitExists, SplitUnique}
 use Rattle.utf16_tools.specs.Split.{full, mark, marked, split_items, split_tail}
-use Rattle.utf16_tools.proofs.StreamLemmas.{full-mark, full-none, shown-piece}
+use Rattle.utf16_tools.proofs.StreamLemmas.{full-mark, full-none, joined-more, shown-piece}
 use Rattle.utf16_units.proofs.SplitJoin.{split_tail-append}
 use Rattle.utf16_callers_streams.specs.OneSplit.{IsTextOfOneSplit}
 
-abbrev IsByte : ℕ → Type 0
+abbrev pub IsByte : ℕ → Type 0
 IsByte b = b < 256
 
 All-behind : (xs ys : List ℕ) → All IsByte (xs ++ ys) → All IsByte ys
@@ -20,39 +20,55 @@ All-behind xs ys all k d within =
     subst IsByte (get_or-append-add xs ys k d) (all (length xs + k) d (omega arith))
 
 -- the text of the bytes so far, and their tail
-pub record Reads (big : Bool) (bytes text kept : List ℕ) : Type 0 where
+pub record Told (big : Bool) (bytes text kept : List ℕ) : Type 0 where
   pub shown : text ≡ encode_utf8_all (marked (split_items big bytes))
   pub tail : kept ≡ split_tail big bytes
-  pub are : All IsByte bytes
 
-pub Reads-piece : (big : Bool) (bytes text kept piece next left : List ℕ) → Reads big bytes text kept
-    → next ≡ text ++ encode_utf8_all (marked (split_items big (kept ++ piece))) → left ≡ split_tail big (kept ++ piece) → All IsByte (kept ++ piece)
-    → Reads big (bytes ++ piece) next left
-Reads-piece big bytes text kept piece next left so_far behind after are = record {
+pub Told-piece : (big : Bool) (bytes text kept piece next left : List ℕ) → Told big bytes text kept
+    → next ≡ text ++ encode_utf8_all (marked (split_items big (kept ++ piece))) → left ≡ split_tail big (kept ++ piece)
+    → Told big (bytes ++ piece) next left
+Told-piece big bytes text kept piece next left so_far behind after = record {
   shown =
       behind ∙ ap (λ k. text ++ encode_utf8_all (marked (split_items big (k ++ piece)))) so_far.tail
       ∙ ap (λ t. t ++ encode_utf8_all (marked (split_items big (split_tail big bytes ++ piece)))) so_far.shown ∙ sym (shown-piece big bytes piece);
   tail = after ∙ ap (λ k. split_tail big (k ++ piece)) so_far.tail ∙ sym (split_tail-append big bytes piece);
-  are = All-append IsByte bytes piece so_far.are (All-behind kept piece are);
 }
 
-module _ (exists : SplitExists) (unique : SplitUnique) (big : Bool) (bytes text kept : List ℕ) (all : Reads big bytes text kept) where
-  -- the text of the computed split is that of the one split
-  pub of_one : (whole : List ℕ) → whole ≡ encode_utf8_all (full (split_items big bytes) (split_tail big bytes)) → IsTextOfOneSplit big bytes whole
-  of_one whole same = record {
-    items = split_items big bytes;
-    tail = split_tail big bytes;
-    split = exists big bytes all.are;
-    only = λ others other split. unique big bytes others (split_items big bytes) other (split_tail big bytes) split (exists big bytes all.are);
-    text = same;
-  }
+-- of a list of pieces: one more, and the last
+module _ {X : Type 0} (of : X → List ℕ) (pieces : List X) (i : ℕ) (big : Bool) (text kept : List ℕ) (so_far : Told big (flat_map of (take i pieces)) text kept) where
+  pub Told-more : (piece : X) (next left : List ℕ) → i < length pieces → piece ≡ get_or pieces i piece
+      → next ≡ text ++ encode_utf8_all (marked (split_items big (kept ++ of piece))) → left ≡ split_tail big (kept ++ of piece)
+      → Told big (flat_map of (take (i + 1) pieces)) next left
+  Told-more piece next left within is behind after =
+      subst (λ b. Told big b next left) (sym (joined-more of pieces i piece within is)) (Told-piece big _ text kept (of piece) next left so_far behind after)
 
+  pub Told-all : length pieces ≤ i → Told big (flat_map of pieces) text kept
+  Told-all past = subst (λ p. Told big (flat_map of p) text kept) (take_all i pieces past) so_far
+
+module _ (big : Bool) (bytes text kept : List ℕ) (all : Told big bytes text kept) where
   pub none_kept : kept ≡ [] → text ≡ encode_utf8_all (full (split_items big bytes) (split_tail big bytes))
   none_kept none = all.shown ∙ sym (full-none (split_items big bytes) (split_tail big bytes) (sym all.tail ∙ none))
 
   pub some_kept : (whole : List ℕ) → kept ≢ [] → whole ≡ text ++ encode_utf8 0xFFFD → whole ≡ encode_utf8_all (full (split_items big bytes) (split_tail big bytes))
   some_kept whole some mark =
       mark ∙ ap (λ t. t ++ encode_utf8 0xFFFD) all.shown ∙ sym (full-mark (split_items big bytes) (split_tail big bytes) (λ none. some (all.tail ∙ none)))
+
+-- the text of the computed split is that of the one split
+pub of_one : SplitExists → SplitUnique → (big : Bool) (bytes : List ℕ) → All IsByte bytes
+    → (whole : List ℕ) → whole ≡ encode_utf8_all (full (split_items big bytes) (split_tail big bytes)) → IsTextOfOneSplit big bytes whole
+of_one exists unique big bytes are whole same = record {
+  items = split_items big bytes;
+  tail = split_tail big bytes;
+  split = exists big bytes are;
+  only = λ others other split. unique big bytes others (split_items big bytes) other (split_tail big bytes) split (exists big bytes are);
+  text = same;
+}
+
+-- one more piece has bytes alone where what is kept and the piece do
+pub bytes-more : {X : Type 0} (of : X → List ℕ) (pieces : List X) (i : ℕ) (piece : X) (kept : List ℕ) → i < length pieces → piece ≡ get_or pieces i piece
+    → All IsByte (flat_map of (take i pieces)) → All IsByte (kept ++ of piece) → All IsByte (flat_map of (take (i + 1) pieces))
+bytes-more of pieces i piece kept within is so_far are =
+    subst (All IsByte) (sym (joined-more of pieces i piece within is)) (All-append IsByte _ _ so_far (All-behind kept (of piece) are))
 
 -- ---- what a decoder shows
 

@@ -16,7 +16,7 @@ ghost use Rattle.utf16string.specs.WString.{wstring_bytes, wstring_text};
 ghost use Rattle.utf16_callers_streams.specs.OneSplit.{IsTextOfOneSplit};
 
 use std::alloc::{AllocError, Allocator};
-use utf16_tools::{Edit, Reply, run};
+use utf16_tools::{Edit, Lossy, Reply, run};
 use utf16_units::laws::{split_exists, split_unique, unique_text};
 use utf16string::{Utf16Order, WStr, WString};
 
@@ -58,7 +58,7 @@ pub fn marked_where_refused<E: Utf16Order>(bytes: &[u8]) -> Option<(usize, Optio
 
 /// Resuming by the error, over every cutting of a stream, yields the text of the stream's one split: a plain loop that follows
 /// `valid_up_to` and `error_len`, and keeps what is cut off for the next piece. The text in UTF-8 is what `decode_pieces`
-/// answers, and what a `Lossy` that is fed the pieces does.
+/// answers, and what a `Lossy` gives that is fed the pieces: see [`fed`].
 pub fn resumed<E: Utf16Order, A: Allocator, B: Allocator, C: Allocator>(
     text_alloc: A,
     rest_alloc: B,
@@ -81,6 +81,29 @@ pub fn resumed<E: Utf16Order, A: Allocator, B: Allocator, C: Allocator>(
         return Ok(text);
     }
     text.push('\u{FFFD}')?;
+    Ok(text)
+}
+
+/// The text of a `Lossy` that is fed the pieces one by one and then finished, in UTF-8: that of [`resumed`] and of
+/// `decode_pieces`. The only error is a refused request for memory.
+pub fn fed<E: Utf16Order, A: Allocator, B: Allocator + Clone, C: Allocator>(
+    text_alloc: A,
+    answer_alloc: B,
+    pieces: &[Vec<u8, C>],
+) -> Result<String<A>, AllocError>
+    ensures { IfOk result (λ text. string_bytes text ≡ encode_utf8_all
+        (full (split_items E.BIG (flat_map vec_items pieces.now)) (split_tail E.BIG (flat_map vec_items pieces.now)))) }
+{
+    let mut text = String::new(text_alloc);
+    let mut decoder = Lossy::<E>::new();
+    for piece in pieces {
+        let answer = decoder.feed(answer_alloc.clone()?, piece)?;
+        text.push_str(&answer)?;
+    }
+    let Some(mark) = decoder.finish() else {
+        return Ok(text);
+    };
+    text.push(mark)?;
     Ok(text)
 }
 

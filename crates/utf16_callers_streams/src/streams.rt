@@ -1,6 +1,6 @@
 //! What users of streams want, each resting on a law of the split.
 
-ghost use Rattle.std.specs.Prelude.{◌≡◌, ◌↔◌, ◌*◌, ◌+◌, ◌<◌, ◌≤◌, ◌++◌, [], List, ℕ, Bool, IfOk, IsOk, IsTrue, OnErr, OnOk, encode_utf8_all, length, string_bytes};
+ghost use Rattle.std.specs.Prelude.{◌≡◌, ◌↔◌, ◌*◌, ◌+◌, ◌<◌, ◌≤◌, ◌++◌, [], List, ℕ, Bool, IfOk, IsOk, IsTrue, OnErr, OnOk, encode_utf8_all, length, string_bytes, take};
 ghost use Rattle.std.specs.Io.{StartsWith};
 ghost use Rattle.std.specs.String.{string_len};
 ghost use Rattle.utf16_units.specs.Recipe.{Recipe};
@@ -25,7 +25,8 @@ pub fn waits_for_a_pair<E: Utf16Order>(decoder: &Lossy<E>) -> bool
 }
 
 /// Feeds two pieces, and answers the text of both: what a decoder that is fed the two joined answers. It keeps what that one
-/// keeps.
+/// keeps. The only error is a refused request for memory; it leaves the decoder as it was, or behind the first piece, or behind
+/// both, and the text is lost.
 pub fn fed_in_two<E: Utf16Order, A: Allocator, B: Allocator>(
     decoder: &mut Lossy<E>,
     alloc: A,
@@ -93,7 +94,9 @@ pub fn early_and_whole<E: Utf16Order, A: Allocator, B: Allocator>(
     at: usize,
 ) -> Result<(String<A>, String<B>), AllocError>
     requires { at ≤ length whole.now }
-    ensures { IfOk result (λ shown. StartsWith (string_bytes shown.1) (string_bytes shown.0)) }
+    ensures early { IfOk result (λ shown. string_bytes shown.0 ≡ encode_utf8_all (marked (split_items E.BIG (take at whole.now)))) }
+    ensures whole { IfOk result (λ shown. string_bytes shown.1 ≡ encode_utf8_all (marked (split_items E.BIG whole.now))) }
+    ensures stays { IfOk result (λ shown. StartsWith (string_bytes shown.1) (string_bytes shown.0)) }
 {
     items_stay();
     let early = Lossy::<E>::new().feed(early_alloc, &whole[..at])?;
@@ -101,9 +104,10 @@ pub fn early_and_whole<E: Utf16Order, A: Allocator, B: Allocator>(
     Ok((early, all))
 }
 
-/// How many bytes of UTF-8 the whole text of bytes takes at most, in either order.
+/// How many bytes of UTF-8 the whole text of bytes takes at most, in either order: at most three more than half as many again.
 pub fn room_for(bytes: &[u8]) -> usize
-    ensures { (big : Bool) → length (encode_utf8_all (full (split_items big bytes.now) (split_tail big bytes.now))) ≤ result }
+    ensures most { 2 * result ≤ 3 * length bytes.now + 6 }
+    ensures enough { (big : Bool) → length (encode_utf8_all (full (split_items big bytes.now) (split_tail big bytes.now))) ≤ result }
 {
     shown_within();
     (bytes.len() / 2).saturating_mul(3).saturating_add(3)

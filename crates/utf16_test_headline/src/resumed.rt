@@ -1,8 +1,10 @@
 //! The plain loop that follows the error's fields, beside the decoder of streams: the same text, and the same bytes kept.
 
-use std::fmt::Debug;
+use crate::checks::equal;
+use std::alloc::{AllocError, Global};
 use std::process::Abort;
-use utf16_callers_streams::headline::{resume, resumed};
+use utf16_callers_streams::headline::{fed, resume, resumed};
+use utf16_testing::refusing::Refusing;
 use utf16_testing::texts::{FAULT_TEXTS, FAULTS};
 use utf16_tools::Lossy;
 use utf16string::{BE, LE, Utf16Order};
@@ -31,10 +33,6 @@ const ROWS: [(bool, &[u8], &str, &[u8]); 6] = [
     (true, &[0xD8, 0x00, 0x00, 0x41, 0x00], "\u{FFFD}A", &[0x00]),
     (true, &[], "", &[]),
 ];
-
-fn equal<T: PartialEq + Debug + Drop>(rt: &impl Abort, found: T, wanted: T) {
-    assert_eq!(rt; found, wanted);
-}
 
 // The plain loop and a decoder that is fed the bytes at once: what both show, and what both keep.
 fn shows<E: Utf16Order>(rt: &(impl Abort + AllocGlobal), bytes: &[u8], wanted: &str, kept: &[u8]) {
@@ -81,6 +79,8 @@ fn every_cutting_is<E: Utf16Order>(rt: &(impl Abort + AllocGlobal), bytes: &[u8]
         let pieces = cut(rt, bytes, cuts);
         let text = resumed::<E, _, _, _>(rt.alloc(), rt.alloc(), &pieces).expect(rt, "memory");
         equal(rt, text.as_str(), wanted);
+        let text = fed::<E, _, _, _>(rt.alloc(), rt.alloc(), &pieces).expect(rt, "memory");
+        equal(rt, text.as_str(), wanted);
     }
 }
 
@@ -115,4 +115,32 @@ fn each_known_fault_resumed_over_every_cutting(rt: HostRuntime) {
             every_cutting_is::<LE>(&rt, bytes, wanted);
         }
     }
+}
+
+// Refuses each request of both in turn until none is met: that run gives the text, those before it the refusal. Answers how
+// many requests the two have.
+fn refused_in_turn(rt: &(impl Abort + AllocGlobal), pieces: &[Vec<u8>], wanted: &str) -> u64 {
+    let heap = Refusing::<Global>::new(rt.alloc());
+    for k in 0..40 {
+        heap.refuse_one(k);
+        let text = resumed::<LE, _, _, _>(&heap, &heap, pieces);
+        let same = fed::<LE, _, _, _>(&heap, &heap, pieces);
+        if heap.refusals() == 0 {
+            equal(rt, text.expect(rt, "memory").as_str(), wanted);
+            equal(rt, same.expect(rt, "memory").as_str(), wanted);
+            return k;
+        }
+        assert!(rt; (text == Err(AllocError)) != (same == Err(AllocError)));
+        drop((text, same));
+        equal(rt, heap.live_blocks(), 0);
+    }
+    panic!(rt; "no run met no refusal");
+}
+
+#[test]
+fn resumed_without_memory(rt: HostRuntime) {
+    let bytes = [0x68, 0x00, 0x00, 0xD8, 0x65, 0x00, 0x00, 0x4E, 0x00];
+    let pieces = cut(&rt, &bytes, 0x14);
+    let requests = refused_in_turn(&rt, &pieces, "h\u{FFFD}e\u{4E00}\u{FFFD}");
+    assert!(&rt; requests >= 4);
 }

@@ -14,7 +14,13 @@ const ROWS: [(bool, usize, &[u8], usize, Option<Fault>); 17] = [
     (false, 15, &[0x00, 0xD8, 0x61, 0x00], 0, Some((30, Some(2)))),
     (false, 16, &[0x00, 0xDC], 0, Some((32, Some(2)))),
     (false, 40, &[0x41], 0, Some((80, None))),
-    (false, 2, &[0x00, 0xDC], 18, Some((4, Some(2)))),
+    (
+        false,
+        2,
+        &[0x00, 0xDC, 0x61, 0x00, 0x61, 0x00, 0x61, 0x00, 0x61, 0x00, 0x61, 0x00, 0x61, 0x00, 0x61, 0x00, 0x61, 0x00, 0x61, 0x00, 0x61, 0x00, 0x61, 0x00, 0x61, 0x00, 0x61, 0x00, 0x61, 0x00, 0x61, 0x00, 0x61, 0x00, 0x61, 0x00, 0x00, 0xDC],
+        0,
+        Some((4, Some(2))),
+    ),
     (
         false,
         15,
@@ -30,7 +36,7 @@ const ROWS: [(bool, usize, &[u8], usize, Option<Fault>); 17] = [
     (false, 32, &[0x00, 0xDC], 31, Some((64, Some(2)))),
     (true, 47, &[0xD8, 0x00], 0, Some((94, None))),
     (true, 48, &[0xDC, 0x00], 8, Some((96, Some(2)))),
-    (false, 0, &[0x00, 0xDC], 40, Some((0, Some(2)))),
+    (false, 0, &[0x00, 0xDC], 31, Some((0, Some(2)))),
 ];
 
 // Room for the longest row.
@@ -68,7 +74,7 @@ fn row_is<E: Utf16Order>(
     wanted: Option<Fault>,
 ) {
     let mut buf = letters::<E>();
-    assert!(rt; count < 64 && bytes.len() < 16 && more < 48);
+    assert!(rt; count < 64 && bytes.len() < 64 && more < 32);
     let end = count * 2 + bytes.len();
     buf[count * 2..end].copy_from_slice(bytes);
     answers::<E>(rt, &mut buf[..end + more * 2], wanted);

@@ -1,37 +1,54 @@
 -- The split computed at known faults: each row is checked by evaluation alone.
 use Rattle.std.specs.Prelude.{◌≡◌, ℕ, Bool, true, false, List, [], ◌∷◌, refl, bytes_eq}
-use Rattle.std.specs.List.{list_all}
+use Rattle.std.specs.List.{flat_map, list_all}
 use Rattle.utf16_units.specs.Fault.{is_cut_off}
-use Rattle.utf16_units.specs.Split.{full, put_leading, put_unit, split_items, split_tail}
+use Rattle.utf16_units.specs.Split.{Item, good, lone_trail, lone_lead, full, put_leading, put_unit, split_items, split_tail}
 
+-- bytes in an order, the items and the tail of their split, and the text that it is shown by
 record Shown : Type 0 where
   order : Bool
   bytes : List ℕ
+  items : List Item
+  tail : List ℕ
   text : List ℕ
 
--- the split of the bytes is shown by this text
-abbrev is_shown : Shown → Bool
-is_shown row = bytes_eq (full (split_items row.order row.bytes) (split_tail row.order row.bytes)) row.text
+-- an item as two numbers: its kind, and the character or unit
+abbrev item_numbers : Item → List ℕ
+item_numbers (good c) = 0 ∷ c ∷ []
+item_numbers (lone_trail unit) = 1 ∷ unit ∷ []
+item_numbers (lone_lead unit) = 2 ∷ unit ∷ []
 
-abbrev shown : Bool → List ℕ → List ℕ → Shown
-shown order bytes text = record { order = order; bytes = bytes; text = text }
+abbrev both : Bool → Bool → Bool
+both true b = b
+both false b = false
+
+abbrev is_shown : Shown → Bool
+is_shown row =
+    let items = split_items row.order row.bytes in
+    let tail = split_tail row.order row.bytes in
+    both (bytes_eq (flat_map item_numbers items) (flat_map item_numbers row.items)) (both (bytes_eq tail row.tail) (bytes_eq (full items tail) row.text))
+
+abbrev shown : Bool → List ℕ → List Item → List ℕ → List ℕ → Shown
+shown order bytes items tail text = record { order = order; bytes = bytes; items = items; tail = tail; text = text }
 
 abbrev rows : List Shown
 rows =
-    shown false (0x00 ∷ 0xDC ∷ []) (0xFFFD ∷ [])
-    ∷ shown false (0x00 ∷ 0xD8 ∷ []) (0xFFFD ∷ [])
-    ∷ shown false (0x00 ∷ 0xD8 ∷ 0x00 ∷ []) (0xFFFD ∷ [])
-    ∷ shown false (0xDC ∷ []) (0xFFFD ∷ [])
-    ∷ shown false (0x41 ∷ []) (0xFFFD ∷ [])
-    ∷ shown false (0x00 ∷ 0xD8 ∷ 0x41 ∷ 0x00 ∷ []) (0xFFFD ∷ 0x41 ∷ [])
-    ∷ shown false (0x00 ∷ 0xD8 ∷ 0x00 ∷ 0xD8 ∷ []) (0xFFFD ∷ 0xFFFD ∷ [])
-    ∷ shown false (0x00 ∷ 0xDC ∷ 0x00 ∷ 0xD8 ∷ []) (0xFFFD ∷ 0xFFFD ∷ [])
-    ∷ shown false (0x00 ∷ 0xD8 ∷ 0x00 ∷ 0xDC ∷ 0x00 ∷ 0xD8 ∷ 0x00 ∷ 0xDC ∷ 0x00 ∷ []) (0x10000 ∷ 0x10000 ∷ 0xFFFD ∷ [])
-    ∷ shown true (0xDC ∷ []) (0xFFFD ∷ [])
-    ∷ shown true (0xD8 ∷ []) (0xFFFD ∷ [])
-    ∷ shown true (0xD8 ∷ 0x00 ∷ 0xDC ∷ []) (0xFFFD ∷ [])
-    ∷ shown true (0xD8 ∷ 0x00 ∷ 0x00 ∷ []) (0xFFFD ∷ [])
-    ∷ shown true (0x00 ∷ 0x41 ∷ 0xD8 ∷ 0x00 ∷ []) (0x41 ∷ 0xFFFD ∷ [])
+    shown false (0x00 ∷ 0xDC ∷ []) (lone_trail 0xDC00 ∷ []) [] (0xFFFD ∷ [])
+    ∷ shown false (0x00 ∷ 0xD8 ∷ []) [] (0x00 ∷ 0xD8 ∷ []) (0xFFFD ∷ [])
+    ∷ shown false (0x00 ∷ 0xD8 ∷ 0x00 ∷ []) [] (0x00 ∷ 0xD8 ∷ 0x00 ∷ []) (0xFFFD ∷ [])
+    ∷ shown false (0xDC ∷ []) [] (0xDC ∷ []) (0xFFFD ∷ [])
+    ∷ shown false (0x41 ∷ []) [] (0x41 ∷ []) (0xFFFD ∷ [])
+    ∷ shown false (0x00 ∷ 0xD8 ∷ 0x41 ∷ 0x00 ∷ []) (lone_lead 0xD800 ∷ good 0x41 ∷ []) [] (0xFFFD ∷ 0x41 ∷ [])
+    ∷ shown false (0x00 ∷ 0xD8 ∷ 0x00 ∷ 0xD8 ∷ []) (lone_lead 0xD800 ∷ []) (0x00 ∷ 0xD8 ∷ []) (0xFFFD ∷ 0xFFFD ∷ [])
+    ∷ shown false (0x00 ∷ 0xDC ∷ 0x00 ∷ 0xD8 ∷ []) (lone_trail 0xDC00 ∷ []) (0x00 ∷ 0xD8 ∷ []) (0xFFFD ∷ 0xFFFD ∷ [])
+    ∷ shown false (0x00 ∷ 0xD8 ∷ 0x00 ∷ 0xDC ∷ 0x00 ∷ 0xD8 ∷ 0x00 ∷ 0xDC ∷ 0x00 ∷ []) (good 0x10000 ∷ good 0x10000 ∷ []) (0x00 ∷ []) (0x10000 ∷ 0x10000 ∷ 0xFFFD ∷ [])
+    ∷ shown true (0xDC ∷ []) [] (0xDC ∷ []) (0xFFFD ∷ [])
+    ∷ shown true (0xD8 ∷ []) [] (0xD8 ∷ []) (0xFFFD ∷ [])
+    ∷ shown true (0xD8 ∷ 0x00 ∷ 0xDC ∷ []) [] (0xD8 ∷ 0x00 ∷ 0xDC ∷ []) (0xFFFD ∷ [])
+    ∷ shown true (0xD8 ∷ 0x00 ∷ 0x00 ∷ []) [] (0xD8 ∷ 0x00 ∷ 0x00 ∷ []) (0xFFFD ∷ [])
+    ∷ shown true (0x00 ∷ 0x41 ∷ 0xD8 ∷ 0x00 ∷ []) (good 0x41 ∷ []) (0xD8 ∷ 0x00 ∷ []) (0x41 ∷ 0xFFFD ∷ [])
+    ∷ shown false (0x00 ∷ 0xD8 ∷ 0x00 ∷ 0xD8 ∷ 0x00 ∷ 0xDC ∷ []) (lone_lead 0xD800 ∷ good 0x10000 ∷ []) [] (0xFFFD ∷ 0x10000 ∷ [])
+    ∷ shown false (0x00 ∷ 0xD8 ∷ 0x00 ∷ 0xD8 ∷ 0x00 ∷ []) (lone_lead 0xD800 ∷ []) (0x00 ∷ 0xD8 ∷ 0x00 ∷ []) (0xFFFD ∷ 0xFFFD ∷ [])
     ∷ []
 
 rows_shown : list_all is_shown rows ≡ true

@@ -1,7 +1,7 @@
 //! The blocks of the validator, of `count_chars` and of `is_ascii`, beside the loops over units.
 
 use crate::lanes::{high_bytes16, high_bytes32, is_ascii_block, paired, trailing_bits};
-use crate::validate::validate_units;
+use crate::validate::{paired_blocks, paired_half_block, passed_blocks, validate_units};
 use crate::{BE, LE, Utf16Error, Utf16Order, validate_raw_utf16};
 use std::process::Abort;
 use std::simd::prelude::*;
@@ -67,6 +67,72 @@ fn blocks_in_both_orders(rt: HostRuntime) {
     judges_blocks::<BE>(&rt);
 }
 
+// How many bytes of letters, with two units in them; how far whole blocks of 64 bytes pass, and whether the last unit there is
+// leading; the same with one of 32 behind them; how many bytes are passed as text.
+const PASSES: [(
+    usize,
+    [(usize, u16); 2],
+    (usize, bool),
+    (usize, bool),
+    usize,
+); 9] = [
+    (63, [(0, 0x61), (2, 0x61)], (0, false), (32, false), 32),
+    (64, [(0, 0x61), (2, 0x61)], (64, false), (64, false), 64),
+    (96, [(0, 0x61), (2, 0x61)], (64, false), (96, false), 96),
+    (
+        128,
+        [(62, 0xD800), (64, 0xDC00)],
+        (128, false),
+        (128, false),
+        128,
+    ),
+    (
+        100,
+        [(62, 0xD800), (64, 0xDC00)],
+        (64, true),
+        (96, false),
+        96,
+    ),
+    (100, [(62, 0xD800), (64, 0x61)], (64, true), (64, true), 62),
+    (
+        100,
+        [(94, 0xD800), (96, 0xDC00)],
+        (64, false),
+        (96, true),
+        94,
+    ),
+    (
+        100,
+        [(94, 0xDC00), (96, 0xDC00)],
+        (64, false),
+        (64, false),
+        64,
+    ),
+    (128, [(0, 0xDC00), (2, 0x61)], (0, false), (0, false), 0),
+];
+
+fn passes<E: Utf16Order>(rt: &impl Abort) {
+    for (len, units, whole, half, passed) in PASSES {
+        let mut buf = [0; 128];
+        assert!(rt; len <= 128);
+        let raw = &mut buf[..len];
+        put_letters::<E>(raw);
+        for (at, unit) in units {
+            put::<E>(raw, at, unit);
+        }
+        assert_eq!(rt; paired_blocks::<E>(raw), whole, "{raw:?}");
+        let (at, leading) = paired_blocks::<E>(raw);
+        assert_eq!(rt; paired_half_block::<E>(raw, at, leading), half, "{raw:?}");
+        assert_eq!(rt; passed_blocks::<E>(raw), passed, "{raw:?}");
+    }
+}
+
+#[test]
+fn passes_in_both_orders(rt: HostRuntime) {
+    passes::<LE>(&rt);
+    passes::<BE>(&rt);
+}
+
 // Units in a block of letters, how many are trailing, and whether the block is ASCII.
 const COUNTS: [(&[(usize, u16)], u32, bool); 7] = [
     (&[], 0, true),
@@ -113,7 +179,17 @@ const ROWS: [(bool, usize, &[u8], usize, Option<(usize, Option<usize>)>); 27] = 
     (false, 15, &[0x00, 0xD8, 0x61, 0x00], 0, Some((30, Some(2)))),
     (false, 16, &[0x00, 0xDC], 0, Some((32, Some(2)))),
     (false, 40, &[0x41], 0, Some((80, None))),
-    (false, 2, &[0x00, 0xDC], 18, Some((4, Some(2)))),
+    (
+        false,
+        2,
+        &[
+            0x00, 0xDC, 0x61, 0x00, 0x61, 0x00, 0x61, 0x00, 0x61, 0x00, 0x61, 0x00, 0x61, 0x00,
+            0x61, 0x00, 0x61, 0x00, 0x61, 0x00, 0x61, 0x00, 0x61, 0x00, 0x61, 0x00, 0x61, 0x00,
+            0x61, 0x00, 0x61, 0x00, 0x61, 0x00, 0x61, 0x00, 0x00, 0xDC,
+        ],
+        0,
+        Some((4, Some(2))),
+    ),
     (
         false,
         15,
@@ -164,7 +240,7 @@ fn row_is<E: Utf16Order>(
 ) {
     let mut buf = [0; 256];
     put_letters::<E>(&mut buf);
-    assert!(rt; letters < 64 && bytes.len() < 16 && more < 32);
+    assert!(rt; letters < 64 && bytes.len() < 64 && more < 32);
     let end = letters * 2 + bytes.len();
     buf[letters * 2..end].copy_from_slice(bytes);
     let raw = &buf[..end + more * 2];

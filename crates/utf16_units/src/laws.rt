@@ -86,7 +86,8 @@ pub fn items_stay()
     ensures { ItemsStay }
 {}
 
-/// Two cuttings of one stream give one text: that of the first piece, and then that of its tail with the second.
+/// A stream cut in two has the text of the stream in one: that of the first piece, and then that of its tail with the second.
+/// So all its cuttings have one text.
 pub fn cut_anywhere()
     ensures { CutAnywhere }
 {}

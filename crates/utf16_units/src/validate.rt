@@ -23,7 +23,7 @@ pub fn validate_raw_utf16<E: Utf16Order>(raw: &[u8]) -> Result<(), Utf16Error>
 }
 
 // How many bytes from the front are well formed, as far as whole blocks show it.
-fn passed_blocks<E: Utf16Order>(raw: &[u8]) -> usize
+pub(crate) fn passed_blocks<E: Utf16Order>(raw: &[u8]) -> usize
     ensures within { result ≤ length raw.now }
     ensures text { IsText E.BIG (take result raw.now) }
 {
@@ -33,7 +33,7 @@ fn passed_blocks<E: Utf16Order>(raw: &[u8]) -> usize
 }
 
 // How far blocks of 64 bytes pass, and whether the last unit there is leading.
-fn paired_blocks<E: Utf16Order>(raw: &[u8]) -> (usize, bool)
+pub(crate) fn paired_blocks<E: Utf16Order>(raw: &[u8]) -> (usize, bool)
     ensures { PairedTo E.BIG raw.now result.0 result.1 }
 {
     let mut at = 0;
@@ -50,7 +50,11 @@ fn paired_blocks<E: Utf16Order>(raw: &[u8]) -> (usize, bool)
 }
 
 // The same with one block of 32 bytes behind them, where it passes.
-fn paired_half_block<E: Utf16Order>(raw: &[u8], at: usize, leading: bool) -> (usize, bool)
+pub(crate) fn paired_half_block<E: Utf16Order>(
+    raw: &[u8],
+    at: usize,
+    leading: bool,
+) -> (usize, bool)
     requires { PairedTo E.BIG raw.now at leading }
     ensures { PairedTo E.BIG raw.now result.0 result.1 }
 {

@@ -1,9 +1,11 @@
-use Rattle.std.proofs.Common.{string_bytes, take}
+use Rattle.std.proofs.Common.{All, string_bytes, take}
 use Rattle.std.specs.List.{flat_map}
 use Rattle.std.specs.Vec.{vec_items}
-use Rattle.utf16_callers_streams.proofs.ReadLemmas.{Reads}
+use Rattle.utf16_callers_streams.proofs.ReadLemmas.{IsByte, Told}
 use Rattle.utf16_callers_streams.proofs.headline.resumed.Given as goal
 
 -- the text so far is that of the pieces so far, and their tail is kept
 abbrev pub invariant-loop-piece : goal.invariant-loop-piece
-invariant-loop-piece g l = Reads g.E.Utf16Order.BIG (flat_map vec_items (take l.piece-index l.pieces)) (string_bytes l.text) (vec_items l.rest)
+invariant-loop-piece g l =
+    let front = flat_map vec_items (take l.piece-index l.pieces) in
+    Told g.E.Utf16Order.BIG front (string_bytes l.text) (vec_items l.rest) × All IsByte front

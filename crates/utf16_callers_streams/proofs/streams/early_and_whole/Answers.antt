@@ -3,8 +3,13 @@ use Rattle.std.specs.Io.{StartsWith}
 use Rattle.utf16_callers_streams.proofs.ReadLemmas.{fresh, shown_early}
 use Rattle.utf16_callers_streams.proofs.streams.early_and_whole.Goals as goal
 
-pub returns : goal.returns
-returns g c =
-    let early = fresh _ _ _ _ c.new.ensures c.in_ok-early.ensures.text in
-    let whole = fresh _ _ _ _ c.new-2.ensures c.in_ok-all.ensures.text in
-    subst₂ StartsWith (sym whole) (sym early) (shown_early c.items_stay.ensures g.E.Utf16Order.BIG c.args.whole.now c.args.at)
+pub returns-clause-early : goal.returns-clause-early
+returns-clause-early g c = fresh _ _ _ _ c.new.ensures c.in_ok-early.ensures.text
+
+pub returns-clause-whole : goal.returns-clause-whole
+returns-clause-whole g c = fresh _ _ _ _ c.new-2.ensures c.in_ok-all.ensures.text
+
+pub returns-clause-stays : goal.returns-clause-stays
+returns-clause-stays g c =
+    subst₂ StartsWith (sym (returns-clause-whole g c)) (sym (returns-clause-early g c))
+    (shown_early c.items_stay.ensures g.E.Utf16Order.BIG c.args.whole.now c.args.at)
