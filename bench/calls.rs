@@ -16,6 +16,7 @@ type Call = fn(bool, &[u8], &mut [u8]) -> usize;
 
 unsafe extern "C" {
     fn utf16_valid_up_to(big: bool, raw: *const u8, len: usize) -> usize;
+    fn loop_valid_up_to(big: bool, raw: *const u8, len: usize) -> usize;
     fn utf16_count(big: bool, raw: *const u8, len: usize) -> usize;
     fn utf16_is_ascii(big: bool, raw: *const u8, len: usize) -> bool;
     fn utf16_to_utf8(big: bool, raw: *const u8, len: usize, to: *mut u8, room: usize) -> usize;
@@ -103,8 +104,10 @@ fn icu_units(units: &[u16]) -> usize {
     unsafe { icu_valid_up_to(units.as_ptr(), units.len()) }
 }
 
-const VALIDATE: [(&str, Call); 4] = [
+// `unit loop` is the library's own loop over units, which stands behind the blocks; `plain loop` has the Rust crate's shape.
+const VALIDATE: [(&str, Call); 5] = [
     ("here", |big, raw, _| here_valid_up_to(big, raw)),
+    ("unit loop", |big, raw, _| unsafe { loop_valid_up_to(big, raw.as_ptr(), raw.len()) }),
     ("plain loop", |big, raw, _| plain!(valid_up_to, big, raw)),
     ("encoding_rs mem", |big, raw, _| 2 * units(big, raw, mem::utf16_valid_up_to)),
     ("ICU", |big, raw, _| 2 * units(big, raw, icu_units)),
@@ -226,7 +229,7 @@ fn main() {
         }
         let random = read("random");
         all.extend(cases("validate", "random", big, random, random.len() as f64 / 1e9, random.len(), &FAULTS));
-        for field in [4, 8, 16, 24, 40, 62] {
+        for field in [2, 4, 8, 16, 24, 40, 62] {
             let count = (16384 / field) as f64;
             all.extend(cases("short", &format!("{field} bytes"), big, &read("ascii")[..16384], count, field, &VALIDATE));
         }

@@ -53,13 +53,13 @@ function panel(call, x, y,    t, d, most, width) {
 
 END {
     classes = "ascii,latin_cyrillic,cjk,emoji,random"
-    table("validate,count,is_ascii,read,to_utf8,from_str", classes, "here,plain loop,encoding_rs,encoding_rs mem,ICU,iconv")
+    table("validate,count,is_ascii,read,to_utf8,from_str", classes, "here,unit loop,plain loop,encoding_rs,encoding_rs mem,ICU,iconv")
     table("utf16_cat", classes, "here,encoding_rs,iconv,uconv,copy")
-    table("short", "4 bytes,8 bytes,16 bytes,24 bytes,40 bytes,62 bytes", "here,plain loop,encoding_rs mem,ICU")
+    table("short", "2 bytes,4 bytes,8 bytes,16 bytes,24 bytes,40 bytes,62 bytes", "here,unit loop,plain loop,encoding_rs mem,ICU")
     print differs "| From a pipe | Peak, MiB |\n|---|---|" memory
     split(classes, text, ",")
-    split("here,plain loop,encoding_rs,encoding_rs mem,ICU,iconv,uconv,copy", decoders, ",")
-    split("#c0392b,#888,#2d5f9a,#7fa8d9,#3c8d4f,#c9a227,#8e6fb0,#ccc", colour, ",")
+    split("here,unit loop,plain loop,encoding_rs,encoding_rs mem,ICU,iconv,uconv,copy", decoders, ",")
+    split("#c0392b,#e59866,#888,#2d5f9a,#7fa8d9,#3c8d4f,#c9a227,#8e6fb0,#ccc", colour, ",")
     print "<svg xmlns='http://www.w3.org/2000/svg' viewBox='0 0 960 545' font-family='sans-serif' font-size='8'>" > chart
     print "<style>.h{font-size:12px;font-weight:bold}</style><rect width='960' height='545' fill='#fff'/>" > chart
     print "<text x='10' y='20' class='h'>GB/s of UTF-16, little endian</text>" > chart

@@ -9,6 +9,7 @@ need() { # what has to succeed, and what is missing where it does not
 need 'command -v rt' 'rt, the toolchain'
 need 'rustc --edition 2024 --print sysroot' 'rustc 1.85 or later'
 need 'command -v gcc' 'gcc (Debian: gcc)'
+need 'command -v objcopy' 'objcopy (Debian: binutils)'
 need 'command -v iconv' 'iconv (Debian: libc-bin)'
 need 'command -v uconv' 'uconv (Debian: icu-devtools)'
 need 'command -v cmp' 'cmp (Debian: diffutils)'
@@ -21,6 +22,14 @@ need "ls $registry/cfg-if-*/src/lib.rs" 'the Rust crate cfg-if (Debian: librust-
 kit=$(dirname "$(rt doc)")
 mkdir -p out
 (cd ../crates/utf16_c && rt lib > ../../bench/out/rt.log 2>&1) || { cat out/rt.log >&2; exit 1; }
+# The validator with the loop over units that stands behind its blocks, for every length: the same code and proof, in an archive of
+# its own under another name.
+rm -rf out/loop && mkdir out/loop && cp -r ../HANDLES ../crates.txt ../crates out/loop
+sed -i 's/if raw.len() < 32 {/if raw.len() < usize::MAX {/' out/loop/crates/utf16_units/src/validate.rt
+! cmp -s ../crates/utf16_units/src/validate.rt out/loop/crates/utf16_units/src/validate.rt
+(cd out/loop/crates/utf16_c && rt lib > ../../../rt.log 2>&1) || { cat out/rt.log >&2; exit 1; }
+objcopy --redefine-sym utf16_valid_up_to=loop_valid_up_to --keep-global-symbol=loop_valid_up_to \
+    out/loop/crates/utf16_c/out/libutf16_c.a out/libutf16_loop.a
 (cd ../crates/utf16_cat && rt run -- le < /dev/null > ../../bench/out/rt.log 2>&1) || { cat out/rt.log >&2; exit 1; }
 
 # The processor that rt builds for. No branch lies across 32 bytes, since where one does some processors halve the speed of a loop.
@@ -36,7 +45,7 @@ rust --edition 2024 texts.rs
 rust --edition 2024 programs.rs
 rust --edition 2024 cat.rs --extern encoding_rs=out/libencoding_rs.rlib
 rust --edition 2024 calls.rs --extern encoding_rs=out/libencoding_rs.rlib -l icuuc \
-    -C link-args="out/icu.o ../crates/utf16_c/out/libutf16_c.a $kit/c/liblibc_c.a"
+    -C link-args="out/icu.o ../crates/utf16_c/out/libutf16_c.a out/libutf16_loop.a $kit/c/liblibc_c.a"
 
 for order in le be; do
     for class in ascii latin_cyrillic cjk emoji random; do
