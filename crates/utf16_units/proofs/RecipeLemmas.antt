@@ -4,9 +4,9 @@ use Rattle.std.proofs.lemmas.Bool.{cases_Bool}
 use Rattle.std.proofs.lemmas.List.{map-append}
 use Rattle.std.specs.Char.Utf16.{is_high_surrogate}
 use Rattle.utf16_units.specs.Encoding.{Encodes, IsText, is_text, text_of}
-use Rattle.utf16_units.specs.Fault.{IsErrorLen, IsFault, IsFront, fault}
+use Rattle.utf16_units.specs.Fault.{IsFault, fault}
 use Rattle.utf16_units.specs.Recipe.{Recipe, cut_off, resumed, valid}
-use Rattle.utf16_units.specs.Split.{Item, good, lone_lead, lone_trail, mark, marked, split_items, split_tail}
+use Rattle.utf16_units.specs.Split.{good, mark, marked, split_items, split_tail}
 use Rattle.utf16_units.proofs.Computed.{IsFault-computed}
 use Rattle.utf16_units.proofs.EncodingLemmas.{Encodes-text_of, IsText-from_is_text, IsText-nil, is_text-from_IsText, text_of-Encodes}
 use Rattle.utf16_units.proofs.FirstChar.{AreBytes, first_unit}

@@ -1,11 +1,10 @@
 -- How many items bytes have, and how much room their marked text takes in UTF-8.
-use Rattle.std.proofs.Common.{◌≡◌, ℕ, ◌+◌, ◌*◌, ◌<◌, ◌≤◌, Bool, List, [], ◌∷◌, ◌++◌, All, length, encode_utf8_all, refl, sym, ap, ◌∙◌, ⊎_elim, arith, length-append, append-nil}
+use Rattle.std.proofs.Common.{◌≡◌, ℕ, ◌+◌, ◌*◌, ◌<◌, ◌≤◌, Bool, List, [], ◌∷◌, length, encode_utf8_all, refl, sym, ap, ◌∙◌, ⊎_elim, arith, length-append, append-nil}
 use Rattle.std.proofs.lemmas.Bool.{cases_lt}
 use Rattle.std.proofs.lemmas.List.Concat.{flat_map-append}
-use Rattle.std.proofs.lemmas.List.Elements.{All-head, All-tail}
 use Rattle.std.proofs.lemmas.Str.{len_utf8_bounds, length-encode}
 use Rattle.std.specs.Char.{encode_utf8, len_utf8}
-use Rattle.utf16_units.specs.Encoding.{char_bytes, char_size}
+use Rattle.utf16_units.specs.Encoding.{char_size}
 use Rattle.utf16_units.specs.Split.{Item, Split, full, good, item_bytes, items_bytes, lone_lead, lone_trail, mark, marked}
 use Rattle.utf16_units.proofs.CharLemmas.{char_size_four, char_size_two, length-char_bytes}
 use Rattle.utf16_units.proofs.UnitLemmas.{length-unit_bytes}
