@@ -1,9 +1,9 @@
 -- A run of edits, one more at a time.
 use Rattle.std.proofs.Common.{ℕ, List, [], ◌∷◌, ◌++◌, refl, subst}
 use Rattle.utf16_units.specs.declared.order.Utf16Order.{Ghosts}
-use Rattle.utf16_tools.specs.Step.{Run, Step}
-use Rattle.utf16_tools.specs.declared.edit.Edit.{Edit}
-use Rattle.utf16_tools.specs.declared.edit.Reply.{Reply}
+use Rattle.utf16_edits.specs.Step.{Run, Step}
+use Rattle.utf16_edits.specs.declared.edit.Edit.{Edit}
+use Rattle.utf16_edits.specs.declared.edit.Reply.{Reply}
 
 module _ {E Z : Type 0} {order : Ghosts E} where
   pub Run-push : (old mid new : List ℕ) (edits : List (Edit E Z order)) (replies : List (Reply E Z order)) (edit : Edit E Z order) (reply : Reply E Z order)

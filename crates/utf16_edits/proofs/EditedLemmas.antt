@@ -14,12 +14,12 @@ use Rattle.utf16string.specs.Boundary.{is_boundary, IsBoundary, text_from}
 use Rattle.utf16string.specs.Edit.{char_at, push_text}
 use Rattle.utf16string.specs.Encoding.{size}
 use Rattle.utf16string.specs.WString.{wstring_text}
-use Rattle.utf16_tools.specs.Edited.{all_answered, all_edited, answered, bad_offset, changed, char, done, edited, is_possible, no_memory, nothing, rest, said, taken, told}
-use Rattle.utf16_tools.specs.Step.{IsDone, IsPossible, Run, Step}
-use Rattle.utf16_tools.specs.declared.edit.Edit.{Edit}
-use Rattle.utf16_tools.specs.declared.edit.Edit.TheVariants.{Clear, Insert, InsertText, Overwrite, Pop, Push, PushText, Remove, Retain, SplitOff, Truncate}
-use Rattle.utf16_tools.specs.declared.edit.Reply.{Reply}
-use Rattle.utf16_tools.specs.declared.edit.Reply.TheVariants.{BadOffset, Char, Done, NoMemory, Nothing, Rest}
+use Rattle.utf16_edits.specs.Edited.{all_answered, all_edited, answered, bad_offset, changed, char, done, edited, is_possible, no_memory, nothing, rest, said, taken, told}
+use Rattle.utf16_edits.specs.Step.{IsDone, IsPossible, Run, Step}
+use Rattle.utf16_edits.specs.declared.edit.Edit.{Edit}
+use Rattle.utf16_edits.specs.declared.edit.Edit.TheVariants.{Clear, Insert, InsertText, Overwrite, Pop, Push, PushText, Remove, Retain, SplitOff, Truncate}
+use Rattle.utf16_edits.specs.declared.edit.Reply.{Reply}
+use Rattle.utf16_edits.specs.declared.edit.Reply.TheVariants.{BadOffset, Char, Done, NoMemory, Nothing, Rest}
 
 -- at a boundary before the end stands a character
 some_char : (text front back : List ℕ) (i : ℕ) → front ++ back ≡ text → size front ≡ i → i < size text → text_from text i ≡ back → char_at text i ≢ None

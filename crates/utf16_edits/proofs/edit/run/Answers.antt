@@ -1,8 +1,8 @@
 use Rattle.std.proofs.Common.{◌∷◌, ◌++◌, [], subst, sym, rules}
 use Rattle.utf16string.specs.WString.{wstring_text}
-use Rattle.utf16_tools.proofs.Runs.{Run-push}
-use Rattle.utf16_tools.specs.Step.{Run}
-use Rattle.utf16_tools.proofs.edit.run.Goals as goal
+use Rattle.utf16_edits.proofs.Runs.{Run-push}
+use Rattle.utf16_edits.specs.Step.{Run}
+use Rattle.utf16_edits.proofs.edit.run.Goals as goal
 
 pub loop-edit-preserved : goal.loop-edit-preserved
 loop-edit-preserved g c =

@@ -3,9 +3,9 @@ use Rattle.std.proofs.Common.{◌≡◌, ℕ, List, [], ◌∷◌, ◌++◌, ref
 use Rattle.utf16_units.specs.declared.order.Utf16Order.{Ghosts}
 use Rattle.utf16string.specs.Boundary.{is_boundary, text_from, text_to}
 use Rattle.utf16string.specs.Encoding.{size}
-use Rattle.utf16_tools.specs.Edited.{all_answered, all_edited, bad_offset, char, done, nothing, rest}
-use Rattle.utf16_tools.specs.declared.edit.Edit.{Edit}
-use Rattle.utf16_tools.specs.declared.edit.Edit.TheVariants.{Clear, Insert, Pop, Push, Remove, SplitOff, Truncate}
+use Rattle.utf16_edits.specs.Edited.{all_answered, all_edited, bad_offset, char, done, nothing, rest}
+use Rattle.utf16_edits.specs.declared.edit.Edit.{Edit}
+use Rattle.utf16_edits.specs.declared.edit.Edit.TheVariants.{Clear, Insert, Pop, Push, Remove, SplitOff, Truncate}
 
 -- a character of two bytes, one of four and one of two
 abbrev mixed : List ℕ

@@ -1,7 +1,7 @@
 //! Edits as values, and what they do.
 
 ghost use Rattle.std.specs.Prelude.{◌≡◌, ◌⊎◌, ◌≤◌, ◌↔◌, IfOk, IfSome, IsTrue, None, OnErr, filter, if◌then◌else◌, is_ok};
-ghost use Rattle.utf16_tools.specs.Step.{IsPossible, Run, Step, is_in};
+ghost use Rattle.utf16_edits.specs.Step.{IsPossible, Run, Step, is_in};
 ghost use Rattle.utf16string.specs.Boundary.{IsBoundary};
 ghost use Rattle.utf16string.specs.WString.{IsUnchanged, wstring_capacity, wstring_text};
 

@@ -7,11 +7,11 @@ use Rattle.utf16string.specs.Boundary.{is_boundary, text_to}
 use Rattle.utf16string.specs.Edit.{char_at, insert_at, overwrite_at, push_text, remove_at, split_back, split_front}
 use Rattle.utf16string.specs.Encoding.{size}
 use Rattle.utf16string.specs.WString.{wstring_text}
-use Rattle.utf16_tools.specs.Step.{is_in}
-use Rattle.utf16_tools.specs.declared.edit.Edit.{Edit}
-use Rattle.utf16_tools.specs.declared.edit.Edit.TheVariants.{Clear, Insert, InsertText, Overwrite, Pop, Push, PushText, Remove, Retain, SplitOff, Truncate}
-use Rattle.utf16_tools.specs.declared.edit.Reply.{Reply}
-use Rattle.utf16_tools.specs.declared.edit.Reply.TheVariants.{BadOffset, Char, Done, NoMemory, Nothing, Rest}
+use Rattle.utf16_edits.specs.Step.{is_in}
+use Rattle.utf16_edits.specs.declared.edit.Edit.{Edit}
+use Rattle.utf16_edits.specs.declared.edit.Edit.TheVariants.{Clear, Insert, InsertText, Overwrite, Pop, Push, PushText, Remove, Retain, SplitOff, Truncate}
+use Rattle.utf16_edits.specs.declared.edit.Reply.{Reply}
+use Rattle.utf16_edits.specs.declared.edit.Reply.TheVariants.{BadOffset, Char, Done, NoMemory, Nothing, Rest}
 
 -- what a reply says, with a text in place of a string
 pub data Said : Type 0 where

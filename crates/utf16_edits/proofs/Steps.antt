@@ -6,11 +6,11 @@ use Rattle.utf16_units.specs.declared.order.Utf16Order.{Ghosts}
 use Rattle.utf16string.specs.Boundary.{text_to}
 use Rattle.utf16string.specs.Edit.{push_text}
 use Rattle.utf16string.specs.Encoding.{size}
-use Rattle.utf16_tools.specs.Step.{IsPossible, Step}
-use Rattle.utf16_tools.specs.declared.edit.Edit.{Edit}
-use Rattle.utf16_tools.specs.declared.edit.Edit.TheVariants.{Pop, Truncate}
-use Rattle.utf16_tools.specs.declared.edit.Reply.{Reply}
-use Rattle.utf16_tools.specs.declared.edit.Reply.TheVariants.{Char, Done, Nothing}
+use Rattle.utf16_edits.specs.Step.{IsPossible, Step}
+use Rattle.utf16_edits.specs.declared.edit.Edit.{Edit}
+use Rattle.utf16_edits.specs.declared.edit.Edit.TheVariants.{Pop, Truncate}
+use Rattle.utf16_edits.specs.declared.edit.Reply.{Reply}
+use Rattle.utf16_edits.specs.declared.edit.Reply.TheVariants.{Char, Done, Nothing}
 
 module _ {E Z : Type 0} {order : Ghosts E} where
   popped : (old new : List ℕ) (last : Option ℕ) (reply : Reply E Z order) → (IsSome last ↔ (old ≢ [])) → push_text new (option_to_list last) ≡ old

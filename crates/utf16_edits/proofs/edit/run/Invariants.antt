@@ -1,7 +1,7 @@
 use Rattle.std.proofs.Common.{◌+◌, ◌≤◌, length}
 use Rattle.utf16string.specs.WString.{wstring_text}
-use Rattle.utf16_tools.specs.Step.{Run}
-use Rattle.utf16_tools.proofs.edit.run.Given as goal
+use Rattle.utf16_edits.specs.Step.{Run}
+use Rattle.utf16_edits.proofs.edit.run.Given as goal
 
 abbrev pub invariant-loop-edit : goal.invariant-loop-edit
 invariant-loop-edit g l =

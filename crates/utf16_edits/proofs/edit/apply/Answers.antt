@@ -1,6 +1,6 @@
 use Rattle.std.proofs.Common.{inr, refl}
-use Rattle.utf16_tools.proofs.Steps.{Step-cut, Step-popped}
-use Rattle.utf16_tools.proofs.edit.apply.Goals as goal
+use Rattle.utf16_edits.proofs.Steps.{Step-cut, Step-popped}
+use Rattle.utf16_edits.proofs.edit.apply.Goals as goal
 
 pub returns-then-not-is_possible-clause-step : goal.returns-then-not-is_possible-clause-step
 returns-then-not-is_possible-clause-step g c = inr (inr (λ p. let t = c.if-not-is_possible.ensures.1 p in absurd cc, refl, refl))
