@@ -1,3 +1,4 @@
+pub mod MarkLemmas
 pub mod DecodesLemmas
 pub mod StreamLemmas
 pub mod FilterLemmas

@@ -3,7 +3,7 @@ use Rattle.utf16_tools.proofs.DecodesLemmas.{four_decide, split_tail-again}
 use Rattle.std.proofs.lemmas.Bool.{cases_lt}
 use Rattle.utf16_units.specs.Split.{split_tail}
 use Rattle.utf16_tools.specs.Lossy.{lossy_pending}
-use Rattle.utf16_tools.proofs.lossy.Lossy.feed_into.Goals as goal
+use Rattle.utf16_tools.proofs.lossy.LossyDecoder.feed_into.Goals as goal
 
 pub returns-in_err-make_room-clause-nothing : goal.returns-in_err-make_room-clause-nothing
 returns-in_err-make_room-clause-nothing g c none = ⊎_elim
