@@ -1,4 +1,5 @@
 pub mod MarkLemmas
+pub mod MarkRows
 pub mod DecodesLemmas
 pub mod StreamLemmas
 pub mod FilterLemmas
