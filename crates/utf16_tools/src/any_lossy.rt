@@ -2,10 +2,10 @@
 
 ghost use Rattle.std.specs.Prelude.{◌≡◌, ◌≢◌, ◌↔◌, ◌≤◌, [], ◌++◌, None, Some, IfOk, IsOk, OnErr, OnOk, encode_utf8_all, length, string_bytes};
 ghost use Rattle.std.specs.Option.{option_to_list};
-ghost use Rattle.utf16_units.specs.Split.{marked};
+ghost use Rattle.utf16_units.specs.Split.{IsTail, marked};
 ghost use Rattle.utf16_tools.specs.AnyLossy.{any_order, any_pending, state_order, state_pending};
 ghost use Rattle.utf16_tools.specs.Lossy.{lossy_pending};
-ghost use Rattle.utf16_tools.specs.Mark.{items_in, order_after, tail_in};
+ghost use Rattle.utf16_tools.specs.Mark.{big_in, items_in, order_after, tail_in};
 
 use crate::decoder::Decoder;
 use crate::lossy::Lossy;
@@ -48,6 +48,7 @@ impl AnyLossy {
     pub fn pending(&self) -> &[u8]
         ensures bytes { result.now ≡ any_pending self.now }
         ensures undecided { tail_in (any_order self.now) result.now ≡ result.now }
+        ensures tail { IsTail (big_in (any_order self.now) result.now) result.now }
         ensures few { length result.now ≤ 3 }
         ensures none { any_order self.now ≡ None → length result.now ≤ 1 }
     {

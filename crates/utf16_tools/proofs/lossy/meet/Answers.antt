@@ -1,8 +1,8 @@
-use Rattle.std.proofs.Common.{◌-◌, ◌≤◌, ◌++◌, length, take, drop, string_bytes, refl, sym, ap, ap₂, ◌∙◌, subst, arith, rules, true≢false, length-append, length-drop, ◌<◌}
-use Rattle.std.proofs.lemmas.List.{length-take-le, take_rest}
+use Rattle.std.proofs.Common.{◌-◌, ◌≤◌, ◌++◌, length, take, drop, string_bytes, refl, sym, ap, ap₂, ◌∙◌, subst, arith, rules, true≢false}
+use Rattle.std.proofs.lemmas.List.{take_rest}
 use Rattle.utf16_units.specs.Split.{split_tail}
 use Rattle.utf16_units.proofs.SplitUnique.{length-split_tail}
-use Rattle.utf16_tools.proofs.DecodesLemmas.{Decodes-seam, length-split_tail-le, no_seam, split_tail-again, tail_in_piece}
+use Rattle.utf16_tools.proofs.DecodesLemmas.{Decodes-seam, less_left, no_seam, split_tail-again, tail_in_piece}
 use Rattle.utf16_tools.specs.Decodes.{Decodes}
 use Rattle.utf16_tools.specs.Held.{held_bytes}
 use Rattle.utf16_tools.proofs.lossy.meet.Goals as goal
@@ -46,14 +46,7 @@ returns-else-tail-taken-clause-step g c =
 
 pub returns-else-tail-taken-clause-less : goal.returns-else-tail-taken-clause-less
 returns-else-tail-taken-clause-less g c =
-    let piece = c.args.piece.now in
-    let n = c.min-taken.result in
-    let seam = take c.seam-len.result.1 c.seam-len.result.0 in
-    let within : n ≤ length piece = search rules in
-    let some : 0 < n = search rules in
-    let tail = ap length (c.new-else-tail-taken.ensures ∙ c.in_ok-tail.ensures.tail) in
-    let short = length-split_tail-le g.E.Utf16Order.BIG seam in
-    let long = ap length c.seam-len.ensures.bytes ∙ length-append (held_bytes c.args.pending) (take n piece) in
-    let front = length-take-le n piece within in
-    let rest = ap length (take_rest piece n) ∙ length-drop n piece in
+    let less = less_left _ _ _ _ _ _ (search rules) c.seam-len.ensures.bytes c.in_ok-tail.ensures.tail (search rules) in
+    let tail = ap length c.new-else-tail-taken.ensures in
+    let rest = ap length (take_rest c.args.piece.now c.min-taken.result) in
     omega arith
