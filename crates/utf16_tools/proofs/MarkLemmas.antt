@@ -3,7 +3,7 @@ use Rattle.std.proofs.Common.{◌≡◌, ℕ, Bool, true, false, List, [], ◌�
 use Rattle.std.specs.Option.{MatchOption, option_to_list}
 use Rattle.utf16_units.specs.Split.{split_items, split_tail}
 use Rattle.utf16_units.proofs.SplitJoin.{split_items-append, split_tail-append}
-use Rattle.utf16_tools.specs.Mark.{behind_mark, is_big, is_marked, items_in, order_after, tail_in}
+use Rattle.utf16_tools.specs.Mark.{behind_mark, is_big, has_mark, items_in, order_after, tail_in}
 
 -- a byte or nothing, as a slice of it
 pub first_slice : (first : Option ℕ) (bytes : List ℕ) → MatchOption first (bytes ≡ []) (λ byte. bytes ≡ byte ∷ []) → bytes ≡ option_to_list first
@@ -42,7 +42,7 @@ behind_more true bytes piece all = refl
 behind_more false bytes piece all = refl
 
 text_more : (first second : ℕ) (bytes piece : List ℕ) → behind_mark (first ∷ second ∷ bytes ++ piece) ≡ behind_mark (first ∷ second ∷ bytes) ++ piece
-text_more first second bytes piece = behind_more (is_marked (first ∷ second ∷ bytes)) bytes piece (first ∷ second ∷ bytes)
+text_more first second bytes piece = behind_more (has_mark (first ∷ second ∷ bytes)) bytes piece (first ∷ second ∷ bytes)
 
 -- one more piece: what the tail and the piece decide, in the order that holds then, comes behind
 pub items_in-append : (order : Option Bool) (front piece : List ℕ)

@@ -30,7 +30,7 @@ AppendsFront old new bytes = (n : ℕ) × Appends old new (take n bytes)
 abbrev pub IsNearEnd : List ℕ → ℕ → Type 0
 IsNearEnd bytes n = (n ≤ length bytes) × (length bytes ≤ n + 4096)
 
--- the order is `Some true` for big endian, `Some false` for little endian, and `None` for that which the mark tells
+-- the order is `Some true` for big endian, `Some false` for little endian, and `None` where a byte order mark tells it
 module _ (order : Option Bool) (input left old new : Option (List ℕ)) where
   -- the input was read to its end, and its whole text was written
   abbrev pub Filters : Type 0
@@ -62,9 +62,9 @@ module _ (order : Option Bool) (input left old new : Option (List ℕ)) where
 abbrev pub FiltersAs : Bool → Option (List ℕ) → Option (List ℕ) → Option (List ℕ) → Option (List ℕ) → Result (Unit {0}) FilterFault → Type 0
 FiltersAs big = FiltersIn (Some big)
 
--- what `filter_auto` did, in the order that the mark tells
-abbrev pub FiltersMarked : Option (List ℕ) → Option (List ℕ) → Option (List ℕ) → Option (List ℕ) → Result (Unit {0}) FilterFault → Type 0
-FiltersMarked = FiltersIn None
+-- what `filter_auto` did, in the order that the byte order mark tells
+abbrev pub FiltersAuto : Option (List ℕ) → Option (List ℕ) → Option (List ℕ) → Option (List ℕ) → Result (Unit {0}) FilterFault → Type 0
+FiltersAuto = FiltersIn None
 
 -- how many faults of the reader the answer tells of
 abbrev pub read_faults : Result (Unit {0}) FilterFault → ℕ

@@ -9,8 +9,8 @@ begins_with a b (first ∷ second ∷ bytes) = (first == a) && (second == b)
 begins_with a b bytes = false
 
 -- the stream begins with U+FEFF, in one order or the other (Unicode 23.8, byte order mark)
-abbrev pub is_marked : List ℕ → Bool
-is_marked bytes = begins_with 0xFE 0xFF bytes || begins_with 0xFF 0xFE bytes
+abbrev pub has_mark : List ℕ → Bool
+has_mark bytes = begins_with 0xFE 0xFF bytes || begins_with 0xFF 0xFE bytes
 
 -- the order of the stream is big endian: in all cases but the mark of little endian (Unicode 3.10, UTF-16 encoding scheme)
 abbrev pub is_big : List ℕ → Bool
@@ -18,16 +18,17 @@ is_big bytes = not (begins_with 0xFF 0xFE bytes)
 
 -- what the stream has beside its mark, which is no part of the text (Unicode 3.10, UTF-16 encoding scheme)
 abbrev pub behind_mark : List ℕ → List ℕ
-behind_mark bytes = if is_marked bytes then drop 2 bytes else bytes
+behind_mark bytes = if has_mark bytes then drop 2 bytes else bytes
 
--- In what follows an order is `Some true` for big endian, `Some false` for little endian, and `None` where the mark tells it.
+-- In what follows an order is `Some true` for big endian, `Some false` for little endian, and `None` where the byte order mark
+-- tells it.
 
 -- the order that the bytes are read in
 abbrev pub big_in : Option Bool → List ℕ → Bool
 big_in (Some big) bytes = big
 big_in None bytes = is_big bytes
 
--- the bytes that are read as text: in a known order all of them, a mark too
+-- the bytes that are read as text: in a known order all of them, a byte order mark too
 abbrev pub text_in : Option Bool → List ℕ → List ℕ
 text_in (Some big) bytes = bytes
 text_in None bytes = behind_mark bytes

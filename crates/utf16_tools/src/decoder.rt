@@ -6,7 +6,7 @@ ghost use Rattle.utf16_tools.specs.Mark.{items_in, order_after, tail_in};
 
 use std::alloc::{AllocError, Allocator};
 
-/// A decoder of a stream that comes in pieces, in an order that is known or that the stream's mark tells.
+/// A decoder of a stream that comes in pieces, in an order that is known or that a byte order mark tells.
 pub trait Decoder: Drop {
     // The order that it reads in: `None` as long as that is not told.
     ghost order: { Self → Option Bool };

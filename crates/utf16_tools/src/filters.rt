@@ -2,7 +2,7 @@
 
 ghost use Rattle.std.specs.Prelude.{◌≡◌, ◌+◌, ◌-◌, ◌<◌, ◌^◌, [], OnErr, OnOk};
 ghost use Rattle.std.specs.Io.KnownBytes.{Appends};
-ghost use Rattle.utf16_tools.specs.Filter.{AppendsFront, FiltersAs, FiltersIn, FiltersMarked, mark_utf8, read_faults, write_faults};
+ghost use Rattle.utf16_tools.specs.Filter.{AppendsFront, FiltersAs, FiltersIn, FiltersAuto, mark_utf8, read_faults, write_faults};
 ghost use Rattle.utf16_tools.specs.Watched.{CountsFaults, watched_faults, watched_inner};
 
 use crate::any_lossy::AnyLossy;
@@ -59,7 +59,7 @@ pub fn filter_auto<R: Read, W: Write, A: Allocator>(
 ) -> Result<(), FilterFault>
     requires reader { watched_faults reader.old < 2 ^ 64 - 1 }
     requires writer { watched_faults writer.old < 2 ^ 64 - 1 }
-    ensures bytes { FiltersMarked (R.remaining (watched_inner reader.old)) (R.remaining (watched_inner reader.new))
+    ensures bytes { FiltersAuto (R.remaining (watched_inner reader.old)) (R.remaining (watched_inner reader.new))
         (W.contents (watched_inner writer.old)) (W.contents (watched_inner writer.new)) result }
     ensures reads { watched_faults reader.new ≡ watched_faults reader.old + read_faults result }
     ensures writes { watched_faults writer.new ≡ watched_faults writer.old + write_faults result }
