@@ -2,7 +2,7 @@
 use Rattle.std.specs.Prelude.{◌≡◌, Bool, List, ℕ, Option, Result, Ok, Err}
 use Rattle.utf16_cat.specs.declared.outcome.Outcome.{Outcome}
 use Rattle.utf16_cat.specs.declared.outcome.Outcome.TheVariants.{Done, Long, Memory, Read, Write}
-use Rattle.utf16_tools.specs.Filter.{FiltersAs}
+use Rattle.utf16_tools.specs.Filter.{FiltersIn}
 use Rattle.utf16_tools.specs.declared.filters.FilterFault.{FilterFault}
 use Rattle.utf16_tools.specs.declared.filters.FilterFault.TheVariants as fault
 
@@ -14,7 +14,8 @@ outcome (Err fault.Write) = Write
 outcome (Err fault.Memory) = Memory
 outcome (Err fault.Long) = Long
 
--- the outcome is that of a filter, which did to its bytes what its answer tells
-abbrev pub EndsAs : Outcome → Bool → Option (List ℕ) → Option (List ℕ) → Option (List ℕ) → Option (List ℕ) → Type 0
-EndsAs ended big input left old new =
-    (answer : Result (Unit {0}) FilterFault) × (ended ≡ outcome answer) × FiltersAs big input left old new answer
+-- the outcome is that of a filter in an order, which did to its bytes what its answer tells; the order is `Some true` for big
+-- endian, `Some false` for little endian, and `None` where a byte order mark tells it
+abbrev pub EndsAs : Outcome → Option Bool → Option (List ℕ) → Option (List ℕ) → Option (List ℕ) → Option (List ℕ) → Type 0
+EndsAs ended order input left old new =
+    (answer : Result (Unit {0}) FilterFault) × (ended ≡ outcome answer) × FiltersIn order input left old new answer

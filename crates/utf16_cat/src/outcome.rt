@@ -15,6 +15,8 @@ pub enum Choice {
     Le,
     /// Big endian: the high byte comes first.
     Be,
+    /// The order that a byte order mark at the beginning tells; big endian where there is none.
+    Auto,
 }
 
 /// How a run ended.
@@ -30,7 +32,7 @@ pub enum Outcome {
     Memory,
     /// The input gave bytes at 2^64 - 1 reads. They were decoded and written.
     Long,
-    /// The arguments are neither `le` alone nor `be` alone. Nothing was read or written.
+    /// The arguments are not one of `le`, `be` and `auto` alone. Nothing was read or written.
     Usage,
 }
 
@@ -47,10 +49,11 @@ pub fn outcome_of(answer: Result<(), FilterFault>) -> Outcome
     }
 }
 
-/// The order that the words after the program's name ask for: the one word `le` or the one word `be`.
+/// The order that the words after the program's name ask for: the one word `le`, `be` or `auto`.
 pub fn order(words: &[String]) -> Option<Choice>
     ensures le { (result ≡ Some Choice.Le) ↔ (map string_bytes words.now ≡ codes "le" ∷ []) }
     ensures be { (result ≡ Some Choice.Be) ↔ (map string_bytes words.now ≡ codes "be" ∷ []) }
+    ensures auto { (result ≡ Some Choice.Auto) ↔ (map string_bytes words.now ≡ codes "auto" ∷ []) }
 {
     let [word] = words else {
         return None;
@@ -58,6 +61,7 @@ pub fn order(words: &[String]) -> Option<Choice>
     match word.as_str() {
         "le" => Some(Choice::Le),
         "be" => Some(Choice::Be),
+        "auto" => Some(Choice::Auto),
         _ => None,
     }
 }
@@ -74,7 +78,7 @@ pub fn report<W: Write>(outcome: &Outcome, to: &mut W) -> u8
         Outcome::Write => (writeln!(to, "utf16_cat: write failed"), 1),
         Outcome::Memory => (writeln!(to, "utf16_cat: out of memory"), 1),
         Outcome::Long => (writeln!(to, "utf16_cat: input too long"), 1),
-        Outcome::Usage => (writeln!(to, "usage: utf16_cat le|be"), 2),
+        Outcome::Usage => (writeln!(to, "usage: utf16_cat le|be|auto"), 2),
     };
     let _ = written;
     status

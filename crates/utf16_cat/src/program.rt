@@ -1,11 +1,12 @@
 //! The program, over any environment and any three devices.
 
-ghost use Rattle.std.specs.Prelude.{◌≡◌, ◌⊎◌, ◌-◌, ◌<◌, ◌≤◌, ◌^◌, Bool, Err, IfErr, Ok};
+ghost use Rattle.std.specs.Prelude.{◌≡◌, ◌⊎◌, ◌-◌, ◌<◌, ◌≤◌, ◌^◌, Bool, Err, IfErr, Ok, Option};
 ghost use Rattle.std.specs.Io.KnownBytes.{Keeps};
 ghost use Rattle.std.specs.Process.{exit_status};
-ghost use Rattle.utf16_tools.specs.Filter.{Filters, FiltersAs};
+ghost use Rattle.utf16_tools.specs.Filter.{Filters, FiltersIn};
 ghost use Rattle.utf16_tools.specs.Watched.{watched_faults, watched_inner};
 ghost use Rattle.utf16_tools.specs.declared.filters.FilterFault.{FilterFault};
+ghost use Rattle.utf16_cat.specs.Status.{status_of};
 
 use crate::outcome::{Outcome, report};
 use crate::run::run;
@@ -25,21 +26,28 @@ pub fn program<E: Env + AllocGlobal, R: Read, W: Write, T: Write>(
 ) -> ExitCode
     requires reader { watched_faults reader.old < 2 ^ 64 - 1 }
     requires writer { watched_faults writer.old < 2 ^ 64 - 1 }
-    ensures done { exit_status result ≡ 0 → (big : Bool) × Filters big
+    ensures done { exit_status result ≡ 0 → (order : Option Bool) × Filters order
         (R.remaining (watched_inner reader.old)) (R.remaining (watched_inner reader.new))
         (W.contents (watched_inner writer.old)) (W.contents (watched_inner writer.new)) }
     ensures quiet { exit_status result ≡ 0 → Keeps (T.contents errors.old) (T.contents errors.new) }
     ensures failed { exit_status result ≡ 1 → ((reader.new ≡ reader.old) × (writer.new ≡ writer.old))
-        ⊎ ((big : Bool) × (fault : FilterFault) × FiltersAs big
+        ⊎ ((order : Option Bool) × (fault : FilterFault) × FiltersIn order
         (R.remaining (watched_inner reader.old)) (R.remaining (watched_inner reader.new))
         (W.contents (watched_inner writer.old)) (W.contents (watched_inner writer.new)) (Err fault)) }
     ensures usage { exit_status result ≡ 2 → (reader.new ≡ reader.old) × (writer.new ≡ writer.old) }
     ensures cases { exit_status result ≤ 2 }
 {
-    let outcome = match words(env) {
-        Ok(words) => run(env.alloc(), &words, reader, writer),
-        Err(outcome) => outcome,
-    };
+    match words(env) {
+        Ok(words) => ended(run(env.alloc(), &words, reader, writer), errors),
+        Err(outcome) => ended(outcome, errors),
+    }
+}
+
+// Writes the line that tells of an outcome, and answers the status.
+fn ended<T: Write>(outcome: Outcome, errors: &mut T) -> ExitCode
+    ensures status { exit_status result ≡ status_of outcome }
+    ensures quiet { outcome ≡ Outcome.Done → Keeps (T.contents errors.old) (T.contents errors.new) }
+{
     ExitCode::from(report(&outcome, errors))
 }
 

@@ -23,7 +23,7 @@ fn owned(rt: &HostRuntime, words: &[&str]) -> Result<Vec<String>, AllocError> {
 
 #[test]
 fn run_answers_for_its_words(rt: HostRuntime) -> Result<(), Fail> {
-    let table: [(&[&str], Outcome, usize, &[u8]); 8] = [
+    let table: [(&[&str], Outcome, usize, &[u8]); 11] = [
         (&["le"], Outcome::Done, 0, b"hi"),
         (
             &["be"],
@@ -36,7 +36,15 @@ fn run_answers_for_its_words(rt: HostRuntime) -> Result<(), Fail> {
         (&["le", ""], Outcome::Usage, 4, b""),
         (&["LE"], Outcome::Usage, 4, b""),
         (&[""], Outcome::Usage, 4, b""),
-        (&["auto"], Outcome::Usage, 4, b""),
+        (
+            &["auto"],
+            Outcome::Done,
+            0,
+            &[0xE6, 0xA0, 0x80, 0xE6, 0xA4, 0x80],
+        ),
+        (&["Auto"], Outcome::Usage, 4, b""),
+        (&["auto", "le"], Outcome::Usage, 4, b""),
+        (&["auto "], Outcome::Usage, 4, b""),
     ];
     for (i, (words, outcome, left, written)) in table.iter().enumerate() {
         let words = owned(&rt, words)?;
@@ -55,7 +63,7 @@ fn run_answers_for_its_words(rt: HostRuntime) -> Result<(), Fail> {
 
 #[test]
 fn run_writes_the_utf8_of_text(rt: HostRuntime) -> Result<(), Fail> {
-    let table: [(&str, &[u8], &[u8]); 6] = [
+    let table: [(&str, &[u8], &[u8]); 12] = [
         (
             "le",
             &[0x68, 0, 0x65, 0, 0x6C, 0, 0x6C, 0, 0x6F, 0],
@@ -74,6 +82,12 @@ fn run_writes_the_utf8_of_text(rt: HostRuntime) -> Result<(), Fail> {
             &[0x00, 0x68, 0xD8, 0x00, 0xDC, 0x00],
             &[0x68, 0xF0, 0x90, 0x80, 0x80],
         ),
+        ("auto", &[0xFF, 0xFE, 0x41, 0x00], b"A"),
+        ("auto", &[0xFE, 0xFF, 0x00, 0x41], b"A"),
+        ("auto", &[0xFE], b"\xEF\xBF\xBD"),
+        ("auto", &[0xFF, 0xFE], b""),
+        ("le", &[0xFF, 0xFE, 0x41, 0x00], b"\xEF\xBB\xBFA"),
+        ("be", &[0xFE, 0xFF, 0x00, 0x41], b"\xEF\xBB\xBFA"),
     ];
     for (i, (word, input, written)) in table.iter().enumerate() {
         let words = owned(&rt, &[*word])?;
@@ -91,19 +105,26 @@ fn run_writes_the_utf8_of_text(rt: HostRuntime) -> Result<(), Fail> {
 
 #[test]
 fn program_ends_with_the_status_of_its_run(rt: HostRuntime) -> Result<(), Fail> {
-    let table: [(&[&[u8]], &[u8], u8, &str, &str); 6] = [
+    let table: [(&[&[u8]], &[u8], u8, &str, &str); 7] = [
         (&[b"cat", b"le"], &HI, 0, "hi", ""),
         (&[b"cat", b"be"], &HI, 0, "\u{6800}\u{6900}", ""),
         (&[b"cat", b"be"], &[0x68], 0, "\u{FFFD}", ""),
-        (&[b"cat"], &HI, 2, "", "usage: utf16_cat le|be\n"),
+        (&[b"cat", b"auto"], &[0xFF, 0xFE, 0x68, 0x00], 0, "h", ""),
+        (&[b"cat"], &HI, 2, "", "usage: utf16_cat le|be|auto\n"),
         (
             &[b"cat", b"le", b"be"],
             &HI,
             2,
             "",
-            "usage: utf16_cat le|be\n",
+            "usage: utf16_cat le|be|auto\n",
         ),
-        (&[b"cat", b"\xFF"], &HI, 2, "", "usage: utf16_cat le|be\n"),
+        (
+            &[b"cat", b"\xFF"],
+            &HI,
+            2,
+            "",
+            "usage: utf16_cat le|be|auto\n",
+        ),
     ];
     for (i, (arguments, input, status, written, line)) in table.iter().enumerate() {
         let env = (Arguments { all: *arguments }, rt.alloc());
@@ -136,11 +157,12 @@ fn words_are_all_but_the_first(rt: HostRuntime) -> Result<(), Fail> {
 
 #[test]
 fn run_flushes_once_and_only_what_it_decodes(rt: HostRuntime) -> Result<(), Fail> {
-    let table: [(&str, &[u8], u64); 4] = [
+    let table: [(&str, &[u8], u64); 5] = [
         ("le", &HI, 1),
         ("le", &[], 1),
         ("le", &[0x68, 0x00, 0x00, 0xDC], 1),
-        ("auto", &HI, 0),
+        ("auto", &[0xFF], 1),
+        ("utf16", &HI, 0),
     ];
     for (i, (word, input, flushed)) in table.iter().enumerate() {
         let words = owned(&rt, &[*word])?;
@@ -221,7 +243,7 @@ fn report_tells_of_each_outcome(rt: HostRuntime) -> Result<(), Fail> {
         (Outcome::Write, 1, "utf16_cat: write failed\n"),
         (Outcome::Memory, 1, "utf16_cat: out of memory\n"),
         (Outcome::Long, 1, "utf16_cat: input too long\n"),
-        (Outcome::Usage, 2, "usage: utf16_cat le|be\n"),
+        (Outcome::Usage, 2, "usage: utf16_cat le|be|auto\n"),
     ];
     for (outcome, status, line) in table {
         let mut out = Vec::new(rt.alloc());

@@ -1,5 +1,5 @@
 -- Steps of decoding, one after another, and the step that an error's fields tell.
-use Rattle.std.proofs.Common.{◌≡◌, ℕ, ◌+◌, ◌-◌, ◌≤◌, Bool, true, false, List, [], ◌∷◌, ◌++◌, None, Some, length, map, take, drop, encode_utf8_all, refl, sym, ap, ap₂, ◌∙◌, subst, ⊎_elim, arith, append_assoc, append-nil, take-append-drop, length-append}
+use Rattle.std.proofs.Common.{◌≡◌, ℕ, ◌+◌, ◌-◌, ◌*◌, ◌<◌, ◌≤◌, Bool, true, false, List, [], ◌∷◌, ◌++◌, None, Some, length, map, take, drop, encode_utf8_all, refl, sym, ap, ap₂, ◌∙◌, subst, ⊎_elim, arith, append_assoc, append-nil, take-append-drop, length-append, length-drop}
 use Rattle.std.proofs.lemmas.Bool.{cases_Bool}
 use Rattle.std.proofs.lemmas.List.{drop-append-le, drop-drop, length-take-le, map-append}
 use Rattle.std.proofs.Math.Seq.{drop-append-add, drop-append_seam}
@@ -236,6 +236,16 @@ module _ (big : Bool) (pending piece seam tail : List ℕ) (n : ℕ) (within : n
   Decodes-seam old new text =
       subst (λ b. Decodes big b (tail ++ rest) old new) whole
       (subst (λ t. Decodes big (seam ++ rest) (t ++ rest) old new) (sym is_tail) (Decodes-piece big seam rest old new text))
+
+  -- what is left is less, where a byte of the piece counts for two
+  pub less_left : 0 < n → 2 * length rest + length tail < 2 * length piece + length pending
+  less_left some =
+      let tail_of = ap length is_tail in
+      let short = length-split_tail-le big seam in
+      let long = ap length is_seam ∙ length-append pending (take n piece) in
+      let front = length-take-le n piece within in
+      let behind = length-drop n piece in
+      omega arith
 
   -- a tail that lies in the piece is the piece from where it begins
   pub tail_in_piece : length tail ≤ n → tail ++ rest ≡ drop (n - length tail) piece

@@ -1,7 +1,5 @@
-pub mod Steps
-pub mod Runs
-pub mod EditedLemmas
-pub mod Rows
+pub mod MarkLemmas
+pub mod MarkRows
 pub mod DecodesLemmas
 pub mod StreamLemmas
 pub mod FilterLemmas

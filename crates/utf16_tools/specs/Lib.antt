@@ -1,8 +1,10 @@
 pub use Rattle.utf16_units.specs.Split
-pub mod Step
-pub mod Edited
+pub use Rattle.utf16_edits.specs.Step
+pub use Rattle.utf16_edits.specs.Edited
+pub mod Mark
 pub mod Watched
 pub mod Decodes
 pub mod Held
 pub mod Lossy
+pub mod AnyLossy
 pub mod Filter

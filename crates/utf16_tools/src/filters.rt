@@ -1,11 +1,12 @@
 //! A filter from UTF-16 to UTF-8.
 
-ghost use Rattle.std.specs.Prelude.{◌≡◌, ◌+◌, ◌-◌, ◌<◌, ◌^◌, OnErr, OnOk};
+ghost use Rattle.std.specs.Prelude.{◌≡◌, ◌+◌, ◌-◌, ◌<◌, ◌^◌, [], OnErr, OnOk};
 ghost use Rattle.std.specs.Io.KnownBytes.{Appends};
-ghost use Rattle.utf16_tools.specs.Filter.{AppendsFront, FiltersAs, mark_utf8, read_faults, write_faults};
-ghost use Rattle.utf16_tools.specs.Lossy.{lossy_pending};
+ghost use Rattle.utf16_tools.specs.Filter.{AppendsFront, FiltersAs, FiltersIn, FiltersAuto, mark_utf8, read_faults, write_faults};
 ghost use Rattle.utf16_tools.specs.Watched.{CountsFaults, watched_faults, watched_inner};
 
+use crate::any_lossy::AnyLossy;
+use crate::decoder::Decoder;
 use crate::lossy::Lossy;
 use crate::watched::{DeviceFault, Watched};
 use std::alloc::Allocator;
@@ -44,7 +45,44 @@ pub fn filter<E: Utf16Order, R: Read, W: Write, A: Allocator>(
     ensures reads { watched_faults reader.new ≡ watched_faults reader.old + read_faults result }
     ensures writes { watched_faults writer.new ≡ watched_faults writer.old + write_faults result }
 {
-    let mut decoder = Lossy::<E>::new();
+    filter_by(alloc, Lossy::<E>::new(), reader, writer)
+}
+
+/// Decodes all that the reader gives, in the order that its beginning tells, and writes it in UTF-8, as `filter` does. A stream
+/// that begins with the bytes `FE FF` is big endian, one that begins with `FF FE` is little endian, and this byte order mark is
+/// not written; any other stream is big endian. The caller proves that there is a number for a fault of the reader, and for one
+/// of the writer.
+pub fn filter_auto<R: Read, W: Write, A: Allocator>(
+    alloc: A,
+    reader: &mut Watched<R>,
+    writer: &mut Watched<W>,
+) -> Result<(), FilterFault>
+    requires reader { watched_faults reader.old < 2 ^ 64 - 1 }
+    requires writer { watched_faults writer.old < 2 ^ 64 - 1 }
+    ensures bytes { FiltersAuto (R.remaining (watched_inner reader.old)) (R.remaining (watched_inner reader.new))
+        (W.contents (watched_inner writer.old)) (W.contents (watched_inner writer.new)) result }
+    ensures reads { watched_faults reader.new ≡ watched_faults reader.old + read_faults result }
+    ensures writes { watched_faults writer.new ≡ watched_faults writer.old + write_faults result }
+{
+    filter_by(alloc, AnyLossy::new(), reader, writer)
+}
+
+// Decodes all that the reader gives by a decoder that was given nothing yet, and writes it in UTF-8.
+fn filter_by<D: Decoder, R: Read, W: Write, A: Allocator>(
+    alloc: A,
+    decoder: D,
+    reader: &mut Watched<R>,
+    writer: &mut Watched<W>,
+) -> Result<(), FilterFault>
+    requires fresh { D.held decoder ≡ [] }
+    requires reader { watched_faults reader.old < 2 ^ 64 - 1 }
+    requires writer { watched_faults writer.old < 2 ^ 64 - 1 }
+    ensures bytes { FiltersIn (D.order decoder) (R.remaining (watched_inner reader.old)) (R.remaining (watched_inner reader.new))
+        (W.contents (watched_inner writer.old)) (W.contents (watched_inner writer.new)) result }
+    ensures reads { watched_faults reader.new ≡ watched_faults reader.old + read_faults result }
+    ensures writes { watched_faults writer.new ≡ watched_faults writer.old + write_faults result }
+{
+    let mut decoder = decoder;
     let mut text = String::new(alloc);
     let mut block = [0; BLOCK];
     for _ in 0..u64::MAX {
@@ -69,13 +107,10 @@ pub fn filter<E: Utf16Order, R: Read, W: Write, A: Allocator>(
 }
 
 // Writes the mark of what is left, and flushes once.
-fn end<E: Utf16Order, W: Write>(
-    decoder: Lossy<E>,
-    writer: &mut Watched<W>,
-) -> Result<(), DeviceFault>
+fn end<D: Decoder, W: Write>(decoder: D, writer: &mut Watched<W>) -> Result<(), DeviceFault>
     requires { watched_faults writer.old < 2 ^ 64 - 1 }
-    ensures done { OnOk result (Appends (W.contents (watched_inner writer.old)) (W.contents (watched_inner writer.new)) (mark_utf8 (lossy_pending decoder))) }
-    ensures fault { OnErr result (AppendsFront (W.contents (watched_inner writer.old)) (W.contents (watched_inner writer.new)) (mark_utf8 (lossy_pending decoder))) }
+    ensures done { OnOk result (Appends (W.contents (watched_inner writer.old)) (W.contents (watched_inner writer.new)) (mark_utf8 (D.held decoder))) }
+    ensures fault { OnErr result (AppendsFront (W.contents (watched_inner writer.old)) (W.contents (watched_inner writer.new)) (mark_utf8 (D.held decoder))) }
     ensures faults { CountsFaults writer.old writer.new result }
 {
     if let Some(mark) = decoder.finish() {

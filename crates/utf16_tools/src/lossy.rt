@@ -2,6 +2,7 @@
 
 ghost use Rattle.std.specs.Prelude.{◌≡◌, ◌≢◌, ◌↔◌, ◌+◌, ◌*◌, ◌<◌, ◌≤◌, [], ◌++◌, None, Some, IfOk, IsOk, OnErr, OnOk, encode_utf8_all, length, string_bytes, take, drop};
 ghost use Rattle.std.specs.List.{flat_map};
+ghost use Rattle.std.specs.Option.{option_to_list};
 ghost use Rattle.std.specs.Vec.{vec_items};
 ghost use Rattle.utf16_units.specs.Encoding.{text_of};
 ghost use Rattle.utf16_units.specs.Fault.{IsFront};
@@ -9,6 +10,7 @@ ghost use Rattle.utf16_units.specs.Split.{IsTail, full, marked, split_items, spl
 ghost use Rattle.utf16_tools.specs.Decodes.{Decodes};
 ghost use Rattle.utf16_tools.specs.Held.{held_bytes};
 
+use crate::decoder::Decoder;
 use crate::held::Held;
 use std::alloc::{AllocError, Allocator};
 use std::marker::PhantomData;
@@ -51,7 +53,8 @@ impl<E: Utf16Order> Lossy<E> {
     /// Takes the next piece, and answers the text of all that is decided now: the characters, and U+FFFD for each surrogate
     /// without its partner. What more bytes could change stays pending. The only error is a refused request for memory; it
     /// leaves the decoder as it was, and nothing of the piece is taken. Where the answer is empty there is none. Room for the
-    /// longest answer is asked for once: three bytes for each code unit. One pass over the piece, no copy of it.
+    /// longest answer is asked for once: three bytes for each code unit. The piece is not copied: its bytes are tested where they
+    /// stand, and then read, in time that grows with their number alone.
     pub fn feed<A: Allocator>(&mut self, alloc: A, piece: &[u8]) -> Result<String<A>, AllocError>
         ensures text { IfOk result (λ s. string_bytes s ≡ encode_utf8_all (marked (split_items E.BIG (lossy_pending self.old ++ piece.now)))) }
         ensures pending { OnOk result (lossy_pending self.new ≡ split_tail E.BIG (lossy_pending self.old ++ piece.now)) }
@@ -63,20 +66,14 @@ impl<E: Utf16Order> Lossy<E> {
         Ok(text)
     }
 
-    // As `feed`, with the answer put behind a text. After an error a beginning of it may stand there.
-    pub(crate) fn feed_into<A: Allocator>(
-        &mut self,
-        piece: &[u8],
-        to: &mut String<A>,
-    ) -> Result<(), AllocError>
-        ensures text { OnOk result (string_bytes to.new ≡ string_bytes to.old ++ encode_utf8_all (marked (split_items E.BIG (lossy_pending self.old ++ piece.now)))) }
-        ensures pending { OnOk result (lossy_pending self.new ≡ split_tail E.BIG (lossy_pending self.old ++ piece.now)) }
-        ensures refused { OnErr result (lossy_pending self.new ≡ lossy_pending self.old) }
-        ensures nothing { split_items E.BIG (lossy_pending self.old ++ piece.now) ≡ [] → IsOk result }
+    // A decoder that was given a byte, or nothing.
+    pub(crate) fn after(first: Option<u8>) -> Self
+        ensures { lossy_pending result ≡ option_to_list first }
     {
-        make_room(self.pending.len(), piece.len(), to)?;
-        self.pending = decode_from::<E, A>(self.pending, piece, to)?;
-        Ok(())
+        Lossy {
+            pending: Held::new(first.as_slice()),
+            order: PhantomData,
+        }
     }
 
     /// Ends the stream: U+FFFD where bytes are pending, and else nothing. It takes no memory.
@@ -90,6 +87,28 @@ impl<E: Utf16Order> Lossy<E> {
         } else {
             Some('\u{FFFD}')
         }
+    }
+}
+
+impl<E: Utf16Order> Decoder for Lossy<E> {
+    ghost use Rattle.utf16_tools.specs.Lossy.{lossy_pending};
+
+    ghost order = { λ _. Some E.BIG };
+
+    ghost held = { lossy_pending };
+
+    fn feed_into<A: Allocator>(
+        &mut self,
+        piece: &[u8],
+        to: &mut String<A>,
+    ) -> Result<(), AllocError> {
+        make_room(self.pending.len(), piece.len(), to)?;
+        self.pending = decode_from::<E, A>(self.pending, piece, to)?;
+        Ok(())
+    }
+
+    fn finish(self) -> Option<char> {
+        Lossy::finish(self)
     }
 }
 
@@ -166,7 +185,7 @@ fn meet<'a, E: Utf16Order, A: Allocator>(
     ensures nothing { split_items E.BIG (held_bytes pending ++ piece.now) ≡ [] → IsOk result }
 {
     let taken = piece.len().min(4 - pending.len());
-    let (seam, len) = seam(pending.as_slice(), &piece[..taken]);
+    let (seam, len) = seam(pending, &piece[..taken]);
     let tail = decode::<E, A>(&seam[..len], to)?;
     if tail.len() <= taken {
         Ok((Held::new(&[]), &piece[taken - tail.len()..]))
@@ -177,11 +196,12 @@ fn meet<'a, E: Utf16Order, A: Allocator>(
 
 // Pending bytes and then the front of a piece, and how many they are.
 #[inline]
-fn seam(pending: &[u8], front: &[u8]) -> ([u8; 4], usize)
-    requires { length pending.now + length front.now ≤ 4 }
-    ensures len { result.1 ≡ length pending.now + length front.now }
-    ensures bytes { take result.1 result.0 ≡ pending.now ++ front.now }
+fn seam(pending: Held, front: &[u8]) -> ([u8; 4], usize)
+    requires { length (held_bytes pending) + length front.now ≤ 4 }
+    ensures len { result.1 ≡ length (held_bytes pending) + length front.now }
+    ensures bytes { take result.1 result.0 ≡ held_bytes pending ++ front.now }
 {
+    let pending = pending.as_slice();
     let mut seam = [0; 4];
     let len = pending.len() + front.len();
     seam[..pending.len()].copy_from_slice(pending);

@@ -3,10 +3,10 @@ use Rattle.std.specs.Prelude.{Vec}
 use Rattle.utf16_units.specs.declared.order.Utf16Order.{Ghosts}
 use Rattle.utf16_tools.specs.Edited.{all_edited, no_memory, said}
 use Rattle.utf16_tools.specs.Step.{Run}
-use Rattle.utf16_tools.specs.declared.edit.Edit.{Edit}
-use Rattle.utf16_tools.specs.declared.edit.Edit.TheVariants.{Push}
-use Rattle.utf16_tools.specs.declared.edit.Reply.{Reply}
-use Rattle.utf16_tools.proofs.EditedLemmas.{Run-computed}
+use Rattle.utf16_edits.specs.declared.edit.Edit.{Edit}
+use Rattle.utf16_edits.specs.declared.edit.Edit.TheVariants.{Push}
+use Rattle.utf16_edits.specs.declared.edit.Reply.{Reply}
+use Rattle.utf16_edits.proofs.EditedLemmas.{Run-computed}
 use Rattle.utf16_callers.proofs.scripts.two_pushed.Goals as goal
 
 module _ {E Z Y X : Type 0} {order : Ghosts E} (old new : List ℕ) (edits script : List (Edit E Z order)) (is : edits ≡ script) where

@@ -7,3 +7,6 @@ returns-in-le-clause-le c = grind (arith, common_steps)
 
 pub returns-in-be-clause-be : goal.returns-in-be-clause-be
 returns-in-be-clause-be c = grind (arith, common_steps)
+
+pub returns-in-auto-clause-auto : goal.returns-in-auto-clause-auto
+returns-in-auto-clause-auto c = grind (arith, common_steps)

@@ -15,3 +15,9 @@ returns-in-None-clause-usage g c = search rules
 
 pub returns-in-Some-Le-clause-le : goal.returns-in-Some-Le-clause-le
 returns-in-Some-Le-clause-le g c = search rules
+
+pub returns-in-Some-Auto-clause-auto : goal.returns-in-Some-Auto-clause-auto
+returns-in-Some-Auto-clause-auto g c = search rules
+
+pub returns-in-Some-Auto-clause-usage : goal.returns-in-Some-Auto-clause-usage
+returns-in-Some-Auto-clause-usage g c = search rules

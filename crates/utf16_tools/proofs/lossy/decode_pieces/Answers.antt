@@ -24,7 +24,7 @@ loop-piece-preserved g c =
     let same = ap₂ (λ p b. p ++ b) c.loop-piece.invariant.1 c.deref.ensures.value in (
       c.in_ok-feed_into.ensures.text ∙ ap₂ (λ t b. t ++ shown (split_items g.E.Utf16Order.BIG b)) c.loop-piece.invariant.0 same
           ∙ sym (shown-piece g.E.Utf16Order.BIG front (vec_items piece)) ∙ ap (λ b. shown (split_items g.E.Utf16Order.BIG b)) (sym joined),
-      c.in_ok-feed_into.ensures.pending ∙ ap (split_tail g.E.Utf16Order.BIG) same ∙ sym (split_tail-append g.E.Utf16Order.BIG front (vec_items piece))
+      c.in_ok-feed_into.ensures.held ∙ ap (split_tail g.E.Utf16Order.BIG) same ∙ sym (split_tail-append g.E.Utf16Order.BIG front (vec_items piece))
           ∙ ap (split_tail g.E.Utf16Order.BIG) (sym joined),
     )
 

@@ -4,7 +4,7 @@ use Rattle.utf16_tools.proofs.lossy.seam.Goals as goal
 
 pub returns-clause-bytes : goal.returns-clause-bytes
 returns-clause-bytes c =
-    let pending = c.args.pending.now in
+    let pending = c.as_slice-pending.result.now in
     let zeros : List ℕ = drop (length pending) (0 ∷ 0 ∷ 0 ∷ 0 ∷ []) in
     let first = c.copy_from_slice.new.self in
     let second = c.copy_from_slice-2.new.self in
@@ -15,4 +15,4 @@ returns-clause-bytes c =
     let ends : length pending + length c.args.front.now ≡ length pending + length second = search rules in
     let begins : length pending ≤ length (first ++ zeros) = omega arith in
     take-put_mid (length pending) (length pending + length c.args.front.now - length pending) (first ++ zeros) second _ ends begins
-    ∙ ap₂ (λ f b. f ++ b) (take_at first zeros (length pending) same ∙ front) behind
+    ∙ ap₂ (λ f b. f ++ b) (take_at first zeros (length pending) same ∙ front ∙ c.as_slice-pending.ensures) behind

@@ -1,0 +1,4 @@
+pub mod Steps
+pub mod Runs
+pub mod EditedLemmas
+pub mod Rows

@@ -1,0 +1,14 @@
+-- A run of edits, one more at a time.
+use Rattle.std.proofs.Common.{ℕ, List, [], ◌∷◌, ◌++◌, refl, subst}
+use Rattle.utf16_units.specs.declared.order.Utf16Order.{Ghosts}
+use Rattle.utf16_edits.specs.Step.{Run, Step}
+use Rattle.utf16_edits.specs.declared.edit.Edit.{Edit}
+use Rattle.utf16_edits.specs.declared.edit.Reply.{Reply}
+
+module _ {E Z : Type 0} {order : Ghosts E} where
+  pub Run-push : (old mid new : List ℕ) (edits : List (Edit E Z order)) (replies : List (Reply E Z order)) (edit : Edit E Z order) (reply : Reply E Z order)
+      → Run old edits replies mid → Step mid edit reply new → Run old (edits ++ edit ∷ []) (replies ++ reply ∷ []) new
+  Run-push old mid new [] [] edit reply run step = (new, subst (λ text. Step text edit reply new) run step, refl)
+  Run-push old mid new [] (r ∷ replies) edit reply run step = absurd run
+  Run-push old mid new (e ∷ edits) [] edit reply run step = absurd run
+  Run-push old mid new (e ∷ edits) (r ∷ replies) edit reply run step = (run.0, run.1, Run-push run.0 mid new edits replies edit reply run.2 step)

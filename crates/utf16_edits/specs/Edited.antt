@@ -1,0 +1,87 @@
+-- What an edit leaves and answers, computed, where memory is not refused.
+use Rattle.std.specs.Prelude.{ℕ, ◌+◌, ◌-◌, Bool, true, ◌&&◌, ◌||◌, List, [], ◌∷◌, Option, Some, None, filter, length, nat_le, nat_lt, take, if◌then◌else◌}
+use Rattle.std.specs.List.{last_or}
+use Rattle.std.specs.Vec.{vec_items}
+use Rattle.utf16_units.specs.declared.order.Utf16Order.{Ghosts}
+use Rattle.utf16string.specs.Boundary.{is_boundary, text_to}
+use Rattle.utf16string.specs.Edit.{char_at, insert_at, overwrite_at, push_text, remove_at, split_back, split_front}
+use Rattle.utf16string.specs.Encoding.{size}
+use Rattle.utf16string.specs.WString.{wstring_text}
+use Rattle.utf16_edits.specs.Step.{is_in}
+use Rattle.utf16_edits.specs.declared.edit.Edit.{Edit}
+use Rattle.utf16_edits.specs.declared.edit.Edit.TheVariants.{Clear, Insert, InsertText, Overwrite, Pop, Push, PushText, Remove, Retain, SplitOff, Truncate}
+use Rattle.utf16_edits.specs.declared.edit.Reply.{Reply}
+use Rattle.utf16_edits.specs.declared.edit.Reply.TheVariants.{BadOffset, Char, Done, NoMemory, Nothing, Rest}
+
+-- what a reply says, with a text in place of a string
+pub data Said : Type 0 where
+  done : Said
+  char : ℕ → Said
+  nothing : Said
+  rest : List ℕ → Said
+  bad_offset : Said
+  no_memory : Said
+
+-- the answer of an edit that takes a character: the character, or that there was none
+abbrev pub taken : Option ℕ → Said
+taken None = nothing
+taken (Some c) = char c
+
+module _ {E Z : Type 0} {order : Ghosts E} where
+  -- what the reply says
+  abbrev pub said : Reply E Z order → Said
+  said Done = done
+  said (Char c) = char c
+  said Nothing = nothing
+  said (Rest string) = rest (wstring_text string)
+  said BadOffset = bad_offset
+  said NoMemory = no_memory
+
+  -- whether the offset of the edit is one that it can be done at; an edit without an offset can be done at any time
+  abbrev pub is_possible : List ℕ → Edit E Z order → Bool
+  is_possible text (Insert i c) = is_boundary text i
+  is_possible text (InsertText i t) = is_boundary text i
+  is_possible text (Remove i) = is_boundary text i && nat_lt i (size text)
+  is_possible text (Truncate n) = nat_le (size text) n || is_boundary text n
+  is_possible text (SplitOff i) = is_boundary text i
+  is_possible text (Overwrite i t) = is_boundary text i && is_boundary text (i + size (wstring_text t))
+  is_possible text _ = true
+
+  -- the text after an edit that is done
+  abbrev pub changed : List ℕ → Edit E Z order → List ℕ
+  changed text (Push c) = push_text text (c ∷ [])
+  changed text (PushText t) = push_text text (wstring_text t)
+  changed text Pop = take (length text - 1) text
+  changed text (Insert i c) = insert_at text i (c ∷ [])
+  changed text (InsertText i t) = insert_at text i (wstring_text t)
+  changed text (Remove i) = remove_at text i
+  changed text (Retain set) = filter (is_in (vec_items set)) text
+  changed text (Truncate n) = if nat_lt n (size text) then text_to text n else text
+  changed text (SplitOff i) = split_front text i
+  changed text (Overwrite i t) = overwrite_at text i (wstring_text t)
+  changed text Clear = []
+
+  -- what an edit that is done answers
+  abbrev pub told : List ℕ → Edit E Z order → Said
+  told text Pop = taken (last_or None text)
+  told text (Remove i) = taken (char_at text i)
+  told text (SplitOff i) = rest (split_back text i)
+  told text _ = done
+
+  -- the text after an edit that is not refused memory; where its offset is not possible, the text itself
+  abbrev pub edited : List ℕ → Edit E Z order → List ℕ
+  edited text edit = if is_possible text edit then changed text edit else text
+
+  -- what an edit answers that is not refused memory; where its offset is not possible, that it is not
+  abbrev pub answered : List ℕ → Edit E Z order → Said
+  answered text edit = if is_possible text edit then told text edit else bad_offset
+
+  -- the text after a list of edits, each on what the one before left
+  abbrev pub all_edited : List ℕ → List (Edit E Z order) → List ℕ
+  all_edited text [] = text
+  all_edited text (edit ∷ edits) = all_edited (edited text edit) edits
+
+  -- what the edits of a list answer, in order
+  abbrev pub all_answered : List ℕ → List (Edit E Z order) → List Said
+  all_answered text [] = []
+  all_answered text (edit ∷ edits) = answered text edit ∷ all_answered (edited text edit) edits

@@ -1,0 +1,10 @@
+use Rattle.std.proofs.Common.{sym, ap, ap₂, ◌∙◌}
+use Rattle.utf16_tools.specs.AnyLossy.{state_order}
+use Rattle.utf16_tools.specs.Mark.{tail_in}
+use Rattle.utf16_tools.proofs.MarkLemmas.{first_slice, first_tail}
+use Rattle.utf16_tools.proofs.any_lossy.AnyLossy.pending.Goals as goal
+
+pub returns-in-Undecided-clause-undecided : goal.returns-in-Undecided-clause-undecided
+returns-in-Undecided-clause-undecided c =
+    let slice = first_slice c.in-Undecided.first _ c.as_slice.ensures in
+    ap₂ tail_in (ap state_order c.in-Undecided.is) slice ∙ first_tail c.in-Undecided.first ∙ sym slice

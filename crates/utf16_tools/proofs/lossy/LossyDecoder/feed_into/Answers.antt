@@ -1,0 +1,19 @@
+use Rattle.std.proofs.Common.{◌+◌, ◌<◌, ◌≤◌, ◌++◌, length, ⊎_elim, sym, ap, ◌∙◌, arith, length-append, true≢false}
+use Rattle.utf16_tools.proofs.DecodesLemmas.{four_decide, split_tail-again}
+use Rattle.std.proofs.lemmas.Bool.{cases_lt}
+use Rattle.utf16_units.specs.Split.{split_tail}
+use Rattle.utf16_tools.specs.Lossy.{lossy_pending}
+use Rattle.utf16_tools.proofs.lossy.LossyDecoder.feed_into.Goals as goal
+
+pub returns-in_err-make_room-clause-nothing : goal.returns-in_err-make_room-clause-nothing
+returns-in_err-make_room-clause-nothing g c none = ⊎_elim
+    (λ (few : c.len.result + length c.args.piece.now < 4). absurd (true≢false (sym (c.in_err-make_room.ensures.nothing few))))
+    (λ (many : 4 ≤ c.len.result + length c.args.piece.now).
+    let long = length-append (lossy_pending c.args.self.now) c.args.piece.now in
+    absurd (four_decide _ (lossy_pending c.args.self.now ++ c.args.piece.now) (omega (arith, c.len.ensures, long)) none))
+    (cases_lt (c.len.result + length c.args.piece.now) 4)
+
+pub invariant_of-self : goal.invariant_of-self
+invariant_of-self g c = record {
+  undecided = ap (split_tail g.E.Utf16Order.BIG) c.in_ok-self.ensures.tail ∙ split_tail-again _ _ ∙ sym c.in_ok-self.ensures.tail;
+}
