@@ -3,5 +3,7 @@
 #![tactic(auto)]
 
 pub mod devices;
+pub mod plain;
 pub mod refusing;
+pub mod stepped;
 pub mod texts;

@@ -1,0 +1,65 @@
+// Stands before the C library of a program: one of its calls goes wrong, the FAULT_AT-th of the kind that FAULT_KIND names. It
+// was met where descriptor 9 gets a byte.
+#define _GNU_SOURCE
+#include <dlfcn.h>
+#include <errno.h>
+#include <stdlib.h>
+#include <string.h>
+#include <unistd.h>
+
+static long calls;
+
+static void *next(const char *name) { return dlsym(RTLD_NEXT, name); }
+
+// Whether this call, of this kind, is the one that goes wrong.
+static int is_met(const char *kind) {
+    const char *wanted = getenv("FAULT_KIND"), *at = getenv("FAULT_AT");
+    if (!wanted || !at || strcmp(wanted, kind) || ++calls != atol(at))
+        return 0;
+    ssize_t (*write)(int, const void *, size_t) = next("write");
+    return write(9, "x", 1) == 1;
+}
+
+static void *refused(void) {
+    errno = ENOMEM;
+    return NULL;
+}
+
+static ssize_t failed(int error) {
+    errno = error;
+    return -1;
+}
+
+void *malloc(size_t size) {
+    static void *(*inner)(size_t);
+    if (!inner)
+        inner = next("malloc");
+    return is_met("alloc") ? refused() : inner(size);
+}
+
+void *realloc(void *block, size_t size) {
+    static void *(*inner)(void *, size_t);
+    if (!inner)
+        inner = next("realloc");
+    return is_met("alloc") ? refused() : inner(block, size);
+}
+
+ssize_t read(int file, void *to, size_t size) {
+    ssize_t (*inner)(int, void *, size_t) = next("read");
+    if (is_met("read"))
+        return failed(EIO);
+    if (is_met("read_interrupted"))
+        return failed(EINTR);
+    return inner(file, to, size > 1 && is_met("read_short") ? 1 : size);
+}
+
+ssize_t write(int file, const void *from, size_t size) {
+    ssize_t (*inner)(int, const void *, size_t) = next("write");
+    if (is_met("write"))
+        return failed(EIO);
+    if (is_met("write_interrupted"))
+        return failed(EINTR);
+    if (is_met("write_nothing"))
+        return 0;
+    return inner(file, from, size > 1 && is_met("write_short") ? 1 : size);
+}

@@ -1,0 +1,81 @@
+#!/usr/bin/env bash
+# Runs utf16_cat with its first request for memory refused, then the second, and so on until a run meets no refusal; and so
+# with each read and each write that fails, is interrupted, or moves one byte, and each write that takes nothing. `faults.c`
+# stands before the C library for it. A run may end with the whole output, or with status 1, the line of its fault and a
+# beginning of the output; a short call changes nothing. Prints a line for each kind, and last 'N passed, M failed'.
+# With a number it also runs `rt try --fail-alloc` from 1 to that number, on the interpreter and with checks: slow.
+set -uo pipefail
+top=$(cd "$(dirname "$0")/.." && pwd)
+program="$top/crates/utf16_cat/out/utf16_cat"
+[ -x "$program" ] || (cd "$top/crates/utf16_cat" && rt run -- le < /dev/null) || exit 1
+room=$(mktemp -d)
+trap 'rm -rf "$room"' EXIT
+cd "$room" || exit 1
+cc -O2 -Wall -shared -fPIC -o faults.so "$top/bench/faults.c" -ldl || exit 1
+passed=0
+failed=0
+
+# Four blocks of letters, lone surrogates and pairs, cut at odd places, and the first two bytes of a pair.
+{ for _ in $(seq 1200); do printf 'a\0\0\xDC\0\xD8\0\xDC\0\xD8b\0'; done; printf '\0\xD8'; } > le
+{ for _ in $(seq 1200); do printf '\0a\xDC\0\xD8\0\xDC\0\xD8\0\0b'; done; printf '\xD8\0'; } > be
+{ for _ in $(seq 1200); do printf 'a\xEF\xBF\xBD\xF0\x90\x80\x80\xEF\xBF\xBDb'; done; printf '\xEF\xBF\xBD'; } > wanted
+
+# Whether the output is a beginning of what is wanted.
+begins() {
+    cmp -s found <(head -c "$(stat -c %s found)" wanted)
+}
+
+# The order, the kind, and the line that its fault has, none where it has no consequence: all its calls in turn.
+each() {
+    local order=$1 kind=$2 line=$3 at=0 whole=0 told=0 found
+    while :; do
+        at=$((at + 1))
+        FAULT_KIND=$kind FAULT_AT=$at LD_PRELOAD=$room/faults.so "$program" "$order" < "$order" > found 2> errors 9> met
+        found=$?
+        if [ $found = 0 ] && cmp -s found wanted && [ ! -s errors ] && { [ -z "$line" ] || [ "$kind" = alloc ] || [ ! -s met ]; }; then
+            passed=$((passed + 1))
+            whole=$((whole + 1))
+        elif [ $found = 1 ] && [ -n "$line" ] && [ "$(cat errors)" = "$line" ] && begins; then
+            passed=$((passed + 1))
+            told=$((told + 1))
+        else
+            failed=$((failed + 1))
+            echo "failed: $order, $kind $at: status $found, $(head -c 200 errors)"
+        fi
+        [ -s met ] || break
+    done
+    echo "$order, $kind: $((at - 1)) calls, $told runs told of it, $whole gave the whole output, the last of them without a fault"
+}
+
+for order in le be; do
+    each $order alloc 'utf16_cat: out of memory'
+    each $order read 'utf16_cat: read failed'
+    each $order read_interrupted 'utf16_cat: read failed'
+    each $order write 'utf16_cat: write failed'
+    each $order write_interrupted 'utf16_cat: write failed'
+    each $order write_nothing 'utf16_cat: write failed'
+    each $order read_short ''
+    each $order write_short ''
+done
+
+# The line is that of wrong words: it is written in vain, and the status stays.
+for kind in write write_interrupted write_nothing; do
+    FAULT_KIND=$kind FAULT_AT=1 LD_PRELOAD=$room/faults.so "$program" LE < le > found 2> errors 9> met
+    if [ $? = 2 ] && [ -s met ] && [ ! -s found ]; then
+        passed=$((passed + 1))
+    else
+        failed=$((failed + 1))
+        echo "failed: LE, $kind of its line"
+    fi
+done
+
+for at in $(seq "${1:-0}"); do
+    (cd "$top/crates/utf16_cat" && rt try --fail-alloc "$at" -- le < "$room/le" > "$room/found" 2> "$room/said")
+    case $? in
+        0 | 1) passed=$((passed + 1)) ;;
+        *) failed=$((failed + 1)) ;;
+    esac
+    echo "rt try --fail-alloc $at: $(tail -n 1 said)"
+done
+echo "$passed passed, $failed failed"
+[ $failed = 0 ]

@@ -1,0 +1,7 @@
+//! Tests of the filter over devices that move as few bytes as they like, and do something else at each of their calls in turn.
+#![tactic(auto)]
+
+#[cfg(test)]
+mod checks;
+#[cfg(test)]
+mod odd;

@@ -1,0 +1,195 @@
+//! Lists of edits where requests are refused. What is refused is answered so, the edits behind it go on from the text before it,
+//! and the list without the refused edits has the same replies and leaves the same text.
+
+use crate::checks::equal;
+use std::alloc::Global;
+use std::process::Abort;
+use utf16_testing::refusing::Refusing;
+use utf16_tools::{Edit, Reply, apply, run};
+use utf16string::{BE, LE, Utf16Order, WString};
+
+type Heap<'a> = &'a Refusing<Global>;
+
+// An edit, with a text in place of a string.
+#[derive(Clone, Copy)]
+enum Command {
+    Push(char),
+    PushText(&'static str),
+    Pop,
+    Insert(usize, char),
+    InsertText(usize, &'static str),
+    Truncate(usize),
+    SplitOff(usize),
+}
+
+// Nine edits of an empty string.
+const FIRST: [Command; 9] = [
+    Command::Push('a'),
+    Command::Push('\u{10000}'),
+    Command::Insert(4, 'x'),
+    Command::SplitOff(2),
+    Command::Pop,
+    Command::Pop,
+    Command::Push('b'),
+    Command::Truncate(9),
+    Command::Truncate(1),
+];
+
+// Edits that grow further and further.
+const GROWING: [Command; 8] = [
+    Command::PushText("hello"),
+    Command::InsertText(0, "hello hello hello"),
+    Command::Insert(1, 'x'),
+    Command::SplitOff(4),
+    Command::PushText("hello hello hello hello hello hello hello hello hello"),
+    Command::InsertText(
+        2,
+        "\u{10000}\u{4E00} hello hello hello hello hello hello hello",
+    ),
+    Command::SplitOff(2),
+    Command::Pop,
+];
+
+fn string<'a, E: Utf16Order>(rt: &impl Abort, heap: Heap<'a>, text: &str) -> WString<E, Heap<'a>> {
+    WString::from_str(heap, text).expect(rt, "memory")
+}
+
+fn edit<'a, E: Utf16Order>(rt: &impl Abort, heap: Heap<'a>, command: Command) -> Edit<E, Heap<'a>> {
+    match command {
+        Command::Push(c) => Edit::Push(c),
+        Command::PushText(text) => Edit::PushText(string(rt, heap, text)),
+        Command::Pop => Edit::Pop,
+        Command::Insert(at, c) => Edit::Insert(at, c),
+        Command::InsertText(at, text) => Edit::InsertText(at, string(rt, heap, text)),
+        Command::Truncate(len) => Edit::Truncate(len),
+        Command::SplitOff(at) => Edit::SplitOff(at),
+    }
+}
+
+// A reply: its name, and the character or the bytes that it holds.
+fn told<'a, E: Utf16Order>(reply: &'a Reply<E, Heap>) -> (&'static str, char, &'a [u8]) {
+    match reply {
+        Reply::Done => ("done", '\0', &[]),
+        Reply::Char(c) => ("char", *c, &[]),
+        Reply::Nothing => ("nothing", '\0', &[]),
+        Reply::Rest(rest) => ("rest", '\0', rest.as_bytes()),
+        Reply::BadOffset => ("bad offset", '\0', &[]),
+        Reply::NoMemory => ("no memory", '\0', &[]),
+    }
+}
+
+// Does with memory what was not refused, one edit after the other: the same replies, and the same text. Answers how many edits were
+// refused.
+fn goes_on<'a, E: Utf16Order>(
+    rt: &impl Abort,
+    heap: Heap<'a>,
+    commands: &[Command],
+    replies: &[Reply<E, Heap<'a>>],
+    found: &WString<E, Heap<'a>>,
+) -> u64 {
+    let mut text = string::<E>(rt, heap, "");
+    let mut refused = 0u64;
+    equal(rt, replies.len(), commands.len());
+    for (reply, command) in replies.iter().zip(commands) {
+        if matches!(reply, Reply::NoMemory) {
+            refused = refused.saturating_add(1);
+            continue;
+        }
+        let same = apply(&mut text, edit(rt, heap, *command));
+        equal(rt, told(&same), told(reply));
+    }
+    equal(rt, text.as_bytes(), found.as_bytes());
+    refused
+}
+
+// A run of the edits, with the request of that number refused, and those behind it too or not. Answers whether one was met. The
+// first request is for the replies: refused, it leaves the text as it was.
+fn is_refused<E: Utf16Order>(
+    rt: &(impl Abort + AllocGlobal),
+    commands: &[Command],
+    request: u64,
+    and_all_behind: bool,
+) -> bool {
+    let heap = Refusing::<Global>::new(rt.alloc());
+    let mut edits = Vec::new(rt.alloc());
+    for command in commands {
+        edits
+            .push(edit::<E>(rt, &heap, *command))
+            .expect(rt, "memory");
+    }
+    let mut text = string::<E>(rt, &heap, "");
+    if and_all_behind {
+        heap.refuse_from(request);
+    } else {
+        heap.refuse_one(request);
+    }
+    let answer = run(&heap, &mut text, edits);
+    let refusals = heap.refusals();
+    heap.refuse_none();
+    equal(rt, answer.is_err(), request == 0);
+    match answer {
+        Ok(replies) => equal(rt, goes_on(rt, &heap, commands, &replies, &text), refusals),
+        Err(_) => equal(rt, (refusals, text.as_bytes()), (1, [].as_slice())),
+    }
+    drop(text);
+    equal(rt, heap.live_blocks(), 0);
+    refusals != 0
+}
+
+// Refuses each request in turn until none is met. Answers how many there are.
+fn in_turn<E: Utf16Order>(
+    rt: &(impl Abort + AllocGlobal),
+    commands: &[Command],
+    and_all_behind: bool,
+) -> u64 {
+    for request in 0..20 {
+        if !is_refused::<E>(rt, commands, request, and_all_behind) {
+            return request;
+        }
+    }
+    panic!(rt; "no run met no refusal");
+}
+
+fn lists_in_turn<E: Utf16Order>(rt: &(impl Abort + AllocGlobal)) {
+    for and_all_behind in [false, true] {
+        assert!(rt; 3 <= in_turn::<E>(rt, &FIRST, and_all_behind));
+        assert!(rt; 6 <= in_turn::<E>(rt, &GROWING, and_all_behind));
+    }
+}
+
+#[test]
+fn each_request_of_a_list(rt: HostRuntime) {
+    lists_in_turn::<LE>(&rt);
+    lists_in_turn::<BE>(&rt);
+}
+
+// The first growth alone is refused.
+#[test]
+fn the_first_growth_of_a_list(rt: HostRuntime) {
+    let heap = Refusing::<Global>::new(rt.alloc());
+    let mut edits = Vec::new(rt.alloc());
+    for command in FIRST {
+        edits
+            .push(edit::<BE>(&rt, &heap, command))
+            .expect(&rt, "memory");
+    }
+    let mut text = WString::<BE, _>::new(&heap);
+    heap.refuse_one(1);
+    let replies = run(&heap, &mut text, edits).expect(&rt, "memory");
+    let wanted = [
+        ("no memory", '\0'),
+        ("done", '\0'),
+        ("done", '\0'),
+        ("bad offset", '\0'),
+        ("char", 'x'),
+        ("char", '\u{10000}'),
+        ("done", '\0'),
+        ("done", '\0'),
+        ("bad offset", '\0'),
+    ];
+    equal(&rt, replies.len(), wanted.len());
+    for (reply, (name, c)) in replies.iter().zip(wanted) {
+        equal(&rt, told(reply), (name, c, [].as_slice()));
+    }
+    equal(&rt, text.into_bytes().as_slice(), &[0x00, 0x62]);
+}

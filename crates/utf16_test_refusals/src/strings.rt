@@ -1,0 +1,137 @@
+//! Strings and views where all requests are refused, or sizes are asked for that no vector can have: the refusal, and text, bytes
+//! and capacity as they were. Then the same call with memory.
+
+use crate::checks::equal;
+use std::alloc::{AllocError, Global};
+use std::process::Abort;
+use utf16_testing::refusing::Refusing;
+use utf16string::{BE, LE, Utf16Order, WString};
+
+type Heap<'a> = &'a Refusing<Global>;
+
+// A call that asks for memory.
+#[derive(Clone, Copy)]
+enum Call {
+    Push(char),
+    PushText(&'static str),
+    Insert(usize, char),
+    InsertText(usize, &'static str),
+    Reserve(usize),
+    Shrink,
+    SplitOff(usize),
+    ToUtf8,
+    PushUtf8,
+}
+
+// Calls of "ho" with room for three code units, and what each leaves.
+const CALLS: [(Call, &str); 11] = [
+    (Call::Push('\u{10000}'), "ho\u{10000}"),
+    (Call::PushText("la"), "hola"),
+    (Call::Insert(0, '\u{10000}'), "\u{10000}ho"),
+    (Call::Insert(4, '\u{10000}'), "ho\u{10000}"),
+    (Call::InsertText(2, "ell"), "hello"),
+    (Call::InsertText(4, "la"), "hola"),
+    (Call::Reserve(3), "ho"),
+    (Call::Shrink, "ho"),
+    (Call::SplitOff(2), "h"),
+    (Call::ToUtf8, "ho"),
+    (Call::PushUtf8, "ho"),
+];
+
+// Makes a call. A text that it takes has memory of its own.
+fn make<'a, E: Utf16Order>(
+    rt: &(impl Abort + AllocGlobal),
+    heap: Heap<'a>,
+    text: &mut WString<E, Heap<'a>>,
+    call: Call,
+) -> Result<(), AllocError> {
+    match call {
+        Call::Push(c) => text.push(c),
+        Call::PushText(part) => text.push_wstr(of::<E>(rt, part).as_wstr()),
+        Call::Insert(at, c) if text.is_char_boundary(at) => text.insert(at, c),
+        Call::InsertText(at, part) if text.is_char_boundary(at) => {
+            text.insert_wstr(at, of::<E>(rt, part).as_wstr())
+        }
+        Call::SplitOff(at) if text.is_char_boundary(at) => {
+            let _back = text.split_off(at)?;
+            Ok(())
+        }
+        Call::Insert(..) | Call::InsertText(..) | Call::SplitOff(_) => panic!(rt; "no boundary"),
+        Call::Reserve(count) => text.reserve(count),
+        Call::Shrink => text.shrink_to_fit(),
+        Call::ToUtf8 => {
+            assert!(rt; text.to_utf8(heap)?.as_str() == "ho");
+            Ok(())
+        }
+        Call::PushUtf8 => {
+            let mut all = String::new(heap);
+            let answer = text.as_wstr().push_utf8(&mut all);
+            assert!(rt; all.as_str() == if answer.is_ok() { "ho" } else { "" });
+            answer
+        }
+    }
+}
+
+fn of<E: Utf16Order>(rt: &(impl Abort + AllocGlobal), text: &str) -> WString<E> {
+    WString::from_str(rt.alloc(), text).expect(rt, "memory")
+}
+
+// A call that is refused leaves the string, and the same call with memory is done.
+fn refused_then_done<E: Utf16Order>(rt: &(impl Abort + AllocGlobal), call: Call, wanted: &str) {
+    let heap = Refusing::<Global>::new(rt.alloc());
+    let mut text = WString::<E, Heap>::with_capacity(&heap, 6).expect(rt, "memory");
+    text.push('h').expect(rt, "memory");
+    text.push('o').expect(rt, "memory");
+    let room = text.capacity();
+    heap.refuse_from(0);
+    assert!(rt; make(rt, &heap, &mut text, call).is_err());
+    equal(rt, text.as_bytes(), of::<E>(rt, "ho").as_bytes());
+    equal(rt, (text.capacity(), heap.refusals() == 0), (room, false));
+    heap.refuse_none();
+    assert!(rt; make(rt, &heap, &mut text, call).is_ok());
+    equal(rt, text.as_bytes(), of::<E>(rt, wanted).as_bytes());
+    drop(text);
+    equal(rt, heap.live_blocks(), 0);
+}
+
+#[test]
+fn calls_of_a_string(rt: HostRuntime) {
+    for (call, wanted) in CALLS {
+        refused_then_done::<LE>(&rt, call, wanted);
+        refused_then_done::<BE>(&rt, call, wanted);
+    }
+}
+
+fn sizes<E: Utf16Order>(rt: &(impl Abort + AllocGlobal)) {
+    for size in [usize::MAX, usize::MAX - 1, usize::MAX / 2 + 1] {
+        assert!(rt; WString::<E>::with_capacity(rt.alloc(), size).is_err());
+        for start in ["", "ho"] {
+            let mut text = of::<E>(rt, start);
+            let room = text.capacity();
+            assert!(rt; text.reserve(size).is_err());
+            equal(rt, text.as_bytes(), of::<E>(rt, start).as_bytes());
+            equal(rt, text.capacity(), room);
+        }
+    }
+}
+
+// Room that was reserved takes three characters, with all memory refused.
+fn reserved<E: Utf16Order>(rt: &(impl Abort + AllocGlobal)) {
+    let heap = Refusing::<Global>::new(rt.alloc());
+    let mut text = WString::<E, Heap>::new(&heap);
+    text.reserve(8).expect(rt, "memory");
+    heap.refuse_from(0);
+    assert!(rt; text.push('a').is_ok());
+    assert!(rt; text.push('\u{10000}').is_ok());
+    assert!(rt; text.insert(0, 'b').is_ok());
+    equal(rt, text.as_bytes(), of::<E>(rt, "ba\u{10000}").as_bytes());
+    equal(rt, heap.requests(), 0);
+}
+
+#[test]
+fn sizes_of_a_string(rt: HostRuntime) {
+    sizes::<LE>(&rt);
+    sizes::<BE>(&rt);
+    reserved::<LE>(&rt);
+    reserved::<BE>(&rt);
+}
