@@ -1,20 +1,25 @@
 -- Blocks of units, each a character by itself: their test, their bytes, and those of which a predicate answers true.
-use Rattle.std.proofs.Common.{◌≡◌, ℕ, suc, ◌+◌, ◌-◌, ◌*◌, ◌/◌, ◌%◌, ◌<◌, ◌≤◌, Bool, true, false, not, nat_eq, ◌&&◌, bit_and, List, [], ◌∷◌, ◌++◌, All, get_or, length, take, drop, refl, sym, ap, ap₂, ◌∙◌, subst, arith, append_assoc, append-nil, length-append, flat_map}
-use Rattle.std.proofs.lemmas.Bool.{and_parts, eqb-false, false≢true}
+use Rattle.std.proofs.Common.{◌≡◌, ℕ, ◌+◌, ◌-◌, ◌*◌, ◌/◌, ◌%◌, ◌^◌, ◌<◌, ◌≤◌, Bool, true, false, cond, not, nat_eq, bit_and, List, [], ◌∷◌, ◌++◌, All, get_or, length, map, replicate, take, drop, refl, sym, ap, ap₂, ◌∙◌, subst, arith, append_assoc, append-nil, length-append, flat_map}
+use Rattle.std.proofs.lemmas.Bool.{eqb-false, false≢true}
 use Rattle.std.proofs.lemmas.Grind.{flat_map-append}
-use Rattle.std.proofs.lemmas.List.{drop-drop, length-take-le, take_more}
-use Rattle.std.proofs.lemmas.List.Elements.{All-append, All-cons, All-nil}
+use Rattle.std.proofs.lemmas.List.{drop-drop, get_or-take, length-map, length-take, length-take-le, take-append-drop, take_at, take_more}
+use Rattle.std.proofs.lemmas.List.Elements.{All-from_get_or, All-head, All-tail}
+use Rattle.std.proofs.lemmas.List.Sums.{prefix_len-le-length, prefix_len_passes}
 use Rattle.std.proofs.lemmas.Nat.Bits.{and_high}
+use Rattle.std.proofs.lemmas.Simd.{bitmask_splat, leading_from_mask_l, map-map, trailing_mask_l, zip2_splat}
 use Rattle.std.specs.Char.{IsScalar}
-use Rattle.std.specs.List.{items_where_true}
+use Rattle.std.specs.List.{items_where_true, prefix_len}
+use mir.Syntax.{w16}
 use mir.Val.{bool_byte}
-use Rattle.std.proofs.str.Utf16.{one_unit}
-use Rattle.utf16_units.specs.Encoding.{char_bytes, encode}
+use lib.Lanes.{mask_l, top, zip2}
+use lib.Count.{count_trailing_zeros}
+use Rattle.utf16_units.specs.Encoding.{encode}
 use Rattle.utf16_units.proofs.EncodingLemmas.{encode-cons, encode-nil}
 use Rattle.utf16_units.specs.Unit.{unit_bytes, unit_of}
 use Rattle.utf16_units.proofs.FirstChar.{scalar_unit}
-use Rattle.utf16string.proofs.Asked.{kept-append}
-use Rattle.utf16_units.proofs.UnitLemmas.{unit_bytes-unit_of}
+use Rattle.utf16string.proofs.Asked.{All-kept, kept-append}
+use Rattle.utf16_units.proofs.SplitLemmas.{one_unit_bytes}
+use Rattle.utf16_units.proofs.UnitLemmas.{length-units_bytes, unit_bytes-unit_of}
 
 -- a unit whose high five bits are not those of a surrogate is a character
 scalar-high : (u : ℕ) → u < 0x1_0000 → nat_eq (bit_and u 0xF800) 0xD800 ≡ false → IsScalar u
@@ -27,13 +32,39 @@ not-true : (b : Bool) → not b ≡ true → b ≡ false
 not-true true e = absurd (false≢true e)
 not-true false e = refl
 
--- one unit more that is no surrogate
-pub plain-more : (units : List ℕ) (i : ℕ) (plain : Bool) → i < length units → get_or units i 0 < 0x1_0000 → (plain ≡ true → All IsScalar (take i units))
-    → plain && not (nat_eq (bit_and (get_or units i 0) 0xF800) 0xD800) ≡ true → All IsScalar (take (i + 1) units)
-plain-more units i plain lt below so_far more =
-    let parts = and_parts plain _ more in
-    subst (All IsScalar) (sym (take_more units i 0 lt))
-    (All-append IsScalar _ _ (so_far parts.0) (All-cons IsScalar _ [] (scalar-high _ below (not-true _ parts.1)) (All-nil IsScalar)))
+-- whether a unit is a surrogate, by its upper five bits
+abbrev is_surrogate : ℕ → Bool
+is_surrogate u = nat_eq (bit_and u 0xF800) 0xD800
+
+-- the bits of the surrogates of sixteen units, as lanes compute them
+abbrev pub lane_bits : List ℕ → ℕ
+lane_bits units = mask_l (map (top 15) (zip2 (λ a b. cond (nat_eq a b) 65535 0) (zip2 bit_and units (replicate 16 0xF800)) (replicate 16 0xD800))) % 2 ^ 64
+
+-- how many units stand before the first surrogate
+abbrev pub plain_len : List ℕ → ℕ
+plain_len units = prefix_len (λ u. not (is_surrogate u)) units
+
+module _ (units : List ℕ) (long : length units ≡ 16) where
+  bits : lane_bits units ≡ mask_l (map is_surrogate units)
+  bits =
+      let upper = zip2_splat bit_and units 16 0xF800 long in
+      bitmask_splat w16 nat_eq (zip2 bit_and units (replicate 16 0xF800)) 16 0xD800 (ap length upper ∙ length-map units _ ∙ long) (omega arith)
+      ∙ ap (λ us. mask_l (map (λ u. nat_eq u 0xD800) us)) upper ∙ ap mask_l (map-map (λ u. nat_eq u 0xD800) (λ u. bit_and u 0xF800) units)
+
+  pub plain_len-none : lane_bits units ≡ 0 → plain_len units ≡ 16
+  plain_len-none none = leading_from_mask_l is_surrogate units (sym bits ∙ none) ∙ long
+
+  pub plain_len-lowest : 0 < lane_bits units → count_trailing_zeros 64 (lane_bits units) ≡ plain_len units
+  plain_len-lowest some = ap (count_trailing_zeros 64) bits ∙ trailing_mask_l is_surrogate 64 units (omega (arith, long)) (subst (λ n. 0 < n) bits some)
+
+  pub plain_len-few : plain_len units ≤ 16
+  plain_len-few = omega (arith, long, prefix_len-le-length (λ u. not (is_surrogate u)) units)
+
+  pub plain_len-characters : ((i : ℕ) → get_or units i 0 < 0x1_0000) → All IsScalar (take (plain_len units) units)
+  plain_len-characters below = All-from_get_or IsScalar (take (plain_len units) units) 0 (λ i lt.
+      let before : i < plain_len units = omega (arith, lt, length-take (plain_len units) units) in
+      subst IsScalar (sym (get_or-take (plain_len units) units i 0 before))
+      (scalar-high _ (below i) (not-true _ (prefix_len_passes (λ u. not (is_surrogate u)) units i 0 before))))
 
 -- the bytes of one unit more
 pub units-more : (big : Bool) (raw units : List ℕ) (i first second : ℕ) → i < length units → 2 * i + 1 < length raw → get_or raw (2 * i) 0 ≡ first → get_or raw (2 * i + 1) 0 ≡ second
@@ -102,20 +133,23 @@ drop-later a b xs ys le same_from =
     let all : a + (b - a) ≡ b = omega arith in
     ap (λ i. drop i xs) (sym all) ∙ sym (drop-drop (b - a) a xs) ∙ ap (drop (b - a)) same_from ∙ drop-drop (b - a) a ys ∙ ap (λ i. drop i ys) all
 
--- the bytes of characters of one unit each are those of the units
-unit-char : (big : Bool) (u : ℕ) → u < 0x1_0000 → char_bytes big u ≡ unit_bytes big u
-unit-char big u below = ap (flat_map (unit_bytes big)) (one_unit u below) ∙ append-nil (unit_bytes big u)
+-- the bytes of the first n units are the first 2 * n bytes
+pub units-take : (big : Bool) (units : List ℕ) (n : ℕ) → n ≤ length units → flat_map (unit_bytes big) (take n units) ≡ take (2 * n) (flat_map (unit_bytes big) units)
+units-take big units n le =
+    sym (take_at (flat_map (unit_bytes big) (take n units)) (flat_map (unit_bytes big) (drop n units)) (2 * n) (length-units_bytes big (take n units) ∙ ap (λ m. 2 * m) (length-take-le n units le)))
+    ∙ ap (take (2 * n)) (sym (flat_map-append (unit_bytes big) (take n units) (drop n units)) ∙ ap (flat_map (unit_bytes big)) (take-append-drop n units))
 
-pub encode-units : (big : Bool) (units : List ℕ) → ((i : ℕ) → get_or units i 0 < 0x1_0000) → encode big units ≡ flat_map (unit_bytes big) units
+abbrev pub IsUnit : ℕ → Type 0
+IsUnit u = u < 0x1_0000
+
+-- the bytes of characters of one unit each are those of the units
+pub encode-units : (big : Bool) (units : List ℕ) → All IsUnit units → encode big units ≡ flat_map (unit_bytes big) units
 encode-units big [] below = encode-nil big
-encode-units big (u ∷ units) below = encode-cons big u units ∙ ap₂ (λ x y. x ++ y) (unit-char big u (below 0)) (encode-units big units (λ i. below (suc i)))
+encode-units big (u ∷ units) below =
+    encode-cons big u units ∙ ap₂ (λ x y. x ++ y) (one_unit_bytes big u (All-head IsUnit u units below)) (encode-units big units (All-tail IsUnit u units below))
 
 -- the same of those kept
 pub encode-kept : (big : Bool) (answers : List Bool) (units : List ℕ) → ((i : ℕ) → get_or units i 0 < 0x1_0000)
     → encode big (items_where_true answers units) ≡ flat_map (unit_bytes big) (items_where_true answers units)
-encode-kept big [] units below = encode-nil big
-encode-kept big (true ∷ answers) [] below = encode-nil big
-encode-kept big (false ∷ answers) [] below = encode-nil big
-encode-kept big (true ∷ answers) (u ∷ units) below =
-    encode-cons big u _ ∙ ap₂ (λ x y. x ++ y) (unit-char big u (below 0)) (encode-kept big answers units (λ i. below (suc i)))
-encode-kept big (false ∷ answers) (u ∷ units) below = encode-kept big answers units (λ i. below (suc i))
+encode-kept big answers units below =
+    encode-units big (items_where_true answers units) (All-kept IsUnit answers units (All-from_get_or IsUnit units 0 (λ i lt. below i)))

@@ -3,5 +3,6 @@ pub mod Utf8Lemmas
 pub mod Removed
 pub mod Asked
 pub mod Blocks
+pub mod KeptUnits
 pub mod Retained
 pub mod Predicates

@@ -1,28 +1,30 @@
-//! Blocks of sixteen characters of one unit each, which a predicate is asked about before any of them is moved.
+//! Blocks of sixteen units, of which a predicate keeps characters: asked about together where no surrogate is among them.
 
-ghost use Rattle.std.specs.Prelude.{◌≡◌, ◌+◌, ◌*◌, ◌≤◌, ◌++◌, All, IfSome, IsTrue, length, take, drop};
+ghost use Rattle.std.specs.Prelude.{◌≡◌, ◌+◌, ◌*◌, ◌≤◌, ◌++◌, ℕ, All, List, length, take, drop};
 ghost use Rattle.std.specs.Char.{IsScalar};
 ghost use Rattle.std.specs.List.{flat_map, items_where_true};
 ghost use Rattle.utf16_units.specs.Encoding.{Encodes, encode};
 ghost use Rattle.utf16_units.specs.Unit.{unit_bytes};
 ghost use Rattle.utf16string.specs.Retain.{MayBeAsked, RetainsTo};
 
+use std::simd::prelude::*;
 use utf16_units::Utf16Order;
 
 /// How many units a block has.
-const UNITS: usize = 16;
+pub(crate) const UNITS: usize = 16;
 
 /// How many bytes a block takes.
 pub(crate) const BLOCK: usize = 32;
 
-// The units of the block at the front, where each is a character by itself.
+// The units of the block at the front, and how many of them stand before the first surrogate: each of these is a character.
 #[inline]
-pub(crate) fn plain_units<E: Utf16Order>(raw: &[u8]) -> Option<[u16; UNITS]>
+pub(crate) fn plain_units<E: Utf16Order>(raw: &[u8]) -> ([u16; UNITS], usize)
     requires { BLOCK ≤ length raw.now }
-    ensures { IfSome result (λ units. Encodes E.BIG units (take BLOCK raw.now)) }
+    ensures few { result.1 ≤ UNITS }
+    ensures spelled { Encodes E.BIG (take result.1 result.0) (take (2 * result.1) raw.now) }
 {
     let units = first_units::<E>(raw);
-    if are_plain(&units) { Some(units) } else { None }
+    (units, plain_front(units))
 }
 
 // The units of the block at the front.
@@ -38,16 +40,19 @@ fn first_units<E: Utf16Order>(raw: &[u8]) -> [u16; UNITS]
     units
 }
 
-// Whether no unit is a surrogate.
+// How many units stand before the first surrogate.
 #[inline]
-fn are_plain(units: &[u16; UNITS]) -> bool
-    ensures { IsTrue result → All IsScalar units.now }
+fn plain_front(units: [u16; UNITS]) -> usize
+    ensures few { result ≤ UNITS }
+    ensures characters { All IsScalar (take result units) }
 {
-    let mut plain = true;
-    for i in 0..UNITS {
-        plain &= units[i] & 0xF800 != 0xD800;
+    let upper = u16x16::from_array(units) & Simd::splat(0xF800);
+    let surrogates = upper.simd_eq(Simd::splat(0xD800)).to_bitmask();
+    if surrogates == 0 {
+        UNITS
+    } else {
+        surrogates.trailing_zeros() as usize
     }
-    plain
 }
 
 // Asks about each character of a block, in turn, and counts those that stay.
@@ -69,6 +74,34 @@ pub(crate) fn ask_each<F: FnMut(char) -> bool>(
         many += stays as usize;
     }
     (answers, many)
+}
+
+// Asks about each of a few characters, in turn, and writes each that stays behind those before it, over bytes up to their end.
+// Answers where they end.
+#[inline]
+pub(crate) fn keep_each<E: Utf16Order, F: FnMut(char) -> bool>(
+    bytes: &mut [u8],
+    keep: &mut F,
+    to: usize,
+    start: usize,
+    units: &[u16],
+) -> usize
+    requires down { to ≤ start }
+    requires within { start + 2 * length units.now ≤ length bytes.old }
+    requires scalars { All IsScalar units.now }
+    requires askable { MayBeAsked F.FnMut keep.old units.now }
+    ensures kept { (left : List ℕ) × RetainsTo F.FnMut keep.old units.now left keep.new × (take result bytes.new ≡ take to bytes.old ++ encode E.BIG left) }
+    ensures behind { drop (start + 2 * length units.now) bytes.new ≡ drop (start + 2 * length units.now) bytes.old }
+    ensures down { result ≤ start + 2 * length units.now }
+{
+    let mut end = to;
+    for &unit in units {
+        if keep(unsafe { char::from_u32_unchecked(unit as u32) }) {
+            write_unit::<E>(bytes, end, unit);
+            end += 2;
+        }
+    }
+    end
 }
 
 // Moves the characters of a block that stay down, and answers where they end. All of them are moved at once.

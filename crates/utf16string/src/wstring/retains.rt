@@ -4,7 +4,7 @@ ghost use Rattle.std.specs.Prelude.{◌≡◌, ◌⊎◌, ◌+◌, ◌<◌, ◌�
 ghost use Rattle.utf16_units.specs.Encoding.{Encodes, IsText, char_size, text_of};
 ghost use Rattle.utf16string.specs.Retain.{IsAskable, MayBeAsked, Retains, RetainsTo};
 
-use super::blocks::{BLOCK, ask_each, move_block, plain_units};
+use super::blocks::{BLOCK, UNITS, ask_each, keep_each, move_block, plain_units};
 use crate::WString;
 use std::alloc::Allocator;
 use utf16_str::WStr;
@@ -42,7 +42,8 @@ impl<E: Utf16Order, A: Allocator> WString<E, A> {
 }
 
 // Moves the characters that the predicate keeps to the front, and answers how many bytes they take. Sixteen that have one unit
-// each are asked about together. Where there is a pair among the next sixteen units, these are walked by single characters.
+// each are asked about together. Where there is a pair among the next sixteen units, those before it are asked about one by one,
+// and the next walk begins behind the pair.
 fn move_kept<E: Utf16Order, F: FnMut(char) -> bool>(bytes: &mut [u8], keep: &mut F) -> usize
     requires text { IsText E.BIG bytes.old }
     requires askable { MayBeAsked F.FnMut keep.old (text_of E.BIG bytes.old) }
@@ -52,32 +53,35 @@ fn move_kept<E: Utf16Order, F: FnMut(char) -> bool>(bytes: &mut [u8], keep: &mut
 {
     let mut kept = 0;
     let mut read = 0;
-    // Before this index no block is tried again: the last one that was tried ends here.
-    let mut single = 0;
     while read < bytes.len() {
-        if single <= read && bytes.len() - read >= BLOCK {
-            if let Some(units) = plain_units::<E>(&bytes[read..]) {
+        let Some(c) = single_at::<E>(bytes, read) else {
+            let (c, size) = char_from::<E>(bytes, read);
+            if ask(keep, c) {
+                move_down(bytes, kept, read, size);
+                kept += size;
+            }
+            read += size;
+            continue;
+        };
+        if bytes.len() - read >= BLOCK {
+            let (units, plain) = plain_units::<E>(&bytes[read..]);
+            if plain == UNITS {
                 let (answers, many) = ask_each(keep, &units);
                 kept = move_block::<E>(bytes, kept, read, &units, &answers, many);
                 read += BLOCK;
                 continue;
             }
-            single = read + BLOCK;
-        }
-        if let Some(c) = single_at::<E>(bytes, read) {
-            if ask(keep, c) {
-                move_down(bytes, kept, read, 2);
-                kept += 2;
+            if plain > 0 {
+                kept = keep_each::<E, F>(bytes, keep, kept, read, &units[..plain]);
+                read += 2 * plain;
+                continue;
             }
-            read += 2;
-            continue;
         }
-        let (c, size) = char_from::<E>(bytes, read);
         if ask(keep, c) {
-            move_down(bytes, kept, read, size);
-            kept += size;
+            move_down(bytes, kept, read, 2);
+            kept += 2;
         }
-        read += size;
+        read += 2;
     }
     kept
 }

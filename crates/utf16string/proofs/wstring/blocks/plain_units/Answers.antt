@@ -1,9 +1,16 @@
-use Rattle.std.proofs.Common.{◌∙◌, rules}
-use Rattle.utf16string.proofs.Blocks.{encode-units}
+use Rattle.std.proofs.Common.{◌∙◌, ◌*◌, ap, arith, rules, take}
+use Rattle.std.proofs.lemmas.List.{take-take}
+use Rattle.std.proofs.lemmas.List.Elements.{All-from_get_or, All-take}
+use Rattle.utf16string.proofs.Blocks.{IsUnit, encode-units, units-take}
 use Rattle.utf16string.proofs.wstring.blocks.plain_units.Goals as goal
 
-pub returns-then-are_plain : goal.returns-then-are_plain
-returns-then-are_plain g c = record {
-  scalars = c.are_plain.ensures (search rules);
-  spelled = encode-units g.E.Utf16Order.BIG c.first_units-units.result (λ i. let h = c.first_units-units.type_inv in search rules) ∙ c.first_units-units.ensures;
-}
+pub returns-clause-spelled : goal.returns-clause-spelled
+returns-clause-spelled g c =
+    let big = g.E.Utf16Order.BIG in
+    let units = c.first_units-units.result in
+    let n = c.plain_front.result in
+    let below = All-from_get_or IsUnit units 0 (λ i lt. let h = c.first_units-units.type_inv in search rules) in
+    record {
+      scalars = c.plain_front.ensures.characters;
+      spelled = encode-units big (take n units) (All-take IsUnit n units below) ∙ units-take big units n (omega arith) ∙ ap (take (2 * n)) c.first_units-units.ensures ∙ take-take (2 * n) 32 c.args.raw.now (omega arith);
+    }
