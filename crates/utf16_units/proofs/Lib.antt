@@ -25,3 +25,4 @@ pub mod UnitsUpTo
 pub mod CountLemmas
 pub mod AsciiLemmas
 pub mod PairLemmas
+pub mod OrderLemmas
