@@ -26,3 +26,5 @@ pub mod CountLemmas
 pub mod AsciiLemmas
 pub mod PairLemmas
 pub mod OrderLemmas
+pub mod RankLemmas
+pub mod SameLemmas

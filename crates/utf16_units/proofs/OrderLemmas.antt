@@ -1,7 +1,6 @@
 -- The order of texts, computed.
 use Rattle.std.proofs.Common.{◌≡◌, ◌↔◌, ℕ, ◌<◌, ◌⊎◌, List, [], ◌∷◌, ◌++◌, Ordering, Less, Equal, Greater, nat_cmp, refl, sym, ap, ap₂, ◌∙◌, subst, inl, inr}
-use Rattle.std.proofs.lemmas.Cmp.{by_ranked}
-use Rattle.std.specs.Cmp.{nat_cmp_is, nat_cmp_total, ranks, tied_itself}
+use Rattle.std.specs.Cmp.{IsTotalOrder, nat_cmp_is, nat_cmp_total, ranks, tied_itself}
 use Rattle.std.specs.Cmp.Lexicographic.{slice_cmp, nat_list_cmp_total}
 use Rattle.std.specs.Ordering.{MatchOrdering, ordering_reverse, ordering_then}
 use Rattle.utf16_units.specs.Laws.{BeforeFollows, BeforeTotal}
@@ -37,11 +36,11 @@ ranked_texts [] (d ∷ other) = parted [] (d ∷ other) tt
 ranked_texts (c ∷ text) [] = parted [] (c ∷ text) tt
 ranked_texts (c ∷ text) (d ∷ other) = ranked_then c d text other (nat_cmp c d) (slice_cmp nat_cmp text other) (ranks c d) (ranked_texts text other)
 
--- a common beginning decides nothing
-pub common_cmp : (common text other : List ℕ) → slice_cmp nat_cmp (common ++ text) (common ++ other) ≡ slice_cmp nat_cmp text other
-common_cmp [] text other = refl
-common_cmp (c ∷ common) text other =
-    ap (λ o. ordering_then o (slice_cmp nat_cmp (common ++ text) (common ++ other))) (tied_itself nat_cmp_total c) ∙ common_cmp common text other
+-- a common beginning decides nothing, in any order of lists
+pub common_cmp : {K : Type 0} {R : K → K → Ordering} → IsTotalOrder R → (common xs ys : List K) → slice_cmp R (common ++ xs) (common ++ ys) ≡ slice_cmp R xs ys
+common_cmp o [] xs ys = refl
+common_cmp {K} {R} o (k ∷ common) xs ys =
+    ap (λ r. ordering_then r (slice_cmp R (common ++ xs) (common ++ ys))) (tied_itself o k) ∙ common_cmp o common xs ys
 
 first_Less : (rest other : List ℕ) → GoesFirst rest other → slice_cmp nat_cmp rest other ≡ Less
 first_Less [] [] first = absurd first
@@ -51,7 +50,7 @@ first_Less (c ∷ rest) (d ∷ other) first = ap (λ o. ordering_then o (slice_c
 
 pub Less-from_before : (text other : List ℕ) → IsBefore text other → slice_cmp nat_cmp text other ≡ Less
 Less-from_before text other b =
-    ap₂ (slice_cmp nat_cmp) b.text_is b.other_is ∙ common_cmp b.common b.rest b.other_rest ∙ first_Less b.rest b.other_rest b.first
+    ap₂ (slice_cmp nat_cmp) b.text_is b.other_is ∙ common_cmp nat_cmp_total b.common b.rest b.other_rest ∙ first_Less b.rest b.other_rest b.first
 
 -- the three answers, each exactly where the texts stand so
 module _ (text other : List ℕ) (answer : Ordering) (is : answer ≡ slice_cmp nat_cmp text other) where

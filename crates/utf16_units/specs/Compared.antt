@@ -9,9 +9,13 @@ use Rattle.utf16_units.specs.Encoding.{units_of}
 abbrev pub unit_rank : ℕ → ℕ
 unit_rank unit = if nat_lt unit 0xD800 then unit else (if nat_lt unit 0xE000 then unit + 0x2000 else unit - 0x800)
 
--- the first units that differ decide by their ranks, and else the counts of units do
+-- lists of units by their ranks: the first units that differ decide, and else the counts do
+abbrev pub ranked_cmp : List ℕ → List ℕ → Ordering
+ranked_cmp = slice_cmp (on unit_rank nat_cmp)
+
+-- the same of the units that bytes spell
 abbrev pub units_cmp : Bool → List ℕ → List ℕ → Ordering
-units_cmp big bytes other = slice_cmp (on unit_rank nat_cmp) (units_of big bytes) (units_of big other)
+units_cmp big bytes other = ranked_cmp (units_of big bytes) (units_of big other)
 
 -- the first n bytes of the two are the same, and are whole units
 pub record SameTo (bytes other : List ℕ) (n : ℕ) : Type 0 where
