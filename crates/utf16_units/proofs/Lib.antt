@@ -28,3 +28,4 @@ pub mod PairLemmas
 pub mod OrderLemmas
 pub mod RankLemmas
 pub mod SameLemmas
+pub mod OrderTies
