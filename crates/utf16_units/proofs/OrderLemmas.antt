@@ -52,6 +52,9 @@ pub Less-from_before : (text other : List ℕ) → IsBefore text other → slice
 Less-from_before text other b =
     ap₂ (slice_cmp nat_cmp) b.text_is b.other_is ∙ common_cmp nat_cmp_total b.common b.rest b.other_rest ∙ first_Less b.rest b.other_rest b.first
 
+pub Greater-from_before : (text other : List ℕ) → IsBefore other text → slice_cmp nat_cmp text other ≡ Greater
+Greater-from_before text other b = nat_list_cmp_total.antisymm text other ∙ ap ordering_reverse (Less-from_before other text b)
+
 -- the three answers, each exactly where the texts stand so
 module _ (text other : List ℕ) (answer : Ordering) (is : answer ≡ slice_cmp nat_cmp text other) where
   told : MatchOrdering answer (IsBefore text other) (text ≡ other) (IsBefore other text)
@@ -72,7 +75,7 @@ module _ (text other : List ℕ) (answer : Ordering) (is : answer ≡ slice_cmp 
   pub answers_Greater : answer ≡ Greater ↔ IsBefore other text
   answers_Greater = (
     λ greater. subst (λ o. MatchOrdering o (IsBefore text other) (text ≡ other) (IsBefore other text)) greater told,
-    λ b. is ∙ nat_list_cmp_total.antisymm text other ∙ ap ordering_reverse (Less-from_before other text b),
+    λ b. is ∙ Greater-from_before text other b,
   )
 
 -- ---- the laws
