@@ -1,24 +1,30 @@
 //! A borrowed UTF-16 string.
 
 ghost use Rattle.std.specs.Prelude.{◌≡◌, ◌↔◌, ⊤, [], true, false, length, IsTrue, IsOk, IfOk, IfErr, IsSome, IfSome, Some, All, ◌+◌, ◌<◌, ◌^◌, ℕ, List, nat_eq, encode_utf8_all, string_bytes};
-ghost use Rattle.std.specs.Cmp.{on_equiv, on_per, partial_equiv_from_equiv};
-ghost use Rattle.std.specs.Cmp.Lexicographic.{nat_list_eq_equiv, pointwise};
+ghost use Rattle.std.specs.Cmp.{on_equiv, on_per, on_total, partial_equiv_from_equiv, po};
+ghost use Rattle.std.specs.Cmp.Lexicographic.{nat_list_cmp_total, nat_list_eq_equiv, pointwise, slice_cmp};
 ghost use Rattle.std.specs.Cmp.Rules.{hashing};
 ghost use Rattle.std.specs.Hash as fed;
 ghost use Rattle.std.specs.Iterator.{YieldsFirst, YieldsLast};
 ghost use Rattle.std.specs.Iterator.Runs.{YieldsInOrder, YieldsInReverse};
-ghost use Rattle.std.proofs.Common.{rules};
+ghost use Rattle.std.specs.Ordering.{nat_cmp};
+ghost use Rattle.std.specs.declared.cmp.Ordering.TheVariants.{Equal, Greater, Less};
+ghost use Rattle.std.proofs.Common.{refl, rules};
 ghost use Rattle.utf16_units.specs.Boundary.{IsBoundary, text_between};
 ghost use Rattle.utf16_units.specs.Encoding.{Encodes, IsText, is_text, size};
+ghost use Rattle.utf16_units.specs.Order.{IsBefore};
 ghost use Rattle.utf16_units.specs.Utf16Error.{IsErrorOf};
+ghost use Rattle.utf16_units.proofs.OrderTies.{same_ties};
 ghost use Rattle.utf16_str.specs.Offsets.{char_offsets};
 ghost use Rattle.utf16_str.specs.Window.{IsWindowOf, window_text};
 
 use crate::{SliceIndex, WStrCharIndices, WStrChars};
 use std::alloc::{AllocError, Allocator};
+use std::cmp::Ordering;
 use std::fmt;
 use std::hash::{Hash, Hasher};
 use std::marker::PhantomData;
+use utf16_units::compare::compare;
 use utf16_units::{
     BigEndian, LittleEndian, Utf16Error, Utf16Order, is_trailing_surrogate, text,
     validate_raw_utf16,
@@ -268,6 +274,42 @@ impl<'a, E: Utf16Order> Eq for WStr<'a, E> {
     ghost use Rattle.utf16_str.specs.WStr.{wstr_bytes};
 
     ghost laws = { on_equiv wstr_bytes nat_list_eq_equiv };
+}
+
+/// By scalar values, character by character, as `str` compares: in neither order the order of the bytes, nor of the units.
+impl<'a, E: Utf16Order> PartialOrd for WStr<'a, E> {
+    ghost use Rattle.utf16_str.specs.WStr.{wstr_bytes, wstr_text};
+
+    ghost partial_cmp = { λ x y. Some (slice_cmp nat_cmp (wstr_text x) (wstr_text y)) };
+
+    ghost laws = { po (on_total wstr_text nat_list_cmp_total) (λ x y. same_ties E.BIG (wstr_bytes x) (wstr_bytes y) x.well_formed y.well_formed) };
+
+    #[inline]
+    fn partial_cmp(&self, other: &Self) -> Option<Ordering> {
+        Some(self.cmp(other))
+    }
+}
+
+impl<'a, E: Utf16Order> Ord for WStr<'a, E> {
+    ghost use Rattle.utf16_str.specs.WStr.{wstr_bytes, wstr_text};
+
+    ghost cmp = { λ x y. slice_cmp nat_cmp (wstr_text x) (wstr_text y) };
+
+    ghost total = { on_total wstr_text nat_list_cmp_total };
+
+    ghost matches_partial_cmp = { λ x y. refl };
+
+    ghost matches_eq = { λ x y. same_ties E.BIG (wstr_bytes x) (wstr_bytes y) x.well_formed y.well_formed };
+
+    #[inline]
+    fn cmp(&self, other: &Self) -> Ordering
+        ensures cmp { result ≡ slice_cmp nat_cmp (wstr_text self.now) (wstr_text other.now) }
+        ensures less { result ≡ Less ↔ IsBefore (wstr_text self.now) (wstr_text other.now) }
+        ensures equal { result ≡ Equal ↔ (wstr_text self.now ≡ wstr_text other.now) }
+        ensures greater { result ≡ Greater ↔ IsBefore (wstr_text other.now) (wstr_text self.now) }
+    {
+        compare::<E>(self.as_bytes(), other.as_bytes())
+    }
 }
 
 impl<'a, E: Utf16Order> Hash for WStr<'a, E> {

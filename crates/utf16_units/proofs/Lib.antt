@@ -25,3 +25,7 @@ pub mod UnitsUpTo
 pub mod CountLemmas
 pub mod AsciiLemmas
 pub mod PairLemmas
+pub mod OrderLemmas
+pub mod RankLemmas
+pub mod SameLemmas
+pub mod OrderTies

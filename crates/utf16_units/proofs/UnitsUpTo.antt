@@ -29,7 +29,7 @@ units_of-one big bytes at within =
     ap (λ rest. units_of big (take 2 rest)) (drop-cons bytes at 0 (omega arith) ∙ ap (λ rest. slice_index bytes at ∷ rest) (drop-cons bytes (suc at) 0 (omega arith)))
     ∙ ap (λ i. unit_of big (slice_index bytes at) (slice_index bytes i) ∷ []) next
 
-units_of-short : (big : Bool) (bytes : List ℕ) → length bytes < 2 → units_of big bytes ≡ []
+pub units_of-short : (big : Bool) (bytes : List ℕ) → length bytes < 2 → units_of big bytes ≡ []
 unfolding units_of
 units_of-short big [] few = refl
 units_of-short big (x ∷ []) few = refl

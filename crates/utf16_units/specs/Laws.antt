@@ -1,11 +1,12 @@
 -- The laws of UTF-16 that users of the format rest on, each a statement over the definitions alone.
-use Rattle.std.specs.Prelude.{◌≡◌, ◌≢◌, ◌↔◌, ℕ, ◌+◌, ◌*◌, ◌%◌, ◌<◌, ◌≤◌, Bool, not, List, [], ◌∷◌, ◌++◌, None, Some, All, length, take, drop, encode_utf8_all, chars}
+use Rattle.std.specs.Prelude.{◌≡◌, ◌≢◌, ◌↔◌, ◌⊎◌, ℕ, ◌+◌, ◌*◌, ◌%◌, ◌<◌, ◌≤◌, Bool, not, List, [], ◌∷◌, ◌++◌, None, Some, All, length, take, drop, encode_utf8_all, chars}
 use Rattle.std.specs.Char.{IsScalar}
 use Rattle.utf16_units.specs.Boundary.{IsBoundary, text_between}
 use Rattle.utf16_units.specs.Continued.{IsBeginning, IsDeadEnd}
 use Rattle.utf16_units.specs.Edit.{char_at, insert_at, push_text, remove_at, split_back, split_front}
 use Rattle.utf16_units.specs.Encoding.{Encodes, encode, size}
 use Rattle.utf16_units.specs.Fault.{IsFault, IsFront}
+use Rattle.utf16_units.specs.Order.{IsBefore}
 use Rattle.utf16_units.specs.Recipe.{Recipe}
 use Rattle.utf16_units.specs.Split.{Item, Split, full, marked, split_items, split_tail}
 
@@ -101,3 +102,18 @@ ShownWithin = (big : Bool) (bytes : List ℕ) → All (λ b. b < 256) bytes
     → (2 * length (split_items big bytes) ≤ length bytes)
     × (2 * length (encode_utf8_all (marked (split_items big bytes))) ≤ 3 * length bytes)
     × (2 * length (encode_utf8_all (full (split_items big bytes) (split_tail big bytes))) ≤ 3 * length bytes + 3)
+
+-- exactly one of three holds
+pub record IsOneOf (P Q R : Type 0) : Type 0 where
+  pub some : P ⊎ (Q ⊎ R)
+  pub first_second : P → ¬ Q
+  pub first_third : P → ¬ R
+  pub second_third : Q → ¬ R
+
+-- of two texts exactly one holds: the first is before the second, they are equal, the second is before the first
+abbrev pub BeforeTotal : Type 0
+BeforeTotal = (text other : List ℕ) → IsOneOf (IsBefore text other) (text ≡ other) (IsBefore other text)
+
+-- what is before a text is before all that this text is before
+abbrev pub BeforeFollows : Type 0
+BeforeFollows = (text other third : List ℕ) → IsBefore text other → IsBefore other third → IsBefore text third

@@ -9,3 +9,5 @@ pub mod Laws
 pub mod Split
 pub mod Recipe
 pub mod Lanes
+pub mod Order
+pub mod Compared

@@ -4,7 +4,7 @@
 //! `Rattle.utf16_units.proofs.LawProofs`. The statements are in `specs/Laws.antt`: they speak of the definitions alone, for
 //! all texts, all bytes and both byte orders.
 
-ghost use Rattle.utf16_units.specs.Laws.{CutAnywhere, FoundAligned, InsertThenRemove, ItemsStay, JoinedText, NoneContinues, RecipeIsSplit, ShownWithin, SplitExists, SplitExtends, SplitThenPush, SplitUnique, SwappedOrders, TextIsShown, TwoNeverContinues, UniqueText, Utf8Back};
+ghost use Rattle.utf16_units.specs.Laws.{BeforeFollows, BeforeTotal, CutAnywhere, FoundAligned, InsertThenRemove, ItemsStay, JoinedText, NoneContinues, RecipeIsSplit, ShownWithin, SplitExists, SplitExtends, SplitThenPush, SplitUnique, SwappedOrders, TextIsShown, TwoNeverContinues, UniqueText, Utf8Back};
 
 /// Two texts with equal encodings in one order are equal.
 pub fn unique_text()
@@ -96,4 +96,14 @@ pub fn cut_anywhere()
 /// most three bytes.
 pub fn shown_within()
     ensures { ShownWithin }
+{}
+
+/// Of two texts exactly one holds: the first is before the second, they are equal, the second is before the first.
+pub fn before_total()
+    ensures { BeforeTotal }
+{}
+
+/// Where a text is before a second, and that before a third, the first is before the third.
+pub fn before_follows()
+    ensures { BeforeFollows }
 {}

@@ -4,6 +4,7 @@
 #[cfg(test)]
 mod block_tests;
 mod char;
+pub mod compare;
 mod error;
 mod lanes;
 pub mod laws;

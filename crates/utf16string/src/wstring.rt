@@ -1,8 +1,10 @@
 //! An owned UTF-16 string.
 
 mod blocks;
+mod copies;
 mod cuts;
 mod inserts;
+mod order;
 mod overwrites;
 mod retains;
 mod room;

@@ -1,0 +1,7 @@
+//! Proved callers of the order of strings and of their copies, by public calls alone.
+#![tactic(auto)]
+
+pub mod copies;
+pub mod laws;
+pub mod sorted;
+pub mod tables;

@@ -1,0 +1,15 @@
+//! What the tests of this crate share: an assertion, and strings made.
+
+use std::fmt::Debug;
+use std::process::Abort;
+use utf16string::{Utf16Order, WString};
+
+/// What is found is what is wanted.
+pub fn equal<T: PartialEq + Debug + Drop>(rt: &impl Abort, found: T, wanted: T) {
+    assert_eq!(rt; found, wanted);
+}
+
+/// A string of this text.
+pub fn string<E: Utf16Order>(rt: &(impl Abort + AllocGlobal), text: &str) -> WString<E> {
+    WString::from_str(rt.alloc(), text).expect(rt, "memory")
+}

@@ -1,0 +1,80 @@
+//! How two texts stand to each other in the order of their scalar values, told by their bytes.
+
+ghost use Rattle.std.specs.Prelude.{◌≡◌, ◌↔◌, ◌%◌, ◌<◌, ◌≤◌};
+ghost use Rattle.std.specs.Cmp.Lexicographic.{slice_cmp};
+ghost use Rattle.std.specs.Ordering.{nat_cmp};
+ghost use Rattle.std.specs.declared.cmp.Ordering.TheVariants.{Equal, Greater, Less};
+ghost use Rattle.utf16_units.specs.Compared.{SameTo, unit_rank, units_cmp};
+ghost use Rattle.utf16_units.specs.Encoding.{IsText, text_of};
+ghost use Rattle.utf16_units.specs.Order.{IsBefore};
+
+use crate::Utf16Order;
+use std::cmp::Ordering;
+use std::simd::prelude::*;
+
+/// Which of two texts is before the other by scalar values, of bytes that the caller proves to be well formed in the order
+/// `E`. It reads both up to the first unit that differs, equal beginnings by blocks.
+pub fn compare<E: Utf16Order>(first: &[u8], second: &[u8]) -> Ordering
+    requires first { IsText E.BIG first.now }
+    requires second { IsText E.BIG second.now }
+    ensures less { result ≡ Less ↔ IsBefore (text_of E.BIG first.now) (text_of E.BIG second.now) }
+    ensures equal { result ≡ Equal ↔ (text_of E.BIG first.now ≡ text_of E.BIG second.now) }
+    ensures greater { result ≡ Greater ↔ IsBefore (text_of E.BIG second.now) (text_of E.BIG first.now) }
+    ensures computed { result ≡ slice_cmp nat_cmp (text_of E.BIG first.now) (text_of E.BIG second.now) }
+{
+    let far = same_blocks::<64>(first, second, 0);
+    let near = same_blocks::<16>(first, second, far);
+    compare_units::<E>(first, second, near)
+}
+
+// How far two begin with the same bytes, in whole units, as blocks of `N` bytes show it.
+#[inline]
+fn same_blocks<const N: usize>(first: &[u8], second: &[u8], from: usize) -> usize
+    requires lanes { (0 < N) × (N ≤ 64) × (N % 2 ≡ 0) }
+    requires before { SameTo first.now second.now from }
+    ensures { SameTo first.now second.now result }
+{
+    let mut at = from;
+    while first.len() - at >= N && second.len() - at >= N {
+        let block = Simd::<u8, N>::from_slice(&first[at..]);
+        let other = Simd::<u8, N>::from_slice(&second[at..]);
+        let same = block.simd_ne(other).to_bitmask().trailing_zeros() as usize;
+        if same < N {
+            return at + same / 2 * 2;
+        }
+        at += N;
+    }
+    at
+}
+
+// The first unit that differs decides, from a place on up to which the bytes are the same.
+#[inline]
+fn compare_units<E: Utf16Order>(first: &[u8], second: &[u8], from: usize) -> Ordering
+    requires first { IsText E.BIG first.now }
+    requires second { IsText E.BIG second.now }
+    requires before { SameTo first.now second.now from }
+    ensures { result ≡ units_cmp E.BIG first.now second.now }
+{
+    let mut at = from;
+    while first.len() - at >= 2 && second.len() - at >= 2 {
+        let unit = E::read_unit([first[at], first[at + 1]]);
+        let other = E::read_unit([second[at], second[at + 1]]);
+        if unit != other {
+            return rank(unit).cmp(&rank(other));
+        }
+        at += 2;
+    }
+    first.len().cmp(&second.len())
+}
+
+// A unit's rank among all units, where surrogates stand above the others.
+#[inline]
+fn rank(unit: u16) -> u16
+    ensures { result ≡ unit_rank unit }
+{
+    match unit {
+        0..=0xD7FF => unit,
+        0xD800..=0xDFFF => unit + 0x2000,
+        0xE000..=0xFFFF => unit - 0x800,
+    }
+}

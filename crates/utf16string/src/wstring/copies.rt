@@ -1,0 +1,40 @@
+//! Copies of a string.
+
+ghost use Rattle.std.specs.Prelude.{◌≡◌, [], IfOk, IsOk};
+ghost use Rattle.std.specs.Vec.{vec_allocator};
+
+use crate::WString;
+use std::alloc::{AllocError, Allocator};
+use utf16_units::Utf16Order;
+
+impl<E: Utf16Order, A: Allocator + Clone> WString<E, A> {
+    ghost use Rattle.utf16string.specs.WString.{wstring_bytes, wstring_text, wstring_vec};
+
+    /// A string of its own with the same text, in memory of the string's allocator, cloned. The only error is a refused
+    /// request for memory, or an allocator that refuses to be cloned. One request for as many bytes as the text takes, for
+    /// the empty text none; one copy of the bytes.
+    pub fn clone(&self) -> Result<Self, AllocError>
+        ensures text { IfOk result (λ copy. wstring_text copy ≡ wstring_text self.now) }
+        ensures bytes { IfOk result (λ copy. wstring_bytes copy ≡ wstring_bytes self.now) }
+        ensures nothing { wstring_text self.now ≡ [] → A.is_infallible (vec_allocator (wstring_vec self.now)) → IsOk result }
+    {
+        let alloc = self.raw.allocator().clone()?;
+        if self.is_empty() {
+            return Ok(Self::new(alloc));
+        }
+        let raw = Vec::from_slice(alloc, &self.raw)?;
+        Ok(Self::from_utf16_unchecked(raw))
+    }
+}
+
+impl<E: Utf16Order, A: Allocator + Clone> Clone for WString<E, A> {
+    ghost use Rattle.utf16string.specs.WString.{wstring_text, wstring_vec};
+
+    ghost is_clone = { λ s copy. wstring_text copy ≡ wstring_text s };
+
+    ghost is_infallible = { λ s. (wstring_text s ≡ []) × A.is_infallible (vec_allocator (wstring_vec s)) };
+
+    fn clone(&self) -> Result<Self, AllocError> {
+        WString::clone(self)
+    }
+}
