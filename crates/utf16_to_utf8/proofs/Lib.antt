@@ -1,0 +1,2 @@
+mod LaneLemmas
+mod UnitLemmas

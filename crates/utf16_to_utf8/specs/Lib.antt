@@ -1,0 +1,3 @@
+pub mod Utf8
+pub mod Lanes
+pub mod Pack
