@@ -1,2 +1,6 @@
 mod LaneLemmas
 mod UnitLemmas
+mod AddedLemmas
+mod ListLemmas
+mod StoreLemmas
+mod BlockLemmas

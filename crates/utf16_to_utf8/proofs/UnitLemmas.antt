@@ -89,10 +89,12 @@ char_utf8 before c units scalar = ⊎_elim
     (λ (two : 0x1_0000 ≤ c).
     let lead = 0xD800 + (c - 0x1_0000) / 0x400 in
     let trail = 0xDC00 + (c - 0x1_0000) % 0x400 in
-    let top : c < 0x11_0000 = ⊎_elim (λ (low : c < 0xD800). omega arith) (λ (high : (0xE000 ≤ c) × (c < 0x11_0000)). high.1) (no_surrogate c scalar) in
-    (trail, ap (λ us. units_utf8 before (us ++ units)) (two_units c two)
-    ∙ sym (append_assoc (unit_utf8 before lead) (unit_utf8 lead trail) (units_utf8 trail units))
-    ∙ ap (λ bs. bs ++ units_utf8 trail units) (char_two before c two top)))
+    let top : c < 0x11_0000 = ⊎_elim (λ (low : c < 0xD800). omega arith) (λ (high : (0xE000 ≤ c) × (c < 0x11_0000)). high.1) (no_surrogate c scalar) in (
+      trail,
+      ap (λ us. units_utf8 before (us ++ units)) (two_units c two)
+          ∙ sym (append_assoc (unit_utf8 before lead) (unit_utf8 lead trail) (units_utf8 trail units))
+          ∙ ap (λ bs. bs ++ units_utf8 trail units) (char_two before c two top),
+    ))
     (cases_lt c 0x1_0000)
 
 -- what the units of a text add is its UTF-8, whatever unit stands before them
