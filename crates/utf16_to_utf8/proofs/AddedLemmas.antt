@@ -1,5 +1,5 @@
 -- What eight lanes compute of a unit is what the unit adds.
-use Rattle.std.proofs.Common.{◌≡◌, ℕ, ◌+◌, ◌-◌, ◌*◌, ◌/◌, ◌%◌, ◌^◌, ◌<◌, ◌≤◌, ◌⊎◌, Bool, true, false, cond, leb, ltb, List, [], ◌∷◌, take, bit_and, refl, sym, ap, ap₂, ◌∙◌, ⊎_elim, arith, inl, inr, eq-eqb, eqb-true, lt-ltb, le-ltb}
+use Rattle.std.proofs.Common.{◌≡◌, ℕ, ◌+◌, ◌-◌, ◌*◌, ◌/◌, ◌%◌, ◌^◌, ◌<◌, ◌≤◌, ◌⊎◌, Bool, true, false, cond, leb, ltb, List, [], ◌∷◌, length, take, bit_and, refl, sym, ap, ap₂, ◌∙◌, ⊎_elim, arith, inl, inr, eq-eqb, eqb-true, lt-ltb, le-ltb}
 use Rattle.std.proofs.lemmas.Bool.{cases_lt, false_from_ne_true, le-leb, lt-leb}
 use Rattle.std.proofs.lemmas.Nat.{and_mask}
 use Rattle.std.proofs.lemmas.Nat.Bits.{and_high}
@@ -200,3 +200,13 @@ front-fits p u below =
     let two : (m b : ℕ) → two_bytes m b < 0x1_0000 = λ m b. omega arith in
     let few : narrow p u < 0x1_0000 = chosen-fits (ltb u 0x80) u _ 0x1_0000 below (two _ _) in
     chosen-fits (ltb u 0x800) (narrow p u) _ 0x1_0000 few (chosen-fits (is_surrogate u) (narrow p u) (wide u) 0x1_0000 few (two _ _))
+
+pub length-unit : (p u : ℕ) → u < 0x1_0000 → length (unit_utf8 p u) ≡ added_len u
+length-unit p u below = go (class u)
+  where
+    go : Class u → length (unit_utf8 p u) ≡ added_len u
+    go (inl a) = ap length (unit-one p u a) ∙ sym (ap (λ b. cond b 1 (cond (ltb u 0x800) 2 (cond (is_surrogate u) 2 3))) (lt-ltb u 0x80 a))
+    go (inr (inl b)) = ap length (unit-two p u b.0 b.1) ∙ sym (ap₂ (λ x y. cond x 1 (cond y 2 (cond (is_surrogate u) 2 3))) (le-ltb u 0x80 b.0) (lt-ltb u 0x800 b.1))
+    go (inr (inr (inl b))) = ap length (unit-leading p u b.0 b.1) ∙ sym (added_len-surrogate u (b.0, omega (arith, b.1)))
+    go (inr (inr (inr (inl b)))) = ap length (unit-trailing p u b.0 b.1) ∙ sym (added_len-surrogate u (omega (arith, b.0), b.1))
+    go (inr (inr (inr (inr b)))) = ap length (unit-three p u b.0 b.1) ∙ sym (added_len-three u below b.0 b.1)

@@ -1,6 +1,6 @@
 -- The units of a block, and what the bits of its classes say of them.
 use Rattle.std.proofs.Common.{◌≡◌, ℕ, zero, suc, ◌+◌, ◌-◌, ◌*◌, ◌/◌, ◌%◌, ◌^◌, ◌<◌, ◌≤◌, ◌⊎◌, Bool, true, false, not, cond, eqb, ltb, inl, inr, List, [], ◌∷◌, ◌++◌, All, length, map, get_or, slice_index, take, drop, replicate, bit_and, refl, sym, ap, ap₂, ◌∙◌, subst, ⊎_elim, arith, Fits, w8, w16, eqb-true, eq-eqb, lt-ltb, le-ltb, append-nil, append_assoc, length-append, length-drop, take_all}
-use Rattle.std.proofs.lemmas.Bool.{cases_lt, true≢false}
+use Rattle.std.proofs.lemmas.Bool.{cases_lt, false_from_ne_true, true≢false}
 use Rattle.std.proofs.lemmas.List.{drop-append-le, length-map, take-append-le}
 use Rattle.std.proofs.lemmas.List.Elements.{All-cons, All-head, All-nil, All-tail}
 use Rattle.std.proofs.lemmas.Nat.Bits.{and_high}
@@ -86,12 +86,18 @@ low-below u below e =
     let is = eqb-true _ _ e in
     omega (arith, high, is)
 
+pub low-is : (u : ℕ) → u < 0x800 → is_low u ≡ true
+low-is u a =
+    let high : bit_and u 0xF800 ≡ u / 2048 % 32 * 2048 = and_high u 5 11 in
+    eq-eqb _ _ (omega (arith, high, a))
+
+pub low-no : (u : ℕ) → u < 0x1_0000 → 0x800 ≤ u → is_low u ≡ false
+low-no u below a = false_from_ne_true (is_low u) (λ e. omega (arith, a, low-below u below e))
+
 low-above : (u : ℕ) → u < 0x1_0000 → is_low u ≡ false → 0x800 ≤ u
 low-above u below e = ⊎_elim
     (λ (a : u < 0x800).
-    let high : bit_and u 0xF800 ≡ u / 2048 % 32 * 2048 = and_high u 5 11 in
-    let is : is_low u ≡ true = eq-eqb _ _ (omega (arith, high, a)) in
-    absurd (true≢false (sym is ∙ e)))
+    absurd (true≢false (sym (low-is u a) ∙ e)))
     (λ (b : 0x800 ≤ u). b)
     (cases_lt u 0x800)
 

@@ -4,3 +4,5 @@ mod AddedLemmas
 mod ListLemmas
 mod StoreLemmas
 mod BlockLemmas
+mod TextLemmas
+mod LenLemmas
