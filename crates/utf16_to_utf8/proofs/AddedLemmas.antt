@@ -1,9 +1,9 @@
 -- What eight lanes compute of a unit is what the unit adds.
-use Rattle.std.proofs.Common.{◌≡◌, ℕ, ◌+◌, ◌-◌, ◌*◌, ◌/◌, ◌%◌, ◌^◌, ◌<◌, ◌≤◌, ◌⊎◌, Bool, true, false, cond, leb, ltb, List, [], ◌∷◌, length, take, bit_and, refl, sym, ap, ap₂, ◌∙◌, ⊎_elim, arith, inl, inr, eq-eqb, eqb-true, lt-ltb, le-ltb}
+use Rattle.std.proofs.Common.{◌≡◌, ℕ, ◌+◌, ◌-◌, ◌*◌, ◌/◌, ◌%◌, ◌<◌, ◌≤◌, ◌⊎◌, Bool, true, false, cond, leb, ltb, List, [], ◌∷◌, length, take, bit_and, refl, sym, ap, ap₂, ◌∙◌, ⊎_elim, arith, inl, inr, eq-eqb, eqb-true, lt-ltb, le-ltb}
 use Rattle.std.proofs.lemmas.Bool.{cases_lt, false_from_ne_true, le-leb, lt-leb}
 use Rattle.std.proofs.lemmas.Nat.{and_mask}
 use Rattle.std.proofs.lemmas.Nat.Bits.{and_high}
-use Rattle.utf16_to_utf8.specs.Lanes.{added_len, front, is_surrogate, minus, narrow, plus, surrogate_bits, third, two_bytes, up, wide}
+use Rattle.utf16_to_utf8.specs.Lanes.{added_len, front, is_surrogate, minus, narrow, plus, third, two_bytes, up, wide}
 use Rattle.utf16_to_utf8.specs.Utf8.{continuation, unit_utf8}
 use Rattle.utf16_to_utf8.proofs.UnitLemmas.{unit-leading, unit-one, unit-three, unit-trailing, unit-two}
 

@@ -1,10 +1,10 @@
 -- The units of a block, and what the bits of its classes say of them.
-use Rattle.std.proofs.Common.{◌≡◌, ℕ, zero, suc, ◌+◌, ◌-◌, ◌*◌, ◌/◌, ◌%◌, ◌^◌, ◌<◌, ◌≤◌, ◌⊎◌, Bool, true, false, not, cond, eqb, ltb, inl, inr, List, [], ◌∷◌, ◌++◌, All, length, map, get_or, slice_index, take, drop, replicate, bit_and, refl, sym, ap, ap₂, ◌∙◌, subst, ⊎_elim, arith, Fits, w8, w16, eqb-true, eq-eqb, lt-ltb, le-ltb, append-nil, append_assoc, length-append, length-drop, take_all}
+use Rattle.std.proofs.Common.{◌≡◌, ℕ, zero, suc, ◌+◌, ◌*◌, ◌/◌, ◌%◌, ◌^◌, ◌<◌, ◌≤◌, ◌⊎◌, Bool, true, false, not, cond, eqb, ltb, inl, inr, List, [], ◌∷◌, ◌++◌, All, length, map, slice_index, take, drop, replicate, bit_and, refl, sym, ap, ap₂, ◌∙◌, subst, ⊎_elim, arith, Fits, w8, w16, eqb-true, eq-eqb, lt-ltb, le-ltb, append-nil, append_assoc, length-append, length-drop, take_all}
 use Rattle.std.proofs.lemmas.Bool.{cases_lt, false_from_ne_true, true≢false}
 use Rattle.std.proofs.lemmas.List.{drop-append-le, length-map, take-append-le}
 use Rattle.std.proofs.lemmas.List.Elements.{All-cons, All-head, All-nil, All-tail}
 use Rattle.std.proofs.lemmas.Nat.Bits.{and_high}
-use Rattle.std.proofs.lemmas.Simd.{Each1-get_or, bitmask_splat, chunk-drop, get_or-chunk, length-chunk, length-zip2, map-map, mask_l-lt, pick_l-range_with_len, zip2_of_maps, zip2_splat}
+use Rattle.std.proofs.lemmas.Simd.{bitmask_splat, chunk-drop, get_or-chunk, length-chunk, length-zip2, map-map, mask_l-lt, pick_l-range_with_len, zip2_splat}
 use Rattle.std.proofs.Math.Nat.{two-pow-succ}
 use Rattle.std.specs.List.{range_with_len}
 use lib.Lanes.{Each1, chunk, digits_l, mask_l, number_l, pick_l, top, zip2}

@@ -1,5 +1,5 @@
 -- The operations on eight lanes, by index.
-use Rattle.std.proofs.Common.{◌≡◌, ℕ, zero, suc, ◌+◌, ◌<◌, ◌++◌, ◌∷◌, [], List, Bool, false, cond, length, get_or, slice_index, replicate, map, eqb, bit_and, refl, sym, ap, ◌∙◌, arith, drop, get_or-drop, length-append, w16}
+use Rattle.std.proofs.Common.{◌≡◌, ℕ, zero, suc, ◌+◌, ◌++◌, ◌∷◌, [], List, Bool, false, cond, length, get_or, slice_index, replicate, map, eqb, bit_and, refl, sym, ap, ◌∙◌, arith, drop, get_or-drop, length-append, w16}
 use Rattle.std.proofs.lemmas.Simd.{get_or-chunk, get_or-replicate, get_or-sel_l, get_or-zip2, length-sel_l, length-zip2, pick_l-range_with_len, tops_compared}
 use lib.Lanes.{pick_l, sel_l, top, zip2}
 use Rattle.std.specs.List.{range_with_len}

@@ -1,13 +1,14 @@
 -- How many bytes units add, by the bits of their classes.
-use Rattle.std.proofs.Common.{◌≡◌, ℕ, zero, suc, ◌+◌, ◌*◌, ◌<◌, ◌≤◌, ◌⊎◌, Bool, true, false, cond, eqb, ltb, List, [], ◌∷◌, ◌++◌, All, length, map, get_or, replicate, refl, sym, ap, ap₂, ◌∙◌, subst, ⊎_elim, arith, bit_and, count_by, encode_utf8_all, Fits, w8, w16, length-append, sum_by, lt-ltb, le-ltb, inl, inr}
+use Rattle.std.proofs.Common.{◌≡◌, ℕ, zero, suc, ◌+◌, ◌*◌, ◌<◌, ◌≤◌, Bool, true, false, cond, ltb, List, [], ◌∷◌, ◌++◌, All, length, get_or, replicate, refl, sym, ap, ◌∙◌, ⊎_elim, arith, count_by, encode_utf8_all, Fits, w8, w16, length-append, sum_by, lt-ltb, le-ltb, inl}
 use Rattle.std.proofs.lemmas.List.Elements.{All-head, All-tail}
+use Rattle.std.proofs.lemmas.List.Sums.{sum_by-cons}
 use Rattle.std.proofs.lemmas.Bool.{cases_lt}
 use Rattle.std.proofs.lemmas.Simd.{Each1-from_get_or}
 use lib.Lanes.{Each1}
 use Rattle.utf16_units.specs.Encoding.{IsText, text_of, units_of}
 use Rattle.utf16_to_utf8.specs.Lanes.{added_len, is_surrogate}
 use Rattle.utf16_to_utf8.specs.Utf8.{unit_utf8, units_utf8}
-use Rattle.utf16_to_utf8.proofs.AddedLemmas.{length-unit, surrogate-is, surrogate-no}
+use Rattle.utf16_to_utf8.proofs.AddedLemmas.{added_len-le, length-unit, surrogate-no}
 use Rattle.utf16_to_utf8.proofs.BlockLemmas.{is_low, low-is, low-no}
 use Rattle.utf16_to_utf8.proofs.ListLemmas.{units-cons, units-nil}
 use Rattle.utf16_to_utf8.proofs.TextLemmas.{bytes-utf8}
@@ -17,13 +18,13 @@ pub added-ascii : (units : List ℕ) → All (λ unit. unit < 0x80) units → su
 added-ascii [] are = refl
 added-ascii (u ∷ units) are =
     let one : added_len u ≡ 1 = rw (lt-ltb u 0x80 (All-head (λ v. v < 0x80) u units are)) refl in
-    omega (arith, one, added-ascii units (All-tail (λ v. v < 0x80) u units are))
+    omega (arith, one, sum_by-cons added_len u units, added-ascii units (All-tail (λ v. v < 0x80) u units are))
 
 length-units : (before : ℕ) (units : List ℕ) → Each1 (Fits w16) units → length (units_utf8 before units) ≡ sum_by added_len units
 length-units before [] fit = ap length (units-nil before)
 length-units before (u ∷ units) fit =
     ap length (units-cons before u units)
-    ∙ omega (arith, length-append (unit_utf8 before u) (units_utf8 u units), length-unit before u fit.0.fits, length-units u units fit.1)
+    ∙ omega (arith, sum_by-cons added_len u units, length-append (unit_utf8 before u) (units_utf8 u units), length-unit before u fit.0.fits, length-units u units fit.1)
 
 units-fit : (big : Bool) (bytes : List ℕ) → Each1 (Fits w8) bytes → Each1 (Fits w16) (units_of big bytes)
 unfolding units_of
@@ -62,12 +63,25 @@ by_three u below = ⊎_elim
 pub added-counted : (units : List ℕ) → Each1 (Fits w16) units
     → sum_by added_len units + count_by is_low units + count_by is_surrogate units + count_by (λ u. ltb u 0x80) units ≡ 3 * length units
 added-counted [] fit = refl
-added-counted (u ∷ units) fit = omega (arith, by_three u fit.0.fits, added-counted units fit.1)
+added-counted (u ∷ units) fit = omega (
+  arith,
+  by_three u fit.0.fits,
+  added-counted units fit.1,
+  sum_by-cons added_len u units,
+  sum_by-cons (λ v. cond (is_low v) 1 0) u units,
+  sum_by-cons (λ v. cond (is_surrogate v) 1 0) u units,
+  sum_by-cons (λ v. cond (ltb v 0x80) 1 0) u units,
+)
 
 pub added-zeros : (k : ℕ) (units : List ℕ) → sum_by added_len (units ++ replicate k 0) ≡ sum_by added_len units + k
 added-zeros k [] = zeros k
   where
     zeros : (k : ℕ) → sum_by added_len (replicate k 0) ≡ 0 + k
     zeros zero = refl
-    zeros (suc k) = omega (arith, zeros k)
-added-zeros k (u ∷ units) = omega (arith, added-zeros k units)
+    zeros (suc k) = omega (arith, zeros k, sum_by-cons added_len 0 (replicate k 0))
+added-zeros k (u ∷ units) = omega (arith, added-zeros k units, sum_by-cons added_len u units, sum_by-cons added_len u (units ++ replicate k 0))
+
+-- no unit adds more than three
+pub added-le : (units : List ℕ) → sum_by added_len units ≤ 3 * length units
+added-le [] = omega arith
+added-le (u ∷ units) = omega (arith, added_len-le u, added-le units, sum_by-cons added_len u units)

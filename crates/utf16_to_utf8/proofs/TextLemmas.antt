@@ -1,14 +1,10 @@
 -- A text's bytes block by block, and a last block that zeros fill up.
-use Rattle.std.proofs.Common.{◌≡◌, ℕ, zero, suc, ◌+◌, ◌-◌, ◌*◌, ◌/◌, ◌%◌, ◌<◌, ◌≤◌, Bool, true, false, cond, leb, ltb, List, [], ◌∷◌, ◌++◌, All, length, map, take, drop, slice_index, replicate, refl, sym, ap, ap₂, ◌∙◌, subst, ⊎_elim, arith, Fits, w16, append_assoc, append-nil, drop-drop, encode_utf8_all, flat_map, length-append, length-drop, length-take-le, take-append-drop, sum_by, lt-ltb, le-ltb}
+use Rattle.std.proofs.Common.{◌≡◌, ℕ, zero, suc, ◌+◌, ◌-◌, ◌/◌, ◌%◌, ◌≤◌, Bool, true, false, List, [], ◌∷◌, ◌++◌, length, take, drop, slice_index, replicate, refl, sym, ap, ap₂, ◌∙◌, arith, append_assoc, drop-drop, encode_utf8_all, length-append, length-drop, length-take-le}
 use Rattle.std.proofs.lemmas.List.{drop-replicate, length-replicate, take-append-le, take-take, take_all}
-use Rattle.std.proofs.lemmas.List.Sums.{sum_by-append}
-use Rattle.std.specs.Char.Escape.{encode_utf16}
-use lib.Lanes.{Each1}
 use Rattle.utf16_units.specs.Encoding.{IsText, text_of, units_of}
 use Rattle.utf16_units.specs.Unit.{unit_of}
 use Rattle.utf16_units.proofs.EncodingLemmas.{scalars-text_of}
 use Rattle.utf16_units.proofs.UnitsUpTo.{units_of-split, units_of-text}
-use Rattle.utf16_to_utf8.specs.Lanes.{added_len}
 use Rattle.utf16_to_utf8.specs.Utf8.{unit_utf8, units_utf8}
 use Rattle.utf16_to_utf8.proofs.BlockLemmas.{units-append}
 use Rattle.utf16_to_utf8.proofs.ListLemmas.{units-cons, units-nil}

@@ -1,11 +1,10 @@
 -- What a unit adds, by its class, and that the units of a text add its UTF-8.
-use Rattle.std.proofs.Common.{◌≡◌, ℕ, ◌+◌, ◌-◌, ◌*◌, ◌/◌, ◌%◌, ◌<◌, ◌≤◌, ◌⊎◌, ◌&&◌, Bool, true, false, List, [], ◌∷◌, ◌++◌, All, refl, sym, ap, ap₂, ◌∙◌, ⊎_elim, arith, flat_map, append_assoc, encode_utf8_all, inl, inr, lt-ltb, le-ltb}
-use Rattle.std.proofs.lemmas.Bool.{and_from, cases_lt, le-leb, lt-leb}
+use Rattle.std.proofs.Common.{◌≡◌, ℕ, ◌+◌, ◌-◌, ◌*◌, ◌/◌, ◌%◌, ◌<◌, ◌≤◌, ◌⊎◌, List, [], ◌∷◌, ◌++◌, All, refl, sym, ap, ap₂, ◌∙◌, ⊎_elim, arith, flat_map, append_assoc, encode_utf8_all, inl, inr, lt-ltb, le-ltb}
+use Rattle.std.proofs.lemmas.Bool.{cases_lt, le-leb, lt-leb}
 use Rattle.std.proofs.lemmas.List.Elements.{All-head, All-tail}
 use Rattle.std.proofs.str.Utf16.{one_unit, two_units}
 use Rattle.std.specs.Char.{IsScalar}
 use Rattle.std.specs.Char.Escape.{encode_utf16}
-use Rattle.std.specs.Char.Utf16.{is_high_surrogate, is_low_surrogate}
 use lib.Utf8.{encode}
 use Rattle.utf16_units.proofs.CharLemmas.{no_surrogate}
 use Rattle.utf16_to_utf8.specs.Utf8.{continuation, unit_utf8, units_utf8}

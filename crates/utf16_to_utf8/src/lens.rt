@@ -1,6 +1,6 @@
 //! How many bytes a text takes in UTF-8.
 
-ghost use Rattle.std.specs.Prelude.{◌≡◌, ◌%◌, encode_utf8_all, length, map, nat_lt, sum_by};
+ghost use Rattle.std.specs.Prelude.{◌≡◌, ◌%◌, ◌≤◌, encode_utf8_all, length, map, nat_lt, sum_by};
 ghost use Rattle.std.specs.Simd.Lanes.{mask_l};
 ghost use Rattle.utf16_units.specs.Encoding.{IsText, text_of, units_of};
 ghost use Rattle.utf16_to_utf8.specs.Lanes.{added_len};
@@ -28,8 +28,17 @@ fn units_len<E: Utf16Order>(raw: &[u8]) -> usize
         len += block_len(units_in::<E>(u8x64::from_slice(&raw[at..])));
         at += 64;
     }
-    let rest = &raw[at..];
-    len + block_len(filled_units::<E>(rest)) - (32 - rest.len() / 2)
+    len + rest_len::<E>(&raw[at..])
+}
+
+// The same of less than a block: of a block that zeros fill up, and each of them adds a byte.
+#[inline(always)]
+fn rest_len<E: Utf16Order>(raw: &[u8]) -> usize
+    requires few { length raw.now ≤ 64 }
+    requires even { length raw.now % 2 ≡ 0 }
+    ensures { result ≡ sum_by added_len (units_of E.BIG raw.now) }
+{
+    block_len(filled_units::<E>(raw)) - (32 - raw.len() / 2)
 }
 
 // How many bytes the units of a block add: each three, one less where it is below U+0800, one less again where it is ASCII,

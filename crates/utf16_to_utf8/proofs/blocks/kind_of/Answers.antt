@@ -1,6 +1,5 @@
-use Rattle.std.proofs.Common.{◌≡◌, ℕ, ◌+◌, ◌^◌, ◌<◌, Fits, w16, bit_and, length, map, slice_index, ap, ◌∙◌, sym, arith}
+use Rattle.std.proofs.Common.{◌^◌, Fits, w16, slice_index, ap, ◌∙◌, sym, arith}
 use Rattle.std.proofs.lemmas.Simd.{Each1-get_or}
-use lib.Lanes.{mask_l}
 use Rattle.utf16_to_utf8.specs.Lanes.{is_surrogate}
 use Rattle.utf16_to_utf8.proofs.BlockLemmas.{each_by_bits, is_low, narrow-kind, none_by_bits, wide-kind}
 use Rattle.utf16_to_utf8.proofs.blocks.kind_of.Goals as goal

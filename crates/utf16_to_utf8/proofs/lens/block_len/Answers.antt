@@ -1,6 +1,6 @@
-use Rattle.std.proofs.Common.{◌≡◌, ℕ, ◌+◌, ◌*◌, ◌∙◌, ap, arith, count_by, count_ones, length, ltb, sum_by, sym}
+use Rattle.std.proofs.Common.{◌∙◌, ap, arith, count_ones, ltb, sym}
 use Rattle.std.proofs.lemmas.Simd.{ones-mask_l}
-use Rattle.utf16_to_utf8.specs.Lanes.{added_len, is_surrogate}
+use Rattle.utf16_to_utf8.specs.Lanes.{is_surrogate}
 use Rattle.utf16_to_utf8.proofs.BlockLemmas.{is_low}
 use Rattle.utf16_to_utf8.proofs.LenLemmas.{added-ascii, added-counted}
 use Rattle.utf16_to_utf8.proofs.lens.block_len.Goals as goal

@@ -1,4 +1,4 @@
-use Rattle.std.proofs.Common.{◌≡◌, ◌+◌, ◌-◌, ◌*◌, ◌%◌, ◌≤◌, drop, length, sum_by}
+use Rattle.std.proofs.Common.{◌≡◌, ◌+◌, ◌-◌, ◌%◌, ◌≤◌, drop, length, sum_by}
 use Rattle.utf16_units.specs.Encoding.{units_of}
 use Rattle.utf16_to_utf8.specs.Lanes.{added_len}
 use Rattle.utf16_to_utf8.proofs.lens.units_len.Given as goal

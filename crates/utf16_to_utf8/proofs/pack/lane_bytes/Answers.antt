@@ -1,4 +1,4 @@
-use Rattle.std.proofs.Common.{◌≡◌, ℕ, ◌+◌, ◌*◌, get_or, refl, ap, ◌∙◌, arith}
+use Rattle.std.proofs.Common.{◌≡◌, ◌+◌, ◌*◌, get_or, refl, ap, ◌∙◌, arith}
 use Rattle.std.proofs.lemmas.Simd.{below_from_Fits, get_or_narrower}
 use lib.Lanes.{digits_l, number_l}
 use Rattle.utf16_to_utf8.proofs.pack.lane_bytes.Goals as goal

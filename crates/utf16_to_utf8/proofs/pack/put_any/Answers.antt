@@ -1,4 +1,4 @@
-use Rattle.std.proofs.Common.{◌≡◌, ℕ, ◌+◌, ◌<◌, ◌≤◌, ◌++◌, ◌∷◌, suc, take, drop, length, slice_index, sym, ap, subst, ◌∙◌, arith, drop-cons, Fits, w16}
+use Rattle.std.proofs.Common.{◌≡◌, ◌+◌, ◌<◌, ◌++◌, ◌∷◌, suc, take, drop, length, slice_index, sym, ap, subst, ◌∙◌, arith, drop-cons, Fits, w16}
 use Rattle.std.proofs.lemmas.List.{drop_all}
 use Rattle.std.proofs.lemmas.Simd.{Each1-get_or}
 use Rattle.utf16_to_utf8.specs.Lanes.{front}

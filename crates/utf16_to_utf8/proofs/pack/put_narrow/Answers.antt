@@ -1,9 +1,8 @@
-use Rattle.std.proofs.Common.{◌≡◌, ℕ, ◌+◌, ◌*◌, ◌/◌, ◌%◌, ◌<◌, ◌++◌, ◌∷◌, Fits, w16, leb, length, map, take, drop, slice_index, sym, ap, ap₂, ◌∙◌, arith, append_assoc, length-drop, length-take-le, take-append-drop}
+use Rattle.std.proofs.Common.{◌≡◌, ◌/◌, ◌%◌, ◌<◌, ◌++◌, ◌∷◌, Fits, w16, leb, length, map, take, drop, slice_index, ap, ap₂, ◌∙◌, arith, append_assoc}
 use Rattle.std.proofs.lemmas.List.{length-map}
 use Rattle.std.proofs.lemmas.Simd.{Each1-get_or}
 use Rattle.utf16_to_utf8.specs.Lanes.{narrow}
 use Rattle.utf16_to_utf8.specs.Pack.{packed}
-use Rattle.utf16_to_utf8.specs.Utf8.{units_utf8}
 use Rattle.utf16_to_utf8.proofs.AddedLemmas.{narrow-utf8, one_or_two}
 use Rattle.utf16_to_utf8.proofs.ListLemmas.{packed-halves, packed-units, sixteen_bits}
 use Rattle.utf16_to_utf8.proofs.pack.put_narrow.Goals as goal

@@ -1,8 +1,7 @@
-use Rattle.std.proofs.Common.{◌≡◌, ℕ, ◌+◌, ◌*◌, ◌/◌, ◌%◌, ◌<◌, ◌++◌, ◌∷◌, [], Fits, w16, length, take, drop, slice_index, get_or, sym, ap, ap₂, ◌∙◌, arith, append_assoc, take-append-drop, length-append}
+use Rattle.std.proofs.Common.{◌≡◌, ◌+◌, ◌/◌, ◌%◌, ◌<◌, ◌++◌, Fits, w16, length, take, slice_index, sym, ap, ap₂, ◌∙◌, arith, append_assoc, take-append-drop}
 use Rattle.std.proofs.lemmas.Simd.{Each1-get_or, length-put_chunk, take_more_put_chunk}
 use lib.Lanes.{pick_l, put_chunk}
 use Rattle.utf16_to_utf8.specs.Pack.{threes}
-use Rattle.utf16_to_utf8.specs.Utf8.{units_utf8}
 use Rattle.utf16_to_utf8.proofs.AddedLemmas.{wide-utf8}
 use Rattle.utf16_to_utf8.proofs.ListLemmas.{three_from, threes-units}
 use Rattle.utf16_to_utf8.proofs.pack.put_wide.Goals as goal

@@ -1,4 +1,4 @@
-use Rattle.std.proofs.Common.{◌≡◌, ◌+◌, ◌/◌, ◌%◌, ◌++◌, ◌∷◌, [], take, ap, ◌∙◌, arith, length}
+use Rattle.std.proofs.Common.{◌/◌, ◌%◌, ◌++◌, ◌∷◌, [], take, ap, ◌∙◌, arith, length}
 use Rattle.utf16_to_utf8.proofs.StoreLemmas.{stored-front}
 use Rattle.std.proofs.lemmas.List.{take-append-le}
 use Rattle.utf16_to_utf8.proofs.pack.put_word.Goals as goal

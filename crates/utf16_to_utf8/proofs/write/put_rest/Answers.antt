@@ -1,4 +1,4 @@
-use Rattle.std.proofs.Common.{◌+◌, ◌-◌, ◌/◌, ◌++◌, length, take, slice_index, replicate, sym, ap, ◌∙◌, arith, append_assoc}
+use Rattle.std.proofs.Common.{◌-◌, ◌/◌, ◌++◌, length, take, slice_index, replicate, sym, ap, ◌∙◌, arith, append_assoc}
 use Rattle.utf16_units.specs.Encoding.{units_of}
 use Rattle.utf16_to_utf8.specs.Utf8.{units_utf8}
 use Rattle.utf16_to_utf8.proofs.TextLemmas.{less-zeros, units-zeros}

@@ -1,6 +1,6 @@
-use Rattle.std.proofs.Common.{◌≡◌, ◌+◌, ◌*◌, ◌/◌, ◌∙◌, ◌++◌, ap, arith, drop, length, take, length-take-le, sym}
+use Rattle.std.proofs.Common.{◌+◌, ◌*◌, ◌/◌, ◌∙◌, ap, arith, drop, length, length-take-le, sym}
 use Rattle.std.proofs.lemmas.List.{take-append-le}
-use Rattle.utf16_units.specs.Encoding.{size, text_of}
+use Rattle.utf16_units.specs.Encoding.{text_of}
 use Rattle.utf16_units.proofs.BackChar.{size-even}
 use Rattle.utf16_units.proofs.EncodingLemmas.{length-text}
 use Rattle.utf16_to_utf8.proofs.TextLemmas.{bytes-utf8}
