@@ -3,7 +3,7 @@ use Rattle.std.specs.Char.{encode_utf8}
 use Rattle.utf16_units.proofs.EncodingLemmas.{IsText-from_is_text, length-text}
 use Rattle.utf16_str.specs.WStr.{wstr_text}
 use Rattle.utf16_str.proofs.Utf8Lemmas.{encodes-le-size}
-use Rattle.utf16_str.proofs.utf8.utf8_len.Goals as goal
+use Rattle.utf16_str.proofs.utf8.few_len.Goals as goal
 
 pub overflow_add-len : goal.overflow_add-len
 overflow_add-len g c =

@@ -1,0 +1,212 @@
+-- What eight lanes compute of a unit is what the unit adds.
+use Rattle.std.proofs.Common.{◌≡◌, ℕ, ◌+◌, ◌-◌, ◌*◌, ◌/◌, ◌%◌, ◌<◌, ◌≤◌, ◌⊎◌, Bool, true, false, cond, leb, ltb, List, [], ◌∷◌, length, take, bit_and, refl, sym, ap, ap₂, ◌∙◌, ⊎_elim, arith, inl, inr, eq-eqb, eqb-true, lt-ltb, le-ltb}
+use Rattle.std.proofs.lemmas.Bool.{cases_lt, false_from_ne_true, le-leb, lt-leb}
+use Rattle.std.proofs.lemmas.Nat.{and_mask}
+use Rattle.std.proofs.lemmas.Nat.Bits.{and_high}
+use Rattle.utf16_to_utf8.specs.Lanes.{added_len, front, is_surrogate, minus, narrow, plus, third, two_bytes, up, wide}
+use Rattle.utf16_to_utf8.specs.Utf8.{continuation, unit_utf8}
+use Rattle.utf16_to_utf8.proofs.UnitLemmas.{unit-leading, unit-one, unit-three, unit-trailing, unit-two}
+
+-- the classes of units by what they add
+abbrev Between : ℕ → ℕ → ℕ → Type 0
+Between low high u = (low ≤ u) × (u < high)
+
+abbrev Class : ℕ → Type 0
+Class u = (u < 0x80) ⊎ (Between 0x80 0x800 u ⊎ (Between 0xD800 0xDC00 u ⊎ (Between 0xDC00 0xE000 u ⊎ ((0x800 ≤ u) × ((u < 0xD800) ⊎ (0xE000 ≤ u))))))
+
+class : (u : ℕ) → Class u
+class u = ⊎_elim (λ (a : u < 0x80). inl a)
+    (λ (b : 0x80 ≤ u). ⊎_elim (λ (a : u < 0x800). inr (inl (b, a)))
+    (λ (c : 0x800 ≤ u). ⊎_elim (λ (a : u < 0xD800). inr (inr (inr (inr (c, inl a)))))
+    (λ (d : 0xD800 ≤ u). ⊎_elim (λ (a : u < 0xDC00). inr (inr (inl (d, a))))
+    (λ (e : 0xDC00 ≤ u). ⊎_elim (λ (a : u < 0xE000). inr (inr (inr (inl (e, a)))))
+    (λ (f : 0xE000 ≤ u). inr (inr (inr (inr (c, inr f)))))
+    (cases_lt u 0xE000)) (cases_lt u 0xDC00)) (cases_lt u 0xD800)) (cases_lt u 0x800)) (cases_lt u 0x80)
+
+pub surrogate-is : (u : ℕ) → u < 0x1_0000 → 0xD800 ≤ u → u < 0xE000 → is_surrogate u ≡ true
+surrogate-is u below a b =
+    let high : bit_and u 0xF800 ≡ u / 2048 % 32 * 2048 = and_high u 5 11 in
+    eq-eqb _ _ (omega (arith, high))
+
+pub surrogate-no : (u : ℕ) → u < 0x1_0000 → (u < 0xD800) ⊎ (0xE000 ≤ u) → is_surrogate u ≡ false
+surrogate-no u below s =
+    let high : bit_and u 0xF800 ≡ u / 2048 % 32 * 2048 = and_high u 5 11 in
+    false_from_ne_true (is_surrogate u) (λ e.
+    let is = eqb-true _ _ e in
+    ⊎_elim (λ (l : u < 0xD800). omega (arith, high, is, l)) (λ (g : 0xE000 ≤ u). omega (arith, high, is, g)) s)
+
+-- two bytes in a lane
+two_bytes-is : (mark bits : ℕ) → mark + bits / 64 < 0x100 → two_bytes (0x8000 + mark) bits ≡ (mark + bits / 64) + 256 * continuation bits
+two_bytes-is mark bits small =
+    let low : bit_and bits 0x3F ≡ bits % 64 = and_mask bits 6 in
+    omega (arith, low)
+
+pub bytes_of : (x y lane : ℕ) → x < 256 → y < 256 → lane ≡ x + 256 * y → (lane % 256 ≡ x) × (lane / 256 ≡ y)
+bytes_of x y lane a b e = (omega arith, omega arith)
+
+leading_bits : (u : ℕ) → 0xD800 ≤ u → u < 0xDC00 → minus u 0xD7C0 / 4 ≡ (u - 0xD7C0) / 4
+leading_bits u from to = omega arith
+
+trailing_bits : (p u : ℕ) → plus (up (bit_and p 3) 10) (bit_and u 0x3FF) ≡ p % 4 * 1024 + u % 1024
+trailing_bits p u =
+    let low : bit_and p 3 ≡ p % 4 = and_mask p 2 in
+    let mid : bit_and u 0x3FF ≡ u % 1024 = and_mask u 10 in
+    omega (arith, low, mid)
+
+pub third-is : (u : ℕ) → third u ≡ continuation u
+third-is u =
+    let low : bit_and u 0x3F ≡ u % 64 = and_mask u 6 in
+    omega (arith, low)
+
+-- the first two bytes, by class
+narrow-one : (p u : ℕ) → u < 0x80 → narrow p u ≡ u
+narrow-one p u a = rw (lt-ltb u 0x80 a) refl
+
+narrow-two : (p u : ℕ) → Between 0x80 0x800 u → narrow p u ≡ (0xC0 + u / 64) + 256 * continuation u
+narrow-two p u b =
+    let below : u < 0x1_0000 = omega (arith, b.1) in
+    let low : u < 0xD800 = omega (arith, b.1) in
+    rw (le-ltb u 0x80 b.0, surrogate-no u below (inl low)) (two_bytes-is 0xC0 u (omega (arith, b.1)))
+
+narrow-leading : (p u : ℕ) → Between 0xD800 0xDC00 u → narrow p u ≡ (0xF0 + (u - 0xD7C0) / 256) + 256 * continuation ((u - 0xD7C0) / 4)
+narrow-leading p u b =
+    let below : u < 0x1_0000 = omega (arith, b.1) in
+    let above : 0x80 ≤ u = omega (arith, b.0) in
+    let to : u < 0xE000 = omega (arith, b.1) in
+    let bits = leading_bits u b.0 b.1 in
+    rw (le-ltb u 0x80 above, surrogate-is u below b.0 to, lt-ltb u 0xDC00 b.1)
+    (ap (two_bytes 0x80F0) bits ∙ two_bytes-is 0xF0 ((u - 0xD7C0) / 4) (omega (arith, b.1)) ∙ ap (λ x. (0xF0 + x) + 256 * continuation ((u - 0xD7C0) / 4)) (omega arith))
+
+narrow-trailing : (p u : ℕ) → Between 0xDC00 0xE000 u → narrow p u ≡ continuation (p % 4 * 16 + u % 1024 / 64) + 256 * continuation u
+narrow-trailing p u b =
+    let below : u < 0x1_0000 = omega (arith, b.1) in
+    let above : 0x80 ≤ u = omega (arith, b.0) in
+    let from : 0xD800 ≤ u = omega (arith, b.0) in
+    let bits = p % 4 * 1024 + u % 1024 in
+    rw (le-ltb u 0x80 above, surrogate-is u below from b.1, le-ltb u 0xDC00 b.0)
+    (ap (two_bytes 0x8080) (trailing_bits p u) ∙ two_bytes-is 0x80 bits (omega arith) ∙ omega arith)
+
+wide-is : (u : ℕ) → u < 0x1_0000 → wide u ≡ (0xE0 + u / 4096) + 256 * continuation (u / 64)
+wide-is u below = two_bytes-is 0xE0 (u / 64) (omega arith) ∙ omega arith
+
+-- how many bytes are added, by class
+added_len-three : (u : ℕ) → u < 0x1_0000 → 0x800 ≤ u → (u < 0xD800) ⊎ (0xE000 ≤ u) → added_len u ≡ 3
+added_len-three u below a s =
+    let above : 0x80 ≤ u = omega arith in
+    rw (le-ltb u 0x80 above, le-ltb u 0x800 a, surrogate-no u below s) refl
+
+added_len-surrogate : (u : ℕ) → Between 0xD800 0xE000 u → added_len u ≡ 2
+added_len-surrogate u b =
+    let below : u < 0x1_0000 = omega (arith, b.1) in
+    let above : 0x80 ≤ u = omega (arith, b.0) in
+    let a : 0x800 ≤ u = omega (arith, b.0) in
+    rw (le-ltb u 0x80 above, le-ltb u 0x800 a, surrogate-is u below b.0 b.1) refl
+
+-- one byte or both of a lane, where the unit adds no third
+abbrev pub one_or_two : Bool → ℕ → ℕ → List ℕ
+one_or_two flag first second = cond flag (first ∷ second ∷ []) (first ∷ [])
+
+both : (u x y lane : ℕ) → 0x80 ≤ u → x < 256 → y < 256 → lane ≡ x + 256 * y → one_or_two (leb 0x80 u) (lane % 256) (lane / 256 % 256) ≡ x ∷ y ∷ []
+both u x y lane above a b e =
+    let is = bytes_of x y lane a b e in
+    rw (le-leb 0x80 u above) (ap₂ (λ m n. m ∷ n ∷ []) is.0 (omega (arith, is.1)))
+
+pub narrow-utf8 : (p u : ℕ) → u < 0x1_0000 → added_len u ≤ 2 → one_or_two (leb 0x80 u) (narrow p u % 256) (narrow p u / 256 % 256) ≡ unit_utf8 p u
+narrow-utf8 p u below few = go (class u)
+  where
+    go : Class u → one_or_two (leb 0x80 u) (narrow p u % 256) (narrow p u / 256 % 256) ≡ unit_utf8 p u
+    go (inl a) = rw (lt-leb 0x80 u a) (ap (λ x. x ∷ []) (omega (arith, narrow-one p u a)) ∙ sym (unit-one p u a))
+    go (inr (inl b)) = both u (0xC0 + u / 64) (continuation u) _ b.0 (omega (arith, b.1)) (omega arith) (narrow-two p u b) ∙ sym (unit-two p u b.0 b.1)
+    go (inr (inr (inl b))) = both u (0xF0 + (u - 0xD7C0) / 256) (continuation ((u - 0xD7C0) / 4)) _ (omega (arith, b.0)) (omega (arith, b.1)) (omega arith) (narrow-leading p u b) ∙ sym (unit-leading p u b.0 b.1)
+    go (inr (inr (inr (inl b)))) = both u (continuation (p % 4 * 16 + u % 1024 / 64)) (continuation u) _ (omega (arith, b.0)) (omega arith) (omega arith) (narrow-trailing p u b) ∙ sym (unit-trailing p u b.0 b.1)
+    go (inr (inr (inr (inr b)))) = absurd (omega (arith, few, added_len-three u below b.0 b.1))
+
+pub wide-utf8 : (p u : ℕ) → u < 0x1_0000 → added_len u ≡ 3 → (wide u % 256) ∷ (wide u / 256 % 256) ∷ (third u % 256) ∷ [] ≡ unit_utf8 p u
+wide-utf8 p u below are = go (class u)
+  where
+    go : Class u → (wide u % 256) ∷ (wide u / 256 % 256) ∷ (third u % 256) ∷ [] ≡ unit_utf8 p u
+    go (inl a) = absurd (let e : added_len u ≡ 1 = rw (lt-ltb u 0x80 a) refl in omega (arith, are, e))
+    go (inr (inl b)) = absurd (let e : added_len u ≡ 2 = rw (le-ltb u 0x80 b.0, lt-ltb u 0x800 b.1) refl in omega (arith, are, e))
+    go (inr (inr (inl b))) = absurd (omega (arith, are, added_len-surrogate u (b.0, omega (arith, b.1))))
+    go (inr (inr (inr (inl b)))) = absurd (omega (arith, are, added_len-surrogate u (omega (arith, b.0), b.1)))
+    go (inr (inr (inr (inr b)))) =
+        let is = bytes_of (0xE0 + u / 4096) (continuation (u / 64)) _ (omega arith) (omega arith) (wide-is u below) in
+        ap₂ (λ x y. x ∷ y ∷ (third u % 256) ∷ []) is.0 (omega (arith, is.1)) ∙ ap (λ z. (0xE0 + u / 4096) ∷ continuation (u / 64) ∷ z ∷ []) (omega (arith, third-is u))
+        ∙ sym (unit-three p u b.0 b.1)
+
+-- ---- any unit, by its first two bytes, its third and how many it adds
+
+abbrev any_bytes : ℕ → ℕ → List ℕ
+any_bytes p u = take (added_len u) ((front p u % 256) ∷ (front p u / 256 % 256) ∷ (third u % 256) ∷ [])
+
+any-two : (p u : ℕ) → u < 0x1_0000 → 0x80 ≤ u → added_len u ≡ 2 → front p u ≡ narrow p u → any_bytes p u ≡ unit_utf8 p u
+any-two p u below above two is =
+    ap₂ (λ n f. take n ((f % 256) ∷ (f / 256 % 256) ∷ (third u % 256) ∷ [])) two is
+    ∙ sym (ap (λ flag. one_or_two flag (narrow p u % 256) (narrow p u / 256 % 256)) (le-leb 0x80 u above))
+    ∙ narrow-utf8 p u below (omega (arith, two))
+
+any-surrogate : (p u : ℕ) → u < 0x1_0000 → Between 0xD800 0xE000 u → any_bytes p u ≡ unit_utf8 p u
+any-surrogate p u below b =
+    let above : 0x800 ≤ u = omega (arith, b.0) in
+    any-two p u below (omega (arith, b.0)) (added_len-surrogate u b)
+    (ap₂ (λ low s. cond low (narrow p u) (cond s (narrow p u) (wide u))) (le-ltb u 0x800 above) (surrogate-is u below b.0 b.1))
+
+pub any-utf8 : (p u : ℕ) → u < 0x1_0000 → any_bytes p u ≡ unit_utf8 p u
+any-utf8 p u below = go (class u)
+  where
+    go : Class u → any_bytes p u ≡ unit_utf8 p u
+    go (inl a) =
+        let low : u < 0x800 = omega (arith, a) in
+        ap₂ (λ n f. take n ((f % 256) ∷ (f / 256 % 256) ∷ (third u % 256) ∷ []))
+        (ap (λ b. cond b 1 (cond (ltb u 0x800) 2 (cond (is_surrogate u) 2 3))) (lt-ltb u 0x80 a))
+        (ap (λ b. cond b (narrow p u) (cond (is_surrogate u) (narrow p u) (wide u))) (lt-ltb u 0x800 low) ∙ narrow-one p u a)
+        ∙ ap (λ x. x ∷ []) (omega (arith, a)) ∙ sym (unit-one p u a)
+    go (inr (inl b)) =
+        any-two p u below b.0 (rw (le-ltb u 0x80 b.0, lt-ltb u 0x800 b.1) refl)
+        (ap (λ low. cond low (narrow p u) (cond (is_surrogate u) (narrow p u) (wide u))) (lt-ltb u 0x800 b.1))
+    go (inr (inr (inl b))) = any-surrogate p u below (b.0, omega (arith, b.1))
+    go (inr (inr (inr (inl b)))) = any-surrogate p u below (omega (arith, b.0), b.1)
+    go (inr (inr (inr (inr b)))) =
+        let three = added_len-three u below b.0 b.1 in
+        ap₂ (λ n f. take n ((f % 256) ∷ (f / 256 % 256) ∷ (third u % 256) ∷ [])) three
+        (ap₂ (λ low s. cond low (narrow p u) (cond s (narrow p u) (wide u))) (le-ltb u 0x800 b.0) (surrogate-no u below b.1))
+        ∙ wide-utf8 p u below three
+
+pub added_len-le : (u : ℕ) → added_len u ≤ 3
+added_len-le u = go (ltb u 0x80) (ltb u 0x800) (is_surrogate u)
+  where
+    go : (a b c : Bool) → cond a 1 (cond b 2 (cond c 2 3)) ≤ 3
+    go true b c = omega arith
+    go false true c = omega arith
+    go false false true = omega arith
+    go false false false = omega arith
+
+-- a word of both
+pub word-utf8 : (p u f t w n : ℕ) → u < 0x1_0000 → f < 0x1_0000 → f ≡ front p u → t ≡ third u → w ≡ f + 65536 * t → n ≡ added_len u
+    → take n ((w % 256) ∷ (w / 256 % 256) ∷ (w / 65536 % 256) ∷ []) ≡ unit_utf8 p u
+word-utf8 p u f t w n below fits is is' e len =
+    ap (λ m. take m ((w % 256) ∷ (w / 256 % 256) ∷ (w / 65536 % 256) ∷ [])) len
+    ∙ ap₂ (λ x y. take (added_len u) (x ∷ y ∷ (w / 65536 % 256) ∷ [])) (omega (arith, e, fits)) (omega (arith, e, fits))
+    ∙ ap (λ z. take (added_len u) ((f % 256) ∷ (f / 256 % 256) ∷ z ∷ [])) (omega (arith, e, fits))
+    ∙ ap₂ (λ x y. take (added_len u) ((x % 256) ∷ (x / 256 % 256) ∷ (y % 256) ∷ [])) is is'
+    ∙ any-utf8 p u below
+
+chosen-fits : (flag : Bool) (x y n : ℕ) → x < n → y < n → cond flag x y < n
+chosen-fits true x y n a b = a
+chosen-fits false x y n a b = b
+
+pub front-fits : (p u : ℕ) → u < 0x1_0000 → front p u < 0x1_0000
+front-fits p u below =
+    let two : (m b : ℕ) → two_bytes m b < 0x1_0000 = λ m b. omega arith in
+    let few : narrow p u < 0x1_0000 = chosen-fits (ltb u 0x80) u _ 0x1_0000 below (two _ _) in
+    chosen-fits (ltb u 0x800) (narrow p u) _ 0x1_0000 few (chosen-fits (is_surrogate u) (narrow p u) (wide u) 0x1_0000 few (two _ _))
+
+pub length-unit : (p u : ℕ) → u < 0x1_0000 → length (unit_utf8 p u) ≡ added_len u
+length-unit p u below = go (class u)
+  where
+    go : Class u → length (unit_utf8 p u) ≡ added_len u
+    go (inl a) = ap length (unit-one p u a) ∙ sym (ap (λ b. cond b 1 (cond (ltb u 0x800) 2 (cond (is_surrogate u) 2 3))) (lt-ltb u 0x80 a))
+    go (inr (inl b)) = ap length (unit-two p u b.0 b.1) ∙ sym (ap₂ (λ x y. cond x 1 (cond y 2 (cond (is_surrogate u) 2 3))) (le-ltb u 0x80 b.0) (lt-ltb u 0x800 b.1))
+    go (inr (inr (inl b))) = ap length (unit-leading p u b.0 b.1) ∙ sym (added_len-surrogate u (b.0, omega (arith, b.1)))
+    go (inr (inr (inr (inl b)))) = ap length (unit-trailing p u b.0 b.1) ∙ sym (added_len-surrogate u (omega (arith, b.0), b.1))
+    go (inr (inr (inr (inr b)))) = ap length (unit-three p u b.0 b.1) ∙ sym (added_len-three u below b.0 b.1)

@@ -1,0 +1,189 @@
+-- The units of a block, and what the bits of its classes say of them.
+use Rattle.std.proofs.Common.{◌≡◌, ℕ, zero, suc, ◌+◌, ◌*◌, ◌/◌, ◌%◌, ◌^◌, ◌<◌, ◌≤◌, ◌⊎◌, Bool, true, false, not, cond, eqb, ltb, inl, inr, List, [], ◌∷◌, ◌++◌, All, length, map, slice_index, take, drop, replicate, bit_and, refl, sym, ap, ap₂, ◌∙◌, subst, ⊎_elim, arith, Fits, w8, w16, eqb-true, eq-eqb, lt-ltb, le-ltb, append-nil, append_assoc, length-append, length-drop, take_all}
+use Rattle.std.proofs.lemmas.Bool.{cases_lt, false_from_ne_true, true≢false}
+use Rattle.std.proofs.lemmas.List.{drop-append-le, length-map, take-append-le}
+use Rattle.std.proofs.lemmas.List.Elements.{All-cons, All-head, All-nil, All-tail}
+use Rattle.std.proofs.lemmas.Nat.Bits.{and_high}
+use Rattle.std.proofs.lemmas.Simd.{bitmask_splat, chunk-drop, get_or-chunk, length-chunk, length-zip2, map-map, mask_l-lt, pick_l-range_with_len, zip2_splat}
+use Rattle.std.proofs.Math.Nat.{two-pow-succ}
+use Rattle.std.specs.List.{range_with_len}
+use lib.Lanes.{Each1, chunk, digits_l, mask_l, number_l, pick_l, top, zip2}
+use Rattle.utf16_units.specs.Encoding.{units_of}
+use Rattle.utf16_to_utf8.specs.Block.{swapped}
+use Rattle.utf16_to_utf8.specs.Lanes.{added_len, is_surrogate}
+use Rattle.utf16_to_utf8.specs.Utf8.{unit_utf8, units_utf8}
+use Rattle.utf16_to_utf8.proofs.ListLemmas.{units-cons, units-nil}
+use Rattle.utf16_to_utf8.proofs.UnitLemmas.{unit-one}
+
+-- the lanes of bytes in little endian, and with each unit's bytes swapped
+pub little-units : (n : ℕ) (bytes : List ℕ) → length bytes ≡ n + n → Each1 (Fits w8) bytes → digits_l 65536 n (number_l 256 bytes) ≡ units_of false bytes
+unfolding units_of
+little-units zero [] long fit = refl
+little-units zero (x ∷ bytes) long fit = absurd (omega arith)
+little-units (suc n) [] long fit = absurd (omega arith)
+little-units (suc n) (x ∷ []) long fit = absurd (omega arith)
+little-units (suc n) (x ∷ y ∷ bytes) long fit =
+    let rest = number_l 256 bytes in
+    let low = fit.0.fits in
+    let high = fit.1.0.fits in
+    ap₂ (λ u us. u ∷ us) (omega (arith, low, high))
+    (ap (digits_l 65536 n) (omega (arith, low, high)) ∙ little-units n bytes (omega arith) fit.1.1)
+
+pub swapped-units : (bytes : List ℕ) → Each1 (Fits w8) bytes → map swapped (units_of false bytes) ≡ units_of true bytes
+unfolding units_of
+swapped-units [] fit = refl
+swapped-units (x ∷ []) fit = refl
+swapped-units (x ∷ y ∷ bytes) fit =
+    let low = fit.0.fits in
+    let high = fit.1.0.fits in
+    ap₂ (λ u us. u ∷ us) (omega (arith, low, high)) (swapped-units bytes fit.1.1)
+
+-- ---- bits of a class
+
+pub class-mask : (units : List ℕ) (mask class : ℕ) → length units ≡ 32
+    → mask_l (map (top 15) (zip2 (λ a b. cond (eqb a b) 65535 0) (zip2 bit_and units (replicate 32 mask)) (replicate 32 class))) % 2 ^ 64
+    ≡ mask_l (map (λ unit. eqb (bit_and unit mask) class) units)
+class-mask units mask class long =
+    let masked = zip2 bit_and units (replicate 32 mask) in
+    bitmask_splat w16 eqb masked 32 class (length-zip2 bit_and units (replicate 32 mask) long ∙ long) (omega arith)
+    ∙ ap (λ us. mask_l (map (λ unit. eqb unit class) us)) (zip2_splat bit_and units 32 mask long)
+    ∙ ap mask_l (map-map (λ unit. eqb unit class) (λ unit. bit_and unit mask) units)
+
+pub bits-below : (p : ℕ → Bool) (units : List ℕ) → length units ≡ 32 → mask_l (map p units) < 0x1_0000_0000
+bits-below p units long = subst (λ n. mask_l (map p units) < 2 ^ n) (length-map units p ∙ long) (mask_l-lt (map p units))
+
+module _ (p q : ℕ → Bool) where
+  pub none_by_bits : (units : List ℕ) → mask_l (map p units) ≡ 0 → (i : ℕ) → i < length units → p (slice_index units i) ≡ false
+  none_by_bits [] e i lt = absurd (omega arith)
+  none_by_bits (u ∷ units) e zero lt = (first (p u) e).0
+    where
+      first : (b : Bool) → cond b 1 0 + 2 * mask_l (map p units) ≡ 0 → (b ≡ false) × (mask_l (map p units) ≡ 0)
+      first true e = absurd (omega arith)
+      first false e = (refl, omega arith)
+  none_by_bits (u ∷ units) e (suc i) lt = none_by_bits units (omega arith) i (omega arith)
+
+  one_of : (a b : Bool) (m n k : ℕ) → cond a 1 0 + 2 * m + (cond b 1 0 + 2 * n) + 1 ≡ 2 * k → ((a ≡ true) ⊎ (b ≡ true)) × (m + n + 1 ≡ k)
+  one_of true true m n k e = absurd (omega arith)
+  one_of true false m n k e = (inl refl, omega arith)
+  one_of false true m n k e = (inr refl, omega arith)
+  one_of false false m n k e = absurd (omega arith)
+
+  pub each_by_bits : (units : List ℕ) → mask_l (map p units) + mask_l (map q units) + 1 ≡ 2 ^ length units
+      → (i : ℕ) → i < length units → (p (slice_index units i) ≡ true) ⊎ (q (slice_index units i) ≡ true)
+  each_by_bits [] e i lt = absurd (omega arith)
+  each_by_bits (u ∷ units) e zero lt = (one_of (p u) (q u) (mask_l (map p units)) (mask_l (map q units)) (2 ^ length units) (e ∙ omega (arith, two-pow-succ (length units)))).0
+  each_by_bits (u ∷ units) e (suc i) lt =
+      each_by_bits units (one_of (p u) (q u) (mask_l (map p units)) (mask_l (map q units)) (2 ^ length units) (e ∙ omega (arith, two-pow-succ (length units)))).1 i (omega arith)
+
+-- ---- what the upper five bits say of how many bytes a unit adds
+
+abbrev pub is_low : ℕ → Bool
+is_low unit = eqb (bit_and unit 0xF800) 0
+
+low-below : (u : ℕ) → u < 0x1_0000 → is_low u ≡ true → u < 0x800
+low-below u below e =
+    let high : bit_and u 0xF800 ≡ u / 2048 % 32 * 2048 = and_high u 5 11 in
+    let is = eqb-true _ _ e in
+    omega (arith, high, is)
+
+pub low-is : (u : ℕ) → u < 0x800 → is_low u ≡ true
+low-is u a =
+    let high : bit_and u 0xF800 ≡ u / 2048 % 32 * 2048 = and_high u 5 11 in
+    eq-eqb _ _ (omega (arith, high, a))
+
+pub low-no : (u : ℕ) → u < 0x1_0000 → 0x800 ≤ u → is_low u ≡ false
+low-no u below a = false_from_ne_true (is_low u) (λ e. omega (arith, a, low-below u below e))
+
+low-above : (u : ℕ) → u < 0x1_0000 → is_low u ≡ false → 0x800 ≤ u
+low-above u below e = ⊎_elim
+    (λ (a : u < 0x800).
+    absurd (true≢false (sym (low-is u a) ∙ e)))
+    (λ (b : 0x800 ≤ u). b)
+    (cases_lt u 0x800)
+
+two_at_most : (a b c : Bool) → (b ≡ true) ⊎ (c ≡ true) → cond a 1 (cond b 2 (cond c 2 3)) ≤ 2
+two_at_most true b c s = omega arith
+two_at_most false true c s = omega arith
+two_at_most false false true s = omega arith
+two_at_most false false false (inl e) = absurd (true≢false (sym e))
+two_at_most false false false (inr e) = absurd (true≢false (sym e))
+
+pub narrow-kind : (u : ℕ) → u < 0x1_0000 → (is_low u ≡ true) ⊎ (is_surrogate u ≡ true) → added_len u ≤ 2
+narrow-kind u below (inl low) = two_at_most (ltb u 0x80) (ltb u 0x800) (is_surrogate u) (inl (lt-ltb u 0x800 (low-below u below low)))
+narrow-kind u below (inr s) = two_at_most (ltb u 0x80) (ltb u 0x800) (is_surrogate u) (inr s)
+
+pub wide-kind : (u : ℕ) → u < 0x1_0000 → is_low u ≡ false → is_surrogate u ≡ false → added_len u ≡ 3
+wide-kind u below low s =
+    let b = low-above u below low in
+    let a : 0x80 ≤ u = omega (arith, b) in
+    rw (le-ltb u 0x80 a, le-ltb u 0x800 b, s) refl
+
+-- ---- ASCII
+
+pub ascii-units : (before : ℕ) (units : List ℕ) → All (λ unit. unit < 0x80) units → units_utf8 before units ≡ units
+ascii-units before [] are = units-nil before
+ascii-units before (u ∷ units) are =
+    units-cons before u units
+    ∙ ap₂ (λ xs ys. xs ++ ys) (unit-one before u (All-head (λ v. v < 0x80) u units are)) (ascii-units u units (All-tail (λ v. v < 0x80) u units are))
+
+pub ascii_by_bits : (units : List ℕ) → Each1 (Fits w16) units → mask_l (map (λ u. not (eqb (bit_and u 0xFF80) 0)) units) ≡ 0 → All (λ u. u < 0x80) units
+ascii_by_bits [] fit e = All-nil (λ u. u < 0x80)
+ascii_by_bits (u ∷ units) fit e =
+    let high : bit_and u 0xFF80 ≡ u / 128 % 512 * 128 = and_high u 9 7 in
+    let parts = clear (eqb (bit_and u 0xFF80) 0) (mask_l (map (λ v. not (eqb (bit_and v 0xFF80) 0)) units)) e in
+    let none = eqb-true _ _ parts.0 in
+    let below = fit.0.fits in
+    All-cons (λ v. v < 0x80) u units (omega (arith, high, none, below)) (ascii_by_bits units fit.1 parts.1)
+  where
+    clear : (b : Bool) (n : ℕ) → cond (not b) 1 0 + 2 * n ≡ 0 → (b ≡ true) × (n ≡ 0)
+    clear true n e = (refl, omega arith)
+    clear false n e = absurd (omega arith)
+
+pub ascii-mask : (units : List ℕ) → length units ≡ 32
+    → mask_l (map (top 15) (zip2 (λ a b. cond (not (eqb a b)) 65535 0) (zip2 bit_and units (replicate 32 0xFF80)) (replicate 32 0))) % 2 ^ 64
+    ≡ mask_l (map (λ u. not (eqb (bit_and u 0xFF80) 0)) units)
+ascii-mask units long =
+    let masked = zip2 bit_and units (replicate 32 0xFF80) in
+    bitmask_splat w16 (λ (a b : ℕ). not (eqb a b)) masked 32 0 (length-zip2 bit_and units (replicate 32 0xFF80) long ∙ long) (omega arith)
+    ∙ ap (λ us. mask_l (map (λ x. not (eqb x 0)) us)) (zip2_splat bit_and units 32 0xFF80 long)
+    ∙ ap mask_l (map-map (λ x. not (eqb x 0)) (λ u. bit_and u 0xFF80) units)
+
+-- ---- eight of a block
+
+pub chunk-front : (a n : ℕ) (xs : List ℕ) → a + n ≤ length xs → pick_l 0 (xs ++ xs) (range_with_len a n) ≡ chunk a n xs
+chunk-front a n xs room =
+    pick_l-range_with_len 0 (xs ++ xs) a n (omega (arith, length-append xs xs))
+    ∙ ap (take n) (drop-append-le a xs xs (omega arith)) ∙ take-append-le n (drop a xs) xs (omega (arith, length-drop a xs))
+
+-- what units add, behind which others stand
+pub units-append : (n before : ℕ) (units more : List ℕ) → length units ≡ n + 1 → units_utf8 before (units ++ more) ≡ units_utf8 before units ++ units_utf8 (slice_index units n) more
+units-append n before [] more long = absurd (omega arith)
+units-append zero before (u ∷ []) more long = units-cons before u more ∙ sym (ap (λ bs. bs ++ units_utf8 u more) (units-cons before u [] ∙ ap (λ bs. unit_utf8 before u ++ bs) (units-nil u) ∙ append-nil (unit_utf8 before u)))
+units-append zero before (u ∷ v ∷ units) more long = absurd (omega arith)
+units-append (suc n) before (u ∷ units) more long =
+    units-cons before u (units ++ more) ∙ ap (λ bs. unit_utf8 before u ++ bs) (units-append n u units more (omega arith))
+    ∙ sym (append_assoc (unit_utf8 before u) (units_utf8 u units) (units_utf8 (slice_index units n) more))
+    ∙ ap (λ bs. bs ++ units_utf8 (slice_index units n) more) (sym (units-cons before u units))
+
+-- a step of a writer: what was written and what is left to add are all
+pub wrote_eight : (done next all units more : List ℕ) (before : ℕ) → length units ≡ 8 → next ≡ done ++ units_utf8 before units → done ++ units_utf8 before (units ++ more) ≡ all
+    → next ++ units_utf8 (slice_index units 7) more ≡ all
+wrote_eight done next all units more before long wrote e =
+    ap (λ bs. bs ++ units_utf8 (slice_index units 7) more) wrote
+    ∙ append_assoc done (units_utf8 before units) (units_utf8 (slice_index units 7) more)
+    ∙ ap (λ bs. done ++ bs) (sym (units-append 7 before units more long)) ∙ e
+
+pub four_eights : (units : List ℕ) → length units ≡ 32 → units ≡ chunk 0 8 units ++ (chunk 8 8 units ++ (chunk 16 8 units ++ chunk 24 8 units))
+four_eights units long =
+    chunk-drop 0 8 units
+    ∙ ap (λ us. chunk 0 8 units ++ us) (chunk-drop 8 8 units
+    ∙ ap (λ us. chunk 8 8 units ++ us) (chunk-drop 16 8 units
+    ∙ ap (λ us. chunk 16 8 units ++ us) (sym (take_all 8 (drop 24 units) (omega (arith, length-drop 24 units, long))))))
+
+-- what is of a kind in a block is so in eight of it
+pub kind_of-eight : (P : ℕ → Type 0) (units part : List ℕ) (a : ℕ) → length units ≡ 32 → a + 8 ≤ 32 → part ≡ chunk a 8 units
+    → ((i : ℕ) → i < length units → P (slice_index units i)) → (i : ℕ) → i < length part → P (slice_index part i)
+kind_of-eight P units part a long room is are i lt =
+    let eight = ap length is ∙ length-chunk a 8 units (omega (arith, long, room)) in
+    let lt8 : i < 8 = omega (arith, lt, eight) in
+    subst P (sym (ap (λ us. slice_index us i) is ∙ get_or-chunk a 8 units i 0 lt8)) (are (a + i) (omega (arith, lt8, room, long)))

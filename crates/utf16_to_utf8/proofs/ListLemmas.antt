@@ -1,0 +1,130 @@
+-- The bytes of several lanes, one behind another.
+use Rattle.std.proofs.Common.{◌≡◌, ℕ, suc, ◌+◌, ◌*◌, ◌/◌, ◌%◌, ◌^◌, ◌<◌, Bool, cond, drop, length-drop, length-take-le, take-append-drop, List, [], ◌∷◌, ◌++◌, length, slice_index, map, refl, sym, ap, ap₂, ◌∙◌, subst, arith, append_assoc, append-nil, take}
+use Rattle.std.proofs.lemmas.List.{get_or_append_left, get_or-append-add}
+use Rattle.std.proofs.lemmas.Simd.{mask_l-lt}
+use lib.Lanes.{mask_l, pick_l}
+use Rattle.utf16_to_utf8.specs.Pack.{packed, threes}
+use Rattle.utf16_to_utf8.specs.Utf8.{unit_utf8, units_utf8}
+use Rattle.utf16_to_utf8.proofs.AddedLemmas.{one_or_two}
+
+pub units-nil : (before : ℕ) → units_utf8 before [] ≡ []
+unfolding units_utf8
+units-nil before = refl
+
+pub units-cons : (before unit : ℕ) (units : List ℕ) → units_utf8 before (unit ∷ units) ≡ unit_utf8 before unit ++ units_utf8 unit units
+unfolding units_utf8
+units-cons before unit units = refl
+
+-- ---- lanes of two bytes, packed by flags
+
+module _ (flag : ℕ → Bool) where
+  pub packed-units : (before : ℕ) (units bytes : List ℕ) → length bytes ≡ 2 * length units
+      → ((i : ℕ) → i < length units → one_or_two (flag (slice_index units i)) (slice_index bytes (2 * i)) (slice_index bytes (2 * i + 1)) ≡ unit_utf8 (slice_index (before ∷ units) i) (slice_index units i))
+      → packed (map flag units) bytes ≡ units_utf8 before units
+  packed-units before [] bytes long are = sym (units-nil before)
+  packed-units before (u ∷ units) [] long are = absurd (omega arith)
+  packed-units before (u ∷ units) (x ∷ []) long are = absurd (omega arith)
+  packed-units before (u ∷ units) (x ∷ y ∷ bytes) long are =
+      ap₂ (λ xs ys. xs ++ ys) (are 0 (omega arith))
+      (packed-units u units bytes (omega arith) (λ i lt.
+      let even : 2 * suc i ≡ suc (suc (2 * i)) = omega arith in
+      let odd : 2 * suc i + 1 ≡ suc (suc (2 * i + 1)) = omega arith in
+      ap₂ (λ m n. one_or_two (flag (slice_index units i)) (slice_index (x ∷ y ∷ bytes) m) (slice_index (x ∷ y ∷ bytes) n)) (sym even) (sym odd) ∙ are (suc i) (omega arith)))
+      ∙ sym (units-cons before u units)
+
+-- more bytes behind do not count
+pub packed-more : (flags : List Bool) (bytes more : List ℕ) → length bytes ≡ 2 * length flags → packed flags (bytes ++ more) ≡ packed flags bytes
+packed-more [] bytes more long = refl
+packed-more (flag ∷ flags) [] more long = absurd (omega arith)
+packed-more (flag ∷ flags) (x ∷ []) more long = absurd (omega arith)
+packed-more (flag ∷ flags) (x ∷ y ∷ bytes) more long = ap (λ bs. cond flag (x ∷ y ∷ []) (x ∷ []) ++ bs) (packed-more flags bytes more (omega arith))
+
+pub packed-append : (front back : List Bool) (bytes more : List ℕ) → length bytes ≡ 2 * length front → packed (front ++ back) (bytes ++ more) ≡ packed front bytes ++ packed back more
+packed-append [] back [] more long = refl
+packed-append [] back (x ∷ bytes) more long = absurd (omega arith)
+packed-append (flag ∷ front) back [] more long = absurd (omega arith)
+packed-append (flag ∷ front) back (x ∷ []) more long = absurd (omega arith)
+packed-append (flag ∷ front) back (x ∷ y ∷ bytes) more long =
+    let here = cond flag (x ∷ y ∷ []) (x ∷ []) in
+    ap (λ bs. here ++ bs) (packed-append front back bytes more (omega arith)) ∙ sym (append_assoc here (packed front bytes) (packed back more))
+
+-- the bits of four flags, and of four more
+pub mask_l-four : (a b : List Bool) → length a ≡ 4 → mask_l (a ++ b) ≡ mask_l a + 16 * mask_l b
+mask_l-four (p ∷ q ∷ r ∷ s ∷ []) b long = omega arith
+mask_l-four (p ∷ q ∷ r ∷ s ∷ t ∷ a) b long = absurd (omega arith)
+mask_l-four (p ∷ q ∷ r ∷ []) b long = absurd (omega arith)
+mask_l-four (p ∷ q ∷ []) b long = absurd (omega arith)
+mask_l-four (p ∷ []) b long = absurd (omega arith)
+mask_l-four [] b long = absurd (omega arith)
+
+-- ---- lanes of three bytes, picked from fronts and thirds
+
+abbrev pub three_at : List ℕ → ℕ → List ℕ
+three_at bytes i = slice_index bytes (2 * i) ∷ slice_index bytes (2 * i + 1) ∷ slice_index bytes (16 + 2 * i) ∷ []
+
+pub threes-units : (before : ℕ) (units bytes : List ℕ) (at : ℕ)
+    → ((i : ℕ) → i < length units → (last : ℕ) → three_at bytes (at + i) ≡ unit_utf8 last (slice_index units i))
+    → pick_l 0 bytes (threes at (length units)) ≡ units_utf8 before units
+threes-units before [] bytes at are = sym (units-nil before)
+threes-units before (u ∷ units) bytes at are =
+    let here : at + 0 ≡ at = omega arith in
+    ap₂ (λ xs ys. xs ++ ys) (ap (three_at bytes) (sym here) ∙ are 0 (omega arith) before)
+    (threes-units u units bytes (at + 1) (λ i lt last. let next : at + 1 + i ≡ at + suc i = omega arith in ap (three_at bytes) next ∙ are (suc i) (omega arith) last))
+    ∙ sym (units-cons before u units)
+
+-- ---- eight flags in two halves
+
+pub record Halves (flags : List Bool) (bits : ℕ) : Type 0 where
+  pub front : length (take 4 flags) ≡ 4
+  pub back : length (drop 4 flags) ≡ 4
+  pub low : bits % 16 ≡ mask_l (take 4 flags)
+  pub high : bits / 16 ≡ mask_l (drop 4 flags)
+
+pub sixteen_bits : (flags : List Bool) (bits : ℕ) → length flags ≡ 8 → bits ≡ mask_l flags → Halves flags bits
+sixteen_bits flags bits long is =
+    let front : length (take 4 flags) ≡ 4 = length-take-le 4 flags (omega (arith, long)) in
+    let split = is ∙ ap mask_l (sym (take-append-drop 4 flags)) ∙ mask_l-four (take 4 flags) (drop 4 flags) front in
+    let small : mask_l (take 4 flags) < 16 = subst (λ n. mask_l (take 4 flags) < 2 ^ n) front (mask_l-lt (take 4 flags)) in
+    record { front = front; back = omega (arith, length-drop 4 flags, long); low = omega (arith, split, small); high = omega (arith, split, small) }
+
+-- the bytes of eight lanes by both halves, of which the second stands in the place of the first
+pub packed-halves : (flags : List Bool) (bytes upper : List ℕ) → length flags ≡ 8 → length bytes ≡ 16 → length upper ≡ 16 → take 8 upper ≡ drop 8 bytes
+    → packed (take 4 flags) bytes ++ packed (drop 4 flags) upper ≡ packed flags bytes
+packed-halves flags bytes upper long whole whole' is =
+    let lower : length (take 8 bytes) ≡ 8 = length-take-le 8 bytes (omega (arith, whole)) in
+    let front : length (take 4 flags) ≡ 4 = length-take-le 4 flags (omega (arith, long)) in
+    let back : length (drop 4 flags) ≡ 4 = omega (arith, length-drop 4 flags, long) in
+    let eight : length (take 8 upper) ≡ 8 = length-take-le 8 upper (omega (arith, whole')) in
+    ap₂ (λ xs ys. xs ++ ys)
+    (ap (packed (take 4 flags)) (sym (take-append-drop 8 bytes)) ∙ packed-more (take 4 flags) (take 8 bytes) (drop 8 bytes) (omega (arith, lower, front)))
+    (ap (packed (drop 4 flags)) (sym (take-append-drop 8 upper)) ∙ packed-more (drop 4 flags) (take 8 upper) (drop 8 upper) (omega (arith, eight, back)) ∙ ap (packed (drop 4 flags)) is)
+    ∙ sym (packed-append (take 4 flags) (drop 4 flags) (take 8 bytes) (drop 8 bytes) (omega (arith, lower, front)))
+    ∙ ap₂ packed (take-append-drop 4 flags) (take-append-drop 8 bytes)
+
+-- the three bytes of a lane, two of sixteen bytes and the third of those behind
+pub three_from : (fronts thirds : List ℕ) (i x y z : ℕ) → length fronts ≡ 16 → i < 8 → slice_index fronts (2 * i) ≡ x → slice_index fronts (2 * i + 1) ≡ y → slice_index thirds (2 * i) ≡ z
+    → three_at (fronts ++ thirds) (0 + i) ≡ x ∷ y ∷ z ∷ []
+three_from fronts thirds i x y z long lt a b d =
+    let both = fronts ++ thirds in
+    let here : 0 + i ≡ i = omega arith in
+    let behind : 16 + 2 * i ≡ length fronts + 2 * i = omega (arith, long) in
+    ap (three_at both) here
+    ∙ ap₂ (λ m n. m ∷ n ∷ slice_index both (16 + 2 * i) ∷ []) (get_or_append_left fronts thirds 0 (2 * i) (omega (arith, long)) ∙ a) (get_or_append_left fronts thirds 0 (2 * i + 1) (omega (arith, long)) ∙ b)
+    ∙ ap (λ n. x ∷ y ∷ n ∷ []) (ap (slice_index both) behind ∙ get_or-append-add fronts thirds (2 * i) 0 ∙ d)
+
+-- a cast that loses nothing leaves the lanes as they are
+pub same_lanes : (lanes : List ℕ) → map (λ (n : ℕ). n) lanes ≡ lanes
+same_lanes [] = refl
+same_lanes (n ∷ lanes) = ap (λ ns. n ∷ ns) (same_lanes lanes)
+
+-- ---- the steps of a writer: what was written and what is left to add are all
+
+pub wrote_unit : (done next all more : List ℕ) (before unit : ℕ) → next ≡ done ++ unit_utf8 before unit → done ++ units_utf8 before (unit ∷ more) ≡ all → next ++ units_utf8 unit more ≡ all
+wrote_unit done next all more before unit wrote e =
+    ap (λ bs. bs ++ units_utf8 unit more) wrote
+    ∙ append_assoc done (unit_utf8 before unit) (units_utf8 unit more)
+    ∙ ap (λ bs. done ++ bs) (sym (units-cons before unit more)) ∙ e
+
+pub wrote_all : (done all : List ℕ) (last : ℕ) (left : List ℕ) → left ≡ [] → done ++ units_utf8 last left ≡ all → done ≡ all
+wrote_all done all last left none e =
+    sym (append-nil done) ∙ ap (λ bs. done ++ bs) (sym (units-nil last)) ∙ ap (λ us. done ++ units_utf8 last us) (sym none) ∙ e

@@ -1,0 +1,21 @@
+use Rattle.std.proofs.Common.{◌∙◌, ap, arith, count_ones, ltb, sym}
+use Rattle.std.proofs.lemmas.Simd.{ones-mask_l}
+use Rattle.utf16_to_utf8.specs.Lanes.{is_surrogate}
+use Rattle.utf16_to_utf8.proofs.BlockLemmas.{is_low}
+use Rattle.utf16_to_utf8.proofs.LenLemmas.{added-ascii, added-counted}
+use Rattle.utf16_to_utf8.proofs.lens.block_len.Goals as goal
+
+pub returns-then-is_ascii : goal.returns-then-is_ascii
+returns-then-is_ascii c = sym (added-ascii c.args.units (c.is_ascii.ensures c.if-is_ascii.true) ∙ c.fits-units.0)
+
+pub overflow_sub-result-3 : goal.overflow_sub-result-3
+overflow_sub-result-3 c =
+    let units = c.args.units in
+    omega (arith, added-counted units c.fits-units.1, c.fits-units.0,
+    ap count_ones c.class_bits.ensures.bits ∙ ones-mask_l is_low units, ap count_ones c.class_bits-2.ensures.bits ∙ ones-mask_l is_surrogate units, ap count_ones c.ascii_bits.ensures ∙ ones-mask_l (λ u. ltb u 0x80) units)
+
+pub returns : goal.returns
+returns c =
+    let units = c.args.units in
+    omega (arith, added-counted units c.fits-units.1, c.fits-units.0,
+    ap count_ones c.class_bits.ensures.bits ∙ ones-mask_l is_low units, ap count_ones c.class_bits-2.ensures.bits ∙ ones-mask_l is_surrogate units, ap count_ones c.ascii_bits.ensures ∙ ones-mask_l (λ u. ltb u 0x80) units)

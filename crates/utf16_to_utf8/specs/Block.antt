@@ -1,0 +1,19 @@
+-- The units of a block: their order of bytes, and what kind they are of.
+use Rattle.std.specs.Prelude.{◌≡◌, ℕ, ◌/◌, ◌^◌, ◌<◌, ◌≤◌, List, false, length, slice_index}
+use Rattle.utf16_to_utf8.specs.declared.blocks.Kind.{Kind}
+use Rattle.utf16_to_utf8.specs.declared.blocks.Kind.TheVariants.{Letters, Mixed, Pairs, Wide}
+use Rattle.utf16_to_utf8.specs.Lanes.{added_len, is_surrogate, plus, up}
+
+-- a unit with its two bytes the other way round
+abbrev pub swapped : ℕ → ℕ
+swapped unit = plus (up unit 8) (unit / 2 ^ 8)
+
+-- what a unit of a kind is
+abbrev pub IsOfKind : Kind → ℕ → Type 0
+IsOfKind Letters unit = (is_surrogate unit ≡ false) × (added_len unit ≤ 2)
+IsOfKind Pairs unit = added_len unit ≤ 2
+IsOfKind Wide unit = added_len unit ≡ 3
+IsOfKind Mixed unit = Unit {0}
+
+abbrev pub AreOfKind : Kind → List ℕ → Type 0
+AreOfKind kind units = (i : ℕ) → i < length units → IsOfKind kind (slice_index units i)

@@ -1,0 +1,52 @@
+-- Eight lanes of sixteen bits, by index, and what a unit's lane is made of.
+use Rattle.std.specs.Prelude.{◌≡◌, ℕ, ◌+◌, ◌-◌, ◌*◌, ◌/◌, ◌%◌, ◌^◌, ◌<◌, ◌==◌, Bool, List, length, slice_index, nat_lt, bit_and, if◌then◌else◌}
+
+-- the lanes by index
+pub record HasLanes (v : List ℕ) (lane : ℕ → ℕ) : Type 0 where
+  pub len : length v ≡ 8
+  pub lanes : (i : ℕ) → i < 8 → slice_index v i ≡ lane i
+
+-- `+`, `-` and `<<` of a lane wrap
+abbrev pub plus : ℕ → ℕ → ℕ
+plus a b = (a + b) % 2 ^ 16
+
+abbrev pub minus : ℕ → ℕ → ℕ
+minus a b = (a + (2 ^ 16 - b)) % 2 ^ 16
+
+abbrev pub up : ℕ → ℕ → ℕ
+up a bits = a * 2 ^ bits % 2 ^ 16
+
+-- a surrogate of either class, by its upper five bits
+abbrev pub is_surrogate : ℕ → Bool
+is_surrogate unit = bit_and unit 0xF800 == 0xD800
+
+-- two bytes, the first the low one: the marks of both, and these bits, the last six in the second byte
+abbrev pub two_bytes : ℕ → ℕ → ℕ
+two_bytes marks bits = plus (plus (bits / 2 ^ 6) marks) (up (bit_and bits 0x3F) 8)
+
+-- the bits of the two bytes that a surrogate adds, and their marks
+abbrev pub surrogate_bits : ℕ → ℕ → ℕ
+surrogate_bits before unit = if nat_lt unit 0xDC00 then minus unit 0xD7C0 / 2 ^ 2 else plus (up (bit_and before 3) 10) (bit_and unit 0x3FF)
+
+abbrev pub surrogate_marks : ℕ → ℕ
+surrogate_marks unit = if nat_lt unit 0xDC00 then 0x80F0 else 0x8080
+
+-- the two bytes of a unit that adds two at most
+abbrev pub narrow : ℕ → ℕ → ℕ
+narrow before unit =
+    if nat_lt unit 0x80 then unit else
+    two_bytes (if is_surrogate unit then surrogate_marks unit else 0x80C0) (if is_surrogate unit then surrogate_bits before unit else unit)
+
+-- the first two bytes of a unit that adds three, and the third byte
+abbrev pub wide : ℕ → ℕ
+wide unit = two_bytes 0x80E0 (unit / 2 ^ 6)
+
+abbrev pub third : ℕ → ℕ
+third unit = plus (bit_and unit 0x3F) 0x80
+
+-- whether a unit adds three bytes, the first two of what any unit adds, and how many it adds
+abbrev pub front : ℕ → ℕ → ℕ
+front before unit = if nat_lt unit 0x800 then narrow before unit else (if is_surrogate unit then narrow before unit else wide unit)
+
+abbrev pub added_len : ℕ → ℕ
+added_len unit = if nat_lt unit 0x80 then 1 else (if nat_lt unit 0x800 then 2 else (if is_surrogate unit then 2 else 3))

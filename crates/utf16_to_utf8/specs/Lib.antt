@@ -1,0 +1,4 @@
+pub mod Utf8
+pub mod Lanes
+pub mod Pack
+pub mod Block

@@ -1,0 +1,18 @@
+-- Bytes of lanes, one behind another.
+use Rattle.std.specs.Prelude.{◌≡◌, ℕ, zero, suc, ◌+◌, ◌*◌, ◌/◌, ◌%◌, ◌<◌, ◌++◌, Bool, cond, List, [], ◌∷◌, slice_index}
+
+-- of two bytes a lane both, where its flag is set, and else the first
+abbrev pub packed : List Bool → List ℕ → List ℕ
+packed [] bytes = []
+packed (flag ∷ flags) [] = []
+packed (flag ∷ flags) (first ∷ []) = []
+packed (flag ∷ flags) (first ∷ second ∷ bytes) = cond flag (first ∷ second ∷ []) (first ∷ []) ++ packed flags bytes
+
+-- the bytes of sixteen-bit lanes, the low one first
+abbrev pub HasBytes : List ℕ → List ℕ → Type 0
+HasBytes bytes lanes = (i : ℕ) → i < 8 → (slice_index bytes (2 * i) ≡ slice_index lanes i % 256) × (slice_index bytes (2 * i + 1) ≡ slice_index lanes i / 256 % 256)
+
+-- where the three bytes of n lanes stand, from lane i on: two among those of sixteen bytes, the third sixteen bytes behind
+abbrev pub threes : ℕ → ℕ → List ℕ
+threes i zero = []
+threes i (suc n) = (2 * i) ∷ (2 * i + 1) ∷ (16 + 2 * i) ∷ threes (i + 1) n

@@ -1,0 +1,163 @@
+//! A block of thirty-two units: what kind it is of, and what it adds.
+
+ghost use Rattle.std.specs.Prelude.{◌≡◌, ◌+◌, ◌-◌, ◌/◌, ◌%◌, ◌<◌, ◌≤◌, ◌++◌, ◌==◌, All, IsTrue, bit_and, length, map, replicate, slice_index, take};
+ghost use Rattle.std.specs.Simd.Lanes.{chunk, mask_l};
+ghost use Rattle.utf16_units.specs.Encoding.{units_of};
+ghost use Rattle.utf16_to_utf8.specs.Block.{AreOfKind, swapped};
+ghost use Rattle.utf16_to_utf8.specs.Utf8.{units_utf8};
+
+use crate::pack::{put_any, put_narrow, put_wide};
+use std::simd::prelude::*;
+use utf16_units::Utf16Order;
+
+// What the units of a block have in common: below U+0800, or a surrogate, or none of both.
+#[derive(Clone, Copy)]
+pub(crate) enum Kind {
+    Letters,
+    Pairs,
+    Wide,
+    Mixed,
+}
+
+// The units of a block of bytes.
+#[inline(always)]
+pub(crate) fn units_in<E: Utf16Order>(block: u8x64) -> u16x32
+    ensures len { length result ≡ 32 }
+    ensures units { result ≡ units_of E.BIG block }
+{
+    let units = u16x32::from_le_bytes(block);
+    if E::BIG { swapped(units) } else { units }
+}
+
+// The units of less than a block of bytes, and zeros that fill it up.
+#[inline(always)]
+pub(crate) fn filled_units<E: Utf16Order>(raw: &[u8]) -> u16x32
+    requires few { length raw.now ≤ 64 }
+    requires even { length raw.now % 2 ≡ 0 }
+    ensures len { length result ≡ 32 }
+    ensures units { result ≡ units_of E.BIG raw.now ++ replicate (32 - length raw.now / 2) 0 }
+{
+    let mut block = [0; 64];
+    block[..raw.len()].copy_from_slice(raw);
+    units_in::<E>(u8x64::from_array(block))
+}
+
+// The two bytes of each unit the other way round.
+#[inline(always)]
+fn swapped(units: u16x32) -> u16x32
+    ensures len { length result ≡ 32 }
+    ensures units { result ≡ map swapped units }
+{
+    (units << u16x32::splat(8)) + (units >> u16x32::splat(8))
+}
+
+// Whether all units are ASCII.
+#[inline(always)]
+pub(crate) fn is_ascii(units: u16x32) -> bool
+    ensures { IsTrue result → All (λ unit. unit < 0x80) units }
+{
+    (units & u16x32::splat(0xFF80))
+        .simd_ne(u16x32::splat(0))
+        .to_bitmask()
+        == 0
+}
+
+// A bit for each unit with these upper five bits.
+#[inline(always)]
+pub(crate) fn class_bits(units: u16x32, class: u16) -> u64
+    ensures bits { result ≡ mask_l (map (λ unit. bit_and unit 0xF800 == class) units) }
+    ensures below { result < 0x1_0000_0000 }
+{
+    (units & u16x32::splat(0xF800))
+        .simd_eq(u16x32::splat(class))
+        .to_bitmask()
+}
+
+#[inline(always)]
+fn kind_of(units: u16x32) -> Kind
+    ensures { AreOfKind result units }
+{
+    let surrogates = class_bits(units, 0xD800);
+    let others = class_bits(units, 0) + surrogates;
+    if others == 0xFFFF_FFFF {
+        if surrogates == 0 {
+            Kind::Letters
+        } else {
+            Kind::Pairs
+        }
+    } else if others == 0 {
+        Kind::Wide
+    } else {
+        Kind::Mixed
+    }
+}
+
+// Writes what a block adds.
+#[inline(always)]
+pub(crate) fn put_block(out: &mut [u8], at: usize, previous: u16x8, units: u16x32) -> usize
+    requires { at + 104 ≤ length out.old }
+    ensures bytes { take result out.new ≡ take at out.old ++ units_utf8 (slice_index previous 7) units }
+    ensures end { result ≤ at + 96 }
+{
+    if is_ascii(units) {
+        put_ascii(out, at, units);
+        return at + 32;
+    }
+    put_groups(out, at, previous, units, kind_of(units))
+}
+
+// Writes the low byte of each unit of a block.
+#[inline(always)]
+fn put_ascii(out: &mut [u8], at: usize, units: u16x32)
+    requires room { at + 32 ≤ length out.old }
+    requires ascii { All (λ unit. unit < 0x80) units }
+    ensures { take (at + 32) out.new ≡ take at out.old ++ units }
+{
+    units.cast::<u8>().copy_to_slice(&mut out[at..]);
+}
+
+// The units of a block, eight by eight.
+#[inline(always)]
+pub(crate) fn eights(units: u16x32) -> (u16x8, u16x8, u16x8, u16x8)
+    ensures first { result.0 ≡ chunk 0 8 units }
+    ensures second { result.1 ≡ chunk 8 8 units }
+    ensures third { result.2 ≡ chunk 16 8 units }
+    ensures fourth { result.3 ≡ chunk 24 8 units }
+{
+    (
+        units.extract::<0, 8>(),
+        units.extract::<8, 8>(),
+        units.extract::<16, 8>(),
+        units.extract::<24, 8>(),
+    )
+}
+
+// Writes what the units of a block of a kind add, eight by eight.
+#[inline(always)]
+fn put_groups(out: &mut [u8], at: usize, previous: u16x8, units: u16x32, kind: Kind) -> usize
+    requires room { at + 104 ≤ length out.old }
+    requires kind { AreOfKind kind units }
+    ensures bytes { take result out.new ≡ take at out.old ++ units_utf8 (slice_index previous 7) units }
+    ensures end { result ≤ at + 96 }
+{
+    let (first, second, third, fourth) = eights(units);
+    let one = put_group(out, at, previous, first, kind);
+    let two = put_group(out, one, first, second, kind);
+    let three = put_group(out, two, second, third, kind);
+    put_group(out, three, third, fourth, kind)
+}
+
+#[inline(always)]
+fn put_group(out: &mut [u8], at: usize, previous: u16x8, units: u16x8, kind: Kind) -> usize
+    requires room { at + 32 ≤ length out.old }
+    requires kind { AreOfKind kind units }
+    ensures bytes { take result out.new ≡ take at out.old ++ units_utf8 (slice_index previous 7) units }
+    ensures end { result ≤ at + 24 }
+{
+    match kind {
+        Kind::Letters => put_narrow(out, at, previous, units, false),
+        Kind::Pairs => put_narrow(out, at, previous, units, true),
+        Kind::Wide => put_wide(out, at, units),
+        Kind::Mixed => put_any(out, at, previous, units),
+    }
+}

@@ -1,0 +1,81 @@
+//! What eight units add to the UTF-8, by lanes: their first two bytes, their third, and how many.
+
+ghost use Rattle.std.specs.Prelude.{◌≡◌, ◌<◌, ℕ, false, slice_index};
+ghost use Rattle.utf16_to_utf8.specs.Lanes.{HasLanes, added_len, front, is_surrogate, narrow, surrogate_bits, surrogate_marks, third, two_bytes, wide};
+
+use crate::lanes::{down, each, less, masked, raised, sum, where_below, where_surrogate};
+use std::simd::prelude::*;
+
+#[inline(always)]
+fn two_bytes(marks: u16x8, bits: u16x8) -> u16x8
+    ensures { HasLanes result (λ i. two_bytes (slice_index marks i) (slice_index bits i)) }
+{
+    sum(sum(down(bits, 6), marks), raised(masked(bits, 0x3F), 8))
+}
+
+#[inline(always)]
+fn surrogate_bits(behind: u16x8, units: u16x8) -> u16x8
+    ensures { HasLanes result (λ i. surrogate_bits (slice_index behind i) (slice_index units i)) }
+{
+    let leading = down(less(units, 0xD7C0), 2);
+    let trailing = sum(raised(masked(behind, 3), 10), masked(units, 0x3FF));
+    where_below(units, 0xDC00, leading, trailing)
+}
+
+#[inline(always)]
+fn surrogate_marks(units: u16x8) -> u16x8
+    ensures { HasLanes result (λ i. surrogate_marks (slice_index units i)) }
+{
+    where_below(units, 0xDC00, each(0x80F0), each(0x8080))
+}
+
+// The two bytes of units that add two at most. Of other units they say nothing.
+#[inline(always)]
+pub(crate) fn narrow(behind: u16x8, units: u16x8, surrogates: bool) -> u16x8
+    requires { surrogates ≡ false → (i : ℕ) → i < 8 → is_surrogate (slice_index units i) ≡ false }
+    ensures { HasLanes result (λ i. narrow (slice_index behind i) (slice_index units i)) }
+{
+    if !surrogates {
+        return where_below(units, 0x80, units, two_bytes(each(0x80C0), units));
+    }
+    let marks = where_surrogate(units, surrogate_marks(units), each(0x80C0));
+    let bits = where_surrogate(units, surrogate_bits(behind, units), units);
+    where_below(units, 0x80, units, two_bytes(marks, bits))
+}
+
+// The first two bytes of units that add three.
+#[inline(always)]
+pub(crate) fn wide(units: u16x8) -> u16x8
+    ensures { HasLanes result (λ i. wide (slice_index units i)) }
+{
+    two_bytes(each(0x80E0), down(units, 6))
+}
+
+// The first two bytes of any units.
+#[inline(always)]
+pub(crate) fn fronts(behind: u16x8, units: u16x8, surrogates: bool) -> u16x8
+    requires { surrogates ≡ false → (i : ℕ) → i < 8 → is_surrogate (slice_index units i) ≡ false }
+    ensures { HasLanes result (λ i. front (slice_index behind i) (slice_index units i)) }
+{
+    let narrow = narrow(behind, units, surrogates);
+    let above = where_surrogate(units, narrow, wide(units));
+    where_below(units, 0x800, narrow, above)
+}
+
+// The third bytes of three.
+#[inline(always)]
+pub(crate) fn thirds(units: u16x8) -> u16x8
+    ensures { HasLanes result (λ i. third (slice_index units i)) }
+{
+    sum(masked(units, 0x3F), each(0x80))
+}
+
+// How many bytes each unit adds.
+#[inline(always)]
+pub(crate) fn added_lens(units: u16x8) -> u16x8
+    ensures { HasLanes result (λ i. added_len (slice_index units i)) }
+{
+    let above = where_surrogate(units, each(2), each(3));
+    let short = where_below(units, 0x800, each(2), above);
+    where_below(units, 0x80, each(1), short)
+}

@@ -1,0 +1,64 @@
+//! How many bytes a text takes in UTF-8.
+
+ghost use Rattle.std.specs.Prelude.{◌≡◌, ◌%◌, ◌≤◌, encode_utf8_all, length, map, nat_lt, sum_by};
+ghost use Rattle.std.specs.Simd.Lanes.{mask_l};
+ghost use Rattle.utf16_units.specs.Encoding.{IsText, text_of, units_of};
+ghost use Rattle.utf16_to_utf8.specs.Lanes.{added_len};
+
+use crate::blocks::{class_bits, filled_units, is_ascii, units_in};
+use std::simd::prelude::*;
+use utf16_units::Utf16Order;
+
+/// How many bytes the text takes in UTF-8, of bytes that the caller proves to be well formed. One pass.
+pub fn utf8_len<E: Utf16Order>(raw: &[u8]) -> usize
+    requires { IsText E.BIG raw.now }
+    ensures { result ≡ length (encode_utf8_all (text_of E.BIG raw.now)) }
+{
+    units_len::<E>(raw)
+}
+
+// How many bytes the units add.
+fn units_len<E: Utf16Order>(raw: &[u8]) -> usize
+    requires { length raw.now % 2 ≡ 0 }
+    ensures { result ≡ sum_by added_len (units_of E.BIG raw.now) }
+{
+    let mut at = 0;
+    let mut len = 0;
+    while raw.len() - at >= 64 {
+        len += block_len(units_in::<E>(u8x64::from_slice(&raw[at..])));
+        at += 64;
+    }
+    len + rest_len::<E>(&raw[at..])
+}
+
+// The same of less than a block: of a block that zeros fill up, and each of them adds a byte.
+#[inline(always)]
+fn rest_len<E: Utf16Order>(raw: &[u8]) -> usize
+    requires few { length raw.now ≤ 64 }
+    requires even { length raw.now % 2 ≡ 0 }
+    ensures { result ≡ sum_by added_len (units_of E.BIG raw.now) }
+{
+    block_len(filled_units::<E>(raw)) - (32 - raw.len() / 2)
+}
+
+// How many bytes the units of a block add: each three, one less where it is below U+0800, one less again where it is ASCII,
+// and one less where it is a surrogate.
+#[inline(always)]
+fn block_len(units: u16x32) -> usize
+    ensures { result ≡ sum_by added_len units }
+{
+    if is_ascii(units) {
+        return 32;
+    }
+    let low = class_bits(units, 0).count_ones() as usize;
+    let surrogates = class_bits(units, 0xD800).count_ones() as usize;
+    96 - low - surrogates - ascii_bits(units).count_ones() as usize
+}
+
+// A bit for each unit that is ASCII.
+#[inline(always)]
+fn ascii_bits(units: u16x32) -> u64
+    ensures { result ≡ mask_l (map (λ unit. nat_lt unit 0x80) units) }
+{
+    units.simd_lt(u16x32::splat(0x80)).to_bitmask()
+}

@@ -1,0 +1,13 @@
+//! From UTF-16 to UTF-8, by lanes of code units: the length, and a writer into a buffer of the caller's.
+#![tactic(auto)]
+
+mod blocks;
+mod groups;
+mod lanes;
+pub mod laws;
+mod lens;
+mod pack;
+mod write;
+
+pub use crate::lens::utf8_len;
+pub use crate::write::{SPARE, write_utf8};

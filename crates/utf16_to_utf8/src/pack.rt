@@ -1,0 +1,176 @@
+//! What eight units add, written one behind another.
+
+ghost use Rattle.std.specs.Prelude.{◌≡◌, ◌+◌, ◌*◌, ◌/◌, ◌%◌, ◌<◌, ◌≤◌, ◌++◌, [], ◌∷◌, ℕ, Bool, List, count_ones, drop, false, length, map, nat_le, slice_index, take};
+ghost use Rattle.std.specs.List.{range_with_len};
+ghost use Rattle.std.specs.Simd.Lanes.{Each1, mask_l, pick_l};
+ghost use Rattle.utf16_to_utf8.specs.Lanes.{added_len, is_surrogate};
+ghost use Rattle.utf16_to_utf8.specs.Pack.{HasBytes, packed, threes};
+ghost use Rattle.utf16_to_utf8.specs.Utf8.{units_utf8};
+
+use crate::groups::{added_lens, fronts, narrow, thirds, wide};
+use crate::lanes::behind;
+use std::simd::prelude::*;
+
+// Where the bytes of four units come from, by a bit for each unit that adds two: at every second place the first byte of a
+// unit, behind it the second.
+const PLACES: [[u8; 16]; 16] = [
+    [0, 2, 4, 6, 0, 0, 0, 0, 0, 0, 0, 0, 0, 0, 0, 0],
+    [0, 1, 2, 4, 6, 0, 0, 0, 0, 0, 0, 0, 0, 0, 0, 0],
+    [0, 2, 3, 4, 6, 0, 0, 0, 0, 0, 0, 0, 0, 0, 0, 0],
+    [0, 1, 2, 3, 4, 6, 0, 0, 0, 0, 0, 0, 0, 0, 0, 0],
+    [0, 2, 4, 5, 6, 0, 0, 0, 0, 0, 0, 0, 0, 0, 0, 0],
+    [0, 1, 2, 4, 5, 6, 0, 0, 0, 0, 0, 0, 0, 0, 0, 0],
+    [0, 2, 3, 4, 5, 6, 0, 0, 0, 0, 0, 0, 0, 0, 0, 0],
+    [0, 1, 2, 3, 4, 5, 6, 0, 0, 0, 0, 0, 0, 0, 0, 0],
+    [0, 2, 4, 6, 7, 0, 0, 0, 0, 0, 0, 0, 0, 0, 0, 0],
+    [0, 1, 2, 4, 6, 7, 0, 0, 0, 0, 0, 0, 0, 0, 0, 0],
+    [0, 2, 3, 4, 6, 7, 0, 0, 0, 0, 0, 0, 0, 0, 0, 0],
+    [0, 1, 2, 3, 4, 6, 7, 0, 0, 0, 0, 0, 0, 0, 0, 0],
+    [0, 2, 4, 5, 6, 7, 0, 0, 0, 0, 0, 0, 0, 0, 0, 0],
+    [0, 1, 2, 4, 5, 6, 7, 0, 0, 0, 0, 0, 0, 0, 0, 0],
+    [0, 2, 3, 4, 5, 6, 7, 0, 0, 0, 0, 0, 0, 0, 0, 0],
+    [0, 1, 2, 3, 4, 5, 6, 7, 0, 0, 0, 0, 0, 0, 0, 0],
+];
+
+#[inline(always)]
+fn places(two: usize) -> u8x16
+    requires { two < 16 }
+    ensures places { (flags : List Bool) → length flags ≡ 4 → two ≡ mask_l flags → take (4 + count_ones two) result ≡ packed flags (range_with_len 0 8) }
+    ensures within { Each1 (λ place. place < 16) result }
+    ensures few { count_ones two ≤ 4 }
+    ensures long { length result ≡ 16 }
+{
+    u8x16::from_array(PLACES[two])
+}
+
+// The bytes of lanes, of each the low one first.
+#[inline(always)]
+fn lane_bytes(lanes: u16x8) -> u8x16
+    ensures len { length result ≡ 16 }
+    ensures bytes { HasBytes result lanes }
+{
+    lanes.to_le_bytes()
+}
+
+// Writes what four units add that add two bytes at most: of the first eight bytes, two a unit, those that stand.
+#[inline(always)]
+fn put_four(out: &mut [u8], at: usize, pairs: u8x16, two: usize) -> usize
+    requires room { at + 16 ≤ length out.old }
+    requires two { two < 16 }
+    ensures bytes { (flags : List Bool) → length flags ≡ 4 → two ≡ mask_l flags → take result out.new ≡ take at out.old ++ packed flags pairs }
+    ensures end { result ≤ at + 8 }
+{
+    let standing = pairs.swizzle_dyn(places(two));
+    standing.copy_to_slice(&mut out[at..]);
+    at + 4 + two.count_ones() as usize
+}
+
+// A bit for each unit that is not ASCII.
+#[inline(always)]
+fn not_ascii_bits(units: u16x8) -> usize
+    ensures bits { result ≡ mask_l (map (λ unit. nat_le 0x80 unit) units) }
+    ensures below { result < 256 }
+{
+    units.simd_ge(u16x8::splat(0x80)).to_bitmask() as usize
+}
+
+// Writes what eight units add that add two bytes at most.
+#[inline(always)]
+pub(crate) fn put_narrow(
+    out: &mut [u8],
+    at: usize,
+    previous: u16x8,
+    units: u16x8,
+    surrogates: bool,
+) -> usize
+    requires room { at + 24 ≤ length out.old }
+    requires none { surrogates ≡ false → (i : ℕ) → i < 8 → is_surrogate (slice_index units i) ≡ false }
+    requires narrow { (i : ℕ) → i < 8 → added_len (slice_index units i) ≤ 2 }
+    ensures bytes { take result out.new ≡ take at out.old ++ units_utf8 (slice_index previous 7) units }
+    ensures end { result ≤ at + 16 }
+{
+    let pairs = lane_bytes(narrow(behind(previous, units), units, surrogates));
+    let two = not_ascii_bits(units);
+    let middle = put_four(out, at, pairs, two % 16);
+    put_four(out, middle, upper(pairs), two / 16)
+}
+
+// The upper eight bytes in the place of the lower.
+#[inline(always)]
+fn upper(bytes: u8x16) -> u8x16
+    ensures len { length result ≡ 16 }
+    ensures bytes { take 8 result ≡ drop 8 bytes }
+{
+    bytes.rotate_elements_left::<8>()
+}
+
+// Of eight units that add three bytes each the first sixteen bytes, of the first two of each unit and the third.
+#[inline(always)]
+fn first_threes(fronts: u8x16, thirds: u8x16) -> u8x16
+    ensures { result ≡ take 16 (pick_l 0 (fronts ++ thirds) (threes 0 8)) }
+{
+    fronts.shuffle(
+        thirds,
+        [0, 1, 16, 2, 3, 18, 4, 5, 20, 6, 7, 22, 8, 9, 24, 10],
+    )
+}
+
+// The last eight.
+#[inline(always)]
+fn last_threes(fronts: u8x16, thirds: u8x16) -> u8x8
+    ensures { result ≡ drop 16 (pick_l 0 (fronts ++ thirds) (threes 0 8)) }
+{
+    fronts.shuffle(thirds, [11, 26, 12, 13, 28, 14, 15, 30])
+}
+
+// Writes what eight units add that add three bytes each.
+#[inline(always)]
+pub(crate) fn put_wide(out: &mut [u8], at: usize, units: u16x8) -> usize
+    requires room { at + 24 ≤ length out.old }
+    requires wide { (i : ℕ) → i < 8 → added_len (slice_index units i) ≡ 3 }
+    ensures bytes { (before : ℕ) → take result out.new ≡ take at out.old ++ units_utf8 before units }
+    ensures end { result ≡ at + 24 }
+{
+    let fronts = lane_bytes(wide(units));
+    let thirds = lane_bytes(thirds(units));
+    first_threes(fronts, thirds).copy_to_slice(&mut out[at..]);
+    last_threes(fronts, thirds).copy_to_slice(&mut out[at + 16..]);
+    at + 24
+}
+
+// Writes what eight units add: each by one store of four bytes, which the next one overlaps.
+#[inline(always)]
+pub(crate) fn put_any(out: &mut [u8], at: usize, previous: u16x8, units: u16x8) -> usize
+    requires { at + 32 ≤ length out.old }
+    ensures bytes { take result out.new ≡ take at out.old ++ units_utf8 (slice_index previous 7) units }
+    ensures end { result ≤ at + 24 }
+{
+    let words = words(fronts(behind(previous, units), units, true), thirds(units)).to_array();
+    let lens = added_lens(units).to_array();
+    let mut end = at;
+    for i in 0..8usize {
+        end = put_word(out, end, words[i], lens[i]);
+    }
+    end
+}
+
+// The first two bytes and the third of each lane in one.
+#[inline(always)]
+fn words(fronts: u16x8, thirds: u16x8) -> u32x8
+    requires { (i : ℕ) → i < 8 → slice_index thirds i < 256 }
+    ensures { (i : ℕ) → i < 8 → slice_index result i ≡ slice_index fronts i + 65536 * slice_index thirds i }
+{
+    fronts.cast::<u32>() + (thirds.cast::<u32>() << u32x8::splat(16))
+}
+
+// Writes a word of four bytes, of which the first few count.
+#[inline(always)]
+fn put_word(out: &mut [u8], at: usize, word: u32, len: u16) -> usize
+    requires room { at + 4 ≤ length out.old }
+    requires len { len ≤ 3 }
+    ensures bytes { take result out.new ≡ take at out.old ++ take len (word % 256 ∷ word / 256 % 256 ∷ word / 65536 % 256 ∷ []) }
+    ensures end { result ≡ at + len }
+{
+    u8x4::from_array(word.to_le_bytes()).copy_to_slice(&mut out[at..]);
+    at + len as usize
+}
