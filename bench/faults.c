@@ -50,6 +50,8 @@ ssize_t read(int file, void *to, size_t size) {
         return failed(EIO);
     if (is_met("read_interrupted"))
         return failed(EINTR);
+    if (is_met("read_more"))
+        return inner(file, to, size) + (ssize_t)size;
     return inner(file, to, size > 1 && is_met("read_short") ? 1 : size);
 }
 
@@ -61,5 +63,7 @@ ssize_t write(int file, const void *from, size_t size) {
         return failed(EINTR);
     if (is_met("write_nothing"))
         return 0;
+    if (is_met("write_more"))
+        return inner(file, from, size) + (ssize_t)size;
     return inner(file, from, size > 1 && is_met("write_short") ? 1 : size);
 }

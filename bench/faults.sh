@@ -58,6 +58,24 @@ for order in le be; do
     each $order write_short ''
 done
 
+# A system that tells of more bytes than were offered: what is written has no meaning then, but nothing crashes or hangs.
+for order in le be; do
+    for kind in read_more write_more; do
+        for at in $(seq 6); do
+            FAULT_KIND=$kind FAULT_AT=$at LD_PRELOAD=$room/faults.so timeout 10 "$program" $order < $order > found 2> errors 9> met
+            status=$?
+            if [ $status -le 1 ]; then
+                passed=$((passed + 1))
+            else
+                failed=$((failed + 1))
+                echo "failed: $order, $kind $at: status $status"
+            fi
+            [ -s met ] || break
+        done
+        echo "$order, $kind: $((at - 1)) calls, no crash"
+    done
+done
+
 # The line is that of wrong words: it is written in vain, and the status stays.
 for kind in write write_interrupted write_nothing; do
     FAULT_KIND=$kind FAULT_AT=1 LD_PRELOAD=$room/faults.so "$program" LE < le > found 2> errors 9> met

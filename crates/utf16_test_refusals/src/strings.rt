@@ -102,6 +102,20 @@ fn calls_of_a_string(rt: HostRuntime) {
     }
 }
 
+// Strings that are made without memory, and then with it.
+fn made<E: Utf16Order>(rt: &(impl Abort + AllocGlobal)) {
+    let heap = Refusing::<Global>::new(rt.alloc());
+    heap.refuse_from(0);
+    assert!(rt; WString::<E, Heap>::with_capacity(&heap, 2).is_err());
+    assert!(rt; WString::<E, Heap>::from_str(&heap, "h").is_err());
+    equal(rt, heap.refusals(), 2);
+    heap.refuse_none();
+    let text = WString::<E, Heap>::from_str(&heap, "h").expect(rt, "memory");
+    equal(rt, text.as_bytes(), E::write_unit(0x68).as_slice());
+    drop(text);
+    equal(rt, heap.live_blocks(), 0);
+}
+
 fn sizes<E: Utf16Order>(rt: &(impl Abort + AllocGlobal)) {
     for size in [usize::MAX, usize::MAX - 1, usize::MAX / 2 + 1] {
         assert!(rt; WString::<E>::with_capacity(rt.alloc(), size).is_err());
@@ -123,7 +137,7 @@ fn reserved<E: Utf16Order>(rt: &(impl Abort + AllocGlobal)) {
     heap.refuse_from(0);
     assert!(rt; text.push('a').is_ok());
     assert!(rt; text.push('\u{10000}').is_ok());
-    assert!(rt; text.insert(0, 'b').is_ok());
+    assert!(rt; make(rt, &heap, &mut text, Call::Insert(0, 'b')).is_ok());
     equal(rt, text.as_bytes(), of::<E>(rt, "ba\u{10000}").as_bytes());
     equal(rt, heap.requests(), 0);
 }
@@ -132,6 +146,8 @@ fn reserved<E: Utf16Order>(rt: &(impl Abort + AllocGlobal)) {
 fn sizes_of_a_string(rt: HostRuntime) {
     sizes::<LE>(&rt);
     sizes::<BE>(&rt);
+    made::<LE>(&rt);
+    made::<BE>(&rt);
     reserved::<LE>(&rt);
     reserved::<BE>(&rt);
 }
