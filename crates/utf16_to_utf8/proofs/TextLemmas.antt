@@ -57,10 +57,11 @@ pub less-zeros : (new front : List ℕ) (end k : ℕ) → end ≤ length new →
 less-zeros new front end k room e =
     let long = sym (length-take-le end new room) ∙ ap length e ∙ length-append front (replicate k 0) in
     let zeros = length-replicate {A = ℕ} k 0 in
-    let short : end - k ≡ length front = omega (arith, long, zeros) in
-    (omega (arith, long, zeros),
-    sym (take-take (end - k) end new (omega arith)) ∙ ap (take (end - k)) e ∙ ap (λ n. take n (front ++ replicate k 0)) short
-    ∙ take-append-le (length front) front (replicate k 0) (omega arith) ∙ take_all (length front) front (omega arith))
+    let short : end - k ≡ length front = omega (arith, long, zeros) in (
+      omega (arith, long, zeros),
+      sym (take-take (end - k) end new (omega arith)) ∙ ap (take (end - k)) e ∙ ap (λ n. take n (front ++ replicate k 0)) short
+          ∙ take-append-le (length front) front (replicate k 0) (omega arith) ∙ take_all (length front) front (omega arith),
+    )
 
 -- what a text's units add
 pub bytes-utf8 : (big : Bool) (bytes : List ℕ) → IsText big bytes → units_utf8 0 (units_of big bytes) ≡ encode_utf8_all (text_of big bytes)

@@ -10,7 +10,8 @@ use crate::pack::{put_any, put_narrow, put_wide};
 use std::simd::prelude::*;
 use utf16_units::Utf16Order;
 
-// What the units of a block have in common: below U+0800, or a surrogate, or none of both.
+// What the units of a block have in common: all are below U+0800, or some are surrogates and the others below U+0800, or each
+// adds three bytes, or nothing of this.
 #[derive(Clone, Copy)]
 pub(crate) enum Kind {
     Letters,

@@ -13,7 +13,7 @@ use std::simd::prelude::*;
 
 // Where the bytes of four units come from, by a bit for each unit that adds two: at every second place the first byte of a
 // unit, behind it the second.
-const PLACES: [[u8; 16]; 16] = [
+static PLACES: [[u8; 16]; 16] = [
     [0, 2, 4, 6, 0, 0, 0, 0, 0, 0, 0, 0, 0, 0, 0, 0],
     [0, 1, 2, 4, 6, 0, 0, 0, 0, 0, 0, 0, 0, 0, 0, 0],
     [0, 2, 3, 4, 6, 0, 0, 0, 0, 0, 0, 0, 0, 0, 0, 0],

@@ -1,4 +1,4 @@
-use Rattle.std.proofs.Common.{◌≡◌, ◌++◌, ◌∙◌, ap, ap₂, arith, subst, sym}
+use Rattle.std.proofs.Common.{◌++◌, ◌∙◌, ap, ap₂, arith}
 use Rattle.utf16_units.specs.Boundary.{text_between}
 use Rattle.utf16_units.specs.Encoding.{size}
 use Rattle.utf16_units.proofs.BoundaryLemmas.{IsBoundary-start, IsBoundary-within}

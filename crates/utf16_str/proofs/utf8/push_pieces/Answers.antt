@@ -1,4 +1,4 @@
-use Rattle.std.proofs.Common.{◌≡◌, ◌+◌, ◌++◌, ◌∙◌, ap, arith, append_assoc, encode_utf8_all, length, length-append, string_bytes, sym}
+use Rattle.std.proofs.Common.{◌++◌, ◌∙◌, ap, arith, append_assoc, encode_utf8_all, length, length-append, string_bytes, sym}
 use Rattle.std.proofs.lemmas.Bool.{false≢true}
 use Rattle.utf16_str.specs.WStr.{wstr_text}
 use Rattle.utf16_str.proofs.PieceLemmas.{some-size, utf8-append}

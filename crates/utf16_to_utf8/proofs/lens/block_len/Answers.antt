@@ -11,11 +11,23 @@ returns-then-is_ascii c = sym (added-ascii c.args.units (c.is_ascii.ensures c.if
 pub overflow_sub-result-3 : goal.overflow_sub-result-3
 overflow_sub-result-3 c =
     let units = c.args.units in
-    omega (arith, added-counted units c.fits-units.1, c.fits-units.0,
-    ap count_ones c.class_bits.ensures.bits ∙ ones-mask_l is_low units, ap count_ones c.class_bits-2.ensures.bits ∙ ones-mask_l is_surrogate units, ap count_ones c.ascii_bits.ensures ∙ ones-mask_l (λ u. ltb u 0x80) units)
+    omega (
+      arith,
+      added-counted units c.fits-units.1,
+      c.fits-units.0,
+      ap count_ones c.class_bits.ensures.bits ∙ ones-mask_l is_low units,
+      ap count_ones c.class_bits-2.ensures.bits ∙ ones-mask_l is_surrogate units,
+      ap count_ones c.ascii_bits.ensures ∙ ones-mask_l (λ u. ltb u 0x80) units,
+    )
 
 pub returns : goal.returns
 returns c =
     let units = c.args.units in
-    omega (arith, added-counted units c.fits-units.1, c.fits-units.0,
-    ap count_ones c.class_bits.ensures.bits ∙ ones-mask_l is_low units, ap count_ones c.class_bits-2.ensures.bits ∙ ones-mask_l is_surrogate units, ap count_ones c.ascii_bits.ensures ∙ ones-mask_l (λ u. ltb u 0x80) units)
+    omega (
+      arith,
+      added-counted units c.fits-units.1,
+      c.fits-units.0,
+      ap count_ones c.class_bits.ensures.bits ∙ ones-mask_l is_low units,
+      ap count_ones c.class_bits-2.ensures.bits ∙ ones-mask_l is_surrogate units,
+      ap count_ones c.ascii_bits.ensures ∙ ones-mask_l (λ u. ltb u 0x80) units,
+    )
