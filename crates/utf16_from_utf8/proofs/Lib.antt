@@ -1,0 +1,4 @@
+pub mod AddedLemmas
+pub mod LaneLemmas
+pub mod PackLemmas
+pub mod TextLemmas
