@@ -1,5 +1,5 @@
 -- Sixteen bytes lane by lane, and the two bytes of units side by side.
-use Rattle.std.specs.Prelude.{◌≡◌, ℕ, zero, suc, ◌*◌, ◌/◌, ◌%◌, ◌<◌, ◌≤◌, ◌==◌, Bool, true, false, ⊤, List, [], ◌∷◌, ◌++◌, if◌then◌else◌, length, slice_index, take, bit_and, count_ones}
+use Rattle.std.specs.Prelude.{◌≡◌, ℕ, ◌*◌, ◌/◌, ◌%◌, ◌<◌, ◌≤◌, ◌==◌, Bool, true, false, List, [], ◌∷◌, ◌++◌, if◌then◌else◌, length, slice_index, take, count_ones}
 use Rattle.std.specs.Simd.Lanes.{all_below}
 
 -- the sixteen lanes, by their places
@@ -30,15 +30,3 @@ pub record Packs (bits : ℕ) (positions : List ℕ) : Type 0 where
   pub len : length positions ≡ 16
   pub few : count_ones bits ≤ 4
   pub below : all_below 8 positions ≡ true
-
--- three bytes that are one character, by the upper bits of each (Unicode 3.9, table 3-6)
-pub record IsThree (b2 b1 b0 : ℕ) : Type 0 where
-  pub first : bit_and b2 0xF0 ≡ 0xE0
-  pub second : bit_and b1 0xC0 ≡ 0x80
-  pub third : bit_and b0 0xC0 ≡ 0x80
-
--- n of them stand at the front
-abbrev pub AreThrees : ℕ → List ℕ → Type 0
-AreThrees zero bytes = ⊤
-AreThrees (suc n) (b2 ∷ b1 ∷ b0 ∷ bytes) = IsThree b2 b1 b0 × AreThrees n bytes
-AreThrees (suc n) bytes = ⊥

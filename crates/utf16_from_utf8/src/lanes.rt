@@ -1,6 +1,6 @@
 //! Sixteen bytes by lanes: each function says what stands in the lane at `i`.
 
-ghost use Rattle.std.specs.Prelude.{◌≡◌, ℕ, ◌+◌, ◌*◌, ◌/◌, ◌%◌, ◌^◌, ◌<◌, ◌∷◌, bit_and, if◌then◌else◌, nat_lt, slice_index};
+ghost use Rattle.std.specs.Prelude.{◌≡◌, ℕ, ◌+◌, ◌*◌, ◌/◌, ◌%◌, ◌^◌, ◌<◌, ◌==◌, ◌∷◌, bit_and, if◌then◌else◌, nat_lt, slice_index};
 ghost use Rattle.utf16_from_utf8.specs.Lanes.{HasLanes};
 
 use std::simd::prelude::*;
@@ -63,4 +63,13 @@ pub(crate) fn behind(v: u8x16, before: u8) -> u8x16
             15, 16, 17, 18, 19, 20, 21, 22, 23, 24, 25, 26, 27, 28, 29, 30,
         ],
     )
+}
+
+// A bit for each byte that is not zero.
+#[inline(always)]
+pub(crate) fn set_bits(v: u8x16) -> u64
+    ensures bits { (i : ℕ) → i < 16 → result / 2 ^ i % 2 ≡ if slice_index v i == 0 then 0 else 1 }
+    ensures few { result < 2 ^ 16 }
+{
+    v.simd_ne(u8x16::splat(0)).to_bitmask()
 }

@@ -2,6 +2,7 @@
 #![tactic(auto)]
 
 mod lanes;
+pub mod laws;
 mod pack;
 mod units;
 mod write;

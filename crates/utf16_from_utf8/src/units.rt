@@ -1,11 +1,12 @@
 //! The two bytes of the unit that ends at each of sixteen bytes, and at which of them one ends.
 
-ghost use Rattle.std.specs.Prelude.{◌≡◌, ◌<◌, ℕ, All, if◌then◌else◌, slice_index, ◌/◌, ◌%◌, ◌^◌, IsTrue};
+ghost use Rattle.std.specs.Prelude.{◌≡◌, ◌<◌, ℕ, bit_and, if◌then◌else◌, slice_index, ◌/◌, ◌%◌, ◌^◌, IsTrue};
+ghost use Rattle.std.specs.Simd.Lanes.{zip2};
 ghost use Rattle.utf16_from_utf8.specs.Added.{ends_unit};
 ghost use Rattle.utf16_from_utf8.specs.LaneBytes.{high_lane, lead_high, lead_low, lead_part, low_lane, middle, short_low, three_high, trail_high};
-ghost use Rattle.utf16_from_utf8.specs.Lanes.{AreThrees, HasLanes};
+ghost use Rattle.utf16_from_utf8.specs.Lanes.{HasLanes};
 
-use crate::lanes::{down, each, masked, sum, up, where_below};
+use crate::lanes::{down, each, masked, set_bits, sum, up, where_below};
 use std::simd::prelude::*;
 
 // The low bytes, but of leading surrogates and of characters of one byte.
@@ -84,32 +85,38 @@ pub(crate) fn ended_bits(b1: u8x16, b0: u8x16) -> u64
     ensures bits { (i : ℕ) → i < 16 → result / 2 ^ i % 2 ≡ if ends_unit (slice_index b1 i) (slice_index b0 i) then 1 else 0 }
     ensures few { result < 2 ^ 16 }
 {
-    b0.simd_max(b1.saturating_sub(u8x16::splat(0x20)))
-        .simd_lt(u8x16::splat(0xC0))
-        .to_bitmask()
+    set_bits(where_below(
+        b0,
+        0xC0,
+        where_below(b1, 0xE0, each(0xFF), each(0)),
+        each(0),
+    ))
 }
 
 // Whether all are characters of one byte.
 #[inline(always)]
 pub(crate) fn is_ascii(block: u8x16) -> bool
-    ensures { IsTrue result → All (λ b. b < 0x80) block }
+    ensures { IsTrue result → (i : ℕ) → i < 16 → slice_index block i < 0x80 }
 {
-    block.simd_ge(u8x16::splat(0x80)).to_bitmask() == 0
+    set_bits(masked(block, 0x80)) == 0
 }
 
-// Whether the first fifteen bytes are five characters of three bytes, by the upper bits of each byte.
+// What the upper bits of each byte are in five characters of three bytes, and which bits these are.
+pub(crate) const THREES: [u8; 16] = [
+    0xE0, 0x80, 0x80, 0xE0, 0x80, 0x80, 0xE0, 0x80, 0x80, 0xE0, 0x80, 0x80, 0xE0, 0x80, 0x80, 0,
+];
+
+pub(crate) const UPPER: [u8; 16] = [
+    0xF0, 0xC0, 0xC0, 0xF0, 0xC0, 0xC0, 0xF0, 0xC0, 0xC0, 0xF0, 0xC0, 0xC0, 0xF0, 0xC0, 0xC0, 0,
+];
+
+// Whether the first fifteen bytes are five characters of three bytes.
 #[inline(always)]
 pub(crate) fn are_threes(block: u8x16) -> bool
-    ensures { IsTrue result → AreThrees 5 block }
+    ensures { IsTrue result → zip2 bit_and block UPPER ≡ THREES }
 {
-    let upper = [
-        0xF0, 0xC0, 0xC0, 0xF0, 0xC0, 0xC0, 0xF0, 0xC0, 0xC0, 0xF0, 0xC0, 0xC0, 0xF0, 0xC0, 0xC0, 0,
-    ];
-    let threes = [
-        0xE0, 0x80, 0x80, 0xE0, 0x80, 0x80, 0xE0, 0x80, 0x80, 0xE0, 0x80, 0x80, 0xE0, 0x80, 0x80, 0,
-    ];
-    (block & u8x16::from_array(upper))
-        .simd_ne(u8x16::from_array(threes))
+    (block & u8x16::from_array(UPPER))
+        .simd_ne(u8x16::from_array(THREES))
         .to_bitmask()
         == 0
 }

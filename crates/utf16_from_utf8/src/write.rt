@@ -1,12 +1,15 @@
 //! UTF-16 written from UTF-8, piece by piece: a piece may begin and end anywhere, for each byte is looked at with the two before it.
 
-ghost use Rattle.std.specs.Prelude.{◌≡◌, ◌+◌, ◌*◌, ◌<◌, ◌≤◌, ◌++◌, ◌∷◌, [], ℕ, All, IsTrue, bit_and, length, slice_index, take};
+ghost use Rattle.std.specs.Prelude.{◌≡◌, ◌+◌, ◌*◌, ◌<◌, ◌≤◌, ◌++◌, ◌∷◌, [], ℕ, bit_and, length, slice_index, take};
+ghost use Rattle.std.specs.Simd.Lanes.{zip2};
 ghost use Rattle.utf16_from_utf8.specs.Added.{added_bytes, unit_behind};
-ghost use Rattle.utf16_from_utf8.specs.Lanes.{AreThrees, pairs_of};
+ghost use Rattle.utf16_from_utf8.specs.Lanes.{pairs_of};
 
 use crate::lanes::{behind, each};
 use crate::pack::put_kept;
-use crate::units::{are_threes, ended_bits, highs, is_ascii, lows, short_lows, three_highs};
+use crate::units::{
+    THREES, UPPER, are_threes, ended_bits, highs, is_ascii, lows, short_lows, three_highs,
+};
 use std::simd::prelude::*;
 use utf16_units::Utf16Order;
 
@@ -23,16 +26,9 @@ pub fn write_units<E: Utf16Order>(before: [u8; 2], piece: &[u8], out: &mut [u8])
     let mut end = 0;
     while piece.len() - at >= 16 {
         let block = u8x16::from_slice(&piece[at..]);
-        if b1 < 0xE0 && is_ascii(block) {
-            end = put_ascii::<E>(out, end, block);
-            at += 16;
-        } else if are_threes(block) {
-            end = put_threes::<E>(out, end, block);
-            at += 15;
-        } else {
-            end = put_block::<E>(out, end, b2, b1, block);
-            at += 16;
-        }
+        let (used, next) = put_next::<E>(out, end, b2, b1, block);
+        at += used;
+        end = next;
         b2 = piece[at - 2];
         b1 = piece[at - 1];
     }
@@ -44,6 +40,29 @@ pub fn write_units<E: Utf16Order>(before: [u8; 2], piece: &[u8], out: &mut [u8])
         at += 1;
     }
     end
+}
+
+// Writes what the first of sixteen bytes add behind two, and answers how many of them that is and where it ends.
+#[inline(always)]
+fn put_next<E: Utf16Order>(
+    out: &mut [u8],
+    at: usize,
+    b2: u8,
+    b1: u8,
+    block: u8x16,
+) -> (usize, usize)
+    requires room { at + 40 ≤ length out.old }
+    ensures bytes { take result.1 out.new ≡ take at out.old ++ added_bytes E.BIG b2 b1 (take result.0 block) }
+    ensures used { (2 ≤ result.0) × (result.0 ≤ 16) }
+    ensures end { result.1 ≤ at + 2 * result.0 }
+{
+    if b1 < 0xE0 && is_ascii(block) {
+        return (16, put_ascii::<E>(out, at, block));
+    }
+    if are_threes(block) {
+        return (15, put_threes::<E>(out, at, block));
+    }
+    (16, put_block::<E>(out, at, b2, b1, block))
 }
 
 // The bytes of each unit side by side, of the first eight units and of the others.
@@ -63,7 +82,7 @@ fn paired<E: Utf16Order>(highs: u8x16, lows: u8x16) -> (u8x16, u8x16)
 #[inline(always)]
 fn put_ascii<E: Utf16Order>(out: &mut [u8], at: usize, block: u8x16) -> usize
     requires room { at + 32 ≤ length out.old }
-    requires ascii { All (λ b. b < 0x80) block }
+    requires ascii { (i : ℕ) → i < 16 → slice_index block i < 0x80 }
     ensures bytes { (b2 b1 : ℕ) → b1 < 0xE0 → take result out.new ≡ take at out.old ++ added_bytes E.BIG b2 b1 block }
     ensures end { result ≡ at + 32 }
 {
@@ -77,7 +96,7 @@ fn put_ascii<E: Utf16Order>(out: &mut [u8], at: usize, block: u8x16) -> usize
 #[inline(always)]
 fn put_threes<E: Utf16Order>(out: &mut [u8], at: usize, block: u8x16) -> usize
     requires room { at + 16 ≤ length out.old }
-    requires threes { AreThrees 5 block }
+    requires threes { zip2 bit_and block UPPER ≡ THREES }
     ensures bytes { (b2 b1 : ℕ) → take result out.new ≡ take at out.old ++ added_bytes E.BIG b2 b1 (take 15 block) }
     ensures end { result ≡ at + 10 }
 {
