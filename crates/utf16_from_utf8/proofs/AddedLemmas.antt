@@ -1,9 +1,8 @@
 -- What a byte adds, by the classes of it and of the bytes before it; and what bytes add one behind the other.
-use Rattle.std.proofs.Common.{◌≡◌, ℕ, zero, suc, ◌+◌, ◌-◌, ◌*◌, ◌/◌, ◌%◌, ◌<◌, ◌≤◌, ◌&&◌, Bool, true, false, cond, ltb, List, [], ◌∷◌, ◌++◌, length, take, drop, get_or, slice_index, refl, sym, ap, ap₂, ◌∙◌, subst, arith, flat_map, append_assoc, append-nil, lt-ltb, le-ltb, All, drop-cons}
+use Rattle.std.proofs.Common.{◌≡◌, ℕ, zero, suc, ◌+◌, ◌*◌, ◌/◌, ◌%◌, ◌<◌, ◌≤◌, ◌&&◌, Bool, true, false, cond, ltb, List, [], ◌∷◌, ◌++◌, length, get_or, refl, sym, ap, ap₂, ◌∙◌, arith, flat_map, append_assoc, lt-ltb, le-ltb}
 use Rattle.std.proofs.lemmas.Grind.{flat_map-append}
-use Rattle.std.proofs.lemmas.List.Elements.{All-head, All-tail}
 use Rattle.utf16_units.specs.Unit.{unit_bytes}
-use Rattle.utf16_from_utf8.specs.Added.{added, added_bytes, all_added, ends_unit, unit_behind}
+use Rattle.utf16_from_utf8.specs.Added.{added, added_bytes, all_added, unit_behind}
 
 -- ---- one byte
 

@@ -1,19 +1,18 @@
 -- What the lanes of a block are is what its bytes add.
-use Rattle.std.proofs.Common.{◌≡◌, ℕ, zero, suc, ◌+◌, ◌*◌, ◌/◌, ◌%◌, ◌^◌, ◌<◌, ◌≤◌, ◌&&◌, ◌==◌, Bool, true, false, cond, eqb, ltb, List, [], ◌∷◌, ◌++◌, length, take, drop, get_or, slice_index, set, append_assoc, bit_and, refl, sym, ap, ap₂, subst, ◌∙◌, ⊎_elim, arith, append-nil, flat_map, lt-ltb, le-ltb, Fits, w8}
+use Rattle.std.proofs.Common.{◌≡◌, ℕ, zero, suc, drop-cons, ◌+◌, ◌-◌, ◌*◌, ◌/◌, ◌%◌, ◌^◌, ◌<◌, ◌≤◌, ◌&&◌, ◌==◌, Bool, true, false, cond, ltb, List, [], ◌∷◌, ◌++◌, length, take, drop, get_or, slice_index, set, append_assoc, bit_and, refl, sym, ap, ap₂, ◌∙◌, ⊎_elim, arith, append-nil, flat_map, lt-ltb, le-ltb, Fits, w8}
 use Rattle.std.proofs.lemmas.Bool.{cases_lt}
-use Rattle.std.proofs.lemmas.List.{length-set, take_more_set}
-use Rattle.std.proofs.lemmas.Nat.{and_mask}
+use Rattle.std.proofs.lemmas.List.{drop_all, length-set, take_more_set}
 use Rattle.std.proofs.lemmas.Nat.Bits.{and_high}
-use Rattle.std.proofs.lemmas.Simd.{Each1-get_or, pick_l-range_with_len, pick_l_whole}
+use Rattle.std.proofs.lemmas.Simd.{Each1-get_or, length-chunk, length-put_chunk, chunk-drop, get_or-chunk, pick_l-range_with_len, pick_l_left, pick_l_whole, take_more_put_chunk}
 use Rattle.std.proofs.Math.Nat.{div-div-eq-div-mul, two-pow-succ}
 use Rattle.std.specs.List.{range_with_len}
-use lib.Lanes.{Each1, pick_l, zip2}
+use lib.Lanes.{Each1, pick_l, put_chunk, zip2}
 use Rattle.utf16_units.specs.Unit.{unit_bytes}
-use Rattle.utf16_from_utf8.specs.Added.{added, added_bytes, ends_unit, unit_behind}
+use Rattle.utf16_from_utf8.specs.Added.{added_bytes, ends_unit, unit_behind}
 use Rattle.utf16_from_utf8.specs.LaneBytes.{high_lane, low_lane, short_low, three_high}
 use Rattle.utf16_from_utf8.specs.Lanes.{HasLanes, kept_pairs, pair_bytes, pairs_of}
 use Rattle.utf16_from_utf8.specs.declared.units.TheConstants.{THREES, UPPER}
-use Rattle.utf16_from_utf8.proofs.AddedLemmas.{added_bytes-cons, added_bytes-nil, adds-none-behind, adds-none-first, adds-one, byte_adds, unit-one, unit-three}
+use Rattle.utf16_from_utf8.proofs.AddedLemmas.{added_bytes-append, added_bytes-cons, added_bytes-nil, last_but_one, last_but_one-get, last_of, last_of-get, adds-none-behind, adds-none-first, adds-one, byte_adds, unit-one, unit-three}
 use Rattle.utf16_from_utf8.proofs.LaneByteLemmas.{lane-bytes, pair-unit, three-bytes}
 
 -- ---- one byte
@@ -82,6 +81,9 @@ pub record AreLanesOf (b2 b1 : ℕ) (block highs lows : List ℕ) (bits : ℕ) :
   low : (i : ℕ) → i < length block → slice_index lows i ≡ low_lane (slice_index (b2 ∷ b1 ∷ block) i) (slice_index (b1 ∷ block) i) (slice_index block i)
   ended : (i : ℕ) → i < length block → ◌≡◌ {A = ℕ} (bits / 2 ^ i % 2) (cond (ends_unit (slice_index (b1 ∷ block) i) (slice_index block i)) 1 0)
 
+twice : (i : ℕ) → 2 * 2 ^ i ≡ 2 ^ suc i
+twice i = omega (arith, two-pow-succ i)
+
 pub kept-added : (big : Bool) (b2 b1 : ℕ) (block highs lows : List ℕ) (bits : ℕ) → AreLanesOf b2 b1 block highs lows bits
     → kept_pairs bits (pairs_of big highs lows) ≡ added_bytes big b2 b1 block
 kept-added big b2 b1 [] [] lows bits are = sym (added_bytes-nil big b2 b1)
@@ -96,7 +98,7 @@ kept-added big b2 b1 (b0 ∷ block) (h ∷ highs) (l ∷ lows) bits are =
       fits = are.fits.1;
       high = λ i below. are.high (suc i) (omega arith);
       low = λ i below. are.low (suc i) (omega arith);
-      ended = λ i below. ap (λ n. n % 2) (div-div-eq-div-mul bits 2 (2 ^ i) ∙ ap (λ n. bits / n) (sym (two-pow-succ i))) ∙ are.ended (suc i) (omega arith);
+      ended = λ i below. ap (λ n. n % 2) (div-div-eq-div-mul bits 2 (2 ^ i) ∙ ap (λ n. bits / n) (twice i)) ∙ are.ended (suc i) (omega arith);
     } in
     kept-first big bits h l (pairs_of big highs lows)
     ∙ ap₂ (λ x y. x ++ y)
@@ -143,23 +145,41 @@ fives : (big : Bool) (highs lows : List ℕ) → Fives big highs lows
 fives true highs lows = refl
 fives false highs lows = refl
 
+-- where the first, the second and the third bytes stand
+abbrev pub firsts : List ℕ
+firsts = 0 ∷ 3 ∷ 6 ∷ 9 ∷ 12 ∷ 0 ∷ 0 ∷ 0 ∷ 0 ∷ 0 ∷ 0 ∷ 0 ∷ 0 ∷ 0 ∷ 0 ∷ 0 ∷ []
+
+abbrev pub seconds : List ℕ
+seconds = 1 ∷ 4 ∷ 7 ∷ 10 ∷ 13 ∷ 0 ∷ 0 ∷ 0 ∷ 0 ∷ 0 ∷ 0 ∷ 0 ∷ 0 ∷ 0 ∷ 0 ∷ 0 ∷ []
+
+abbrev pub thirds : List ℕ
+thirds = 2 ∷ 5 ∷ 8 ∷ 11 ∷ 14 ∷ 0 ∷ 0 ∷ 0 ∷ 0 ∷ 0 ∷ 0 ∷ 0 ∷ 0 ∷ 0 ∷ 0 ∷ 0 ∷ []
+
 pub threes-added : (big : Bool) (b2 b1 : ℕ) (block highs lows : List ℕ) → length block ≡ 16 → Each1 (Fits w8) block → zip2 bit_and block UPPER ≡ THREES
-    → HasLanes highs (λ i. three_high (get_or block (3 * i) 0) (get_or block (3 * i + 1) 0)) → HasLanes lows (λ i. short_low (get_or block (3 * i + 1) 0) (get_or block (3 * i + 2) 0))
+    → HasLanes highs (λ i. three_high (slice_index (pick_l 0 (block ++ block) firsts) i) (slice_index (pick_l 0 (block ++ block) seconds) i))
+    → HasLanes lows (λ i. short_low (slice_index (pick_l 0 (block ++ block) seconds) i) (slice_index (pick_l 0 (block ++ block) thirds) i))
     → take 10 (pairs_of big highs lows) ≡ added_bytes big b2 b1 (take 15 block)
 threes-added big b2 b1 block highs lows long fits classes h l =
     let at = λ (i : ℕ). get_or block i 0 in
     let class : (i : ℕ) → get_or (zip2 bit_and (pick_l 0 block sixteen) UPPER) i 0 ≡ get_or THREES i 0 =
         λ i. ap (λ v. get_or (zip2 bit_and v UPPER) i 0) (pick_l_whole 0 block 16 long) ∙ ap (λ v. get_or v i 0) classes in
     let small : (i : ℕ) → i < 16 → at i < 256 = λ i below. (Each1-get_or (Fits w8) block i 0 (omega (arith, long)) fits).fits in
+    let first = pick_l_left 0 block block 16 firsts long tt in
+    let second = pick_l_left 0 block block 16 seconds long tt in
+    let third = pick_l_left 0 block block 16 thirds long tt in
+    let high : (i : ℕ) → i < 16 → slice_index highs i ≡ three_high (slice_index (pick_l 0 block firsts) i) (slice_index (pick_l 0 block seconds) i) =
+        λ i below. h.lanes i below ∙ ap₂ (λ p q. three_high (slice_index p i) (slice_index q i)) first second in
+    let low : (i : ℕ) → i < 16 → slice_index lows i ≡ short_low (slice_index (pick_l 0 block seconds) i) (slice_index (pick_l 0 block thirds) i) =
+        λ i below. l.lanes i below ∙ ap₂ (λ p q. short_low (slice_index p i) (slice_index q i)) second third in
     let whole : take 15 block ≡ pick_l 0 block (range_with_len 0 15) = sym (pick_l-range_with_len 0 block 0 15 (omega (arith, long))) in
     ap₂ (λ xs ys. take 10 (pairs_of big xs ys)) (sym (pick_l_whole 0 highs 16 h.len)) (sym (pick_l_whole 0 lows 16 l.len))
     ∙ fives big highs lows
     ∙ sym (ap (added_bytes big b2 b1) whole
-    ∙ (three-added big b2 b1 (at 0) (at 1) (at 2) (at 3 ∷ at 4 ∷ at 5 ∷ at 6 ∷ at 7 ∷ at 8 ∷ at 9 ∷ at 10 ∷ at 11 ∷ at 12 ∷ at 13 ∷ at 14 ∷ []) (small 0 (omega arith)) (small 1 (omega arith)) (small 2 (omega arith)) (class 0) (class 1) (class 2) ∙ ap₂ (λ s t. pair_bytes big s t ++ added_bytes big (at 1) (at 2) (at 3 ∷ at 4 ∷ at 5 ∷ at 6 ∷ at 7 ∷ at 8 ∷ at 9 ∷ at 10 ∷ at 11 ∷ at 12 ∷ at 13 ∷ at 14 ∷ [])) (sym (h.lanes 0 (omega arith))) (sym (l.lanes 0 (omega arith))))
-    ∙ ap (λ t. pair_bytes big (get_or highs 0 0) (get_or lows 0 0) ++ t) ((three-added big (at 1) (at 2) (at 3) (at 4) (at 5) (at 6 ∷ at 7 ∷ at 8 ∷ at 9 ∷ at 10 ∷ at 11 ∷ at 12 ∷ at 13 ∷ at 14 ∷ []) (small 3 (omega arith)) (small 4 (omega arith)) (small 5 (omega arith)) (class 3) (class 4) (class 5) ∙ ap₂ (λ s t. pair_bytes big s t ++ added_bytes big (at 4) (at 5) (at 6 ∷ at 7 ∷ at 8 ∷ at 9 ∷ at 10 ∷ at 11 ∷ at 12 ∷ at 13 ∷ at 14 ∷ [])) (sym (h.lanes 1 (omega arith))) (sym (l.lanes 1 (omega arith))))
-    ∙ ap (λ t. pair_bytes big (get_or highs 1 0) (get_or lows 1 0) ++ t) ((three-added big (at 4) (at 5) (at 6) (at 7) (at 8) (at 9 ∷ at 10 ∷ at 11 ∷ at 12 ∷ at 13 ∷ at 14 ∷ []) (small 6 (omega arith)) (small 7 (omega arith)) (small 8 (omega arith)) (class 6) (class 7) (class 8) ∙ ap₂ (λ s t. pair_bytes big s t ++ added_bytes big (at 7) (at 8) (at 9 ∷ at 10 ∷ at 11 ∷ at 12 ∷ at 13 ∷ at 14 ∷ [])) (sym (h.lanes 2 (omega arith))) (sym (l.lanes 2 (omega arith))))
-    ∙ ap (λ t. pair_bytes big (get_or highs 2 0) (get_or lows 2 0) ++ t) ((three-added big (at 7) (at 8) (at 9) (at 10) (at 11) (at 12 ∷ at 13 ∷ at 14 ∷ []) (small 9 (omega arith)) (small 10 (omega arith)) (small 11 (omega arith)) (class 9) (class 10) (class 11) ∙ ap₂ (λ s t. pair_bytes big s t ++ added_bytes big (at 10) (at 11) (at 12 ∷ at 13 ∷ at 14 ∷ [])) (sym (h.lanes 3 (omega arith))) (sym (l.lanes 3 (omega arith))))
-    ∙ ap (λ t. pair_bytes big (get_or highs 3 0) (get_or lows 3 0) ++ t) ((three-added big (at 10) (at 11) (at 12) (at 13) (at 14) [] (small 12 (omega arith)) (small 13 (omega arith)) (small 14 (omega arith)) (class 12) (class 13) (class 14) ∙ ap₂ (λ s t. pair_bytes big s t ++ added_bytes big (at 13) (at 14) []) (sym (h.lanes 4 (omega arith))) (sym (l.lanes 4 (omega arith))))
+    ∙ (three-added big b2 b1 (at 0) (at 1) (at 2) (at 3 ∷ at 4 ∷ at 5 ∷ at 6 ∷ at 7 ∷ at 8 ∷ at 9 ∷ at 10 ∷ at 11 ∷ at 12 ∷ at 13 ∷ at 14 ∷ []) (small 0 (omega arith)) (small 1 (omega arith)) (small 2 (omega arith)) (class 0) (class 1) (class 2) ∙ ap₂ (λ s t. pair_bytes big s t ++ added_bytes big (at 1) (at 2) (at 3 ∷ at 4 ∷ at 5 ∷ at 6 ∷ at 7 ∷ at 8 ∷ at 9 ∷ at 10 ∷ at 11 ∷ at 12 ∷ at 13 ∷ at 14 ∷ [])) (sym (high 0 (omega arith))) (sym (low 0 (omega arith))))
+    ∙ ap (λ t. pair_bytes big (get_or highs 0 0) (get_or lows 0 0) ++ t) ((three-added big (at 1) (at 2) (at 3) (at 4) (at 5) (at 6 ∷ at 7 ∷ at 8 ∷ at 9 ∷ at 10 ∷ at 11 ∷ at 12 ∷ at 13 ∷ at 14 ∷ []) (small 3 (omega arith)) (small 4 (omega arith)) (small 5 (omega arith)) (class 3) (class 4) (class 5) ∙ ap₂ (λ s t. pair_bytes big s t ++ added_bytes big (at 4) (at 5) (at 6 ∷ at 7 ∷ at 8 ∷ at 9 ∷ at 10 ∷ at 11 ∷ at 12 ∷ at 13 ∷ at 14 ∷ [])) (sym (high 1 (omega arith))) (sym (low 1 (omega arith))))
+    ∙ ap (λ t. pair_bytes big (get_or highs 1 0) (get_or lows 1 0) ++ t) ((three-added big (at 4) (at 5) (at 6) (at 7) (at 8) (at 9 ∷ at 10 ∷ at 11 ∷ at 12 ∷ at 13 ∷ at 14 ∷ []) (small 6 (omega arith)) (small 7 (omega arith)) (small 8 (omega arith)) (class 6) (class 7) (class 8) ∙ ap₂ (λ s t. pair_bytes big s t ++ added_bytes big (at 7) (at 8) (at 9 ∷ at 10 ∷ at 11 ∷ at 12 ∷ at 13 ∷ at 14 ∷ [])) (sym (high 2 (omega arith))) (sym (low 2 (omega arith))))
+    ∙ ap (λ t. pair_bytes big (get_or highs 2 0) (get_or lows 2 0) ++ t) ((three-added big (at 7) (at 8) (at 9) (at 10) (at 11) (at 12 ∷ at 13 ∷ at 14 ∷ []) (small 9 (omega arith)) (small 10 (omega arith)) (small 11 (omega arith)) (class 9) (class 10) (class 11) ∙ ap₂ (λ s t. pair_bytes big s t ++ added_bytes big (at 10) (at 11) (at 12 ∷ at 13 ∷ at 14 ∷ [])) (sym (high 3 (omega arith))) (sym (low 3 (omega arith))))
+    ∙ ap (λ t. pair_bytes big (get_or highs 3 0) (get_or lows 3 0) ++ t) ((three-added big (at 10) (at 11) (at 12) (at 13) (at 14) [] (small 12 (omega arith)) (small 13 (omega arith)) (small 14 (omega arith)) (class 12) (class 13) (class 14) ∙ ap₂ (λ s t. pair_bytes big s t ++ added_bytes big (at 13) (at 14) []) (sym (high 4 (omega arith))) (sym (low 4 (omega arith))))
     ∙ ap (λ t. pair_bytes big (get_or highs 4 0) (get_or lows 4 0) ++ t) (added_bytes-nil big (at 13) (at 14)))))))
 
 -- ---- two bytes stored one by one
@@ -205,3 +225,46 @@ block-lanes before2 before1 block b1 b2 highs lows bits long fits one two h l en
           let b : i < 16 = omega (arith, long) in
           ended i b ∙ ap (λ x. cond (ends_unit x (slice_index block i)) 1 0) (one.lanes i b);
     }
+
+-- ---- two vectors stored, and the next step of a loop
+
+pub both_stored : (at : ℕ) (first second out : List ℕ) → length first ≡ 16 → length second ≡ 16 → at + 32 ≤ length out
+    → take (at + 32) (put_chunk (at + 16) (put_chunk at out first) second) ≡ take at out ++ (first ++ second)
+both_stored at first second out a b room =
+    take_more_put_chunk (at + 16) (put_chunk at out first) second (at + 32) (omega (arith, b)) (omega (arith, length-put_chunk at out first))
+    ∙ ap (λ t. t ++ second) (take_more_put_chunk at out first (at + 16) (omega (arith, a)) (omega arith))
+    ∙ append_assoc (take at out) first second
+
+-- what was written and what the rest adds are all, and so they are n bytes on
+pub added-step : (big : Bool) (done done' all piece : List ℕ) (at n b2 b1 : ℕ) → 2 ≤ n → at + n ≤ length piece
+    → done' ≡ done ++ added_bytes big b2 b1 (take n (drop at piece)) → done ++ added_bytes big b2 b1 (drop at piece) ≡ all
+    → done' ++ added_bytes big (slice_index piece (at + n - 2)) (slice_index piece (at + n - 1)) (drop (at + n) piece) ≡ all
+added-step big done done' all piece at n b2 b1 some room wrote e =
+    let here = take n (drop at piece) in
+    let rest = drop (at + n) piece in
+    let long = length-chunk at n piece room in
+    let second : last_but_one b2 b1 here ≡ slice_index piece (at + n - 2) =
+        last_but_one-get b2 b1 (n - 2) here (omega (arith, long)) ∙ get_or-chunk at n piece (n - 2) 0 (omega arith) ∙ ap (slice_index piece) (omega arith) in
+    let first : last_of b1 here ≡ slice_index piece (at + n - 1) =
+        last_of-get b1 (n - 1) here (omega (arith, long)) ∙ get_or-chunk at n piece (n - 1) 0 (omega arith) ∙ ap (slice_index piece) (omega arith) in
+    ap₂ (λ p q. done' ++ added_bytes big p q rest) (sym second) (sym first)
+    ∙ ap (λ t. t ++ added_bytes big (last_but_one b2 b1 here) (last_of b1 here) rest) wrote
+    ∙ append_assoc done (added_bytes big b2 b1 here) (added_bytes big (last_but_one b2 b1 here) (last_of b1 here) rest)
+    ∙ ap (λ t. done ++ t) (sym (ap (added_bytes big b2 b1) (chunk-drop at n piece) ∙ added_bytes-append big b2 b1 here rest))
+    ∙ e
+
+pub added-step-one : (big : Bool) (done done' all piece : List ℕ) (at b2 b1 : ℕ) → at < length piece
+    → done' ≡ done ++ added_bytes big b2 b1 (slice_index piece at ∷ []) → done ++ added_bytes big b2 b1 (drop at piece) ≡ all
+    → done' ++ added_bytes big b1 (slice_index piece at) (drop (at + 1) piece) ≡ all
+added-step-one big done done' all piece at b2 b1 room wrote e =
+    let b0 = slice_index piece at in
+    let next : suc at ≡ at + 1 = omega arith in
+    let rest = drop (at + 1) piece in
+    ap (λ t. t ++ added_bytes big b1 b0 rest) wrote
+    ∙ append_assoc done (added_bytes big b2 b1 (b0 ∷ [])) (added_bytes big b1 b0 rest)
+    ∙ ap (λ t. done ++ t) (sym (ap (added_bytes big b2 b1) (drop-cons piece at 0 room ∙ ap (λ n. b0 ∷ drop n piece) next) ∙ added_bytes-append big b2 b1 (b0 ∷ []) rest))
+    ∙ e
+
+pub added-all : (big : Bool) (done all piece : List ℕ) (at b2 b1 : ℕ) → length piece ≤ at → done ++ added_bytes big b2 b1 (drop at piece) ≡ all → done ≡ all
+added-all big done all piece at b2 b1 end e =
+    sym (append-nil done) ∙ ap (λ t. done ++ t) (sym (ap (added_bytes big b2 b1) (drop_all at piece end) ∙ added_bytes-nil big b2 b1)) ∙ e

@@ -9,7 +9,7 @@ use Rattle.utf16_from_utf8.specs.Lanes.{pair_bytes}
 use Rattle.utf16_from_utf8.proofs.AddedLemmas.{unit-leading, unit-one, unit-three, unit-trailing, unit-two}
 
 -- a unit's two bytes
-record AreBytes (unit high low : ℕ) : Type 0 where
+pub record AreBytes (unit high low : ℕ) : Type 0 where
   pub is_high : high ≡ unit / 256
   pub is_low : low ≡ unit % 256
 

@@ -69,7 +69,8 @@ fn put_next<E: Utf16Order>(
 #[inline(always)]
 fn paired<E: Utf16Order>(highs: u8x16, lows: u8x16) -> (u8x16, u8x16)
     ensures pairs { result.0 ++ result.1 ≡ pairs_of E.BIG highs lows }
-    ensures len { length result.0 ≡ 16 }
+    ensures first { length result.0 ≡ 16 }
+    ensures second { length result.1 ≡ 16 }
 {
     if E::BIG {
         highs.interleave(lows)

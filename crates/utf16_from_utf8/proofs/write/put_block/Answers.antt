@@ -1,6 +1,4 @@
-use Rattle.std.proofs.Common.{ℕ, ◌++◌, take, slice_index, ap, ap₂, ◌∙◌, sym, arith}
-use Rattle.utf16_from_utf8.specs.Added.{ends_unit}
-use Rattle.utf16_from_utf8.specs.LaneBytes.{high_lane, low_lane}
+use Rattle.std.proofs.Common.{◌++◌, take, ap, ◌∙◌}
 use Rattle.utf16_from_utf8.specs.Lanes.{kept_pairs}
 use Rattle.utf16_from_utf8.proofs.BlockLemmas.{block-lanes, kept-added}
 use Rattle.utf16_from_utf8.proofs.write.put_block.Goals as goal

@@ -1,53 +1,29 @@
-use Rattle.std.proofs.Common.{rules, ◌≡◌, ◌+◌, ◌*◌, ◌<◌, ◌≤◌, ◌++◌, ◌∷◌, [], ℕ, bit_and, length, slice_index, take, ◌-◌, ◌/◌, ◌%◌, Bool, true, false, nat_eq, nat_lt, List, slice_index_or, slice_set, bit_or, Fits, w8, w32, w64, Bor, MutBor}
-use Rattle.std.specs.Simd.Lanes.{zip2}
-use Rattle.utf16_from_utf8.specs.Added.{added_bytes, unit_behind}
-use Rattle.utf16_from_utf8.specs.Lanes.{pairs_of}
+use Rattle.std.proofs.Common.{◌++◌, take, drop, ap, ◌∙◌, arith}
+use Rattle.std.proofs.lemmas.List.{take-take}
+use Rattle.utf16_from_utf8.specs.Added.{added_bytes}
+use Rattle.utf16_from_utf8.proofs.BlockLemmas.{added-all, added-step, added-step-one}
 use Rattle.utf16_from_utf8.proofs.write.write_units.Goals as goal
 
--- src/write.rt:27:5
-pub loop-at-init : goal.loop-at-init
-loop-at-init g c = ?
-
--- src/write.rt:27:11
-pub overflow_sub-piece : goal.overflow_sub-piece
-overflow_sub-piece g c = ?
-
--- src/write.rt:30:13
-pub put_ascii-end-requires-clause-room : goal.put_ascii-end-requires-clause-room
-put_ascii-end-requires-clause-room g c = ?
-
--- src/write.rt:33:13
-pub put_threes-end-requires-clause-room : goal.put_threes-end-requires-clause-room
-put_threes-end-requires-clause-room g c = ?
-
--- src/write.rt:36:13
-pub put_block-end-requires : goal.put_block-end-requires
-put_block-end-requires g c = ?
-
--- src/write.rt:27:5
-pub loop-at-smaller : goal.loop-at-smaller
-loop-at-smaller g c = ?
-
--- src/write.rt:27:5
 pub loop-at-preserved : goal.loop-at-preserved
-loop-at-preserved g c = ?
+loop-at-preserved g c =
+    let big = g.E.Utf16Order.BIG in
+    let piece = c.args.piece.now in
+    let at = c.loop-at.at in
+    let next = c.put_next-used in
+    let n = next.result.0 in
+    let used = next.ensures.used in
+    (omega (arith, used), omega (arith, next.ensures.end, c.loop-at.invariant.1),
+    added-step big (take c.loop-at.end c.loop-at.out) (take next.result.1 next.new.out) _ piece at n c.loop-at.b2 c.loop-at.b1 used.0 (omega (arith, used))
+    (next.ensures.bytes ∙ ap (λ t. take c.loop-at.end c.loop-at.out ++ added_bytes big c.loop-at.b2 c.loop-at.b1 t) (take-take n 16 (drop at piece) used.1))
+    c.loop-at.invariant.2)
 
--- src/write.rt:42:5
-pub loop-at-2-init : goal.loop-at-2-init
-loop-at-2-init g c = ?
-
--- src/write.rt:44:9
-pub put_byte-end-requires : goal.put_byte-end-requires
-put_byte-end-requires g c = ?
-
--- src/write.rt:42:5
 pub loop-at-2-preserved : goal.loop-at-2-preserved
-loop-at-2-preserved g c = ?
+loop-at-2-preserved g c =
+    let put = c.put_byte-end in
+    (omega arith, omega (arith, put.ensures.end, c.loop-at-2.invariant.1),
+    added-step-one g.E.Utf16Order.BIG (take c.loop-at-2.end c.loop-at-2.out) (take put.result put.new.out) _ c.args.piece.now c.loop-at-2.at c.loop-at-2.b2 c.loop-at-2.b1 (omega arith)
+    put.ensures.bytes c.loop-at-2.invariant.2)
 
--- src/write.rt:19:1
 pub returns-clause-bytes : goal.returns-clause-bytes
-returns-clause-bytes g c = ?
-
--- src/write.rt:19:1
-pub returns-clause-end : goal.returns-clause-end
-returns-clause-end g c = ?
+returns-clause-bytes g c =
+    added-all g.E.Utf16Order.BIG (take c.loop-at-2.end c.loop-at-2.out) _ c.args.piece.now c.loop-at-2.at c.loop-at-2.b2 c.loop-at-2.b1 (omega arith) c.loop-at-2.invariant.2
