@@ -162,15 +162,15 @@ pub threes-added : (big : Bool) (b2 b1 : ℕ) (block highs lows : List ℕ) → 
 threes-added big b2 b1 block highs lows long fits classes h l =
     let at = λ (i : ℕ). get_or block i 0 in
     let class : (i : ℕ) → get_or (zip2 bit_and (pick_l 0 block sixteen) UPPER) i 0 ≡ get_or THREES i 0 =
-        λ i. ap (λ v. get_or (zip2 bit_and v UPPER) i 0) (pick_l_whole 0 block 16 long) ∙ ap (λ v. get_or v i 0) classes in
+    λ i. ap (λ v. get_or (zip2 bit_and v UPPER) i 0) (pick_l_whole 0 block 16 long) ∙ ap (λ v. get_or v i 0) classes in
     let small : (i : ℕ) → i < 16 → at i < 256 = λ i below. (Each1-get_or (Fits w8) block i 0 (omega (arith, long)) fits).fits in
     let first = pick_l_left 0 block block 16 firsts long tt in
     let second = pick_l_left 0 block block 16 seconds long tt in
     let third = pick_l_left 0 block block 16 thirds long tt in
     let high : (i : ℕ) → i < 16 → slice_index highs i ≡ three_high (slice_index (pick_l 0 block firsts) i) (slice_index (pick_l 0 block seconds) i) =
-        λ i below. h.lanes i below ∙ ap₂ (λ p q. three_high (slice_index p i) (slice_index q i)) first second in
+    λ i below. h.lanes i below ∙ ap₂ (λ p q. three_high (slice_index p i) (slice_index q i)) first second in
     let low : (i : ℕ) → i < 16 → slice_index lows i ≡ short_low (slice_index (pick_l 0 block seconds) i) (slice_index (pick_l 0 block thirds) i) =
-        λ i below. l.lanes i below ∙ ap₂ (λ p q. short_low (slice_index p i) (slice_index q i)) second third in
+    λ i below. l.lanes i below ∙ ap₂ (λ p q. short_low (slice_index p i) (slice_index q i)) second third in
     let whole : take 15 block ≡ pick_l 0 block (range_with_len 0 15) = sym (pick_l-range_with_len 0 block 0 15 (omega (arith, long))) in
     ap₂ (λ xs ys. take 10 (pairs_of big xs ys)) (sym (pick_l_whole 0 highs 16 h.len)) (sym (pick_l_whole 0 lows 16 l.len))
     ∙ fives big highs lows
@@ -210,7 +210,7 @@ pub block-lanes : (before2 before1 : ℕ) (block b1 b2 highs lows : List ℕ) (b
     → AreLanesOf before2 before1 block highs lows bits
 block-lanes before2 before1 block b1 b2 highs lows bits long fits one two h l ended =
     let second : (i : ℕ) → i < 16 → slice_index b2 i ≡ slice_index (before2 ∷ before1 ∷ block) i =
-        λ i below. two.lanes i below ∙ two-behind before2 before1 block b1 one.lanes i below in
+    λ i below. two.lanes i below ∙ two-behind before2 before1 block b1 one.lanes i below in
     record {
       high_len = h.len ∙ sym long;
       low_len = l.len ∙ sym long;
@@ -244,9 +244,9 @@ added-step big done done' all piece at n b2 b1 some room wrote e =
     let rest = drop (at + n) piece in
     let long = length-chunk at n piece room in
     let second : last_but_one b2 b1 here ≡ slice_index piece (at + n - 2) =
-        last_but_one-get b2 b1 (n - 2) here (omega (arith, long)) ∙ get_or-chunk at n piece (n - 2) 0 (omega arith) ∙ ap (slice_index piece) (omega arith) in
+    last_but_one-get b2 b1 (n - 2) here (omega (arith, long)) ∙ get_or-chunk at n piece (n - 2) 0 (omega arith) ∙ ap (slice_index piece) (omega arith) in
     let first : last_of b1 here ≡ slice_index piece (at + n - 1) =
-        last_of-get b1 (n - 1) here (omega (arith, long)) ∙ get_or-chunk at n piece (n - 1) 0 (omega arith) ∙ ap (slice_index piece) (omega arith) in
+    last_of-get b1 (n - 1) here (omega (arith, long)) ∙ get_or-chunk at n piece (n - 1) 0 (omega arith) ∙ ap (slice_index piece) (omega arith) in
     ap₂ (λ p q. done' ++ added_bytes big p q rest) (sym second) (sym first)
     ∙ ap (λ t. t ++ added_bytes big (last_but_one b2 b1 here) (last_of b1 here) rest) wrote
     ∙ append_assoc done (added_bytes big b2 b1 here) (added_bytes big (last_but_one b2 b1 here) (last_of b1 here) rest)

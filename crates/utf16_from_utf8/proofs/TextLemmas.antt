@@ -1,5 +1,5 @@
 -- What the bytes of a text in UTF-8 add is its UTF-16.
-use Rattle.std.proofs.Common.{◌≡◌, ℕ, ◌+◌, ◌-◌, ◌*◌, ◌/◌, ◌%◌, ◌<◌, ◌≤◌, ◌⊎◌, Bool, List, [], ◌∷◌, ◌++◌, All, refl, sym, ap, ap₂, ◌∙◌, ⊎_elim, arith, flat_map, append_assoc, encode_utf8_all, lt-ltb, le-ltb}
+use Rattle.std.proofs.Common.{◌≡◌, ℕ, ◌+◌, ◌-◌, ◌*◌, ◌/◌, ◌%◌, ◌<◌, ◌≤◌, List, [], ◌∷◌, ◌++◌, All, refl, sym, ap, ap₂, ◌∙◌, ⊎_elim, arith, flat_map, encode_utf8_all, lt-ltb, le-ltb}
 use Rattle.std.proofs.lemmas.Bool.{cases_lt}
 use Rattle.std.proofs.lemmas.List.Elements.{All-head, All-tail}
 use Rattle.std.proofs.str.Utf16.{one_unit, two_units}
@@ -7,26 +7,26 @@ use Rattle.std.specs.Char.{IsScalar}
 use Rattle.std.specs.Char.Escape.{encode_utf16}
 use lib.Utf8.{encode}
 use Rattle.utf16_units.proofs.CharLemmas.{no_surrogate}
-use Rattle.utf16_from_utf8.specs.Added.{added, all_added, unit_behind}
-use Rattle.utf16_from_utf8.proofs.AddedLemmas.{adds-none-behind, adds-none-first, adds-one, all_added-cons, all_added-nil, last_of, unit-leading, unit-one, unit-three, unit-trailing, unit-two}
+use Rattle.utf16_from_utf8.specs.Added.{added, all_added}
+use Rattle.utf16_from_utf8.proofs.AddedLemmas.{adds-none-behind, adds-none-first, adds-one, all_added-cons, all_added-nil, unit-leading, unit-one, unit-three, unit-trailing, unit-two}
 
 -- ---- a character's bytes by their number
 
-one_byte : (c : ℕ) → c < 0x80 → encode c ≡ c ∷ []
+pub one_byte : (c : ℕ) → c < 0x80 → encode c ≡ c ∷ []
 unfolding encode
 one_byte c a = rw (lt-ltb c 0x80 a) refl
 
-two_bytes : (c : ℕ) → 0x80 ≤ c → c < 0x800 → encode c ≡ (192 + c / 64) ∷ (128 + c % 64) ∷ []
+pub two_bytes : (c : ℕ) → 0x80 ≤ c → c < 0x800 → encode c ≡ (192 + c / 64) ∷ (128 + c % 64) ∷ []
 unfolding encode
 two_bytes c a b = rw (le-ltb c 0x80 a, lt-ltb c 0x800 b) refl
 
-three_bytes : (c : ℕ) → 0x800 ≤ c → c < 0x1_0000 → encode c ≡ (224 + c / 4096) ∷ (128 + c / 64 % 64) ∷ (128 + c % 64) ∷ []
+pub three_bytes : (c : ℕ) → 0x800 ≤ c → c < 0x1_0000 → encode c ≡ (224 + c / 4096) ∷ (128 + c / 64 % 64) ∷ (128 + c % 64) ∷ []
 unfolding encode
 three_bytes c a b =
     let below : 0x80 ≤ c = omega arith in
     rw (le-ltb c 0x80 below, le-ltb c 0x800 a, lt-ltb c 0x1_0000 b) refl
 
-four_bytes : (c : ℕ) → 0x1_0000 ≤ c → encode c ≡ (240 + c / 262144) ∷ (128 + c / 4096 % 64) ∷ (128 + c / 64 % 64) ∷ (128 + c % 64) ∷ []
+pub four_bytes : (c : ℕ) → 0x1_0000 ≤ c → encode c ≡ (240 + c / 262144) ∷ (128 + c / 4096 % 64) ∷ (128 + c / 64 % 64) ∷ (128 + c % 64) ∷ []
 unfolding encode
 four_bytes c a =
     let below : 0x80 ≤ c = omega arith in
@@ -59,7 +59,7 @@ adds_two : (b2 b1 c : ℕ) (more : List ℕ) → 0x80 ≤ c → c < 0x800 → Ad
 adds_two b2 b1 c more a b =
     let x = 192 + c / 64 in
     let y = 128 + c % 64 in
-    let unit = adds-one b1 x y (omega arith) (omega arith) ∙ ap (λ u. u ∷ []) (unit-two b1 x y (omega arith) (omega arith) ∙ omega arith) in
+    let unit : added b1 x y ≡ c ∷ [] = adds-one b1 x y (omega arith) (omega arith) ∙ ap (λ u. u ∷ []) (unit-two b1 x y (omega arith) (omega arith) ∙ omega arith) in
     record {
       last_but_one = x;
       last = y;
@@ -76,7 +76,7 @@ adds_three b2 b1 c more a b =
     let x = 224 + c / 4096 in
     let y = 128 + c / 64 % 64 in
     let z = 128 + c % 64 in
-    let unit = adds-one x y z (omega arith) (omega arith) ∙ ap (λ u. u ∷ []) (unit-three x y z (omega arith) (omega arith) (omega arith) (omega arith) ∙ omega arith) in
+    let unit : added x y z ≡ c ∷ [] = adds-one x y z (omega arith) (omega arith) ∙ ap (λ u. u ∷ []) (unit-three x y z (omega arith) (omega arith) (omega arith) (omega arith) ∙ omega arith) in
     record {
       last_but_one = y;
       last = z;
