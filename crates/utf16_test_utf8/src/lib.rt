@@ -1,5 +1,7 @@
-//! Tests of the way to UTF-8 by lanes.
+//! Tests of UTF-8 by lanes, both ways: characters written one by one beside the calls that go by lanes.
 #![tactic(auto)]
 
+#[cfg(test)]
+mod from;
 #[cfg(test)]
 mod to;

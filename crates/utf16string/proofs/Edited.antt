@@ -1,5 +1,5 @@
 -- Bytes after a call that edits them, or is refused and leaves them.
-use Rattle.std.proofs.Common.{◌≡◌, ℕ, Bool, true, List, Result, Ok, Err, OnOk, OnErr, drop, length, sym, ap, subst, take_at, ◌∙◌}
+use Rattle.std.proofs.Common.{◌≡◌, ℕ, ◌+◌, ◌++◌, length-append, Bool, true, List, Result, Ok, Err, OnOk, OnErr, drop, length, sym, ap, subst, take_at, ◌∙◌}
 use Rattle.std.specs.List.{refill}
 use Rattle.utf16_units.specs.Encoding.{Encodes, is_text, text_of}
 use Rattle.utf16_units.proofs.EditLemmas.{checked-Encodes}
@@ -18,3 +18,8 @@ module _ {X Y : Type 0} (big : Bool) (old new edited more : List ℕ) (checked :
 -- a vector whose elements were lent and all written holds what was written
 pub written_back : (bytes new : List ℕ) (n : ℕ) → n ≡ length bytes → length new ≡ length bytes → refill n bytes new ≡ new
 written_back bytes new n len same = take_at new (drop (length new) bytes) n (same ∙ sym len)
+
+-- how many bytes there are where the call was not refused
+pub edited_len : {X Y : Type 0} (old new more : List ℕ) (n : ℕ) → length more ≡ n → (r : Result X Y) → OnOk r (new ≡ old ++ more) → OnOk r (length new ≡ length old + n)
+edited_len old new more n long (Ok x) ok = ap length ok ∙ length-append old more ∙ ap (λ k. length old + k) long
+edited_len old new more n long (Err y) ok = tt

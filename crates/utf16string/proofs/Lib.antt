@@ -1,5 +1,4 @@
 pub mod Edited
-pub mod Utf8Lemmas
 pub mod Removed
 pub mod Asked
 pub mod Blocks

@@ -1,15 +1,17 @@
-//! Strings made from UTF-8.
+//! Strings made from UTF-8, and texts in UTF-8 put last.
 
-ghost use Rattle.std.specs.Prelude.{◌≡◌, [], length, IfOk, IsOk};
+ghost use Rattle.std.specs.Prelude.{◌≡◌, ◌+◌, ◌≤◌, [], length, IfOk, IsOk, OnErr, OnOk};
 ghost use Rattle.std.specs.Str.{chars};
-ghost use Rattle.utf16_units.specs.Encoding.{encode, size};
+ghost use Rattle.utf16_units.specs.Edit.{push_text};
+ghost use Rattle.utf16_units.specs.Encoding.{size};
 
 use crate::WString;
 use std::alloc::{AllocError, Allocator};
-use utf16_units::{Utf16CharExt, Utf16Order};
+use utf16_from_utf8::{append_utf16, extend_utf16, utf16_len};
+use utf16_units::Utf16Order;
 
 impl<E: Utf16Order, A: Allocator> WString<E, A> {
-    ghost use Rattle.utf16string.specs.WString.{wstring_text};
+    ghost use Rattle.utf16string.specs.WString.{IsUnchanged, wstring_bytes, wstring_capacity, wstring_text};
 
     /// The same characters in UTF-16. The only error is a refused request for memory. Room is asked for once, for the empty
     /// text not at all; two passes over the text.
@@ -20,30 +22,20 @@ impl<E: Utf16Order, A: Allocator> WString<E, A> {
         if s.is_empty() {
             return Ok(Self::new(alloc));
         }
-        let mut raw = vec![in alloc; 0; encoded_len(s)]?;
-        write_chars::<E>(s, &mut raw);
+        let mut raw = Vec::with_capacity(alloc, utf16_len(s))?;
+        extend_utf16::<E, A>(&mut raw, s)?;
         Ok(Self::from_utf16_unchecked(raw))
     }
-}
 
-// How many bytes the characters take in UTF-16.
-fn encoded_len(s: &str) -> usize
-    ensures { result ≡ size (chars s.now) }
-{
-    let mut len = 0;
-    for c in s.chars() {
-        len += c.encoded_utf16_len();
-    }
-    len
-}
-
-// Writes the characters over a buffer that they just fill.
-fn write_chars<E: Utf16Order>(s: &str, buf: &mut [u8])
-    requires { length buf.old ≡ size (chars s.now) }
-    ensures { buf.new ≡ encode E.BIG (chars s.now) }
-{
-    let mut len = 0;
-    for c in s.chars() {
-        len += c.encode_utf16_into::<E>(&mut buf[len..]);
+    /// Puts a text in UTF-8 last. The only error is a refused request for memory; it leaves the string as it was. Room is
+    /// asked for once, and where the text fits, not at all; two passes over the text.
+    pub fn push_str(&mut self, string: &str) -> Result<(), AllocError>
+        ensures text { OnOk result (wstring_text self.new ≡ push_text (wstring_text self.old) (chars string.now)) }
+        ensures len { OnOk result (length (wstring_bytes self.new) ≡ length (wstring_bytes self.old) + size (chars string.now)) }
+        ensures refused { OnErr result (IsUnchanged self.old self.new) }
+        ensures room { length (wstring_bytes self.old) + size (chars string.now) ≤ wstring_capacity self.old → IsOk result }
+        ensures grows { wstring_capacity self.old ≤ wstring_capacity self.new }
+    {
+        append_utf16::<E, A>(&mut self.raw, string)
     }
 }

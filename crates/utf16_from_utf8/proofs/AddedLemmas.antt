@@ -1,0 +1,95 @@
+-- What a byte adds, by the classes of it and of the bytes before it; and what bytes add one behind the other.
+use Rattle.std.proofs.Common.{◌≡◌, ℕ, zero, suc, ◌+◌, ◌*◌, ◌/◌, ◌%◌, ◌<◌, ◌≤◌, ◌&&◌, Bool, true, false, cond, ltb, List, [], ◌∷◌, ◌++◌, length, get_or, refl, sym, ap, ap₂, ◌∙◌, arith, flat_map, append_assoc, lt-ltb, le-ltb}
+use Rattle.std.proofs.lemmas.Grind.{flat_map-append}
+use Rattle.utf16_units.specs.Unit.{unit_bytes}
+use Rattle.utf16_from_utf8.specs.Added.{added, added_bytes, all_added, unit_behind}
+
+-- ---- one byte
+
+pub adds-one : (b2 b1 b0 : ℕ) → b0 < 0xC0 → b1 < 0xE0 → added b2 b1 b0 ≡ unit_behind b2 b1 b0 ∷ []
+adds-one b2 b1 b0 low behind = ap₂ (λ (x y : Bool). cond (x && y) (unit_behind b2 b1 b0 ∷ []) []) (lt-ltb b0 0xC0 low) (lt-ltb b1 0xE0 behind)
+
+pub adds-none-first : (b2 b1 b0 : ℕ) → 0xC0 ≤ b0 → added b2 b1 b0 ≡ []
+adds-none-first b2 b1 b0 first = ap (λ (x : Bool). cond (x && ltb b1 0xE0) (unit_behind b2 b1 b0 ∷ []) []) (le-ltb b0 0xC0 first)
+
+pub adds-none-behind : (b2 b1 b0 : ℕ) → 0xE0 ≤ b1 → added b2 b1 b0 ≡ []
+adds-none-behind b2 b1 b0 first = ap (λ (y : Bool). cond (ltb b0 0xC0 && y) (unit_behind b2 b1 b0 ∷ []) []) (le-ltb b1 0xE0 first) ∙ neither (ltb b0 0xC0)
+  where
+    neither : (x : Bool) → cond (x && false) (unit_behind b2 b1 b0 ∷ []) [] ≡ []
+    neither true = refl
+    neither false = refl
+
+pub unit-one : (b2 b1 b0 : ℕ) → b0 < 0x80 → unit_behind b2 b1 b0 ≡ b0
+unfolding unit_behind
+unit-one b2 b1 b0 a = rw (lt-ltb b0 0x80 a) refl
+
+pub unit-two : (b2 b1 b0 : ℕ) → 0x80 ≤ b0 → 0xC0 ≤ b1 → unit_behind b2 b1 b0 ≡ b1 % 32 * 64 + b0 % 64
+unfolding unit_behind
+unit-two b2 b1 b0 a b = rw (le-ltb b0 0x80 a, le-ltb b1 0xC0 b) refl
+
+pub unit-three : (b2 b1 b0 : ℕ) → 0x80 ≤ b0 → b1 < 0xC0 → 0xE0 ≤ b2 → b2 < 0xF0 → unit_behind b2 b1 b0 ≡ b2 % 16 * 4096 + (b1 % 64 * 64 + b0 % 64)
+unfolding unit_behind
+unit-three b2 b1 b0 a b c d = rw (le-ltb b0 0x80 a, lt-ltb b1 0xC0 b, le-ltb b2 0xE0 c, lt-ltb b2 0xF0 d) refl
+
+pub unit-leading : (b2 b1 b0 : ℕ) → 0x80 ≤ b0 → b1 < 0xC0 → 0xF0 ≤ b2 → unit_behind b2 b1 b0 ≡ 0xD7C0 + (b2 % 8 * 256 + (b1 % 64 * 4 + b0 % 64 / 16))
+unfolding unit_behind
+unit-leading b2 b1 b0 a b c =
+    let d : 0xE0 ≤ b2 = omega arith in
+    rw (le-ltb b0 0x80 a, lt-ltb b1 0xC0 b, le-ltb b2 0xE0 d, le-ltb b2 0xF0 c) refl
+
+pub unit-trailing : (b2 b1 b0 : ℕ) → 0x80 ≤ b0 → b1 < 0xC0 → b2 < 0xE0 → unit_behind b2 b1 b0 ≡ 0xDC00 + (b1 % 16 * 64 + b0 % 64)
+unfolding unit_behind
+unit-trailing b2 b1 b0 a b c = rw (le-ltb b0 0x80 a, lt-ltb b1 0xC0 b, lt-ltb b2 0xE0 c) refl
+
+-- ---- several
+
+pub all_added-nil : (b2 b1 : ℕ) → all_added b2 b1 [] ≡ []
+unfolding all_added
+all_added-nil b2 b1 = refl
+
+pub all_added-cons : (b2 b1 b0 : ℕ) (bytes : List ℕ) → all_added b2 b1 (b0 ∷ bytes) ≡ added b2 b1 b0 ++ all_added b1 b0 bytes
+unfolding all_added
+all_added-cons b2 b1 b0 bytes = refl
+
+-- the bytes of what one byte adds
+abbrev pub byte_adds : Bool → ℕ → ℕ → ℕ → List ℕ
+byte_adds big b2 b1 b0 = flat_map (unit_bytes big) (added b2 b1 b0)
+
+pub added_bytes-nil : (big : Bool) (b2 b1 : ℕ) → added_bytes big b2 b1 [] ≡ []
+added_bytes-nil big b2 b1 = ap (flat_map (unit_bytes big)) (all_added-nil b2 b1)
+
+pub added_bytes-cons : (big : Bool) (b2 b1 b0 : ℕ) (bytes : List ℕ) → added_bytes big b2 b1 (b0 ∷ bytes) ≡ byte_adds big b2 b1 b0 ++ added_bytes big b1 b0 bytes
+added_bytes-cons big b2 b1 b0 bytes =
+    ap (flat_map (unit_bytes big)) (all_added-cons b2 b1 b0 bytes) ∙ flat_map-append (unit_bytes big) (added b2 b1 b0) (all_added b1 b0 bytes)
+
+-- the last byte of several that stand behind one, and the last but one of those that stand behind two
+abbrev pub last_of : ℕ → List ℕ → ℕ
+last_of b1 [] = b1
+last_of b1 (b0 ∷ bytes) = last_of b0 bytes
+
+abbrev pub last_but_one : ℕ → ℕ → List ℕ → ℕ
+last_but_one b2 b1 [] = b2
+last_but_one b2 b1 (b0 ∷ bytes) = last_but_one b1 b0 bytes
+
+pub last_of-get : (b1 n : ℕ) (bytes : List ℕ) → length bytes ≡ suc n → last_of b1 bytes ≡ get_or bytes n 0
+last_of-get b1 n [] e = absurd (omega arith)
+last_of-get b1 zero (b0 ∷ []) e = refl
+last_of-get b1 (suc n) (b0 ∷ []) e = absurd (omega arith)
+last_of-get b1 zero (b0 ∷ next ∷ bytes) e = absurd (omega arith)
+last_of-get b1 (suc n) (b0 ∷ next ∷ bytes) e = last_of-get b0 n (next ∷ bytes) (omega arith)
+
+pub last_but_one-get : (b2 b1 n : ℕ) (bytes : List ℕ) → length bytes ≡ suc (suc n) → last_but_one b2 b1 bytes ≡ get_or bytes n 0
+last_but_one-get b2 b1 n [] e = absurd (omega arith)
+last_but_one-get b2 b1 n (b0 ∷ []) e = absurd (omega arith)
+last_but_one-get b2 b1 zero (b0 ∷ next ∷ []) e = refl
+last_but_one-get b2 b1 zero (b0 ∷ next ∷ more ∷ bytes) e = absurd (omega arith)
+last_but_one-get b2 b1 (suc n) (b0 ∷ next ∷ bytes) e = last_but_one-get b1 b0 n (next ∷ bytes) (omega arith)
+
+pub added_bytes-append : (big : Bool) (b2 b1 : ℕ) (bytes more : List ℕ)
+    → added_bytes big b2 b1 (bytes ++ more) ≡ added_bytes big b2 b1 bytes ++ added_bytes big (last_but_one b2 b1 bytes) (last_of b1 bytes) more
+added_bytes-append big b2 b1 [] more = ap (λ t. t ++ added_bytes big b2 b1 more) (sym (added_bytes-nil big b2 b1))
+added_bytes-append big b2 b1 (b0 ∷ bytes) more =
+    added_bytes-cons big b2 b1 b0 (bytes ++ more)
+    ∙ ap (λ t. byte_adds big b2 b1 b0 ++ t) (added_bytes-append big b1 b0 bytes more)
+    ∙ sym (append_assoc (byte_adds big b2 b1 b0) (added_bytes big b1 b0 bytes) (added_bytes big (last_but_one b1 b0 bytes) (last_of b0 bytes) more))
+    ∙ ap (λ t. t ++ added_bytes big (last_but_one b1 b0 bytes) (last_of b0 bytes) more) (sym (added_bytes-cons big b2 b1 b0 bytes))

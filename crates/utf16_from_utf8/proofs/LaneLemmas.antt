@@ -1,0 +1,92 @@
+-- Operations on sixteen bytes, by the places of the lanes.
+use Rattle.std.proofs.Common.{◌+◌, ◌*◌, ◌≤◌, ◌++◌, ◌∷◌, [], ap₂, eqb-true, ◌/◌, ◌%◌, ◌^◌, true, not, eqb, subst, ◌≡◌, ℕ, ◌<◌, Bool, false, cond, List, map, length, slice_index, get_or, replicate, refl, sym, ap, ◌∙◌, arith, w8}
+use Rattle.std.proofs.lemmas.List.{get_or-map, length-map}
+use Rattle.std.proofs.lemmas.Simd.{mask_l-mod, pick_l_whole, bit_mask_l, bitmask_splat, mask_l-lt, get_or-replicate, get_or-sel_l, get_or-zip2, length-sel_l, length-zip2, tops_compared}
+use Rattle.std.specs.List.{range_with_len}
+use lib.Lanes.{pick_l, mask_l, sel_l, top, zip2}
+use Rattle.utf16_from_utf8.specs.Lanes.{HasLanes, pairs_of}
+
+-- an operator on two vectors, and on a vector and one byte
+pub lanes_both : (f : ℕ → ℕ → ℕ) (xs ys : List ℕ) → length xs ≡ 16 → length ys ≡ 16 → HasLanes (zip2 f xs ys) (λ i. f (slice_index xs i) (slice_index ys i))
+lanes_both f xs ys a b = record {
+  len = length-zip2 f xs ys (a ∙ sym b) ∙ a;
+  lanes = λ i below. get_or-zip2 f xs ys i 0 0 0 (omega (arith, a)) (omega (arith, b));
+}
+
+pub lanes_one : (f : ℕ → ℕ → ℕ) (xs : List ℕ) (y : ℕ) → length xs ≡ 16 → HasLanes (zip2 f xs (replicate 16 y)) (λ i. f (slice_index xs i) y)
+lanes_one f xs y a =
+    let both = lanes_both f xs (replicate 16 y) a refl in
+    record { len = both.len; lanes = λ i below. both.lanes i below ∙ ap (f (slice_index xs i)) (get_or-replicate 16 i y 0 below) }
+
+-- a choice by a test against one byte
+pub lanes_chosen : (test : ℕ → ℕ → Bool) (xs : List ℕ) (y : ℕ) (taken others : List ℕ) → length xs ≡ 16 → length taken ≡ 16 → length others ≡ 16
+    → HasLanes (sel_l (map (top 7) (zip2 (λ p q. cond (test p q) 255 0) xs (replicate 16 y))) taken others) (λ i. cond (test (slice_index xs i) y) (slice_index taken i) (slice_index others i))
+lanes_chosen test xs y taken others a b c =
+    let tests = zip2 test xs (replicate 16 y) in
+    let count : length tests ≡ 16 = length-zip2 test xs (replicate 16 y) a ∙ a in
+    let same = ap (λ choices. sel_l choices taken others) (tops_compared w8 test xs (replicate 16 y)) in
+    record {
+      len = ap length same ∙ length-sel_l tests taken others (omega arith) (omega arith) ∙ count;
+      lanes =
+          λ i below. ap (λ v. get_or v i 0) same
+          ∙ get_or-sel_l tests taken others i 0 (omega arith) (omega arith) (omega arith)
+          ∙ ap (λ choice. cond choice (slice_index taken i) (slice_index others i))
+          (get_or-zip2 test xs (replicate 16 y) i 0 0 false (omega arith) below ∙ ap (test (slice_index xs i)) (get_or-replicate 16 i y 0 below));
+    }
+
+-- the bits of the lanes that are not zero
+pub bits-set : (v : List ℕ) → length v ≡ 16 → mask_l (map (top 7) (zip2 (λ a b. cond (not (eqb a b)) 255 0) v (replicate 16 0))) % 2 ^ 64 ≡ mask_l (map (λ x. not (eqb x 0)) v)
+bits-set v long = bitmask_splat w8 (λ (a b : ℕ). not (eqb a b)) v 16 0 long (omega arith)
+
+pub bit-set : (v : List ℕ) (bits : ℕ) → length v ≡ 16 → bits ≡ mask_l (map (λ x. not (eqb x 0)) v)
+    → (i : ℕ) → i < 16 → ◌≡◌ {A = ℕ} (bits / 2 ^ i % 2) (cond (eqb (slice_index v i) 0) 0 1)
+bit-set v bits long is i below =
+    ap (λ n. n / 2 ^ i % 2) is
+    ∙ bit_mask_l (map (λ x. not (eqb x 0)) v) i
+    ∙ ap (λ b. cond b 1 0) (get_or-map (λ x. not (eqb x 0)) v i 0 false (omega (arith, long)))
+    ∙ turn (eqb (slice_index v i) 0)
+  where
+    turn : (b : Bool) → ◌≡◌ {A = ℕ} (cond (not b) 1 0) (cond b 0 1)
+    turn true = refl
+    turn false = refl
+
+pub few-set : (v : List ℕ) (bits : ℕ) → length v ≡ 16 → bits ≡ mask_l (map (λ x. not (eqb x 0)) v) → bits < 2 ^ 16
+few-set v bits long is =
+    subst (λ k. bits < 2 ^ k) (length-map v (λ x. not (eqb x 0)) ∙ long) (subst (λ n. n < 2 ^ length (map (λ x. not (eqb x 0)) v)) (sym is) (mask_l-lt (map (λ x. not (eqb x 0)) v)))
+
+-- where no lane of two vectors differs, they are the same
+pub none_differs : (xs ys : List ℕ) → length xs ≡ 16 → length ys ≡ 16
+    → mask_l (map (top 7) (zip2 (λ a b. cond (not (eqb a b)) 255 0) xs ys)) % 2 ^ 64 ≡ 0 → xs ≡ ys
+none_differs xs ys a b e =
+    let differ = λ (a b : ℕ). not (eqb a b) in
+    let few : length (zip2 differ xs ys) ≤ 64 = omega (arith, length-zip2 differ xs ys (a ∙ sym b), a) in
+    same xs ys (a ∙ sym b) (sym (mask_l-mod (zip2 differ xs ys) 64 few) ∙ sym (ap (λ bits. mask_l bits % 2 ^ 64) (tops_compared w8 differ xs ys)) ∙ e)
+  where
+    clear : (b : Bool) (n : ℕ) → cond (not b) 1 0 + 2 * n ≡ 0 → (b ≡ true) × (n ≡ 0)
+    clear true n e = (refl, omega arith)
+    clear false n e = absurd (omega arith)
+
+    same : (xs ys : List ℕ) → length xs ≡ length ys → mask_l (zip2 (λ (a b : ℕ). not (eqb a b)) xs ys) ≡ 0 → xs ≡ ys
+    same [] [] long e = refl
+    same [] (y ∷ ys) long e = absurd (omega arith)
+    same (x ∷ xs) [] long e = absurd (omega arith)
+    same (x ∷ xs) (y ∷ ys) long e =
+        let parts = clear (eqb x y) (mask_l (zip2 (λ (a b : ℕ). not (eqb a b)) xs ys)) e in
+        ap₂ (λ z zs. z ∷ zs) (eqb-true x y parts.0) (same xs ys (omega arith) parts.1)
+
+-- two vectors interleaved: where their lanes stand then
+abbrev pub sixteen : List ℕ
+sixteen = range_with_len 0 16
+
+abbrev pub both : List ℕ
+both = 0 ∷ 16 ∷ 1 ∷ 17 ∷ 2 ∷ 18 ∷ 3 ∷ 19 ∷ 4 ∷ 20 ∷ 5 ∷ 21 ∷ 6 ∷ 22 ∷ 7 ∷ 23 ∷ 8 ∷ 24 ∷ 9 ∷ 25 ∷ 10 ∷ 26 ∷ 11 ∷ 27 ∷ 12 ∷ 28 ∷ 13 ∷ 29 ∷ 14 ∷ 30 ∷ 15 ∷ 31 ∷ []
+
+abbrev Holds : List ℕ → List ℕ → Bool → Type 0
+Holds highs lows big = pick_l 0 (cond big (highs ++ lows) (lows ++ highs)) both ≡ pairs_of big highs lows
+
+pub interleaved : (highs lows : List ℕ) → length highs ≡ 16 → length lows ≡ 16 → (big : Bool) → pick_l 0 (cond big (highs ++ lows) (lows ++ highs)) both ≡ pairs_of big highs lows
+interleaved highs lows a b big = subst (λ xs. Holds xs lows big) (pick_l_whole 0 highs 16 a) (subst (λ ys. Holds (pick_l 0 highs sixteen) ys big) (pick_l_whole 0 lows 16 b) (computed big))
+  where
+    computed : (big : Bool) → Holds (pick_l 0 highs sixteen) (pick_l 0 lows sixteen) big
+    computed true = refl
+    computed false = refl

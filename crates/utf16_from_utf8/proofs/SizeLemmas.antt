@@ -1,0 +1,204 @@
+-- How many units the characters take that bytes of UTF-8 begin.
+use Rattle.std.proofs.Common.{◌≡◌, ℕ, suc, ◌+◌, ◌*◌, ◌/◌, ◌%◌, ◌^◌, ◌<◌, ◌≤◌, ◌⊎◌, Bool, true, false, not, cond, eqb, eq-eqb, eqb-true, List, [], ◌∷◌, ◌++◌, All, map, length, take, drop, slice_index, replicate, bit_and, count_ones, encode_utf8_all, flat_map, refl, sym, ap, ap₂, ◌∙◌, ⊎_elim, inl, inr, arith, drop-cons, length-append, w8}
+use Rattle.std.proofs.lemmas.Bool.{cases_lt, false_from_ne_true}
+use Rattle.std.proofs.lemmas.List.{drop_all, length-map}
+use Rattle.std.proofs.lemmas.List.Elements.{All-head, All-tail}
+use Rattle.std.proofs.lemmas.List.Sums.{count_by-le-length, sum_by-append, sum_by-cons}
+use Rattle.std.proofs.lemmas.Nat.Bits.{and_high}
+use Rattle.std.proofs.lemmas.Simd.{bitmask_splat, chunk-drop, map-map, ones-mask_l, zip2_splat}
+use Rattle.std.proofs.lemmas.Str.{encodes-chars, scalars-chars}
+use Rattle.std.proofs.str.Utf16.{one_unit, two_units}
+use Rattle.std.specs.Char.{IsScalar}
+use Rattle.std.specs.Char.Escape.{encode_utf16}
+use Rattle.std.specs.Str.{IsUtf8, chars}
+use lib.Lanes.{mask_l, top, zip2}
+use lib.Utf8.{encode}
+use mir.Val.{bool_byte}
+use Rattle.utf16_units.specs.Encoding.{size}
+use Rattle.utf16_units.proofs.CharLemmas.{no_surrogate}
+use Rattle.utf16_units.proofs.EncodingLemmas.{All-from_all_scalars}
+use Rattle.utf16_from_utf8.specs.Sizes.{begins_char, begins_four, units_begun}
+use Rattle.utf16_from_utf8.proofs.TextLemmas.{four_bytes, one_byte, three_bytes, two_bytes}
+
+-- ---- one byte, by its class
+
+abbrev bit : Bool → ℕ
+bit b = cond b 1 0
+
+begun-cons : (byte : ℕ) (more : List ℕ) → units_begun (byte ∷ more) ≡ bit (begins_char byte) + bit (begins_four byte) + units_begun more
+begun-cons byte more = omega (arith, sum_by-cons (λ b. bit (begins_char b)) byte more, sum_by-cons (λ b. bit (begins_four b)) byte more)
+
+begins-no : (byte : ℕ) → 0x80 ≤ byte → byte < 0xC0 → begins_char byte ≡ false
+begins-no byte from below =
+    let upper : bit_and byte 0xC0 ≡ byte / 64 % 4 * 64 = and_high byte 2 6 in
+    ap not (eq-eqb (bit_and byte 0xC0) 0x80 (omega (arith, upper)))
+
+begins-yes : (byte : ℕ) → byte < 256 → (byte < 0x80) ⊎ (0xC0 ≤ byte) → begins_char byte ≡ true
+begins-yes byte small either =
+    let upper : bit_and byte 0xC0 ≡ byte / 64 % 4 * 64 = and_high byte 2 6 in
+    ap not (false_from_ne_true (eqb (bit_and byte 0xC0) 0x80) (λ e.
+    let is = eqb-true _ _ e in
+    ⊎_elim (λ (low : byte < 0x80). omega (arith, upper, is, low)) (λ (high : 0xC0 ≤ byte). omega (arith, upper, is, high, small)) either))
+
+four-no : (byte : ℕ) → byte < 0xF0 → begins_four byte ≡ false
+four-no byte below =
+    let upper : bit_and byte 0xF0 ≡ byte / 16 % 16 * 16 = and_high byte 4 4 in
+    false_from_ne_true (eqb (bit_and byte 0xF0) 0xF0) (λ e. let is = eqb-true _ _ e in omega (arith, upper, is, below))
+
+four-yes : (byte : ℕ) → byte < 256 → 0xF0 ≤ byte → begins_four byte ≡ true
+four-yes byte small from =
+    let upper : bit_and byte 0xF0 ≡ byte / 16 % 16 * 16 = and_high byte 4 4 in
+    eq-eqb (bit_and byte 0xF0) 0xF0 (omega (arith, upper))
+
+begun-behind : (byte : ℕ) (more : List ℕ) → 0x80 ≤ byte → byte < 0xC0 → units_begun (byte ∷ more) ≡ units_begun more
+begun-behind byte more a b =
+    let no = ap bit (begins-no byte a b) in
+    let four = ap bit (four-no byte (omega arith)) in
+    omega (arith, begun-cons byte more, no, four)
+
+begun-first : (byte : ℕ) (more : List ℕ) → byte < 0xF0 → (byte < 0x80) ⊎ (0xC0 ≤ byte) → units_begun (byte ∷ more) ≡ 1 + units_begun more
+begun-first byte more a either =
+    let yes = ap bit (begins-yes byte (omega arith) either) in
+    let four = ap bit (four-no byte a) in
+    omega (arith, begun-cons byte more, yes, four)
+
+begun-four : (byte : ℕ) (more : List ℕ) → byte < 256 → 0xF0 ≤ byte → units_begun (byte ∷ more) ≡ 2 + units_begun more
+begun-four byte more small from =
+    let far : 0xC0 ≤ byte = omega arith in
+    let yes = ap bit (begins-yes byte small (inr far)) in
+    let four = ap bit (four-yes byte small from) in
+    omega (arith, begun-cons byte more, yes, four)
+
+-- ---- a text
+
+begun-char : (c : ℕ) (more : List ℕ) → IsScalar c → units_begun (encode c ++ more) ≡ length (encode_utf16 c) + units_begun more
+begun-char c more scalar = ⊎_elim
+    (λ (one : c < 0x80).
+    let units = ap length (one_unit c (omega arith)) in
+    ap (λ bytes. units_begun (bytes ++ more)) (one_byte c one) ∙ omega (arith, begun-first c more (omega arith) (inl one), units))
+    (λ (a : 0x80 ≤ c). ⊎_elim
+    (λ (two : c < 0x800).
+    let x = 192 + c / 64 in
+    let y = 128 + c % 64 in
+    let units = ap length (one_unit c (omega arith)) in
+    let first : 0xC0 ≤ x = omega arith in
+    ap (λ bytes. units_begun (bytes ++ more)) (two_bytes c a two)
+    ∙ omega (arith, begun-first x (y ∷ more) (omega arith) (inr first), begun-behind y more (omega arith) (omega arith), units))
+    (λ (b : 0x800 ≤ c). ⊎_elim
+    (λ (three : c < 0x1_0000).
+    let x = 224 + c / 4096 in
+    let y = 128 + c / 64 % 64 in
+    let z = 128 + c % 64 in
+    let units = ap length (one_unit c three) in
+    let first : 0xC0 ≤ x = omega arith in
+    ap (λ bytes. units_begun (bytes ++ more)) (three_bytes c b three)
+    ∙ omega (arith, begun-first x (y ∷ z ∷ more) (omega arith) (inr first), begun-behind y (z ∷ more) (omega arith) (omega arith), begun-behind z more (omega arith) (omega arith), units))
+    (λ (four : 0x1_0000 ≤ c).
+    let x = 240 + c / 262144 in
+    let y = 128 + c / 4096 % 64 in
+    let z = 128 + c / 64 % 64 in
+    let w = 128 + c % 64 in
+    let top : c < 0x11_0000 = ⊎_elim (λ (low : c < 0xD800). omega arith) (λ (high : (0xE000 ≤ c) × (c < 0x11_0000)). high.1) (no_surrogate c scalar) in
+    let units = ap length (two_units c four) in
+    ap (λ bytes. units_begun (bytes ++ more)) (four_bytes c four)
+    ∙ omega (arith, begun-four x (y ∷ z ∷ w ∷ more) (omega arith) (omega arith), begun-behind y (z ∷ w ∷ more) (omega arith) (omega arith), begun-behind z (w ∷ more) (omega arith) (omega arith), begun-behind w more (omega arith) (omega arith), units))
+    (cases_lt c 0x1_0000))
+    (cases_lt c 0x800))
+    (cases_lt c 0x80)
+
+begun-text : (text : List ℕ) → All IsScalar text → units_begun (encode_utf8_all text) ≡ length (flat_map encode_utf16 text)
+begun-text [] scalars = refl
+begun-text (c ∷ text) scalars =
+    begun-char c (encode_utf8_all text) (All-head IsScalar c text scalars)
+    ∙ ap (λ n. length (encode_utf16 c) + n) (begun-text text (All-tail IsScalar c text scalars))
+    ∙ sym (length-append (encode_utf16 c) (flat_map encode_utf16 text))
+
+pub scalars-of : (bytes : List ℕ) → IsUtf8 bytes → All IsScalar (chars bytes)
+scalars-of bytes utf8 = All-from_all_scalars (chars bytes) (scalars-chars bytes utf8)
+
+pub begun-size : (bytes : List ℕ) → IsUtf8 bytes → 2 * units_begun bytes ≡ size (chars bytes)
+unfolding size
+begun-size bytes utf8 = ap (λ n. 2 * n) (ap units_begun (sym (encodes-chars bytes utf8)) ∙ begun-text (chars bytes) (scalars-of bytes utf8))
+
+-- a character has no more units than bytes
+units-le : (c : ℕ) → length (encode_utf16 c) ≤ length (encode c)
+units-le c = ⊎_elim
+    (λ (one : c < 0x1_0000).
+    let units = ap length (one_unit c one) in
+    ⊎_elim
+    (λ (a : c < 0x80). omega (arith, units, ap length (one_byte c a)))
+    (λ (a : 0x80 ≤ c). ⊎_elim
+    (λ (b : c < 0x800). omega (arith, units, ap length (two_bytes c a b)))
+    (λ (b : 0x800 ≤ c). omega (arith, units, ap length (three_bytes c b one)))
+    (cases_lt c 0x800))
+    (cases_lt c 0x80))
+    (λ (two : 0x1_0000 ≤ c). omega (arith, ap length (two_units c two), ap length (four_bytes c two)))
+    (cases_lt c 0x1_0000)
+
+text-le : (text : List ℕ) → length (flat_map encode_utf16 text) ≤ length (encode_utf8_all text)
+text-le [] = omega arith
+text-le (c ∷ text) =
+    omega (arith, units-le c, text-le text, length-append (encode_utf16 c) (flat_map encode_utf16 text), length-append (encode c) (encode_utf8_all text))
+
+pub size-le : (bytes : List ℕ) → IsUtf8 bytes → size (chars bytes) ≤ 2 * length bytes
+unfolding size
+size-le bytes utf8 = omega (arith, text-le (chars bytes), ap length (encodes-chars bytes utf8))
+
+-- ---- the steps of the count
+
+pub begun-append : (xs ys : List ℕ) → units_begun (xs ++ ys) ≡ units_begun xs + units_begun ys
+begun-append xs ys = omega (arith, sum_by-append (λ b. bit (begins_char b)) xs ys, sum_by-append (λ b. bit (begins_four b)) xs ys)
+
+pub begun-le : (xs : List ℕ) → units_begun xs ≤ 2 * length xs
+begun-le xs = omega (arith, count_by-le-length begins_char xs, count_by-le-length begins_four xs)
+
+-- the count goes on by n bytes
+pub begun-step : (bytes : List ℕ) (at n units more : ℕ) → units + units_begun (drop at bytes) ≡ units_begun bytes → more ≡ units_begun (take n (drop at bytes))
+    → units + more + units_begun (drop (at + n) bytes) ≡ units_begun bytes
+begun-step bytes at n units more e is =
+    let split = ap units_begun (chunk-drop at n bytes) in
+    omega (arith, split, begun-append (take n (drop at bytes)) (drop (at + n) bytes), is, e)
+
+pub begun-step-one : (bytes : List ℕ) (at units more : ℕ) → at < length bytes → units + units_begun (drop at bytes) ≡ units_begun bytes
+    → more ≡ units_begun (slice_index bytes at ∷ []) → units + more + units_begun (drop (at + 1) bytes) ≡ units_begun bytes
+begun-step-one bytes at units more room e is =
+    let next : suc at ≡ at + 1 = omega arith in
+    let split = ap units_begun (drop-cons bytes at 0 room ∙ ap (λ n. slice_index bytes at ∷ drop n bytes) next) in
+    omega (arith, split, begun-append (slice_index bytes at ∷ []) (drop (at + 1) bytes), is, e)
+
+pub begun-all : (bytes : List ℕ) (at units : ℕ) → length bytes ≤ at → units + units_begun (drop at bytes) ≡ units_begun bytes → units ≡ units_begun bytes
+begun-all bytes at units end e =
+    let none : units_begun (drop at bytes) ≡ 0 = ap units_begun (drop_all at bytes end) in
+    omega (arith, none, e)
+
+-- ---- a block by its bits
+
+pub char-bits : (block : List ℕ) → length block ≡ 64
+    → mask_l (map (top 7) (zip2 (λ a b. cond (not (eqb a b)) 255 0) (zip2 bit_and block (replicate 64 0xC0)) (replicate 64 0x80))) % 2 ^ 64 ≡ mask_l (map begins_char block)
+char-bits block long =
+    let masked = zip2_splat bit_and block 64 0xC0 long in
+    bitmask_splat w8 (λ (a b : ℕ). not (eqb a b)) (zip2 bit_and block (replicate 64 0xC0)) 64 0x80 (ap length masked ∙ length-map block (λ b. bit_and b 0xC0) ∙ long) (omega arith)
+    ∙ ap (λ bs. mask_l (map (λ b. not (eqb b 0x80)) bs)) masked
+    ∙ ap mask_l (map-map (λ b. not (eqb b 0x80)) (λ b. bit_and b 0xC0) block)
+
+pub four-bits : (block : List ℕ) → length block ≡ 64
+    → mask_l (map (top 7) (zip2 (λ a b. cond (eqb a b) 255 0) (zip2 bit_and block (replicate 64 0xF0)) (replicate 64 0xF0))) % 2 ^ 64 ≡ mask_l (map begins_four block)
+four-bits block long =
+    let masked = zip2_splat bit_and block 64 0xF0 long in
+    bitmask_splat w8 eqb (zip2 bit_and block (replicate 64 0xF0)) 64 0xF0 (ap length masked ∙ length-map block (λ b. bit_and b 0xF0) ∙ long) (omega arith)
+    ∙ ap (λ bs. mask_l (map (λ b. eqb b 0xF0) bs)) masked
+    ∙ ap mask_l (map-map (λ b. eqb b 0xF0) (λ b. bit_and b 0xF0) block)
+
+pub ones-begun : (block : List ℕ) (chars' fours : ℕ) → chars' ≡ mask_l (map begins_char block) → fours ≡ mask_l (map begins_four block)
+    → count_ones chars' + count_ones fours ≡ units_begun block
+ones-begun block chars' fours a b = ap₂ (λ m n. m + n) (ap count_ones a ∙ ones-mask_l begins_char block) (ap count_ones b ∙ ones-mask_l begins_four block)
+
+bool-bit : (b : Bool) → bool_byte b ≡ bit b
+bool-bit true = refl
+bool-bit false = refl
+
+pub one-begun : (byte : ℕ) → bool_byte (begins_char byte) + bool_byte (begins_four byte) ≡ units_begun (byte ∷ [])
+one-begun byte = ap₂ (λ m n. m + n) (bool-bit (begins_char byte)) (bool-bit (begins_four byte)) ∙ omega (arith, begun-cons byte [], empty)
+  where
+    empty : units_begun [] ≡ 0
+    empty = refl

@@ -1,0 +1,6 @@
+use Rattle.std.proofs.Common.{ℕ, ◌/◌, ◌^◌}
+use Rattle.utf16_from_utf8.proofs.LaneLemmas.{lanes_one}
+use Rattle.utf16_from_utf8.proofs.lanes.down.Goals as goal
+
+pub returns : goal.returns
+returns c = lanes_one (λ (a by : ℕ). a / 2 ^ by) c.args.v c.args.by c.fits-v.0

@@ -1,0 +1,12 @@
+use Rattle.std.proofs.Common.{◌++◌, take, sym, ap, ◌∙◌, arith}
+use Rattle.utf16_from_utf8.proofs.BlockLemmas.{ascii-added, both_stored}
+use Rattle.utf16_from_utf8.proofs.write.put_ascii.Goals as goal
+
+pub returns-clause-bytes : goal.returns-clause-bytes
+returns-clause-bytes g c b2 b1 behind =
+    let long = c.fits-block.0 in
+    both_stored c.args.at c.paired.result.0 c.paired.result.1 c.args.out.now c.paired.ensures.first c.paired.ensures.second c.requires.room
+    ∙ ap (λ t. take c.args.at c.args.out.now ++ t)
+    (c.paired.ensures.pairs
+    ∙ ascii-added g.E.Utf16Order.BIG b2 b1 c.each.result c.args.block (c.each.ensures.len ∙ sym long) behind
+    (λ i below. c.each.ensures.lanes i (omega (arith, long))) (λ i below. c.requires.ascii i (omega (arith, long))))

@@ -1,0 +1,32 @@
+-- Sixteen bytes lane by lane, and the two bytes of units side by side.
+use Rattle.std.specs.Prelude.{◌≡◌, ℕ, ◌*◌, ◌/◌, ◌%◌, ◌<◌, ◌≤◌, ◌==◌, Bool, true, false, List, [], ◌∷◌, ◌++◌, if◌then◌else◌, length, slice_index, take, count_ones}
+use Rattle.std.specs.Simd.Lanes.{all_below}
+
+-- the sixteen lanes, by their places
+pub record HasLanes (v : List ℕ) (lane : ℕ → ℕ) : Type 0 where
+  pub len : length v ≡ 16
+  pub lanes : (i : ℕ) → i < 16 → slice_index v i ≡ lane i
+
+-- the two bytes of a unit by its high and its low byte (Unicode 3.10, UTF-16BE and UTF-16LE)
+abbrev pub pair_bytes : Bool → ℕ → ℕ → List ℕ
+pair_bytes true high low = high ∷ low ∷ []
+pair_bytes false high low = low ∷ high ∷ []
+
+-- those of several units
+abbrev pub pairs_of : Bool → List ℕ → List ℕ → List ℕ
+pairs_of big [] lows = []
+pairs_of big (high ∷ highs) [] = []
+pairs_of big (high ∷ highs) (low ∷ lows) = pair_bytes big high low ++ pairs_of big highs lows
+
+-- those pairs whose bit is set, the lowest bit first
+abbrev pub kept_pairs : ℕ → List ℕ → List ℕ
+kept_pairs bits [] = []
+kept_pairs bits (byte ∷ []) = []
+kept_pairs bits (first ∷ second ∷ pairs) = (if bits % 2 == 1 then first ∷ second ∷ [] else []) ++ kept_pairs (bits / 2) pairs
+
+-- where the bytes stand of those of four pairs that the bits keep: the first of sixteen positions in a vector
+pub record Packs (bits : ℕ) (positions : List ℕ) : Type 0 where
+  pub kept : take (2 * count_ones bits) positions ≡ kept_pairs bits (0 ∷ 1 ∷ 2 ∷ 3 ∷ 4 ∷ 5 ∷ 6 ∷ 7 ∷ [])
+  pub len : length positions ≡ 16
+  pub few : count_ones bits ≤ 4
+  pub below : all_below 8 positions ≡ true

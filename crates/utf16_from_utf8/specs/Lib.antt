@@ -1,0 +1,4 @@
+pub mod Added
+pub mod LaneBytes
+pub mod Lanes
+pub mod Sizes

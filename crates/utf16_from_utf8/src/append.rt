@@ -1,0 +1,90 @@
+//! A text in UTF-8 put behind bytes of UTF-16.
+
+ghost use Rattle.std.specs.Prelude.{◌≡◌, ◌+◌, ◌*◌, ◌≤◌, ◌++◌, length, slice_index, IsOk, OnErr, OnOk};
+ghost use Rattle.std.specs.Str.{chars};
+ghost use Rattle.std.specs.Vec.{VecUnchanged, vec_capacity, vec_len};
+ghost use Rattle.utf16_units.specs.Encoding.{encode, size};
+ghost use Rattle.utf16_from_utf8.specs.Added.{added_bytes};
+
+use crate::size::utf16_len;
+use crate::write::write_units;
+use std::alloc::{AllocError, Allocator};
+use utf16_units::Utf16Order;
+
+// How many bytes are written at once, of a short text and of a long one. They are written to a buffer in the frame first.
+const SHORT: usize = 64;
+
+const PIECE: usize = 2048;
+
+/// Puts the UTF-16 of a text last. The caller proves that there is room for it, `utf16_len` bytes, and so it does not fail.
+/// One pass, by lanes, and one copy of what it writes.
+pub fn extend_utf16<E: Utf16Order, A: Allocator>(
+    raw: &mut Vec<u8, A>,
+    s: &str,
+) -> Result<(), AllocError>
+    requires { vec_len raw.old + size (chars s.now) ≤ vec_capacity raw.old }
+    ensures items { raw.new.items ≡ raw.old.items ++ encode E.BIG (chars s.now) }
+    ensures fits { IsOk result }
+    ensures capacity { vec_capacity raw.old ≤ vec_capacity raw.new }
+{
+    let bytes = s.as_bytes();
+    if bytes.len() <= SHORT {
+        extend_piece::<E, A>(raw, [0; 2], bytes, &mut [0; 2 * SHORT + 16])
+    } else {
+        extend_pieces::<E, A>(raw, bytes, &mut [0; 2 * PIECE + 16])
+    }
+}
+
+/// Puts the UTF-16 of a text last. The only error is a refused request for memory; it leaves the bytes as they were. Room is
+/// asked for once, and where the text fits, not at all.
+pub fn append_utf16<E: Utf16Order, A: Allocator>(
+    raw: &mut Vec<u8, A>,
+    s: &str,
+) -> Result<(), AllocError>
+    ensures items { OnOk result (raw.new.items ≡ raw.old.items ++ encode E.BIG (chars s.now)) }
+    ensures refused { OnErr result (VecUnchanged raw.old raw.new × (vec_capacity raw.new ≡ vec_capacity raw.old)) }
+    ensures room { vec_len raw.old + size (chars s.now) ≤ vec_capacity raw.old → IsOk result }
+    ensures grows { vec_capacity raw.old ≤ vec_capacity raw.new }
+{
+    raw.reserve(utf16_len(s))?;
+    extend_utf16::<E, A>(raw, s)
+}
+
+// Puts last what bytes add, a piece at a time.
+fn extend_pieces<E: Utf16Order, A: Allocator>(
+    raw: &mut Vec<u8, A>,
+    bytes: &[u8],
+    buf: &mut [u8],
+) -> Result<(), AllocError>
+    requires room { vec_len raw.old + length (added_bytes E.BIG 0 0 bytes.now) ≤ vec_capacity raw.old }
+    requires buf { length buf.old ≡ 2 * PIECE + 16 }
+    ensures items { raw.new.items ≡ raw.old.items ++ added_bytes E.BIG 0 0 bytes.now }
+    ensures fits { IsOk result }
+    ensures capacity { vec_capacity raw.old ≤ vec_capacity raw.new }
+{
+    let mut before = [0; 2];
+    let mut at = 0;
+    while bytes.len() - at > PIECE {
+        extend_piece::<E, A>(raw, before, &bytes[at..at + PIECE], buf)?;
+        at += PIECE;
+        before = [bytes[at - 2], bytes[at - 1]];
+    }
+    extend_piece::<E, A>(raw, before, &bytes[at..], buf)
+}
+
+// Puts last what a piece adds behind two bytes.
+fn extend_piece<E: Utf16Order, A: Allocator>(
+    raw: &mut Vec<u8, A>,
+    before: [u8; 2],
+    piece: &[u8],
+    buf: &mut [u8],
+) -> Result<(), AllocError>
+    requires room { vec_len raw.old + length (added_bytes E.BIG (slice_index before 0) (slice_index before 1) piece.now) ≤ vec_capacity raw.old }
+    requires buf { 2 * length piece.now + 16 ≤ length buf.old }
+    ensures items { raw.new.items ≡ raw.old.items ++ added_bytes E.BIG (slice_index before 0) (slice_index before 1) piece.now }
+    ensures fits { IsOk result }
+    ensures capacity { vec_capacity raw.old ≤ vec_capacity raw.new }
+{
+    let end = write_units::<E>(before, piece, buf);
+    raw.extend_from_slice(&buf[..end])
+}

@@ -1,0 +1,75 @@
+//! Sixteen bytes by lanes: each function says what stands in the lane at `i`.
+
+ghost use Rattle.std.specs.Prelude.{◌≡◌, ℕ, ◌+◌, ◌*◌, ◌/◌, ◌%◌, ◌^◌, ◌<◌, ◌==◌, ◌∷◌, bit_and, if◌then◌else◌, nat_lt, slice_index};
+ghost use Rattle.utf16_from_utf8.specs.Lanes.{HasLanes};
+
+use std::simd::prelude::*;
+
+#[inline(always)]
+pub(crate) fn each(byte: u8) -> u8x16
+    ensures { HasLanes result (λ i. byte) }
+{
+    u8x16::splat(byte)
+}
+
+#[inline(always)]
+pub(crate) fn masked(v: u8x16, mask: u8) -> u8x16
+    ensures { HasLanes result (λ i. bit_and (slice_index v i) mask) }
+{
+    v & u8x16::splat(mask)
+}
+
+#[inline(always)]
+pub(crate) fn sum(a: u8x16, b: u8x16) -> u8x16
+    ensures { HasLanes result (λ i. (slice_index a i + slice_index b i) % 2 ^ 8) }
+{
+    a + b
+}
+
+// The bits moved down.
+#[inline(always)]
+pub(crate) fn down(v: u8x16, by: u8) -> u8x16
+    requires { by < 8 }
+    ensures { HasLanes result (λ i. slice_index v i / 2 ^ by) }
+{
+    v >> u8x16::splat(by)
+}
+
+// The bits moved up, those above a byte dropped.
+#[inline(always)]
+pub(crate) fn up(v: u8x16, by: u8) -> u8x16
+    requires { by < 8 }
+    ensures { HasLanes result (λ i. slice_index v i * 2 ^ by % 2 ^ 8) }
+{
+    v << u8x16::splat(by)
+}
+
+// `a` where a lane is below the limit, else `b`.
+#[inline(always)]
+pub(crate) fn where_below(v: u8x16, limit: u8, a: u8x16, b: u8x16) -> u8x16
+    ensures { HasLanes result (λ i. if nat_lt (slice_index v i) limit then slice_index a i else slice_index b i) }
+{
+    v.simd_lt(u8x16::splat(limit)).select(a, b)
+}
+
+// The byte before each one; before the first stands `before`.
+#[inline(always)]
+pub(crate) fn behind(v: u8x16, before: u8) -> u8x16
+    ensures { HasLanes result (λ i. slice_index (before ∷ v) i) }
+{
+    u8x16::splat(before).shuffle(
+        v,
+        [
+            15, 16, 17, 18, 19, 20, 21, 22, 23, 24, 25, 26, 27, 28, 29, 30,
+        ],
+    )
+}
+
+// A bit for each byte that is not zero.
+#[inline(always)]
+pub(crate) fn set_bits(v: u8x16) -> u64
+    ensures bits { (i : ℕ) → i < 16 → result / 2 ^ i % 2 ≡ if slice_index v i == 0 then 0 else 1 }
+    ensures few { result < 2 ^ 16 }
+{
+    v.simd_ne(u8x16::splat(0)).to_bitmask()
+}

@@ -1,0 +1,14 @@
+//! UTF-16 from UTF-8, sixteen bytes at a time.
+#![tactic(auto)]
+
+mod append;
+mod lanes;
+pub mod laws;
+mod pack;
+mod size;
+mod units;
+mod write;
+
+pub use crate::append::{append_utf16, extend_utf16};
+pub use crate::size::utf16_len;
+pub use crate::write::write_units;

@@ -1,0 +1,50 @@
+//! How many bytes a text in UTF-8 takes in UTF-16.
+
+ghost use Rattle.std.specs.Prelude.{◌≡◌, ◌∷◌, []};
+ghost use Rattle.std.specs.Str.{chars};
+ghost use Rattle.utf16_units.specs.Encoding.{size};
+ghost use Rattle.utf16_from_utf8.specs.Sizes.{units_begun};
+
+use std::simd::prelude::*;
+
+/// How many bytes a text takes in UTF-16. One pass, by lanes.
+pub fn utf16_len(s: &str) -> usize
+    ensures { result ≡ size (chars s.now) }
+{
+    2 * units(s.as_bytes())
+}
+
+// How many units the characters take that the bytes begin.
+fn units(bytes: &[u8]) -> usize
+    ensures { result ≡ units_begun bytes.now }
+{
+    let mut at = 0;
+    let mut units = 0;
+    while bytes.len() - at >= 64 {
+        units += units_of_block(u8x64::from_slice(&bytes[at..]));
+        at += 64;
+    }
+    while at < bytes.len() {
+        units += units_of_byte(bytes[at]);
+        at += 1;
+    }
+    units
+}
+
+// Those of sixty-four bytes: a first byte has none of the upper bits of a byte behind one, and one of four bytes all four.
+#[inline(always)]
+fn units_of_block(block: u8x64) -> usize
+    ensures { result ≡ units_begun block }
+{
+    let begun = (block & u8x64::splat(0xC0)).simd_ne(u8x64::splat(0x80));
+    let fours = (block & u8x64::splat(0xF0)).simd_eq(u8x64::splat(0xF0));
+    begun.to_bitmask().count_ones() as usize + fours.to_bitmask().count_ones() as usize
+}
+
+// Those of one byte.
+#[inline(always)]
+fn units_of_byte(byte: u8) -> usize
+    ensures { result ≡ units_begun (byte ∷ []) }
+{
+    (byte & 0xC0 != 0x80) as usize + (byte & 0xF0 == 0xF0) as usize
+}

@@ -1,0 +1,122 @@
+//! The two bytes of the unit that ends at each of sixteen bytes, and at which of them one ends.
+
+ghost use Rattle.std.specs.Prelude.{◌≡◌, ◌<◌, ℕ, bit_and, if◌then◌else◌, slice_index, ◌/◌, ◌%◌, ◌^◌, IsTrue};
+ghost use Rattle.std.specs.Simd.Lanes.{zip2};
+ghost use Rattle.utf16_from_utf8.specs.Added.{ends_unit};
+ghost use Rattle.utf16_from_utf8.specs.LaneBytes.{high_lane, lead_high, lead_low, lead_part, low_lane, middle, short_low, three_high, trail_high};
+ghost use Rattle.utf16_from_utf8.specs.Lanes.{HasLanes};
+
+use crate::lanes::{down, each, masked, set_bits, sum, up, where_below};
+use std::simd::prelude::*;
+
+// The low bytes, but of leading surrogates and of characters of one byte.
+#[inline(always)]
+pub(crate) fn short_lows(b1: u8x16, b0: u8x16) -> u8x16
+    ensures { HasLanes result (λ i. short_low (slice_index b1 i) (slice_index b0 i)) }
+{
+    sum(up(b1, 6), masked(b0, 0x3F))
+}
+
+#[inline(always)]
+fn middles(b1: u8x16) -> u8x16
+    ensures { HasLanes result (λ i. middle (slice_index b1 i)) }
+{
+    masked(down(b1, 2), 0xF)
+}
+
+// The high bytes of characters of three bytes.
+#[inline(always)]
+pub(crate) fn three_highs(b2: u8x16, b1: u8x16) -> u8x16
+    ensures { HasLanes result (λ i. three_high (slice_index b2 i) (slice_index b1 i)) }
+{
+    sum(up(b2, 4), middles(b1))
+}
+
+#[inline(always)]
+fn trail_highs(b1: u8x16) -> u8x16
+    ensures { HasLanes result (λ i. trail_high (slice_index b1 i)) }
+{
+    sum(masked(down(b1, 2), 3), each(0xDC))
+}
+
+#[inline(always)]
+fn lead_parts(b1: u8x16, b0: u8x16) -> u8x16
+    ensures { HasLanes result (λ i. lead_part (slice_index b1 i) (slice_index b0 i)) }
+{
+    sum(up(b1, 2), masked(down(b0, 4), 3))
+}
+
+#[inline(always)]
+fn lead_highs(b2: u8x16, parts: u8x16) -> u8x16
+    ensures { HasLanes result (λ i. lead_high (slice_index b2 i) (slice_index parts i)) }
+{
+    sum(
+        masked(b2, 7),
+        where_below(parts, 0x40, each(0xD7), each(0xD8)),
+    )
+}
+
+// The low bytes.
+#[inline(always)]
+pub(crate) fn lows(b2: u8x16, b1: u8x16, b0: u8x16) -> u8x16
+    ensures { HasLanes result (λ i. low_lane (slice_index b2 i) (slice_index b1 i) (slice_index b0 i)) }
+{
+    let short = short_lows(b1, b0);
+    let lead = sum(lead_parts(b1, b0), each(0xC0));
+    let long = where_below(b2, 0xF0, short, where_below(b1, 0xC0, lead, short));
+    where_below(b0, 0x80, b0, long)
+}
+
+// The high bytes.
+#[inline(always)]
+pub(crate) fn highs(b2: u8x16, b1: u8x16, b0: u8x16) -> u8x16
+    ensures { HasLanes result (λ i. high_lane (slice_index b2 i) (slice_index b1 i) (slice_index b0 i)) }
+{
+    let lead = lead_highs(b2, lead_parts(b1, b0));
+    let last = where_below(b2, 0xF0, three_highs(b2, b1), lead);
+    let behind = where_below(b2, 0xE0, trail_highs(b1), last);
+    let long = where_below(b1, 0xC0, behind, middles(b1));
+    where_below(b0, 0x80, each(0), long)
+}
+
+// A bit for each byte that ends a unit.
+#[inline(always)]
+pub(crate) fn ended_bits(b1: u8x16, b0: u8x16) -> u64
+    ensures bits { (i : ℕ) → i < 16 → result / 2 ^ i % 2 ≡ if ends_unit (slice_index b1 i) (slice_index b0 i) then 1 else 0 }
+    ensures few { result < 2 ^ 16 }
+{
+    set_bits(where_below(
+        b0,
+        0xC0,
+        where_below(b1, 0xE0, each(0xFF), each(0)),
+        each(0),
+    ))
+}
+
+// Whether all are characters of one byte.
+#[inline(always)]
+pub(crate) fn is_ascii(block: u8x16) -> bool
+    ensures { IsTrue result → (i : ℕ) → i < 16 → slice_index block i < 0x80 }
+{
+    set_bits(masked(block, 0x80)) == 0
+}
+
+// What the upper bits of each byte are in five characters of three bytes, and which bits these are.
+pub(crate) const THREES: [u8; 16] = [
+    0xE0, 0x80, 0x80, 0xE0, 0x80, 0x80, 0xE0, 0x80, 0x80, 0xE0, 0x80, 0x80, 0xE0, 0x80, 0x80, 0,
+];
+
+pub(crate) const UPPER: [u8; 16] = [
+    0xF0, 0xC0, 0xC0, 0xF0, 0xC0, 0xC0, 0xF0, 0xC0, 0xC0, 0xF0, 0xC0, 0xC0, 0xF0, 0xC0, 0xC0, 0,
+];
+
+// Whether the first fifteen bytes are five characters of three bytes.
+#[inline(always)]
+pub(crate) fn are_threes(block: u8x16) -> bool
+    ensures { IsTrue result → zip2 bit_and block UPPER ≡ THREES }
+{
+    (block & u8x16::from_array(UPPER))
+        .simd_ne(u8x16::from_array(THREES))
+        .to_bitmask()
+        == 0
+}

@@ -1,0 +1,165 @@
+//! UTF-16 written from UTF-8, piece by piece: a piece may begin and end anywhere, for each byte is looked at with the two before it.
+
+ghost use Rattle.std.specs.Prelude.{◌≡◌, ◌+◌, ◌*◌, ◌<◌, ◌≤◌, ◌++◌, ◌∷◌, [], ℕ, bit_and, length, slice_index, take};
+ghost use Rattle.std.specs.Simd.Lanes.{zip2};
+ghost use Rattle.utf16_from_utf8.specs.Added.{added_bytes, unit_behind};
+ghost use Rattle.utf16_from_utf8.specs.Lanes.{pairs_of};
+
+use crate::lanes::{behind, each};
+use crate::pack::put_kept;
+use crate::units::{
+    THREES, UPPER, are_threes, ended_bits, highs, is_ascii, lows, short_lows, three_highs,
+};
+use std::simd::prelude::*;
+use utf16_units::Utf16Order;
+
+/// Writes what the bytes of a piece of UTF-8 add in UTF-16, and answers how many bytes that are. `before` is the two bytes
+/// that stand before the piece, zeros where there are none. The caller proves that the buffer has two bytes for each byte of
+/// the piece and sixteen more. What stands behind the bytes written may be written over. One pass.
+pub fn write_units<E: Utf16Order>(before: [u8; 2], piece: &[u8], out: &mut [u8]) -> usize
+    requires { 2 * length piece.now + 16 ≤ length out.old }
+    ensures bytes { take result out.new ≡ added_bytes E.BIG (slice_index before 0) (slice_index before 1) piece.now }
+    ensures end { result ≤ 2 * length piece.now }
+{
+    let [mut b2, mut b1] = before;
+    let mut at = 0;
+    let mut end = 0;
+    while piece.len() - at >= 16 {
+        let block = u8x16::from_slice(&piece[at..]);
+        let (used, next) = put_next::<E>(out, end, b2, b1, block);
+        at += used;
+        end = next;
+        b2 = piece[at - 2];
+        b1 = piece[at - 1];
+    }
+    while at < piece.len() {
+        let b0 = piece[at];
+        end = put_byte::<E>(out, end, b2, b1, b0);
+        b2 = b1;
+        b1 = b0;
+        at += 1;
+    }
+    end
+}
+
+// Writes what the first of sixteen bytes add behind two, and answers how many of them that is and where it ends.
+#[inline(always)]
+fn put_next<E: Utf16Order>(
+    out: &mut [u8],
+    at: usize,
+    b2: u8,
+    b1: u8,
+    block: u8x16,
+) -> (usize, usize)
+    requires room { at + 40 ≤ length out.old }
+    ensures bytes { take result.1 out.new ≡ take at out.old ++ added_bytes E.BIG b2 b1 (take result.0 block) }
+    ensures used { (2 ≤ result.0) × (result.0 ≤ 16) }
+    ensures end { result.1 ≤ at + 2 * result.0 }
+{
+    if b1 < 0xE0 && is_ascii(block) {
+        return (16, put_ascii::<E>(out, at, block));
+    }
+    if are_threes(block) {
+        return (15, put_threes::<E>(out, at, block));
+    }
+    (16, put_block::<E>(out, at, b2, b1, block))
+}
+
+// The bytes of each unit side by side, of the first eight units and of the others.
+#[inline(always)]
+fn paired<E: Utf16Order>(highs: u8x16, lows: u8x16) -> (u8x16, u8x16)
+    ensures pairs { result.0 ++ result.1 ≡ pairs_of E.BIG highs lows }
+    ensures first { length result.0 ≡ 16 }
+    ensures second { length result.1 ≡ 16 }
+{
+    if E::BIG {
+        highs.interleave(lows)
+    } else {
+        lows.interleave(highs)
+    }
+}
+
+// Writes sixteen characters of one byte.
+#[inline(always)]
+fn put_ascii<E: Utf16Order>(out: &mut [u8], at: usize, block: u8x16) -> usize
+    requires room { at + 32 ≤ length out.old }
+    requires ascii { (i : ℕ) → i < 16 → slice_index block i < 0x80 }
+    ensures bytes { (b2 b1 : ℕ) → b1 < 0xE0 → take result out.new ≡ take at out.old ++ added_bytes E.BIG b2 b1 block }
+    ensures end { result ≡ at + 32 }
+{
+    let (first, second) = paired::<E>(each(0), block);
+    first.copy_to_slice(&mut out[at..]);
+    second.copy_to_slice(&mut out[at + 16..]);
+    at + 32
+}
+
+// Writes five characters of three bytes.
+#[inline(always)]
+fn put_threes<E: Utf16Order>(out: &mut [u8], at: usize, block: u8x16) -> usize
+    requires room { at + 16 ≤ length out.old }
+    requires threes { zip2 bit_and block UPPER ≡ THREES }
+    ensures bytes { (b2 b1 : ℕ) → take result out.new ≡ take at out.old ++ added_bytes E.BIG b2 b1 (take 15 block) }
+    ensures end { result ≡ at + 10 }
+{
+    let b2 = block.swizzle([0, 3, 6, 9, 12, 0, 0, 0, 0, 0, 0, 0, 0, 0, 0, 0]);
+    let b1 = block.swizzle([1, 4, 7, 10, 13, 0, 0, 0, 0, 0, 0, 0, 0, 0, 0, 0]);
+    let b0 = block.swizzle([2, 5, 8, 11, 14, 0, 0, 0, 0, 0, 0, 0, 0, 0, 0, 0]);
+    let (pairs, _) = paired::<E>(three_highs(b2, b1), short_lows(b1, b0));
+    pairs.copy_to_slice(&mut out[at..]);
+    at + 10
+}
+
+// Writes what sixteen bytes add behind two.
+#[inline(always)]
+fn put_block<E: Utf16Order>(
+    out: &mut [u8],
+    at: usize,
+    before2: u8,
+    before1: u8,
+    block: u8x16,
+) -> usize
+    requires room { at + 40 ≤ length out.old }
+    ensures bytes { take result out.new ≡ take at out.old ++ added_bytes E.BIG before2 before1 block }
+    ensures end { result ≤ at + 32 }
+{
+    let b1 = behind(block, before1);
+    let b2 = behind(b1, before2);
+    let (first, second) = paired::<E>(highs(b2, b1, block), lows(b2, b1, block));
+    put_kept(out, at, first, second, ended_bits(b1, block))
+}
+
+// Writes what one byte adds behind two.
+#[inline(always)]
+fn put_byte<E: Utf16Order>(out: &mut [u8], at: usize, b2: u8, b1: u8, b0: u8) -> usize
+    requires room { at + 2 ≤ length out.old }
+    ensures bytes { take result out.new ≡ take at out.old ++ added_bytes E.BIG b2 b1 (b0 ∷ []) }
+    ensures end { result ≤ at + 2 }
+{
+    if b0 >= 0xC0 || b1 >= 0xE0 {
+        return at;
+    }
+    let two = E::write_unit(unit(b2, b1, b0));
+    out[at] = two[0];
+    out[at + 1] = two[1];
+    at + 2
+}
+
+// The unit that ends at a byte.
+fn unit(b2: u8, b1: u8, b0: u8) -> u16
+    ensures { result ≡ unit_behind b2 b1 b0 }
+{
+    if b0 < 0x80 {
+        return b0 as u16;
+    }
+    let last = b0 as u16 % 64;
+    if b1 >= 0xC0 {
+        return b1 as u16 % 32 * 64 + last;
+    }
+    if b2 < 0xE0 {
+        return 0xDC00 + (b1 as u16 % 16 * 64 + last);
+    }
+    if b2 < 0xF0 {
+        return b2 as u16 % 16 * 4096 + (b1 as u16 % 64 * 64 + last);
+    }
+    0xD7C0 + (b2 as u16 % 8 * 256 + (b1 as u16 % 64 * 4 + last / 16))
+}
