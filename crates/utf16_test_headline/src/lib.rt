@@ -6,4 +6,6 @@ mod checks;
 #[cfg(test)]
 mod resumed;
 #[cfg(test)]
+mod short;
+#[cfg(test)]
 mod streams;

@@ -53,8 +53,8 @@ fn agree<E: Utf16Order>(rt: &(impl Abort + AllocGlobal), bytes: &[u8]) {
     shows::<E>(rt, bytes, fed.as_str(), decoder.pending());
 }
 
-// The bytes, cut behind each of them whose bit is set, the first byte's being the lowest.
-fn cut(rt: &(impl Abort + AllocGlobal), bytes: &[u8], cuts: u64) -> Vec<Vec<u8>> {
+/// The bytes, cut behind each of them whose bit is set, the first byte's being the lowest.
+pub fn cut(rt: &(impl Abort + AllocGlobal), bytes: &[u8], cuts: u64) -> Vec<Vec<u8>> {
     let mut pieces = Vec::new(rt.alloc());
     let mut piece = Vec::new(rt.alloc());
     let mut cuts = cuts;

@@ -1,0 +1,90 @@
+//! Every string of at most four of eight telling bytes, at every cutting: the decoder of streams and the plain loop that follows
+//! the error's fields show and keep what a decoder of the tests does.
+
+use crate::checks::equal;
+use crate::resumed::cut;
+use std::process::Abort;
+use utf16_callers_streams::headline::resume;
+use utf16_testing::plain::decode;
+use utf16_tools::{Lossy, decode_pieces};
+use utf16string::{BE, LE, Utf16Order};
+
+// Zero, a letter, the first and the last high byte of a leading and of a trailing surrogate, and high bytes behind them.
+const TELLING: [u8; 8] = [0x00, 0x41, 0xD8, 0xDB, 0xDC, 0xDF, 0xE0, 0xFF];
+
+// The byte string of that length and number: the number's digits to the base eight.
+fn telling(rt: &(impl Abort + AllocGlobal), len: u32, number: usize) -> Vec<u8> {
+    let mut bytes = Vec::new(rt.alloc());
+    let mut number = number;
+    for _ in 0..len {
+        bytes.push(TELLING[number % 8]).expect(rt, "memory");
+        number /= 8;
+    }
+    bytes
+}
+
+// The plain loop over the pieces, with what it kept before each.
+fn looped<E: Utf16Order>(
+    rt: &(impl Abort + AllocGlobal),
+    pieces: &[Vec<u8>],
+    wanted: &str,
+    kept: &[u8],
+) {
+    let mut text = String::new(rt.alloc());
+    let mut rest = Vec::new(rt.alloc());
+    for piece in pieces {
+        rest.extend_from_slice(piece).expect(rt, "memory");
+        let left = resume::<E, _>(&rest, &mut text).expect(rt, "memory");
+        rest = left.to_vec(rt.alloc()).expect(rt, "memory");
+    }
+    equal(rt, (text.as_str(), rest.as_slice()), (wanted, kept));
+}
+
+// The decoder, fed the pieces, and its whole text with the mark of what is kept.
+fn fed<E: Utf16Order>(
+    rt: &(impl Abort + AllocGlobal),
+    pieces: &[Vec<u8>],
+    wanted: &str,
+    kept: &[u8],
+) {
+    let mut text = String::new(rt.alloc());
+    let mut decoder = Lossy::<E>::new();
+    for piece in pieces {
+        let answer = decoder.feed(rt.alloc(), piece).expect(rt, "memory");
+        text.push_str(answer.as_str()).expect(rt, "memory");
+    }
+    equal(rt, (text.as_str(), decoder.pending()), (wanted, kept));
+    if let Some(mark) = decoder.finish() {
+        text.push(mark).expect(rt, "memory");
+    }
+    let whole = decode_pieces::<E, _, _>(rt.alloc(), pieces).expect(rt, "memory");
+    equal(rt, whole.as_str(), text.as_str());
+}
+
+fn at_every_cutting<E: Utf16Order>(rt: &(impl Abort + AllocGlobal), bytes: &[u8]) {
+    let mut wanted = String::new(rt.alloc());
+    let tail = decode(E::BIG, bytes, &mut wanted).expect(rt, "memory");
+    let kept = bytes
+        .get(bytes.len().saturating_sub(tail)..)
+        .expect(rt, "an end");
+    let mut ways: u64 = 1;
+    for _ in bytes {
+        ways = ways.saturating_mul(2);
+    }
+    for cuts in 0..ways.div_ceil(2) {
+        let pieces = cut(rt, bytes, cuts);
+        looped::<E>(rt, &pieces, wanted.as_str(), kept);
+        fed::<E>(rt, &pieces, wanted.as_str(), kept);
+    }
+}
+
+#[test]
+fn all_short_strings_of_telling_bytes(rt: HostRuntime) {
+    for (len, numbers) in [(0, 1), (1, 8), (2, 64), (3, 512), (4, 4096)] {
+        for number in 0..numbers {
+            let bytes = telling(&rt, len, number);
+            at_every_cutting::<LE>(&rt, &bytes);
+            at_every_cutting::<BE>(&rt, &bytes);
+        }
+    }
+}
