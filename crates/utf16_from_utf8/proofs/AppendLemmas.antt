@@ -1,14 +1,14 @@
 -- A text put behind bytes, a piece at a time.
-use Rattle.std.proofs.Common.{◌≡◌, ℕ, ◌+◌, ◌<◌, ◌≤◌, Bool, List, [], ◌∷◌, ◌++◌, length, take, drop, refl, sym, ap, ◌∙◌, arith, flat_map, length-append}
+use Rattle.std.proofs.Common.{◌≡◌, ℕ, ◌+◌, ◌≤◌, Bool, List, [], ◌∷◌, ◌++◌, length, take, drop, sym, ap, ◌∙◌, arith, flat_map, length-append}
 use Rattle.std.proofs.lemmas.Grind.{flat_map-append}
 use Rattle.std.proofs.lemmas.Simd.{chunk-drop}
 use Rattle.std.proofs.lemmas.Str.{encodes-chars}
 use Rattle.std.specs.Char.Escape.{encode_utf16}
 use Rattle.std.specs.Str.{IsUtf8, chars}
-use Rattle.utf16_units.specs.Encoding.{encode, size}
+use Rattle.utf16_units.specs.Encoding.{encode}
 use Rattle.utf16_units.specs.Unit.{unit_bytes}
 use Rattle.utf16_units.proofs.EncodingLemmas.{encode-cons, encode-nil}
-use Rattle.utf16_from_utf8.specs.Added.{added_bytes, all_added}
+use Rattle.utf16_from_utf8.specs.Added.{added_bytes}
 use Rattle.utf16_from_utf8.proofs.AddedLemmas.{added_bytes-append, last_but_one, last_of}
 use Rattle.utf16_from_utf8.proofs.SizeLemmas.{scalars-of}
 use Rattle.utf16_from_utf8.proofs.TextLemmas.{all_added-text}
