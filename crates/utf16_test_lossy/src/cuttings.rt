@@ -7,12 +7,38 @@ use utf16_tools::{Lossy, decode_pieces};
 use utf16string::{BE, LE, Utf16Order};
 
 // Further streams: whether the order is big endian, the bytes, and the text.
-const STREAMS: [(bool, &[u8], &str); 12] = [
+const STREAMS: [(bool, &[u8], &str); 14] = [
     (false, &[], ""),
     (true, &[], ""),
-    (false, &[0x68, 0x00, 0x00, 0xDC, 0x65, 0x00], "h\u{FFFD}e"),
+    (
+        false,
+        &[
+            0x68, 0x00, 0x00, 0xDC, 0x65, 0x00, 0x6C, 0x00, 0x6C, 0x00, 0x6F, 0x00,
+        ],
+        "h\u{FFFD}ello",
+    ),
+    (
+        false,
+        &[
+            0x68, 0x00, 0x00, 0xD8, 0x65, 0x00, 0x6C, 0x00, 0x6C, 0x00, 0x6F, 0x00,
+        ],
+        "h\u{FFFD}ello",
+    ),
+    (
+        false,
+        &[
+            0x68, 0x00, 0x65, 0x00, 0x6C, 0x00, 0x6C, 0x00, 0x6F, 0x00, 0x00, 0xD8,
+        ],
+        "hello\u{FFFD}",
+    ),
+    (
+        false,
+        &[
+            0x68, 0x00, 0x65, 0x00, 0x6C, 0x00, 0x6C, 0x00, 0x6F, 0x00, 0x20,
+        ],
+        "hello\u{FFFD}",
+    ),
     (true, &[0x00, 0x68, 0xDC, 0x00, 0x00, 0x65], "h\u{FFFD}e"),
-    (false, &[0x68, 0x00, 0x00, 0xD8, 0x65, 0x00], "h\u{FFFD}e"),
     (true, &[0x00, 0x68, 0xD8, 0x00, 0x00, 0x65], "h\u{FFFD}e"),
     (
         false,
@@ -34,10 +60,13 @@ const STREAMS: [(bool, &[u8], &str); 12] = [
     (false, &[0xFF, 0xFE, 0x41, 0x00, 0x00], "\u{FEFF}A\u{FFFD}"),
 ];
 
-// The bytes, cut behind each of them whose bit is set, the first byte's being the lowest; between two pieces an empty one
-// stands where it is wanted.
+// The bytes, cut behind each of them whose bit is set, the first byte's being the lowest; before them and between two pieces an
+// empty one stands where it is wanted.
 fn cut(rt: &(impl Abort + AllocGlobal), bytes: &[u8], cuts: u64, with_empty: bool) -> Vec<Vec<u8>> {
     let mut pieces = Vec::new(rt.alloc());
+    if with_empty {
+        pieces.push(Vec::new(rt.alloc())).expect(rt, "memory");
+    }
     let mut piece = Vec::new(rt.alloc());
     let mut cuts = cuts;
     for byte in bytes {

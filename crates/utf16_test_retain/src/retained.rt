@@ -44,28 +44,38 @@ fn left_of_five<E: Utf16Order>(
     Ok(())
 }
 
+// Each list of five answers: the bytes of the characters that stay, one after the other.
+fn each_list_of_answers<E: Utf16Order>(
+    rt: &(impl Abort + AllocGlobal),
+    parts: &[&[u8]; 5],
+) -> Result<(), Fail> {
+    for list in 0u32..32 {
+        let mut bits = list;
+        let mut answers = [false; 5];
+        let mut left = Vec::new(rt.alloc());
+        for (answer, part) in answers.iter_mut().zip(parts) {
+            *answer = bits % 2 == 1;
+            bits /= 2;
+            if *answer {
+                left.extend_from_slice(*part)?;
+            }
+        }
+        left_of_five::<E>(rt, &answers, &left)?;
+    }
+    Ok(())
+}
+
 #[test]
 fn some_of_five_characters_stay(rt: HostRuntime) -> Result<(), Fail> {
-    left_of_five::<LE>(
-        &rt,
-        &[true, false, true, false, true],
-        &[0x61, 0, 0x62, 0, 0x63, 0],
-    )?;
-    left_of_five::<LE>(
-        &rt,
-        &[false, true, false, true, false],
-        &[0, 0xD8, 0, 0xDC, 0, 0xD8, 0, 0xDC],
-    )?;
-    left_of_five::<BE>(
-        &rt,
-        &[true, false, true, false, true],
-        &[0, 0x61, 0, 0x62, 0, 0x63],
-    )?;
-    left_of_five::<BE>(
-        &rt,
-        &[false, true, true, true, false],
-        &[0xD8, 0, 0xDC, 0, 0, 0x62, 0xD8, 0, 0xDC, 0],
-    )
+    let pair: &[u8] = &[0, 0xD8, 0, 0xDC];
+    each_list_of_answers::<LE>(&rt, &[&[0x61, 0], pair, &[0x62, 0], pair, &[0x63, 0]])?;
+    let pair: &[u8] = &[0xD8, 0, 0xDC, 0];
+    each_list_of_answers::<BE>(&rt, &[&[0, 0x61], pair, &[0, 0x62], pair, &[0, 0x63]])?;
+    // True on the first two calls alone, and on the third alone.
+    let first_two = [true, true, false, false, false];
+    left_of_five::<LE>(&rt, &first_two, &[0x61, 0, 0, 0xD8, 0, 0xDC])?;
+    let third = [false, false, true, false, false];
+    left_of_five::<LE>(&rt, &third, &[0x62, 0])
 }
 
 // The predicate is asked about each character once, from the front.
