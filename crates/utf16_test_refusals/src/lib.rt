@@ -1,4 +1,4 @@
-//! Tests where requests for memory are refused: each in turn, and all from each on, in lists of edits, streams and strings.
+//! Tests where requests for memory are refused: each in turn, and all from each on, in lists of edits and in streams.
 #![tactic(auto)]
 
 #[cfg(test)]
@@ -7,5 +7,3 @@ mod checks;
 mod lists;
 #[cfg(test)]
 mod streams;
-#[cfg(test)]
-mod strings;
