@@ -1,6 +1,6 @@
 //! The characters of a view in UTF-8.
 
-ghost use Rattle.std.specs.Prelude.{◌≡◌, ◌+◌, ◌<◌, ◌≤◌, [], ◌++◌, length, IfOk, IsOk, OnErr, OnOk, encode_utf8_all, string_bytes};
+ghost use Rattle.std.specs.Prelude.{◌≡◌, ◌+◌, ◌*◌, ◌/◌, ◌<◌, ◌≤◌, [], ◌++◌, length, IfOk, IsOk, OnErr, OnOk, encode_utf8_all, string_bytes};
 ghost use Rattle.std.specs.String.{string_capacity, string_len};
 ghost use Rattle.utf16_units.specs.Boundary.{IsBoundary};
 ghost use Rattle.utf16_units.specs.Encoding.{size};
@@ -8,7 +8,7 @@ ghost use Rattle.utf16_str.specs.WStr.{wstr_text};
 
 use crate::WStr;
 use std::alloc::{AllocError, Allocator};
-use utf16_to_utf8::{utf8_len, write_utf8};
+use utf16_to_utf8::{SPARE, utf8_len, write_utf8};
 use utf16_units::Utf16Order;
 
 impl<'a, E: Utf16Order> WStr<'a, E> {
@@ -35,15 +35,22 @@ impl<'a, E: Utf16Order> WStr<'a, E> {
     {
         make_room(self, to)?;
         if self.len() < FEW {
-            push_few(self, to)
-        } else {
-            push_pieces(self, to)
+            return push_few(self, to);
         }
+        if self.len() <= SHORT {
+            return push_piece(self, &mut [0; SHORT_ROOM], to);
+        }
+        push_pieces(self, to)
     }
 }
 
 // Texts of fewer bytes go by characters.
-const FEW: usize = 64;
+const FEW: usize = 32;
+
+// Texts of at most so many bytes go at once, with the room that `write_utf8` wants for them.
+const SHORT: usize = 128;
+
+const SHORT_ROOM: usize = 320;
 
 // How many bytes go at a time, and the room that `write_utf8` wants for them.
 const PIECE: usize = 1024;
@@ -123,8 +130,7 @@ fn push_piece<E: Utf16Order, A: Allocator>(
     buf: &mut [u8],
     to: &mut String<A>,
 ) -> Result<(), AllocError>
-    requires few { size (wstr_text text) ≤ PIECE }
-    requires buf { length buf.old ≡ ROOM }
+    requires buf { size (wstr_text text) / 2 * 3 + SPARE ≤ length buf.old }
     requires room { string_len to.old + length (encode_utf8_all (wstr_text text)) ≤ string_capacity to.old }
     ensures ok { IsOk result }
     ensures bytes { string_bytes to.new ≡ string_bytes to.old ++ encode_utf8_all (wstr_text text.entry) }

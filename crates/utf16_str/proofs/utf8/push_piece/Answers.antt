@@ -7,7 +7,7 @@ use Rattle.utf16_str.proofs.utf8.push_piece.Goals as goal
 pub write_utf8-len-requires-clause-room : goal.write_utf8-len-requires-clause-room
 write_utf8-len-requires-clause-room g c =
     let text = wstr_text c.args.text in
-    omega (arith, ap length c.as_bytes.ensures.encoding.spelled, length-encode g.E.Utf16Order.BIG text, c.requires.few, c.requires.buf)
+    omega (arith, ap length c.as_bytes.ensures.encoding.spelled, length-encode g.E.Utf16Order.BIG text, c.requires.buf)
 
 pub from_utf8_unchecked-requires : goal.from_utf8_unchecked-requires
 from_utf8_unchecked-requires g c =
