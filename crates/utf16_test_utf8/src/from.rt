@@ -1,6 +1,7 @@
 //! Strings made from UTF-8, and texts in UTF-8 put last.
 
 use std::process::Abort;
+use utf16_testing::refusing::Refusing;
 use utf16string::{BE, LE, Utf16Order, WString};
 
 // Characters at the edges of each length in UTF-8, and letters between them.
@@ -36,4 +37,140 @@ fn goes_as_one_by_one<E: Utf16Order>(rt: &(impl Abort + AllocGlobal)) {
 fn from_utf8_in_both_orders(rt: HostRuntime) {
     goes_as_one_by_one::<LE>(&rt);
     goes_as_one_by_one::<BE>(&rt);
+}
+
+// Each class of character in UTF-8, and its bytes in little endian and in big endian.
+const ROWS: [(&str, [u8; 4], [u8; 4], usize); 8] = [
+    ("\u{7F}", [0x7F, 0x00, 0, 0], [0x00, 0x7F, 0, 0], 2),
+    ("\u{80}", [0x80, 0x00, 0, 0], [0x00, 0x80, 0, 0], 2),
+    ("\u{E9}", [0xE9, 0x00, 0, 0], [0x00, 0xE9, 0, 0], 2),
+    ("\u{7FF}", [0xFF, 0x07, 0, 0], [0x07, 0xFF, 0, 0], 2),
+    ("\u{4E00}", [0x00, 0x4E, 0, 0], [0x4E, 0x00, 0, 0], 2),
+    ("\u{FFFD}", [0xFD, 0xFF, 0, 0], [0xFF, 0xFD, 0, 0], 2),
+    (
+        "\u{1F600}",
+        [0x3D, 0xD8, 0x00, 0xDE],
+        [0xD8, 0x3D, 0xDE, 0x00],
+        4,
+    ),
+    (
+        "\u{10FFFF}",
+        [0xFF, 0xDB, 0xFF, 0xDF],
+        [0xDB, 0xFF, 0xDF, 0xFF],
+        4,
+    ),
+];
+
+// So many letters, a character, and twenty letters: in UTF-16 they are the letter's bytes, the character's, and the letter's.
+fn stands_behind<E: Utf16Order>(
+    rt: &(impl Abort + AllocGlobal),
+    letters: usize,
+    text: &str,
+    units: &[u8],
+    letter: &[u8],
+) {
+    let mut utf8 = String::new(rt.alloc());
+    let mut wanted = Vec::new(rt.alloc());
+    for _ in 0..letters {
+        utf8.push('x').expect(rt, "memory");
+        wanted.extend_from_slice(letter).expect(rt, "memory");
+    }
+    utf8.push_str(text).expect(rt, "memory");
+    wanted.extend_from_slice(units).expect(rt, "memory");
+    for _ in 0..20 {
+        utf8.push('x').expect(rt, "memory");
+        wanted.extend_from_slice(letter).expect(rt, "memory");
+    }
+    let made = WString::<E>::from_str(rt.alloc(), &utf8).expect(rt, "memory");
+    assert!(rt;
+        made.as_bytes() == wanted.as_slice(),
+        "{text} behind {letters}"
+    );
+    let mut pushed = WString::<E>::new(rt.alloc());
+    pushed.push_str(&utf8).expect(rt, "memory");
+    assert!(rt;
+        pushed.as_bytes() == wanted.as_slice(),
+        "{text} behind {letters}"
+    );
+}
+
+// Each character behind so many letters, in both orders.
+fn all_stand_behind(rt: &(impl Abort + AllocGlobal), letters: usize) {
+    for (text, little, big, len) in ROWS {
+        let little = little.get(..len).expect(rt, "its bytes");
+        let big = big.get(..len).expect(rt, "its bytes");
+        stands_behind::<LE>(rt, letters, text, little, &[0x78, 0x00]);
+        stands_behind::<BE>(rt, letters, text, big, &[0x00, 0x78]);
+    }
+}
+
+#[test]
+fn each_class_at_each_place_and_around_the_seam(rt: HostRuntime) {
+    for letters in 0..100 {
+        all_stand_behind(&rt, letters);
+    }
+    for letters in 2020..2061 {
+        all_stand_behind(&rt, letters);
+    }
+}
+
+// A growing text of characters of mixed classes: each length up to two hundred.
+fn each_length_goes_as_one_by_one<E: Utf16Order>(rt: &(impl Abort + AllocGlobal)) {
+    let mut text = String::new(rt.alloc());
+    let mut wanted = WString::<E>::new(rt.alloc());
+    for _ in 0..4 {
+        for c in TEXT.chars() {
+            let made = WString::<E>::from_str(rt.alloc(), &text).expect(rt, "memory");
+            assert!(rt; made.as_bytes() == wanted.as_bytes(), "{text}");
+            text.push(c).expect(rt, "memory");
+            wanted.push(c).expect(rt, "memory");
+        }
+    }
+}
+
+#[test]
+fn each_length_in_both_orders(rt: HostRuntime) {
+    each_length_goes_as_one_by_one::<LE>(&rt);
+    each_length_goes_as_one_by_one::<BE>(&rt);
+}
+
+// A refused request leaves the string as it was, and with memory the same call puts the text last.
+fn is_left_when_refused<E: Utf16Order>(rt: &(impl Abort + AllocGlobal), at_first: &str) {
+    let heap = Refusing::new(rt.alloc());
+    let mut text = WString::<E, _>::from_str(&heap, at_first).expect(rt, "memory");
+    let before = one_by_one::<E>(rt, at_first);
+    let room = text.capacity();
+    heap.refuse_from(0);
+    assert!(rt; text.push_str(TEXT).is_err());
+    assert_eq!(rt; heap.requests(), 1);
+    assert!(rt; text.as_bytes() == before.as_bytes(), "{at_first}");
+    assert_eq!(rt; text.capacity(), room);
+    text.push_str("").expect(rt, "no request");
+    assert_eq!(rt; heap.requests(), 1);
+    heap.refuse_none();
+    text.push_str(TEXT).expect(rt, "memory");
+    assert_eq!(rt; heap.requests(), 1);
+    let mut wanted = before;
+    for c in TEXT.chars() {
+        wanted.push(c).expect(rt, "memory");
+    }
+    assert!(rt; text.as_bytes() == wanted.as_bytes(), "{at_first}");
+}
+
+fn empty_asks_for_nothing<E: Utf16Order>(rt: &(impl Abort + AllocGlobal)) {
+    let heap = Refusing::new(rt.alloc());
+    heap.refuse_from(0);
+    let mut text = WString::<E, _>::from_str(&heap, "").expect(rt, "no request");
+    text.push_str("").expect(rt, "no request");
+    assert_eq!(rt; (heap.requests(), text.as_bytes().len()), (0, 0));
+}
+
+#[test]
+fn push_str_without_memory(rt: HostRuntime) {
+    for at_first in ["", "a", "\u{E9}\u{4E00}\u{1F600}"] {
+        is_left_when_refused::<LE>(&rt, at_first);
+        is_left_when_refused::<BE>(&rt, at_first);
+    }
+    empty_asks_for_nothing::<LE>(&rt);
+    empty_asks_for_nothing::<BE>(&rt);
 }
