@@ -59,6 +59,7 @@ pub struct Giver<'a> {
 }
 
 impl<'a> Giver<'a> {
+    /// Gives these bytes in this manner; no call was made yet.
     pub fn new(bytes: &'a [u8], manner: Manner<'a>) -> Giver<'a> {
         Giver {
             manner,
@@ -95,6 +96,7 @@ pub struct Taker<'a> {
 }
 
 impl<'a> Taker<'a> {
+    /// Takes bytes in this manner, in memory of the allocator; no call was made yet.
     pub fn new(alloc: Global, manner: Manner<'a>) -> Taker<'a> {
         Taker {
             manner,
