@@ -1,0 +1,45 @@
+#!/usr/bin/env bash
+# Looks for each piece of Rattle in the documents in the file of the tree that the text before it names last: it must stand there,
+# paragraph by paragraph, so what a document shows is proved. Prints each that does not, and last a line 'N passed, M failed'.
+set -uo pipefail
+cd "$(dirname "$0")/.." || exit 1
+passed=0
+failed=0
+
+# A paragraph of a block, and the file and line of the document where it ends.
+stands() {
+    local paragraph=$1 where=$2
+    [ -n "$paragraph" ] || return
+    if [ -n "$source" ] && [ -f "$source" ] && [[ $'\n'$(<"$source")$'\n' == *$'\n'"$paragraph"* ]]; then
+        passed=$((passed + 1))
+    else
+        failed=$((failed + 1))
+        echo "failed: $where: not in ${source:-any named file}"
+    fi
+}
+
+for document in README.md docs/*.md; do
+    source=''
+    inside=''
+    paragraph=''
+    number=0
+    while IFS= read -r line; do
+        number=$((number + 1))
+        if [ -n "$inside" ]; then
+            if [[ $line == '```' || -z $line ]]; then
+                [ "$inside" = rust ] && stands "$paragraph" "$document:$number"
+                paragraph=''
+                [ -z "$line" ] || inside=''
+            else
+                paragraph+=$line$'\n'
+            fi
+        elif [[ $line == '```'* ]]; then
+            inside=${line#'```'}
+            inside=${inside:-text}
+        elif [[ $line =~ \`(crates/[a-z0-9_/]+\.rt)\` ]]; then
+            source=${BASH_REMATCH[1]}
+        fi
+    done < "$document"
+done
+echo "$passed passed, $failed failed"
+[ $failed = 0 ]
