@@ -1,7 +1,9 @@
 //! Tables keyed by strings.
 
 ghost use Rattle.std.specs.Prelude.{◌≡◌, ◌↔◌, IfOk, IsTrue, Some};
-ghost use Rattle.std.specs.List.{Any};
+ghost use Rattle.std.specs.Cmp.Lexicographic.{slice_cmp};
+ghost use Rattle.std.specs.List.{Any, list_any};
+ghost use Rattle.std.specs.Ordering.{is_eq, nat_cmp};
 ghost use Rattle.utf16string.specs.WString.{wstring_text};
 
 use std::alloc::AllocError;
@@ -23,9 +25,16 @@ pub fn put_and_read<E: Utf16Order>(
     Ok(table.get(name).copied())
 }
 
+/// Whether a set has a string that is equal to a name, in std's words.
+pub fn is_in<E: Utf16Order>(known: &BTreeSet<WString<E>>, name: &WString<E>) -> bool
+    ensures { result ≡ list_any (λ key. is_eq (slice_cmp nat_cmp (wstring_text name.now) (wstring_text key))) known.now.keys }
+{
+    known.contains(name)
+}
+
 /// Whether a set has a string of this text.
 pub fn is_known<E: Utf16Order>(known: &BTreeSet<WString<E>>, name: &WString<E>) -> bool
     ensures { IsTrue result ↔ Any (λ key. wstring_text key ≡ wstring_text name.now) known.now.keys }
 {
-    known.contains(name)
+    is_in(known, name)
 }

@@ -2,4 +2,5 @@
 #![tactic(auto)]
 
 pub mod headline;
+pub mod marks;
 pub mod streams;

@@ -2,10 +2,11 @@
 
 use crate::checks::equal;
 use std::process::Abort;
+use utf16_callers_streams::marks::{marked_in_two, marked_stream};
 use utf16_callers_streams::streams::{
     decoded, early_and_whole, fed_in_two, followed, passed_through, room_for, waits_for_a_pair,
 };
-use utf16_tools::Lossy;
+use utf16_tools::{AnyLossy, Lossy};
 use utf16string::{BE, LE, Utf16Order, WStr};
 
 // "h", a lone leading surrogate, "e", and the first three bytes of U+10000: in either order, with their text.
@@ -63,4 +64,30 @@ fn room_for_streams(rt: HostRuntime) {
     equal(&rt, room_for(&[]), 3);
     equal(&rt, room_for(&[0x00]), 3);
     equal(&rt, room_for(&LITTLE), 15);
+}
+
+// A stream with its mark, or without one: its text, with a mark for the tail or without, at each place where it may be cut.
+const MARKED: [(&[u8], &str, &str); 4] = [
+    (&[0xFF, 0xFE, 0x68, 0x00, 0x00, 0xD8], "h\u{FFFD}", "h"),
+    (&[0xFE, 0xFF, 0x00, 0x68, 0xDC], "h\u{FFFD}", "h"),
+    (&[0x00, 0x68, 0xFE, 0xFF], "h\u{FEFF}", "h\u{FEFF}"),
+    (&[0xFF], "\u{FFFD}", ""),
+];
+
+fn cut_is(rt: &(impl Abort + AllocGlobal), first: &[u8], second: &[u8], decided: &str) {
+    let mut decoder = AnyLossy::new();
+    let text = marked_in_two(&mut decoder, rt.alloc(), rt.alloc(), first, second);
+    equal(rt, text.expect(rt, "memory").as_str(), decided);
+}
+
+#[test]
+fn streams_with_marks(rt: HostRuntime) {
+    for (bytes, whole, decided) in MARKED {
+        let text = marked_stream(rt.alloc(), bytes).expect(&rt, "memory");
+        equal(&rt, text.as_str(), whole);
+        for at in 0..=bytes.len() {
+            let (first, second) = bytes.split_at(at);
+            cut_is(&rt, first, second, decided);
+        }
+    }
 }

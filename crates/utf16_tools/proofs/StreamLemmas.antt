@@ -1,5 +1,5 @@
 -- The text of a stream by its pieces, and its end.
-use Rattle.std.proofs.Common.{◌≡◌, ◌≢◌, ℕ, ◌+◌, ◌<◌, Bool, List, [], ◌∷◌, ◌++◌, length, take, drop, get_or, encode_utf8_all, append-nil, flat_map, take-add, refl, sym, ap, ◌∙◌}
+use Rattle.std.proofs.Common.{◌≡◌, ◌≢◌, ◌↔◌, ℕ, ◌+◌, ◌<◌, Bool, List, [], ◌∷◌, ◌++◌, Option, None, Some, length, take, drop, get_or, encode_utf8_all, append-nil, flat_map, take-add, refl, sym, ap, ◌∙◌}
 use Rattle.std.proofs.lemmas.List.{drop_more}
 use Rattle.std.proofs.lemmas.List.Concat.{flat_map-append}
 use Rattle.std.specs.Char.{encode_utf8}
@@ -30,3 +30,14 @@ joined-more bytes pieces i piece within is =
     let here : take 1 (drop i pieces) ≡ piece ∷ [] = ap (take 1) (drop_more pieces i piece within) ∙ ap (λ p. p ∷ []) (sym is) in
     ap (flat_map bytes) (take-add i 1 pieces ∙ ap (λ p. take i pieces ++ p) here)
     ∙ flat_map-append bytes (take i pieces) (piece ∷ []) ∙ ap (λ b. flat_map bytes (take i pieces) ++ b) (append-nil (bytes piece))
+
+-- a mark at the end says that bytes are pending, and is U+FFFD
+pub finished : (answer : Option ℕ) (m : ℕ) (pending : List ℕ) → answer ≡ Some m → ((answer ≡ None) ↔ (pending ≡ [])) → ((answer ≡ Some 0xFFFD) ↔ (pending ≢ []))
+    → (pending ≢ []) × (m ≡ 0xFFFD)
+finished answer m pending is none mark =
+    let left : ¬ (pending ≡ []) = λ empty. (
+    let e = sym is ∙ none.1 empty in
+    absurd (cc)
+    ) in
+    let same = sym is ∙ mark.1 left in
+    (left, cc)

@@ -4,7 +4,4 @@ use Rattle.utf16_units.proofs.OrderLemmas.{answers_Equal}
 use Rattle.utf16_callers_order.proofs.sorted.place_of.Goals as goal
 
 pub returns : goal.returns
-returns g c = record {
-  place = c.binary_search.ensures.position;
-  found = IfOk-weaker c.binary_search.result _ _ (λ i equal d. (answers_Equal _ _ _ refl).0 (equal d)) c.binary_search.ensures.ok;
-}
+returns g c = IfOk-weaker c.searched.result _ _ (λ i equal d. (answers_Equal _ _ _ refl).0 (equal d)) c.searched.ensures.found

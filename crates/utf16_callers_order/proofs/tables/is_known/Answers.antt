@@ -3,4 +3,4 @@ use Rattle.utf16_callers_order.proofs.Ordered.{known}
 use Rattle.utf16_callers_order.proofs.tables.is_known.Goals as goal
 
 pub returns : goal.returns
-returns g c = known wstring_text (wstring_text c.args.name.now) c.args.known.now.keys c.contains.result c.contains.ensures
+returns g c = known wstring_text (wstring_text c.args.name.now) c.args.known.now.keys c.is_in.result c.is_in.ensures

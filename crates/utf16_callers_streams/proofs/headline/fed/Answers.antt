@@ -1,8 +1,9 @@
-use Rattle.std.proofs.Common.{◌≡◌, ◌++◌, [], encode_utf8_all, string_bytes, sym, ap, ◌∙◌, rules}
+use Rattle.std.proofs.Common.{◌≡◌, ◌++◌, encode_utf8_all, string_bytes, ap, ◌∙◌, rules}
 use Rattle.std.specs.Char.{encode_utf8}
 use Rattle.std.specs.Vec.{vec_items}
 use Rattle.utf16_tools.specs.Lossy.{lossy_pending}
 use Rattle.utf16_tools.specs.Split.{marked, split_items, split_tail}
+use Rattle.utf16_tools.proofs.StreamLemmas.{finished}
 use Rattle.utf16_callers_streams.proofs.ReadLemmas.{Told-all, Told-more, some_kept}
 use Rattle.utf16_callers_streams.proofs.headline.fed.Goals as goal
 
@@ -22,11 +23,6 @@ loop-piece-preserved g c =
 
 pub returns : goal.returns
 returns g c =
-    let left : ¬ (lossy_pending c.loop-piece.decoder ≡ []) = λ none. (
-    let e = sym c.in-Some.is ∙ c.finish.ensures.none.1 none in
-    absurd (cc)
-    ) in
-    let is = sym c.in-Some.is ∙ c.finish.ensures.mark.1 left in
-    let mark : c.in-Some.mark ≡ 0xFFFD = cc in
+    let end = finished c.finish.result c.in-Some.mark (lossy_pending c.loop-piece.decoder) c.in-Some.is c.finish.ensures.none c.finish.ensures.mark in
     some_kept _ _ _ _ (Told-all vec_items c.args.pieces.now c.loop-piece.piece-index _ _ _ c.loop-piece.invariant c.loop-piece-test.false)
-    _ left (c.in_ok-push.ensures.bytes ∙ ap (λ m. string_bytes c.loop-piece.text ++ encode_utf8 m) mark)
+    _ end.0 (c.in_ok-push.ensures.bytes ∙ ap (λ m. string_bytes c.loop-piece.text ++ encode_utf8 m) end.1)

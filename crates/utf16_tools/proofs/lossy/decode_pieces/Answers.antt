@@ -4,7 +4,7 @@ use Rattle.std.specs.List.{flat_map}
 use Rattle.std.specs.Vec.{vec_items}
 use Rattle.utf16_units.specs.Split.{full, split_items, split_tail}
 use Rattle.utf16_units.proofs.SplitJoin.{split_tail-append}
-use Rattle.utf16_tools.proofs.StreamLemmas.{full-mark, joined-more, shown-piece}
+use Rattle.utf16_tools.proofs.StreamLemmas.{finished, full-mark, joined-more, shown-piece}
 use Rattle.utf16_tools.proofs.DecodesLemmas.{shown}
 use Rattle.utf16_tools.specs.Lossy.{lossy_pending}
 use Rattle.utf16_tools.proofs.lossy.decode_pieces.Goals as goal
@@ -33,13 +33,8 @@ returns g c =
     let pieces = c.args.pieces.now in
     let front = flat_map vec_items (take c.loop-piece.piece-index pieces) in
     let all : front ≡ flat_map vec_items pieces = ap (flat_map vec_items) (take_all c.loop-piece.piece-index pieces c.loop-piece-test.false) in
-    let left : ¬ (lossy_pending c.loop-piece.decoder ≡ []) = λ none. (
-    let e = sym c.in-Some.is ∙ c.finish.ensures.none.1 none in
-    absurd (cc)
-    ) in
-    let is = sym c.in-Some.is ∙ c.finish.ensures.mark.1 left in
-    let mark : c.in-Some.mark ≡ 0xFFFD = cc in
-    let tail : ¬ (split_tail g.E.Utf16Order.BIG front ≡ []) = λ none. left (c.loop-piece.invariant.1 ∙ none) in
-    c.in_ok-push.ensures.bytes ∙ ap₂ (λ t m. t ++ encode_utf8 m) c.loop-piece.invariant.0 mark
+    let end = finished c.finish.result c.in-Some.mark (lossy_pending c.loop-piece.decoder) c.in-Some.is c.finish.ensures.none c.finish.ensures.mark in
+    let tail : ¬ (split_tail g.E.Utf16Order.BIG front ≡ []) = λ none. end.0 (c.loop-piece.invariant.1 ∙ none) in
+    c.in_ok-push.ensures.bytes ∙ ap₂ (λ t m. t ++ encode_utf8 m) c.loop-piece.invariant.0 end.1
     ∙ sym (full-mark (split_items g.E.Utf16Order.BIG front) (split_tail g.E.Utf16Order.BIG front) tail)
     ∙ ap (λ b. encode_utf8_all (full (split_items g.E.Utf16Order.BIG b) (split_tail g.E.Utf16Order.BIG b))) all
