@@ -1,6 +1,6 @@
 //! The characters of a string, from either end, and beside their offsets.
 
-ghost use Rattle.std.specs.Prelude.{◌≡◌, ◌<◌, ◌≤◌, ◌+◌, ◌-◌, ◌^◌, ℕ, List, [], ◌∷◌, ◌++◌, length, take, drop, slice_get};
+ghost use Rattle.std.specs.Prelude.{◌≡◌, ◌<◌, ◌≤◌, ◌+◌, ◌-◌, ◌^◌, ℕ, List, [], ◌∷◌, ◌++◌, length, map, take, drop, slice_get};
 ghost use Rattle.std.specs.Iterator.{YieldsFirst, YieldsLast, item_count};
 ghost use Rattle.utf16_units.specs.Encoding.{IsText, char_size, size, text_of};
 ghost use Rattle.utf16_str.specs.Offsets.{char_offsets, offset_behind};
@@ -143,6 +143,14 @@ impl<'a, E: Utf16Order> WStrCharIndices<'a, E> {
             offset: 0,
             chars: rest.chars(),
         }
+    }
+
+    /// What is left, as a view.
+    #[inline]
+    pub fn as_wstr(&self) -> WStr<'a, E>
+        ensures { wstr_text result ≡ map (λ at. at.1) self.now }
+    {
+        self.chars.as_wstr()
     }
 
     /// How many characters are left. One pass over what is left.

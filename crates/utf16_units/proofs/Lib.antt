@@ -17,6 +17,7 @@ pub mod BoundaryLemmas
 pub mod BoundaryComputed
 pub mod EditLemmas
 pub mod ContinuedLemmas
+pub mod PartLemmas
 pub mod LawProofs
 pub mod BackChar
 pub mod Tests

@@ -18,8 +18,8 @@ pub returns : goal.returns
 returns g c =
     let text = wstr_text c.args.text in
     let cut = cut_at text c.piece_end-end.result c.piece_end-end.ensures.boundary in
-    let front = c.part_unchecked.ensures in
-    let back = c.part_unchecked-2.ensures ∙ ap (text_between text c.piece_end-end.result) c.len.ensures.size in
+    let front = c.part_unchecked.ensures.text in
+    let back = c.part_unchecked-2.ensures.text ∙ ap (text_between text c.piece_end-end.result) c.len.ensures.size in
     let front_size = ap size front ∙ cut.front_size in
     let back_size = ap size back in
     record {
