@@ -19,6 +19,7 @@ pub mod EditLemmas
 pub mod ContinuedLemmas
 pub mod PartLemmas
 pub mod LawProofs
+pub mod Rules
 pub mod BackChar
 pub mod Tests
 pub mod LaneLemmas
