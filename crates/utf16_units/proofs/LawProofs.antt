@@ -130,7 +130,7 @@ text_begins big (c ∷ text) bytes scalars some trailing =
     first_unit-char big c (encode big text ++ bytes) (All-head IsScalar c text scalars)
     (subst (λ t. IsTrailing (first_unit big t)) (ap (λ t. t ++ bytes) (encode-cons big c text) ∙ append_assoc (char_bytes big c) (encode big text) bytes) trailing)
 
-size-some : (text : List ℕ) → text ≢ [] → 0 < size text
+pub size-some : (text : List ℕ) → text ≢ [] → 0 < size text
 size-some [] some = absurd (some refl)
 size-some (c ∷ text) some = omega (arith, size-cons c text, char_size-pos c)
 
@@ -227,7 +227,7 @@ module _ (big : Bool) (text part bytes part_bytes : List ℕ) (i : ℕ) (e : Enc
       record { start = found.0; end = found.1; between = found.2 }
 
   -- the bytes between the two boundaries are those of the part
-  at_boundaries : StandsIn text i part → StandsAt bytes i part_bytes
+  pub at_boundaries : StandsIn text i part → StandsAt bytes i part_bytes
   at_boundaries s =
       let between = Encodes-between big text bytes i (i + size part) e (omega arith) s.start s.end in
       let long : length part_bytes ≡ i + size part - i = omega (arith, ap length (sym p.spelled) ∙ length-encode big part) in

@@ -1,5 +1,5 @@
 -- Character boundaries of a text, and its parts between them. Offsets count bytes of the encoding, in either order.
-use Rattle.std.specs.Prelude.{◌≡◌, ◌==◌, ℕ, ◌+◌, ◌-◌, ◌%◌, ◌≤◌, Bool, ◌&&◌, ◌||◌, List, [], ◌∷◌, ◌++◌, nat_le, if◌then◌else◌}
+use Rattle.std.specs.Prelude.{◌≡◌, ◌==◌, ℕ, ◌+◌, ◌-◌, ◌%◌, ◌<◌, ◌≤◌, Bool, ◌&&◌, ◌||◌, List, [], ◌∷◌, ◌++◌, nat_le, if◌then◌else◌}
 use Rattle.utf16_units.specs.Encoding.{char_size, size}
 
 -- i is a boundary: some prefix of the text has that size
@@ -34,11 +34,15 @@ pub record CutAt (text : List ℕ) (i : ℕ) : Type 0 where
   pub front_between : text_between text 0 i ≡ text_to text i
   pub back_between : text_between text i (size text) ≡ text_from text i
 
--- the text stands in another at i: a prefix has that size, and the text follows it
+-- a part stands in a text at i: there and behind it are boundaries, and the part is what stands between
 pub record StandsIn (text : List ℕ) (i : ℕ) (part : List ℕ) : Type 0 where
   pub start : IsBoundary text i
   pub end : IsBoundary text (i + size part)
   pub between : text_between text i (i + size part) ≡ part
+
+-- a part stands nowhere in a text before i
+pub record IsAbsentBefore (text : List ℕ) (i : ℕ) (part : List ℕ) : Type 0 where
+  pub absent : (j : ℕ) → j < i → ¬ (StandsIn text j part)
 
 -- whether i is a boundary, computed: 0 is one, and behind the first character i is one if i less its size is one of what follows
 unfoldable pub is_boundary : List ℕ → ℕ → Bool
