@@ -18,6 +18,7 @@ pub mod BoundaryComputed
 pub mod EditLemmas
 pub mod ContinuedLemmas
 pub mod PartLemmas
+pub mod PieceLemmas
 pub mod LawProofs
 pub mod Rules
 pub mod BackChar
