@@ -1,4 +1,2 @@
 pub mod OffsetLemmas
 pub mod Overwritten
-pub mod Utf8Lemmas
-pub mod PieceLemmas

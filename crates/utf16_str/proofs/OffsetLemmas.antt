@@ -1,12 +1,15 @@
 -- Characters beside their offsets, from either end.
-use Rattle.std.proofs.Common.{◌≡◌, ℕ, ◌+◌, ◌<◌, Bool, true, nat_eq, eqb-true, List, [], ◌∷◌, ◌++◌, length, length-append, Some, refl, sym, ap, ◌∙◌, subst, arith}
+use Rattle.std.proofs.Common.{◌≡◌, ℕ, ◌+◌, ◌<◌, All, Bool, true, nat_eq, eqb-true, List, [], ◌∷◌, ◌++◌, length, length-append, map, Some, refl, sym, ap, ◌∙◌, subst, append_assoc, arith}
 use Rattle.std.proofs.iter.runs.Sources.{as_is, as_is_back, from_back, from_front}
 use Rattle.std.specs.Iterator.{MakesProgress, YieldsFirst, YieldsLast, item_count}
 use Rattle.std.specs.Iterator.Runs.{YieldsInOrder, YieldsInReverse}
 use Rattle.std.proofs.lemmas.List.{nil_from_length}
+use Rattle.std.proofs.lemmas.List.Elements.{All-cons, All-nil}
+use Rattle.utf16_units.specs.Boundary.{text_from, text_to}
 use Rattle.utf16_units.specs.Encoding.{char_size, size, text_of}
-use Rattle.utf16_units.proofs.EncodingLemmas.{size-cons, size-nil, text_of-nil}
-use Rattle.utf16_str.specs.Offsets.{char_offsets}
+use Rattle.utf16_units.proofs.EncodingLemmas.{size-append, size-cons, size-nil, text_of-nil}
+use Rattle.utf16_units.proofs.BoundaryLemmas.{text_from-at, text_to-at, text_to-text_from}
+use Rattle.utf16_str.specs.Offsets.{IsCharAt, OffsetsStand, char_offsets}
 
 pub char_offsets-nil : (offset : ℕ) → char_offsets offset [] ≡ []
 unfolding char_offsets
@@ -31,6 +34,45 @@ pub length-char_offsets : (offset : ℕ) (text : List ℕ) → length (char_offs
 unfolding char_offsets
 length-char_offsets offset [] = refl
 length-char_offsets offset (c ∷ text) = omega (arith, length-char_offsets (offset + char_size c) text)
+
+pub map-char_offsets : (offset : ℕ) (text : List ℕ) → map (λ (at : ℕ × ℕ). at.1) (char_offsets offset text) ≡ text
+unfolding char_offsets
+map-char_offsets offset [] = refl
+map-char_offsets offset (c ∷ text) = ap (λ t. c ∷ t) (map-char_offsets (offset + char_size c) text)
+
+-- a character behind a beginning of the text stands at the size of that beginning
+char_at_size : (front : List ℕ) (c : ℕ) (back : List ℕ) → IsCharAt (front ++ c ∷ back) (size front, c)
+char_at_size front c back =
+    let text = front ++ c ∷ back in
+    let next : size (front ++ c ∷ []) ≡ size front + char_size c = omega (arith, size-append front (c ∷ []), size-cons c [], size-nil) in
+    let longer : (front ++ c ∷ []) ++ back ≡ text = append_assoc front (c ∷ []) back in
+    let before : text_to text (size front) ≡ front = text_to-at front (c ∷ back) (size front) refl in
+    let from : text_from text (size front) ≡ c ∷ back = text_from-at front (c ∷ back) (size front) refl in
+    let past : text_from text (size front + char_size c) ≡ back =
+    ap (λ t. text_from t (size front + char_size c)) (sym longer) ∙ text_from-at (front ++ c ∷ []) back (size front + char_size c) next in
+    let up_to : text_to text (size front + char_size c) ≡ front ++ c ∷ [] =
+    ap (λ t. text_to t (size front + char_size c)) (sym longer) ∙ text_to-at (front ++ c ∷ []) back (size front + char_size c) next in
+    let here : text_from text (size front) ≡ c ∷ text_from text (size front + char_size c) = from ∙ ap (λ t. c ∷ t) (sym past) in
+    record {
+      start = record { front = front; back = c ∷ back; split = refl; offset = refl };
+      end = record { front = front ++ c ∷ []; back = back; split = longer; offset = next };
+      here = here;
+      behind = up_to ∙ ap (λ t. t ++ c ∷ []) (sym before);
+      split = ap (λ t. text_to text (size front) ++ t) (sym here) ∙ text_to-text_from text (size front);
+    }
+
+chars_stand : (front text : List ℕ) → All (IsCharAt (front ++ text)) (char_offsets (size front) text)
+unfolding char_offsets
+chars_stand front [] = All-nil (IsCharAt (front ++ []))
+chars_stand front (c ∷ text) =
+    let next : size (front ++ c ∷ []) ≡ size front + char_size c = omega (arith, size-append front (c ∷ []), size-cons c [], size-nil) in
+    let rest : All (IsCharAt (front ++ c ∷ text)) (char_offsets (size front + char_size c) text) =
+    subst (λ t. All (IsCharAt t) (char_offsets (size front + char_size c) text)) (append_assoc front (c ∷ []) text)
+    (subst (λ n. All (IsCharAt ((front ++ c ∷ []) ++ text)) (char_offsets n text)) next (chars_stand (front ++ c ∷ []) text)) in
+    All-cons (IsCharAt (front ++ c ∷ text)) (size front, c) (char_offsets (size front + char_size c) text) (char_at_size front c text) rest
+
+pub offsets_stand : OffsetsStand
+offsets_stand text = subst (λ n. All (IsCharAt text) (char_offsets n text)) size-nil (chars_stand [] text)
 
 -- where no character is left, nothing is shown
 pub char_offsets-none : (offset : ℕ) (text rest : List ℕ) (shown : List (ℕ × ℕ)) → char_offsets offset text ≡ shown → (text ≡ []) × (rest ≡ [])

@@ -1,5 +1,5 @@
--- Windows of ranges over a string, and the part of its text in a window. Offsets count bytes.
-use Rattle.std.specs.Prelude.{ℕ, ◌+◌, ◌≤◌, List, [], Option, None, Some, nat_lt, if◌then◌else◌}
+-- Windows of ranges over a string, and the parts of its text and of its bytes in a window. Offsets count bytes.
+use Rattle.std.specs.Prelude.{ℕ, ◌+◌, ◌-◌, ◌≤◌, List, [], Option, None, Some, drop, nat_lt, take, if◌then◌else◌}
 use Rattle.utf16_units.specs.Boundary.{IsBoundary, text_between}
 
 -- the window is one of the text: its start is at most its end, and both are boundaries
@@ -11,6 +11,15 @@ IsWindowOf text (Some window) = (window.0 ≤ window.1) × IsBoundary text windo
 abbrev pub window_text : List ℕ → Option (ℕ × ℕ) → List ℕ
 window_text text None = []
 window_text text (Some window) = text_between text window.0 window.1
+
+-- the bytes from one offset up to another
+abbrev pub bytes_between : List ℕ → ℕ → ℕ → List ℕ
+bytes_between bytes i j = take (j - i) (drop i bytes)
+
+-- the part of the bytes in a window
+abbrev pub window_bytes : List ℕ → Option (ℕ × ℕ) → List ℕ
+window_bytes bytes None = []
+window_bytes bytes (Some window) = bytes_between bytes window.0 window.1
 
 -- the window from start up to and with last, where there is an offset behind it
 abbrev pub inclusive_window : ℕ → ℕ → Option (ℕ × ℕ)

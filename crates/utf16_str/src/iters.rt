@@ -1,17 +1,16 @@
 //! The characters of a string, from either end, and beside their offsets.
 
-ghost use Rattle.std.specs.Prelude.{◌≡◌, ◌<◌, ◌≤◌, ◌+◌, ◌-◌, ◌^◌, ℕ, List, [], ◌∷◌, ◌++◌, length, take, drop, slice_get};
+ghost use Rattle.std.specs.Prelude.{◌≡◌, ◌<◌, ◌-◌, ◌^◌, ℕ, List, length, map, slice_get};
 ghost use Rattle.std.specs.Iterator.{YieldsFirst, YieldsLast, item_count};
-ghost use Rattle.utf16_units.specs.Encoding.{IsText, char_size, size, text_of};
+ghost use Rattle.utf16_units.specs.Encoding.{size, text_of};
 ghost use Rattle.utf16_str.specs.Offsets.{char_offsets, offset_behind};
 
 use crate::WStr;
 use std::fmt;
 use std::marker::Model;
+use utf16_units::ends::{first_char, last_char};
 use utf16_units::text::count_chars;
-use utf16_units::{
-    Utf16CharExt, Utf16Order, decode_surrogates, is_leading_surrogate, is_trailing_surrogate,
-};
+use utf16_units::{Utf16CharExt, Utf16Order};
 
 /// The characters left of a [`WStr`], from either end. Where none is left, `next` and `next_back` answer `None` for good.
 #[derive(Drop)]
@@ -56,12 +55,7 @@ impl<'a, E: Utf16Order> WStrChars<'a, E> {
     pub fn count(self) -> usize
         ensures { result ≡ length self.entry }
     {
-        let raw = self.rest.as_bytes();
-        if raw.len() < 64 {
-            count_few::<E>(raw)
-        } else {
-            count_chars::<E>(raw)
-        }
+        count_chars::<E>(self.rest.as_bytes())
     }
 
     /// The last character left, or `None` where none is. One look at the end.
@@ -145,6 +139,14 @@ impl<'a, E: Utf16Order> WStrCharIndices<'a, E> {
         }
     }
 
+    /// What is left, as a view.
+    #[inline]
+    pub fn as_wstr(&self) -> WStr<'a, E>
+        ensures { wstr_text result ≡ map (λ at. at.1) self.now }
+    {
+        self.chars.as_wstr()
+    }
+
     /// How many characters are left. One pass over what is left.
     pub fn count(self) -> usize
         ensures { result ≡ length self.entry }
@@ -199,57 +201,4 @@ impl<'a, E: Utf16Order> fmt::Debug for WStrCharIndices<'a, E> {
             .field("chars", &self.chars)
             .finish()
     }
-}
-
-// How many characters a short text has, one after another. A call stays a call: so this loop is compiled by itself.
-#[inline(never)]
-fn count_few<E: Utf16Order>(raw: &[u8]) -> usize
-    requires { IsText E.BIG raw.now }
-    ensures { result ≡ length (text_of E.BIG raw.now) }
-{
-    let mut count = 0;
-    let mut rest = raw;
-    while !rest.is_empty() {
-        let (_, size) = first_char::<E>(rest);
-        rest = &rest[size..];
-        count += 1;
-    }
-    count
-}
-
-// The first character of a text that is not empty, and how many bytes it takes.
-#[inline]
-fn first_char<E: Utf16Order>(raw: &[u8]) -> (char, usize)
-    requires text { IsText E.BIG raw.now }
-    requires some { 0 < length raw.now }
-    ensures size { result.1 ≡ char_size result.0 }
-    ensures within { result.1 ≤ length raw.now }
-    ensures text { text_of E.BIG raw.now ≡ result.0 ∷ text_of E.BIG (drop result.1 raw.now) }
-    ensures rest { IsText E.BIG (drop result.1 raw.now) }
-{
-    let unit = E::read_unit([raw[0], raw[1]]);
-    if !is_leading_surrogate(unit) {
-        return (unsafe { char::from_u32_unchecked(unit as u32) }, 2);
-    }
-    let trailing = E::read_unit([raw[2], raw[3]]);
-    (decode_surrogates(unit, trailing), 4)
-}
-
-// The last character of a text that is not empty, and how many bytes it takes.
-#[inline]
-fn last_char<E: Utf16Order>(raw: &[u8]) -> (char, usize)
-    requires text { IsText E.BIG raw.now }
-    requires some { 0 < length raw.now }
-    ensures size { result.1 ≡ char_size result.0 }
-    ensures within { result.1 ≤ length raw.now }
-    ensures text { text_of E.BIG raw.now ≡ text_of E.BIG (take (length raw.now - result.1) raw.now) ++ result.0 ∷ [] }
-    ensures rest { IsText E.BIG (take (length raw.now - result.1) raw.now) }
-{
-    let end = raw.len();
-    let unit = E::read_unit([raw[end - 2], raw[end - 1]]);
-    if !is_trailing_surrogate(unit) {
-        return (unsafe { char::from_u32_unchecked(unit as u32) }, 2);
-    }
-    let leading = E::read_unit([raw[end - 4], raw[end - 3]]);
-    (decode_surrogates(leading, unit), 4)
 }

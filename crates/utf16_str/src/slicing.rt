@@ -3,7 +3,7 @@
 ghost use Rattle.std.specs.Prelude.{◌≡◌, ◌↔◌, ℕ, Option, Some, IsSome, IfSome, length};
 ghost use Rattle.std.specs.Range.{range_inclusive_end, range_inclusive_start};
 ghost use Rattle.utf16_str.specs.WStr.{wstr_bytes, wstr_text};
-ghost use Rattle.utf16_str.specs.Window.{IsWindowOf, inclusive_window, window_text};
+ghost use Rattle.utf16_str.specs.Window.{IsWindowOf, inclusive_window, window_bytes, window_text};
 
 use crate::WStr;
 use std::ops::{Range, RangeFrom, RangeFull, RangeInclusive, RangeTo, RangeToInclusive};
@@ -28,6 +28,7 @@ pub trait SliceIndex<E: Utf16Order> {
         Self: Sized,
         ensures some { IsSome result ↔ IsWindowOf (wstr_text slice.entry) (window self (length (wstr_bytes slice.entry))) }
         ensures part { IfSome result (λ part. wstr_text part ≡ window_text (wstr_text slice.entry) (window self (length (wstr_bytes slice.entry)))) }
+        ensures bytes { IfSome result (λ part. wstr_bytes part ≡ window_bytes (wstr_bytes slice.entry) (window self (length (wstr_bytes slice.entry)))) }
     {
         let (start, end) = self.window(slice.len())?;
         slice.part(start, end)
@@ -38,7 +39,8 @@ pub trait SliceIndex<E: Utf16Order> {
     where
         Self: Sized,
         requires { IsWindowOf (wstr_text slice) (window self (length (wstr_bytes slice))) }
-        ensures { wstr_text result ≡ window_text (wstr_text slice.entry) (window self (length (wstr_bytes slice.entry))) }
+        ensures text { wstr_text result ≡ window_text (wstr_text slice.entry) (window self (length (wstr_bytes slice.entry))) }
+        ensures bytes { wstr_bytes result ≡ window_bytes (wstr_bytes slice.entry) (window self (length (wstr_bytes slice.entry))) }
     {
         let (start, end) = self.window(slice.len()).unwrap();
         slice.part_unchecked(start, end)
@@ -49,7 +51,8 @@ pub trait SliceIndex<E: Utf16Order> {
     where
         Self: Sized,
         requires { IsWindowOf (wstr_text slice) (window self (length (wstr_bytes slice))) }
-        ensures { wstr_text result ≡ window_text (wstr_text slice.entry) (window self (length (wstr_bytes slice.entry))) }
+        ensures text { wstr_text result ≡ window_text (wstr_text slice.entry) (window self (length (wstr_bytes slice.entry))) }
+        ensures bytes { wstr_bytes result ≡ window_bytes (wstr_bytes slice.entry) (window self (length (wstr_bytes slice.entry))) }
     {
         self.get_unchecked(slice)
     }

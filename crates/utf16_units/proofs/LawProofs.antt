@@ -1,20 +1,21 @@
 -- The proofs of the laws, each under its law's name.
-use Rattle.std.proofs.Common.{◌≡◌, ◌≢◌, ℕ, zero, suc, ◌+◌, ◌-◌, ◌%◌, ◌<◌, Bool, true, false, not, List, [], ◌∷◌, ◌++◌, length, drop, slice_get, All, refl, sym, ap, ap₂, ◌∙◌, subst, arith, append_assoc, length-append, length-drop, take-append-drop, drop_at, flat_map}
+use Rattle.std.proofs.Common.{◌≡◌, ◌≢◌, ℕ, zero, suc, ◌+◌, ◌-◌, ◌%◌, ◌<◌, Bool, true, false, not, List, [], ◌∷◌, ◌++◌, length, drop, take, slice_get, All, refl, sym, ap, ap₂, ◌∙◌, subst, arith, append_assoc, length-append, length-drop, take-append-drop, drop_at, flat_map}
 use Rattle.std.proofs.lemmas.List.Elements.{All-head, All-tail}
 use Rattle.std.proofs.lemmas.List.{map-append}
 use Rattle.std.proofs.lemmas.Str.{chars-encodes}
 use Rattle.std.specs.Char.{IsScalar}
 use Rattle.std.specs.Char.Escape.{encode_utf16}
 use Rattle.utf16_units.specs.Unit.{IsTrailing, unit_bytes}
-use Rattle.utf16_units.specs.Encoding.{char_bytes, encode, size, text_of}
-use Rattle.utf16_units.specs.Boundary.{IsBoundary, text_between, text_from, text_to}
+use Rattle.utf16_units.specs.Encoding.{Encodes, char_bytes, encode, size, text_of}
+use Rattle.utf16_units.specs.Boundary.{IsBoundary, StandsIn, text_between, text_from, text_to}
 use Rattle.utf16_units.specs.Edit.{insert_at}
-use Rattle.utf16_units.specs.Laws.{CutAnywhere, FoundAligned, InsertThenRemove, ItemsStay, JoinedText, NoneContinues, RecipeIsSplit, ShownWithin, SplitExists, SplitExtends, SplitThenPush, SplitUnique, StandsAt, SwappedOrders, TextIsShown, TwoNeverContinues, UniqueText, Utf8Back, swap_bytes}
-use Rattle.utf16_units.proofs.BoundaryLemmas.{IsBoundary-at_unit, char_size-pos, size-text_to, text_from-at, text_to-at, text_to-text_from}
+use Rattle.utf16_units.specs.Laws.{BoundaryCuts, CutAnywhere, EncodedText, FoundAligned, FoundExactly, InsertThenRemove, ItemsStay, JoinedText, MoreBehind, NoneContinues, RecipeIsSplit, ShownWithin, SplitExists, SplitExtends, SplitThenPush, SplitUnique, StandsAt, SwappedOrders, TextIsShown, TwoNeverContinues, UniqueText, Utf8Back, swap_bytes}
+use Rattle.utf16_units.proofs.PartLemmas.{IsBoundary-append, IsBoundary-even, cut_at, text_between-append, text_between-behind, text_between-whole}
+use Rattle.utf16_units.proofs.BoundaryLemmas.{Encodes-between, IsBoundary-at_unit, IsBoundary-end, IsBoundary-start, char_size-pos, size-text_to, text_from-at, text_to-at, text_to-text_from}
 use Rattle.utf16_units.proofs.ContinuedLemmas.{none_where, two_never}
 use Rattle.utf16_units.proofs.FirstChar.{AreBytes, first_unit}
 use Rattle.utf16_units.proofs.FrontChar.{first_unit-char}
-use Rattle.utf16_units.proofs.EncodingLemmas.{All-after, all_scalars-from_All, encode-append, encode-cons, encode-nil, length-encode, size-append, size-cons, text_of-encode, text_of-encode_then}
+use Rattle.utf16_units.proofs.EncodingLemmas.{All-after, IsText-from_Encodes, all_scalars-from_All, encode-append, encode-cons, encode-nil, length-encode, size-append, size-cons, text_of-Encodes, text_of-encode, text_of-encode_then}
 use Rattle.utf16_units.specs.Recipe.{Recipe}
 use Rattle.utf16_units.specs.Split.{mark, marked, split_items, split_tail}
 use Rattle.utf16_units.proofs.RecipeLemmas.{marked-good, recipe_of_split, split_of_recipe, split_text}
@@ -129,7 +130,7 @@ text_begins big (c ∷ text) bytes scalars some trailing =
     first_unit-char big c (encode big text ++ bytes) (All-head IsScalar c text scalars)
     (subst (λ t. IsTrailing (first_unit big t)) (ap (λ t. t ++ bytes) (encode-cons big c text) ∙ append_assoc (char_bytes big c) (encode big text) bytes) trailing)
 
-size-some : (text : List ℕ) → text ≢ [] → 0 < size text
+pub size-some : (text : List ℕ) → text ≢ [] → 0 < size text
 size-some [] some = absurd (some refl)
 size-some (c ∷ text) some = omega (arith, size-cons c text, char_size-pos c)
 
@@ -192,4 +193,48 @@ found_aligned big text found i scalars founds some even stands = (
   start big text found i scalars founds some even stands,
   end big text found i scalars founds some even stands,
   between big text found i scalars founds some even stands,
+)
+
+-- ---- boundaries, and what stands behind a text
+
+pub boundary_cuts : BoundaryCuts
+boundary_cuts text = record { start = IsBoundary-start text; end = IsBoundary-end text; whole = text_between-whole text; cuts = cut_at text }
+
+pub more_behind : MoreBehind
+more_behind text more = record {
+  boundary = IsBoundary-append text more;
+  part = text_between-append text more;
+  front = text_to-at text more (size text) refl;
+  back = text_from-at text more (size text) refl;
+  behind = text_between-behind text more;
+}
+
+pub encoded_text : EncodedText
+encoded_text big text bytes e = record {
+  well_formed = IsText-from_Encodes big text bytes e;
+  spells = text_of-Encodes big text bytes e;
+  long = ap length (sym e.spelled) ∙ length-encode big text;
+}
+
+-- ---- where a text stands in another, by its bytes
+
+module _ (big : Bool) (text part bytes part_bytes : List ℕ) (i : ℕ) (e : Encodes big text bytes) (p : Encodes big part part_bytes) where
+  found_in : part ≢ [] → i % 2 ≡ 0 → StandsAt bytes i part_bytes → StandsIn text i part
+  found_in some even stands =
+      let stands_encoded : StandsAt (encode big text) i (encode big part) =
+      subst (λ bs. StandsAt bs i (encode big part)) (sym e.spelled) (subst (StandsAt bytes i) (sym p.spelled) stands) in
+      let found = found_aligned big text part i e.scalars p.scalars some even stands_encoded in
+      record { start = found.0; end = found.1; between = found.2 }
+
+  -- the bytes between the two boundaries are those of the part
+  pub at_boundaries : StandsIn text i part → StandsAt bytes i part_bytes
+  at_boundaries s =
+      let between = Encodes-between big text bytes i (i + size part) e (omega arith) s.start s.end in
+      let long : length part_bytes ≡ i + size part - i = omega (arith, ap length (sym p.spelled) ∙ length-encode big part) in
+      ap (λ n. take n (drop i bytes)) long ∙ sym between.spelled ∙ ap (encode big) s.between ∙ p.spelled
+
+pub found_exactly : FoundExactly
+found_exactly big text part bytes part_bytes i e p some = (
+  (λ found. found_in big text part bytes part_bytes i e p some found.0 found.1),
+  (λ stands. (IsBoundary-even text i stands.start, at_boundaries big text part bytes part_bytes i e p stands)),
 )

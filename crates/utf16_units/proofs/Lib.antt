@@ -17,7 +17,10 @@ pub mod BoundaryLemmas
 pub mod BoundaryComputed
 pub mod EditLemmas
 pub mod ContinuedLemmas
+pub mod PartLemmas
+pub mod PieceLemmas
 pub mod LawProofs
+pub mod Rules
 pub mod BackChar
 pub mod Tests
 pub mod LaneLemmas

@@ -1,5 +1,5 @@
 -- Character boundaries of a text, and its parts between them. Offsets count bytes of the encoding, in either order.
-use Rattle.std.specs.Prelude.{◌≡◌, ◌==◌, ℕ, ◌-◌, Bool, ◌&&◌, ◌||◌, List, [], ◌∷◌, ◌++◌, nat_le, if◌then◌else◌}
+use Rattle.std.specs.Prelude.{◌≡◌, ◌==◌, ℕ, ◌+◌, ◌-◌, ◌%◌, ◌<◌, ◌≤◌, Bool, ◌&&◌, ◌||◌, List, [], ◌∷◌, ◌++◌, nat_le, if◌then◌else◌}
 use Rattle.utf16_units.specs.Encoding.{char_size, size}
 
 -- i is a boundary: some prefix of the text has that size
@@ -22,6 +22,27 @@ text_from (c ∷ text) i = if nat_le (char_size c) i then text_from text (i - ch
 -- the part between two boundaries: the text without its prefix of size i, cut to the size j - i
 abbrev pub text_between : List ℕ → ℕ → ℕ → List ℕ
 text_between text i j = text_to (text_from text i) (j - i)
+
+-- what a text is at a boundary, which is even: the parts before and behind it, whose sizes are the offset and what is left, and
+-- joined they are the text
+pub record CutAt (text : List ℕ) (i : ℕ) : Type 0 where
+  pub even : i % 2 ≡ 0
+  pub within : i ≤ size text
+  pub joined : text_to text i ++ text_from text i ≡ text
+  pub front_size : size (text_to text i) ≡ i
+  pub back_size : i + size (text_from text i) ≡ size text
+  pub front_between : text_between text 0 i ≡ text_to text i
+  pub back_between : text_between text i (size text) ≡ text_from text i
+
+-- a part stands in a text at i: there and behind it are boundaries, and the part is what stands between
+pub record StandsIn (text : List ℕ) (i : ℕ) (part : List ℕ) : Type 0 where
+  pub start : IsBoundary text i
+  pub end : IsBoundary text (i + size part)
+  pub between : text_between text i (i + size part) ≡ part
+
+-- a part stands nowhere in a text before i
+pub record IsAbsentBefore (text : List ℕ) (i : ℕ) (part : List ℕ) : Type 0 where
+  pub absent : (j : ℕ) → j < i → ¬ (StandsIn text j part)
 
 -- whether i is a boundary, computed: 0 is one, and behind the first character i is one if i less its size is one of what follows
 unfoldable pub is_boundary : List ℕ → ℕ → Bool

@@ -1,10 +1,10 @@
 -- The laws of UTF-16 that users of the format rest on, each a statement over the definitions alone.
 use Rattle.std.specs.Prelude.{◌≡◌, ◌≢◌, ◌↔◌, ◌⊎◌, ℕ, ◌+◌, ◌*◌, ◌%◌, ◌<◌, ◌≤◌, Bool, not, List, [], ◌∷◌, ◌++◌, None, Some, All, length, take, drop, encode_utf8_all, chars}
 use Rattle.std.specs.Char.{IsScalar}
-use Rattle.utf16_units.specs.Boundary.{IsBoundary, text_between}
+use Rattle.utf16_units.specs.Boundary.{CutAt, IsBoundary, StandsIn, text_between, text_from, text_to}
 use Rattle.utf16_units.specs.Continued.{IsBeginning, IsDeadEnd}
 use Rattle.utf16_units.specs.Edit.{char_at, insert_at, push_text, remove_at, split_back, split_front}
-use Rattle.utf16_units.specs.Encoding.{Encodes, encode, size}
+use Rattle.utf16_units.specs.Encoding.{Encodes, IsText, encode, size, text_of}
 use Rattle.utf16_units.specs.Fault.{IsFault, IsFront}
 use Rattle.utf16_units.specs.Order.{IsBefore}
 use Rattle.utf16_units.specs.Recipe.{Recipe}
@@ -117,3 +117,41 @@ BeforeTotal = (text other : List ℕ) → IsOneOf (IsBefore text other) (text �
 -- what is before a text is before all that this text is before
 abbrev pub BeforeFollows : Type 0
 BeforeFollows = (text other third : List ℕ) → IsBefore text other → IsBefore other third → IsBefore text third
+
+-- the start and the end of a text are boundaries, the whole range is the text, and a boundary cuts it
+pub record IsCut (text : List ℕ) : Type 0 where
+  pub start : IsBoundary text 0
+  pub end : IsBoundary text (size text)
+  pub whole : text_between text 0 (size text) ≡ text
+  pub cuts : (i : ℕ) → IsBoundary text i → CutAt text i
+
+-- each text is cut so at its boundaries
+abbrev pub BoundaryCuts : Type 0
+BoundaryCuts = (text : List ℕ) → IsCut text
+
+-- with more behind a text, its boundaries and the parts between them stay, and what was put behind is the part there
+pub record StaysBefore (text more : List ℕ) : Type 0 where
+  pub boundary : (i : ℕ) → IsBoundary text i → IsBoundary (text ++ more) i
+  pub part : (i j : ℕ) → i ≤ j → IsBoundary text i → IsBoundary text j → text_between (text ++ more) i j ≡ text_between text i j
+  pub front : text_to (text ++ more) (size text) ≡ text
+  pub back : text_from (text ++ more) (size text) ≡ more
+  pub behind : text_between (text ++ more) (size text) (size text + size more) ≡ more
+
+-- it is so of any two texts
+abbrev pub MoreBehind : Type 0
+MoreBehind = (text more : List ℕ) → StaysBefore text more
+
+-- in the bytes of a text a text that is not empty is found by its bytes at the even offsets, and exactly where it stands
+abbrev pub FoundExactly : Type 0
+FoundExactly = (big : Bool) (text part bytes part_bytes : List ℕ) (i : ℕ) → Encodes big text bytes → Encodes big part part_bytes → part ≢ []
+    → (((i % 2 ≡ 0) × StandsAt bytes i part_bytes) ↔ StandsIn text i part)
+
+-- bytes that encode a text are well formed, spell that text, and are as long as its size
+pub record IsSpelled (big : Bool) (text bytes : List ℕ) : Type 0 where
+  pub well_formed : IsText big bytes
+  pub spells : text_of big bytes ≡ text
+  pub long : length bytes ≡ size text
+
+-- what encodes a text spells it
+abbrev pub EncodedText : Type 0
+EncodedText = (big : Bool) (text bytes : List ℕ) → Encodes big text bytes → IsSpelled big text bytes

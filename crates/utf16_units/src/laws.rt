@@ -4,7 +4,7 @@
 //! `Rattle.utf16_units.proofs.LawProofs`. The statements are in `specs/Laws.antt`: they speak of the definitions alone, for
 //! all texts, all bytes and both byte orders.
 
-ghost use Rattle.utf16_units.specs.Laws.{BeforeFollows, BeforeTotal, CutAnywhere, FoundAligned, InsertThenRemove, ItemsStay, JoinedText, NoneContinues, RecipeIsSplit, ShownWithin, SplitExists, SplitExtends, SplitThenPush, SplitUnique, SwappedOrders, TextIsShown, TwoNeverContinues, UniqueText, Utf8Back};
+ghost use Rattle.utf16_units.specs.Laws.{BeforeFollows, BeforeTotal, BoundaryCuts, CutAnywhere, EncodedText, FoundAligned, FoundExactly, InsertThenRemove, ItemsStay, JoinedText, MoreBehind, NoneContinues, RecipeIsSplit, ShownWithin, SplitExists, SplitExtends, SplitThenPush, SplitUnique, SwappedOrders, TextIsShown, TwoNeverContinues, UniqueText, Utf8Back};
 
 /// Two texts with equal encodings in one order are equal.
 pub fn unique_text()
@@ -106,4 +106,25 @@ pub fn before_total()
 /// Where a text is before a second, and that before a third, the first is before the third.
 pub fn before_follows()
     ensures { BeforeFollows }
+{}
+
+/// The start and the end of a text are boundaries, and the whole range is the text. A boundary is at most the size; the parts
+/// before and behind it have the sizes that it tells, and joined they are the text.
+pub fn boundary_cuts()
+    ensures { BoundaryCuts }
+{}
+
+/// With more behind a text, its boundaries and the parts between them stay, and what was put behind is the part there.
+pub fn more_behind()
+    ensures { MoreBehind }
+{}
+
+/// In a text's bytes a text that is not empty is found by its bytes at the even offsets, and exactly where it stands.
+pub fn found_exactly()
+    ensures { FoundExactly }
+{}
+
+/// Bytes that encode a text are well formed, spell that text, and are as long as its size.
+pub fn encoded_text()
+    ensures { EncodedText }
 {}

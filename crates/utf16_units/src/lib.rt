@@ -5,6 +5,7 @@
 mod block_tests;
 mod char;
 pub mod compare;
+pub mod ends;
 mod error;
 mod lanes;
 pub mod laws;

@@ -4,6 +4,7 @@ ghost use Rattle.std.specs.Prelude.{◌≡◌, ◌↔◌, ◌<◌, All, IsTrue, 
 ghost use Rattle.std.specs.Char.Utf16.{is_low_surrogate};
 ghost use Rattle.utf16_units.specs.Encoding.{IsText, text_of, units_of};
 
+use crate::ends::first_char;
 use crate::lanes::{high_bytes32, is_ascii_block, trailing_bits};
 use crate::{Utf16Order, is_trailing_surrogate};
 use std::simd::prelude::*;
@@ -14,7 +15,27 @@ pub fn count_chars<E: Utf16Order>(raw: &[u8]) -> usize
     requires { IsText E.BIG raw.now }
     ensures { result ≡ length (text_of E.BIG raw.now) }
 {
-    raw.len() / 2 - trailing_units::<E>(raw)
+    if raw.len() < 64 {
+        count_few::<E>(raw)
+    } else {
+        raw.len() / 2 - trailing_units::<E>(raw)
+    }
+}
+
+// How many characters a short text has, one after another. A call stays a call: so this loop is compiled by itself.
+#[inline(never)]
+fn count_few<E: Utf16Order>(raw: &[u8]) -> usize
+    requires { IsText E.BIG raw.now }
+    ensures { result ≡ length (text_of E.BIG raw.now) }
+{
+    let mut count = 0;
+    let mut rest = raw;
+    while !rest.is_empty() {
+        let (_, size) = first_char::<E>(rest);
+        rest = &rest[size..];
+        count += 1;
+    }
+    count
 }
 
 // How many units are trailing surrogates.

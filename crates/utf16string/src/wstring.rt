@@ -21,9 +21,9 @@ ghost use Rattle.std.proofs.Common.{rules};
 ghost use Rattle.utf16_units.specs.Boundary.{IsBoundary};
 ghost use Rattle.utf16_units.specs.Encoding.{Encodes, IsText, is_text, size};
 ghost use Rattle.utf16_units.specs.Utf16Error.{IsErrorOf};
-ghost use Rattle.utf16_str.specs.Offsets.{char_offsets};
+ghost use Rattle.utf16_str.specs.Offsets.{IsCharAt, char_offsets};
 ghost use Rattle.utf16_str.specs.WStr.{wstr_bytes, wstr_text};
-ghost use Rattle.utf16_str.specs.Window.{IsWindowOf, window_text};
+ghost use Rattle.utf16_str.specs.Window.{IsWindowOf, window_bytes, window_text};
 
 use std::alloc::{AllocError, Allocator, Global};
 use std::fmt;
@@ -162,6 +162,7 @@ impl<E: Utf16Order, A: Allocator> WString<E, A> {
     pub fn get<I: SliceIndex<E>>(&self, index: I) -> Option<WStr<'_, E>>
         ensures some { IsSome result ↔ IsWindowOf (wstring_text self.now) (I.window index (length (wstring_bytes self.now))) }
         ensures part { IfSome result (λ part. wstr_text part ≡ window_text (wstring_text self.now) (I.window index (length (wstring_bytes self.now)))) }
+        ensures bytes { IfSome result (λ part. wstr_bytes part ≡ window_bytes (wstring_bytes self.now) (I.window index (length (wstring_bytes self.now)))) }
     {
         self.as_wstr().get(index)
     }
@@ -170,7 +171,8 @@ impl<E: Utf16Order, A: Allocator> WString<E, A> {
     #[inline]
     pub fn get_unchecked<I: SliceIndex<E>>(&self, index: I) -> WStr<'_, E>
         requires { IsWindowOf (wstring_text self.now) (I.window index (length (wstring_bytes self.now))) }
-        ensures { wstr_text result ≡ window_text (wstring_text self.now) (I.window index (length (wstring_bytes self.now))) }
+        ensures text { wstr_text result ≡ window_text (wstring_text self.now) (I.window index (length (wstring_bytes self.now))) }
+        ensures bytes { wstr_bytes result ≡ window_bytes (wstring_bytes self.now) (I.window index (length (wstring_bytes self.now))) }
     {
         self.as_wstr().get_unchecked(index)
     }
@@ -179,7 +181,8 @@ impl<E: Utf16Order, A: Allocator> WString<E, A> {
     #[inline]
     pub fn index<I: SliceIndex<E>>(&self, index: I) -> WStr<'_, E>
         requires { IsWindowOf (wstring_text self.now) (I.window index (length (wstring_bytes self.now))) }
-        ensures { wstr_text result ≡ window_text (wstring_text self.now) (I.window index (length (wstring_bytes self.now))) }
+        ensures text { wstr_text result ≡ window_text (wstring_text self.now) (I.window index (length (wstring_bytes self.now))) }
+        ensures bytes { wstr_bytes result ≡ window_bytes (wstring_bytes self.now) (I.window index (length (wstring_bytes self.now))) }
     {
         self.as_wstr().index(index)
     }
@@ -195,10 +198,11 @@ impl<E: Utf16Order, A: Allocator> WString<E, A> {
         self.as_wstr().chars()
     }
 
-    /// The characters, in order, each beside its byte offset. The clauses are those of `WStr::chars`.
+    /// The characters, in order, each beside its byte offset. The clauses are those of `WStr::char_indices`.
     #[inline]
     pub fn char_indices(&self) -> WStrCharIndices<'_, E>
         ensures text { result ≡ char_offsets 0 (wstring_text self.now) }
+        ensures offsets { All (IsCharAt (wstring_text self.now)) result }
         ensures bound { length result < 2 ^ 64 }
         ensures runs { YieldsInOrder (YieldsFirst (λ (rest : List (ℕ × ℕ)). rest)) (λ rest. rest) }
         ensures runs_back { YieldsInReverse (YieldsLast (λ (rest : List (ℕ × ℕ)). rest)) (λ rest. rest) }

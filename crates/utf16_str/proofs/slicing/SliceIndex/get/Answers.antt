@@ -6,3 +6,6 @@ returns-clause-some g c = search rules
 
 pub returns-clause-part : goal.returns-clause-part
 returns-clause-part g c = search rules
+
+pub returns-clause-bytes : goal.returns-clause-bytes
+returns-clause-bytes g c = search rules

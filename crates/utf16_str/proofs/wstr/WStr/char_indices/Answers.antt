@@ -2,7 +2,7 @@ use Rattle.std.proofs.Common.{ap, length, arith}
 use Rattle.utf16_units.proofs.BoundaryLemmas.{length-le-size}
 use Rattle.utf16_units.proofs.EncodingLemmas.{IsText-from_is_text, length-text}
 use Rattle.utf16_str.specs.WStr.{wstr_bytes, wstr_text}
-use Rattle.utf16_str.proofs.OffsetLemmas.{in_order, in_reverse, length-char_offsets}
+use Rattle.utf16_str.proofs.OffsetLemmas.{in_order, in_reverse, offsets_stand, length-char_offsets}
 use Rattle.utf16_str.proofs.wstr.WStr.char_indices.Goals as goal
 
 pub returns-clause-bound : goal.returns-clause-bound
@@ -16,3 +16,6 @@ returns-clause-runs g c = in_order
 
 pub returns-clause-runs_back : goal.returns-clause-runs_back
 returns-clause-runs_back g c = in_reverse
+
+pub returns-clause-offsets : goal.returns-clause-offsets
+returns-clause-offsets g c = rw c.new.ensures (offsets_stand (wstr_text c.args.self))

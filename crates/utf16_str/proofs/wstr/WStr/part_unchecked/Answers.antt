@@ -23,6 +23,6 @@ slice_bounds-from_utf16_unchecked-end g c =
 pub from_utf16_unchecked-requires : goal.from_utf16_unchecked-requires
 from_utf16_unchecked-requires g c = IsText-from_Encodes _ _ _ (part g (goal.at.from_utf16_unchecked-requires g c).After-as_bytes)
 
-pub returns : goal.returns
-returns g c =
-    ap (text_of g.E.Utf16Order.BIG) c.from_utf16_unchecked.ensures.bytes ∙ text_of-Encodes _ _ _ (part g (goal.at.returns g c).After-as_bytes)
+pub returns-clause-text : goal.returns-clause-text
+returns-clause-text g c =
+    ap (text_of g.E.Utf16Order.BIG) c.from_utf16_unchecked.ensures.bytes ∙ text_of-Encodes _ _ _ (part g (goal.at.returns-clause-text g c).After-as_bytes)

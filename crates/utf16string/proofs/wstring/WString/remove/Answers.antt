@@ -16,7 +16,7 @@ module _ (g : Over) (c : After-encoded_utf16_len g) where
   first : text_from (wstring_text c.args.self.now) c.args.idx ≡ c.unwrap-removed.result ∷ c.next.new.self
   first =
       let steps = subst (λ r. YieldsFirst (λ rest. rest) c.chars.result r c.next.new.self) c.unwrap-removed.ensures c.next.ensures.steps in
-      sym (c.chars.ensures.text ∙ c.index.ensures ∙ part _ _ _ c.args.self.now.well_formed c.requires.within c.requires.boundary) ∙ steps
+      sym (c.chars.ensures.text ∙ c.index.ensures.text ∙ part _ _ _ c.args.self.now.well_formed c.requires.within c.requires.boundary) ∙ steps
 
   behind : c.args.idx + c.encoded_utf16_len.result ≤ c.args.self.now.raw.len
   behind =
@@ -35,7 +35,7 @@ index-requires g c = to_end _ _ _ c.args.self.now.well_formed c.requires.within 
 pub unwrap-removed-requires : goal.unwrap-removed-requires
 unwrap-removed-requires g c =
     some _ _ _ c.args.self.now.well_formed c.requires.within c.requires.boundary c.next.result c.next.new.self
-    (subst (λ text. YieldsFirst (λ rest. rest) text c.next.result c.next.new.self) (c.chars.ensures.text ∙ c.index.ensures) c.next.ensures.steps)
+    (subst (λ text. YieldsFirst (λ rest. rest) text c.next.result c.next.new.self) (c.chars.ensures.text ∙ c.index.ensures.text) c.next.ensures.steps)
 
 pub overflow_add-idx : goal.overflow_add-idx
 overflow_add-idx g c = omega (arith, behind g c)

@@ -1,0 +1,83 @@
+//! Parts of a text, cut at boundaries that a call or a law tells.
+
+ghost use Rattle.std.specs.Prelude.{◌≡◌, ◌↔◌, ◌++◌, ◌+◌, ◌≤◌, ◌∷◌, ℕ, IfOk, IfSome, IsSome, OnOk, drop, length, take};
+ghost use Rattle.utf16_units.specs.Boundary.{IsBoundary, text_between, text_from, text_to};
+ghost use Rattle.utf16_units.specs.Encoding.{Encodes};
+ghost use Rattle.utf16string.specs.WStr.{wstr_bytes, wstr_text};
+ghost use Rattle.utf16string.specs.WString.{wstring_text};
+
+use std::alloc::{AllocError, Allocator};
+use utf16_units::Utf16CharExt;
+use utf16string::{Utf16Order, WStr, WString};
+
+/// The whole range.
+#[tactic(auto, using(utf16_units::proofs::Rules::boundaries))]
+pub fn whole<'a, E: Utf16Order>(text: WStr<'a, E>) -> WStr<'a, E>
+    ensures text { wstr_text result ≡ wstr_text text.entry }
+    ensures bytes { wstr_bytes result ≡ wstr_bytes text.entry }
+{
+    text.index(..)
+}
+
+/// The parts on both sides of a boundary.
+#[tactic(auto, using(utf16_units::proofs::Rules::boundaries))]
+pub fn halves<'a, E: Utf16Order>(text: WStr<'a, E>, at: usize) -> Option<(WStr<'a, E>, WStr<'a, E>)>
+    ensures some { IsSome result ↔ IsBoundary (wstr_text text.entry) at }
+    ensures front { IfSome result (λ parts. wstr_text parts.0 ≡ text_to (wstr_text text.entry) at) }
+    ensures back { IfSome result (λ parts. wstr_text parts.1 ≡ text_from (wstr_text text.entry) at) }
+    ensures joined { IfSome result (λ parts. wstr_text parts.0 ++ wstr_text parts.1 ≡ wstr_text text.entry) }
+    ensures sizes { IfSome result (λ parts. (length (wstr_bytes parts.0) ≡ at) × (at + length (wstr_bytes parts.1) ≡ length (wstr_bytes text.entry))) }
+    ensures bytes { IfSome result (λ parts. (wstr_bytes parts.0 ≡ take at (wstr_bytes text.entry)) × (wstr_bytes parts.1 ≡ drop at (wstr_bytes text.entry))) }
+{
+    Some((text.get(..at)?, text.get(at..)?))
+}
+
+/// What stands before the first such character, and what behind it.
+#[tactic(auto, using(utf16_units::proofs::Rules::boundaries))]
+pub fn around<'a, E: Utf16Order>(
+    text: WStr<'a, E>,
+    wanted: char,
+) -> Option<(WStr<'a, E>, WStr<'a, E>)>
+    ensures some { IfSome result (λ parts. wstr_text text.entry ≡ wstr_text parts.0 ++ wanted ∷ wstr_text parts.1) }
+{
+    let (at, c) = text.char_indices().find(|at| at.1 == wanted)?;
+    Some((text.index(..at), text.index(at + c.encoded_utf16_len()..)))
+}
+
+/// Puts a name behind a table: where it stands. The names before it stay.
+#[tactic(auto, using(utf16_units::proofs::Rules::behind))]
+pub fn put<E: Utf16Order, A: Allocator>(
+    table: &mut WString<E, A>,
+    name: WStr<E>,
+) -> Result<(usize, usize), AllocError>
+    ensures start { IfOk result (λ at. IsBoundary (wstring_text table.new) at.0) }
+    ensures end { IfOk result (λ at. IsBoundary (wstring_text table.new) at.1) }
+    ensures order { IfOk result (λ at. at.0 ≤ at.1) }
+    ensures there { IfOk result (λ at. text_between (wstring_text table.new) at.0 at.1 ≡ wstr_text name.entry) }
+    ensures kept { OnOk result ((i j : ℕ) → i ≤ j → IsBoundary (wstring_text table.old) i → IsBoundary (wstring_text table.old) j
+        → text_between (wstring_text table.new) i j ≡ text_between (wstring_text table.old) i j) }
+    ensures stays { OnOk result ((i : ℕ) → IsBoundary (wstring_text table.old) i → IsBoundary (wstring_text table.new) i) }
+{
+    let start = table.len();
+    table.push_wstr(name)?;
+    Ok((start, table.len()))
+}
+
+/// The string in the bytes that a string gave back.
+#[tactic(auto, using(utf16_units::proofs::Rules::texts))]
+pub fn reopened<E: Utf16Order, A: Allocator>(text: WString<E, A>) -> WString<E, A>
+    ensures { wstring_text result ≡ wstring_text text }
+{
+    WString::from_utf16_unchecked(text.into_bytes())
+}
+
+/// A text of bytes that encode it.
+#[tactic(auto, using(utf16_units::proofs::Rules::texts))]
+pub fn view<'a, E: Utf16Order>(name: WStr<'_, E>, raw: &'a [u8]) -> WStr<'a, E>
+    requires { Encodes E.BIG (wstr_text name) raw.now }
+    ensures text { wstr_text result ≡ wstr_text name.entry }
+    ensures bytes { wstr_bytes result ≡ wstr_bytes name.entry }
+    ensures long { length raw.now ≡ length (wstr_bytes name.entry) }
+{
+    WStr::from_utf16_unchecked(raw)
+}

@@ -1,0 +1,40 @@
+use Rattle.std.proofs.Common.{◌≡◌, ◌++◌, ◌∙◌, [], ap, append-nil, encode_utf8_all, eqb-true, length, rules, string_bytes, sym, append_assoc, arith, length-append}
+use Rattle.std.proofs.lemmas.List.{nil_from_length}
+use Rattle.utf16_units.specs.Encoding.{text_of}
+use Rattle.utf16_units.proofs.EncodingLemmas.{text_of-nil}
+use Rattle.utf16_units.proofs.PieceLemmas.{utf8-append}
+use Rattle.utf16_to_utf8.proofs.append.put_pieces.Goals as goal
+
+pub returns-clause-put : goal.returns-clause-put
+returns-clause-put g c =
+    let big = g.E.Utf16Order.BIG in
+    let rest = c.loop-rest.rest.now in
+    let done = string_bytes c.loop-rest.to in
+    let none : rest ≡ [] = nil_from_length rest (eqb-true (length rest) 0 (search rules)) in
+    record {
+      bytes = sym (append-nil done) ∙ ap (λ t. done ++ encode_utf8_all t) (sym (ap (text_of big) none ∙ text_of-nil big)) ∙ c.loop-rest.invariant.written;
+      grows = c.loop-rest.invariant.grows;
+    }
+
+pub put_piece-requires-clause-room : goal.put_piece-requires-clause-room
+put_piece-requires-clause-room g c =
+    let front = text_of g.E.Utf16Order.BIG c.cut_piece.result.0.now in
+    let back = text_of g.E.Utf16Order.BIG c.cut_piece.result.1.now in
+    let both = ap encode_utf8_all c.cut_piece.ensures.joined ∙ utf8-append front back in
+    omega (arith, ap length both, length-append (encode_utf8_all front) (encode_utf8_all back), c.loop-rest.invariant.room)
+
+pub loop-rest-preserved : goal.loop-rest-preserved
+loop-rest-preserved g c =
+    let front = text_of g.E.Utf16Order.BIG c.cut_piece.result.0.now in
+    let back = text_of g.E.Utf16Order.BIG c.cut_piece.result.1.now in
+    let both = ap encode_utf8_all c.cut_piece.ensures.joined ∙ utf8-append front back in
+    let done = string_bytes c.loop-rest.to in
+    let put = c.put_piece.ensures.put in
+    record {
+      text = c.cut_piece.ensures.back;
+      written = ap (λ bs. bs ++ encode_utf8_all back) put.bytes
+          ∙ append_assoc done (encode_utf8_all front) (encode_utf8_all back)
+          ∙ ap (λ bs. done ++ bs) (sym both) ∙ c.loop-rest.invariant.written;
+      room = omega (arith, ap length put.bytes, length-append done (encode_utf8_all front), ap length both, length-append (encode_utf8_all front) (encode_utf8_all back), put.grows, c.loop-rest.invariant.room);
+      grows = omega (arith, put.grows, c.loop-rest.invariant.grows);
+    }
