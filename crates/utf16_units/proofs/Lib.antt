@@ -21,6 +21,7 @@ pub mod LawProofs
 pub mod BackChar
 pub mod Tests
 pub mod LaneLemmas
+pub mod SwapLemmas
 pub mod UnitsUpTo
 pub mod CountLemmas
 pub mod AsciiLemmas
