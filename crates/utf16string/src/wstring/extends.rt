@@ -1,7 +1,8 @@
 //! The characters of an iterator put last in a string, and strings collected from one.
 
-ghost use Rattle.std.specs.Prelude.{◌≡◌, ◌+◌, ◌<◌, ◌≤◌, List, ℕ, Some, length, OnErr};
+ghost use Rattle.std.specs.Prelude.{◌≡◌, ◌+◌, ◌<◌, ◌≤◌, List, ℕ, Some, length, OnErr, OnOk};
 ghost use Rattle.std.specs.Iterator.{ExtendsWithItems, IsFinite, YieldsThen};
+ghost use Rattle.std.specs.Iterator.Runs.{WholeRun};
 ghost use Rattle.utf16_units.specs.Encoding.{char_size};
 
 use crate::WString;
@@ -16,6 +17,7 @@ impl<E: Utf16Order, A: Allocator> WString<E, A> {
     pub fn extend<U: IntoIterator<Item = char>>(&mut self, iter: U) -> Result<(), AllocError>
         requires { (it : U.IntoIter) → U.into_iter_gives iter it → U.IntoIter.can_next it × IsFinite (U.IntoIter.remaining it) }
         ensures ran { ExtendsWithItems U.into_iter_gives U.IntoIter.next_gives Extends iter self.old self.new result }
+        ensures runs { OnOk result ((it : U.IntoIter) × U.into_iter_gives iter it × WholeRun U.IntoIter.next_gives it (λ p. Extends self.old p.items self.new)) }
         ensures full { OnErr result ((it : U.IntoIter) × (front : List ℕ) × (c : ℕ) × (rest : U.IntoIter)
             × U.into_iter_gives iter it × YieldsThen U.IntoIter.next_gives it front (Some c) rest
             × Extends self.old front self.new × (wstring_capacity self.new < length (wstring_bytes self.new) + char_size c)) }
