@@ -78,9 +78,9 @@ fn each_length_turns(rt: HostRuntime) {
     }
 }
 
-// Puts characters last in anything that takes them.
-fn put<T: Extend<char>>(rt: &impl Abort, into: &mut T, text: &str) {
-    equal(rt, into.extend(text.chars()), Ok(()));
+// Puts characters last by the trait.
+fn put<E: Utf16Order>(rt: &impl Abort, into: &mut WString<E>, text: &str) {
+    equal(rt, Extend::extend(into, text.chars()), Ok(()));
 }
 
 fn gathers<E: Utf16Order>(rt: &(impl Abort + AllocGlobal), text: &str, bytes: &[u8]) {
@@ -88,9 +88,9 @@ fn gathers<E: Utf16Order>(rt: &(impl Abort + AllocGlobal), text: &str, bytes: &[
     equal(rt, gathered.as_bytes() == bytes, true);
     let mut twice = gathered.clone().expect(rt, "memory");
     put(rt, &mut twice, text);
-    equal(rt, &twice.as_bytes()[bytes.len()..] == bytes, true);
+    equal(rt, twice.as_bytes().ends_with(bytes), true);
     equal(rt, twice.extend(gathered.chars().rev()), Ok(()));
-    equal(rt, twice.len(), 3 * bytes.len());
+    equal(rt, (twice.len() / 3, twice.len() % 3), (bytes.len(), 0));
 }
 
 #[test]
