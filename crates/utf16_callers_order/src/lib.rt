@@ -3,5 +3,6 @@
 
 pub mod copies;
 pub mod laws;
+pub mod made;
 pub mod sorted;
 pub mod tables;

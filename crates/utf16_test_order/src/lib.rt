@@ -6,6 +6,8 @@ mod checks;
 #[cfg(test)]
 mod copies;
 #[cfg(test)]
+mod made;
+#[cfg(test)]
 mod rows;
 #[cfg(test)]
 mod seams;

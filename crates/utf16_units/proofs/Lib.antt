@@ -24,6 +24,7 @@ pub mod Rules
 pub mod BackChar
 pub mod Tests
 pub mod LaneLemmas
+pub mod SwapLemmas
 pub mod UnitsUpTo
 pub mod CountLemmas
 pub mod AsciiLemmas

@@ -10,6 +10,7 @@ mod error;
 mod lanes;
 pub mod laws;
 mod order;
+pub mod reorder;
 pub mod text;
 mod unit;
 mod validate;

@@ -3,6 +3,7 @@ use Rattle.std.specs.Prelude.{◌≡◌, ℕ, List}
 use Rattle.std.specs.Prelude.{Vec}
 use Rattle.std.specs.Vec.{vec_capacity, vec_items}
 use Rattle.utf16_units.specs.declared.order.Utf16Order.{Ghosts}
+use Rattle.utf16_units.specs.Edit.{push_text}
 use Rattle.utf16_units.specs.Encoding.{text_of}
 use Rattle.utf16string.specs.declared.wstring.WString.{WString}
 
@@ -26,3 +27,7 @@ module _ {E Z : Type 0} {order : Ghosts E} where
   -- the string holds what it held, in as much room
   abbrev pub IsUnchanged : WString E Z order → WString E Z order → Type 0
   IsUnchanged old new = (wstring_bytes new ≡ wstring_bytes old) × (wstring_capacity new ≡ wstring_capacity old)
+
+  -- `new` holds the text of `old` and then these characters
+  abbrev pub Extends : WString E Z order → List ℕ → WString E Z order → Type 0
+  Extends old text new = wstring_text new ≡ push_text (wstring_text old) text

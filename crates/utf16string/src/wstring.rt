@@ -3,8 +3,10 @@
 mod blocks;
 mod copies;
 mod cuts;
+mod extends;
 mod inserts;
 mod order;
+mod orders;
 mod overwrites;
 mod retains;
 mod room;

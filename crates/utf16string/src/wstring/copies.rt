@@ -1,11 +1,31 @@
-//! Copies of a string.
+//! Strings copied from a view, and copies of a string.
 
 ghost use Rattle.std.specs.Prelude.{◌≡◌, [], IfOk, IsOk};
 ghost use Rattle.std.specs.Vec.{vec_allocator};
+ghost use Rattle.utf16_str.specs.WStr.{wstr_bytes, wstr_text};
 
 use crate::WString;
 use std::alloc::{AllocError, Allocator};
+use utf16_str::WStr;
 use utf16_units::Utf16Order;
+
+impl<E: Utf16Order, A: Allocator> WString<E, A> {
+    ghost use Rattle.utf16string.specs.WString.{wstring_bytes, wstring_text};
+
+    /// A string with the text of a view, in memory of the allocator. The only error is a refused request for memory. One
+    /// request for as many bytes as the text takes, for the empty text none; one copy of the bytes.
+    pub fn from_wstr(alloc: A, text: WStr<E>) -> Result<Self, AllocError>
+        ensures text { IfOk result (λ s. wstring_text s ≡ wstr_text text.entry) }
+        ensures bytes { IfOk result (λ s. wstring_bytes s ≡ wstr_bytes text.entry) }
+        ensures nothing { wstr_text text.entry ≡ [] → IsOk result }
+    {
+        if text.is_empty() {
+            return Ok(Self::new(alloc));
+        }
+        let raw = Vec::from_slice(alloc, text.as_bytes())?;
+        Ok(Self::from_utf16_unchecked(raw))
+    }
+}
 
 impl<E: Utf16Order, A: Allocator + Clone> WString<E, A> {
     ghost use Rattle.utf16string.specs.WString.{wstring_bytes, wstring_text, wstring_vec};
@@ -19,11 +39,7 @@ impl<E: Utf16Order, A: Allocator + Clone> WString<E, A> {
         ensures nothing { wstring_text self.now ≡ [] → A.is_infallible (vec_allocator (wstring_vec self.now)) → IsOk result }
     {
         let alloc = self.raw.allocator().clone()?;
-        if self.is_empty() {
-            return Ok(Self::new(alloc));
-        }
-        let raw = Vec::from_slice(alloc, &self.raw)?;
-        Ok(Self::from_utf16_unchecked(raw))
+        Self::from_wstr(alloc, self.as_wstr())
     }
 }
 

@@ -1,0 +1,43 @@
+//! Strings made from views in another byte order, and from characters.
+
+ghost use Rattle.std.specs.Prelude.{◌≡◌, [], ◌++◌, IfOk, IsOk, OnOk, reverse};
+ghost use Rattle.utf16_units.specs.Edit.{push_text};
+ghost use Rattle.utf16string.specs.Encoding.{Encodes};
+ghost use Rattle.utf16string.specs.WStr.{wstr_text};
+ghost use Rattle.utf16string.specs.WString.{wstring_bytes, wstring_text};
+
+use std::alloc::{AllocError, Allocator};
+use utf16string::{Utf16Order, WStr, WString};
+
+/// A copy of a text in the byte order `F`, by one request for memory, or none for the empty text.
+pub fn in_order<E: Utf16Order, F: Utf16Order, A: Allocator>(
+    alloc: A,
+    text: WStr<E>,
+) -> Result<WString<F, A>, AllocError>
+    ensures text { IfOk result (λ s. wstring_text s ≡ wstr_text text.entry) }
+    ensures bytes { IfOk result (λ s. Encodes F.BIG (wstr_text text.entry) (wstring_bytes s)) }
+    ensures nothing { wstr_text text.entry ≡ [] → IsOk result }
+{
+    let copy = WString::from_wstr(alloc, text)?;
+    Ok(copy.into_order())
+}
+
+/// A text turned round, its characters from the last to the first.
+pub fn turned_round<E: Utf16Order, A: Allocator>(
+    alloc: A,
+    text: WStr<E>,
+) -> Result<WString<E, A>, AllocError>
+    ensures { IfOk result (λ s. wstring_text s ≡ reverse (wstr_text text.entry)) }
+{
+    text.chars().rev().collect(alloc)
+}
+
+/// Puts the characters of a view last, which may be in another byte order. Where memory is refused, some of them may be put.
+pub fn push_any<E: Utf16Order, F: Utf16Order, A: Allocator>(
+    string: &mut WString<E, A>,
+    text: WStr<F>,
+) -> Result<(), AllocError>
+    ensures { OnOk result (wstring_text string.new ≡ push_text (wstring_text string.old) (wstr_text text.entry)) }
+{
+    string.extend(text.chars())
+}

@@ -1,0 +1,55 @@
+//! The characters of an iterator put last in a string, and strings collected from one.
+
+ghost use Rattle.std.specs.Prelude.{◌≡◌, ◌+◌, ◌<◌, ◌≤◌, List, ℕ, Some, length, OnErr, OnOk};
+ghost use Rattle.std.specs.Iterator.{ExtendsWithItems, IsFinite, YieldsThen};
+ghost use Rattle.std.specs.Iterator.Runs.{WholeRun};
+ghost use Rattle.utf16_units.specs.Encoding.{char_size};
+
+use crate::WString;
+use std::alloc::{AllocError, Allocator};
+use utf16_units::Utf16Order;
+
+impl<E: Utf16Order, A: Allocator> WString<E, A> {
+    ghost use Rattle.utf16string.specs.WString.{Extends, wstring_bytes, wstring_capacity};
+
+    /// Puts the characters of an iterator last, in order. The only error is a refused request for memory, for a character
+    /// that does not fit: those before it stay, and no further one is asked of the iterator. Each as by `push`.
+    pub fn extend<U: IntoIterator<Item = char>>(&mut self, iter: U) -> Result<(), AllocError>
+        requires { (it : U.IntoIter) → U.into_iter_gives iter it → U.IntoIter.can_next it × IsFinite (U.IntoIter.remaining it) }
+        ensures ran { ExtendsWithItems U.into_iter_gives U.IntoIter.next_gives Extends iter self.old self.new result }
+        ensures runs { OnOk result ((it : U.IntoIter) × U.into_iter_gives iter it × WholeRun U.IntoIter.next_gives it (λ p. Extends self.old p.items self.new)) }
+        ensures full { OnErr result ((it : U.IntoIter) × (front : List ℕ) × (c : ℕ) × (rest : U.IntoIter)
+            × U.into_iter_gives iter it × YieldsThen U.IntoIter.next_gives it front (Some c) rest
+            × Extends self.old front self.new × (wstring_capacity self.new < length (wstring_bytes self.new) + char_size c)) }
+        ensures grows { wstring_capacity self.old ≤ wstring_capacity self.new }
+    {
+        for ch in iter {
+            self.push(ch)?;
+        }
+        Ok(())
+    }
+}
+
+impl<E: Utf16Order, A: Allocator> Extend<char> for WString<E, A> {
+    ghost use Rattle.utf16string.specs.WString.{Extends};
+
+    ghost extend_gives = { Extends };
+
+    fn extend<U: IntoIterator<Item = char>>(&mut self, iter: U) -> Result<(), AllocError> {
+        WString::extend(self, iter)
+    }
+}
+
+impl<E: Utf16Order, A: Allocator> FromIterator<char> for WString<E, A> {
+    ghost use Rattle.utf16string.specs.WString.{wstring_text};
+
+    type Alloc = A;
+
+    ghost from_iter_gives = { λ text s. wstring_text s ≡ text };
+
+    fn from_iter<U: IntoIterator<Item = char>>(alloc: A, iter: U) -> Result<Self, AllocError> {
+        let mut text = Self::new(alloc);
+        text.extend(iter)?;
+        Ok(text)
+    }
+}
