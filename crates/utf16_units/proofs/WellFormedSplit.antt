@@ -6,13 +6,13 @@ use Rattle.std.proofs.lemmas.List.Elements.{All-cons, All-head, All-nil, All-tai
 use Rattle.std.specs.Char.{IsScalar}
 use Rattle.std.specs.Char.Utf16.{is_high_surrogate, is_low_surrogate, surrogate_pair_char}
 use Rattle.utf16_units.specs.Unit.{IsLeading, IsTrailing, unit_bytes, unit_of}
-use Rattle.utf16_units.specs.Encoding.{IsText, encode, units_of}
+use Rattle.utf16_units.specs.Encoding.{Encodes, encode, units_of}
 use Rattle.utf16_units.specs.Fault.{is_cut_off}
 use Rattle.utf16_units.specs.Split.{IsItem, Item, good, lone_lead, lone_trail, mark, marked, put_leading, put_unit, split_items, split_tail}
 use Rattle.utf16_units.specs.WellFormed.{first_or, well_formed_unit, well_formed_units}
 use Rattle.utf16_units.proofs.FirstChar.{AreBytes, unit_below}
 use Rattle.utf16_units.proofs.Computed.{is_cut_off-from_IsCutOff}
-use Rattle.utf16_units.proofs.EncodingLemmas.{IsText-encode, encode-cons, encode-nil}
+use Rattle.utf16_units.proofs.EncodingLemmas.{encode-cons, encode-nil}
 use Rattle.utf16_units.proofs.PairLemmas.{is_of}
 use Rattle.utf16_units.proofs.SplitLemmas.{Class, Split-computed, class_of, cut_items, cut_tail, leading, neither, not_cut, not_cut_long, one_unit_bytes, pair_bytes, put_unit-leading, put_unit-neither, put_unit-trailing, trailing, whole_items, whole_tail}
 use Rattle.utf16_units.proofs.SplitJoin.{BeginsNoTrail-split_items, put_leading-no_trail}
@@ -263,10 +263,11 @@ module _ (big : Bool) (bytes : List ℕ) (n : ℕ) (ends : n + length (split_tai
       ap length (sym (spells_marked big bytes are 0 (λ l. absurd (omega (arith, l.0))))) ∙ length-spelled big 0 (decided big bytes) 0
       ∙ omega (arith, ends, length-decided big bytes)
 
-  pub is_text : AreBytes bytes → (rest : List ℕ) → IsText big (take n (encode big (marked (split_items big bytes)) ++ rest))
-  is_text are rest =
-      subst (IsText big) (sym (take_at (encode big (marked (split_items big bytes))) rest n (length-written are)))
-      (IsText-encode big (marked (split_items big bytes)) (scalars_marked (split_items big bytes) (Split-computed big bytes are).made))
+  pub encodes_marked : AreBytes bytes → (rest : List ℕ) → Encodes big (marked (split_items big bytes)) (take n (encode big (marked (split_items big bytes)) ++ rest))
+  encodes_marked are rest = record {
+    scalars = scalars_marked (split_items big bytes) (Split-computed big bytes are).made;
+    spelled = sym (take_at (encode big (marked (split_items big bytes))) rest n (length-written are));
+  }
 
 -- ---- where the tail begins, by the last whole unit
 

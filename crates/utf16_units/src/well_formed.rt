@@ -2,7 +2,7 @@
 
 ghost use Rattle.std.specs.Prelude.{◌≡◌, ◌+◌, ◌%◌, ◌≤◌, ◌++◌, ◌==◌, bit_and, drop, if◌then◌else◌, length, map, slice_index, take};
 ghost use Rattle.std.specs.List.{flat_map};
-ghost use Rattle.utf16_units.specs.Encoding.{IsText, encode, units_of};
+ghost use Rattle.utf16_units.specs.Encoding.{Encodes, IsText, encode, units_of};
 ghost use Rattle.utf16_units.specs.Split.{marked, split_items, split_tail};
 ghost use Rattle.utf16_units.specs.Unit.{unit_bytes};
 ghost use Rattle.utf16_units.specs.WellFormed.{HasLanes, swapped, well_formed_units};
@@ -20,6 +20,7 @@ pub fn write_well_formed<E: Utf16Order>(raw: &[u8], to: &mut [u8]) -> usize
     ensures len { result + length (split_tail E.BIG raw.now) ≡ length raw.now }
     ensures written { to.new ≡ encode E.BIG (marked (split_items E.BIG raw.now)) ++ drop result to.old }
     ensures text { IsText E.BIG (take result to.new) }
+    ensures encoding { Encodes E.BIG (marked (split_items E.BIG raw.now)) (take result to.new) }
 {
     let len = decided_len::<E>(raw);
     write_units::<E>(&raw[..len], &mut to[..len]);

@@ -1,7 +1,8 @@
 use Rattle.std.proofs.Common.{◌++◌, ◌∙◌, ap, arith, drop, length-take-le, subst, sym, take}
-use Rattle.utf16_units.specs.Encoding.{IsText}
+use Rattle.utf16_units.specs.Encoding.{Encodes}
+use Rattle.utf16_units.specs.Split.{marked, split_items}
 use Rattle.utf16_units.proofs.FirstChar.{AreBytes}
-use Rattle.utf16_units.proofs.WellFormedSplit.{even_end, is_text, written_is}
+use Rattle.utf16_units.proofs.WellFormedSplit.{encodes_marked, even_end, written_is}
 use Rattle.utf16_units.proofs.well_formed.write_well_formed.Goals as goal
 
 pub write_units-requires-clause-even : goal.write_units-requires-clause-even
@@ -17,10 +18,13 @@ returns-clause-written g c =
     let are : AreBytes bytes = λ k. omega (arith, c.type_inv.raw k) in
     ap (λ bs. bs ++ drop len c.args.to.now) (c.write_units.ensures ∙ written_is g.E.Utf16Order.BIG bytes len c.decided_len-len.ensures are)
 
-pub returns-clause-text : goal.returns-clause-text
-returns-clause-text g c =
+pub returns-clause-encoding : goal.returns-clause-encoding
+returns-clause-encoding g c =
     let bytes = c.args.raw.now in
     let len = c.decided_len-len.result in
     let are : AreBytes bytes = λ k. omega (arith, c.type_inv.raw k) in
-    subst (λ bs. IsText g.E.Utf16Order.BIG (take len bs)) (sym (returns-clause-written g c))
-    (is_text g.E.Utf16Order.BIG bytes len c.decided_len-len.ensures are (drop len c.args.to.now))
+    subst (λ bs. Encodes g.E.Utf16Order.BIG (marked (split_items g.E.Utf16Order.BIG bytes)) (take len bs)) (sym (returns-clause-written g c))
+    (encodes_marked g.E.Utf16Order.BIG bytes len c.decided_len-len.ensures are (drop len c.args.to.now))
+
+pub returns-clause-text : goal.returns-clause-text
+returns-clause-text g c = record { text = marked (split_items g.E.Utf16Order.BIG c.args.raw.now); encodes = returns-clause-encoding g c }
