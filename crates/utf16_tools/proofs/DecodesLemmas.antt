@@ -1,7 +1,7 @@
 -- Steps of decoding, one after another, and the step that an error's fields tell.
 use Rattle.std.proofs.Common.{◌≡◌, Option, true≢false, ◌⊎◌, inl, inr, take_all, ℕ, ◌+◌, ◌-◌, ◌*◌, ◌<◌, ◌≤◌, Bool, true, false, List, [], ◌∷◌, ◌++◌, None, Some, length, map, take, drop, encode_utf8_all, refl, sym, ap, ap₂, ◌∙◌, subst, ⊎_elim, arith, append_assoc, append-nil, take-append-drop, length-append, length-drop}
 use Rattle.std.proofs.lemmas.Bool.{cases_Bool, cases_lt}
-use Rattle.std.proofs.lemmas.List.{drop-append-le, drop-drop, length-take-le, map-append}
+use Rattle.std.proofs.lemmas.List.{drop-append-le, length-take-le, map-append}
 use Rattle.std.proofs.Math.Seq.{drop-append-add, drop-append_seam}
 use Rattle.std.proofs.lemmas.List.Concat.{flat_map-append}
 use Rattle.std.specs.Char.{encode_utf8}
@@ -18,8 +18,8 @@ use Rattle.utf16_units.proofs.Computed.{IsCutOff-from_is_cut_off}
 use Rattle.utf16_units.proofs.SplitLemmas.{cut_items, cut_tail, whole_items, whole_tail}
 use Rattle.utf16_units.proofs.SplitJoin.{some_put_unit, split_items-append, split_items-text, split_tail-append, split_tail-text}
 use Rattle.utf16_units.proofs.SplitUnique.{length-split_tail}
-use Rattle.utf16_units.proofs.SplitFault.{lone_item, split_items-cut_off, split_items-fault, split_tail-cut_off, split_tail-fault}
-use Rattle.utf16_units.proofs.RecipeLemmas.{mark-lone_item, marked-good, split_text, two}
+use Rattle.utf16_units.proofs.SplitFault.{lone_item, split_items-cut_off, split_items-fault, split_tail-cut_off}
+use Rattle.utf16_units.proofs.RecipeLemmas.{marked-good, split_text, two}
 use Rattle.utf16_tools.specs.Decodes.{Decodes}
 
 -- the UTF-8 of what items are shown by
@@ -28,10 +28,6 @@ shown items = encode_utf8_all (marked items)
 
 pub shown-append : (items more : List Item) → shown (items ++ more) ≡ shown items ++ shown more
 shown-append items more = ap encode_utf8_all (map-append mark items more) ∙ flat_map-append encode_utf8 (marked items) (marked more)
-
-shown-lone : (unit : ℕ) → encode_utf8 0xFFFD ≡ shown (lone_item unit ∷ [])
-unfolding encode_utf8
-shown-lone unit = ap (λ c. encode_utf8_all (c ∷ [])) (sym (mark-lone_item unit))
 
 -- nothing is decided
 pub Decodes-none : (big : Bool) (bytes old : List ℕ) → Decodes big bytes bytes old old
@@ -78,25 +74,6 @@ Decodes-empty big bytes rest old new steps none = behind steps.taken (sym steps.
   behind : (taken : List Item) → taken ++ split_items big rest ≡ [] → split_items big rest ≡ []
   behind [] e = e
   behind (item ∷ taken) e = absurd (cc)
-
--- the longest valid beginning and U+FFFD for the surrogate behind it
-Decodes-fault : (big : Bool) (bytes : List ℕ) (n : ℕ) (old mid new : List ℕ) → AreBytes bytes → IsFault big bytes (Some 2) → IsFront big bytes n
-    → mid ≡ old ++ encode_utf8_all (text_of big (take n bytes)) → new ≡ mid ++ encode_utf8 0xFFFD → Decodes big bytes (drop (n + 2) bytes) old new
-Decodes-fault big bytes n old mid new are fault front valid marked_behind =
-    let unit = first_unit big (drop n bytes) in
-    let text = text_of big (take n bytes) in
-    record {
-      taken = map good text ++ lone_item unit ∷ [];
-      items =
-          split_items-fault big bytes n are fault front
-          ∙ sym (append_assoc (map good text) (lone_item unit ∷ []) (split_items big (drop (n + 2) bytes)));
-      tail = split_tail-fault big bytes n are fault front;
-      text =
-          marked_behind ∙ ap (λ t. t ++ encode_utf8 0xFFFD) valid ∙ append_assoc old (encode_utf8_all text) (encode_utf8 0xFFFD)
-          ∙ ap (λ t. old ++ t) (
-          ap₂ (λ t u. encode_utf8_all t ++ u) (sym (marked-good text)) (shown-lone unit) ∙ sym (shown-append (map good text) (lone_item unit ∷ []))
-          );
-    }
 
 -- a text is all that its bytes decide
 pub text_shown : (big : Bool) (text bytes old new : List ℕ) → Encodes big text bytes → new ≡ old ++ encode_utf8_all text → new ≡ old ++ shown (split_items big bytes)
@@ -170,15 +147,7 @@ module _ (big : Bool) (bytes : List ℕ) (e : Utf16Error) (is : IsErrorOf big by
     faulty : IsFault big bytes (Some 2)
     faulty = two (subst (IsFault big bytes) some is.fault)
 
-    -- a surrogate has no partner: the valid beginning and U+FFFD are decided, and the rest begins behind the surrogate
-    pub fault_decides : (old mid new : List ℕ) → mid ≡ old ++ encode_utf8_all (text_of big (take n bytes)) → new ≡ mid ++ encode_utf8 0xFFFD
-        → Decodes big bytes (drop len (drop n bytes)) old new
-    fault_decides old mid new valid mark =
-        subst (λ r. Decodes big bytes r old new)
-        (sym (drop-drop len n bytes ∙ ap (λ t. drop (n + t) bytes) (subst (IsFault big bytes) some is.fault).at_front.0))
-        (Decodes-fault big bytes n old mid new are faulty front valid mark)
-
-    -- and what stands behind the valid beginning has an item
+    -- what stands behind the valid beginning has an item
     pub fault_left : ¬ (split_items big (drop n bytes) ≡ [])
     fault_left none =
         let text = text_of big (take n bytes) in

@@ -57,8 +57,9 @@ impl<E: Utf16Order> Lossy<E> {
     /// Takes the next piece, and answers the text of all that is decided now: the characters, and U+FFFD for each surrogate
     /// without its partner. What more bytes could change stays pending. The only error is a refused request for memory; it
     /// leaves the decoder as it was, and nothing of the piece is taken. Where the answer is empty there is none. Room for the
-    /// longest answer is asked for once: three bytes for each code unit. The piece is not copied: its bytes are tested where they
-    /// stand, and then read, in time that grows with their number alone.
+    /// longest answer is asked for once: three bytes for each code unit. What is well formed is tested and read where it
+    /// stands; from each surrogate without its partner on, 1,024 bytes go through a buffer in the frame. The time grows with the
+    /// number of bytes alone.
     pub fn feed<A: Allocator>(&mut self, alloc: A, piece: &[u8]) -> Result<String<A>, AllocError>
         ensures text { IfOk result (λ s. string_bytes s ≡ encode_utf8_all (marked (split_items E.BIG (lossy_pending self.old ++ piece.now)))) }
         ensures pending { OnOk result (lossy_pending self.new ≡ split_tail E.BIG (lossy_pending self.old ++ piece.now)) }
