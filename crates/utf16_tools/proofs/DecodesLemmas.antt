@@ -1,11 +1,12 @@
 -- Steps of decoding, one after another, and the step that an error's fields tell.
-use Rattle.std.proofs.Common.{◌≡◌, ℕ, ◌+◌, ◌-◌, ◌*◌, ◌<◌, ◌≤◌, Bool, true, false, List, [], ◌∷◌, ◌++◌, None, Some, length, map, take, drop, encode_utf8_all, refl, sym, ap, ap₂, ◌∙◌, subst, ⊎_elim, arith, append_assoc, append-nil, take-append-drop, length-append, length-drop}
-use Rattle.std.proofs.lemmas.Bool.{cases_Bool}
-use Rattle.std.proofs.lemmas.List.{drop-append-le, drop-drop, length-take-le, map-append}
+use Rattle.std.proofs.Common.{◌≡◌, Option, true≢false, ◌⊎◌, inl, inr, take_all, ℕ, ◌+◌, ◌-◌, ◌*◌, ◌<◌, ◌≤◌, Bool, true, false, List, [], ◌∷◌, ◌++◌, None, Some, length, map, take, drop, encode_utf8_all, refl, sym, ap, ap₂, ◌∙◌, subst, ⊎_elim, arith, append_assoc, append-nil, take-append-drop, length-append, length-drop}
+use Rattle.std.proofs.lemmas.Bool.{cases_Bool, cases_lt}
+use Rattle.std.proofs.lemmas.List.{drop-append-le, length-take-le, map-append}
 use Rattle.std.proofs.Math.Seq.{drop-append-add, drop-append_seam}
 use Rattle.std.proofs.lemmas.List.Concat.{flat_map-append}
 use Rattle.std.specs.Char.{encode_utf8}
-use Rattle.utf16_units.specs.Encoding.{Encodes, text_of}
+use Rattle.std.specs.Option.{is_some}
+use Rattle.utf16_units.specs.Encoding.{Encodes, IsText, text_of}
 use Rattle.utf16_units.specs.Unit.{unit_of}
 use Rattle.utf16_units.specs.Utf16Error.{IsErrorOf, error_len, valid_up_to}
 use Rattle.utf16_units.specs.declared.error.Utf16Error.{Utf16Error}
@@ -15,9 +16,10 @@ use Rattle.utf16_units.proofs.FirstChar.{AreBytes, first_unit}
 use Rattle.utf16_units.proofs.EncodingLemmas.{Encodes-text_of}
 use Rattle.utf16_units.proofs.Computed.{IsCutOff-from_is_cut_off}
 use Rattle.utf16_units.proofs.SplitLemmas.{cut_items, cut_tail, whole_items, whole_tail}
-use Rattle.utf16_units.proofs.SplitJoin.{some_put_unit, split_items-append, split_items-text, split_tail-append}
-use Rattle.utf16_units.proofs.SplitFault.{lone_item, split_items-cut_off, split_items-fault, split_tail-cut_off, split_tail-fault}
-use Rattle.utf16_units.proofs.RecipeLemmas.{mark-lone_item, marked-good, split_text, two}
+use Rattle.utf16_units.proofs.SplitJoin.{some_put_unit, split_items-append, split_items-text, split_tail-append, split_tail-text}
+use Rattle.utf16_units.proofs.SplitUnique.{length-split_tail}
+use Rattle.utf16_units.proofs.SplitFault.{lone_item, split_items-cut_off, split_items-fault, split_tail-cut_off}
+use Rattle.utf16_units.proofs.RecipeLemmas.{marked-good, split_text, two}
 use Rattle.utf16_tools.specs.Decodes.{Decodes}
 
 -- the UTF-8 of what items are shown by
@@ -26,10 +28,6 @@ shown items = encode_utf8_all (marked items)
 
 pub shown-append : (items more : List Item) → shown (items ++ more) ≡ shown items ++ shown more
 shown-append items more = ap encode_utf8_all (map-append mark items more) ∙ flat_map-append encode_utf8 (marked items) (marked more)
-
-shown-lone : (unit : ℕ) → encode_utf8 0xFFFD ≡ shown (lone_item unit ∷ [])
-unfolding encode_utf8
-shown-lone unit = ap (λ c. encode_utf8_all (c ∷ [])) (sym (mark-lone_item unit))
 
 -- nothing is decided
 pub Decodes-none : (big : Bool) (bytes old : List ℕ) → Decodes big bytes bytes old old
@@ -77,25 +75,6 @@ Decodes-empty big bytes rest old new steps none = behind steps.taken (sym steps.
   behind [] e = e
   behind (item ∷ taken) e = absurd (cc)
 
--- the longest valid beginning and U+FFFD for the surrogate behind it
-Decodes-fault : (big : Bool) (bytes : List ℕ) (n : ℕ) (old mid new : List ℕ) → AreBytes bytes → IsFault big bytes (Some 2) → IsFront big bytes n
-    → mid ≡ old ++ encode_utf8_all (text_of big (take n bytes)) → new ≡ mid ++ encode_utf8 0xFFFD → Decodes big bytes (drop (n + 2) bytes) old new
-Decodes-fault big bytes n old mid new are fault front valid marked_behind =
-    let unit = first_unit big (drop n bytes) in
-    let text = text_of big (take n bytes) in
-    record {
-      taken = map good text ++ lone_item unit ∷ [];
-      items =
-          split_items-fault big bytes n are fault front
-          ∙ sym (append_assoc (map good text) (lone_item unit ∷ []) (split_items big (drop (n + 2) bytes)));
-      tail = split_tail-fault big bytes n are fault front;
-      text =
-          marked_behind ∙ ap (λ t. t ++ encode_utf8 0xFFFD) valid ∙ append_assoc old (encode_utf8_all text) (encode_utf8 0xFFFD)
-          ∙ ap (λ t. old ++ t) (
-          ap₂ (λ t u. encode_utf8_all t ++ u) (sym (marked-good text)) (shown-lone unit) ∙ sym (shown-append (map good text) (lone_item unit ∷ []))
-          );
-    }
-
 -- a text is all that its bytes decide
 pub text_shown : (big : Bool) (text bytes old new : List ℕ) → Encodes big text bytes → new ≡ old ++ encode_utf8_all text → new ≡ old ++ shown (split_items big bytes)
 text_shown big text bytes old new e behind =
@@ -132,9 +111,20 @@ no_fault big bytes n are fault front none = some (map good (text_of big (take n 
 
 -- ---- the error's fields
 
+pub none_of : (o : Option ℕ) → is_some o ≡ false → o ≡ None
+none_of None e = refl
+none_of (Some n) e = absurd (true≢false e)
+
+pub some_of : (o : Option ℕ) → is_some o ≡ true → (n : ℕ) × (o ≡ Some n)
+some_of None e = absurd (true≢false (sym e))
+some_of (Some n) e = (n, refl)
+
 module _ (big : Bool) (bytes : List ℕ) (e : Utf16Error) (is : IsErrorOf big bytes e) (n : ℕ) (at : n ≡ valid_up_to e) where
   front : IsFront big bytes n
   front = subst (IsFront big bytes) (sym at) is.front
+
+  pub valid_front : IsText big (take n bytes)
+  valid_front = front.valid
 
   -- where nothing is decided, the valid beginning is empty
   pub nothing_valid : split_items big bytes ≡ [] → text_of big (take n bytes) ≡ []
@@ -157,13 +147,16 @@ module _ (big : Bool) (bytes : List ℕ) (e : Utf16Error) (is : IsErrorOf big by
     faulty : IsFault big bytes (Some 2)
     faulty = two (subst (IsFault big bytes) some is.fault)
 
-    -- a surrogate has no partner: the valid beginning and U+FFFD are decided, and the rest begins behind the surrogate
-    pub fault_decides : (old mid new : List ℕ) → mid ≡ old ++ encode_utf8_all (text_of big (take n bytes)) → new ≡ mid ++ encode_utf8 0xFFFD
-        → Decodes big bytes (drop len (drop n bytes)) old new
-    fault_decides old mid new valid mark =
-        subst (λ r. Decodes big bytes r old new)
-        (sym (drop-drop len n bytes ∙ ap (λ t. drop (n + t) bytes) (subst (IsFault big bytes) some is.fault).at_front.0))
-        (Decodes-fault big bytes n old mid new are faulty front valid mark)
+    -- what stands behind the valid beginning has an item
+    pub fault_left : ¬ (split_items big (drop n bytes) ≡ [])
+    fault_left none =
+        let text = text_of big (take n bytes) in
+        let whole = split_items-fault big bytes n are faulty front in
+        let valid = ap (split_items big) (sym (take-append-drop n bytes)) ∙ split_items-text big text (take n bytes) (drop n bytes) (Encodes-text_of big (take n bytes) front.valid) in
+        let longer = ap length (sym whole ∙ valid) in
+        let rest = length-append (map good text) (split_items big (drop n bytes)) in
+        let more = length-append (map good text) (lone_item (first_unit big (drop n bytes)) ∷ split_items big (drop (n + 2) bytes)) in
+        omega (arith, longer, rest, more, ap length none)
 
     pub fault_is_something : ¬ (split_items big bytes ≡ [])
     fault_is_something none = no_fault big bytes n are faulty front none
@@ -274,3 +267,51 @@ four_decide big (first ∷ second ∷ bytes) long none = ⊎_elim
     (λ (whole : is_cut_off big (first ∷ second ∷ bytes) ≡ false).
     absurd (some_put_unit (unit_of big first second) (split_items big bytes) (sym (whole_items big first second bytes whole) ∙ none)))
     (cases_Bool (is_cut_off big (first ∷ second ∷ bytes)))
+
+-- ---- the front of bytes
+
+-- the text of a valid beginning was put behind
+pub Decodes-front : (big : Bool) (bytes : List ℕ) (n : ℕ) (old new : List ℕ) → IsText big (take n bytes)
+    → new ≡ old ++ encode_utf8_all (text_of big (take n bytes)) → Decodes big bytes (drop n bytes) old new
+Decodes-front big bytes n old new valid text =
+    let chars = text_of big (take n bytes) in
+    let e = Encodes-text_of big (take n bytes) valid in
+    let whole = sym (take-append-drop n bytes) in
+    record {
+      taken = map good chars;
+      items = ap (split_items big) whole ∙ split_items-text big chars (take n bytes) (drop n bytes) e;
+      tail = ap (split_tail big) whole ∙ split_tail-text big chars (take n bytes) (drop n bytes) e;
+      text = text ∙ ap (λ t. old ++ encode_utf8_all t) (sym (marked-good chars));
+    }
+
+-- the first m bytes, of which n are decided
+module _ (big : Bool) (bytes front : List ℕ) (m n : ℕ) (is : front ≡ take m bytes) (ends : n + length (split_tail big front) ≡ length front) where
+  both : front ++ drop m bytes ≡ bytes
+  both = ap (λ f. f ++ drop m bytes) is ∙ take-append-drop m bytes
+
+  left : split_tail big front ++ drop m bytes ≡ drop n bytes
+  left =
+      let at : length front - length (split_tail big front) ≡ n = omega (arith, ends) in
+      ap (λ t. t ++ drop m bytes) (tail_at_end big front ∙ ap (λ k. drop k front) at)
+      ∙ sym (drop-append-le n front (drop m bytes) (omega (arith, ends))) ∙ ap (drop n) both
+
+  -- their text was put behind
+  pub Decodes-decided : (old new : List ℕ) → new ≡ old ++ shown (split_items big front) → Decodes big bytes (drop n bytes) old new
+  Decodes-decided old new text =
+      subst (λ r. Decodes big bytes r old new) left (subst (λ b. Decodes big b (split_tail big front ++ drop m bytes) old new) both (Decodes-piece big front (drop m bytes) old new text))
+
+  -- where the bytes have no item they have none
+  pub none_decided : split_items big bytes ≡ [] → split_items big front ≡ []
+  none_decided none = front_none (split_items big front) _ (sym (split_items-append big front (drop m bytes)) ∙ ap (split_items big) both ∙ none)
+
+  -- and where the bytes have one, some are decided of four bytes or more, and of all
+  pub some_decided : (4 ≤ length front) ⊎ (length bytes ≤ m) → ¬ (split_items big bytes ≡ []) → 0 < n
+  some_decided (inl long) some = omega (arith, ends, long, length-split_tail big front)
+  some_decided (inr short) some = ⊎_elim
+      (λ (none : n < 1).
+      let whole : front ≡ bytes = is ∙ take_all m bytes short in
+      let zero : length front - length (split_tail big front) ≡ 0 = omega (arith, ends, none) in
+      let tail : split_tail big front ≡ front = tail_at_end big front ∙ ap (λ k. drop k front) zero in
+      absurd (some (ap (split_items big) (sym whole) ∙ undecided_items big front tail)))
+      (λ (more : 1 ≤ n). omega (arith, more))
+      (cases_lt n 1)

@@ -14,7 +14,11 @@ use crate::decoder::Decoder;
 use crate::held::Held;
 use std::alloc::{AllocError, Allocator};
 use std::marker::PhantomData;
+use utf16_units::write_well_formed;
 use utf16string::{Utf16Order, WStr};
+
+// How many bytes are copied at once from a fault on, to a buffer in the frame.
+const COPIED: usize = 1024;
 
 /// A decoder of UTF-16 in the byte order `E` that comes in pieces, cut anywhere. What is no text is shown by U+FFFD, one for
 /// each surrogate without its partner. At most three bytes are held back, in the value itself.
@@ -53,8 +57,9 @@ impl<E: Utf16Order> Lossy<E> {
     /// Takes the next piece, and answers the text of all that is decided now: the characters, and U+FFFD for each surrogate
     /// without its partner. What more bytes could change stays pending. The only error is a refused request for memory; it
     /// leaves the decoder as it was, and nothing of the piece is taken. Where the answer is empty there is none. Room for the
-    /// longest answer is asked for once: three bytes for each code unit. The piece is not copied: its bytes are tested where they
-    /// stand, and then read, in time that grows with their number alone.
+    /// longest answer is asked for once: three bytes for each code unit. What is well formed is tested and read where it
+    /// stands; from each surrogate without its partner on, 1,024 bytes go through a buffer in the frame. The time grows with the
+    /// number of bytes alone.
     pub fn feed<A: Allocator>(&mut self, alloc: A, piece: &[u8]) -> Result<String<A>, AllocError>
         ensures text { IfOk result (λ s. string_bytes s ≡ encode_utf8_all (marked (split_items E.BIG (lossy_pending self.old ++ piece.now)))) }
         ensures pending { OnOk result (lossy_pending self.new ≡ split_tail E.BIG (lossy_pending self.old ++ piece.now)) }
@@ -168,7 +173,7 @@ fn decode_from<E: Utf16Order, A: Allocator>(
         }
         (pending, rest) = meet::<E, A>(pending, rest, to)?;
     }
-    Ok(Held::new(decode::<E, A>(rest, to)?))
+    Ok(Held::new(decode::<COPIED, E, A>(rest, to)?))
 }
 
 // Decodes the bytes where what is pending and a piece meet, at most four: what is pending then, and the piece from there on.
@@ -186,7 +191,7 @@ fn meet<'a, E: Utf16Order, A: Allocator>(
 {
     let taken = piece.len().min(4 - pending.len());
     let (seam, len) = seam(pending, &piece[..taken]);
-    let tail = decode::<E, A>(&seam[..len], to)?;
+    let tail = decode::<4, E, A>(&seam[..len], to)?;
     if tail.len() <= taken {
         Ok((Held::new(&[]), &piece[taken - tail.len()..]))
     } else {
@@ -209,11 +214,13 @@ fn seam(pending: Held, front: &[u8]) -> ([u8; 4], usize)
     (seam, len)
 }
 
-// Puts the text of what the bytes decide behind a text, and answers the bytes at the end that more could change.
-fn decode<'a, E: Utf16Order, A: Allocator>(
+// Puts the text of what the bytes decide behind a text, and answers the bytes at the end that more could change. What is well
+// formed is read where it stands, and the next `N` bytes from each fault on are copied first.
+fn decode<'a, const N: usize, E: Utf16Order, A: Allocator>(
     bytes: &'a [u8],
     to: &mut String<A>,
 ) -> Result<&'a [u8], AllocError>
+    requires size { (4 ≤ N) × (N ≤ 4096) }
     ensures text { OnOk result (string_bytes to.new ≡ string_bytes to.old ++ encode_utf8_all (marked (split_items E.BIG bytes.now))) }
     ensures tail { IfOk result (λ tail. tail.now ≡ split_tail E.BIG bytes.now) }
     ensures nothing { split_items E.BIG bytes.now ≡ [] → IsOk result }
@@ -228,14 +235,31 @@ fn decode<'a, E: Utf16Order, A: Allocator>(
             Err(e) => e,
         };
         let behind = push_front::<E, A>(rest, e.valid_up_to(), to)?;
-        match e.error_len() {
-            Some(len) => {
-                to.push('\u{FFFD}')?;
-                rest = &behind[len..];
-            }
-            None => return Ok(behind),
+        if e.error_len().is_none() {
+            return Ok(behind);
         }
+        let len = push_marked::<N, E, A>(behind, to)?;
+        rest = &behind[len..];
     }
+}
+
+// Puts the text of what the next `N` bytes decide behind a text, and answers how many bytes that are. They are copied, with U+FFFD
+// in place of each surrogate without its partner.
+#[inline(never)]
+fn push_marked<const N: usize, E: Utf16Order, A: Allocator>(
+    bytes: &[u8],
+    to: &mut String<A>,
+) -> Result<usize, AllocError>
+    requires size { (4 ≤ N) × (N ≤ 4096) }
+    ensures step { IfOk result (λ len. Decodes E.BIG bytes.now (drop len bytes.now) (string_bytes to.old) (string_bytes to.new)) }
+    ensures within { IfOk result (λ len. len ≤ length bytes.now) }
+    ensures some { IfOk result (λ len. split_items E.BIG bytes.now ≢ [] → 0 < len) }
+    ensures nothing { split_items E.BIG bytes.now ≡ [] → IsOk result }
+{
+    let mut copy = [0; N];
+    let len = write_well_formed::<E>(&bytes[..bytes.len().min(N)], &mut copy);
+    WStr::<E>::from_utf16_unchecked(&copy[..len]).push_utf8(to)?;
+    Ok(len)
 }
 
 // Puts the longest valid beginning of bytes behind a text, and answers what follows it.

@@ -33,3 +33,5 @@ pub mod OrderLemmas
 pub mod RankLemmas
 pub mod SameLemmas
 pub mod OrderTies
+pub mod WellFormedLemmas
+pub mod WellFormedSplit

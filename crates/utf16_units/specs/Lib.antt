@@ -7,6 +7,7 @@ pub mod Edit
 pub mod Continued
 pub mod Laws
 pub mod Split
+pub mod WellFormed
 pub mod Recipe
 pub mod Lanes
 pub mod Order

@@ -1,0 +1,128 @@
+//! Bytes of more than a block made well formed: U+FFFD in place of each surrogate without its partner.
+
+use std::process::Abort;
+use utf16_units::{BE, LE, Utf16Order, write_well_formed};
+
+// Two units between letters "a", and what is written of them.
+const CASES: [([u16; 2], [u16; 2]); 8] = [
+    ([0xD83D, 0xDE00], [0xD83D, 0xDE00]),
+    ([0xD800, 0x61], [0xFFFD, 0x61]),
+    ([0xDBFF, 0xD800], [0xFFFD, 0xFFFD]),
+    ([0x61, 0xDC00], [0x61, 0xFFFD]),
+    ([0xDFFF, 0xDC00], [0xFFFD, 0xFFFD]),
+    ([0xDC00, 0xD800], [0xFFFD, 0xFFFD]),
+    ([0xDBFF, 0xDFFF], [0xDBFF, 0xDFFF]),
+    ([0xD7FF, 0xE000], [0xD7FF, 0xE000]),
+];
+
+// Room for the longest text.
+const ROOM: usize = 160;
+
+// A buffer of the letter "a", with two units at a place.
+fn letters_and<E: Utf16Order>(rt: &impl Abort, place: usize, units: [u16; 2]) -> [u8; ROOM] {
+    let letter = E::write_unit(0x61);
+    let (first, second) = (E::write_unit(units[0]), E::write_unit(units[1]));
+    let mut buf = [0; ROOM];
+    for i in 0..ROOM {
+        buf[i] = letter[i % 2];
+    }
+    assert!(rt; place < 70);
+    buf[2 * place..2 * place + 2].copy_from_slice(&first);
+    buf[2 * place + 2..2 * place + 4].copy_from_slice(&second);
+    buf
+}
+
+// Of the first bytes of a text these are written, and what stands behind them in the buffer stays.
+fn is_written<E: Utf16Order>(rt: &impl Abort, raw: &[u8], wanted: &[u8]) {
+    assert!(rt; raw.len() <= ROOM && wanted.len() <= ROOM);
+    let mut to = [0xEE; ROOM];
+    let len = write_well_formed::<E>(raw, &mut to);
+    assert_eq!(rt; len, wanted.len(), "{raw:?}");
+    assert!(rt; to[..wanted.len()] == wanted[..], "{raw:?}");
+    assert!(rt;
+        to[wanted.len()..].iter().all(|byte| *byte == 0xEE),
+        "{raw:?}"
+    );
+}
+
+fn case_is<E: Utf16Order>(rt: &impl Abort, place: usize, case: usize) {
+    let (units, written) = CASES[case % 8];
+    let raw = letters_and::<E>(rt, place, units);
+    let wanted = letters_and::<E>(rt, place, written);
+    for end in 0..5usize {
+        assert!(rt; place < 70);
+        let len = 2 * (place + 3 + end);
+        is_written::<E>(rt, &raw[..len], &wanted[..len]);
+        is_written::<E>(rt, &raw[..len + 1], &wanted[..len]);
+    }
+}
+
+#[test]
+fn units_around_each_seam(rt: HostRuntime) {
+    for place in 0..70usize {
+        for case in 0..8usize {
+            case_is::<LE>(&rt, place, case);
+            case_is::<BE>(&rt, place, case);
+        }
+    }
+}
+
+// The order, bytes, and what is written of them.
+const ENDS: [(bool, &[u8], &[u8]); 14] = [
+    (false, &[], &[]),
+    (false, &[0x41], &[]),
+    (false, &[0x00, 0xD8], &[]),
+    (false, &[0x00, 0xD8, 0x00], &[]),
+    (false, &[0x61, 0x00, 0x00, 0xD8], &[0x61, 0x00]),
+    (false, &[0x61, 0x00, 0x00, 0xD8, 0x61], &[0x61, 0x00]),
+    (false, &[0x00, 0xD8, 0x00, 0xDC], &[0x00, 0xD8, 0x00, 0xDC]),
+    (false, &[0x00, 0xDC], &[0xFD, 0xFF]),
+    (false, &[0x00, 0xD8, 0x00, 0xD8, 0x00], &[0xFD, 0xFF]),
+    (true, &[0xDC], &[]),
+    (true, &[0xD8, 0x00, 0xDC], &[]),
+    (true, &[0xDC, 0x00], &[0xFF, 0xFD]),
+    (true, &[0xD8, 0x00, 0xD8, 0x00], &[0xFF, 0xFD]),
+    (true, &[0x00, 0xD8, 0x00, 0xDC], &[0x00, 0xD8, 0x00, 0xDC]),
+];
+
+#[test]
+fn ends_in_both_orders(rt: HostRuntime) {
+    for (big, raw, wanted) in ENDS {
+        if big {
+            is_written::<BE>(&rt, raw, wanted);
+        } else {
+            is_written::<LE>(&rt, raw, wanted);
+        }
+    }
+}
+
+// One letter, then pairs up to the end: each block ends on a leading unit, and of the last pair one unit may be left.
+fn pairs_are<E: Utf16Order>(rt: &impl Abort, len: usize, written: usize) {
+    let (first, second) = (E::write_unit(0xD83D), E::write_unit(0xDE00));
+    let mut buf = letters_and::<E>(rt, 0, [0x61, 0x61]);
+    for i in 2..ROOM {
+        let pair = [first[0], first[1], second[0], second[1]];
+        buf[i] = pair[(i - 2) % 4];
+    }
+    assert!(rt; len <= ROOM && written <= len);
+    is_written::<E>(rt, &buf[..len], &buf[..written]);
+}
+
+#[test]
+fn pairs_over_each_seam(rt: HostRuntime) {
+    for (len, written) in [
+        (34, 34),
+        (35, 34),
+        (36, 34),
+        (37, 34),
+        (38, 38),
+        (64, 62),
+        (66, 66),
+        (98, 98),
+        (100, 98),
+        (130, 130),
+    ] {
+        pairs_are::<LE>(&rt, len, written);
+        pairs_are::<BE>(&rt, len, written);
+    }
+}
