@@ -1,6 +1,6 @@
 -- What eight lanes compute of a unit is what the unit adds.
-use Rattle.std.proofs.Common.{◌≡◌, ℕ, ◌+◌, ◌-◌, ◌*◌, ◌/◌, ◌%◌, ◌<◌, ◌≤◌, ◌⊎◌, Bool, true, false, cond, leb, ltb, List, [], ◌∷◌, length, take, bit_and, refl, sym, ap, ap₂, ◌∙◌, ⊎_elim, arith, inl, inr, eq-eqb, eqb-true, lt-ltb, le-ltb}
-use Rattle.std.proofs.lemmas.Bool.{cases_lt, false_from_ne_true, le-leb, lt-leb}
+use Rattle.std.proofs.Common.{◌≡◌, ℕ, ◌+◌, ◌-◌, ◌*◌, ◌/◌, ◌%◌, ◌<◌, ◌≤◌, ◌⊎◌, Bool, true, false, cond, ltb, List, [], ◌∷◌, length, take, bit_and, refl, sym, ap, ap₂, ◌∙◌, ⊎_elim, arith, inl, inr, eq-eqb, eqb-true, lt-ltb, le-ltb}
+use Rattle.std.proofs.lemmas.Bool.{cases_lt, false_from_ne_true}
 use Rattle.std.proofs.lemmas.Nat.{and_mask}
 use Rattle.std.proofs.lemmas.Nat.Bits.{and_high}
 use Rattle.utf16_to_utf8.specs.Lanes.{added_len, front, is_surrogate, minus, narrow, plus, third, two_bytes, up, wide}
@@ -104,18 +104,18 @@ added_len-surrogate u b =
 
 -- one byte or both of a lane, where the unit adds no third
 abbrev pub one_or_two : Bool → ℕ → ℕ → List ℕ
-one_or_two flag first second = cond flag (first ∷ second ∷ []) (first ∷ [])
+one_or_two flag first second = cond flag (first ∷ []) (first ∷ second ∷ [])
 
-both : (u x y lane : ℕ) → 0x80 ≤ u → x < 256 → y < 256 → lane ≡ x + 256 * y → one_or_two (leb 0x80 u) (lane % 256) (lane / 256 % 256) ≡ x ∷ y ∷ []
+both : (u x y lane : ℕ) → 0x80 ≤ u → x < 256 → y < 256 → lane ≡ x + 256 * y → one_or_two (ltb u 0x80) (lane % 256) (lane / 256 % 256) ≡ x ∷ y ∷ []
 both u x y lane above a b e =
     let is = bytes_of x y lane a b e in
-    rw (le-leb 0x80 u above) (ap₂ (λ m n. m ∷ n ∷ []) is.0 (omega (arith, is.1)))
+    rw (le-ltb u 0x80 above) (ap₂ (λ m n. m ∷ n ∷ []) is.0 (omega (arith, is.1)))
 
-pub narrow-utf8 : (p u : ℕ) → u < 0x1_0000 → added_len u ≤ 2 → one_or_two (leb 0x80 u) (narrow p u % 256) (narrow p u / 256 % 256) ≡ unit_utf8 p u
+pub narrow-utf8 : (p u : ℕ) → u < 0x1_0000 → added_len u ≤ 2 → one_or_two (ltb u 0x80) (narrow p u % 256) (narrow p u / 256 % 256) ≡ unit_utf8 p u
 narrow-utf8 p u below few = go (class u)
   where
-    go : Class u → one_or_two (leb 0x80 u) (narrow p u % 256) (narrow p u / 256 % 256) ≡ unit_utf8 p u
-    go (inl a) = rw (lt-leb 0x80 u a) (ap (λ x. x ∷ []) (omega (arith, narrow-one p u a)) ∙ sym (unit-one p u a))
+    go : Class u → one_or_two (ltb u 0x80) (narrow p u % 256) (narrow p u / 256 % 256) ≡ unit_utf8 p u
+    go (inl a) = rw (lt-ltb u 0x80 a) (ap (λ x. x ∷ []) (omega (arith, narrow-one p u a)) ∙ sym (unit-one p u a))
     go (inr (inl b)) = both u (0xC0 + u / 64) (continuation u) _ b.0 (omega (arith, b.1)) (omega arith) (narrow-two p u b) ∙ sym (unit-two p u b.0 b.1)
     go (inr (inr (inl b))) = both u (0xF0 + (u - 0xD7C0) / 256) (continuation ((u - 0xD7C0) / 4)) _ (omega (arith, b.0)) (omega (arith, b.1)) (omega arith) (narrow-leading p u b) ∙ sym (unit-leading p u b.0 b.1)
     go (inr (inr (inr (inl b)))) = both u (continuation (p % 4 * 16 + u % 1024 / 64)) (continuation u) _ (omega (arith, b.0)) (omega arith) (omega arith) (narrow-trailing p u b) ∙ sym (unit-trailing p u b.0 b.1)
@@ -142,7 +142,7 @@ any_bytes p u = take (added_len u) ((front p u % 256) ∷ (front p u / 256 % 256
 any-two : (p u : ℕ) → u < 0x1_0000 → 0x80 ≤ u → added_len u ≡ 2 → front p u ≡ narrow p u → any_bytes p u ≡ unit_utf8 p u
 any-two p u below above two is =
     ap₂ (λ n f. take n ((f % 256) ∷ (f / 256 % 256) ∷ (third u % 256) ∷ [])) two is
-    ∙ sym (ap (λ flag. one_or_two flag (narrow p u % 256) (narrow p u / 256 % 256)) (le-leb 0x80 u above))
+    ∙ sym (ap (λ flag. one_or_two flag (narrow p u % 256) (narrow p u / 256 % 256)) (le-ltb u 0x80 above))
     ∙ narrow-utf8 p u below (omega (arith, two))
 
 any-surrogate : (p u : ℕ) → u < 0x1_0000 → Between 0xD800 0xE000 u → any_bytes p u ≡ unit_utf8 p u

@@ -7,6 +7,7 @@ mod lanes;
 pub mod laws;
 mod lens;
 mod pack;
+mod places;
 mod write;
 
 pub use crate::lens::utf8_len;
