@@ -5,6 +5,7 @@ mod append;
 mod lanes;
 pub mod laws;
 mod pack;
+mod positions;
 mod size;
 mod units;
 mod write;
