@@ -102,7 +102,7 @@ pub(crate) fn put_any(out: &mut [u8], at: usize, previous: u16x8, units: u16x8) 
     ensures bytes { take result out.new ≡ take at out.old ++ units_utf8 (slice_index previous 7) units }
     ensures end { result ≤ at + 24 }
 {
-    let words = words(fronts(behind(previous, units), units, true), thirds(units)).to_array();
+    let words = words(fronts(behind(previous, units), units), thirds(units)).to_array();
     let lens = added_lens(units).to_array();
     let mut end = at;
     for i in 0..8usize {

@@ -2,9 +2,12 @@ use Rattle.std.proofs.Common.{ℕ, ◌/◌, ◌%◌, ◌<◌, ◌++◌, ◌∷�
 use Rattle.std.proofs.lemmas.List.{length-map}
 use Rattle.std.proofs.lemmas.Simd.{Each1-get_or}
 use Rattle.utf16_to_utf8.specs.Lanes.{narrow}
-use Rattle.utf16_to_utf8.proofs.AddedLemmas.{narrow-utf8, one_or_two}
+use Rattle.utf16_to_utf8.proofs.AddedLemmas.{letter-below, narrow-utf8, one_or_two}
 use Rattle.utf16_to_utf8.proofs.ListLemmas.{packed-units}
 use Rattle.utf16_to_utf8.proofs.pack.put_narrow.Goals as goal
+
+pub narrow-requires : goal.narrow-requires
+narrow-requires c none i lt = letter-below (slice_index c.args.units i) (c.requires.none none i lt) (c.requires.narrow i lt)
 
 pub returns-clause-bytes : goal.returns-clause-bytes
 returns-clause-bytes c =
