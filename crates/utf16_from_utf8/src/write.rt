@@ -56,7 +56,7 @@ fn put_next<E: Utf16Order>(
     ensures used { (2 ≤ result.0) × (result.0 ≤ 16) }
     ensures end { result.1 ≤ at + 2 * result.0 }
 {
-    if b1 < 0xE0 && is_ascii(block) {
+    if is_ascii(block) && b1 < 0xE0 {
         return (16, put_ascii::<E>(out, at, block));
     }
     if are_threes(block) {
