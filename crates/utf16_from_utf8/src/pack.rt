@@ -25,7 +25,7 @@ fn put_eight(out: &mut [u8], at: usize, pairs: u8x16, bits: usize) -> usize
 #[inline(always)]
 pub(crate) fn put_kept(out: &mut [u8], at: usize, first: u8x16, second: u8x16, bits: u64) -> usize
     requires bits { bits < 2 ^ 16 }
-    requires room { at + 40 ≤ length out.old }
+    requires room { at + 32 ≤ length out.old }
     ensures pairs { take result out.new ≡ take at out.old ++ kept_pairs bits (first ++ second) }
     ensures end { result ≤ at + 32 }
 {
