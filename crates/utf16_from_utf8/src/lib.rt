@@ -2,6 +2,7 @@
 #![tactic(auto)]
 
 mod append;
+mod few;
 mod lanes;
 pub mod laws;
 mod pack;

@@ -1,4 +1,4 @@
-use Rattle.std.proofs.Common.{◌≡◌, ◌+◌, ◌-◌, ◌++◌, drop, length, replicate, take, ap, ◌∙◌, arith, length-append, length-take-le}
+use Rattle.std.proofs.Common.{◌-◌, ◌++◌, drop, length, replicate, take, ap, ◌∙◌, arith, length-append, length-take-le}
 use Rattle.std.proofs.lemmas.List.{drop-replicate}
 use Rattle.utf16_from_utf8.specs.Added.{added_bytes}
 use Rattle.utf16_from_utf8.proofs.BlockLemmas.{added-filled, added-short}
