@@ -1,5 +1,5 @@
 -- What the lanes of a block are is what its bytes add.
-use Rattle.std.proofs.Common.{◌≡◌, ℕ, zero, suc, drop-cons, ◌+◌, ◌-◌, ◌*◌, ◌/◌, ◌%◌, ◌^◌, ◌<◌, ◌≤◌, ◌&&◌, ◌==◌, Bool, true, false, cond, ltb, List, [], ◌∷◌, ◌++◌, length, take, drop, get_or, slice_index, set, append_assoc, bit_and, refl, sym, ap, ap₂, ◌∙◌, ⊎_elim, arith, append-nil, flat_map, lt-ltb, le-ltb, Fits, w8}
+use Rattle.std.proofs.Common.{◌≡◌, ℕ, zero, suc, drop-cons, ◌+◌, ◌-◌, ◌*◌, ◌/◌, ◌%◌, ◌^◌, ◌<◌, ◌≤◌, ◌&&◌, ◌==◌, Bool, true, false, cond, ltb, List, [], ◌∷◌, ◌++◌, length, take, drop, get_or, slice_index, set, append_assoc, bit_and, refl, sym, ap, ap₂, ◌∙◌, ⊎_elim, arith, append-nil, flat_map, lt-ltb, le-ltb, Fits, w8, replicate, length-append}
 use Rattle.std.proofs.lemmas.Bool.{cases_lt}
 use Rattle.std.proofs.lemmas.List.{drop_all, length-set, take_more_set}
 use Rattle.std.proofs.lemmas.Nat.Bits.{and_high}
@@ -268,3 +268,37 @@ added-step-one big done done' all piece at b2 b1 room wrote e =
 pub added-all : (big : Bool) (done all piece : List ℕ) (at b2 b1 : ℕ) → length piece ≤ at → done ++ added_bytes big b2 b1 (drop at piece) ≡ all → done ≡ all
 added-all big done all piece at b2 b1 end e =
     sym (append-nil done) ∙ ap (λ t. done ++ t) (sym (ap (added_bytes big b2 b1) (drop_all at piece end) ∙ added_bytes-nil big b2 b1)) ∙ e
+
+-- ---- a last block, filled up
+
+-- bytes that end no unit add none
+pub added-filled : (big : Bool) (b2 b1 : ℕ) (bytes : List ℕ) (k : ℕ) → added_bytes big b2 b1 (bytes ++ replicate k 0xFF) ≡ added_bytes big b2 b1 bytes
+added-filled big b2 b1 [] zero = refl
+added-filled big b2 b1 [] (suc k) =
+    added_bytes-cons big b2 b1 0xFF (replicate k 0xFF)
+    ∙ ap₂ (λ s t. s ++ t) (byte-adds-first big b2 b1 0xFF (omega arith)) (added-filled big b1 0xFF [] k ∙ added_bytes-nil big b1 0xFF)
+    ∙ sym (added_bytes-nil big b2 b1)
+added-filled big b2 b1 (b0 ∷ bytes) k =
+    added_bytes-cons big b2 b1 b0 (bytes ++ replicate k 0xFF)
+    ∙ ap (λ t. byte_adds big b2 b1 b0 ++ t) (added-filled big b1 b0 bytes k)
+    ∙ sym (added_bytes-cons big b2 b1 b0 bytes)
+
+unit-two : (big : Bool) (unit : ℕ) → length (unit_bytes big unit) ≡ 2
+unit-two true unit = refl
+unit-two false unit = refl
+
+byte-short : (big : Bool) (b2 b1 b0 : ℕ) → length (byte_adds big b2 b1 b0) ≤ 2
+byte-short big b2 b1 b0 = ⊎_elim
+    (λ (a : b0 < 0xC0). ⊎_elim
+    (λ (b : b1 < 0xE0). let two : length (byte_adds big b2 b1 b0) ≡ 2 = ap length (byte-adds-one big b2 b1 b0 a b) ∙ unit-two big (unit_behind b2 b1 b0) in omega (arith, two))
+    (λ (b : 0xE0 ≤ b1). let none : length (byte_adds big b2 b1 b0) ≡ 0 = ap length (byte-adds-behind big b2 b1 b0 b) in omega (arith, none))
+    (cases_lt b1 0xE0))
+    (λ (a : 0xC0 ≤ b0). let none : length (byte_adds big b2 b1 b0) ≡ 0 = ap length (byte-adds-first big b2 b1 b0 a) in omega (arith, none))
+    (cases_lt b0 0xC0)
+
+-- each byte adds a unit at most
+pub added-short : (big : Bool) (b2 b1 : ℕ) (bytes : List ℕ) → length (added_bytes big b2 b1 bytes) ≤ 2 * length bytes
+added-short big b2 b1 [] = let none : length (added_bytes big b2 b1 []) ≡ 0 = ap length (added_bytes-nil big b2 b1) in omega (arith, none)
+added-short big b2 b1 (b0 ∷ bytes) =
+    let both = ap length (added_bytes-cons big b2 b1 b0 bytes) ∙ length-append (byte_adds big b2 b1 b0) (added_bytes big b1 b0 bytes) in
+    omega (arith, both, byte-short big b2 b1 b0, added-short big b1 b0 bytes)

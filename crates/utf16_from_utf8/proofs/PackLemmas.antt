@@ -1,44 +1,62 @@
 -- Pairs packed by a table of positions.
-use Rattle.std.proofs.Common.{append_assoc, append-nil, length-take-le, ◌≡◌, ℕ, zero, suc, ◌+◌, ◌-◌, ◌*◌, ◌/◌, ◌%◌, ◌^◌, ◌<◌, ◌≤◌, ◌==◌, Bool, true, false, cond, leb, ltb, List, [], ◌∷◌, ◌++◌, count_ones, map, length, take, drop, get_or, refl, sym, ap, ap₂, ◌∙◌, subst, arith, w8}
-use Rattle.std.proofs.lemmas.Bool.{and_parts, false_from_ne_true, leb-true, ltb-true}
-use Rattle.std.proofs.lemmas.List.{drop_all, map-append, take-take}
+use Rattle.std.proofs.Common.{append_assoc, length-drop, length-take-le, take-append-drop, take_all, ◌≡◌, ℕ, zero, suc, ◌+◌, ◌*◌, ◌/◌, ◌%◌, ◌<◌, ◌≤◌, ◌==◌, ◌&&◌, Bool, true, false, cond, eqb, eqb-true, leb, ltb, List, [], ◌∷◌, ◌++◌, count_ones, map, length, take, drop, get_or, refl, sym, ap, ap₂, ◌∙◌, subst, arith, w8}
+use Rattle.std.proofs.lemmas.Bool.{and_parts, false_from_ne_true, leb-true, ltb-true, true≢false}
+use Rattle.std.proofs.lemmas.List.{map-append, take-take}
+use Rattle.std.proofs.lemmas.Nat.{ones-le}
 use Rattle.std.proofs.Math.Seq.{take-append-add}
-use Rattle.std.proofs.lemmas.Simd.{SwzOk, SwzOk-from_below, chunk-drop, length-chunk, pick_l-range_with_len, pick_l_left, pick_l_whole, swz_l, take_more_put_chunk}
+use Rattle.std.proofs.lemmas.Simd.{SwzOk, SwzOk-from_below, pick_l-range_with_len, pick_l_whole, swz_l, take_more_put_chunk}
 use Rattle.std.specs.List.{range_with_len, take-map}
 use lib.Count.{ones}
-use lib.Lanes.{Each1, all_below, chunk, pick_l, put_chunk}
+use lib.Lanes.{Each1, all_below, pick_l, put_chunk}
 use mir.Val.{zeroes}
 use Rattle.utf16_from_utf8.specs.Lanes.{Packs, kept_pairs}
-use Rattle.utf16_from_utf8.specs.declared.pack.TheConstants.{KEPT}
+use Rattle.utf16_from_utf8.specs.declared.positions.TheConstants.{KEPT}
 
 -- ---- the table, row by row
 
--- what holds of each number below n
-abbrev Each : ℕ → (ℕ → Type 0) → Type 0
-Each zero P = Unit {0}
-Each (suc n) P = P 0 × Each n (λ k. P (suc k))
+abbrev same : List ℕ → List ℕ → Bool
+same [] [] = true
+same [] (y ∷ ys) = false
+same (x ∷ xs) [] = false
+same (x ∷ xs) (y ∷ ys) = eqb x y && same xs ys
 
-each-below : (n k : ℕ) (P : ℕ → Type 0) → k < n → Each n P → P k
-each-below zero k P below all = absurd (omega arith)
-each-below (suc n) zero P below all = all.0
-each-below (suc n) (suc k) P below all = each-below n k (λ m. P (suc m)) (omega arith) all.1
+same-is : (xs ys : List ℕ) → same xs ys ≡ true → xs ≡ ys
+same-is [] [] e = refl
+same-is [] (y ∷ ys) e = absurd (true≢false (sym e))
+same-is (x ∷ xs) [] e = absurd (true≢false (sym e))
+same-is (x ∷ xs) (y ∷ ys) e =
+    let parts = and_parts (eqb x y) (same xs ys) e in
+    ap₂ (λ z zs. z ∷ zs) (eqb-true x y parts.0) (same-is xs ys parts.1)
 
-abbrev four_pairs : List ℕ
-four_pairs = 0 ∷ 1 ∷ 2 ∷ 3 ∷ 4 ∷ 5 ∷ 6 ∷ 7 ∷ []
+-- whether a row is that of some bits
+abbrev is_row : ℕ → List ℕ → Bool
+is_row bits row = same (take (2 * count_ones bits) row) (kept_pairs bits (range_with_len 0 16)) && (eqb (length row) 16 && all_below 16 row)
 
-abbrev row : ℕ → List ℕ
-row bits = chunk 0 16 (take (256 - 16 * bits) (drop (16 * bits) KEPT))
+-- whether rows are those of the numbers from some bits on
+abbrev are_rows : ℕ → List (List ℕ) → Bool
+are_rows bits [] = true
+are_rows bits (row ∷ rows) = is_row bits row && are_rows (bits + 1) rows
 
--- what a row is to be, computed
-abbrev Holds : ℕ → Type 0
-Holds bits =
-    (take (2 * count_ones bits) (row bits) ≡ kept_pairs bits four_pairs) × (length (row bits) ≡ 16) × (leb (count_ones bits) 4 ≡ true) × (all_below 8 (row bits) ≡ true)
+each-row : (bits : ℕ) (rows : List (List ℕ)) (i : ℕ) → are_rows bits rows ≡ true → i < length rows → is_row (bits + i) (get_or rows i []) ≡ true
+each-row bits [] i all below = absurd (omega arith)
+each-row bits (row ∷ rows) zero all below =
+    let here : bits ≡ bits + 0 = omega arith in
+    subst (λ n. is_row n row ≡ true) here (and_parts (is_row bits row) (are_rows (bits + 1) rows) all).0
+each-row bits (row ∷ rows) (suc i) all below =
+    let next : bits + 1 + i ≡ bits + suc i = omega arith in
+    subst (λ n. is_row n (get_or rows i []) ≡ true) next (each-row (bits + 1) rows i (and_parts (is_row bits row) (are_rows (bits + 1) rows) all).1 (omega arith))
 
-pub rows : (bits : ℕ) → bits < 16 → Packs bits (row bits)
+table : are_rows 0 KEPT ≡ true
 unfolding ones
+table = refl
+
+pub rows : (bits : ℕ) → bits < 256 → Packs bits (get_or KEPT bits [])
 rows bits below =
-    let holds = each-below 16 bits Holds below ((refl, refl, refl, refl), ((refl, refl, refl, refl), ((refl, refl, refl, refl), ((refl, refl, refl, refl), ((refl, refl, refl, refl), ((refl, refl, refl, refl), ((refl, refl, refl, refl), ((refl, refl, refl, refl), ((refl, refl, refl, refl), ((refl, refl, refl, refl), ((refl, refl, refl, refl), ((refl, refl, refl, refl), ((refl, refl, refl, refl), ((refl, refl, refl, refl), ((refl, refl, refl, refl), ((refl, refl, refl, refl), tt)))))))))))))))) in
-    record { kept = holds.0; len = holds.1; few = leb-true _ _ holds.2; below = holds.3 }
+    let row = get_or KEPT bits [] in
+    let here : 0 + bits ≡ bits = omega arith in
+    let is = and_parts (same (take (2 * count_ones bits) row) (kept_pairs bits (range_with_len 0 16))) (eqb (length row) 16 && all_below 16 row) (subst (λ n. is_row n row ≡ true) here (each-row 0 KEPT bits table below)) in
+    let rest = and_parts (eqb (length row) 16) (all_below 16 row) is.1 in
+    record { kept = same-is _ _ is.0; len = eqb-true _ _ rest.0; few = ones-le 8 bits below; below = rest.1 }
 
 pub all_below-each : (n : ℕ) (ks : List ℕ) → all_below n ks ≡ true → Each1 (λ k. k < n) ks
 all_below-each n [] e = tt
@@ -48,10 +66,10 @@ all_below-each n (k ∷ ks) e =
 
 -- ---- positions in a vector
 
-not_zeroed : (k : ℕ) → k < 8 → zeroes 16 w8 k ≡ false
+not_zeroed : (k : ℕ) → k < 16 → zeroes 16 w8 k ≡ false
 not_zeroed k below = false_from_ne_true (leb 128 k) (λ e. let big = leb-true 128 k e in omega arith)
 
-swz_l-pick : (xs : List ℕ) (i : ℕ) (ks : List ℕ) → i + length ks ≤ 16 → Each1 (λ k. k < 8) ks → swz_l w8 16 xs i ks ≡ pick_l 0 xs ks
+swz_l-pick : (xs : List ℕ) (i : ℕ) (ks : List ℕ) → i + length ks ≤ 16 → Each1 (λ k. k < 16) ks → swz_l w8 16 xs i ks ≡ pick_l 0 xs ks
 swz_l-pick xs i [] room each = refl
 swz_l-pick xs i (k ∷ ks) room each =
     let place : 16 * (i / 16) + k ≡ k = omega arith in
@@ -69,23 +87,18 @@ kept_pairs-map f bits (x ∷ y ∷ pairs) =
     choice true = refl
     choice false = refl
 
--- a vector's first four pairs, packed
+-- a vector's eight pairs, packed
 pub packed : (pairs positions : List ℕ) (bits : ℕ) → length pairs ≡ 16 → Packs bits positions
-    → take (2 * count_ones bits) (swz_l w8 16 pairs 0 positions) ≡ kept_pairs bits (take 8 pairs)
+    → take (2 * count_ones bits) (swz_l w8 16 pairs 0 positions) ≡ kept_pairs bits pairs
 packed pairs positions bits long is =
-    ap (take (2 * count_ones bits)) (swz_l-pick pairs 0 positions (omega (arith, is.len)) (all_below-each 8 positions is.below))
+    ap (take (2 * count_ones bits)) (swz_l-pick pairs 0 positions (omega (arith, is.len)) (all_below-each 16 positions is.below))
     ∙ take-map (λ k. get_or pairs k 0) (2 * count_ones bits) positions
     ∙ ap (pick_l 0 pairs) is.kept
-    ∙ sym (kept_pairs-map (λ k. get_or pairs k 0) bits four_pairs)
-    ∙ ap (kept_pairs bits) (pick_l-range_with_len 0 pairs 0 8 (omega arith))
+    ∙ sym (kept_pairs-map (λ k. get_or pairs k 0) bits (range_with_len 0 16))
+    ∙ ap (kept_pairs bits) (pick_l-range_with_len 0 pairs 0 16 (omega (arith, long)) ∙ take_all 16 pairs (omega (arith, long)))
 
 pub positions-fit : (bits : ℕ) (positions : List ℕ) → Packs bits positions → SwzOk w8 16 16 0 positions
-positions-fit bits positions is =
-    SwzOk-from_below w8 16 1 16 0 positions refl (omega (arith, is.len)) (widen positions (all_below-each 8 positions is.below))
-  where
-    widen : (ks : List ℕ) → Each1 (λ k. k < 8) ks → Each1 (λ k. k < 16) ks
-    widen [] each = tt
-    widen (k ∷ ks) each = (omega (arith, each.0), widen ks each.1)
+positions-fit bits positions is = SwzOk-from_below w8 16 1 16 0 positions refl (omega (arith, is.len)) (all_below-each 16 positions is.below)
 
 -- of a vector that is stored the front n bytes stand
 pub stored_front : (at n : ℕ) (out v : List ℕ) → n ≤ length v → at + length v ≤ length out → take (at + n) (put_chunk at out v) ≡ take at out ++ take n v
@@ -94,7 +107,7 @@ stored_front at n out v few room =
     ∙ ap (take (at + n)) (take_more_put_chunk at out v (at + length v) refl room)
     ∙ subst (λ m. take (m + n) (take at out ++ v) ≡ take at out ++ take n v) (length-take-le at out (omega arith)) (take-append-add (take at out) v n)
 
--- ---- sixteen pairs, four by four
+-- ---- sixteen pairs, eight by eight
 
 assoc_four : (p q r s t : List ℕ) → (p ++ (q ++ (r ++ (s ++ [])))) ++ t ≡ p ++ (q ++ (r ++ (s ++ t)))
 assoc_four p q r s t =
@@ -115,40 +128,31 @@ kept_pairs-four bits four more long = subst (λ xs. kept_pairs bits (xs ++ more)
     ∙ ap (λ a. pair (bits % 16 % 2) 0 ++ (pair (bits % 16 / 2 % 2) 1 ++ (pair (bits % 16 / 2 / 2 % 2) 2 ++ (pair (bits % 16 / 2 / 2 / 2 % 2) 3 ++ kept_pairs a more)))) others
     ∙ sym (assoc_four (pair (bits % 16 % 2) 0) (pair (bits % 16 / 2 % 2) 1) (pair (bits % 16 / 2 / 2 % 2) 2) (pair (bits % 16 / 2 / 2 / 2 % 2) 3) (kept_pairs (bits / 16) more)))
 
--- the first eight bytes of a vector that was turned by eight
-pub turned : (v : List ℕ) → length v ≡ 16 → take 8 (pick_l 0 (v ++ v) (8 ∷ 9 ∷ 10 ∷ 11 ∷ 12 ∷ 13 ∷ 14 ∷ 15 ∷ 0 ∷ 1 ∷ 2 ∷ 3 ∷ 4 ∷ 5 ∷ 6 ∷ 7 ∷ [])) ≡ chunk 8 8 v
-turned v long = pick_l_left 0 v v 16 (range_with_len 8 8) long tt ∙ pick_l-range_with_len 0 v 8 8 (omega (arith, long))
+-- the first eight, and those behind them
+kept_pairs-eight : (bits : ℕ) (eight more : List ℕ) → length eight ≡ 16 → kept_pairs bits (eight ++ more) ≡ kept_pairs (bits % 256) eight ++ kept_pairs (bits / 256) more
+kept_pairs-eight bits eight more long =
+    let front = take 8 eight in
+    let back = drop 8 eight in
+    let four : length front ≡ 8 = length-take-le 8 eight (omega (arith, long)) in
+    let four' : length back ≡ 8 = omega (arith, length-drop 8 eight, long) in
+    let whole : front ++ back ≡ eight = take-append-drop 8 eight in
+    let low : bits % 256 % 16 ≡ bits % 16 = omega arith in
+    let high : bits % 256 / 16 ≡ bits / 16 % 16 = omega arith in
+    let rest : bits / 16 / 16 ≡ bits / 256 = omega arith in
+    let one = kept_pairs (bits % 16) front in
+    let two = kept_pairs (bits / 16 % 16) back in
+    let small : kept_pairs (bits % 256) eight ≡ one ++ two =
+    ap (kept_pairs (bits % 256)) (sym whole) ∙ kept_pairs-four (bits % 256) front back four ∙ ap₂ (λ m n. kept_pairs m front ++ kept_pairs n back) low high in
+    ap (λ bytes. kept_pairs bits (bytes ++ more)) (sym whole) ∙ ap (kept_pairs bits) (append_assoc front back more)
+    ∙ kept_pairs-four bits front (back ++ more) four
+    ∙ ap (λ bytes. one ++ bytes) (kept_pairs-four (bits / 16) back more four' ∙ ap (λ n. two ++ kept_pairs n more) rest)
+    ∙ sym (append_assoc one two (kept_pairs (bits / 256) more))
+    ∙ ap (λ bytes. bytes ++ kept_pairs (bits / 256) more) (sym small)
 
-halves : (v : List ℕ) → length v ≡ 16 → v ≡ take 8 v ++ (chunk 8 8 v ++ [])
-halves v long = chunk-drop 0 8 v ∙ ap (λ t. take 8 v ++ t) (chunk-drop 8 8 v ∙ ap (λ t. chunk 8 8 v ++ t) (drop_all 16 v (omega (arith, long))))
-
--- what four stores leave, one behind the other
-pub kept_pairs-all : (bits : ℕ) (first second start one two three all : List ℕ) → bits < 2 ^ 16 → length first ≡ 16 → length second ≡ 16
-    → one ≡ start ++ kept_pairs (bits % 16) (take 8 first) → two ≡ one ++ kept_pairs (bits / 16 % 16) (chunk 8 8 first)
-    → three ≡ two ++ kept_pairs (bits / 256 % 16) (take 8 second) → all ≡ three ++ kept_pairs (bits / 4096) (chunk 8 8 second)
-    → all ≡ start ++ kept_pairs bits (first ++ second)
-kept_pairs-all bits first second start one two three all few a b e f g h =
-    let A = take 8 first in
-    let B = chunk 8 8 first in
-    let C = take 8 second in
-    let D = chunk 8 8 second in
-    let p = kept_pairs (bits % 16) A in
-    let q = kept_pairs (bits / 16 % 16) B in
-    let r = kept_pairs (bits / 256 % 16) C in
-    let s = kept_pairs (bits / 4096) D in
-    let whole : first ++ second ≡ A ++ (B ++ (C ++ (D ++ []))) =
-    ap₂ (λ x y. x ++ y) (halves first a) (halves second b) ∙ append_assoc A (B ++ []) (C ++ (D ++ [])) ∙ ap (λ t. A ++ t) (append_assoc B [] (C ++ (D ++ []))) in
-    let long8 : (v : List ℕ) → length v ≡ 16 → length (take 8 v) ≡ 8 = λ v l. length-take-le 8 v (omega (arith, l)) in
-    let long16 : (v : List ℕ) → length v ≡ 16 → length (chunk 8 8 v) ≡ 8 = λ v l. length-chunk 8 8 v (omega (arith, l)) in
-    let third : bits / 16 / 16 % 16 ≡ bits / 256 % 16 = omega arith in
-    let fourth : bits / 16 / 16 / 16 % 16 ≡ bits / 4096 = omega (arith, few) in
-    let split =
-    kept_pairs-four bits A (B ++ (C ++ (D ++ []))) (long8 first a)
-    ∙ ap (λ t. p ++ t) (kept_pairs-four (bits / 16) B (C ++ (D ++ [])) (long16 first a)
-    ∙ ap (λ t. q ++ t) (kept_pairs-four (bits / 16 / 16) C (D ++ []) (long8 second b)
-    ∙ ap₂ (λ x t. x ++ t) (ap (λ k. kept_pairs k C) third) (kept_pairs-four (bits / 16 / 16 / 16) D [] (long16 second b) ∙ ap (λ k. kept_pairs k D ++ []) fourth))) in
-    h ∙ ap (λ t. t ++ s) (g ∙ ap (λ t. t ++ r) (f ∙ ap (λ t. t ++ q) e))
-    ∙ append_assoc ((start ++ p) ++ q) r s
-    ∙ append_assoc (start ++ p) q (r ++ s)
-    ∙ append_assoc start p (q ++ (r ++ s))
-    ∙ ap (λ t. start ++ t) (ap (λ t. p ++ (q ++ (r ++ t))) (sym (append-nil s)) ∙ sym (ap (kept_pairs bits) whole ∙ split))
+-- what two stores leave, one behind the other
+pub kept_pairs-all : (bits : ℕ) (first second start middle all : List ℕ) → length first ≡ 16
+    → middle ≡ start ++ kept_pairs (bits % 256) first → all ≡ middle ++ kept_pairs (bits / 256) second → all ≡ start ++ kept_pairs bits (first ++ second)
+kept_pairs-all bits first second start middle all long e f =
+    let one = kept_pairs (bits % 256) first in
+    let two = kept_pairs (bits / 256) second in
+    f ∙ ap (λ bytes. bytes ++ two) e ∙ append_assoc start one two ∙ ap (λ bytes. start ++ bytes) (sym (kept_pairs-eight bits first second long))

@@ -1,5 +1,6 @@
 -- Sixteen bytes lane by lane, and the two bytes of units side by side.
 use Rattle.std.specs.Prelude.{◌≡◌, ℕ, ◌*◌, ◌/◌, ◌%◌, ◌<◌, ◌≤◌, ◌==◌, Bool, true, false, List, [], ◌∷◌, ◌++◌, if◌then◌else◌, length, slice_index, take, count_ones}
+use Rattle.std.specs.List.{range_with_len}
 use Rattle.std.specs.Simd.Lanes.{all_below}
 
 -- the sixteen lanes, by their places
@@ -24,9 +25,9 @@ kept_pairs bits [] = []
 kept_pairs bits (byte ∷ []) = []
 kept_pairs bits (first ∷ second ∷ pairs) = (if bits % 2 == 1 then first ∷ second ∷ [] else []) ++ kept_pairs (bits / 2) pairs
 
--- where the bytes stand of those of four pairs that the bits keep: the first of sixteen positions in a vector
+-- where the bytes stand of those of eight pairs that the bits keep: the first of sixteen positions in a vector
 pub record Packs (bits : ℕ) (positions : List ℕ) : Type 0 where
-  pub kept : take (2 * count_ones bits) positions ≡ kept_pairs bits (0 ∷ 1 ∷ 2 ∷ 3 ∷ 4 ∷ 5 ∷ 6 ∷ 7 ∷ [])
+  pub kept : take (2 * count_ones bits) positions ≡ kept_pairs bits (range_with_len 0 16)
   pub len : length positions ≡ 16
-  pub few : count_ones bits ≤ 4
-  pub below : all_below 8 positions ≡ true
+  pub few : count_ones bits ≤ 8
+  pub below : all_below 16 positions ≡ true

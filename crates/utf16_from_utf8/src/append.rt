@@ -6,6 +6,7 @@ ghost use Rattle.std.specs.Vec.{VecUnchanged, vec_capacity, vec_len};
 ghost use Rattle.utf16_units.specs.Encoding.{encode, size};
 ghost use Rattle.utf16_from_utf8.specs.Added.{added_bytes};
 
+use crate::few::{FEW, extend_few};
 use crate::size::utf16_len;
 use crate::write::write_units;
 use std::alloc::{AllocError, Allocator};
@@ -27,6 +28,9 @@ pub fn extend_utf16<E: Utf16Order, A: Allocator>(
     ensures fits { IsOk result }
     ensures capacity { vec_capacity raw.old ≤ vec_capacity raw.new }
 {
+    if s.len() < FEW {
+        return extend_few::<E, A>(raw, s);
+    }
     let bytes = s.as_bytes();
     if bytes.len() <= SHORT {
         extend_piece::<E, A>(raw, [0; 2], bytes, &mut [0; 2 * SHORT + 16])

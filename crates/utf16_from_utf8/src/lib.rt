@@ -2,9 +2,11 @@
 #![tactic(auto)]
 
 mod append;
+mod few;
 mod lanes;
 pub mod laws;
 mod pack;
+mod positions;
 mod size;
 mod units;
 mod write;

@@ -1,39 +1,19 @@
 //! Pairs of bytes packed: of eight in a vector those are stored that count, one behind the other.
 
 ghost use Rattle.std.specs.Prelude.{◌≡◌, ◌+◌, ◌^◌, ◌<◌, ◌≤◌, ◌++◌, length, take};
-ghost use Rattle.utf16_from_utf8.specs.Lanes.{Packs, kept_pairs};
+ghost use Rattle.utf16_from_utf8.specs.Lanes.{kept_pairs};
 
+use crate::positions::positions;
 use std::simd::prelude::*;
 
-// Where the bytes stand of those of four pairs that the bits keep, sixteen numbers for each four bits; the rest are zeros.
-const KEPT: [u8; 256] = [
-    0, 0, 0, 0, 0, 0, 0, 0, 0, 0, 0, 0, 0, 0, 0, 0, 0, 1, 0, 0, 0, 0, 0, 0, 0, 0, 0, 0, 0, 0, 0, 0,
-    2, 3, 0, 0, 0, 0, 0, 0, 0, 0, 0, 0, 0, 0, 0, 0, 0, 1, 2, 3, 0, 0, 0, 0, 0, 0, 0, 0, 0, 0, 0, 0,
-    4, 5, 0, 0, 0, 0, 0, 0, 0, 0, 0, 0, 0, 0, 0, 0, 0, 1, 4, 5, 0, 0, 0, 0, 0, 0, 0, 0, 0, 0, 0, 0,
-    2, 3, 4, 5, 0, 0, 0, 0, 0, 0, 0, 0, 0, 0, 0, 0, 0, 1, 2, 3, 4, 5, 0, 0, 0, 0, 0, 0, 0, 0, 0, 0,
-    6, 7, 0, 0, 0, 0, 0, 0, 0, 0, 0, 0, 0, 0, 0, 0, 0, 1, 6, 7, 0, 0, 0, 0, 0, 0, 0, 0, 0, 0, 0, 0,
-    2, 3, 6, 7, 0, 0, 0, 0, 0, 0, 0, 0, 0, 0, 0, 0, 0, 1, 2, 3, 6, 7, 0, 0, 0, 0, 0, 0, 0, 0, 0, 0,
-    4, 5, 6, 7, 0, 0, 0, 0, 0, 0, 0, 0, 0, 0, 0, 0, 0, 1, 4, 5, 6, 7, 0, 0, 0, 0, 0, 0, 0, 0, 0, 0,
-    2, 3, 4, 5, 6, 7, 0, 0, 0, 0, 0, 0, 0, 0, 0, 0, 0, 1, 2, 3, 4, 5, 6, 7, 0, 0, 0, 0, 0, 0, 0, 0,
-];
-
-// Those of these bits.
+// Stores of eight pairs those whose bit is set, at `at`, and answers where they end. Sixteen bytes from `at` on are written
+// over.
 #[inline(always)]
-fn positions(bits: usize) -> u8x16
-    requires { bits < 16 }
-    ensures { Packs bits result }
-{
-    u8x16::from_slice(&KEPT[16 * bits..])
-}
-
-// Stores of the first four pairs those whose bit is set, at `at`, and answers where they end. Up to sixteen bytes from `at` on
-// are written over.
-#[inline(always)]
-pub(crate) fn put_four(out: &mut [u8], at: usize, pairs: u8x16, bits: usize) -> usize
-    requires bits { bits < 16 }
+fn put_eight(out: &mut [u8], at: usize, pairs: u8x16, bits: usize) -> usize
+    requires bits { bits < 256 }
     requires room { at + 16 ≤ length out.old }
-    ensures pairs { take result out.new ≡ take at out.old ++ kept_pairs bits (take 8 pairs) }
-    ensures end { result ≤ at + 8 }
+    ensures pairs { take result out.new ≡ take at out.old ++ kept_pairs bits pairs }
+    ensures end { result ≤ at + 16 }
 {
     pairs
         .swizzle_dyn(positions(bits))
@@ -45,22 +25,10 @@ pub(crate) fn put_four(out: &mut [u8], at: usize, pairs: u8x16, bits: usize) -> 
 #[inline(always)]
 pub(crate) fn put_kept(out: &mut [u8], at: usize, first: u8x16, second: u8x16, bits: u64) -> usize
     requires bits { bits < 2 ^ 16 }
-    requires room { at + 40 ≤ length out.old }
+    requires room { at + 32 ≤ length out.old }
     ensures pairs { take result out.new ≡ take at out.old ++ kept_pairs bits (first ++ second) }
     ensures end { result ≤ at + 32 }
 {
-    let one = put_four(out, at, first, (bits % 16) as usize);
-    let two = put_four(
-        out,
-        one,
-        first.rotate_elements_left::<8>(),
-        (bits / 16 % 16) as usize,
-    );
-    let three = put_four(out, two, second, (bits / 256 % 16) as usize);
-    put_four(
-        out,
-        three,
-        second.rotate_elements_left::<8>(),
-        (bits / 4096) as usize,
-    )
+    let middle = put_eight(out, at, first, (bits % 256) as usize);
+    put_eight(out, middle, second, (bits / 256) as usize)
 }

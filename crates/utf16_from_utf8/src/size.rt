@@ -5,12 +5,16 @@ ghost use Rattle.std.specs.Str.{chars};
 ghost use Rattle.utf16_units.specs.Encoding.{size};
 ghost use Rattle.utf16_from_utf8.specs.Sizes.{units_begun};
 
+use crate::few::{FEW, few_len};
 use std::simd::prelude::*;
 
 /// How many bytes a text takes in UTF-16. One pass, by lanes.
 pub fn utf16_len(s: &str) -> usize
     ensures { result ≡ size (chars s.now) }
 {
+    if s.len() < FEW {
+        return few_len(s);
+    }
     2 * units(s.as_bytes())
 }
 

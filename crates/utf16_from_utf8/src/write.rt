@@ -32,6 +32,9 @@ pub fn write_units<E: Utf16Order>(before: [u8; 2], piece: &[u8], out: &mut [u8])
         b2 = piece[at - 2];
         b1 = piece[at - 1];
     }
+    if piece.len() - at >= 8 {
+        return put_rest::<E>(out, end, b2, b1, &piece[at..]);
+    }
     while at < piece.len() {
         let b0 = piece[at];
         end = put_byte::<E>(out, end, b2, b1, b0);
@@ -56,7 +59,7 @@ fn put_next<E: Utf16Order>(
     ensures used { (2 ≤ result.0) × (result.0 ≤ 16) }
     ensures end { result.1 ≤ at + 2 * result.0 }
 {
-    if b1 < 0xE0 && is_ascii(block) {
+    if is_ascii(block) && b1 < 0xE0 {
         return (16, put_ascii::<E>(out, at, block));
     }
     if are_threes(block) {
@@ -118,7 +121,7 @@ fn put_block<E: Utf16Order>(
     before1: u8,
     block: u8x16,
 ) -> usize
-    requires room { at + 40 ≤ length out.old }
+    requires room { at + 32 ≤ length out.old }
     ensures bytes { take result out.new ≡ take at out.old ++ added_bytes E.BIG before2 before1 block }
     ensures end { result ≤ at + 32 }
 {
@@ -126,6 +129,25 @@ fn put_block<E: Utf16Order>(
     let b2 = behind(b1, before2);
     let (first, second) = paired::<E>(highs(b2, b1, block), lows(b2, b1, block));
     put_kept(out, at, first, second, ended_bits(b1, block))
+}
+
+// Writes what at most sixteen bytes add behind two: those of a whole block, filled up with bytes that add nothing.
+#[inline(always)]
+fn put_rest<E: Utf16Order>(
+    out: &mut [u8],
+    at: usize,
+    before2: u8,
+    before1: u8,
+    rest: &[u8],
+) -> usize
+    requires few { length rest.now ≤ 16 }
+    requires room { at + 32 ≤ length out.old }
+    ensures bytes { take result out.new ≡ take at out.old ++ added_bytes E.BIG before2 before1 rest.now }
+    ensures end { result ≤ at + 2 * length rest.now }
+{
+    let mut block = [0xFF; 16];
+    block[..rest.len()].copy_from_slice(rest);
+    put_block::<E>(out, at, before2, before1, u8x16::from_array(block))
 }
 
 // Writes what one byte adds behind two.

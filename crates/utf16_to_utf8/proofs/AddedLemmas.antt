@@ -1,9 +1,9 @@
 -- What eight lanes compute of a unit is what the unit adds.
-use Rattle.std.proofs.Common.{◌≡◌, ℕ, ◌+◌, ◌-◌, ◌*◌, ◌/◌, ◌%◌, ◌<◌, ◌≤◌, ◌⊎◌, Bool, true, false, cond, leb, ltb, List, [], ◌∷◌, length, take, bit_and, refl, sym, ap, ap₂, ◌∙◌, ⊎_elim, arith, inl, inr, eq-eqb, eqb-true, lt-ltb, le-ltb}
-use Rattle.std.proofs.lemmas.Bool.{cases_lt, false_from_ne_true, le-leb, lt-leb}
+use Rattle.std.proofs.Common.{◌≡◌, ℕ, ◌+◌, ◌-◌, ◌*◌, ◌/◌, ◌%◌, ◌<◌, ◌≤◌, ◌⊎◌, Bool, true, false, cond, ltb, List, [], ◌∷◌, length, take, bit_and, refl, sym, ap, ap₂, ◌∙◌, ⊎_elim, arith, inl, inr, eq-eqb, eqb-true, lt-ltb, le-ltb}
+use Rattle.std.proofs.lemmas.Bool.{cases_lt, false_from_ne_true}
 use Rattle.std.proofs.lemmas.Nat.{and_mask}
 use Rattle.std.proofs.lemmas.Nat.Bits.{and_high}
-use Rattle.utf16_to_utf8.specs.Lanes.{added_len, front, is_surrogate, minus, narrow, plus, third, two_bytes, up, wide}
+use Rattle.utf16_to_utf8.specs.Lanes.{added_len, front, is_surrogate, narrow, plus, surrogate_bits, third, two_bytes, up, wide}
 use Rattle.utf16_to_utf8.specs.Utf8.{continuation, unit_utf8}
 use Rattle.utf16_to_utf8.proofs.UnitLemmas.{unit-leading, unit-one, unit-three, unit-trailing, unit-two}
 
@@ -44,15 +44,6 @@ two_bytes-is mark bits small =
 pub bytes_of : (x y lane : ℕ) → x < 256 → y < 256 → lane ≡ x + 256 * y → (lane % 256 ≡ x) × (lane / 256 ≡ y)
 bytes_of x y lane a b e = (omega arith, omega arith)
 
-leading_bits : (u : ℕ) → 0xD800 ≤ u → u < 0xDC00 → minus u 0xD7C0 / 4 ≡ (u - 0xD7C0) / 4
-leading_bits u from to = omega arith
-
-trailing_bits : (p u : ℕ) → plus (up (bit_and p 3) 10) (bit_and u 0x3FF) ≡ p % 4 * 1024 + u % 1024
-trailing_bits p u =
-    let low : bit_and p 3 ≡ p % 4 = and_mask p 2 in
-    let mid : bit_and u 0x3FF ≡ u % 1024 = and_mask u 10 in
-    omega (arith, low, mid)
-
 pub third-is : (u : ℕ) → third u ≡ continuation u
 third-is u =
     let low : bit_and u 0x3F ≡ u % 64 = and_mask u 6 in
@@ -62,29 +53,43 @@ third-is u =
 narrow-one : (p u : ℕ) → u < 0x80 → narrow p u ≡ u
 narrow-one p u a = rw (lt-ltb u 0x80 a) refl
 
+two_bits : (p u : ℕ) → Between 0x80 0x800 u → narrow p u ≡ two_bytes 0x8000 (plus u 0x3000)
+two_bits p u b =
+    let low : u < 0x8000 = omega (arith, b.1) in
+    rw (le-ltb u 0x80 b.0, lt-ltb u 0x8000 low) refl
+
+surrogate_two : (p u : ℕ) → Between 0xD800 0xE000 u → narrow p u ≡ two_bytes 0x8000 (surrogate_bits p u)
+surrogate_two p u b =
+    let above : 0x80 ≤ u = omega (arith, b.0) in
+    let high : 0x8000 ≤ u = omega (arith, b.0) in
+    rw (le-ltb u 0x80 above, le-ltb u 0x8000 high) refl
+
 narrow-two : (p u : ℕ) → Between 0x80 0x800 u → narrow p u ≡ (0xC0 + u / 64) + 256 * continuation u
-narrow-two p u b =
-    let below : u < 0x1_0000 = omega (arith, b.1) in
-    let low : u < 0xD800 = omega (arith, b.1) in
-    rw (le-ltb u 0x80 b.0, surrogate-no u below (inl low)) (two_bytes-is 0xC0 u (omega (arith, b.1)))
+narrow-two p u b = two_bits p u b ∙ two_bytes-is 0 (plus u 0x3000) (omega (arith, b.1)) ∙ omega (arith, b.1)
 
 narrow-leading : (p u : ℕ) → Between 0xD800 0xDC00 u → narrow p u ≡ (0xF0 + (u - 0xD7C0) / 256) + 256 * continuation ((u - 0xD7C0) / 4)
 narrow-leading p u b =
-    let below : u < 0x1_0000 = omega (arith, b.1) in
-    let above : 0x80 ≤ u = omega (arith, b.0) in
-    let to : u < 0xE000 = omega (arith, b.1) in
-    let bits = leading_bits u b.0 b.1 in
-    rw (le-ltb u 0x80 above, surrogate-is u below b.0 to, lt-ltb u 0xDC00 b.1)
-    (ap (two_bytes 0x80F0) bits ∙ two_bytes-is 0xF0 ((u - 0xD7C0) / 4) (omega (arith, b.1)) ∙ ap (λ x. (0xF0 + x) + 256 * continuation ((u - 0xD7C0) / 4)) (omega arith))
+    let bits = plus u 0x1840 / 4 in
+    let is : surrogate_bits p u ≡ bits = rw (lt-ltb u 0xDC00 b.1) refl in
+    surrogate_two p u (b.0, omega (arith, b.1)) ∙ ap (two_bytes 0x8000) is ∙ two_bytes-is 0 bits (omega (arith, b.1)) ∙ omega (arith, b.0, b.1)
 
 narrow-trailing : (p u : ℕ) → Between 0xDC00 0xE000 u → narrow p u ≡ continuation (p % 4 * 16 + u % 1024 / 64) + 256 * continuation u
 narrow-trailing p u b =
-    let below : u < 0x1_0000 = omega (arith, b.1) in
-    let above : 0x80 ≤ u = omega (arith, b.0) in
-    let from : 0xD800 ≤ u = omega (arith, b.0) in
-    let bits = p % 4 * 1024 + u % 1024 in
-    rw (le-ltb u 0x80 above, surrogate-is u below from b.1, le-ltb u 0xDC00 b.0)
-    (ap (two_bytes 0x8080) (trailing_bits p u) ∙ two_bytes-is 0x80 bits (omega arith) ∙ omega arith)
+    let bits = 0x2000 + (p % 4 * 1024 + u % 1024) in
+    let low : bit_and p 3 ≡ p % 4 = and_mask p 2 in
+    let is : plus (up (bit_and p 3) 10) (plus u 0x4400) ≡ bits = omega (arith, low, b.0, b.1) in
+    let chosen : surrogate_bits p u ≡ plus (up (bit_and p 3) 10) (plus u 0x4400) = rw (le-ltb u 0xDC00 b.0) refl in
+    surrogate_two p u (omega (arith, b.0), b.1) ∙ ap (two_bytes 0x8000) (chosen ∙ is) ∙ two_bytes-is 0 bits (omega arith) ∙ omega arith
+
+-- a unit that adds two bytes at most and is no surrogate
+pub letter-below : (u : ℕ) → is_surrogate u ≡ false → added_len u ≤ 2 → u < 0x800
+letter-below u none few = ⊎_elim (λ (a : u < 0x800). a) (λ (b : 0x800 ≤ u). absurd (go b)) (cases_lt u 0x800)
+  where
+    go : 0x800 ≤ u → ⊥
+    go b =
+        let above : 0x80 ≤ u = omega arith in
+        let three : added_len u ≡ 3 = rw (le-ltb u 0x80 above, le-ltb u 0x800 b, none) refl in
+        omega (arith, three, few)
 
 wide-is : (u : ℕ) → u < 0x1_0000 → wide u ≡ (0xE0 + u / 4096) + 256 * continuation (u / 64)
 wide-is u below = two_bytes-is 0xE0 (u / 64) (omega arith) ∙ omega arith
@@ -104,18 +109,18 @@ added_len-surrogate u b =
 
 -- one byte or both of a lane, where the unit adds no third
 abbrev pub one_or_two : Bool → ℕ → ℕ → List ℕ
-one_or_two flag first second = cond flag (first ∷ second ∷ []) (first ∷ [])
+one_or_two flag first second = cond flag (first ∷ []) (first ∷ second ∷ [])
 
-both : (u x y lane : ℕ) → 0x80 ≤ u → x < 256 → y < 256 → lane ≡ x + 256 * y → one_or_two (leb 0x80 u) (lane % 256) (lane / 256 % 256) ≡ x ∷ y ∷ []
+both : (u x y lane : ℕ) → 0x80 ≤ u → x < 256 → y < 256 → lane ≡ x + 256 * y → one_or_two (ltb u 0x80) (lane % 256) (lane / 256 % 256) ≡ x ∷ y ∷ []
 both u x y lane above a b e =
     let is = bytes_of x y lane a b e in
-    rw (le-leb 0x80 u above) (ap₂ (λ m n. m ∷ n ∷ []) is.0 (omega (arith, is.1)))
+    rw (le-ltb u 0x80 above) (ap₂ (λ m n. m ∷ n ∷ []) is.0 (omega (arith, is.1)))
 
-pub narrow-utf8 : (p u : ℕ) → u < 0x1_0000 → added_len u ≤ 2 → one_or_two (leb 0x80 u) (narrow p u % 256) (narrow p u / 256 % 256) ≡ unit_utf8 p u
+pub narrow-utf8 : (p u : ℕ) → u < 0x1_0000 → added_len u ≤ 2 → one_or_two (ltb u 0x80) (narrow p u % 256) (narrow p u / 256 % 256) ≡ unit_utf8 p u
 narrow-utf8 p u below few = go (class u)
   where
-    go : Class u → one_or_two (leb 0x80 u) (narrow p u % 256) (narrow p u / 256 % 256) ≡ unit_utf8 p u
-    go (inl a) = rw (lt-leb 0x80 u a) (ap (λ x. x ∷ []) (omega (arith, narrow-one p u a)) ∙ sym (unit-one p u a))
+    go : Class u → one_or_two (ltb u 0x80) (narrow p u % 256) (narrow p u / 256 % 256) ≡ unit_utf8 p u
+    go (inl a) = rw (lt-ltb u 0x80 a) (ap (λ x. x ∷ []) (omega (arith, narrow-one p u a)) ∙ sym (unit-one p u a))
     go (inr (inl b)) = both u (0xC0 + u / 64) (continuation u) _ b.0 (omega (arith, b.1)) (omega arith) (narrow-two p u b) ∙ sym (unit-two p u b.0 b.1)
     go (inr (inr (inl b))) = both u (0xF0 + (u - 0xD7C0) / 256) (continuation ((u - 0xD7C0) / 4)) _ (omega (arith, b.0)) (omega (arith, b.1)) (omega arith) (narrow-leading p u b) ∙ sym (unit-leading p u b.0 b.1)
     go (inr (inr (inr (inl b)))) = both u (continuation (p % 4 * 16 + u % 1024 / 64)) (continuation u) _ (omega (arith, b.0)) (omega arith) (omega arith) (narrow-trailing p u b) ∙ sym (unit-trailing p u b.0 b.1)
@@ -142,7 +147,7 @@ any_bytes p u = take (added_len u) ((front p u % 256) ∷ (front p u / 256 % 256
 any-two : (p u : ℕ) → u < 0x1_0000 → 0x80 ≤ u → added_len u ≡ 2 → front p u ≡ narrow p u → any_bytes p u ≡ unit_utf8 p u
 any-two p u below above two is =
     ap₂ (λ n f. take n ((f % 256) ∷ (f / 256 % 256) ∷ (third u % 256) ∷ [])) two is
-    ∙ sym (ap (λ flag. one_or_two flag (narrow p u % 256) (narrow p u / 256 % 256)) (le-leb 0x80 u above))
+    ∙ sym (ap (λ flag. one_or_two flag (narrow p u % 256) (narrow p u / 256 % 256)) (le-ltb u 0x80 above))
     ∙ narrow-utf8 p u below (omega (arith, two))
 
 any-surrogate : (p u : ℕ) → u < 0x1_0000 → Between 0xD800 0xE000 u → any_bytes p u ≡ unit_utf8 p u

@@ -1,8 +1,7 @@
 -- The bytes of several lanes, one behind another.
-use Rattle.std.proofs.Common.{◌≡◌, ℕ, suc, ◌+◌, ◌*◌, ◌/◌, ◌%◌, ◌^◌, ◌<◌, Bool, cond, drop, length-drop, length-take-le, take-append-drop, List, [], ◌∷◌, ◌++◌, length, slice_index, map, refl, sym, ap, ap₂, ◌∙◌, subst, arith, append_assoc, append-nil, take}
+use Rattle.std.proofs.Common.{◌≡◌, ℕ, suc, ◌+◌, ◌*◌, ◌<◌, Bool, List, [], ◌∷◌, ◌++◌, length, slice_index, map, refl, sym, ap, ap₂, ◌∙◌, arith, append_assoc, append-nil}
 use Rattle.std.proofs.lemmas.List.{get_or_append_left, get_or-append-add}
-use Rattle.std.proofs.lemmas.Simd.{mask_l-lt}
-use lib.Lanes.{mask_l, pick_l}
+use lib.Lanes.{pick_l}
 use Rattle.utf16_to_utf8.specs.Pack.{packed, threes}
 use Rattle.utf16_to_utf8.specs.Utf8.{unit_utf8, units_utf8}
 use Rattle.utf16_to_utf8.proofs.AddedLemmas.{one_or_two}
@@ -32,31 +31,6 @@ module _ (flag : ℕ → Bool) where
       ap₂ (λ m n. one_or_two (flag (slice_index units i)) (slice_index (x ∷ y ∷ bytes) m) (slice_index (x ∷ y ∷ bytes) n)) (sym even) (sym odd) ∙ are (suc i) (omega arith)))
       ∙ sym (units-cons before u units)
 
--- more bytes behind do not count
-pub packed-more : (flags : List Bool) (bytes more : List ℕ) → length bytes ≡ 2 * length flags → packed flags (bytes ++ more) ≡ packed flags bytes
-packed-more [] bytes more long = refl
-packed-more (flag ∷ flags) [] more long = absurd (omega arith)
-packed-more (flag ∷ flags) (x ∷ []) more long = absurd (omega arith)
-packed-more (flag ∷ flags) (x ∷ y ∷ bytes) more long = ap (λ bs. cond flag (x ∷ y ∷ []) (x ∷ []) ++ bs) (packed-more flags bytes more (omega arith))
-
-pub packed-append : (front back : List Bool) (bytes more : List ℕ) → length bytes ≡ 2 * length front → packed (front ++ back) (bytes ++ more) ≡ packed front bytes ++ packed back more
-packed-append [] back [] more long = refl
-packed-append [] back (x ∷ bytes) more long = absurd (omega arith)
-packed-append (flag ∷ front) back [] more long = absurd (omega arith)
-packed-append (flag ∷ front) back (x ∷ []) more long = absurd (omega arith)
-packed-append (flag ∷ front) back (x ∷ y ∷ bytes) more long =
-    let here = cond flag (x ∷ y ∷ []) (x ∷ []) in
-    ap (λ bs. here ++ bs) (packed-append front back bytes more (omega arith)) ∙ sym (append_assoc here (packed front bytes) (packed back more))
-
--- the bits of four flags, and of four more
-pub mask_l-four : (a b : List Bool) → length a ≡ 4 → mask_l (a ++ b) ≡ mask_l a + 16 * mask_l b
-mask_l-four (p ∷ q ∷ r ∷ s ∷ []) b long = omega arith
-mask_l-four (p ∷ q ∷ r ∷ s ∷ t ∷ a) b long = absurd (omega arith)
-mask_l-four (p ∷ q ∷ r ∷ []) b long = absurd (omega arith)
-mask_l-four (p ∷ q ∷ []) b long = absurd (omega arith)
-mask_l-four (p ∷ []) b long = absurd (omega arith)
-mask_l-four [] b long = absurd (omega arith)
-
 -- ---- lanes of three bytes, picked from fronts and thirds
 
 abbrev pub three_at : List ℕ → ℕ → List ℕ
@@ -71,35 +45,6 @@ threes-units before (u ∷ units) bytes at are =
     ap₂ (λ xs ys. xs ++ ys) (ap (three_at bytes) (sym here) ∙ are 0 (omega arith) before)
     (threes-units u units bytes (at + 1) (λ i lt last. let next : at + 1 + i ≡ at + suc i = omega arith in ap (three_at bytes) next ∙ are (suc i) (omega arith) last))
     ∙ sym (units-cons before u units)
-
--- ---- eight flags in two halves
-
-pub record Halves (flags : List Bool) (bits : ℕ) : Type 0 where
-  pub front : length (take 4 flags) ≡ 4
-  pub back : length (drop 4 flags) ≡ 4
-  pub low : bits % 16 ≡ mask_l (take 4 flags)
-  pub high : bits / 16 ≡ mask_l (drop 4 flags)
-
-pub sixteen_bits : (flags : List Bool) (bits : ℕ) → length flags ≡ 8 → bits ≡ mask_l flags → Halves flags bits
-sixteen_bits flags bits long is =
-    let front : length (take 4 flags) ≡ 4 = length-take-le 4 flags (omega (arith, long)) in
-    let split = is ∙ ap mask_l (sym (take-append-drop 4 flags)) ∙ mask_l-four (take 4 flags) (drop 4 flags) front in
-    let small : mask_l (take 4 flags) < 16 = subst (λ n. mask_l (take 4 flags) < 2 ^ n) front (mask_l-lt (take 4 flags)) in
-    record { front = front; back = omega (arith, length-drop 4 flags, long); low = omega (arith, split, small); high = omega (arith, split, small) }
-
--- the bytes of eight lanes by both halves, of which the second stands in the place of the first
-pub packed-halves : (flags : List Bool) (bytes upper : List ℕ) → length flags ≡ 8 → length bytes ≡ 16 → length upper ≡ 16 → take 8 upper ≡ drop 8 bytes
-    → packed (take 4 flags) bytes ++ packed (drop 4 flags) upper ≡ packed flags bytes
-packed-halves flags bytes upper long whole whole' is =
-    let lower : length (take 8 bytes) ≡ 8 = length-take-le 8 bytes (omega (arith, whole)) in
-    let front : length (take 4 flags) ≡ 4 = length-take-le 4 flags (omega (arith, long)) in
-    let back : length (drop 4 flags) ≡ 4 = omega (arith, length-drop 4 flags, long) in
-    let eight : length (take 8 upper) ≡ 8 = length-take-le 8 upper (omega (arith, whole')) in
-    ap₂ (λ xs ys. xs ++ ys)
-    (ap (packed (take 4 flags)) (sym (take-append-drop 8 bytes)) ∙ packed-more (take 4 flags) (take 8 bytes) (drop 8 bytes) (omega (arith, lower, front)))
-    (ap (packed (drop 4 flags)) (sym (take-append-drop 8 upper)) ∙ packed-more (drop 4 flags) (take 8 upper) (drop 8 upper) (omega (arith, eight, back)) ∙ ap (packed (drop 4 flags)) is)
-    ∙ sym (packed-append (take 4 flags) (drop 4 flags) (take 8 bytes) (drop 8 bytes) (omega (arith, lower, front)))
-    ∙ ap₂ packed (take-append-drop 4 flags) (take-append-drop 8 bytes)
 
 -- the three bytes of a lane, two of sixteen bytes and the third of those behind
 pub three_from : (fronts thirds : List ℕ) (i x y z : ℕ) → length fronts ≡ 16 → i < 8 → slice_index fronts (2 * i) ≡ x → slice_index fronts (2 * i + 1) ≡ y → slice_index thirds (2 * i) ≡ z

@@ -1,5 +1,5 @@
 -- What stands in a buffer where a vector was stored, and which bytes of it are picked.
-use Rattle.std.proofs.Common.{◌≡◌, ℕ, zero, suc, ◌+◌, ◌*◌, ◌/◌, ◌<◌, ◌≤◌, Bool, true, false, cond, List, [], ◌∷◌, ◌++◌, length, map, take, drop, get_or, refl, sym, ap, ap₂, ◌∙◌, subst, arith, leb, w8, length-take-le, take-append-drop}
+use Rattle.std.proofs.Common.{◌≡◌, ℕ, zero, suc, ◌+◌, ◌*◌, ◌/◌, ◌<◌, ◌≤◌, Bool, true, false, cond, List, [], ◌∷◌, ◌++◌, length, map, take, drop, get_or, refl, ap, ap₂, ◌∙◌, subst, arith, leb, w8, length-take-le, take_all}
 use Rattle.std.proofs.lemmas.Bool.{lt-leb}
 use Rattle.std.proofs.lemmas.List.{take-append-le}
 use Rattle.std.proofs.Math.Seq.{take-append-add}
@@ -7,7 +7,6 @@ use Rattle.std.proofs.lemmas.Simd.{pick_l-range_with_len, put_chunk_is, swz_l}
 use Rattle.std.specs.List.{range_with_len}
 use lib.Lanes.{Each1, put_chunk}
 use Rattle.utf16_to_utf8.specs.Pack.{packed}
-use Rattle.utf16_to_utf8.proofs.ListLemmas.{packed-more}
 
 -- a vector that was stored, up to one of its bytes
 pub stored-front : (at n : ℕ) (out bytes : List ℕ) → n ≤ length bytes → at + length bytes ≤ length out → take (at + n) (put_chunk at out bytes) ≡ take at out ++ take n bytes
@@ -35,21 +34,18 @@ packed-map : (f : ℕ → ℕ) (flags : List Bool) (xs : List ℕ) → map f (pa
 packed-map f [] xs = refl
 packed-map f (flag ∷ flags) [] = refl
 packed-map f (flag ∷ flags) (x ∷ []) = refl
-packed-map f (true ∷ flags) (x ∷ y ∷ xs) = ap (λ t. f x ∷ f y ∷ t) (packed-map f flags xs)
-packed-map f (false ∷ flags) (x ∷ y ∷ xs) = ap (λ t. f x ∷ t) (packed-map f flags xs)
+packed-map f (true ∷ flags) (x ∷ y ∷ xs) = ap (λ t. f x ∷ t) (packed-map f flags xs)
+packed-map f (false ∷ flags) (x ∷ y ∷ xs) = ap (λ t. f x ∷ f y ∷ t) (packed-map f flags xs)
 
 take-map : (f : ℕ → ℕ) (n : ℕ) (xs : List ℕ) → take n (map f xs) ≡ map f (take n xs)
 take-map f zero xs = refl
 take-map f (suc n) [] = refl
 take-map f (suc n) (x ∷ xs) = ap (λ t. f x ∷ t) (take-map f n xs)
 
--- of the first eight of sixteen bytes, those that flags let stand
-pub picked-packed : (flags : List Bool) (bytes places : List ℕ) (n : ℕ) → length flags ≡ 4 → length bytes ≡ 16 → take n places ≡ packed flags (range_with_len 0 8)
+-- of sixteen bytes those that flags let stand
+pub picked-packed : (flags : List Bool) (bytes places : List ℕ) (n : ℕ) → length bytes ≡ 16 → take n places ≡ packed flags (range_with_len 0 16)
     → take n (map (λ place. get_or bytes place 0) places) ≡ packed flags bytes
-picked-packed flags bytes places n four long is =
+picked-packed flags bytes places n long is =
     let get = λ (place : ℕ). get_or bytes place 0 in
-    let eight : length (take 8 bytes) ≡ 8 = length-take-le 8 bytes (omega (arith, long)) in
-    take-map get n places ∙ ap (map get) is ∙ packed-map get flags (range_with_len 0 8)
-    ∙ ap (packed flags) (pick_l-range_with_len 0 bytes 0 8 (omega (arith, long)))
-    ∙ sym (packed-more flags (take 8 bytes) (drop 8 bytes) (omega (arith, eight, four)))
-    ∙ ap (packed flags) (take-append-drop 8 bytes)
+    take-map get n places ∙ ap (map get) is ∙ packed-map get flags (range_with_len 0 16)
+    ∙ ap (packed flags) (pick_l-range_with_len 0 bytes 0 16 (omega (arith, long)) ∙ take_all 16 bytes (omega (arith, long)))

@@ -15,6 +15,11 @@ pub units_of-block : (big : Bool) (bytes : List ℕ) (at : ℕ) → at + 64 ≤ 
 units_of-block big bytes at room =
     units_of-split big (drop at bytes) 64 refl (omega (arith, length-drop at bytes, room)) ∙ ap (λ bs. units_of big (take 64 (drop at bytes)) ++ units_of big bs) (drop-drop 64 at bytes ∙ ap (λ n. drop n bytes) (omega arith))
 
+-- no bytes, no units
+pub no_units : (big : Bool) {bytes : List ℕ} → bytes ≡ [] → units_of big bytes ≡ []
+unfolding units_of
+no_units big none = ap (units_of big) none
+
 -- zero units add a zero byte each
 pub units-zeros : (before k : ℕ) (units : List ℕ) → units_utf8 before (units ++ replicate k 0) ≡ units_utf8 before units ++ replicate k 0
 units-zeros before zero [] = units-nil before ∙ ap (λ bs. bs ++ []) (sym (units-nil before))

@@ -1,17 +1,14 @@
 -- Eight lanes of sixteen bits, by index, and what a unit's lane is made of.
-use Rattle.std.specs.Prelude.{◌≡◌, ℕ, ◌+◌, ◌-◌, ◌*◌, ◌/◌, ◌%◌, ◌^◌, ◌<◌, ◌==◌, Bool, List, length, slice_index, nat_lt, bit_and, if◌then◌else◌}
+use Rattle.std.specs.Prelude.{◌≡◌, ℕ, ◌+◌, ◌*◌, ◌/◌, ◌%◌, ◌^◌, ◌<◌, ◌==◌, Bool, List, length, slice_index, nat_lt, bit_and, if◌then◌else◌}
 
 -- the lanes by index
 pub record HasLanes (v : List ℕ) (lane : ℕ → ℕ) : Type 0 where
   pub len : length v ≡ 8
   pub lanes : (i : ℕ) → i < 8 → slice_index v i ≡ lane i
 
--- `+`, `-` and `<<` of a lane wrap
+-- `+` and `<<` of a lane wrap
 abbrev pub plus : ℕ → ℕ → ℕ
 plus a b = (a + b) % 2 ^ 16
-
-abbrev pub minus : ℕ → ℕ → ℕ
-minus a b = (a + (2 ^ 16 - b)) % 2 ^ 16
 
 abbrev pub up : ℕ → ℕ → ℕ
 up a bits = a * 2 ^ bits % 2 ^ 16
@@ -24,18 +21,13 @@ is_surrogate unit = bit_and unit 0xF800 == 0xD800
 abbrev pub two_bytes : ℕ → ℕ → ℕ
 two_bytes marks bits = plus (plus (bits / 2 ^ 6) marks) (up (bit_and bits 0x3F) 8)
 
--- the bits of the two bytes that a surrogate adds, and their marks
+-- the bits of the two bytes that a surrogate adds, the marks of the first above them
 abbrev pub surrogate_bits : ℕ → ℕ → ℕ
-surrogate_bits before unit = if nat_lt unit 0xDC00 then minus unit 0xD7C0 / 2 ^ 2 else plus (up (bit_and before 3) 10) (bit_and unit 0x3FF)
-
-abbrev pub surrogate_marks : ℕ → ℕ
-surrogate_marks unit = if nat_lt unit 0xDC00 then 0x80F0 else 0x8080
+surrogate_bits before unit = if nat_lt unit 0xDC00 then plus unit 0x1840 / 2 ^ 2 else plus (up (bit_and before 3) 10) (plus unit 0x4400)
 
 -- the two bytes of a unit that adds two at most
 abbrev pub narrow : ℕ → ℕ → ℕ
-narrow before unit =
-    if nat_lt unit 0x80 then unit else
-    two_bytes (if is_surrogate unit then surrogate_marks unit else 0x80C0) (if is_surrogate unit then surrogate_bits before unit else unit)
+narrow before unit = if nat_lt unit 0x80 then unit else two_bytes 0x8000 (if nat_lt unit 0x8000 then plus unit 0x3000 else surrogate_bits before unit)
 
 -- the first two bytes of a unit that adds three, and the third byte
 abbrev pub wide : ℕ → ℕ

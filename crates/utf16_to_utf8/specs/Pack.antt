@@ -1,12 +1,12 @@
 -- Bytes of lanes, one behind another.
 use Rattle.std.specs.Prelude.{◌≡◌, ℕ, zero, suc, ◌+◌, ◌*◌, ◌/◌, ◌%◌, ◌<◌, ◌++◌, Bool, cond, List, [], ◌∷◌, slice_index}
 
--- of two bytes a lane both, where its flag is set, and else the first
+-- of two bytes a lane the first alone, where its flag is set, and else both
 abbrev pub packed : List Bool → List ℕ → List ℕ
 packed [] bytes = []
 packed (flag ∷ flags) [] = []
 packed (flag ∷ flags) (first ∷ []) = []
-packed (flag ∷ flags) (first ∷ second ∷ bytes) = cond flag (first ∷ second ∷ []) (first ∷ []) ++ packed flags bytes
+packed (flag ∷ flags) (first ∷ second ∷ bytes) = cond flag (first ∷ []) (first ∷ second ∷ []) ++ packed flags bytes
 
 -- the bytes of sixteen-bit lanes, the low one first
 abbrev pub HasBytes : List ℕ → List ℕ → Type 0

@@ -1,9 +1,9 @@
 //! What eight units add to the UTF-8, by lanes: their first two bytes, their third, and how many.
 
 ghost use Rattle.std.specs.Prelude.{◌≡◌, ◌<◌, ℕ, false, slice_index};
-ghost use Rattle.utf16_to_utf8.specs.Lanes.{HasLanes, added_len, front, is_surrogate, narrow, surrogate_bits, surrogate_marks, third, two_bytes, wide};
+ghost use Rattle.utf16_to_utf8.specs.Lanes.{HasLanes, added_len, front, narrow, surrogate_bits, third, two_bytes, wide};
 
-use crate::lanes::{down, each, less, masked, raised, sum, where_below, where_surrogate};
+use crate::lanes::{down, each, masked, raised, sum, where_below, where_surrogate};
 use std::simd::prelude::*;
 
 #[inline(always)]
@@ -13,34 +13,28 @@ fn two_bytes(marks: u16x8, bits: u16x8) -> u16x8
     sum(sum(down(bits, 6), marks), raised(masked(bits, 0x3F), 8))
 }
 
+// The bits of both bytes of surrogates, the marks of the first above them.
 #[inline(always)]
 fn surrogate_bits(behind: u16x8, units: u16x8) -> u16x8
     ensures { HasLanes result (λ i. surrogate_bits (slice_index behind i) (slice_index units i)) }
 {
-    let leading = down(less(units, 0xD7C0), 2);
-    let trailing = sum(raised(masked(behind, 3), 10), masked(units, 0x3FF));
+    let leading = down(sum(units, each(0x1840)), 2);
+    let trailing = sum(raised(masked(behind, 3), 10), sum(units, each(0x4400)));
     where_below(units, 0xDC00, leading, trailing)
-}
-
-#[inline(always)]
-fn surrogate_marks(units: u16x8) -> u16x8
-    ensures { HasLanes result (λ i. surrogate_marks (slice_index units i)) }
-{
-    where_below(units, 0xDC00, each(0x80F0), each(0x8080))
 }
 
 // The two bytes of units that add two at most. Of other units they say nothing.
 #[inline(always)]
 pub(crate) fn narrow(behind: u16x8, units: u16x8, surrogates: bool) -> u16x8
-    requires { surrogates ≡ false → (i : ℕ) → i < 8 → is_surrogate (slice_index units i) ≡ false }
+    requires { surrogates ≡ false → (i : ℕ) → i < 8 → slice_index units i < 0x800 }
     ensures { HasLanes result (λ i. narrow (slice_index behind i) (slice_index units i)) }
 {
     if !surrogates {
         return where_below(units, 0x80, units, two_bytes(each(0x80C0), units));
     }
-    let marks = where_surrogate(units, surrogate_marks(units), each(0x80C0));
-    let bits = where_surrogate(units, surrogate_bits(behind, units), units);
-    where_below(units, 0x80, units, two_bytes(marks, bits))
+    let letters = sum(units, each(0x3000));
+    let bits = where_below(units, 0x8000, letters, surrogate_bits(behind, units));
+    where_below(units, 0x80, units, two_bytes(each(0x8000), bits))
 }
 
 // The first two bytes of units that add three.
@@ -53,11 +47,10 @@ pub(crate) fn wide(units: u16x8) -> u16x8
 
 // The first two bytes of any units.
 #[inline(always)]
-pub(crate) fn fronts(behind: u16x8, units: u16x8, surrogates: bool) -> u16x8
-    requires { surrogates ≡ false → (i : ℕ) → i < 8 → is_surrogate (slice_index units i) ≡ false }
+pub(crate) fn fronts(behind: u16x8, units: u16x8) -> u16x8
     ensures { HasLanes result (λ i. front (slice_index behind i) (slice_index units i)) }
 {
-    let narrow = narrow(behind, units, surrogates);
+    let narrow = narrow(behind, units, true);
     let above = where_surrogate(units, narrow, wide(units));
     where_below(units, 0x800, narrow, above)
 }

@@ -1,7 +1,7 @@
 //! Eight lanes of sixteen bits: what each operation makes of a lane.
 
 ghost use Rattle.std.specs.Prelude.{◌<◌, ◌/◌, ◌^◌, ◌∷◌, bit_and, if◌then◌else◌, nat_lt, slice_index};
-ghost use Rattle.utf16_to_utf8.specs.Lanes.{HasLanes, is_surrogate, minus, plus, up};
+ghost use Rattle.utf16_to_utf8.specs.Lanes.{HasLanes, is_surrogate, plus, up};
 
 use std::simd::prelude::*;
 
@@ -17,13 +17,6 @@ pub(crate) fn sum(a: u16x8, b: u16x8) -> u16x8
     ensures { HasLanes result (λ i. plus (slice_index a i) (slice_index b i)) }
 {
     a + b
-}
-
-#[inline(always)]
-pub(crate) fn less(v: u16x8, unit: u16) -> u16x8
-    ensures { HasLanes result (λ i. minus (slice_index v i) unit) }
-{
-    v - u16x8::splat(unit)
 }
 
 #[inline(always)]

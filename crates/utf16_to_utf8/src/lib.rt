@@ -8,6 +8,7 @@ mod lanes;
 pub mod laws;
 mod lens;
 mod pack;
+mod places;
 mod write;
 
 pub use crate::append::append_utf8;

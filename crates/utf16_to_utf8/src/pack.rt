@@ -1,47 +1,15 @@
 //! What eight units add, written one behind another.
 
-ghost use Rattle.std.specs.Prelude.{◌≡◌, ◌+◌, ◌*◌, ◌/◌, ◌%◌, ◌<◌, ◌≤◌, ◌++◌, [], ◌∷◌, ℕ, Bool, List, count_ones, drop, false, length, map, nat_le, slice_index, take};
-ghost use Rattle.std.specs.List.{range_with_len};
-ghost use Rattle.std.specs.Simd.Lanes.{Each1, mask_l, pick_l};
+ghost use Rattle.std.specs.Prelude.{◌≡◌, ◌+◌, ◌*◌, ◌/◌, ◌%◌, ◌<◌, ◌≤◌, ◌++◌, [], ◌∷◌, ℕ, Bool, List, drop, false, length, map, nat_lt, slice_index, take};
+ghost use Rattle.std.specs.Simd.Lanes.{mask_l, pick_l};
 ghost use Rattle.utf16_to_utf8.specs.Lanes.{added_len, is_surrogate};
 ghost use Rattle.utf16_to_utf8.specs.Pack.{HasBytes, packed, threes};
 ghost use Rattle.utf16_to_utf8.specs.Utf8.{units_utf8};
 
 use crate::groups::{added_lens, fronts, narrow, thirds, wide};
 use crate::lanes::behind;
+use crate::places::places;
 use std::simd::prelude::*;
-
-// Where the bytes of four units come from, by a bit for each unit that adds two: at every second place the first byte of a
-// unit, behind it the second.
-static PLACES: [[u8; 16]; 16] = [
-    [0, 2, 4, 6, 0, 0, 0, 0, 0, 0, 0, 0, 0, 0, 0, 0],
-    [0, 1, 2, 4, 6, 0, 0, 0, 0, 0, 0, 0, 0, 0, 0, 0],
-    [0, 2, 3, 4, 6, 0, 0, 0, 0, 0, 0, 0, 0, 0, 0, 0],
-    [0, 1, 2, 3, 4, 6, 0, 0, 0, 0, 0, 0, 0, 0, 0, 0],
-    [0, 2, 4, 5, 6, 0, 0, 0, 0, 0, 0, 0, 0, 0, 0, 0],
-    [0, 1, 2, 4, 5, 6, 0, 0, 0, 0, 0, 0, 0, 0, 0, 0],
-    [0, 2, 3, 4, 5, 6, 0, 0, 0, 0, 0, 0, 0, 0, 0, 0],
-    [0, 1, 2, 3, 4, 5, 6, 0, 0, 0, 0, 0, 0, 0, 0, 0],
-    [0, 2, 4, 6, 7, 0, 0, 0, 0, 0, 0, 0, 0, 0, 0, 0],
-    [0, 1, 2, 4, 6, 7, 0, 0, 0, 0, 0, 0, 0, 0, 0, 0],
-    [0, 2, 3, 4, 6, 7, 0, 0, 0, 0, 0, 0, 0, 0, 0, 0],
-    [0, 1, 2, 3, 4, 6, 7, 0, 0, 0, 0, 0, 0, 0, 0, 0],
-    [0, 2, 4, 5, 6, 7, 0, 0, 0, 0, 0, 0, 0, 0, 0, 0],
-    [0, 1, 2, 4, 5, 6, 7, 0, 0, 0, 0, 0, 0, 0, 0, 0],
-    [0, 2, 3, 4, 5, 6, 7, 0, 0, 0, 0, 0, 0, 0, 0, 0],
-    [0, 1, 2, 3, 4, 5, 6, 7, 0, 0, 0, 0, 0, 0, 0, 0],
-];
-
-#[inline(always)]
-fn places(two: usize) -> u8x16
-    requires { two < 16 }
-    ensures places { (flags : List Bool) → length flags ≡ 4 → two ≡ mask_l flags → take (4 + count_ones two) result ≡ packed flags (range_with_len 0 8) }
-    ensures within { Each1 (λ place. place < 16) result }
-    ensures few { count_ones two ≤ 4 }
-    ensures long { length result ≡ 16 }
-{
-    u8x16::from_array(PLACES[two])
-}
 
 // The bytes of lanes, of each the low one first.
 #[inline(always)]
@@ -52,26 +20,26 @@ fn lane_bytes(lanes: u16x8) -> u8x16
     lanes.to_le_bytes()
 }
 
-// Writes what four units add that add two bytes at most: of the first eight bytes, two a unit, those that stand.
+// Writes of sixteen bytes, two a unit, those that stand.
 #[inline(always)]
-fn put_four(out: &mut [u8], at: usize, pairs: u8x16, two: usize) -> usize
+fn put_eight(out: &mut [u8], at: usize, pairs: u8x16, one: usize) -> usize
     requires room { at + 16 ≤ length out.old }
-    requires two { two < 16 }
-    ensures bytes { (flags : List Bool) → length flags ≡ 4 → two ≡ mask_l flags → take result out.new ≡ take at out.old ++ packed flags pairs }
-    ensures end { result ≤ at + 8 }
+    requires one { one < 256 }
+    ensures bytes { (flags : List Bool) → length flags ≡ 8 → one ≡ mask_l flags → take result out.new ≡ take at out.old ++ packed flags pairs }
+    ensures end { result ≤ at + 16 }
 {
-    let standing = pairs.swizzle_dyn(places(two));
+    let standing = pairs.swizzle_dyn(places(one));
     standing.copy_to_slice(&mut out[at..]);
-    at + 4 + two.count_ones() as usize
+    at + (16 - one.count_ones() as usize)
 }
 
-// A bit for each unit that is not ASCII.
+// A bit for each unit that is ASCII.
 #[inline(always)]
-fn not_ascii_bits(units: u16x8) -> usize
-    ensures bits { result ≡ mask_l (map (λ unit. nat_le 0x80 unit) units) }
+fn ascii_bits(units: u16x8) -> usize
+    ensures bits { result ≡ mask_l (map (λ unit. nat_lt unit 0x80) units) }
     ensures below { result < 256 }
 {
-    units.simd_ge(u16x8::splat(0x80)).to_bitmask() as usize
+    units.simd_lt(u16x8::splat(0x80)).to_bitmask() as usize
 }
 
 // Writes what eight units add that add two bytes at most.
@@ -90,18 +58,7 @@ pub(crate) fn put_narrow(
     ensures end { result ≤ at + 16 }
 {
     let pairs = lane_bytes(narrow(behind(previous, units), units, surrogates));
-    let two = not_ascii_bits(units);
-    let middle = put_four(out, at, pairs, two % 16);
-    put_four(out, middle, upper(pairs), two / 16)
-}
-
-// The upper eight bytes in the place of the lower.
-#[inline(always)]
-fn upper(bytes: u8x16) -> u8x16
-    ensures len { length result ≡ 16 }
-    ensures bytes { take 8 result ≡ drop 8 bytes }
-{
-    bytes.rotate_elements_left::<8>()
+    put_eight(out, at, pairs, ascii_bits(units))
 }
 
 // Of eight units that add three bytes each the first sixteen bytes, of the first two of each unit and the third.
@@ -145,7 +102,7 @@ pub(crate) fn put_any(out: &mut [u8], at: usize, previous: u16x8, units: u16x8) 
     ensures bytes { take result out.new ≡ take at out.old ++ units_utf8 (slice_index previous 7) units }
     ensures end { result ≤ at + 24 }
 {
-    let words = words(fronts(behind(previous, units), units, true), thirds(units)).to_array();
+    let words = words(fronts(behind(previous, units), units), thirds(units)).to_array();
     let lens = added_lens(units).to_array();
     let mut end = at;
     for i in 0..8usize {

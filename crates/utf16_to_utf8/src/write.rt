@@ -41,6 +41,9 @@ fn write_units<E: Utf16Order>(raw: &[u8], out: &mut [u8]) -> usize
         previous = eights(units).3;
         at += 64;
     }
+    if at == raw.len() {
+        return end;
+    }
     put_rest::<E>(&raw[at..], out, end, previous)
 }
 

@@ -1,8 +1,10 @@
 use Rattle.std.proofs.Common.{◌+◌, ◌-◌, ◌++◌, take, drop, length, length-drop, take_all, slice_index, sym, ap, ◌∙◌, arith}
+use Rattle.std.proofs.lemmas.List.{drop_all}
 use Rattle.std.proofs.lemmas.Simd.{get_or-chunk}
 use Rattle.utf16_units.specs.Encoding.{units_of}
 use Rattle.utf16_to_utf8.specs.Utf8.{units_utf8}
-use Rattle.utf16_to_utf8.proofs.TextLemmas.{units_of-block, wrote_block}
+use Rattle.utf16_to_utf8.proofs.ListLemmas.{wrote_all}
+use Rattle.utf16_to_utf8.proofs.TextLemmas.{no_units, units_of-block, wrote_block}
 use Rattle.utf16_to_utf8.proofs.write.write_units.Goals as goal
 
 pub loop-at-preserved : goal.loop-at-preserved
@@ -32,3 +34,9 @@ returns-clause-bytes g c =
     c.put_rest.ensures.bytes
     ∙ ap (λ rest. take c.loop-at.end c.loop-at.out ++ units_utf8 (slice_index c.loop-at.previous 7) (units_of g.E.Utf16Order.BIG rest)) whole
     ∙ c.loop-at.invariant.written
+
+pub returns-then-at-raw-clause-bytes : goal.returns-then-at-raw-clause-bytes
+returns-then-at-raw-clause-bytes g c =
+    let bytes = c.args.raw.now in
+    let at = c.loop-at.at in
+    wrote_all _ _ (slice_index c.loop-at.previous 7) (units_of g.E.Utf16Order.BIG (drop at bytes)) (no_units g.E.Utf16Order.BIG (drop_all at bytes (omega (arith, c.if-at-raw.true)))) c.loop-at.invariant.written

@@ -2,7 +2,7 @@ use Rattle.std.proofs.Common.{◌++◌, take, ap, ◌∙◌, arith}
 use Rattle.std.proofs.lemmas.Simd.{length-swz_l, swz_l}
 use mir.Syntax.{w8}
 use Rattle.utf16_from_utf8.proofs.PackLemmas.{packed, positions-fit, stored_front}
-use Rattle.utf16_from_utf8.proofs.pack.put_four.Goals as goal
+use Rattle.utf16_from_utf8.proofs.pack.put_eight.Goals as goal
 
 pub swizzle : goal.swizzle
 swizzle c = positions-fit c.args.bits c.positions.result c.positions.ensures

@@ -1,0 +1,47 @@
+//! Takes every character from UTF-16 to UTF-8 and back in both byte orders by the library's calls, and compares with what Rust's
+//! `char` gives: alone, which goes by characters, and among letters and repeated, which goes by lanes, at each place of a block.
+//! The last line says how many calls were made and how many of their answers differed.
+
+unsafe extern "C" {
+    fn utf16_to_utf8(big: bool, raw: *const u8, len: usize, to: *mut u8, room: usize) -> usize;
+    fn utf16_from_utf8(big: bool, text: *const u8, len: usize, to: *mut u8, room: usize) -> usize;
+}
+
+type Call = unsafe extern "C" fn(bool, *const u8, usize, *mut u8, usize) -> usize;
+
+// Whether a call makes just this of a text, and leaves what stands behind it in the buffer.
+fn makes(call: Call, big: bool, of: &[u8], wanted: &[u8]) -> bool {
+    let mut to = [0xA5; 1024];
+    let len = unsafe { call(big, of.as_ptr(), of.len(), to.as_mut_ptr(), to.len()) };
+    len == wanted.len() && to[..len] == *wanted && to[len..].iter().all(|byte| *byte == 0xA5)
+}
+
+// How many of the four calls, both ways in both orders, differ.
+fn differing(text: &str) -> usize {
+    let differs = |big: bool| {
+        let bytes = |unit: u16| if big { unit.to_be_bytes() } else { unit.to_le_bytes() };
+        let utf16: Vec<u8> = text.encode_utf16().flat_map(bytes).collect();
+        !makes(utf16_to_utf8, big, &utf16, text.as_bytes()) as usize + !makes(utf16_from_utf8, big, text.as_bytes(), &utf16) as usize
+    };
+    differs(false) + differs(true)
+}
+
+fn main() {
+    let (mut characters, mut texts, mut differed) = (0, 0, 0);
+    for c in (0..=0x10FFFF).filter_map(char::from_u32) {
+        let place = c as usize % 67;
+        let among = format!("{}{c}{}", "a".repeat(place), "b".repeat(80 - place));
+        let mixed = format!("{}{c}я{c}一{c}😀{c}{}", "a".repeat(place % 8), "é一😀z".repeat(8));
+        for text in [&c.to_string(), &among, &mixed, &c.to_string().repeat(50)] {
+            let here = differing(text);
+            if here > 0 && differed == 0 {
+                println!("the first that differs: U+{:04X} in {text:?}", c as u32);
+            }
+            differed += here;
+            texts += 1;
+        }
+        characters += 1;
+    }
+    println!("{characters} characters in {texts} texts: {} calls ran, {differed} differed", 4 * texts);
+    std::process::exit((differed > 0) as i32);
+}

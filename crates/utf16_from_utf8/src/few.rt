@@ -1,0 +1,52 @@
+//! Short texts, which go one character after another.
+
+ghost use Rattle.std.specs.Prelude.{◌≡◌, ◌+◌, ◌*◌, ◌<◌, ◌≤◌, ◌++◌, length, take, IsOk};
+ghost use Rattle.std.specs.Str.{chars};
+ghost use Rattle.std.specs.Vec.{vec_capacity, vec_len};
+ghost use Rattle.utf16_units.specs.Encoding.{encode, size};
+
+use std::alloc::{AllocError, Allocator};
+use utf16_units::{Utf16CharExt, Utf16Order};
+
+// Texts of fewer bytes go by characters: for the lanes a block is sixteen.
+pub(crate) const FEW: usize = 16;
+
+// How many bytes the characters take in UTF-16.
+pub(crate) fn few_len(s: &str) -> usize
+    ensures { result ≡ size (chars s.now) }
+{
+    let mut len = 0;
+    for c in s.chars() {
+        len += c.encoded_utf16_len();
+    }
+    len
+}
+
+// Writes the characters to the front of a buffer that has room for them, and answers how many bytes they take.
+fn write_few<E: Utf16Order>(s: &str, buf: &mut [u8]) -> usize
+    requires { size (chars s.now) ≤ length buf.old }
+    ensures bytes { take result buf.new ≡ encode E.BIG (chars s.now) }
+    ensures end { result ≡ size (chars s.now) }
+{
+    let mut len = 0;
+    for c in s.chars() {
+        len += c.encode_utf16_into::<E>(&mut buf[len..]);
+    }
+    len
+}
+
+// Puts the characters last, of which there are few.
+pub(crate) fn extend_few<E: Utf16Order, A: Allocator>(
+    raw: &mut Vec<u8, A>,
+    s: &str,
+) -> Result<(), AllocError>
+    requires few { length s.now < FEW }
+    requires room { vec_len raw.old + size (chars s.now) ≤ vec_capacity raw.old }
+    ensures items { raw.new.items ≡ raw.old.items ++ encode E.BIG (chars s.now) }
+    ensures fits { IsOk result }
+    ensures capacity { vec_capacity raw.old ≤ vec_capacity raw.new }
+{
+    let mut buf = [0; 2 * FEW];
+    let end = write_few::<E>(s, &mut buf);
+    raw.extend_from_slice(&buf[..end])
+}

@@ -1,0 +1,68 @@
+-- The table of places, row by row.
+use Rattle.std.proofs.Common.{◌≡◌, ℕ, zero, suc, ◌-◌, ◌<◌, ◌&&◌, Bool, true, false, List, [], ◌∷◌, count_ones, eqb, length, get_or, take, refl, sym, ap₂, arith, eqb-true, ltb, ltb-true}
+use Rattle.std.proofs.lemmas.Bool.{and_parts, true≢false}
+use Rattle.std.specs.List.{range_with_len}
+use lib.Count.{ones}
+use lib.Lanes.{Each1, all_below, mask_l}
+use Rattle.utf16_to_utf8.specs.declared.places.TheConstants.{PLACES}
+use Rattle.utf16_to_utf8.specs.Pack.{packed}
+
+abbrev same : List ℕ → List ℕ → Bool
+same [] [] = true
+same [] (y ∷ ys) = false
+same (x ∷ xs) [] = false
+same (x ∷ xs) (y ∷ ys) = eqb x y && same xs ys
+
+same-is : (xs ys : List ℕ) → same xs ys ≡ true → xs ≡ ys
+same-is [] [] e = refl
+same-is [] (y ∷ ys) e = absurd (true≢false (sym e))
+same-is (x ∷ xs) [] e = absurd (true≢false (sym e))
+same-is (x ∷ xs) (y ∷ ys) e =
+    let parts = and_parts (eqb x y) (same xs ys) e in
+    ap₂ (λ z zs. z ∷ zs) (eqb-true x y parts.0) (same-is xs ys parts.1)
+
+-- a test of all lists of n flags
+abbrev all_flags : ℕ → (List Bool → Bool) → Bool
+all_flags zero test = test []
+all_flags (suc n) test = all_flags n (λ flags. test (true ∷ flags)) && all_flags n (λ flags. test (false ∷ flags))
+
+all_flags-each : (n : ℕ) (test : List Bool → Bool) → all_flags n test ≡ true → (flags : List Bool) → length flags ≡ n → test flags ≡ true
+all_flags-each zero test all [] long = all
+all_flags-each zero test all (flag ∷ flags) long = absurd (omega arith)
+all_flags-each (suc n) test all [] long = absurd (omega arith)
+all_flags-each (suc n) test all (true ∷ flags) long = all_flags-each n (λ rest. test (true ∷ rest)) (and_parts _ _ all).0 flags (omega arith)
+all_flags-each (suc n) test all (false ∷ flags) long = all_flags-each n (λ rest. test (false ∷ rest)) (and_parts _ _ all).1 flags (omega arith)
+
+-- whether the row of some flags is theirs
+abbrev is_row : List Bool → Bool
+is_row flags = same (take (16 - count_ones (mask_l flags)) (get_or PLACES (mask_l flags) [])) (packed flags (range_with_len 0 16))
+
+pub row : (flags : List Bool) → length flags ≡ 8 → take (16 - count_ones (mask_l flags)) (get_or PLACES (mask_l flags) []) ≡ packed flags (range_with_len 0 16)
+unfolding ones
+row flags long = same-is _ _ (all_flags-each 8 is_row refl flags long)
+
+-- whether all rows are sixteen places in a vector
+abbrev all_good : List (List ℕ) → Bool
+all_good [] = true
+all_good (places ∷ rows) = (eqb (length places) 16 && all_below 16 places) && all_good rows
+
+abbrev Good : List ℕ → Type 0
+Good places = (length places ≡ 16) × Each1 (λ place. place < 16) places
+
+all_below-each : (n : ℕ) (xs : List ℕ) → all_below n xs ≡ true → Each1 (λ x. x < n) xs
+all_below-each n [] all = tt
+all_below-each n (x ∷ xs) all =
+    let parts = and_parts (ltb x n) (all_below n xs) all in
+    (ltb-true x n parts.0, all_below-each n xs parts.1)
+
+each-good : (rows : List (List ℕ)) (k : ℕ) → k < length rows → all_good rows ≡ true → Good (get_or rows k [])
+each-good [] k below all = absurd (omega arith)
+each-good (places ∷ rows) zero below all =
+    let first = and_parts (eqb (length places) 16 && all_below 16 places) (all_good rows) all in
+    let parts = and_parts (eqb (length places) 16) (all_below 16 places) first.0 in
+    (eqb-true _ _ parts.0, all_below-each 16 places parts.1)
+each-good (places ∷ rows) (suc k) below all =
+    each-good rows k (omega arith) (and_parts (eqb (length places) 16 && all_below 16 places) (all_good rows) all).1
+
+pub row-good : (k : ℕ) → k < 256 → Good (get_or PLACES k [])
+row-good k below = each-good PLACES k below refl
