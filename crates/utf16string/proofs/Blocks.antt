@@ -6,12 +6,12 @@ use Rattle.std.proofs.lemmas.List.{drop-drop, get_or-take, length-map, length-ta
 use Rattle.std.proofs.lemmas.List.Elements.{All-from_get_or, All-head, All-tail}
 use Rattle.std.proofs.lemmas.List.Sums.{prefix_len-le-length, prefix_len_passes}
 use Rattle.std.proofs.lemmas.Nat.Bits.{and_high}
-use Rattle.std.proofs.lemmas.Simd.{bitmask_splat, leading_from_mask_l, map-map, trailing_mask_l, zip2_splat}
+use Rattle.std.proofs.lemmas.Simd.{Each1-get_or, bitmask_splat, leading_from_mask_l, map-map, trailing_mask_l, zip2_splat}
 use Rattle.std.specs.Char.{IsScalar}
 use Rattle.std.specs.List.{items_where_true, prefix_len}
 use mir.Syntax.{w16}
-use mir.Val.{bool_byte}
-use lib.Lanes.{mask_l, top, zip2}
+use mir.Val.{Fits, bool_byte}
+use lib.Lanes.{Each1, mask_l, top, zip2}
 use lib.Count.{count_trailing_zeros}
 use Rattle.utf16_units.specs.Encoding.{encode}
 use Rattle.utf16_units.proofs.EncodingLemmas.{encode-cons, encode-nil}
@@ -60,11 +60,11 @@ module _ (units : List ℕ) (long : length units ≡ 16) where
   pub plain_len-few : plain_len units ≤ 16
   plain_len-few = omega (arith, long, prefix_len-le-length (λ u. not (is_surrogate u)) units)
 
-  pub plain_len-characters : ((i : ℕ) → get_or units i 0 < 0x1_0000) → All IsScalar (take (plain_len units) units)
-  plain_len-characters below = All-from_get_or IsScalar (take (plain_len units) units) 0 (λ i lt.
+  pub plain_len-characters : Each1 (Fits w16) units → All IsScalar (take (plain_len units) units)
+  plain_len-characters fit = All-from_get_or IsScalar (take (plain_len units) units) 0 (λ i lt.
       let before : i < plain_len units = omega (arith, lt, length-take (plain_len units) units) in
       subst IsScalar (sym (get_or-take (plain_len units) units i 0 before))
-      (scalar-high _ (below i) (not-true _ (prefix_len_passes (λ u. not (is_surrogate u)) units i 0 before))))
+      (scalar-high _ (Each1-get_or (Fits w16) units i 0 (omega (arith, long, before, plain_len-few)) fit).fits (not-true _ (prefix_len_passes (λ u. not (is_surrogate u)) units i 0 before))))
 
 -- the bytes of one unit more
 pub units-more : (big : Bool) (raw units : List ℕ) (i first second : ℕ) → i < length units → 2 * i + 1 < length raw → get_or raw (2 * i) 0 ≡ first → get_or raw (2 * i + 1) 0 ≡ second

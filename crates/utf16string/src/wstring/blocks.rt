@@ -1,6 +1,6 @@
 //! Blocks of sixteen units, of which a predicate keeps characters: asked about together where no surrogate is among them.
 
-ghost use Rattle.std.specs.Prelude.{◌≡◌, ◌+◌, ◌*◌, ◌≤◌, ◌++◌, ℕ, All, List, length, take, drop};
+ghost use Rattle.std.specs.Prelude.{◌≡◌, ◌+◌, ◌*◌, ◌≤◌, ◌++◌, ℕ, All, List, length, take, drop, true, false};
 ghost use Rattle.std.specs.Char.{IsScalar};
 ghost use Rattle.std.specs.List.{flat_map, items_where_true};
 ghost use Rattle.utf16_units.specs.Encoding.{Encodes, encode};
@@ -24,30 +24,38 @@ pub(crate) fn plain_units<E: Utf16Order>(raw: &[u8]) -> ([u16; UNITS], usize)
     ensures spelled { Encodes E.BIG (take result.1 result.0) (take (2 * result.1) raw.now) }
 {
     let units = first_units::<E>(raw);
-    (units, plain_front(units))
+    (units.to_array(), plain_front(units))
 }
 
-// The units of the block at the front.
-#[inline]
-fn first_units<E: Utf16Order>(raw: &[u8]) -> [u16; UNITS]
+// The units of the block at the front, read at once.
+#[inline(always)]
+fn first_units<E: Utf16Order>(raw: &[u8]) -> u16x16
     requires { BLOCK ≤ length raw.now }
-    ensures { flat_map (unit_bytes E.BIG) result ≡ take BLOCK raw.now }
+    ensures len { length result ≡ UNITS }
+    ensures bytes { flat_map (unit_bytes E.BIG) result ≡ take BLOCK raw.now }
 {
-    let mut units = [0; UNITS];
-    for i in 0..UNITS {
-        units[i] = E::read_unit([raw[2 * i], raw[2 * i + 1]]);
-    }
-    units
+    let units = u16x16::from_le_bytes(u8x32::from_slice(raw));
+    if E::BIG { swapped(units) } else { units }
+}
+
+// The two bytes of each unit the other way round.
+#[inline(always)]
+fn swapped(units: u16x16) -> u16x16
+    ensures len { length result ≡ UNITS }
+    ensures bytes { flat_map (unit_bytes true) result ≡ flat_map (unit_bytes false) units }
+{
+    (units << u16x16::splat(8)) + (units >> u16x16::splat(8))
 }
 
 // How many units stand before the first surrogate.
-#[inline]
-fn plain_front(units: [u16; UNITS]) -> usize
+#[inline(always)]
+fn plain_front(units: u16x16) -> usize
     ensures few { result ≤ UNITS }
     ensures characters { All IsScalar (take result units) }
 {
-    let upper = u16x16::from_array(units) & Simd::splat(0xF800);
-    let surrogates = upper.simd_eq(Simd::splat(0xD800)).to_bitmask();
+    let surrogates = (units & Simd::splat(0xF800))
+        .simd_eq(Simd::splat(0xD800))
+        .to_bitmask();
     if surrogates == 0 {
         UNITS
     } else {

@@ -12,5 +12,5 @@ returns-clause-spelled g c =
     let below = All-from_get_or IsUnit units 0 (λ i lt. let h = c.first_units-units.type_inv in search rules) in
     record {
       scalars = c.plain_front.ensures.characters;
-      spelled = encode-units big (take n units) (All-take IsUnit n units below) ∙ units-take big units n (omega arith) ∙ ap (take (2 * n)) c.first_units-units.ensures ∙ take-take (2 * n) 32 c.args.raw.now (omega arith);
+      spelled = encode-units big (take n units) (All-take IsUnit n units below) ∙ units-take big units n (omega arith) ∙ ap (take (2 * n)) c.first_units-units.ensures.bytes ∙ take-take (2 * n) 32 c.args.raw.now (omega arith);
     }
