@@ -1,5 +1,5 @@
 -- The units of a block that is read at once, in either order of bytes.
-use Rattle.std.proofs.Common.{◌≡◌, ℕ, zero, suc, ◌+◌, ◌*◌, ◌/◌, ◌%◌, ◌^◌, ◌<◌, Bool, true, false, List, [], ◌∷◌, ◌++◌, length, map, refl, ap, ap₂, ◌∙◌, arith, Fits, w8, w16, flat_map, replicate}
+use Rattle.std.proofs.Common.{◌≡◌, ℕ, zero, suc, ◌+◌, ◌*◌, ◌/◌, ◌%◌, ◌^◌, true, false, List, [], ◌∷◌, ◌++◌, length, map, refl, ap, ap₂, ◌∙◌, arith, Fits, w8, w16, flat_map, replicate}
 use Rattle.std.proofs.lemmas.Simd.{zip2_of_maps, zip2_splat}
 use lib.Lanes.{Each1, digits_l, number_l, zip2}
 use Rattle.utf16_units.specs.Unit.{unit_bytes}

@@ -2,7 +2,7 @@
 use Rattle.std.proofs.Common.{◌≡◌, ℕ, ◌+◌, ◌-◌, ◌*◌, ◌/◌, ◌%◌, ◌^◌, ◌<◌, ◌≤◌, Bool, true, false, cond, not, nat_eq, bit_and, List, [], ◌∷◌, ◌++◌, All, get_or, length, map, replicate, take, drop, refl, sym, ap, ap₂, ◌∙◌, subst, arith, append_assoc, append-nil, length-append, flat_map}
 use Rattle.std.proofs.lemmas.Bool.{eqb-false, false≢true}
 use Rattle.std.proofs.lemmas.Grind.{flat_map-append}
-use Rattle.std.proofs.lemmas.List.{drop-drop, get_or-take, length-map, length-take, length-take-le, take-append-drop, take_at, take_more}
+use Rattle.std.proofs.lemmas.List.{drop-drop, get_or-take, length-drop, length-map, length-take, length-take-le, take-append-drop, take_all, take_at, take_more}
 use Rattle.std.proofs.lemmas.List.Elements.{All-from_get_or, All-head, All-tail}
 use Rattle.std.proofs.lemmas.List.Sums.{prefix_len-le-length, prefix_len_passes}
 use Rattle.std.proofs.lemmas.Nat.Bits.{and_high}
@@ -13,7 +13,7 @@ use mir.Syntax.{w16}
 use mir.Val.{Fits, bool_byte}
 use lib.Lanes.{Each1, mask_l, top, zip2}
 use lib.Count.{count_trailing_zeros}
-use Rattle.utf16_units.specs.Encoding.{encode}
+use Rattle.utf16_units.specs.Encoding.{Encodes, encode}
 use Rattle.utf16_units.proofs.EncodingLemmas.{encode-cons, encode-nil}
 use Rattle.utf16_units.specs.Unit.{unit_bytes, unit_of}
 use Rattle.utf16_units.proofs.FirstChar.{scalar_unit}
@@ -153,3 +153,16 @@ pub encode-kept : (big : Bool) (answers : List Bool) (units : List ℕ) → ((i 
     → encode big (items_where_true answers units) ≡ flat_map (unit_bytes big) (items_where_true answers units)
 encode-kept big answers units below =
     encode-units big (items_where_true answers units) (All-kept IsUnit answers units (All-from_get_or IsUnit units 0 (λ i lt. below i)))
+
+-- the first n units of what was read from an index on spell the next 2 * n bytes
+pub front-here : (big : Bool) (units bytes : List ℕ) (n read : ℕ) → Encodes big (take n units) (take (2 * n) (take (length bytes - read) (drop read bytes)))
+    → Encodes big (take n units) (take (2 * n) (drop read bytes))
+front-here big units bytes n read e =
+    subst (λ l. Encodes big (take n units) (take (2 * n) l)) (take_all (length bytes - read) (drop read bytes) (omega (arith, length-drop read bytes))) e
+
+-- all sixteen spell the next thirty-two bytes
+pub whole-here : (big : Bool) (units bytes : List ℕ) (n read : ℕ) → Encodes big (take n units) (take (2 * n) (take (length bytes - read) (drop read bytes)))
+    → n ≡ 16 → length units ≡ 16 → Encodes big units (take 32 (drop read bytes))
+whole-here big units bytes n read e sixteen long =
+    let all = ap (λ m. take m units) sixteen ∙ take_all 16 units (omega (arith, long)) in
+    subst (λ m. Encodes big units (take (2 * m) (drop read bytes))) sixteen (subst (λ us. Encodes big us (take (2 * n) (drop read bytes))) all (front-here big units bytes n read e))

@@ -63,12 +63,30 @@ fn plain_front(units: u16x16) -> usize
     }
 }
 
+// Asks about each character of a block, in turn, and moves those that stay down. Answers where they end.
+#[inline(always)]
+pub(crate) fn keep_block<E: Utf16Order, F: FnMut(char) -> bool>(
+    bytes: &mut [u8],
+    keep: &mut F,
+    to: usize,
+    start: usize,
+    units: &[u16; UNITS],
+) -> usize
+    requires down { to ≤ start }
+    requires within { start + BLOCK ≤ length bytes.old }
+    requires here { Encodes E.BIG units.now (take BLOCK (drop start bytes.old)) }
+    requires askable { MayBeAsked F.FnMut keep.old units.now }
+    ensures kept { (left : List ℕ) × RetainsTo F.FnMut keep.old units.now left keep.new × (take result bytes.new ≡ take to bytes.old ++ encode E.BIG left) }
+    ensures behind { drop (start + BLOCK) bytes.new ≡ drop (start + BLOCK) bytes.old }
+    ensures down { result ≤ start + BLOCK }
+{
+    let (answers, many) = ask_each(keep, units);
+    move_block::<E>(bytes, to, start, units, &answers, many)
+}
+
 // Asks about each character of a block, in turn, and counts those that stay.
 #[inline]
-pub(crate) fn ask_each<F: FnMut(char) -> bool>(
-    keep: &mut F,
-    units: &[u16; UNITS],
-) -> ([bool; UNITS], usize)
+fn ask_each<F: FnMut(char) -> bool>(keep: &mut F, units: &[u16; UNITS]) -> ([bool; UNITS], usize)
     requires scalars { All IsScalar units.now }
     requires askable { MayBeAsked F.FnMut keep.old units.now }
     ensures asked { RetainsTo F.FnMut keep.old units.now (items_where_true result.0 units.now) keep.new }
@@ -113,8 +131,8 @@ pub(crate) fn keep_each<E: Utf16Order, F: FnMut(char) -> bool>(
 }
 
 // Moves the characters of a block that stay down, and answers where they end. All of them are moved at once.
-#[inline]
-pub(crate) fn move_block<E: Utf16Order>(
+#[inline(always)]
+fn move_block<E: Utf16Order>(
     bytes: &mut [u8],
     to: usize,
     start: usize,

@@ -1,10 +1,10 @@
 //! Characters kept by a predicate.
 
 ghost use Rattle.std.specs.Prelude.{◌≡◌, ◌⊎◌, ◌+◌, ◌<◌, ◌≤◌, [], ◌∷◌, ◌++◌, IfSome, List, ℕ, length, take, drop};
-ghost use Rattle.utf16_units.specs.Encoding.{Encodes, IsText, char_size, text_of};
+ghost use Rattle.utf16_units.specs.Encoding.{Encodes, IsText, char_size, encode, text_of};
 ghost use Rattle.utf16string.specs.Retain.{IsAskable, MayBeAsked, Retains, RetainsTo};
 
-use super::blocks::{BLOCK, UNITS, ask_each, keep_each, move_block, plain_units};
+use super::blocks::{BLOCK, UNITS, keep_block, keep_each, plain_units};
 use crate::WString;
 use std::alloc::Allocator;
 use utf16_str::WStr;
@@ -56,18 +56,14 @@ fn move_kept<E: Utf16Order, F: FnMut(char) -> bool>(bytes: &mut [u8], keep: &mut
     while read < bytes.len() {
         let Some(c) = single_at::<E>(bytes, read) else {
             let (c, size) = char_from::<E>(bytes, read);
-            if ask(keep, c) {
-                move_down(bytes, kept, read, size);
-                kept += size;
-            }
+            kept = keep_one::<E, F>(bytes, keep, kept, read, c, size);
             read += size;
             continue;
         };
         if bytes.len() - read >= BLOCK {
             let (units, plain) = plain_units::<E>(&bytes[read..]);
             if plain == UNITS {
-                let (answers, many) = ask_each(keep, &units);
-                kept = move_block::<E>(bytes, kept, read, &units, &answers, many);
+                kept = keep_block::<E, F>(bytes, keep, kept, read, &units);
                 read += BLOCK;
                 continue;
             }
@@ -77,10 +73,7 @@ fn move_kept<E: Utf16Order, F: FnMut(char) -> bool>(bytes: &mut [u8], keep: &mut
                 continue;
             }
         }
-        if ask(keep, c) {
-            move_down(bytes, kept, read, 2);
-            kept += 2;
-        }
+        kept = keep_one::<E, F>(bytes, keep, kept, read, c, 2);
         read += 2;
     }
     kept
@@ -117,6 +110,33 @@ fn char_from<E: Utf16Order>(bytes: &[u8], at: usize) -> (char, usize)
     let mut chars = text.chars();
     let first = chars.next().unwrap();
     (first, text.len() - chars.as_wstr().len())
+}
+
+// Asks about the character at an index, and moves it down if it stays. Answers where those that stay end.
+#[inline]
+fn keep_one<E: Utf16Order, F: FnMut(char) -> bool>(
+    bytes: &mut [u8],
+    keep: &mut F,
+    to: usize,
+    start: usize,
+    c: char,
+    size: usize,
+) -> usize
+    requires down { to ≤ start }
+    requires size { (size ≡ 2) ⊎ (size ≡ 4) }
+    requires within { start + size ≤ length bytes.old }
+    requires here { Encodes E.BIG (c ∷ []) (take size (drop start bytes.old)) }
+    requires askable { MayBeAsked F.FnMut keep.old (c ∷ []) }
+    ensures kept { (left : List ℕ) × RetainsTo F.FnMut keep.old (c ∷ []) left keep.new × (take result bytes.new ≡ take to bytes.old ++ encode E.BIG left) }
+    ensures behind { drop (start + size) bytes.new ≡ drop (start + size) bytes.old }
+    ensures down { result ≤ start + size }
+{
+    if ask(keep, c) {
+        move_down(bytes, to, start, size);
+        to + size
+    } else {
+        to
+    }
 }
 
 // Asks about one character, once.
