@@ -149,10 +149,10 @@ encode-units big (u ∷ units) below =
     encode-cons big u units ∙ ap₂ (λ x y. x ++ y) (one_unit_bytes big u (All-head IsUnit u units below)) (encode-units big units (All-tail IsUnit u units below))
 
 -- the same of those kept
-pub encode-kept : (big : Bool) (answers : List Bool) (units : List ℕ) → ((i : ℕ) → get_or units i 0 < 0x1_0000)
+pub encode-kept : (big : Bool) (answers : List Bool) (units : List ℕ) → All IsUnit units
     → encode big (items_where_true answers units) ≡ flat_map (unit_bytes big) (items_where_true answers units)
 encode-kept big answers units below =
-    encode-units big (items_where_true answers units) (All-kept IsUnit answers units (All-from_get_or IsUnit units 0 (λ i lt. below i)))
+    encode-units big (items_where_true answers units) (All-kept IsUnit answers units below)
 
 -- the first n units of what was read from an index on spell the next 2 * n bytes
 pub front-here : (big : Bool) (units bytes : List ℕ) (n read : ℕ) → Encodes big (take n units) (take (2 * n) (take (length bytes - read) (drop read bytes)))
@@ -161,8 +161,7 @@ front-here big units bytes n read e =
     subst (λ l. Encodes big (take n units) (take (2 * n) l)) (take_all (length bytes - read) (drop read bytes) (omega (arith, length-drop read bytes))) e
 
 -- all sixteen spell the next thirty-two bytes
-pub whole-here : (big : Bool) (units bytes : List ℕ) (n read : ℕ) → Encodes big (take n units) (take (2 * n) (take (length bytes - read) (drop read bytes)))
-    → n ≡ 16 → length units ≡ 16 → Encodes big units (take 32 (drop read bytes))
-whole-here big units bytes n read e sixteen long =
-    let all = ap (λ m. take m units) sixteen ∙ take_all 16 units (omega (arith, long)) in
-    subst (λ m. Encodes big units (take (2 * m) (drop read bytes))) sixteen (subst (λ us. Encodes big us (take (2 * n) (drop read bytes))) all (front-here big units bytes n read e))
+pub whole-here : (big : Bool) (units bytes : List ℕ) (read : ℕ) → Encodes big (take 16 units) (take 32 (take (length bytes - read) (drop read bytes)))
+    → length units ≡ 16 → Encodes big units (take 32 (drop read bytes))
+whole-here big units bytes read e long =
+    subst (λ us. Encodes big us (take 32 (drop read bytes))) (take_all 16 units (omega (arith, long))) (front-here big units bytes 16 read e)

@@ -1,6 +1,6 @@
 //! Blocks of sixteen units, of which a predicate keeps characters: asked about together where no surrogate is among them.
 
-ghost use Rattle.std.specs.Prelude.{◌≡◌, ◌+◌, ◌*◌, ◌≤◌, ◌++◌, ℕ, All, List, length, take, drop, true, false};
+ghost use Rattle.std.specs.Prelude.{◌≡◌, ◌+◌, ◌*◌, ◌<◌, ◌≤◌, ◌++◌, ℕ, All, List, length, take, drop, true, false};
 ghost use Rattle.std.specs.Char.{IsScalar};
 ghost use Rattle.std.specs.List.{flat_map, items_where_true};
 ghost use Rattle.utf16_units.specs.Encoding.{Encodes, encode};
@@ -13,6 +13,9 @@ use utf16_units::Utf16Order;
 /// How many units a block has.
 pub(crate) const UNITS: usize = 16;
 
+/// How many units half of a block has.
+pub(crate) const HALF: usize = 8;
+
 /// How many bytes a block takes.
 pub(crate) const BLOCK: usize = 32;
 
@@ -21,7 +24,8 @@ pub(crate) const BLOCK: usize = 32;
 pub(crate) fn plain_units<E: Utf16Order>(raw: &[u8]) -> ([u16; UNITS], usize)
     requires { BLOCK ≤ length raw.now }
     ensures few { result.1 ≤ UNITS }
-    ensures spelled { Encodes E.BIG (take result.1 result.0) (take (2 * result.1) raw.now) }
+    ensures units { All (λ unit. unit < 0x1_0000) result.0 }
+    ensures spelled { (n : ℕ) → n ≤ result.1 → Encodes E.BIG (take n result.0) (take (2 * n) raw.now) }
 {
     let units = first_units::<E>(raw);
     (units.to_array(), plain_front(units))
@@ -63,38 +67,42 @@ fn plain_front(units: u16x16) -> usize
     }
 }
 
-// Asks about each character of a block, in turn, and moves those that stay down. Answers where they end.
+// Asks about each character of a block or of half of one, in turn, and moves those that stay down. Answers where they end.
 #[inline(always)]
-pub(crate) fn keep_block<E: Utf16Order, F: FnMut(char) -> bool>(
+pub(crate) fn keep_block<E: Utf16Order, F: FnMut(char) -> bool, const N: usize>(
     bytes: &mut [u8],
     keep: &mut F,
     to: usize,
     start: usize,
-    units: &[u16; UNITS],
+    units: &[u16; N],
 ) -> usize
     requires down { to ≤ start }
-    requires within { start + BLOCK ≤ length bytes.old }
-    requires here { Encodes E.BIG units.now (take BLOCK (drop start bytes.old)) }
+    requires within { start + 2 * N ≤ length bytes.old }
+    requires units { All (λ unit. unit < 0x1_0000) units.now }
+    requires here { Encodes E.BIG units.now (take (2 * N) (drop start bytes.old)) }
     requires askable { MayBeAsked F.FnMut keep.old units.now }
     ensures kept { (left : List ℕ) × RetainsTo F.FnMut keep.old units.now left keep.new × (take result bytes.new ≡ take to bytes.old ++ encode E.BIG left) }
-    ensures behind { drop (start + BLOCK) bytes.new ≡ drop (start + BLOCK) bytes.old }
-    ensures down { result ≤ start + BLOCK }
+    ensures behind { drop (start + 2 * N) bytes.new ≡ drop (start + 2 * N) bytes.old }
+    ensures down { result ≤ start + 2 * N }
 {
     let (answers, many) = ask_each(keep, units);
-    move_block::<E>(bytes, to, start, units, &answers, many)
+    move_block::<E, N>(bytes, to, start, units, &answers, many)
 }
 
 // Asks about each character of a block, in turn, and counts those that stay.
 #[inline]
-fn ask_each<F: FnMut(char) -> bool>(keep: &mut F, units: &[u16; UNITS]) -> ([bool; UNITS], usize)
+fn ask_each<F: FnMut(char) -> bool, const N: usize>(
+    keep: &mut F,
+    units: &[u16; N],
+) -> ([bool; N], usize)
     requires scalars { All IsScalar units.now }
     requires askable { MayBeAsked F.FnMut keep.old units.now }
     ensures asked { RetainsTo F.FnMut keep.old units.now (items_where_true result.0 units.now) keep.new }
     ensures many { result.1 ≡ length (items_where_true result.0 units.now) }
 {
-    let mut answers = [false; UNITS];
+    let mut answers = [false; N];
     let mut many = 0;
-    for i in 0..UNITS {
+    for i in 0..N {
         let stays = keep(unsafe { char::from_u32_unchecked(units[i] as u32) });
         answers[i] = stays;
         many += stays as usize;
@@ -132,62 +140,63 @@ pub(crate) fn keep_each<E: Utf16Order, F: FnMut(char) -> bool>(
 
 // Moves the characters of a block that stay down, and answers where they end. All of them are moved at once.
 #[inline(always)]
-fn move_block<E: Utf16Order>(
+fn move_block<E: Utf16Order, const N: usize>(
     bytes: &mut [u8],
     to: usize,
     start: usize,
-    units: &[u16; UNITS],
-    answers: &[bool; UNITS],
+    units: &[u16; N],
+    answers: &[bool; N],
     many: usize,
 ) -> usize
     requires down { to ≤ start }
-    requires within { start + BLOCK ≤ length bytes.old }
-    requires here { Encodes E.BIG units.now (take BLOCK (drop start bytes.old)) }
+    requires within { start + 2 * N ≤ length bytes.old }
+    requires units { All (λ unit. unit < 0x1_0000) units.now }
+    requires here { Encodes E.BIG units.now (take (2 * N) (drop start bytes.old)) }
     requires many { many ≡ length (items_where_true answers.now units.now) }
     ensures moved { take result bytes.new ≡ take to bytes.old ++ encode E.BIG (items_where_true answers.now units.now) }
-    ensures behind { drop (start + BLOCK) bytes.new ≡ drop (start + BLOCK) bytes.old }
-    ensures down { result ≤ start + BLOCK }
+    ensures behind { drop (start + 2 * N) bytes.new ≡ drop (start + 2 * N) bytes.old }
+    ensures down { result ≤ start + 2 * N }
 {
-    if many == UNITS {
-        move_all(bytes, to, start);
-        return to + BLOCK;
+    if many == N {
+        move_all::<N>(bytes, to, start);
+        return to + 2 * N;
     }
     if many == 0 {
         return to;
     }
-    write_some::<E>(bytes, to, start, units, answers)
+    write_some::<E, N>(bytes, to, start, units, answers)
 }
 
 // Moves a whole block down, if it is not in place.
 #[inline]
-fn move_all(bytes: &mut [u8], to: usize, start: usize)
+fn move_all<const N: usize>(bytes: &mut [u8], to: usize, start: usize)
     requires down { to ≤ start }
-    requires within { start + BLOCK ≤ length bytes.old }
-    ensures moved { take (to + BLOCK) bytes.new ≡ take to bytes.old ++ take BLOCK (drop start bytes.old) }
-    ensures behind { drop (start + BLOCK) bytes.new ≡ drop (start + BLOCK) bytes.old }
+    requires within { start + 2 * N ≤ length bytes.old }
+    ensures moved { take (to + 2 * N) bytes.new ≡ take to bytes.old ++ take (2 * N) (drop start bytes.old) }
+    ensures behind { drop (start + 2 * N) bytes.new ≡ drop (start + 2 * N) bytes.old }
 {
     if to < start {
-        bytes.copy_within(start..start + BLOCK, to);
+        bytes.copy_within(start..start + 2 * N, to);
     }
 }
 
 // Writes the units that stay one behind another, over bytes up to the end of their block.
 #[inline]
-fn write_some<E: Utf16Order>(
+fn write_some<E: Utf16Order, const N: usize>(
     bytes: &mut [u8],
     to: usize,
     start: usize,
-    units: &[u16; UNITS],
-    answers: &[bool; UNITS],
+    units: &[u16; N],
+    answers: &[bool; N],
 ) -> usize
     requires down { to ≤ start }
-    requires within { start + BLOCK ≤ length bytes.old }
+    requires within { start + 2 * N ≤ length bytes.old }
     ensures written { take result bytes.new ≡ take to bytes.old ++ flat_map (unit_bytes E.BIG) (items_where_true answers.now units.now) }
-    ensures behind { drop (start + BLOCK) bytes.new ≡ drop (start + BLOCK) bytes.old }
-    ensures down { result ≤ start + BLOCK }
+    ensures behind { drop (start + 2 * N) bytes.new ≡ drop (start + 2 * N) bytes.old }
+    ensures down { result ≤ start + 2 * N }
 {
     let mut end = to;
-    for i in 0..UNITS {
+    for i in 0..N {
         if answers[i] {
             write_unit::<E>(bytes, end, units[i]);
             end += 2;

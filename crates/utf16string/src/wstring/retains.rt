@@ -4,7 +4,7 @@ ghost use Rattle.std.specs.Prelude.{◌≡◌, ◌⊎◌, ◌+◌, ◌<◌, ◌�
 ghost use Rattle.utf16_units.specs.Encoding.{Encodes, IsText, char_size, encode, text_of};
 ghost use Rattle.utf16string.specs.Retain.{IsAskable, MayBeAsked, Retains, RetainsTo};
 
-use super::blocks::{BLOCK, UNITS, keep_block, keep_each, plain_units};
+use super::blocks::{BLOCK, HALF, UNITS, keep_block, keep_each, plain_units};
 use crate::WString;
 use std::alloc::Allocator;
 use utf16_str::WStr;
@@ -63,8 +63,14 @@ fn move_kept<E: Utf16Order, F: FnMut(char) -> bool>(bytes: &mut [u8], keep: &mut
         if bytes.len() - read >= BLOCK {
             let (units, plain) = plain_units::<E>(&bytes[read..]);
             if plain == UNITS {
-                kept = keep_block::<E, F>(bytes, keep, kept, read, &units);
+                kept = keep_block::<E, F, UNITS>(bytes, keep, kept, read, &units);
                 read += BLOCK;
+                continue;
+            }
+            if plain >= HALF {
+                let half = units.first_chunk::<HALF>().unwrap();
+                kept = keep_block::<E, F, HALF>(bytes, keep, kept, read, half);
+                read += BLOCK / 2;
                 continue;
             }
             if plain > 0 {

@@ -1,7 +1,10 @@
-use Rattle.std.proofs.Common.{[], ◌∷◌, ◌*◌, ◌+◌, ◌≡◌, ◌∙◌, arith, rules, drop, length, refl, subst, take}
+use Rattle.std.proofs.Common.{[], ◌∷◌, ◌*◌, ◌+◌, ◌<◌, ◌≡◌, ◌∙◌, arith, rules, drop, length, refl, subst, take}
 use Rattle.std.proofs.lemmas.List.{drop_all, length-take-le}
+use Rattle.std.proofs.lemmas.List.Elements.{All-take}
+use Rattle.std.specs.Option.{MatchOption}
+use Rattle.std.specs.Array.{IsFirstChunk}
 use Rattle.utf16_units.proofs.EncodingLemmas.{Encodes-text_of}
-use Rattle.utf16string.proofs.Blocks.{front-here, whole-here}
+use Rattle.utf16string.proofs.Blocks.{IsUnit, front-here, whole-here}
 use Rattle.utf16string.proofs.Retained.{Retaining-end, Retaining-kept, Retaining-start, may-ask}
 use Rattle.utf16string.proofs.wstring.retains.move_kept.Goals as goal
 
@@ -20,28 +23,45 @@ loop-read-preserved-in_default g c =
     let same = one.auto.bytes in
     (Retaining-kept _ _ _ _ _ _ _ _ c.loop-read.invariant.0 (next.result.0 ∷ []) next.result.1 next.ensures.char next.ensures.within _ _ _ same one.ensures.kept one.ensures.behind one.ensures.down, same ∙ c.loop-read.invariant.1)
 
-pub keep_block-kept-requires-clause-askable : goal.keep_block-kept-requires-clause-askable
-keep_block-kept-requires-clause-askable g c =
-    let spelled = whole-here _ _ c.loop-read.bytes _ c.loop-read.read c.plain_units-plain.ensures.spelled c.if-plain-eq-UNITS.true (let h = c.plain_units-plain.type_inv in search rules) in
-    may-ask _ _ _ _ _ _ _ _ c.loop-read.invariant.0 _ 32 spelled (omega arith)
+pub keep_block-kept-requires : goal.keep_block-kept-requires
+keep_block-kept-requires g c =
+    let units = c.plain_units-plain.result.0 in
+    let spelled = whole-here _ units c.loop-read.bytes c.loop-read.read (c.plain_units-plain.ensures.spelled 16 (omega arith)) (let h = c.plain_units-plain.type_inv in search rules) in
+    (omega arith, (c.loop-read.invariant.0.order.0, (omega arith, (c.plain_units-plain.ensures.units, (spelled, may-ask _ _ _ _ _ _ _ _ c.loop-read.invariant.0 _ 32 spelled (omega arith))))))
 
 pub loop-read-preserved-then-plain-eq-UNITS : goal.loop-read-preserved-then-plain-eq-UNITS
 loop-read-preserved-then-plain-eq-UNITS g c =
-    let spelled = whole-here _ _ c.loop-read.bytes _ c.loop-read.read c.plain_units-plain.ensures.spelled c.if-plain-eq-UNITS.true (let h = c.plain_units-plain.type_inv in search rules) in
+    let spelled = whole-here _ _ c.loop-read.bytes c.loop-read.read (c.plain_units-plain.ensures.spelled 16 (omega arith)) (let h = c.plain_units-plain.type_inv in search rules) in
     let block = c.keep_block-kept in
     let same = block.auto.bytes in
     (Retaining-kept _ _ _ _ _ _ _ _ c.loop-read.invariant.0 _ 32 spelled (omega arith) _ _ _ same block.ensures.kept block.ensures.behind block.ensures.down, same ∙ c.loop-read.invariant.1)
 
+pub keep_block-kept-requires-then-plain-ge-HALF : goal.keep_block-kept-requires-then-plain-ge-HALF
+keep_block-kept-requires-then-plain-ge-HALF g c =
+    let units = c.plain_units-plain.result.0 in
+    let spelled = front-here _ units c.loop-read.bytes 8 c.loop-read.read (c.plain_units-plain.ensures.spelled 8 (omega arith)) in
+    let half : c.unwrap-half.result.now ≡ take 8 units = (subst (λ r. MatchOption r (length units < 8) (λ y. IsFirstChunk units y.now 8)) c.unwrap-half.ensures c.first_chunk.ensures.cases).same in
+    rw half (omega arith, (c.loop-read.invariant.0.order.0, (omega arith, (All-take IsUnit 8 units c.plain_units-plain.ensures.units, (spelled, may-ask _ _ _ _ _ _ _ _ c.loop-read.invariant.0 _ 16 spelled (omega arith))))))
+
+pub loop-read-preserved-then-plain-ge-HALF : goal.loop-read-preserved-then-plain-ge-HALF
+loop-read-preserved-then-plain-ge-HALF g c =
+    let units = c.plain_units-plain.result.0 in
+    let spelled = front-here _ units c.loop-read.bytes 8 c.loop-read.read (c.plain_units-plain.ensures.spelled 8 (omega arith)) in
+    let half : c.unwrap-half.result.now ≡ take 8 units = (subst (λ r. MatchOption r (length units < 8) (λ y. IsFirstChunk units y.now 8)) c.unwrap-half.ensures c.first_chunk.ensures.cases).same in
+    let block = c.keep_block-kept-then-plain-ge-HALF in
+    let same = block.auto.bytes in
+    (Retaining-kept _ _ _ _ _ _ _ _ c.loop-read.invariant.0 _ 16 (rw half spelled) (omega arith) _ _ _ same block.ensures.kept block.ensures.behind block.ensures.down, same ∙ c.loop-read.invariant.1)
+
 pub keep_each-kept-requires-clause-askable : goal.keep_each-kept-requires-clause-askable
 keep_each-kept-requires-clause-askable g c =
     let n = c.plain_units-plain.result.1 in
-    let spelled = front-here _ _ c.loop-read.bytes n c.loop-read.read c.plain_units-plain.ensures.spelled in
+    let spelled = front-here _ _ c.loop-read.bytes n c.loop-read.read (c.plain_units-plain.ensures.spelled n (omega arith)) in
     may-ask _ _ _ _ _ _ _ _ c.loop-read.invariant.0 _ (2 * n) spelled (omega (arith, c.plain_units-plain.ensures.few))
 
 pub loop-read-preserved-then-plain-gt0 : goal.loop-read-preserved-then-plain-gt0
 loop-read-preserved-then-plain-gt0 g c =
     let n = c.plain_units-plain.result.1 in
-    let spelled = front-here _ _ c.loop-read.bytes n c.loop-read.read c.plain_units-plain.ensures.spelled in
+    let spelled = front-here _ _ c.loop-read.bytes n c.loop-read.read (c.plain_units-plain.ensures.spelled n (omega arith)) in
     let each = c.keep_each-kept in
     let long : length (take n c.plain_units-plain.result.0) ≡ n = length-take-le n c.plain_units-plain.result.0 (let h = c.plain_units-plain.type_inv in search rules) in
     let same = each.auto.bytes in
