@@ -42,8 +42,8 @@ impl<E: Utf16Order, A: Allocator> WString<E, A> {
 }
 
 // Moves the characters that the predicate keeps to the front, and answers how many bytes they take. Sixteen that have one unit
-// each are asked about together. Where there is a pair among the next sixteen units, those before it are asked about one by one,
-// and the next walk begins behind the pair.
+// each are asked about together. Where there is a pair among the next sixteen units, the first eight are asked about together if
+// they stand before it, and else those before it one by one.
 fn move_kept<E: Utf16Order, F: FnMut(char) -> bool>(bytes: &mut [u8], keep: &mut F) -> usize
     requires text { IsText E.BIG bytes.old }
     requires askable { MayBeAsked F.FnMut keep.old (text_of E.BIG bytes.old) }
