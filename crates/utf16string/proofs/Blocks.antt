@@ -2,18 +2,18 @@
 use Rattle.std.proofs.Common.{◌≡◌, ℕ, ◌+◌, ◌-◌, ◌*◌, ◌/◌, ◌%◌, ◌^◌, ◌<◌, ◌≤◌, Bool, true, false, cond, not, nat_eq, bit_and, List, [], ◌∷◌, ◌++◌, All, get_or, length, map, replicate, take, drop, refl, sym, ap, ap₂, ◌∙◌, subst, arith, append_assoc, append-nil, length-append, flat_map}
 use Rattle.std.proofs.lemmas.Bool.{eqb-false, false≢true}
 use Rattle.std.proofs.lemmas.Grind.{flat_map-append}
-use Rattle.std.proofs.lemmas.List.{drop-drop, get_or-take, length-map, length-take, length-take-le, take-append-drop, take_at, take_more}
+use Rattle.std.proofs.lemmas.List.{drop-drop, get_or-take, length-drop, length-map, length-take, length-take-le, take-append-drop, take_all, take_at, take_more}
 use Rattle.std.proofs.lemmas.List.Elements.{All-from_get_or, All-head, All-tail}
 use Rattle.std.proofs.lemmas.List.Sums.{prefix_len-le-length, prefix_len_passes}
 use Rattle.std.proofs.lemmas.Nat.Bits.{and_high}
-use Rattle.std.proofs.lemmas.Simd.{bitmask_splat, leading_from_mask_l, map-map, trailing_mask_l, zip2_splat}
+use Rattle.std.proofs.lemmas.Simd.{Each1-get_or, bitmask_splat, leading_from_mask_l, map-map, trailing_mask_l, zip2_splat}
 use Rattle.std.specs.Char.{IsScalar}
 use Rattle.std.specs.List.{items_where_true, prefix_len}
 use mir.Syntax.{w16}
-use mir.Val.{bool_byte}
-use lib.Lanes.{mask_l, top, zip2}
+use mir.Val.{Fits, bool_byte}
+use lib.Lanes.{Each1, mask_l, top, zip2}
 use lib.Count.{count_trailing_zeros}
-use Rattle.utf16_units.specs.Encoding.{encode}
+use Rattle.utf16_units.specs.Encoding.{Encodes, encode}
 use Rattle.utf16_units.proofs.EncodingLemmas.{encode-cons, encode-nil}
 use Rattle.utf16_units.specs.Unit.{unit_bytes, unit_of}
 use Rattle.utf16_units.proofs.FirstChar.{scalar_unit}
@@ -60,11 +60,11 @@ module _ (units : List ℕ) (long : length units ≡ 16) where
   pub plain_len-few : plain_len units ≤ 16
   plain_len-few = omega (arith, long, prefix_len-le-length (λ u. not (is_surrogate u)) units)
 
-  pub plain_len-characters : ((i : ℕ) → get_or units i 0 < 0x1_0000) → All IsScalar (take (plain_len units) units)
-  plain_len-characters below = All-from_get_or IsScalar (take (plain_len units) units) 0 (λ i lt.
+  pub plain_len-characters : Each1 (Fits w16) units → All IsScalar (take (plain_len units) units)
+  plain_len-characters fit = All-from_get_or IsScalar (take (plain_len units) units) 0 (λ i lt.
       let before : i < plain_len units = omega (arith, lt, length-take (plain_len units) units) in
       subst IsScalar (sym (get_or-take (plain_len units) units i 0 before))
-      (scalar-high _ (below i) (not-true _ (prefix_len_passes (λ u. not (is_surrogate u)) units i 0 before))))
+      (scalar-high _ (Each1-get_or (Fits w16) units i 0 (omega (arith, long, before, plain_len-few)) fit).fits (not-true _ (prefix_len_passes (λ u. not (is_surrogate u)) units i 0 before))))
 
 -- the bytes of one unit more
 pub units-more : (big : Bool) (raw units : List ℕ) (i first second : ℕ) → i < length units → 2 * i + 1 < length raw → get_or raw (2 * i) 0 ≡ first → get_or raw (2 * i + 1) 0 ≡ second
@@ -149,7 +149,19 @@ encode-units big (u ∷ units) below =
     encode-cons big u units ∙ ap₂ (λ x y. x ++ y) (one_unit_bytes big u (All-head IsUnit u units below)) (encode-units big units (All-tail IsUnit u units below))
 
 -- the same of those kept
-pub encode-kept : (big : Bool) (answers : List Bool) (units : List ℕ) → ((i : ℕ) → get_or units i 0 < 0x1_0000)
+pub encode-kept : (big : Bool) (answers : List Bool) (units : List ℕ) → All IsUnit units
     → encode big (items_where_true answers units) ≡ flat_map (unit_bytes big) (items_where_true answers units)
 encode-kept big answers units below =
-    encode-units big (items_where_true answers units) (All-kept IsUnit answers units (All-from_get_or IsUnit units 0 (λ i lt. below i)))
+    encode-units big (items_where_true answers units) (All-kept IsUnit answers units below)
+
+-- the first n units of what was read from an index on spell the next 2 * n bytes
+pub front-here : (big : Bool) (units bytes : List ℕ) (n read : ℕ) → Encodes big (take n units) (take (2 * n) (take (length bytes - read) (drop read bytes)))
+    → Encodes big (take n units) (take (2 * n) (drop read bytes))
+front-here big units bytes n read e =
+    subst (λ l. Encodes big (take n units) (take (2 * n) l)) (take_all (length bytes - read) (drop read bytes) (omega (arith, length-drop read bytes))) e
+
+-- all sixteen spell the next thirty-two bytes
+pub whole-here : (big : Bool) (units bytes : List ℕ) (read : ℕ) → Encodes big (take 16 units) (take 32 (take (length bytes - read) (drop read bytes)))
+    → length units ≡ 16 → Encodes big units (take 32 (drop read bytes))
+whole-here big units bytes read e long =
+    subst (λ us. Encodes big us (take 32 (drop read bytes))) (take_all 16 units (omega (arith, long))) (front-here big units bytes 16 read e)

@@ -1,5 +1,5 @@
 -- A text of which a predicate keeps some characters, while their bytes are moved to the front.
-use Rattle.std.proofs.Common.{◌≡◌, ℕ, ◌+◌, ◌≤◌, All, Bool, true, false, List, [], ◌∷◌, ◌++◌, length, take, drop, refl, sym, ap, ◌∙◌, subst, arith, append_assoc, append-nil}
+use Rattle.std.proofs.Common.{◌≡◌, ℕ, ◌+◌, ◌≤◌, All, Bool, List, [], ◌∷◌, ◌++◌, length, take, drop, refl, sym, ap, ◌∙◌, subst, arith, append_assoc, append-nil}
 use Rattle.std.proofs.lemmas.List.{drop-drop, take-append-drop}
 use Rattle.std.proofs.lemmas.List.Elements.{All-append, All-nil}
 use Rattle.std.specs.Char.{IsScalar}
@@ -8,7 +8,7 @@ use Rattle.utf16_units.specs.Boundary.{IsBoundary}
 use Rattle.utf16_units.specs.Encoding.{Encodes, IsText, char_size, encode, text_of}
 use Rattle.utf16_units.proofs.EncodingLemmas.{Encodes-text_of, IsText-from_Encodes, IsText-rest, encode-append, encode-nil, text_of-Encodes, text_of-append, text_of-nil, size-cons, size-nil}
 use Rattle.utf16_units.proofs.BoundaryLemmas.{Encodes-to, text_to-front}
-use Rattle.utf16string.specs.Retain.{Answers, MayBeAsked, RetainsTo}
+use Rattle.utf16string.specs.Retain.{MayBeAsked, RetainsTo}
 use Rattle.utf16string.proofs.Asked.{All-kept, MayBeAsked-back, MayBeAsked-front, RetainsTo-append}
 
 -- the bytes of a first character
@@ -110,16 +110,8 @@ module _ {F : Type 0} (calls : Mut F (ℕ × Unit {0}) Bool) where
           order = (down, omega (arith, within, long));
         }
 
-      -- the same of one character, which is kept or goes
-      module _ (c n : ℕ) (here : Encodes big (c ∷ []) (take n (drop read bytes))) (within : read + n ≤ length bytes) where
-        pub Retaining-keep : (u : F) → Answers calls f c true u → (moved : List ℕ) → length moved ≡ length bytes
-            → take (kept + n) moved ≡ take kept bytes ++ take n (drop read bytes) → drop (read + n) moved ≡ drop (read + n) bytes
-            → Retaining u moved (kept + n) (read + n)
-        Retaining-keep u call moved long held same =
-            Retaining-step (c ∷ []) n here within u (c ∷ []) (true ∷ [], refl, (u, call, refl), refl) moved (kept + n) long
-            (held ∙ ap (λ l. take kept bytes ++ l) (sym here.spelled)) same (omega (arith, at.order.0))
-
-        pub Retaining-drop : (u : F) → Answers calls f c false u → Retaining u bytes kept (read + n)
-        Retaining-drop u call =
-            Retaining-step (c ∷ []) n here within u [] (false ∷ [], refl, (u, call, refl), refl) bytes kept refl
-            (sym (ap (λ l. take kept bytes ++ l) (encode-nil big) ∙ append-nil _)) refl (omega (arith, at.order.0))
+        -- the same, where what is kept comes with its bytes
+        pub Retaining-kept : (u : F) (moved : List ℕ) (k : ℕ) → length moved ≡ length bytes
+            → (left : List ℕ) × RetainsTo calls f xs left u × (take k moved ≡ take kept bytes ++ encode big left)
+            → drop (read + n) moved ≡ drop (read + n) bytes → k ≤ read + n → Retaining u moved k (read + n)
+        Retaining-kept u moved k long held = Retaining-step u held.0 held.1 moved k long held.2

@@ -1,6 +1,6 @@
 //! Blocks of sixteen units, of which a predicate keeps characters: asked about together where no surrogate is among them.
 
-ghost use Rattle.std.specs.Prelude.{◌≡◌, ◌+◌, ◌*◌, ◌≤◌, ◌++◌, ℕ, All, List, length, take, drop};
+ghost use Rattle.std.specs.Prelude.{◌≡◌, ◌+◌, ◌*◌, ◌<◌, ◌≤◌, ◌++◌, ℕ, All, List, length, take, drop, true, false};
 ghost use Rattle.std.specs.Char.{IsScalar};
 ghost use Rattle.std.specs.List.{flat_map, items_where_true};
 ghost use Rattle.utf16_units.specs.Encoding.{Encodes, encode};
@@ -13,6 +13,9 @@ use utf16_units::Utf16Order;
 /// How many units a block has.
 pub(crate) const UNITS: usize = 16;
 
+/// How many units half of a block has.
+pub(crate) const HALF: usize = 8;
+
 /// How many bytes a block takes.
 pub(crate) const BLOCK: usize = 32;
 
@@ -21,33 +24,42 @@ pub(crate) const BLOCK: usize = 32;
 pub(crate) fn plain_units<E: Utf16Order>(raw: &[u8]) -> ([u16; UNITS], usize)
     requires { BLOCK ≤ length raw.now }
     ensures few { result.1 ≤ UNITS }
-    ensures spelled { Encodes E.BIG (take result.1 result.0) (take (2 * result.1) raw.now) }
+    ensures units { All (λ unit. unit < 0x1_0000) result.0 }
+    ensures spelled { (n : ℕ) → n ≤ result.1 → Encodes E.BIG (take n result.0) (take (2 * n) raw.now) }
 {
     let units = first_units::<E>(raw);
-    (units, plain_front(units))
+    (units.to_array(), plain_front(units))
 }
 
-// The units of the block at the front.
-#[inline]
-fn first_units<E: Utf16Order>(raw: &[u8]) -> [u16; UNITS]
+// The units of the block at the front, read at once.
+#[inline(always)]
+fn first_units<E: Utf16Order>(raw: &[u8]) -> u16x16
     requires { BLOCK ≤ length raw.now }
-    ensures { flat_map (unit_bytes E.BIG) result ≡ take BLOCK raw.now }
+    ensures len { length result ≡ UNITS }
+    ensures bytes { flat_map (unit_bytes E.BIG) result ≡ take BLOCK raw.now }
 {
-    let mut units = [0; UNITS];
-    for i in 0..UNITS {
-        units[i] = E::read_unit([raw[2 * i], raw[2 * i + 1]]);
-    }
-    units
+    let units = u16x16::from_le_bytes(u8x32::from_slice(raw));
+    if E::BIG { swapped(units) } else { units }
+}
+
+// The two bytes of each unit the other way round.
+#[inline(always)]
+fn swapped(units: u16x16) -> u16x16
+    ensures len { length result ≡ UNITS }
+    ensures bytes { flat_map (unit_bytes true) result ≡ flat_map (unit_bytes false) units }
+{
+    (units << u16x16::splat(8)) + (units >> u16x16::splat(8))
 }
 
 // How many units stand before the first surrogate.
-#[inline]
-fn plain_front(units: [u16; UNITS]) -> usize
+#[inline(always)]
+fn plain_front(units: u16x16) -> usize
     ensures few { result ≤ UNITS }
     ensures characters { All IsScalar (take result units) }
 {
-    let upper = u16x16::from_array(units) & Simd::splat(0xF800);
-    let surrogates = upper.simd_eq(Simd::splat(0xD800)).to_bitmask();
+    let surrogates = (units & Simd::splat(0xF800))
+        .simd_eq(Simd::splat(0xD800))
+        .to_bitmask();
     if surrogates == 0 {
         UNITS
     } else {
@@ -55,20 +67,42 @@ fn plain_front(units: [u16; UNITS]) -> usize
     }
 }
 
+// Asks about each character of a block or of half of one, in turn, and moves those that stay down. Answers where they end.
+#[inline(always)]
+pub(crate) fn keep_block<E: Utf16Order, F: FnMut(char) -> bool, const N: usize>(
+    bytes: &mut [u8],
+    keep: &mut F,
+    to: usize,
+    start: usize,
+    units: &[u16; N],
+) -> usize
+    requires down { to ≤ start }
+    requires within { start + 2 * N ≤ length bytes.old }
+    requires units { All (λ unit. unit < 0x1_0000) units.now }
+    requires here { Encodes E.BIG units.now (take (2 * N) (drop start bytes.old)) }
+    requires askable { MayBeAsked F.FnMut keep.old units.now }
+    ensures kept { (left : List ℕ) × RetainsTo F.FnMut keep.old units.now left keep.new × (take result bytes.new ≡ take to bytes.old ++ encode E.BIG left) }
+    ensures behind { drop (start + 2 * N) bytes.new ≡ drop (start + 2 * N) bytes.old }
+    ensures down { result ≤ start + 2 * N }
+{
+    let (answers, many) = ask_each(keep, units);
+    move_block::<E, N>(bytes, to, start, units, &answers, many)
+}
+
 // Asks about each character of a block, in turn, and counts those that stay.
 #[inline]
-pub(crate) fn ask_each<F: FnMut(char) -> bool>(
+fn ask_each<F: FnMut(char) -> bool, const N: usize>(
     keep: &mut F,
-    units: &[u16; UNITS],
-) -> ([bool; UNITS], usize)
+    units: &[u16; N],
+) -> ([bool; N], usize)
     requires scalars { All IsScalar units.now }
     requires askable { MayBeAsked F.FnMut keep.old units.now }
     ensures asked { RetainsTo F.FnMut keep.old units.now (items_where_true result.0 units.now) keep.new }
     ensures many { result.1 ≡ length (items_where_true result.0 units.now) }
 {
-    let mut answers = [false; UNITS];
+    let mut answers = [false; N];
     let mut many = 0;
-    for i in 0..UNITS {
+    for i in 0..N {
         let stays = keep(unsafe { char::from_u32_unchecked(units[i] as u32) });
         answers[i] = stays;
         many += stays as usize;
@@ -105,63 +139,64 @@ pub(crate) fn keep_each<E: Utf16Order, F: FnMut(char) -> bool>(
 }
 
 // Moves the characters of a block that stay down, and answers where they end. All of them are moved at once.
-#[inline]
-pub(crate) fn move_block<E: Utf16Order>(
+#[inline(always)]
+fn move_block<E: Utf16Order, const N: usize>(
     bytes: &mut [u8],
     to: usize,
     start: usize,
-    units: &[u16; UNITS],
-    answers: &[bool; UNITS],
+    units: &[u16; N],
+    answers: &[bool; N],
     many: usize,
 ) -> usize
     requires down { to ≤ start }
-    requires within { start + BLOCK ≤ length bytes.old }
-    requires here { Encodes E.BIG units.now (take BLOCK (drop start bytes.old)) }
+    requires within { start + 2 * N ≤ length bytes.old }
+    requires units { All (λ unit. unit < 0x1_0000) units.now }
+    requires here { Encodes E.BIG units.now (take (2 * N) (drop start bytes.old)) }
     requires many { many ≡ length (items_where_true answers.now units.now) }
     ensures moved { take result bytes.new ≡ take to bytes.old ++ encode E.BIG (items_where_true answers.now units.now) }
-    ensures behind { drop (start + BLOCK) bytes.new ≡ drop (start + BLOCK) bytes.old }
-    ensures down { result ≤ start + BLOCK }
+    ensures behind { drop (start + 2 * N) bytes.new ≡ drop (start + 2 * N) bytes.old }
+    ensures down { result ≤ start + 2 * N }
 {
-    if many == UNITS {
-        move_all(bytes, to, start);
-        return to + BLOCK;
+    if many == N {
+        move_all::<N>(bytes, to, start);
+        return to + 2 * N;
     }
     if many == 0 {
         return to;
     }
-    write_some::<E>(bytes, to, start, units, answers)
+    write_some::<E, N>(bytes, to, start, units, answers)
 }
 
 // Moves a whole block down, if it is not in place.
 #[inline]
-fn move_all(bytes: &mut [u8], to: usize, start: usize)
+fn move_all<const N: usize>(bytes: &mut [u8], to: usize, start: usize)
     requires down { to ≤ start }
-    requires within { start + BLOCK ≤ length bytes.old }
-    ensures moved { take (to + BLOCK) bytes.new ≡ take to bytes.old ++ take BLOCK (drop start bytes.old) }
-    ensures behind { drop (start + BLOCK) bytes.new ≡ drop (start + BLOCK) bytes.old }
+    requires within { start + 2 * N ≤ length bytes.old }
+    ensures moved { take (to + 2 * N) bytes.new ≡ take to bytes.old ++ take (2 * N) (drop start bytes.old) }
+    ensures behind { drop (start + 2 * N) bytes.new ≡ drop (start + 2 * N) bytes.old }
 {
     if to < start {
-        bytes.copy_within(start..start + BLOCK, to);
+        bytes.copy_within(start..start + 2 * N, to);
     }
 }
 
 // Writes the units that stay one behind another, over bytes up to the end of their block.
 #[inline]
-fn write_some<E: Utf16Order>(
+fn write_some<E: Utf16Order, const N: usize>(
     bytes: &mut [u8],
     to: usize,
     start: usize,
-    units: &[u16; UNITS],
-    answers: &[bool; UNITS],
+    units: &[u16; N],
+    answers: &[bool; N],
 ) -> usize
     requires down { to ≤ start }
-    requires within { start + BLOCK ≤ length bytes.old }
+    requires within { start + 2 * N ≤ length bytes.old }
     ensures written { take result bytes.new ≡ take to bytes.old ++ flat_map (unit_bytes E.BIG) (items_where_true answers.now units.now) }
-    ensures behind { drop (start + BLOCK) bytes.new ≡ drop (start + BLOCK) bytes.old }
-    ensures down { result ≤ start + BLOCK }
+    ensures behind { drop (start + 2 * N) bytes.new ≡ drop (start + 2 * N) bytes.old }
+    ensures down { result ≤ start + 2 * N }
 {
     let mut end = to;
-    for i in 0..UNITS {
+    for i in 0..N {
         if answers[i] {
             write_unit::<E>(bytes, end, units[i]);
             end += 2;

@@ -1,10 +1,10 @@
 //! Characters kept by a predicate.
 
 ghost use Rattle.std.specs.Prelude.{◌≡◌, ◌⊎◌, ◌+◌, ◌<◌, ◌≤◌, [], ◌∷◌, ◌++◌, IfSome, List, ℕ, length, take, drop};
-ghost use Rattle.utf16_units.specs.Encoding.{Encodes, IsText, char_size, text_of};
+ghost use Rattle.utf16_units.specs.Encoding.{Encodes, IsText, char_size, encode, text_of};
 ghost use Rattle.utf16string.specs.Retain.{IsAskable, MayBeAsked, Retains, RetainsTo};
 
-use super::blocks::{BLOCK, UNITS, ask_each, keep_each, move_block, plain_units};
+use super::blocks::{BLOCK, HALF, UNITS, keep_block, keep_each, plain_units};
 use crate::WString;
 use std::alloc::Allocator;
 use utf16_str::WStr;
@@ -42,8 +42,8 @@ impl<E: Utf16Order, A: Allocator> WString<E, A> {
 }
 
 // Moves the characters that the predicate keeps to the front, and answers how many bytes they take. Sixteen that have one unit
-// each are asked about together. Where there is a pair among the next sixteen units, those before it are asked about one by one,
-// and the next walk begins behind the pair.
+// each are asked about together. Where there is a pair among the next sixteen units, the first eight are asked about together if
+// they stand before it, and else those before it one by one.
 fn move_kept<E: Utf16Order, F: FnMut(char) -> bool>(bytes: &mut [u8], keep: &mut F) -> usize
     requires text { IsText E.BIG bytes.old }
     requires askable { MayBeAsked F.FnMut keep.old (text_of E.BIG bytes.old) }
@@ -56,19 +56,21 @@ fn move_kept<E: Utf16Order, F: FnMut(char) -> bool>(bytes: &mut [u8], keep: &mut
     while read < bytes.len() {
         let Some(c) = single_at::<E>(bytes, read) else {
             let (c, size) = char_from::<E>(bytes, read);
-            if ask(keep, c) {
-                move_down(bytes, kept, read, size);
-                kept += size;
-            }
+            kept = keep_one::<E, F>(bytes, keep, kept, read, c, size);
             read += size;
             continue;
         };
         if bytes.len() - read >= BLOCK {
             let (units, plain) = plain_units::<E>(&bytes[read..]);
             if plain == UNITS {
-                let (answers, many) = ask_each(keep, &units);
-                kept = move_block::<E>(bytes, kept, read, &units, &answers, many);
+                kept = keep_block::<E, F, UNITS>(bytes, keep, kept, read, &units);
                 read += BLOCK;
+                continue;
+            }
+            if plain >= HALF {
+                let half = units.first_chunk::<HALF>().unwrap();
+                kept = keep_block::<E, F, HALF>(bytes, keep, kept, read, half);
+                read += BLOCK / 2;
                 continue;
             }
             if plain > 0 {
@@ -77,10 +79,7 @@ fn move_kept<E: Utf16Order, F: FnMut(char) -> bool>(bytes: &mut [u8], keep: &mut
                 continue;
             }
         }
-        if ask(keep, c) {
-            move_down(bytes, kept, read, 2);
-            kept += 2;
-        }
+        kept = keep_one::<E, F>(bytes, keep, kept, read, c, 2);
         read += 2;
     }
     kept
@@ -117,6 +116,33 @@ fn char_from<E: Utf16Order>(bytes: &[u8], at: usize) -> (char, usize)
     let mut chars = text.chars();
     let first = chars.next().unwrap();
     (first, text.len() - chars.as_wstr().len())
+}
+
+// Asks about the character at an index, and moves it down if it stays. Answers where those that stay end.
+#[inline]
+fn keep_one<E: Utf16Order, F: FnMut(char) -> bool>(
+    bytes: &mut [u8],
+    keep: &mut F,
+    to: usize,
+    start: usize,
+    c: char,
+    size: usize,
+) -> usize
+    requires down { to ≤ start }
+    requires size { (size ≡ 2) ⊎ (size ≡ 4) }
+    requires within { start + size ≤ length bytes.old }
+    requires here { Encodes E.BIG (c ∷ []) (take size (drop start bytes.old)) }
+    requires askable { MayBeAsked F.FnMut keep.old (c ∷ []) }
+    ensures kept { (left : List ℕ) × RetainsTo F.FnMut keep.old (c ∷ []) left keep.new × (take result bytes.new ≡ take to bytes.old ++ encode E.BIG left) }
+    ensures behind { drop (start + size) bytes.new ≡ drop (start + size) bytes.old }
+    ensures down { result ≤ start + size }
+{
+    if ask(keep, c) {
+        move_down(bytes, to, start, size);
+        to + size
+    } else {
+        to
+    }
 }
 
 // Asks about one character, once.

@@ -1,20 +1,17 @@
-use Rattle.std.proofs.Common.{◌≡◌, ◌*◌, ◌+◌, ◌++◌, ◌∷◌, [], ◌∙◌, arith, ap, refl, sym, take, flat_map, length-set}
-use Rattle.std.proofs.lemmas.List.{take_all, take_more_set}
+use Rattle.std.proofs.Common.{◌∙◌, ap, arith, flat_map, sym, take, w8}
+use Rattle.std.proofs.lemmas.List.{length-take-le}
+use Rattle.std.proofs.lemmas.Simd.{chunk-fits}
+use lib.Lanes.{digits_l, number_l}
 use Rattle.utf16_units.specs.Unit.{unit_bytes}
-use Rattle.utf16string.proofs.Blocks.{units-more}
+use Rattle.utf16string.proofs.BlockUnits.{little-bytes}
 use Rattle.utf16string.proofs.wstring.blocks.first_units.Goals as goal
+use Rattle.utf16string.proofs.wstring.blocks.first_units.Goals.{then-BIG, else-BIG}
 
-pub loop-i-preserved : goal.loop-i-preserved
-loop-i-preserved g c = record {
-  long = length-set c.loop-i.units c.loop-i.i c.read_unit.result ∙ c.loop-i.invariant.long;
-  bytes =
-      units-more g.E.Utf16Order.BIG c.args.raw.now c.loop-i.units c.loop-i.i _ _ (omega (arith, c.loop-i.invariant.long)) (omega (arith, c.requires)) refl refl
-      (c.type_inv.raw (2 * c.loop-i.i)).fits (c.type_inv.raw (2 * c.loop-i.i + 1)).fits c.loop-i.invariant.bytes _
-      (take_more_set c.loop-i.units c.loop-i.i c.read_unit.result (omega (arith, c.loop-i.invariant.long)) ∙ ap (λ u. take c.loop-i.i c.loop-i.units ++ u ∷ []) c.read_unit.ensures);
-}
-
-pub returns : goal.returns
-returns g c =
-    let all : c.loop-i.i ≡ 16 = omega arith in
-    ap (flat_map (unit_bytes g.E.Utf16Order.BIG)) (sym (take_all c.loop-i.i c.loop-i.units (omega (arith, c.loop-i.invariant.long))))
-    ∙ c.loop-i.invariant.bytes ∙ ap (λ i. take (2 * i) c.args.raw.now) all
+pub returns-clause-bytes : goal.returns-clause-bytes
+returns-clause-bytes g c =
+    let raw = c.args.raw.now in
+    let little = little-bytes 16 (take 32 raw) (length-take-le 32 raw (omega (arith, c.requires))) (chunk-fits w8 0 32 raw c.type_inv.raw) in
+    elim c.if-BIG.branch [
+      | then-BIG w ↦ ap (flat_map (unit_bytes g.E.Utf16Order.BIG)) w.result-is ∙ ap (λ big. flat_map (unit_bytes big) w.swapped.result) (sym w.if-BIG.ensures) ∙ w.swapped.ensures.bytes ∙ little
+      | else-BIG w ↦ ap (flat_map (unit_bytes g.E.Utf16Order.BIG)) w.result-is ∙ ap (λ big. flat_map (unit_bytes big) (digits_l 65536 16 (number_l 256 (take 32 raw)))) (sym w.if-BIG.ensures) ∙ little
+    ]

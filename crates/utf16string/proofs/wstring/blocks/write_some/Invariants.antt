@@ -7,5 +7,5 @@ abbrev pub invariant-loop-i : goal.invariant-loop-i
 invariant-loop-i g l = record {
   order : l.end ≤ l.start + 2 * l.i;
   written : take l.end l.bytes ≡ take l.to l.initial.bytes ++ flat_map (unit_bytes g.E.Utf16Order.BIG) (items_where_true (take l.i l.answers) (take l.i l.units));
-  behind : drop (l.start + 32) l.bytes ≡ drop (l.start + 32) l.initial.bytes;
+  behind : drop (l.start + 2 * g.row.N) l.bytes ≡ drop (l.start + 2 * g.row.N) l.initial.bytes;
 }
