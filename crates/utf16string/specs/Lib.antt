@@ -9,5 +9,5 @@ pub use Rattle.utf16_str.specs.Offsets
 pub use Rattle.utf16_str.specs.Window
 pub use Rattle.utf16_str.specs.WStr
 pub use Rattle.utf16_str.specs.WStrMut
-pub mod Retain
+pub use Rattle.utf16_retain.specs.Retain
 pub mod WString

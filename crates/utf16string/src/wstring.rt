@@ -1,6 +1,5 @@
 //! An owned UTF-16 string.
 
-mod blocks;
 mod copies;
 mod cuts;
 mod extends;

@@ -3,7 +3,7 @@ use Rattle.utf16_units.specs.Encoding.{IsText, is_text, text_of}
 use Rattle.utf16_units.proofs.EncodingLemmas.{IsText-from_is_text, is_text-from_IsText}
 use Rattle.utf16string.specs.Retain.{IsAskable}
 use Rattle.utf16string.proofs.Edited.{written_back}
-use Rattle.utf16string.proofs.Asked.{MayBeAsked-askable}
+use Rattle.utf16_retain.proofs.Asked.{MayBeAsked-askable}
 use Rattle.utf16string.proofs.wstring.WString.retain_by.Given.{Over}
 use Rattle.utf16string.proofs.wstring.WString.retain_by.Goals.{After-truncate}
 use Rattle.utf16string.proofs.wstring.WString.retain_by.Goals as goal

@@ -1,0 +1,167 @@
+-- Blocks of units, each a character by itself: their test, their bytes, and those of which a predicate answers true.
+use Rattle.std.proofs.Common.{◌≡◌, ℕ, ◌+◌, ◌-◌, ◌*◌, ◌/◌, ◌%◌, ◌^◌, ◌<◌, ◌≤◌, Bool, true, false, cond, not, nat_eq, bit_and, List, [], ◌∷◌, ◌++◌, All, get_or, length, map, replicate, take, drop, refl, sym, ap, ap₂, ◌∙◌, subst, arith, append_assoc, append-nil, length-append, flat_map}
+use Rattle.std.proofs.lemmas.Bool.{eqb-false, false≢true}
+use Rattle.std.proofs.lemmas.Grind.{flat_map-append}
+use Rattle.std.proofs.lemmas.List.{drop-drop, get_or-take, length-drop, length-map, length-take, length-take-le, take-append-drop, take_all, take_at, take_more}
+use Rattle.std.proofs.lemmas.List.Elements.{All-from_get_or, All-head, All-tail}
+use Rattle.std.proofs.lemmas.List.Sums.{prefix_len-le-length, prefix_len_passes}
+use Rattle.std.proofs.lemmas.Nat.Bits.{and_high}
+use Rattle.std.proofs.lemmas.Simd.{Each1-get_or, bitmask_splat, leading_from_mask_l, map-map, trailing_mask_l, zip2_splat}
+use Rattle.std.specs.Char.{IsScalar}
+use Rattle.std.specs.List.{items_where_true, prefix_len}
+use mir.Syntax.{w16}
+use mir.Val.{Fits, bool_byte}
+use lib.Lanes.{Each1, mask_l, top, zip2}
+use lib.Count.{count_trailing_zeros}
+use Rattle.utf16_units.specs.Encoding.{Encodes, encode}
+use Rattle.utf16_units.proofs.EncodingLemmas.{encode-cons, encode-nil}
+use Rattle.utf16_units.specs.Unit.{unit_bytes, unit_of}
+use Rattle.utf16_units.proofs.FirstChar.{scalar_unit}
+use Rattle.utf16_retain.proofs.Asked.{All-kept, kept-append}
+use Rattle.utf16_units.proofs.SplitLemmas.{one_unit_bytes}
+use Rattle.utf16_units.proofs.UnitLemmas.{length-units_bytes, unit_bytes-unit_of}
+
+-- a unit whose high five bits are not those of a surrogate is a character
+scalar-high : (u : ℕ) → u < 0x1_0000 → nat_eq (bit_and u 0xF800) 0xD800 ≡ false → IsScalar u
+scalar-high u below other =
+    let high : bit_and u 0xF800 ≡ u / 2048 % 32 * 2048 = and_high u 5 11 in
+    let apart = eqb-false _ _ other in
+    scalar_unit u below (λ leading. apart (omega (arith, high, leading.0, leading.1))) (λ trailing. apart (omega (arith, high, trailing.0, trailing.1)))
+
+not-true : (b : Bool) → not b ≡ true → b ≡ false
+not-true true e = absurd (false≢true e)
+not-true false e = refl
+
+-- whether a unit is a surrogate, by its upper five bits
+abbrev is_surrogate : ℕ → Bool
+is_surrogate u = nat_eq (bit_and u 0xF800) 0xD800
+
+-- the bits of the surrogates of sixteen units, as lanes compute them
+abbrev pub lane_bits : List ℕ → ℕ
+lane_bits units = mask_l (map (top 15) (zip2 (λ a b. cond (nat_eq a b) 65535 0) (zip2 bit_and units (replicate 16 0xF800)) (replicate 16 0xD800))) % 2 ^ 64
+
+-- how many units stand before the first surrogate
+abbrev pub plain_len : List ℕ → ℕ
+plain_len units = prefix_len (λ u. not (is_surrogate u)) units
+
+module _ (units : List ℕ) (long : length units ≡ 16) where
+  bits : lane_bits units ≡ mask_l (map is_surrogate units)
+  bits =
+      let upper = zip2_splat bit_and units 16 0xF800 long in
+      bitmask_splat w16 nat_eq (zip2 bit_and units (replicate 16 0xF800)) 16 0xD800 (ap length upper ∙ length-map units _ ∙ long) (omega arith)
+      ∙ ap (λ us. mask_l (map (λ u. nat_eq u 0xD800) us)) upper ∙ ap mask_l (map-map (λ u. nat_eq u 0xD800) (λ u. bit_and u 0xF800) units)
+
+  pub plain_len-none : lane_bits units ≡ 0 → plain_len units ≡ 16
+  plain_len-none none = leading_from_mask_l is_surrogate units (sym bits ∙ none) ∙ long
+
+  pub plain_len-lowest : 0 < lane_bits units → count_trailing_zeros 64 (lane_bits units) ≡ plain_len units
+  plain_len-lowest some = ap (count_trailing_zeros 64) bits ∙ trailing_mask_l is_surrogate 64 units (omega (arith, long)) (subst (λ n. 0 < n) bits some)
+
+  pub plain_len-few : plain_len units ≤ 16
+  plain_len-few = omega (arith, long, prefix_len-le-length (λ u. not (is_surrogate u)) units)
+
+  pub plain_len-characters : Each1 (Fits w16) units → All IsScalar (take (plain_len units) units)
+  plain_len-characters fit = All-from_get_or IsScalar (take (plain_len units) units) 0 (λ i lt.
+      let before : i < plain_len units = omega (arith, lt, length-take (plain_len units) units) in
+      subst IsScalar (sym (get_or-take (plain_len units) units i 0 before))
+      (scalar-high _ (Each1-get_or (Fits w16) units i 0 (omega (arith, long, before, plain_len-few)) fit).fits (not-true _ (prefix_len_passes (λ u. not (is_surrogate u)) units i 0 before))))
+
+-- the bytes of one unit more
+pub units-more : (big : Bool) (raw units : List ℕ) (i first second : ℕ) → i < length units → 2 * i + 1 < length raw → get_or raw (2 * i) 0 ≡ first → get_or raw (2 * i + 1) 0 ≡ second
+    → first < 256 → second < 256 → flat_map (unit_bytes big) (take i units) ≡ take (2 * i) raw → (more : List ℕ) → more ≡ take i units ++ unit_of big first second ∷ []
+    → flat_map (unit_bytes big) more ≡ take (2 * (i + 1)) raw
+units-more big raw units i first second lt room one two h l so_far more is =
+    let twice : 2 * i + 1 + 1 ≡ 2 * (i + 1) = omega arith in
+    let grown : take (2 * (i + 1)) raw ≡ take (2 * i) raw ++ first ∷ second ∷ [] =
+    ap (λ n. take n raw) (sym twice) ∙ take_more raw (2 * i + 1) 0 room ∙ ap (λ t. t ++ get_or raw (2 * i + 1) 0 ∷ []) (take_more raw (2 * i) 0 (omega arith))
+    ∙ append_assoc (take (2 * i) raw) _ _ ∙ ap₂ (λ x y. take (2 * i) raw ++ x ∷ y ∷ []) one two in
+    ap (flat_map (unit_bytes big)) is ∙ flat_map-append (unit_bytes big) (take i units) _
+    ∙ ap₂ (λ x y. x ++ y) so_far (append-nil (unit_bytes big (unit_of big first second)) ∙ unit_bytes-unit_of big first second h l) ∙ sym grown
+
+-- no more are kept than there are
+length-kept : {X : Type 0} → (answers : List Bool) (items : List X) → length (items_where_true answers items) ≤ length items
+length-kept [] items = omega arith
+length-kept (b ∷ answers) [] = elim b [ true ↦ omega arith | false ↦ omega arith ]
+length-kept (true ∷ answers) (d ∷ items) = omega (arith, length-kept answers items)
+length-kept (false ∷ answers) (d ∷ items) = omega (arith, length-kept answers items)
+
+-- where as many are kept as there are, all are
+pub kept-all : {X : Type 0} → (answers : List Bool) (items : List X) → length (items_where_true answers items) ≡ length items → items_where_true answers items ≡ items
+kept-all [] [] many = refl
+kept-all [] (d ∷ items) many = absurd (omega (arith, many))
+kept-all (true ∷ answers) [] many = refl
+kept-all (false ∷ answers) [] many = refl
+kept-all (true ∷ answers) (d ∷ items) many = ap (λ l. d ∷ l) (kept-all answers items (omega (arith, many)))
+kept-all (false ∷ answers) (d ∷ items) many = absurd (omega (arith, many, length-kept answers items))
+
+-- what is kept of the first units and one more, where the answer about it is known
+module _ (answers : List Bool) (units : List ℕ) (i : ℕ) (answer : Bool) (long : i < length answers) (room : i < length units) where
+  same : length (take i answers) ≡ length (take i units)
+  same = length-take-le i answers (omega arith) ∙ sym (length-take-le i units (omega arith))
+
+  pub kept-more : items_where_true (take i answers ++ answer ∷ []) (take (i + 1) units)
+      ≡ items_where_true (take i answers) (take i units) ++ items_where_true (answer ∷ []) (get_or units i 0 ∷ [])
+  kept-more = ap (items_where_true (take i answers ++ answer ∷ [])) (take_more units i 0 room) ∙ kept-append (take i answers) (answer ∷ []) (take i units) _ same
+
+  pub length-kept-more : length (items_where_true (take i answers ++ answer ∷ []) (take (i + 1) units))
+      ≡ length (items_where_true (take i answers) (take i units)) + bool_byte answer
+  length-kept-more = ap length kept-more ∙ length-append (items_where_true (take i answers) (take i units)) _ ∙ ap (λ n. length (items_where_true (take i answers) (take i units)) + n) (one answer)
+    where
+      one : (b : Bool) → length (items_where_true (b ∷ []) (get_or units i 0 ∷ [])) ≡ bool_byte b
+      one true = refl
+      one false = refl
+
+pub bool_byte-below : (b : Bool) → bool_byte b ≤ 1
+bool_byte-below true = omega arith
+bool_byte-below false = omega arith
+
+-- a step of writing those kept, behind what stands in front
+pub written-more : (big : Bool) (front : List ℕ) (answers : List Bool) (units : List ℕ) (i : ℕ) (answer : Bool) → i < length answers → i < length units
+    → get_or answers i false ≡ answer → (old new : List ℕ) → old ≡ front ++ flat_map (unit_bytes big) (items_where_true (take i answers) (take i units))
+    → new ≡ old ++ flat_map (unit_bytes big) (items_where_true (answer ∷ []) (get_or units i 0 ∷ []))
+    → new ≡ front ++ flat_map (unit_bytes big) (items_where_true (take (i + 1) answers) (take (i + 1) units))
+written-more big front answers units i answer long room is old new so_far more =
+    more ∙ ap (λ l. l ++ flat_map (unit_bytes big) (items_where_true (answer ∷ []) (get_or units i 0 ∷ []))) so_far ∙ append_assoc front _ _
+    ∙ ap (λ l. front ++ l) (sym (flat_map-append (unit_bytes big) (items_where_true (take i answers) (take i units)) _))
+    ∙ ap (λ l. front ++ flat_map (unit_bytes big) l) (sym (kept-more answers units i answer long room))
+    ∙ ap (λ l. front ++ flat_map (unit_bytes big) (items_where_true l (take (i + 1) units)))
+    (ap (λ b. take i answers ++ b ∷ []) (sym is) ∙ sym (take_more answers i false long))
+
+-- what agrees from one place on agrees from each later one on
+pub drop-later : (a b : ℕ) (xs ys : List ℕ) → a ≤ b → drop a xs ≡ drop a ys → drop b xs ≡ drop b ys
+drop-later a b xs ys le same_from =
+    let all : a + (b - a) ≡ b = omega arith in
+    ap (λ i. drop i xs) (sym all) ∙ sym (drop-drop (b - a) a xs) ∙ ap (drop (b - a)) same_from ∙ drop-drop (b - a) a ys ∙ ap (λ i. drop i ys) all
+
+-- the bytes of the first n units are the first 2 * n bytes
+pub units-take : (big : Bool) (units : List ℕ) (n : ℕ) → n ≤ length units → flat_map (unit_bytes big) (take n units) ≡ take (2 * n) (flat_map (unit_bytes big) units)
+units-take big units n le =
+    sym (take_at (flat_map (unit_bytes big) (take n units)) (flat_map (unit_bytes big) (drop n units)) (2 * n) (length-units_bytes big (take n units) ∙ ap (λ m. 2 * m) (length-take-le n units le)))
+    ∙ ap (take (2 * n)) (sym (flat_map-append (unit_bytes big) (take n units) (drop n units)) ∙ ap (flat_map (unit_bytes big)) (take-append-drop n units))
+
+abbrev pub IsUnit : ℕ → Type 0
+IsUnit u = u < 0x1_0000
+
+-- the bytes of characters of one unit each are those of the units
+pub encode-units : (big : Bool) (units : List ℕ) → All IsUnit units → encode big units ≡ flat_map (unit_bytes big) units
+encode-units big [] below = encode-nil big
+encode-units big (u ∷ units) below =
+    encode-cons big u units ∙ ap₂ (λ x y. x ++ y) (one_unit_bytes big u (All-head IsUnit u units below)) (encode-units big units (All-tail IsUnit u units below))
+
+-- the same of those kept
+pub encode-kept : (big : Bool) (answers : List Bool) (units : List ℕ) → All IsUnit units
+    → encode big (items_where_true answers units) ≡ flat_map (unit_bytes big) (items_where_true answers units)
+encode-kept big answers units below =
+    encode-units big (items_where_true answers units) (All-kept IsUnit answers units below)
+
+-- the first n units of what was read from an index on spell the next 2 * n bytes
+pub front-here : (big : Bool) (units bytes : List ℕ) (n read : ℕ) → Encodes big (take n units) (take (2 * n) (take (length bytes - read) (drop read bytes)))
+    → Encodes big (take n units) (take (2 * n) (drop read bytes))
+front-here big units bytes n read e =
+    subst (λ l. Encodes big (take n units) (take (2 * n) l)) (take_all (length bytes - read) (drop read bytes) (omega (arith, length-drop read bytes))) e
+
+-- all sixteen spell the next thirty-two bytes
+pub whole-here : (big : Bool) (units bytes : List ℕ) (read : ℕ) → Encodes big (take 16 units) (take 32 (take (length bytes - read) (drop read bytes)))
+    → length units ≡ 16 → Encodes big units (take 32 (drop read bytes))
+whole-here big units bytes read e long =
+    subst (λ us. Encodes big us (take 32 (drop read bytes))) (take_all 16 units (omega (arith, long))) (front-here big units bytes 16 read e)

@@ -1,0 +1,218 @@
+//! Blocks of sixteen units, of which a predicate keeps characters: asked about together where no surrogate is among them.
+
+ghost use Rattle.std.specs.Prelude.{◌≡◌, ◌+◌, ◌*◌, ◌<◌, ◌≤◌, ◌++◌, ℕ, All, List, length, take, drop, true, false};
+ghost use Rattle.std.specs.Char.{IsScalar};
+ghost use Rattle.std.specs.List.{flat_map, items_where_true};
+ghost use Rattle.utf16_units.specs.Encoding.{Encodes, encode};
+ghost use Rattle.utf16_units.specs.Unit.{unit_bytes};
+ghost use Rattle.utf16_retain.specs.Retain.{MayBeAsked, RetainsTo};
+
+use std::simd::prelude::*;
+use utf16_units::Utf16Order;
+
+/// How many units a block has.
+pub(crate) const UNITS: usize = 16;
+
+/// How many units half of a block has.
+pub(crate) const HALF: usize = 8;
+
+/// How many bytes a block takes.
+pub(crate) const BLOCK: usize = 32;
+
+// The units of the block at the front, and how many of them stand before the first surrogate: each of these is a character.
+#[inline]
+pub(crate) fn plain_units<E: Utf16Order>(raw: &[u8]) -> ([u16; UNITS], usize)
+    requires { BLOCK ≤ length raw.now }
+    ensures few { result.1 ≤ UNITS }
+    ensures units { All (λ unit. unit < 0x1_0000) result.0 }
+    ensures spelled { (n : ℕ) → n ≤ result.1 → Encodes E.BIG (take n result.0) (take (2 * n) raw.now) }
+{
+    let units = first_units::<E>(raw);
+    (units.to_array(), plain_front(units))
+}
+
+// The units of the block at the front, read at once.
+#[inline(always)]
+fn first_units<E: Utf16Order>(raw: &[u8]) -> u16x16
+    requires { BLOCK ≤ length raw.now }
+    ensures len { length result ≡ UNITS }
+    ensures bytes { flat_map (unit_bytes E.BIG) result ≡ take BLOCK raw.now }
+{
+    let units = u16x16::from_le_bytes(u8x32::from_slice(raw));
+    if E::BIG { swapped(units) } else { units }
+}
+
+// The two bytes of each unit the other way round.
+#[inline(always)]
+fn swapped(units: u16x16) -> u16x16
+    ensures len { length result ≡ UNITS }
+    ensures bytes { flat_map (unit_bytes true) result ≡ flat_map (unit_bytes false) units }
+{
+    (units << u16x16::splat(8)) + (units >> u16x16::splat(8))
+}
+
+// How many units stand before the first surrogate.
+#[inline(always)]
+fn plain_front(units: u16x16) -> usize
+    ensures few { result ≤ UNITS }
+    ensures characters { All IsScalar (take result units) }
+{
+    let surrogates = (units & Simd::splat(0xF800))
+        .simd_eq(Simd::splat(0xD800))
+        .to_bitmask();
+    if surrogates == 0 {
+        UNITS
+    } else {
+        surrogates.trailing_zeros() as usize
+    }
+}
+
+// Asks about each character of a block or of half of one, in turn, and moves those that stay down. Answers where they end.
+#[inline(always)]
+pub(crate) fn keep_block<E: Utf16Order, F: FnMut(char) -> bool, const N: usize>(
+    bytes: &mut [u8],
+    keep: &mut F,
+    to: usize,
+    start: usize,
+    units: &[u16; N],
+) -> usize
+    requires down { to ≤ start }
+    requires within { start + 2 * N ≤ length bytes.old }
+    requires units { All (λ unit. unit < 0x1_0000) units.now }
+    requires here { Encodes E.BIG units.now (take (2 * N) (drop start bytes.old)) }
+    requires askable { MayBeAsked F.FnMut keep.old units.now }
+    ensures kept { (left : List ℕ) × RetainsTo F.FnMut keep.old units.now left keep.new × (take result bytes.new ≡ take to bytes.old ++ encode E.BIG left) }
+    ensures behind { drop (start + 2 * N) bytes.new ≡ drop (start + 2 * N) bytes.old }
+    ensures down { result ≤ start + 2 * N }
+{
+    let (answers, many) = ask_each(keep, units);
+    move_block::<E, N>(bytes, to, start, units, &answers, many)
+}
+
+// Asks about each character of a block, in turn, and counts those that stay.
+#[inline]
+fn ask_each<F: FnMut(char) -> bool, const N: usize>(
+    keep: &mut F,
+    units: &[u16; N],
+) -> ([bool; N], usize)
+    requires scalars { All IsScalar units.now }
+    requires askable { MayBeAsked F.FnMut keep.old units.now }
+    ensures asked { RetainsTo F.FnMut keep.old units.now (items_where_true result.0 units.now) keep.new }
+    ensures many { result.1 ≡ length (items_where_true result.0 units.now) }
+{
+    let mut answers = [false; N];
+    let mut many = 0;
+    for i in 0..N {
+        let stays = keep(unsafe { char::from_u32_unchecked(units[i] as u32) });
+        answers[i] = stays;
+        many += stays as usize;
+    }
+    (answers, many)
+}
+
+// Asks about each of a few characters, in turn, and writes each that stays behind those before it, over bytes up to their end.
+// Answers where they end.
+#[inline]
+pub(crate) fn keep_each<E: Utf16Order, F: FnMut(char) -> bool>(
+    bytes: &mut [u8],
+    keep: &mut F,
+    to: usize,
+    start: usize,
+    units: &[u16],
+) -> usize
+    requires down { to ≤ start }
+    requires within { start + 2 * length units.now ≤ length bytes.old }
+    requires scalars { All IsScalar units.now }
+    requires askable { MayBeAsked F.FnMut keep.old units.now }
+    ensures kept { (left : List ℕ) × RetainsTo F.FnMut keep.old units.now left keep.new × (take result bytes.new ≡ take to bytes.old ++ encode E.BIG left) }
+    ensures behind { drop (start + 2 * length units.now) bytes.new ≡ drop (start + 2 * length units.now) bytes.old }
+    ensures down { result ≤ start + 2 * length units.now }
+{
+    let mut end = to;
+    for &unit in units {
+        if keep(unsafe { char::from_u32_unchecked(unit as u32) }) {
+            write_unit::<E>(bytes, end, unit);
+            end += 2;
+        }
+    }
+    end
+}
+
+// Moves the characters of a block that stay down, and answers where they end. All of them are moved at once.
+#[inline(always)]
+fn move_block<E: Utf16Order, const N: usize>(
+    bytes: &mut [u8],
+    to: usize,
+    start: usize,
+    units: &[u16; N],
+    answers: &[bool; N],
+    many: usize,
+) -> usize
+    requires down { to ≤ start }
+    requires within { start + 2 * N ≤ length bytes.old }
+    requires units { All (λ unit. unit < 0x1_0000) units.now }
+    requires here { Encodes E.BIG units.now (take (2 * N) (drop start bytes.old)) }
+    requires many { many ≡ length (items_where_true answers.now units.now) }
+    ensures moved { take result bytes.new ≡ take to bytes.old ++ encode E.BIG (items_where_true answers.now units.now) }
+    ensures behind { drop (start + 2 * N) bytes.new ≡ drop (start + 2 * N) bytes.old }
+    ensures down { result ≤ start + 2 * N }
+{
+    if many == N {
+        move_all::<N>(bytes, to, start);
+        return to + 2 * N;
+    }
+    if many == 0 {
+        return to;
+    }
+    write_some::<E, N>(bytes, to, start, units, answers)
+}
+
+// Moves a whole block down, if it is not in place.
+#[inline]
+fn move_all<const N: usize>(bytes: &mut [u8], to: usize, start: usize)
+    requires down { to ≤ start }
+    requires within { start + 2 * N ≤ length bytes.old }
+    ensures moved { take (to + 2 * N) bytes.new ≡ take to bytes.old ++ take (2 * N) (drop start bytes.old) }
+    ensures behind { drop (start + 2 * N) bytes.new ≡ drop (start + 2 * N) bytes.old }
+{
+    if to < start {
+        bytes.copy_within(start..start + 2 * N, to);
+    }
+}
+
+// Writes the units that stay one behind another, over bytes up to the end of their block.
+#[inline]
+fn write_some<E: Utf16Order, const N: usize>(
+    bytes: &mut [u8],
+    to: usize,
+    start: usize,
+    units: &[u16; N],
+    answers: &[bool; N],
+) -> usize
+    requires down { to ≤ start }
+    requires within { start + 2 * N ≤ length bytes.old }
+    ensures written { take result bytes.new ≡ take to bytes.old ++ flat_map (unit_bytes E.BIG) (items_where_true answers.now units.now) }
+    ensures behind { drop (start + 2 * N) bytes.new ≡ drop (start + 2 * N) bytes.old }
+    ensures down { result ≤ start + 2 * N }
+{
+    let mut end = to;
+    for i in 0..N {
+        if answers[i] {
+            write_unit::<E>(bytes, end, units[i]);
+            end += 2;
+        }
+    }
+    end
+}
+
+// Writes a unit at an index.
+#[inline]
+fn write_unit<E: Utf16Order>(bytes: &mut [u8], at: usize, unit: u16)
+    requires { at + 2 ≤ length bytes.old }
+    ensures written { take (at + 2) bytes.new ≡ take at bytes.old ++ unit_bytes E.BIG unit }
+    ensures behind { drop (at + 2) bytes.new ≡ drop (at + 2) bytes.old }
+{
+    let two = E::write_unit(unit);
+    bytes[at] = two[0];
+    bytes[at + 1] = two[1];
+}

@@ -1,0 +1,155 @@
+//! The characters of UTF-16 that a predicate keeps, moved to the front where they stand.
+
+ghost use Rattle.std.specs.Prelude.{◌≡◌, ◌⊎◌, ◌+◌, ◌<◌, ◌≤◌, [], ◌∷◌, ◌++◌, IfSome, List, ℕ, length, take, drop};
+ghost use Rattle.utf16_units.specs.Encoding.{Encodes, IsText, char_size, encode, text_of};
+ghost use Rattle.utf16_retain.specs.Retain.{MayBeAsked, RetainsTo};
+
+use crate::blocks::{BLOCK, HALF, UNITS, keep_block, keep_each, plain_units};
+use utf16_str::WStr;
+use utf16_units::{Utf16Order, is_leading_surrogate};
+
+/// Moves the characters that the predicate keeps to the front, and answers how many bytes they take. The predicate is asked once
+/// about each character, from the front to the back, and its state runs through. Nothing is moved before the first character that
+/// goes; what is behind those kept has no meaning. The caller proves that the bytes are well formed in the order `E`, and that the
+/// predicate may be asked about each character in turn. In time linear in the length.
+// Sixteen characters of one unit each are asked about together. Where there is a pair among the next sixteen units, the first eight
+// are asked about together if they stand before it, and else those before it one by one.
+pub fn move_kept<E: Utf16Order, F: FnMut(char) -> bool>(bytes: &mut [u8], keep: &mut F) -> usize
+    requires text { IsText E.BIG bytes.old }
+    requires askable { MayBeAsked F.FnMut keep.old (text_of E.BIG bytes.old) }
+    ensures kept { IsText E.BIG (take result bytes.new) }
+    ensures text { RetainsTo F.FnMut keep.old (text_of E.BIG bytes.old) (text_of E.BIG (take result bytes.new)) keep.new }
+    ensures within { result ≤ length bytes.old }
+{
+    let mut kept = 0;
+    let mut read = 0;
+    while read < bytes.len() {
+        let Some(c) = single_at::<E>(bytes, read) else {
+            let (c, size) = char_from::<E>(bytes, read);
+            kept = keep_one::<E, F>(bytes, keep, kept, read, c, size);
+            read += size;
+            continue;
+        };
+        if bytes.len() - read >= BLOCK {
+            let (units, plain) = plain_units::<E>(&bytes[read..]);
+            if plain == UNITS {
+                kept = keep_block::<E, F, UNITS>(bytes, keep, kept, read, &units);
+                read += BLOCK;
+                continue;
+            }
+            if plain >= HALF {
+                let half = units.first_chunk::<HALF>().unwrap();
+                kept = keep_block::<E, F, HALF>(bytes, keep, kept, read, half);
+                read += BLOCK / 2;
+                continue;
+            }
+            if plain > 0 {
+                kept = keep_each::<E, F>(bytes, keep, kept, read, &units[..plain]);
+                read += 2 * plain;
+                continue;
+            }
+        }
+        kept = keep_one::<E, F>(bytes, keep, kept, read, c, 2);
+        read += 2;
+    }
+    kept
+}
+
+// The character at an index, if it has one unit. Those of one unit have a branch of their own in the loop, so that the next place
+// does not wait for a size computed from what was read.
+#[inline]
+fn single_at<E: Utf16Order>(bytes: &[u8], at: usize) -> Option<char>
+    requires within { at < length bytes.now }
+    requires text { IsText E.BIG (drop at bytes.now) }
+    ensures char { IfSome result (λ c. Encodes E.BIG (c ∷ []) (take 2 (drop at bytes.now))) }
+    ensures within { at + 2 ≤ length bytes.now }
+{
+    let unit = E::read_unit([bytes[at], bytes[at + 1]]);
+    if is_leading_surrogate(unit) {
+        None
+    } else {
+        Some(unsafe { char::from_u32_unchecked(unit as u32) })
+    }
+}
+
+// The character that begins at an index, and how many bytes it takes. The size is how far the walk went, so that the next read
+// does not wait for a comparison of the character.
+#[inline]
+fn char_from<E: Utf16Order>(bytes: &[u8], at: usize) -> (char, usize)
+    requires within { at < length bytes.now }
+    requires text { IsText E.BIG (drop at bytes.now) }
+    ensures char { Encodes E.BIG (result.0 ∷ []) (take result.1 (drop at bytes.now)) }
+    ensures size { result.1 ≡ char_size result.0 }
+    ensures within { at + result.1 ≤ length bytes.now }
+{
+    let text = WStr::<E>::from_utf16_unchecked(&bytes[at..]);
+    let mut chars = text.chars();
+    let first = chars.next().unwrap();
+    (first, text.len() - chars.as_wstr().len())
+}
+
+// Asks about the character at an index, and moves it down if it stays. Answers where those that stay end.
+#[inline]
+fn keep_one<E: Utf16Order, F: FnMut(char) -> bool>(
+    bytes: &mut [u8],
+    keep: &mut F,
+    to: usize,
+    start: usize,
+    c: char,
+    size: usize,
+) -> usize
+    requires down { to ≤ start }
+    requires size { (size ≡ 2) ⊎ (size ≡ 4) }
+    requires within { start + size ≤ length bytes.old }
+    requires here { Encodes E.BIG (c ∷ []) (take size (drop start bytes.old)) }
+    requires askable { MayBeAsked F.FnMut keep.old (c ∷ []) }
+    ensures kept { (left : List ℕ) × RetainsTo F.FnMut keep.old (c ∷ []) left keep.new × (take result bytes.new ≡ take to bytes.old ++ encode E.BIG left) }
+    ensures behind { drop (start + size) bytes.new ≡ drop (start + size) bytes.old }
+    ensures down { result ≤ start + size }
+{
+    if ask(keep, c) {
+        move_down(bytes, to, start, size);
+        to + size
+    } else {
+        to
+    }
+}
+
+// Asks about one character, once.
+#[inline]
+fn ask<F: FnMut(char) -> bool>(keep: &mut F, c: char) -> bool
+    requires { F.pre keep.old c }
+    ensures { F.step keep.old c result keep.new }
+{
+    keep(c)
+}
+
+// Moves the one or two units of a character down, if they are not in place.
+#[inline]
+fn move_down(bytes: &mut [u8], to: usize, start: usize, size: usize)
+    requires down { to ≤ start }
+    requires size { (size ≡ 2) ⊎ (size ≡ 4) }
+    requires within { start + size ≤ length bytes.old }
+    ensures moved { take (to + size) bytes.new ≡ take to bytes.old ++ take size (drop start bytes.old) }
+    ensures behind { drop (start + size) bytes.new ≡ drop (start + size) bytes.old }
+{
+    if to < start {
+        move_unit(bytes, to, start);
+        if size == 4 {
+            move_unit(bytes, to + 2, start + 2);
+        }
+    }
+}
+
+// Moves two bytes down.
+#[inline]
+fn move_unit(bytes: &mut [u8], to: usize, start: usize)
+    requires down { to ≤ start }
+    requires within { start + 2 ≤ length bytes.old }
+    ensures moved { take (to + 2) bytes.new ≡ take to bytes.old ++ take 2 (drop start bytes.old) }
+    ensures behind { drop (start + 2) bytes.new ≡ drop (start + 2) bytes.old }
+{
+    let two = [bytes[start], bytes[start + 1]];
+    bytes[to] = two[0];
+    bytes[to + 1] = two[1];
+}
