@@ -9,7 +9,7 @@ use Rattle.utf16_units.specs.Unit.{unit_bytes}
 use Rattle.utf16_units.proofs.EncodingLemmas.{encode-append, encode-nil}
 use Rattle.utf16_retain.specs.Retain.{Answers, RetainsTo}
 use Rattle.utf16_retain.proofs.Asked.{RetainsTo-append}
-use Rattle.utf16_retain.proofs.Blocks.{IsUnit, encode-units}
+use Rattle.utf16_retain.proofs.PlainUnits.{IsUnit, encode-units}
 
 module _ {F : Type 0} (calls : Mut F (ℕ × Unit {0}) Bool) (big : Bool) (first : F) (units front : List ℕ) where
   -- the predicate was asked about the first i units and left the state f, and those kept stand behind `front`, up to `end`

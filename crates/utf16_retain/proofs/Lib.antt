@@ -1,5 +1,5 @@
 pub mod Asked
-pub mod Blocks
+pub mod PlainUnits
 pub mod BlockUnits
 pub mod KeptUnits
 pub mod Retained

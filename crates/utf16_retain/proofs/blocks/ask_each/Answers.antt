@@ -4,7 +4,7 @@ use Rattle.std.specs.List.{items_where_true}
 use Rattle.std.specs.List.Retain.{ReturnsInTurn}
 use Rattle.utf16_retain.specs.Retain.{Answers, MayBeAsked}
 use Rattle.utf16_retain.proofs.Asked.{asked-more}
-use Rattle.utf16_retain.proofs.Blocks.{bool_byte-below, length-kept-more}
+use Rattle.utf16_retain.proofs.PlainUnits.{bool_byte-below, length-kept-more}
 use mir.Val.{bool_byte}
 use Rattle.utf16_retain.proofs.blocks.ask_each.Goals as goal
 

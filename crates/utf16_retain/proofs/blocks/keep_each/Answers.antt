@@ -3,7 +3,7 @@ use Rattle.std.proofs.lemmas.Fn.{called}
 use Rattle.std.specs.Fn.{Called}
 use Rattle.std.proofs.lemmas.List.{drop_more, take_all}
 use Rattle.utf16_retain.specs.Retain.{MayBeAsked, RetainsTo}
-use Rattle.utf16_retain.proofs.Blocks.{drop-later}
+use Rattle.utf16_retain.proofs.PlainUnits.{drop-later}
 use Rattle.utf16_retain.proofs.KeptUnits.{Keeping-drop, Keeping-keep, Keeping-start}
 use Rattle.utf16_retain.proofs.blocks.keep_each.Goals.{then-keep, else-keep}
 use Rattle.utf16_retain.proofs.blocks.keep_each.Goals as goal

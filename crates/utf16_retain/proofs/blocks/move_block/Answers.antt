@@ -2,7 +2,7 @@ use Rattle.std.proofs.Common.{◌≡◌, ℕ, List, [], ◌∷◌, length, refl,
 use Rattle.utf16_units.specs.Encoding.{encode}
 use Rattle.std.specs.List.{items_where_true}
 use Rattle.utf16_units.proofs.EncodingLemmas.{encode-nil}
-use Rattle.utf16_retain.proofs.Blocks.{encode-kept, kept-all}
+use Rattle.utf16_retain.proofs.PlainUnits.{encode-kept, kept-all}
 use Rattle.utf16_retain.proofs.blocks.move_block.Goals as goal
 
 none-left : (l : List ℕ) → length l ≡ 0 → l ≡ []

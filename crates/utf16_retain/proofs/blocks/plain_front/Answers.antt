@@ -1,6 +1,6 @@
 use Rattle.std.proofs.Common.{All, arith, subst, sym, take}
 use Rattle.std.specs.Char.{IsScalar}
-use Rattle.utf16_retain.proofs.Blocks.{plain_len-characters, plain_len-few, plain_len-lowest, plain_len-none}
+use Rattle.utf16_retain.proofs.PlainUnits.{plain_len-characters, plain_len-few, plain_len-lowest, plain_len-none}
 use Rattle.utf16_retain.proofs.blocks.plain_front.Goals as goal
 
 pub returns-then-surrogates-eq0-clause-characters : goal.returns-then-surrogates-eq0-clause-characters

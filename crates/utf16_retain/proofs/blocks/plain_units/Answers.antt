@@ -2,7 +2,7 @@ use Rattle.std.proofs.Common.{◌∙◌, ◌*◌, All, ap, arith, rules, subst, 
 use Rattle.std.specs.Char.{IsScalar}
 use Rattle.std.proofs.lemmas.List.{take-take}
 use Rattle.std.proofs.lemmas.List.Elements.{All-from_get_or, All-take}
-use Rattle.utf16_retain.proofs.Blocks.{IsUnit, encode-units, units-take}
+use Rattle.utf16_retain.proofs.PlainUnits.{IsUnit, encode-units, units-take}
 use Rattle.utf16_retain.proofs.blocks.plain_units.Goals as goal
 
 pub returns-clause-units : goal.returns-clause-units

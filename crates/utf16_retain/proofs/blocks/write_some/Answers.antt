@@ -1,5 +1,5 @@
 use Rattle.std.proofs.Common.{◌+◌, ◌*◌, ◌++◌, ◌∙◌, true, false, ap, append-nil, arith, sym, take}
-use Rattle.utf16_retain.proofs.Blocks.{drop-later, written-more}
+use Rattle.utf16_retain.proofs.PlainUnits.{drop-later, written-more}
 use Rattle.utf16_retain.proofs.blocks.write_some.Goals.{then-answers-i, else-answers-i}
 use Rattle.utf16_retain.proofs.blocks.write_some.Goals as goal
 

@@ -4,7 +4,7 @@ use Rattle.std.proofs.lemmas.List.Elements.{All-take}
 use Rattle.std.specs.Option.{MatchOption}
 use Rattle.std.specs.Array.{IsFirstChunk}
 use Rattle.utf16_units.proofs.EncodingLemmas.{Encodes-text_of}
-use Rattle.utf16_retain.proofs.Blocks.{IsUnit, front-here, whole-here}
+use Rattle.utf16_retain.proofs.PlainUnits.{IsUnit, front-here, whole-here}
 use Rattle.utf16_retain.proofs.Retained.{Retaining-end, Retaining-kept, Retaining-start, may-ask}
 use Rattle.utf16_retain.proofs.retains.move_kept.Goals as goal
 
