@@ -1,8 +1,9 @@
 //! Parts of a text, cut at boundaries that a call or a law tells.
 
-ghost use Rattle.std.specs.Prelude.{◌≡◌, ◌↔◌, ◌++◌, ◌+◌, ◌≤◌, ◌∷◌, ℕ, IfOk, IfSome, IsSome, IsTrue, OnOk, chars, drop, length, take};
+ghost use Rattle.std.specs.Prelude.{◌≡◌, ◌↔◌, ◌++◌, ◌+◌, ◌≤◌, ◌∷◌, ℕ, IfOk, IfSome, IsSome, IsTrue, OnOk, chars, drop, length, map, take};
 ghost use Rattle.utf16_units.specs.Boundary.{IsBoundary, text_between, text_from, text_to};
 ghost use Rattle.utf16_units.specs.Encoding.{Encodes};
+ghost use Rattle.utf16string.specs.Offsets.{char_offsets};
 ghost use Rattle.utf16string.specs.WStr.{wstr_bytes, wstr_text};
 ghost use Rattle.utf16string.specs.WString.{wstring_text};
 
@@ -95,9 +96,9 @@ pub fn parted<'a, E: Utf16Order>(text: WStr<'a, E>, at: usize) -> Option<(WStr<'
     }
 }
 
-/// What stands behind the first character.
+/// What stands behind the first character: the characters of the offsets that are left.
 pub fn behind_first<'a, E: Utf16Order>(text: WStr<'a, E>) -> Option<WStr<'a, E>>
-    ensures { IfSome result (λ rest. wstr_text rest ≡ drop 1 (wstr_text text.entry)) }
+    ensures { IfSome result (λ rest. wstr_text rest ≡ map (λ at. at.1) (drop 1 (char_offsets 0 (wstr_text text.entry)))) }
 {
     let mut chars = text.char_indices();
     chars.next()?;
