@@ -1,8 +1,9 @@
 //! Parts of a text, cut at boundaries that a call or a law tells.
 
-ghost use Rattle.std.specs.Prelude.{◌≡◌, ◌↔◌, ◌++◌, ◌+◌, ◌≤◌, ◌∷◌, ℕ, IfOk, IfSome, IsSome, OnOk, drop, length, take};
+ghost use Rattle.std.specs.Prelude.{◌≡◌, ◌↔◌, ◌++◌, ◌+◌, ◌≤◌, ◌∷◌, ℕ, IfOk, IfSome, IsSome, IsTrue, OnOk, chars, drop, length, map, take};
 ghost use Rattle.utf16_units.specs.Boundary.{IsBoundary, text_between, text_from, text_to};
 ghost use Rattle.utf16_units.specs.Encoding.{Encodes};
+ghost use Rattle.utf16string.specs.Offsets.{char_offsets};
 ghost use Rattle.utf16string.specs.WStr.{wstr_bytes, wstr_text};
 ghost use Rattle.utf16string.specs.WString.{wstring_text};
 
@@ -80,4 +81,33 @@ pub fn view<'a, E: Utf16Order>(name: WStr<'_, E>, raw: &'a [u8]) -> WStr<'a, E>
     ensures long { length raw.now ≡ length (wstr_bytes name.entry) }
 {
     WStr::from_utf16_unchecked(raw)
+}
+
+/// The two parts on both sides of an offset: joined they are the text, and each takes the bytes on its side.
+pub fn parted<'a, E: Utf16Order>(text: WStr<'a, E>, at: usize) -> Option<(WStr<'a, E>, WStr<'a, E>)>
+    ensures some { IsSome result ↔ IsBoundary (wstr_text text.entry) at }
+    ensures joined { IfSome result (λ parts. wstr_text parts.0 ++ wstr_text parts.1 ≡ wstr_text text.entry) }
+    ensures bytes { IfSome result (λ parts. (wstr_bytes parts.0 ≡ take at (wstr_bytes text.entry)) × (wstr_bytes parts.1 ≡ drop at (wstr_bytes text.entry))) }
+{
+    if text.is_char_boundary(at) {
+        Some(text.split_at(at))
+    } else {
+        text.split_at_checked(at)
+    }
+}
+
+/// What stands behind the first character: the characters of the offsets that are left.
+pub fn behind_first<'a, E: Utf16Order>(text: WStr<'a, E>) -> Option<WStr<'a, E>>
+    ensures { IfSome result (λ rest. wstr_text rest ≡ map (λ at. at.1) (drop 1 (char_offsets 0 (wstr_text text.entry)))) }
+{
+    let mut chars = text.char_indices();
+    chars.next()?;
+    Some(chars.as_wstr())
+}
+
+/// Whether a text is the name that a table has in UTF-8.
+pub fn is_name<E: Utf16Order>(text: WStr<E>, name: &str) -> bool
+    ensures { IsTrue result ↔ (wstr_text text.entry ≡ chars name.now) }
+{
+    text.eq_str(name)
 }

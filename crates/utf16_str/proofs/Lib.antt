@@ -1,2 +1,3 @@
 pub mod OffsetLemmas
 pub mod Overwritten
+pub mod StrLemmas

@@ -250,6 +250,19 @@ impl<'a, E: Utf16Order> WStr<'a, E> {
         WStrCharIndices::new(self)
     }
 
+    /// Whether the characters are those of a `str`. One pass over both, up to the first that differs, in constant memory.
+    pub fn eq_str(&self, s: &str) -> bool
+        ensures { IsTrue result ↔ (wstr_text self.now ≡ chars s.now) }
+    {
+        let mut theirs = s.chars();
+        for c in self.chars() {
+            if theirs.next() != Some(c) {
+                return false;
+            }
+        }
+        theirs.next().is_none()
+    }
+
     /// Whether every character is ASCII, below U+0080. It asks the characters and not the bytes. One pass, up to the first block
     /// that has another character.
     pub fn is_ascii(&self) -> bool
