@@ -29,13 +29,11 @@ pub fn extend_utf16<E: Utf16Order, A: Allocator>(
     ensures capacity { vec_capacity raw.old ≤ vec_capacity raw.new }
 {
     if s.len() < FEW {
-        return extend_few::<E, A>(raw, s);
-    }
-    let bytes = s.as_bytes();
-    if bytes.len() <= SHORT {
-        extend_piece::<E, A>(raw, [0; 2], bytes, &mut [0; 2 * SHORT + 16])
+        extend_few::<E, A>(raw, s)
+    } else if s.len() <= SHORT {
+        extend_short::<E, A>(raw, s)
     } else {
-        extend_pieces::<E, A>(raw, bytes, &mut [0; 2 * PIECE + 16])
+        extend_long::<E, A>(raw, s)
     }
 }
 
@@ -52,6 +50,32 @@ pub fn append_utf16<E: Utf16Order, A: Allocator>(
 {
     raw.reserve(utf16_len(s))?;
     extend_utf16::<E, A>(raw, s)
+}
+
+// Puts a text last that is written at once.
+#[inline(never)]
+fn extend_short<E: Utf16Order, A: Allocator>(
+    raw: &mut Vec<u8, A>,
+    s: &str,
+) -> Result<(), AllocError>
+    requires short { length s.now ≤ SHORT }
+    requires room { vec_len raw.old + size (chars s.now) ≤ vec_capacity raw.old }
+    ensures items { raw.new.items ≡ raw.old.items ++ encode E.BIG (chars s.now) }
+    ensures fits { IsOk result }
+    ensures capacity { vec_capacity raw.old ≤ vec_capacity raw.new }
+{
+    extend_piece::<E, A>(raw, [0; 2], s.as_bytes(), &mut [0; 2 * SHORT + 16])
+}
+
+// Puts a text last that is written a piece at a time. It is a function of its own, so that no other pays for its buffer.
+#[inline(never)]
+fn extend_long<E: Utf16Order, A: Allocator>(raw: &mut Vec<u8, A>, s: &str) -> Result<(), AllocError>
+    requires room { vec_len raw.old + size (chars s.now) ≤ vec_capacity raw.old }
+    ensures items { raw.new.items ≡ raw.old.items ++ encode E.BIG (chars s.now) }
+    ensures fits { IsOk result }
+    ensures capacity { vec_capacity raw.old ≤ vec_capacity raw.new }
+{
+    extend_pieces::<E, A>(raw, s.as_bytes(), &mut [0; 2 * PIECE + 16])
 }
 
 // Puts last what bytes add, a piece at a time.

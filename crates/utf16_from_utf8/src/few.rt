@@ -8,8 +8,8 @@ ghost use Rattle.utf16_units.specs.Encoding.{encode, size};
 use std::alloc::{AllocError, Allocator};
 use utf16_units::{Utf16CharExt, Utf16Order};
 
-// Texts of fewer bytes go by characters: for the lanes a block is sixteen.
-pub(crate) const FEW: usize = 16;
+// Texts of fewer bytes go by characters: two blocks of the lanes.
+pub(crate) const FEW: usize = 32;
 
 // How many bytes the characters take in UTF-16.
 pub(crate) fn few_len(s: &str) -> usize
