@@ -1,7 +1,8 @@
 //! Bytes of more than a block made well formed: U+FFFD in place of each surrogate without its partner.
 
 use std::process::Abort;
-use utf16_units::{BE, LE, Utf16Order, write_well_formed};
+use utf16_forms::write_well_formed;
+use utf16string::{BE, LE, Utf16Order};
 
 // Two units between letters "a", and what is written of them.
 const CASES: [([u16; 2], [u16; 2]); 8] = [

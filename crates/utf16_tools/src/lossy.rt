@@ -14,7 +14,7 @@ use crate::decoder::Decoder;
 use crate::held::Held;
 use std::alloc::{AllocError, Allocator};
 use std::marker::PhantomData;
-use utf16_units::write_well_formed;
+use utf16_forms::write_well_formed;
 use utf16string::{Utf16Order, WStr};
 
 // How many bytes are copied at once from a fault on, to a buffer in the frame.

@@ -24,7 +24,6 @@ pub mod Rules
 pub mod BackChar
 pub mod Tests
 pub mod LaneLemmas
-pub mod SwapLemmas
 pub mod UnitsUpTo
 pub mod CountLemmas
 pub mod AsciiLemmas
@@ -33,5 +32,3 @@ pub mod OrderLemmas
 pub mod RankLemmas
 pub mod SameLemmas
 pub mod OrderTies
-pub mod WellFormedLemmas
-pub mod WellFormedSplit

@@ -7,7 +7,6 @@ pub mod Edit
 pub mod Continued
 pub mod Laws
 pub mod Split
-pub mod WellFormed
 pub mod Recipe
 pub mod Lanes
 pub mod Order

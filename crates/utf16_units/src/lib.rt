@@ -1,4 +1,4 @@
-//! UTF-16 units and bytes: byte orders, surrogates, one character, the validator and its error, and bytes made well formed.
+//! UTF-16 units and bytes: byte orders, surrogates, one character, the validator and its error.
 #![tactic(auto)]
 
 #[cfg(test)]
@@ -10,15 +10,12 @@ mod error;
 mod lanes;
 pub mod laws;
 mod order;
-pub mod reorder;
 pub mod text;
 mod unit;
 mod validate;
-mod well_formed;
 
 pub use crate::char::Utf16CharExt;
 pub use crate::error::Utf16Error;
 pub use crate::order::{BE, BigEndian, LE, LittleEndian, Utf16Order};
 pub use crate::unit::{decode_surrogates, is_leading_surrogate, is_trailing_surrogate};
 pub use crate::validate::validate_raw_utf16;
-pub use crate::well_formed::write_well_formed;

@@ -6,8 +6,8 @@ ghost use Rattle.utf16_units.specs.Encoding.{Encodes};
 
 use crate::WString;
 use std::alloc::Allocator;
+use utf16_forms::reorder::reorder;
 use utf16_units::Utf16Order;
-use utf16_units::reorder::reorder;
 
 impl<E: Utf16Order, A: Allocator> WString<E, A> {
     ghost use Rattle.utf16string.specs.WString.{wstring_bytes, wstring_capacity, wstring_text, wstring_vec};

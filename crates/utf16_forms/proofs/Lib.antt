@@ -1,0 +1,3 @@
+pub mod SwapLemmas
+pub mod WellFormedLemmas
+pub mod WellFormedSplit
