@@ -22,26 +22,29 @@ extern "C" {
 
 /* Why a call stopped. Other values do not come. */
 #define UTF16_DONE UINT32_C(0)    /* all of the input was read */
-#define UTF16_FAULT UINT32_C(1)   /* behind what was read stands a fault, which no further bytes can mend */
+#define UTF16_FAULT UINT32_C(1)   /* a fault stands behind what was read; decoding may resume `fault_len` bytes on */
 #define UTF16_CUT_OFF UINT32_C(2) /* the input ends inside a character, of which more bytes may follow */
 #define UTF16_NO_ROOM UINT32_C(3) /* the next character does not fit; call again with the rest of the input and more room */
 
 /* How far a call came: `read` bytes of the input, and `written` bytes at the front of `to`. Both end between characters. What
- * stands in `to` behind `written` bytes has no meaning, and may have been written over. */
+ * stands in `to` behind `written` bytes has no meaning, and may have been written over. `fault_len` is how many bytes the fault
+ * has, with UTF16_FAULT, and else 0. */
 typedef struct utf16_progress {
     size_t read;
     size_t written;
     uint32_t status;
+    uint32_t fault_len;
 } utf16_progress;
 
 typedef struct utf16_validity {
     size_t valid_up_to;
     uint32_t status;
+    uint32_t fault_len;
 } utf16_validity;
 
 /* The longest beginning of the bytes that is well formed, and what stands behind it: UTF16_DONE where the bytes are UTF-16,
- * UTF16_FAULT where a surrogate without its partner stands there (decoding may resume 2 bytes on), UTF16_CUT_OFF where the bytes
- * end inside a character (the last 1 to 3 bytes). */
+ * UTF16_FAULT where a surrogate without its partner stands there, of 2 bytes, UTF16_CUT_OFF where the bytes end inside a character
+ * (the last 1 to 3 bytes). */
 utf16_validity utf16_validate(bool big, const uint8_t *raw, size_t len);
 
 /* How many characters the bytes have. Of bytes that are not UTF-16: how many whole code units but trailing surrogates. */
@@ -57,15 +60,15 @@ size_t utf16_to_utf8_len(bool big, const uint8_t *raw, size_t len);
 size_t utf16_from_utf8_len(const uint8_t *text, size_t len);
 
 /* Writes UTF-16 in UTF-8, up to the first fault: UTF16_DONE, UTF16_FAULT, UTF16_CUT_OFF or UTF16_NO_ROOM. A fault is a surrogate
- * without its partner; decoding may resume 2 bytes behind `read`. Room for 3 bytes for each 2 of input is always enough. */
+ * without its partner, of 2 bytes. Room for 3 bytes for each 2 of input is always enough. */
 utf16_progress utf16_to_utf8(bool big, const uint8_t *raw, size_t len, uint8_t *to, size_t room);
 
 /* The same with U+FFFD for each surrogate without its partner, and one for a character that is cut off at the end: UTF16_DONE or
  * UTF16_NO_ROOM. Room for 3 bytes for each 2 of input, and 3 more, is always enough. */
 utf16_progress utf16_to_utf8_marked(bool big, const uint8_t *raw, size_t len, uint8_t *to, size_t room);
 
-/* Writes UTF-8 in UTF-16, up to the first fault: UTF16_DONE, UTF16_FAULT, UTF16_CUT_OFF or UTF16_NO_ROOM. Room for 2 bytes for
- * each byte of input is always enough. */
+/* Writes UTF-8 in UTF-16, up to the first fault: UTF16_DONE, UTF16_FAULT, UTF16_CUT_OFF or UTF16_NO_ROOM. A fault has 1 to 3
+ * bytes. Room for 2 bytes for each byte of input is always enough. */
 utf16_progress utf16_from_utf8(bool big, const uint8_t *text, size_t len, uint8_t *to, size_t room);
 
 /* The same with U+FFFD for each fault, as the Unicode Standard recommends (one for each maximal part of a character) and as
