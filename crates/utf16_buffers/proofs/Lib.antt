@@ -1,1 +1,2 @@
 pub mod WroteLemmas
+pub mod MarkLemmas
