@@ -1,23 +1,29 @@
 -- Decoding with marks: the text that was written, then the mark of what stands behind it.
-use Rattle.std.proofs.Common.{◌≡◌, ◌≢◌, ℕ, ◌+◌, ◌-◌, ◌<◌, ◌≤◌, Bool, List, [], ◌∷◌, ◌++◌, None, Some, length, map, take, drop, encode_utf8_all, refl, sym, ap, ◌∙◌, subst, arith, append-nil, length-append, length-drop, length-take-le, take-append-drop, take_all, ⊎_elim}
+use Rattle.std.proofs.Common.{◌≡◌, ◌≢◌, ℕ, ◌+◌, ◌-◌, ◌*◌, ◌<◌, ◌≤◌, Bool, List, [], ◌∷◌, ◌++◌, Option, None, Some, length, map, take, drop, encode_utf8_all, refl, sym, ap, ap₂, ◌∙◌, subst, arith, append-nil, append_assoc, length-append, length-drop, length-take-le, take-append-drop, take_all, ⊎_elim}
 use borrow.Rule.Slice.PartMut.{put_mid}
 use Rattle.std.proofs.lemmas.Bool.{cases_lt}
-use Rattle.std.proofs.lemmas.List.{append_cancel_left, drop-drop, drop_all, take_rest}
+use Rattle.std.proofs.lemmas.List.{append_cancel_left, drop-drop, drop_all, map-append, take_rest}
+use Rattle.std.proofs.lemmas.List.Concat.{flat_map-append}
 use Rattle.std.proofs.lemmas.List.Elements.{All-cons, All-nil}
 use Rattle.std.specs.Char.{IsScalar, encode_utf8}
 use Rattle.utf16_units.specs.Encoding.{Encodes, IsText, char_bytes, text_of}
 use Rattle.utf16_units.specs.Fault.{IsCutOff, IsFault, IsFront}
-use Rattle.utf16_units.specs.Split.{Item, good, marked, split_items, split_tail}
+use Rattle.utf16_units.specs.Split.{Item, full, good, mark, marked, split_items, split_tail}
+use Rattle.utf16_units.specs.Utf16Error.{IsErrorOf, error_len, valid_up_to}
+use Rattle.utf16_units.specs.declared.error.Utf16Error.{Utf16Error}
 use Rattle.utf16_units.proofs.EncodingLemmas.{Encodes-text_of, encode-one}
 use Rattle.utf16_units.proofs.FaultLemmas.{IsFront-unique, rest_from}
 use Rattle.utf16_units.proofs.FirstChar.{AreBytes, first_unit}
-use Rattle.utf16_units.proofs.RecipeLemmas.{mark-lone_item, marked-good, two}
+use Rattle.utf16_units.proofs.RecipeLemmas.{mark-lone_item, marked-good, split_text, two}
+use Rattle.utf16_units.proofs.ShownLemmas.{split_within}
+use Rattle.utf16_units.proofs.SplitLemmas.{Split-computed}
 use Rattle.utf16_units.proofs.SplitFault.{AreBytes-drop, lone_item, split_items-fault, split_tail-cut_off, split_tail-fault}
 use Rattle.utf16_units.proofs.SplitJoin.{split_items-text, split_tail-text}
 use Rattle.utf16_tools.specs.Decodes.{Decodes}
-use Rattle.utf16_tools.proofs.DecodesLemmas.{Decodes-none, Decodes-then, split_tail-again}
+use Rattle.utf16_tools.proofs.DecodesLemmas.{Decodes-none, Decodes-then, cut_off_decides, cut_off_leaves, fault_decides, split_tail-again, undecided_items}
+use Rattle.utf16_buffers.specs.Shown.{ShowsWhole, text_of_utf16}
 use Rattle.utf16_buffers.specs.Wrote.{DecodesTo, IsUtf8Of, Wrote}
-use Rattle.utf16_buffers.specs.Stops.{NextDoesNotFit, StopsDecoding, StopsMarking, TextDoesNotFit}
+use Rattle.utf16_buffers.specs.Stops.{NextDoesNotFit, StopsDecoding, StopsMarking, StopsMarkingWhole, TextDoesNotFit}
 use Rattle.utf16_buffers.specs.declared.progress.Stop.{Stop}
 use Rattle.utf16_buffers.specs.declared.progress.Stop.TheVariants.{CutOff, Done, Fault, NoRoom}
 use Rattle.utf16_buffers.proofs.WroteLemmas.{take-end}
@@ -191,3 +197,136 @@ module _ (big : Bool) (raw old part : List ℕ) (read at n w : ℕ) (before : De
             text = bytes ∙ ap (λ c. take (at + w) new ++ encode_utf8_all (c ∷ [])) (sym (mark-lone_item (first_unit big (drop n rest))));
           });
         }
+
+-- ---- the whole text
+
+-- what a tail adds to the text
+abbrev pub tail_mark : List ℕ → List ℕ
+tail_mark [] = []
+tail_mark (first ∷ after) = 0xFFFD ∷ []
+
+full-is : (items : List Item) (tail : List ℕ) → full items tail ≡ marked items ++ tail_mark tail
+full-is items [] = sym (append-nil (marked items))
+full-is items (first ∷ after) = refl
+
+full-append : (items more : List Item) (tail : List ℕ) → full (items ++ more) tail ≡ marked items ++ full more tail
+full-append items more tail =
+    full-is (items ++ more) tail ∙ ap (λ t. t ++ tail_mark tail) (map-append mark items more) ∙ append_assoc (marked items) (marked more) (tail_mark tail)
+    ∙ ap (λ t. marked items ++ t) (sym (full-is more tail))
+
+-- what was decided begins the whole text, and that of the rest ends it
+pub whole_text : (big : Bool) (bytes rest new : List ℕ) → Decodes big bytes rest [] new
+    → encode_utf8_all (text_of_utf16 big bytes) ≡ new ++ encode_utf8_all (text_of_utf16 big rest)
+whole_text big bytes rest new d =
+    ap₂ (λ i t. encode_utf8_all (full i t)) d.items d.tail ∙ ap encode_utf8_all (full-append d.taken (split_items big rest) (split_tail big rest))
+    ∙ flat_map-append encode_utf8 (marked d.taken) (text_of_utf16 big rest) ∙ ap (λ n. n ++ encode_utf8_all (text_of_utf16 big rest)) (sym d.text)
+
+-- the text of a tail is U+FFFD
+pub tail_text : (big : Bool) (rest : List ℕ) → rest ≢ [] → split_tail big rest ≡ rest → text_of_utf16 big rest ≡ 0xFFFD ∷ []
+tail_text big rest some same = ap₂ full (undecided_items big rest same) same ∙ marks rest some where
+  marks : (tail : List ℕ) → tail ≢ [] → full [] tail ≡ 0xFFFD ∷ []
+  marks [] some = absurd (some refl)
+  marks (first ∷ after) some = refl
+
+pub nil_text : (big : Bool) → text_of_utf16 big [] ≡ []
+unfolding split_items split_tail
+nil_text big = refl
+
+pub ShowsWhole-decoded : (big : Bool) (raw to : List ℕ) (read written : ℕ) → DecodesTo big raw to read written
+    → ShowsWhole (text_of_utf16 big) encode_utf8 raw to read written
+ShowsWhole-decoded big raw to read written d =
+    record { within = d.within; room = d.room; shown = whole_text big raw (drop read raw) (take written to) d.decodes }
+
+-- the mark of a tail was written behind what was decided
+pub ShowsWhole-tail : (big : Bool) (raw to next : List ℕ) (read written last : ℕ) → DecodesTo big raw to read written
+    → drop read raw ≢ [] → split_tail big (drop read raw) ≡ drop read raw → last ≤ length next
+    → take last next ≡ take written to ++ 0xEF ∷ 0xBF ∷ 0xBD ∷ []
+    → ShowsWhole (text_of_utf16 big) encode_utf8 raw next (length raw) last
+unfolding encode_utf8
+ShowsWhole-tail big raw to next read written last d some same room bytes = record {
+  within = omega arith;
+  room = room;
+  shown =
+      whole_text big raw (drop read raw) (take written to) d.decodes
+      ∙ ap (λ t. take written to ++ encode_utf8_all t) (tail_text big (drop read raw) some same)
+      ∙ sym bytes ∙ sym (append-nil (take last next))
+      ∙ ap (λ t. take last next ++ encode_utf8_all t) (sym (ap (text_of_utf16 big) (drop_all (length raw) raw (omega arith)) ∙ nil_text big));
+}
+
+-- a character that does not fit is the next one of the whole text too
+pub stops_whole : (big : Bool) (rest : List ℕ) (left : ℕ) (stop : Stop) → ¬ (stop ≡ CutOff) → StopsMarking big rest left stop
+    → StopsMarkingWhole (text_of_utf16 big) encode_utf8 rest left stop
+stops_whole big rest left Done not_cut here = here
+stops_whole big rest left (Fault len) not_cut here = absurd here
+stops_whole big rest left CutOff not_cut here = absurd (not_cut refl)
+stops_whole big rest left NoRoom not_cut here = record {
+  char = here.char;
+  more = here.more ++ tail_mark (split_tail big rest);
+  begins = full-is (split_items big rest) (split_tail big rest) ∙ ap (λ t. t ++ tail_mark (split_tail big rest)) here.begins;
+  too_long = here.too_long;
+}
+
+pub tail_does_not_fit : (big : Bool) (rest : List ℕ) (left : ℕ) → rest ≢ [] → split_tail big rest ≡ rest → left < 3
+    → TextDoesNotFit encode_utf8 (text_of_utf16 big rest) left
+unfolding encode_utf8
+tail_does_not_fit big rest left some same few = record { char = 0xFFFD; more = []; begins = tail_text big rest some same; too_long = few }
+
+-- ---- the size of the whole text
+
+mark_within : length (encode_utf8 0xFFFD) ≡ 3
+unfolding encode_utf8
+mark_within = refl
+
+mark_long : (text more : List ℕ) → length (encode_utf8_all (text ++ 0xFFFD ∷ more)) ≡ length (encode_utf8_all text) + 3 + length (encode_utf8_all more)
+unfolding encode_utf8
+mark_long text more =
+    let both = ap length (flat_map-append encode_utf8 text (0xFFFD ∷ more)) ∙ length-append (encode_utf8_all text) (encode_utf8_all (0xFFFD ∷ more)) in
+    omega arith
+
+-- of a text
+pub text_size : (big : Bool) (rest : List ℕ) → IsText big rest → text_of_utf16 big rest ≡ text_of big rest
+text_size big rest t =
+    let split = split_text big (text_of big rest) rest (Encodes-text_of big rest t) in
+    ap₂ full split.0 split.1 ∙ marked-good (text_of big rest)
+
+-- no whole text takes more than half as much again as its bytes, and three bytes more
+pub most_size : (big : Bool) (raw : List ℕ) → AreBytes raw → 2 * length (encode_utf8_all (text_of_utf16 big raw)) ≤ 3 * length raw + 3
+most_size big raw are = (split_within big raw (split_items big raw) (split_tail big raw) (Split-computed big raw are)).2
+
+module _ (big : Bool) (rest : List ℕ) (e : Utf16Error) (is : IsErrorOf big rest e) (n : ℕ) (at : n ≡ valid_up_to e) where
+  pub fault_size : AreBytes rest → (len : ℕ) → error_len e ≡ Some len
+      → length (encode_utf8_all (text_of_utf16 big rest))
+      ≡ length (encode_utf8_all (text_of big (take n rest))) + 3 + length (encode_utf8_all (text_of_utf16 big (drop len (drop n rest))))
+  fault_size are len some =
+      let front = encode_utf8_all (text_of big (take n rest)) in
+      let all = whole_text big rest (drop len (drop n rest)) (front ++ encode_utf8 0xFFFD)
+      (fault_decides big rest e is n at are len some [] front (front ++ encode_utf8 0xFFFD) refl refl) in
+      let both = ap length all ∙ length-append (front ++ encode_utf8 0xFFFD) (encode_utf8_all (text_of_utf16 big (drop len (drop n rest)))) in
+      omega (arith, length-append front (encode_utf8 0xFFFD), mark_within)
+
+  pub cut_off_size : error_len e ≡ None
+      → length (encode_utf8_all (text_of_utf16 big rest)) ≡ length (encode_utf8_all (text_of big (take n rest))) + 3
+  cut_off_size none =
+      let shown = cut_off_decides big rest e is n at none [] (encode_utf8_all (text_of big (take n rest))) refl in
+      let leaves = cut_off_leaves big rest e is n at none in
+      ap (λ t. length (encode_utf8_all t)) (full-is (split_items big rest) (split_tail big rest) ∙ ap (λ t. marked (split_items big rest) ++ tail_mark t) (sym leaves)
+      ∙ ap (λ t. marked (split_items big rest) ++ t) (left (drop n rest) some_left))
+      ∙ mark_long (marked (split_items big rest)) []
+      ∙ ap (λ b. length b + 3 + 0) (sym shown)
+      ∙ omega arith where
+    some_left : drop n rest ≢ []
+    some_left none =
+        is.fault.refused (subst (IsText big) (sym (append-nil (take n rest)) ∙ ap (λ t. take n rest ++ t) (sym none) ∙ take-append-drop n rest)
+        (subst (λ k. IsText big (take k rest)) (sym at) is.front.valid))
+
+    left : (tail : List ℕ) → tail ≢ [] → tail_mark tail ≡ 0xFFFD ∷ []
+    left [] some = absurd (some refl)
+    left (first ∷ after) some = refl
+
+  pub front_size : AreBytes rest
+      → length (encode_utf8_all (text_of big (take n rest))) + 3 ≤ length (encode_utf8_all (text_of_utf16 big rest))
+  front_size are = by_len (error_len e) refl where
+    by_len : (len : Option ℕ) → error_len e ≡ len
+        → length (encode_utf8_all (text_of big (take n rest))) + 3 ≤ length (encode_utf8_all (text_of_utf16 big rest))
+    by_len None none = let size = cut_off_size none in omega arith
+    by_len (Some len) some = let size = fault_size are len some in omega arith

@@ -4,8 +4,10 @@
 
 mod marks;
 mod progress;
+mod sizes;
 mod utf8;
 
-pub use crate::marks::decode;
+pub use crate::marks::{decode, decode_whole};
 pub use crate::progress::{Progress, Stop};
+pub use crate::sizes::utf8_size;
 pub use crate::utf8::to_utf8;
