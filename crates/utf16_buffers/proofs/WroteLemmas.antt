@@ -125,3 +125,19 @@ Puts-written big rest old part at most len n within long few text is size =
       gives = (subst (IsText big) (take-take len most rest (omega arith)) text, refl);
       bytes = take-end at n old part within long room ∙ ap (λ t. take at old ++ t) is;
     }
+
+-- the same of any piece
+pub Puts-put : {Gives : List ℕ → List ℕ → Type 0} (rest old part added : List ℕ) (at len n : ℕ) → at ≤ length old
+    → length part ≡ length old - at → len ≤ length rest → Gives (take len rest) added → take n part ≡ added → n ≤ length part
+    → Puts Gives rest old (put_mid at (length old - at) old part) at len (at + n)
+Puts-put rest old part added at len n within long few gives is room =
+    let all = length-append (take at old) (part ++ drop (length old - at) (drop at old)) in
+    let both = length-append part (drop (length old - at) (drop at old)) in
+    let front = length-take-le at old within in
+    record {
+      within = few;
+      room = omega arith;
+      added = added;
+      gives = gives;
+      bytes = take-end at n old part within long room ∙ ap (λ t. take at old ++ t) is;
+    }

@@ -1,5 +1,7 @@
 -- Why a call stopped where it did. `left` is how many bytes of the buffer are left behind what was written.
-use Rattle.std.specs.Prelude.{◌≡◌, ◌≢◌, ℕ, ◌<◌, Bool, List, [], ◌∷◌, ◌++◌, None, Some, length, drop, encode_utf8_all}
+use Rattle.std.specs.Prelude.{◌≡◌, ◌≢◌, ℕ, ◌<◌, ◌≤◌, Bool, List, [], ◌∷◌, ◌++◌, Option, None, Some, length, take, drop}
+use Rattle.std.specs.Str.{IsValidUpTo, StartsWithNoChar}
+use Rattle.std.specs.Str.Lossy.{utf8_error_len}
 use Rattle.std.specs.Char.{IsScalar, encode_utf8}
 use Rattle.utf16_units.specs.Encoding.{char_bytes}
 use Rattle.utf16_units.specs.Fault.{IsFault, IsFaultAt, IsFront}
@@ -49,3 +51,33 @@ StopsMarkingWhole text into rest left Done = rest ≡ []
 StopsMarkingWhole text into rest left (Fault len) = ⊥
 StopsMarkingWhole text into rest left CutOff = ⊥
 StopsMarkingWhole text into rest left NoRoom = TextDoesNotFit into (text rest) left
+
+-- the first n bytes are one character's in UTF-8
+pub record BeginsWithUtf8 (bytes : List ℕ) (n : ℕ) : Type 0 where
+  pub char : ℕ
+  pub scalar : IsScalar char
+  pub within : n ≤ length bytes
+  pub some : 0 < n
+  pub spelled : take n bytes ≡ encode_utf8 char
+
+-- what stands where no character begins, and Rust's `error_len` of it
+abbrev pub IsUtf8FaultAt : List ℕ → Option ℕ → Type 0
+IsUtf8FaultAt rest error_len = StartsWithNoChar rest × (error_len ≡ utf8_error_len rest)
+
+-- the longest valid beginning of bytes that are not UTF-8, and Rust's `error_len` of what stands behind it
+abbrev pub IsUtf8Fault : List ℕ → ℕ → Option ℕ → Type 0
+IsUtf8Fault bytes valid_up_to error_len = IsValidUpTo bytes valid_up_to × (error_len ≡ utf8_error_len (drop valid_up_to bytes))
+
+-- of UTF-8: all was read, or the longest valid beginning was and the fault behind it is told, or the next character does not fit
+abbrev pub StopsEncoding : Bool → List ℕ → ℕ → ℕ → Stop → Type 0
+StopsEncoding big text read left Done = read ≡ length text
+StopsEncoding big text read left (Fault len) = IsUtf8Fault text read (Some len)
+StopsEncoding big text read left CutOff = IsUtf8Fault text read None
+StopsEncoding big text read left NoRoom = NextDoesNotFit encode_utf8 (char_bytes big) (drop read text) left
+
+-- the same where the rest begins
+abbrev pub StopsEncodingAt : Bool → List ℕ → ℕ → Stop → Type 0
+StopsEncodingAt big rest left Done = ⊥
+StopsEncodingAt big rest left (Fault len) = IsUtf8FaultAt rest (Some len)
+StopsEncodingAt big rest left CutOff = IsUtf8FaultAt rest None
+StopsEncodingAt big rest left NoRoom = NextDoesNotFit encode_utf8 (char_bytes big) rest left

@@ -5,9 +5,11 @@
 mod marks;
 mod progress;
 mod sizes;
+mod utf16;
 mod utf8;
 
 pub use crate::marks::{decode, decode_whole};
 pub use crate::progress::{Progress, Stop};
 pub use crate::sizes::utf8_size;
+pub use crate::utf16::from_utf8;
 pub use crate::utf8::to_utf8;
