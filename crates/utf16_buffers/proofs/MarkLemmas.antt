@@ -314,14 +314,14 @@ module _ (big : Bool) (rest : List ℕ) (e : Utf16Error) (is : IsErrorOf big res
       ∙ mark_long (marked (split_items big rest)) []
       ∙ ap (λ b. length b + 3 + 0) (sym shown)
       ∙ omega arith where
-    some_left : drop n rest ≢ []
-    some_left none =
-        is.fault.refused (subst (IsText big) (sym (append-nil (take n rest)) ∙ ap (λ t. take n rest ++ t) (sym none) ∙ take-append-drop n rest)
-        (subst (λ k. IsText big (take k rest)) (sym at) is.front.valid))
+        some_left : drop n rest ≢ []
+        some_left none =
+            is.fault.refused (subst (IsText big) (sym (append-nil (take n rest)) ∙ ap (λ t. take n rest ++ t) (sym none) ∙ take-append-drop n rest)
+            (subst (λ k. IsText big (take k rest)) (sym at) is.front.valid))
 
-    left : (tail : List ℕ) → tail ≢ [] → tail_mark tail ≡ 0xFFFD ∷ []
-    left [] some = absurd (some refl)
-    left (first ∷ after) some = refl
+        left : (tail : List ℕ) → tail ≢ [] → tail_mark tail ≡ 0xFFFD ∷ []
+        left [] some = absurd (some refl)
+        left (first ∷ after) some = refl
 
   pub front_size : AreBytes rest
       → length (encode_utf8_all (text_of big (take n rest))) + 3 ≤ length (encode_utf8_all (text_of_utf16 big rest))

@@ -40,7 +40,7 @@ pub fn decode<E: Utf16Order>(raw: &[u8], to: &mut [u8]) -> Progress
                 stop: Stop::NoRoom,
             };
         }
-        read += len;
+        read += len as usize;
         written = put(&MARK, to, written);
     }
 }

@@ -8,7 +8,7 @@ pub enum Stop {
     /// All of the input was read.
     Done,
     /// Behind what was read stands a fault of so many bytes.
-    Fault(usize),
+    Fault(u8),
     /// The input ends inside a character.
     CutOff,
     /// The next character does not fit.

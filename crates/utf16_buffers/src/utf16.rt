@@ -106,7 +106,7 @@ fn put_char<E: Utf16Order>(rest: &[u8], to: &mut [u8], at: usize) -> Result<(usi
 }
 
 // How many bytes the character at the front has, or the `error_len` of what stands there. Four bytes tell it.
-fn first_len(rest: &[u8]) -> Result<usize, Option<usize>>
+fn first_len(rest: &[u8]) -> Result<usize, Option<u8>>
     requires { 0 < length rest.now }
     ensures char { IfOk result (BeginsWithUtf8 rest.now) }
     ensures fault { IfErr result (IsUtf8FaultAt rest.now) }
@@ -117,7 +117,10 @@ fn first_len(rest: &[u8]) -> Result<usize, Option<usize>>
         Err(error) => {
             let len = error.valid_up_to();
             if len == 0 {
-                return Err(error.error_len());
+                return match error.error_len() {
+                    Some(len) => Err(Some(len as u8)),
+                    None => Err(None),
+                };
             }
             Ok(first_of(unsafe { str::from_utf8_unchecked(&window[..len]) }))
         }

@@ -95,7 +95,7 @@ fn put_char<E: Utf16Order>(rest: &[u8], to: &mut [u8], at: usize) -> Result<(usi
 {
     let len = match first_char_len::<E>(rest) {
         Ok(len) => len,
-        Err(Some(len)) => return Err(Stop::Fault(len as usize)),
+        Err(Some(len)) => return Err(Stop::Fault(len)),
         Err(None) => return Err(Stop::CutOff),
     };
     match put_text::<E>(&rest[..len], to, at) {
