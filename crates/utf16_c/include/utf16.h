@@ -3,9 +3,9 @@
  *
  * Each function takes any bytes. What it answers is proved for all bytes and lengths, and that it reads and writes nothing but
  * what it is given. Trusted, since no proof sees the caller: that a pointer with a length of n points to n bytes that may be read
- * (of a `to`: written), for the time of the call; that a `to` and a stream overlap nothing else that the call is given; and that
- * no other thread writes there meanwhile. A pointer need not be aligned, and may be null where its length is 0. Of a stream
- * neither null nor what another thread uses is good.
+ * (of a `to`: written), for the time of the call; that a `to` overlaps no other buffer of the call; and that no other thread writes
+ * there meanwhile. A pointer need not be aligned. Null with length 0 is no bytes: that was tried on the compiled library, and is
+ * not part of the proof, which knows a slice only by its bytes.
  *
  * Lengths and places count bytes. `big` is true for big endian, false for little endian. Nothing here looks for a byte order mark
  * but utf16_byte_order. */
@@ -50,14 +50,11 @@ utf16_validity utf16_validate(bool big, const uint8_t *raw, size_t len);
 /* How many characters the bytes have. Of bytes that are not UTF-16: how many whole code units but trailing surrogates. */
 size_t utf16_count(bool big, const uint8_t *raw, size_t len);
 
-/* Whether the bytes are UTF-16 and every character is ASCII, below U+0080. */
+/* Whether the bytes are whole code units that are all ASCII, below U+0080: UTF-16 whose characters are all ASCII. */
 bool utf16_is_ascii(bool big, const uint8_t *raw, size_t len);
 
 /* How many bytes of UTF-8 utf16_to_utf8_marked makes of all the bytes: of UTF-16, the size of the same text. */
 size_t utf16_to_utf8_len(bool big, const uint8_t *raw, size_t len);
-
-/* How many bytes of UTF-16 utf16_from_utf8_marked makes of all the bytes, in either order: of UTF-8, the size of the same text. */
-size_t utf16_from_utf8_len(const uint8_t *text, size_t len);
 
 /* Writes UTF-16 in UTF-8, up to the first fault: UTF16_DONE, UTF16_FAULT, UTF16_CUT_OFF or UTF16_NO_ROOM. A fault is a surrogate
  * without its partner, of 2 bytes. Room for 3 bytes for each 2 of input is always enough. */
@@ -71,30 +68,12 @@ utf16_progress utf16_to_utf8_marked(bool big, const uint8_t *raw, size_t len, ui
  * bytes. Room for 2 bytes for each byte of input is always enough. */
 utf16_progress utf16_from_utf8(bool big, const uint8_t *text, size_t len, uint8_t *to, size_t room);
 
-/* The same with U+FFFD for each fault, as the Unicode Standard recommends (one for each maximal part of a character) and as
- * String::from_utf8_lossy of Rust does it: UTF16_DONE or UTF16_NO_ROOM. Room for 2 bytes for each byte of input is enough. */
-utf16_progress utf16_from_utf8_marked(bool big, const uint8_t *text, size_t len, uint8_t *to, size_t room);
-
-/* A stream of UTF-16 that comes in pieces, cut anywhere. `big` is 0 for little endian, else big endian. `count` bytes are pending,
- * which the next ones may complete: the first ones of `pending`. A count above 3 means 3. A stream holds nothing else and may be
- * copied; one that begins is utf16_stream_start(big), or { big, 0, { 0, 0, 0 } }. */
-typedef struct utf16_stream {
-    uint8_t big;
-    uint8_t count;
-    uint8_t pending[3];
-} utf16_stream;
-
-utf16_stream utf16_stream_start(bool big);
-
-/* Writes what the pending bytes and then the piece decide, in UTF-8: the characters, and U+FFFD for each surrogate without its
- * partner. UTF16_DONE: all of the piece was read, and what more bytes could change is pending. UTF16_NO_ROOM: the next character
- * does not fit; call again with what is left of the piece behind `read`. With room for 4 bytes or more every call that has
- * something to write writes something. However a stream is cut, and whatever the room, the same bytes are written in all. */
-utf16_progress utf16_stream_feed(utf16_stream *stream, const uint8_t *piece, size_t len, uint8_t *to, size_t room);
-
-/* Ends a stream: writes U+FFFD, 3 bytes, where bytes are pending, and then none are. UTF16_NO_ROOM where these 3 do not fit; then
- * nothing is written, and the same bytes are pending. `read` is 0. */
-utf16_progress utf16_stream_finish(utf16_stream *stream, uint8_t *to, size_t room);
+/* A stream of UTF-16 that comes in pieces, cut anywhere: the same as utf16_to_utf8_marked, but a character that is cut off at the
+ * end is not read: UTF16_DONE, UTF16_CUT_OFF or UTF16_NO_ROOM. With UTF16_CUT_OFF at most 3 bytes are left behind `read`: put them
+ * before the next piece; at the end of the stream they are U+FFFD, which utf16_to_utf8_marked writes. With UTF16_NO_ROOM call again
+ * with what is left behind `read`. With room for 4 bytes or more, a call that answers UTF16_NO_ROOM has written something. However
+ * a stream is cut, and whatever the room, the same bytes are written in all. */
+utf16_progress utf16_to_utf8_stream(bool big, const uint8_t *raw, size_t len, uint8_t *to, size_t room);
 
 /* The byte order at the beginning of a stream. */
 #define UTF16_LITTLE UINT32_C(0)

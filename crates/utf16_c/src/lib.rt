@@ -13,12 +13,12 @@ ghost use Rattle.std.specs.Char.Utf16.{is_low_surrogate};
 ghost use Rattle.utf16_units.specs.Encoding.{IsText, text_of, units_of};
 ghost use Rattle.utf16_units.specs.Fault.{IsFront};
 ghost use Rattle.utf16_buffers.specs.Shown.{ShowsWhole, text_of_utf16};
-ghost use Rattle.utf16_buffers.specs.Stops.{StopsDecoding, StopsEncoding, StopsMarkingWhole};
-ghost use Rattle.utf16_buffers.specs.Wrote.{IsUtf16Of, IsUtf8Of, Wrote};
+ghost use Rattle.utf16_buffers.specs.Stops.{StopsDecoding, StopsEncoding, StopsMarking, StopsMarkingWhole};
+ghost use Rattle.utf16_buffers.specs.Wrote.{DecodesTo, IsUtf16Of, IsUtf8Of, Wrote};
 ghost use Rattle.utf16_c.specs.Answers.{IsValidity, stop_of};
 
 use crate::answers::{Answer, Order, Validity, answer_of, validity_of};
-use utf16_buffers::{count, decode_whole, from_utf8, is_ascii, to_utf8, utf8_size};
+use utf16_buffers::{count, decode, decode_whole, from_utf8, is_ascii, to_utf8, utf8_size};
 use utf16_units::{BE, LE, validate_raw_utf16};
 
 /// The longest well-formed beginning of the bytes, and the fault behind it. One pass, up to the first fault.
@@ -98,6 +98,19 @@ pub extern "C" fn utf16_to_utf8_marked(big: bool, raw: &[u8], to: &mut [u8]) -> 
         decode_whole::<BE>(raw, to)
     } else {
         decode_whole::<LE>(raw, to)
+    })
+}
+
+/// The same of a stream's next bytes: a character that is cut off at the end is not read, and more bytes may complete it.
+#[unsafe(no_mangle)]
+pub extern "C" fn utf16_to_utf8_stream(big: bool, raw: &[u8], to: &mut [u8]) -> Answer
+    ensures decodes { DecodesTo big raw.now to.new result.read result.written }
+    ensures stop { StopsMarking big (drop result.read raw.now) (length to.new - result.written) (stop_of result.status result.fault_len) }
+{
+    answer_of(if big {
+        decode::<BE>(raw, to)
+    } else {
+        decode::<LE>(raw, to)
     })
 }
 

@@ -3,7 +3,7 @@
 use crate::answers::Answer;
 use crate::{
     utf16_byte_order, utf16_count, utf16_from_utf8, utf16_is_ascii, utf16_to_utf8,
-    utf16_to_utf8_len, utf16_to_utf8_marked, utf16_validate,
+    utf16_to_utf8_len, utf16_to_utf8_marked, utf16_to_utf8_stream, utf16_validate,
 };
 use std::process::Abort;
 
@@ -130,6 +130,50 @@ fn small_buffers(rt: HostRuntime) {
             2,
             3,
             3,
+            0
+        )
+    );
+}
+
+// A stream cut inside a pair: what is not read is put before the next piece.
+#[test]
+fn pieces(rt: HostRuntime) {
+    let mut buf = [7; 8];
+    assert!(rt;
+        is(
+            utf16_to_utf8_stream(false, &LITTLE[..7], &mut buf),
+            4,
+            4,
+            2,
+            0
+        )
+    );
+    assert!(rt;
+        is(
+            utf16_to_utf8_stream(false, &LITTLE[4..], &mut buf),
+            4,
+            4,
+            0,
+            0
+        )
+    );
+    assert!(rt; buf.starts_with("\u{1F600}".as_bytes()));
+    let lone = [0x3D, 0xD8, 0x41, 0x00];
+    assert!(rt;
+        is(
+            utf16_to_utf8_stream(false, &lone, &mut buf[..3]),
+            2,
+            3,
+            3,
+            0
+        )
+    );
+    assert!(rt;
+        is(
+            utf16_to_utf8_stream(false, &lone[2..], &mut buf[..3]),
+            2,
+            1,
+            0,
             0
         )
     );
