@@ -1,9 +1,13 @@
-//! How many bytes the whole text of any bytes takes, with U+FFFD for each fault.
+//! How many bytes a text takes in the other encoding.
 
-ghost use Rattle.std.specs.Prelude.{◌≡◌, encode_utf8_all, length};
+ghost use Rattle.std.specs.Prelude.{◌≡◌, encode_utf8_all, length, take};
+ghost use Rattle.std.specs.Str.{chars};
+ghost use Rattle.std.specs.Str.Lossy.{utf8_valid_len};
+ghost use Rattle.utf16_units.specs.Encoding.{size};
 ghost use Rattle.utf16_buffers.specs.Shown.{text_of_utf16};
 
 use crate::marks::MARK;
+use utf16_from_utf8::utf16_len;
 use utf16_to_utf8::utf8_len;
 use utf16_units::{Utf16Order, validate_raw_utf16};
 
@@ -23,6 +27,19 @@ pub fn utf8_size<E: Utf16Order>(raw: &[u8]) -> usize
         match error.error_len() {
             Some(len) => rest = &behind[len..],
             None => return size,
+        }
+    }
+}
+
+/// How many bytes of UTF-16 the longest valid beginning of UTF-8 takes, in either order: all of the bytes, where they are UTF-8.
+/// Any bytes are allowed. Two passes.
+pub fn utf16_size(text: &[u8]) -> usize
+    ensures { result ≡ size (chars (take (utf8_valid_len text.now) text.now)) }
+{
+    match str::from_utf8(text) {
+        Ok(text) => utf16_len(text),
+        Err(error) => {
+            utf16_len(unsafe { str::from_utf8_unchecked(&text[..error.valid_up_to()]) })
         }
     }
 }

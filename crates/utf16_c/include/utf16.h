@@ -56,6 +56,10 @@ bool utf16_is_ascii(bool big, const uint8_t *raw, size_t len);
 /* How many bytes of UTF-8 utf16_to_utf8_marked makes of all the bytes: of UTF-16, the size of the same text. */
 size_t utf16_to_utf8_len(bool big, const uint8_t *raw, size_t len);
 
+/* How many bytes of UTF-16 utf16_from_utf8 makes with room for all, in either order: of UTF-8, the size of the same text; of other
+ * bytes, that of what stands before the first fault. */
+size_t utf16_from_utf8_len(const uint8_t *text, size_t len);
+
 /* Writes UTF-16 in UTF-8, up to the first fault: UTF16_DONE, UTF16_FAULT, UTF16_CUT_OFF or UTF16_NO_ROOM. A fault is a surrogate
  * without its partner, of 2 bytes. Room for 3 bytes for each 2 of input is always enough. */
 utf16_progress utf16_to_utf8(bool big, const uint8_t *raw, size_t len, uint8_t *to, size_t room);

@@ -10,7 +10,9 @@ mod tests;
 ghost use Rattle.std.specs.Prelude.{◌≡◌, ◌↔◌, ◌⊎◌, ◌<◌, ◌-◌, ◌/◌, ◌%◌, [], ◌∷◌, All, IsTrue, count_by, drop, encode_utf8_all, length, take};
 ghost use Rattle.std.specs.Char.{encode_utf8};
 ghost use Rattle.std.specs.Char.Utf16.{is_low_surrogate};
-ghost use Rattle.utf16_units.specs.Encoding.{IsText, text_of, units_of};
+ghost use Rattle.std.specs.Str.{chars};
+ghost use Rattle.std.specs.Str.Lossy.{utf8_valid_len};
+ghost use Rattle.utf16_units.specs.Encoding.{IsText, size, text_of, units_of};
 ghost use Rattle.utf16_units.specs.Fault.{IsFront};
 ghost use Rattle.utf16_buffers.specs.Shown.{ShowsWhole, text_of_utf16};
 ghost use Rattle.utf16_buffers.specs.Stops.{StopsDecoding, StopsEncoding, StopsMarking, StopsMarkingWhole};
@@ -18,7 +20,9 @@ ghost use Rattle.utf16_buffers.specs.Wrote.{DecodesTo, IsUtf16Of, IsUtf8Of, Wrot
 ghost use Rattle.utf16_c.specs.Answers.{IsValidity, stop_of};
 
 use crate::answers::{Answer, Order, Validity, answer_of, validity_of};
-use utf16_buffers::{count, decode, decode_whole, from_utf8, is_ascii, to_utf8, utf8_size};
+use utf16_buffers::{
+    count, decode, decode_whole, from_utf8, is_ascii, to_utf8, utf8_size, utf16_size,
+};
 use utf16_units::{BE, LE, validate_raw_utf16};
 
 /// The longest well-formed beginning of the bytes, and the fault behind it. One pass, up to the first fault.
@@ -125,6 +129,14 @@ pub extern "C" fn utf16_from_utf8(big: bool, text: &[u8], to: &mut [u8]) -> Answ
     } else {
         from_utf8::<LE>(text, to)
     })
+}
+
+/// How many bytes of UTF-16 the longest valid beginning of UTF-8 takes, in either order. Two passes.
+#[unsafe(no_mangle)]
+pub extern "C" fn utf16_from_utf8_len(text: &[u8]) -> usize
+    ensures { result ≡ size (chars (take (utf8_valid_len text.now) text.now)) }
+{
+    utf16_size(text)
 }
 
 /// The byte order at the beginning of a stream: by its mark, and big endian without one; undecided where fewer than two bytes have

@@ -2,8 +2,8 @@
 
 use crate::answers::Answer;
 use crate::{
-    utf16_byte_order, utf16_count, utf16_from_utf8, utf16_is_ascii, utf16_to_utf8,
-    utf16_to_utf8_len, utf16_to_utf8_marked, utf16_to_utf8_stream, utf16_validate,
+    utf16_byte_order, utf16_count, utf16_from_utf8, utf16_from_utf8_len, utf16_is_ascii,
+    utf16_to_utf8, utf16_to_utf8_len, utf16_to_utf8_marked, utf16_to_utf8_stream, utf16_validate,
 };
 use std::process::Abort;
 
@@ -22,6 +22,7 @@ fn is_known(rt: &impl Abort, big: bool, utf16: &[u8], utf8: &str, count: usize) 
     assert!(rt; utf16_count(big, utf16) == count);
     assert!(rt; utf16_is_ascii(big, utf16) == (count < 2));
     assert!(rt; utf16_to_utf8_len(big, utf16) == utf8.len());
+    assert!(rt; utf16_from_utf8_len(utf8.as_bytes()) == utf16.len());
     let mut room = [7; 9];
     assert!(rt;
         is(
