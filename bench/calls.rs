@@ -14,13 +14,29 @@ const CLASSES: [&str; 4] = ["ascii", "latin_cyrillic", "cjk", "emoji"];
 // The last argument is a buffer, to which a text that the call makes is written where it has room.
 type Call = fn(bool, &[u8], &mut [u8]) -> usize;
 
+// The answers of `utf16.h`.
+#[repr(C)]
+struct Progress {
+    read: usize,
+    written: usize,
+    status: u32,
+    fault_len: u32,
+}
+
+#[repr(C)]
+struct Validity {
+    valid_up_to: usize,
+    status: u32,
+    fault_len: u32,
+}
+
 unsafe extern "C" {
-    fn utf16_valid_up_to(big: bool, raw: *const u8, len: usize) -> usize;
-    fn loop_valid_up_to(big: bool, raw: *const u8, len: usize) -> usize;
+    fn utf16_validate(big: bool, raw: *const u8, len: usize) -> Validity;
+    fn loop_validate(big: bool, raw: *const u8, len: usize) -> Validity;
     fn utf16_count(big: bool, raw: *const u8, len: usize) -> usize;
     fn utf16_is_ascii(big: bool, raw: *const u8, len: usize) -> bool;
-    fn utf16_to_utf8(big: bool, raw: *const u8, len: usize, to: *mut u8, room: usize) -> usize;
-    fn utf16_from_utf8(big: bool, text: *const u8, len: usize, to: *mut u8, room: usize) -> usize;
+    fn utf16_to_utf8(big: bool, raw: *const u8, len: usize, to: *mut u8, room: usize) -> Progress;
+    fn utf16_from_utf8(big: bool, text: *const u8, len: usize, to: *mut u8, room: usize) -> Progress;
     fn icu_valid_up_to(units: *const u16, len: usize) -> usize;
     fn icu_count(units: *const u16, len: usize) -> usize;
     fn icu_to_utf8(units: *const u16, len: usize, to: *mut u8, room: usize) -> usize;
@@ -96,8 +112,20 @@ fn str_of(text: &[u8]) -> &str {
     unsafe { std::str::from_utf8_unchecked(text) }
 }
 
+// As long as the answer says: done or at a fault of two bytes, or the bytes end inside a character.
+fn valid_up_to(answer: Validity) -> usize {
+    assert_eq!(answer.fault_len, if answer.status == 1 { 2 } else { 0 });
+    answer.valid_up_to
+}
+
+// All of the input was read, and none of it is at fault.
+fn done(answer: Progress, len: usize) -> usize {
+    assert_eq!((answer.read, answer.status, answer.fault_len), (len, 0, 0));
+    answer.written
+}
+
 fn here_valid_up_to(big: bool, raw: &[u8]) -> usize {
-    unsafe { utf16_valid_up_to(big, raw.as_ptr(), raw.len()) }
+    valid_up_to(unsafe { utf16_validate(big, raw.as_ptr(), raw.len()) })
 }
 
 fn icu_units(units: &[u16]) -> usize {
@@ -107,7 +135,7 @@ fn icu_units(units: &[u16]) -> usize {
 // `unit loop` is the library's own loop over units, which stands behind the blocks; `plain loop` has the Rust crate's shape.
 const VALIDATE: [(&str, Call); 5] = [
     ("here", |big, raw, _| here_valid_up_to(big, raw)),
-    ("unit loop", |big, raw, _| unsafe { loop_valid_up_to(big, raw.as_ptr(), raw.len()) }),
+    ("unit loop", |big, raw, _| valid_up_to(unsafe { loop_validate(big, raw.as_ptr(), raw.len()) })),
     ("plain loop", |big, raw, _| plain!(valid_up_to, big, raw)),
     ("encoding_rs mem", |big, raw, _| 2 * units(big, raw, mem::utf16_valid_up_to)),
     ("ICU", |big, raw, _| 2 * units(big, raw, icu_units)),
@@ -150,7 +178,10 @@ const IS_ASCII: [(&str, Call); 3] = [
 
 // Of `encoding_rs` the decoder of bytes, and the call on units in the order of the machine.
 const TO_UTF8: [(&str, Call); 6] = [
-    ("here", |big, raw, to| unsafe { utf16_to_utf8(big, raw.as_ptr(), raw.len(), to.as_mut_ptr(), to.len()) }),
+    ("here", |big, raw, to| {
+        let write = |at, room| done(unsafe { utf16_to_utf8(big, raw.as_ptr(), raw.len(), at, room) }, raw.len());
+        keep(&made(raw.len() / 2 * 3, write), to)
+    }),
     ("plain loop", |big, raw, to| keep(plain!(to_utf8, big, raw).as_bytes(), to)),
     ("encoding_rs", |big, raw, to| keep(if big { UTF_16BE } else { UTF_16LE }.decode_without_bom_handling(raw).0.as_bytes(), to)),
     ("encoding_rs mem", |big, raw, to| {
@@ -162,7 +193,10 @@ const TO_UTF8: [(&str, Call); 6] = [
 ];
 
 const FROM_STR: [(&str, Call); 5] = [
-    ("here", |big, text, to| unsafe { utf16_from_utf8(big, text.as_ptr(), text.len(), to.as_mut_ptr(), to.len()) }),
+    ("here", |big, text, to| {
+        let write = |at, room| done(unsafe { utf16_from_utf8(big, text.as_ptr(), text.len(), at, room) }, text.len());
+        keep(&made(2 * text.len(), write), to)
+    }),
     ("plain loop", |big, text, to| keep(&plain!(from_str, big, str_of(text)), to)),
     ("encoding_rs mem", |big, text, to| {
         let room = |at, room| unsafe { std::slice::from_raw_parts_mut(at, room) };

@@ -28,7 +28,7 @@ rm -rf out/loop && mkdir out/loop && cp -r ../HANDLES ../crates.txt ../crates ou
 sed -i 's/if raw.len() < 32 {/if raw.len() < usize::MAX {/' out/loop/crates/utf16_units/src/validate.rt
 ! cmp -s ../crates/utf16_units/src/validate.rt out/loop/crates/utf16_units/src/validate.rt
 (cd out/loop/crates/utf16_c && rt lib > ../../../rt.log 2>&1) || { cat out/rt.log >&2; exit 1; }
-objcopy --redefine-sym utf16_valid_up_to=loop_valid_up_to --keep-global-symbol=loop_valid_up_to \
+objcopy --redefine-sym utf16_validate=loop_validate --keep-global-symbol=loop_validate \
     out/loop/crates/utf16_c/out/libutf16_c.a out/libutf16_loop.a
 (cd ../crates/utf16_cat && rt run -- le < /dev/null > ../../bench/out/rt.log 2>&1) || { cat out/rt.log >&2; exit 1; }
 

@@ -1,114 +1,172 @@
-//! UTF-16 for callers in C, and in any language that can call C. A slice is a pointer and a length in bytes there; `big` says
-//! whether the bytes are in big endian. Nothing tests what a function requires: it is the caller's to know.
+//! UTF-16 for callers in C, and in any language that can call C: `include/utf16.h` says it to them. Each call is one of the
+//! library's, by the byte order. A slice is a pointer and a length in bytes there. No call asks for memory, and none requires
+//! anything of the bytes.
 #![tactic(auto)]
 
+mod answers;
 #[cfg(test)]
 mod tests;
 
-ghost use Rattle.std.specs.Prelude.{◌≡◌, ◌⊎◌, ◌↔◌, ◌<◌, ◌≤◌, ◌-◌, ◌^◌, ◌++◌, All, IsTrue, drop, encode_utf8_all, length};
-ghost use Rattle.std.specs.Str.{IsUtf8, chars};
-ghost use Rattle.utf16string.specs.Encoding.{IsText, encode, text_of};
-ghost use Rattle.utf16string.specs.Fault.{IsFront};
+ghost use Rattle.std.specs.Prelude.{◌≡◌, ◌↔◌, ◌⊎◌, ◌<◌, ◌-◌, ◌/◌, ◌%◌, [], ◌∷◌, All, IsTrue, count_by, drop, encode_utf8_all, length, take};
+ghost use Rattle.std.specs.Char.{encode_utf8};
+ghost use Rattle.std.specs.Char.Utf16.{is_low_surrogate};
+ghost use Rattle.std.specs.Str.{chars};
+ghost use Rattle.std.specs.Str.Lossy.{utf8_valid_len};
+ghost use Rattle.utf16_units.specs.Encoding.{IsText, size, text_of, units_of};
+ghost use Rattle.utf16_units.specs.Fault.{IsFront};
+ghost use Rattle.utf16_buffers.specs.Shown.{ShowsWhole, text_of_utf16};
+ghost use Rattle.utf16_buffers.specs.Stops.{StopsDecoding, StopsEncoding, StopsMarking, StopsMarkingWhole};
+ghost use Rattle.utf16_buffers.specs.Wrote.{DecodesTo, IsUtf16Of, IsUtf8Of, Wrote};
+ghost use Rattle.utf16_c.specs.Answers.{IsValidity, stop_of};
 
-use std::alloc::Global;
-use utf16_units::validate_raw_utf16;
-use utf16string::{BE, LE, WStr, WString};
+use crate::answers::{Answer, Order, Validity, answer_of, validity_of};
+use utf16_buffers::{
+    count, decode, decode_whole, from_utf8, is_ascii, to_utf8, utf8_size, utf16_size,
+};
+use utf16_units::{BE, LE, validate_raw_utf16};
 
-/// The length in bytes of the longest beginning that is well formed: the whole length where the bytes are UTF-16, and nowhere
-/// else. One pass, up to the first fault.
+/// The longest well-formed beginning of the bytes, and the fault behind it. One pass, up to the first fault.
 #[unsafe(no_mangle)]
-pub extern "C" fn utf16_valid_up_to(big: bool, raw: &[u8]) -> usize
-    ensures { IsFront big raw.now result }
+pub extern "C" fn utf16_validate(big: bool, raw: &[u8]) -> Validity
+    ensures { IsValidity big raw.now result.valid_up_to (stop_of result.status result.fault_len) }
 {
-    let tested = if big {
-        validate_raw_utf16::<BE>(raw)
-    } else {
-        validate_raw_utf16::<LE>(raw)
-    };
-    match tested {
-        Ok(()) => raw.len(),
-        Err(error) => error.valid_up_to(),
-    }
+    validity_of(
+        raw.len(),
+        if big {
+            validate_raw_utf16::<BE>(raw)
+        } else {
+            validate_raw_utf16::<LE>(raw)
+        },
+    )
 }
 
-/// How many characters the bytes encode. The bytes are UTF-16: `utf16_valid_up_to` tests it. One pass.
+/// How many characters well-formed bytes encode; of other bytes, how many whole code units are no trailing surrogates. One pass.
 #[unsafe(no_mangle)]
 pub extern "C" fn utf16_count(big: bool, raw: &[u8]) -> usize
-    requires { IsText big raw.now }
-    ensures { result ≡ length (text_of big raw.now) }
+    ensures units { result ≡ length raw.now / 2 - count_by is_low_surrogate (units_of big raw.now) }
+    ensures text { IsText big raw.now → result ≡ length (text_of big raw.now) }
 {
     if big {
-        WStr::<BE>::from_utf16_unchecked(raw).chars().count()
+        count::<BE>(raw)
     } else {
-        WStr::<LE>::from_utf16_unchecked(raw).chars().count()
+        count::<LE>(raw)
     }
 }
 
-/// Whether every character is ASCII, below U+0080. The bytes are UTF-16: `utf16_valid_up_to` tests it. One pass, up to the
-/// first character that is not ASCII.
+/// Whether the bytes are whole code units that are all ASCII: UTF-16, each character below U+0080. One pass, up to the first
+/// block that has another unit.
 #[unsafe(no_mangle)]
 pub extern "C" fn utf16_is_ascii(big: bool, raw: &[u8]) -> bool
-    requires { IsText big raw.now }
-    ensures { IsTrue result ↔ All (λ c. c < 0x80) (text_of big raw.now) }
+    ensures units { IsTrue result ↔ ((length raw.now % 2 ≡ 0) × All (λ unit. unit < 0x80) (units_of big raw.now)) }
+    ensures text { IsText big raw.now → (IsTrue result ↔ All (λ c. c < 0x80) (text_of big raw.now)) }
 {
     if big {
-        WStr::<BE>::from_utf16_unchecked(raw).is_ascii()
+        is_ascii::<BE>(raw)
     } else {
-        WStr::<LE>::from_utf16_unchecked(raw).is_ascii()
+        is_ascii::<LE>(raw)
     }
 }
 
-/// Makes the UTF-8 of the same characters and answers its length in bytes. Where `to` has room for all of it, it is written to
-/// the front of `to`; else `to` stays as it was, so that a `to` of length 0 asks for the length alone. Where memory is refused,
-/// it answers `SIZE_MAX`. The bytes are UTF-16: `utf16_valid_up_to` tests it.
+/// How many bytes of UTF-8 `utf16_to_utf8_marked` makes of all the bytes. Two passes.
 #[unsafe(no_mangle)]
-pub extern "C" fn utf16_to_utf8(alloc: Global, big: bool, raw: &[u8], to: &mut [u8]) -> usize
-    requires { IsText big raw.now }
-    ensures len { (result ≡ length (encode_utf8_all (text_of big raw.now))) ⊎ (result ≡ 2 ^ 64 - 1) }
-    ensures written { result ≤ length to.old → to.new ≡ encode_utf8_all (text_of big raw.now) ++ drop result to.old }
-    ensures kept { length to.old < result → to.new ≡ to.old }
+pub extern "C" fn utf16_to_utf8_len(big: bool, raw: &[u8]) -> usize
+    ensures { result ≡ length (encode_utf8_all (text_of_utf16 big raw.now)) }
 {
-    let utf8 = if big {
-        WStr::<BE>::from_utf16_unchecked(raw).to_utf8(alloc)
+    if big {
+        utf8_size::<BE>(raw)
     } else {
-        WStr::<LE>::from_utf16_unchecked(raw).to_utf8(alloc)
-    };
-    match utf8 {
-        Ok(utf8) => write_front(utf8.as_bytes(), to),
-        Err(_) => usize::MAX,
+        utf8_size::<LE>(raw)
     }
 }
 
-/// Makes the UTF-16 of a text in UTF-8 and answers its length in bytes. Where `to` has room for all of it, it is written to the
-/// front of `to`; else `to` stays as it was, so that a `to` of length 0 asks for the length alone. Where memory is refused, it
-/// answers `SIZE_MAX`. The text is UTF-8.
+/// Writes UTF-16 in UTF-8, up to the first fault or as far as whole characters fit. One pass over what is read.
 #[unsafe(no_mangle)]
-pub extern "C" fn utf16_from_utf8(alloc: Global, big: bool, text: &[u8], to: &mut [u8]) -> usize
-    requires { IsUtf8 text.now }
-    ensures len { (result ≡ length (encode big (chars text.now))) ⊎ (result ≡ 2 ^ 64 - 1) }
-    ensures written { result ≤ length to.old → to.new ≡ encode big (chars text.now) ++ drop result to.old }
-    ensures kept { length to.old < result → to.new ≡ to.old }
+pub extern "C" fn utf16_to_utf8(big: bool, raw: &[u8], to: &mut [u8]) -> Answer
+    ensures wrote { Wrote (IsUtf8Of big) raw.now to.new result.read result.written }
+    ensures stop { StopsDecoding big raw.now result.read (length to.new - result.written) (stop_of result.status result.fault_len) }
 {
-    let text = unsafe { str::from_utf8_unchecked(text) };
-    let utf16 = if big {
-        WString::<BE>::from_str(alloc, text).map(WString::into_bytes)
+    answer_of(if big {
+        to_utf8::<BE>(raw, to)
     } else {
-        WString::<LE>::from_str(alloc, text).map(WString::into_bytes)
-    };
-    match utf16 {
-        Ok(utf16) => write_front(&utf16, to),
-        Err(_) => usize::MAX,
-    }
+        to_utf8::<LE>(raw, to)
+    })
 }
 
-// Writes bytes to the front of a buffer that has room for all of them, and answers how many they are.
-fn write_front(bytes: &[u8], to: &mut [u8]) -> usize
-    ensures len { result ≡ length bytes.now }
-    ensures written { length bytes.now ≤ length to.old → to.new ≡ bytes.now ++ drop (length bytes.now) to.old }
-    ensures kept { length to.old < length bytes.now → to.new ≡ to.old }
+/// The same with U+FFFD for each surrogate without its partner, and one for a character that is cut off at the end.
+#[unsafe(no_mangle)]
+pub extern "C" fn utf16_to_utf8_marked(big: bool, raw: &[u8], to: &mut [u8]) -> Answer
+    ensures shown { ShowsWhole (text_of_utf16 big) encode_utf8 raw.now to.new result.read result.written }
+    ensures stop { StopsMarkingWhole (text_of_utf16 big) encode_utf8 (drop result.read raw.now) (length to.new - result.written) (stop_of result.status result.fault_len) }
 {
-    if bytes.len() <= to.len() {
-        to[..bytes.len()].copy_from_slice(bytes);
+    answer_of(if big {
+        decode_whole::<BE>(raw, to)
+    } else {
+        decode_whole::<LE>(raw, to)
+    })
+}
+
+/// The same of a stream's next bytes: a character that is cut off at the end is not read, and more bytes may complete it.
+#[unsafe(no_mangle)]
+pub extern "C" fn utf16_to_utf8_stream(big: bool, raw: &[u8], to: &mut [u8]) -> Answer
+    ensures decodes { DecodesTo big raw.now to.new result.read result.written }
+    ensures stop { StopsMarking big (drop result.read raw.now) (length to.new - result.written) (stop_of result.status result.fault_len) }
+{
+    answer_of(if big {
+        decode::<BE>(raw, to)
+    } else {
+        decode::<LE>(raw, to)
+    })
+}
+
+/// Writes UTF-8 in UTF-16, up to the first fault or as far as whole characters fit. One pass over what is read.
+#[unsafe(no_mangle)]
+pub extern "C" fn utf16_from_utf8(big: bool, text: &[u8], to: &mut [u8]) -> Answer
+    ensures wrote { Wrote (IsUtf16Of big) text.now to.new result.read result.written }
+    ensures stop { StopsEncoding big text.now result.read (length to.new - result.written) (stop_of result.status result.fault_len) }
+{
+    answer_of(if big {
+        from_utf8::<BE>(text, to)
+    } else {
+        from_utf8::<LE>(text, to)
+    })
+}
+
+/// How many bytes of UTF-16 the longest valid beginning of UTF-8 takes, in either order. Two passes.
+#[unsafe(no_mangle)]
+pub extern "C" fn utf16_from_utf8_len(text: &[u8]) -> usize
+    ensures { result ≡ size (chars (take (utf8_valid_len text.now) text.now)) }
+{
+    utf16_size(text)
+}
+
+/// The byte order at the beginning of a stream: by its mark, and big endian without one; undecided where fewer than two bytes have
+/// come.
+#[unsafe(no_mangle)]
+pub extern "C" fn utf16_byte_order(raw: &[u8]) -> Order
+    ensures undecided { (result.order ≡ 2) ↔ (length raw.now < 2) }
+    ensures little { (result.order ≡ 0) ↔ (take 2 raw.now ≡ 0xFF ∷ 0xFE ∷ []) }
+    ensures big { result.order < 3 }
+    ensures marked { (result.mark_len ≡ 2) ↔ ((take 2 raw.now ≡ 0xFF ∷ 0xFE ∷ []) ⊎ (take 2 raw.now ≡ 0xFE ∷ 0xFF ∷ [])) }
+    ensures unmarked { (result.mark_len ≡ 2) ⊎ (result.mark_len ≡ 0) }
+{
+    if raw.len() < 2 {
+        return Order {
+            mark_len: 0,
+            order: 2,
+        };
     }
-    bytes.len()
+    match (raw[0], raw[1]) {
+        (0xFF, 0xFE) => Order {
+            mark_len: 2,
+            order: 0,
+        },
+        (0xFE, 0xFF) => Order {
+            mark_len: 2,
+            order: 1,
+        },
+        _ => Order {
+            mark_len: 0,
+            order: 1,
+        },
+    }
 }

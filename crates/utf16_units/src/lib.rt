@@ -18,4 +18,4 @@ pub use crate::char::Utf16CharExt;
 pub use crate::error::Utf16Error;
 pub use crate::order::{BE, BigEndian, LE, LittleEndian, Utf16Order};
 pub use crate::unit::{decode_surrogates, is_leading_surrogate, is_trailing_surrogate};
-pub use crate::validate::validate_raw_utf16;
+pub use crate::validate::{first_char_len, validate_raw_utf16};

@@ -38,8 +38,8 @@ fn count_few<E: Utf16Order>(raw: &[u8]) -> usize
     count
 }
 
-// How many units are trailing surrogates.
-fn trailing_units<E: Utf16Order>(raw: &[u8]) -> usize
+/// How many units are trailing surrogates, of any bytes. A last odd byte is in no unit. One pass.
+pub fn trailing_units<E: Utf16Order>(raw: &[u8]) -> usize
     ensures { result ≡ count_by is_low_surrogate (units_of E.BIG raw.now) }
 {
     let mut at = 0;
@@ -65,8 +65,9 @@ pub fn is_ascii<E: Utf16Order>(raw: &[u8]) -> bool
     has_ascii_units::<E>(raw)
 }
 
-// Whether each unit is ASCII.
-fn has_ascii_units<E: Utf16Order>(raw: &[u8]) -> bool
+/// Whether each unit is ASCII, of any bytes. A last odd byte is in no unit. One pass, up to the first block that has another
+/// unit.
+pub fn has_ascii_units<E: Utf16Order>(raw: &[u8]) -> bool
     ensures { IsTrue result ↔ All (λ unit. unit < 0x80) (units_of E.BIG raw.now) }
 {
     let mut at = 0;

@@ -92,9 +92,10 @@ pub(crate) fn validate_units<E: Utf16Order>(raw: &[u8], from: usize) -> Result<(
     Ok(())
 }
 
-// How many bytes the character at the front takes, or the `error_len` of what stands there.
+/// How many bytes the character at the front takes, 2 or 4, or the `error_len` of what stands there. The caller proves that
+/// there is a byte.
 #[inline]
-fn first_char_len<E: Utf16Order>(rest: &[u8]) -> Result<usize, Option<u8>>
+pub fn first_char_len<E: Utf16Order>(rest: &[u8]) -> Result<usize, Option<u8>>
     requires { 0 < length rest.now }
     ensures char { IfOk result (BeginsWithChar E.BIG rest.now) }
     ensures some { IfOk result (λ n. 0 < n) }

@@ -1,0 +1,3 @@
+pub mod WroteLemmas
+pub mod MarkLemmas
+pub mod EncodeLemmas

@@ -1,0 +1,71 @@
+//! UTF-16 in UTF-8 with U+FFFD for each fault.
+
+ghost use Rattle.std.specs.Prelude.{◌-◌, length, drop};
+ghost use Rattle.std.specs.Char.{encode_utf8};
+ghost use Rattle.utf16_buffers.specs.Shown.{ShowsWhole, text_of_utf16};
+ghost use Rattle.utf16_buffers.specs.Stops.{StopsMarking, StopsMarkingWhole};
+ghost use Rattle.utf16_buffers.specs.Wrote.{DecodesTo};
+
+use crate::progress::{Progress, Stop, put};
+use crate::utf8::to_utf8;
+use utf16_units::Utf16Order;
+
+// U+FFFD in UTF-8.
+pub(crate) const MARK: [u8; 3] = [0xEF, 0xBF, 0xBD];
+
+/// Writes in UTF-8 what the bytes decide to the front of a buffer, as far as whole characters fit: the characters, and U+FFFD
+/// for each surrogate without its partner. What more bytes could change is not read. Any bytes are allowed. What stands behind
+/// the written bytes may have been written over. One pass over what is read.
+pub fn decode<E: Utf16Order>(raw: &[u8], to: &mut [u8]) -> Progress
+    ensures decodes { DecodesTo E.BIG raw.now to.new result.read result.written }
+    ensures stop { StopsMarking E.BIG (drop result.read raw.now) (length to.new - result.written) result.stop }
+{
+    let mut read = 0;
+    let mut written = 0;
+    loop {
+        let front = to_utf8::<E>(&raw[read..], &mut to[written..]);
+        read += front.read;
+        written += front.written;
+        let Stop::Fault(len) = front.stop else {
+            return Progress {
+                read,
+                written,
+                stop: front.stop,
+            };
+        };
+        if to.len() - written < MARK.len() {
+            return Progress {
+                read,
+                written,
+                stop: Stop::NoRoom,
+            };
+        }
+        read += len as usize;
+        written = put(&MARK, to, written);
+    }
+}
+
+/// Writes UTF-16 in UTF-8 to the front of a buffer, as far as whole characters fit, with U+FFFD for each surrogate without its
+/// partner and one for a character that is cut off at the end. Any bytes are allowed. What stands behind the written bytes may
+/// have been written over. One pass over what is read.
+pub fn decode_whole<E: Utf16Order>(raw: &[u8], to: &mut [u8]) -> Progress
+    ensures shown { ShowsWhole (text_of_utf16 E.BIG) encode_utf8 raw.now to.new result.read result.written }
+    ensures stop { StopsMarkingWhole (text_of_utf16 E.BIG) encode_utf8 (drop result.read raw.now) (length to.new - result.written) result.stop }
+{
+    let front = decode::<E>(raw, to);
+    let Stop::CutOff = front.stop else {
+        return front;
+    };
+    if to.len() - front.written < MARK.len() {
+        return Progress {
+            read: front.read,
+            written: front.written,
+            stop: Stop::NoRoom,
+        };
+    }
+    Progress {
+        read: raw.len(),
+        written: put(&MARK, to, front.written),
+        stop: Stop::Done,
+    }
+}

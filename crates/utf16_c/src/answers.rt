@@ -1,0 +1,99 @@
+//! The answers that C gets, and the numbers that stand in them.
+
+ghost use Rattle.std.specs.Prelude.{◌≡◌, ◌≤◌};
+ghost use Rattle.utf16_c.specs.Answers.{stop_of, validity_stop, validity_up_to};
+
+use utf16_buffers::{Progress, Stop};
+use utf16_units::Utf16Error;
+
+const DONE: u32 = 0;
+
+const FAULT: u32 = 1;
+
+const CUT_OFF: u32 = 2;
+
+const NO_ROOM: u32 = 3;
+
+/// How far a call came: `utf16_progress` of the header.
+#[repr(C)]
+#[derive(Clone, Copy)]
+pub struct Answer {
+    pub read: usize,
+    pub written: usize,
+    pub status: u32,
+    pub fault_len: u32,
+}
+
+/// The longest valid beginning: `utf16_validity` of the header.
+#[repr(C)]
+#[derive(Clone, Copy)]
+pub struct Validity {
+    pub valid_up_to: usize,
+    pub status: u32,
+    pub fault_len: u32,
+}
+
+/// A byte order: `utf16_order` of the header.
+#[repr(C)]
+#[derive(Clone, Copy)]
+pub struct Order {
+    pub mark_len: usize,
+    pub order: u32,
+}
+
+// The answer of a call of the library.
+#[inline(always)]
+pub(crate) fn answer_of(progress: Progress) -> Answer
+    ensures read { result.read ≡ progress.read }
+    ensures written { result.written ≡ progress.written }
+    ensures stop { stop_of result.status result.fault_len ≡ progress.stop }
+{
+    let (status, fault_len) = status_of(progress.stop);
+    Answer {
+        read: progress.read,
+        written: progress.written,
+        status,
+        fault_len,
+    }
+}
+
+// The numbers of a reason.
+#[inline(always)]
+pub(crate) fn status_of(stop: Stop) -> (u32, u32)
+    ensures stop { stop_of result.0 result.1 ≡ stop }
+    ensures few { result.0 ≤ 3 }
+{
+    match stop {
+        Stop::Done => (DONE, 0),
+        Stop::Fault(len) => (FAULT, len as u32),
+        Stop::CutOff => (CUT_OFF, 0),
+        Stop::NoRoom => (NO_ROOM, 0),
+    }
+}
+
+// The answer of the validator, of so many bytes.
+#[inline(always)]
+pub(crate) fn validity_of(len: usize, tested: Result<(), Utf16Error>) -> Validity
+    ensures valid_up_to { result.valid_up_to ≡ validity_up_to len tested }
+    ensures stop { stop_of result.status result.fault_len ≡ validity_stop tested }
+{
+    let Err(error) = tested else {
+        return Validity {
+            valid_up_to: len,
+            status: DONE,
+            fault_len: 0,
+        };
+    };
+    match error.error_len() {
+        Some(len) => Validity {
+            valid_up_to: error.valid_up_to(),
+            status: FAULT,
+            fault_len: len as u32,
+        },
+        None => Validity {
+            valid_up_to: error.valid_up_to(),
+            status: CUT_OFF,
+            fault_len: 0,
+        },
+    }
+}
