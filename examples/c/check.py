@@ -1,0 +1,67 @@
+"""Calls each function of utf16.py over the rows of table.txt, which is standard input."""
+
+import sys
+
+import utf16
+
+
+def hexed(field):
+    return b"" if field == "-" else bytes.fromhex(field)
+
+
+def is_text(big, raw, utf8, valid_up_to, status, fault_len):
+    stream = utf16.Stream(big)
+    fed = b"".join(stream.feed(raw[at : at + 1]) for at in range(len(raw))) + stream.finish()
+    strict, read, stopped = utf16.to_utf8(big, raw)
+    found = [
+        utf16.validate(big, raw) == (valid_up_to, status, fault_len),
+        utf16.to_utf8(big, raw, marked=True) == (utf8, len(raw), utf16.DONE),
+        utf8.startswith(strict) and (read, stopped) == (valid_up_to, status),
+        fed == utf8,
+    ]
+    if status == utf16.DONE:
+        text = utf8.decode()
+        found += [
+            utf16.count(big, raw) == len(text),
+            utf16.is_ascii(big, raw) == text.isascii(),
+            utf16.from_utf8(big, utf8) == (raw, len(utf8), utf16.DONE),
+        ]
+    return all(found)
+
+
+def is_back(big, utf8, raw, valid_up_to, status):
+    strict, read, stopped = utf16.from_utf8(big, utf8)
+    return raw.startswith(strict) and (read, stopped) == (valid_up_to, status)
+
+
+def is_row(kind, source, wanted, valid_up_to, behind):
+    source, wanted, valid_up_to, big = hexed(source), hexed(wanted), int(valid_up_to), kind.endswith("be")
+    fault_len = int(behind) if behind.isdigit() else 0
+    status = {"done": utf16.DONE, "cut": utf16.CUT_OFF}.get(behind, utf16.FAULT)
+    if kind.startswith("from-"):
+        return is_back(big, source, wanted, valid_up_to, status)
+    return is_text(big, source, wanted, valid_up_to, status, fault_len)
+
+
+def main():
+    passed = failed = 0
+    for line in sys.stdin:
+        if not line.strip() or line.startswith("#"):
+            continue
+        if is_row(*line.split()):
+            passed += 1
+        else:
+            failed += 1
+            print(f"Python failed: {line}", end="")
+    orders = {b"": (utf16.UNDECIDED, 0), b"\xff\xfe": (utf16.LITTLE, 2), b"\xfe\xff": (utf16.BIG, 2), b"A\0": (utf16.BIG, 0)}
+    for raw, order in orders.items():
+        if utf16.byte_order(raw) == order:
+            passed += 1
+        else:
+            failed += 1
+            print(f"Python failed: the byte order of {raw}")
+    print(f"{passed} passed, {failed} failed")
+    return failed != 0
+
+
+sys.exit(main())

@@ -1,0 +1,88 @@
+#!/usr/bin/env bash
+# Builds the static library and the examples in C, in Python over a shared object, and in Rust, and runs each over table.txt. What
+# the machine lacks is left out with a line. The last line is 'N passed, M failed'.
+set -uo pipefail
+here=$(cd "$(dirname "$0")" && pwd)
+top=$here/../..
+library=$top/crates/utf16_c/out/libutf16_c.a
+room=$(mktemp -d)
+trap 'rm -rf "$room"' EXIT
+passed=0
+failed=0
+
+# What a step did, by the last line that it printed, or as one that passed or failed.
+count() {
+    local name=$1 last
+    shift
+    if "$@" > "$room/said" 2>&1; then
+        last=$(tail -n 1 "$room/said")
+        if [[ $last =~ ^([0-9]+)\ passed,\ ([0-9]+)\ failed$ ]]; then
+            passed=$((passed + BASH_REMATCH[1]))
+            failed=$((failed + BASH_REMATCH[2]))
+        else
+            passed=$((passed + 1))
+        fi
+    else
+        failed=$((failed + 1))
+        echo "failed: $name"
+        tail -n 20 "$room/said"
+        return 1
+    fi
+}
+
+has() {
+    command -v "$1" > /dev/null || { echo "left out: $2, since this machine has no $1"; return 1; }
+}
+
+in_c() {
+    cc -std=c99 -O2 -Wall -Wextra -Wpedantic -Werror "-I$top/include" "$here/$1.c" "$library" -o "$room/$1"
+}
+
+in_cxx() {
+    c++ -std=c++11 -Wall -Wextra -Wpedantic -Werror "-I$top/include" -x c++ -fsyntax-only "$top/include/utf16.h"
+}
+
+check_c() {
+    "$room/check" < "$here/table.txt"
+}
+
+# The program that decodes a file in pieces, on a text with a fault that is longer than a piece.
+decodes() {
+    local line
+    { printf '\xFE\xFF'; for line in {1..3000}; do printf '\0a\x4E\0'; done; printf '\xD8\0'; } | "$room/decode" auto > "$room/found"
+    { for line in {1..3000}; do printf 'a\xE4\xB8\x80'; done; printf '\xEF\xBF\xBD'; } | cmp - "$room/found"
+}
+
+shared() {
+    cc -shared -o "$room/libutf16_c.so" -Wl,--whole-archive "$library" -Wl,--no-whole-archive
+}
+
+check_python() {
+    PYTHONDONTWRITEBYTECODE=1 UTF16_LIBRARY="$room/libutf16_c.so" python3 "$here/check.py" < "$here/table.txt"
+}
+
+in_rust() {
+    CARGO_TARGET_DIR="$room/rust" RUSTFLAGS="-L native=$(dirname "$library")" \
+        cargo build --quiet --offline --release --manifest-path "$here/rust/Cargo.toml"
+}
+
+check_rust() {
+    "$room/rust/release/check" < "$here/table.txt"
+}
+
+(cd "$top/crates/utf16_c" && rt lib) > "$room/said" 2>&1 || { tail -n 20 "$room/said"; echo "0 passed, 1 failed"; exit 1; }
+if has cc 'C and Python'; then
+    count 'the program in C' in_c decode && count 'a file in pieces' decodes
+    count 'the check in C' in_c check && count 'the table in C' check_c
+    if has c++ 'the header in C++'; then
+        count 'the header in C++' in_cxx
+    fi
+    if has python3 'Python'; then
+        count 'the shared object' shared && count 'the table in Python' check_python
+    fi
+fi
+if has cargo 'Rust'; then
+    count 'the crate in Rust' in_rust && count 'the table in Rust' check_rust
+fi
+echo "$passed passed, $failed failed"
+[ $failed = 0 ]

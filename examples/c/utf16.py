@@ -1,0 +1,102 @@
+"""UTF-16 in either byte order, to and from UTF-8, by the shared object that run.sh links from libutf16_c.a."""
+
+import ctypes
+import os
+
+DONE, FAULT, CUT_OFF, NO_ROOM = range(4)
+LITTLE, BIG, UNDECIDED = range(3)
+
+
+class Validity(ctypes.Structure):
+    _fields_ = [("valid_up_to", ctypes.c_size_t), ("status", ctypes.c_uint32), ("fault_len", ctypes.c_uint32)]
+
+
+class Progress(ctypes.Structure):
+    _fields_ = [("read", ctypes.c_size_t), ("written", ctypes.c_size_t), ("status", ctypes.c_uint32), ("fault_len", ctypes.c_uint32)]
+
+
+class Order(ctypes.Structure):
+    _fields_ = [("mark_len", ctypes.c_size_t), ("order", ctypes.c_uint32)]
+
+
+_library = ctypes.CDLL(os.environ.get("UTF16_LIBRARY", "libutf16_c.so"))
+_input = [ctypes.c_char_p, ctypes.c_size_t]
+_room = [ctypes.c_void_p, ctypes.c_size_t]
+
+
+def _call(name, answer, *arguments):
+    function = getattr(_library, name)
+    function.restype, function.argtypes = answer, list(arguments)
+    return function
+
+
+_validate = _call("utf16_validate", Validity, ctypes.c_bool, *_input)
+_count = _call("utf16_count", ctypes.c_size_t, ctypes.c_bool, *_input)
+_is_ascii = _call("utf16_is_ascii", ctypes.c_bool, ctypes.c_bool, *_input)
+_to_utf8_len = _call("utf16_to_utf8_len", ctypes.c_size_t, ctypes.c_bool, *_input)
+_from_utf8_len = _call("utf16_from_utf8_len", ctypes.c_size_t, *_input)
+_to_utf8 = _call("utf16_to_utf8", Progress, ctypes.c_bool, *_input, *_room)
+_to_utf8_marked = _call("utf16_to_utf8_marked", Progress, ctypes.c_bool, *_input, *_room)
+_from_utf8 = _call("utf16_from_utf8", Progress, ctypes.c_bool, *_input, *_room)
+_to_utf8_stream = _call("utf16_to_utf8_stream", Progress, ctypes.c_bool, *_input, *_room)
+_byte_order = _call("utf16_byte_order", Order, *_input)
+
+
+def validate(big, raw):
+    """The length of the longest well-formed beginning, the status behind it, and the length of a fault."""
+    found = _validate(big, raw, len(raw))
+    return found.valid_up_to, found.status, found.fault_len
+
+
+def count(big, raw):
+    """How many characters the bytes have."""
+    return _count(big, raw, len(raw))
+
+
+def is_ascii(big, raw):
+    """Whether the bytes are UTF-16 and every character is ASCII."""
+    return _is_ascii(big, raw, len(raw))
+
+
+def to_utf8(big, raw, marked=False):
+    """The UTF-8, and how far it came: with U+FFFD for each fault, or up to the first one."""
+    room = ctypes.create_string_buffer(_to_utf8_len(big, raw, len(raw)) or 1)
+    found = (_to_utf8_marked if marked else _to_utf8)(big, raw, len(raw), room, len(room))
+    return room.raw[: found.written], found.read, found.status
+
+
+def from_utf8(big, text):
+    """The UTF-16 up to the first fault, and how far it came."""
+    room = ctypes.create_string_buffer(_from_utf8_len(text, len(text)) or 1)
+    found = _from_utf8(big, text, len(text), room, len(room))
+    return room.raw[: found.written], found.read, found.status
+
+
+def byte_order(raw):
+    """The order that a byte order mark tells, and how many bytes it takes."""
+    found = _byte_order(raw, len(raw))
+    return found.order, found.mark_len
+
+
+class Stream:
+    """A decoder of UTF-16 that comes in pieces, cut anywhere."""
+
+    def __init__(self, big):
+        self._big, self._waiting = big, b""
+
+    def _text(self, call):
+        room, text, status = ctypes.create_string_buffer(4096), b"", NO_ROOM
+        while status == NO_ROOM:
+            found = call(self._big, self._waiting, len(self._waiting), room, len(room))
+            text += room.raw[: found.written]
+            self._waiting, status = self._waiting[found.read :], found.status
+        return text
+
+    def feed(self, piece):
+        """The UTF-8 of what is decided now; at most three bytes wait for more."""
+        self._waiting += piece
+        return self._text(_to_utf8_stream)
+
+    def finish(self):
+        """U+FFFD where bytes wait, and else nothing."""
+        return self._text(_to_utf8_marked)
