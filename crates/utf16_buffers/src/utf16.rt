@@ -162,7 +162,7 @@ fn valid_len(text: &[u8]) -> usize
     ensures within { result ≤ length text.now }
     ensures text { IsUtf8 (take result text.now) }
 {
-    match str::from_utf8(text) {
+    match simdutf8::compat::from_utf8(text) {
         Ok(_) => text.len(),
         Err(error) => error.valid_up_to(),
     }
