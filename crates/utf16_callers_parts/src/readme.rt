@@ -1,6 +1,6 @@
 //! What the README shows.
 
-ghost use Rattle.std.specs.Prelude.{◌↔◌, ◌∷◌, IfErr, IfOk, IsOk};
+ghost use Rattle.std.specs.Prelude.{◌↔◌, ◌∷◌, IfErr, IfOk, IsOk, false};
 ghost use Rattle.utf16string.specs.Encoding.{Encodes, IsText};
 ghost use Rattle.utf16string.specs.Utf16Error.{IsErrorOf};
 ghost use Rattle.utf16string.specs.WStr.{wstr_text};
