@@ -1,4 +1,5 @@
 pub mod UnitLemmas
+pub mod FirstUnit
 pub mod CharLemmas
 pub mod EncodingLemmas
 pub mod FirstChar

@@ -1,0 +1,105 @@
+//! Fields of a record, whole, cut off at each byte and with bytes changed. CPython wrote it, for 'utf-16-le' and 'utf-16-be':
+//!
+//! ```python
+//! fields = [text.encode(code) for text in ('Grüße', '', '★\U0001F600')]
+//! print(b''.join(struct.pack('<H', len(raw) // 2) + raw for raw in fields).hex(' '))
+//! ```
+
+use crate::checks::equal;
+use std::process::Abort;
+use utf16_testing::refusing::Refusing;
+use utf16_users::records::{FieldFault, Fields, ReadError, next_field, read_fields};
+use utf16string::{BE, LE, Utf16Order};
+
+const RECORD: [u8; 22] = [
+    0x05, 0, 0x47, 0, 0x72, 0, 0xFC, 0, 0xDF, 0, 0x65, 0, 0, 0, 0x03, 0, 0x05, 0x26, 0x3D, 0xD8, 0,
+    0xDE,
+];
+
+const RECORD_BE: [u8; 22] = [
+    0x05, 0, 0, 0x47, 0, 0x72, 0, 0xFC, 0, 0xDF, 0, 0x65, 0, 0, 0x03, 0, 0x26, 0x05, 0xD8, 0x3D,
+    0xDE, 0,
+];
+
+fn read<E: Utf16Order>(rt: &(impl Abort + AllocGlobal), record: &[u8]) {
+    let mut fields = Fields::<E>::new(record);
+    for (wanted, behind) in [("Grüße", 12), ("", 14), ("★\u{1F600}", 22)] {
+        let field = fields.next().expect(rt, "field").expect(rt, "text");
+        let text = field.to_utf8(rt.alloc()).expect(rt, "memory");
+        equal(
+            rt,
+            (text.as_str() == wanted, fields.offset()),
+            (true, behind),
+        );
+    }
+    equal(rt, fields.next().is_none(), true);
+    let all = read_fields::<E, _>(rt.alloc(), record).expect(rt, "fields");
+    equal(rt, all.len(), 3);
+    let (first, rest) = next_field::<E>(record).expect(rt, "field");
+    equal(rt, (first.len(), rest.len()), (10, 10));
+}
+
+#[test]
+fn all_of_a_record(rt: HostRuntime) {
+    read::<LE>(&rt, &RECORD);
+    read::<BE>(&rt, &RECORD_BE);
+}
+
+// The error of a buffer: where its field begins, where the fault stands, and of what is no text the error's length. Behind it
+// nothing comes.
+fn stops(rt: &(impl Abort + AllocGlobal), buffer: &[u8]) -> (usize, usize, Option<Option<usize>>) {
+    let mut fields = Fields::<LE>::new(buffer);
+    let error = fields.find_map(|field| field.err()).expect(rt, "an error");
+    equal(rt, fields.next().is_none(), true);
+    let read = read_fields::<LE, _>(rt.alloc(), buffer).err();
+    equal(rt, read == Some(ReadError::Field(error)), true);
+    match error.fault {
+        FieldFault::NoCount | FieldFault::Short => (error.field, error.place, None),
+        FieldFault::NoText(e) => (error.field, error.place, Some(e.error_len())),
+    }
+}
+
+// Where a cut of the record stops: the first and the last cut, where the field begins, and where the fault stands.
+const CUTS: [(usize, usize, usize, usize); 4] = [
+    (1, 1, 0, 0),
+    (2, 11, 0, 2),
+    (13, 13, 12, 12),
+    (16, 21, 14, 16),
+];
+
+#[test]
+fn cut_off(rt: HostRuntime) {
+    for (first, last, field, place) in CUTS {
+        for cut in first..last + 1 {
+            let front = RECORD.get(..cut).expect(&rt, "bytes");
+            equal(&rt, stops(&rt, front), (field, place, None));
+        }
+    }
+}
+
+// A byte of the record changed: which, to what, and where that stops.
+const CHANGED: [(usize, u8, (usize, usize, Option<Option<usize>>)); 4] = [
+    (0, 4, (10, 12, None)),
+    (14, 2, (14, 18, Some(None))),
+    (19, 0xDC, (14, 18, Some(Some(2)))),
+    (21, 0, (14, 18, Some(Some(2)))),
+];
+
+#[test]
+fn changed(rt: HostRuntime) {
+    for (at, byte, wanted) in CHANGED {
+        let mut record = RECORD;
+        record[at] = byte;
+        equal(&rt, stops(&rt, &record), wanted);
+    }
+}
+
+#[test]
+fn memory_refused(rt: HostRuntime) {
+    let heap = Refusing::new(rt.alloc());
+    heap.refuse_one(0);
+    let refused = read_fields::<LE, _>(&heap, &RECORD).err();
+    equal(&rt, refused, Some(ReadError::Memory));
+    equal(&rt, read_fields::<LE, _>(&heap, &RECORD).is_ok(), true);
+    equal(&rt, (heap.refusals(), heap.live_blocks()), (1, 0));
+}

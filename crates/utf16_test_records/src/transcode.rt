@@ -1,0 +1,106 @@
+//! Texts from one encoding to another.
+
+use crate::checks::equal;
+use std::process::Abort;
+use utf16_testing::refusing::Refusing;
+use utf16_testing::texts::{FAULT_TEXTS, FAULTS, MIXED, MIXED_BE};
+use utf16_users::transcode::{
+    Order, TranscodeError, back_and_there, reordered, there_and_back, utf8_in, utf8_marked,
+    utf8_marked_in, utf8_of, utf8_of_pieces, utf16_in, utf16_of,
+};
+use utf16string::{BE, LE, Utf16Order};
+
+// The text of `MIXED`.
+const TEXT: &str = "a\u{4E00}\u{10000}";
+
+fn goes<E: Utf16Order, F: Utf16Order>(
+    rt: &(impl Abort + AllocGlobal),
+    order: Order,
+    bytes: &[u8],
+    other: &[u8],
+) {
+    let utf8 = utf8_of::<E, _>(rt.alloc(), bytes).expect(rt, "text");
+    let told = utf8_in(rt.alloc(), order, bytes).expect(rt, "text");
+    let marked = utf8_marked::<E, _>(rt.alloc(), bytes).expect(rt, "memory");
+    let back = back_and_there::<E, _, _>(rt.alloc(), rt.alloc(), TEXT).expect(rt, "memory");
+    for found in [utf8, told, marked, back] {
+        equal(rt, found.as_str() == TEXT, true);
+    }
+    let utf16 = utf16_of::<E, _>(rt.alloc(), TEXT).expect(rt, "memory");
+    let told = utf16_in(rt.alloc(), order, TEXT).expect(rt, "memory");
+    let back = there_and_back::<E, _, _>(rt.alloc(), rt.alloc(), bytes).expect(rt, "text");
+    for found in [utf16, told, back] {
+        equal(rt, found.as_slice() == bytes, true);
+    }
+    let swapped = reordered::<E, F, _>(rt.alloc(), bytes).expect(rt, "text");
+    equal(rt, swapped.as_slice() == other, true);
+    for at in 0..bytes.len() + 1 {
+        let pieces = cut(rt, bytes, at);
+        let utf8 = utf8_of_pieces::<E, _, _, _>(rt.alloc(), rt.alloc(), &pieces);
+        equal(rt, utf8.expect(rt, "text").as_str() == TEXT, true);
+    }
+}
+
+#[test]
+fn whole(rt: HostRuntime) {
+    goes::<LE, BE>(&rt, Order::Little, &MIXED, &MIXED_BE);
+    goes::<BE, LE>(&rt, Order::Big, &MIXED_BE, &MIXED);
+    goes::<LE, LE>(&rt, Order::Little, &MIXED, &MIXED);
+}
+
+// The bytes as two pieces, cut behind so many.
+fn cut(rt: &(impl Abort + AllocGlobal), bytes: &[u8], at: usize) -> Vec<Vec<u8>> {
+    let (front, back) = bytes.split_at(at.min(bytes.len()));
+    let mut pieces = Vec::new(rt.alloc());
+    for piece in [front, back] {
+        let piece = Vec::from_slice(rt.alloc(), piece).expect(rt, "memory");
+        equal(rt, pieces.push(piece).is_ok(), true);
+    }
+    pieces
+}
+
+fn places(found: Option<TranscodeError>) -> Option<(usize, Option<usize>)> {
+    match found {
+        Some(TranscodeError::NoText(e)) => Some((e.valid_up_to(), e.error_len())),
+        _ => None,
+    }
+}
+
+#[test]
+fn no_texts(rt: HostRuntime) {
+    for ((big, bytes, place, len, _), text) in FAULTS.iter().zip(FAULT_TEXTS) {
+        let order = if *big { Order::Big } else { Order::Little };
+        let wanted = Some((*place, *len));
+        equal(&rt, places(utf8_in(rt.alloc(), order, bytes).err()), wanted);
+        for at in 0..bytes.len() + 1 {
+            let marked = utf8_marked_in(rt.alloc(), order, &cut(&rt, bytes, at));
+            equal(&rt, marked.expect(&rt, "memory").as_str() == text, true);
+        }
+    }
+    let pieces = cut(&rt, &[0x41, 0, 0, 0xDC], 3);
+    let found = utf8_of_pieces::<LE, _, _, _>(rt.alloc(), rt.alloc(), &pieces).err();
+    equal(&rt, places(found), Some((2, Some(2))));
+    let marked = utf8_marked::<LE, _>(rt.alloc(), &[0x41, 0, 0, 0xD8]);
+    equal(
+        &rt,
+        marked.expect(&rt, "memory").as_str() == "A\u{FFFD}",
+        true,
+    );
+}
+
+#[test]
+fn memory_refused(rt: HostRuntime) {
+    let heap = Refusing::new(rt.alloc());
+    let memory = Some(TranscodeError::Memory);
+    heap.refuse_from(0);
+    equal(&rt, utf8_of::<LE, _>(&heap, &MIXED).err(), memory);
+    equal(&rt, utf8_marked::<LE, _>(&heap, &MIXED).is_err(), true);
+    equal(&rt, utf16_of::<LE, _>(&heap, TEXT).is_err(), true);
+    equal(&rt, reordered::<LE, BE, _>(&heap, &MIXED).err(), memory);
+    let pieces = cut(&rt, &MIXED, 1);
+    let utf8 = utf8_of_pieces::<LE, _, _, _>(rt.alloc(), &heap, &pieces);
+    equal(&rt, utf8.err(), memory);
+    let utf8 = utf8_of_pieces::<LE, _, _, _>(&heap, rt.alloc(), &pieces);
+    equal(&rt, utf8.err(), memory);
+    equal(&rt, (heap.refusals(), heap.live_blocks()), (6, 0));
+}

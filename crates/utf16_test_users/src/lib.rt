@@ -1,0 +1,7 @@
+//! Tests of the users of the strings.
+#![tactic(auto)]
+
+#[cfg(test)]
+mod multi_text;
+#[cfg(test)]
+mod names;

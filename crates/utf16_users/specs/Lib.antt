@@ -1,0 +1,5 @@
+pub mod MultiText
+pub mod Names
+pub mod Records
+pub mod Fields
+pub mod Transcode
