@@ -1,0 +1,5 @@
+//! Tests of the users of the strings.
+#![tactic(auto)]
+
+#[cfg(test)]
+mod multi_text;

@@ -1,0 +1,162 @@
+//! Tables of texts: read as they stand in the registry, whole and cut short, and written.
+
+use std::alloc::Allocator;
+use std::process::Abort;
+use utf16_testing::refusing::Refusing;
+use utf16_users::multi_text::{WriteError, read, texts, write};
+use utf16string::{BE, LE, Utf16Order, WStr, WString};
+
+// The value BootExecute of a registry: CPython's "autocheck autochk *\0\0".encode("utf-16-le").
+const BOOT_EXECUTE: [u8; 42] = [
+    0x61, 0x00, 0x75, 0x00, 0x74, 0x00, 0x6F, 0x00, 0x63, 0x00, 0x68, 0x00, 0x65, 0x00, 0x63, 0x00,
+    0x6B, 0x00, 0x20, 0x00, 0x61, 0x00, 0x75, 0x00, 0x74, 0x00, 0x6F, 0x00, 0x63, 0x00, 0x68, 0x00,
+    0x6B, 0x00, 0x20, 0x00, 0x2A, 0x00, 0x00, 0x00, 0x00, 0x00,
+];
+
+// A table, and its texts. All but the first five lack a NUL or two at the end, or have more behind the table.
+const TABLES: [(&str, &[&str]); 13] = [
+    ("\0", &[]),
+    ("a\0\0", &["a"]),
+    ("a\0b\0\0", &["a", "b"]),
+    ("\u{10000}\0\u{FFFF}b\0\0", &["\u{10000}", "\u{FFFF}b"]),
+    ("\u{100}\0\u{1}\0\0", &["\u{100}", "\u{1}"]),
+    ("", &[]),
+    ("a", &["a"]),
+    ("a\0", &["a"]),
+    ("a\0b", &["a", "b"]),
+    ("a\0b\0", &["a", "b"]),
+    ("\0\0", &[]),
+    ("\0a\0\0", &[]),
+    ("a\0\0b\0\0", &["a"]),
+];
+
+// What no table can hold, and why.
+const REFUSED: [(&[&str], WriteError); 5] = [
+    (&[""], WriteError::Empty(0)),
+    (&["\0"], WriteError::HasNul(0)),
+    (&["a", "b\0c", ""], WriteError::HasNul(1)),
+    (&["a", "b", "", "\0"], WriteError::Empty(2)),
+    (&["\u{10000}\0"], WriteError::HasNul(0)),
+];
+
+fn string<E: Utf16Order>(rt: &(impl Abort + AllocGlobal), text: &str) -> WString<E> {
+    WString::from_str(rt.alloc(), text).expect(rt, "memory")
+}
+
+fn strings<E: Utf16Order>(rt: &(impl Abort + AllocGlobal), texts: &[&str]) -> Vec<WString<E>> {
+    let mut made = Vec::new(rt.alloc());
+    for text in texts {
+        made.push(string(rt, text)).expect(rt, "memory");
+    }
+    made
+}
+
+fn views<'a, E: Utf16Order>(
+    rt: &(impl Abort + AllocGlobal),
+    strings: &'a [WString<E>],
+) -> Vec<WStr<'a, E>> {
+    let mut made = Vec::new(rt.alloc());
+    for string in strings {
+        made.push(string.as_wstr()).expect(rt, "memory");
+    }
+    made
+}
+
+fn are_read<E: Utf16Order>(rt: &(impl Abort + AllocGlobal), table: &str, wanted: &[&str]) {
+    let table = string::<E>(rt, table);
+    let found = read(rt.alloc(), table.as_wstr()).expect(rt, "memory");
+    let wanted = strings::<E>(rt, wanted);
+    assert!(rt; found == views(rt, &wanted));
+    let mut left = texts(table.as_wstr());
+    for text in &wanted {
+        assert!(rt; left.next() == Some(text.as_wstr()));
+    }
+    assert!(rt; left.next().is_none());
+    assert!(rt; left.next().is_none());
+}
+
+#[test]
+fn tables_are_read(rt: HostRuntime) {
+    for (table, wanted) in TABLES {
+        are_read::<LE>(&rt, table, wanted);
+        are_read::<BE>(&rt, table, wanted);
+    }
+}
+
+#[test]
+fn a_registry_value_is_read(rt: HostRuntime) {
+    let value = WStr::<LE>::from_utf16(&BOOT_EXECUTE).expect(&rt, "text");
+    let found = read(rt.alloc(), value).expect(&rt, "memory");
+    assert_eq!(rt; found.len(), 1);
+    assert_eq!(rt; found[0].as_bytes(), &BOOT_EXECUTE[..38]);
+    let short = WStr::<LE>::from_utf16(&BOOT_EXECUTE[..38]).expect(&rt, "text");
+    assert!(rt; read(rt.alloc(), short).expect(&rt, "memory") == found);
+}
+
+fn is_written<E: Utf16Order>(rt: &(impl Abort + AllocGlobal), table: &str, texts: &[&str]) {
+    let strings = strings::<E>(rt, texts);
+    let written = write(rt.alloc(), &views(rt, &strings)).expect(rt, "a table");
+    assert!(rt; written == string(rt, table));
+}
+
+#[test]
+fn tables_are_written(rt: HostRuntime) {
+    for (table, texts) in &TABLES[..5] {
+        is_written::<LE>(&rt, table, texts);
+        is_written::<BE>(&rt, table, texts);
+    }
+}
+
+fn is_refused<E: Utf16Order>(rt: &(impl Abort + AllocGlobal), texts: &[&str], wanted: WriteError) {
+    let strings = strings::<E>(rt, texts);
+    match write(rt.alloc(), &views(rt, &strings)) {
+        Ok(_) => panic!(rt; "written"),
+        Err(error) => assert_eq!(rt; error, wanted),
+    }
+}
+
+#[test]
+fn what_no_table_holds_is_refused(rt: HostRuntime) {
+    for (texts, wanted) in REFUSED {
+        is_refused::<LE>(&rt, texts, wanted);
+        is_refused::<BE>(&rt, texts, wanted);
+    }
+}
+
+// Reads and writes with each request for memory refused in turn, until a run meets no refusal: how many it makes.
+fn in_turn(rt: &(impl Abort + AllocGlobal), is_reading: bool) -> u64 {
+    let heap = Refusing::new(rt.alloc());
+    let strings = strings::<BE>(rt, &["a", "\u{10000}"]);
+    let texts = views(rt, &strings);
+    let table = string::<BE>(rt, "a\0\u{10000}\0\0");
+    for k in 0..10 {
+        heap.refuse_one(k);
+        let is_right = if is_reading {
+            match read(&heap, table.as_wstr()) {
+                Ok(found) => Some(found.as_slice() == texts.as_slice()),
+                Err(_) => None,
+            }
+        } else {
+            match write(&heap, &texts) {
+                Ok(written) => Some(written.as_wstr() == table.as_wstr()),
+                Err(error) => {
+                    assert_eq!(rt; error, WriteError::NoMemory);
+                    None
+                }
+            }
+        };
+        assert_eq!(rt; heap.live_blocks(), 0);
+        if heap.refusals() == 0 {
+            assert_eq!(rt; is_right, Some(true));
+            return k;
+        }
+        assert_eq!(rt; is_right, None);
+    }
+    panic!(rt; "no run met no refusal");
+}
+
+#[test]
+fn memory_is_refused(rt: HostRuntime) {
+    assert!(rt; 1 <= in_turn(&rt, true));
+    assert!(rt; 1 <= in_turn(&rt, false));
+}
