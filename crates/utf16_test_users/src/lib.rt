@@ -3,3 +3,5 @@
 
 #[cfg(test)]
 mod multi_text;
+#[cfg(test)]
+mod names;

@@ -1,1 +1,2 @@
 pub mod MultiText
+pub mod Names

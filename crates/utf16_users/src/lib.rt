@@ -2,3 +2,4 @@
 #![tactic(auto)]
 
 pub mod multi_text;
+pub mod names;

@@ -1,7 +1,5 @@
-use Rattle.std.proofs.Common.{◌≡◌, ◌∙◌, ◌∷◌, sym, ap, length, rules}
+use Rattle.std.proofs.Common.{◌∙◌, sym, ap, length, rules}
 use Rattle.std.proofs.lemmas.Bool.{false≢true}
-use Rattle.utf16string.specs.WStr.{wstr_text}
-use Rattle.utf16_users.specs.MultiText.{texts_in}
 use Rattle.utf16_users.proofs.Tables.{texts_in-first, texts_in-none}
 use Rattle.utf16_users.proofs.multi_text.MultiTextIterator.next.Goals as goal
 

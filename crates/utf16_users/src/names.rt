@@ -1,0 +1,145 @@
+//! A table that gives each name a number: equal names have one number, and numbers count from 0 in the order of arrival.
+
+ghost use Rattle.std.specs.Prelude.{◌≡◌, ◌≢◌, ◌++◌, ◌<◌, ◌≤◌, ◌↔◌, ℕ, List, [], ◌∷◌, All, IfNone, IfOk, IfSome, IsTrue, OnErr, OnOk, Some, length, option_map, slice_get, slice_index};
+ghost use Rattle.utf16_users.specs.Names.{AreDistinct, AreEnds, IsInterned, IsTable, names_of};
+ghost use Rattle.utf16string.specs.Encoding.{size};
+ghost use Rattle.utf16string.specs.WStr.{wstr_text};
+ghost use Rattle.utf16string.specs.WString.{wstring_text};
+
+use std::alloc::{AllocError, Allocator, Global};
+use std::marker::Model;
+use utf16string::{Utf16Order, WStr, WString};
+
+/// Names, each once, under the numbers 0, 1, 2 and so on, in the order in which they came. They stand one after another in one
+/// string. A clause sees the list of their texts.
+#[derive(Drop)]
+pub struct Names<E: Utf16Order, A: Allocator = Global> {
+    text: WString<E, A>,
+    ends: Vec<usize, A>,
+}
+
+impl<E: Utf16Order, A: Allocator> Model for Names<E, A> {
+    ghost Value = { List (List ℕ) };
+
+    ghost view = { λ table. names_of (wstring_text table.text) table.ends.items };
+
+    ghost invariant = { λ table. IsTable (wstring_text table.text) table.ends.items };
+}
+
+impl<E: Utf16Order, A: Allocator> Names<E, A> {
+    /// A table without names. It asks for no memory; the only error is an allocator that refuses to be cloned.
+    pub fn new(alloc: A) -> Result<Self, AllocError>
+    where
+        A: Clone,
+        ensures { IfOk result (λ table. table ≡ []) }
+    {
+        let ends = Vec::new(alloc.clone()?);
+        Ok(Names {
+            text: WString::new(alloc),
+            ends,
+        })
+    }
+
+    /// How many names there are: the number that the next new one gets.
+    pub fn len(&self) -> usize
+        ensures len { result ≡ length self.now }
+        ensures distinct { AreDistinct self.now }
+    {
+        self.ends.len()
+    }
+
+    /// Whether there is no name.
+    pub fn is_empty(&self) -> bool
+        ensures { IsTrue result ↔ (self.now ≡ []) }
+    {
+        self.len() == 0
+    }
+
+    /// The name of a number, or `None` where no name has it. Constant time.
+    pub fn get(&self, number: usize) -> Option<WStr<'_, E>>
+        ensures { option_map wstr_text result ≡ slice_get self.now number }
+    {
+        if number < self.ends.len() {
+            Some(name_at(&self.text, &self.ends, number))
+        } else {
+            None
+        }
+    }
+
+    /// The number of a name, or `None` where it has none.
+    pub fn find(&self, name: WStr<E>) -> Option<usize>
+        ensures some { IfSome result (λ number. slice_get self.now number ≡ Some (wstr_text name.entry)) }
+        ensures none { IfNone result (All (λ other. other ≢ wstr_text name.entry) self.now) }
+    {
+        number_of(&self.text, &self.ends, name)
+    }
+
+    /// The number of a name, which is put in where it is new. The only error is a refused request for memory; it leaves the
+    /// table as it was.
+    pub fn intern(&mut self, name: WStr<E>) -> Result<usize, AllocError>
+        ensures interned { IfOk result (λ number. IsInterned self.old (wstr_text name.entry) number self.new) }
+        ensures refused { OnErr result (self.new ≡ self.old) }
+    {
+        if let Some(number) = self.find(name) {
+            return Ok(number);
+        }
+        let number = self.ends.len();
+        append(&mut self.text, &mut self.ends, name)?;
+        Ok(number)
+    }
+}
+
+// Where the name of a number begins.
+fn start_of(ends: &[usize], number: usize) -> usize
+    requires { number ≤ length ends.now }
+    ensures { result ≡ slice_index (0 ∷ ends.now) number }
+{
+    if number == 0 { 0 } else { ends[number - 1] }
+}
+
+// The name of a number.
+fn name_at<'a, E: Utf16Order, A: Allocator>(
+    text: &'a WString<E, A>,
+    ends: &[usize],
+    number: usize,
+) -> WStr<'a, E>
+    requires ends { AreEnds (wstring_text text.now) 0 ends.now }
+    requires within { number < length ends.now }
+    ensures { slice_get (names_of (wstring_text text.now) ends.now) number ≡ Some (wstr_text result) }
+{
+    text.index(start_of(ends, number)..ends[number])
+}
+
+// The number of a name, where it has one.
+fn number_of<E: Utf16Order, A: Allocator>(
+    text: &WString<E, A>,
+    ends: &[usize],
+    name: WStr<E>,
+) -> Option<usize>
+    requires { AreEnds (wstring_text text.now) 0 ends.now }
+    ensures some { IfSome result (λ number. slice_get (names_of (wstring_text text.now) ends.now) number ≡ Some (wstr_text name.entry)) }
+    ensures none { IfNone result (All (λ other. other ≢ wstr_text name.entry) (names_of (wstring_text text.now) ends.now)) }
+{
+    for number in 0..ends.len() {
+        if name_at(text, ends, number) == name {
+            return Some(number);
+        }
+    }
+    None
+}
+
+// Puts a name last. Room for its end is made first: where memory is refused, nothing has changed.
+fn append<E: Utf16Order, A: Allocator>(
+    text: &mut WString<E, A>,
+    ends: &mut Vec<usize, A>,
+    name: WStr<E>,
+) -> Result<(), AllocError>
+    ensures text { OnOk result (wstring_text text.new ≡ wstring_text text.old ++ wstr_text name.entry) }
+    ensures ends { OnOk result (ends.new.items ≡ ends.old.items ++ size (wstring_text text.new) ∷ []) }
+    ensures refused { OnErr result ((wstring_text text.new ≡ wstring_text text.old) × (ends.new.items ≡ ends.old.items)) }
+{
+    ends.reserve(1)?;
+    text.push_wstr(name)?;
+    ends.push(text.len())?;
+    Ok(())
+}
