@@ -23,6 +23,9 @@ const COMING: [(&str, usize); 10] = [
 // The names, each once.
 const NAMES: [&str; 7] = ["b", "", "\u{10000}", "\u{FFFF}", "ab", "a", "\u{100}"];
 
+// Their numbers in the order of the names: "", "a", "ab", "b", U+0100, U+FFFF, U+10000.
+const IN_ORDER: [usize; 7] = [1, 5, 4, 0, 6, 3, 2];
+
 const UNKNOWN: [&str; 4] = ["bb", "\u{1}", "\u{FFFF}\u{10000}", "aab"];
 
 fn string<E: Utf16Order>(rt: &(impl Abort + AllocGlobal), text: &str) -> WString<E> {
@@ -59,10 +62,45 @@ fn come<E: Utf16Order>(rt: &(impl Abort + AllocGlobal)) {
         assert!(rt; known <= NAMES.len());
         holds(rt, &table, &NAMES[..known]);
     }
+    assert_eq!(rt; table.in_order(), IN_ORDER.as_slice());
 }
 
 #[test]
 fn names_get_numbers(rt: HostRuntime) {
     come::<LE>(&rt);
     come::<BE>(&rt);
+}
+
+// Names put in with each request for memory refused in turn, until a run meets no refusal: how many it makes. A refusal leaves
+// the table as it was, and it goes on.
+fn in_turn<E: Utf16Order>(rt: &(impl Abort + AllocGlobal)) -> u64 {
+    let heap = Refusing::new(rt.alloc());
+    for k in 0..40 {
+        heap.refuse_one(k);
+        put_in::<E, _>(rt, &heap);
+        assert_eq!(rt; heap.live_blocks(), 0);
+        if heap.refusals() == 0 {
+            return k;
+        }
+    }
+    panic!(rt; "no run met no refusal");
+}
+
+fn put_in<E: Utf16Order, A: Allocator + Clone>(rt: &(impl Abort + AllocGlobal), alloc: A) {
+    let mut table = Names::<E, A>::new(alloc).expect(rt, "a clone");
+    for (number, name) in NAMES.iter().enumerate() {
+        let name = string(rt, name);
+        if table.intern(name.as_wstr()).is_err() {
+            holds(rt, &table, &NAMES[..number]);
+            assert_eq!(rt; table.intern(name.as_wstr()), Ok(number));
+        }
+    }
+    holds(rt, &table, &NAMES);
+}
+
+#[test]
+fn memory_is_refused(rt: HostRuntime) {
+    let requests = in_turn::<LE>(&rt);
+    assert!(rt; 3 <= requests);
+    assert_eq!(rt; in_turn::<BE>(&rt), requests);
 }

@@ -1,7 +1,9 @@
 -- Names that stand one after another in a text.
-use Rattle.std.proofs.Common.{◌≡◌, ◌≢◌, ℕ, zero, suc, ◌<◌, ◌≤◌, List, [], ◌∷◌, ◌++◌, All, None, Some, slice_get, get_or, length, refl, ap, ap₂, sym, ◌∙◌, subst, arith}
+use Rattle.std.proofs.Common.{◌≡◌, ◌≢◌, ℕ, zero, suc, ◌<◌, ◌≤◌, List, [], ◌∷◌, ◌++◌, None, Some, slice_get, get_or, length, refl, ap, ap₂, sym, ◌∙◌, subst, subst₂, arith}
 use Rattle.std.proofs.lemmas.List.Elements.{All-get_or}
 use Rattle.std.proofs.lemmas.Option.{slice_get-get_or, slice_get_past}
+use Rattle.std.proofs.lemmas.List.Sorted.{IsPermutation-refl}
+use Rattle.std.specs.List.{insert}
 use Rattle.std.proofs.lemmas.List.Quantifiers.{all_pairs_push}
 use Rattle.utf16_units.specs.Boundary.{IsBoundary, text_between}
 use Rattle.utf16_units.specs.Encoding.{size}
@@ -9,7 +11,8 @@ use Rattle.utf16_units.proofs.BoundaryLemmas.{IsBoundary-end, IsBoundary-start}
 use Rattle.utf16_units.proofs.EncodingLemmas.{size-append, size-nil}
 use Rattle.utf16_units.proofs.PartLemmas.{IsBoundary-append, text_between-append, text_between-behind}
 use Rattle.utf16string.specs.Window.{IsWindowOf}
-use Rattle.utf16_users.specs.Names.{AreDistinct, AreEnds, IsTable, names_of, parts_from}
+use Rattle.utf16_users.specs.Names.{AreDistinct, AreEnds, IsOrder, IsPlace, IsTable, names_of, parts_from}
+use Rattle.utf16_users.proofs.Order.{is_new, order_insert}
 
 pub length-parts : (text : List ℕ) (start : ℕ) (ends : List ℕ) → length (parts_from text start ends) ≡ length ends
 unfolding parts_from
@@ -62,14 +65,23 @@ parts_push text name start (end ∷ ends) begins are =
 pub names_push : (text name ends : List ℕ) → AreEnds text 0 ends → names_of (text ++ name) (ends ++ size (text ++ name) ∷ []) ≡ names_of text ends ++ name ∷ []
 names_push text name ends are = parts_push text name 0 ends (IsBoundary-start text) are
 
-pub table_push : (text name ends : List ℕ) → IsTable text ends → All (λ other. other ≢ name) (names_of text ends)
-    → IsTable (text ++ name) (ends ++ size (text ++ name) ∷ [])
-table_push text name ends table new = record {
-  ends = ends_push text name 0 ends table.ends;
-  distinct = subst AreDistinct (sym (names_push text name ends table.ends))
-      (all_pairs_push (λ x y. x ≢ y) (names_of text ends) name table.distinct (λ k d within. All-get_or (λ other. other ≢ name) (names_of text ends) k d within new));
+pub table_none : IsTable [] [] []
+unfolding AreEnds parts_from
+table_none = record {
+  ends = sym size-nil;
+  distinct = λ i j d before within. absurd (omega arith);
+  order = record { numbers = IsPermutation-refl []; ascends = λ i j d before within. absurd (omega arith) };
 }
 
-pub table_none : IsTable [] []
-unfolding AreEnds parts_from
-table_none = record { ends = sym size-nil; distinct = λ i j d before within. absurd (omega arith) }
+pub table_insert : (text name ends numbers : List ℕ) (place : ℕ) → IsTable text ends numbers → IsPlace (names_of text ends) numbers name place
+    → IsTable (text ++ name) (ends ++ size (text ++ name) ∷ []) (insert numbers place (length ends))
+table_insert text name ends numbers place table at =
+    let names = names_of text ends in
+    let more = names_push text name ends table.ends in
+    record {
+      ends = ends_push text name 0 ends table.ends;
+      distinct = subst AreDistinct (sym more)
+          (all_pairs_push (λ x y. x ≢ y) names name table.distinct
+          (λ k d within. All-get_or (λ other. other ≢ name) names k d within (is_new names numbers table.order name place at)));
+      order = subst₂ IsOrder (sym more) (ap (insert numbers place) (length-parts text 0 ends)) (order_insert names numbers table.order name place at);
+    }

@@ -1,2 +1,3 @@
 mod Joined
+mod Order
 mod Tables

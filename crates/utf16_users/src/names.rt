@@ -1,12 +1,14 @@
 //! A table that gives each name a number: equal names have one number, and numbers count from 0 in the order of arrival.
 
-ghost use Rattle.std.specs.Prelude.{◌≡◌, ◌≢◌, ◌++◌, ◌<◌, ◌≤◌, ◌↔◌, ℕ, List, [], ◌∷◌, All, IfNone, IfOk, IfSome, IsTrue, OnErr, OnOk, Some, length, option_map, slice_get, slice_index};
-ghost use Rattle.utf16_users.specs.Names.{AreDistinct, AreEnds, IsInterned, IsTable, names_of};
+ghost use Rattle.std.specs.Prelude.{◌≡◌, ◌≢◌, ◌++◌, ◌<◌, ◌≤◌, ◌↔◌, ℕ, List, [], ◌∷◌, All, IfErr, IfNone, IfOk, IfSome, IsTrue, OnErr, OnOk, Some, length, option_map, slice_get, slice_index, vec_len};
+ghost use Rattle.std.specs.List.{insert as insert_at_index};
+ghost use Rattle.utf16_users.specs.Names.{AreDistinct, AreEnds, IsInterned, IsOrder, IsPlace, IsTable, names_of};
 ghost use Rattle.utf16string.specs.Encoding.{size};
 ghost use Rattle.utf16string.specs.WStr.{wstr_text};
 ghost use Rattle.utf16string.specs.WString.{wstring_text};
 
 use std::alloc::{AllocError, Allocator, Global};
+use std::cmp::Ordering;
 use std::marker::Model;
 use utf16string::{Utf16Order, WStr, WString};
 
@@ -16,6 +18,7 @@ use utf16string::{Utf16Order, WStr, WString};
 pub struct Names<E: Utf16Order, A: Allocator = Global> {
     text: WString<E, A>,
     ends: Vec<usize, A>,
+    order: Vec<usize, A>,
 }
 
 impl<E: Utf16Order, A: Allocator> Model for Names<E, A> {
@@ -23,7 +26,7 @@ impl<E: Utf16Order, A: Allocator> Model for Names<E, A> {
 
     ghost view = { λ table. names_of (wstring_text table.text) table.ends.items };
 
-    ghost invariant = { λ table. IsTable (wstring_text table.text) table.ends.items };
+    ghost invariant = { λ table. IsTable (wstring_text table.text) table.ends.items table.order.items };
 }
 
 impl<E: Utf16Order, A: Allocator> Names<E, A> {
@@ -34,9 +37,11 @@ impl<E: Utf16Order, A: Allocator> Names<E, A> {
         ensures { IfOk result (λ table. table ≡ []) }
     {
         let ends = Vec::new(alloc.clone()?);
+        let order = Vec::new(alloc.clone()?);
         Ok(Names {
             text: WString::new(alloc),
             ends,
+            order,
         })
     }
 
@@ -66,26 +71,38 @@ impl<E: Utf16Order, A: Allocator> Names<E, A> {
         }
     }
 
-    /// The number of a name, or `None` where it has none.
+    /// The number of a name, or `None` where it has none. By halving: one comparison for each doubling of the table.
     pub fn find(&self, name: WStr<E>) -> Option<usize>
         ensures some { IfSome result (λ number. slice_get self.now number ≡ Some (wstr_text name.entry)) }
         ensures none { IfNone result (All (λ other. other ≢ wstr_text name.entry) self.now) }
     {
-        number_of(&self.text, &self.ends, name)
+        match place_of(&self.text, &self.ends, &self.order, name) {
+            Ok(number) => Some(number),
+            Err(_) => None,
+        }
+    }
+
+    /// All numbers, in the order of their names by scalar values, as `str` compares. It asks for no memory.
+    pub fn in_order(&self) -> &[usize]
+        ensures order { IsOrder self.now result.now }
+    {
+        &self.order
     }
 
     /// The number of a name, which is put in where it is new. The only error is a refused request for memory; it leaves the
-    /// table as it was.
+    /// table as it was. A known name costs what `find` does; for a new one the numbers of larger names are moved in one block.
     pub fn intern(&mut self, name: WStr<E>) -> Result<usize, AllocError>
         ensures interned { IfOk result (λ number. IsInterned self.old (wstr_text name.entry) number self.new) }
         ensures refused { OnErr result (self.new ≡ self.old) }
     {
-        if let Some(number) = self.find(name) {
-            return Ok(number);
+        match place_of(&self.text, &self.ends, &self.order, name) {
+            Ok(number) => Ok(number),
+            Err(place) => {
+                let number = self.ends.len();
+                insert(&mut self.text, &mut self.ends, &mut self.order, name, place)?;
+                Ok(number)
+            }
         }
-        let number = self.ends.len();
-        append(&mut self.text, &mut self.ends, name)?;
-        Ok(number)
     }
 }
 
@@ -110,36 +127,52 @@ fn name_at<'a, E: Utf16Order, A: Allocator>(
     text.index(start_of(ends, number)..ends[number])
 }
 
-// The number of a name, where it has one.
-fn number_of<E: Utf16Order, A: Allocator>(
+// The number of a name, or where its number would go among those in order.
+fn place_of<E: Utf16Order, A: Allocator>(
     text: &WString<E, A>,
     ends: &[usize],
+    order: &[usize],
     name: WStr<E>,
-) -> Option<usize>
-    requires { AreEnds (wstring_text text.now) 0 ends.now }
-    ensures some { IfSome result (λ number. slice_get (names_of (wstring_text text.now) ends.now) number ≡ Some (wstr_text name.entry)) }
-    ensures none { IfNone result (All (λ other. other ≢ wstr_text name.entry) (names_of (wstring_text text.now) ends.now)) }
+) -> Result<usize, usize>
+    requires ends { AreEnds (wstring_text text.now) 0 ends.now }
+    requires order { IsOrder (names_of (wstring_text text.now) ends.now) order.now }
+    ensures found { IfOk result (λ number. slice_get (names_of (wstring_text text.now) ends.now) number ≡ Some (wstr_text name.entry)) }
+    ensures new { OnErr result (All (λ other. other ≢ wstr_text name.entry) (names_of (wstring_text text.now) ends.now)) }
+    ensures place { IfErr result (IsPlace (names_of (wstring_text text.now) ends.now) order.now (wstr_text name.entry)) }
 {
-    for number in 0..ends.len() {
-        if name_at(text, ends, number) == name {
-            return Some(number);
+    let mut low = 0;
+    let mut high = order.len();
+    while low < high {
+        let mid = low + (high - low) / 2;
+        let number = order[mid];
+        match name_at(text, ends, number).cmp(&name) {
+            Ordering::Less => low = mid + 1,
+            Ordering::Equal => return Ok(number),
+            Ordering::Greater => high = mid,
         }
     }
-    None
+    Err(low)
 }
 
-// Puts a name last. Room for its end is made first: where memory is refused, nothing has changed.
-fn append<E: Utf16Order, A: Allocator>(
+// Puts a name last, and its number at a place. All room is made first: where memory is refused, nothing has changed.
+fn insert<E: Utf16Order, A: Allocator>(
     text: &mut WString<E, A>,
     ends: &mut Vec<usize, A>,
+    order: &mut Vec<usize, A>,
     name: WStr<E>,
+    place: usize,
 ) -> Result<(), AllocError>
+    requires { place ≤ vec_len order.old }
     ensures text { OnOk result (wstring_text text.new ≡ wstring_text text.old ++ wstr_text name.entry) }
     ensures ends { OnOk result (ends.new.items ≡ ends.old.items ++ size (wstring_text text.new) ∷ []) }
-    ensures refused { OnErr result ((wstring_text text.new ≡ wstring_text text.old) × (ends.new.items ≡ ends.old.items)) }
+    ensures order { OnOk result (order.new.items ≡ insert_at_index order.old.items place (length ends.old.items)) }
+    ensures refused { OnErr result ((wstring_text text.new ≡ wstring_text text.old) × (ends.new.items ≡ ends.old.items) × (order.new.items ≡ order.old.items)) }
 {
+    let number = ends.len();
     ends.reserve(1)?;
+    order.reserve(1)?;
     text.push_wstr(name)?;
     ends.push(text.len())?;
+    order.insert(place, number)?;
     Ok(())
 }
