@@ -53,12 +53,12 @@ impl<'a, E: Utf16Order> Iterator for MultiText<'a, E> {
     ghost remaining = { item_count (λ rest. rest) };
 
     fn next(&mut self) -> Option<WStr<'a, E>> {
-        let (text, rest) = cut_at_nul(self.rest);
-        if text.is_empty() {
+        let (first, rest) = cut_at_nul(self.rest);
+        if first.is_empty() {
             return None;
         }
         self.rest = rest;
-        Some(text)
+        Some(first)
     }
 }
 
