@@ -20,6 +20,9 @@ pub mod ContinuedLemmas
 pub mod PartLemmas
 pub mod LawProofs
 pub mod BackChar
+pub mod CharCut
+pub mod PartsEnded
+pub mod PutBetween
 pub mod Tests
 pub mod LaneLemmas
 pub mod UnitsUpTo
