@@ -23,6 +23,9 @@ pub mod PieceLemmas
 pub mod LawProofs
 pub mod Rules
 pub mod BackChar
+pub mod CharCut
+pub mod PartsEnded
+pub mod PutBetween
 pub mod Tests
 pub mod LaneLemmas
 pub mod UnitsUpTo

@@ -1,10 +1,10 @@
 -- A text cut at its NULs, and the table that it begins with.
-use Rattle.std.proofs.Common.{◌≡◌, ◌≢◌, ℕ, List, [], ◌∷◌, ◌++◌, All, false, eqb, refl, ap, ap₂, sym, ◌∙◌, subst, inl, inr, append_assoc}
+use Rattle.std.proofs.Common.{◌≡◌, ◌≢◌, ℕ, List, [], ◌∷◌, ◌++◌, All, false, eqb, refl, ap, sym, ◌∙◌, append_assoc}
 use Rattle.std.proofs.lemmas.Bool.{ne_eqb}
-use Rattle.std.proofs.lemmas.Bool.Decides.{eqb_tells}
 use Rattle.std.proofs.lemmas.List.Elements.{All-cons, All-head, All-nil, All-tail, All-weaker}
-use Rattle.std.proofs.lemmas.List.Splits.{slice_split-cons_no, slice_split-cons_yes, slice_split_at, slice_split_none}
-use Rattle.std.specs.List.{onto_first, slice_split}
+use Rattle.std.proofs.lemmas.List.Splits.{slice_split_at, slice_split_none}
+use Rattle.std.specs.List.{slice_split}
+use Rattle.utf16_units.proofs.PartsEnded.{parts_ended, parts_lack}
 use Rattle.utf16_users.specs.MultiText.{HasNoNul, CutAtNul, IsEntry, IsReading, at_end, at_nul, before_empty, ended, table_of, texts_in}
 
 tested : (text : List ℕ) → HasNoNul text → All (λ c. eqb c 0 ≡ false) text
@@ -35,33 +35,6 @@ read_back (text ∷ texts) entries =
     texts_in-first (table_of (text ∷ texts)) text (table_of texts) (at_nul first.1 is) first.0
     ∙ ap (λ ts. text ∷ ts) (read_back texts (All-tail IsEntry text texts entries))
 
--- the parts between NULs, ended, are the text with one NUL more, and have none
-onto : (c : ℕ) (parts : List (List ℕ)) (text : List ℕ) → ended parts ≡ text ++ 0 ∷ [] → ended (onto_first c parts) ≡ c ∷ text ++ 0 ∷ []
-onto c [] [] is = absurd cc
-onto c [] (d ∷ text) is = absurd cc
-onto c (part ∷ parts) text is = ap (λ t. c ∷ t) is
-
-onto_clean : (c : ℕ) (parts : List (List ℕ)) → c ≢ 0 → All HasNoNul parts → All HasNoNul (onto_first c parts)
-onto_clean c [] is clean = All-cons HasNoNul (c ∷ []) [] (All-cons (λ c. c ≢ 0) c [] is (All-nil (λ c. c ≢ 0))) clean
-onto_clean c (part ∷ parts) is clean =
-    All-cons HasNoNul (c ∷ part) parts (All-cons (λ c. c ≢ 0) c part is (All-head HasNoNul part parts clean)) (All-tail HasNoNul part parts clean)
-
-split_ended : (text : List ℕ) → ended (slice_split (λ c. eqb c 0) text) ≡ text ++ 0 ∷ []
-split_ended [] = refl
-split_ended (c ∷ text) =
-    elim (eqb_tells c 0) [
-      | inl nul ↦ ap ended (slice_split-cons_yes (λ c. eqb c 0) c text nul.0) ∙ ap₂ (λ d t. d ∷ t) (sym nul.1) (split_ended text)
-      | inr other ↦ ap ended (slice_split-cons_no (λ c. eqb c 0) c text other.0) ∙ onto c (slice_split (λ c. eqb c 0) text) text (split_ended text)
-    ]
-
-split_clean : (text : List ℕ) → All HasNoNul (slice_split (λ c. eqb c 0) text)
-split_clean [] = All-cons HasNoNul [] [] (All-nil (λ c. c ≢ 0)) (All-nil HasNoNul)
-split_clean (c ∷ text) =
-    elim (eqb_tells c 0) [
-      | inl nul ↦ subst (All HasNoNul) (sym (slice_split-cons_yes (λ c. eqb c 0) c text nul.0)) (All-cons HasNoNul [] _ (All-nil (λ c. c ≢ 0)) (split_clean text))
-      | inr other ↦ subst (All HasNoNul) (sym (slice_split-cons_no (λ c. eqb c 0) c text other.0)) (onto_clean c _ other.1 (split_clean text))
-    ]
-
 -- the texts before the first empty one can stand in a table, and what is ended begins with it
 begun : (parts : List (List ℕ)) → (behind : List ℕ) × (table_of (before_empty parts) ++ behind ≡ ended parts ++ 0 ∷ [])
 unfolding before_empty
@@ -87,7 +60,7 @@ reading text =
     let parts = slice_split (λ c. eqb c 0) text in
     let begins = begun parts in
     record {
-      entries = fit parts (split_clean text);
+      entries = fit parts (parts_lack 0 text);
       behind = begins.0;
-      begins = begins.1 ∙ ap (λ t. t ++ 0 ∷ []) (split_ended text) ∙ append_assoc text (0 ∷ []) (0 ∷ []);
+      begins = begins.1 ∙ ap (λ t. t ++ 0 ∷ []) (parts_ended 0 text) ∙ append_assoc text (0 ∷ []) (0 ∷ []);
     }
