@@ -1,5 +1,6 @@
-//! Proved callers of the parts of a string and of the laws of boundaries, by public calls alone.
+//! Proved callers of the parts of a string, of the laws of boundaries and of the four users, by public calls alone.
 #![tactic(auto)]
 
 pub mod parts;
 pub mod readme;
+pub mod users;

@@ -1,0 +1,60 @@
+//! A short caller of each of the four users.
+
+ghost use Rattle.std.specs.Prelude.{◌≡◌, ◌++◌, [], List, ℕ, IfErr, IfOk, IfSome, Some, false, length, map, option_map, true};
+ghost use Rattle.std.specs.Vec.{vec_items};
+ghost use Rattle.utf16_users.specs.MultiText.{table_of};
+ghost use Rattle.utf16_users.specs.Records.{HoldsFields, IsReadError, field_bytes};
+ghost use Rattle.utf16_users.specs.Transcode.{IsTranscodeError};
+ghost use Rattle.utf16string.specs.Encoding.{Encodes};
+ghost use Rattle.utf16string.specs.WStr.{wstr_text};
+
+use std::alloc::{AllocError, Global};
+use utf16_users::multi_text::{WriteError, write};
+use utf16_users::names::Names;
+use utf16_users::records::{ReadError, next_field, read_fields};
+use utf16_users::transcode::{TranscodeError, utf8_of, utf16_of};
+use utf16string::{BE, LE, WStr};
+
+/// How many fields a record has.
+pub fn field_count(alloc: Global, record: &[u8]) -> Result<usize, ReadError>
+    ensures fields { IfOk result (λ n. (texts : List (List ℕ)) × HoldsFields false texts [] record.now × (length texts ≡ n)) }
+    ensures error { IfErr result (IsReadError false record.now) }
+{
+    let fields = read_fields::<LE, _>(alloc, record)?;
+    Ok(fields.len())
+}
+
+/// The first field of a record.
+pub fn title(record: &[u8]) -> Option<WStr<'_, LE>>
+    ensures { IfSome result (λ title. (rest : List ℕ) × (record.now ≡ field_bytes false (wstr_text title) ++ rest)) }
+{
+    let (title, _) = next_field(record).ok()?;
+    Some(title)
+}
+
+/// UTF-16 in little endian, by UTF-8, in big endian.
+pub fn to_big(alloc: Global, big_alloc: Global, bytes: &[u8]) -> Result<Vec<u8>, TranscodeError>
+    ensures text { IfOk result (λ big. (text : List ℕ) × Encodes false text bytes.now × Encodes true text (vec_items big)) }
+    ensures error { IfErr result (IsTranscodeError false bytes.now) }
+{
+    let text = utf8_of::<LE, Global>(alloc, bytes)?;
+    Ok(utf16_of::<BE, Global>(big_alloc, &text)?)
+}
+
+/// The bytes of a table of texts, as a value of the registry holds them.
+pub fn stored(alloc: Global, texts: &[WStr<LE>]) -> Result<Vec<u8>, WriteError>
+    ensures { IfOk result (λ bytes. Encodes false (table_of (map wstr_text texts.now)) (vec_items bytes)) }
+{
+    Ok(write(alloc, texts)?.into_bytes())
+}
+
+/// A name as a table holds it, put in where it is new.
+pub fn interned<'a>(
+    table: &'a mut Names<LE>,
+    name: WStr<LE>,
+) -> Result<Option<WStr<'a, LE>>, AllocError>
+    ensures { IfOk result (λ found. option_map wstr_text found ≡ Some (wstr_text name.entry)) }
+{
+    let number = table.intern(name)?;
+    Ok(table.get(number))
+}
