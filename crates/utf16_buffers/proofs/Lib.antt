@@ -1,4 +1,3 @@
 pub mod WroteLemmas
-pub mod FaultDecides
 pub mod MarkLemmas
 pub mod EncodeLemmas

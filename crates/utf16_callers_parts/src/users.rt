@@ -15,20 +15,20 @@ use utf16_users::records::{ReadError, next_field, read_fields};
 use utf16_users::transcode::{TranscodeError, utf8_of, utf16_of};
 use utf16string::{BE, LE, WStr};
 
-/// How many fields a record has.
-pub fn field_count(alloc: Global, record: &[u8]) -> Result<usize, ReadError>
-    ensures fields { IfOk result (λ n. (texts : List (List ℕ)) × HoldsFields false texts [] record.now × (length texts ≡ n)) }
-    ensures error { IfErr result (IsReadError false record.now) }
+/// How many fields a buffer holds.
+pub fn field_count(alloc: Global, buffer: &[u8]) -> Result<usize, ReadError>
+    ensures fields { IfOk result (λ n. (texts : List (List ℕ)) × HoldsFields false texts [] buffer.now × (length texts ≡ n)) }
+    ensures error { IfErr result (IsReadError false buffer.now) }
 {
-    let fields = read_fields::<LE, _>(alloc, record)?;
+    let fields = read_fields::<LE, _>(alloc, buffer)?;
     Ok(fields.len())
 }
 
-/// The first field of a record.
-pub fn title(record: &[u8]) -> Option<WStr<'_, LE>>
-    ensures { IfSome result (λ title. (rest : List ℕ) × (record.now ≡ field_bytes false (wstr_text title) ++ rest)) }
+/// The first field of a buffer.
+pub fn title(buffer: &[u8]) -> Option<WStr<'_, LE>>
+    ensures { IfSome result (λ title. (rest : List ℕ) × (buffer.now ≡ field_bytes false (wstr_text title) ++ rest)) }
 {
-    let (title, _) = next_field(record).ok()?;
+    let (title, _) = next_field(buffer).ok()?;
     Some(title)
 }
 

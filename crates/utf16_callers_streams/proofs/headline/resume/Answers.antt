@@ -6,7 +6,8 @@ use Rattle.utf16_units.proofs.FirstChar.{AreBytes}
 use Rattle.utf16_units.proofs.RecipeLemmas.{split_text}
 use Rattle.utf16_units.proofs.SplitFault.{AreBytes-drop}
 use Rattle.utf16_tools.specs.Decodes.{Decodes}
-use Rattle.utf16_tools.proofs.DecodesLemmas.{Decodes-last, Decodes-none, Decodes-then, cut_off_decides, cut_off_leaves, fault_decides, text_shown}
+use Rattle.utf16_tools.proofs.DecodesLemmas.{Decodes-last, Decodes-none, Decodes-then, cut_off_decides, cut_off_leaves, text_shown}
+use Rattle.utf16_tools.proofs.FaultDecides.{fault_decides}
 use Rattle.utf16_callers_streams.proofs.headline.resume.Goals as goal
 
 pub loop-text-init : goal.loop-text-init
