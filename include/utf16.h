@@ -23,7 +23,7 @@ extern "C" {
 /* Why a call stopped. Other values do not come. */
 #define UTF16_DONE UINT32_C(0)    /* all of the input was read */
 #define UTF16_FAULT UINT32_C(1)   /* a fault stands behind what was read; decoding may resume `fault_len` bytes on */
-#define UTF16_CUT_OFF UINT32_C(2) /* the input ends inside a character, of which more bytes may follow */
+#define UTF16_CUT_OFF UINT32_C(2) /* the input ends inside a character; more bytes may complete it */
 #define UTF16_NO_ROOM UINT32_C(3) /* the next character does not fit; call again with the rest of the input and more room */
 
 /* How far a call came: `read` bytes of the input, and `written` bytes at the front of `to`. Both end between characters. What
@@ -47,7 +47,8 @@ typedef struct utf16_validity {
  * (the last 1 to 3 bytes). */
 utf16_validity utf16_validate(bool big, const uint8_t *raw, size_t len);
 
-/* How many characters the bytes have. Of bytes that are not UTF-16: how many whole code units but trailing surrogates. */
+/* How many characters the bytes have. Of bytes that are not UTF-16: how many whole code units that are not trailing
+ * surrogates. */
 size_t utf16_count(bool big, const uint8_t *raw, size_t len);
 
 /* Whether the bytes are whole code units that are all ASCII, below U+0080: UTF-16 whose characters are all ASCII. */
@@ -75,8 +76,8 @@ utf16_progress utf16_from_utf8(bool big, const uint8_t *text, size_t len, uint8_
 /* A stream of UTF-16 that comes in pieces, cut anywhere: the same as utf16_to_utf8_marked, but a character that is cut off at the
  * end is not read: UTF16_DONE, UTF16_CUT_OFF or UTF16_NO_ROOM. With UTF16_CUT_OFF at most 3 bytes are left behind `read`: put them
  * before the next piece; at the end of the stream they are U+FFFD, which utf16_to_utf8_marked writes. With UTF16_NO_ROOM call again
- * with what is left behind `read`. With room for 4 bytes or more, a call that answers UTF16_NO_ROOM has written something. However
- * a stream is cut, and whatever the room, the same bytes are written in all. */
+ * with what is left behind `read`. With room for 4 bytes or more, a call that answers UTF16_NO_ROOM has written something, and
+ * however the stream is cut, the same bytes are written in all: this follows from what is proved of each call. */
 utf16_progress utf16_to_utf8_stream(bool big, const uint8_t *raw, size_t len, uint8_t *to, size_t room);
 
 /* The byte order at the beginning of a stream. */

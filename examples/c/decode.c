@@ -4,8 +4,8 @@
 #include <stdio.h>
 #include <string.h>
 
-/* Writes what bytes decide, or at the end of the stream all of them, as often as the buffer is full. Answers how many were read, or
- * SIZE_MAX where they could not be written. */
+/* Writes the text that the bytes decide, at the end of the stream the text of all of them, one buffer after another. Answers how many
+ * were read, or SIZE_MAX where the text could not be written. */
 static size_t write_text(bool big, const uint8_t *raw, size_t len, bool at_end) {
     uint8_t utf8[1024];
     size_t read = 0;

@@ -49,7 +49,7 @@ def validate(big, raw):
 
 
 def count(big, raw):
-    """How many characters the bytes have."""
+    """How many characters the bytes have; of bytes that are not UTF-16, how many whole code units that are not trailing surrogates."""
     return _count(big, raw, len(raw))
 
 
