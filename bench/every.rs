@@ -2,21 +2,38 @@
 //! `char` gives: alone, which goes by characters, and among letters and repeated, which goes by lanes, at each place of a block.
 //! The last line says how many calls were made and how many of their answers differed.
 
+#[repr(C)]
+struct Progress {
+    read: usize,
+    written: usize,
+    status: u32,
+    fault_len: u32,
+}
+
+type Call = unsafe extern "C" fn(bool, *const u8, usize, *mut u8, usize) -> Progress;
+
 unsafe extern "C" {
-    fn utf16_to_utf8(big: bool, raw: *const u8, len: usize, to: *mut u8, room: usize) -> usize;
-    fn utf16_from_utf8(big: bool, text: *const u8, len: usize, to: *mut u8, room: usize) -> usize;
+    fn utf16_to_utf8(big: bool, raw: *const u8, len: usize, to: *mut u8, room: usize) -> Progress;
+    fn utf16_from_utf8(big: bool, text: *const u8, len: usize, to: *mut u8, room: usize) -> Progress;
 }
 
-type Call = unsafe extern "C" fn(bool, *const u8, usize, *mut u8, usize) -> usize;
-
-// Whether a call makes just this of a text, and leaves what stands behind it in the buffer.
-fn makes(call: Call, big: bool, of: &[u8], wanted: &[u8]) -> bool {
+// Whether a call makes just this of a text in a buffer of so many bytes, and writes nothing behind the buffer.
+fn makes_in(call: Call, big: bool, of: &[u8], wanted: &[u8], room: usize) -> bool {
     let mut to = [0xA5; 1024];
-    let len = unsafe { call(big, of.as_ptr(), of.len(), to.as_mut_ptr(), to.len()) };
-    len == wanted.len() && to[..len] == *wanted && to[len..].iter().all(|byte| *byte == 0xA5)
+    let found = unsafe { call(big, of.as_ptr(), of.len(), to.as_mut_ptr(), room) };
+    found.status == 0
+        && found.fault_len == 0
+        && found.read == of.len()
+        && to[..found.written] == *wanted
+        && to[room..].iter().all(|byte| *byte == 0xA5)
 }
 
-// How many of the four calls, both ways in both orders, differ.
+// The same in a large buffer, and in one that just fits.
+fn makes(call: Call, big: bool, of: &[u8], wanted: &[u8]) -> bool {
+    makes_in(call, big, of, wanted, 1024) && makes_in(call, big, of, wanted, wanted.len())
+}
+
+// How many of the four ways, there and back in both orders, differ.
 fn differing(text: &str) -> usize {
     let differs = |big: bool| {
         let bytes = |unit: u16| if big { unit.to_be_bytes() } else { unit.to_le_bytes() };
@@ -42,6 +59,6 @@ fn main() {
         }
         characters += 1;
     }
-    println!("{characters} characters in {texts} texts: {} calls ran, {differed} differed", 4 * texts);
+    println!("{characters} characters in {texts} texts: {} calls ran, {differed} differed", 8 * texts);
     std::process::exit((differed > 0) as i32);
 }

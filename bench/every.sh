@@ -1,16 +1,12 @@
 #!/bin/sh
 # Takes every character from UTF-16 to UTF-8 and back, in both byte orders, beside Rust's `char`. It builds the static library
-# `utf16_c` and links `every.rs` with it, in a temporary folder; the first run proves the libraries there. The last line says how
-# many calls ran and how many differed.
+# `utf16_c` and links `every.rs` with it. The last line says how many calls ran and how many differed.
 set -e
 top=$(cd "$(dirname "$0")/.." && pwd)
 kit=$(dirname "$(rt doc)")
 room=$(mktemp -d)
-mkdir "$room/crates"
-for crate in utf16_units utf16_to_utf8 utf16_from_utf8 utf16_str utf16string utf16_c; do cp -r "$top/crates/$crate" "$room/crates"; done
-printf 'utf16_units: byteorder\nutf16_to_utf8: utf16_units\nutf16_from_utf8: utf16_units\nutf16_str: utf16_to_utf8 utf16_units\nutf16string: utf16_str utf16_from_utf8 utf16_units\nutf16_c staticlib: utf16string utf16_units\n' > "$room/crates.txt"
-(cd "$room/crates/utf16_c" && rt lib > "$room/said" 2>&1) || { cat "$room/said" >&2; exit 1; }
-rustc --edition 2024 -O -o "$room/every" "$top/bench/every.rs" -C link-args="$room/crates/utf16_c/out/libutf16_c.a $kit/c/liblibc_c.a"
+(cd "$top/crates/utf16_c" && rt lib > "$room/said" 2>&1) || { cat "$room/said" >&2; exit 1; }
+rustc --edition 2024 -O -o "$room/every" "$top/bench/every.rs" -C link-args="$top/crates/utf16_c/out/libutf16_c.a $kit/c/liblibc_c.a"
 status=0
 "$room/every" || status=$?
 rm -r "$room"

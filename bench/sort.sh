@@ -7,9 +7,12 @@ set -e
 top=$(cd "$(dirname "$0")/.." && pwd)
 room=$(mktemp -d)
 mkdir -p "$room/crates/sort_bench/src"
-for crate in utf16_units utf16_to_utf8 utf16_from_utf8 utf16_str utf16string; do cp -r "$top/crates/$crate" "$room/crates"; done
+for crate in utf16_units utf16_forms utf16_to_utf8 utf16_from_utf8 utf16_str utf16_retain utf16string; do
+    cp -r "$top/crates/$crate" "$room/crates"
+    grep "^$crate:" "$top/crates.txt" >> "$room/crates.txt"
+done
 cp "$top/bench/sort.rt.txt" "$room/crates/sort_bench/src/main.rt"
-printf 'utf16_units: byteorder\nutf16_to_utf8: utf16_units\nutf16_from_utf8: utf16_units\nutf16_str: utf16_to_utf8 utf16_units\nutf16string: utf16_str utf16_from_utf8 utf16_units\nsort_bench: utf16string\n' > "$room/crates.txt"
+echo 'sort_bench: utf16string' >> "$room/crates.txt"
 rustc -O -o "$room/sort" "$top/bench/sort.rs"
 (cd "$room/crates/sort_bench" && rt run) > "$room/times" 2> "$room/said"
 for _ in 1 2 3; do
