@@ -12,8 +12,6 @@ use utf16_units::{Utf16Order, is_leading_surrogate};
 /// about each character, from the front to the back, and its state runs through. Nothing is moved before the first character that
 /// goes; what is behind those kept has no meaning. The caller proves that the bytes are well formed in the order `E`, and that the
 /// predicate may be asked about each character in turn. In time linear in the length.
-// Sixteen characters of one unit each are asked about together. Where there is a pair among the next sixteen units, the first eight
-// are asked about together if they stand before it, and else those before it one by one.
 pub fn move_kept<E: Utf16Order, F: FnMut(char) -> bool>(bytes: &mut [u8], keep: &mut F) -> usize
     requires text { IsText E.BIG bytes.old }
     requires askable { MayBeAsked F.FnMut keep.old (text_of E.BIG bytes.old) }
@@ -21,6 +19,8 @@ pub fn move_kept<E: Utf16Order, F: FnMut(char) -> bool>(bytes: &mut [u8], keep: 
     ensures text { RetainsTo F.FnMut keep.old (text_of E.BIG bytes.old) (text_of E.BIG (take result bytes.new)) keep.new }
     ensures within { result ≤ length bytes.old }
 {
+    // Sixteen characters of one unit each are asked about together. Where there is a pair among the next sixteen units, the first eight
+    // are asked about together if they stand before it, and else those before it one by one.
     let mut kept = 0;
     let mut read = 0;
     while read < bytes.len() {
