@@ -19,9 +19,9 @@ use Rattle.utf16_units.proofs.ShownLemmas.{split_within}
 use Rattle.utf16_units.proofs.SplitLemmas.{Split-computed}
 use Rattle.utf16_units.proofs.SplitFault.{AreBytes-drop, lone_item, split_items-fault, split_tail-cut_off, split_tail-fault}
 use Rattle.utf16_units.proofs.SplitJoin.{split_items-text, split_tail-text}
-use Rattle.utf16_tools.specs.Decodes.{Decodes}
-use Rattle.utf16_tools.proofs.DecodesLemmas.{Decodes-none, Decodes-then, cut_off_decides, cut_off_leaves, split_tail-again, undecided_items}
-use Rattle.utf16_tools.proofs.FaultDecides.{fault_decides}
+use Rattle.utf16_forms.specs.Decodes.{Decodes}
+use Rattle.utf16_forms.proofs.DecodesLemmas.{Decodes-none, Decodes-then, cut_off_decides, cut_off_leaves, split_tail-again, undecided_items}
+use Rattle.utf16_forms.proofs.FaultDecides.{fault_decides}
 use Rattle.utf16_buffers.specs.Shown.{ShowsWhole, text_of_utf16}
 use Rattle.utf16_buffers.specs.Wrote.{DecodesTo, IsUtf8Of, Wrote}
 use Rattle.utf16_buffers.specs.Stops.{NextDoesNotFit, StopsDecoding, StopsMarking, StopsMarkingWhole, TextDoesNotFit}

@@ -2,7 +2,7 @@
 use Rattle.std.specs.Prelude.{◌≡◌, ℕ, ◌≤◌, Bool, List, [], ◌++◌, length, take, drop, encode_utf8_all}
 use Rattle.std.specs.Str.{IsUtf8, chars}
 use Rattle.utf16_units.specs.Encoding.{IsText, encode, text_of}
-use Rattle.utf16_tools.specs.Decodes.{Decodes}
+use Rattle.utf16_forms.specs.Decodes.{Decodes}
 
 -- bytes of UTF-16 and the UTF-8 of the same text
 abbrev pub IsUtf8Of : Bool → List ℕ → List ℕ → Type 0

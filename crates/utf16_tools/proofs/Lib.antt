@@ -1,6 +1,6 @@
 pub mod MarkLemmas
 pub mod MarkRows
-pub mod DecodesLemmas
-pub mod FaultDecides
-pub mod StreamLemmas
+pub use Rattle.utf16_forms.proofs.DecodesLemmas
+pub use Rattle.utf16_forms.proofs.FaultDecides
+pub use Rattle.utf16_forms.proofs.StreamLemmas
 pub mod FilterLemmas

@@ -3,7 +3,7 @@ pub use Rattle.utf16_edits.specs.Step
 pub use Rattle.utf16_edits.specs.Edited
 pub mod Mark
 pub mod Watched
-pub mod Decodes
+pub use Rattle.utf16_forms.specs.Decodes
 pub mod Held
 pub mod Lossy
 pub mod AnyLossy

@@ -7,7 +7,7 @@ ghost use Rattle.std.specs.Vec.{vec_items};
 ghost use Rattle.utf16_units.specs.Encoding.{text_of};
 ghost use Rattle.utf16_units.specs.Fault.{IsFront};
 ghost use Rattle.utf16_units.specs.Split.{IsTail, full, marked, split_items, split_tail};
-ghost use Rattle.utf16_tools.specs.Decodes.{Decodes};
+ghost use Rattle.utf16_forms.specs.Decodes.{Decodes};
 ghost use Rattle.utf16_tools.specs.Held.{held_bytes};
 
 use crate::decoder::Decoder;

@@ -2,7 +2,7 @@ use Rattle.std.proofs.Common.{◌≡◌, ◌≤◌, ◌++◌, [], take, refl, ap
 use Rattle.std.proofs.lemmas.List.{length-take-le}
 use Rattle.std.proofs.KnownBytes.{Keeps-refl}
 use Rattle.utf16_tools.specs.Mark.{items_in}
-use Rattle.utf16_tools.proofs.DecodesLemmas.{shown}
+use Rattle.utf16_forms.proofs.DecodesLemmas.{shown}
 use Rattle.utf16_tools.proofs.FilterLemmas.{Filtering-end, Filtering-end_fault, Filtering-fault, Filtering-more, Filtering-refused, Filtering-some, Filtering-start}
 use Rattle.utf16_tools.proofs.filters.filter_by.Goals as goal
 

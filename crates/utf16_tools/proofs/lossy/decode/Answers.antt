@@ -4,8 +4,8 @@ use Rattle.utf16_units.specs.Split.{split_items}
 use Rattle.utf16_units.proofs.FirstChar.{AreBytes}
 use Rattle.utf16_units.proofs.RecipeLemmas.{split_text}
 use Rattle.utf16_units.proofs.SplitFault.{AreBytes-drop}
-use Rattle.utf16_tools.specs.Decodes.{Decodes}
-use Rattle.utf16_tools.proofs.DecodesLemmas.{Decodes-empty, Decodes-last, Decodes-none, Decodes-then, cut_off_decides, cut_off_leaves, Decodes-front, fault_is_something, fault_left, no_text, none_of, nothing_valid, some_of, text_shown, valid_front}
+use Rattle.utf16_forms.specs.Decodes.{Decodes}
+use Rattle.utf16_forms.proofs.DecodesLemmas.{Decodes-empty, Decodes-last, Decodes-none, Decodes-then, cut_off_decides, cut_off_leaves, Decodes-front, fault_is_something, fault_left, no_text, none_of, nothing_valid, some_of, text_shown, valid_front}
 use Rattle.utf16_tools.proofs.lossy.decode.Goals as goal
 
 pub loop-text-init : goal.loop-text-init

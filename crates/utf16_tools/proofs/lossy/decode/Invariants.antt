@@ -1,6 +1,6 @@
 use Rattle.std.proofs.Common.{length, string_bytes}
 use Rattle.utf16_units.proofs.FirstChar.{AreBytes}
-use Rattle.utf16_tools.specs.Decodes.{Decodes}
+use Rattle.utf16_forms.specs.Decodes.{Decodes}
 use Rattle.utf16_tools.proofs.lossy.decode.Given as goal
 
 -- what stands before the rest is decoded

@@ -2,7 +2,7 @@ use Rattle.std.proofs.Common.{◌≡◌, ◌≤◌, ◌++◌, [], length, string
 use Rattle.std.proofs.lemmas.List.{nil_from_length}
 use Rattle.utf16_units.specs.Split.{split_items}
 use Rattle.utf16_units.proofs.SplitUnique.{length-split_tail}
-use Rattle.utf16_tools.proofs.DecodesLemmas.{Decodes-empty, Decodes-end, Decodes-last, Decodes-then, shown, undecided_items}
+use Rattle.utf16_forms.proofs.DecodesLemmas.{Decodes-empty, Decodes-end, Decodes-last, Decodes-then, shown, undecided_items}
 use Rattle.utf16_tools.specs.Held.{held_bytes}
 use Rattle.utf16_tools.proofs.lossy.decode_from.Goals as goal
 

@@ -1,6 +1,6 @@
 use Rattle.std.proofs.Common.{◌≡◌, ◌+◌, ◌*◌, ◌++◌, length, string_bytes}
 use Rattle.utf16_units.specs.Split.{split_tail}
-use Rattle.utf16_tools.specs.Decodes.{Decodes}
+use Rattle.utf16_forms.specs.Decodes.{Decodes}
 use Rattle.utf16_tools.specs.Held.{held_bytes}
 use Rattle.utf16_tools.proofs.lossy.decode_from.Given as goal
 

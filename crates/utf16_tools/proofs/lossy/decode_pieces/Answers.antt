@@ -4,8 +4,8 @@ use Rattle.std.specs.List.{flat_map}
 use Rattle.std.specs.Vec.{vec_items}
 use Rattle.utf16_units.specs.Split.{full, split_items, split_tail}
 use Rattle.utf16_units.proofs.SplitJoin.{split_tail-append}
-use Rattle.utf16_tools.proofs.StreamLemmas.{finished, full-mark, joined-more, shown-piece}
-use Rattle.utf16_tools.proofs.DecodesLemmas.{shown}
+use Rattle.utf16_forms.proofs.StreamLemmas.{finished, full-mark, joined-more, shown-piece}
+use Rattle.utf16_forms.proofs.DecodesLemmas.{shown}
 use Rattle.utf16_tools.specs.Lossy.{lossy_pending}
 use Rattle.utf16_tools.proofs.lossy.decode_pieces.Goals as goal
 

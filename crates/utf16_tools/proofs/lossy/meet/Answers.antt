@@ -2,8 +2,8 @@ use Rattle.std.proofs.Common.{◌-◌, ◌≤◌, ◌++◌, length, take, drop, 
 use Rattle.std.proofs.lemmas.List.{take_rest}
 use Rattle.utf16_units.specs.Split.{split_tail}
 use Rattle.utf16_units.proofs.SplitUnique.{length-split_tail}
-use Rattle.utf16_tools.proofs.DecodesLemmas.{Decodes-seam, less_left, no_seam, split_tail-again, tail_in_piece}
-use Rattle.utf16_tools.specs.Decodes.{Decodes}
+use Rattle.utf16_forms.proofs.DecodesLemmas.{Decodes-seam, less_left, no_seam, split_tail-again, tail_in_piece}
+use Rattle.utf16_forms.specs.Decodes.{Decodes}
 use Rattle.utf16_tools.specs.Held.{held_bytes}
 use Rattle.utf16_tools.proofs.lossy.meet.Goals as goal
 

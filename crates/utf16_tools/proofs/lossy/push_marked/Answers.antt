@@ -2,7 +2,7 @@ use Rattle.std.proofs.Common.{◌≤◌, ◌<◌, ◌⊎◌, ◌++◌, encode_ut
 use Rattle.std.proofs.lemmas.Bool.{cases_lt}
 use Rattle.utf16_units.specs.Split.{marked}
 use Rattle.utf16_units.proofs.EncodingLemmas.{Encodes-unique}
-use Rattle.utf16_tools.proofs.DecodesLemmas.{Decodes-decided, none_decided, some_decided}
+use Rattle.utf16_forms.proofs.DecodesLemmas.{Decodes-decided, none_decided, some_decided}
 use Rattle.utf16_tools.proofs.lossy.push_marked.Goals as goal
 
 pub returns-clause-step : goal.returns-clause-step

@@ -5,7 +5,7 @@ use Rattle.std.proofs.lemmas.List.Concat.{flat_map-append}
 use Rattle.std.specs.Char.{encode_utf8}
 use Rattle.utf16_units.specs.Split.{Item, full, marked, split_items, split_tail}
 use Rattle.utf16_units.proofs.SplitJoin.{split_items-append}
-use Rattle.utf16_tools.proofs.DecodesLemmas.{shown, shown-append}
+use Rattle.utf16_forms.proofs.DecodesLemmas.{shown, shown-append}
 
 -- one more piece: what the tail and the piece decide comes behind
 pub shown-piece : (big : Bool) (front piece : List ℕ) → shown (split_items big (front ++ piece)) ≡ shown (split_items big front) ++ shown (split_items big (split_tail big front ++ piece))

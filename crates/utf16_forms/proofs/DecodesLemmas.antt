@@ -20,7 +20,7 @@ use Rattle.utf16_units.proofs.SplitJoin.{some_put_unit, split_items-append, spli
 use Rattle.utf16_units.proofs.SplitUnique.{length-split_tail}
 use Rattle.utf16_units.proofs.SplitFault.{lone_item, split_items-cut_off, split_items-fault, split_tail-cut_off}
 use Rattle.utf16_units.proofs.RecipeLemmas.{marked-good, split_text, two}
-use Rattle.utf16_tools.specs.Decodes.{Decodes}
+use Rattle.utf16_forms.specs.Decodes.{Decodes}
 
 -- the UTF-8 of what items are shown by
 abbrev pub shown : List Item → List ℕ

@@ -10,8 +10,8 @@ use Rattle.utf16_units.specs.Split.{good, split_items}
 use Rattle.utf16_units.proofs.FirstChar.{AreBytes, first_unit}
 use Rattle.utf16_units.proofs.SplitFault.{lone_item, split_items-fault, split_tail-fault}
 use Rattle.utf16_units.proofs.RecipeLemmas.{mark-lone_item, marked-good, two}
-use Rattle.utf16_tools.specs.Decodes.{Decodes}
-use Rattle.utf16_tools.proofs.DecodesLemmas.{shown, shown-append}
+use Rattle.utf16_forms.specs.Decodes.{Decodes}
+use Rattle.utf16_forms.proofs.DecodesLemmas.{shown, shown-append}
 
 shown-lone : (unit : ℕ) → encode_utf8 0xFFFD ≡ shown (lone_item unit ∷ [])
 unfolding encode_utf8
