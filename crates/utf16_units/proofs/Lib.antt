@@ -17,6 +17,7 @@ pub mod FrontChar
 pub mod BoundaryLemmas
 pub mod BoundaryComputed
 pub mod EditLemmas
+pub mod EditParts
 pub mod ContinuedLemmas
 pub mod PartLemmas
 pub mod PieceLemmas

@@ -4,6 +4,7 @@ use Rattle.std.proofs.lemmas.Bool.{cases_lt}
 use Rattle.utf16_units.specs.Boundary.{IsAbsentBefore, StandsIn}
 use Rattle.utf16_units.specs.Laws.{StandsAt}
 use Rattle.utf16_units.proofs.EditLemmas.{Encodes-checked}
+use Rattle.utf16_units.proofs.EditParts.{kept-back, kept-front, kept-start, put-back, put-end, put-there, size-insert_at, size-overwrite_at}
 use Rattle.utf16_units.proofs.LawProofs.{at_boundaries, found_exactly, size-some}
 use Rattle.utf16_units.specs.Encoding.{encode, is_text, size, text_of}
 use Rattle.utf16_units.proofs.BoundaryLemmas.{IsBoundary-end, IsBoundary-start, IsBoundary-within, size-text_to, text_between-end, text_to-text_from}
@@ -23,6 +24,9 @@ pub ruleset boundaries = (IsBoundary-start, IsBoundary-end, IsBoundary-within, t
 
 -- what stays when more is put behind a text, and where it stands
 pub ruleset behind = (IsBoundary-append, IsBoundary-seam, IsBoundary-end, text_between-append, text_between-behind, size-append, length-checked)
+
+-- a text after an edit at a boundary: what stands before it, there and behind it, and how long the text is
+pub ruleset edits = (IsBoundary-within, kept-start, kept-front, kept-back, put-end, put-there, put-back, size-insert_at, size-overwrite_at, text_to-text_from, length-checked)
 
 -- texts, and the bytes that encode them
 pub ruleset texts = (text_of-encode, IsText-encode, length-encode, encode-checked, length-checked)

@@ -1,0 +1,74 @@
+//! What stands where in a string after an edit.
+
+ghost use Rattle.std.specs.Prelude.{◌≡◌, ◌↔◌, ◌⊎◌, ◌+◌, IfOk, IfSome, IsNone, IsSome, IsTrue, OnErr, OnOk, false};
+ghost use Rattle.utf16_units.specs.Boundary.{IsBoundary, text_between, text_from, text_to};
+ghost use Rattle.utf16_units.specs.Encoding.{size};
+ghost use Rattle.utf16string.specs.WStr.{wstr_text};
+ghost use Rattle.utf16string.specs.WString.{wstring_text};
+
+use std::alloc::{AllocError, Allocator};
+use utf16string::{Utf16Order, WStr, WString};
+
+/// Puts a text in at an offset, where that is a character boundary: where it ends.
+#[tactic(auto, using(utf16_units::proofs::Rules::edits))]
+pub fn put_in<E: Utf16Order, A: Allocator>(
+    text: &mut WString<E, A>,
+    at: usize,
+    part: WStr<E>,
+) -> Result<Option<usize>, AllocError>
+    ensures some { IfOk result (λ end. IsSome end ↔ IsBoundary (wstring_text text.old) at) }
+    ensures start { IfOk result (λ end. IfSome end (λ _. IsBoundary (wstring_text text.new) at)) }
+    ensures end { IfOk result (λ end. IfSome end (IsBoundary (wstring_text text.new))) }
+    ensures there { IfOk result (λ end. IfSome end (λ end. text_between (wstring_text text.new) at end ≡ wstr_text part.entry)) }
+    ensures front { IfOk result (λ end. IfSome end (λ _. text_to (wstring_text text.new) at ≡ text_to (wstring_text text.old) at)) }
+    ensures back { IfOk result (λ end. IfSome end (λ end. text_from (wstring_text text.new) end ≡ text_from (wstring_text text.old) at)) }
+    ensures size { IfOk result (λ end. IfSome end (λ _. size (wstring_text text.new) ≡ size (wstring_text text.old) + size (wstr_text part.entry))) }
+    ensures kept { IfOk result (λ end. IsNone end → wstring_text text.new ≡ wstring_text text.old) }
+    ensures refused { OnErr result (wstring_text text.new ≡ wstring_text text.old) }
+{
+    if !text.is_char_boundary(at) {
+        return Ok(None);
+    }
+    text.insert_wstr(at, part)?;
+    Ok(Some(at + part.len()))
+}
+
+/// Writes a text over as many bytes from an offset on, where it fits there: whether it does. The string is as long then.
+#[tactic(auto, using(utf16_units::proofs::Rules::edits))]
+pub fn put_over<E: Utf16Order, A: Allocator>(
+    text: &mut WString<E, A>,
+    at: usize,
+    part: WStr<E>,
+) -> bool
+    ensures fits { IsTrue result ↔ (IsBoundary (wstring_text text.old) at × IsBoundary (wstring_text text.old) (at + size (wstr_text part.entry))) }
+    ensures there { IsTrue result → text_between (wstring_text text.new) at (at + size (wstr_text part.entry)) ≡ wstr_text part.entry }
+    ensures front { IsTrue result → text_to (wstring_text text.new) at ≡ text_to (wstring_text text.old) at }
+    ensures back { IsTrue result → text_from (wstring_text text.new) (at + size (wstr_text part.entry)) ≡ text_from (wstring_text text.old) (at + size (wstr_text part.entry)) }
+    ensures size { IsTrue result → size (wstring_text text.new) ≡ size (wstring_text text.old) }
+    ensures kept { result ≡ false → wstring_text text.new ≡ wstring_text text.old }
+{
+    let fits = text.fits(at, part);
+    if fits {
+        text.overwrite(at, part);
+    }
+    fits
+}
+
+/// Takes off the back from an offset on, where that is a character boundary, and puts it last again. Where memory is refused the
+/// text is as it was, or its back is gone.
+#[tactic(auto, using(utf16_units::proofs::Rules::edits))]
+pub fn cut_and_mended<E: Utf16Order, A: Allocator + Clone>(
+    text: &mut WString<E, A>,
+    at: usize,
+) -> Result<bool, AllocError>
+    ensures fits { IfOk result (λ done. IsTrue done ↔ IsBoundary (wstring_text text.old) at) }
+    ensures same { OnOk result (wstring_text text.new ≡ wstring_text text.old) }
+    ensures front { OnErr result (wstring_text text.new ≡ wstring_text text.old ⊎ wstring_text text.new ≡ text_to (wstring_text text.old) at) }
+{
+    if !text.is_char_boundary(at) {
+        return Ok(false);
+    }
+    let back = text.split_off(at)?;
+    text.push_wstr(back.as_wstr())?;
+    Ok(true)
+}
