@@ -1,12 +1,14 @@
 //! The parts of a view: by ranges, on both sides of an offset, and on both sides of a character.
 
-ghost use Rattle.std.specs.Prelude.{◌≡◌, ◌↔◌, IfSome, IsSome, Some, ◌++◌, drop, length, take};
+ghost use Rattle.std.specs.Prelude.{◌≡◌, ◌↔◌, IfSome, IsNone, IsSome, Some, ◌++◌, ◌+◌, ◌∷◌, drop, length, take};
 ghost use Rattle.utf16_units.specs.Boundary.{IsBoundary, text_between, text_from, text_to};
+ghost use Rattle.utf16_units.specs.Delimited.{Lacks};
+ghost use Rattle.utf16_units.specs.Encoding.{char_size, size};
 ghost use Rattle.utf16_str.specs.Window.{IsWindowOf, bytes_between, window_bytes, window_text};
 ghost use Rattle.utf16_str.specs.WStr.{wstr_bytes, wstr_text};
 
 use crate::{SliceIndex, WStr};
-use utf16_units::Utf16Order;
+use utf16_units::{Utf16CharExt, Utf16Order};
 
 impl<'a, E: Utf16Order> WStr<'a, E> {
     /// The part of a range, or `None` where its window is reversed, or an end is no character boundary.
@@ -72,6 +74,26 @@ impl<'a, E: Utf16Order> WStr<'a, E> {
         } else {
             None
         }
+    }
+
+    /// What stands in front of the first such character, and what stands behind it, or `None` where the text lacks it. One pass,
+    /// up to that character; no copy.
+    #[tactic(auto, using(crate::proofs::CharSearch::passing))]
+    pub fn split_once(self, delimiter: char) -> Option<(WStr<'a, E>, WStr<'a, E>)>
+        ensures none { IsNone result ↔ Lacks delimiter (wstr_text self.entry) }
+        ensures split { IfSome result (λ parts. wstr_text self.entry ≡ wstr_text parts.0 ++ delimiter ∷ wstr_text parts.1) }
+        ensures first { IfSome result (λ parts. Lacks delimiter (wstr_text parts.0)) }
+        ensures front_bytes { IfSome result (λ parts. wstr_bytes parts.0 ≡ take (size (wstr_text parts.0)) (wstr_bytes self.entry)) }
+        ensures back_bytes { IfSome result (λ parts. wstr_bytes parts.1 ≡ drop (size (wstr_text parts.0) + char_size delimiter) (wstr_bytes self.entry)) }
+    {
+        for (at, c) in self.char_indices() {
+            if c == delimiter {
+                let (front, _) = self.split_at(at);
+                let (_, back) = self.split_at(at + c.encoded_utf16_len());
+                return Some((front, back));
+            }
+        }
+        None
     }
 
     // The part from one offset up to another, where both are boundaries in this order.
