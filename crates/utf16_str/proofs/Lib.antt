@@ -1,3 +1,4 @@
 pub mod OffsetLemmas
+pub mod CharSearch
 pub mod Overwritten
 pub mod StrLemmas

@@ -41,7 +41,7 @@ map-char_offsets offset [] = refl
 map-char_offsets offset (c ∷ text) = ap (λ t. c ∷ t) (map-char_offsets (offset + char_size c) text)
 
 -- a character behind a beginning of the text stands at the size of that beginning
-char_at_size : (front : List ℕ) (c : ℕ) (back : List ℕ) → IsCharAt (front ++ c ∷ back) (size front, c)
+pub char_at_size : (front : List ℕ) (c : ℕ) (back : List ℕ) → IsCharAt (front ++ c ∷ back) (size front, c)
 char_at_size front c back =
     let text = front ++ c ∷ back in
     let next : size (front ++ c ∷ []) ≡ size front + char_size c = omega (arith, size-append front (c ∷ []), size-cons c [], size-nil) in

@@ -2,6 +2,7 @@
 #![tactic(auto)]
 
 mod iters;
+mod parts;
 mod slicing;
 mod utf8;
 mod wstr;

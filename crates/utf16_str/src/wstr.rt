@@ -1,6 +1,6 @@
 //! A borrowed UTF-16 string.
 
-ghost use Rattle.std.specs.Prelude.{◌≡◌, ◌↔◌, ⊤, [], true, false, length, IsTrue, IsOk, IfOk, IfErr, IsSome, IfSome, Some, All, ◌++◌, ◌+◌, ◌<◌, ◌^◌, ℕ, List, chars, drop, nat_eq, encode_utf8_all, string_bytes, take};
+ghost use Rattle.std.specs.Prelude.{◌≡◌, ◌↔◌, ⊤, [], true, false, length, IsTrue, IsOk, IfOk, IfErr, Some, All, ◌+◌, ◌<◌, ◌^◌, ℕ, List, chars, nat_eq, encode_utf8_all};
 ghost use Rattle.std.specs.Cmp.{on_equiv, on_per, on_total, partial_equiv_from_equiv, po};
 ghost use Rattle.std.specs.Cmp.Lexicographic.{nat_list_cmp_total, nat_list_eq_equiv, pointwise, slice_cmp};
 ghost use Rattle.std.specs.Cmp.Rules.{hashing};
@@ -10,15 +10,14 @@ ghost use Rattle.std.specs.Iterator.Runs.{YieldsInOrder, YieldsInReverse};
 ghost use Rattle.std.specs.Ordering.{nat_cmp};
 ghost use Rattle.std.specs.declared.cmp.Ordering.TheVariants.{Equal, Greater, Less};
 ghost use Rattle.std.proofs.Common.{refl, rules};
-ghost use Rattle.utf16_units.specs.Boundary.{IsBoundary, text_between, text_from, text_to};
+ghost use Rattle.utf16_units.specs.Boundary.{IsBoundary};
 ghost use Rattle.utf16_units.specs.Encoding.{Encodes, IsText, is_text, size};
 ghost use Rattle.utf16_units.specs.Order.{IsBefore};
 ghost use Rattle.utf16_units.specs.Utf16Error.{IsErrorOf};
 ghost use Rattle.utf16_units.proofs.OrderTies.{same_ties};
 ghost use Rattle.utf16_str.specs.Offsets.{IsCharAt, char_offsets};
-ghost use Rattle.utf16_str.specs.Window.{IsWindowOf, bytes_between, window_bytes, window_text};
 
-use crate::{SliceIndex, WStrCharIndices, WStrChars};
+use crate::{WStrCharIndices, WStrChars};
 use std::alloc::{AllocError, Allocator};
 use std::cmp::Ordering;
 use std::fmt;
@@ -111,94 +110,6 @@ impl<'a, E: Utf16Order> WStr<'a, E> {
             return false;
         }
         !is_trailing_surrogate(E::read_unit([raw[index], raw[index + 1]]))
-    }
-
-    /// The part of a range, or `None` where its window is reversed, or an end is no character boundary.
-    #[inline]
-    pub fn get<I: SliceIndex<E>>(self, index: I) -> Option<WStr<'a, E>>
-        ensures some { IsSome result ↔ IsWindowOf (wstr_text self.entry) (I.window index (length (wstr_bytes self.entry))) }
-        ensures part { IfSome result (λ part. wstr_text part ≡ window_text (wstr_text self.entry) (I.window index (length (wstr_bytes self.entry)))) }
-        ensures bytes { IfSome result (λ part. wstr_bytes part ≡ window_bytes (wstr_bytes self.entry) (I.window index (length (wstr_bytes self.entry)))) }
-    {
-        index.get(self)
-    }
-
-    /// The part of a range. The caller proves that there is one; `get` tests it.
-    #[inline]
-    pub fn get_unchecked<I: SliceIndex<E>>(self, index: I) -> WStr<'a, E>
-        requires { IsWindowOf (wstr_text self) (I.window index (length (wstr_bytes self))) }
-        ensures text { wstr_text result ≡ window_text (wstr_text self.entry) (I.window index (length (wstr_bytes self.entry))) }
-        ensures bytes { wstr_bytes result ≡ window_bytes (wstr_bytes self.entry) (I.window index (length (wstr_bytes self.entry))) }
-    {
-        index.get_unchecked(self)
-    }
-
-    /// The part of a range: write it for `s[a..b]`. The caller proves that there is one; `get` tests it.
-    #[inline]
-    pub fn index<I: SliceIndex<E>>(self, index: I) -> WStr<'a, E>
-        requires { IsWindowOf (wstr_text self) (I.window index (length (wstr_bytes self))) }
-        ensures text { wstr_text result ≡ window_text (wstr_text self.entry) (I.window index (length (wstr_bytes self.entry))) }
-        ensures bytes { wstr_bytes result ≡ window_bytes (wstr_bytes self.entry) (I.window index (length (wstr_bytes self.entry))) }
-    {
-        index.index(self)
-    }
-
-    /// The two parts on both sides of a byte offset. The caller proves that it is a character boundary; `is_char_boundary` tests
-    /// it.
-    #[inline]
-    pub fn split_at(self, mid: usize) -> (WStr<'a, E>, WStr<'a, E>)
-        requires { IsBoundary (wstr_text self) mid }
-        ensures joined { wstr_text result.0 ++ wstr_text result.1 ≡ wstr_text self.entry }
-        ensures front { wstr_text result.0 ≡ text_to (wstr_text self.entry) mid }
-        ensures back { wstr_text result.1 ≡ text_from (wstr_text self.entry) mid }
-        ensures front_bytes { wstr_bytes result.0 ≡ take mid (wstr_bytes self.entry) }
-        ensures back_bytes { wstr_bytes result.1 ≡ drop mid (wstr_bytes self.entry) }
-    {
-        let (front, back) = self.as_bytes().split_at(mid);
-        (
-            WStr::from_utf16_unchecked(front),
-            WStr::from_utf16_unchecked(back),
-        )
-    }
-
-    /// The two parts on both sides of a byte offset, or `None` where it is no character boundary.
-    #[inline]
-    pub fn split_at_checked(self, mid: usize) -> Option<(WStr<'a, E>, WStr<'a, E>)>
-        ensures some { IsSome result ↔ IsBoundary (wstr_text self.entry) mid }
-        ensures joined { IfSome result (λ parts. wstr_text parts.0 ++ wstr_text parts.1 ≡ wstr_text self.entry) }
-        ensures front { IfSome result (λ parts. wstr_text parts.0 ≡ text_to (wstr_text self.entry) mid) }
-        ensures back { IfSome result (λ parts. wstr_text parts.1 ≡ text_from (wstr_text self.entry) mid) }
-        ensures front_bytes { IfSome result (λ parts. wstr_bytes parts.0 ≡ take mid (wstr_bytes self.entry)) }
-        ensures back_bytes { IfSome result (λ parts. wstr_bytes parts.1 ≡ drop mid (wstr_bytes self.entry)) }
-    {
-        if self.is_char_boundary(mid) {
-            Some(self.split_at(mid))
-        } else {
-            None
-        }
-    }
-
-    // The part from one offset up to another, where both are boundaries in this order.
-    #[inline]
-    pub(crate) fn part(self, start: usize, end: usize) -> Option<WStr<'a, E>>
-        ensures some { IsSome result ↔ IsWindowOf (wstr_text self.entry) (Some (start, end)) }
-        ensures part { IfSome result (λ part. wstr_text part ≡ text_between (wstr_text self.entry) start end) }
-        ensures bytes { IfSome result (λ part. wstr_bytes part ≡ bytes_between (wstr_bytes self.entry) start end) }
-    {
-        if start <= end && self.is_char_boundary(start) && self.is_char_boundary(end) {
-            Some(self.part_unchecked(start, end))
-        } else {
-            None
-        }
-    }
-
-    #[inline]
-    pub(crate) fn part_unchecked(self, start: usize, end: usize) -> WStr<'a, E>
-        requires { IsWindowOf (wstr_text self) (Some (start, end)) }
-        ensures text { wstr_text result ≡ text_between (wstr_text self.entry) start end }
-        ensures bytes { wstr_bytes result ≡ bytes_between (wstr_bytes self.entry) start end }
-    {
-        WStr::from_utf16_unchecked(&self.as_bytes()[start..end])
     }
 
     /// Whether a text could be written over as many bytes from a byte offset on: the offset and the one behind those bytes

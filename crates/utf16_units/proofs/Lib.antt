@@ -26,6 +26,7 @@ pub mod Rules
 pub mod BackChar
 pub mod CharCut
 pub mod PartsEnded
+pub mod DelimitedLemmas
 pub mod PutBetween
 pub mod Tests
 pub mod LaneLemmas

@@ -4,6 +4,7 @@ pub mod Fault
 pub mod Utf16Error
 pub mod Boundary
 pub mod Edit
+pub mod Delimited
 pub mod Continued
 pub mod Laws
 pub mod Split

@@ -1,0 +1,121 @@
+//! The parts of a view: by ranges, on both sides of an offset, and on both sides of a character.
+
+ghost use Rattle.std.specs.Prelude.{◌≡◌, ◌↔◌, IfSome, IsNone, IsSome, Some, ◌++◌, ◌+◌, ◌∷◌, drop, length, take};
+ghost use Rattle.utf16_units.specs.Boundary.{IsBoundary, text_between, text_from, text_to};
+ghost use Rattle.utf16_units.specs.Delimited.{Lacks};
+ghost use Rattle.utf16_units.specs.Encoding.{char_size, size};
+ghost use Rattle.utf16_str.specs.Window.{IsWindowOf, bytes_between, window_bytes, window_text};
+ghost use Rattle.utf16_str.specs.WStr.{wstr_bytes, wstr_text};
+
+use crate::{SliceIndex, WStr};
+use utf16_units::{Utf16CharExt, Utf16Order};
+
+impl<'a, E: Utf16Order> WStr<'a, E> {
+    /// The part of a range, or `None` where its window is reversed, or an end is no character boundary.
+    #[inline]
+    pub fn get<I: SliceIndex<E>>(self, index: I) -> Option<WStr<'a, E>>
+        ensures some { IsSome result ↔ IsWindowOf (wstr_text self.entry) (I.window index (length (wstr_bytes self.entry))) }
+        ensures part { IfSome result (λ part. wstr_text part ≡ window_text (wstr_text self.entry) (I.window index (length (wstr_bytes self.entry)))) }
+        ensures bytes { IfSome result (λ part. wstr_bytes part ≡ window_bytes (wstr_bytes self.entry) (I.window index (length (wstr_bytes self.entry)))) }
+    {
+        index.get(self)
+    }
+
+    /// The part of a range. The caller proves that there is one; `get` tests it.
+    #[inline]
+    pub fn get_unchecked<I: SliceIndex<E>>(self, index: I) -> WStr<'a, E>
+        requires { IsWindowOf (wstr_text self) (I.window index (length (wstr_bytes self))) }
+        ensures text { wstr_text result ≡ window_text (wstr_text self.entry) (I.window index (length (wstr_bytes self.entry))) }
+        ensures bytes { wstr_bytes result ≡ window_bytes (wstr_bytes self.entry) (I.window index (length (wstr_bytes self.entry))) }
+    {
+        index.get_unchecked(self)
+    }
+
+    /// The part of a range: write it for `s[a..b]`. The caller proves that there is one; `get` tests it.
+    #[inline]
+    pub fn index<I: SliceIndex<E>>(self, index: I) -> WStr<'a, E>
+        requires { IsWindowOf (wstr_text self) (I.window index (length (wstr_bytes self))) }
+        ensures text { wstr_text result ≡ window_text (wstr_text self.entry) (I.window index (length (wstr_bytes self.entry))) }
+        ensures bytes { wstr_bytes result ≡ window_bytes (wstr_bytes self.entry) (I.window index (length (wstr_bytes self.entry))) }
+    {
+        index.index(self)
+    }
+
+    /// The two parts on both sides of a byte offset. The caller proves that it is a character boundary; `is_char_boundary` tests
+    /// it.
+    #[inline]
+    pub fn split_at(self, mid: usize) -> (WStr<'a, E>, WStr<'a, E>)
+        requires { IsBoundary (wstr_text self) mid }
+        ensures joined { wstr_text result.0 ++ wstr_text result.1 ≡ wstr_text self.entry }
+        ensures front { wstr_text result.0 ≡ text_to (wstr_text self.entry) mid }
+        ensures back { wstr_text result.1 ≡ text_from (wstr_text self.entry) mid }
+        ensures front_bytes { wstr_bytes result.0 ≡ take mid (wstr_bytes self.entry) }
+        ensures back_bytes { wstr_bytes result.1 ≡ drop mid (wstr_bytes self.entry) }
+    {
+        let (front, back) = self.as_bytes().split_at(mid);
+        (
+            WStr::from_utf16_unchecked(front),
+            WStr::from_utf16_unchecked(back),
+        )
+    }
+
+    /// The two parts on both sides of a byte offset, or `None` where it is no character boundary.
+    #[inline]
+    pub fn split_at_checked(self, mid: usize) -> Option<(WStr<'a, E>, WStr<'a, E>)>
+        ensures some { IsSome result ↔ IsBoundary (wstr_text self.entry) mid }
+        ensures joined { IfSome result (λ parts. wstr_text parts.0 ++ wstr_text parts.1 ≡ wstr_text self.entry) }
+        ensures front { IfSome result (λ parts. wstr_text parts.0 ≡ text_to (wstr_text self.entry) mid) }
+        ensures back { IfSome result (λ parts. wstr_text parts.1 ≡ text_from (wstr_text self.entry) mid) }
+        ensures front_bytes { IfSome result (λ parts. wstr_bytes parts.0 ≡ take mid (wstr_bytes self.entry)) }
+        ensures back_bytes { IfSome result (λ parts. wstr_bytes parts.1 ≡ drop mid (wstr_bytes self.entry)) }
+    {
+        if self.is_char_boundary(mid) {
+            Some(self.split_at(mid))
+        } else {
+            None
+        }
+    }
+
+    /// What stands in front of the first such character, and what stands behind it, or `None` where the text lacks it. One pass,
+    /// up to that character; no copy.
+    #[tactic(auto, using(crate::proofs::CharSearch::passing))]
+    pub fn split_once(self, delimiter: char) -> Option<(WStr<'a, E>, WStr<'a, E>)>
+        ensures none { IsNone result ↔ Lacks delimiter (wstr_text self.entry) }
+        ensures split { IfSome result (λ parts. wstr_text self.entry ≡ wstr_text parts.0 ++ delimiter ∷ wstr_text parts.1) }
+        ensures first { IfSome result (λ parts. Lacks delimiter (wstr_text parts.0)) }
+        ensures front_bytes { IfSome result (λ parts. wstr_bytes parts.0 ≡ take (size (wstr_text parts.0)) (wstr_bytes self.entry)) }
+        ensures back_bytes { IfSome result (λ parts. wstr_bytes parts.1 ≡ drop (size (wstr_text parts.0) + char_size delimiter) (wstr_bytes self.entry)) }
+    {
+        for (at, c) in self.char_indices() {
+            if c == delimiter {
+                let (front, _) = self.split_at(at);
+                let (_, back) = self.split_at(at + c.encoded_utf16_len());
+                return Some((front, back));
+            }
+        }
+        None
+    }
+
+    // The part from one offset up to another, where both are boundaries in this order.
+    #[inline]
+    pub(crate) fn part(self, start: usize, end: usize) -> Option<WStr<'a, E>>
+        ensures some { IsSome result ↔ IsWindowOf (wstr_text self.entry) (Some (start, end)) }
+        ensures part { IfSome result (λ part. wstr_text part ≡ text_between (wstr_text self.entry) start end) }
+        ensures bytes { IfSome result (λ part. wstr_bytes part ≡ bytes_between (wstr_bytes self.entry) start end) }
+    {
+        if start <= end && self.is_char_boundary(start) && self.is_char_boundary(end) {
+            Some(self.part_unchecked(start, end))
+        } else {
+            None
+        }
+    }
+
+    #[inline]
+    pub(crate) fn part_unchecked(self, start: usize, end: usize) -> WStr<'a, E>
+        requires { IsWindowOf (wstr_text self) (Some (start, end)) }
+        ensures text { wstr_text result ≡ text_between (wstr_text self.entry) start end }
+        ensures bytes { wstr_bytes result ≡ bytes_between (wstr_bytes self.entry) start end }
+    {
+        WStr::from_utf16_unchecked(&self.as_bytes()[start..end])
+    }
+}

@@ -1,0 +1,80 @@
+-- A text cut at a delimiter, text after text, and the list of texts that it begins with.
+use Rattle.std.proofs.Common.{◌≡◌, ◌≢◌, ℕ, List, [], ◌∷◌, ◌++◌, All, true, false, eqb, refl, ap, sym, ◌∙◌, append_assoc, inl, inr}
+use Rattle.std.proofs.lemmas.Bool.{ne_eqb}
+use Rattle.std.proofs.lemmas.Bool.Decides.{eqb_tells}
+use Rattle.std.proofs.lemmas.List.Elements.{All-cons, All-head, All-nil, All-tail, All-weaker}
+use Rattle.std.proofs.lemmas.List.Splits.{slice_split_at, slice_split_none}
+use Rattle.std.specs.List.{slice_split}
+use Rattle.utf16_units.specs.Delimited.{IsEntry, IsListBegun, Lacks, before_empty, closed, ended, listed}
+use Rattle.utf16_units.proofs.PartsEnded.{parts_ended, parts_lack}
+
+same : (e : ℕ) → eqb e e ≡ true
+same e = elim (eqb_tells e e) [ inl is ↦ is.0 | inr other ↦ absurd (other.1 refl) ]
+
+tested : (e : ℕ) (text : List ℕ) → Lacks e text → All (λ c. eqb c e ≡ false) text
+tested e text lacks = All-weaker (λ c. c ≢ e) (λ c. eqb c e ≡ false) (λ c. ne_eqb c e) text lacks
+
+-- the text in front of the first delimiter, where it is not empty, and then those behind
+pub listed-first : (e : ℕ) (text front back : List ℕ) → text ≡ front ++ e ∷ back → Lacks e front → front ≢ [] → listed e text ≡ front ∷ listed e back
+unfolding listed before_empty
+listed-first e text [] back is lacks some = absurd (some refl)
+listed-first e text (c ∷ front) back is lacks some =
+    ap (listed e) is ∙ ap before_empty (slice_split_at (λ c. eqb c e) (c ∷ front) e back (tested e (c ∷ front) lacks) (same e))
+
+-- a text that lacks the delimiter is one text
+pub listed-last : (e : ℕ) (text : List ℕ) → Lacks e text → text ≢ [] → listed e text ≡ text ∷ []
+unfolding listed before_empty
+listed-last e [] lacks some = absurd (some refl)
+listed-last e (c ∷ text) lacks some = ap before_empty (slice_split_none (λ c. eqb c e) (c ∷ text) (tested e (c ∷ text) lacks))
+
+-- no text, where none is in front of the first delimiter
+pub listed-none : (e : ℕ) (text front back : List ℕ) → text ≡ front ++ e ∷ back → front ≡ [] → listed e text ≡ []
+unfolding listed before_empty
+listed-none e text front back is none =
+    ap (listed e) (is ∙ ap (λ t. t ++ e ∷ back) none) ∙ ap before_empty (slice_split_at (λ c. eqb c e) [] e back (All-nil (λ c. eqb c e ≡ false)) (same e))
+
+pub listed-nil : (e : ℕ) → listed e [] ≡ []
+unfolding listed before_empty
+listed-nil e = refl
+
+-- what is read of a list are its texts
+pub listed-closed : (e : ℕ) (texts : List (List ℕ)) → All (IsEntry e) texts → listed e (closed e texts) ≡ texts
+listed-closed e [] entries = listed-none e (e ∷ []) [] [] refl refl
+listed-closed e (text ∷ texts) entries =
+    let first = All-head (IsEntry e) text texts entries in
+    let is : closed e (text ∷ texts) ≡ text ++ e ∷ closed e texts = append_assoc (text ++ e ∷ []) (ended e texts) (e ∷ []) ∙ append_assoc text (e ∷ []) (closed e texts) in
+    listed-first e (closed e (text ∷ texts)) text (closed e texts) is first.1 first.0
+    ∙ ap (λ ts. text ∷ ts) (listed-closed e texts (All-tail (IsEntry e) text texts entries))
+
+-- the texts before the first empty one can stand in a list, and what is ended begins with it
+begun : (e : ℕ) (parts : List (List ℕ)) → (behind : List ℕ) × (closed e (before_empty parts) ++ behind ≡ ended e parts ++ e ∷ [])
+unfolding before_empty
+begun e [] = ([], refl)
+begun e ([] ∷ parts) = (ended e parts ++ e ∷ [], refl)
+begun e ((c ∷ part) ∷ parts) =
+    let rest = begun e parts in
+    let text = (c ∷ part) ++ e ∷ [] in
+    let more = ended e (before_empty parts) in
+    (rest.0, ap (λ t. t ++ rest.0) (append_assoc text more (e ∷ [])) ∙ append_assoc text (more ++ e ∷ []) rest.0 ∙ ap (λ t. text ++ t) rest.1 ∙ sym (append_assoc text (ended e parts) (e ∷ [])))
+
+fit : (e : ℕ) (parts : List (List ℕ)) → All (Lacks e) parts → All (IsEntry e) (before_empty parts)
+unfolding before_empty
+fit e [] lack = All-nil (IsEntry e)
+fit e ([] ∷ parts) lack = All-nil (IsEntry e)
+fit e ((c ∷ part) ∷ parts) lack =
+    All-cons (IsEntry e) (c ∷ part) (before_empty parts) (λ nil. absurd cc, All-head (Lacks e) (c ∷ part) parts lack) (fit e parts (All-tail (Lacks e) (c ∷ part) parts lack))
+
+-- what is read of a text is what it begins with, as a list
+pub list_begun : (e : ℕ) (text : List ℕ) → IsListBegun e text (listed e text)
+unfolding listed
+list_begun e text =
+    let parts = slice_split (λ c. eqb c e) text in
+    let begins = begun e parts in
+    record {
+      entries = fit e parts (parts_lack e text);
+      behind = begins.0;
+      begins = begins.1 ∙ ap (λ t. t ++ e ∷ []) (parts_ended e text) ∙ append_assoc text (e ∷ []) (e ∷ []);
+    }
+
+-- a reader takes the texts one after another, as the parts in front of delimiters, and the last
+pub ruleset delimited = (listed-first, listed-last, listed-none, listed-nil, listed-closed, list_begun)
