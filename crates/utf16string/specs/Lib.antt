@@ -3,6 +3,7 @@ pub use Rattle.utf16_units.specs.Encoding
 pub use Rattle.utf16_units.specs.Fault
 pub use Rattle.utf16_units.specs.Utf16Error
 pub use Rattle.utf16_units.specs.Boundary
+pub use Rattle.utf16_units.specs.Delimited
 pub use Rattle.utf16_units.specs.Edit
 pub use Rattle.utf16_units.specs.Order
 pub use Rattle.utf16_str.specs.Offsets
