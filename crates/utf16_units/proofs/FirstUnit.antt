@@ -1,5 +1,5 @@
 -- The unit that bytes begin with.
-use Rattle.std.proofs.Common.{◌≡◌, ℕ, ◌+◌, ◌*◌, ◌/◌, ◌<◌, ◌≤◌, Bool, List, [], ◌∷◌, ◌++◌, get_or, length, take, drop, sym, ap, ap₂, ◌∙◌, arith, take-append-drop, append_assoc}
+use Rattle.std.proofs.Common.{◌≡◌, ℕ, ◌*◌, ◌/◌, ◌<◌, ◌≤◌, Bool, List, [], ◌∷◌, ◌++◌, get_or, length, take, drop, sym, ap, ap₂, ◌∙◌, arith, take-append-drop, append_assoc}
 use Rattle.utf16_units.specs.Unit.{unit_bytes, unit_of}
 use Rattle.utf16_units.specs.Encoding.{Encodes, encode, size}
 use Rattle.utf16_units.proofs.UnitLemmas.{unit_bytes-unit_of}

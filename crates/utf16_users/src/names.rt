@@ -2,7 +2,9 @@
 
 ghost use Rattle.std.specs.Prelude.{◌≡◌, ◌≢◌, ◌++◌, ◌<◌, ◌≤◌, ◌↔◌, ℕ, List, [], ◌∷◌, All, IfErr, IfNone, IfOk, IfSome, IsTrue, OnErr, OnOk, Some, length, option_map, slice_get, slice_index, vec_len};
 ghost use Rattle.std.specs.List.{insert as insert_at_index};
-ghost use Rattle.utf16_users.specs.Names.{AreDistinct, AreEnds, IsInterned, IsOrder, IsPlace, IsTable, names_of};
+ghost use Rattle.utf16_units.specs.Numbered.{AreDistinct, IsOrder, IsPlace, IsTable};
+ghost use Rattle.utf16_units.specs.Parts.{AreEnds, parts_of};
+ghost use Rattle.utf16_users.specs.Names.{IsInterned};
 ghost use Rattle.utf16string.specs.Encoding.{size};
 ghost use Rattle.utf16string.specs.WStr.{wstr_text};
 ghost use Rattle.utf16string.specs.WString.{wstring_text};
@@ -24,13 +26,14 @@ pub struct Names<E: Utf16Order, A: Allocator = Global> {
 impl<E: Utf16Order, A: Allocator> Model for Names<E, A> {
     ghost Value = { List (List ℕ) };
 
-    ghost view = { λ table. names_of (wstring_text table.text) table.ends.items };
+    ghost view = { λ table. parts_of (wstring_text table.text) table.ends.items };
 
     ghost invariant = { λ table. IsTable (wstring_text table.text) table.ends.items table.order.items };
 }
 
 impl<E: Utf16Order, A: Allocator> Names<E, A> {
     /// A table without names. It asks for no memory; the only error is an allocator that refuses to be cloned.
+    #[tactic(auto, unfolding(utf16_units::specs::Parts::parts_from))]
     pub fn new(alloc: A) -> Result<Self, AllocError>
     where
         A: Clone,
@@ -64,11 +67,7 @@ impl<E: Utf16Order, A: Allocator> Names<E, A> {
     pub fn get(&self, number: usize) -> Option<WStr<'_, E>>
         ensures { option_map wstr_text result ≡ slice_get self.now number }
     {
-        if number < self.ends.len() {
-            Some(name_at(&self.text, &self.ends, number))
-        } else {
-            None
-        }
+        nth(&self.text, &self.ends, number)
     }
 
     /// The number of a name, or `None` where it has none. By halving: one comparison for each doubling of the table.
@@ -95,14 +94,7 @@ impl<E: Utf16Order, A: Allocator> Names<E, A> {
         ensures interned { IfOk result (λ number. IsInterned self.old (wstr_text name.entry) number self.new) }
         ensures refused { OnErr result (self.new ≡ self.old) }
     {
-        match place_of(&self.text, &self.ends, &self.order, name) {
-            Ok(number) => Ok(number),
-            Err(place) => {
-                let number = self.ends.len();
-                insert(&mut self.text, &mut self.ends, &mut self.order, name, place)?;
-                Ok(number)
-            }
-        }
+        put_in(&mut self.text, &mut self.ends, &mut self.order, name)
     }
 }
 
@@ -114,31 +106,73 @@ fn start_of(ends: &[usize], number: usize) -> usize
     if number == 0 { 0 } else { ends[number - 1] }
 }
 
+// The name of a number, where one has it.
+#[tactic(auto, using(utf16_units::proofs::Rules::parts))]
+fn nth<'a, E: Utf16Order, A: Allocator>(
+    text: &'a WString<E, A>,
+    ends: &[usize],
+    number: usize,
+) -> Option<WStr<'a, E>>
+    requires { AreEnds (wstring_text text.now) ends.now }
+    ensures { option_map wstr_text result ≡ slice_get (parts_of (wstring_text text.now) ends.now) number }
+{
+    if number < ends.len() {
+        Some(name_at(text, ends, number))
+    } else {
+        None
+    }
+}
+
 // The name of a number.
+#[tactic(auto, using(utf16_units::proofs::Rules::parts))]
 fn name_at<'a, E: Utf16Order, A: Allocator>(
     text: &'a WString<E, A>,
     ends: &[usize],
     number: usize,
 ) -> WStr<'a, E>
-    requires ends { AreEnds (wstring_text text.now) 0 ends.now }
+    requires ends { AreEnds (wstring_text text.now) ends.now }
     requires within { number < length ends.now }
-    ensures { slice_get (names_of (wstring_text text.now) ends.now) number ≡ Some (wstr_text result) }
+    ensures { slice_get (parts_of (wstring_text text.now) ends.now) number ≡ Some (wstr_text result) }
 {
     text.index(start_of(ends, number)..ends[number])
 }
 
+// The number of a name, which is put in where it is new.
+#[tactic(auto, using(utf16_units::proofs::Rules::tables))]
+fn put_in<E: Utf16Order, A: Allocator>(
+    text: &mut WString<E, A>,
+    ends: &mut Vec<usize, A>,
+    order: &mut Vec<usize, A>,
+    name: WStr<E>,
+) -> Result<usize, AllocError>
+    requires { IsTable (wstring_text text.old) ends.old.items order.old.items }
+    ensures table { IsTable (wstring_text text.new) ends.new.items order.new.items }
+    ensures interned { IfOk result (λ number. IsInterned (parts_of (wstring_text text.old) ends.old.items) (wstr_text name.entry) number (parts_of (wstring_text text.new) ends.new.items)) }
+    ensures refused { OnErr result (parts_of (wstring_text text.new) ends.new.items ≡ parts_of (wstring_text text.old) ends.old.items) }
+{
+    match place_of(text, ends, order, name) {
+        Ok(number) => Ok(number),
+        Err(place) => {
+            let number = ends.len();
+            insert(text, ends, order, name, place)?;
+            Ok(number)
+        }
+    }
+}
+
 // The number of a name, or where its number would go among those in order.
+#[tactic(auto, using(utf16_units::proofs::Rules::halving))]
 fn place_of<E: Utf16Order, A: Allocator>(
     text: &WString<E, A>,
     ends: &[usize],
     order: &[usize],
     name: WStr<E>,
 ) -> Result<usize, usize>
-    requires ends { AreEnds (wstring_text text.now) 0 ends.now }
-    requires order { IsOrder (names_of (wstring_text text.now) ends.now) order.now }
-    ensures found { IfOk result (λ number. slice_get (names_of (wstring_text text.now) ends.now) number ≡ Some (wstr_text name.entry)) }
-    ensures new { OnErr result (All (λ other. other ≢ wstr_text name.entry) (names_of (wstring_text text.now) ends.now)) }
-    ensures place { IfErr result (IsPlace (names_of (wstring_text text.now) ends.now) order.now (wstr_text name.entry)) }
+    requires ends { AreEnds (wstring_text text.now) ends.now }
+    requires order { IsOrder (parts_of (wstring_text text.now) ends.now) order.now }
+    ensures found { IfOk result (λ number. slice_get (parts_of (wstring_text text.now) ends.now) number ≡ Some (wstr_text name.entry)) }
+    ensures new { OnErr result (All (λ other. other ≢ wstr_text name.entry) (parts_of (wstring_text text.now) ends.now)) }
+    ensures place { IfErr result (IsPlace (parts_of (wstring_text text.now) ends.now) order.now (wstr_text name.entry)) }
 {
     let mut low = 0;
     let mut high = order.len();
