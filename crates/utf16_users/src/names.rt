@@ -48,7 +48,7 @@ impl<E: Utf16Order, A: Allocator> Names<E, A> {
         })
     }
 
-    /// How many names there are: the number that the next new one gets.
+    /// How many names there are: the number that the next new one gets. Constant time.
     pub fn len(&self) -> usize
         ensures len { result ≡ length self.now }
         ensures distinct { AreDistinct self.now }
@@ -56,21 +56,22 @@ impl<E: Utf16Order, A: Allocator> Names<E, A> {
         self.ends.len()
     }
 
-    /// Whether there is no name.
+    /// Whether there is no name. Constant time.
     pub fn is_empty(&self) -> bool
         ensures { IsTrue result ↔ (self.now ≡ []) }
     {
         self.len() == 0
     }
 
-    /// The name of a number, or `None` where no name has it. Constant time.
+    /// The name of a number. `None` exactly where no name has it: where the number is `len()` or more. Constant time.
     pub fn get(&self, number: usize) -> Option<WStr<'_, E>>
         ensures { option_map wstr_text result ≡ slice_get self.now number }
     {
         nth(&self.text, &self.ends, number)
     }
 
-    /// The number of a name, or `None` where it has none. By halving: one comparison for each doubling of the table.
+    /// The number of a name. `None` exactly where no name of the table is equal to it. It asks for no memory. By halving: one
+    /// comparison of names for each doubling of the table.
     pub fn find(&self, name: WStr<E>) -> Option<usize>
         ensures some { IfSome result (λ number. slice_get self.now number ≡ Some (wstr_text name.entry)) }
         ensures none { IfNone result (All (λ other. other ≢ wstr_text name.entry) self.now) }
@@ -81,15 +82,18 @@ impl<E: Utf16Order, A: Allocator> Names<E, A> {
         }
     }
 
-    /// All numbers, in the order of their names by scalar values, as `str` compares. It asks for no memory.
+    /// All numbers, each once, in the order of their names by scalar values, as `str` compares. It asks for no memory, and takes
+    /// constant time: the order is kept.
     pub fn in_order(&self) -> &[usize]
         ensures order { IsOrder self.now result.now }
     {
         &self.order
     }
 
-    /// The number of a name, which is put in where it is new. The only error is a refused request for memory; it leaves the
-    /// table as it was. A known name costs what `find` does; for a new one the numbers of larger names are moved in one block.
+    /// The number of a name. A known name keeps the number that it has, and the table stays as it was. A new one is put in, and
+    /// gets the number `len()`; all others keep theirs. The only error is a refused request for memory, which only a new name makes; it
+    /// leaves all names and their numbers as they were. A known name costs what `find` does; for a new one the numbers of larger
+    /// names are moved in one block.
     pub fn intern(&mut self, name: WStr<E>) -> Result<usize, AllocError>
         ensures interned { IfOk result (λ number. IsInterned self.old (wstr_text name.entry) number self.new) }
         ensures refused { OnErr result (self.new ≡ self.old) }
