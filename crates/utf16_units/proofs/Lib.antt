@@ -38,3 +38,5 @@ pub mod OrderLemmas
 pub mod RankLemmas
 pub mod SameLemmas
 pub mod OrderTies
+pub mod PartsLemmas
+pub mod NumberedLemmas

@@ -9,6 +9,8 @@ use Rattle.utf16_units.proofs.LawProofs.{at_boundaries, found_exactly, size-some
 use Rattle.utf16_units.specs.Encoding.{encode, is_text, size, text_of}
 use Rattle.utf16_units.proofs.BoundaryLemmas.{IsBoundary-end, IsBoundary-start, IsBoundary-within, size-text_to, text_between-end, text_to-text_from}
 use Rattle.utf16_units.proofs.EncodingLemmas.{IsText-encode, IsText-from_is_text, encode-text_of, length-encode, length-text, size-append, text_of-encode}
+use Rattle.utf16_units.proofs.NumberedLemmas.{is_new, number_of_part, place_before, place_behind, place_found, place_start, table_insert, table_none}
+use Rattle.utf16_units.proofs.PartsLemmas.{length-parts, no_part, part_at, part_window, parts_none, parts_push}
 use Rattle.utf16_units.proofs.PartLemmas.{IsBoundary-append, IsBoundary-even, IsBoundary-seam, text_between-append, text_between-behind, text_between-start, text_between-whole}
 
 -- the bytes of a string are as long as its text's size
@@ -57,3 +59,12 @@ absent-start text part = record { absent = λ j within stands. absurd (omega ari
 
 -- a search in a text, by its bytes
 pub ruleset searches = (stands-found, absent-step, absent-start, size-some, length-checked)
+
+-- texts that stand one after another in one, each under its number
+pub ruleset parts = (part_window, part_at, no_part, length-parts, parts_none, parts_push)
+
+-- a number found by halving among the numbers in the order of their texts
+pub ruleset halving = (number_of_part, place_start, place_behind, place_before, place_found, is_new)
+
+-- a table of texts, and one text more
+pub ruleset tables = (table_none, table_insert, parts_none, parts_push, is_new, length-parts)

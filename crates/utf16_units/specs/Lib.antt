@@ -12,3 +12,5 @@ pub mod Recipe
 pub mod Lanes
 pub mod Order
 pub mod Compared
+pub mod Parts
+pub mod Numbered

@@ -1,3 +1,1 @@
-mod Joined
-mod Order
 mod Tables
