@@ -26,7 +26,8 @@ use utf16_buffers::{
 };
 use utf16_units::{BE, LE, validate_raw_utf16};
 
-/// The longest well-formed beginning of the bytes, and the fault behind it. One pass, up to the first fault.
+/// The longest well-formed beginning of the bytes, and what stands behind it: nothing, a surrogate without its partner, or a
+/// character that is cut off at the end. One pass, up to the first fault.
 #[unsafe(no_mangle)]
 pub extern "C" fn utf16_validate(big: bool, raw: &[u8]) -> Validity
     ensures { IsValidity big raw.now result.valid_up_to (stop_of result.status result.fault_len) }
@@ -80,7 +81,9 @@ pub extern "C" fn utf16_to_utf8_len(big: bool, raw: &[u8]) -> usize
     }
 }
 
-/// Writes UTF-16 in UTF-8, up to the first fault or as far as whole characters fit. One pass over what is read.
+/// Writes UTF-16 in UTF-8, up to the first fault or as far as whole characters fit. A fault and a character that is cut off are not
+/// read. With status 3 the room that is left is shorter than the next character, and the call may go on behind `read`. What stands
+/// behind the written bytes may have been written over. One pass over what is read.
 #[unsafe(no_mangle)]
 pub extern "C" fn utf16_to_utf8(big: bool, raw: &[u8], to: &mut [u8]) -> Answer
     ensures wrote { Wrote (IsUtf8Of big) raw.now to.new result.read result.written }
@@ -93,7 +96,8 @@ pub extern "C" fn utf16_to_utf8(big: bool, raw: &[u8], to: &mut [u8]) -> Answer
     })
 }
 
-/// The same with U+FFFD for each surrogate without its partner, and one for a character that is cut off at the end.
+/// The same with U+FFFD for each surrogate without its partner, and one for a character that is cut off at the end. The status is 0,
+/// or 3 where the room that is left is shorter than the next character or U+FFFD: the call may go on behind `read`.
 #[unsafe(no_mangle)]
 pub extern "C" fn utf16_to_utf8_marked(big: bool, raw: &[u8], to: &mut [u8]) -> Answer
     ensures shown { ShowsWhole (text_of_utf16 big) encode_utf8 raw.now to.new result.read result.written }
@@ -106,7 +110,8 @@ pub extern "C" fn utf16_to_utf8_marked(big: bool, raw: &[u8], to: &mut [u8]) -> 
     })
 }
 
-/// The same of a stream's next bytes: a character that is cut off at the end is not read, and more bytes may complete it.
+/// The same of a stream's next bytes: a character that is cut off at the end is not read, with status 2, and more bytes may complete
+/// it.
 #[unsafe(no_mangle)]
 pub extern "C" fn utf16_to_utf8_stream(big: bool, raw: &[u8], to: &mut [u8]) -> Answer
     ensures decodes { DecodesTo big raw.now to.new result.read result.written }
@@ -119,7 +124,9 @@ pub extern "C" fn utf16_to_utf8_stream(big: bool, raw: &[u8], to: &mut [u8]) -> 
     })
 }
 
-/// Writes UTF-8 in UTF-16, up to the first fault or as far as whole characters fit. One pass over what is read.
+/// Writes UTF-8 in UTF-16, up to the first fault or as far as whole characters fit. A fault and a character that is cut off are not
+/// read. With status 3 the room that is left is shorter than the next character, and the call may go on behind `read`. What stands
+/// behind the written bytes may have been written over. One pass over what is read.
 #[unsafe(no_mangle)]
 pub extern "C" fn utf16_from_utf8(big: bool, text: &[u8], to: &mut [u8]) -> Answer
     ensures wrote { Wrote (IsUtf16Of big) text.now to.new result.read result.written }
@@ -133,8 +140,9 @@ pub extern "C" fn utf16_from_utf8(big: bool, text: &[u8], to: &mut [u8]) -> Answ
 }
 
 /// Writes any bytes of UTF-8 in UTF-16, as far as whole characters fit, with U+FFFD where they are no UTF-8: one for each maximal
-/// subpart of a character, and one for a character that is cut off at the end. It stops at the end of the input, or where the room
-/// that is left is shorter than the next character or U+FFFD: the call may go on behind `read`. One pass over what is read.
+/// subpart of a character, and one for a character that is cut off at the end. The status is 0, or 3 where the room that is left is
+/// shorter than the next character or U+FFFD: the call may go on behind `read`. What stands behind the written bytes may have been
+/// written over. One pass over what is read.
 #[unsafe(no_mangle)]
 pub extern "C" fn utf16_from_utf8_marked(big: bool, text: &[u8], to: &mut [u8]) -> Answer
     ensures shown { ShowsWhole text_of_utf8 (char_bytes big) text.now to.new result.read result.written }
