@@ -61,6 +61,10 @@ size_t utf16_to_utf8_len(bool big, const uint8_t *raw, size_t len);
  * bytes, that of what stands before the first fault. */
 size_t utf16_from_utf8_len(const uint8_t *text, size_t len);
 
+/* How many bytes of UTF-16 utf16_from_utf8_marked makes of all the bytes, in either order: of UTF-8, the size of the same text. Never
+ * more than 2 for each byte. */
+size_t utf16_from_utf8_marked_len(const uint8_t *text, size_t len);
+
 /* Writes UTF-16 in UTF-8, up to the first fault: UTF16_DONE, UTF16_FAULT, UTF16_CUT_OFF or UTF16_NO_ROOM. A fault is a surrogate
  * without its partner, of 2 bytes. Room for 3 bytes for each 2 of input is always enough. */
 utf16_progress utf16_to_utf8(bool big, const uint8_t *raw, size_t len, uint8_t *to, size_t room);
@@ -72,6 +76,11 @@ utf16_progress utf16_to_utf8_marked(bool big, const uint8_t *raw, size_t len, ui
 /* Writes UTF-8 in UTF-16, up to the first fault: UTF16_DONE, UTF16_FAULT, UTF16_CUT_OFF or UTF16_NO_ROOM. A fault has 1 to 3
  * bytes. Room for 2 bytes for each byte of input is always enough. */
 utf16_progress utf16_from_utf8(bool big, const uint8_t *text, size_t len, uint8_t *to, size_t room);
+
+/* The same with U+FFFD where the bytes are no UTF-8, one for each maximal part of a character as the Unicode Standard recommends it
+ * (and as Rust's from_utf8_lossy has it), and one for a character that is cut off at the end: UTF16_DONE or UTF16_NO_ROOM. With
+ * UTF16_NO_ROOM call again with what is left behind `read`. Room for 2 bytes for each byte of input is always enough. */
+utf16_progress utf16_from_utf8_marked(bool big, const uint8_t *text, size_t len, uint8_t *to, size_t room);
 
 /* A stream of UTF-16 that comes in pieces, cut anywhere: the same as utf16_to_utf8_marked, but a character that is cut off at the
  * end is not read: UTF16_DONE, UTF16_CUT_OFF or UTF16_NO_ROOM. With UTF16_CUT_OFF at most 3 bytes are left behind `read`: put them

@@ -110,6 +110,12 @@ static bool is_ascii(const text *utf8) {
     return true;
 }
 
+/* A row from UTF-8. */
+static bool is_row_back(const row *r) {
+    return utf16_from_utf8_marked_len(r->from.bytes, r->from.len) == r->to.len && is_strict(utf16_from_utf8, r)
+        && is_marked(utf16_from_utf8_marked, r);
+}
+
 /* A row from UTF-16; where it is a text, also the way back. */
 static bool is_row(const row *r) {
     utf16_validity valid = utf16_validate(r->big, r->from.bytes, r->from.len);
@@ -131,12 +137,7 @@ static bool is_row(const row *r) {
     row back = {r->big, r->to, r->from, r->to.len, UTF16_DONE, 0};
     return utf16_count(r->big, r->from.bytes, r->from.len) == characters(&r->to)
         && utf16_is_ascii(r->big, r->from.bytes, r->from.len) == is_ascii(&r->to)
-        && utf16_from_utf8_len(r->to.bytes, r->to.len) == r->from.len && is_strict(utf16_from_utf8, &back);
-}
-
-/* A row from UTF-8. */
-static bool is_row_back(const row *r) {
-    return is_strict(utf16_from_utf8, r);
+        && utf16_from_utf8_len(r->to.bytes, r->to.len) == r->from.len && is_row_back(&back);
 }
 
 static bool order_is(const char *hex, uint32_t order, size_t mark_len) {
@@ -149,6 +150,7 @@ static bool order_is(const char *hex, uint32_t order, size_t mark_len) {
 static bool is_empty_fine(void) {
     return utf16_validate(false, NULL, 0).status == UTF16_DONE && utf16_count(false, NULL, 0) == 0
         && utf16_is_ascii(true, NULL, 0) && utf16_to_utf8_len(true, NULL, 0) == 0 && utf16_from_utf8_len(NULL, 0) == 0
+        && utf16_from_utf8_marked_len(NULL, 0) == 0 && utf16_from_utf8_marked(false, NULL, 0, NULL, 0).status == UTF16_DONE
         && utf16_to_utf8(false, NULL, 0, NULL, 0).status == UTF16_DONE
         && utf16_from_utf8(true, NULL, 0, NULL, 0).status == UTF16_DONE
         && utf16_to_utf8_marked(true, NULL, 0, NULL, 0).status == UTF16_DONE

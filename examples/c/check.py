@@ -24,14 +24,15 @@ def is_text(big, raw, utf8, valid_up_to, status, fault_len):
         found += [
             utf16.count(big, raw) == len(text),
             utf16.is_ascii(big, raw) == text.isascii(),
-            utf16.from_utf8(big, utf8) == (raw, len(utf8), utf16.DONE),
+            is_back(big, utf8, raw, len(utf8), utf16.DONE),
         ]
     return all(found)
 
 
 def is_back(big, utf8, raw, valid_up_to, status):
     strict, read, stopped = utf16.from_utf8(big, utf8)
-    return raw.startswith(strict) and (read, stopped) == (valid_up_to, status)
+    is_strict = raw.startswith(strict) and (read, stopped) == (valid_up_to, status)
+    return is_strict and utf16.from_utf8(big, utf8, marked=True) == (raw, len(utf8), utf16.DONE)
 
 
 def is_row(kind, source, wanted, valid_up_to, behind):

@@ -35,9 +35,11 @@ _count = _call("utf16_count", ctypes.c_size_t, ctypes.c_bool, *_input)
 _is_ascii = _call("utf16_is_ascii", ctypes.c_bool, ctypes.c_bool, *_input)
 _to_utf8_len = _call("utf16_to_utf8_len", ctypes.c_size_t, ctypes.c_bool, *_input)
 _from_utf8_len = _call("utf16_from_utf8_len", ctypes.c_size_t, *_input)
+_from_utf8_marked_len = _call("utf16_from_utf8_marked_len", ctypes.c_size_t, *_input)
 _to_utf8 = _call("utf16_to_utf8", Progress, ctypes.c_bool, *_input, *_room)
 _to_utf8_marked = _call("utf16_to_utf8_marked", Progress, ctypes.c_bool, *_input, *_room)
 _from_utf8 = _call("utf16_from_utf8", Progress, ctypes.c_bool, *_input, *_room)
+_from_utf8_marked = _call("utf16_from_utf8_marked", Progress, ctypes.c_bool, *_input, *_room)
 _to_utf8_stream = _call("utf16_to_utf8_stream", Progress, ctypes.c_bool, *_input, *_room)
 _byte_order = _call("utf16_byte_order", Order, *_input)
 
@@ -65,10 +67,11 @@ def to_utf8(big, raw, marked=False):
     return room.raw[: found.written], found.read, found.status
 
 
-def from_utf8(big, text):
-    """The UTF-16 up to the first fault, and how far it came."""
-    room = ctypes.create_string_buffer(_from_utf8_len(text, len(text)) or 1)
-    found = _from_utf8(big, text, len(text), room, len(room))
+def from_utf8(big, text, marked=False):
+    """The UTF-16, and how far it came: with U+FFFD for each fault, or up to the first one."""
+    size = (_from_utf8_marked_len if marked else _from_utf8_len)(text, len(text))
+    room = ctypes.create_string_buffer(size or 1)
+    found = (_from_utf8_marked if marked else _from_utf8)(big, text, len(text), room, size)
     return room.raw[: found.written], found.read, found.status
 
 

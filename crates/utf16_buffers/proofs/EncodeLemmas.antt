@@ -1,11 +1,11 @@
 -- UTF-8 written in UTF-16: pieces behind one another, and why a call stopped.
-use Rattle.std.proofs.Common.{◌≡◌, ℕ, ◌+◌, ◌-◌, ◌<◌, ◌≤◌, Bool, true, false, List, [], ◌∷◌, ◌++◌, None, Some, length, take, drop, encode_utf8_all, refl, sym, ap, ap₂, ◌∙◌, subst, ⊎_elim, arith, append-nil, append_assoc, drop_at, length-append, length-drop, length-take, length-take-le, take_all, take_at, take-add, take-append-drop, take-take, le-ltb}
+use Rattle.std.proofs.Common.{◌≡◌, ℕ, ◌+◌, ◌-◌, ◌<◌, ◌≤◌, Bool, true, false, List, [], ◌∷◌, ◌++◌, None, Some, length, take, drop, encode_utf8_all, refl, sym, ap, ap₂, ◌∙◌, subst, ⊎_elim, arith, append-nil, append_assoc, length-append, length-drop, length-take, length-take-le, take_all, take_at, take-add, take-append-drop, take-take, le-ltb}
 use Rattle.std.specs.Prelude.{◌==◌, min}
 use borrow.Author.Tests.{ne_eqb}
 use Rattle.std.proofs.lemmas.Bool.{cases_lt}
 use Rattle.std.proofs.lemmas.List.{take_rest}
 use Rattle.std.proofs.lemmas.List.Elements.{All-cons, All-head, All-nil}
-use Rattle.std.proofs.lemmas.Str.{IsCharBoundary-from_take, IsUtf8-append, IsUtf8-drop, IsUtf8-encode, IsUtf8-nil, chars-append, chars-nil, chars-encodes, len_utf8_bounds, length-encode}
+use Rattle.std.proofs.lemmas.Str.{IsUtf8-append, IsUtf8-encode, IsUtf8-nil, chars-append, chars-nil, chars-encodes, len_utf8_bounds, length-encode}
 use Rattle.std.specs.Char.{IsScalar, encode_utf8}
 use Rattle.std.specs.Str.{IsUtf8, IsValidUpTo, StartsWithNoChar, all_scalars, chars}
 use Rattle.std.specs.Str.Lossy.{utf8_error_len}
@@ -16,6 +16,7 @@ use Rattle.utf16_buffers.specs.Wrote.{IsUtf16Of}
 use Rattle.utf16_buffers.specs.Stops.{BeginsWithUtf8, IsUtf8FaultAt, NextDoesNotFit, StopsEncoding, StopsEncodingAt}
 use Rattle.utf16_buffers.specs.declared.progress.Stop.{Stop}
 use Rattle.utf16_buffers.specs.declared.progress.Stop.TheVariants.{CutOff, Done, Fault, NoRoom}
+use Rattle.utf16_buffers.proofs.LossyLemmas.{IsUtf8-behind}
 use Rattle.utf16_buffers.proofs.WroteLemmas.{Joins}
 
 pub utf16_joins : (big : Bool) → Joins (IsUtf16Of big)
@@ -27,6 +28,12 @@ utf16_joins big front back into more first second = (
 pub utf16_empty : (big : Bool) → IsUtf16Of big [] []
 utf16_empty big = (IsUtf8-nil, sym (ap (encode big) chars-nil ∙ encode-nil big))
 
+-- the UTF-8 of a character spells it
+pub chars-char : (c : ℕ) → IsScalar c → chars (encode_utf8 c) ≡ c ∷ []
+chars-char c scalar =
+    ap chars (sym (append-nil (encode_utf8 c)))
+    ∙ chars-encodes (c ∷ []) (all_scalars-from_All (c ∷ []) (All-cons IsScalar c [] scalar (All-nil IsScalar)))
+
 -- a character that begins the rest
 module _ (big : Bool) (rest : List ℕ) (n : ℕ) (first : BeginsWithUtf8 rest n) where
   pub first_text : IsUtf8 (take n rest)
@@ -37,9 +44,7 @@ module _ (big : Bool) (rest : List ℕ) (n : ℕ) (first : BeginsWithUtf8 rest n
       omega (arith, length-take-le n rest first.within, ap length first.spelled, length-encode first.char, (len_utf8_bounds first.char).1)
 
   one : chars (take n rest) ≡ first.char ∷ []
-  one =
-      ap chars (first.spelled ∙ sym (append-nil (encode_utf8 first.char)))
-      ∙ chars-encodes (first.char ∷ []) (all_scalars-from_All (first.char ∷ []) (All-cons IsScalar first.char [] first.scalar (All-nil IsScalar)))
+  one = ap chars first.spelled ∙ chars-char first.char first.scalar
 
   pub first_does_not_fit : (left : ℕ) → left < length (encode big (chars (take n rest))) → NextDoesNotFit encode_utf8 (char_bytes big) rest left
   first_does_not_fit left long = record {
@@ -63,11 +68,7 @@ text_behind : (bytes : List ℕ) (read m : ℕ) → read ≤ m → read ≤ leng
 text_behind bytes read m le within front all =
     let same : read + (m - read) ≡ m = omega arith in
     let split : take m bytes ≡ take read bytes ++ take (m - read) (drop read bytes) = ap (λ k. take k bytes) (sym same) ∙ take-add read (m - read) bytes in
-    let long = length-take-le read bytes within in
-    let first : take read (take m bytes) ≡ take read bytes = take-take read m bytes le in
-    let room = ap length split ∙ length-append (take read bytes) (take (m - read) (drop read bytes)) in
-    let cut = IsUtf8-drop (take m bytes) read all (IsCharBoundary-from_take (take m bytes) read all (omega arith) (subst IsUtf8 (sym first) front)) in
-    subst IsUtf8 (ap (drop read) split ∙ drop_at (take read bytes) (take (m - read) (drop read bytes)) read long) cut
+    IsUtf8-behind (take read bytes) (take (m - read) (drop read bytes)) front (subst IsUtf8 split all)
 
 -- a fault behind a text is where the longest valid beginning ends
 valid_to : (bytes : List ℕ) (read : ℕ) → read < length bytes → IsUtf8 (take read bytes) → StartsWithNoChar (drop read bytes) → IsValidUpTo bytes read

@@ -1,3 +1,5 @@
 pub mod WroteLemmas
 pub mod MarkLemmas
 pub mod EncodeLemmas
+pub mod LossyLemmas
+pub mod LossyShown

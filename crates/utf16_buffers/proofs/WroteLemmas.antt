@@ -60,6 +60,16 @@ Puts-none empty rest old new at within kept = record {
   bytes = ap (take at) kept ∙ sym (append-nil (take at old));
 }
 
+-- a buffer whose end was written over is as long as before
+pub put_end-long : (at : ℕ) (old part : List ℕ) → at ≤ length old → length part ≡ length old - at → length (put_mid at (length old - at) old part) ≡ length old
+put_end-long at old part within long =
+    let all = length-append (take at old) (part ++ drop (length old - at) (drop at old)) in
+    let both = length-append part (drop (length old - at) (drop at old)) in
+    let front = length-take-le at old within in
+    let last = length-drop (length old - at) (drop at old) in
+    let behind = length-drop at old in
+    omega arith
+
 -- what was written to the front of a buffer's end stands behind what was written before
 pub take-end : (at n : ℕ) (old part : List ℕ) → at ≤ length old → length part ≡ length old - at → n ≤ length part
     → take (at + n) (put_mid at (length old - at) old part) ≡ take at old ++ take n part

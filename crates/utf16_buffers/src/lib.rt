@@ -2,6 +2,7 @@
 //! stream that comes in pieces.
 #![tactic(auto)]
 
+mod encode;
 mod marks;
 mod progress;
 mod sizes;
@@ -9,6 +10,7 @@ mod units;
 mod utf16;
 mod utf8;
 
+pub use crate::encode::{encode_whole, utf16_marked_size};
 pub use crate::marks::{decode, decode_whole};
 pub use crate::progress::{Progress, Stop};
 pub use crate::sizes::{utf8_size, utf16_size};

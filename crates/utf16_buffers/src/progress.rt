@@ -7,19 +7,24 @@ ghost use Rattle.std.specs.Prelude.{◌≡◌, ◌+◌, ◌≤◌, ◌++◌, len
 pub enum Stop {
     /// All of the input was read.
     Done,
-    /// Behind what was read stands a fault of so many bytes.
+    /// Behind what was read stands a fault of so many bytes, where no character begins. A call may go on behind it.
     Fault(u8),
-    /// The input ends inside a character.
+    /// The input ends inside a character, which begins behind what was read. More bytes may complete it.
     CutOff,
-    /// The next character does not fit.
+    /// The buffer has fewer bytes left than the next character takes, which begins behind what was read; so has it where U+FFFD
+    /// comes next. A call may go on there with another buffer.
     NoRoom,
 }
 
-/// How many bytes of the input a call read, how many bytes at the front of the buffer are written, and why it stopped.
+/// How far a call came. Offsets count bytes.
 #[derive(Clone, Copy, Debug, PartialEq, Eq)]
 pub struct Progress {
+    /// How many bytes of the input were read: whole characters, and in a call with marks the faults among them.
     pub read: usize,
+    /// How many bytes at the front of the buffer are what was read, in the other encoding. What stands behind them has no
+    /// meaning.
     pub written: usize,
+    /// Why the call read no more.
     pub stop: Stop,
 }
 

@@ -18,9 +18,14 @@ const NO_ROOM: u32 = 3;
 #[repr(C)]
 #[derive(Clone, Copy)]
 pub struct Answer {
+    /// How many bytes of the input were read: whole characters, and in a call with marks the faults among them.
     pub read: usize,
+    /// How many bytes at the front of the buffer were written. What stands behind them has no meaning.
     pub written: usize,
+    /// Why the call read no more: 0 where all was read, 1 at a fault, 2 where the input ends inside a character, 3 where the room
+    /// that is left is shorter than what comes next.
     pub status: u32,
+    /// With status 1 how many bytes the fault has.
     pub fault_len: u32,
 }
 
@@ -28,8 +33,11 @@ pub struct Answer {
 #[repr(C)]
 #[derive(Clone, Copy)]
 pub struct Validity {
+    /// How many bytes the longest valid beginning has.
     pub valid_up_to: usize,
+    /// What stands behind it: 0 nothing, 1 a fault, 2 a character that is cut off.
     pub status: u32,
+    /// With status 1 how many bytes the fault has.
     pub fault_len: u32,
 }
 
@@ -37,7 +45,9 @@ pub struct Validity {
 #[repr(C)]
 #[derive(Clone, Copy)]
 pub struct Order {
+    /// How many bytes the mark takes: 2, or 0 where there is none.
     pub mark_len: usize,
+    /// 0 little endian, 1 big endian, 2 where too few bytes have come to tell.
     pub order: u32,
 }
 

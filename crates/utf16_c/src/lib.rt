@@ -7,25 +7,27 @@ mod answers;
 #[cfg(test)]
 mod tests;
 
-ghost use Rattle.std.specs.Prelude.{◌≡◌, ◌↔◌, ◌⊎◌, ◌<◌, ◌-◌, ◌/◌, ◌%◌, [], ◌∷◌, All, IsTrue, count_by, drop, encode_utf8_all, length, take};
+ghost use Rattle.std.specs.Prelude.{◌≡◌, ◌↔◌, ◌⊎◌, ◌<◌, ◌≤◌, ◌-◌, ◌*◌, ◌/◌, ◌%◌, [], ◌∷◌, All, IsTrue, count_by, drop, encode_utf8_all, length, take};
 ghost use Rattle.std.specs.Char.{encode_utf8};
 ghost use Rattle.std.specs.Char.Utf16.{is_low_surrogate};
 ghost use Rattle.std.specs.Str.{chars};
 ghost use Rattle.std.specs.Str.Lossy.{utf8_valid_len};
-ghost use Rattle.utf16_units.specs.Encoding.{IsText, size, text_of, units_of};
+ghost use Rattle.utf16_units.specs.Encoding.{IsText, char_bytes, size, text_of, units_of};
 ghost use Rattle.utf16_units.specs.Fault.{IsFront};
-ghost use Rattle.utf16_buffers.specs.Shown.{ShowsWhole, text_of_utf16};
+ghost use Rattle.utf16_buffers.specs.Shown.{ShowsWhole, text_of_utf16, text_of_utf8};
 ghost use Rattle.utf16_buffers.specs.Stops.{StopsDecoding, StopsEncoding, StopsMarking, StopsMarkingWhole};
 ghost use Rattle.utf16_buffers.specs.Wrote.{DecodesTo, IsUtf16Of, IsUtf8Of, Wrote};
 ghost use Rattle.utf16_c.specs.Answers.{IsValidity, stop_of};
 
 use crate::answers::{Answer, Order, Validity, answer_of, validity_of};
 use utf16_buffers::{
-    count, decode, decode_whole, from_utf8, is_ascii, to_utf8, utf8_size, utf16_size,
+    count, decode, decode_whole, encode_whole, from_utf8, is_ascii, to_utf8, utf8_size,
+    utf16_marked_size, utf16_size,
 };
 use utf16_units::{BE, LE, validate_raw_utf16};
 
-/// The longest well-formed beginning of the bytes, and the fault behind it. One pass, up to the first fault.
+/// The longest well-formed beginning of the bytes, and what stands behind it: nothing, a surrogate without its partner, or a
+/// character that is cut off at the end. One pass, up to the first fault.
 #[unsafe(no_mangle)]
 pub extern "C" fn utf16_validate(big: bool, raw: &[u8]) -> Validity
     ensures { IsValidity big raw.now result.valid_up_to (stop_of result.status result.fault_len) }
@@ -79,7 +81,9 @@ pub extern "C" fn utf16_to_utf8_len(big: bool, raw: &[u8]) -> usize
     }
 }
 
-/// Writes UTF-16 in UTF-8, up to the first fault or as far as whole characters fit. One pass over what is read.
+/// Writes UTF-16 in UTF-8, up to the first fault or as far as whole characters fit. A fault and a character that is cut off are not
+/// read. With status 3 the room that is left is shorter than the next character, and the call may go on behind `read`. What stands
+/// behind the written bytes may have been written over. One pass over what is read.
 #[unsafe(no_mangle)]
 pub extern "C" fn utf16_to_utf8(big: bool, raw: &[u8], to: &mut [u8]) -> Answer
     ensures wrote { Wrote (IsUtf8Of big) raw.now to.new result.read result.written }
@@ -92,7 +96,8 @@ pub extern "C" fn utf16_to_utf8(big: bool, raw: &[u8], to: &mut [u8]) -> Answer
     })
 }
 
-/// The same with U+FFFD for each surrogate without its partner, and one for a character that is cut off at the end.
+/// The same with U+FFFD for each surrogate without its partner, and one for a character that is cut off at the end. The status is 0,
+/// or 3 where the room that is left is shorter than the next character or U+FFFD: the call may go on behind `read`.
 #[unsafe(no_mangle)]
 pub extern "C" fn utf16_to_utf8_marked(big: bool, raw: &[u8], to: &mut [u8]) -> Answer
     ensures shown { ShowsWhole (text_of_utf16 big) encode_utf8 raw.now to.new result.read result.written }
@@ -105,7 +110,8 @@ pub extern "C" fn utf16_to_utf8_marked(big: bool, raw: &[u8], to: &mut [u8]) -> 
     })
 }
 
-/// The same of a stream's next bytes: a character that is cut off at the end is not read, and more bytes may complete it.
+/// The same of a stream's next bytes: a character that is cut off at the end is not read, with status 2, and more bytes may complete
+/// it.
 #[unsafe(no_mangle)]
 pub extern "C" fn utf16_to_utf8_stream(big: bool, raw: &[u8], to: &mut [u8]) -> Answer
     ensures decodes { DecodesTo big raw.now to.new result.read result.written }
@@ -118,7 +124,9 @@ pub extern "C" fn utf16_to_utf8_stream(big: bool, raw: &[u8], to: &mut [u8]) -> 
     })
 }
 
-/// Writes UTF-8 in UTF-16, up to the first fault or as far as whole characters fit. One pass over what is read.
+/// Writes UTF-8 in UTF-16, up to the first fault or as far as whole characters fit. A fault and a character that is cut off are not
+/// read. With status 3 the room that is left is shorter than the next character, and the call may go on behind `read`. What stands
+/// behind the written bytes may have been written over. One pass over what is read.
 #[unsafe(no_mangle)]
 pub extern "C" fn utf16_from_utf8(big: bool, text: &[u8], to: &mut [u8]) -> Answer
     ensures wrote { Wrote (IsUtf16Of big) text.now to.new result.read result.written }
@@ -131,12 +139,38 @@ pub extern "C" fn utf16_from_utf8(big: bool, text: &[u8], to: &mut [u8]) -> Answ
     })
 }
 
+/// Writes any bytes of UTF-8 in UTF-16, as far as whole characters fit, with U+FFFD where they are no UTF-8: one for each maximal
+/// subpart of a character, and one for a character that is cut off at the end. The status is 0, or 3 where the room that is left is
+/// shorter than the next character or U+FFFD: the call may go on behind `read`. What stands behind the written bytes may have been
+/// written over. One pass over what is read.
+#[unsafe(no_mangle)]
+pub extern "C" fn utf16_from_utf8_marked(big: bool, text: &[u8], to: &mut [u8]) -> Answer
+    ensures shown { ShowsWhole text_of_utf8 (char_bytes big) text.now to.new result.read result.written }
+    ensures stop { StopsMarkingWhole text_of_utf8 (char_bytes big) (drop result.read text.now) (length to.new - result.written) (stop_of result.status result.fault_len) }
+{
+    answer_of(if big {
+        encode_whole::<BE>(text, to)
+    } else {
+        encode_whole::<LE>(text, to)
+    })
+}
+
 /// How many bytes of UTF-16 the longest valid beginning of UTF-8 takes, in either order. Two passes.
 #[unsafe(no_mangle)]
 pub extern "C" fn utf16_from_utf8_len(text: &[u8]) -> usize
     ensures { result ≡ size (chars (take (utf8_valid_len text.now) text.now)) }
 {
     utf16_size(text)
+}
+
+/// How many bytes of UTF-16 `utf16_from_utf8_marked` makes of all the bytes, in either order: two at most for each byte. Two
+/// passes.
+#[unsafe(no_mangle)]
+pub extern "C" fn utf16_from_utf8_marked_len(text: &[u8]) -> usize
+    ensures size { result ≡ size (text_of_utf8 text.now) }
+    ensures most { result ≤ 2 * length text.now }
+{
+    utf16_marked_size(text)
 }
 
 /// The byte order at the beginning of a stream: by its mark, and big endian without one; undecided where fewer than two bytes have

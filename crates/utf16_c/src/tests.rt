@@ -2,8 +2,9 @@
 
 use crate::answers::Answer;
 use crate::{
-    utf16_byte_order, utf16_count, utf16_from_utf8, utf16_from_utf8_len, utf16_is_ascii,
-    utf16_to_utf8, utf16_to_utf8_len, utf16_to_utf8_marked, utf16_to_utf8_stream, utf16_validate,
+    utf16_byte_order, utf16_count, utf16_from_utf8, utf16_from_utf8_len, utf16_from_utf8_marked,
+    utf16_from_utf8_marked_len, utf16_is_ascii, utf16_to_utf8, utf16_to_utf8_len,
+    utf16_to_utf8_marked, utf16_to_utf8_stream, utf16_validate,
 };
 use std::process::Abort;
 
@@ -134,6 +135,22 @@ fn small_buffers(rt: HostRuntime) {
             0
         )
     );
+}
+
+// UTF-8 with a lone byte, an overlong pair and an end that is cut off, into all the room and into one byte less.
+#[test]
+fn marked_back(rt: HostRuntime) {
+    let text = b"A\x80\xC0\x80B\xE2\x82";
+    let wanted = [
+        0x41, 0x00, 0xFD, 0xFF, 0xFD, 0xFF, 0xFD, 0xFF, 0x42, 0x00, 0xFD, 0xFF,
+    ];
+    assert!(rt; utf16_from_utf8_marked_len(text) == 12);
+    let mut room = [7; 13];
+    assert!(rt; is(utf16_from_utf8_marked(false, text, &mut room), 7, 12, 0, 0));
+    assert!(rt; room.starts_with(&wanted) && room[12] == 7);
+    let answer = utf16_from_utf8_marked(true, text, &mut room[..11]);
+    assert!(rt; is(answer, 5, 10, 3, 0));
+    assert!(rt; room.starts_with(&[0x00, 0x41, 0xFF, 0xFD, 0xFF, 0xFD, 0xFF, 0xFD, 0x00, 0x42]));
 }
 
 // A stream cut inside a pair: what is not read is put before the next piece.

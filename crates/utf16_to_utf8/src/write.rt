@@ -11,9 +11,9 @@ use utf16_units::Utf16Order;
 /// How many bytes of room `write_utf8` wants beyond three for each code unit.
 pub const SPARE: usize = 128;
 
-/// Writes a text in UTF-8 to the front of a buffer, of bytes that the caller proves to be well formed, and answers how many
-/// bytes that are. The buffer has room for three bytes a code unit, and `SPARE` more: within this room the bytes behind the
-/// written ones may have changed, and those behind the room stay. One pass, by blocks of thirty-two units.
+/// Writes UTF-16 in UTF-8 to the front of a buffer, and answers how many bytes were written. The caller proves that the bytes are
+/// well formed, and that the buffer has room for three bytes for each code unit and `SPARE` more. Behind what was written the
+/// bytes within this room may have changed; those behind the room stay. One pass, by blocks of thirty-two units.
 pub fn write_utf8<E: Utf16Order>(raw: &[u8], to: &mut [u8]) -> usize
     requires text { IsText E.BIG raw.now }
     requires room { length raw.now / 2 * 3 + SPARE ≤ length to.old }

@@ -57,7 +57,10 @@ fn is_row(row: &Row) -> bool {
 }
 
 fn is_row_back(row: &Row) -> bool {
-    is_strict(from_utf8, row) && (row.status != Status::Done || from_utf8_len(&row.from) == row.to.len())
+    is_strict(from_utf8, row)
+        && is_marked(from_utf8_marked, row)
+        && from_utf8_marked_len(&row.from) == row.to.len()
+        && (row.status != Status::Done || from_utf8_len(&row.from) == row.to.len())
 }
 
 fn main() {

@@ -41,9 +41,11 @@ unsafe extern "C" {
     fn utf16_is_ascii(big: bool, raw: *const u8, len: usize) -> bool;
     fn utf16_to_utf8_len(big: bool, raw: *const u8, len: usize) -> usize;
     fn utf16_from_utf8_len(text: *const u8, len: usize) -> usize;
+    fn utf16_from_utf8_marked_len(text: *const u8, len: usize) -> usize;
     fn utf16_to_utf8(big: bool, raw: *const u8, len: usize, to: *mut u8, room: usize) -> RawProgress;
     fn utf16_to_utf8_marked(big: bool, raw: *const u8, len: usize, to: *mut u8, room: usize) -> RawProgress;
     fn utf16_from_utf8(big: bool, text: *const u8, len: usize, to: *mut u8, room: usize) -> RawProgress;
+    fn utf16_from_utf8_marked(big: bool, text: *const u8, len: usize, to: *mut u8, room: usize) -> RawProgress;
     fn utf16_to_utf8_stream(big: bool, raw: *const u8, len: usize, to: *mut u8, room: usize) -> RawProgress;
     fn utf16_byte_order(raw: *const u8, len: usize) -> RawOrder;
 }
@@ -97,6 +99,11 @@ pub fn from_utf8_len(text: &[u8]) -> usize {
     unsafe { utf16_from_utf8_len(text.as_ptr(), text.len()) }
 }
 
+/// How many bytes of UTF-16 the bytes take, with U+FFFD for what is no text.
+pub fn from_utf8_marked_len(text: &[u8]) -> usize {
+    unsafe { utf16_from_utf8_marked_len(text.as_ptr(), text.len()) }
+}
+
 /// The UTF-8 up to the first fault.
 pub fn to_utf8(big: bool, raw: &[u8], to: &mut [u8]) -> Progress {
     unsafe { utf16_to_utf8(big, raw.as_ptr(), raw.len(), to.as_mut_ptr(), to.len()) }.into()
@@ -110,6 +117,11 @@ pub fn to_utf8_marked(big: bool, raw: &[u8], to: &mut [u8]) -> Progress {
 /// The UTF-16 up to the first fault.
 pub fn from_utf8(big: bool, text: &[u8], to: &mut [u8]) -> Progress {
     unsafe { utf16_from_utf8(big, text.as_ptr(), text.len(), to.as_mut_ptr(), to.len()) }.into()
+}
+
+/// The UTF-16 with U+FFFD for what is no text.
+pub fn from_utf8_marked(big: bool, text: &[u8], to: &mut [u8]) -> Progress {
+    unsafe { utf16_from_utf8_marked(big, text.as_ptr(), text.len(), to.as_mut_ptr(), to.len()) }.into()
 }
 
 /// As `to_utf8_marked`, of a stream's next bytes: what more bytes could change is not read.
