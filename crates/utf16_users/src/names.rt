@@ -1,7 +1,7 @@
 //! A table that gives each name a number: equal names have one number, and numbers count from 0 in the order of arrival.
 
-ghost use Rattle.std.specs.Prelude.{◌≡◌, ◌≢◌, ◌++◌, ◌<◌, ◌≤◌, ◌↔◌, ℕ, List, [], ◌∷◌, All, IfErr, IfNone, IfOk, IfSome, IsTrue, OnErr, OnOk, Some, length, option_map, slice_get, slice_index, vec_len};
-ghost use Rattle.std.specs.List.{insert as insert_at_index};
+ghost use Rattle.std.specs.Prelude.{◌≡◌, ◌≢◌, ◌++◌, ◌<◌, ◌≤◌, ◌↔◌, ℕ, List, [], ◌∷◌, All, IfErr, IfNone, IfOk, IfSome, IsOk, IsTrue, OnErr, OnOk, Some, length, option_map, slice_get, slice_index, vec_len};
+ghost use Rattle.std.specs.List.{Contains, insert as insert_at_index};
 ghost use Rattle.utf16_users.specs.Names.{AreDistinct, AreEnds, IsInterned, IsOrder, IsPlace, IsTable, names_of};
 ghost use Rattle.utf16string.specs.Encoding.{size};
 ghost use Rattle.utf16string.specs.WStr.{wstr_text};
@@ -34,7 +34,8 @@ impl<E: Utf16Order, A: Allocator> Names<E, A> {
     pub fn new(alloc: A) -> Result<Self, AllocError>
     where
         A: Clone,
-        ensures { IfOk result (λ table. table ≡ []) }
+        ensures empty { IfOk result (λ table. table ≡ []) }
+        ensures nothing { A.is_infallible alloc → IsOk result }
     {
         let ends = Vec::new(alloc.clone()?);
         let order = Vec::new(alloc.clone()?);
@@ -93,6 +94,7 @@ impl<E: Utf16Order, A: Allocator> Names<E, A> {
     /// table as it was. A known name costs what `find` does; for a new one the numbers of larger names are moved in one block.
     pub fn intern(&mut self, name: WStr<E>) -> Result<usize, AllocError>
         ensures interned { IfOk result (λ number. IsInterned self.old (wstr_text name.entry) number self.new) }
+        ensures known { Contains self.old (wstr_text name.entry) → IsOk result }
         ensures refused { OnErr result (self.new ≡ self.old) }
     {
         match place_of(&self.text, &self.ends, &self.order, name) {

@@ -155,6 +155,7 @@ pub fn utf8_in<A: Allocator>(
 ) -> Result<String<A>, TranscodeError>
     ensures text { IfOk result (λ s. Encodes (order_big order) (chars (string_bytes s)) bytes.now) }
     ensures error { IfErr result (IsTranscodeError (order_big order) bytes.now) }
+    ensures nothing { bytes.now ≡ [] → IsOk result }
 {
     match order {
         Order::Big => utf8_of::<BE, A>(alloc, bytes),
@@ -164,7 +165,8 @@ pub fn utf8_in<A: Allocator>(
 
 /// A text in UTF-16, in an order that is known when the program runs.
 pub fn utf16_in<A: Allocator>(alloc: A, order: Order, text: &str) -> Result<Vec<u8, A>, AllocError>
-    ensures { IfOk result (λ bytes. Encodes (order_big order) (chars text.now) (vec_items bytes)) }
+    ensures text { IfOk result (λ bytes. Encodes (order_big order) (chars text.now) (vec_items bytes)) }
+    ensures nothing { text.now ≡ [] → IsOk result }
 {
     match order {
         Order::Big => utf16_of::<BE, A>(alloc, text),

@@ -5,6 +5,6 @@ use Rattle.utf16_users.proofs.names.Names.new.Goals as goal
 pub invariant_of-result : goal.invariant_of-result
 invariant_of-result g c = rw (c.new.ensures.text, c.new-ends.ensures.items, c.new-order.ensures.items) table_none
 
-pub returns : goal.returns
+pub returns-clause-empty : goal.returns-clause-empty
 unfolding parts_from
-returns g c = rw c.new-ends.ensures.items
+returns-clause-empty g c = rw c.new-ends.ensures.items
