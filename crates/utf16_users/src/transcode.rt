@@ -71,7 +71,8 @@ pub fn utf8_marked<E: Utf16Order, A: Allocator>(
     alloc: A,
     bytes: &[u8],
 ) -> Result<String<A>, AllocError>
-    ensures { IfOk result (λ s. string_bytes s ≡ encode_utf8_all (full (split_items E.BIG bytes.now) (split_tail E.BIG bytes.now))) }
+    ensures text { IfOk result (λ s. string_bytes s ≡ encode_utf8_all (full (split_items E.BIG bytes.now) (split_tail E.BIG bytes.now))) }
+    ensures nothing { bytes.now ≡ [] → IsOk result }
 {
     let mut decoder = Lossy::<E>::new();
     let mut text = decoder.feed(alloc, bytes)?;
