@@ -1,10 +1,11 @@
 //! UTF-16 in UTF-8 with U+FFFD for each fault.
 
-ghost use Rattle.std.specs.Prelude.{◌-◌, length, drop};
+ghost use Rattle.std.specs.Prelude.{◌≡◌, ◌-◌, length, drop};
 ghost use Rattle.std.specs.Char.{encode_utf8};
 ghost use Rattle.utf16_buffers.specs.Shown.{ShowsWhole, text_of_utf16};
 ghost use Rattle.utf16_buffers.specs.Stops.{StopsMarking, StopsMarkingWhole};
 ghost use Rattle.utf16_buffers.specs.Wrote.{DecodesTo};
+ghost use Rattle.utf16_buffers.specs.declared.progress.Stop.TheVariants.{NoRoom};
 
 use crate::progress::{Progress, Stop, put};
 use crate::utf8::to_utf8;
@@ -51,6 +52,7 @@ pub fn decode<E: Utf16Order>(raw: &[u8], to: &mut [u8]) -> Progress
 pub fn decode_whole<E: Utf16Order>(raw: &[u8], to: &mut [u8]) -> Progress
     ensures shown { ShowsWhole (text_of_utf16 E.BIG) encode_utf8 raw.now to.new result.read result.written }
     ensures stop { StopsMarkingWhole (text_of_utf16 E.BIG) encode_utf8 (drop result.read raw.now) (length to.new - result.written) result.stop }
+    ensures between { result.stop ≡ NoRoom → DecodesTo E.BIG raw.now to.new result.read result.written }
 {
     let front = decode::<E>(raw, to);
     let Stop::CutOff = front.stop else {

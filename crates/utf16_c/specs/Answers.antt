@@ -1,5 +1,5 @@
 -- What the numbers in an answer say.
-use Rattle.std.specs.Prelude.{◌≡◌, ℕ, ◌==◌, Bool, List, None, Some, Option, Result, Ok, Err, length, if◌then◌else◌}
+use Rattle.std.specs.Prelude.{◌≡◌, ◌≢◌, ℕ, ◌≤◌, ◌==◌, Bool, List, None, Some, Option, Result, Ok, Err, length, if◌then◌else◌}
 use Rattle.utf16_units.specs.Encoding.{IsText}
 use Rattle.utf16_units.specs.Fault.{IsFault, IsFront}
 use Rattle.utf16_units.specs.Utf16Error.{error_len, valid_up_to}
@@ -11,6 +11,10 @@ use Rattle.utf16_buffers.specs.declared.progress.Stop.TheVariants.{CutOff, Done,
 abbrev pub stop_of : ℕ → ℕ → Stop
 stop_of status fault_len =
     if status == 0 then Done else (if status == 1 then Fault fault_len else (if status == 2 then CutOff else NoRoom))
+
+-- the status is one of the four, and only a fault has a length
+abbrev pub AreNumbers : ℕ → ℕ → Type 0
+AreNumbers status fault_len = (status ≤ 3) × (status ≢ 1 → fault_len ≡ 0)
 
 -- the validator's answer as such a reason, and as a length
 abbrev pub fault_stop : Option ℕ → Stop

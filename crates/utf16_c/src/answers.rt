@@ -1,7 +1,7 @@
 //! The answers that C gets, and the numbers that stand in them.
 
-ghost use Rattle.std.specs.Prelude.{◌≡◌, ◌≤◌};
-ghost use Rattle.utf16_c.specs.Answers.{stop_of, validity_stop, validity_up_to};
+ghost use Rattle.std.specs.Prelude.{◌≡◌};
+ghost use Rattle.utf16_c.specs.Answers.{AreNumbers, stop_of, validity_stop, validity_up_to};
 
 use utf16_buffers::{Progress, Stop};
 use utf16_units::Utf16Error;
@@ -57,6 +57,7 @@ pub(crate) fn answer_of(progress: Progress) -> Answer
     ensures read { result.read ≡ progress.read }
     ensures written { result.written ≡ progress.written }
     ensures stop { stop_of result.status result.fault_len ≡ progress.stop }
+    ensures numbers { AreNumbers result.status result.fault_len }
 {
     let (status, fault_len) = status_of(progress.stop);
     Answer {
@@ -71,7 +72,7 @@ pub(crate) fn answer_of(progress: Progress) -> Answer
 #[inline(always)]
 pub(crate) fn status_of(stop: Stop) -> (u32, u32)
     ensures stop { stop_of result.0 result.1 ≡ stop }
-    ensures few { result.0 ≤ 3 }
+    ensures numbers { AreNumbers result.0 result.1 }
 {
     match stop {
         Stop::Done => (DONE, 0),
@@ -86,6 +87,7 @@ pub(crate) fn status_of(stop: Stop) -> (u32, u32)
 pub(crate) fn validity_of(len: usize, tested: Result<(), Utf16Error>) -> Validity
     ensures valid_up_to { result.valid_up_to ≡ validity_up_to len tested }
     ensures stop { stop_of result.status result.fault_len ≡ validity_stop tested }
+    ensures numbers { AreNumbers result.status result.fault_len }
 {
     let Err(error) = tested else {
         return Validity {

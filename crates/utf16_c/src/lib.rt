@@ -17,7 +17,8 @@ ghost use Rattle.utf16_units.specs.Fault.{IsFront};
 ghost use Rattle.utf16_buffers.specs.Shown.{ShowsWhole, text_of_utf16, text_of_utf8};
 ghost use Rattle.utf16_buffers.specs.Stops.{StopsDecoding, StopsEncoding, StopsMarking, StopsMarkingWhole};
 ghost use Rattle.utf16_buffers.specs.Wrote.{DecodesTo, IsUtf16Of, IsUtf8Of, Wrote};
-ghost use Rattle.utf16_c.specs.Answers.{IsValidity, stop_of};
+ghost use Rattle.utf16_c.specs.Answers.{AreNumbers, IsValidity, stop_of};
+ghost use Rattle.utf16_buffers.specs.declared.progress.Stop.TheVariants.{NoRoom};
 
 use crate::answers::{Answer, Order, Validity, answer_of, validity_of};
 use utf16_buffers::{
@@ -30,7 +31,8 @@ use utf16_units::{BE, LE, validate_raw_utf16};
 /// character that is cut off at the end. One pass, up to the first fault.
 #[unsafe(no_mangle)]
 pub extern "C" fn utf16_validate(big: bool, raw: &[u8]) -> Validity
-    ensures { IsValidity big raw.now result.valid_up_to (stop_of result.status result.fault_len) }
+    ensures validity { IsValidity big raw.now result.valid_up_to (stop_of result.status result.fault_len) }
+    ensures numbers { AreNumbers result.status result.fault_len }
 {
     validity_of(
         raw.len(),
@@ -88,6 +90,7 @@ pub extern "C" fn utf16_to_utf8_len(big: bool, raw: &[u8]) -> usize
 pub extern "C" fn utf16_to_utf8(big: bool, raw: &[u8], to: &mut [u8]) -> Answer
     ensures wrote { Wrote (IsUtf8Of big) raw.now to.new result.read result.written }
     ensures stop { StopsDecoding big raw.now result.read (length to.new - result.written) (stop_of result.status result.fault_len) }
+    ensures numbers { AreNumbers result.status result.fault_len }
 {
     answer_of(if big {
         to_utf8::<BE>(raw, to)
@@ -102,6 +105,8 @@ pub extern "C" fn utf16_to_utf8(big: bool, raw: &[u8], to: &mut [u8]) -> Answer
 pub extern "C" fn utf16_to_utf8_marked(big: bool, raw: &[u8], to: &mut [u8]) -> Answer
     ensures shown { ShowsWhole (text_of_utf16 big) encode_utf8 raw.now to.new result.read result.written }
     ensures stop { StopsMarkingWhole (text_of_utf16 big) encode_utf8 (drop result.read raw.now) (length to.new - result.written) (stop_of result.status result.fault_len) }
+    ensures between { stop_of result.status result.fault_len ≡ NoRoom → DecodesTo big raw.now to.new result.read result.written }
+    ensures numbers { AreNumbers result.status result.fault_len }
 {
     answer_of(if big {
         decode_whole::<BE>(raw, to)
@@ -116,6 +121,7 @@ pub extern "C" fn utf16_to_utf8_marked(big: bool, raw: &[u8], to: &mut [u8]) -> 
 pub extern "C" fn utf16_to_utf8_stream(big: bool, raw: &[u8], to: &mut [u8]) -> Answer
     ensures decodes { DecodesTo big raw.now to.new result.read result.written }
     ensures stop { StopsMarking big (drop result.read raw.now) (length to.new - result.written) (stop_of result.status result.fault_len) }
+    ensures numbers { AreNumbers result.status result.fault_len }
 {
     answer_of(if big {
         decode::<BE>(raw, to)
@@ -131,6 +137,7 @@ pub extern "C" fn utf16_to_utf8_stream(big: bool, raw: &[u8], to: &mut [u8]) -> 
 pub extern "C" fn utf16_from_utf8(big: bool, text: &[u8], to: &mut [u8]) -> Answer
     ensures wrote { Wrote (IsUtf16Of big) text.now to.new result.read result.written }
     ensures stop { StopsEncoding big text.now result.read (length to.new - result.written) (stop_of result.status result.fault_len) }
+    ensures numbers { AreNumbers result.status result.fault_len }
 {
     answer_of(if big {
         from_utf8::<BE>(text, to)

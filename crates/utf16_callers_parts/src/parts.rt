@@ -1,6 +1,6 @@
 //! Parts of a text, cut at boundaries that a call or a law tells.
 
-ghost use Rattle.std.specs.Prelude.{◌≡◌, ◌↔◌, ◌++◌, ◌+◌, ◌≤◌, ◌∷◌, ℕ, IfOk, IfSome, IsSome, IsTrue, OnOk, chars, drop, length, map, take};
+ghost use Rattle.std.specs.Prelude.{◌≡◌, ◌≢◌, ◌↔◌, ◌++◌, ◌+◌, ◌≤◌, [], ◌∷◌, ℕ, IfNone, IfOk, IfSome, IsSome, IsTrue, OnErr, OnOk, chars, drop, length, map, take};
 ghost use Rattle.utf16_units.specs.Boundary.{IsBoundary, text_between, text_from, text_to};
 ghost use Rattle.utf16_units.specs.Encoding.{Encodes};
 ghost use Rattle.utf16string.specs.Offsets.{char_offsets};
@@ -51,6 +51,8 @@ pub fn put<E: Utf16Order, A: Allocator>(
     table: &mut WString<E, A>,
     name: WStr<E>,
 ) -> Result<(usize, usize), AllocError>
+    ensures text { OnOk result (wstring_text table.new ≡ wstring_text table.old ++ wstr_text name.entry) }
+    ensures refused { OnErr result (wstring_text table.new ≡ wstring_text table.old) }
     ensures start { IfOk result (λ at. IsBoundary (wstring_text table.new) at.0) }
     ensures end { IfOk result (λ at. IsBoundary (wstring_text table.new) at.1) }
     ensures order { IfOk result (λ at. at.0 ≤ at.1) }
@@ -98,7 +100,9 @@ pub fn parted<'a, E: Utf16Order>(text: WStr<'a, E>, at: usize) -> Option<(WStr<'
 
 /// What stands behind the first character: the characters of the offsets that are left.
 pub fn behind_first<'a, E: Utf16Order>(text: WStr<'a, E>) -> Option<WStr<'a, E>>
-    ensures { IfSome result (λ rest. wstr_text rest ≡ map (λ at. at.1) (drop 1 (char_offsets 0 (wstr_text text.entry)))) }
+    ensures none { IfNone result (char_offsets 0 (wstr_text text.entry) ≡ []) }
+    ensures some { IfSome result (λ _. char_offsets 0 (wstr_text text.entry) ≢ []) }
+    ensures rest { IfSome result (λ rest. wstr_text rest ≡ map (λ at. at.1) (drop 1 (char_offsets 0 (wstr_text text.entry)))) }
 {
     let mut chars = text.char_indices();
     chars.next()?;

@@ -1,9 +1,10 @@
 //! A short caller of each of the four users.
 
-ghost use Rattle.std.specs.Prelude.{◌≡◌, ◌++◌, [], List, ℕ, IfErr, IfOk, IfSome, Some, false, length, map, option_map, true};
+ghost use Rattle.std.specs.Prelude.{◌≡◌, ◌++◌, [], List, ℕ, IfErr, IfNone, IfOk, IfSome, Some, false, length, map, option_map, true};
 ghost use Rattle.std.specs.Vec.{vec_items};
 ghost use Rattle.utf16_users.specs.MultiText.{table_of};
-ghost use Rattle.utf16_users.specs.Records.{HoldsFields, IsReadError, field_bytes};
+ghost use Rattle.utf16_users.specs.Records.{HoldsFields, IsFieldFault, IsReadError, field_bytes};
+ghost use Rattle.utf16_users.specs.declared.records.FieldFault.{FieldFault};
 ghost use Rattle.utf16_users.specs.Transcode.{IsTranscodeError};
 ghost use Rattle.utf16string.specs.Encoding.{Encodes};
 ghost use Rattle.utf16string.specs.WStr.{wstr_text};
@@ -26,7 +27,8 @@ pub fn field_count(alloc: Global, buffer: &[u8]) -> Result<usize, ReadError>
 
 /// The first field of a buffer.
 pub fn title(buffer: &[u8]) -> Option<WStr<'_, LE>>
-    ensures { IfSome result (λ title. (rest : List ℕ) × (buffer.now ≡ field_bytes false (wstr_text title) ++ rest)) }
+    ensures field { IfSome result (λ title. (rest : List ℕ) × (buffer.now ≡ field_bytes false (wstr_text title) ++ rest)) }
+    ensures none { IfNone result ((fault : FieldFault) × IsFieldFault false buffer.now fault) }
 {
     let (title, _) = next_field(buffer).ok()?;
     Some(title)

@@ -1,5 +1,5 @@
 -- Tables of texts: behind each text stands a NUL, U+0000, and behind the last one more, as the registry's REG_MULTI_SZ has it.
-use Rattle.std.specs.Prelude.{◌≡◌, ◌≢◌, ◌==◌, ℕ, List, [], ◌∷◌, ◌++◌, All, slice_get, take, Some, ⊤}
+use Rattle.std.specs.Prelude.{◌≡◌, ◌≢◌, ◌==◌, ℕ, List, [], ◌∷◌, ◌++◌, All, slice_get, take, Some}
 use Rattle.std.specs.List.{flat_map, slice_split, Contains}
 use Rattle.utf16_users.specs.declared.multi_text.WriteError.{WriteError}
 use Rattle.utf16_users.specs.declared.multi_text.WriteError.TheVariants.{Empty, HasNul, NoMemory}
@@ -42,8 +42,9 @@ pub data CutAtNul (text front back : List ℕ) : Type 0 where
   at_nul : HasNoNul front → text ≡ front ++ 0 ∷ back → CutAtNul text front back
   at_end : HasNoNul front → text ≡ front → back ≡ [] → CutAtNul text front back
 
--- why texts make no table: the text of that number is empty, or has a NUL, and all before it can stand in one
+-- why texts make no table: the text of that number is empty, or has a NUL, and all before it can stand in one; or all can, and
+-- memory was refused
 abbrev pub IsRefusal : List (List ℕ) → WriteError → Type 0
 IsRefusal texts (Empty i) = (slice_get texts i ≡ Some []) × All IsEntry (take i texts)
 IsRefusal texts (HasNul i) = (text : List ℕ) × (slice_get texts i ≡ Some text) × Contains text 0 × All IsEntry (take i texts)
-IsRefusal texts NoMemory = ⊤
+IsRefusal texts NoMemory = All IsEntry texts

@@ -1,6 +1,6 @@
 //! A table of texts, each ended by a NUL, and the table by one more, as the registry stores a list of strings.
 
-ghost use Rattle.std.specs.Prelude.{◌≡◌, ℕ, List, All, IfErr, IfOk, OnOk, map};
+ghost use Rattle.std.specs.Prelude.{◌≡◌, ℕ, List, [], All, IfErr, IfOk, IsOk, OnOk, map};
 ghost use Rattle.std.specs.Bool.{OnFalse, OnTrue};
 ghost use Rattle.std.specs.List.{Contains};
 ghost use Rattle.std.specs.Iterator.{YieldsFirstBy, item_count};
@@ -78,6 +78,7 @@ pub fn read<'a, E: Utf16Order, A: Allocator>(
 ) -> Result<Vec<WStr<'a, E>, A>, AllocError>
     ensures texts { IfOk result (λ found. map wstr_text found.items ≡ texts_in (wstr_text table.entry)) }
     ensures reading { IfOk result (λ found. IsReading (wstr_text table.entry) (map wstr_text found.items)) }
+    ensures nothing { texts_in (wstr_text table.entry) ≡ [] → IsOk result }
 {
     let mut found = Vec::new(alloc);
     for text in texts(table) {

@@ -1,7 +1,7 @@
 //! A table that gives each name a number: equal names have one number, and numbers count from 0 in the order of arrival.
 
-ghost use Rattle.std.specs.Prelude.{◌≡◌, ◌≢◌, ◌++◌, ◌<◌, ◌≤◌, ◌↔◌, ℕ, List, [], ◌∷◌, All, IfErr, IfNone, IfOk, IfSome, IsTrue, OnErr, OnOk, Some, length, option_map, slice_get, slice_index, vec_len};
-ghost use Rattle.std.specs.List.{insert as insert_at_index};
+ghost use Rattle.std.specs.Prelude.{◌≡◌, ◌≢◌, ◌++◌, ◌<◌, ◌≤◌, ◌↔◌, ℕ, List, [], ◌∷◌, All, IfErr, IfNone, IfOk, IfSome, IsOk, IsTrue, OnErr, OnOk, Some, length, option_map, slice_get, slice_index, vec_len};
+ghost use Rattle.std.specs.List.{Contains, insert as insert_at_index};
 ghost use Rattle.utf16_units.specs.Numbered.{AreDistinct, IsOrder, IsPlace, IsTable};
 ghost use Rattle.utf16_units.specs.Parts.{AreEnds, parts_of};
 ghost use Rattle.utf16_users.specs.Names.{IsInterned};
@@ -37,7 +37,8 @@ impl<E: Utf16Order, A: Allocator> Names<E, A> {
     pub fn new(alloc: A) -> Result<Self, AllocError>
     where
         A: Clone,
-        ensures { IfOk result (λ table. table ≡ []) }
+        ensures empty { IfOk result (λ table. table ≡ []) }
+        ensures nothing { A.is_infallible alloc → IsOk result }
     {
         let ends = Vec::new(alloc.clone()?);
         let order = Vec::new(alloc.clone()?);
@@ -96,6 +97,7 @@ impl<E: Utf16Order, A: Allocator> Names<E, A> {
     /// names are moved in one block.
     pub fn intern(&mut self, name: WStr<E>) -> Result<usize, AllocError>
         ensures interned { IfOk result (λ number. IsInterned self.old (wstr_text name.entry) number self.new) }
+        ensures known { Contains self.old (wstr_text name.entry) → IsOk result }
         ensures refused { OnErr result (self.new ≡ self.old) }
     {
         put_in(&mut self.text, &mut self.ends, &mut self.order, name)
@@ -152,6 +154,7 @@ fn put_in<E: Utf16Order, A: Allocator>(
     requires { IsTable (wstring_text text.old) ends.old.items order.old.items }
     ensures table { IsTable (wstring_text text.new) ends.new.items order.new.items }
     ensures interned { IfOk result (λ number. IsInterned (parts_of (wstring_text text.old) ends.old.items) (wstr_text name.entry) number (parts_of (wstring_text text.new) ends.new.items)) }
+    ensures known { Contains (parts_of (wstring_text text.old) ends.old.items) (wstr_text name.entry) → IsOk result }
     ensures refused { OnErr result (parts_of (wstring_text text.new) ends.new.items ≡ parts_of (wstring_text text.old) ends.old.items) }
 {
     match place_of(text, ends, order, name) {

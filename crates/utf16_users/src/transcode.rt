@@ -71,7 +71,8 @@ pub fn utf8_marked<E: Utf16Order, A: Allocator>(
     alloc: A,
     bytes: &[u8],
 ) -> Result<String<A>, AllocError>
-    ensures { IfOk result (λ s. string_bytes s ≡ encode_utf8_all (full (split_items E.BIG bytes.now) (split_tail E.BIG bytes.now))) }
+    ensures text { IfOk result (λ s. string_bytes s ≡ encode_utf8_all (full (split_items E.BIG bytes.now) (split_tail E.BIG bytes.now))) }
+    ensures nothing { bytes.now ≡ [] → IsOk result }
 {
     let mut decoder = Lossy::<E>::new();
     let mut text = decoder.feed(alloc, bytes)?;
@@ -155,6 +156,7 @@ pub fn utf8_in<A: Allocator>(
 ) -> Result<String<A>, TranscodeError>
     ensures text { IfOk result (λ s. Encodes (order_big order) (chars (string_bytes s)) bytes.now) }
     ensures error { IfErr result (IsTranscodeError (order_big order) bytes.now) }
+    ensures nothing { bytes.now ≡ [] → IsOk result }
 {
     match order {
         Order::Big => utf8_of::<BE, A>(alloc, bytes),
@@ -164,7 +166,8 @@ pub fn utf8_in<A: Allocator>(
 
 /// A text in UTF-16, in an order that is known when the program runs.
 pub fn utf16_in<A: Allocator>(alloc: A, order: Order, text: &str) -> Result<Vec<u8, A>, AllocError>
-    ensures { IfOk result (λ bytes. Encodes (order_big order) (chars text.now) (vec_items bytes)) }
+    ensures text { IfOk result (λ bytes. Encodes (order_big order) (chars text.now) (vec_items bytes)) }
+    ensures nothing { text.now ≡ [] → IsOk result }
 {
     match order {
         Order::Big => utf16_of::<BE, A>(alloc, text),
