@@ -1,3 +1,2 @@
 mod Joined
 mod Order
-mod Tables
