@@ -1,8 +1,9 @@
 //! Parts of a text, cut at boundaries that a call or a law tells.
 
-ghost use Rattle.std.specs.Prelude.{◌≡◌, ◌≢◌, ◌↔◌, ◌++◌, ◌+◌, ◌≤◌, [], ◌∷◌, ℕ, IfNone, IfOk, IfSome, IsSome, IsTrue, OnErr, OnOk, chars, drop, length, map, take};
+ghost use Rattle.std.specs.Prelude.{◌≡◌, ◌≢◌, ◌↔◌, ◌++◌, ◌+◌, ◌≤◌, [], ◌∷◌, ℕ, IfNone, IfOk, IfSome, IsNone, IsSome, IsTrue, OnErr, OnOk, chars, drop, length, map, take};
 ghost use Rattle.utf16_units.specs.Boundary.{IsBoundary, text_between, text_from, text_to};
-ghost use Rattle.utf16_units.specs.Encoding.{Encodes};
+ghost use Rattle.utf16_units.specs.Delimited.{Lacks};
+ghost use Rattle.utf16_units.specs.Encoding.{Encodes, size};
 ghost use Rattle.utf16string.specs.Offsets.{char_offsets};
 ghost use Rattle.utf16string.specs.WStr.{wstr_bytes, wstr_text};
 ghost use Rattle.utf16string.specs.WString.{wstring_text};
@@ -43,6 +44,16 @@ pub fn around<'a, E: Utf16Order>(
 {
     let (at, c) = text.char_indices().find(|at| at.1 == wanted)?;
     Some((text.index(..at), text.index(at + c.encoded_utf16_len()..)))
+}
+
+/// A key and its value, on both sides of the first '='; none in a line that has no '='.
+pub fn key_and_value<'a, E: Utf16Order>(line: WStr<'a, E>) -> Option<(WStr<'a, E>, WStr<'a, E>)>
+    ensures none { IsNone result ↔ Lacks 61 (wstr_text line.entry) }
+    ensures joined { IfSome result (λ parts. wstr_text parts.0 ++ 61 ∷ wstr_text parts.1 ≡ wstr_text line.entry) }
+    ensures key { IfSome result (λ parts. Lacks 61 (wstr_text parts.0)) }
+    ensures bytes { IfSome result (λ parts. wstr_bytes parts.0 ≡ take (size (wstr_text parts.0)) (wstr_bytes line.entry)) }
+{
+    line.split_once('=')
 }
 
 /// Puts a name behind a table: where it stands. The names before it stay.

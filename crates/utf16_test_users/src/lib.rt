@@ -5,3 +5,5 @@
 mod multi_text;
 #[cfg(test)]
 mod names;
+#[cfg(test)]
+mod splits;

@@ -1,11 +1,15 @@
 -- A text cut at a delimiter, text after text, and the list of texts that it begins with.
-use Rattle.std.proofs.Common.{◌≡◌, ◌≢◌, ℕ, List, [], ◌∷◌, ◌++◌, All, true, false, eqb, refl, ap, sym, ◌∙◌, append_assoc, inl, inr}
+use Rattle.std.proofs.Common.{◌≡◌, ◌≢◌, ℕ, ◌+◌, ◌<◌, ◌≤◌, List, [], ◌∷◌, ◌++◌, All, true, false, eqb, get_or, length, map, take, arith, refl, ap, subst, sym, ◌∙◌, append_assoc, append-nil, inl, inr}
 use Rattle.std.proofs.lemmas.Bool.{ne_eqb}
 use Rattle.std.proofs.lemmas.Bool.Decides.{eqb_tells}
-use Rattle.std.proofs.lemmas.List.Elements.{All-cons, All-head, All-nil, All-tail, All-weaker}
+use Rattle.std.proofs.lemmas.List.{get_or-map, length-map, take_all}
+use Rattle.std.proofs.lemmas.List.Elements.{All-cons, All-head, All-more, All-nil, All-tail, All-weaker}
 use Rattle.std.proofs.lemmas.List.Splits.{slice_split_at, slice_split_none}
 use Rattle.std.specs.List.{slice_split}
+use Rattle.utf16_units.specs.Boundary.{text_from, text_to}
 use Rattle.utf16_units.specs.Delimited.{IsEntry, IsListBegun, Lacks, before_empty, closed, ended, listed}
+use Rattle.utf16_units.specs.Encoding.{size}
+use Rattle.utf16_units.proofs.BoundaryLemmas.{text_from-at, text_to-at}
 use Rattle.utf16_units.proofs.PartsEnded.{parts_ended, parts_lack}
 
 same : (e : ℕ) → eqb e e ≡ true
@@ -36,6 +40,13 @@ listed-none e text front back is none =
 pub listed-nil : (e : ℕ) → listed e [] ≡ []
 unfolding listed before_empty
 listed-nil e = refl
+
+-- the front of a text up to its size is the text, and nothing is behind
+pub text_to-whole : (text : List ℕ) → text_to text (size text) ≡ text
+text_to-whole text = ap (λ t. text_to t (size text)) (sym (append-nil text)) ∙ text_to-at text [] (size text) refl
+
+pub text_from-whole : (text : List ℕ) → text_from text (size text) ≡ []
+text_from-whole text = ap (λ t. text_from t (size text)) (sym (append-nil text)) ∙ text_from-at text [] (size text) refl
 
 -- what is read of a list are its texts
 pub listed-closed : (e : ℕ) (texts : List (List ℕ)) → All (IsEntry e) texts → listed e (closed e texts) ≡ texts
@@ -77,4 +88,16 @@ list_begun e text =
     }
 
 -- a reader takes the texts one after another, as the parts in front of delimiters, and the last
-pub ruleset delimited = (listed-first, listed-last, listed-none, listed-nil, listed-closed, list_begun)
+pub ruleset delimited = (listed-first, listed-last, listed-none, listed-nil, listed-closed, list_begun, text_to-whole, text_from-whole)
+
+-- ---- texts looked at one after another
+
+module _ {X : Type 0} (P : List ℕ → Type 0) (text : X → List ℕ) (items : List X) (i : ℕ) where
+  pub All-next : (item : X) → i < length items → item ≡ get_or items i item → All P (take i (map text items)) → P (text item)
+      → All P (take (i + 1) (map text items))
+  All-next item within is before here =
+      All-more P (map text items) i (text item) (omega (arith, length-map items text, within)) before
+      (subst P (ap text is ∙ sym (get_or-map text items i item (text item) within)) here)
+
+  pub All-whole : length items ≤ i → All P (take i (map text items)) → All P (map text items)
+  All-whole past all = subst (All P) (take_all i (map text items) (omega (arith, length-map items text, past))) all

@@ -1,10 +1,10 @@
 //! A table of texts, each ended by a NUL, and the table by one more, as the registry stores a list of strings.
 
-ghost use Rattle.std.specs.Prelude.{◌≡◌, ℕ, List, [], All, IfErr, IfOk, IsOk, OnOk, map};
+ghost use Rattle.std.specs.Prelude.{◌≡◌, ◌∷◌, [], ℕ, List, All, IfErr, IfOk, IfSome, IsOk, None, OnOk, map};
 ghost use Rattle.std.specs.Bool.{OnFalse, OnTrue};
 ghost use Rattle.std.specs.List.{Contains};
 ghost use Rattle.std.specs.Iterator.{YieldsFirstBy, item_count};
-ghost use Rattle.utf16_users.specs.MultiText.{CutAtNul, IsEntry, IsReading, HasNoNul, IsRefusal, table_of, texts_in};
+ghost use Rattle.utf16_users.specs.MultiText.{IsEntry, IsReading, HasNoNul, IsRefusal, table_of, texts_in};
 ghost use Rattle.utf16string.specs.WStr.{wstr_text};
 ghost use Rattle.utf16string.specs.WString.{wstring_text};
 
@@ -53,17 +53,15 @@ impl<'a, E: Utf16Order> Iterator for MultiText<'a, E> {
     ghost remaining = { item_count (λ rest. rest) };
 
     fn next(&mut self) -> Option<WStr<'a, E>> {
-        let (first, rest) = cut_at_nul(self.rest);
-        if first.is_empty() {
-            return None;
-        }
+        let (first, rest) = first_of(self.rest)?;
         self.rest = rest;
         Some(first)
     }
 }
 
-/// The texts of a table, in order, with no copy. An empty text ends the table, and so does the end of what was given: the
-/// last NUL may miss, and the last text's own with it. What stands behind the table is left out.
+/// The texts of a table, in order, with no copy and no memory. Any text is read as a table, and none is refused: an empty text
+/// ends it, and so does the end of what was given, so the last NUL may miss, and the last text's own with it. What stands behind
+/// the empty text is left out.
 pub fn texts<'a, E: Utf16Order>(table: WStr<'a, E>) -> MultiText<'a, E>
     ensures texts { result ≡ texts_in (wstr_text table.entry) }
     ensures reading { IsReading (wstr_text table.entry) result }
@@ -71,7 +69,8 @@ pub fn texts<'a, E: Utf16Order>(table: WStr<'a, E>) -> MultiText<'a, E>
     MultiText { rest: table }
 }
 
-/// The texts of a table in a vector. The only error is a refused request for memory.
+/// The texts of a table in a vector, as `texts` gives them. The only error is a refused request for memory; a table without texts
+/// asks for none.
 pub fn read<'a, E: Utf16Order, A: Allocator>(
     alloc: A,
     table: WStr<'a, E>,
@@ -87,8 +86,9 @@ pub fn read<'a, E: Utf16Order, A: Allocator>(
     Ok(found)
 }
 
-#[tactic(auto, using(crate::proofs::Tables::read_back))]
-/// The table of texts. A text that is empty or has a NUL is refused, the first such one, and nothing is written.
+/// The table of texts, in the order given. An empty text or one with a NUL is refused, the first such one, by its number, before
+/// any memory is asked for. Where all can stand in a table, the only error is a refused request for memory.
+#[tactic(auto, using(utf16_units::proofs::DelimitedLemmas::delimited))]
 pub fn write<E: Utf16Order, A: Allocator>(
     alloc: A,
     texts: &[WStr<E>],
@@ -141,17 +141,22 @@ fn joined<E: Utf16Order, A: Allocator>(
     Ok(table)
 }
 
-// What stands in front of the first NUL, and what stands behind it.
-fn cut_at_nul<'a, E: Utf16Order>(table: WStr<'a, E>) -> (WStr<'a, E>, WStr<'a, E>)
-    ensures { CutAtNul (wstr_text table.entry) (wstr_text result.0) (wstr_text result.1) }
+// The first text of a table and what stands behind it, or `None` where the table ends.
+#[tactic(auto, using(utf16_units::proofs::DelimitedLemmas::delimited))]
+fn first_of<'a, E: Utf16Order>(table: WStr<'a, E>) -> Option<(WStr<'a, E>, WStr<'a, E>)>
+    ensures none { result ≡ None → texts_in (wstr_text table.entry) ≡ [] }
+    ensures some { IfSome result (λ parts. texts_in (wstr_text table.entry) ≡ wstr_text parts.0 ∷ texts_in (wstr_text parts.1)) }
 {
-    let mut chars = table.chars();
-    while let Some(c) = chars.next() {
-        if c == '\0' {
-            let back = chars.as_wstr();
-            let (front, _) = table.split_at(table.len() - back.len() - 2);
-            return (front, back);
-        }
+    if let Some((first, rest)) = table.split_once('\0') {
+        return if first.is_empty() {
+            None
+        } else {
+            Some((first, rest))
+        };
     }
-    (table, chars.as_wstr())
+    if table.is_empty() {
+        None
+    } else {
+        Some(table.split_at(table.len()))
+    }
 }

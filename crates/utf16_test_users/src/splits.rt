@@ -1,0 +1,53 @@
+//! A text split once, in front of the first such character and behind it.
+
+use std::process::Abort;
+use utf16string::{BE, LE, Utf16Order, WString};
+
+// A text, the character, and what stands in front of it and behind it. In little endian the bytes of U+10000 hold the unit of
+// U+00D8 at an odd offset, in big endian that of U+00DC.
+const SPLITS: [(&str, char, Option<(&str, &str)>); 13] = [
+    ("", '=', None),
+    ("key", '=', None),
+    ("=", '=', Some(("", ""))),
+    ("=value", '=', Some(("", "value"))),
+    ("key=", '=', Some(("key", ""))),
+    ("key=value", '=', Some(("key", "value"))),
+    ("a=b=c", '=', Some(("a", "b=c"))),
+    ("a\u{10000}b", '\u{10000}', Some(("a", "b"))),
+    (
+        "\u{10001}\u{10000}\u{FFFF}",
+        '\u{10000}',
+        Some(("\u{10001}", "\u{FFFF}")),
+    ),
+    ("\u{10001}\u{10400}", '\u{10000}', None),
+    ("\u{10000}", '\u{D8}', None),
+    ("\u{10000}", '\u{DC}', None),
+    (
+        "\u{10000}\u{D8}\u{DC}",
+        '\u{DC}',
+        Some(("\u{10000}\u{D8}", "")),
+    ),
+];
+
+fn split_is<E: Utf16Order>(
+    rt: &(impl Abort + AllocGlobal),
+    text: &str,
+    delimiter: char,
+    wanted: Option<(&str, &str)>,
+) {
+    let text = WString::<E>::from_str(rt.alloc(), text).expect(rt, "memory");
+    let same = match (text.as_wstr().split_once(delimiter), wanted) {
+        (Some((front, back)), Some(parts)) => front.eq_str(parts.0) && back.eq_str(parts.1),
+        (None, None) => true,
+        _ => false,
+    };
+    assert!(rt; same, "{text} at {delimiter}");
+}
+
+#[test]
+fn split_once_at_the_first(rt: HostRuntime) {
+    for (text, delimiter, wanted) in SPLITS {
+        split_is::<LE>(&rt, text, delimiter, wanted);
+        split_is::<BE>(&rt, text, delimiter, wanted);
+    }
+}
