@@ -1,3 +1,4 @@
 pub mod WroteLemmas
 pub mod MarkLemmas
 pub mod EncodeLemmas
+pub mod StreamSteps

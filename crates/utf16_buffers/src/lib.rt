@@ -5,6 +5,7 @@
 mod marks;
 mod progress;
 mod sizes;
+mod stream;
 mod units;
 mod utf16;
 mod utf8;
@@ -12,6 +13,7 @@ mod utf8;
 pub use crate::marks::{decode, decode_whole};
 pub use crate::progress::{Progress, Stop};
 pub use crate::sizes::{utf8_size, utf16_size};
+pub use crate::stream::Stream;
 pub use crate::units::{count, is_ascii};
 pub use crate::utf8::to_utf8;
 pub use crate::utf16::from_utf8;
