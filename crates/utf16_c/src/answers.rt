@@ -18,9 +18,13 @@ const NO_ROOM: u32 = 3;
 #[repr(C)]
 #[derive(Clone, Copy)]
 pub struct Answer {
+    /// How many bytes of the input were read.
     pub read: usize,
+    /// How many bytes at the front of the buffer are written.
     pub written: usize,
+    /// Why the call stopped: 0 where all was read, 1 at a fault, 2 inside a character, 3 for want of room.
     pub status: u32,
+    /// How many bytes the fault has, and else 0.
     pub fault_len: u32,
 }
 
@@ -28,8 +32,11 @@ pub struct Answer {
 #[repr(C)]
 #[derive(Clone, Copy)]
 pub struct Validity {
+    /// The end of the longest valid beginning.
     pub valid_up_to: usize,
+    /// What stands there: 0 for the end of the bytes, 1 for a fault, 2 for a character that is cut off.
     pub status: u32,
+    /// How many bytes the fault has, and else 0.
     pub fault_len: u32,
 }
 
@@ -37,7 +44,9 @@ pub struct Validity {
 #[repr(C)]
 #[derive(Clone, Copy)]
 pub struct Order {
+    /// How many bytes the mark takes: 2, or 0 where there is none.
     pub mark_len: usize,
+    /// 0 for little endian, 1 for big endian, 2 where it is undecided.
     pub order: u32,
 }
 
