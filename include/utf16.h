@@ -89,6 +89,23 @@ utf16_progress utf16_from_utf8_marked(bool big, const uint8_t *text, size_t len,
  * however the stream is cut, the same bytes are written in all: this follows from what is proved of each call. */
 utf16_progress utf16_to_utf8_stream(bool big, const uint8_t *raw, size_t len, uint8_t *to, size_t room);
 
+/* What a stream holds between its pieces: at most 3 bytes that were given and are not decided. All zero, as in
+ * utf16_stream stream = {{0}, 0}, it begins a stream. Any values are allowed: a `len` above 3 is read as 3. */
+typedef struct utf16_stream {
+    uint8_t bytes[3];
+    uint8_t len;
+} utf16_stream;
+
+/* The same with a state that is kept for you: takes the next piece and writes what is decided now, and U+FFFD for each surrogate
+ * without its partner: UTF16_DONE or UTF16_NO_ROOM. `read` counts bytes of the piece. With UTF16_DONE all of it was taken, and what
+ * is undecided is held. With UTF16_NO_ROOM the next character does not fit: call again with what is left behind `read`; fewer than
+ * 4 bytes of the buffer were left, so with room for 4 or more something was written. `stream` is not null. */
+utf16_progress utf16_stream_feed(bool big, utf16_stream *stream, const uint8_t *piece, size_t len, uint8_t *to, size_t room);
+
+/* Ends a stream when its last piece was taken: writes U+FFFD, of 3 bytes, where bytes are held, and else nothing; no bytes are held
+ * then, and the state begins a new stream: UTF16_DONE. With UTF16_NO_ROOM nothing changed. `read` is 0. */
+utf16_progress utf16_stream_finish(utf16_stream *stream, uint8_t *to, size_t room);
+
 /* The byte order at the beginning of a stream. */
 #define UTF16_LITTLE UINT32_C(0)
 #define UTF16_BIG UINT32_C(1)

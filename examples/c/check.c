@@ -93,6 +93,44 @@ static bool is_streamed(const row *r, size_t piece, size_t room) {
     }
 }
 
+/* Cut at a place, with a state that the library keeps, into a buffer of so many bytes: the whole text in the end. */
+static bool is_kept(const row *r, size_t cut, size_t room) {
+    uint8_t utf8[MOST];
+    text all = {{0}, 0};
+    utf16_stream stream = {{0}, 0};
+    const size_t ends[] = {cut, r->from.len};
+    size_t at = 0;
+    for (size_t piece = 0; piece < 2; piece++) {
+        utf16_progress found;
+        do {
+            size_t left = ends[piece] - at;
+            found = utf16_stream_feed(r->big, &stream, r->from.bytes + at, left, utf8, room);
+            if (found.read > left || found.written > room || all.len + found.written > MOST || found.fault_len != 0
+                || stream.len > 3 || (found.status == UTF16_NO_ROOM && found.written == 0)) {
+                return false;
+            }
+            memcpy(all.bytes + all.len, utf8, found.written);
+            all.len += found.written;
+            at += found.read;
+        } while (found.status == UTF16_NO_ROOM);
+        if (found.status != UTF16_DONE || at != ends[piece]) {
+            return false;
+        }
+    }
+    bool held = stream.len > 0;
+    if (utf16_stream_finish(&stream, utf8, 2).status != (held ? UTF16_NO_ROOM : UTF16_DONE) || (stream.len > 0) != held) {
+        return false;
+    }
+    utf16_progress end = utf16_stream_finish(&stream, utf8, 3);
+    if (end.status != UTF16_DONE || end.read != 0 || end.written != (held ? 3 : 0) || stream.len != 0
+        || all.len + end.written > MOST) {
+        return false;
+    }
+    memcpy(all.bytes + all.len, utf8, end.written);
+    all.len += end.written;
+    return same(all.bytes, all.len, &r->to);
+}
+
 static size_t characters(const text *utf8) {
     size_t count = 0;
     for (size_t i = 0; i < utf8->len; i++) {
@@ -131,6 +169,13 @@ static bool is_row(const row *r) {
             }
         }
     }
+    for (size_t cut = 0; cut <= r->from.len; cut++) {
+        for (size_t room = 4; room <= 9; room++) {
+            if (!is_kept(r, cut, room)) {
+                return false;
+            }
+        }
+    }
     if (r->status != UTF16_DONE) {
         return true;
     }
@@ -148,7 +193,10 @@ static bool order_is(const char *hex, uint32_t order, size_t mark_len) {
 
 /* Null pointers with length 0, and the orders. */
 static bool is_empty_fine(void) {
-    return utf16_validate(false, NULL, 0).status == UTF16_DONE && utf16_count(false, NULL, 0) == 0
+    utf16_stream stream = {{0}, 0};
+    return utf16_stream_feed(true, &stream, NULL, 0, NULL, 0).status == UTF16_DONE
+        && utf16_stream_finish(&stream, NULL, 0).status == UTF16_DONE
+        && utf16_validate(false, NULL, 0).status == UTF16_DONE && utf16_count(false, NULL, 0) == 0
         && utf16_is_ascii(true, NULL, 0) && utf16_to_utf8_len(true, NULL, 0) == 0 && utf16_from_utf8_len(NULL, 0) == 0
         && utf16_from_utf8_marked_len(NULL, 0) == 0 && utf16_from_utf8_marked(false, NULL, 0, NULL, 0).status == UTF16_DONE
         && utf16_to_utf8(false, NULL, 0, NULL, 0).status == UTF16_DONE

@@ -3,3 +3,4 @@ pub mod MarkLemmas
 pub mod EncodeLemmas
 pub mod LossyLemmas
 pub mod LossyShown
+pub mod StreamSteps

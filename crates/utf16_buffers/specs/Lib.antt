@@ -1,3 +1,4 @@
 pub mod Wrote
 pub mod Stops
 pub mod Shown
+pub mod Stream

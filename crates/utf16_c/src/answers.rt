@@ -25,7 +25,7 @@ pub struct Answer {
     /// Why the call read no more: 0 where all was read, 1 at a fault, 2 where the input ends inside a character, 3 where the room
     /// that is left is shorter than what comes next.
     pub status: u32,
-    /// With status 1 how many bytes the fault has.
+    /// With status 1 how many bytes the fault has, and else 0.
     pub fault_len: u32,
 }
 
@@ -37,7 +37,7 @@ pub struct Validity {
     pub valid_up_to: usize,
     /// What stands behind it: 0 nothing, 1 a fault, 2 a character that is cut off.
     pub status: u32,
-    /// With status 1 how many bytes the fault has.
+    /// With status 1 how many bytes the fault has, and else 0.
     pub fault_len: u32,
 }
 

@@ -4,10 +4,11 @@
 #![tactic(auto)]
 
 mod answers;
+mod stream;
 #[cfg(test)]
 mod tests;
 
-ghost use Rattle.std.specs.Prelude.{◌≡◌, ◌↔◌, ◌⊎◌, ◌<◌, ◌≤◌, ◌-◌, ◌*◌, ◌/◌, ◌%◌, [], ◌∷◌, All, IsTrue, count_by, drop, encode_utf8_all, length, take};
+ghost use Rattle.std.specs.Prelude.{◌≡◌, ◌≢◌, ◌↔◌, ◌⊎◌, ◌<◌, ◌≤◌, ◌-◌, ◌*◌, ◌/◌, ◌%◌, [], ◌∷◌, All, IsTrue, count_by, drop, encode_utf8_all, length, take};
 ghost use Rattle.std.specs.Char.{encode_utf8};
 ghost use Rattle.std.specs.Char.Utf16.{is_low_surrogate};
 ghost use Rattle.std.specs.Str.{chars};
@@ -186,7 +187,7 @@ pub extern "C" fn utf16_from_utf8_marked_len(text: &[u8]) -> usize
 pub extern "C" fn utf16_byte_order(raw: &[u8]) -> Order
     ensures undecided { (result.order ≡ 2) ↔ (length raw.now < 2) }
     ensures little { (result.order ≡ 0) ↔ (take 2 raw.now ≡ 0xFF ∷ 0xFE ∷ []) }
-    ensures big { result.order < 3 }
+    ensures big { (result.order ≡ 1) ↔ ((result.order ≢ 0) × (result.order ≢ 2)) }
     ensures marked { (result.mark_len ≡ 2) ↔ ((take 2 raw.now ≡ 0xFF ∷ 0xFE ∷ []) ⊎ (take 2 raw.now ≡ 0xFE ∷ 0xFF ∷ [])) }
     ensures unmarked { (result.mark_len ≡ 2) ⊎ (result.mark_len ≡ 0) }
 {

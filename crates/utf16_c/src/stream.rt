@@ -1,0 +1,48 @@
+//! A stream for C whose state the library fills.
+
+ghost use Rattle.std.specs.Prelude.{◌≡◌, ◌≢◌, ◌↔◌, ◌+◌, ◌-◌, ◌<◌, ◌≤◌, [], ◌++◌, length, take, encode_utf8_all};
+ghost use Rattle.utf16_units.specs.Split.{full, marked, split_items};
+ghost use Rattle.utf16_buffers.specs.Stream.{Feeds, StopsFeeding, stream_held};
+ghost use Rattle.utf16_buffers.specs.declared.progress.Stop.TheVariants.{Done, NoRoom};
+ghost use Rattle.utf16_c.specs.Answers.{stop_of};
+
+use crate::answers::{Answer, answer_of};
+use utf16_buffers::Stream;
+use utf16_units::{BE, LE};
+
+/// Takes the next piece of a stream and writes in UTF-8 what is decided now, as far as whole characters fit: the characters, and
+/// U+FFFD for each surrogate without its partner. `read` counts the bytes of the piece that were taken: all of them, or the next
+/// character does not fit. Any bytes are allowed in the state. One pass over what is read.
+#[unsafe(no_mangle)]
+pub extern "C" fn utf16_stream_feed(
+    big: bool,
+    stream: &mut Stream,
+    piece: &[u8],
+    to: &mut [u8],
+) -> Answer
+    ensures feeds { Feeds big (stream_held stream.old) piece.now (stream_held stream.new) to.new result.read result.written }
+    ensures stop { StopsFeeding big (stream_held stream.old) piece.now (stream_held stream.new) result.read (length to.new - result.written) (stop_of result.status result.fault_len) }
+    ensures whole { (stop_of result.status result.fault_len ≡ Done) ↔ (length (encode_utf8_all (marked (split_items big (stream_held stream.old ++ piece.now)))) ≤ length to.new) }
+    ensures filled { stop_of result.status result.fault_len ≡ NoRoom → length to.new < result.written + 4 }
+{
+    answer_of(if big {
+        stream.feed::<BE>(piece, to)
+    } else {
+        stream.feed::<LE>(piece, to)
+    })
+}
+
+/// Ends a stream: writes U+FFFD in UTF-8 where bytes are held, and else nothing. With fewer than three bytes of room for it nothing
+/// changes.
+#[unsafe(no_mangle)]
+pub extern "C" fn utf16_stream_finish(stream: &mut Stream, to: &mut [u8]) -> Answer
+    ensures read { result.read ≡ 0 }
+    ensures done { (stop_of result.status result.fault_len ≡ Done) ↔ (length (encode_utf8_all (full [] (stream_held stream.old))) ≤ length to.new) }
+    ensures text { stop_of result.status result.fault_len ≡ Done → take result.written to.new ≡ encode_utf8_all (full [] (stream_held stream.old)) }
+    ensures room { result.written ≤ length to.new }
+    ensures held { stop_of result.status result.fault_len ≡ Done → stream_held stream.new ≡ [] }
+    ensures refused { stop_of result.status result.fault_len ≢ Done → (stop_of result.status result.fault_len ≡ NoRoom) × (result.written ≡ 0) }
+    ensures kept { stop_of result.status result.fault_len ≢ Done → (stream.new ≡ stream.old) × (to.new ≡ to.old) }
+{
+    answer_of(stream.finish(to))
+}
