@@ -155,6 +155,7 @@ pub extern "C" fn utf16_from_utf8(big: bool, text: &[u8], to: &mut [u8]) -> Answ
 pub extern "C" fn utf16_from_utf8_marked(big: bool, text: &[u8], to: &mut [u8]) -> Answer
     ensures shown { ShowsWhole text_of_utf8 (char_bytes big) text.now to.new result.read result.written }
     ensures stop { StopsMarkingWhole text_of_utf8 (char_bytes big) (drop result.read text.now) (length to.new - result.written) (stop_of result.status result.fault_len) }
+    ensures numbers { AreNumbers result.status result.fault_len }
 {
     answer_of(if big {
         encode_whole::<BE>(text, to)

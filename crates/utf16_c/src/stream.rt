@@ -4,7 +4,7 @@ ghost use Rattle.std.specs.Prelude.{◌≡◌, ◌≢◌, ◌↔◌, ◌+◌, �
 ghost use Rattle.utf16_units.specs.Split.{full, marked, split_items};
 ghost use Rattle.utf16_buffers.specs.Stream.{Feeds, StopsFeeding, stream_held};
 ghost use Rattle.utf16_buffers.specs.declared.progress.Stop.TheVariants.{Done, NoRoom};
-ghost use Rattle.utf16_c.specs.Answers.{stop_of};
+ghost use Rattle.utf16_c.specs.Answers.{AreNumbers, stop_of};
 
 use crate::answers::{Answer, answer_of};
 use utf16_buffers::Stream;
@@ -24,6 +24,7 @@ pub extern "C" fn utf16_stream_feed(
     ensures stop { StopsFeeding big (stream_held stream.old) piece.now (stream_held stream.new) result.read (length to.new - result.written) (stop_of result.status result.fault_len) }
     ensures whole { (stop_of result.status result.fault_len ≡ Done) ↔ (length (encode_utf8_all (marked (split_items big (stream_held stream.old ++ piece.now)))) ≤ length to.new) }
     ensures filled { stop_of result.status result.fault_len ≡ NoRoom → length to.new < result.written + 4 }
+    ensures numbers { AreNumbers result.status result.fault_len }
 {
     answer_of(if big {
         stream.feed::<BE>(piece, to)
@@ -43,6 +44,7 @@ pub extern "C" fn utf16_stream_finish(stream: &mut Stream, to: &mut [u8]) -> Ans
     ensures held { stop_of result.status result.fault_len ≡ Done → stream_held stream.new ≡ [] }
     ensures refused { stop_of result.status result.fault_len ≢ Done → (stop_of result.status result.fault_len ≡ NoRoom) × (result.written ≡ 0) }
     ensures kept { stop_of result.status result.fault_len ≢ Done → (stream.new ≡ stream.old) × (to.new ≡ to.old) }
+    ensures numbers { AreNumbers result.status result.fault_len }
 {
     answer_of(stream.finish(to))
 }
