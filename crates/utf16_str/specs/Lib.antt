@@ -4,6 +4,8 @@ pub use Rattle.utf16_units.specs.Fault
 pub use Rattle.utf16_units.specs.Utf16Error
 pub use Rattle.utf16_units.specs.Boundary
 pub use Rattle.utf16_units.specs.Delimited
+pub use Rattle.utf16_units.specs.Parts
+pub use Rattle.utf16_units.specs.Numbered
 pub use Rattle.utf16_units.specs.Edit
 pub use Rattle.utf16_units.specs.Order
 pub mod Offsets

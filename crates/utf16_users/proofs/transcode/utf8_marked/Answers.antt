@@ -1,5 +1,4 @@
-use Rattle.std.proofs.Common.{◌≡◌, [], arith}
-use Rattle.std.proofs.lemmas.Bool.{false≢true}
+use Rattle.std.proofs.Common.{◌≡◌, [], arith, sym, true≢false}
 use Rattle.std.proofs.lemmas.Grind.{common_steps}
 use Rattle.utf16_tools.proofs.StreamLemmas.{full-mark}
 use Rattle.utf16_tools.specs.Split.{split_items, split_tail}
@@ -13,4 +12,4 @@ returns g c =
 
 pub returns-in_err-text-clause-nothing : goal.returns-in_err-text-clause-nothing
 unfolding split_items
-returns-in_err-text-clause-nothing g c empty = absurd (false≢true (c.in_err-text.ensures.nothing (rw (c.new-decoder.ensures, empty))))
+returns-in_err-text-clause-nothing g c empty = absurd (true≢false (sym (c.in_err-text.ensures.nothing (rw (c.new-decoder.ensures, empty)))))
