@@ -94,7 +94,7 @@ pub fn cut_at_key<'a, E: Utf16Order>(
 }
 
 // Whether the bytes from an offset on begin with the part.
-fn stands_at(bytes: &[u8], at: usize, part: &[u8]) -> bool
+pub(crate) fn stands_at(bytes: &[u8], at: usize, part: &[u8]) -> bool
     ensures { IsTrue result ↔ StandsAt bytes.now at part.now }
 {
     if bytes.len() < at {

@@ -6,4 +6,5 @@ pub mod laws;
 pub mod ranges;
 pub mod retains;
 pub mod scripts;
+pub mod searches;
 pub mod walks;
