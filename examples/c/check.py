@@ -9,15 +9,21 @@ def hexed(field):
     return b"" if field == "-" else bytes.fromhex(field)
 
 
+def fed(big, pieces, room):
+    stream = utf16.Stream(big, room)
+    return b"".join(stream.feed(piece) for piece in pieces) + stream.finish()
+
+
 def is_text(big, raw, utf8, valid_up_to, status, fault_len):
-    stream = utf16.Stream(big)
-    fed = b"".join(stream.feed(raw[at : at + 1]) for at in range(len(raw))) + stream.finish()
+    cuttings = [[raw[at : at + 1] for at in range(len(raw))], *([raw[:at], raw[at:]] for at in range(len(raw) + 1))]
+    shown, left = utf16.decided(big, raw)
     strict, read, stopped = utf16.to_utf8(big, raw)
     found = [
         utf16.validate(big, raw) == (valid_up_to, status, fault_len),
         utf16.to_utf8(big, raw, marked=True) == (utf8, len(raw), utf16.DONE),
         utf8.startswith(strict) and (read, stopped) == (valid_up_to, status),
-        fed == utf8,
+        all(fed(big, pieces, room) == utf8 for pieces in cuttings for room in (4, 5, 4096)),
+        shown == (utf8[:-3] if left else utf8) and len(left) <= 3,
     ]
     if status == utf16.DONE:
         text = utf8.decode()

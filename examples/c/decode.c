@@ -4,27 +4,33 @@
 #include <stdio.h>
 #include <string.h>
 
-/* Writes the text that the bytes decide, at the end of the stream the text of all of them, one buffer after another. Answers how many
- * were read, or SIZE_MAX where the text could not be written. */
-static size_t write_text(bool big, const uint8_t *raw, size_t len, bool at_end) {
+/* Writes the text that a piece decides, one buffer after another. */
+static bool feed(bool big, utf16_stream *stream, const uint8_t *piece, size_t len) {
     uint8_t utf8[1024];
-    size_t read = 0;
     utf16_progress progress;
     do {
-        progress = at_end ? utf16_to_utf8_marked(big, raw + read, len - read, utf8, sizeof utf8)
-                          : utf16_to_utf8_stream(big, raw + read, len - read, utf8, sizeof utf8);
+        progress = utf16_stream_feed(big, stream, piece, len, utf8, sizeof utf8);
         if (fwrite(utf8, 1, progress.written, stdout) != progress.written) {
-            return SIZE_MAX;
+            return false;
         }
-        read += progress.read;
+        piece += progress.read;
+        len -= progress.read;
     } while (progress.status == UTF16_NO_ROOM);
-    return read;
+    return true;
+}
+
+/* Writes U+FFFD where the stream ends inside a character. */
+static bool finish(utf16_stream *stream) {
+    uint8_t utf8[3];
+    size_t len = utf16_stream_finish(stream, utf8, sizeof utf8).written;
+    return fwrite(utf8, 1, len, stdout) == len && fflush(stdout) == 0;
 }
 
 int main(int argc, char **argv) {
     uint8_t raw[4096];
     size_t len = fread(raw, 1, sizeof raw, stdin);
     size_t read = 0;
+    utf16_stream stream = {{0}, 0};
     bool big = argc == 2 && strcmp(argv[1], "be") == 0;
     if (argc == 2 && strcmp(argv[1], "auto") == 0) {
         utf16_order found = utf16_byte_order(raw, len);
@@ -34,19 +40,10 @@ int main(int argc, char **argv) {
         fputs("usage: decode le|be|auto\n", stderr);
         return 2;
     }
-    for (bool at_end = false; !at_end;) {
-        size_t more;
-        size_t decided = write_text(big, raw + read, len - read, false);
-        if (decided == SIZE_MAX) {
+    for (; len != 0; len = fread(raw, 1, sizeof raw, stdin), read = 0) {
+        if (!feed(big, &stream, raw + read, len - read)) {
             return 1;
         }
-        /* At most three bytes wait for more. */
-        len -= read + decided;
-        memmove(raw, raw + read + decided, len);
-        read = 0;
-        more = fread(raw + len, 1, sizeof raw - len, stdin);
-        at_end = more == 0;
-        len += more;
     }
-    return write_text(big, raw, len, true) == SIZE_MAX || ferror(stdin) || fflush(stdout) != 0;
+    return !finish(&stream) || ferror(stdin);
 }

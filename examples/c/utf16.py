@@ -15,6 +15,10 @@ class Progress(ctypes.Structure):
     _fields_ = [("read", ctypes.c_size_t), ("written", ctypes.c_size_t), ("status", ctypes.c_uint32), ("fault_len", ctypes.c_uint32)]
 
 
+class State(ctypes.Structure):
+    _fields_ = [("held", ctypes.c_uint8 * 3), ("len", ctypes.c_uint8)]
+
+
 class Order(ctypes.Structure):
     _fields_ = [("mark_len", ctypes.c_size_t), ("order", ctypes.c_uint32)]
 
@@ -41,6 +45,8 @@ _to_utf8_marked = _call("utf16_to_utf8_marked", Progress, ctypes.c_bool, *_input
 _from_utf8 = _call("utf16_from_utf8", Progress, ctypes.c_bool, *_input, *_room)
 _from_utf8_marked = _call("utf16_from_utf8_marked", Progress, ctypes.c_bool, *_input, *_room)
 _to_utf8_stream = _call("utf16_to_utf8_stream", Progress, ctypes.c_bool, *_input, *_room)
+_stream_feed = _call("utf16_stream_feed", Progress, ctypes.c_bool, ctypes.POINTER(State), *_input, *_room)
+_stream_finish = _call("utf16_stream_finish", Progress, ctypes.POINTER(State), *_room)
 _byte_order = _call("utf16_byte_order", Order, *_input)
 
 
@@ -81,25 +87,29 @@ def byte_order(raw):
     return found.order, found.mark_len
 
 
+def decided(big, raw):
+    """The UTF-8 of what no further bytes can change, and the bytes that are left, at most three."""
+    room = ctypes.create_string_buffer(_to_utf8_len(big, raw, len(raw)) or 1)
+    found = _to_utf8_stream(big, raw, len(raw), room, len(room))
+    return room.raw[: found.written], raw[found.read :]
+
+
 class Stream:
-    """A decoder of UTF-16 that comes in pieces, cut anywhere."""
+    """A decoder of UTF-16 that comes in pieces, cut anywhere, with a buffer of so many bytes, four or more."""
 
-    def __init__(self, big):
-        self._big, self._waiting = big, b""
-
-    def _text(self, call):
-        room, text, status = ctypes.create_string_buffer(4096), b"", NO_ROOM
-        while status == NO_ROOM:
-            found = call(self._big, self._waiting, len(self._waiting), room, len(room))
-            text += room.raw[: found.written]
-            self._waiting, status = self._waiting[found.read :], found.status
-        return text
+    def __init__(self, big, room=4096):
+        self._big, self._state, self._room = big, State(), ctypes.create_string_buffer(room)
 
     def feed(self, piece):
-        """The UTF-8 of what is decided now; at most three bytes wait for more."""
-        self._waiting += piece
-        return self._text(_to_utf8_stream)
+        """The UTF-8 of what is decided now; at most three bytes are held."""
+        text, status = b"", NO_ROOM
+        while status == NO_ROOM:
+            found = _stream_feed(self._big, ctypes.byref(self._state), piece, len(piece), self._room, len(self._room))
+            text += self._room.raw[: found.written]
+            piece, status = piece[found.read :], found.status
+        return text
 
     def finish(self):
-        """U+FFFD where bytes wait, and else nothing."""
-        return self._text(_to_utf8_marked)
+        """U+FFFD where bytes are held, and else nothing."""
+        found = _stream_finish(ctypes.byref(self._state), self._room, len(self._room))
+        return self._room.raw[: found.written]

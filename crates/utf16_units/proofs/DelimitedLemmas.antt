@@ -18,24 +18,33 @@ same e = elim (eqb_tells e e) [ inl is ↦ is.0 | inr other ↦ absurd (other.1 
 tested : (e : ℕ) (text : List ℕ) → Lacks e text → All (λ c. eqb c e ≡ false) text
 tested e text lacks = All-weaker (λ c. c ≢ e) (λ c. eqb c e ≡ false) (λ c. ne_eqb c e) text lacks
 
+-- a text cut at each delimiter: the part in front of the first one, and then those behind; or the whole, where there is none
+pub parts-first : (e : ℕ) (text front back : List ℕ) → text ≡ front ++ e ∷ back → Lacks e front
+    → slice_split (λ c. eqb c e) text ≡ front ∷ slice_split (λ c. eqb c e) back
+parts-first e text front back is lacks =
+    ap (slice_split (λ c. eqb c e)) is ∙ slice_split_at (λ c. eqb c e) front e back (tested e front lacks) (same e)
+
+pub parts-last : (e : ℕ) (text : List ℕ) → Lacks e text → slice_split (λ c. eqb c e) text ≡ text ∷ []
+parts-last e text lacks = slice_split_none (λ c. eqb c e) text (tested e text lacks)
+
 -- the text in front of the first delimiter, where it is not empty, and then those behind
 pub listed-first : (e : ℕ) (text front back : List ℕ) → text ≡ front ++ e ∷ back → Lacks e front → front ≢ [] → listed e text ≡ front ∷ listed e back
 unfolding listed before_empty
 listed-first e text [] back is lacks some = absurd (some refl)
 listed-first e text (c ∷ front) back is lacks some =
-    ap (listed e) is ∙ ap before_empty (slice_split_at (λ c. eqb c e) (c ∷ front) e back (tested e (c ∷ front) lacks) (same e))
+    ap before_empty (parts-first e text (c ∷ front) back is lacks)
 
 -- a text that lacks the delimiter is one text
 pub listed-last : (e : ℕ) (text : List ℕ) → Lacks e text → text ≢ [] → listed e text ≡ text ∷ []
 unfolding listed before_empty
 listed-last e [] lacks some = absurd (some refl)
-listed-last e (c ∷ text) lacks some = ap before_empty (slice_split_none (λ c. eqb c e) (c ∷ text) (tested e (c ∷ text) lacks))
+listed-last e (c ∷ text) lacks some = ap before_empty (parts-last e (c ∷ text) lacks)
 
 -- no text, where none is in front of the first delimiter
 pub listed-none : (e : ℕ) (text front back : List ℕ) → text ≡ front ++ e ∷ back → front ≡ [] → listed e text ≡ []
 unfolding listed before_empty
 listed-none e text front back is none =
-    ap (listed e) (is ∙ ap (λ t. t ++ e ∷ back) none) ∙ ap before_empty (slice_split_at (λ c. eqb c e) [] e back (All-nil (λ c. eqb c e ≡ false)) (same e))
+    ap before_empty (parts-first e text [] back (is ∙ ap (λ t. t ++ e ∷ back) none) (All-nil (λ c. c ≢ e)))
 
 pub listed-nil : (e : ℕ) → listed e [] ≡ []
 unfolding listed before_empty

@@ -34,6 +34,14 @@ struct RawOrder {
     order: u32,
 }
 
+/// The bytes that a stream holds. All zero holds none.
+#[repr(C)]
+#[derive(Default)]
+struct State {
+    held: [u8; 3],
+    len: u8,
+}
+
 #[link(name = "utf16_c", kind = "static")]
 unsafe extern "C" {
     fn utf16_validate(big: bool, raw: *const u8, len: usize) -> Validity;
@@ -47,6 +55,8 @@ unsafe extern "C" {
     fn utf16_from_utf8(big: bool, text: *const u8, len: usize, to: *mut u8, room: usize) -> RawProgress;
     fn utf16_from_utf8_marked(big: bool, text: *const u8, len: usize, to: *mut u8, room: usize) -> RawProgress;
     fn utf16_to_utf8_stream(big: bool, raw: *const u8, len: usize, to: *mut u8, room: usize) -> RawProgress;
+    fn utf16_stream_feed(big: bool, stream: &mut State, piece: *const u8, len: usize, to: *mut u8, room: usize) -> RawProgress;
+    fn utf16_stream_finish(stream: &mut State, to: *mut u8, room: usize) -> RawProgress;
     fn utf16_byte_order(raw: *const u8, len: usize) -> RawOrder;
 }
 
@@ -145,35 +155,34 @@ pub fn byte_order(raw: &[u8]) -> Option<(bool, usize)> {
 /// A decoder of UTF-16 that comes in pieces, cut anywhere.
 pub struct Stream {
     big: bool,
-    waiting: Vec<u8>,
+    state: State,
 }
 
 impl Stream {
     /// A stream that was given nothing yet.
     pub fn new(big: bool) -> Self {
-        Stream { big, waiting: Vec::new() }
+        Stream { big, state: State::default() }
     }
 
-    /// Puts the text of what is decided now behind another; at most three bytes wait for more.
+    /// Puts the text of what is decided now behind another; at most three bytes are held.
     pub fn feed(&mut self, piece: &[u8], text: &mut String) {
-        self.waiting.extend_from_slice(piece);
-        self.push(to_utf8_stream, text);
-    }
-
-    /// Puts U+FFFD behind a text where bytes wait.
-    pub fn finish(&mut self, text: &mut String) {
-        self.push(to_utf8_marked, text);
-    }
-
-    fn push(&mut self, call: fn(bool, &[u8], &mut [u8]) -> Progress, text: &mut String) {
-        let mut room = [0; 1024];
+        let (mut room, mut rest) = ([0; 1024], piece);
         loop {
-            let found = call(self.big, &self.waiting, &mut room);
+            let (to, len) = (room.as_mut_ptr(), room.len());
+            let found: Progress =
+                unsafe { utf16_stream_feed(self.big, &mut self.state, rest.as_ptr(), rest.len(), to, len) }.into();
             text.push_str(std::str::from_utf8(&room[..found.written]).expect("UTF-8"));
-            self.waiting.drain(..found.read);
+            rest = &rest[found.read..];
             if found.status != Status::NoRoom {
                 break;
             }
         }
+    }
+
+    /// Puts U+FFFD behind a text where bytes are held.
+    pub fn finish(&mut self, text: &mut String) {
+        let mut room = [0; 4];
+        let found: Progress = unsafe { utf16_stream_finish(&mut self.state, room.as_mut_ptr(), room.len()) }.into();
+        text.push_str(std::str::from_utf8(&room[..found.written]).expect("UTF-8"));
     }
 }
