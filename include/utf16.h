@@ -1,9 +1,10 @@
-/* UTF-16 in either byte order, to and from UTF-8, over buffers of the caller's: no call asks for memory, keeps a pointer or
- * prints anything. C99 and C++. Link with libutf16_c.a alone.
+/* UTF-16 in either byte order, to and from UTF-8, over buffers of the caller's: no call asks for memory, keeps a pointer or prints
+ * anything. C99 and C++. Link with libutf16_c.a alone.
  *
- * Each function takes any bytes. What it answers is proved for all bytes and lengths, and that it reads and writes nothing but
- * what it is given. Trusted, since no proof sees the caller: that a pointer with a length of n points to n bytes that may be read
- * (of a `to`: written), for the time of the call; that a `to` overlaps no other buffer of the call; and that no other thread writes
+ * Each function takes any bytes. What it answers is proved for all bytes and all lengths up to PTRDIFF_MAX, and that it reads and
+ * writes nothing but what it is given. A larger length is not allowed; no memory has so many bytes. Trusted, since no proof sees
+ * the caller: that a pointer with a length of n points to n bytes that may be read (of a `to`: written), for the time of the call;
+ * that a `stream` points to a state; that a `to` and a state overlap no other buffer of the call; and that no other thread writes
  * there meanwhile. A pointer need not be aligned. Null with length 0 is no bytes: that was tried on the compiled library, and is
  * not part of the proof, which knows a slice only by its bytes.
  *
@@ -47,8 +48,7 @@ typedef struct utf16_validity {
  * (the last 1 to 3 bytes). */
 utf16_validity utf16_validate(bool big, const uint8_t *raw, size_t len);
 
-/* How many characters the bytes have. Of bytes that are not UTF-16: how many whole code units that are not trailing
- * surrogates. */
+/* How many characters the bytes have. Of bytes that are not UTF-16 it is how many whole code units are no trailing surrogates. */
 size_t utf16_count(bool big, const uint8_t *raw, size_t len);
 
 /* Whether the bytes are whole code units that are all ASCII, below U+0080: UTF-16 whose characters are all ASCII. */
@@ -61,8 +61,8 @@ size_t utf16_to_utf8_len(bool big, const uint8_t *raw, size_t len);
  * bytes, that of what stands before the first fault. */
 size_t utf16_from_utf8_len(const uint8_t *text, size_t len);
 
-/* How many bytes of UTF-16 utf16_from_utf8_marked makes of all the bytes, in either order: of UTF-8, the size of the same text. Never
- * more than 2 for each byte. */
+/* How many bytes of UTF-16 utf16_from_utf8_marked makes of all the bytes, in either order: of UTF-8, the size of the same text.
+ * Never more than 2 for each byte. */
 size_t utf16_from_utf8_marked_len(const uint8_t *text, size_t len);
 
 /* Writes UTF-16 in UTF-8, up to the first fault: UTF16_DONE, UTF16_FAULT, UTF16_CUT_OFF or UTF16_NO_ROOM. A fault is a surrogate
@@ -77,33 +77,36 @@ utf16_progress utf16_to_utf8_marked(bool big, const uint8_t *raw, size_t len, ui
  * bytes. Room for 2 bytes for each byte of input is always enough. */
 utf16_progress utf16_from_utf8(bool big, const uint8_t *text, size_t len, uint8_t *to, size_t room);
 
-/* The same with U+FFFD where the bytes are no UTF-8, one for each maximal part of a character as the Unicode Standard recommends it
- * (and as Rust's from_utf8_lossy has it), and one for a character that is cut off at the end: UTF16_DONE or UTF16_NO_ROOM. With
- * UTF16_NO_ROOM call again with what is left behind `read`. Room for 2 bytes for each byte of input is always enough. */
+/* The same with U+FFFD where the bytes are no UTF-8: one for each maximal subpart of an ill-formed subsequence, as the Unicode
+ * Standard recommends and Rust's from_utf8_lossy does, also where a character is cut off at the end: UTF16_DONE or UTF16_NO_ROOM.
+ * With UTF16_NO_ROOM call again with what is left behind `read`. Room for 2 bytes for each byte of input is always enough. It is
+ * proved that what is written, and what the rest gives, are the whole text; that `read` does not end inside a fault of several
+ * bytes is not. */
 utf16_progress utf16_from_utf8_marked(bool big, const uint8_t *text, size_t len, uint8_t *to, size_t room);
 
-/* A stream of UTF-16 that comes in pieces, cut anywhere: the same as utf16_to_utf8_marked, but a character that is cut off at the
- * end is not read: UTF16_DONE, UTF16_CUT_OFF or UTF16_NO_ROOM. With UTF16_CUT_OFF at most 3 bytes are left behind `read`: put them
- * before the next piece; at the end of the stream they are U+FFFD, which utf16_to_utf8_marked writes. With UTF16_NO_ROOM call again
- * with what is left behind `read`. With room for 4 bytes or more, a call that answers UTF16_NO_ROOM has written something, and
- * however the stream is cut, the same bytes are written in all: this follows from what is proved of each call. */
+/* Decodes the next bytes of a stream that comes in pieces, cut anywhere. It does what utf16_to_utf8_marked does, but does not read
+ * a character that is cut off at the end: UTF16_DONE, UTF16_CUT_OFF or UTF16_NO_ROOM. With UTF16_CUT_OFF at most 3 bytes are left
+ * behind `read`: put them before the next piece. At the end of the stream utf16_to_utf8_marked writes U+FFFD for them. With
+ * UTF16_NO_ROOM call again with what is left behind `read`. With room for 4 bytes or more, a call that answers UTF16_NO_ROOM has
+ * written something, and however the stream is cut, the same bytes are written in all: this follows from what is proved of each
+ * call. */
 utf16_progress utf16_to_utf8_stream(bool big, const uint8_t *raw, size_t len, uint8_t *to, size_t room);
 
-/* What a stream holds between its pieces: at most 3 bytes that were given and are not decided. All zero, as in
- * utf16_stream stream = {{0}, 0}, it begins a stream. Any values are allowed: a `len` above 3 is read as 3. */
+/* What a stream holds between its pieces: at most 3 bytes that were given and are not decided. All zero, as in utf16_stream stream
+ * = {{0}, 0}, it begins a stream. Any values are allowed: a `len` above 3 is read as 3. */
 typedef struct utf16_stream {
     uint8_t bytes[3];
     uint8_t len;
 } utf16_stream;
 
-/* The same with a state that is kept for you: takes the next piece and writes what is decided now, and U+FFFD for each surrogate
- * without its partner: UTF16_DONE or UTF16_NO_ROOM. `read` counts bytes of the piece. With UTF16_DONE all of it was taken, and what
- * is undecided is held. With UTF16_NO_ROOM the next character does not fit: call again with what is left behind `read`; fewer than
- * 4 bytes of the buffer were left, so with room for 4 or more something was written. `stream` is not null. */
+/* The same over a state of yours: takes the next piece and writes what is decided now, and U+FFFD for each surrogate without its
+ * partner: UTF16_DONE or UTF16_NO_ROOM. `read` counts bytes of the piece. With UTF16_DONE all of it was taken, and what is
+ * undecided is held. With UTF16_NO_ROOM the next character does not fit: call again with what is left behind `read`; fewer than 4
+ * bytes of the buffer were left, so with room for 4 or more something was written. */
 utf16_progress utf16_stream_feed(bool big, utf16_stream *stream, const uint8_t *piece, size_t len, uint8_t *to, size_t room);
 
-/* Ends a stream when its last piece was taken: writes U+FFFD, of 3 bytes, where bytes are held, and else nothing; no bytes are held
- * then, and the state begins a new stream: UTF16_DONE. With UTF16_NO_ROOM nothing changed. `read` is 0. */
+/* Ends a stream when its last piece was taken: writes U+FFFD, of 3 bytes, where bytes are held, and else nothing; no bytes are
+ * held then, and the state begins a new stream: UTF16_DONE. With UTF16_NO_ROOM nothing changed. `read` is 0. */
 utf16_progress utf16_stream_finish(utf16_stream *stream, uint8_t *to, size_t room);
 
 /* The byte order at the beginning of a stream. */
