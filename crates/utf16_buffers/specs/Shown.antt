@@ -9,7 +9,7 @@ use Rattle.utf16_units.specs.Split.{full, split_items, split_tail}
 abbrev pub text_of_utf16 : Bool → List ℕ → List ℕ
 text_of_utf16 big raw = full (split_items big raw) (split_tail big raw)
 
--- the text of UTF-8, as `String::from_utf8_lossy` has it (Unicode 3.9, U+FFFD substitution of maximal subparts)
+-- the text of UTF-8, as `String::from_utf8_lossy` has it (Unicode, section 3.9: U+FFFD substitution of maximal subparts)
 abbrev pub text_of_utf8 : List ℕ → List ℕ
 text_of_utf8 bytes = chars (utf8_lossy bytes)
 

@@ -16,8 +16,8 @@ const MARK: u16 = 0xFFFD;
 const MARK_LEN: usize = 2;
 
 /// Writes UTF-8 in UTF-16 to the front of a buffer, as far as whole characters fit, with U+FFFD where the bytes are no UTF-8: one for
-/// each maximal subpart of a character, as `String::from_utf8_lossy` has it, and one for a character that is cut off at the end.
-/// Any bytes are allowed. It stops at the end of the input, or with `NoRoom` where the buffer has fewer bytes left than the next
+/// each maximal subpart of an ill-formed sequence, as `String::from_utf8_lossy` has it, and one for a character that is cut off at
+/// the end. Any bytes are allowed. It stops at the end of the input, or with `NoRoom` where the buffer has fewer bytes left than the next
 /// character takes, U+FFFD too: the call may go on behind `read` with another buffer. What stands behind the written bytes may have
 /// been written over. One pass over what is read.
 pub fn encode_whole<E: Utf16Order>(text: &[u8], to: &mut [u8]) -> Progress

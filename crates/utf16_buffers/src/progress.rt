@@ -11,8 +11,8 @@ pub enum Stop {
     Fault(u8),
     /// The input ends inside a character, which begins behind what was read. More bytes may complete it.
     CutOff,
-    /// The buffer has fewer bytes left than the next character takes, which begins behind what was read; so has it where U+FFFD
-    /// comes next. A call may go on there with another buffer.
+    /// The buffer has fewer bytes left than what comes next takes: a character, which begins behind what was read, or U+FFFD. A call
+    /// may go on there with another buffer.
     NoRoom,
 }
 

@@ -11,8 +11,8 @@ use crate::marks::{MARK, decode};
 use crate::progress::{Progress, Stop, put};
 use utf16_units::Utf16Order;
 
-/// The bytes of a stream that were given and are not decided, at most three. Any values are allowed in the fields: a `len` above
-/// three is read as three. All zero is a stream that was given nothing.
+/// What a stream holds between two pieces: its last bytes, at most three, where only more bytes tell what they are. Any values are
+/// allowed in the fields: a `len` above three is read as three. All zero is a stream that was given nothing.
 #[repr(C)]
 #[derive(Clone, Copy, Debug)]
 pub struct Stream {
@@ -46,7 +46,7 @@ impl Stream {
         }
     }
 
-    /// The bytes that were given and are not decided. After a `feed` that answered `Done` they are none, one byte, or a leading
+    /// The bytes that the stream holds, at most three. After a `feed` that answered `Done` they are none, one byte, or a leading
     /// surrogate with at most one byte after it.
     pub fn held(&self) -> &[u8]
         ensures bytes { result.now ≡ stream_held self.now }

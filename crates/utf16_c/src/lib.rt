@@ -1,6 +1,6 @@
-//! UTF-16 for callers in C, and in any language that can call C: `include/utf16.h` says it to them. Each call is one of the
-//! library's, by the byte order. A slice is a pointer and a length in bytes there. No call asks for memory, and none requires
-//! anything of the bytes.
+//! UTF-16 for callers in C, and in any language that can call C; `include/utf16.h` tells them of these calls. Each hands on to a call
+//! of `utf16_buffers` in the byte order that it is given. A slice is a pointer and a length in bytes in C. No call asks for memory,
+//! and none requires anything of the bytes.
 #![tactic(auto)]
 
 mod answers;
@@ -150,9 +150,9 @@ pub extern "C" fn utf16_from_utf8(big: bool, text: &[u8], to: &mut [u8]) -> Answ
 }
 
 /// Writes any bytes of UTF-8 in UTF-16, as far as whole characters fit, with U+FFFD where they are no UTF-8: one for each maximal
-/// subpart of a character, and one for a character that is cut off at the end. The status is 0, or 3 where the room that is left is
-/// shorter than the next character or U+FFFD: the call may go on behind `read`. What stands behind the written bytes may have been
-/// written over. One pass over what is read.
+/// subpart of an ill-formed sequence, and one for a character that is cut off at the end. The status is 0, or 3 where the room that
+/// is left is shorter than the next character or U+FFFD: the call may go on behind `read`. What stands behind the written bytes may
+/// have been written over. One pass over what is read.
 #[unsafe(no_mangle)]
 pub extern "C" fn utf16_from_utf8_marked(big: bool, text: &[u8], to: &mut [u8]) -> Answer
     ensures shown { ShowsWhole text_of_utf8 (char_bytes big) text.now to.new result.read result.written }

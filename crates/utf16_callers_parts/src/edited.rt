@@ -9,7 +9,7 @@ ghost use Rattle.utf16string.specs.WString.{wstring_text};
 use std::alloc::{AllocError, Allocator};
 use utf16string::{Utf16Order, WStr, WString};
 
-/// Puts a text in at an offset, where that is a character boundary: where it ends.
+/// Puts a text in at an offset where that is a character boundary, and answers where it ends.
 #[tactic(auto, using(utf16_units::proofs::Rules::edits))]
 pub fn put_in<E: Utf16Order, A: Allocator>(
     text: &mut WString<E, A>,
@@ -33,7 +33,7 @@ pub fn put_in<E: Utf16Order, A: Allocator>(
     Ok(Some(at + part.len()))
 }
 
-/// Writes a text over as many bytes from an offset on, where it fits there: whether it does. The string is as long then.
+/// Writes a text over as many bytes from an offset on where it fits there, and answers whether it does. The string keeps its length.
 #[tactic(auto, using(utf16_units::proofs::Rules::edits))]
 pub fn put_over<E: Utf16Order, A: Allocator>(
     text: &mut WString<E, A>,

@@ -34,7 +34,7 @@ pub fn halves<'a, E: Utf16Order>(text: WStr<'a, E>, at: usize) -> Option<(WStr<'
     Some((text.get(..at)?, text.get(at..)?))
 }
 
-/// What stands before the first such character, and what behind it.
+/// Gives what stands before the first such character, and what stands behind it.
 #[tactic(auto, using(utf16_units::proofs::Rules::boundaries))]
 pub fn around<'a, E: Utf16Order>(
     text: WStr<'a, E>,
@@ -56,7 +56,7 @@ pub fn key_and_value<'a, E: Utf16Order>(line: WStr<'a, E>) -> Option<(WStr<'a, E
     line.split_once('=')
 }
 
-/// Puts a name behind a table: where it stands. The names before it stay.
+/// Puts a name behind a table, and answers where it stands. The names before it stay.
 #[tactic(auto, using(utf16_units::proofs::Rules::behind))]
 pub fn put<E: Utf16Order, A: Allocator>(
     table: &mut WString<E, A>,

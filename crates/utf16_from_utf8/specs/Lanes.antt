@@ -8,7 +8,7 @@ pub record HasLanes (v : List ℕ) (lane : ℕ → ℕ) : Type 0 where
   pub len : length v ≡ 16
   pub lanes : (i : ℕ) → i < 16 → slice_index v i ≡ lane i
 
--- the two bytes of a unit by its high and its low byte (Unicode 3.10, UTF-16BE and UTF-16LE)
+-- the two bytes of a unit by its high and its low byte (Unicode, section 3.10: UTF-16BE and UTF-16LE)
 abbrev pub pair_bytes : Bool → ℕ → ℕ → List ℕ
 pair_bytes true high low = high ∷ low ∷ []
 pair_bytes false high low = low ∷ high ∷ []

@@ -5,12 +5,12 @@ use Rattle.std.specs.Char.Escape.{encode_utf16}
 use Rattle.std.specs.Char.Utf16.{is_high_surrogate, is_low_surrogate}
 use Rattle.std.specs.List.{flat_map}
 
--- a continuation byte, which has six bits (Unicode 3.9, table 3-6)
+-- a continuation byte, which has six bits (Unicode, section 3.9: table 3-6)
 abbrev pub continuation : ℕ → ℕ
 continuation bits = 0x80 + bits % 64
 
--- what a unit adds behind the unit before it (Unicode 3.9, tables 3-5 and 3-6): the one to three bytes of its character; of a
--- pair's four bytes the leading surrogate adds two, and the trailing one two, for which it needs two bits of the leading one
+-- what a unit adds behind the unit before it (Unicode, section 3.9: tables 3-5 and 3-6): the one to three bytes of its character; of
+-- a pair's four bytes the leading surrogate adds two, and the trailing one two, for which it needs two bits of the leading one
 unfoldable pub unit_utf8 : ℕ → ℕ → List ℕ
 unit_utf8 before unit =
     if nat_lt unit 0x80 then unit ∷ [] else

@@ -1,4 +1,4 @@
--- What the byte order mark at the beginning of a stream says (Unicode 23.8, byte order mark).
+-- What the byte order mark at the beginning of a stream says (Unicode, section 23.8: byte order mark).
 use Rattle.std.specs.Prelude.{ℕ, ◌&&◌, ◌||◌, Bool, false, not, List, ◌∷◌, Option, Some, None, drop, if◌then◌else◌}
 use Rattle.std.specs.Bool.{◌==◌}
 use Rattle.utf16_units.specs.Split.{Item, split_items, split_tail}
@@ -8,15 +8,15 @@ abbrev pub begins_with : ℕ → ℕ → List ℕ → Bool
 begins_with a b (first ∷ second ∷ bytes) = (first == a) && (second == b)
 begins_with a b bytes = false
 
--- the stream begins with U+FEFF, in one order or the other (Unicode 23.8, byte order mark)
+-- the stream begins with U+FEFF, in one order or the other (Unicode, section 23.8: byte order mark)
 abbrev pub has_mark : List ℕ → Bool
 has_mark bytes = begins_with 0xFE 0xFF bytes || begins_with 0xFF 0xFE bytes
 
--- the order of the stream is big endian: in all cases but the mark of little endian (Unicode 3.10, UTF-16 encoding scheme)
+-- the order of the stream is big endian: in all cases but the mark of little endian (Unicode, section 3.10: UTF-16 encoding scheme)
 abbrev pub is_big : List ℕ → Bool
 is_big bytes = not (begins_with 0xFF 0xFE bytes)
 
--- what the stream has beside its mark, which is no part of the text (Unicode 3.10, UTF-16 encoding scheme)
+-- what the stream has beside its mark, which is no part of the text (Unicode, section 3.10: UTF-16 encoding scheme)
 abbrev pub behind_mark : List ℕ → List ℕ
 behind_mark bytes = if has_mark bytes then drop 2 bytes else bytes
 

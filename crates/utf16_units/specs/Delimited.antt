@@ -28,8 +28,8 @@ before_empty ((c ∷ text) ∷ texts) = (c ∷ text) ∷ before_empty texts
 unfoldable pub listed : ℕ → List ℕ → List (List ℕ)
 listed delimiter text = before_empty (slice_split (λ c. c == delimiter) text)
 
--- the texts are those that a list begins with, where the last delimiter, or the last two, may miss: each can stand in a list, and
--- with two delimiters put last the text begins with their list
+-- the texts are those that a list begins with, where the last delimiter, or the last two, may be missing: each can stand in a list,
+-- and with two delimiters put last the text begins with their list
 pub record IsListBegun (delimiter : ℕ) (text : List ℕ) (texts : List (List ℕ)) : Type 0 where
   pub entries : All (IsEntry delimiter) texts
   pub behind : List ℕ

@@ -7,11 +7,11 @@ use Rattle.std.specs.List.{flat_map}
 use Rattle.std.specs.Str.{all_scalars, bytes_eq}
 use Rattle.utf16_units.specs.Unit.{unit_bytes, unit_of}
 
--- the bytes of a character: those of its one or two units (Unicode 3.9, UTF-16 encoding form)
+-- the bytes of a character: those of its one or two units (Unicode, section 3.9: UTF-16 encoding form)
 abbrev pub char_bytes : Bool → ℕ → List ℕ
 char_bytes big c = flat_map (unit_bytes big) (encode_utf16 c)
 
--- the bytes of a text: those of its characters, one after another (Unicode 3.10, UTF-16BE and UTF-16LE)
+-- the bytes of a text: those of its characters, one after another (Unicode, section 3.10: UTF-16BE and UTF-16LE)
 unfoldable pub encode : Bool → List ℕ → List ℕ
 encode big text = flat_map (char_bytes big) text
 
@@ -23,12 +23,12 @@ char_size c = 2 * length (encode_utf16 c)
 unfoldable pub size : List ℕ → ℕ
 size text = 2 * length (flat_map encode_utf16 text)
 
--- the bytes are the encoding of the text, whose characters are scalar values (Unicode 3.9, scalar value)
+-- the bytes are the encoding of the text, whose characters are scalar values (Unicode, section 3.9: scalar value)
 pub record Encodes (big : Bool) (text bytes : List ℕ) : Type 0 where
   pub scalars : All IsScalar text
   pub spelled : encode big text ≡ bytes
 
--- the bytes are well formed: some text is encoded so (Unicode 3.9, well-formed UTF-16)
+-- the bytes are well formed: some text is encoded so (Unicode, section 3.9: well-formed UTF-16)
 pub record IsText (big : Bool) (bytes : List ℕ) : Type 0 where
   pub text : List ℕ
   pub encodes : Encodes big text bytes

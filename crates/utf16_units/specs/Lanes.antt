@@ -7,8 +7,8 @@ use Rattle.utf16_units.specs.Encoding.{units_of}
 abbrev pub high_byte : ℕ → ℕ
 high_byte unit = unit / 256
 
--- each unit is a trailing surrogate exactly where the one before it is a leading one (Unicode 3.8, surrogate pair): `before`
--- says whether the unit before the first is leading, `after` whether the last one is
+-- each unit is a trailing surrogate exactly where the one before it is a leading one (Unicode, section 3.8: surrogate pair):
+-- `before` says whether the unit before the first is leading, `after` whether the last one is
 abbrev pub Paired : Bool → List ℕ → Bool → Type 0
 Paired before units after = map is_low_surrogate units ++ after ∷ [] ≡ before ∷ map is_high_surrogate units
 

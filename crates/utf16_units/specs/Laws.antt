@@ -141,7 +141,7 @@ pub record StaysBefore (text more : List ℕ) : Type 0 where
 abbrev pub MoreBehind : Type 0
 MoreBehind = (text more : List ℕ) → StaysBefore text more
 
--- in the bytes of a text a text that is not empty is found by its bytes at the even offsets, and exactly where it stands
+-- a part that is not empty stands in a text exactly at the even offsets at which its bytes stand in the bytes of the text
 abbrev pub FoundExactly : Type 0
 FoundExactly = (big : Bool) (text part bytes part_bytes : List ℕ) (i : ℕ) → Encodes big text bytes → Encodes big part part_bytes → part ≢ []
     → (((i % 2 ≡ 0) × StandsAt bytes i part_bytes) ↔ StandsIn text i part)

@@ -7,7 +7,7 @@ GoesFirst rest [] = ⊥
 GoesFirst [] (d ∷ other) = ⊤
 GoesFirst (c ∷ rest) (d ∷ other) = c < d
 
--- a text is before another: behind a common beginning the one goes first (Unicode 5.17, code point order)
+-- a text is before another: behind a common beginning the one goes first (Unicode, section 5.17: code point order)
 pub record IsBefore (text other : List ℕ) : Type 0 where
   pub common : List ℕ
   pub rest : List ℕ

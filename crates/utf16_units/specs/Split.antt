@@ -7,7 +7,7 @@ use Rattle.utf16_units.specs.Unit.{IsLeading, IsTrailing, unit_bytes, unit_of}
 use Rattle.utf16_units.specs.Encoding.{char_bytes}
 use Rattle.utf16_units.specs.Fault.{is_cut_off}
 
--- a character, or a surrogate code unit without its partner (Unicode 3.8, isolated surrogate code units)
+-- a character, or a surrogate code unit without its partner (Unicode, section 3.8: isolated surrogate code units)
 pub data Item : Type 0 where
   good : ℕ → Item
   lone_trail : ℕ → Item
@@ -42,7 +42,7 @@ BeginsUnpaired big (last ∷ []) = ⊥
 BeginsUnpaired big (first ∷ second ∷ after) = ¬ (IsTrailing (unit_of big first second))
 
 -- the bytes are those of the items and then of the tail, and behind each lone leading unit stands a whole unit that is not
--- trailing (Unicode 3.8, surrogate pair)
+-- trailing (Unicode, section 3.8: surrogate pair)
 pub record Split (big : Bool) (bytes : List ℕ) (items : List Item) (tail : List ℕ) : Type 0 where
   pub made : All IsItem items
   pub spelled : items_bytes big items ++ tail ≡ bytes
@@ -50,7 +50,7 @@ pub record Split (big : Bool) (bytes : List ℕ) (items : List Item) (tail : Lis
   pub unpaired : (front : List Item) (unit : ℕ) (back : List Item) → front ++ lone_lead unit ∷ back ≡ items
       → BeginsUnpaired big (items_bytes big back ++ tail)
 
--- the character that an item is shown by: U+FFFD for a surrogate without its partner (Unicode 3.9, U+FFFD substitution)
+-- the character that an item is shown by: U+FFFD for a surrogate without its partner (Unicode, section 3.9: U+FFFD substitution)
 abbrev pub mark : Item → ℕ
 mark (good c) = c
 mark (lone_trail unit) = 0xFFFD

@@ -119,7 +119,7 @@ pub fn more_behind()
     ensures { MoreBehind }
 {}
 
-/// In a text's bytes a text that is not empty is found by its bytes at the even offsets, and exactly where it stands.
+/// Where a part is not empty, it stands in a text exactly at the even offsets at which its bytes stand in the text's bytes.
 pub fn found_exactly()
     ensures { FoundExactly }
 {}

@@ -21,7 +21,7 @@ table_of texts = closed 0 texts
 abbrev pub texts_in : List ℕ → List (List ℕ)
 texts_in text = listed 0 text
 
--- the texts are those that a table begins with, where the last NUL, or the last two, may miss: none is empty or has a NUL, and
+-- the texts are those that a table begins with, where the last NUL, or the last two, may be missing: none is empty or has a NUL, and
 -- with two NULs put last the text begins with their table
 abbrev pub IsReading : List ℕ → List (List ℕ) → Type 0
 IsReading text texts = IsListBegun 0 text texts

@@ -60,8 +60,8 @@ impl<'a, E: Utf16Order> Iterator for MultiText<'a, E> {
 }
 
 /// The texts of a table, in order, with no copy and no memory. Any text is read as a table, and none is refused: an empty text
-/// ends it, and so does the end of what was given, so the last NUL may miss, and the last text's own with it. What stands behind
-/// the empty text is left out.
+/// ends it, and so does the end of what was given, so the last NUL may be missing, and the last text's own with it. What stands
+/// behind the empty text is left out.
 pub fn texts<'a, E: Utf16Order>(table: WStr<'a, E>) -> MultiText<'a, E>
     ensures texts { result ≡ texts_in (wstr_text table.entry) }
     ensures reading { IsReading (wstr_text table.entry) result }

@@ -175,7 +175,7 @@ pub fn utf16_in<A: Allocator>(alloc: A, order: Order, text: &str) -> Result<Vec<
     }
 }
 
-/// UTF-16 to UTF-8 and back: the bytes themselves.
+/// Goes from UTF-16 to UTF-8 and back, and gives the bytes themselves.
 pub fn there_and_back<E: Utf16Order, A: Allocator, B: Allocator>(
     alloc: A,
     back_alloc: B,
@@ -188,7 +188,7 @@ pub fn there_and_back<E: Utf16Order, A: Allocator, B: Allocator>(
     Ok(utf16_of::<E, B>(back_alloc, &text)?)
 }
 
-/// UTF-8 to UTF-16 and back: the text itself. The only error is a refused request for memory.
+/// Goes from UTF-8 to UTF-16 and back, and gives the text itself. The only error is a refused request for memory.
 pub fn back_and_there<E: Utf16Order, A: Allocator, B: Allocator>(
     alloc: A,
     back_alloc: B,
