@@ -21,16 +21,23 @@ const RECORD_BE: [u8; 22] = [
     0xDE, 0,
 ];
 
+// The next field holds this text and ends here.
+fn field_is<E: Utf16Order>(
+    rt: &(impl Abort + AllocGlobal),
+    fields: &mut Fields<E>,
+    wanted: &str,
+    behind: usize,
+) {
+    let field = fields.next().expect(rt, "field").expect(rt, "text");
+    let text = field.to_utf8(rt.alloc()).expect(rt, "memory");
+    equal(rt, text.as_str() == wanted, true);
+    equal(rt, fields.offset(), behind);
+}
+
 fn read<E: Utf16Order>(rt: &(impl Abort + AllocGlobal), record: &[u8]) {
     let mut fields = Fields::<E>::new(record);
     for (wanted, behind) in [("Grüße", 12), ("", 14), ("★\u{1F600}", 22)] {
-        let field = fields.next().expect(rt, "field").expect(rt, "text");
-        let text = field.to_utf8(rt.alloc()).expect(rt, "memory");
-        equal(
-            rt,
-            (text.as_str() == wanted, fields.offset()),
-            (true, behind),
-        );
+        field_is(rt, &mut fields, wanted, behind);
     }
     equal(rt, fields.next().is_none(), true);
     let all = read_fields::<E, _>(rt.alloc(), record).expect(rt, "fields");

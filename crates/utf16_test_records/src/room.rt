@@ -76,20 +76,31 @@ fn of<E: Utf16Order>(rt: &(impl Abort + AllocGlobal), text: &str) -> WString<E> 
     WString::from_str(rt.alloc(), text).expect(rt, "memory")
 }
 
+// The bytes are those of a text.
+fn are<E: Utf16Order>(rt: &(impl Abort + AllocGlobal), found: &[u8], wanted: &str) {
+    equal(rt, found, of::<E>(rt, wanted).as_bytes());
+}
+
+// "ho" with room for three code units.
+fn ho<'a, E: Utf16Order>(rt: &impl Abort, heap: Heap<'a>) -> WString<E, Heap<'a>> {
+    let mut text = WString::with_capacity(heap, 6).expect(rt, "memory");
+    text.push('h').expect(rt, "memory");
+    text.push('o').expect(rt, "memory");
+    text
+}
+
 // A call that is refused leaves the string, and the same call with memory is done.
 fn refused_then_done<E: Utf16Order>(rt: &(impl Abort + AllocGlobal), call: Call, wanted: &str) {
     let heap = Refusing::<Global>::new(rt.alloc());
-    let mut text = WString::<E, Heap>::with_capacity(&heap, 6).expect(rt, "memory");
-    text.push('h').expect(rt, "memory");
-    text.push('o').expect(rt, "memory");
+    let mut text = ho::<E>(rt, &heap);
     let room = text.capacity();
     heap.refuse_from(0);
     assert!(rt; make(rt, &heap, &mut text, call).is_err());
-    equal(rt, text.as_bytes(), of::<E>(rt, "ho").as_bytes());
+    are::<E>(rt, text.as_bytes(), "ho");
     equal(rt, (text.capacity(), heap.refusals() == 0), (room, false));
     heap.refuse_none();
     assert!(rt; make(rt, &heap, &mut text, call).is_ok());
-    equal(rt, text.as_bytes(), of::<E>(rt, wanted).as_bytes());
+    are::<E>(rt, text.as_bytes(), wanted);
     drop(text);
     equal(rt, heap.live_blocks(), 0);
 }
@@ -123,7 +134,7 @@ fn sizes<E: Utf16Order>(rt: &(impl Abort + AllocGlobal)) {
             let mut text = of::<E>(rt, start);
             let room = text.capacity();
             assert!(rt; text.reserve(size).is_err());
-            equal(rt, text.as_bytes(), of::<E>(rt, start).as_bytes());
+            are::<E>(rt, text.as_bytes(), start);
             equal(rt, text.capacity(), room);
         }
     }
@@ -138,7 +149,7 @@ fn reserved<E: Utf16Order>(rt: &(impl Abort + AllocGlobal)) {
     assert!(rt; text.push('a').is_ok());
     assert!(rt; text.push('\u{10000}').is_ok());
     assert!(rt; make(rt, &heap, &mut text, Call::Insert(0, 'b')).is_ok());
-    equal(rt, text.as_bytes(), of::<E>(rt, "ba\u{10000}").as_bytes());
+    are::<E>(rt, text.as_bytes(), "ba\u{10000}");
     equal(rt, heap.requests(), 0);
 }
 

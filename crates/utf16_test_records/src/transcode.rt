@@ -13,32 +13,56 @@ use utf16string::{BE, LE, Utf16Order};
 // The text of `MIXED`.
 const TEXT: &str = "a\u{4E00}\u{10000}";
 
+fn is_text(rt: &impl Abort, found: &str) {
+    assert!(rt; found == TEXT);
+}
+
+fn are(rt: &impl Abort, found: &[u8], wanted: &[u8]) {
+    assert!(rt; found == wanted);
+}
+
+// To UTF-8.
+fn goes_to<E: Utf16Order>(rt: &(impl Abort + AllocGlobal), order: Order, bytes: &[u8]) {
+    let utf8 = utf8_of::<E, _>(rt.alloc(), bytes).expect(rt, "text");
+    is_text(rt, &utf8);
+    let told = utf8_in(rt.alloc(), order, bytes).expect(rt, "text");
+    is_text(rt, &told);
+    let marked = utf8_marked::<E, _>(rt.alloc(), bytes).expect(rt, "memory");
+    is_text(rt, &marked);
+    let back = back_and_there::<E, _, _>(rt.alloc(), rt.alloc(), TEXT).expect(rt, "memory");
+    is_text(rt, &back);
+}
+
+// From UTF-8.
+fn goes_from<E: Utf16Order>(rt: &(impl Abort + AllocGlobal), order: Order, bytes: &[u8]) {
+    let utf16 = utf16_of::<E, _>(rt.alloc(), TEXT).expect(rt, "memory");
+    are(rt, &utf16, bytes);
+    let told = utf16_in(rt.alloc(), order, TEXT).expect(rt, "memory");
+    are(rt, &told, bytes);
+    let back = there_and_back::<E, _, _>(rt.alloc(), rt.alloc(), bytes).expect(rt, "text");
+    are(rt, &back, bytes);
+}
+
+// To UTF-8 from two pieces, cut at each byte.
+fn goes_in_pieces<E: Utf16Order>(rt: &(impl Abort + AllocGlobal), bytes: &[u8]) {
+    for at in 0..bytes.len() + 1 {
+        let pieces = cut(rt, bytes, at);
+        let utf8 = utf8_of_pieces::<E, _, _, _>(rt.alloc(), rt.alloc(), &pieces);
+        is_text(rt, &utf8.expect(rt, "text"));
+    }
+}
+
 fn goes<E: Utf16Order, F: Utf16Order>(
     rt: &(impl Abort + AllocGlobal),
     order: Order,
     bytes: &[u8],
     other: &[u8],
 ) {
-    let utf8 = utf8_of::<E, _>(rt.alloc(), bytes).expect(rt, "text");
-    let told = utf8_in(rt.alloc(), order, bytes).expect(rt, "text");
-    let marked = utf8_marked::<E, _>(rt.alloc(), bytes).expect(rt, "memory");
-    let back = back_and_there::<E, _, _>(rt.alloc(), rt.alloc(), TEXT).expect(rt, "memory");
-    for found in [utf8, told, marked, back] {
-        equal(rt, found.as_str() == TEXT, true);
-    }
-    let utf16 = utf16_of::<E, _>(rt.alloc(), TEXT).expect(rt, "memory");
-    let told = utf16_in(rt.alloc(), order, TEXT).expect(rt, "memory");
-    let back = there_and_back::<E, _, _>(rt.alloc(), rt.alloc(), bytes).expect(rt, "text");
-    for found in [utf16, told, back] {
-        equal(rt, found.as_slice() == bytes, true);
-    }
+    goes_to::<E>(rt, order, bytes);
+    goes_from::<E>(rt, order, bytes);
+    goes_in_pieces::<E>(rt, bytes);
     let swapped = reordered::<E, F, _>(rt.alloc(), bytes).expect(rt, "text");
-    equal(rt, swapped.as_slice() == other, true);
-    for at in 0..bytes.len() + 1 {
-        let pieces = cut(rt, bytes, at);
-        let utf8 = utf8_of_pieces::<E, _, _, _>(rt.alloc(), rt.alloc(), &pieces);
-        equal(rt, utf8.expect(rt, "text").as_str() == TEXT, true);
-    }
+    are(rt, &swapped, other);
 }
 
 #[test]
@@ -66,26 +90,33 @@ fn places(found: Option<TranscodeError>) -> Option<(usize, Option<usize>)> {
     }
 }
 
+// Bytes that are no text, and the text with marks in their place, cut at each byte.
+fn no_text(
+    rt: &(impl Abort + AllocGlobal),
+    order: Order,
+    bytes: &[u8],
+    wanted: (usize, Option<usize>),
+    text: &str,
+) {
+    let found = utf8_in(rt.alloc(), order, bytes).err();
+    equal(rt, places(found), Some(wanted));
+    for at in 0..bytes.len() + 1 {
+        let marked = utf8_marked_in(rt.alloc(), order, &cut(rt, bytes, at)).expect(rt, "memory");
+        equal(rt, marked.as_str() == text, true);
+    }
+}
+
 #[test]
 fn no_texts(rt: HostRuntime) {
     for ((big, bytes, place, len, _), text) in FAULTS.iter().zip(FAULT_TEXTS) {
         let order = if *big { Order::Big } else { Order::Little };
-        let wanted = Some((*place, *len));
-        equal(&rt, places(utf8_in(rt.alloc(), order, bytes).err()), wanted);
-        for at in 0..bytes.len() + 1 {
-            let marked = utf8_marked_in(rt.alloc(), order, &cut(&rt, bytes, at));
-            equal(&rt, marked.expect(&rt, "memory").as_str() == text, true);
-        }
+        no_text(&rt, order, bytes, (*place, *len), text);
     }
     let pieces = cut(&rt, &[0x41, 0, 0, 0xDC], 3);
     let found = utf8_of_pieces::<LE, _, _, _>(rt.alloc(), rt.alloc(), &pieces).err();
     equal(&rt, places(found), Some((2, Some(2))));
-    let marked = utf8_marked::<LE, _>(rt.alloc(), &[0x41, 0, 0, 0xD8]);
-    equal(
-        &rt,
-        marked.expect(&rt, "memory").as_str() == "A\u{FFFD}",
-        true,
-    );
+    let marked = utf8_marked::<LE, _>(rt.alloc(), &[0x41, 0, 0, 0xD8]).expect(&rt, "memory");
+    equal(&rt, marked.as_str() == "A\u{FFFD}", true);
 }
 
 #[test]

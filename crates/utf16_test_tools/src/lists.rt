@@ -86,27 +86,49 @@ fn says<E: Utf16Order>(
     }
 }
 
-// The rows one by one by `apply`, and then together by `run`, which gives the same replies and the same last text.
+// The rows one by one, by `apply`.
+fn one_by_one<E: Utf16Order>(
+    rt: &(impl Abort + AllocGlobal),
+    string: &mut WString<E>,
+    rows: &[Row],
+) -> Result<(), Fail> {
+    for (command, said, left) in rows {
+        let reply = apply(string, edit(rt, *command)?);
+        says(rt, &reply, *said)?;
+        text_is(rt, string, left)?;
+    }
+    Ok(())
+}
+
+// The rows together, by `run`.
+fn together<E: Utf16Order>(
+    rt: &(impl Abort + AllocGlobal),
+    string: &mut WString<E>,
+    rows: &[Row],
+) -> Result<(), Fail> {
+    let mut edits = Vec::new(rt.alloc());
+    for (command, _, _) in rows {
+        edits.push(edit::<E>(rt, *command)?)?;
+    }
+    let replies = run(rt.alloc(), string, edits)?;
+    assert_eq!(rt; replies.len(), rows.len());
+    for (reply, (_, said, _)) in replies.iter().zip(rows) {
+        says(rt, reply, *said)?;
+    }
+    Ok(())
+}
+
+// The rows one by one and then together, which gives the same replies and the same last text.
 fn rows_do<E: Utf16Order>(
     rt: &(impl Abort + AllocGlobal),
     start: &str,
     rows: &[Row],
 ) -> Result<(), Fail> {
-    let mut one_by_one = string::<E>(rt, start)?;
-    let mut edits = Vec::new(rt.alloc());
-    for (command, said, left) in rows {
-        let reply = apply(&mut one_by_one, edit(rt, *command)?);
-        says(rt, &reply, *said)?;
-        text_is(rt, &one_by_one, left)?;
-        edits.push(edit::<E>(rt, *command)?)?;
-    }
-    let mut together = string::<E>(rt, start)?;
-    let replies = run(rt.alloc(), &mut together, edits)?;
-    assert_eq!(rt; replies.len(), rows.len());
-    for (reply, (_, said, _)) in replies.iter().zip(rows) {
-        says(rt, reply, *said)?;
-    }
-    assert_eq!(rt; together.as_bytes(), one_by_one.as_bytes());
+    let mut first = string::<E>(rt, start)?;
+    one_by_one(rt, &mut first, rows)?;
+    let mut second = string::<E>(rt, start)?;
+    together(rt, &mut second, rows)?;
+    assert_eq!(rt; second.as_bytes(), first.as_bytes());
     Ok(())
 }
 
@@ -144,8 +166,10 @@ const PATCHED: [Row; 13] = [
 ];
 
 // Each kind of edit at the offsets around the pair of "a", U+10000, "b": before it, inside it, behind it, odd, at the length,
-// past it, and as far as a number goes.
-const AROUND: [Row; 33] = [
+// past it, and as far as a number goes. Each table goes on where the one before it ends.
+const AROUND: [&[Row]; 4] = [&PUT_IN, &REMOVED, &CUT, &OVERWRITTEN];
+
+const PUT_IN: [Row; 9] = [
     (Command::Insert(1, 'x'), Said::BadOffset, "a\u{10000}b"),
     (Command::Insert(4, 'x'), Said::BadOffset, "a\u{10000}b"),
     (Command::Insert(10, 'x'), Said::BadOffset, "a\u{10000}b"),
@@ -163,6 +187,9 @@ const AROUND: [Row; 33] = [
     (Command::InsertText(4, "yz"), Said::BadOffset, "a\u{10000}b"),
     (Command::InsertText(9, ""), Said::BadOffset, "a\u{10000}b"),
     (Command::InsertText(6, "yz"), Said::Done, "a\u{10000}yzb"),
+];
+
+const REMOVED: [Row; 6] = [
     (Command::Remove(4), Said::BadOffset, "a\u{10000}yzb"),
     (Command::Remove(7), Said::BadOffset, "a\u{10000}yzb"),
     (Command::Remove(12), Said::BadOffset, "a\u{10000}yzb"),
@@ -173,6 +200,9 @@ const AROUND: [Row; 33] = [
     ),
     (Command::Remove(6), Said::Char('y'), "a\u{10000}zb"),
     (Command::Remove(6), Said::Char('z'), "a\u{10000}b"),
+];
+
+const CUT: [Row; 8] = [
     (Command::Truncate(4), Said::BadOffset, "a\u{10000}b"),
     (Command::Truncate(3), Said::BadOffset, "a\u{10000}b"),
     (Command::Truncate(9), Said::Done, "a\u{10000}b"),
@@ -181,6 +211,9 @@ const AROUND: [Row; 33] = [
     (Command::SplitOff(9), Said::BadOffset, "a\u{10000}b"),
     (Command::SplitOff(10), Said::BadOffset, "a\u{10000}b"),
     (Command::SplitOff(8), Said::Rest(""), "a\u{10000}b"),
+];
+
+const OVERWRITTEN: [Row; 10] = [
     (Command::Overwrite(4, "x"), Said::BadOffset, "a\u{10000}b"),
     (Command::Overwrite(2, "x"), Said::BadOffset, "a\u{10000}b"),
     (Command::Overwrite(8, "x"), Said::BadOffset, "a\u{10000}b"),
@@ -213,7 +246,11 @@ fn a_text_patched(rt: HostRuntime) -> Result<(), Fail> {
 
 #[test]
 fn offsets_around_a_pair(rt: HostRuntime) -> Result<(), Fail> {
-    in_both_orders(&rt, "a\u{10000}b", &AROUND)
+    let mut rows = Vec::new(rt.alloc());
+    for part in AROUND {
+        rows.extend_from_slice(part)?;
+    }
+    in_both_orders(&rt, "a\u{10000}b", &rows)
 }
 
 #[test]
@@ -221,37 +258,48 @@ fn no_edits_have_no_replies(rt: HostRuntime) -> Result<(), Fail> {
     in_both_orders(&rt, "a\u{10000}", &[])
 }
 
-#[test]
-fn the_bytes_are_those_of_the_last_text(rt: HostRuntime) -> Result<(), Fail> {
-    let mut text = WString::<BE>::new(rt.alloc());
-    for (command, _, _) in &TYPED {
-        apply(&mut text, edit(&rt, *command)?);
-    }
-    assert_eq!(rt; text.into_bytes().as_slice(), [0x00, 0x62].as_slice());
-    let mut text = WString::<LE>::from_utf16le([
-        0x61, 0, 0x00, 0xD8, 0x00, 0xDC, 0x68, 0, 0x69, 0,
-    ].to_vec(rt.alloc())?)?;
-    says(&rt, &apply(&mut text, Edit::Remove(4)), Said::BadOffset)?;
-    says(
-        &rt,
-        &apply(&mut text, Edit::Remove(2)),
-        Said::Char('\u{10000}'),
-    )?;
-    says(&rt, &apply(&mut text, Edit::Remove(2)), Said::Char('h'))?;
-    says(&rt, &apply(&mut text, Edit::Truncate(21)), Said::Done)?;
-    assert_eq!(rt; text.into_bytes().as_slice(), [0x61, 0, 0x69, 0].as_slice());
+// Edits of "a", U+10000, "hi".
+const TAKEN_OFF: [Row; 4] = [
+    (Command::Remove(4), Said::BadOffset, "a\u{10000}hi"),
+    (Command::Remove(2), Said::Char('\u{10000}'), "ahi"),
+    (Command::Remove(2), Said::Char('h'), "ai"),
+    (Command::Truncate(21), Said::Done, "ai"),
+];
+
+// The rows one by one leave these bytes.
+fn bytes_left<E: Utf16Order>(
+    rt: &(impl Abort + AllocGlobal),
+    mut text: WString<E>,
+    rows: &[Row],
+    wanted: &[u8],
+) -> Result<(), Fail> {
+    one_by_one(rt, &mut text, rows)?;
+    assert_eq!(rt; text.into_bytes().as_slice(), wanted);
     Ok(())
 }
 
 #[test]
-fn ten_thousand_edits(rt: HostRuntime) -> Result<(), Fail> {
+fn the_bytes_are_those_of_the_last_text(rt: HostRuntime) -> Result<(), Fail> {
+    bytes_left(&rt, WString::<BE>::new(rt.alloc()), &TYPED, &[0x00, 0x62])?;
+    let bytes = [0x61, 0, 0x00, 0xD8, 0x00, 0xDC, 0x68, 0, 0x69, 0].to_vec(rt.alloc())?;
+    let text = WString::<LE>::from_utf16le(bytes)?;
+    bytes_left(&rt, text, &TAKEN_OFF, &[0x61, 0, 0x69, 0])
+}
+
+// A pair pushed and a character put in behind the first, five thousand times.
+fn pushed_and_inserted(rt: &impl AllocGlobal) -> Result<Vec<Edit<LE>>, Fail> {
     let mut edits = Vec::new(rt.alloc());
     for _ in 0..5_000 {
         edits.push(Edit::Push('\u{10000}'))?;
         edits.push(Edit::Insert(2, 'x'))?;
     }
-    let mut text = WString::<LE>::from_str(rt.alloc(), "a")?;
-    let replies = run(rt.alloc(), &mut text, edits)?;
+    Ok(edits)
+}
+
+#[test]
+fn ten_thousand_edits(rt: HostRuntime) -> Result<(), Fail> {
+    let mut text = string::<LE>(&rt, "a")?;
+    let replies = run(rt.alloc(), &mut text, pushed_and_inserted(&rt)?)?;
     assert_eq!(rt; replies.len(), 10_000);
     assert_eq!(rt; text.len(), 2 + 5_000 * 6);
     assert_eq!(rt; text.chars().count(), 10_001);

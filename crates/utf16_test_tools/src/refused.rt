@@ -13,24 +13,42 @@ fn string<'a>(rt: &impl Abort, heap: Heap<'a>, text: &str) -> WString<LE, Heap<'
     WString::from_str(heap, text).expect(rt, "memory")
 }
 
-// An edit that grows, its one request refused and then not: it changes nothing, and then it is done.
+fn holds(rt: &impl Abort, text: &WString<LE, Heap<'_>>, wanted: &[u8]) {
+    assert_eq!(rt; text.as_bytes(), wanted);
+}
+
+fn blocks_live(rt: &impl Abort, heap: Heap<'_>, wanted: u64) {
+    assert_eq!(rt; heap.live_blocks(), wanted);
+}
+
+// An edit whose one request is refused changes nothing.
+fn refused<'a>(
+    rt: &impl Abort,
+    heap: Heap<'a>,
+    text: &mut WString<LE, Heap<'a>>,
+    edit: Edit<LE, Heap<'a>>,
+) {
+    let room = text.capacity();
+    heap.refuse_one(0);
+    let reply = apply(text, edit);
+    assert!(rt; matches!(reply, Reply::NoMemory));
+    holds(rt, text, &[0x61, 0, 0x62, 0]);
+    assert_eq!(rt; text.capacity(), room);
+}
+
+// An edit that grows, refused and then not: it changes nothing, and then it is done.
 fn refused_then_done<'a>(
     rt: &impl Abort,
     heap: Heap<'a>,
-    refused: Edit<LE, Heap<'a>>,
-    granted: Edit<LE, Heap<'a>>,
+    first: Edit<LE, Heap<'a>>,
+    second: Edit<LE, Heap<'a>>,
     wanted: &[u8],
 ) {
     let mut text = string(rt, heap, "ab");
-    let room = text.capacity();
-    heap.refuse_one(0);
-    let reply = apply(&mut text, refused);
-    assert!(rt; matches!(reply, Reply::NoMemory));
-    assert_eq!(rt; text.as_bytes(), [0x61, 0, 0x62, 0].as_slice());
-    assert_eq!(rt; text.capacity(), room);
-    let reply = apply(&mut text, granted);
+    refused(rt, heap, &mut text, first);
+    let reply = apply(&mut text, second);
     assert!(rt; !matches!(reply, Reply::NoMemory | Reply::BadOffset));
-    assert_eq!(rt; text.as_bytes(), wanted);
+    holds(rt, &text, wanted);
 }
 
 #[test]
@@ -56,7 +74,23 @@ fn each_growing_edit_is_refused(rt: HostRuntime) {
         &abc,
     );
     refused_then_done(&rt, &heap, Edit::SplitOff(2), Edit::SplitOff(2), &[0x61, 0]);
-    assert_eq!(rt; heap.live_blocks(), 0);
+    blocks_live(&rt, &heap, 0);
+}
+
+// A character pushed, one put in inside a character, and the last taken off.
+fn pushed_and_popped<'a>(rt: &(impl Abort + AllocGlobal)) -> Vec<Edit<LE, Heap<'a>>> {
+    let mut edits = Vec::new(rt.alloc());
+    edits.push(Edit::Push('c')).expect(rt, "memory");
+    edits.push(Edit::Insert(1, 'c')).expect(rt, "memory");
+    edits.push(Edit::Pop).expect(rt, "memory");
+    edits
+}
+
+fn only_the_push_is_refused(rt: &impl Abort, replies: &[Reply<LE, Heap<'_>>]) {
+    assert_eq!(rt; replies.len(), 3);
+    assert!(rt; matches!(replies[0], Reply::NoMemory));
+    assert!(rt; matches!(replies[1], Reply::BadOffset));
+    assert!(rt; matches!(replies[2], Reply::Char('b')));
 }
 
 // The edits behind a refused one are done, and the bytes are those of the last text.
@@ -64,21 +98,27 @@ fn each_growing_edit_is_refused(rt: HostRuntime) {
 fn a_list_goes_on_behind_a_refused_growth(rt: HostRuntime) {
     let heap = Refusing::new(rt.alloc());
     let text = string(&rt, &heap, "ab");
-    let mut edits = Vec::new(rt.alloc());
-    edits.push(Edit::Push('c')).expect(&rt, "memory");
-    edits.push(Edit::Insert(1, 'c')).expect(&rt, "memory");
-    edits.push(Edit::Pop).expect(&rt, "memory");
+    let edits = pushed_and_popped(&rt);
     heap.refuse_from(0);
     let (replies, bytes) = every_list_of_edits(rt.alloc(), text, edits);
     let replies = replies.expect(&rt, "memory");
-    assert_eq!(rt; replies.len(), 3);
-    assert!(rt; matches!(replies[0], Reply::NoMemory));
-    assert!(rt; matches!(replies[1], Reply::BadOffset));
-    assert!(rt; matches!(replies[2], Reply::Char('b')));
+    only_the_push_is_refused(&rt, &replies);
     assert_eq!(rt; bytes.as_slice(), [0x61, 0].as_slice());
     drop(bytes);
     drop(replies);
-    assert_eq!(rt; heap.live_blocks(), 0);
+    blocks_live(&rt, &heap, 0);
+}
+
+// A text pushed, and then all cleared.
+fn pushed_then_cleared<'a>(
+    rt: &(impl Abort + AllocGlobal),
+    heap: Heap<'a>,
+) -> Vec<Edit<LE, Heap<'a>>> {
+    let mut edits = Vec::new(rt.alloc());
+    let text = string(rt, heap, "c");
+    edits.push(Edit::PushText(text)).expect(rt, "memory");
+    edits.push(Edit::Clear).expect(rt, "memory");
+    edits
 }
 
 // Where room for the replies is refused, no edit is done, and what the edits hold is given back.
@@ -86,15 +126,11 @@ fn a_list_goes_on_behind_a_refused_growth(rt: HostRuntime) {
 fn a_list_without_room_for_its_replies(rt: HostRuntime) {
     let heap = Refusing::new(rt.alloc());
     let mut text = string(&rt, &heap, "ab");
-    let mut edits = Vec::new(rt.alloc());
-    edits
-        .push(Edit::PushText(string(&rt, &heap, "c")))
-        .expect(&rt, "memory");
-    edits.push(Edit::Clear).expect(&rt, "memory");
+    let edits = pushed_then_cleared(&rt, &heap);
     heap.refuse_from(0);
     assert!(rt; run(&heap, &mut text, edits).is_err());
-    assert_eq!(rt; text.as_bytes(), [0x61, 0, 0x62, 0].as_slice());
-    assert_eq!(rt; heap.live_blocks(), 1);
+    holds(&rt, &text, &[0x61, 0, 0x62, 0]);
+    blocks_live(&rt, &heap, 1);
     drop(text);
-    assert_eq!(rt; heap.live_blocks(), 0);
+    blocks_live(&rt, &heap, 0);
 }
