@@ -1,5 +1,6 @@
 //! Tables of texts: read as they stand in the registry, whole and cut short, and written.
 
+use crate::checks::string;
 use std::alloc::Allocator;
 use std::process::Abort;
 use utf16_testing::refusing::Refusing;
@@ -38,10 +39,6 @@ const REFUSED: [(&[&str], WriteError); 5] = [
     (&["a", "b", "", "\0"], WriteError::Empty(2)),
     (&["\u{10000}\0"], WriteError::HasNul(0)),
 ];
-
-fn string<E: Utf16Order>(rt: &(impl Abort + AllocGlobal), text: &str) -> WString<E> {
-    WString::from_str(rt.alloc(), text).expect(rt, "memory")
-}
 
 fn strings<E: Utf16Order>(rt: &(impl Abort + AllocGlobal), texts: &[&str]) -> Vec<WString<E>> {
     let mut made = Vec::new(rt.alloc());
@@ -94,14 +91,19 @@ fn tables_are_read(rt: HostRuntime) {
     }
 }
 
+// The one text in a table of these bytes.
+fn one_is_read(rt: &(impl Abort + AllocGlobal), raw: &[u8], wanted: &[u8]) {
+    let table = WStr::<LE>::from_utf16(raw).expect(rt, "text");
+    let found = read(rt.alloc(), table).expect(rt, "memory");
+    assert_eq!(rt; found.len(), 1);
+    assert!(rt; found[0].as_bytes() == wanted);
+}
+
 #[test]
 fn a_registry_value_is_read(rt: HostRuntime) {
-    let value = WStr::<LE>::from_utf16(&BOOT_EXECUTE).expect(&rt, "text");
-    let found = read(rt.alloc(), value).expect(&rt, "memory");
-    assert_eq!(rt; found.len(), 1);
-    assert_eq!(rt; found[0].as_bytes(), &BOOT_EXECUTE[..38]);
-    let short = WStr::<LE>::from_utf16(&BOOT_EXECUTE[..38]).expect(&rt, "text");
-    assert!(rt; read(rt.alloc(), short).expect(&rt, "memory") == found);
+    let text = &BOOT_EXECUTE[..38];
+    one_is_read(&rt, &BOOT_EXECUTE, text);
+    one_is_read(&rt, text, text);
 }
 
 fn is_written<E: Utf16Order>(rt: &(impl Abort + AllocGlobal), table: &str, texts: &[&str]) {

@@ -1,5 +1,6 @@
 //! Names under numbers: put in again, looked up, in order, and without memory.
 
+use crate::checks::string;
 use std::alloc::Allocator;
 use std::process::Abort;
 use utf16_testing::refusing::Refusing;
@@ -28,8 +29,24 @@ const IN_ORDER: [usize; 7] = [1, 5, 4, 0, 6, 3, 2];
 
 const UNKNOWN: [&str; 4] = ["bb", "\u{1}", "\u{FFFF}\u{10000}", "aab"];
 
-fn string<E: Utf16Order>(rt: &(impl Abort + AllocGlobal), text: &str) -> WString<E> {
-    WString::from_str(rt.alloc(), text).expect(rt, "memory")
+// A name under its number, and found by it.
+fn is_under<E: Utf16Order, A: Allocator>(
+    rt: &(impl Abort + AllocGlobal),
+    table: &Names<E, A>,
+    number: usize,
+    name: &str,
+) {
+    let name = string::<E>(rt, name);
+    assert!(rt; table.get(number) == Some(name.as_wstr()));
+    assert_eq!(rt; table.find(name.as_wstr()), Some(number));
+}
+
+fn is_unknown<E: Utf16Order, A: Allocator>(
+    rt: &(impl Abort + AllocGlobal),
+    table: &Names<E, A>,
+    name: &str,
+) {
+    assert_eq!(rt; table.find(string(rt, name).as_wstr()), None);
 }
 
 fn holds<E: Utf16Order, A: Allocator>(
@@ -40,13 +57,11 @@ fn holds<E: Utf16Order, A: Allocator>(
     assert_eq!(rt; table.len(), names.len());
     assert_eq!(rt; table.is_empty(), names.is_empty());
     for (number, name) in names.iter().enumerate() {
-        let name = string::<E>(rt, name);
-        assert!(rt; table.get(number) == Some(name.as_wstr()));
-        assert_eq!(rt; table.find(name.as_wstr()), Some(number));
+        is_under(rt, table, number, name);
     }
     assert!(rt; table.get(names.len()).is_none());
     for name in UNKNOWN {
-        assert_eq!(rt; table.find(string(rt, name).as_wstr()), None);
+        is_unknown(rt, table, name);
     }
 }
 

@@ -1,15 +1,11 @@
 //! The UTF-8 of views put behind a text.
 
+use crate::checks::{requests_are, same, view};
 use std::alloc::Global;
 use std::process::Abort;
 use utf16_testing::refusing::Refusing;
 use utf16_testing::texts::{CHARACTERS, HELLO, MIXED, MIXED_BE};
-use utf16string::{BE, LE, Utf16Order, WStr};
-
-// A view of these bytes, which are text.
-fn view<'a, E: Utf16Order>(rt: &impl Abort, raw: &'a [u8]) -> WStr<'a, E> {
-    WStr::from_utf16(raw).expect(rt, "text")
-}
+use utf16string::{BE, LE, Utf16Order};
 
 // Put twice behind a star.
 fn put_twice<E: Utf16Order>(rt: &(impl Abort + AllocGlobal), raw: &[u8], wanted: &str) {
@@ -18,7 +14,7 @@ fn put_twice<E: Utf16Order>(rt: &(impl Abort + AllocGlobal), raw: &[u8], wanted:
     for _ in 0..2 {
         view::<E>(rt, raw).push_utf8(&mut text).expect(rt, "memory");
     }
-    assert_eq!(rt; text.as_str(), wanted);
+    same(rt, text.as_bytes(), wanted.as_bytes(), wanted);
 }
 
 #[test]
@@ -33,7 +29,7 @@ fn texts_behind_a_text(rt: HostRuntime) {
 fn each_is(rt: &(impl Abort + AllocGlobal), le: &[u8], be: &[u8], utf8: &[u8]) {
     let mut text = String::new(rt.alloc());
     view::<LE>(rt, le).push_utf8(&mut text).expect(rt, "memory");
-    assert_eq!(rt; text.as_bytes(), utf8);
+    same(rt, text.as_bytes(), utf8, text.as_str());
     view::<BE>(rt, be).push_utf8(&mut text).expect(rt, "memory");
     assert_eq!(rt; text.len(), 2 * utf8.len());
     assert!(rt; text.as_bytes().ends_with(utf8));
@@ -46,18 +42,22 @@ fn each_known_character(rt: HostRuntime) {
     }
 }
 
+// Whether there is memory to put these bytes behind a text.
+fn is_put(rt: &impl Abort, raw: &[u8], text: &mut String<&Refusing<Global>>) -> bool {
+    view::<LE>(rt, raw).push_utf8(text).is_ok()
+}
+
 #[test]
 fn room_is_asked_for_once(rt: HostRuntime) {
-    let heap = Refusing::<Global>::new(rt.alloc());
+    let heap = Refusing::new(rt.alloc());
     let mut text = String::new(&heap);
     heap.refuse_from(0);
-    let hello = view::<LE>(&rt, &HELLO);
-    assert!(rt; view::<LE>(&rt, &[]).push_utf8(&mut text).is_ok());
-    assert_eq!(rt; heap.requests(), 0);
-    assert!(rt; hello.push_utf8(&mut text).is_err());
+    assert!(rt; is_put(&rt, &[], &mut text));
+    requests_are(&rt, &heap, 0);
+    assert!(rt; !is_put(&rt, &HELLO, &mut text));
     assert!(rt; text.is_empty());
     heap.refuse_none();
-    assert!(rt; hello.push_utf8(&mut text).is_ok());
-    assert_eq!(rt; heap.requests(), 1);
-    assert_eq!(rt; text.as_str(), "hello");
+    assert!(rt; is_put(&rt, &HELLO, &mut text));
+    requests_are(&rt, &heap, 1);
+    same(&rt, text.as_bytes(), "hello".as_bytes(), text.as_str());
 }

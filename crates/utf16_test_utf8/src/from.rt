@@ -1,5 +1,7 @@
 //! Strings made from UTF-8, and texts in UTF-8 put last.
 
+use crate::checks::{one_by_one, put_each, requests_are, same};
+use std::alloc::Global;
 use std::process::Abort;
 use utf16_testing::refusing::Refusing;
 use utf16string::{BE, LE, Utf16Order, WString};
@@ -8,13 +10,19 @@ use utf16string::{BE, LE, Utf16Order, WString};
 const TEXT: &str =
     "a\u{7F}\u{80}b\u{7FF}\u{800}cd\u{D7FF}\u{E000}\u{FFFF}e\u{10000}\u{10FFFF}fgh\u{20AC}\u{4E00}\u{9FFF}\u{5B57}\u{4E2D}\u{6587}\u{1F600}\u{1F601}ij\u{E9}\u{E8}\u{436}klmnopqrstuvwxyz0123456789";
 
-// The same characters put one by one.
-fn one_by_one<E: Utf16Order>(rt: &(impl Abort + AllocGlobal), text: &str) -> WString<E> {
-    let mut made = WString::new(rt.alloc());
-    for c in text.chars() {
-        made.push(c).expect(rt, "memory");
-    }
-    made
+fn made_of<E: Utf16Order>(rt: &(impl Abort + AllocGlobal), text: &str) -> WString<E> {
+    WString::from_str(rt.alloc(), text).expect(rt, "memory")
+}
+
+// A string made of the text.
+fn becomes<E: Utf16Order>(rt: &(impl Abort + AllocGlobal), text: &str, wanted: &[u8]) {
+    same(rt, made_of::<E>(rt, text).as_bytes(), wanted, text);
+}
+
+// A text put last in a string.
+fn push_gives<E: Utf16Order>(rt: &impl Abort, string: &mut WString<E>, text: &str, wanted: &[u8]) {
+    string.push_str(text).expect(rt, "memory");
+    same(rt, string.as_bytes(), wanted, text);
 }
 
 // Each end of the text, behind each number of letters.
@@ -25,11 +33,8 @@ fn goes_as_one_by_one<E: Utf16Order>(rt: &(impl Abort + AllocGlobal)) {
         let mut longer = text.clone().expect(rt, "memory");
         longer.push_str(TEXT).expect(rt, "memory");
         let wanted = one_by_one::<E>(rt, &longer);
-        let made = WString::<E>::from_str(rt.alloc(), &longer).expect(rt, "memory");
-        assert!(rt; made.as_bytes() == wanted.as_bytes(), "{longer}");
-        let mut pushed = WString::<E>::from_str(rt.alloc(), &text).expect(rt, "memory");
-        pushed.push_str(TEXT).expect(rt, "memory");
-        assert!(rt; pushed.as_bytes() == wanted.as_bytes(), "{longer}");
+        becomes::<E>(rt, &longer, wanted.as_bytes());
+        push_gives(rt, &mut made_of::<E>(rt, &text), TEXT, wanted.as_bytes());
     }
 }
 
@@ -61,6 +66,20 @@ const ROWS: [(&str, [u8; 4], [u8; 4], usize); 8] = [
     ),
 ];
 
+// So many letters, in UTF-8 and in UTF-16.
+fn put_letters(
+    rt: &impl Abort,
+    utf8: &mut String,
+    units: &mut Vec<u8>,
+    letter: &[u8],
+    count: usize,
+) {
+    for _ in 0..count {
+        utf8.push('x').expect(rt, "memory");
+        units.extend_from_slice(letter).expect(rt, "memory");
+    }
+}
+
 // So many letters, a character, and twenty letters: in UTF-16 they are the letter's bytes, the character's, and the letter's.
 fn stands_behind<E: Utf16Order>(
     rt: &(impl Abort + AllocGlobal),
@@ -71,27 +90,12 @@ fn stands_behind<E: Utf16Order>(
 ) {
     let mut utf8 = String::new(rt.alloc());
     let mut wanted = Vec::new(rt.alloc());
-    for _ in 0..letters {
-        utf8.push('x').expect(rt, "memory");
-        wanted.extend_from_slice(letter).expect(rt, "memory");
-    }
+    put_letters(rt, &mut utf8, &mut wanted, letter, letters);
     utf8.push_str(text).expect(rt, "memory");
     wanted.extend_from_slice(units).expect(rt, "memory");
-    for _ in 0..20 {
-        utf8.push('x').expect(rt, "memory");
-        wanted.extend_from_slice(letter).expect(rt, "memory");
-    }
-    let made = WString::<E>::from_str(rt.alloc(), &utf8).expect(rt, "memory");
-    assert!(rt;
-        made.as_bytes() == wanted.as_slice(),
-        "{text} behind {letters}"
-    );
-    let mut pushed = WString::<E>::new(rt.alloc());
-    pushed.push_str(&utf8).expect(rt, "memory");
-    assert!(rt;
-        pushed.as_bytes() == wanted.as_slice(),
-        "{text} behind {letters}"
-    );
+    put_letters(rt, &mut utf8, &mut wanted, letter, 20);
+    becomes::<E>(rt, &utf8, &wanted);
+    push_gives(rt, &mut WString::<E>::new(rt.alloc()), &utf8, &wanted);
 }
 
 // Each character behind so many letters, in both orders.
@@ -120,8 +124,7 @@ fn each_length_goes_as_one_by_one<E: Utf16Order>(rt: &(impl Abort + AllocGlobal)
     let mut wanted = WString::<E>::new(rt.alloc());
     for _ in 0..4 {
         for c in TEXT.chars() {
-            let made = WString::<E>::from_str(rt.alloc(), &text).expect(rt, "memory");
-            assert!(rt; made.as_bytes() == wanted.as_bytes(), "{text}");
+            becomes::<E>(rt, &text, wanted.as_bytes());
             text.push(c).expect(rt, "memory");
             wanted.push(c).expect(rt, "memory");
         }
@@ -134,27 +137,33 @@ fn each_length_in_both_orders(rt: HostRuntime) {
     each_length_goes_as_one_by_one::<BE>(&rt);
 }
 
+// A refused request leaves the string as it was.
+fn refusal_leaves<E: Utf16Order>(
+    rt: &impl Abort,
+    text: &mut WString<E, &Refusing<Global>>,
+    before: &[u8],
+) {
+    let room = text.capacity();
+    assert!(rt; text.push_str(TEXT).is_err());
+    same(rt, text.as_bytes(), before, "what was there at first");
+    assert_eq!(rt; text.capacity(), room);
+}
+
 // A refused request leaves the string as it was, and with memory the same call puts the text last.
 fn is_left_when_refused<E: Utf16Order>(rt: &(impl Abort + AllocGlobal), at_first: &str) {
     let heap = Refusing::new(rt.alloc());
     let mut text = WString::<E, _>::from_str(&heap, at_first).expect(rt, "memory");
-    let before = one_by_one::<E>(rt, at_first);
-    let room = text.capacity();
+    let mut wanted = one_by_one::<E>(rt, at_first);
     heap.refuse_from(0);
-    assert!(rt; text.push_str(TEXT).is_err());
-    assert_eq!(rt; heap.requests(), 1);
-    assert!(rt; text.as_bytes() == before.as_bytes(), "{at_first}");
-    assert_eq!(rt; text.capacity(), room);
+    refusal_leaves(rt, &mut text, wanted.as_bytes());
+    requests_are(rt, &heap, 1);
     text.push_str("").expect(rt, "no request");
-    assert_eq!(rt; heap.requests(), 1);
+    requests_are(rt, &heap, 1);
     heap.refuse_none();
     text.push_str(TEXT).expect(rt, "memory");
-    assert_eq!(rt; heap.requests(), 1);
-    let mut wanted = before;
-    for c in TEXT.chars() {
-        wanted.push(c).expect(rt, "memory");
-    }
-    assert!(rt; text.as_bytes() == wanted.as_bytes(), "{at_first}");
+    requests_are(rt, &heap, 1);
+    put_each(rt, &mut wanted, TEXT);
+    same(rt, text.as_bytes(), wanted.as_bytes(), TEXT);
 }
 
 fn empty_asks_for_nothing<E: Utf16Order>(rt: &(impl Abort + AllocGlobal)) {
@@ -162,7 +171,8 @@ fn empty_asks_for_nothing<E: Utf16Order>(rt: &(impl Abort + AllocGlobal)) {
     heap.refuse_from(0);
     let mut text = WString::<E, _>::from_str(&heap, "").expect(rt, "no request");
     text.push_str("").expect(rt, "no request");
-    assert_eq!(rt; (heap.requests(), text.as_bytes().len()), (0, 0));
+    requests_are(rt, &heap, 0);
+    assert!(rt; text.as_bytes().is_empty());
 }
 
 #[test]

@@ -5,6 +5,8 @@
 #[cfg(test)]
 mod appended;
 #[cfg(test)]
+mod checks;
+#[cfg(test)]
 mod from;
 #[cfg(test)]
 mod to;

@@ -1,7 +1,8 @@
 //! To UTF-8: characters at each place of a block, and texts of each length, in both orders.
 
+use crate::checks::{one_by_one, same, view};
 use std::process::Abort;
-use utf16string::{BE, LE, Utf16Order, WStr, WString};
+use utf16string::{BE, LE, Utf16Order, WStr};
 
 // A character in big endian and in UTF-8.
 const ROWS: [(&[u8], &[u8]); 16] = [
@@ -23,28 +24,53 @@ const ROWS: [(&[u8], &[u8]); 16] = [
     (&[0xDB, 0xFF, 0xDF, 0xFF], &[0xF4, 0x8F, 0xBF, 0xBF]),
 ];
 
-// The text of bytes in big endian, in UTF-8, and the same behind another text.
-fn in_utf8<E: Utf16Order>(rt: &(impl Abort + AllocGlobal), big: &[u8], utf8: &[u8]) {
-    let mut raw = big.to_vec(rt.alloc()).expect(rt, "memory");
-    if !E::BIG {
-        for two in raw.as_mut_slice().chunks_exact_mut(2) {
-            two.swap(0, 1);
-        }
+// Bytes in big endian, from now on in little endian.
+fn swap_units(raw: &mut [u8]) {
+    for two in raw.chunks_exact_mut(2) {
+        two.swap(0, 1);
     }
-    let text = WStr::<E>::from_utf16(&raw).expect(rt, "well formed");
-    let made = text.to_utf8(rt.alloc()).expect(rt, "memory");
-    assert_eq!(rt; made.as_bytes(), utf8, "{big:?}");
+}
+
+// The text's UTF-8 behind another text.
+fn behind_another<E: Utf16Order>(rt: &(impl Abort + AllocGlobal), text: WStr<E>, utf8: &[u8]) {
     let mut behind = String::new(rt.alloc());
     behind.push('<').expect(rt, "memory");
     text.push_utf8(&mut behind).expect(rt, "memory");
     assert_eq!(rt; behind.len(), 1 + utf8.len());
-    assert_eq!(rt; &behind.as_bytes()[1..], utf8);
+    same(rt, &behind.as_bytes()[1..], utf8, behind.as_str());
+}
+
+// The text of bytes in big endian, in UTF-8, and the same behind another text.
+fn in_utf8<E: Utf16Order>(rt: &(impl Abort + AllocGlobal), big: &[u8], utf8: &[u8]) {
+    let mut raw = big.to_vec(rt.alloc()).expect(rt, "memory");
+    if !E::BIG {
+        swap_units(&mut raw);
+    }
+    let text = view::<E>(rt, &raw);
+    let made = text.to_utf8(rt.alloc()).expect(rt, "memory");
+    same(rt, made.as_bytes(), utf8, made.as_str());
+    behind_another(rt, text, utf8);
 }
 
 fn extend(rt: &impl Abort, bytes: &mut Vec<u8>, more: &[u8], times: usize) {
     for _ in 0..times {
         bytes.extend_from_slice(more).expect(rt, "memory");
     }
+}
+
+// Bytes behind others several times, and before these several times.
+fn between(
+    rt: &(impl Abort + AllocGlobal),
+    bytes: &[u8],
+    around: &[u8],
+    before: usize,
+    after: usize,
+) -> Vec<u8> {
+    let mut made = Vec::new(rt.alloc());
+    extend(rt, &mut made, around, before);
+    extend(rt, &mut made, bytes, 1);
+    extend(rt, &mut made, around, after);
+    made
 }
 
 // A row behind one character several times, and before another several times.
@@ -55,15 +81,9 @@ fn row_between(
     before: usize,
     after: usize,
 ) {
-    let mut big = Vec::new(rt.alloc());
-    let mut utf8 = Vec::new(rt.alloc());
     assert!(rt; row < ROWS.len() && around < ROWS.len());
-    extend(rt, &mut big, ROWS[around].0, before);
-    extend(rt, &mut utf8, ROWS[around].1, before);
-    extend(rt, &mut big, ROWS[row].0, 1);
-    extend(rt, &mut utf8, ROWS[row].1, 1);
-    extend(rt, &mut big, ROWS[around].0, after);
-    extend(rt, &mut utf8, ROWS[around].1, after);
+    let big = between(rt, ROWS[row].0, ROWS[around].0, before, after);
+    let utf8 = between(rt, ROWS[row].1, ROWS[around].1, before, after);
     in_utf8::<BE>(rt, &big, &utf8);
     in_utf8::<LE>(rt, &big, &utf8);
 }
@@ -109,15 +129,14 @@ fn nth(step: usize) -> char {
 
 // A text of so many characters by `push` alone, beside the same in a string of std.
 fn text_of<E: Utf16Order>(rt: &(impl Abort + AllocGlobal), first: usize, count: usize) {
-    let mut text = WString::<E>::new(rt.alloc());
     let mut wanted = String::new(rt.alloc());
     assert!(rt; first < 100 && count < 1000);
     for step in first..first + count {
-        text.push(nth(step)).expect(rt, "memory");
         wanted.push(nth(step)).expect(rt, "memory");
     }
+    let text = one_by_one::<E>(rt, &wanted);
     let made = text.to_utf8(rt.alloc()).expect(rt, "memory");
-    assert_eq!(rt; made.as_str(), wanted.as_str());
+    same(rt, made.as_bytes(), wanted.as_bytes(), &wanted);
 }
 
 #[test]
