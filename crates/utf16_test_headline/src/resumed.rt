@@ -70,17 +70,25 @@ pub fn cut(rt: &(impl Abort + AllocGlobal), bytes: &[u8], cuts: u64) -> Vec<Vec<
     pieces
 }
 
-fn every_cutting_is<E: Utf16Order>(rt: &(impl Abort + AllocGlobal), bytes: &[u8], wanted: &str) {
+/// Two to the number of bytes: in how many ways a cut can stand behind each of them or not.
+pub fn ways(bytes: &[u8]) -> u64 {
     let mut ways: u64 = 1;
     for _ in bytes {
         ways = ways.saturating_mul(2);
     }
-    for cuts in 0..ways / 2 {
-        let pieces = cut(rt, bytes, cuts);
-        let text = resumed::<E, _, _, _>(rt.alloc(), rt.alloc(), &pieces).expect(rt, "memory");
-        equal(rt, text.as_str(), wanted);
-        let text = fed::<E, _, _, _>(rt.alloc(), rt.alloc(), &pieces).expect(rt, "memory");
-        equal(rt, text.as_str(), wanted);
+    ways
+}
+
+fn pieces_are<E: Utf16Order>(rt: &(impl Abort + AllocGlobal), pieces: &[Vec<u8>], wanted: &str) {
+    let text = resumed::<E, _, _, _>(rt.alloc(), rt.alloc(), pieces).expect(rt, "memory");
+    equal(rt, text.as_str(), wanted);
+    let text = fed::<E, _, _, _>(rt.alloc(), rt.alloc(), pieces).expect(rt, "memory");
+    equal(rt, text.as_str(), wanted);
+}
+
+fn every_cutting_is<E: Utf16Order>(rt: &(impl Abort + AllocGlobal), bytes: &[u8], wanted: &str) {
+    for cuts in 0..ways(bytes) / 2 {
+        pieces_are::<E>(rt, &cut(rt, bytes, cuts), wanted);
     }
 }
 
@@ -131,7 +139,8 @@ fn refused_in_turn(rt: &(impl Abort + AllocGlobal), pieces: &[Vec<u8>], wanted: 
             return k;
         }
         assert!(rt; (text == Err(AllocError)) != (same == Err(AllocError)));
-        drop((text, same));
+        drop(text);
+        drop(same);
         equal(rt, heap.live_blocks(), 0);
     }
     panic!(rt; "no run met no refusal");

@@ -2,7 +2,7 @@
 //! the error's fields show and keep what a decoder of the tests does.
 
 use crate::checks::equal;
-use crate::resumed::cut;
+use crate::resumed::{cut, ways};
 use std::process::Abort;
 use utf16_callers_streams::headline::resume;
 use utf16_testing::plain::decode;
@@ -67,11 +67,7 @@ fn at_every_cutting<E: Utf16Order>(rt: &(impl Abort + AllocGlobal), bytes: &[u8]
     let kept = bytes
         .get(bytes.len().saturating_sub(tail)..)
         .expect(rt, "an end");
-    let mut ways: u64 = 1;
-    for _ in bytes {
-        ways = ways.saturating_mul(2);
-    }
-    for cuts in 0..ways.div_ceil(2) {
+    for cuts in 0..ways(bytes).div_ceil(2) {
         let pieces = cut(rt, bytes, cuts);
         looped::<E>(rt, &pieces, wanted.as_str(), kept);
         fed::<E>(rt, &pieces, wanted.as_str(), kept);
