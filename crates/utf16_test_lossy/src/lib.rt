@@ -7,3 +7,5 @@ mod checks;
 mod cuttings;
 #[cfg(test)]
 mod fed;
+#[cfg(test)]
+mod plain;

@@ -63,35 +63,3 @@ pub fn decode_whole<A: Allocator>(
     }
     to.push(MARK)
 }
-
-#[cfg(test)]
-mod tests {
-    use super::decode_whole;
-    use crate::texts::{CHARACTERS, FAULT_TEXTS, FAULTS};
-    use std::process::Abort;
-    use std::test::Fail;
-
-    fn is(
-        rt: &(impl Abort + AllocGlobal),
-        big: bool,
-        bytes: &[u8],
-        wanted: &[u8],
-    ) -> Result<(), Fail> {
-        let mut text = String::new(rt.alloc());
-        decode_whole(big, bytes, &mut text)?;
-        assert_eq!(rt; text.as_bytes(), wanted);
-        Ok(())
-    }
-
-    #[test]
-    fn known_bytes_have_their_texts(rt: HostRuntime) -> Result<(), Fail> {
-        for (_, little, big, utf8) in &CHARACTERS {
-            is(&rt, false, little, utf8)?;
-            is(&rt, true, big, utf8)?;
-        }
-        for ((big, bytes, ..), text) in FAULTS.iter().zip(&FAULT_TEXTS) {
-            is(&rt, *big, bytes, text.as_bytes())?;
-        }
-        Ok(())
-    }
-}

@@ -38,3 +38,6 @@ returns-clause-text g c =
     let same = ap (λ h. h ++ c.loop-pending.rest.now) (sym empty) in
     Decodes-last _ _ _ _ _ _ c.loop-pending.invariant.0
     (c.in_ok-decode.ensures.text ∙ ap (λ b. string_bytes c.loop-pending.to ++ shown (split_items g.E.Utf16Order.BIG b)) same)
+
+pub loop-pending-init : goal.loop-pending-init
+loop-pending-init g c = search rules

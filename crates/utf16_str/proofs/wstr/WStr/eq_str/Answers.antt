@@ -46,3 +46,6 @@ returns g c =
       λ yes. c.loop-c.invariant.same.1 (none ∙ ends.0 (test.0 yes)),
       λ same. test.1 (ends.1 (sym none ∙ c.loop-c.invariant.same.0 same)),
     )
+
+pub returns-then-ne : goal.returns-then-ne
+returns-then-ne g c = search rules

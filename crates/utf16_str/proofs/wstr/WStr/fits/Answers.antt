@@ -9,3 +9,6 @@ returns-in_default g c = (
   (λ never. search rules),
   λ both. absurd (c.in_default.ensures (omega (arith, IsBoundary-within (wstr_text c.args.self) _ both.1, length-text _ _ (IsText-from_is_text _ _ c.args.self.well_formed), c.len.ensures.size, c.ranges.self.0))),
 )
+
+pub returns-then-is_char_boundary : goal.returns-then-is_char_boundary
+returns-then-is_char_boundary g c = search rules

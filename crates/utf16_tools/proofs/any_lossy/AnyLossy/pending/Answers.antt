@@ -1,4 +1,4 @@
-use Rattle.std.proofs.Common.{sym, ap, ap₂, ◌∙◌}
+use Rattle.std.proofs.Common.{sym, ap, ap₂, ◌∙◌, rules}
 use Rattle.utf16_tools.specs.AnyLossy.{state_order}
 use Rattle.utf16_tools.specs.Mark.{tail_in}
 use Rattle.utf16_tools.proofs.MarkLemmas.{first_slice, first_tail}
@@ -8,3 +8,9 @@ pub returns-in-Undecided-clause-undecided : goal.returns-in-Undecided-clause-und
 returns-in-Undecided-clause-undecided c =
     let slice = first_slice c.in-Undecided.first _ c.as_slice.ensures in
     ap₂ tail_in (ap state_order c.in-Undecided.is) slice ∙ first_tail c.in-Undecided.first ∙ sym slice
+
+pub returns-in-Little-clause-bytes : goal.returns-in-Little-clause-bytes
+returns-in-Little-clause-bytes c = search rules
+
+pub returns-in-Little-clause-undecided : goal.returns-in-Little-clause-undecided
+returns-in-Little-clause-undecided c = search rules

@@ -5,3 +5,6 @@ use Rattle.utf16_tools.proofs.lossy.Lossy.new.Goals as goal
 pub invariant_of-result : goal.invariant_of-result
 unfolding split_tail
 invariant_of-result g c = record { undecided = ap (split_tail g.E.Utf16Order.BIG) c.new.ensures ∙ sym c.new.ensures }
+
+pub returns : goal.returns
+returns g c = cc
