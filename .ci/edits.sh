@@ -1,6 +1,6 @@
 #!/usr/bin/env bash
 # Tries the must-fail edits that the gate leaves out, the files *.edit.md, in a copy of the repository: those of the crates that are
-# named, or all. Each must be refused. With all it takes as long as the gate.
+# named, or all. Each must be refused. The crates below are proved first, so it takes long.
 set -euo pipefail
 top=$(cd "$(dirname "$0")/.." && pwd)
 room=$(mktemp -d)
