@@ -5,10 +5,6 @@
 
 mod answers;
 mod stream;
-#[cfg(test)]
-mod stream_tests;
-#[cfg(test)]
-mod tests;
 
 ghost use Rattle.std.specs.Prelude.{◌≡◌, ◌≢◌, ◌↔◌, ◌⊎◌, ◌<◌, ◌≤◌, ◌-◌, ◌*◌, ◌/◌, ◌%◌, [], ◌∷◌, All, IsTrue, count_by, drop, encode_utf8_all, length, take};
 ghost use Rattle.std.specs.Char.{encode_utf8};
