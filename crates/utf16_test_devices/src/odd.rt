@@ -1,11 +1,11 @@
 //! The filter over a reader or a writer that fails, is interrupted or moves nothing at one of its calls, at each in turn, and would
 //! go on afterwards. What is written is compared with a decoder of the tests.
 
-use crate::checks::equal;
+use crate::checks::{equal, holds};
 use std::process::Abort;
 use utf16_testing::plain::{decode, decode_whole};
 use utf16_testing::stepped::{Giver, Manner, Oddity, Taker};
-use utf16_testing::texts::FAULTS;
+use utf16_testing::texts::faults;
 use utf16_tools::{FilterFault, Watched, filter};
 use utf16string::{BE, LE};
 
@@ -110,8 +110,8 @@ fn write_failed(rt: &(impl Abort + AllocGlobal), stream: Stream, odd: Odd, ended
     equal(rt, taker.calls, odd.at);
     let early = decided(rt, stream.big, given(rt, stream, &giver, giver.last));
     let text = whole(rt, stream.big, given(rt, stream, &giver, 0));
-    assert!(rt; taker.taken.starts_with(early.as_bytes()));
-    assert!(rt; text.as_bytes().starts_with(&taker.taken));
+    holds(rt, taker.taken.starts_with(early.as_bytes()));
+    holds(rt, text.as_bytes().starts_with(&taker.taken));
     equal(rt, taker.taken.len() == text.len(), taker.flushes == 1);
 }
 
@@ -122,7 +122,7 @@ fn odd_read(rt: &(impl Abort + AllocGlobal), stream: Stream, odd: Odd) -> bool {
     if is_met && !matches!(odd.oddity, Oddity::MovesNothing) {
         read_failed(rt, stream, odd, ended);
     } else {
-        assert!(rt; is_met || ended.1.left.is_empty());
+        holds(rt, is_met || ended.1.left.is_empty());
         is_done(rt, stream, ended);
     }
     is_met
@@ -136,7 +136,7 @@ fn odd_write(rt: &(impl Abort + AllocGlobal), stream: Stream, odd: Odd) -> bool 
     if is_met && !is_as_ever {
         write_failed(rt, stream, odd, ended);
     } else {
-        assert!(rt; ended.1.left.is_empty());
+        holds(rt, ended.1.left.is_empty());
         is_done(rt, stream, ended);
     }
     is_met
@@ -183,7 +183,7 @@ fn in_all_sizes(rt: &(impl Abort + AllocGlobal), big: bool, bytes: &[u8]) {
 
 #[test]
 fn each_call_of_each_device_over_each_known_fault(rt: HostRuntime) {
-    for (big, bytes, ..) in &FAULTS {
+    for (big, bytes, ..) in &faults() {
         in_all_sizes(&rt, *big, bytes);
     }
     in_all_sizes(

@@ -3,6 +3,7 @@
 ghost use Rattle.std.specs.Prelude.{◌≡◌, ◌≤◌, IfOk};
 ghost use Rattle.utf16_tools.specs.Watched.{watched_faults};
 
+use crate::checks::{equal, holds};
 use std::io::{self, Error, ErrorKind, Read, Write};
 use std::process::Abort;
 use utf16_tools::{DeviceFault, Watched};
@@ -66,10 +67,10 @@ fn ends<X: PartialEq + Drop>(
     wanted: Option<X>,
     device: &Watched<Device>,
 ) {
-    assert!(rt; found.is_ok() == wanted.is_some());
-    assert_eq!(rt; device.faults(), found.is_err() as u64);
-    assert_eq!(rt; device.inner().calls, 1);
-    assert!(rt; found.ok() == wanted);
+    holds(rt, found.is_ok() == wanted.is_some());
+    equal(rt, device.faults(), found.is_err() as u64);
+    equal(rt, device.inner().calls, 1);
+    holds(rt, found.ok() == wanted);
 }
 
 fn reads(rt: &impl Abort, answer: Answer, wanted: Option<usize>) {
@@ -77,7 +78,7 @@ fn reads(rt: &impl Abort, answer: Answer, wanted: Option<usize>) {
     let mut buf = [0; 4];
     let found = device.read(&mut buf);
     ends(rt, found, wanted, &device);
-    assert_eq!(rt; buf, *b"rrrr");
+    equal(rt, buf, *b"rrrr");
 }
 
 fn writes(rt: &impl Abort, answer: Answer, offer: &[u8], wanted: Option<usize>) {
@@ -121,8 +122,8 @@ fn a_flush_is_one_flush(rt: HostRuntime) {
 #[test]
 fn faults_add_up_and_the_device_is_given_back(rt: HostRuntime) {
     let mut device = watched(Answer::Fails);
-    assert!(rt; device.write(b"a").is_err());
-    assert!(rt; device.flush().is_err());
-    assert_eq!(rt; device.faults(), 2);
-    assert_eq!(rt; device.into_inner().calls, 2);
+    holds(&rt, device.write(b"a").is_err());
+    holds(&rt, device.flush().is_err());
+    equal(&rt, device.faults(), 2);
+    equal(&rt, device.into_inner().calls, 2);
 }

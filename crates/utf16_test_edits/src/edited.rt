@@ -1,6 +1,6 @@
 //! Owned strings grown, edited and cut, with the Rust crate's names of tests.
 
-use crate::checks::{encoded, equal, string, utf8_is};
+use crate::checks::{encoded, equal, holds, string, utf8_is};
 use std::process::Abort;
 use utf16_callers::edits::{inserted, overwritten, removed, split, truncated};
 use utf16_testing::texts::{APHI, APZ_BE, HELLO};
@@ -11,7 +11,7 @@ fn bytes_are<E: Utf16Order>(rt: &impl Abort, text: &WString<E>, wanted: &[u8]) {
     equal(rt, text.as_bytes(), wanted);
     equal(rt, text.len(), wanted.len());
     equal(rt, text.is_empty(), wanted.is_empty());
-    assert!(rt; wanted.len() <= text.capacity());
+    holds(rt, wanted.len() <= text.capacity());
 }
 
 // A character put in, where that is a boundary: whether it is.
@@ -32,7 +32,7 @@ fn split_at<E: Utf16Order>(rt: &impl Abort, text: &mut WString<E>, at: usize) ->
 fn test_deref_mut(rt: HostRuntime) {
     let mut text = string::<LE>(&rt, &HELLO);
     let world = encoded(&rt, "world");
-    assert!(rt; overwritten(&mut text, 0, world.as_wstr()));
+    holds(&rt, overwritten(&mut text, 0, world.as_wstr()));
     utf8_is(&rt, text.as_wstr(), "world");
 }
 
@@ -63,17 +63,16 @@ fn test_push(rt: HostRuntime) {
 #[test]
 fn test_truncate(rt: HostRuntime) {
     let mut text = string::<LE>(&rt, &HELLO);
-    assert!(rt; truncated(&mut text, 20));
-    bytes_are(&rt, &text, &HELLO);
-    assert!(rt; truncated(&mut text, 4));
-    bytes_are(&rt, &text, &[0x68, 0, 0x65, 0]);
+    for (len, left) in [(20, 10), (4, 4)] {
+        holds(&rt, truncated(&mut text, len));
+        bytes_are(&rt, &text, &HELLO[..left]);
+    }
 }
 
 #[test]
 fn test_truncate_no_char_boundary(rt: HostRuntime) {
     let mut text = string::<LE>(&rt, &HELLO);
-    assert!(rt; !text.is_char_boundary(1));
-    assert!(rt; !truncated(&mut text, 1));
+    holds(&rt, !text.is_char_boundary(1) && !truncated(&mut text, 1));
     bytes_are(&rt, &text, &HELLO);
 }
 
@@ -95,14 +94,14 @@ fn test_remove(rt: HostRuntime) {
         equal(&rt, removed(&mut text, idx), c);
     }
     bytes_are(&rt, &text, &[0x61, 0, 0x69, 0]);
-    assert!(rt; truncated(&mut text, 21));
+    holds(&rt, truncated(&mut text, 21));
     bytes_are(&rt, &text, &[0x61, 0, 0x69, 0]);
 }
 
 #[test]
 fn cut_from_the_back_in_big_endian(rt: HostRuntime) {
     let mut text = string::<BE>(&rt, &APZ_BE);
-    assert!(rt; truncated(&mut text, 9));
+    holds(&rt, truncated(&mut text, 9));
     bytes_are(&rt, &text, &APZ_BE);
     equal(&rt, text.pop(), Some('z'));
     equal(&rt, removed(&mut text, 2), Some('\u{10000}'));
@@ -112,15 +111,13 @@ fn cut_from_the_back_in_big_endian(rt: HostRuntime) {
 #[test]
 fn test_insert(rt: HostRuntime) {
     let mut text = encoded::<LE>(&rt, "hllo");
-    assert!(rt; typed(&rt, &mut text, 2, 'e'));
+    holds(&rt, typed(&rt, &mut text, 2, 'e'));
     bytes_are(&rt, &text, &HELLO);
     let mut text = string::<BE>(&rt, &APZ_BE[..6]);
-    assert!(rt; typed(&rt, &mut text, 6, 'z'));
+    holds(&rt, typed(&rt, &mut text, 6, 'z'));
     bytes_are(&rt, &text, &APZ_BE);
-    assert!(rt; typed(&rt, &mut text, 0, '\u{10FFFF}'));
-    let raw = [
-        0xDB, 0xFF, 0xDF, 0xFF, 0, 0x61, 0xD8, 0x00, 0xDC, 0x00, 0, 0x7A,
-    ];
+    holds(&rt, typed(&rt, &mut text, 0, '\u{10FFFF}'));
+    let raw = [0xDB, 0xFF, 0xDF, 0xFF, 0, 0x61, 0xD8, 0, 0xDC, 0, 0, 0x7A];
     bytes_are(&rt, &text, &raw);
 }
 
@@ -145,9 +142,8 @@ fn test_split_off(rt: HostRuntime) {
 #[test]
 fn test_split_off_bad_index(rt: HostRuntime) {
     let mut text = encoded::<LE>(&rt, "hi");
-    assert!(rt; !text.is_char_boundary(1));
     let back = split(&mut text, 1).expect(&rt, "memory");
-    assert!(rt; back.is_none());
+    holds(&rt, back.is_none() && !text.is_char_boundary(1));
     equal(&rt, text.len(), 4);
 }
 
@@ -165,8 +161,7 @@ fn split_and_pushed_again(rt: HostRuntime) {
 fn test_clear(rt: HostRuntime) {
     let mut text = string::<LE>(&rt, &HELLO);
     let capacity = text.capacity();
-    assert!(rt; truncated(&mut text, 4));
-    equal(&rt, text.capacity(), capacity);
+    holds(&rt, truncated(&mut text, 4) && text.capacity() == capacity);
     text.clear();
     equal(&rt, text.capacity(), capacity);
     bytes_are(&rt, &text, &[]);

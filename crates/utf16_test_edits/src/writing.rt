@@ -1,6 +1,6 @@
 //! Texts written over a part of a string, owned or in the caller's bytes.
 
-use crate::checks::{bytes, encoded, equal, string, utf8_is};
+use crate::checks::{bytes, encoded, equal, holds, string, utf8_is};
 use std::process::Abort;
 use utf16_callers::edits::{overwritten, overwritten_and_returned, overwritten_in_place};
 use utf16_testing::texts::{APB_BE, HELLO, HELLO_BE};
@@ -24,7 +24,7 @@ fn write_over<E: Utf16Order>(
     wanted: &[u8],
 ) {
     let mut view = WStrMut::<E>::from_utf16(buf).expect(rt, "text");
-    assert!(rt; put_over(&mut view, idx, part));
+    holds(rt, put_over(&mut view, idx, part));
     equal(rt, view.as_wstr().as_bytes(), wanted);
     drop(view);
     equal(rt, &*buf, wanted);
@@ -37,8 +37,7 @@ fn write_in_place<E: Utf16Order>(
     part: WStr<E>,
     wanted: &[u8],
 ) {
-    let is_written = overwritten_in_place(buf, idx, part).expect(rt, "text");
-    assert!(rt; is_written);
+    holds(rt, overwritten_in_place(buf, idx, part).expect(rt, "text"));
     equal(rt, &*buf, wanted);
 }
 
@@ -62,7 +61,7 @@ fn write_over_owned<E: Utf16Order>(
     wanted: &[u8],
 ) {
     let capacity = text.capacity();
-    assert!(rt; overwritten(text, idx, part));
+    holds(rt, overwritten(text, idx, part));
     equal(rt, text.as_bytes(), wanted);
     equal(rt, text.capacity(), capacity);
 }
@@ -94,8 +93,7 @@ fn a_part_of_the_same_size_is_written_over(rt: HostRuntime) {
 // "hello" with a text written over its front.
 fn front_is(rt: &(impl Abort + AllocGlobal), part: &str, raw: &[u8], utf8: &str) {
     let mut buf = bytes(rt, &HELLO);
-    let part = encoded::<LE>(rt, part);
-    write_over(rt, &mut buf, 0, part.as_wstr(), raw);
+    write_over(rt, &mut buf, 0, encoded::<LE>(rt, part).as_wstr(), raw);
     utf8_is(rt, WStr::from_utf16le(&buf).expect(rt, "text"), utf8);
 }
 
@@ -161,16 +159,11 @@ fn bytes_that_are_no_text_are_left(rt: HostRuntime) {
     refused_is::<LE>(&rt, &[0x68, 0, 0x00, 0xD8], 2, None);
     refused_is::<BE>(&rt, &[0, 0x61, 0xDC], 2, None);
     let mut buf = [0x00, 0xDC];
-    assert!(rt; WStrMut::from_utf16le(&mut buf).is_err());
+    holds(&rt, WStrMut::from_utf16le(&mut buf).is_err());
     equal(&rt, buf, [0x00, 0xDC]);
     let mut buf = [0xDC, 0x00];
-    assert!(rt; WStrMut::from_utf16be(&mut buf).is_err());
+    holds(&rt, WStrMut::from_utf16be(&mut buf).is_err());
     equal(&rt, buf, [0xDC, 0x00]);
-}
-
-// A view of the caller's bytes has just these.
-fn shows<E: Utf16Order>(rt: &impl Abort, view: &WStrMut<E>, wanted: &[u8]) {
-    equal(rt, view.as_wstr().as_bytes(), wanted);
 }
 
 // The constructors for one order, and the unchecked ones after a view took the bytes, as it must.
@@ -178,25 +171,28 @@ fn shows<E: Utf16Order>(rt: &impl Abort, view: &WStrMut<E>, wanted: &[u8]) {
 fn the_constructors_of_one_order_and_the_unchecked_ones(rt: HostRuntime) {
     let (mut little, mut big) = ([0x68, 0], [0, 0x68]);
     let view = WStrMut::from_utf16le(&mut little).expect(&rt, "text");
-    shows(&rt, &view, &[0x68, 0]);
+    equal(&rt, view.as_wstr().as_bytes(), [0x68, 0].as_slice());
     let view = WStrMut::from_utf16be(&mut big).expect(&rt, "text");
-    shows(&rt, &view, &[0, 0x68]);
+    equal(&rt, view.as_wstr().as_bytes(), [0, 0x68].as_slice());
     unchecked_le_is(&rt, &mut little, &[0x68, 0]);
     unchecked_is::<LE>(&rt, &mut little, &[0x68, 0]);
     unchecked_be_is(&rt, &mut big, &[0, 0x68]);
 }
 
 fn unchecked_le_is(rt: &impl Abort, raw: &mut [u8], wanted: &[u8]) {
-    assert!(rt; WStr::from_utf16le(raw).is_ok());
-    shows(rt, &WStrMut::from_utf16le_unchecked(raw), wanted);
+    holds(rt, WStr::from_utf16le(raw).is_ok());
+    let view = WStrMut::from_utf16le_unchecked(raw);
+    equal(rt, view.as_wstr().as_bytes(), wanted);
 }
 
 fn unchecked_is<E: Utf16Order>(rt: &impl Abort, raw: &mut [u8], wanted: &[u8]) {
-    assert!(rt; WStr::<E>::from_utf16(raw).is_ok());
-    shows(rt, &WStrMut::<E>::from_utf16_unchecked(raw), wanted);
+    holds(rt, WStr::<E>::from_utf16(raw).is_ok());
+    let view = WStrMut::<E>::from_utf16_unchecked(raw);
+    equal(rt, view.as_wstr().as_bytes(), wanted);
 }
 
 fn unchecked_be_is(rt: &impl Abort, raw: &mut [u8], wanted: &[u8]) {
-    assert!(rt; WStr::from_utf16be(raw).is_ok());
-    shows(rt, &WStrMut::from_utf16be_unchecked(raw), wanted);
+    holds(rt, WStr::from_utf16be(raw).is_ok());
+    let view = WStrMut::from_utf16be_unchecked(raw);
+    equal(rt, view.as_wstr().as_bytes(), wanted);
 }

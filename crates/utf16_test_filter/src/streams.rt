@@ -6,7 +6,7 @@ use std::alloc::Global;
 use std::process::Abort;
 use utf16_testing::devices::{Broken, Sink, Source};
 use utf16_testing::refusing::Refusing;
-use utf16_testing::texts::{FAULT_TEXTS, FAULTS, MIXED, MIXED_UTF8};
+use utf16_testing::texts::{MIXED, MIXED_UTF8, faults};
 use utf16string::LE;
 
 const HELLO: &[u8] = &[0x68, 0xEF, 0xBF, 0xBD, 0x65, 0x6C, 0x6C, 0x6F];
@@ -113,7 +113,7 @@ fn byte_by_byte(
 
 #[test]
 fn each_known_fault(rt: HostRuntime) {
-    for ((big, bytes, ..), written) in FAULTS.iter().zip(&FAULT_TEXTS) {
+    for (big, bytes, .., written) in &faults() {
         byte_by_byte(&rt, *big, bytes, 1, written);
         byte_by_byte(&rt, *big, bytes, usize::MAX, written);
     }

@@ -5,7 +5,7 @@ use std::alloc::{AllocError, Global};
 use std::process::Abort;
 use utf16_callers_streams::headline::{fed, resume, resumed};
 use utf16_testing::refusing::Refusing;
-use utf16_testing::texts::{FAULT_TEXTS, FAULTS};
+use utf16_testing::texts::faults;
 use utf16_tools::Lossy;
 use utf16string::{BE, LE, Utf16Order};
 
@@ -105,7 +105,7 @@ fn known_streams_and_what_is_kept(rt: HostRuntime) {
 
 #[test]
 fn each_known_fault_by_both(rt: HostRuntime) {
-    for (big, bytes, ..) in &FAULTS {
+    for (big, bytes, ..) in &faults() {
         if *big {
             agree::<BE>(&rt, bytes);
         } else {
@@ -116,7 +116,7 @@ fn each_known_fault_by_both(rt: HostRuntime) {
 
 #[test]
 fn each_known_fault_resumed_over_every_cutting(rt: HostRuntime) {
-    for ((big, bytes, ..), wanted) in FAULTS.iter().zip(&FAULT_TEXTS) {
+    for (big, bytes, .., wanted) in &faults() {
         if *big {
             every_cutting_is::<BE>(&rt, bytes, wanted);
         } else {

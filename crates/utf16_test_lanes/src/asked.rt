@@ -1,5 +1,6 @@
 //! Texts of more than a block, counted and asked whether they are ASCII.
 
+use crate::checks::{equal, holds};
 use std::process::Abort;
 use utf16string::{BE, LE, Utf16Order, WStr, WString};
 
@@ -23,19 +24,21 @@ fn around<E: Utf16Order>(
 
 // The count of what is left, from the front and from the back, and whether all is ASCII.
 fn asked<E: Utf16Order>(rt: &impl Abort, text: WStr<E>, count: usize, ascii: bool) {
-    assert_eq!(rt; text.chars().count(), count);
-    assert_eq!(rt; text.char_indices().count(), count);
+    equal(rt, text.chars().count(), count);
+    equal(rt, text.char_indices().count(), count);
     let mut rest = text.chars();
     rest.next_back();
-    assert_eq!(rt; rest.count(), count.saturating_sub(1));
+    equal(rt, rest.count(), count.saturating_sub(1));
     let mut rest = text.char_indices();
     rest.next();
-    assert_eq!(rt; rest.count(), count.saturating_sub(1));
-    assert_eq!(rt; text.is_ascii(), ascii, "{count}");
+    equal(rt, rest.count(), count.saturating_sub(1));
+    equal(rt, text.is_ascii(), ascii);
 }
 
 // How many letters stand before a character, which, and how many behind it; whether all is ASCII.
-const ROWS: [(usize, char, usize, bool); 16] = [
+type Row = (usize, char, usize, bool);
+
+const ROWS: [Row; 16] = [
     (17, '\u{10000}', 0, false),
     (31, '\u{100}', 0, false),
     (33, '\u{7F}', 6, true),
@@ -54,10 +57,15 @@ const ROWS: [(usize, char, usize, bool); 16] = [
     (62, '\u{6161}', 2, false),
 ];
 
+// The table, of which its callers see no row.
+fn rows() -> [Row; 16] {
+    ROWS
+}
+
 fn rows_are<E: Utf16Order>(rt: &(impl Abort + AllocGlobal)) {
-    for (before, c, after, ascii) in ROWS {
+    for (before, c, after, ascii) in rows() {
         let text = around::<E>(rt, before, c, after);
-        assert!(rt; before < 100 && after < 100);
+        holds(rt, before < 100 && after < 100);
         asked(rt, text.as_wstr(), before + 1 + after, ascii);
     }
 }
@@ -71,6 +79,6 @@ fn rows_in_both_orders(rt: HostRuntime) {
 #[test]
 fn nothing_is_counted_and_is_ascii(rt: HostRuntime) {
     let text = WString::<LE>::new(rt.alloc());
-    assert_eq!(&rt; text.chars().count(), 0);
-    assert!(&rt; text.is_ascii());
+    equal(&rt, text.chars().count(), 0);
+    holds(&rt, text.is_ascii());
 }

@@ -1,5 +1,6 @@
 //! Bytes of more than a block made well formed: U+FFFD in place of each surrogate without its partner.
 
+use crate::checks::{ROOM, equal, holds, letters};
 use std::process::Abort;
 use utf16_forms::write_well_formed;
 use utf16string::{BE, LE, Utf16Order};
@@ -16,18 +17,11 @@ const CASES: [([u16; 2], [u16; 2]); 8] = [
     ([0xD7FF, 0xE000], [0xD7FF, 0xE000]),
 ];
 
-// Room for the longest text.
-const ROOM: usize = 160;
-
 // A buffer of the letter "a", with two units at a place.
 fn letters_and<E: Utf16Order>(rt: &impl Abort, place: usize, units: [u16; 2]) -> [u8; ROOM] {
-    let letter = E::write_unit(0x61);
     let (first, second) = (E::write_unit(units[0]), E::write_unit(units[1]));
-    let mut buf = [0; ROOM];
-    for i in 0..ROOM {
-        buf[i] = letter[i % 2];
-    }
-    assert!(rt; place < 70);
+    let mut buf = letters::<E>();
+    holds(rt, place < 70);
     buf[2 * place..2 * place + 2].copy_from_slice(&first);
     buf[2 * place + 2..2 * place + 4].copy_from_slice(&second);
     buf
@@ -35,15 +29,12 @@ fn letters_and<E: Utf16Order>(rt: &impl Abort, place: usize, units: [u16; 2]) ->
 
 // Of the first bytes of a text these are written, and what stands behind them in the buffer stays.
 fn is_written<E: Utf16Order>(rt: &impl Abort, raw: &[u8], wanted: &[u8]) {
-    assert!(rt; raw.len() <= ROOM && wanted.len() <= ROOM);
+    holds(rt, raw.len() <= ROOM && wanted.len() <= ROOM);
     let mut to = [0xEE; ROOM];
     let len = write_well_formed::<E>(raw, &mut to);
-    assert_eq!(rt; len, wanted.len(), "{raw:?}");
-    assert!(rt; to[..wanted.len()] == wanted[..], "{raw:?}");
-    assert!(rt;
-        to[wanted.len()..].iter().all(|byte| *byte == 0xEE),
-        "{raw:?}"
-    );
+    equal(rt, len, wanted.len());
+    holds(rt, to[..wanted.len()] == wanted[..]);
+    holds(rt, to[wanted.len()..].iter().all(|byte| *byte == 0xEE));
 }
 
 fn case_is<E: Utf16Order>(rt: &impl Abort, place: usize, case: usize) {
@@ -51,7 +42,7 @@ fn case_is<E: Utf16Order>(rt: &impl Abort, place: usize, case: usize) {
     let raw = letters_and::<E>(rt, place, units);
     let wanted = letters_and::<E>(rt, place, written);
     for end in 0..5usize {
-        assert!(rt; place < 70);
+        holds(rt, place < 70);
         let len = 2 * (place + 3 + end);
         is_written::<E>(rt, &raw[..len], &wanted[..len]);
         is_written::<E>(rt, &raw[..len + 1], &wanted[..len]);
@@ -69,7 +60,9 @@ fn units_around_each_seam(rt: HostRuntime) {
 }
 
 // The order, bytes, and what is written of them.
-const ENDS: [(bool, &[u8], &[u8]); 14] = [
+type End = (bool, &'static [u8], &'static [u8]);
+
+const ENDS: [End; 14] = [
     (false, &[], &[]),
     (false, &[0x41], &[]),
     (false, &[0x00, 0xD8], &[]),
@@ -86,15 +79,19 @@ const ENDS: [(bool, &[u8], &[u8]); 14] = [
     (true, &[0x00, 0xD8, 0x00, 0xDC], &[0x00, 0xD8, 0x00, 0xDC]),
 ];
 
-#[test]
-fn ends_in_both_orders(rt: HostRuntime) {
-    for (big, raw, wanted) in ENDS {
-        if big {
-            is_written::<BE>(&rt, raw, wanted);
+fn ends_are(rt: &impl Abort, ends: &[End]) {
+    for (big, raw, wanted) in ends {
+        if *big {
+            is_written::<BE>(rt, raw, wanted);
         } else {
-            is_written::<LE>(&rt, raw, wanted);
+            is_written::<LE>(rt, raw, wanted);
         }
     }
+}
+
+#[test]
+fn ends_in_both_orders(rt: HostRuntime) {
+    ends_are(&rt, &ENDS);
 }
 
 // One letter, then pairs up to the end: each block ends on a leading unit, and of the last pair one unit may be left.
@@ -105,7 +102,7 @@ fn pairs_are<E: Utf16Order>(rt: &impl Abort, len: usize, written: usize) {
         let pair = [first[0], first[1], second[0], second[1]];
         buf[i] = pair[(i - 2) % 4];
     }
-    assert!(rt; len <= ROOM && written <= len);
+    holds(rt, len <= ROOM && written <= len);
     is_written::<E>(rt, &buf[..len], &buf[..written]);
 }
 

@@ -2,12 +2,14 @@
 
 use crate::checks::equal;
 use std::process::Abort;
-use utf16_testing::texts::{FAULT_TEXTS, FAULTS};
+use utf16_testing::texts::faults;
 use utf16_tools::{Lossy, decode_pieces};
 use utf16string::{BE, LE, Utf16Order};
 
 // Further streams: whether the order is big endian, the bytes, and the text.
-const STREAMS: [(bool, &[u8], &str); 14] = [
+type Stream = (bool, &'static [u8], &'static str);
+
+const STREAMS: [Stream; 14] = [
     (false, &[], ""),
     (true, &[], ""),
     (
@@ -59,6 +61,11 @@ const STREAMS: [(bool, &[u8], &str); 14] = [
     ),
     (false, &[0xFF, 0xFE, 0x41, 0x00, 0x00], "\u{FEFF}A\u{FFFD}"),
 ];
+
+// The table, of which its callers see no row.
+fn streams() -> [Stream; 14] {
+    STREAMS
+}
 
 // The bytes, cut behind each of them whose bit is set, the first byte's being the lowest; before them and between two pieces an
 // empty one stands where it is wanted.
@@ -127,14 +134,14 @@ fn stream_is(rt: &(impl Abort + AllocGlobal), big: bool, bytes: &[u8], wanted: &
 
 #[test]
 fn each_known_fault_cut_anywhere(rt: HostRuntime) {
-    for ((big, bytes, ..), wanted) in FAULTS.iter().zip(&FAULT_TEXTS) {
+    for (big, bytes, .., wanted) in &faults() {
         stream_is(&rt, *big, bytes, wanted);
     }
 }
 
 #[test]
 fn further_streams_cut_anywhere(rt: HostRuntime) {
-    for (big, bytes, wanted) in &STREAMS {
+    for (big, bytes, wanted) in &streams() {
         stream_is(&rt, *big, bytes, wanted);
     }
 }

@@ -8,7 +8,15 @@ use utf16_tools::{Lossy, decode_pieces};
 use utf16string::{BE, LE, Utf16Order};
 
 // Whether the order is big endian, what is pending, the piece, the text, and what is pending then.
-const STEPS: [(bool, &[u8], &[u8], &str, &[u8]); 22] = [
+type Step = (
+    bool,
+    &'static [u8],
+    &'static [u8],
+    &'static str,
+    &'static [u8],
+);
+
+const STEPS: [Step; 22] = [
     (
         false,
         &[0x00, 0xD8, 0x00],
@@ -87,6 +95,11 @@ const STEPS: [(bool, &[u8], &[u8], &str, &[u8]); 22] = [
     ),
 ];
 
+// The table, of which its callers see no row.
+fn all_steps() -> [Step; 22] {
+    STEPS
+}
+
 // The answer is this text, and these bytes are pending then.
 fn answers<E: Utf16Order, A: Allocator>(
     rt: &impl Abort,
@@ -138,7 +151,7 @@ fn steps<E: Utf16Order>(
 
 #[test]
 fn steps_of_a_stream(rt: HostRuntime) {
-    for (big, pending, piece, wanted, left) in &STEPS {
+    for (big, pending, piece, wanted, left) in &all_steps() {
         if *big {
             steps::<BE>(&rt, pending, piece, wanted, left);
         } else {

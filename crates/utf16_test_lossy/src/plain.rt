@@ -3,7 +3,7 @@
 use std::process::Abort;
 use std::test::Fail;
 use utf16_testing::plain::decode_whole;
-use utf16_testing::texts::{CHARACTERS, FAULT_TEXTS, FAULTS};
+use utf16_testing::texts::{characters, faults};
 
 fn is(rt: &(impl Abort + AllocGlobal), big: bool, bytes: &[u8], wanted: &[u8]) -> Result<(), Fail> {
     let mut text = String::new(rt.alloc());
@@ -14,11 +14,11 @@ fn is(rt: &(impl Abort + AllocGlobal), big: bool, bytes: &[u8], wanted: &[u8]) -
 
 #[test]
 fn known_bytes_have_their_texts(rt: HostRuntime) -> Result<(), Fail> {
-    for (_, little, big, utf8) in &CHARACTERS {
+    for (_, little, big, utf8) in &characters() {
         is(&rt, false, little, utf8)?;
         is(&rt, true, big, utf8)?;
     }
-    for ((big, bytes, ..), text) in FAULTS.iter().zip(&FAULT_TEXTS) {
+    for (big, bytes, .., text) in &faults() {
         is(&rt, *big, bytes, text.as_bytes())?;
     }
     Ok(())

@@ -1,7 +1,7 @@
 //! Pieces fed one by one: what each answers and leaves, also where memory is refused.
 
 use crate::checks::equal;
-use crate::streams::STREAMS;
+use crate::streams::streams;
 use std::alloc::{AllocError, Allocator, Global};
 use std::process::Abort;
 use utf16_testing::refusing::Refusing;
@@ -38,7 +38,7 @@ fn fed(rt: &(impl Abort + AllocGlobal), bytes: &[u8], len: usize) -> String {
 
 #[test]
 fn streams_in_pieces(rt: HostRuntime) {
-    for (bytes, wanted) in &STREAMS {
+    for (bytes, wanted) in &streams() {
         for len in 1..9 {
             equal(&rt, fed(&rt, bytes, len).as_str(), wanted);
         }

@@ -1,7 +1,7 @@
 //! Streams filtered in the order that their mark tells, to their end or until a fault stops them.
 
 use crate::checks::equal;
-use crate::streams::STREAMS;
+use crate::streams::streams;
 use std::alloc::{Allocator, Global};
 use std::process::Abort;
 use utf16_testing::devices::Broken::{Flush, Nowhere, Write};
@@ -50,7 +50,7 @@ fn written(rt: &(impl Abort + AllocGlobal), bytes: &[u8], most: usize, wanted: &
 
 #[test]
 fn streams_by_reads_of_each_length(rt: HostRuntime) {
-    for (bytes, wanted) in &STREAMS {
+    for (bytes, wanted) in &streams() {
         for most in [1, 2, 3, 8] {
             written(&rt, bytes, most, wanted);
         }

@@ -1,7 +1,9 @@
 //! Known streams, with a mark and without.
 
 /// Bytes, and the text of the stream.
-pub const STREAMS: [(&[u8], &str); 24] = [
+pub type Stream = (&'static [u8], &'static str);
+
+const STREAMS: [Stream; 24] = [
     (&[0xFE, 0xFF, 0x00, 0x41], "A"),
     (&[0xFF, 0xFE, 0x41, 0x00], "A"),
     (&[0x00, 0x41], "A"),
@@ -36,3 +38,8 @@ pub const STREAMS: [(&[u8], &str); 24] = [
     ),
     (&[0xD8, 0x3D, 0xDE, 0x00, 0xD8], "\u{1F600}\u{FFFD}"),
 ];
+
+/// Known streams.
+pub fn streams() -> [Stream; 24] {
+    STREAMS
+}

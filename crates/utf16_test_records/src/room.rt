@@ -1,7 +1,7 @@
 //! Strings and views where all requests are refused, or sizes are asked for that no vector can have: the refusal, and text, bytes
 //! and capacity as they were. Then the same call with memory.
 
-use crate::checks::equal;
+use crate::checks::{equal, holds};
 use std::alloc::{AllocError, Global};
 use std::process::Abort;
 use utf16_testing::refusing::Refusing;
@@ -60,13 +60,13 @@ fn make<'a, E: Utf16Order>(
         Call::Reserve(count) => text.reserve(count),
         Call::Shrink => text.shrink_to_fit(),
         Call::ToUtf8 => {
-            assert!(rt; text.to_utf8(heap)?.as_str() == "ho");
+            holds(rt, text.to_utf8(heap)?.as_str() == "ho");
             Ok(())
         }
         Call::PushUtf8 => {
             let mut all = String::new(heap);
             let answer = text.as_wstr().push_utf8(&mut all);
-            assert!(rt; all.as_str() == if answer.is_ok() { "ho" } else { "" });
+            holds(rt, all.as_str() == if answer.is_ok() { "ho" } else { "" });
             answer
         }
     }
@@ -95,11 +95,11 @@ fn refused_then_done<E: Utf16Order>(rt: &(impl Abort + AllocGlobal), call: Call,
     let mut text = ho::<E>(rt, &heap);
     let room = text.capacity();
     heap.refuse_from(0);
-    assert!(rt; make(rt, &heap, &mut text, call).is_err());
+    holds(rt, make(rt, &heap, &mut text, call).is_err());
     are::<E>(rt, text.as_bytes(), "ho");
     equal(rt, (text.capacity(), heap.refusals() == 0), (room, false));
     heap.refuse_none();
-    assert!(rt; make(rt, &heap, &mut text, call).is_ok());
+    holds(rt, make(rt, &heap, &mut text, call).is_ok());
     are::<E>(rt, text.as_bytes(), wanted);
     drop(text);
     equal(rt, heap.live_blocks(), 0);
@@ -117,8 +117,8 @@ fn calls_of_a_string(rt: HostRuntime) {
 fn made<E: Utf16Order>(rt: &(impl Abort + AllocGlobal)) {
     let heap = Refusing::<Global>::new(rt.alloc());
     heap.refuse_from(0);
-    assert!(rt; WString::<E, Heap>::with_capacity(&heap, 2).is_err());
-    assert!(rt; WString::<E, Heap>::from_str(&heap, "h").is_err());
+    holds(rt, WString::<E, Heap>::with_capacity(&heap, 2).is_err());
+    holds(rt, WString::<E, Heap>::from_str(&heap, "h").is_err());
     equal(rt, heap.refusals(), 2);
     heap.refuse_none();
     let text = WString::<E, Heap>::from_str(&heap, "h").expect(rt, "memory");
@@ -129,11 +129,11 @@ fn made<E: Utf16Order>(rt: &(impl Abort + AllocGlobal)) {
 
 fn sizes<E: Utf16Order>(rt: &(impl Abort + AllocGlobal)) {
     for size in [usize::MAX, usize::MAX - 1, usize::MAX / 2 + 1] {
-        assert!(rt; WString::<E>::with_capacity(rt.alloc(), size).is_err());
+        holds(rt, WString::<E>::with_capacity(rt.alloc(), size).is_err());
         for start in ["", "ho"] {
             let mut text = of::<E>(rt, start);
             let room = text.capacity();
-            assert!(rt; text.reserve(size).is_err());
+            holds(rt, text.reserve(size).is_err());
             are::<E>(rt, text.as_bytes(), start);
             equal(rt, text.capacity(), room);
         }
@@ -146,9 +146,9 @@ fn reserved<E: Utf16Order>(rt: &(impl Abort + AllocGlobal)) {
     let mut text = WString::<E, Heap>::new(&heap);
     text.reserve(8).expect(rt, "memory");
     heap.refuse_from(0);
-    assert!(rt; text.push('a').is_ok());
-    assert!(rt; text.push('\u{10000}').is_ok());
-    assert!(rt; make(rt, &heap, &mut text, Call::Insert(0, 'b')).is_ok());
+    holds(rt, text.push('a').is_ok());
+    holds(rt, text.push('\u{10000}').is_ok());
+    holds(rt, make(rt, &heap, &mut text, Call::Insert(0, 'b')).is_ok());
     are::<E>(rt, text.as_bytes(), "ba\u{10000}");
     equal(rt, heap.requests(), 0);
 }

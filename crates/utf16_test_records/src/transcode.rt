@@ -1,9 +1,9 @@
 //! Texts from one encoding to another.
 
-use crate::checks::equal;
+use crate::checks::{equal, holds};
 use std::process::Abort;
 use utf16_testing::refusing::Refusing;
-use utf16_testing::texts::{FAULT_TEXTS, FAULTS, MIXED, MIXED_BE};
+use utf16_testing::texts::{MIXED, MIXED_BE, faults};
 use utf16_users::transcode::{
     Order, TranscodeError, back_and_there, reordered, there_and_back, utf8_in, utf8_marked,
     utf8_marked_in, utf8_of, utf8_of_pieces, utf16_in, utf16_of,
@@ -14,11 +14,11 @@ use utf16string::{BE, LE, Utf16Order};
 const TEXT: &str = "a\u{4E00}\u{10000}";
 
 fn is_text(rt: &impl Abort, found: &str) {
-    assert!(rt; found == TEXT);
+    holds(rt, found == TEXT);
 }
 
 fn are(rt: &impl Abort, found: &[u8], wanted: &[u8]) {
-    assert!(rt; found == wanted);
+    holds(rt, found == wanted);
 }
 
 // To UTF-8.
@@ -108,7 +108,7 @@ fn no_text(
 
 #[test]
 fn no_texts(rt: HostRuntime) {
-    for ((big, bytes, place, len, _), text) in FAULTS.iter().zip(FAULT_TEXTS) {
+    for (big, bytes, place, len, _, text) in &faults() {
         let order = if *big { Order::Big } else { Order::Little };
         no_text(&rt, order, bytes, (*place, *len), text);
     }

@@ -1,6 +1,7 @@
 //! What `retain` leaves of texts that are longer than a block of sixteen units, beside what std's `String::retain` leaves of the
 //! same characters.
 
+use crate::checks::{equal, holds};
 use std::process::Abort;
 use std::test::Fail;
 use utf16string::{BE, LE, Utf16Order, WString};
@@ -74,8 +75,8 @@ fn asked_in_order<E: Utf16Order>(
         at = at.wrapping_add(1);
         answer
     });
-    assert!(rt; in_order);
-    assert!(rt; chars.next().is_none());
+    holds(rt, in_order);
+    holds(rt, chars.next().is_none());
 }
 
 // Of these characters the same are left as std leaves.
@@ -88,7 +89,7 @@ fn left_as_std_leaves<E: Utf16Order>(
     asked_in_order(rt, &mut string, text, kept);
     let left = string.to_utf8(rt.alloc())?;
     let expected = std_leaves(rt, text, kept)?;
-    assert_eq!(rt; left.as_str(), expected.as_str());
+    equal(rt, left.as_str(), expected.as_str());
     Ok(())
 }
 
@@ -116,8 +117,8 @@ fn bytes_of_blocks<E: Utf16Order>(
     let mut string = WString::<E>::from_str(rt.alloc(), "abcdefgh_abcdefghabcdefghabcdefgh_")?;
     let room = string.capacity();
     string.retain(|c| c != '_');
-    assert_eq!(rt; string.as_bytes(), left.as_slice());
-    assert_eq!(rt; string.capacity(), room);
+    equal(rt, string.as_bytes(), left.as_slice());
+    equal(rt, string.capacity(), room);
     Ok(())
 }
 

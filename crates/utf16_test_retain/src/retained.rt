@@ -1,5 +1,6 @@
 //! Characters kept by a predicate: which, in what order they are asked about, and how often.
 
+use crate::checks::{equal, holds};
 use std::process::Abort;
 use std::test::Fail;
 use utf16_callers::retains::{asked, first_chars, without};
@@ -12,15 +13,15 @@ fn string<E: Utf16Order>(rt: &impl AllocGlobal, text: &str) -> Result<WString<E>
 }
 
 // The string holds this text, in this many bytes.
-fn holds<E: Utf16Order>(
+fn spells<E: Utf16Order>(
     rt: &(impl Abort + AllocGlobal),
     string: &WString<E>,
     text: &str,
     len: usize,
 ) -> Result<(), Fail> {
     let utf8 = string.to_utf8(rt.alloc())?;
-    assert_eq!(rt; utf8.as_str(), text);
-    assert_eq!(rt; string.len(), len);
+    equal(rt, utf8.as_str(), text);
+    equal(rt, string.len(), len);
     Ok(())
 }
 
@@ -38,9 +39,9 @@ fn left_of_five<E: Utf16Order>(
         calls = calls.wrapping_add(1);
         answer
     });
-    assert_eq!(rt; five.as_bytes(), left);
-    assert_eq!(rt; calls, 5);
-    assert_eq!(rt; five.capacity(), room);
+    equal(rt, five.as_bytes(), left);
+    equal(rt, calls, 5);
+    equal(rt, five.capacity(), room);
     Ok(())
 }
 
@@ -90,9 +91,9 @@ fn order_of_calls<E: Utf16Order>(rt: &(impl Abort + AllocGlobal)) -> Result<(), 
         calls = calls.wrapping_add(1);
         false
     });
-    assert_eq!(rt; seen, ['x', '\u{1F600}', '\u{4E00}', 'z']);
-    assert_eq!(rt; calls, 4);
-    assert!(rt; text.is_empty());
+    equal(rt, seen, ['x', '\u{1F600}', '\u{4E00}', 'z']);
+    equal(rt, calls, 4);
+    holds(rt, text.is_empty());
     Ok(())
 }
 
@@ -106,24 +107,24 @@ fn characters_are_asked_in_order(rt: HostRuntime) -> Result<(), Fail> {
 fn test_retain(rt: HostRuntime) -> Result<(), Fail> {
     let mut text = string::<LE>(&rt, "h_e__ll_o")?;
     text.retain(|c| c != '_');
-    holds(&rt, &text, "hello", 10)?;
+    spells(&rt, &text, "hello", 10)?;
     let mut text = string::<BE>(&rt, "h_e__ll_o")?;
     text.retain(|c| c != '_');
-    holds(&rt, &text, "hello", 10)
+    spells(&rt, &text, "hello", 10)
 }
 
 // The callers keep what their contracts say.
 fn callers_keep<E: Utf16Order>(rt: &(impl Abort + AllocGlobal)) -> Result<(), Fail> {
     let mut text = string::<E>(rt, "a\u{10000}b\u{10000}c")?;
-    assert_eq!(rt; asked(&mut text), 5);
-    holds(rt, &text, "a\u{10000}b\u{10000}c", 14)?;
+    equal(rt, asked(&mut text), 5);
+    spells(rt, &text, "a\u{10000}b\u{10000}c", 14)?;
     first_chars(&mut text, 4);
-    holds(rt, &text, "a\u{10000}b\u{10000}", 12)?;
+    spells(rt, &text, "a\u{10000}b\u{10000}", 12)?;
     without(&mut text, &['\u{10000}', 'x']);
-    holds(rt, &text, "ab", 4)?;
+    spells(rt, &text, "ab", 4)?;
     first_chars(&mut text, 0);
-    holds(rt, &text, "", 0)?;
-    assert_eq!(rt; asked(&mut text), 0);
+    spells(rt, &text, "", 0)?;
+    equal(rt, asked(&mut text), 0);
     Ok(())
 }
 
@@ -142,8 +143,8 @@ fn a_predicate_is_looked_at_afterwards(rt: HostRuntime) -> Result<(), Fail> {
         !c.is_ascii_digit()
     };
     text.retain_by(&mut letters);
-    assert_eq!(rt; digits, 3);
-    holds(&rt, &text, "ab", 4)
+    equal(&rt, digits, 3);
+    spells(&rt, &text, "ab", 4)
 }
 
 // `retain` makes no request.
@@ -153,6 +154,6 @@ fn retain_asks_for_nothing(rt: HostRuntime) {
     let mut text = WString::<LE, _>::from_str(&heap, "ab").expect(&rt, "memory");
     heap.refuse_from(0);
     text.retain(|c| c != 'a');
-    assert_eq!(rt; text.as_bytes(), [0x62, 0].as_slice());
-    assert_eq!(rt; heap.requests(), 0);
+    equal(&rt, text.as_bytes(), [0x62, 0].as_slice());
+    equal(&rt, heap.requests(), 0);
 }

@@ -1,11 +1,11 @@
 //! What `{}` and `{:?}` write of views, of strings and of the error: one test has the Rust crate's name.
 
-use crate::checks::{equal, string, view};
+use crate::checks::{equal, holds, string, view};
 use std::alloc::AllocError;
 use std::fmt;
 use std::process::Abort;
 use utf16_callers::walks::shown;
-use utf16_testing::texts::{CHARACTERS, FAULTS, HELLO, MIXED, MIXED_BE, MIXED_UTF8};
+use utf16_testing::texts::{HELLO, MIXED, MIXED_BE, MIXED_UTF8, characters, faults};
 use utf16string::{BE, LE, Utf16Error, Utf16Order, WStr, WString};
 
 fn is_written(rt: &impl Abort, found: Result<String, AllocError>, wanted: &[u8]) {
@@ -24,7 +24,7 @@ fn displays<T: fmt::Display>(rt: &(impl Abort + AllocGlobal), value: &T, wanted:
 // `{:?}` writes something.
 fn debugs<T: fmt::Debug>(rt: &(impl Abort + AllocGlobal), value: &T) {
     let text = format!(in rt.alloc(); "{value:?}").expect(rt, "memory");
-    assert!(rt; !text.is_empty());
+    holds(rt, !text.is_empty());
 }
 
 fn view_writes<E: Utf16Order>(rt: &(impl Abort + AllocGlobal), view: WStr<E>, utf8: &[u8]) {
@@ -55,7 +55,7 @@ fn writes<E: Utf16Order>(rt: &(impl Abort + AllocGlobal), raw: &[u8], utf8: &[u8
 
 #[test]
 fn each_character_is_written(rt: HostRuntime) {
-    for (_, little, big, utf8) in CHARACTERS {
+    for (_, little, big, utf8) in characters() {
         writes::<LE>(&rt, little, utf8);
         writes::<BE>(&rt, big, utf8);
     }
@@ -85,7 +85,7 @@ fn error_of<E: Utf16Order>(rt: &impl Abort, raw: &[u8]) -> Utf16Error {
 
 #[test]
 fn each_error_is_written(rt: HostRuntime) {
-    for (big, raw, ..) in FAULTS {
+    for (big, raw, ..) in faults() {
         let error = if big {
             error_of::<BE>(&rt, raw)
         } else {

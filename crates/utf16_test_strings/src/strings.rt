@@ -1,6 +1,6 @@
 //! Owned strings made, read and compared, with the Rust crate's names of tests.
 
-use crate::checks::{bytes, encoded, equal, string, view};
+use crate::checks::{bytes, encoded, equal, holds, string, view};
 use std::hash::{FoldHasher, Hash, Hasher};
 use std::process::Abort;
 use utf16_callers::ranges::part_to_utf8;
@@ -18,7 +18,7 @@ fn bytes_are<E: Utf16Order>(rt: &impl Abort, text: &WString<E>, wanted: &[u8]) {
     equal(rt, text.as_bytes(), wanted);
     equal(rt, text.len(), wanted.len());
     equal(rt, text.is_empty(), wanted.is_empty());
-    assert!(rt; wanted.len() <= text.capacity());
+    holds(rt, wanted.len() <= text.capacity());
 }
 
 #[test]
@@ -32,7 +32,7 @@ fn test_new(rt: HostRuntime) {
 // An empty string with room for so many bytes.
 fn has_room<E: Utf16Order>(rt: &(impl Abort + AllocGlobal), capacity: usize) {
     let text = WString::<E>::with_capacity(rt.alloc(), capacity).expect(rt, "memory");
-    assert!(rt; capacity <= text.capacity());
+    holds(rt, capacity <= text.capacity());
     bytes_are(rt, &text, &[]);
 }
 
@@ -47,18 +47,18 @@ fn test_reserve(rt: HostRuntime) {
     let mut text = WString::<LE>::new(rt.alloc());
     equal(&rt, text.capacity(), 0);
     text.reserve(42).expect(&rt, "memory");
-    assert!(rt; 42 <= text.capacity());
+    holds(&rt, 42 <= text.capacity());
     bytes_are(&rt, &text, &[]);
     let mut text = string::<BE>(&rt, &APZ_BE);
     text.reserve(100).expect(&rt, "memory");
-    assert!(rt; 108 <= text.capacity());
+    holds(&rt, 108 <= text.capacity());
     bytes_are(&rt, &text, &APZ_BE);
 }
 
 #[test]
 fn test_shrink_to_fit(rt: HostRuntime) {
     let mut text = WString::<LE>::with_capacity(rt.alloc(), 42).expect(&rt, "memory");
-    assert!(rt; 42 <= text.capacity());
+    holds(&rt, 42 <= text.capacity());
     text.shrink_to_fit().expect(&rt, "memory");
     equal(&rt, text.capacity(), 0);
     let mut text = string::<BE>(&rt, &APZ_BE);
@@ -107,25 +107,26 @@ fn bytes_that_are_no_text_are_refused(rt: HostRuntime) {
     refused_is::<LE>(&rt, &[0x68, 0, 0x00, 0xD8], 2, None);
     refused_is::<BE>(&rt, &[0xDC], 0, None);
     refused_is::<BE>(&rt, &[0xDC, 0x00], 0, Some(2));
-    assert!(rt; WString::from_utf16le(bytes(&rt, &HELLO_BE[1..])).is_err());
-    assert!(rt; WString::from_utf16be(bytes(&rt, &HELLO[1..])).is_err());
+    let found = WString::from_utf16le(bytes(&rt, &HELLO_BE[1..]));
+    holds(&rt, found.is_err());
+    holds(&rt, WString::from_utf16be(bytes(&rt, &HELLO[1..])).is_err());
 }
 
 // The unchecked constructors, after a view took the bytes, as it must.
 fn unchecked_is<E: Utf16Order>(rt: &(impl Abort + AllocGlobal), raw: &[u8]) {
-    assert!(rt; WStr::<E>::from_utf16(raw).is_ok());
+    holds(rt, WStr::<E>::from_utf16(raw).is_ok());
     let copy = raw.to_vec(rt.alloc()).expect(rt, "memory");
     bytes_are(rt, &WString::<E>::from_utf16_unchecked(copy), raw);
 }
 
 fn unchecked_le_is(rt: &(impl Abort + AllocGlobal), raw: &[u8]) {
-    assert!(rt; WStr::from_utf16le(raw).is_ok());
+    holds(rt, WStr::from_utf16le(raw).is_ok());
     let copy = raw.to_vec(rt.alloc()).expect(rt, "memory");
     bytes_are(rt, &WString::from_utf16le_unchecked(copy), raw);
 }
 
 fn unchecked_be_is(rt: &(impl Abort + AllocGlobal), raw: &[u8]) {
-    assert!(rt; WStr::from_utf16be(raw).is_ok());
+    holds(rt, WStr::from_utf16be(raw).is_ok());
     let copy = raw.to_vec(rt.alloc()).expect(rt, "memory");
     bytes_are(rt, &WString::from_utf16be_unchecked(copy), raw);
 }
@@ -146,7 +147,7 @@ fn test_from_str(rt: HostRuntime) {
     bytes_are(&rt, &encoded::<LE>(&rt, "\u{10000}x"), &PX);
     bytes_are(&rt, &encoded::<LE>(&rt, ""), &[]);
     let one = encoded::<LE>(&rt, "\u{4E00}");
-    assert!(rt; !one.is_ascii());
+    holds(&rt, !one.is_ascii());
     bytes_are(&rt, &one, &[0x00, 0x4E]);
 }
 
@@ -181,7 +182,7 @@ fn test_as_mut_vec(rt: HostRuntime) {
 
 // A string measured and walked, beside a view of its bytes.
 fn measures_as_a_view<E: Utf16Order>(rt: &impl Abort, text: &WString<E>, view: WStr<E>) {
-    assert!(rt; text.as_wstr() == view);
+    holds(rt, text.as_wstr() == view);
     equal(rt, text.as_bytes(), view.as_bytes());
     equal(rt, text.is_ascii(), view.is_ascii());
     equal(rt, text.chars().count(), view.chars().count());
@@ -190,15 +191,12 @@ fn measures_as_a_view<E: Utf16Order>(rt: &impl Abort, text: &WString<E>, view: W
 
 // A string cut at an offset, where that is a boundary, beside a view of its bytes.
 fn cuts_as_a_view<E: Utf16Order>(rt: &impl Abort, text: &WString<E>, view: WStr<E>, offset: usize) {
-    equal(
-        rt,
-        text.is_char_boundary(offset),
-        view.is_char_boundary(offset),
-    );
-    assert!(rt; text.get(offset..) == view.get(offset..));
+    let is_boundary = view.is_char_boundary(offset);
+    equal(rt, text.is_char_boundary(offset), is_boundary);
+    holds(rt, text.get(offset..) == view.get(offset..));
     if let Some(front) = text.get(..offset) {
-        assert!(rt; text.get_unchecked(..offset) == front);
-        assert!(rt; text.index(..offset) == front);
+        let untested = text.get_unchecked(..offset);
+        holds(rt, untested == front && text.index(..offset) == front);
     }
 }
 
@@ -225,12 +223,14 @@ fn test_as_wstr(rt: HostRuntime) {
 // The names of two tests more of a `WString` as its view: here the view is a value.
 #[test]
 fn test_as_mut_wstr(rt: HostRuntime) {
-    assert!(rt; string::<BE>(&rt, &HELLO_BE).as_wstr() == view(&rt, &HELLO_BE));
+    let text = string::<BE>(&rt, &HELLO_BE);
+    holds(&rt, text.as_wstr() == view(&rt, &HELLO_BE));
 }
 
 #[test]
 fn test_deref(rt: HostRuntime) {
-    assert!(rt; string::<LE>(&rt, &HELLO).as_wstr() == view(&rt, &HELLO));
+    let text = string::<LE>(&rt, &HELLO);
+    holds(&rt, text.as_wstr() == view(&rt, &HELLO));
 }
 
 // The part of a range of "hello", in UTF-8.
@@ -281,19 +281,18 @@ fn equal_strings_hash_alike_whatever_their_capacity(rt: HostRuntime) {
     let text = string::<LE>(&rt, &APHI);
     let mut roomy = string::<LE>(&rt, &APHI);
     roomy.reserve(100).expect(&rt, "memory");
-    assert!(rt; text == roomy);
+    holds(&rt, text == roomy);
     equal(&rt, hash_of(&text), hash_of(&roomy));
     equal(&rt, hash_of(&text), hash_of(&text.as_wstr()));
     equal(&rt, roomy.pop(), Some('i'));
-    assert!(rt; text != roomy);
+    holds(&rt, text != roomy);
 }
 
 #[test]
 fn the_same_text_by_each_name(rt: HostRuntime) {
     let big = encoded::<BigEndian>(&rt, "hello");
-    equal(&rt, big.len(), 10);
-    assert!(rt; big == encoded::<BE>(&rt, "hello"));
+    holds(&rt, big.len() == 10 && big == encoded::<BE>(&rt, "hello"));
     let little = string::<LE>(&rt, &HELLO);
     equal(&rt, little.len(), 10);
-    assert!(rt; little.chars().eq(['h', 'e', 'l', 'l', 'o']));
+    holds(&rt, little.chars().eq(['h', 'e', 'l', 'l', 'o']));
 }

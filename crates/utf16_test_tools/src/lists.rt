@@ -1,5 +1,6 @@
 //! Edits one by one and as lists, and what they answer.
 
+use crate::checks::{equal, holds};
 use std::process::Abort;
 use std::test::Fail;
 use utf16_tools::{Edit, Reply, apply, run};
@@ -60,7 +61,7 @@ fn text_is<E: Utf16Order>(
     text: &str,
 ) -> Result<(), Fail> {
     let utf8 = string.to_utf8(rt.alloc())?;
-    assert_eq!(rt; utf8.as_str(), text);
+    equal(rt, utf8.as_str(), text);
     Ok(())
 }
 
@@ -70,20 +71,16 @@ fn says<E: Utf16Order>(
     reply: &Reply<E>,
     wanted: Said,
 ) -> Result<(), Fail> {
-    match (reply, wanted) {
+    let is_said = match (reply, wanted) {
         (Reply::Done, Said::Done)
         | (Reply::Nothing, Said::Nothing)
-        | (Reply::BadOffset, Said::BadOffset) => Ok(()),
-        (Reply::Char(c), Said::Char(wanted)) => {
-            assert_eq!(rt; *c, wanted);
-            Ok(())
-        }
-        (Reply::Rest(rest), Said::Rest(wanted)) => text_is(rt, rest, wanted),
-        _ => {
-            assert!(rt; false);
-            Ok(())
-        }
-    }
+        | (Reply::BadOffset, Said::BadOffset) => true,
+        (Reply::Char(c), Said::Char(wanted)) => *c == wanted,
+        (Reply::Rest(rest), Said::Rest(wanted)) => rest.to_utf8(rt.alloc())?.as_str() == wanted,
+        _ => false,
+    };
+    holds(rt, is_said);
+    Ok(())
 }
 
 // The rows one by one, by `apply`.
@@ -111,7 +108,7 @@ fn together<E: Utf16Order>(
         edits.push(edit::<E>(rt, *command)?)?;
     }
     let replies = run(rt.alloc(), string, edits)?;
-    assert_eq!(rt; replies.len(), rows.len());
+    equal(rt, replies.len(), rows.len());
     for (reply, (_, said, _)) in replies.iter().zip(rows) {
         says(rt, reply, *said)?;
     }
@@ -128,7 +125,7 @@ fn rows_do<E: Utf16Order>(
     one_by_one(rt, &mut first, rows)?;
     let mut second = string::<E>(rt, start)?;
     together(rt, &mut second, rows)?;
-    assert_eq!(rt; second.as_bytes(), first.as_bytes());
+    equal(rt, second.as_bytes(), first.as_bytes());
     Ok(())
 }
 
@@ -274,7 +271,7 @@ fn bytes_left<E: Utf16Order>(
     wanted: &[u8],
 ) -> Result<(), Fail> {
     one_by_one(rt, &mut text, rows)?;
-    assert_eq!(rt; text.into_bytes().as_slice(), wanted);
+    equal(rt, text.into_bytes().as_slice(), wanted);
     Ok(())
 }
 
@@ -300,8 +297,7 @@ fn pushed_and_inserted(rt: &impl AllocGlobal) -> Result<Vec<Edit<LE>>, Fail> {
 fn ten_thousand_edits(rt: HostRuntime) -> Result<(), Fail> {
     let mut text = string::<LE>(&rt, "a")?;
     let replies = run(rt.alloc(), &mut text, pushed_and_inserted(&rt)?)?;
-    assert_eq!(rt; replies.len(), 10_000);
-    assert_eq!(rt; text.len(), 2 + 5_000 * 6);
-    assert_eq!(rt; text.chars().count(), 10_001);
+    holds(&rt, replies.len() == 10_000 && text.len() == 2 + 5_000 * 6);
+    equal(&rt, text.chars().count(), 10_001);
     Ok(())
 }

@@ -1,5 +1,6 @@
 //! Edits and lists of edits where a request for memory is refused.
 
+use crate::checks::{equal, holds};
 use std::alloc::Global;
 use std::process::Abort;
 use utf16_callers_streams::headline::every_list_of_edits;
@@ -13,12 +14,8 @@ fn string<'a>(rt: &impl Abort, heap: Heap<'a>, text: &str) -> WString<LE, Heap<'
     WString::from_str(heap, text).expect(rt, "memory")
 }
 
-fn holds(rt: &impl Abort, text: &WString<LE, Heap<'_>>, wanted: &[u8]) {
-    assert_eq!(rt; text.as_bytes(), wanted);
-}
-
-fn blocks_live(rt: &impl Abort, heap: Heap<'_>, wanted: u64) {
-    assert_eq!(rt; heap.live_blocks(), wanted);
+fn bytes_are(rt: &impl Abort, text: &WString<LE, Heap<'_>>, wanted: &[u8]) {
+    equal(rt, text.as_bytes(), wanted);
 }
 
 // An edit whose one request is refused changes nothing.
@@ -31,9 +28,9 @@ fn refused<'a>(
     let room = text.capacity();
     heap.refuse_one(0);
     let reply = apply(text, edit);
-    assert!(rt; matches!(reply, Reply::NoMemory));
-    holds(rt, text, &[0x61, 0, 0x62, 0]);
-    assert_eq!(rt; text.capacity(), room);
+    holds(rt, matches!(reply, Reply::NoMemory));
+    bytes_are(rt, text, &[0x61, 0, 0x62, 0]);
+    equal(rt, text.capacity(), room);
 }
 
 // An edit that grows, refused and then not: it changes nothing, and then it is done.
@@ -47,8 +44,8 @@ fn refused_then_done<'a>(
     let mut text = string(rt, heap, "ab");
     refused(rt, heap, &mut text, first);
     let reply = apply(&mut text, second);
-    assert!(rt; !matches!(reply, Reply::NoMemory | Reply::BadOffset));
-    holds(rt, &text, wanted);
+    holds(rt, !matches!(reply, Reply::NoMemory | Reply::BadOffset));
+    bytes_are(rt, &text, wanted);
 }
 
 #[test]
@@ -58,23 +55,13 @@ fn each_growing_edit_is_refused(rt: HostRuntime) {
     refused_then_done(&rt, &heap, Edit::Push('c'), Edit::Push('c'), &abc);
     refused_then_done(&rt, &heap, Edit::Insert(4, 'c'), Edit::Insert(4, 'c'), &abc);
     let (first, second) = (string(&rt, &heap, "c"), string(&rt, &heap, "c"));
-    refused_then_done(
-        &rt,
-        &heap,
-        Edit::PushText(first),
-        Edit::PushText(second),
-        &abc,
-    );
+    let (first, second) = (Edit::PushText(first), Edit::PushText(second));
+    refused_then_done(&rt, &heap, first, second, &abc);
     let (first, second) = (string(&rt, &heap, "c"), string(&rt, &heap, "c"));
-    refused_then_done(
-        &rt,
-        &heap,
-        Edit::InsertText(4, first),
-        Edit::InsertText(4, second),
-        &abc,
-    );
+    let (first, second) = (Edit::InsertText(4, first), Edit::InsertText(4, second));
+    refused_then_done(&rt, &heap, first, second, &abc);
     refused_then_done(&rt, &heap, Edit::SplitOff(2), Edit::SplitOff(2), &[0x61, 0]);
-    blocks_live(&rt, &heap, 0);
+    equal(&rt, heap.live_blocks(), 0);
 }
 
 // A character pushed, one put in inside a character, and the last taken off.
@@ -87,10 +74,11 @@ fn pushed_and_popped<'a>(rt: &(impl Abort + AllocGlobal)) -> Vec<Edit<LE, Heap<'
 }
 
 fn only_the_push_is_refused(rt: &impl Abort, replies: &[Reply<LE, Heap<'_>>]) {
-    assert_eq!(rt; replies.len(), 3);
-    assert!(rt; matches!(replies[0], Reply::NoMemory));
-    assert!(rt; matches!(replies[1], Reply::BadOffset));
-    assert!(rt; matches!(replies[2], Reply::Char('b')));
+    let are_so = matches!(
+        replies,
+        [Reply::NoMemory, Reply::BadOffset, Reply::Char('b')]
+    );
+    holds(rt, are_so);
 }
 
 // The edits behind a refused one are done, and the bytes are those of the last text.
@@ -103,10 +91,10 @@ fn a_list_goes_on_behind_a_refused_growth(rt: HostRuntime) {
     let (replies, bytes) = every_list_of_edits(rt.alloc(), text, edits);
     let replies = replies.expect(&rt, "memory");
     only_the_push_is_refused(&rt, &replies);
-    assert_eq!(rt; bytes.as_slice(), [0x61, 0].as_slice());
+    equal(&rt, bytes.as_slice(), [0x61, 0].as_slice());
     drop(bytes);
     drop(replies);
-    blocks_live(&rt, &heap, 0);
+    equal(&rt, heap.live_blocks(), 0);
 }
 
 // A text pushed, and then all cleared.
@@ -128,9 +116,9 @@ fn a_list_without_room_for_its_replies(rt: HostRuntime) {
     let mut text = string(&rt, &heap, "ab");
     let edits = pushed_then_cleared(&rt, &heap);
     heap.refuse_from(0);
-    assert!(rt; run(&heap, &mut text, edits).is_err());
-    holds(&rt, &text, &[0x61, 0, 0x62, 0]);
-    blocks_live(&rt, &heap, 1);
+    holds(&rt, run(&heap, &mut text, edits).is_err());
+    bytes_are(&rt, &text, &[0x61, 0, 0x62, 0]);
+    equal(&rt, heap.live_blocks(), 1);
     drop(text);
-    blocks_live(&rt, &heap, 0);
+    equal(&rt, heap.live_blocks(), 0);
 }

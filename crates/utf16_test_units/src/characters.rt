@@ -2,7 +2,7 @@
 
 use crate::checks::{equal, equal_at, utf8_is, view};
 use std::process::Abort;
-use utf16_testing::texts::CHARACTERS;
+use utf16_testing::texts::characters;
 use utf16_units::Utf16CharExt;
 use utf16string::{BE, LE, Utf16Order, WStr};
 
@@ -40,7 +40,7 @@ fn encodes<E: Utf16Order>(rt: &impl Abort, c: char, raw: &[u8]) {
 
 #[test]
 fn characters_in_both_orders(rt: HostRuntime) {
-    for (c, little, big, utf8) in CHARACTERS {
+    for (c, little, big, utf8) in characters() {
         decodes::<LE>(&rt, c, little, utf8);
         decodes::<BE>(&rt, c, big, utf8);
         encodes::<LE>(&rt, c, little);

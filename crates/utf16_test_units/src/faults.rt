@@ -1,9 +1,9 @@
 //! Each known fault, by the error's two fields and by what makes its bytes a text.
 
-use crate::checks::{equal_at, view};
+use crate::checks::{equal_at, holds, view};
 use std::process::Abort;
 use utf16_callers::laws::is_beginning;
-use utf16_testing::texts::FAULTS;
+use utf16_testing::texts::faults;
 use utf16_units::validate_raw_utf16;
 use utf16string::{BE, LE, Utf16Error, Utf16Order, WStr};
 
@@ -12,7 +12,7 @@ fn fails<E: Utf16Order>(rt: &impl Abort, raw: &[u8], valid_up_to: usize, error_l
     let Err(error) = WStr::<E>::from_utf16(raw) else {
         panic!(rt; "taken as text: {raw:?}");
     };
-    assert!(rt; validate_raw_utf16::<E>(raw) == Err(error), "{raw:?}");
+    holds(rt, validate_raw_utf16::<E>(raw) == Err(error));
     has_fields(rt, raw, error, valid_up_to, error_len);
 }
 
@@ -39,7 +39,7 @@ fn continues<E: Utf16Order>(rt: &(impl Abort + AllocGlobal), raw: &[u8], more: O
 
 #[test]
 fn faults_in_both_orders(rt: HostRuntime) {
-    for (big, raw, valid_up_to, error_len, more) in FAULTS {
+    for (big, raw, valid_up_to, error_len, more, _) in faults() {
         if big {
             fails::<BE>(&rt, raw, valid_up_to, error_len);
             continues::<BE>(&rt, raw, more);

@@ -1,6 +1,6 @@
 //! What is built on a law, on worked inputs.
 
-use crate::checks::{equal, view};
+use crate::checks::{equal, holds, view};
 use std::process::Abort;
 use utf16_callers::laws::{
     cut_and_joined, cut_at_key, joined, same_text, through_utf8, to_big_endian, typed_and_undone,
@@ -19,8 +19,8 @@ fn texts_joined_and_compared(rt: HostRuntime) {
     let (a, rest) = (view::<BE>(&rt, &APB_BE[..2]), view(&rt, &APB_BE[2..]));
     let whole = joined(rt.alloc(), a, rest).expect(&rt, "memory");
     equal(&rt, whole.as_slice(), APB_BE.as_slice());
-    assert!(rt; same_text(view::<BE>(&rt, &whole), view(&rt, &APB_BE)));
-    assert!(rt; !same_text(a, rest));
+    holds(&rt, same_text(view::<BE>(&rt, &whole), view(&rt, &APB_BE)));
+    holds(&rt, !same_text(a, rest));
 }
 
 // What stands before the key in a little-endian record and what behind it, or that it is not found.

@@ -1,20 +1,20 @@
 //! Units and one character, with the Rust crate's names of tests.
 
-use crate::checks::{equal, equal_at};
+use crate::checks::{equal, equal_at, holds};
 use std::process::Abort;
 use utf16_units::{Utf16CharExt, decode_surrogates, is_leading_surrogate, is_trailing_surrogate};
 use utf16string::{BE, LE, Utf16Order};
 
 #[test]
 fn test_is_leading_surrogate(rt: HostRuntime) {
-    assert!(rt; is_leading_surrogate(0xD800));
-    assert!(rt; !is_leading_surrogate(0xF800));
+    holds(&rt, is_leading_surrogate(0xD800));
+    holds(&rt, !is_leading_surrogate(0xF800));
 }
 
 #[test]
 fn test_is_trailing_surrogate(rt: HostRuntime) {
-    assert!(rt; is_trailing_surrogate(0xDC00));
-    assert!(rt; !is_trailing_surrogate(0xFC00));
+    holds(&rt, is_trailing_surrogate(0xDC00));
+    holds(&rt, !is_trailing_surrogate(0xFC00));
 }
 
 #[test]
@@ -54,13 +54,13 @@ fn test_utf16_char_ext_encode_utf16_into(rt: HostRuntime) {
 #[test]
 fn test_utf16_char_ext_encode_utf16_into_too_small_single_unit(rt: HostRuntime) {
     let buf = [0; 1];
-    assert!(rt; 'a'.encoded_utf16_len() > buf.len());
+    holds(&rt, 'a'.encoded_utf16_len() > buf.len());
 }
 
 #[test]
 fn test_utf16_char_ext_encode_utf16_into_too_small_surrogate(rt: HostRuntime) {
     let buf = [0; 3];
-    assert!(rt; '\u{10000}'.encoded_utf16_len() > buf.len());
+    holds(&rt, '\u{10000}'.encoded_utf16_len() > buf.len());
 }
 
 #[test]
@@ -81,5 +81,5 @@ fn through_bytes<E: Utf16Order>(rt: &impl Abort, unit: u16, two: [u8; 2]) {
 fn bytes_of_units(rt: HostRuntime) {
     through_bytes::<LE>(&rt, 0xD83D, [0x3D, 0xD8]);
     through_bytes::<BE>(&rt, 0xD83D, [0xD8, 0x3D]);
-    assert!(rt; BE::BIG && !LE::BIG);
+    holds(&rt, BE::BIG && !LE::BIG);
 }

@@ -1,6 +1,6 @@
 //! Worked inputs: what is taken as text, and where what is refused goes wrong. One test has the Rust crate's name.
 
-use crate::checks::{equal, utf8_is, view};
+use crate::checks::{equal, holds, utf8_is, view};
 use std::process::Abort;
 use utf16_testing::texts::HELLO;
 use utf16string::{BE, LE, Utf16Error, Utf16Order, WStr};
@@ -101,7 +101,7 @@ fn high_units_are_no_surrogates(rt: HostRuntime) {
 fn no_bytes_are_the_empty_text(rt: HostRuntime) {
     let text = view::<BE>(&rt, &[]);
     equal(&rt, text.len(), 0);
-    assert!(rt; text.is_empty());
+    holds(&rt, text.is_empty());
     chars_are(&rt, text, &[]);
     utf8_is(&rt, view::<LE>(&rt, &[]), b"");
 }

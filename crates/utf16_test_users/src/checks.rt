@@ -1,7 +1,22 @@
 //! What the tests of this crate share: strings made.
 
+ghost use Rattle.std.specs.Prelude.{IsTrue};
+
+use std::fmt::Debug;
 use std::process::Abort;
 use utf16string::{Utf16Order, WString};
+
+/// What is found is what is wanted.
+pub fn equal<T: PartialEq + Debug + Drop>(rt: &impl Abort, found: T, wanted: T) {
+    assert_eq!(rt; found, wanted);
+}
+
+/// What is claimed is so.
+pub fn holds(rt: &impl Abort, is: bool)
+    ensures { IsTrue is }
+{
+    assert!(rt; is);
+}
 
 /// A string of this text.
 pub fn string<E: Utf16Order>(rt: &(impl Abort + AllocGlobal), text: &str) -> WString<E> {

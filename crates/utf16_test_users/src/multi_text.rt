@@ -1,6 +1,6 @@
 //! Tables of texts: read as they stand in the registry, whole and cut short, and written.
 
-use crate::checks::string;
+use crate::checks::{equal, holds, string};
 use std::alloc::Allocator;
 use std::process::Abort;
 use utf16_testing::refusing::Refusing;
@@ -63,9 +63,9 @@ fn are_read<E: Utf16Order>(rt: &(impl Abort + AllocGlobal), table: &str, wanted:
     let table = string::<E>(rt, table);
     let found = read(rt.alloc(), table.as_wstr()).expect(rt, "memory");
     let wanted = strings::<E>(rt, wanted);
-    assert_eq!(rt; found.len(), wanted.len());
+    equal(rt, found.len(), wanted.len());
     for (text, wanted) in found.iter().zip(&wanted) {
-        assert!(rt; text.as_bytes() == wanted.as_bytes());
+        holds(rt, text.as_bytes() == wanted.as_bytes());
     }
     steps(rt, table.as_wstr(), &wanted);
 }
@@ -75,12 +75,12 @@ fn steps<E: Utf16Order>(rt: &impl Abort, table: WStr<E>, wanted: &[WString<E>]) 
     let mut left = texts(table);
     for text in wanted {
         match left.next() {
-            Some(found) => assert!(rt; found.as_bytes() == text.as_bytes()),
+            Some(found) => holds(rt, found.as_bytes() == text.as_bytes()),
             None => panic!(rt; "a text is missing"),
         }
     }
-    assert!(rt; left.next().is_none());
-    assert!(rt; left.next().is_none());
+    holds(rt, left.next().is_none());
+    holds(rt, left.next().is_none());
 }
 
 #[test]
@@ -95,8 +95,8 @@ fn tables_are_read(rt: HostRuntime) {
 fn one_is_read(rt: &(impl Abort + AllocGlobal), raw: &[u8], wanted: &[u8]) {
     let table = WStr::<LE>::from_utf16(raw).expect(rt, "text");
     let found = read(rt.alloc(), table).expect(rt, "memory");
-    assert_eq!(rt; found.len(), 1);
-    assert!(rt; found[0].as_bytes() == wanted);
+    holds(rt, found.len() == 1);
+    holds(rt, found[0].as_bytes() == wanted);
 }
 
 #[test]
@@ -109,7 +109,7 @@ fn a_registry_value_is_read(rt: HostRuntime) {
 fn is_written<E: Utf16Order>(rt: &(impl Abort + AllocGlobal), table: &str, texts: &[&str]) {
     let strings = strings::<E>(rt, texts);
     let written = write(rt.alloc(), &views(rt, &strings)).expect(rt, "a table");
-    assert!(rt; written == string(rt, table));
+    holds(rt, written == string(rt, table));
 }
 
 #[test]
@@ -124,7 +124,7 @@ fn is_refused<E: Utf16Order>(rt: &(impl Abort + AllocGlobal), texts: &[&str], wa
     let strings = strings::<E>(rt, texts);
     match write(rt.alloc(), &views(rt, &strings)) {
         Ok(_) => panic!(rt; "written"),
-        Err(error) => assert_eq!(rt; error, wanted),
+        Err(error) => equal(rt, error, wanted),
     }
 }
 
@@ -153,23 +153,23 @@ fn in_turn(rt: &(impl Abort + AllocGlobal), is_reading: bool) -> u64 {
             match write(&heap, &texts) {
                 Ok(written) => Some(written.as_wstr() == table.as_wstr()),
                 Err(error) => {
-                    assert_eq!(rt; error, WriteError::NoMemory);
+                    equal(rt, error, WriteError::NoMemory);
                     None
                 }
             }
         };
-        assert_eq!(rt; heap.live_blocks(), 0);
+        equal(rt, heap.live_blocks(), 0);
         if heap.refusals() == 0 {
-            assert_eq!(rt; is_right, Some(true));
+            equal(rt, is_right, Some(true));
             return k;
         }
-        assert_eq!(rt; is_right, None);
+        equal(rt, is_right, None);
     }
     panic!(rt; "no run met no refusal");
 }
 
 #[test]
 fn memory_is_refused(rt: HostRuntime) {
-    assert!(rt; 1 <= in_turn(&rt, true));
-    assert!(rt; 1 <= in_turn(&rt, false));
+    holds(&rt, 1 <= in_turn(&rt, true));
+    holds(&rt, 1 <= in_turn(&rt, false));
 }

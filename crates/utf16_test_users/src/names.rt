@@ -1,6 +1,6 @@
 //! Names under numbers: put in again, looked up, in order, and without memory.
 
-use crate::checks::string;
+use crate::checks::{equal, holds, string};
 use std::alloc::Allocator;
 use std::process::Abort;
 use utf16_testing::refusing::Refusing;
@@ -37,8 +37,8 @@ fn is_under<E: Utf16Order, A: Allocator>(
     name: &str,
 ) {
     let name = string::<E>(rt, name);
-    assert!(rt; table.get(number) == Some(name.as_wstr()));
-    assert_eq!(rt; table.find(name.as_wstr()), Some(number));
+    holds(rt, table.get(number) == Some(name.as_wstr()));
+    equal(rt, table.find(name.as_wstr()), Some(number));
 }
 
 fn is_unknown<E: Utf16Order, A: Allocator>(
@@ -46,20 +46,20 @@ fn is_unknown<E: Utf16Order, A: Allocator>(
     table: &Names<E, A>,
     name: &str,
 ) {
-    assert_eq!(rt; table.find(string(rt, name).as_wstr()), None);
+    equal(rt, table.find(string(rt, name).as_wstr()), None);
 }
 
-fn holds<E: Utf16Order, A: Allocator>(
+fn has_names<E: Utf16Order, A: Allocator>(
     rt: &(impl Abort + AllocGlobal),
     table: &Names<E, A>,
     names: &[&str],
 ) {
-    assert_eq!(rt; table.len(), names.len());
-    assert_eq!(rt; table.is_empty(), names.is_empty());
+    equal(rt, table.len(), names.len());
+    equal(rt, table.is_empty(), names.is_empty());
     for (number, name) in names.iter().enumerate() {
         is_under(rt, table, number, name);
     }
-    assert!(rt; table.get(names.len()).is_none());
+    holds(rt, table.get(names.len()).is_none());
     for name in UNKNOWN {
         is_unknown(rt, table, name);
     }
@@ -70,14 +70,14 @@ fn come<E: Utf16Order>(rt: &(impl Abort + AllocGlobal)) {
     let mut known = 0;
     for (name, wanted) in COMING {
         let name = string(rt, name);
-        assert_eq!(rt; table.intern(name.as_wstr()), Ok(wanted));
+        equal(rt, table.intern(name.as_wstr()), Ok(wanted));
         if wanted >= known {
             known = wanted + 1;
         }
-        assert!(rt; known <= NAMES.len());
-        holds(rt, &table, &NAMES[..known]);
+        holds(rt, known <= NAMES.len());
+        has_names(rt, &table, &NAMES[..known]);
     }
-    assert_eq!(rt; table.in_order(), IN_ORDER.as_slice());
+    equal(rt, table.in_order(), IN_ORDER.as_slice());
 }
 
 #[test]
@@ -93,7 +93,7 @@ fn in_turn<E: Utf16Order>(rt: &(impl Abort + AllocGlobal)) -> u64 {
     for k in 0..40 {
         heap.refuse_one(k);
         put_in::<E, _>(rt, &heap);
-        assert_eq!(rt; heap.live_blocks(), 0);
+        equal(rt, heap.live_blocks(), 0);
         if heap.refusals() == 0 {
             return k;
         }
@@ -106,16 +106,16 @@ fn put_in<E: Utf16Order, A: Allocator + Clone>(rt: &(impl Abort + AllocGlobal), 
     for (number, name) in NAMES.iter().enumerate() {
         let name = string(rt, name);
         if table.intern(name.as_wstr()).is_err() {
-            holds(rt, &table, &NAMES[..number]);
-            assert_eq!(rt; table.intern(name.as_wstr()), Ok(number));
+            has_names(rt, &table, &NAMES[..number]);
+            equal(rt, table.intern(name.as_wstr()), Ok(number));
         }
     }
-    holds(rt, &table, &NAMES);
+    has_names(rt, &table, &NAMES);
 }
 
 #[test]
 fn memory_is_refused(rt: HostRuntime) {
     let requests = in_turn::<LE>(&rt);
-    assert!(rt; 3 <= requests);
-    assert_eq!(rt; in_turn::<BE>(&rt), requests);
+    holds(&rt, 3 <= requests);
+    equal(&rt, in_turn::<BE>(&rt), requests);
 }

@@ -1,5 +1,6 @@
 //! A text split once, in front of the first such character and behind it.
 
+use crate::checks::holds;
 use std::process::Abort;
 use utf16string::{BE, LE, Utf16Order, WString};
 
@@ -41,7 +42,7 @@ fn split_is<E: Utf16Order>(
         (None, None) => true,
         _ => false,
     };
-    assert!(rt; same, "{text} at {delimiter}");
+    holds(rt, same);
 }
 
 #[test]

@@ -1,10 +1,10 @@
 //! The UTF-8 of views put behind a text.
 
-use crate::checks::{requests_are, same, view};
+use crate::checks::{holds, same, view};
 use std::alloc::Global;
 use std::process::Abort;
 use utf16_testing::refusing::Refusing;
-use utf16_testing::texts::{CHARACTERS, HELLO, MIXED, MIXED_BE};
+use utf16_testing::texts::{HELLO, MIXED, MIXED_BE, characters};
 use utf16string::{BE, LE, Utf16Order};
 
 // Put twice behind a star.
@@ -31,13 +31,13 @@ fn each_is(rt: &(impl Abort + AllocGlobal), le: &[u8], be: &[u8], utf8: &[u8]) {
     view::<LE>(rt, le).push_utf8(&mut text).expect(rt, "memory");
     same(rt, text.as_bytes(), utf8, text.as_str());
     view::<BE>(rt, be).push_utf8(&mut text).expect(rt, "memory");
-    assert_eq!(rt; text.len(), 2 * utf8.len());
-    assert!(rt; text.as_bytes().ends_with(utf8));
+    holds(rt, text.len() == 2 * utf8.len());
+    holds(rt, text.as_bytes().ends_with(utf8));
 }
 
 #[test]
 fn each_known_character(rt: HostRuntime) {
-    for (_, le, be, utf8) in &CHARACTERS {
+    for (_, le, be, utf8) in &characters() {
         each_is(&rt, le, be, utf8);
     }
 }
@@ -52,12 +52,11 @@ fn room_is_asked_for_once(rt: HostRuntime) {
     let heap = Refusing::new(rt.alloc());
     let mut text = String::new(&heap);
     heap.refuse_from(0);
-    assert!(rt; is_put(&rt, &[], &mut text));
-    requests_are(&rt, &heap, 0);
-    assert!(rt; !is_put(&rt, &HELLO, &mut text));
-    assert!(rt; text.is_empty());
+    holds(&rt, is_put(&rt, &[], &mut text));
+    holds(&rt, heap.requests() == 0);
+    holds(&rt, !is_put(&rt, &HELLO, &mut text) && text.is_empty());
     heap.refuse_none();
-    assert!(rt; is_put(&rt, &HELLO, &mut text));
-    requests_are(&rt, &heap, 1);
+    holds(&rt, is_put(&rt, &HELLO, &mut text));
+    holds(&rt, heap.requests() == 1);
     same(&rt, text.as_bytes(), "hello".as_bytes(), text.as_str());
 }

@@ -1,9 +1,16 @@
 //! What the tests of this crate share.
 
-use std::alloc::Global;
+ghost use Rattle.std.specs.Prelude.{IsTrue};
+
 use std::process::Abort;
-use utf16_testing::refusing::Refusing;
 use utf16string::{Utf16Order, WStr, WString};
+
+/// What is claimed is so.
+pub fn holds(rt: &impl Abort, is: bool)
+    ensures { IsTrue is }
+{
+    assert!(rt; is);
+}
 
 /// A view of these bytes, which are text.
 pub fn view<'a, E: Utf16Order>(rt: &impl Abort, raw: &'a [u8]) -> WStr<'a, E> {
@@ -14,11 +21,6 @@ pub fn view<'a, E: Utf16Order>(rt: &impl Abort, raw: &'a [u8]) -> WStr<'a, E> {
 pub fn same(rt: &impl Abort, found: &[u8], wanted: &[u8], text: &str) {
     let len = wanted.len();
     assert!(rt; found == wanted, "{len} bytes wanted: {text}");
-}
-
-/// So many requests came since the heap was last told what to refuse.
-pub fn requests_are(rt: &impl Abort, heap: &Refusing<Global>, wanted: u64) {
-    assert_eq!(rt; heap.requests(), wanted);
 }
 
 /// Puts the characters last, one by one.

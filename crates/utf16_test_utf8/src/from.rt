@@ -1,6 +1,6 @@
 //! Strings made from UTF-8, and texts in UTF-8 put last.
 
-use crate::checks::{one_by_one, put_each, requests_are, same};
+use crate::checks::{holds, one_by_one, put_each, same};
 use std::alloc::Global;
 use std::process::Abort;
 use utf16_testing::refusing::Refusing;
@@ -144,9 +144,9 @@ fn refusal_leaves<E: Utf16Order>(
     before: &[u8],
 ) {
     let room = text.capacity();
-    assert!(rt; text.push_str(TEXT).is_err());
+    holds(rt, text.push_str(TEXT).is_err());
     same(rt, text.as_bytes(), before, "what was there at first");
-    assert_eq!(rt; text.capacity(), room);
+    holds(rt, text.capacity() == room);
 }
 
 // A refused request leaves the string as it was, and with memory the same call puts the text last.
@@ -156,12 +156,12 @@ fn is_left_when_refused<E: Utf16Order>(rt: &(impl Abort + AllocGlobal), at_first
     let mut wanted = one_by_one::<E>(rt, at_first);
     heap.refuse_from(0);
     refusal_leaves(rt, &mut text, wanted.as_bytes());
-    requests_are(rt, &heap, 1);
+    holds(rt, heap.requests() == 1);
     text.push_str("").expect(rt, "no request");
-    requests_are(rt, &heap, 1);
+    holds(rt, heap.requests() == 1);
     heap.refuse_none();
     text.push_str(TEXT).expect(rt, "memory");
-    requests_are(rt, &heap, 1);
+    holds(rt, heap.requests() == 1);
     put_each(rt, &mut wanted, TEXT);
     same(rt, text.as_bytes(), wanted.as_bytes(), TEXT);
 }
@@ -171,8 +171,8 @@ fn empty_asks_for_nothing<E: Utf16Order>(rt: &(impl Abort + AllocGlobal)) {
     heap.refuse_from(0);
     let mut text = WString::<E, _>::from_str(&heap, "").expect(rt, "no request");
     text.push_str("").expect(rt, "no request");
-    requests_are(rt, &heap, 0);
-    assert!(rt; text.as_bytes().is_empty());
+    holds(rt, heap.requests() == 0);
+    holds(rt, text.as_bytes().is_empty());
 }
 
 #[test]

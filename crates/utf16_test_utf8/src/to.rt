@@ -1,6 +1,6 @@
 //! To UTF-8: characters at each place of a block, and texts of each length, in both orders.
 
-use crate::checks::{one_by_one, same, view};
+use crate::checks::{holds, one_by_one, same, view};
 use std::process::Abort;
 use utf16string::{BE, LE, Utf16Order, WStr};
 
@@ -36,7 +36,7 @@ fn behind_another<E: Utf16Order>(rt: &(impl Abort + AllocGlobal), text: WStr<E>,
     let mut behind = String::new(rt.alloc());
     behind.push('<').expect(rt, "memory");
     text.push_utf8(&mut behind).expect(rt, "memory");
-    assert_eq!(rt; behind.len(), 1 + utf8.len());
+    holds(rt, behind.len() == 1 + utf8.len());
     same(rt, &behind.as_bytes()[1..], utf8, behind.as_str());
 }
 
@@ -81,7 +81,7 @@ fn row_between(
     before: usize,
     after: usize,
 ) {
-    assert!(rt; row < ROWS.len() && around < ROWS.len());
+    holds(rt, row < ROWS.len() && around < ROWS.len());
     let big = between(rt, ROWS[row].0, ROWS[around].0, before, after);
     let utf8 = between(rt, ROWS[row].1, ROWS[around].1, before, after);
     in_utf8::<BE>(rt, &big, &utf8);
@@ -130,7 +130,7 @@ fn nth(step: usize) -> char {
 // A text of so many characters by `push` alone, beside the same in a string of std.
 fn text_of<E: Utf16Order>(rt: &(impl Abort + AllocGlobal), first: usize, count: usize) {
     let mut wanted = String::new(rt.alloc());
-    assert!(rt; first < 100 && count < 1000);
+    holds(rt, first < 100 && count < 1000);
     for step in first..first + count {
         wanted.push(nth(step)).expect(rt, "memory");
     }

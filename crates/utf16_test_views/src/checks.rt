@@ -1,5 +1,7 @@
 //! What the tests of this crate share: assertions, and bytes taken as text.
 
+ghost use Rattle.std.specs.Prelude.{IsTrue};
+
 use std::fmt::Debug;
 use std::process::Abort;
 use utf16string::{Utf16Order, WStr};
@@ -7,6 +9,13 @@ use utf16string::{Utf16Order, WStr};
 /// What is found is what is wanted.
 pub fn equal<T: PartialEq + Debug + Drop>(rt: &impl Abort, found: T, wanted: T) {
     assert_eq!(rt; found, wanted);
+}
+
+/// What is claimed is so.
+pub fn holds(rt: &impl Abort, is: bool)
+    ensures { IsTrue is }
+{
+    assert!(rt; is);
 }
 
 /// The same in a row of a table, which a failure shows.

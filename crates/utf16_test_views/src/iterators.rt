@@ -1,6 +1,6 @@
 //! Views walked from both ends, with the Rust crate's names of tests.
 
-use crate::checks::{equal, view};
+use crate::checks::{equal, holds, view};
 use std::process::Abort;
 use utf16_callers::walks::{
     agree, collected, count_of, indexed, indexed_back, looped, place_of, reversed,
@@ -164,8 +164,7 @@ fn both_ends_in_turn(rt: HostRuntime) {
     equal(&rt, taken::<LE>(&rt, &PXG, &steps).count(), 1);
     equal(&rt, taken::<LE>(&rt, &PXG, &steps).last(), Some((4, 'x')));
     let mut chars = view::<BE>(&rt, &[]).chars();
-    equal(&rt, chars.next(), None);
-    equal(&rt, chars.next_back(), None);
+    holds(&rt, chars.next().is_none() && chars.next_back().is_none());
 }
 
 #[test]
@@ -174,6 +173,6 @@ fn walks_that_search(rt: HostRuntime) {
     equal(&rt, place_of(text, 'l'), Some(2));
     equal(&rt, place_of(text, 'x'), None);
     equal(&rt, count_of(text, 'l'), 2);
-    assert!(rt; agree(text, view(&rt, &HELLO[..4])));
-    assert!(rt; !agree(text, view(&rt, &PX)));
+    holds(&rt, agree(text, view(&rt, &HELLO[..4])));
+    holds(&rt, !agree(text, view(&rt, &PX)));
 }

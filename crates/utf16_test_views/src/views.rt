@@ -1,6 +1,6 @@
 //! Views cut, compared and measured, with the Rust crate's names of tests.
 
-use crate::checks::{equal, equal_at, view};
+use crate::checks::{equal, equal_at, holds, view};
 use std::hash::{FoldHasher, Hash, Hasher};
 use std::process::Abort;
 use utf16_callers::ranges::{Field, part_to_utf8};
@@ -90,15 +90,15 @@ fn taken_untested<'a, E: Utf16Order>(
     let Some(part) = text.get(start..end) else {
         panic!(rt; "no part");
     };
-    assert!(rt; text.index(start..end) == part);
-    assert!(rt; text.get_unchecked(start..end) == part);
+    let untested = text.get_unchecked(start..end);
+    holds(rt, text.index(start..end) == part && untested == part);
     part
 }
 
 #[test]
 fn test_wstr_slice(rt: HostRuntime) {
     let text = view::<LE>(&rt, &HELLO);
-    assert!(rt; text.get(..).is_some());
+    holds(&rt, text.get(..).is_some());
     utf8_is(&rt, text.index(..), "hello");
     utf8_is(&rt, taken_untested(&rt, text, 2, 8), "ell");
     let raw = [0, 0x61, 0xD8, 0, 0xDC, 0];
@@ -122,7 +122,7 @@ fn boundaries<E: Utf16Order>(rt: &impl Abort, raw: &[u8], wanted: &[bool]) {
     for (index, is) in wanted.iter().enumerate() {
         equal_at(rt, &(raw, index), text.is_char_boundary(index), *is);
     }
-    assert!(rt; !text.is_char_boundary(usize::MAX));
+    holds(rt, !text.is_char_boundary(usize::MAX));
 }
 
 #[test]
@@ -141,19 +141,15 @@ fn little<'a>(rt: &impl Abort, raw: &'a [u8]) -> WStr<'a, LE> {
 #[test]
 fn test_wstr_from_utf16le(rt: HostRuntime) {
     equal(&rt, little(&rt, &HELLO).as_bytes(), HELLO.as_slice());
-    let refused: [&[u8]; 3] = [
-        &HELLO[..9],
-        &[0x00, 0xD8, 0x78, 0x00],
-        &[0x00, 0xDC, 0x78, 0x00],
-    ];
+    let refused: [&[u8]; 3] = [&HELLO[..9], &[0, 0xD8, 0x78, 0], &[0, 0xDC, 0x78, 0]];
     for raw in refused {
-        assert!(rt; WStr::from_utf16le(raw).is_err(), "{raw:?}");
+        holds(&rt, WStr::from_utf16le(raw).is_err());
     }
 }
 
 // The unchecked constructors, after the checked one took the bytes, as it must.
 fn unchecked_is<E: Utf16Order>(rt: &impl Abort, raw: &[u8]) {
-    assert!(rt; WStr::<E>::from_utf16(raw).is_ok());
+    holds(rt, WStr::<E>::from_utf16(raw).is_ok());
     equal(rt, WStr::<E>::from_utf16_unchecked(raw).as_bytes(), raw);
 }
 
@@ -162,18 +158,12 @@ fn test_wstr_from_utf16le_unchecked(rt: HostRuntime) {
     let (little, big) = ([0x68, 0, 0x69, 0], [0, 0x68, 0, 0x69]);
     unchecked_is::<LE>(&rt, &little);
     unchecked_is::<BE>(&rt, &big);
-    assert!(rt; WStr::from_utf16le(&little).is_ok());
-    equal(
-        &rt,
-        WStr::from_utf16le_unchecked(&little).as_bytes(),
-        little.as_slice(),
-    );
-    assert!(rt; WStr::from_utf16be(&big).is_ok());
-    equal(
-        &rt,
-        WStr::from_utf16be_unchecked(&big).as_bytes(),
-        big.as_slice(),
-    );
+    holds(&rt, WStr::from_utf16le(&little).is_ok());
+    let found = WStr::from_utf16le_unchecked(&little);
+    equal(&rt, found.as_bytes(), little.as_slice());
+    holds(&rt, WStr::from_utf16be(&big).is_ok());
+    let found = WStr::from_utf16be_unchecked(&big);
+    equal(&rt, found.as_bytes(), big.as_slice());
 }
 
 #[test]
@@ -188,8 +178,8 @@ fn test_wstr_len(rt: HostRuntime) {
 
 #[test]
 fn test_wstr_is_empty(rt: HostRuntime) {
-    assert!(rt; !little(&rt, &HELLO).is_empty());
-    assert!(rt; little(&rt, &[]).is_empty());
+    let (none, some) = (little(&rt, &[]), little(&rt, &HELLO));
+    holds(&rt, none.is_empty() && !some.is_empty());
 }
 
 #[test]
@@ -230,8 +220,7 @@ fn equal_views_hash_alike(rt: HostRuntime) {
     let here = view::<LE>(&rt, &HELLO[4..6]);
     let there = view(&rt, &HELLO[6..8]);
     let other = view(&rt, &PX);
-    assert!(rt; here == there);
-    assert!(rt; here != other);
+    holds(&rt, here == there && here != other);
     equal(&rt, hash_of(here), hash_of(there));
-    assert!(rt; hash_of(here) != hash_of(other));
+    holds(&rt, hash_of(here) != hash_of(other));
 }

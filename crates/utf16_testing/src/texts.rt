@@ -33,8 +33,10 @@ pub const MIXED_BE: [u8; 8] = [0, 0x61, 0x4E, 0x00, 0xD8, 0x00, 0xDC, 0x00];
 /// "a", U+4E00 and U+10000 in UTF-8.
 pub const MIXED_UTF8: [u8; 8] = [0x61, 0xE4, 0xB8, 0x80, 0xF0, 0x90, 0x80, 0x80];
 
-/// Known characters: each with its bytes in little endian, its bytes in big endian, and its UTF-8.
-pub const CHARACTERS: [(char, &[u8], &[u8], &[u8]); 15] = [
+/// A character, its bytes in little endian, its bytes in big endian, and its UTF-8.
+pub type Character = (char, &'static [u8], &'static [u8], &'static [u8]);
+
+const CHARACTERS: [Character; 15] = [
     ('\u{0061}', &[0x61, 0x00], &[0x00, 0x61], &[0x61]),
     ('\u{007F}', &[0x7F, 0x00], &[0x00, 0x7F], &[0x7F]),
     ('\u{0080}', &[0x80, 0x00], &[0x00, 0x80], &[0xC2, 0x80]),
@@ -107,51 +109,103 @@ pub const CHARACTERS: [(char, &[u8], &[u8], &[u8]); 15] = [
     ),
 ];
 
-/// Known faults: whether the order is big endian, the bytes, the error's `valid_up_to` and `error_len`, and bytes that make
-/// them a text, where there are any.
-pub const FAULTS: [(bool, &[u8], usize, Option<usize>, Option<&[u8]>); 14] = [
-    (false, &[0x00, 0xDC], 0, Some(2), None),
-    (false, &[0x00, 0xD8], 0, None, Some(&[0x00, 0xDC])),
-    (false, &[0x00, 0xD8, 0x00], 0, None, Some(&[0xDC])),
-    (false, &[0xDC], 0, None, Some(&[0x00])),
-    (false, &[0x41], 0, None, Some(&[0x00])),
-    (false, &[0x00, 0xD8, 0x41, 0x00], 0, Some(2), None),
-    (false, &[0x00, 0xD8, 0x00, 0xD8], 0, Some(2), None),
-    (false, &[0x00, 0xDC, 0x00, 0xD8], 0, Some(2), None),
+/// Known characters.
+pub fn characters() -> [Character; 15] {
+    CHARACTERS
+}
+
+/// Whether the order is big endian, bytes that are no text, the error's `valid_up_to` and `error_len`, bytes that make them a
+/// text, where there are any, and the text of the bytes as a whole stream.
+pub type Fault = (
+    bool,
+    &'static [u8],
+    usize,
+    Option<usize>,
+    Option<&'static [u8]>,
+    &'static str,
+);
+
+const FAULTS: [Fault; 14] = [
+    (false, &[0x00, 0xDC], 0, Some(2), None, "\u{FFFD}"),
+    (
+        false,
+        &[0x00, 0xD8],
+        0,
+        None,
+        Some(&[0x00, 0xDC]),
+        "\u{FFFD}",
+    ),
+    (
+        false,
+        &[0x00, 0xD8, 0x00],
+        0,
+        None,
+        Some(&[0xDC]),
+        "\u{FFFD}",
+    ),
+    (false, &[0xDC], 0, None, Some(&[0x00]), "\u{FFFD}"),
+    (false, &[0x41], 0, None, Some(&[0x00]), "\u{FFFD}"),
+    (
+        false,
+        &[0x00, 0xD8, 0x41, 0x00],
+        0,
+        Some(2),
+        None,
+        "\u{FFFD}A",
+    ),
+    (
+        false,
+        &[0x00, 0xD8, 0x00, 0xD8],
+        0,
+        Some(2),
+        None,
+        "\u{FFFD}\u{FFFD}",
+    ),
+    (
+        false,
+        &[0x00, 0xDC, 0x00, 0xD8],
+        0,
+        Some(2),
+        None,
+        "\u{FFFD}\u{FFFD}",
+    ),
     (
         false,
         &[0x00, 0xD8, 0x00, 0xDC, 0x00, 0xD8, 0x00, 0xDC, 0x00],
         8,
         None,
         Some(&[0x00]),
+        "\u{10000}\u{10000}\u{FFFD}",
     ),
-    (true, &[0xDC], 0, None, None),
-    (true, &[0xD8], 0, None, Some(&[0x00, 0xDC, 0x00])),
-    (true, &[0xD8, 0x00, 0xDC], 0, None, Some(&[0x00])),
-    (true, &[0xD8, 0x00, 0x00], 0, None, None),
+    (true, &[0xDC], 0, None, None, "\u{FFFD}"),
+    (
+        true,
+        &[0xD8],
+        0,
+        None,
+        Some(&[0x00, 0xDC, 0x00]),
+        "\u{FFFD}",
+    ),
+    (
+        true,
+        &[0xD8, 0x00, 0xDC],
+        0,
+        None,
+        Some(&[0x00]),
+        "\u{FFFD}",
+    ),
+    (true, &[0xD8, 0x00, 0x00], 0, None, None, "\u{FFFD}"),
     (
         true,
         &[0x00, 0x41, 0xD8, 0x00],
         2,
         None,
         Some(&[0xDC, 0x00]),
+        "A\u{FFFD}",
     ),
 ];
 
-/// The text of each of [`FAULTS`] as a whole stream.
-pub const FAULT_TEXTS: [&str; 14] = [
-    "\u{FFFD}",
-    "\u{FFFD}",
-    "\u{FFFD}",
-    "\u{FFFD}",
-    "\u{FFFD}",
-    "\u{FFFD}A",
-    "\u{FFFD}\u{FFFD}",
-    "\u{FFFD}\u{FFFD}",
-    "\u{10000}\u{10000}\u{FFFD}",
-    "\u{FFFD}",
-    "\u{FFFD}",
-    "\u{FFFD}",
-    "\u{FFFD}",
-    "A\u{FFFD}",
-];
+/// Known faults.
+pub fn faults() -> [Fault; 14] {
+    FAULTS
+}

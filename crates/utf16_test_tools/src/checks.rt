@@ -1,0 +1,14 @@
+//! What the tests of this crate share: assertions.
+
+use std::fmt::Debug;
+use std::process::Abort;
+
+/// What is found is what is wanted.
+pub fn equal<T: PartialEq + Debug + Drop>(rt: &impl Abort, found: T, wanted: T) {
+    assert_eq!(rt; found, wanted);
+}
+
+/// What is claimed is so.
+pub fn holds(rt: &impl Abort, is: bool) {
+    assert!(rt; is);
+}
