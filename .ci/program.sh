@@ -1,6 +1,6 @@
 #!/usr/bin/env bash
-# Runs the built program over a table of cases: what it writes, its line on standard error and its status, on plain inputs and
-# on standard streams that are closed, full, broken or no files. Without words it takes each build that stands in its crate,
+# Runs the built program over a table of cases: what it writes, its line on standard error and its status, on plain inputs, on
+# standard streams that are closed, full, broken or no files, and with too little memory. Without words it takes each build that stands in its crate,
 # and builds one where there is none. Prints each case that fails, and last a line 'N passed, M failed'.
 set -uo pipefail
 top=$(cd "$(dirname "$0")/.." && pwd)
@@ -109,7 +109,7 @@ cases() {
     decodes auto '\xFF\xFE' ''
     decodes auto '\xFF\xFE\xFF\xFE' '\xEF\xBB\xBF'
     is 'a pair cut by a block' 0 "$none" "$none" '$P le < long | cmp - long_utf8'
-    is 'letters and a pair, many blocks' 0 "$none" "$none" '$P le < letters | cmp - letters_utf8'
+    is 'many blocks of letters and a pair' 0 "$none" "$none" '$P le < letters | cmp - letters_utf8'
     is 'many blocks' 0 "$none" "$none" '$P le < zeros | cmp - half'
     is 'many blocks from a pipe' 0 "$none" "$none" 'cat zeros | $P be | cmp - half'
     is 'bytes that come slowly' 0 "$none" '\xF0\x90\x80\x80' \
@@ -124,7 +124,10 @@ cases() {
     refuses 'a capital letter' Auto
     refuses 'an empty word' '""'
     refuses 'an empty word behind' 'le ""'
+    refuses 'an empty word before' '"" le'
     refuses 'an empty word between' 'le "" be'
+    refuses 'another word before' 'x le'
+    refuses 'another word behind' 'le x'
     refuses 'a blank behind' '"le "'
     refuses 'a blank behind a mark' '"auto "'
     refuses 'a beginning' l
