@@ -1,7 +1,7 @@
 #!/usr/bin/env bash
 # Runs the built program over a table of cases: what it writes, its line on standard error and its status, on plain inputs, on
-# standard streams that are closed, full, broken or no files, and with too little memory. Without words it takes each build that stands in its crate,
-# and builds one where there is none. Prints each case that fails, and last a line 'N passed, M failed'.
+# standard streams that are closed, full, broken or no files, and with too little memory. Without words it takes each build that
+# stands in its crate, and builds one where there is none. Prints each case that fails, and last a line 'N passed, M failed'.
 set -uo pipefail
 top=$(cd "$(dirname "$0")/.." && pwd)
 room=$(mktemp -d)
