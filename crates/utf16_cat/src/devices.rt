@@ -3,15 +3,23 @@
 use std::env::{Env, FillError};
 use std::io::{self, Error, ErrorKind, Read, Write};
 
-/// Gives its bytes in one read, and then fails.
+/// Gives its bytes, and then ends, or fails where `fails` is true.
 #[derive(Drop)]
-pub struct FailingReader<'a> {
-    pub bytes: &'a [u8],
+pub struct Giver<'a> {
+    bytes: &'a [u8],
+    fails: bool,
 }
 
-impl<'a> Read for FailingReader<'a> {
+impl<'a> Giver<'a> {
+    /// One that gives these.
+    pub fn new(bytes: &'a [u8], fails: bool) -> Giver<'a> {
+        Giver { bytes, fails }
+    }
+}
+
+impl<'a> Read for Giver<'a> {
     fn read(&mut self, buf: &mut [u8]) -> io::Result<usize> {
-        if self.bytes.is_empty() {
+        if self.fails && self.bytes.is_empty() {
             return Err(Error::from(ErrorKind::Interrupted));
         }
         self.bytes.read(buf)
@@ -29,7 +37,7 @@ pub struct Counter {
 
 impl Counter {
     /// An empty one.
-    pub fn new(rt: &HostRuntime, room: usize, flushes: bool) -> Counter {
+    pub fn new(rt: &impl AllocGlobal, room: usize, flushes: bool) -> Counter {
         Counter {
             taken: Vec::new(rt.alloc()),
             room,
@@ -60,18 +68,13 @@ impl Write for Counter {
     }
 }
 
-/// The arguments of a program, and no variables.
+/// No arguments, not even the program's name, and no variables.
 #[derive(Drop)]
-pub struct Arguments<'a> {
-    pub all: &'a [&'a [u8]],
-}
+pub struct NoArguments;
 
-impl<'a> Env for Arguments<'a> {
-    fn arg(&self, i: usize, buf: &mut [u8]) -> Result<usize, FillError> {
-        let arg = self.all.get(i).ok_or(FillError::NotPresent)?;
-        let front = buf.get_mut(..arg.len()).ok_or(FillError::TooLong)?;
-        front.copy_from_slice(arg);
-        Ok(arg.len())
+impl Env for NoArguments {
+    fn arg(&self, _i: usize, _buf: &mut [u8]) -> Result<usize, FillError> {
+        Err(FillError::NotPresent)
     }
 
     fn var(&self, _name: &str, _buf: &mut [u8]) -> Result<usize, FillError> {
