@@ -1,5 +1,5 @@
 -- Blocks of code units: what lanes see of a unit, and how surrogates are paired.
-use Rattle.std.specs.Prelude.{◌≡◌, ℕ, ◌/◌, ◌+◌, ◌%◌, ◌≤◌, Bool, false, List, [], ◌∷◌, ◌++◌, length, drop, map, take}
+use Rattle.std.specs.Prelude.{◌≡◌, ℕ, ◌/◌, ◌+◌, ◌%◌, ◌≤◌, Bool, false, cond, List, [], ◌∷◌, ◌++◌, length, drop, map, take}
 use Rattle.std.specs.Char.Utf16.{is_high_surrogate, is_low_surrogate}
 use Rattle.utf16_units.specs.Encoding.{units_of}
 
@@ -12,7 +12,8 @@ high_byte unit = unit / 256
 abbrev pub Paired : Bool → List ℕ → Bool → Type 0
 Paired before units after = map is_low_surrogate units ++ after ∷ [] ≡ before ∷ map is_high_surrogate units
 
--- the surrogates are paired with no `after`: a trailing unit is alone, or a leading one that is not the last
+-- the surrogates are not paired: a trailing unit has no leading one before it, or a leading one that is not the last has no
+-- trailing one behind it
 abbrev pub Unpaired : Bool → List ℕ → Type 0
 Unpaired before units = (after : Bool) → ¬ Paired before units after
 
@@ -25,3 +26,11 @@ pub record PairedTo (big : Bool) (bytes : List ℕ) (at : ℕ) (after : Bool) : 
 -- blocks of `size` bytes stop at `at`: fewer bytes are left, or the surrogates of the next block are not paired
 abbrev pub StopsAt : ℕ → Bool → List ℕ → ℕ → Bool → Type 0
 StopsAt size big bytes at before = at + size ≤ length bytes → Unpaired before (units_of big (take size (drop at bytes)))
+
+-- blocks of 32 bytes pass the bytes up to `size`: they stop at the place `at`, and a leading unit that ends there is left out
+pub record PassedTo (big : Bool) (bytes : List ℕ) (size : ℕ) : Type 0 where
+  pub at : ℕ
+  pub leading : Bool
+  pub paired : PairedTo big bytes at leading
+  pub stops : StopsAt 32 big bytes at leading
+  pub back : size + cond leading 2 0 ≡ at

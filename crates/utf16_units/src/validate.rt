@@ -3,7 +3,7 @@
 ghost use Rattle.std.specs.Prelude.{◌≡◌, ◌↔◌, ◌+◌, ◌<◌, ◌≤◌, length, take, IsOk, IfOk, IfErr};
 ghost use Rattle.utf16_units.specs.Encoding.{IsText};
 ghost use Rattle.utf16_units.specs.Fault.{BeginsWithChar, IsFaultAt};
-ghost use Rattle.utf16_units.specs.Lanes.{PairedTo, StopsAt};
+ghost use Rattle.utf16_units.specs.Lanes.{PairedTo, PassedTo, StopsAt};
 ghost use Rattle.utf16_units.specs.Utf16Error.{IsErrorOf};
 
 use crate::lanes::{high_bytes16, high_bytes32, paired};
@@ -26,6 +26,7 @@ pub fn validate_raw_utf16<E: Utf16Order>(raw: &[u8]) -> Result<(), Utf16Error>
 fn passed_blocks<E: Utf16Order>(raw: &[u8]) -> usize
     ensures within { result ≤ length raw.now }
     ensures text { IsText E.BIG (take result raw.now) }
+    ensures passed { PassedTo E.BIG raw.now result }
 {
     let (whole, leading) = paired_blocks::<E>(raw);
     let (at, leading) = paired_half_block::<E>(raw, whole, leading);
