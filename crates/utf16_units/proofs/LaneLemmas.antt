@@ -118,6 +118,15 @@ halves e k below = ⊎_elim
     ap₂ (λ r b. r + cond b (2 ^ k) 0) (ap (λ n. n % 2 ^ k) split ∙ mod_low 1 k (e - 2 ^ k) (omega arith)) (le-leb (2 ^ k) e high) ∙ omega arith)
     (cases_lt e (2 ^ k))
 
+-- the last bits of a number below a power of two, with the bit above them or without it
+low_part : (after : Bool) (k m : ℕ) → m < 2 ^ k → (m + cond after (2 ^ k) 0) % 2 ^ k ≡ m
+low_part true k m below =
+    let swapped : m + 2 ^ k ≡ 1 * 2 ^ k + m = omega arith in
+    ap (λ n. n % 2 ^ k) swapped ∙ mod_low 1 k m below
+low_part false k m below =
+    let same : m + 0 ≡ m = omega arith in
+    ap (λ n. n % 2 ^ k) same ∙ mod-eq_of_lt below
+
 byte-cond : (b : Bool) → bool_byte b ≡ cond b 1 0
 byte-cond true = refl
 byte-cond false = refl
@@ -159,3 +168,16 @@ module _ (highs : List ℕ) (n leading : ℕ) (long : length highs ≡ n)
       ∙ ap₂ (λ m b. m + cond b (2 ^ n) 0) (e ∙ ap (λ p. expected % p) power) (ap (λ p. leb p expected) power)
       ∙ halves expected n (omega (arith, leading-below, byte-cond before, bit-below before))
       ∙ omega (arith, bits units have, byte-cond before))
+
+  -- where the surrogates are paired, the trailing units are the leading ones one place on
+  pub bits_by_paired : (before after : Bool) (units : List ℕ) → n ≤ 32 → map high_byte units ≡ highs → Paired before units after
+      → mask_l (map is_low_surrogate units) ≡ (2 * leading + bool_byte before) % (1 * 2 ^ n % 2 ^ 64)
+  bits_by_paired before after units few have p =
+      let lows = map is_low_surrogate units in
+      let low_count = count is_low_surrogate units have in
+      let power : 1 * 2 ^ n % 2 ^ 64 ≡ 2 ^ n = one_shl n 64 (omega arith) in
+      let below : mask_l lows < 2 ^ n = subst (λ k. mask_l lows < 2 ^ k) low_count (mask_l-lt lows) in
+      let last : mask_l (before ∷ map is_high_surrogate units) ≡ mask_l lows + cond after (2 ^ n) 0 =
+      sym (ap mask_l p) ∙ mask_l-last lows after ∙ ap (λ k. mask_l lows + cond after (2 ^ k) 0) low_count in
+      let whole : mask_l lows + cond after (2 ^ n) 0 ≡ 2 * leading + bool_byte before = sym last ∙ omega (arith, bits units have, byte-cond before) in
+      sym (low_part after n (mask_l lows) below) ∙ ap (λ m. m % 2 ^ n) whole ∙ ap (λ p. (2 * leading + bool_byte before) % p) (sym power)

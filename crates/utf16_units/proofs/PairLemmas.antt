@@ -1,13 +1,13 @@
 -- Units whose surrogates are paired are those of a text, and of a leading unit behind it where the last one is leading.
-use Rattle.std.proofs.Common.{◌≡◌, ℕ, ◌+◌, ◌-◌, ◌*◌, ◌%◌, ◌<◌, ◌≤◌, Bool, true, false, cond, leb, ltb, List, [], ◌∷◌, ◌++◌, length, map, take, drop, slice_index, refl, sym, ap, ◌∙◌, subst, arith, append_assoc, Fits, w8, length-append, length-take-le}
+use Rattle.std.proofs.Common.{◌≡◌, ℕ, ◌+◌, ◌-◌, ◌*◌, ◌%◌, ◌<◌, ◌≤◌, Bool, true, false, cond, leb, ltb, List, [], ◌∷◌, ◌++◌, length, map, take, drop, slice_index, refl, sym, ap, ◌∙◌, subst, arith, append_assoc, Fits, w8, length-append, length-drop, length-take-le}
 use Rattle.std.proofs.lemmas.Bool.{and_from, and_parts, false≢true, false_from_ne_true, leb-true, le-leb, lt-ltb, ltb-true}
-use Rattle.std.proofs.lemmas.List.{map-append, take-take}
+use Rattle.std.proofs.lemmas.List.{append_cancel_left, drop-drop, map-append, take-take}
 use Rattle.std.proofs.lemmas.Simd.{chunk-fits}
 use lib.Lanes.{Each1}
 use Rattle.std.specs.Char.Utf16.{is_high_surrogate, is_low_surrogate}
 use Rattle.utf16_units.specs.Unit.{IsLeading, unit_of}
 use Rattle.utf16_units.specs.Encoding.{IsText, units_of}
-use Rattle.utf16_units.specs.Lanes.{Paired, PairedTo}
+use Rattle.utf16_units.specs.Lanes.{Paired, PairedTo, PassedTo, StopsAt}
 use Rattle.utf16_units.proofs.ContinuedLemmas.{four_bytes_text, two_bytes_text}
 use Rattle.utf16_units.proofs.EncodingLemmas.{IsText-append, IsText-nil}
 use Rattle.utf16_units.proofs.FaultLemmas.{take-past}
@@ -137,3 +137,39 @@ module _ (big : Bool) (bytes : List ℕ) (at : ℕ) (fits : (k : ℕ) → Fits w
 
   pub PairedTo-text_before : (after : Bool) → after ≡ true → PairedTo big bytes at after → IsText big (take (at - 2) bytes)
   PairedTo-text_before after e p = text_to true (at - 2) (subst (PairedTo big bytes at) e p) (omega (arith, PairedTo-some after e p))
+
+-- ---- where blocks stop
+
+-- whether the last unit is leading has one answer
+PairedTo-same : (big : Bool) (bytes : List ℕ) (at : ℕ) (a b : Bool) → PairedTo big bytes at a → PairedTo big bytes at b → a ≡ b
+PairedTo-same big bytes at a b p q =
+    ap head_bit (append_cancel_left (map is_low_surrogate (units_of big (take at bytes))) (a ∷ []) (b ∷ []) (p.paired ∙ sym q.paired))
+
+-- two half blocks are one block
+halves_paired : (big : Bool) (bytes : List ℕ) (before between after : Bool) → 32 ≤ length bytes → Paired before (units_of big (take 32 bytes)) between
+    → Paired between (units_of big (take 32 (drop 32 bytes))) after → Paired before (units_of big (take 64 bytes)) after
+halves_paired big bytes before between after long first second =
+    subst (λ units. Paired before units after) (sym (units_of-next big bytes 32 32 refl long))
+    (Paired-append before between after (units_of big (take 32 bytes)) (units_of big (take 32 (drop 32 bytes))) first second)
+
+module _ (big : Bool) (bytes : List ℕ) (whole at : ℕ) (before after : Bool) (p : PairedTo big bytes whole before) (far : StopsAt 64 big bytes whole before)
+    (q : PairedTo big bytes at after) (stop : StopsAt 32 big bytes whole before → at ≡ whole) (pass : ¬ StopsAt 32 big bytes whole before → at ≡ whole + 32) where
+  -- behind a place at which blocks of 64 bytes stop, at most one half block passes
+  half_stops : StopsAt 32 big bytes at after
+  half_stops long last block =
+      let moves : ¬ StopsAt 32 big bytes whole before = λ s.
+      let same = PairedTo-same big bytes whole before after p (subst (λ k. PairedTo big bytes k after) (stop s) q) in
+      let here : StopsAt 32 big bytes whole after = subst (λ b. StopsAt 32 big bytes whole b) same s in
+      subst (λ k. StopsAt 32 big bytes k after) (sym (stop s)) here long last block in
+      let on : at ≡ whole + 32 = pass moves in
+      moves (λ room between first.
+      let next = PairedTo-next big bytes whole 32 before between p refl room first in
+      let same = PairedTo-same big bytes (whole + 32) between after next (subst (λ k. PairedTo big bytes k after) on q) in
+      let there : drop at bytes ≡ drop 32 (drop whole bytes) = ap (λ k. drop k bytes) on ∙ sym (drop-drop 32 whole bytes) in
+      far (omega arith) last
+      (halves_paired big (drop whole bytes) before between last (omega (arith, length-drop whole bytes)) first
+      (subst (λ b. Paired b (units_of big (take 32 (drop 32 (drop whole bytes)))) last) (sym same)
+      (subst (λ rest. Paired after (units_of big (take 32 rest)) last) there block))))
+
+  pub PassedTo-half : (size : ℕ) → size + cond after 2 0 ≡ at → PassedTo big bytes size
+  PassedTo-half size e = record { at = at; leading = after; paired = q; stops = half_stops; back = e }

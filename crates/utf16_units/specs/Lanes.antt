@@ -1,5 +1,5 @@
 -- Blocks of code units: what lanes see of a unit, and how surrogates are paired.
-use Rattle.std.specs.Prelude.{◌≡◌, ℕ, ◌/◌, ◌%◌, ◌≤◌, Bool, false, List, [], ◌∷◌, ◌++◌, length, map, take}
+use Rattle.std.specs.Prelude.{◌≡◌, ℕ, ◌/◌, ◌+◌, ◌%◌, ◌≤◌, Bool, false, cond, List, [], ◌∷◌, ◌++◌, length, drop, map, take}
 use Rattle.std.specs.Char.Utf16.{is_high_surrogate, is_low_surrogate}
 use Rattle.utf16_units.specs.Encoding.{units_of}
 
@@ -12,8 +12,25 @@ high_byte unit = unit / 256
 abbrev pub Paired : Bool → List ℕ → Bool → Type 0
 Paired before units after = map is_low_surrogate units ++ after ∷ [] ≡ before ∷ map is_high_surrogate units
 
+-- the surrogates are not paired: a trailing unit has no leading one before it, or a leading one that is not the last has no
+-- trailing one behind it
+abbrev pub Unpaired : Bool → List ℕ → Type 0
+Unpaired before units = (after : Bool) → ¬ Paired before units after
+
 -- the bytes up to `at` are whole units whose surrogates are paired, and `after` says whether the last one is leading
 pub record PairedTo (big : Bool) (bytes : List ℕ) (at : ℕ) (after : Bool) : Type 0 where
   pub within : at ≤ length bytes
   pub even : at % 2 ≡ 0
   pub paired : Paired false (units_of big (take at bytes)) after
+
+-- blocks of `size` bytes stop at `at`: fewer bytes are left, or the surrogates of the next block are not paired
+abbrev pub StopsAt : ℕ → Bool → List ℕ → ℕ → Bool → Type 0
+StopsAt size big bytes at before = at + size ≤ length bytes → Unpaired before (units_of big (take size (drop at bytes)))
+
+-- blocks of 32 bytes pass the bytes up to `size`: they stop at the place `at`, and a leading unit that ends there is left out
+pub record PassedTo (big : Bool) (bytes : List ℕ) (size : ℕ) : Type 0 where
+  pub at : ℕ
+  pub leading : Bool
+  pub paired : PairedTo big bytes at leading
+  pub stops : StopsAt 32 big bytes at leading
+  pub back : size + cond leading 2 0 ≡ at

@@ -1,10 +1,10 @@
 //! Code units by lanes: the surrogates of a block as bits, whether they are paired, and whether a block is ASCII.
 
-ghost use Rattle.std.specs.Prelude.{◌≡◌, ◌↔◌, ◌<◌, ◌≤◌, ◌==◌, ℕ, All, List, IfSome, IsTrue, bit_and, map};
+ghost use Rattle.std.specs.Prelude.{◌≡◌, ◌↔◌, ◌<◌, ◌≤◌, ◌==◌, ℕ, All, List, IfNone, IfSome, IsTrue, bit_and, map};
 ghost use Rattle.std.specs.Char.Utf16.{is_high_surrogate, is_low_surrogate};
 ghost use Rattle.std.specs.Simd.Lanes.{mask_l};
 ghost use Rattle.utf16_units.specs.Encoding.{units_of};
-ghost use Rattle.utf16_units.specs.Lanes.{Paired, high_byte};
+ghost use Rattle.utf16_units.specs.Lanes.{Paired, Unpaired, high_byte};
 
 use crate::Utf16Order;
 use std::simd::prelude::*;
@@ -73,7 +73,8 @@ pub(crate) fn trailing_bits<const N: usize>(highs: Simd<u8, N>) -> u64
 #[inline(always)]
 pub(crate) fn paired<const N: usize>(highs: Simd<u8, N>, before: bool) -> Option<bool>
     requires { N ≤ 32 }
-    ensures { IfSome result (λ after. (units : List ℕ) → map high_byte units ≡ highs.entry → Paired before units after) }
+    ensures some { IfSome result (λ after. (units : List ℕ) → map high_byte units ≡ highs.entry → Paired before units after) }
+    ensures none { IfNone result ((units : List ℕ) → map high_byte units ≡ highs.entry → Unpaired before units) }
 {
     let expected = 2 * leading_bits(highs) + before as u64;
     if trailing_bits(highs) == expected % (1 << N) {

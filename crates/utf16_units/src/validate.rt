@@ -1,9 +1,9 @@
 //! The test whether bytes are well-formed UTF-16.
 
-ghost use Rattle.std.specs.Prelude.{◌≡◌, ◌↔◌, ◌<◌, ◌≤◌, length, take, IsOk, IfOk, IfErr};
+ghost use Rattle.std.specs.Prelude.{◌≡◌, ◌↔◌, ◌+◌, ◌<◌, ◌≤◌, length, take, IsOk, IfOk, IfErr};
 ghost use Rattle.utf16_units.specs.Encoding.{IsText};
 ghost use Rattle.utf16_units.specs.Fault.{BeginsWithChar, IsFaultAt};
-ghost use Rattle.utf16_units.specs.Lanes.{PairedTo};
+ghost use Rattle.utf16_units.specs.Lanes.{PairedTo, PassedTo, StopsAt};
 ghost use Rattle.utf16_units.specs.Utf16Error.{IsErrorOf};
 
 use crate::lanes::{high_bytes16, high_bytes32, paired};
@@ -23,9 +23,10 @@ pub fn validate_raw_utf16<E: Utf16Order>(raw: &[u8]) -> Result<(), Utf16Error>
 }
 
 // How many bytes from the front are well formed, as far as whole blocks show it.
-pub(crate) fn passed_blocks<E: Utf16Order>(raw: &[u8]) -> usize
+fn passed_blocks<E: Utf16Order>(raw: &[u8]) -> usize
     ensures within { result ≤ length raw.now }
     ensures text { IsText E.BIG (take result raw.now) }
+    ensures passed { PassedTo E.BIG raw.now result }
 {
     let (whole, leading) = paired_blocks::<E>(raw);
     let (at, leading) = paired_half_block::<E>(raw, whole, leading);
@@ -33,8 +34,9 @@ pub(crate) fn passed_blocks<E: Utf16Order>(raw: &[u8]) -> usize
 }
 
 // How far blocks of 64 bytes pass, and whether the last unit there is leading.
-pub(crate) fn paired_blocks<E: Utf16Order>(raw: &[u8]) -> (usize, bool)
-    ensures { PairedTo E.BIG raw.now result.0 result.1 }
+fn paired_blocks<E: Utf16Order>(raw: &[u8]) -> (usize, bool)
+    ensures paired { PairedTo E.BIG raw.now result.0 result.1 }
+    ensures stops { StopsAt 64 E.BIG raw.now result.0 result.1 }
 {
     let mut at = 0;
     let mut leading = false;
@@ -50,13 +52,11 @@ pub(crate) fn paired_blocks<E: Utf16Order>(raw: &[u8]) -> (usize, bool)
 }
 
 // The same with one block of 32 bytes behind them, where it passes.
-pub(crate) fn paired_half_block<E: Utf16Order>(
-    raw: &[u8],
-    at: usize,
-    leading: bool,
-) -> (usize, bool)
+fn paired_half_block<E: Utf16Order>(raw: &[u8], at: usize, leading: bool) -> (usize, bool)
     requires { PairedTo E.BIG raw.now at leading }
-    ensures { PairedTo E.BIG raw.now result.0 result.1 }
+    ensures paired { PairedTo E.BIG raw.now result.0 result.1 }
+    ensures stops { StopsAt 32 E.BIG raw.now at leading → result.0 ≡ at }
+    ensures passes { ¬ StopsAt 32 E.BIG raw.now at leading → result.0 ≡ at + 32 }
 {
     if raw.len() - at < 32 {
         return (at, leading);
@@ -71,7 +71,7 @@ pub(crate) fn paired_half_block<E: Utf16Order>(
 // The same test unit by unit, from a place on that well-formed bytes end at. A copy at each call: that of short fields starts
 // at 0, and costs them what it would without blocks.
 #[inline(always)]
-pub(crate) fn validate_units<E: Utf16Order>(raw: &[u8], from: usize) -> Result<(), Utf16Error>
+fn validate_units<E: Utf16Order>(raw: &[u8], from: usize) -> Result<(), Utf16Error>
     requires within { from ≤ length raw.now }
     requires before { IsText E.BIG (take from raw.now) }
     ensures text { IsOk result ↔ IsText E.BIG raw.now }

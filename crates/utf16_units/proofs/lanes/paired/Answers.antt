@@ -1,5 +1,5 @@
 use Rattle.std.proofs.Common.{sym, ◌∙◌, arith}
-use Rattle.utf16_units.proofs.LaneLemmas.{expected-fits, paired_by_bits}
+use Rattle.utf16_units.proofs.LaneLemmas.{bits_by_paired, expected-fits, paired_by_bits}
 use Rattle.utf16_units.proofs.lanes.paired.Goals as goal
 
 pub overflow_mul-expected : goal.overflow_mul-expected
@@ -10,7 +10,13 @@ pub overflow_add-expected : goal.overflow_add-expected
 overflow_add-expected g c =
     record { fits = omega (arith, expected-fits c.args.highs g.row.N c.leading_bits.result c.fits-highs.0 c.leading_bits.ensures c.args.before c.requires) }
 
-pub returns-then-trailing_bits-expected : goal.returns-then-trailing_bits-expected
-returns-then-trailing_bits-expected g c units e =
+pub returns-then-trailing_bits-expected-clause-some : goal.returns-then-trailing_bits-expected-clause-some
+returns-then-trailing_bits-expected-clause-some g c units e =
     paired_by_bits c.args.highs g.row.N c.leading_bits.result c.fits-highs.0 c.leading_bits.ensures c.args.before units c.requires e
     (sym (c.trailing_bits.ensures units e) ∙ c.if-trailing_bits-expected.true)
+
+pub returns-else-trailing_bits-expected-clause-none : goal.returns-else-trailing_bits-expected-clause-none
+returns-else-trailing_bits-expected-clause-none g c units e after p =
+    c.if-trailing_bits-expected.false
+    (c.trailing_bits.ensures units e
+    ∙ bits_by_paired c.args.highs g.row.N c.leading_bits.result c.fits-highs.0 c.leading_bits.ensures c.args.before after units c.requires e p)

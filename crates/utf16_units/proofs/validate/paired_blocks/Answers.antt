@@ -8,4 +8,4 @@ loop-at-init g c = PairedTo-none g.E.Utf16Order.BIG c.args.raw.now
 pub loop-at-preserved : goal.loop-at-preserved
 loop-at-preserved g c =
     PairedTo-next g.E.Utf16Order.BIG c.args.raw.now c.loop-at.at 64 c.loop-at.leading c.in-Some.last c.loop-at.invariant refl (omega arith)
-    (c.in-Some.ensures _ (sym c.high_bytes32.ensures))
+    (c.in-Some.ensures.some _ (sym c.high_bytes32.ensures))
