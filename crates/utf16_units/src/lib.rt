@@ -1,6 +1,8 @@
 //! UTF-16 units and bytes: byte orders, surrogates, one character, the validator and its error.
 #![tactic(auto)]
 
+#[cfg(test)]
+mod block_tests;
 mod char;
 pub mod compare;
 pub mod ends;

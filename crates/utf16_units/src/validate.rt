@@ -71,7 +71,7 @@ fn paired_half_block<E: Utf16Order>(raw: &[u8], at: usize, leading: bool) -> (us
 // The same test unit by unit, from a place on that well-formed bytes end at. A copy at each call: that of short fields starts
 // at 0, and costs them what it would without blocks.
 #[inline(always)]
-fn validate_units<E: Utf16Order>(raw: &[u8], from: usize) -> Result<(), Utf16Error>
+pub(crate) fn validate_units<E: Utf16Order>(raw: &[u8], from: usize) -> Result<(), Utf16Error>
     requires within { from ≤ length raw.now }
     requires before { IsText E.BIG (take from raw.now) }
     ensures text { IsOk result ↔ IsText E.BIG raw.now }
