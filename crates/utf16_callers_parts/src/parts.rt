@@ -1,6 +1,6 @@
 //! Parts of a text, cut at boundaries that a call or a law tells.
 
-ghost use Rattle.std.specs.Prelude.{◌≡◌, ◌≢◌, ◌↔◌, ◌++◌, ◌+◌, ◌≤◌, [], ◌∷◌, ℕ, IfNone, IfOk, IfSome, IsNone, IsSome, IsTrue, OnErr, OnOk, chars, drop, length, map, take};
+ghost use Rattle.std.specs.Prelude.{◌≡◌, ◌≢◌, ◌↔◌, ◌++◌, ◌+◌, ◌≤◌, [], ◌∷◌, ℕ, All, IfNone, IfOk, IfSome, IsNone, IsSome, IsTrue, OnErr, OnOk, chars, drop, length, map, take};
 ghost use Rattle.utf16_units.specs.Boundary.{IsBoundary, text_between, text_from, text_to};
 ghost use Rattle.utf16_units.specs.Delimited.{Lacks};
 ghost use Rattle.utf16_units.specs.Encoding.{Encodes, size};
@@ -34,13 +34,14 @@ pub fn halves<'a, E: Utf16Order>(text: WStr<'a, E>, at: usize) -> Option<(WStr<'
     Some((text.get(..at)?, text.get(at..)?))
 }
 
-/// Gives what stands before the first such character, and what stands behind it.
+/// Gives what stands before such a character, and what stands behind it; nothing where no offset of the text has one.
 #[tactic(auto, using(utf16_units::proofs::Rules::boundaries))]
 pub fn around<'a, E: Utf16Order>(
     text: WStr<'a, E>,
     wanted: char,
 ) -> Option<(WStr<'a, E>, WStr<'a, E>)>
     ensures some { IfSome result (λ parts. wstr_text text.entry ≡ wstr_text parts.0 ++ wanted ∷ wstr_text parts.1) }
+    ensures none { IfNone result (All (λ at. at.1 ≢ wanted) (char_offsets 0 (wstr_text text.entry))) }
 {
     let (at, c) = text.char_indices().find(|at| at.1 == wanted)?;
     Some((text.index(..at), text.index(at + c.encoded_utf16_len()..)))
