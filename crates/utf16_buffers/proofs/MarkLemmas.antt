@@ -24,7 +24,7 @@ use Rattle.utf16_forms.proofs.DecodesLemmas.{Decodes-none, Decodes-then, cut_off
 use Rattle.utf16_forms.proofs.FaultDecides.{fault_decides}
 use Rattle.utf16_buffers.specs.Shown.{ShowsWhole, text_of_utf16}
 use Rattle.utf16_buffers.specs.Wrote.{DecodesTo, IsUtf8Of, Wrote}
-use Rattle.utf16_buffers.specs.Stops.{NextDoesNotFit, StopsDecoding, StopsMarking, StopsMarkingWhole, TextDoesNotFit}
+use Rattle.utf16_buffers.specs.Stops.{StopsDecoding, StopsMarking, StopsMarkingWhole, TextDoesNotFit}
 use Rattle.utf16_buffers.specs.declared.progress.Stop.{Stop}
 use Rattle.utf16_buffers.specs.declared.progress.Stop.TheVariants.{CutOff, Done, Fault, NoRoom}
 use Rattle.utf16_buffers.proofs.WroteLemmas.{take-end}

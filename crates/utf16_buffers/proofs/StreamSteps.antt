@@ -183,26 +183,28 @@ module _ (big : Bool) (held piece to : List ℕ) (at written : ℕ) (front : Dec
     read_is : read ≡ at - length held
     read_is = let behind = length-drop (at - length held) piece in let fits = within in omega arith
 
-    left_is : drop at held ++ drop read piece ≡ rest
-    left_is = ap (λ k. drop at held ++ drop k piece) read_is ∙ join_drop held piece at
+    -- what the stream holds then is what is left of the held bytes
+    module _ (left : List ℕ) (left_is : left ≡ drop at held) where
+      rest_is : left ++ drop read piece ≡ rest
+      rest_is = ap₂ (λ h k. h ++ drop k piece) left_is read_is ∙ join_drop held piece at
 
-    pub Feeds-full : Feeds big held piece (drop at held) to read written
-    Feeds-full =
-        let fits = within in
-        record {
-          within = omega (arith, is);
-          room = front.room;
-          decodes = subst (λ r. Decodes big all r [] (take written to)) (sym left_is) front.decodes;
-        }
+      pub Feeds-full : Feeds big held piece left to read written
+      Feeds-full =
+          let fits = within in
+          record {
+            within = omega (arith, is);
+            room = front.room;
+            decodes = subst (λ r. Decodes big all r [] (take written to)) (sym rest_is) front.decodes;
+          }
 
-    pub stops_full : StopsFeeding big held piece (drop at held) read (length to - written) NoRoom
-    stops_full = (
-      ⊎_elim
-          (λ (before : at < length held). inl (omega (arith, read_is, before)))
-          (λ (behind : length held ≤ at). inr (drop_all at held behind))
-          (cases_lt at (length held)),
-      subst (λ b. TextDoesNotFit encode_utf8 (marked (split_items big b)) (length to - written)) (sym left_is) full,
-    )
+      pub stops_full : StopsFeeding big held piece left read (length to - written) NoRoom
+      stops_full = (
+        ⊎_elim
+            (λ (before : at < length held). inl (omega (arith, read_is, before)))
+            (λ (behind : length held ≤ at). inr (left_is ∙ drop_all at held behind))
+            (cases_lt at (length held)),
+        subst (λ b. TextDoesNotFit encode_utf8 (marked (split_items big b)) (length to - written)) (sym rest_is) full,
+      )
 
     next_long : length (shown (split_items big rest)) ≡ length (encode_utf8 full.char) + length (encode_utf8_all full.more)
     next_long = ap (λ t. length (encode_utf8_all t)) full.begins ∙ length-append (encode_utf8 full.char) (encode_utf8_all full.more)
@@ -215,8 +217,8 @@ module _ (big : Bool) (held piece to : List ℕ) (at written : ℕ) (front : Dec
 
   -- all was taken
   module _ (undecided : split_tail big rest ≡ rest) where
-    pub few_left : length (drop at held ++ drop (at - length held) piece) ≤ 3
-    few_left = omega (arith, ap length (join_drop held piece at), ap length undecided, length-split_tail big rest)
+    pub few_left : length rest ≤ 3
+    few_left = omega (arith, ap length undecided, length-split_tail big rest)
 
     pub Feeds-done : (left : List ℕ) → left ≡ rest → Feeds big held piece left to (length piece) written
     Feeds-done left is = record {

@@ -3,7 +3,7 @@
 ghost use Rattle.std.specs.Prelude.{◌≡◌, ◌≢◌, ◌↔◌, ◌+◌, ◌-◌, ◌<◌, ◌≤◌, [], ◌++◌, length, take, drop, encode_utf8_all};
 ghost use Rattle.utf16_units.specs.Split.{full, marked, split_items};
 ghost use Rattle.utf16_buffers.specs.Stops.{StopsMarking};
-ghost use Rattle.utf16_buffers.specs.Stream.{Feeds, StopsFeeding};
+ghost use Rattle.utf16_buffers.specs.Stream.{Feeds, StopsFeeding, stream_held};
 ghost use Rattle.utf16_buffers.specs.Wrote.{DecodesTo};
 ghost use Rattle.utf16_buffers.specs.declared.progress.Stop.TheVariants.{Done, NoRoom};
 
@@ -21,8 +21,6 @@ pub struct Stream {
 }
 
 impl Stream {
-    ghost use Rattle.utf16_buffers.specs.Stream.{stream_held};
-
     /// A stream that was given nothing yet.
     pub fn new() -> Self
         ensures { stream_held result ≡ [] }
@@ -66,24 +64,9 @@ impl Stream {
         ensures whole { (result.stop ≡ Done) ↔ (length (encode_utf8_all (marked (split_items E.BIG (stream_held self.old ++ piece.now)))) ≤ length to.new) }
         ensures filled { result.stop ≡ NoRoom → length to.new < result.written + 4 }
     {
-        let front = decode_joined::<E>(self.held(), piece, to);
-        let (held, rest) = rest_of(self.held(), piece, front.read);
-        if let Stop::NoRoom = front.stop {
-            let read = piece.len() - rest.len();
-            *self = Stream::of(held);
-            return Progress {
-                read,
-                written: front.written,
-                stop: Stop::NoRoom,
-            };
-        }
-        let (tail, len) = seam(held, rest);
-        *self = Stream::of(&tail[..len]);
-        Progress {
-            read: piece.len(),
-            written: front.written,
-            stop: Stop::Done,
-        }
+        let (progress, held) = feed_behind::<E>(self.held(), piece, to);
+        *self = held;
+        progress
     }
 
     /// Ends the stream: writes U+FFFD in UTF-8 to the front of a buffer where bytes are held, and else nothing. No bytes are held
@@ -118,6 +101,33 @@ impl Stream {
             stop: Stop::Done,
         }
     }
+}
+
+// Takes the next piece behind held bytes, as `feed` does: how far it came, and the stream that holds what is undecided then.
+fn feed_behind<E: Utf16Order>(held: &[u8], piece: &[u8], to: &mut [u8]) -> (Progress, Stream)
+    requires { length held.now ≤ 3 }
+    ensures feeds { Feeds E.BIG held.now piece.now (stream_held result.1) to.new result.0.read result.0.written }
+    ensures stop { StopsFeeding E.BIG held.now piece.now (stream_held result.1) result.0.read (length to.new - result.0.written) result.0.stop }
+    ensures whole { (result.0.stop ≡ Done) ↔ (length (encode_utf8_all (marked (split_items E.BIG (held.now ++ piece.now)))) ≤ length to.new) }
+    ensures filled { result.0.stop ≡ NoRoom → length to.new < result.0.written + 4 }
+{
+    let front = decode_joined::<E>(held, piece, to);
+    let (held, rest) = rest_of(held, piece, front.read);
+    if let Stop::NoRoom = front.stop {
+        let full = Progress {
+            read: piece.len() - rest.len(),
+            written: front.written,
+            stop: Stop::NoRoom,
+        };
+        return (full, Stream::of(held));
+    }
+    let (tail, len) = seam(held, rest);
+    let done = Progress {
+        read: piece.len(),
+        written: front.written,
+        stop: Stop::Done,
+    };
+    (done, Stream::of(&tail[..len]))
 }
 
 // Decodes held bytes and a piece behind them as `decode` does, as if they stood together: four bytes where they meet go through a

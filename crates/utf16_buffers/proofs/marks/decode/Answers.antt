@@ -1,7 +1,5 @@
-use Rattle.std.proofs.Common.{◌≡◌, ◌-◌, ◌<◌, length, arith, rules, subst}
-use Rattle.utf16_units.specs.Fault.{IsFault, IsFront}
+use Rattle.std.proofs.Common.{◌-◌, length, arith, rules, subst}
 use Rattle.utf16_units.proofs.FaultLemmas.{rest_from}
-use Rattle.utf16_units.proofs.FirstChar.{AreBytes}
 use Rattle.utf16_buffers.specs.Stops.{StopsDecoding}
 use Rattle.utf16_buffers.specs.declared.progress.Stop.TheVariants.{Fault}
 use Rattle.utf16_buffers.proofs.MarkLemmas.{DecodesTo-mark, DecodesTo-text, mark_does_not_fit, stops_marking}

@@ -1,6 +1,5 @@
 use Rattle.std.proofs.Common.{◌-◌, length}
 use Rattle.utf16_buffers.specs.Wrote.{DecodesTo}
-use Rattle.utf16_units.proofs.FirstChar.{AreBytes}
 use Rattle.utf16_buffers.proofs.marks.decode.Given as goal
 
 -- what was read so far is decided and written

@@ -1,8 +1,7 @@
-use Rattle.std.proofs.Common.{◌≡◌, ◌≢◌, [], drop, length, refl, rules, sym, subst, ap}
-use Rattle.std.specs.Char.{encode_utf8}
+use Rattle.std.proofs.Common.{◌≡◌, ◌≢◌, [], drop, rules, subst}
 use Rattle.utf16_units.specs.Split.{split_tail}
 use Rattle.utf16_buffers.specs.Stops.{StopsMarking}
-use Rattle.utf16_buffers.proofs.MarkLemmas.{ShowsWhole-decoded, ShowsWhole-tail, stops_whole, tail_does_not_fit}
+use Rattle.utf16_buffers.proofs.MarkLemmas.{ShowsWhole-tail, tail_does_not_fit}
 use Rattle.utf16_buffers.proofs.marks.decode_whole.Given.{Over}
 use Rattle.utf16_buffers.proofs.marks.decode_whole.Goals as goal
 use Rattle.utf16_buffers.proofs.marks.decode_whole.Goals.{In-CutOff}

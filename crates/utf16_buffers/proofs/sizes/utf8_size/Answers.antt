@@ -1,4 +1,4 @@
-use Rattle.std.proofs.Common.{◌≡◌, ◌+◌, ◌≤◌, encode_utf8_all, length, take, drop, arith, refl, sym, ap, ◌∙◌, subst}
+use Rattle.std.proofs.Common.{◌≡◌, ◌+◌, ◌≤◌, encode_utf8_all, length, drop, arith, refl, sym, ap, ◌∙◌, subst}
 use Rattle.std.proofs.lemmas.List.{take_rest}
 use Rattle.utf16_units.specs.Encoding.{text_of}
 use Rattle.utf16_units.proofs.FirstChar.{AreBytes}

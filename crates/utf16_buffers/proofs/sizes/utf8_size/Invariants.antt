@@ -1,4 +1,4 @@
-use Rattle.std.proofs.Common.{◌≡◌, ◌+◌, ◌≤◌, encode_utf8_all, length}
+use Rattle.std.proofs.Common.{◌≡◌, ◌+◌, encode_utf8_all, length}
 use Rattle.utf16_units.proofs.FirstChar.{AreBytes}
 use Rattle.utf16_buffers.specs.Shown.{text_of_utf16}
 use Rattle.utf16_buffers.proofs.sizes.utf8_size.Given as goal

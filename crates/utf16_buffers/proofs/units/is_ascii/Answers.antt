@@ -1,4 +1,4 @@
-use Rattle.std.proofs.Common.{arith, rules}
+use Rattle.std.proofs.Common.{arith}
 use Rattle.utf16_units.proofs.AsciiLemmas.{ascii_bytes}
 use Rattle.utf16_units.proofs.CountLemmas.{counted_bytes}
 use Rattle.utf16_buffers.proofs.units.is_ascii.Goals as goal

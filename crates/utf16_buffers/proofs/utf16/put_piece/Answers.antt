@@ -1,4 +1,4 @@
-use Rattle.std.proofs.Common.{◌+◌, ◌≤◌, length, take, arith, refl, rules, subst, ◌∙◌, length-take, take-take}
+use Rattle.std.proofs.Common.{take, arith, refl, rules, subst, ◌∙◌, length-take, take-take}
 use Rattle.std.specs.Str.{IsUtf8}
 use Rattle.utf16_from_utf8.proofs.AppendLemmas.{added_bytes-text}
 use Rattle.utf16_buffers.proofs.WroteLemmas.{Puts-put}

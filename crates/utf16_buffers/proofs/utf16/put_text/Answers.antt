@@ -1,4 +1,4 @@
-use Rattle.std.proofs.Common.{◌≡◌, ◌++◌, take, arith, rules, ap, ◌∙◌}
+use Rattle.std.proofs.Common.{◌++◌, take, arith, rules, ap, ◌∙◌}
 use Rattle.utf16_from_utf8.proofs.AppendLemmas.{added_bytes-text}
 use Rattle.utf16_buffers.proofs.EncodeLemmas.{long_enough}
 use Rattle.utf16_buffers.proofs.utf16.put_text.Goals as goal
