@@ -93,7 +93,7 @@ utf16_progress utf16_from_utf8_marked(bool big, const uint8_t *text, size_t len,
 utf16_progress utf16_to_utf8_stream(bool big, const uint8_t *raw, size_t len, uint8_t *to, size_t room);
 
 /* What a stream holds between its pieces: at most 3 bytes that were given and are not decided. All zero, as in utf16_stream stream
- * = {{0}, 0}, it begins a stream. Any values are allowed: a `len` above 3 is read as 3. */
+ * = {{0}, 0}, it begins a stream. Any values are allowed: a `len` above 3 is read as 3, and no utf16_stream_feed leaves one. */
 typedef struct utf16_stream {
     uint8_t bytes[3];
     uint8_t len;
@@ -106,7 +106,8 @@ typedef struct utf16_stream {
 utf16_progress utf16_stream_feed(bool big, utf16_stream *stream, const uint8_t *piece, size_t len, uint8_t *to, size_t room);
 
 /* Ends a stream when its last piece was taken: writes U+FFFD, of 3 bytes, where bytes are held, and else nothing; no bytes are
- * held then, and the state begins a new stream: UTF16_DONE. With UTF16_NO_ROOM nothing changed. `read` is 0. */
+ * held then, and the state begins a new stream: UTF16_DONE. With UTF16_NO_ROOM nothing changed. `read` is 0. Here what stands in
+ * `to` behind `written` bytes stays as it was. */
 utf16_progress utf16_stream_finish(utf16_stream *stream, uint8_t *to, size_t room);
 
 /* The byte order at the beginning of a stream. */

@@ -1,6 +1,6 @@
 //! How far a call came, and why it stopped there.
 
-ghost use Rattle.std.specs.Prelude.{◌≡◌, ◌+◌, ◌≤◌, ◌++◌, length, take};
+ghost use Rattle.std.specs.Prelude.{◌≡◌, ◌+◌, ◌≤◌, ◌++◌, length, take, drop};
 
 /// Why a call stopped.
 #[derive(Clone, Copy, Debug, PartialEq, Eq)]
@@ -34,6 +34,7 @@ pub(crate) fn put(bytes: &[u8], to: &mut [u8], at: usize) -> usize
     requires { at + length bytes.now ≤ length to.old }
     ensures end { result ≡ at + length bytes.now }
     ensures bytes { take result to.new ≡ take at to.old ++ bytes.now }
+    ensures rest { drop result to.new ≡ drop result to.old }
 {
     let end = at + bytes.len();
     to[at..end].copy_from_slice(bytes);

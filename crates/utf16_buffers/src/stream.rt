@@ -12,7 +12,7 @@ use crate::progress::{Progress, Stop, put};
 use utf16_units::Utf16Order;
 
 /// What a stream holds between two pieces: its last bytes, at most three, where only more bytes tell what they are. Any values are
-/// allowed in the fields: a `len` above three is read as three. All zero is a stream that was given nothing.
+/// allowed in the fields: a `len` above three is read as three, and no `feed` leaves one. All zero is a stream that was given nothing.
 #[repr(C)]
 #[derive(Clone, Copy, Debug)]
 pub struct Stream {
@@ -34,7 +34,8 @@ impl Stream {
     // A stream that holds these bytes.
     fn of(held: &[u8]) -> Self
         requires { length held.now ≤ 3 }
-        ensures { stream_held result ≡ held.now }
+        ensures held { stream_held result ≡ held.now }
+        ensures few { result.len ≤ 3 }
     {
         let mut bytes = [0; 3];
         bytes[..held.len()].copy_from_slice(held);
@@ -63,6 +64,7 @@ impl Stream {
         ensures stop { StopsFeeding E.BIG (stream_held self.old) piece.now (stream_held self.new) result.read (length to.new - result.written) result.stop }
         ensures whole { (result.stop ≡ Done) ↔ (length (encode_utf8_all (marked (split_items E.BIG (stream_held self.old ++ piece.now)))) ≤ length to.new) }
         ensures filled { result.stop ≡ NoRoom → length to.new < result.written + 4 }
+        ensures few { self.new.len ≤ 3 }
     {
         let (progress, held) = feed_behind::<E>(self.held(), piece, to);
         *self = held;
@@ -70,12 +72,14 @@ impl Stream {
     }
 
     /// Ends the stream: writes U+FFFD in UTF-8 to the front of a buffer where bytes are held, and else nothing. No bytes are held
-    /// then. With `NoRoom` the buffer has fewer than three bytes, and nothing changed. `read` is 0.
+    /// then. With `NoRoom` the buffer has fewer than three bytes, and nothing changed. `read` is 0. What stands behind the written
+    /// bytes stays.
     pub fn finish(&mut self, to: &mut [u8]) -> Progress
         ensures read { result.read ≡ 0 }
         ensures done { (result.stop ≡ Done) ↔ (length (encode_utf8_all (full [] (stream_held self.old))) ≤ length to.new) }
         ensures text { result.stop ≡ Done → take result.written to.new ≡ encode_utf8_all (full [] (stream_held self.old)) }
         ensures room { result.written ≤ length to.new }
+        ensures rest { drop result.written to.new ≡ drop result.written to.old }
         ensures held { result.stop ≡ Done → stream_held self.new ≡ [] }
         ensures refused { result.stop ≢ Done → (result.stop ≡ NoRoom) × (result.written ≡ 0) }
         ensures kept { result.stop ≢ Done → (self.new ≡ self.old) × (to.new ≡ to.old) }
@@ -110,6 +114,7 @@ fn feed_behind<E: Utf16Order>(held: &[u8], piece: &[u8], to: &mut [u8]) -> (Prog
     ensures stop { StopsFeeding E.BIG held.now piece.now (stream_held result.1) result.0.read (length to.new - result.0.written) result.0.stop }
     ensures whole { (result.0.stop ≡ Done) ↔ (length (encode_utf8_all (marked (split_items E.BIG (held.now ++ piece.now)))) ≤ length to.new) }
     ensures filled { result.0.stop ≡ NoRoom → length to.new < result.0.written + 4 }
+    ensures few { result.1.len ≤ 3 }
 {
     let front = decode_joined::<E>(held, piece, to);
     let (held, rest) = rest_of(held, piece, front.read);

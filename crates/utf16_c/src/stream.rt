@@ -1,6 +1,6 @@
 //! A stream for C whose state the library fills.
 
-ghost use Rattle.std.specs.Prelude.{◌≡◌, ◌≢◌, ◌↔◌, ◌+◌, ◌-◌, ◌<◌, ◌≤◌, [], ◌++◌, length, take, encode_utf8_all};
+ghost use Rattle.std.specs.Prelude.{◌≡◌, ◌≢◌, ◌↔◌, ◌+◌, ◌-◌, ◌<◌, ◌≤◌, [], ◌++◌, drop, length, take, encode_utf8_all};
 ghost use Rattle.utf16_units.specs.Split.{full, marked, split_items};
 ghost use Rattle.utf16_buffers.specs.Stream.{Feeds, StopsFeeding, stream_held};
 ghost use Rattle.utf16_buffers.specs.declared.progress.Stop.TheVariants.{Done, NoRoom};
@@ -12,7 +12,8 @@ use utf16_units::{BE, LE};
 
 /// Takes the next piece of a stream and writes in UTF-8 what is decided now, as far as whole characters fit: the characters, and
 /// U+FFFD for each surrogate without its partner. `read` counts the bytes of the piece that were taken: all of them, or the next
-/// character does not fit. Any bytes are allowed in the state. One pass over what is read.
+/// character does not fit. Any bytes are allowed in the state, and a `len` of at most three is left there. One pass over what is
+/// read.
 #[unsafe(no_mangle)]
 pub extern "C" fn utf16_stream_feed(
     big: bool,
@@ -24,6 +25,7 @@ pub extern "C" fn utf16_stream_feed(
     ensures stop { StopsFeeding big (stream_held stream.old) piece.now (stream_held stream.new) result.read (length to.new - result.written) (stop_of result.status result.fault_len) }
     ensures whole { (stop_of result.status result.fault_len ≡ Done) ↔ (length (encode_utf8_all (marked (split_items big (stream_held stream.old ++ piece.now)))) ≤ length to.new) }
     ensures filled { stop_of result.status result.fault_len ≡ NoRoom → length to.new < result.written + 4 }
+    ensures few { stream.new.len ≤ 3 }
     ensures numbers { AreNumbers result.status result.fault_len }
 {
     answer_of(if big {
@@ -33,14 +35,15 @@ pub extern "C" fn utf16_stream_feed(
     })
 }
 
-/// Ends a stream: writes U+FFFD in UTF-8 where bytes are held, and else nothing. With fewer than three bytes of room for it nothing
-/// changes.
+/// Ends a stream: writes U+FFFD in UTF-8 where bytes are held, and else nothing. What stands behind it stays. With fewer than three
+/// bytes of room for it nothing changes.
 #[unsafe(no_mangle)]
 pub extern "C" fn utf16_stream_finish(stream: &mut Stream, to: &mut [u8]) -> Answer
     ensures read { result.read ≡ 0 }
     ensures done { (stop_of result.status result.fault_len ≡ Done) ↔ (length (encode_utf8_all (full [] (stream_held stream.old))) ≤ length to.new) }
     ensures text { stop_of result.status result.fault_len ≡ Done → take result.written to.new ≡ encode_utf8_all (full [] (stream_held stream.old)) }
     ensures room { result.written ≤ length to.new }
+    ensures rest { drop result.written to.new ≡ drop result.written to.old }
     ensures held { stop_of result.status result.fault_len ≡ Done → stream_held stream.new ≡ [] }
     ensures refused { stop_of result.status result.fault_len ≢ Done → (stop_of result.status result.fault_len ≡ NoRoom) × (result.written ≡ 0) }
     ensures kept { stop_of result.status result.fault_len ≢ Done → (stream.new ≡ stream.old) × (to.new ≡ to.old) }

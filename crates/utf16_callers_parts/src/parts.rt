@@ -1,6 +1,7 @@
 //! Parts of a text, cut at boundaries that a call or a law tells.
 
-ghost use Rattle.std.specs.Prelude.{◌≡◌, ◌≢◌, ◌↔◌, ◌++◌, ◌+◌, ◌≤◌, [], ◌∷◌, ℕ, All, IfNone, IfOk, IfSome, IsNone, IsSome, IsTrue, OnErr, OnOk, chars, drop, length, map, take};
+ghost use Rattle.std.specs.Prelude.{◌≡◌, ◌≢◌, ◌==◌, ◌↔◌, ◌++◌, ◌+◌, ◌≤◌, [], ◌∷◌, ℕ, All, IfNone, IfOk, IfSome, IsNone, IsSome, IsTrue, OnErr, OnOk, chars, drop, length, map, option_map, slice_get, take};
+ghost use Rattle.std.specs.List.{slice_split};
 ghost use Rattle.utf16_units.specs.Boundary.{IsBoundary, text_between, text_from, text_to};
 ghost use Rattle.utf16_units.specs.Delimited.{Lacks};
 ghost use Rattle.utf16_units.specs.Encoding.{Encodes, size};
@@ -126,4 +127,28 @@ pub fn is_name<E: Utf16Order>(text: WStr<E>, name: &str) -> bool
     ensures { IsTrue result ↔ (wstr_text text.entry ≡ chars name.now) }
 {
     text.eq_str(name)
+}
+
+/// The fields of a line, between its commas.
+pub fn fields<'a, E: Utf16Order, A: Allocator>(
+    alloc: A,
+    line: WStr<'a, E>,
+) -> Result<Vec<WStr<'a, E>, A>, AllocError>
+    ensures { IfOk result (λ fields. map wstr_text fields.items ≡ slice_split (λ c. c == 44) (wstr_text line.entry)) }
+{
+    line.split(',').collect(alloc)
+}
+
+/// The field of a number, counted from 0.
+pub fn field<'a, E: Utf16Order>(line: WStr<'a, E>, number: usize) -> Option<WStr<'a, E>>
+    ensures { option_map wstr_text result ≡ slice_get (slice_split (λ c. c == 44) (wstr_text line.entry)) number }
+{
+    line.split(',').nth(number)
+}
+
+/// How many fields a line has.
+pub fn fields_in<E: Utf16Order>(line: WStr<E>) -> usize
+    ensures { result ≡ length (slice_split (λ c. c == 44) (wstr_text line.entry)) }
+{
+    line.split(',').count()
 }

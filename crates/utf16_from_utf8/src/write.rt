@@ -1,6 +1,6 @@
 //! UTF-16 written from UTF-8, piece by piece: a piece may begin and end anywhere, for each byte is looked at with the two before it.
 
-ghost use Rattle.std.specs.Prelude.{◌≡◌, ◌+◌, ◌*◌, ◌<◌, ◌≤◌, ◌++◌, ◌∷◌, [], ℕ, bit_and, length, slice_index, take};
+ghost use Rattle.std.specs.Prelude.{◌≡◌, ◌+◌, ◌*◌, ◌<◌, ◌≤◌, ◌++◌, ◌∷◌, [], ℕ, bit_and, drop, length, slice_index, take};
 ghost use Rattle.std.specs.Simd.Lanes.{zip2};
 ghost use Rattle.utf16_from_utf8.specs.Added.{added_bytes, unit_behind};
 ghost use Rattle.utf16_from_utf8.specs.Lanes.{pairs_of};
@@ -15,8 +15,19 @@ use utf16_units::Utf16Order;
 
 /// Writes what the bytes of a piece of UTF-8 add in UTF-16, and answers how many bytes that are. `before` is the two bytes
 /// that stand before the piece, zeros where there are none. The caller proves that the buffer has two bytes for each byte of
-/// the piece and sixteen more. What stands behind the bytes written may be written over. One pass.
+/// the piece and sixteen more. What stands behind the bytes written may be written over, up to the end of that room. One pass.
 pub fn write_units<E: Utf16Order>(before: [u8; 2], piece: &[u8], out: &mut [u8]) -> usize
+    requires { 2 * length piece.now + 16 ≤ length out.old }
+    ensures bytes { take result out.new ≡ added_bytes E.BIG (slice_index before 0) (slice_index before 1) piece.now }
+    ensures end { result ≤ 2 * length piece.now }
+    ensures rest { drop (2 * length piece.now + 16) out.new ≡ drop (2 * length piece.now + 16) out.old }
+{
+    let room = 2 * piece.len() + 16;
+    put_units::<E>(before, piece, &mut out[..room])
+}
+
+// The same, where what stands behind that room may be written over too.
+fn put_units<E: Utf16Order>(before: [u8; 2], piece: &[u8], out: &mut [u8]) -> usize
     requires { 2 * length piece.now + 16 ≤ length out.old }
     ensures bytes { take result out.new ≡ added_bytes E.BIG (slice_index before 0) (slice_index before 1) piece.now }
     ensures end { result ≤ 2 * length piece.now }

@@ -9,6 +9,7 @@ pub use Rattle.utf16_units.specs.Numbered
 pub use Rattle.utf16_units.specs.Edit
 pub use Rattle.utf16_units.specs.Order
 pub mod Offsets
+pub mod Splits
 pub mod Window
 pub mod WStr
 pub mod WStrMut

@@ -15,7 +15,7 @@ use utf16_units::{Utf16CharExt, Utf16Order};
 /// The characters left of a [`WStr`], from either end. Where none is left, `next` and `next_back` answer `None` for good.
 #[derive(Drop)]
 pub struct WStrChars<'a, E: Utf16Order> {
-    rest: WStr<'a, E>,
+    pub(crate) rest: WStr<'a, E>,
 }
 
 impl<'a, E: Utf16Order> Model for WStrChars<'a, E> {
@@ -26,21 +26,6 @@ impl<'a, E: Utf16Order> Model for WStrChars<'a, E> {
 
 impl<'a, E: Utf16Order> WStrChars<'a, E> {
     ghost use Rattle.utf16_str.specs.WStr.{wstr_text};
-
-    #[inline]
-    pub(crate) fn new(rest: WStr<'a, E>) -> Self
-        ensures { result ≡ wstr_text rest.entry }
-    {
-        WStrChars { rest }
-    }
-
-    // How many bytes the characters left take.
-    #[inline]
-    fn byte_len(&self) -> usize
-        ensures { result ≡ size self.now }
-    {
-        self.rest.len()
-    }
 
     /// What is left, as a view.
     #[inline]
@@ -114,8 +99,8 @@ impl<'a, E: Utf16Order> fmt::Debug for WStrChars<'a, E> {
 /// `next_back` answer `None` for good.
 #[derive(Drop)]
 pub struct WStrCharIndices<'a, E: Utf16Order> {
-    offset: usize,
-    chars: WStrChars<'a, E>,
+    pub(crate) offset: usize,
+    pub(crate) chars: WStrChars<'a, E>,
 }
 
 impl<'a, E: Utf16Order> Model for WStrCharIndices<'a, E> {
@@ -128,16 +113,6 @@ impl<'a, E: Utf16Order> Model for WStrCharIndices<'a, E> {
 
 impl<'a, E: Utf16Order> WStrCharIndices<'a, E> {
     ghost use Rattle.utf16_str.specs.WStr.{wstr_text};
-
-    #[inline]
-    pub(crate) fn new(rest: WStr<'a, E>) -> Self
-        ensures { result ≡ char_offsets 0 (wstr_text rest.entry) }
-    {
-        WStrCharIndices {
-            offset: 0,
-            chars: rest.chars(),
-        }
-    }
 
     /// What is left, as a view.
     #[inline]
@@ -190,7 +165,7 @@ impl<'a, E: Utf16Order> DoubleEndedIterator for WStrCharIndices<'a, E> {
         let Some(c) = self.chars.next_back() else {
             return None;
         };
-        Some((self.offset + self.chars.byte_len(), c))
+        Some((self.offset + self.chars.as_wstr().len(), c))
     }
 }
 

@@ -4,12 +4,14 @@
 mod iters;
 mod parts;
 mod slicing;
+mod split;
 mod utf8;
 mod wstr;
 mod wstr_mut;
 
 pub use crate::iters::{WStrCharIndices, WStrChars};
 pub use crate::slicing::SliceIndex;
+pub use crate::split::WStrSplit;
 pub use crate::wstr::WStr;
 pub use crate::wstr_mut::WStrMut;
 pub use utf16_units::{BE, BigEndian, LE, LittleEndian, Utf16Error, Utf16Order};

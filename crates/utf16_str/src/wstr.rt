@@ -145,7 +145,7 @@ impl<'a, E: Utf16Order> WStr<'a, E> {
         ensures runs { YieldsInOrder (YieldsFirst (λ (rest : List ℕ). rest)) (λ rest. rest) }
         ensures runs_back { YieldsInReverse (YieldsLast (λ (rest : List ℕ). rest)) (λ rest. rest) }
     {
-        WStrChars::new(self)
+        WStrChars { rest: self }
     }
 
     /// The characters, in order, each beside its byte offset. The clauses are those of `chars`; beside them `offsets` says where
@@ -158,7 +158,10 @@ impl<'a, E: Utf16Order> WStr<'a, E> {
         ensures runs { YieldsInOrder (YieldsFirst (λ (rest : List (ℕ × ℕ)). rest)) (λ rest. rest) }
         ensures runs_back { YieldsInReverse (YieldsLast (λ (rest : List (ℕ × ℕ)). rest)) (λ rest. rest) }
     {
-        WStrCharIndices::new(self)
+        WStrCharIndices {
+            offset: 0,
+            chars: self.chars(),
+        }
     }
 
     /// Whether the characters are those of a `str`. One pass over both, up to the first that differs, in constant memory.

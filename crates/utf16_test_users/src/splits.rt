@@ -1,4 +1,4 @@
-//! A text split once, in front of the first such character and behind it.
+//! A text split at a character: once, in front of the first such one and behind it, and at each.
 
 use crate::checks::holds;
 use std::process::Abort;
@@ -51,4 +51,44 @@ fn split_once_at_the_first(rt: HostRuntime) {
         split_is::<LE>(&rt, text, delimiter, wanted);
         split_is::<BE>(&rt, text, delimiter, wanted);
     }
+}
+
+fn parts_are<E: Utf16Order>(
+    rt: &(impl Abort + AllocGlobal),
+    text: &str,
+    delimiter: char,
+    wanted: &[&str],
+) {
+    let text = WString::<E>::from_str(rt.alloc(), text).expect(rt, "memory");
+    let mut parts = text.as_wstr().split(delimiter);
+    let mut same = true;
+    for wanted in wanted {
+        same &= match parts.next() {
+            Some(part) => part.eq_str(wanted),
+            None => false,
+        };
+    }
+    holds(rt, same && parts.next().is_none() && parts.next().is_none());
+}
+
+fn split_gives(rt: &(impl Abort + AllocGlobal), text: &str, delimiter: char, wanted: &[&str]) {
+    parts_are::<LE>(rt, text, delimiter, wanted);
+    parts_are::<BE>(rt, text, delimiter, wanted);
+}
+
+#[test]
+fn split_at_each(rt: HostRuntime) {
+    split_gives(&rt, "", ',', &[""]);
+    split_gives(&rt, "a", ',', &["a"]);
+    split_gives(&rt, ",", ',', &["", ""]);
+    split_gives(&rt, "a,b,,c", ',', &["a", "b", "", "c"]);
+    split_gives(&rt, ",a,", ',', &["", "a", ""]);
+    split_gives(&rt, "a\u{10001}b", '\u{10000}', &["a\u{10001}b"]);
+    split_gives(&rt, "a\u{10000}b\u{10000}", '\u{10000}', &["a", "b", ""]);
+    split_gives(
+        &rt,
+        "\u{10000}\u{D8}\u{10001}",
+        '\u{D8}',
+        &["\u{10000}", "\u{10001}"],
+    );
 }

@@ -8,5 +8,5 @@ mod wstring;
 pub use crate::wstring::WString;
 pub use utf16_str::{
     BE, BigEndian, LE, LittleEndian, SliceIndex, Utf16Error, Utf16Order, WStr, WStrCharIndices,
-    WStrChars, WStrMut,
+    WStrChars, WStrMut, WStrSplit,
 };

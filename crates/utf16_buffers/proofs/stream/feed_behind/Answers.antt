@@ -11,12 +11,13 @@ returns-in-NoRoom g c =
     let front = c.decode_joined-front.ensures.decodes in
     let full = subst (StopsMarking _ _ _) c.in-NoRoom.is c.decode_joined-front.ensures.stop in
     let read = ap (λ r. length c.args.piece.now - length r) c.rest_of.ensures.piece in
-    let left = c.of.ensures ∙ c.rest_of.ensures.held in
+    let left = c.of.ensures.held ∙ c.rest_of.ensures.held in
     record {
       feeds = Feeds-full _ _ _ _ _ _ front full _ read _ left;
       stop = stops_full _ _ _ _ _ _ front full _ read _ left;
       whole = (λ done. absurd (cc), λ whole. absurd (not_whole _ _ _ _ _ _ front full _ read whole));
       filled = λ full_up. filled _ _ _ _ _ _ front full _ read;
+      few = c.of.ensures.few;
     }
 
 module _ (g : Over) (c : After-seam-len g) where
@@ -44,10 +45,11 @@ pub returns : goal.returns
 returns g c =
     let before = (goal.at.returns g c).After-seam-len in
     let front = c.decode_joined-front.ensures.decodes in
-    let held = c.of-2.ensures ∙ tail g before ∙ both g before in
+    let held = c.of-2.ensures.held ∙ tail g before ∙ both g before in
     record {
       feeds = Feeds-done _ _ _ _ _ _ front (undecided g before) _ held;
       stop = (refl, holds_tail _ c.args.held.now c.args.piece.now _ _ _ front (undecided g before) _ held);
       whole = (λ done. is_whole _ c.args.held.now c.args.piece.now _ _ _ front (undecided g before), λ fits. refl);
       filled = λ full_up. absurd (cc);
+      few = c.of-2.ensures.few;
     }

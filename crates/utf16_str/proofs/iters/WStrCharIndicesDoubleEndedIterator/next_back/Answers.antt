@@ -7,7 +7,7 @@ use Rattle.utf16_str.proofs.iters.WStrCharIndicesDoubleEndedIterator.next_back.G
 
 pub overflow_add-result : goal.overflow_add-result
 overflow_add-result g c =
-    omega (arith, c.self.invariant, ap size c.in-Some.ensures.steps, size-append c.next_back.new.self (c.in-Some.c ∷ []), c.byte_len.ensures)
+    omega (arith, c.self.invariant, ap size c.in-Some.ensures.steps, size-append c.next_back.new.self (c.in-Some.c ∷ []), c.len.ensures.size, ap size c.as_wstr.ensures)
 
 pub invariant_of-self-2 : goal.invariant_of-self-2
 invariant_of-self-2 g c =
@@ -18,7 +18,7 @@ returns-clause-steps g c =
     let offset = c.self.inside.offset in
     let left = c.next_back.new.self in
     sym c.self.view_is ∙ ap (char_offsets offset) c.in-Some.ensures.steps ∙ char_offsets-push offset left c.in-Some.c
-    ∙ ap (λ n. char_offsets offset left ++ (offset + n, c.in-Some.c) ∷ []) (sym c.byte_len.ensures)
+    ∙ ap (λ n. char_offsets offset left ++ (offset + n, c.in-Some.c) ∷ []) (sym (c.len.ensures.size ∙ ap size c.as_wstr.ensures))
 
 pub returns-clause-goes : goal.returns-clause-goes
 returns-clause-goes g c = progress-last _ (λ _. tt) _ _ _ (returns-clause-steps g c)

@@ -9,7 +9,7 @@ pub returns-clause-bound : goal.returns-clause-bound
 returns-clause-bound g c =
     let bytes = wstr_bytes c.args.self in
     let long = length-text g.E.Utf16Order.BIG bytes (IsText-from_is_text g.E.Utf16Order.BIG bytes c.args.self.well_formed) in
-    omega (arith, long, length-le-size (wstr_text c.args.self), ap length c.new.ensures)
+    omega (arith, long, length-le-size (wstr_text c.args.self))
 
 pub returns-clause-runs : goal.returns-clause-runs
 returns-clause-runs g c = in_order

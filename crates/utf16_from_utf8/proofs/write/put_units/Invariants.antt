@@ -1,6 +1,6 @@
 use Rattle.std.proofs.Common.{◌≡◌, ◌-◌, ◌*◌, ◌≤◌, ◌++◌, drop, length, slice_index, take}
 use Rattle.utf16_from_utf8.specs.Added.{added_bytes}
-use Rattle.utf16_from_utf8.proofs.write.write_units.Given as goal
+use Rattle.utf16_from_utf8.proofs.write.put_units.Given as goal
 
 -- what was written and what the rest adds are all
 abbrev pub invariant-loop-at : goal.invariant-loop-at

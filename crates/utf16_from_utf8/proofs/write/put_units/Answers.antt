@@ -2,7 +2,7 @@ use Rattle.std.proofs.Common.{◌++◌, take, drop, ap, ◌∙◌, arith}
 use Rattle.std.proofs.lemmas.List.{take-take}
 use Rattle.utf16_from_utf8.specs.Added.{added_bytes}
 use Rattle.utf16_from_utf8.proofs.BlockLemmas.{added-all, added-step, added-step-one}
-use Rattle.utf16_from_utf8.proofs.write.write_units.Goals as goal
+use Rattle.utf16_from_utf8.proofs.write.put_units.Goals as goal
 
 pub loop-at-preserved : goal.loop-at-preserved
 loop-at-preserved g c =

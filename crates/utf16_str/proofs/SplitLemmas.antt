@@ -1,0 +1,31 @@
+-- The parts of a text between a delimiter: how many they are, and what an iterator of them gives.
+use Rattle.std.proofs.Common.{◌≡◌, ◌+◌, ◌*◌, ◌^◌, ◌<◌, ◌≤◌, ℕ, Bool, true, eqb, List, ◌∷◌, length, Some, sym, subst, arith, ap}
+use Rattle.std.specs.Iterator.{MakesProgress, YieldsFirstBy, item_count}
+use Rattle.std.specs.Iterator.Runs.{EveryRun, ItemsMapTo}
+use Rattle.std.specs.List.{slice_split}
+use Rattle.std.proofs.iter.runs.Sources.{from_front}
+use Rattle.std.proofs.lemmas.List.Sums.{count_by-le-length}
+use Rattle.std.proofs.lemmas.List.Splits.{length-slice_split}
+use Rattle.utf16_units.specs.Encoding.{is_text, text_of}
+use Rattle.utf16_units.proofs.BoundaryLemmas.{length-le-size}
+use Rattle.utf16_units.proofs.EncodingLemmas.{IsText-from_is_text, length-text}
+
+-- an iterator that gave the first text left shows fewer
+module _ {A B : Type 0} (can : List B → Type 0) (always : (items : List B) → can items) (before after : List B) (x : A) (b : B) where
+  pub progress-part : before ≡ b ∷ after → MakesProgress can (item_count (λ rest. rest)) before (Some x) after
+  progress-part e = record {
+    on = λ _. (always after, tt, subst (λ items. length after < length items) (sym e) (omega arith));
+    keeps = always after;
+    rests = λ _. tt;
+  }
+
+-- an iterator that shows what its items are of gives the items of what it shows, in order
+pub text_runs : {A B : Type 0} (v : A → B) → EveryRun (YieldsFirstBy v (λ (rest : List B). rest)) (λ p. ItemsMapTo p v p.from)
+text_runs v = from_front (YieldsFirstBy v (λ rest. rest)) v (λ rest. rest) (λ s t h. ap length h.0) (λ s x t h. h)
+
+-- the parts are fewer than the bytes of a slice may be
+pub parts-bound : (big : Bool) (bytes : List ℕ) (e : ℕ) → is_text big bytes ≡ true → length bytes + 1 < 2 ^ 64 → length (slice_split (λ c. eqb c e) (text_of big bytes)) < 2 ^ 64
+parts-bound big bytes e checked long =
+    let text = text_of big bytes in
+    let size = length-text big bytes (IsText-from_is_text big bytes checked) in
+    omega (arith, long, size, length-le-size text, length-slice_split (λ c. eqb c e) text, count_by-le-length (λ c. eqb c e) text)
