@@ -1,6 +1,7 @@
 //! UTF-8 in UTF-16 with U+FFFD for each fault.
 
-ghost use Rattle.std.specs.Prelude.{◌≡◌, ◌-◌, ◌*◌, ◌≤◌, length, drop};
+ghost use Rattle.std.specs.Prelude.{◌≡◌, ◌-◌, ◌*◌, ◌≤◌, length, take, drop};
+ghost use Rattle.std.specs.List.{flat_map};
 ghost use Rattle.utf16_units.specs.Encoding.{char_bytes, size};
 ghost use Rattle.utf16_buffers.specs.Shown.{ShowsWhole, text_of_utf8};
 ghost use Rattle.utf16_buffers.specs.Stops.{StopsMarkingWhole};
@@ -23,6 +24,7 @@ const MARK_LEN: usize = 2;
 pub fn encode_whole<E: Utf16Order>(text: &[u8], to: &mut [u8]) -> Progress
     ensures shown { ShowsWhole text_of_utf8 (char_bytes E.BIG) text.now to.new result.read result.written }
     ensures stop { StopsMarkingWhole text_of_utf8 (char_bytes E.BIG) (drop result.read text.now) (length to.new - result.written) result.stop }
+    ensures between { take result.written to.new ≡ flat_map (char_bytes E.BIG) (text_of_utf8 (take result.read text.now)) }
 {
     let mark = E::write_unit(MARK);
     let mut read = 0;

@@ -9,6 +9,7 @@ mod stream;
 ghost use Rattle.std.specs.Prelude.{◌≡◌, ◌≢◌, ◌↔◌, ◌⊎◌, ◌<◌, ◌≤◌, ◌-◌, ◌*◌, ◌/◌, ◌%◌, [], ◌∷◌, All, IsTrue, count_by, drop, encode_utf8_all, length, take};
 ghost use Rattle.std.specs.Char.{encode_utf8};
 ghost use Rattle.std.specs.Char.Utf16.{is_low_surrogate};
+ghost use Rattle.std.specs.List.{flat_map};
 ghost use Rattle.std.specs.Str.{chars};
 ghost use Rattle.std.specs.Str.Lossy.{utf8_valid_len};
 ghost use Rattle.utf16_units.specs.Encoding.{IsText, char_bytes, size, text_of, units_of};
@@ -153,6 +154,7 @@ pub extern "C" fn utf16_from_utf8(big: bool, text: &[u8], to: &mut [u8]) -> Answ
 pub extern "C" fn utf16_from_utf8_marked(big: bool, text: &[u8], to: &mut [u8]) -> Answer
     ensures shown { ShowsWhole text_of_utf8 (char_bytes big) text.now to.new result.read result.written }
     ensures stop { StopsMarkingWhole text_of_utf8 (char_bytes big) (drop result.read text.now) (length to.new - result.written) (stop_of result.status result.fault_len) }
+    ensures between { take result.written to.new ≡ flat_map (char_bytes big) (text_of_utf8 (take result.read text.now)) }
     ensures numbers { AreNumbers result.status result.fault_len }
 {
     answer_of(if big {
