@@ -80,8 +80,8 @@ utf16_progress utf16_from_utf8(bool big, const uint8_t *text, size_t len, uint8_
 /* The same with U+FFFD where the bytes are no UTF-8: one for each maximal subpart of an ill-formed subsequence, as the Unicode
  * Standard recommends and Rust's from_utf8_lossy does, also where a character is cut off at the end: UTF16_DONE or UTF16_NO_ROOM.
  * With UTF16_NO_ROOM call again with what is left behind `read`. Room for 2 bytes for each byte of input is always enough. It is
- * proved that what is written, and what the rest gives, are the whole text; that `read` does not end inside a fault of several
- * bytes is not. */
+ * proved that what is written is the text of what was read, and that with what the rest gives it is the whole text: so `read` ends
+ * inside no character and inside no fault. */
 utf16_progress utf16_from_utf8_marked(bool big, const uint8_t *text, size_t len, uint8_t *to, size_t room);
 
 /* Decodes the next bytes of a stream that comes in pieces, cut anywhere. It does what utf16_to_utf8_marked does, but does not read
