@@ -1,7 +1,7 @@
 //! The characters of an iterator put last in a string, and strings collected from one.
 
-ghost use Rattle.std.specs.Prelude.{◌≡◌, ◌+◌, ◌<◌, ◌≤◌, List, ℕ, Some, length, OnErr, OnOk};
-ghost use Rattle.std.specs.Iterator.{ExtendsWithItems, IsFinite, YieldsThen};
+ghost use Rattle.std.specs.Prelude.{◌≡◌, ◌+◌, ◌<◌, ◌≤◌, List, ℕ, Some, length, IfOk, OnErr, OnOk};
+ghost use Rattle.std.specs.Iterator.{Drains, ExtendsWithItems, IsFinite, YieldsThen};
 ghost use Rattle.std.specs.Iterator.Runs.{WholeRun};
 ghost use Rattle.utf16_units.specs.Encoding.{char_size};
 
@@ -47,7 +47,14 @@ impl<E: Utf16Order, A: Allocator> FromIterator<char> for WString<E, A> {
 
     ghost from_iter_gives = { λ text s. wstring_text s ≡ text };
 
-    fn from_iter<U: IntoIterator<Item = char>>(alloc: A, iter: U) -> Result<Self, AllocError> {
+    /// The only error is a refused request for memory, for a character that came. No further one is asked of the iterator.
+    fn from_iter<U: IntoIterator<Item = char>>(alloc: A, iter: U) -> Result<Self, AllocError>
+        requires { (it : U.IntoIter) → U.into_iter_gives iter it → U.IntoIter.can_next it × IsFinite (U.IntoIter.remaining it) }
+        ensures ran { IfOk result (λ s. (it : U.IntoIter) × (text : List ℕ)
+            × U.into_iter_gives iter it × Drains U.IntoIter.next_gives it text × (wstring_text s ≡ text)) }
+        ensures full { OnErr result ((it : U.IntoIter) × (front : List ℕ) × (c : ℕ) × (rest : U.IntoIter)
+            × U.into_iter_gives iter it × YieldsThen U.IntoIter.next_gives it front (Some c) rest) }
+    {
         let mut text = Self::new(alloc);
         text.extend(iter)?;
         Ok(text)
