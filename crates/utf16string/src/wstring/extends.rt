@@ -31,11 +31,20 @@ impl<E: Utf16Order, A: Allocator> WString<E, A> {
 }
 
 impl<E: Utf16Order, A: Allocator> Extend<char> for WString<E, A> {
-    ghost use Rattle.utf16string.specs.WString.{Extends};
+    ghost use Rattle.utf16string.specs.WString.{Extends, wstring_bytes, wstring_capacity};
 
     ghost extend_gives = { Extends };
 
-    fn extend<U: IntoIterator<Item = char>>(&mut self, iter: U) -> Result<(), AllocError> {
+    /// The clauses are those of the inherent `extend`.
+    fn extend<U: IntoIterator<Item = char>>(&mut self, iter: U) -> Result<(), AllocError>
+        requires { (it : U.IntoIter) → U.into_iter_gives iter it → U.IntoIter.can_next it × IsFinite (U.IntoIter.remaining it) }
+        ensures ran { ExtendsWithItems U.into_iter_gives U.IntoIter.next_gives Extends iter self.old self.new result }
+        ensures runs { OnOk result ((it : U.IntoIter) × U.into_iter_gives iter it × WholeRun U.IntoIter.next_gives it (λ p. Extends self.old p.items self.new)) }
+        ensures full { OnErr result ((it : U.IntoIter) × (front : List ℕ) × (c : ℕ) × (rest : U.IntoIter)
+            × U.into_iter_gives iter it × YieldsThen U.IntoIter.next_gives it front (Some c) rest
+            × Extends self.old front self.new × (wstring_capacity self.new < length (wstring_bytes self.new) + char_size c)) }
+        ensures grows { wstring_capacity self.old ≤ wstring_capacity self.new }
+    {
         WString::extend(self, iter)
     }
 }
