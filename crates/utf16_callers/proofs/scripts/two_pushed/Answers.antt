@@ -1,4 +1,4 @@
-use Rattle.std.proofs.Common.{◌≡◌, ◌∷◌, [], ◌∙◌, ℕ, All, List, Result, Ok, Err, IfOk, ap, subst, rules}
+use Rattle.std.proofs.Common.{◌≡◌, ◌∷◌, [], ◌∙◌, ℕ, All, List, Result, Ok, Err, IfOk, ap, rules}
 use Rattle.std.specs.Prelude.{Vec}
 use Rattle.utf16_units.specs.declared.order.Utf16Order.{Ghosts}
 use Rattle.utf16_tools.specs.Edited.{all_edited, no_memory, said}

@@ -1,4 +1,4 @@
-use Rattle.std.proofs.Common.{◌≡◌, ℕ, List, [], ◌∷◌, length, refl, ◌∙◌, ◌++◌, ap, append-nil, arith, rules, sym, take}
+use Rattle.std.proofs.Common.{◌≡◌, ℕ, List, [], ◌∷◌, length, refl, ◌∙◌, ◌++◌, ap, append-nil, arith, sym, take}
 use Rattle.utf16_units.specs.Encoding.{encode}
 use Rattle.std.specs.List.{items_where_true}
 use Rattle.utf16_units.proofs.EncodingLemmas.{encode-nil}

@@ -1,11 +1,9 @@
-use Rattle.std.proofs.Common.{◌≡◌, ◌∙◌, ◌+◌, ◌-◌, ◌∷◌, [], ℕ, List, Bool, ap, arith, refl, rules, drop, length, subst, sym, take}
+use Rattle.std.proofs.Common.{◌≡◌, ◌∙◌, ◌+◌, ◌-◌, ◌∷◌, [], ℕ, List, ap, arith, rules, drop, length, subst, sym, take}
 use Rattle.std.proofs.lemmas.List.{length-drop, take_all}
 use Rattle.std.specs.Iterator.{YieldsFirst}
 use Rattle.std.specs.Prelude.{Option, None, Some, IsSome}
-use Rattle.utf16_units.specs.Boundary.{IsBoundary}
 use Rattle.utf16_units.specs.Encoding.{Encodes, char_size, size, text_of}
-use Rattle.utf16_units.proofs.BoundaryLemmas.{Encodes-to, text_to-front}
-use Rattle.utf16_units.proofs.EncodingLemmas.{Encodes-text_of, nil-from_text, size-cons, size-nil}
+use Rattle.utf16_units.proofs.EncodingLemmas.{Encodes-text_of, nil-from_text, size-cons}
 use Rattle.utf16_retain.proofs.Retained.{first-bytes}
 use Rattle.utf16_retain.proofs.retains.char_from.Given.{Over}
 use Rattle.utf16_retain.proofs.retains.char_from.Goals.{After-chars-chars, After-len-2}

@@ -1,6 +1,6 @@
-use Rattle.std.proofs.Common.{◌≡◌, ◌∙◌, ◌+◌, ◌<◌, ◌≤◌, ◌∷◌, [], ℕ, ap, ap₂, arith, refl, rules, drop, get_or, get_or-drop, length, subst, sym, take}
+use Rattle.std.proofs.Common.{◌≡◌, ◌∙◌, ◌+◌, ◌≤◌, ◌∷◌, [], ap, ap₂, arith, rules, drop, get_or, get_or-drop, length, subst, sym, take}
 use Rattle.std.proofs.lemmas.List.{length-drop}
-use Rattle.utf16_units.specs.Encoding.{Encodes, text_of}
+use Rattle.utf16_units.specs.Encoding.{Encodes}
 use Rattle.utf16_units.specs.Unit.{IsLeading, unit_of}
 use Rattle.utf16_units.proofs.CharLemmas.{char_size_two}
 use Rattle.utf16_units.proofs.EncodingLemmas.{Encodes-text_of}

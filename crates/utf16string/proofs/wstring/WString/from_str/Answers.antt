@@ -1,4 +1,4 @@
-use Rattle.std.proofs.Common.{◌≡◌, ◌++◌, ◌∙◌, ap, eqb-true, length, subst, sym}
+use Rattle.std.proofs.Common.{◌++◌, ◌∙◌, ap, eqb-true, length, subst, sym}
 use Rattle.std.proofs.lemmas.List.{nil_from_length}
 use Rattle.std.proofs.lemmas.Str.{scalars-chars}
 use Rattle.std.specs.Str.{chars}
