@@ -1,5 +1,5 @@
 -- Fields of a record, one after another: each a count of code units and then a text of so many.
-use Rattle.std.specs.Prelude.{◌≡◌, ℕ, ◌+◌, ◌*◌, ◌/◌, ◌<◌, ◌≤◌, Bool, false, List, ◌++◌, All, length, take, drop}
+use Rattle.std.specs.Prelude.{◌≡◌, ◌≢◌, ℕ, ◌+◌, ◌*◌, ◌/◌, ◌<◌, ◌≤◌, Bool, false, List, [], ◌++◌, All, length, take, drop}
 use Rattle.std.specs.Char.{IsScalar}
 use Rattle.std.specs.List.{flat_map}
 use Rattle.byteorder.specs.Endian.{little_number}
@@ -56,7 +56,8 @@ pub record StopsAt (big : Bool) (buffer : List ℕ) (e : FieldError) : Type 0 wh
   pub fields : HoldsFields big texts rest buffer
   pub error : IsFieldError big (fields_size big texts) rest e
 
--- why the fields of a buffer were not given
+-- why the fields of a buffer were not given: memory was refused, and the buffer begins with a whole field or more, since memory is
+-- asked for at the first of them; or an error stands behind the fields
 abbrev pub IsReadError : Bool → List ℕ → ReadError → Type 0
-IsReadError big buffer Memory = Unit {0}
+IsReadError big buffer Memory = (texts : List (List ℕ)) × (rest : List ℕ) × (texts ≢ []) × HoldsFields big texts rest buffer
 IsReadError big buffer (Field e) = StopsAt big buffer e

@@ -35,7 +35,7 @@ pub struct FieldError {
 /// Why the fields of a buffer were not given.
 #[derive(Clone, Copy, Debug, PartialEq, Eq)]
 pub enum ReadError {
-    /// Memory was refused.
+    /// Memory was refused. The buffer begins with at least one whole field: at the first one memory is asked for.
     Memory,
     /// The buffer is not fields alone.
     Field(FieldError),
@@ -163,7 +163,7 @@ fn error_at<E: Utf16Order>(offset: usize, rest: &[u8], fault: FieldFault) -> Fie
 }
 
 /// All fields of a buffer, each a view of it, in order. The errors: the buffer is not fields alone, and the error says up to where
-/// it is; or memory was refused, for which an empty buffer does not ask.
+/// it is; or memory was refused, which is asked for only where the buffer begins with a whole field.
 pub fn read_fields<'a, E: Utf16Order, A: Allocator>(
     alloc: A,
     buffer: &'a [u8],
