@@ -4,3 +4,4 @@ pub use Rattle.utf16_forms.proofs.DecodesLemmas
 pub use Rattle.utf16_forms.proofs.FaultDecides
 pub use Rattle.utf16_forms.proofs.StreamLemmas
 pub mod FilterLemmas
+pub mod PiecesLemmas

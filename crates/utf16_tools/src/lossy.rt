@@ -118,12 +118,14 @@ impl<E: Utf16Order> Decoder for Lossy<E> {
 }
 
 /// The text of the pieces of a stream, joined: its characters, U+FFFD for each surrogate without its partner, and one more
-/// where a beginning is left at the end. The only error is a refused request for memory.
+/// where a beginning is left at the end. The only error is a refused request for memory; where the pieces have no bytes none is
+/// asked for.
 pub fn decode_pieces<E: Utf16Order, A: Allocator, B: Allocator>(
     alloc: A,
     pieces: &[Vec<u8, B>],
 ) -> Result<String<A>, AllocError>
-    ensures { IfOk result (λ s. string_bytes s ≡ encode_utf8_all (full (split_items E.BIG (flat_map vec_items pieces.now)) (split_tail E.BIG (flat_map vec_items pieces.now)))) }
+    ensures text { IfOk result (λ s. string_bytes s ≡ encode_utf8_all (full (split_items E.BIG (flat_map vec_items pieces.now)) (split_tail E.BIG (flat_map vec_items pieces.now)))) }
+    ensures nothing { flat_map vec_items pieces.now ≡ [] → IsOk result }
 {
     let mut text = String::new(alloc);
     let mut decoder = Lossy::<E>::new();
