@@ -1,5 +1,6 @@
 -- What a filter has read and written so far, and at each of its ends.
-use Rattle.std.proofs.Common.{◌≡◌, ℕ, ◌+◌, ◌<◌, ◌≤◌, Bool, List, [], ◌∷◌, ◌++◌, Option, length, take, drop, encode_utf8_all, refl, sym, ap, ap₂, ◌∙◌, subst, arith, append-nil, append_assoc, length-append, take_at, take_all, take-append-drop}
+use Rattle.std.proofs.Common.{◌≡◌, ◌≢◌, ℕ, ◌+◌, ◌<◌, ◌≤◌, Bool, List, [], ◌∷◌, ◌++◌, Option, length, take, drop, encode_utf8_all, refl, sym, ap, ap₂, ◌∙◌, subst, arith, append-nil, append_assoc, length-append, take_at, take_all, take-append-drop}
+use Rattle.std.proofs.lemmas.List.{nil_from_length}
 use Rattle.std.specs.Io.{StartsWith}
 use Rattle.std.specs.Io.KnownBytes.{Appends, Consumes, IsAtEnd, Keeps}
 use Rattle.std.proofs.KnownBytes.{Appends-nil, Appends-trans, Consumes-kept, Consumes-nil, Consumes-trans}
@@ -109,14 +110,23 @@ module _ (order : Option Bool) (input left old new : Option (List ℕ)) (current
     before : take (length bytes) (bytes ++ piece) ≡ bytes
     before = front_of bytes piece
 
-    pub Filtering-refused : FiltersBefore order input after old new
-    Filtering-refused = (
+    -- the piece decides nothing more, where all that was read decides the same without it
+    no_more : items_in order (take (length bytes) (bytes ++ piece)) ≡ items_in order (bytes ++ piece) → items_in current (pending ++ piece) ≡ []
+    no_more same =
+        let items = items_in order bytes in
+        let more = items_in (order_after order bytes) (tail_in order bytes ++ piece) in
+        let whole : items ≡ items ++ more = ap (items_in order) (sym before) ∙ same ∙ items_in-append order bytes piece in
+        ap₂ (λ o t. items_in o (t ++ piece)) so_far.told so_far.tail ∙ nil_from_length more (omega (arith, ap length whole, length-append items more))
+
+    pub Filtering-refused : items_in current (pending ++ piece) ≢ [] → FiltersBefore order input after old new
+    Filtering-refused decides = (
       bytes ++ piece,
       more_read,
       (
         length bytes,
         omega (arith, long, some),
         (omega (arith, long), omega (arith, long, few)),
+        (λ same. decides (no_more same)),
         subst (λ b. Appends old new (decided_utf8 order b)) (sym before) so_far.written,
       ),
     )

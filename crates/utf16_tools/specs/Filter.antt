@@ -1,6 +1,6 @@
 -- What `filter` and `filter_auto` did to the bytes that their reader has left and to those that their writer holds, where these
 -- are known.
-use Rattle.std.specs.Prelude.{ℕ, ◌+◌, ◌-◌, ◌<◌, ◌≤◌, ◌^◌, Bool, List, [], ◌∷◌, Option, Some, None, Result, Ok, Err, encode_utf8_all, length, take}
+use Rattle.std.specs.Prelude.{◌≢◌, ℕ, ◌+◌, ◌-◌, ◌<◌, ◌≤◌, ◌^◌, Bool, List, [], ◌∷◌, Option, Some, None, Result, Ok, Err, encode_utf8_all, length, take}
 use Rattle.std.specs.Char.{encode_utf8}
 use Rattle.std.specs.Io.{StartsWith}
 use Rattle.std.specs.Io.KnownBytes.{Appends, Consumes, IsAtEnd}
@@ -40,10 +40,10 @@ module _ (order : Option Bool) (input left old new : Option (List ℕ)) where
   abbrev pub FiltersSome : ℕ → Type 0
   FiltersSome least = (bytes : List ℕ) × Consumes input left bytes × (least ≤ length bytes) × Appends old new (decided_utf8 order bytes)
 
-  -- some bytes were read; what all but the last 1 to 4,096 of them decide was written
+  -- some bytes were read; what all but the last 1 to 4,096 of them decide was written, and with these more is decided
   abbrev pub FiltersBefore : Type 0
   FiltersBefore = (bytes : List ℕ) × Consumes input left bytes × ((n : ℕ) × (n < length bytes) × IsNearEnd bytes n
-      × Appends old new (decided_utf8 order (take n bytes)))
+      × (items_in order (take n bytes) ≢ items_in order bytes) × Appends old new (decided_utf8 order (take n bytes)))
 
   -- some bytes were read; a beginning of their whole text was written, and at least what all but the last 4,096 of them decide
   abbrev pub FiltersFront : Type 0

@@ -23,7 +23,8 @@ pub enum FilterFault {
     Read,
     /// A write or the flush failed. A beginning of the text of what was read is written.
     Write,
-    /// Memory was refused. The text of what was read before the last piece is written.
+    /// Memory was refused. The text of what was read before the last piece is written. With the last piece more is decided: for a
+    /// piece that decides nothing no memory is asked for.
     Memory,
     /// The input gave bytes at 2^64 - 1 reads. Their text is written, but for the mark of a tail.
     Long,

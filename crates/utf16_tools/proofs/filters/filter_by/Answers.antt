@@ -1,4 +1,4 @@
-use Rattle.std.proofs.Common.{◌≡◌, ◌≤◌, ◌++◌, [], take, refl, ap, ◌∙◌, arith, rules}
+use Rattle.std.proofs.Common.{◌≡◌, ◌≤◌, ◌++◌, [], take, true≢false, refl, sym, ap, ◌∙◌, arith, rules}
 use Rattle.std.proofs.lemmas.List.{length-take-le}
 use Rattle.std.proofs.KnownBytes.{Keeps-refl}
 use Rattle.utf16_tools.specs.Mark.{items_in}
@@ -30,6 +30,7 @@ returns-in_default-feed_into-clause-bytes g c =
     let long = length-take-le c.in-Ok.count c.read.new.buf c.in-Ok.ensures.bound in
     let few : c.in-Ok.count ≤ 4096 = search rules in
     Filtering-refused _ _ _ _ _ _ _ _ c.loop.invariant.0 _ _ c.in-Ok.ensures.bytes.0 (omega arith) (omega arith)
+    (λ none. absurd (true≢false (sym (c.in_default-feed_into.ensures.nothing none))))
 
 pub returns-in_default-write_all-clause-bytes : goal.returns-in_default-write_all-clause-bytes
 returns-in_default-write_all-clause-bytes g c =
