@@ -51,6 +51,7 @@ impl From<AllocError> for TranscodeError {
 }
 
 /// The text of UTF-16 in UTF-8. For the empty text no memory is asked for.
+#[tactic(auto, using(crate::proofs::Rules::empty))]
 pub fn utf8_of<E: Utf16Order, A: Allocator>(
     alloc: A,
     bytes: &[u8],
@@ -92,6 +93,7 @@ pub fn utf16_of<E: Utf16Order, A: Allocator>(alloc: A, text: &str) -> Result<Vec
 }
 
 /// The text of UTF-16 in one order, in UTF-16 in another. Memory is asked for once, for the empty text not at all.
+#[tactic(auto, using(crate::proofs::Rules::empty))]
 pub fn reordered<E: Utf16Order, F: Utf16Order, A: Allocator>(
     alloc: A,
     bytes: &[u8],
@@ -175,7 +177,8 @@ pub fn utf16_in<A: Allocator>(alloc: A, order: Order, text: &str) -> Result<Vec<
     }
 }
 
-/// Goes from UTF-16 to UTF-8 and back, and gives the bytes themselves.
+/// Goes from UTF-16 to UTF-8 and back, and gives the bytes themselves. For the empty text no memory is asked for.
+#[tactic(auto, using(crate::proofs::Rules::empty))]
 pub fn there_and_back<E: Utf16Order, A: Allocator, B: Allocator>(
     alloc: A,
     back_alloc: B,
@@ -183,18 +186,22 @@ pub fn there_and_back<E: Utf16Order, A: Allocator, B: Allocator>(
 ) -> Result<Vec<u8, B>, TranscodeError>
     ensures bytes { IfOk result (λ back. vec_items back ≡ bytes.now) }
     ensures error { IfErr result (IsTranscodeError E.BIG bytes.now) }
+    ensures nothing { bytes.now ≡ [] → IsOk result }
 {
     let text = utf8_of::<E, A>(alloc, bytes)?;
     Ok(utf16_of::<E, B>(back_alloc, &text)?)
 }
 
-/// Goes from UTF-8 to UTF-16 and back, and gives the text itself. The only error is a refused request for memory.
+/// Goes from UTF-8 to UTF-16 and back, and gives the text itself. The only error is a refused request for memory; for the empty
+/// text none is asked for.
+#[tactic(auto, using(crate::proofs::Rules::empty))]
 pub fn back_and_there<E: Utf16Order, A: Allocator, B: Allocator>(
     alloc: A,
     back_alloc: B,
     text: &str,
 ) -> Result<String<B>, AllocError>
-    ensures { IfOk result (λ back. string_bytes back ≡ text.now) }
+    ensures text { IfOk result (λ back. string_bytes back ≡ text.now) }
+    ensures nothing { text.now ≡ [] → IsOk result }
 {
     encoded_text();
     let bytes = utf16_of::<E, A>(alloc, text)?;
