@@ -1,5 +1,5 @@
 -- Texts from one encoding to another.
-use Rattle.std.specs.Prelude.{Bool, true, false, List, ℕ}
+use Rattle.std.specs.Prelude.{◌≢◌, Bool, true, false, List, [], ℕ}
 use Rattle.utf16string.specs.Encoding.{IsText}
 use Rattle.utf16string.specs.Utf16Error.{IsErrorOf}
 use Rattle.utf16_users.specs.declared.transcode.Order.{Order}
@@ -17,7 +17,7 @@ abbrev pub IsTranscodeError : Bool → List ℕ → TranscodeError → Type 0
 IsTranscodeError big bytes (NoText e) = IsErrorOf big bytes e
 IsTranscodeError big bytes Memory = IsText big bytes
 
--- the same of pieces that are joined first, for which memory may be refused before a byte is tested
+-- the same of pieces that are joined first, for which memory may be refused before a byte is tested, if they have any
 abbrev pub IsPiecesError : Bool → List ℕ → TranscodeError → Type 0
 IsPiecesError big bytes (NoText e) = IsErrorOf big bytes e
-IsPiecesError big bytes Memory = Unit {0}
+IsPiecesError big bytes Memory = bytes ≢ []

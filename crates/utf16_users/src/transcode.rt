@@ -108,7 +108,7 @@ pub fn reordered<E: Utf16Order, F: Utf16Order, A: Allocator>(
 }
 
 /// The text of UTF-16 that comes in pieces, cut anywhere, in UTF-8. The pieces are joined first, in memory of another allocator,
-/// and the error's offsets count bytes of the pieces joined.
+/// and the error's offsets count bytes of the pieces joined. Where they have no bytes, no memory is asked for.
 pub fn utf8_of_pieces<E: Utf16Order, A: Allocator, B: Allocator, C: Allocator>(
     alloc: A,
     joined_alloc: B,
@@ -126,7 +126,8 @@ fn joined<A: Allocator, B: Allocator>(
     alloc: A,
     pieces: &[Vec<u8, B>],
 ) -> Result<Vec<u8, A>, AllocError>
-    ensures { IfOk result (λ bytes. vec_items bytes ≡ flat_map vec_items pieces.now) }
+    ensures bytes { IfOk result (λ bytes. vec_items bytes ≡ flat_map vec_items pieces.now) }
+    ensures nothing { flat_map vec_items pieces.now ≡ [] → IsOk result }
 {
     let mut bytes = Vec::new(alloc);
     for piece in pieces {
@@ -136,13 +137,14 @@ fn joined<A: Allocator, B: Allocator>(
 }
 
 /// The whole text of any bytes that come in pieces, cut anywhere, in UTF-8, with the marks of `utf8_marked`, in an order that is
-/// known when the program runs. The only error is a refused request for memory.
+/// known when the program runs. The only error is a refused request for memory; where the pieces have no bytes none is asked for.
 pub fn utf8_marked_in<A: Allocator, B: Allocator>(
     alloc: A,
     order: Order,
     pieces: &[Vec<u8, B>],
 ) -> Result<String<A>, AllocError>
-    ensures { IfOk result (λ s. string_bytes s ≡ encode_utf8_all (full (split_items (order_big order) (flat_map vec_items pieces.now)) (split_tail (order_big order) (flat_map vec_items pieces.now)))) }
+    ensures text { IfOk result (λ s. string_bytes s ≡ encode_utf8_all (full (split_items (order_big order) (flat_map vec_items pieces.now)) (split_tail (order_big order) (flat_map vec_items pieces.now)))) }
+    ensures nothing { flat_map vec_items pieces.now ≡ [] → IsOk result }
 {
     match order {
         Order::Big => decode_pieces::<BE, A, B>(alloc, pieces),
