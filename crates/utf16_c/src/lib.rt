@@ -1,5 +1,5 @@
 //! UTF-16 for callers in C, and in any language that can call C; `include/utf16.h` tells them of these calls. Each hands on to a call
-//! of `utf16_buffers` in the byte order that it is given. A slice is a pointer and a length in bytes in C. No call asks for memory,
+//! of `utf16_transcode` in the byte order that it is given. A slice is a pointer and a length in bytes in C. No call asks for memory,
 //! and none requires anything of the bytes.
 #![tactic(auto)]
 
@@ -14,14 +14,15 @@ ghost use Rattle.std.specs.Str.{chars};
 ghost use Rattle.std.specs.Str.Lossy.{utf8_valid_len};
 ghost use Rattle.utf16_units.specs.Encoding.{IsText, char_bytes, size, text_of, units_of};
 ghost use Rattle.utf16_units.specs.Fault.{IsFront};
-ghost use Rattle.utf16_buffers.specs.Shown.{ShowsWhole, text_of_utf16, text_of_utf8};
-ghost use Rattle.utf16_buffers.specs.Stops.{StopsDecoding, StopsEncoding, StopsMarking, StopsMarkingWhole};
-ghost use Rattle.utf16_buffers.specs.Wrote.{DecodesTo, IsUtf16Of, IsUtf8Of, Wrote};
+ghost use Rattle.utf16_units.specs.Split.{lossy_text};
+ghost use Rattle.utf16_transcode.specs.Shown.{ShowsWhole, text_of_utf8};
+ghost use Rattle.utf16_transcode.specs.Stops.{StopsDecoding, StopsEncoding, StopsMarking, StopsMarkingWhole};
+ghost use Rattle.utf16_transcode.specs.Wrote.{DecodesTo, IsUtf16Of, IsUtf8Of, Wrote};
 ghost use Rattle.utf16_c.specs.Answers.{AreNumbers, IsValidity, stop_of};
-ghost use Rattle.utf16_buffers.specs.declared.progress.Stop.TheVariants.{NoRoom};
+ghost use Rattle.utf16_transcode.specs.declared.progress.Stop.TheVariants.{NoRoom};
 
 use crate::answers::{Answer, Order, Validity, answer_of, validity_of};
-use utf16_buffers::{
+use utf16_transcode::{
     count, decode, decode_whole, encode_whole, from_utf8, is_ascii, to_utf8, utf8_size,
     utf16_marked_size, utf16_size,
 };
@@ -74,7 +75,7 @@ pub extern "C" fn utf16_is_ascii(big: bool, raw: &[u8]) -> bool
 /// How many bytes of UTF-8 `utf16_to_utf8_marked` makes of all the bytes. Two passes.
 #[unsafe(no_mangle)]
 pub extern "C" fn utf16_to_utf8_len(big: bool, raw: &[u8]) -> usize
-    ensures { result ≡ length (encode_utf8_all (text_of_utf16 big raw.now)) }
+    ensures { result ≡ length (encode_utf8_all (lossy_text big raw.now)) }
 {
     if big {
         utf8_size::<BE>(raw)
@@ -85,7 +86,7 @@ pub extern "C" fn utf16_to_utf8_len(big: bool, raw: &[u8]) -> usize
 
 /// Writes UTF-16 in UTF-8, up to the first fault or as far as whole characters fit. A fault and a character that is cut off are not
 /// read. With status 3 the room that is left is shorter than the next character, and the call may go on behind `read`. What stands
-/// behind the written bytes may have been written over. One pass over what is read.
+/// behind the written bytes may have been written over. In time linear in what is read.
 #[unsafe(no_mangle)]
 pub extern "C" fn utf16_to_utf8(big: bool, raw: &[u8], to: &mut [u8]) -> Answer
     ensures wrote { Wrote (IsUtf8Of big) raw.now to.new result.read result.written }
@@ -103,8 +104,8 @@ pub extern "C" fn utf16_to_utf8(big: bool, raw: &[u8], to: &mut [u8]) -> Answer
 /// or 3 where the room that is left is shorter than the next character or U+FFFD: the call may go on behind `read`.
 #[unsafe(no_mangle)]
 pub extern "C" fn utf16_to_utf8_marked(big: bool, raw: &[u8], to: &mut [u8]) -> Answer
-    ensures shown { ShowsWhole (text_of_utf16 big) encode_utf8 raw.now to.new result.read result.written }
-    ensures stop { StopsMarkingWhole (text_of_utf16 big) encode_utf8 (drop result.read raw.now) (length to.new - result.written) (stop_of result.status result.fault_len) }
+    ensures shown { ShowsWhole (lossy_text big) encode_utf8 raw.now to.new result.read result.written }
+    ensures stop { StopsMarkingWhole (lossy_text big) encode_utf8 (drop result.read raw.now) (length to.new - result.written) (stop_of result.status result.fault_len) }
     ensures between { stop_of result.status result.fault_len ≡ NoRoom → DecodesTo big raw.now to.new result.read result.written }
     ensures numbers { AreNumbers result.status result.fault_len }
 {
@@ -132,7 +133,7 @@ pub extern "C" fn utf16_to_utf8_stream(big: bool, raw: &[u8], to: &mut [u8]) -> 
 
 /// Writes UTF-8 in UTF-16, up to the first fault or as far as whole characters fit. A fault and a character that is cut off are not
 /// read. With status 3 the room that is left is shorter than the next character, and the call may go on behind `read`. What stands
-/// behind the written bytes may have been written over. One pass over what is read.
+/// behind the written bytes may have been written over. In time linear in what is read.
 #[unsafe(no_mangle)]
 pub extern "C" fn utf16_from_utf8(big: bool, text: &[u8], to: &mut [u8]) -> Answer
     ensures wrote { Wrote (IsUtf16Of big) text.now to.new result.read result.written }
@@ -149,7 +150,7 @@ pub extern "C" fn utf16_from_utf8(big: bool, text: &[u8], to: &mut [u8]) -> Answ
 /// Writes any bytes of UTF-8 in UTF-16, as far as whole characters fit, with U+FFFD where they are no UTF-8: one for each maximal
 /// subpart of an ill-formed sequence, and one for a character that is cut off at the end. The status is 0, or 3 where the room that
 /// is left is shorter than the next character or U+FFFD: the call may go on behind `read`. What stands behind the written bytes may
-/// have been written over. One pass over what is read.
+/// have been written over. In time linear in what is read.
 #[unsafe(no_mangle)]
 pub extern "C" fn utf16_from_utf8_marked(big: bool, text: &[u8], to: &mut [u8]) -> Answer
     ensures shown { ShowsWhole text_of_utf8 (char_bytes big) text.now to.new result.read result.written }

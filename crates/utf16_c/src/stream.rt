@@ -1,18 +1,18 @@
 //! A stream for C whose state the library fills.
 
 ghost use Rattle.std.specs.Prelude.{◌≡◌, ◌≢◌, ◌↔◌, ◌+◌, ◌-◌, ◌<◌, ◌≤◌, [], ◌++◌, drop, length, take, encode_utf8_all};
-ghost use Rattle.utf16_units.specs.Split.{full, marked, split_items};
-ghost use Rattle.utf16_buffers.specs.Stream.{Feeds, StopsFeeding, stream_held};
-ghost use Rattle.utf16_buffers.specs.declared.progress.Stop.TheVariants.{Done, NoRoom};
+ghost use Rattle.utf16_units.specs.Split.{decided_text, full};
+ghost use Rattle.utf16_transcode.specs.Stream.{Feeds, StopsFeeding, stream_held};
+ghost use Rattle.utf16_transcode.specs.declared.progress.Stop.TheVariants.{Done, NoRoom};
 ghost use Rattle.utf16_c.specs.Answers.{AreNumbers, stop_of};
 
 use crate::answers::{Answer, answer_of};
-use utf16_buffers::Stream;
+use utf16_transcode::Stream;
 use utf16_units::{BE, LE};
 
 /// Takes the next piece of a stream and writes in UTF-8 what is decided now, as far as whole characters fit: the characters, and
 /// U+FFFD for each surrogate without its partner. `read` counts the bytes of the piece that were taken: all of them, or the next
-/// character does not fit. Any bytes are allowed in the state, and a `len` of at most three is left there. One pass over what is
+/// character does not fit. Any bytes are allowed in the state, and a `len` of at most three is left there. In time linear in what is
 /// read.
 #[unsafe(no_mangle)]
 pub extern "C" fn utf16_stream_feed(
@@ -23,7 +23,7 @@ pub extern "C" fn utf16_stream_feed(
 ) -> Answer
     ensures feeds { Feeds big (stream_held stream.old) piece.now (stream_held stream.new) to.new result.read result.written }
     ensures stop { StopsFeeding big (stream_held stream.old) piece.now (stream_held stream.new) result.read (length to.new - result.written) (stop_of result.status result.fault_len) }
-    ensures whole { (stop_of result.status result.fault_len ≡ Done) ↔ (length (encode_utf8_all (marked (split_items big (stream_held stream.old ++ piece.now)))) ≤ length to.new) }
+    ensures whole { (stop_of result.status result.fault_len ≡ Done) ↔ (length (encode_utf8_all (decided_text big (stream_held stream.old ++ piece.now))) ≤ length to.new) }
     ensures filled { stop_of result.status result.fault_len ≡ NoRoom → length to.new < result.written + 4 }
     ensures few { stream.new.len ≤ 3 }
     ensures numbers { AreNumbers result.status result.fault_len }

@@ -3,7 +3,7 @@
 ghost use Rattle.std.specs.Prelude.{◌≡◌, ◌↔◌, ◌⊎◌, ◌+◌, ◌<◌, ◌≤◌, length, false, true, Ok, Some, IfOk, IfSome, IsNone, IsOk, IsSome, IsTrue, OnErr, OnOk};
 ghost use Rattle.std.specs.List.{splice};
 ghost use Rattle.utf16_units.specs.Boundary.{IsBoundary, text_to};
-ghost use Rattle.utf16_units.specs.Edit.{char_at, insert_at, overwrite_at, push_text, remove_at, split_back, split_front};
+ghost use Rattle.utf16_units.specs.Edit.{char_at, insert_at, push_text, remove_at, split_back, split_front};
 ghost use Rattle.utf16_units.specs.Encoding.{IsText, size, text_of};
 ghost use Rattle.utf16string.specs.WStr.{wstr_bytes, wstr_text};
 ghost use Rattle.utf16string.specs.WString.{wstring_text};
@@ -87,26 +87,10 @@ pub fn split<E: Utf16Order, A: Allocator + Clone>(
     Ok(Some(text.split_off(at)?))
 }
 
-/// Writes a text over as many bytes from an offset on, where it fits there: whether it does.
-pub fn overwritten<E: Utf16Order, A: Allocator>(
-    text: &mut WString<E, A>,
-    idx: usize,
-    part: WStr<E>,
-) -> bool
-    ensures fits { IsTrue result ↔ (IsBoundary (wstring_text text.old) idx × IsBoundary (wstring_text text.old) (idx + size (wstr_text part.entry))) }
-    ensures over { IsTrue result → wstring_text text.new ≡ overwrite_at (wstring_text text.old) idx (wstr_text part.entry) }
-    ensures kept { result ≡ false → wstring_text text.new ≡ wstring_text text.old }
-{
-    let fits = text.fits(idx, part);
-    if fits {
-        text.overwrite(idx, part);
-    }
-    fits
-}
-
-/// The same in the caller's bytes, where they are text: once the view has ended they are its bytes, and after a refusal
-/// they are as they were. The bytes are tested before they are lent: of bytes lent into a `Result`, a caller's proof
-/// knows the length alone.
+/// Writes a text over a part of the caller's bytes, where they are text and it fits there: whether
+/// it does. Once the view has ended they are its bytes, and after a refusal they are as they were.
+/// The bytes are tested before they are lent: of bytes lent into a `Result`, a caller's proof knows
+/// the length alone.
 pub fn overwritten_in_place<E: Utf16Order>(
     buf: &mut [u8],
     idx: usize,

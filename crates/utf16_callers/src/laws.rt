@@ -1,20 +1,20 @@
 //! What users of the format want, each resting on a law of UTF-16.
 
-ghost use Rattle.std.specs.Prelude.{◌≡◌, ◌↔◌, ◌⊎◌, ◌++◌, ◌∷◌, ◌%◌, [], true, length, chars, Some, IfOk, IfSome, IsNone, IsTrue};
+ghost use Rattle.std.specs.Prelude.{◌≡◌, ◌↔◌, ◌⊎◌, ◌++◌, ◌%◌, [], true, length, chars, IfOk, IfSome, IsNone, IsTrue};
 ghost use Rattle.utf16_units.specs.Boundary.{IsBoundary};
 ghost use Rattle.utf16_units.specs.Continued.{IsBeginning, IsDeadEnd};
-ghost use Rattle.utf16_units.specs.Edit.{char_at, insert_at, remove_at, split_back, split_front};
 ghost use Rattle.utf16_units.specs.Encoding.{Encodes};
 ghost use Rattle.utf16_units.specs.Laws.{StandsAt};
 ghost use Rattle.utf16string.specs.WStr.{wstr_bytes, wstr_text};
+ghost use Rattle.utf16string.specs.WString.{wstring_bytes, wstring_text};
 
 use std::alloc::{AllocError, Allocator, Global};
 use utf16_units::laws::{
     found_aligned, insert_then_remove, joined_text, none_continues, split_then_push,
     swapped_orders, two_never_continues, unique_text, utf8_back,
 };
-use utf16_units::{Utf16CharExt, is_leading_surrogate, validate_raw_utf16};
-use utf16string::{BE, LE, Utf16Order, WStr};
+use utf16_units::{is_leading_surrogate, validate_raw_utf16};
+use utf16string::{BE, LE, Utf16Order, WStr, WString};
 
 /// Whether two strings have the same text, by one comparison of their bytes.
 pub fn same_text<E: Utf16Order>(first: WStr<E>, second: WStr<E>) -> bool
@@ -39,19 +39,6 @@ pub fn joined<E: Utf16Order, A: Allocator>(
     Ok(both)
 }
 
-/// A text cut at a boundary, with no second test of any byte.
-pub fn cut<'a, E: Utf16Order>(text: WStr<'a, E>, at: usize) -> (WStr<'a, E>, WStr<'a, E>)
-    requires { IsBoundary (wstr_text text) at }
-    ensures front { wstr_text result.0 ≡ split_front (wstr_text text.entry) at }
-    ensures back { wstr_text result.1 ≡ split_back (wstr_text text.entry) at }
-{
-    let (front, back) = text.as_bytes().split_at(at);
-    (
-        WStr::from_utf16_unchecked(front),
-        WStr::from_utf16_unchecked(back),
-    )
-}
-
 /// Both parts of a text cut at a boundary, joined again: the encoding of the text.
 pub fn cut_and_joined<E: Utf16Order, A: Allocator>(
     alloc: A,
@@ -62,7 +49,7 @@ pub fn cut_and_joined<E: Utf16Order, A: Allocator>(
     ensures { IfOk result (λ bytes. Encodes E.BIG (wstr_text text.entry) bytes.items) }
 {
     split_then_push();
-    let (head, tail) = cut(text, at);
+    let (head, tail) = text.split_at(at);
     joined(alloc, head, tail)
 }
 
@@ -88,8 +75,8 @@ pub fn cut_at_key<'a, E: Utf16Order>(
         return None;
     }
     found_aligned();
-    let (front, rest) = cut(text, at);
-    let (_, back) = cut(rest, key.len());
+    let (front, rest) = text.split_at(at);
+    let (_, back) = rest.split_at(key.len());
     Some((front, back))
 }
 
@@ -118,56 +105,20 @@ pub fn to_big_endian<A: Allocator>(alloc: A, text: WStr<LE>) -> Result<Vec<u8, A
     Ok(swapped)
 }
 
-/// A text with a character put in at a boundary.
-pub fn with_char<E: Utf16Order, A: Allocator>(
-    alloc: A,
-    text: WStr<E>,
+/// A character typed into a string at a boundary and taken back, as an undo does: the string has
+/// the bytes of before, also where memory is refused.
+pub fn typed_and_undone<E: Utf16Order, A: Allocator>(
+    text: &mut WString<E, A>,
     at: usize,
     c: char,
-) -> Result<Vec<u8, A>, AllocError>
-    requires { IsBoundary (wstr_text text) at }
-    ensures { IfOk result (λ bytes. Encodes E.BIG (insert_at (wstr_text text.entry) at (c ∷ [])) bytes.items) }
-{
-    let (front, back) = cut(text, at);
-    let mut buf = [0; 4];
-    let size = c.encode_utf16_into::<E>(&mut buf);
-    let mut bytes = Vec::new(alloc);
-    bytes.extend_from_slice(front.as_bytes())?;
-    bytes.extend_from_slice(&buf[..size])?;
-    bytes.extend_from_slice(back.as_bytes())?;
-    Ok(bytes)
-}
-
-/// A text without the character at a boundary.
-pub fn without_char<E: Utf16Order, A: Allocator>(
-    alloc: A,
-    text: WStr<E>,
-    at: usize,
-    c: char,
-) -> Result<Vec<u8, A>, AllocError>
-    requires boundary { IsBoundary (wstr_text text) at }
-    requires char { char_at (wstr_text text) at ≡ Some c }
-    ensures { IfOk result (λ bytes. Encodes E.BIG (remove_at (wstr_text text.entry) at) bytes.items) }
-{
-    let (front, rest) = cut(text, at);
-    let (_, back) = cut(rest, c.encoded_utf16_len());
-    joined(alloc, front, back)
-}
-
-/// A character typed into a text at a boundary and taken back, as an undo does: the text's own bytes.
-pub fn typed_and_undone<E: Utf16Order>(
-    alloc: Global,
-    text: WStr<E>,
-    at: usize,
-    c: char,
-) -> Result<Vec<u8>, AllocError>
-    requires { IsBoundary (wstr_text text) at }
-    ensures { IfOk result (λ bytes. bytes.items ≡ wstr_bytes text.entry) }
+) -> Result<(), AllocError>
+    requires { IsBoundary (wstring_text text.old) at }
+    ensures { wstring_bytes text.new ≡ wstring_bytes text.old }
 {
     insert_then_remove();
-    let typed = with_char(alloc, text, at, c)?;
-    let undone = without_char(alloc, WStr::<E>::from_utf16_unchecked(&typed), at, c)?;
-    Ok(undone)
+    text.insert(at, c)?;
+    text.remove(at);
+    Ok(())
 }
 
 /// The characters read back from a text's UTF-8: the text.

@@ -1,6 +1,6 @@
 //! A text looked for in another by its bytes.
 
-ghost use Rattle.std.specs.Prelude.{◌≡◌, ◌≢◌, ◌+◌, [], IfSome, None};
+ghost use Rattle.std.specs.Prelude.{◌≡◌, ◌≢◌, [], IfSome, None};
 ghost use Rattle.utf16_units.specs.Boundary.{IsAbsentBefore, StandsIn};
 ghost use Rattle.utf16_units.specs.Encoding.{size};
 ghost use Rattle.utf16string.specs.WStr.{wstr_text};

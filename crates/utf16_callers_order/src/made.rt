@@ -1,6 +1,6 @@
 //! Strings made from views in another byte order, and from characters.
 
-ghost use Rattle.std.specs.Prelude.{◌≡◌, [], ◌++◌, IfOk, IsOk, OnOk, reverse};
+ghost use Rattle.std.specs.Prelude.{◌≡◌, [], IfOk, IsOk, OnOk, reverse};
 ghost use Rattle.utf16_units.specs.Edit.{push_text};
 ghost use Rattle.utf16string.specs.Encoding.{Encodes};
 ghost use Rattle.utf16string.specs.WStr.{wstr_text};

@@ -2,18 +2,18 @@
 
 ghost use Rattle.std.specs.Prelude.{◌≡◌, ◌++◌, [], List, ℕ, IfErr, IfNone, IfOk, IfSome, Some, false, length, map, option_map, true};
 ghost use Rattle.std.specs.Vec.{vec_items};
-ghost use Rattle.utf16_users.specs.MultiText.{table_of};
-ghost use Rattle.utf16_users.specs.Records.{HoldsFields, IsFieldFault, IsReadError, field_bytes};
-ghost use Rattle.utf16_users.specs.declared.records.FieldFault.{FieldFault};
-ghost use Rattle.utf16_users.specs.Transcode.{IsTranscodeError};
+ghost use Rattle.utf16_examples.specs.MultiText.{table_of};
+ghost use Rattle.utf16_examples.specs.Records.{HoldsFields, IsFieldFault, IsReadError, field_bytes};
+ghost use Rattle.utf16_examples.specs.declared.records.FieldFault.{FieldFault};
+ghost use Rattle.utf16_examples.specs.Transcode.{IsTranscodeError};
 ghost use Rattle.utf16string.specs.Encoding.{Encodes};
 ghost use Rattle.utf16string.specs.WStr.{wstr_text};
 
 use std::alloc::{AllocError, Global};
-use utf16_users::multi_text::{WriteError, write};
-use utf16_users::names::Names;
-use utf16_users::records::{ReadError, next_field, read_fields};
-use utf16_users::transcode::{TranscodeError, utf8_of, utf16_of};
+use utf16_examples::multi_text::{WriteError, write};
+use utf16_examples::names::Names;
+use utf16_examples::records::{ReadError, next_field, read_fields};
+use utf16_examples::transcode::{TranscodeError, utf8_of, utf16_of};
 use utf16string::{BE, LE, WStr};
 
 /// How many fields a buffer holds.

@@ -7,7 +7,7 @@
 ghost use Rattle.std.specs.Prelude.{◌≡◌, ◌↔◌, ◌-◌, ◌<◌, ◌≤◌, ◌++◌, All, IfOk, IfSome, IsSome, List, OnErr, OnOk, ℕ, drop, encode_utf8_all, length, string_bytes};
 ghost use Rattle.std.specs.List.{flat_map};
 ghost use Rattle.std.specs.Vec.{vec_items};
-ghost use Rattle.utf16_tools.specs.Split.{full, marked, split_items, split_tail};
+ghost use Rattle.utf16_tools.specs.Split.{decided_text, lossy_text, marked, split_tail};
 ghost use Rattle.utf16_tools.specs.Step.{Run};
 ghost use Rattle.utf16string.specs.Encoding.{Encodes, IsText};
 ghost use Rattle.utf16string.specs.Fault.{IsFault, IsFront};
@@ -66,7 +66,7 @@ pub fn resumed<E: Utf16Order, A: Allocator, B: Allocator, C: Allocator>(
 ) -> Result<String<A>, AllocError>
     ensures one { IfOk result (λ text. IsTextOfOneSplit E.BIG (flat_map vec_items pieces.now) (string_bytes text)) }
     ensures same { IfOk result (λ text. string_bytes text ≡ encode_utf8_all
-        (full (split_items E.BIG (flat_map vec_items pieces.now)) (split_tail E.BIG (flat_map vec_items pieces.now)))) }
+        (lossy_text E.BIG (flat_map vec_items pieces.now))) }
 {
     split_exists();
     split_unique();
@@ -92,7 +92,7 @@ pub fn fed<E: Utf16Order, A: Allocator, B: Allocator + Clone, C: Allocator>(
     pieces: &[Vec<u8, C>],
 ) -> Result<String<A>, AllocError>
     ensures { IfOk result (λ text. string_bytes text ≡ encode_utf8_all
-        (full (split_items E.BIG (flat_map vec_items pieces.now)) (split_tail E.BIG (flat_map vec_items pieces.now)))) }
+        (lossy_text E.BIG (flat_map vec_items pieces.now))) }
 {
     let mut text = String::new(text_alloc);
     let mut decoder = Lossy::<E>::new();
@@ -113,7 +113,7 @@ pub fn resume<'a, E: Utf16Order, A: Allocator>(
     bytes: &'a [u8],
     to: &mut String<A>,
 ) -> Result<&'a [u8], AllocError>
-    ensures text { OnOk result (string_bytes to.new ≡ string_bytes to.old ++ encode_utf8_all (marked (split_items E.BIG bytes.now))) }
+    ensures text { OnOk result (string_bytes to.new ≡ string_bytes to.old ++ encode_utf8_all (decided_text E.BIG bytes.now)) }
     ensures kept { IfOk result (λ kept. kept.now ≡ split_tail E.BIG bytes.now) }
     ensures bytes { All (λ b. b < 256) bytes.now }
 {

@@ -1,11 +1,10 @@
 //! What users of streams want, each resting on a law of the split.
 
-ghost use Rattle.std.specs.Prelude.{◌≡◌, ◌↔◌, ◌*◌, ◌+◌, ◌<◌, ◌≤◌, ◌++◌, [], List, ℕ, Bool, IfOk, IsOk, IsTrue, OnErr, OnOk, encode_utf8_all, length, string_bytes, take};
+ghost use Rattle.std.specs.Prelude.{◌≡◌, ◌↔◌, ◌*◌, ◌+◌, ◌≤◌, ◌++◌, List, ℕ, Bool, IfOk, IsTrue, OnOk, encode_utf8_all, length, string_bytes, take};
 ghost use Rattle.std.specs.Io.{StartsWith};
-ghost use Rattle.std.specs.String.{string_len};
 ghost use Rattle.utf16_units.specs.Recipe.{Recipe};
 ghost use Rattle.utf16_tools.specs.Lossy.{lossy_pending};
-ghost use Rattle.utf16_tools.specs.Split.{Item, IsTail, Split, full, marked, split_items, split_tail};
+ghost use Rattle.utf16_tools.specs.Split.{decided_text, IsTail, Item, lossy_text, marked, Split, split_tail};
 ghost use Rattle.utf16string.specs.WStr.{wstr_text};
 
 use std::alloc::{AllocError, Allocator};
@@ -34,7 +33,7 @@ pub fn fed_in_two<E: Utf16Order, A: Allocator, B: Allocator>(
     first: &[u8],
     second: &[u8],
 ) -> Result<String<A>, AllocError>
-    ensures text { IfOk result (λ s. string_bytes s ≡ encode_utf8_all (marked (split_items E.BIG (lossy_pending decoder.old ++ (first.now ++ second.now))))) }
+    ensures text { IfOk result (λ s. string_bytes s ≡ encode_utf8_all (decided_text E.BIG (lossy_pending decoder.old ++ (first.now ++ second.now)))) }
     ensures pending { OnOk result (lossy_pending decoder.new ≡ split_tail E.BIG (lossy_pending decoder.old ++ (first.now ++ second.now))) }
 {
     split_extends();
@@ -94,8 +93,8 @@ pub fn early_and_whole<E: Utf16Order, A: Allocator, B: Allocator>(
     at: usize,
 ) -> Result<(String<A>, String<B>), AllocError>
     requires { at ≤ length whole.now }
-    ensures early { IfOk result (λ shown. string_bytes shown.0 ≡ encode_utf8_all (marked (split_items E.BIG (take at whole.now)))) }
-    ensures whole { IfOk result (λ shown. string_bytes shown.1 ≡ encode_utf8_all (marked (split_items E.BIG whole.now))) }
+    ensures early { IfOk result (λ shown. string_bytes shown.0 ≡ encode_utf8_all (decided_text E.BIG (take at whole.now))) }
+    ensures whole { IfOk result (λ shown. string_bytes shown.1 ≡ encode_utf8_all (decided_text E.BIG whole.now)) }
     ensures stays { IfOk result (λ shown. StartsWith (string_bytes shown.1) (string_bytes shown.0)) }
 {
     items_stay();
@@ -107,7 +106,7 @@ pub fn early_and_whole<E: Utf16Order, A: Allocator, B: Allocator>(
 /// How many bytes of UTF-8 the whole text of bytes takes at most, in either order: at most three more than half as many again.
 pub fn room_for(bytes: &[u8]) -> usize
     ensures most { 2 * result ≤ 3 * length bytes.now + 6 }
-    ensures enough { (big : Bool) → length (encode_utf8_all (full (split_items big bytes.now) (split_tail big bytes.now))) ≤ result }
+    ensures enough { (big : Bool) → length (encode_utf8_all (lossy_text big bytes.now)) ≤ result }
 {
     shown_within();
     (bytes.len() / 2).saturating_mul(3).saturating_add(3)

@@ -1,8 +1,8 @@
 -- Runs that end with status 0.
 use Rattle.std.proofs.Common.{◌≡◌, ℕ, Bool, List, Option, Result, Ok, Err, sym, ap, ◌∙◌}
-use Rattle.utf16_tools.specs.Filter.{Filters, FiltersIn}
-use Rattle.utf16_tools.specs.declared.filters.FilterFault.{FilterFault}
-use Rattle.utf16_tools.specs.declared.filters.FilterFault.TheVariants as fault
+use Rattle.utf16_streams.specs.Filter.{Filters, FiltersIn}
+use Rattle.utf16_streams.specs.declared.filters.FilterFault.{FilterFault}
+use Rattle.utf16_streams.specs.declared.filters.FilterFault.TheVariants as fault
 use Rattle.utf16_cat.specs.Outcome.{EndsAs, outcome}
 use Rattle.utf16_cat.specs.Status.{status_of}
 use Rattle.utf16_cat.specs.declared.outcome.Outcome.{Outcome}

@@ -2,9 +2,9 @@
 use Rattle.std.specs.Prelude.{◌≡◌, Bool, List, ℕ, Option, Result, Ok, Err}
 use Rattle.utf16_cat.specs.declared.outcome.Outcome.{Outcome}
 use Rattle.utf16_cat.specs.declared.outcome.Outcome.TheVariants.{Done, Long, Memory, Read, Write}
-use Rattle.utf16_tools.specs.Filter.{FiltersIn}
-use Rattle.utf16_tools.specs.declared.filters.FilterFault.{FilterFault}
-use Rattle.utf16_tools.specs.declared.filters.FilterFault.TheVariants as fault
+use Rattle.utf16_streams.specs.Filter.{FiltersIn}
+use Rattle.utf16_streams.specs.declared.filters.FilterFault.{FilterFault}
+use Rattle.utf16_streams.specs.declared.filters.FilterFault.TheVariants as fault
 
 -- the outcome of a filter's answer
 abbrev pub outcome : Result (Unit {0}) FilterFault → Outcome

@@ -11,7 +11,7 @@ mod tests;
 
 use crate::program::program;
 use std::process::ExitCode;
-use utf16_tools::Watched;
+use utf16_streams::Watched;
 
 fn main(rt: HostRuntime) -> ExitCode {
     let mut input = Watched::new(rt.stdin());

@@ -6,7 +6,7 @@ ghost use Rattle.utf16_cat.specs.Outcome.{outcome};
 ghost use Rattle.utf16_cat.specs.Status.{status_of};
 
 use std::io::Write;
-use utf16_tools::FilterFault;
+use utf16_streams::FilterFault;
 
 /// The byte order that the arguments ask for.
 #[derive(Clone, Copy, Debug, PartialEq, Eq)]

@@ -3,9 +3,9 @@
 ghost use Rattle.std.specs.Prelude.{◌≡◌, ◌⊎◌, ◌-◌, ◌<◌, ◌≤◌, ◌^◌, Bool, Err, IfErr, Ok, Option};
 ghost use Rattle.std.specs.Io.KnownBytes.{Keeps};
 ghost use Rattle.std.specs.Process.{exit_status};
-ghost use Rattle.utf16_tools.specs.Filter.{Filters, FiltersIn};
-ghost use Rattle.utf16_tools.specs.Watched.{watched_faults, watched_inner};
-ghost use Rattle.utf16_tools.specs.declared.filters.FilterFault.{FilterFault};
+ghost use Rattle.utf16_streams.specs.Filter.{Filters, FiltersIn};
+ghost use Rattle.utf16_streams.specs.Watched.{watched_faults, watched_inner};
+ghost use Rattle.utf16_streams.specs.declared.filters.FilterFault.{FilterFault};
 ghost use Rattle.utf16_cat.specs.Status.{status_of};
 
 use crate::outcome::{Outcome, report};
@@ -13,7 +13,7 @@ use crate::run::run;
 use std::env::{self, Env};
 use std::io::{ErrorKind, Read, Write};
 use std::process::ExitCode;
-use utf16_tools::Watched;
+use utf16_streams::Watched;
 
 /// Runs on the words of the environment, writes the line that tells of the outcome to `errors`, and answers the status: 0
 /// where the input was decoded, 2 where the words name no order, and else 1. The caller proves that there is a number for a

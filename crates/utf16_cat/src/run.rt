@@ -1,15 +1,14 @@
 //! A run of the program on its words.
 
 ghost use Rattle.std.specs.Prelude.{◌≡◌, ◌⊎◌, ◌+◌, ◌-◌, ◌<◌, ◌^◌, [], ◌∷◌, true, false, None, Some, map, codes, string_bytes};
-ghost use Rattle.utf16_tools.specs.Watched.{watched_faults, watched_inner};
+ghost use Rattle.utf16_streams.specs.Watched.{watched_faults, watched_inner};
 ghost use Rattle.utf16_cat.specs.Outcome.{EndsAs};
 ghost use Rattle.utf16_cat.specs.Status.{reads_failed, writes_failed};
 
 use crate::outcome::{Choice, Outcome, order, outcome_of};
 use std::alloc::Allocator;
 use std::io::{Read, Write};
-use utf16_tools::{Watched, filter, filter_auto};
-use utf16string::{BE, LE};
+use utf16_streams::{BE, LE, Watched, filter, filter_auto};
 
 /// Decodes all that the reader gives to the writer, in the order that the words after the program's name ask for: the one
 /// word `le`, the one word `be`, or the one word `auto` for the order that a byte order mark tells. With any other words, and only

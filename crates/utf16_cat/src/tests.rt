@@ -6,7 +6,7 @@ use crate::outcome::{Outcome, report};
 use crate::program::words;
 use crate::run::run;
 use std::process::Abort;
-use utf16_tools::Watched;
+use utf16_streams::Watched;
 
 // What is claimed is so. It has the one assertion of these tests, since the proof of each takes long.
 fn holds(rt: &impl Abort, is: bool) {

@@ -7,10 +7,11 @@ use Rattle.std.proofs.lemmas.Simd.{Each1-get_or, length-chunk, length-put_chunk,
 use Rattle.std.proofs.Math.Nat.{div-div-eq-div-mul, two-pow-succ}
 use Rattle.std.specs.List.{range_with_len}
 use lib.Lanes.{Each1, pick_l, put_chunk, zip2}
+use Rattle.utf16_units.specs.Lanes.{HasLanes}
 use Rattle.utf16_units.specs.Unit.{unit_bytes}
 use Rattle.utf16_from_utf8.specs.Added.{added_bytes, ends_unit, unit_behind}
 use Rattle.utf16_from_utf8.specs.LaneBytes.{high_lane, low_lane, short_low, three_high}
-use Rattle.utf16_from_utf8.specs.Lanes.{HasLanes, kept_pairs, pair_bytes, pairs_of}
+use Rattle.utf16_from_utf8.specs.Lanes.{kept_pairs, pair_bytes, pairs_of}
 use Rattle.utf16_from_utf8.specs.declared.units.TheConstants.{THREES, UPPER}
 use Rattle.utf16_from_utf8.proofs.AddedLemmas.{added_bytes-append, added_bytes-cons, added_bytes-nil, last_but_one, last_but_one-get, last_of, last_of-get, adds-none-behind, adds-none-first, adds-one, byte_adds, unit-one, unit-three}
 use Rattle.utf16_from_utf8.proofs.LaneByteLemmas.{lane-bytes, pair-unit, three-bytes}
@@ -156,8 +157,8 @@ abbrev pub thirds : List ℕ
 thirds = 2 ∷ 5 ∷ 8 ∷ 11 ∷ 14 ∷ 0 ∷ 0 ∷ 0 ∷ 0 ∷ 0 ∷ 0 ∷ 0 ∷ 0 ∷ 0 ∷ 0 ∷ 0 ∷ []
 
 pub threes-added : (big : Bool) (b2 b1 : ℕ) (block highs lows : List ℕ) → length block ≡ 16 → Each1 (Fits w8) block → zip2 bit_and block UPPER ≡ THREES
-    → HasLanes highs (λ i. three_high (slice_index (pick_l 0 (block ++ block) firsts) i) (slice_index (pick_l 0 (block ++ block) seconds) i))
-    → HasLanes lows (λ i. short_low (slice_index (pick_l 0 (block ++ block) seconds) i) (slice_index (pick_l 0 (block ++ block) thirds) i))
+    → HasLanes 16 highs (λ i. three_high (slice_index (pick_l 0 (block ++ block) firsts) i) (slice_index (pick_l 0 (block ++ block) seconds) i))
+    → HasLanes 16 lows (λ i. short_low (slice_index (pick_l 0 (block ++ block) seconds) i) (slice_index (pick_l 0 (block ++ block) thirds) i))
     → take 10 (pairs_of big highs lows) ≡ added_bytes big b2 b1 (take 15 block)
 threes-added big b2 b1 block highs lows long fits classes h l =
     let at = λ (i : ℕ). get_or block i 0 in
@@ -203,9 +204,9 @@ two_stored big at two unit out room is =
 -- ---- a block's lanes, from the vectors that they were computed of
 
 pub block-lanes : (before2 before1 : ℕ) (block b1 b2 highs lows : List ℕ) (bits : ℕ) → length block ≡ 16 → Each1 (Fits w8) block
-    → HasLanes b1 (λ i. slice_index (before1 ∷ block) i) → HasLanes b2 (λ i. slice_index (before2 ∷ b1) i)
-    → HasLanes highs (λ i. high_lane (slice_index b2 i) (slice_index b1 i) (slice_index block i))
-    → HasLanes lows (λ i. low_lane (slice_index b2 i) (slice_index b1 i) (slice_index block i))
+    → HasLanes 16 b1 (λ i. slice_index (before1 ∷ block) i) → HasLanes 16 b2 (λ i. slice_index (before2 ∷ b1) i)
+    → HasLanes 16 highs (λ i. high_lane (slice_index b2 i) (slice_index b1 i) (slice_index block i))
+    → HasLanes 16 lows (λ i. low_lane (slice_index b2 i) (slice_index b1 i) (slice_index block i))
     → ((i : ℕ) → i < 16 → ◌≡◌ {A = ℕ} (bits / 2 ^ i % 2) (cond (ends_unit (slice_index b1 i) (slice_index block i)) 1 0))
     → AreLanesOf before2 before1 block highs lows bits
 block-lanes before2 before1 block b1 b2 highs lows bits long fits one two h l ended =

@@ -1,36 +1,25 @@
 -- Pairs packed by a table of positions.
-use Rattle.std.proofs.Common.{append_assoc, length-drop, length-take-le, take-append-drop, take_all, ◌≡◌, ℕ, zero, suc, ◌+◌, ◌*◌, ◌/◌, ◌%◌, ◌<◌, ◌≤◌, ◌==◌, ◌&&◌, Bool, true, false, cond, eqb, eqb-true, leb, ltb, List, [], ◌∷◌, ◌++◌, count_ones, map, length, take, drop, get_or, refl, sym, ap, ap₂, ◌∙◌, subst, arith, w8}
-use Rattle.std.proofs.lemmas.Bool.{and_parts, false_from_ne_true, leb-true, ltb-true, true≢false}
+use Rattle.std.proofs.Common.{append_assoc, length-drop, length-take-le, take-append-drop, take_all, ◌≡◌, ℕ, zero, suc, ◌+◌, ◌*◌, ◌/◌, ◌%◌, ◌<◌, ◌≤◌, ◌==◌, ◌&&◌, Bool, true, false, cond, eqb, eqb-true, leb, List, [], ◌∷◌, ◌++◌, count_ones, map, length, take, drop, get_or, refl, sym, ap, ap₂, ◌∙◌, subst, arith, w8}
+use Rattle.std.proofs.lemmas.Bool.{and_parts, false_from_ne_true, leb-true}
 use Rattle.std.proofs.lemmas.List.{map-append, take-take}
 use Rattle.std.proofs.lemmas.Nat.{ones-le}
+use Rattle.std.proofs.lemmas.Slice.Eq.{bytes_eq-Decides}
+use Rattle.std.specs.Str.{bytes_eq}
 use Rattle.std.proofs.Math.Seq.{take-append-add}
 use Rattle.std.proofs.lemmas.Simd.{SwzOk, SwzOk-from_below, pick_l-range_with_len, pick_l_whole, swz_l, take_more_put_chunk}
 use Rattle.std.specs.List.{range_with_len, take-map}
 use lib.Count.{ones}
 use lib.Lanes.{Each1, all_below, pick_l, put_chunk}
 use mir.Val.{zeroes}
+use Rattle.utf16_units.proofs.LanesByIndex.{all_below-each}
 use Rattle.utf16_from_utf8.specs.Lanes.{Packs, kept_pairs}
 use Rattle.utf16_from_utf8.specs.declared.positions.TheConstants.{KEPT}
 
 -- ---- the table, row by row
 
-abbrev same : List ℕ → List ℕ → Bool
-same [] [] = true
-same [] (y ∷ ys) = false
-same (x ∷ xs) [] = false
-same (x ∷ xs) (y ∷ ys) = eqb x y && same xs ys
-
-same-is : (xs ys : List ℕ) → same xs ys ≡ true → xs ≡ ys
-same-is [] [] e = refl
-same-is [] (y ∷ ys) e = absurd (true≢false (sym e))
-same-is (x ∷ xs) [] e = absurd (true≢false (sym e))
-same-is (x ∷ xs) (y ∷ ys) e =
-    let parts = and_parts (eqb x y) (same xs ys) e in
-    ap₂ (λ z zs. z ∷ zs) (eqb-true x y parts.0) (same-is xs ys parts.1)
-
 -- whether a row is that of some bits
 abbrev is_row : ℕ → List ℕ → Bool
-is_row bits row = same (take (2 * count_ones bits) row) (kept_pairs bits (range_with_len 0 16)) && (eqb (length row) 16 && all_below 16 row)
+is_row bits row = bytes_eq (take (2 * count_ones bits) row) (kept_pairs bits (range_with_len 0 16)) && (eqb (length row) 16 && all_below 16 row)
 
 -- whether rows are those of the numbers from some bits on
 abbrev are_rows : ℕ → List (List ℕ) → Bool
@@ -54,15 +43,9 @@ pub rows : (bits : ℕ) → bits < 256 → Packs bits (get_or KEPT bits [])
 rows bits below =
     let row = get_or KEPT bits [] in
     let here : 0 + bits ≡ bits = omega arith in
-    let is = and_parts (same (take (2 * count_ones bits) row) (kept_pairs bits (range_with_len 0 16))) (eqb (length row) 16 && all_below 16 row) (subst (λ n. is_row n row ≡ true) here (each-row 0 KEPT bits table below)) in
+    let is = and_parts (bytes_eq (take (2 * count_ones bits) row) (kept_pairs bits (range_with_len 0 16))) (eqb (length row) 16 && all_below 16 row) (subst (λ n. is_row n row ≡ true) here (each-row 0 KEPT bits table below)) in
     let rest = and_parts (eqb (length row) 16) (all_below 16 row) is.1 in
-    record { kept = same-is _ _ is.0; len = eqb-true _ _ rest.0; few = ones-le 8 bits below; below = rest.1 }
-
-pub all_below-each : (n : ℕ) (ks : List ℕ) → all_below n ks ≡ true → Each1 (λ k. k < n) ks
-all_below-each n [] e = tt
-all_below-each n (k ∷ ks) e =
-    let parts = and_parts (ltb k n) (all_below n ks) e in
-    (ltb-true k n parts.0, all_below-each n ks parts.1)
+    record { kept = (bytes_eq-Decides _ _).0 is.0; len = eqb-true _ _ rest.0; few = ones-le 8 bits below; below = rest.1 }
 
 -- ---- positions in a vector
 

@@ -1,12 +1,7 @@
--- Sixteen bytes lane by lane, and the two bytes of units side by side.
-use Rattle.std.specs.Prelude.{◌≡◌, ℕ, ◌*◌, ◌/◌, ◌%◌, ◌<◌, ◌≤◌, ◌==◌, Bool, true, false, List, [], ◌∷◌, ◌++◌, if◌then◌else◌, length, slice_index, take, count_ones}
+-- The two bytes of units side by side, and those of them that are kept.
+use Rattle.std.specs.Prelude.{◌≡◌, ℕ, ◌*◌, ◌/◌, ◌%◌, ◌≤◌, ◌==◌, Bool, true, false, List, [], ◌∷◌, ◌++◌, if◌then◌else◌, length, take, count_ones}
 use Rattle.std.specs.List.{range_with_len}
 use Rattle.std.specs.Simd.Lanes.{all_below}
-
--- the sixteen lanes, by their places
-pub record HasLanes (v : List ℕ) (lane : ℕ → ℕ) : Type 0 where
-  pub len : length v ≡ 16
-  pub lanes : (i : ℕ) → i < 16 → slice_index v i ≡ lane i
 
 -- the two bytes of a unit by its high and its low byte (Unicode, section 3.10: UTF-16BE and UTF-16LE)
 abbrev pub pair_bytes : Bool → ℕ → ℕ → List ℕ

@@ -1,27 +1,27 @@
 //! Sixteen bytes by lanes: each function says what stands in the lane at `i`.
 
 ghost use Rattle.std.specs.Prelude.{◌≡◌, ℕ, ◌+◌, ◌*◌, ◌/◌, ◌%◌, ◌^◌, ◌<◌, ◌==◌, ◌∷◌, bit_and, if◌then◌else◌, nat_lt, slice_index};
-ghost use Rattle.utf16_from_utf8.specs.Lanes.{HasLanes};
+ghost use Rattle.utf16_units.specs.Lanes.{HasLanes};
 
 use std::simd::prelude::*;
 
 #[inline(always)]
 pub(crate) fn each(byte: u8) -> u8x16
-    ensures { HasLanes result (λ i. byte) }
+    ensures { HasLanes 16 result (λ i. byte) }
 {
     u8x16::splat(byte)
 }
 
 #[inline(always)]
 pub(crate) fn masked(v: u8x16, mask: u8) -> u8x16
-    ensures { HasLanes result (λ i. bit_and (slice_index v i) mask) }
+    ensures { HasLanes 16 result (λ i. bit_and (slice_index v i) mask) }
 {
     v & u8x16::splat(mask)
 }
 
 #[inline(always)]
 pub(crate) fn sum(a: u8x16, b: u8x16) -> u8x16
-    ensures { HasLanes result (λ i. (slice_index a i + slice_index b i) % 2 ^ 8) }
+    ensures { HasLanes 16 result (λ i. (slice_index a i + slice_index b i) % 2 ^ 8) }
 {
     a + b
 }
@@ -30,7 +30,7 @@ pub(crate) fn sum(a: u8x16, b: u8x16) -> u8x16
 #[inline(always)]
 pub(crate) fn down(v: u8x16, by: u8) -> u8x16
     requires { by < 8 }
-    ensures { HasLanes result (λ i. slice_index v i / 2 ^ by) }
+    ensures { HasLanes 16 result (λ i. slice_index v i / 2 ^ by) }
 {
     v >> u8x16::splat(by)
 }
@@ -39,7 +39,7 @@ pub(crate) fn down(v: u8x16, by: u8) -> u8x16
 #[inline(always)]
 pub(crate) fn up(v: u8x16, by: u8) -> u8x16
     requires { by < 8 }
-    ensures { HasLanes result (λ i. slice_index v i * 2 ^ by % 2 ^ 8) }
+    ensures { HasLanes 16 result (λ i. slice_index v i * 2 ^ by % 2 ^ 8) }
 {
     v << u8x16::splat(by)
 }
@@ -47,7 +47,7 @@ pub(crate) fn up(v: u8x16, by: u8) -> u8x16
 // `a` where a lane is below the limit, else `b`.
 #[inline(always)]
 pub(crate) fn where_below(v: u8x16, limit: u8, a: u8x16, b: u8x16) -> u8x16
-    ensures { HasLanes result (λ i. if nat_lt (slice_index v i) limit then slice_index a i else slice_index b i) }
+    ensures { HasLanes 16 result (λ i. if nat_lt (slice_index v i) limit then slice_index a i else slice_index b i) }
 {
     v.simd_lt(u8x16::splat(limit)).select(a, b)
 }
@@ -55,7 +55,7 @@ pub(crate) fn where_below(v: u8x16, limit: u8, a: u8x16, b: u8x16) -> u8x16
 // The byte before each one; before the first stands `before`.
 #[inline(always)]
 pub(crate) fn behind(v: u8x16, before: u8) -> u8x16
-    ensures { HasLanes result (λ i. slice_index (before ∷ v) i) }
+    ensures { HasLanes 16 result (λ i. slice_index (before ∷ v) i) }
 {
     u8x16::splat(before).shuffle(
         v,

@@ -3,8 +3,8 @@
 ghost use Rattle.std.specs.Prelude.{◌≡◌, ◌<◌, ℕ, bit_and, if◌then◌else◌, slice_index, ◌/◌, ◌%◌, ◌^◌, IsTrue};
 ghost use Rattle.std.specs.Simd.Lanes.{zip2};
 ghost use Rattle.utf16_from_utf8.specs.Added.{ends_unit};
-ghost use Rattle.utf16_from_utf8.specs.LaneBytes.{high_lane, lead_high, lead_low, lead_part, low_lane, middle, short_low, three_high, trail_high};
-ghost use Rattle.utf16_from_utf8.specs.Lanes.{HasLanes};
+ghost use Rattle.utf16_from_utf8.specs.LaneBytes.{high_lane, lead_high, lead_part, low_lane, middle, short_low, three_high, trail_high};
+ghost use Rattle.utf16_units.specs.Lanes.{HasLanes};
 
 use crate::lanes::{down, each, masked, set_bits, sum, up, where_below};
 use std::simd::prelude::*;
@@ -12,14 +12,14 @@ use std::simd::prelude::*;
 // The low bytes, but of leading surrogates and of characters of one byte.
 #[inline(always)]
 pub(crate) fn short_lows(b1: u8x16, b0: u8x16) -> u8x16
-    ensures { HasLanes result (λ i. short_low (slice_index b1 i) (slice_index b0 i)) }
+    ensures { HasLanes 16 result (λ i. short_low (slice_index b1 i) (slice_index b0 i)) }
 {
     sum(up(b1, 6), masked(b0, 0x3F))
 }
 
 #[inline(always)]
 fn middles(b1: u8x16) -> u8x16
-    ensures { HasLanes result (λ i. middle (slice_index b1 i)) }
+    ensures { HasLanes 16 result (λ i. middle (slice_index b1 i)) }
 {
     masked(down(b1, 2), 0xF)
 }
@@ -27,28 +27,28 @@ fn middles(b1: u8x16) -> u8x16
 // The high bytes of characters of three bytes.
 #[inline(always)]
 pub(crate) fn three_highs(b2: u8x16, b1: u8x16) -> u8x16
-    ensures { HasLanes result (λ i. three_high (slice_index b2 i) (slice_index b1 i)) }
+    ensures { HasLanes 16 result (λ i. three_high (slice_index b2 i) (slice_index b1 i)) }
 {
     sum(up(b2, 4), middles(b1))
 }
 
 #[inline(always)]
 fn trail_highs(b1: u8x16) -> u8x16
-    ensures { HasLanes result (λ i. trail_high (slice_index b1 i)) }
+    ensures { HasLanes 16 result (λ i. trail_high (slice_index b1 i)) }
 {
     sum(masked(down(b1, 2), 3), each(0xDC))
 }
 
 #[inline(always)]
 fn lead_parts(b1: u8x16, b0: u8x16) -> u8x16
-    ensures { HasLanes result (λ i. lead_part (slice_index b1 i) (slice_index b0 i)) }
+    ensures { HasLanes 16 result (λ i. lead_part (slice_index b1 i) (slice_index b0 i)) }
 {
     sum(up(b1, 2), masked(down(b0, 4), 3))
 }
 
 #[inline(always)]
 fn lead_highs(b2: u8x16, parts: u8x16) -> u8x16
-    ensures { HasLanes result (λ i. lead_high (slice_index b2 i) (slice_index parts i)) }
+    ensures { HasLanes 16 result (λ i. lead_high (slice_index b2 i) (slice_index parts i)) }
 {
     sum(
         masked(b2, 7),
@@ -59,7 +59,7 @@ fn lead_highs(b2: u8x16, parts: u8x16) -> u8x16
 // The low bytes.
 #[inline(always)]
 pub(crate) fn lows(b2: u8x16, b1: u8x16, b0: u8x16) -> u8x16
-    ensures { HasLanes result (λ i. low_lane (slice_index b2 i) (slice_index b1 i) (slice_index b0 i)) }
+    ensures { HasLanes 16 result (λ i. low_lane (slice_index b2 i) (slice_index b1 i) (slice_index b0 i)) }
 {
     let short = short_lows(b1, b0);
     let lead = sum(lead_parts(b1, b0), each(0xC0));
@@ -70,7 +70,7 @@ pub(crate) fn lows(b2: u8x16, b1: u8x16, b0: u8x16) -> u8x16
 // The high bytes.
 #[inline(always)]
 pub(crate) fn highs(b2: u8x16, b1: u8x16, b0: u8x16) -> u8x16
-    ensures { HasLanes result (λ i. high_lane (slice_index b2 i) (slice_index b1 i) (slice_index b0 i)) }
+    ensures { HasLanes 16 result (λ i. high_lane (slice_index b2 i) (slice_index b1 i) (slice_index b0 i)) }
 {
     let lead = lead_highs(b2, lead_parts(b1, b0));
     let last = where_below(b2, 0xF0, three_highs(b2, b1), lead);

@@ -1,5 +1,4 @@
 pub mod Asked
 pub mod PlainUnits
-pub mod BlockUnits
 pub mod KeptUnits
 pub mod Retained

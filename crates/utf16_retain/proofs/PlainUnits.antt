@@ -1,5 +1,5 @@
 -- Blocks of units, each a character by itself: their test, their bytes, and those of which a predicate answers true.
-use Rattle.std.proofs.Common.{◌≡◌, ℕ, ◌+◌, ◌-◌, ◌*◌, ◌/◌, ◌%◌, ◌^◌, ◌<◌, ◌≤◌, Bool, true, false, cond, not, nat_eq, bit_and, List, [], ◌∷◌, ◌++◌, All, get_or, length, map, replicate, take, drop, refl, sym, ap, ap₂, ◌∙◌, subst, arith, append_assoc, append-nil, length-append, flat_map}
+use Rattle.std.proofs.Common.{◌≡◌, ℕ, ◌+◌, ◌-◌, ◌*◌, ◌/◌, ◌%◌, ◌^◌, ◌<◌, ◌≤◌, Bool, true, false, cond, not, nat_eq, bit_and, List, [], ◌∷◌, ◌++◌, All, get_or, length, map, replicate, take, drop, refl, sym, ap, ap₂, ◌∙◌, subst, arith, append_assoc, length-append, flat_map}
 use Rattle.std.proofs.lemmas.Bool.{eqb-false, false≢true}
 use Rattle.std.proofs.lemmas.Grind.{flat_map-append}
 use Rattle.std.proofs.lemmas.List.{drop-drop, get_or-take, length-drop, length-map, length-take, length-take-le, take-append-drop, take_all, take_at, take_more}
@@ -15,11 +15,11 @@ use lib.Lanes.{Each1, mask_l, top, zip2}
 use lib.Count.{count_trailing_zeros}
 use Rattle.utf16_units.specs.Encoding.{Encodes, encode}
 use Rattle.utf16_units.proofs.EncodingLemmas.{encode-cons, encode-nil}
-use Rattle.utf16_units.specs.Unit.{unit_bytes, unit_of}
+use Rattle.utf16_units.specs.Unit.{unit_bytes}
 use Rattle.utf16_units.proofs.FirstChar.{scalar_unit}
 use Rattle.utf16_retain.proofs.Asked.{All-kept, kept-append}
-use Rattle.utf16_units.proofs.SplitLemmas.{one_unit_bytes}
-use Rattle.utf16_units.proofs.UnitLemmas.{length-units_bytes, unit_bytes-unit_of}
+use Rattle.utf16_units.proofs.CharLemmas.{one_unit_bytes}
+use Rattle.utf16_units.proofs.UnitLemmas.{length-units_bytes}
 
 -- a unit whose high five bits are not those of a surrogate is a character
 scalar-high : (u : ℕ) → u < 0x1_0000 → nat_eq (bit_and u 0xF800) 0xD800 ≡ false → IsScalar u
@@ -65,18 +65,6 @@ module _ (units : List ℕ) (long : length units ≡ 16) where
       let before : i < plain_len units = omega (arith, lt, length-take (plain_len units) units) in
       subst IsScalar (sym (get_or-take (plain_len units) units i 0 before))
       (scalar-high _ (Each1-get_or (Fits w16) units i 0 (omega (arith, long, before, plain_len-few)) fit).fits (not-true _ (prefix_len_passes (λ u. not (is_surrogate u)) units i 0 before))))
-
--- the bytes of one unit more
-pub units-more : (big : Bool) (raw units : List ℕ) (i first second : ℕ) → i < length units → 2 * i + 1 < length raw → get_or raw (2 * i) 0 ≡ first → get_or raw (2 * i + 1) 0 ≡ second
-    → first < 256 → second < 256 → flat_map (unit_bytes big) (take i units) ≡ take (2 * i) raw → (more : List ℕ) → more ≡ take i units ++ unit_of big first second ∷ []
-    → flat_map (unit_bytes big) more ≡ take (2 * (i + 1)) raw
-units-more big raw units i first second lt room one two h l so_far more is =
-    let twice : 2 * i + 1 + 1 ≡ 2 * (i + 1) = omega arith in
-    let grown : take (2 * (i + 1)) raw ≡ take (2 * i) raw ++ first ∷ second ∷ [] =
-    ap (λ n. take n raw) (sym twice) ∙ take_more raw (2 * i + 1) 0 room ∙ ap (λ t. t ++ get_or raw (2 * i + 1) 0 ∷ []) (take_more raw (2 * i) 0 (omega arith))
-    ∙ append_assoc (take (2 * i) raw) _ _ ∙ ap₂ (λ x y. take (2 * i) raw ++ x ∷ y ∷ []) one two in
-    ap (flat_map (unit_bytes big)) is ∙ flat_map-append (unit_bytes big) (take i units) _
-    ∙ ap₂ (λ x y. x ++ y) so_far (append-nil (unit_bytes big (unit_of big first second)) ∙ unit_bytes-unit_of big first second h l) ∙ sym grown
 
 -- no more are kept than there are
 length-kept : {X : Type 0} → (answers : List Bool) (items : List X) → length (items_where_true answers items) ≤ length items

@@ -9,6 +9,7 @@ ghost use Rattle.utf16_retain.specs.Retain.{MayBeAsked, RetainsTo};
 
 use std::simd::prelude::*;
 use utf16_units::Utf16Order;
+use utf16_units::blocks::units16;
 
 /// How many units a block has.
 pub(crate) const UNITS: usize = 16;
@@ -27,28 +28,8 @@ pub(crate) fn plain_units<E: Utf16Order>(raw: &[u8]) -> ([u16; UNITS], usize)
     ensures units { All (λ unit. unit < 0x1_0000) result.0 }
     ensures spelled { (n : ℕ) → n ≤ result.1 → Encodes E.BIG (take n result.0) (take (2 * n) raw.now) }
 {
-    let units = first_units::<E>(raw);
+    let units = units16::<E>(u8x32::from_slice(raw));
     (units.to_array(), plain_front(units))
-}
-
-// The units of the block at the front, read at once.
-#[inline(always)]
-fn first_units<E: Utf16Order>(raw: &[u8]) -> u16x16
-    requires { BLOCK ≤ length raw.now }
-    ensures len { length result ≡ UNITS }
-    ensures bytes { flat_map (unit_bytes E.BIG) result ≡ take BLOCK raw.now }
-{
-    let units = u16x16::from_le_bytes(u8x32::from_slice(raw));
-    if E::BIG { swapped(units) } else { units }
-}
-
-// The two bytes of each unit the other way round.
-#[inline(always)]
-fn swapped(units: u16x16) -> u16x16
-    ensures len { length result ≡ UNITS }
-    ensures bytes { flat_map (unit_bytes true) result ≡ flat_map (unit_bytes false) units }
-{
-    (units << u16x16::splat(8)) + (units >> u16x16::splat(8))
 }
 
 // How many units stand before the first surrogate.

@@ -5,7 +5,7 @@ ghost use Rattle.utf16_units.specs.Encoding.{Encodes, IsText, char_size, encode,
 ghost use Rattle.utf16_retain.specs.Retain.{MayBeAsked, RetainsTo};
 
 use crate::blocks::{BLOCK, HALF, UNITS, keep_block, keep_each, plain_units};
-use utf16_str::WStr;
+use utf16_units::ends::first_char;
 use utf16_units::{Utf16Order, is_leading_surrogate};
 
 /// Moves the characters that the predicate keeps to the front, and answers how many bytes they take. The predicate is asked once
@@ -72,8 +72,7 @@ fn single_at<E: Utf16Order>(bytes: &[u8], at: usize) -> Option<char>
     }
 }
 
-// The character that begins at an index, and how many bytes it takes. The size is how far the walk went, so that the next read
-// does not wait for a comparison of the character.
+// The character that begins at an index, and how many bytes it takes.
 #[inline]
 fn char_from<E: Utf16Order>(bytes: &[u8], at: usize) -> (char, usize)
     requires within { at < length bytes.now }
@@ -82,10 +81,7 @@ fn char_from<E: Utf16Order>(bytes: &[u8], at: usize) -> (char, usize)
     ensures size { result.1 ≡ char_size result.0 }
     ensures within { at + result.1 ≤ length bytes.now }
 {
-    let text = WStr::<E>::from_utf16_unchecked(&bytes[at..]);
-    let mut chars = text.chars();
-    let first = chars.next().unwrap();
-    (first, text.len() - chars.as_wstr().len())
+    first_char::<E>(&bytes[at..])
 }
 
 // Asks about the character at an index, and moves it down if it stays. Answers where those that stay end.

@@ -1,4 +1,4 @@
--- The parts of a text between a delimiter.
+-- The parts of a text that is cut at each delimiter.
 use Rattle.std.specs.Prelude.{◌==◌, ℕ, List, [], Option, None, Some}
 use Rattle.std.specs.Iterator.{YieldsFirstBy}
 use Rattle.std.specs.Iterator.Runs.{EveryRun, ItemsMapTo}

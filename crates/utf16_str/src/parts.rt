@@ -1,10 +1,10 @@
 //! The parts of a view: by ranges, on both sides of an offset, and on both sides of a character.
 
-ghost use Rattle.std.specs.Prelude.{◌≡◌, ◌↔◌, IfSome, IsNone, IsSome, Some, ◌++◌, ◌+◌, ◌∷◌, drop, length, take};
+ghost use Rattle.std.specs.Prelude.{◌≡◌, ◌↔◌, IfSome, IsNone, IsSome, Some, ◌++◌, ◌+◌, ◌∷◌, drop, take};
 ghost use Rattle.utf16_units.specs.Boundary.{IsBoundary, text_between, text_from, text_to};
 ghost use Rattle.utf16_units.specs.Delimited.{Lacks};
 ghost use Rattle.utf16_units.specs.Encoding.{char_size, size};
-ghost use Rattle.utf16_str.specs.Window.{IsWindowOf, bytes_between, window_bytes, window_text};
+ghost use Rattle.utf16_str.specs.Window.{IsRangeOf, IsWindowOf, bytes_between, range_bytes, range_text};
 ghost use Rattle.utf16_str.specs.WStr.{wstr_bytes, wstr_text};
 
 use crate::{SliceIndex, WStr};
@@ -14,9 +14,9 @@ impl<'a, E: Utf16Order> WStr<'a, E> {
     /// The part of a range, or `None` where its window is reversed, or an end is no character boundary.
     #[inline]
     pub fn get<I: SliceIndex<E>>(self, index: I) -> Option<WStr<'a, E>>
-        ensures some { IsSome result ↔ IsWindowOf (wstr_text self.entry) (I.window index (length (wstr_bytes self.entry))) }
-        ensures part { IfSome result (λ part. wstr_text part ≡ window_text (wstr_text self.entry) (I.window index (length (wstr_bytes self.entry)))) }
-        ensures bytes { IfSome result (λ part. wstr_bytes part ≡ window_bytes (wstr_bytes self.entry) (I.window index (length (wstr_bytes self.entry)))) }
+        ensures some { IsSome result ↔ IsRangeOf E.BIG (wstr_bytes self.entry) (I.window index) }
+        ensures part { IfSome result (λ part. wstr_text part ≡ range_text E.BIG (wstr_bytes self.entry) (I.window index)) }
+        ensures bytes { IfSome result (λ part. wstr_bytes part ≡ range_bytes (wstr_bytes self.entry) (I.window index)) }
     {
         index.get(self)
     }
@@ -24,9 +24,9 @@ impl<'a, E: Utf16Order> WStr<'a, E> {
     /// The part of a range. The caller proves that there is one; `get` tests it.
     #[inline]
     pub fn get_unchecked<I: SliceIndex<E>>(self, index: I) -> WStr<'a, E>
-        requires { IsWindowOf (wstr_text self) (I.window index (length (wstr_bytes self))) }
-        ensures text { wstr_text result ≡ window_text (wstr_text self.entry) (I.window index (length (wstr_bytes self.entry))) }
-        ensures bytes { wstr_bytes result ≡ window_bytes (wstr_bytes self.entry) (I.window index (length (wstr_bytes self.entry))) }
+        requires { IsRangeOf E.BIG (wstr_bytes self) (I.window index) }
+        ensures text { wstr_text result ≡ range_text E.BIG (wstr_bytes self.entry) (I.window index) }
+        ensures bytes { wstr_bytes result ≡ range_bytes (wstr_bytes self.entry) (I.window index) }
     {
         index.get_unchecked(self)
     }
@@ -34,9 +34,9 @@ impl<'a, E: Utf16Order> WStr<'a, E> {
     /// The part of a range: write it for `s[a..b]`. The caller proves that there is one; `get` tests it.
     #[inline]
     pub fn index<I: SliceIndex<E>>(self, index: I) -> WStr<'a, E>
-        requires { IsWindowOf (wstr_text self) (I.window index (length (wstr_bytes self))) }
-        ensures text { wstr_text result ≡ window_text (wstr_text self.entry) (I.window index (length (wstr_bytes self.entry))) }
-        ensures bytes { wstr_bytes result ≡ window_bytes (wstr_bytes self.entry) (I.window index (length (wstr_bytes self.entry))) }
+        requires { IsRangeOf E.BIG (wstr_bytes self) (I.window index) }
+        ensures text { wstr_text result ≡ range_text E.BIG (wstr_bytes self.entry) (I.window index) }
+        ensures bytes { wstr_bytes result ≡ range_bytes (wstr_bytes self.entry) (I.window index) }
     {
         index.index(self)
     }

@@ -18,7 +18,7 @@ ghost use Rattle.utf16_units.proofs.OrderTies.{same_ties};
 ghost use Rattle.utf16_str.specs.Offsets.{IsCharAt, char_offsets};
 
 use crate::{WStrCharIndices, WStrChars};
-use std::alloc::{AllocError, Allocator};
+use std::alloc::AllocError;
 use std::cmp::Ordering;
 use std::fmt;
 use std::hash::{Hash, Hasher};

@@ -2,7 +2,7 @@
 
 use crate::checks::{encoded, equal, holds, string, utf8_is};
 use std::process::Abort;
-use utf16_callers::edits::{inserted, overwritten, removed, split, truncated};
+use utf16_callers::edits::{inserted, removed, split, truncated};
 use utf16_testing::texts::{APHI, APZ_BE, HELLO};
 use utf16string::{BE, LE, Utf16Order, WString};
 
@@ -32,7 +32,8 @@ fn split_at<E: Utf16Order>(rt: &impl Abort, text: &mut WString<E>, at: usize) ->
 fn test_deref_mut(rt: HostRuntime) {
     let mut text = string::<LE>(&rt, &HELLO);
     let world = encoded(&rt, "world");
-    holds(&rt, overwritten(&mut text, 0, world.as_wstr()));
+    holds(&rt, text.fits(0, world.as_wstr()));
+    text.overwrite(0, world.as_wstr());
     utf8_is(&rt, text.as_wstr(), "world");
 }
 

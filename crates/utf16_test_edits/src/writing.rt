@@ -2,7 +2,7 @@
 
 use crate::checks::{bytes, encoded, equal, holds, string, utf8_is};
 use std::process::Abort;
-use utf16_callers::edits::{overwritten, overwritten_and_returned, overwritten_in_place};
+use utf16_callers::edits::{overwritten_and_returned, overwritten_in_place};
 use utf16_testing::texts::{APB_BE, HELLO, HELLO_BE};
 use utf16string::{BE, LE, Utf16Order, WStr, WStrMut, WString};
 
@@ -61,7 +61,8 @@ fn write_over_owned<E: Utf16Order>(
     wanted: &[u8],
 ) {
     let capacity = text.capacity();
-    holds(rt, overwritten(text, idx, part));
+    holds(rt, text.fits(idx, part));
+    text.overwrite(idx, part);
     equal(rt, text.as_bytes(), wanted);
     equal(rt, text.capacity(), capacity);
 }

@@ -7,8 +7,8 @@
 
 use crate::checks::equal;
 use std::process::Abort;
+use utf16_examples::records::{FieldFault, Fields, ReadError, next_field, read_fields};
 use utf16_testing::refusing::Refusing;
-use utf16_users::records::{FieldFault, Fields, ReadError, next_field, read_fields};
 use utf16string::{BE, LE, Utf16Order};
 
 const RECORD: [u8; 22] = [

@@ -2,12 +2,12 @@
 
 use crate::checks::{equal, holds};
 use std::process::Abort;
-use utf16_testing::refusing::Refusing;
-use utf16_testing::texts::{MIXED, MIXED_BE, faults};
-use utf16_users::transcode::{
+use utf16_examples::transcode::{
     Order, TranscodeError, back_and_there, reordered, there_and_back, utf8_in, utf8_marked,
     utf8_marked_in, utf8_of, utf8_of_pieces, utf16_in, utf16_of,
 };
+use utf16_testing::refusing::Refusing;
+use utf16_testing::texts::{MIXED, MIXED_BE, faults};
 use utf16string::{BE, LE, Utf16Order};
 
 // The text of `MIXED`.

@@ -3,8 +3,8 @@
 use crate::checks::{equal, holds, string};
 use std::alloc::Allocator;
 use std::process::Abort;
+use utf16_examples::multi_text::{WriteError, read, texts, write};
 use utf16_testing::refusing::Refusing;
-use utf16_users::multi_text::{WriteError, read, texts, write};
 use utf16string::{BE, LE, Utf16Order, WStr, WString};
 
 // The value BootExecute of a registry: CPython's "autocheck autochk *\0\0".encode("utf-16-le").

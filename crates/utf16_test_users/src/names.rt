@@ -3,8 +3,8 @@
 use crate::checks::{equal, holds, string};
 use std::alloc::Allocator;
 use std::process::Abort;
+use utf16_examples::names::Names;
 use utf16_testing::refusing::Refusing;
-use utf16_users::names::Names;
 use utf16string::{BE, LE, Utf16Order, WString};
 
 // Names as they come, and the number that each gets. By bytes or by units the order of some is another.

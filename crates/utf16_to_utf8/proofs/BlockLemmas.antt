@@ -1,42 +1,16 @@
 -- The units of a block, and what the bits of its classes say of them.
-use Rattle.std.proofs.Common.{◌≡◌, ℕ, zero, suc, ◌+◌, ◌*◌, ◌/◌, ◌%◌, ◌^◌, ◌<◌, ◌≤◌, ◌⊎◌, Bool, true, false, not, cond, eqb, ltb, inl, inr, List, [], ◌∷◌, ◌++◌, All, length, map, slice_index, take, drop, replicate, bit_and, refl, sym, ap, ap₂, ◌∙◌, subst, ⊎_elim, arith, Fits, w8, w16, eqb-true, eq-eqb, lt-ltb, le-ltb, append-nil, append_assoc, length-append, length-drop, take_all}
+use Rattle.std.proofs.Common.{◌≡◌, ℕ, zero, suc, ◌+◌, ◌*◌, ◌/◌, ◌%◌, ◌^◌, ◌<◌, ◌≤◌, ◌⊎◌, Bool, true, false, not, cond, eqb, ltb, inl, inr, List, [], ◌∷◌, ◌++◌, All, length, map, slice_index, drop, replicate, bit_and, refl, sym, ap, ap₂, ◌∙◌, subst, ⊎_elim, arith, Fits, w16, eqb-true, eq-eqb, lt-ltb, le-ltb, append-nil, append_assoc, length-drop, take_all}
 use Rattle.std.proofs.lemmas.Bool.{cases_lt, false_from_ne_true, true≢false}
-use Rattle.std.proofs.lemmas.List.{drop-append-le, length-map, take-append-le}
+use Rattle.std.proofs.lemmas.List.{length-map}
 use Rattle.std.proofs.lemmas.List.Elements.{All-cons, All-head, All-nil, All-tail}
 use Rattle.std.proofs.lemmas.Nat.Bits.{and_high}
-use Rattle.std.proofs.lemmas.Simd.{bitmask_splat, chunk-drop, get_or-chunk, length-chunk, length-zip2, map-map, mask_l-lt, pick_l-range_with_len, zip2_splat}
+use Rattle.std.proofs.lemmas.Simd.{bitmask_splat, chunk-drop, get_or-chunk, length-chunk, length-zip2, map-map, mask_l-lt, zip2_splat}
 use Rattle.std.proofs.Math.Nat.{two-pow-succ}
-use Rattle.std.specs.List.{range_with_len}
-use lib.Lanes.{Each1, chunk, digits_l, mask_l, number_l, pick_l, top, zip2}
-use Rattle.utf16_units.specs.Encoding.{units_of}
-use Rattle.utf16_to_utf8.specs.Block.{swapped}
+use lib.Lanes.{Each1, chunk, mask_l, top, zip2}
 use Rattle.utf16_to_utf8.specs.Lanes.{added_len, is_surrogate}
 use Rattle.utf16_to_utf8.specs.Utf8.{unit_utf8, units_utf8}
 use Rattle.utf16_to_utf8.proofs.ListLemmas.{units-cons, units-nil}
 use Rattle.utf16_to_utf8.proofs.UnitLemmas.{unit-one}
-
--- the lanes of bytes in little endian, and with each unit's bytes swapped
-pub little-units : (n : ℕ) (bytes : List ℕ) → length bytes ≡ n + n → Each1 (Fits w8) bytes → digits_l 65536 n (number_l 256 bytes) ≡ units_of false bytes
-unfolding units_of
-little-units zero [] long fit = refl
-little-units zero (x ∷ bytes) long fit = absurd (omega arith)
-little-units (suc n) [] long fit = absurd (omega arith)
-little-units (suc n) (x ∷ []) long fit = absurd (omega arith)
-little-units (suc n) (x ∷ y ∷ bytes) long fit =
-    let rest = number_l 256 bytes in
-    let low = fit.0.fits in
-    let high = fit.1.0.fits in
-    ap₂ (λ u us. u ∷ us) (omega (arith, low, high))
-    (ap (digits_l 65536 n) (omega (arith, low, high)) ∙ little-units n bytes (omega arith) fit.1.1)
-
-pub swapped-units : (bytes : List ℕ) → Each1 (Fits w8) bytes → map swapped (units_of false bytes) ≡ units_of true bytes
-unfolding units_of
-swapped-units [] fit = refl
-swapped-units (x ∷ []) fit = refl
-swapped-units (x ∷ y ∷ bytes) fit =
-    let low = fit.0.fits in
-    let high = fit.1.0.fits in
-    ap₂ (λ u us. u ∷ us) (omega (arith, low, high)) (swapped-units bytes fit.1.1)
 
 -- ---- bits of a class
 
@@ -150,11 +124,6 @@ ascii-mask units long =
 
 -- ---- eight of a block
 
-pub chunk-front : (a n : ℕ) (xs : List ℕ) → a + n ≤ length xs → pick_l 0 (xs ++ xs) (range_with_len a n) ≡ chunk a n xs
-chunk-front a n xs room =
-    pick_l-range_with_len 0 (xs ++ xs) a n (omega (arith, length-append xs xs))
-    ∙ ap (take n) (drop-append-le a xs xs (omega arith)) ∙ take-append-le n (drop a xs) xs (omega (arith, length-drop a xs))
-
 -- what units add, behind which others stand
 pub units-append : (n before : ℕ) (units more : List ℕ) → length units ≡ n + 1 → units_utf8 before (units ++ more) ≡ units_utf8 before units ++ units_utf8 (slice_index units n) more
 units-append n before [] more long = absurd (omega arith)
@@ -165,13 +134,13 @@ units-append (suc n) before (u ∷ units) more long =
     ∙ sym (append_assoc (unit_utf8 before u) (units_utf8 u units) (units_utf8 (slice_index units n) more))
     ∙ ap (λ bs. bs ++ units_utf8 (slice_index units n) more) (sym (units-cons before u units))
 
--- a step of a writer: what was written and what is left to add are all
-pub wrote_eight : (done next all units more : List ℕ) (before : ℕ) → length units ≡ 8 → next ≡ done ++ units_utf8 before units → done ++ units_utf8 before (units ++ more) ≡ all
-    → next ++ units_utf8 (slice_index units 7) more ≡ all
-wrote_eight done next all units more before long wrote e =
-    ap (λ bs. bs ++ units_utf8 (slice_index units 7) more) wrote
-    ∙ append_assoc done (units_utf8 before units) (units_utf8 (slice_index units 7) more)
-    ∙ ap (λ bs. done ++ bs) (sym (units-append 7 before units more long)) ∙ e
+-- a step of a writer, of n + 1 units: what was written and what is left to add are all
+pub wrote_units : (n : ℕ) (done next all units more : List ℕ) (before : ℕ) → length units ≡ n + 1 → next ≡ done ++ units_utf8 before units → done ++ units_utf8 before (units ++ more) ≡ all
+    → next ++ units_utf8 (slice_index units n) more ≡ all
+wrote_units n done next all units more before long wrote e =
+    ap (λ bs. bs ++ units_utf8 (slice_index units n) more) wrote
+    ∙ append_assoc done (units_utf8 before units) (units_utf8 (slice_index units n) more)
+    ∙ ap (λ bs. done ++ bs) (sym (units-append n before units more long)) ∙ e
 
 pub four_eights : (units : List ℕ) → length units ≡ 32 → units ≡ chunk 0 8 units ++ (chunk 8 8 units ++ (chunk 16 8 units ++ chunk 24 8 units))
 four_eights units long =

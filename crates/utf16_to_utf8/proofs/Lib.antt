@@ -1,4 +1,3 @@
-mod LaneLemmas
 mod UnitLemmas
 mod AddedLemmas
 mod ListLemmas

@@ -1,25 +1,14 @@
 -- The table of places, row by row.
-use Rattle.std.proofs.Common.{◌≡◌, ℕ, zero, suc, ◌-◌, ◌<◌, ◌&&◌, Bool, true, false, List, [], ◌∷◌, count_ones, eqb, length, get_or, take, refl, sym, ap₂, arith, eqb-true, ltb, ltb-true}
-use Rattle.std.proofs.lemmas.Bool.{and_parts, true≢false}
+use Rattle.std.proofs.Common.{◌≡◌, ℕ, zero, suc, ◌-◌, ◌<◌, ◌&&◌, Bool, true, false, List, [], ◌∷◌, count_ones, eqb, length, get_or, take, refl, arith, eqb-true}
+use Rattle.std.proofs.lemmas.Bool.{and_parts}
+use Rattle.std.proofs.lemmas.Slice.Eq.{bytes_eq-Decides}
 use Rattle.std.specs.List.{range_with_len}
+use Rattle.std.specs.Str.{bytes_eq}
 use lib.Count.{ones}
 use lib.Lanes.{Each1, all_below, mask_l}
+use Rattle.utf16_units.proofs.LanesByIndex.{all_below-each}
 use Rattle.utf16_to_utf8.specs.declared.places.TheConstants.{PLACES}
 use Rattle.utf16_to_utf8.specs.Pack.{packed}
-
-abbrev same : List ℕ → List ℕ → Bool
-same [] [] = true
-same [] (y ∷ ys) = false
-same (x ∷ xs) [] = false
-same (x ∷ xs) (y ∷ ys) = eqb x y && same xs ys
-
-same-is : (xs ys : List ℕ) → same xs ys ≡ true → xs ≡ ys
-same-is [] [] e = refl
-same-is [] (y ∷ ys) e = absurd (true≢false (sym e))
-same-is (x ∷ xs) [] e = absurd (true≢false (sym e))
-same-is (x ∷ xs) (y ∷ ys) e =
-    let parts = and_parts (eqb x y) (same xs ys) e in
-    ap₂ (λ z zs. z ∷ zs) (eqb-true x y parts.0) (same-is xs ys parts.1)
 
 -- a test of all lists of n flags
 abbrev all_flags : ℕ → (List Bool → Bool) → Bool
@@ -35,11 +24,11 @@ all_flags-each (suc n) test all (false ∷ flags) long = all_flags-each n (λ re
 
 -- whether the row of some flags is theirs
 abbrev is_row : List Bool → Bool
-is_row flags = same (take (16 - count_ones (mask_l flags)) (get_or PLACES (mask_l flags) [])) (packed flags (range_with_len 0 16))
+is_row flags = bytes_eq (take (16 - count_ones (mask_l flags)) (get_or PLACES (mask_l flags) [])) (packed flags (range_with_len 0 16))
 
 pub row : (flags : List Bool) → length flags ≡ 8 → take (16 - count_ones (mask_l flags)) (get_or PLACES (mask_l flags) []) ≡ packed flags (range_with_len 0 16)
 unfolding ones
-row flags long = same-is _ _ (all_flags-each 8 is_row refl flags long)
+row flags long = (bytes_eq-Decides _ _).0 (all_flags-each 8 is_row refl flags long)
 
 -- whether all rows are sixteen places in a vector
 abbrev all_good : List (List ℕ) → Bool
@@ -48,12 +37,6 @@ all_good (places ∷ rows) = (eqb (length places) 16 && all_below 16 places) && 
 
 abbrev Good : List ℕ → Type 0
 Good places = (length places ≡ 16) × Each1 (λ place. place < 16) places
-
-all_below-each : (n : ℕ) (xs : List ℕ) → all_below n xs ≡ true → Each1 (λ x. x < n) xs
-all_below-each n [] all = tt
-all_below-each n (x ∷ xs) all =
-    let parts = and_parts (ltb x n) (all_below n xs) all in
-    (ltb-true x n parts.0, all_below-each n xs parts.1)
 
 each-good : (rows : List (List ℕ)) (k : ℕ) → k < length rows → all_good rows ≡ true → Good (get_or rows k [])
 each-good [] k below all = absurd (omega arith)

@@ -1,12 +1,8 @@
--- The units of a block: their order of bytes, and what kind they are of.
-use Rattle.std.specs.Prelude.{◌≡◌, ℕ, ◌/◌, ◌^◌, ◌<◌, ◌≤◌, List, false, length, slice_index}
+-- What kind the units of a block are of.
+use Rattle.std.specs.Prelude.{◌≡◌, ℕ, ◌<◌, ◌≤◌, List, false, length, slice_index}
 use Rattle.utf16_to_utf8.specs.declared.blocks.Kind.{Kind}
 use Rattle.utf16_to_utf8.specs.declared.blocks.Kind.TheVariants.{Letters, Mixed, Pairs, Wide}
-use Rattle.utf16_to_utf8.specs.Lanes.{added_len, is_surrogate, plus, up}
-
--- a unit with its two bytes the other way round
-abbrev pub swapped : ℕ → ℕ
-swapped unit = plus (up unit 8) (unit / 2 ^ 8)
+use Rattle.utf16_to_utf8.specs.Lanes.{added_len, is_surrogate}
 
 -- what a unit of a kind is
 abbrev pub IsOfKind : Kind → ℕ → Type 0

@@ -1,10 +1,5 @@
--- Eight lanes of sixteen bits, by index, and what a unit's lane is made of.
-use Rattle.std.specs.Prelude.{◌≡◌, ℕ, ◌+◌, ◌*◌, ◌/◌, ◌%◌, ◌^◌, ◌<◌, ◌==◌, Bool, List, length, slice_index, nat_lt, bit_and, if◌then◌else◌}
-
--- the lanes by index
-pub record HasLanes (v : List ℕ) (lane : ℕ → ℕ) : Type 0 where
-  pub len : length v ≡ 8
-  pub lanes : (i : ℕ) → i < 8 → slice_index v i ≡ lane i
+-- What lanes of sixteen bits make of a unit.
+use Rattle.std.specs.Prelude.{ℕ, ◌+◌, ◌*◌, ◌/◌, ◌%◌, ◌^◌, ◌==◌, Bool, nat_lt, bit_and, if◌then◌else◌}
 
 -- `+` and `<<` of a lane wrap
 abbrev pub plus : ℕ → ℕ → ℕ

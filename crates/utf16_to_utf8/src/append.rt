@@ -1,9 +1,9 @@
 //! A text's UTF-8 put behind a string.
 
-ghost use Rattle.std.specs.Prelude.{◌≡◌, ◌+◌, ◌*◌, ◌/◌, ◌<◌, ◌≤◌, ◌++◌, length, IsOk, OnErr, OnOk, encode_utf8_all, string_bytes};
+ghost use Rattle.std.specs.Prelude.{◌≡◌, ◌+◌, ◌*◌, ◌/◌, ◌<◌, ◌≤◌, ◌++◌, length, IsOk, OnErr, OnOk, string_bytes};
 ghost use Rattle.std.specs.String.{string_capacity, string_len};
 ghost use Rattle.utf16_units.specs.Boundary.{IsBoundary};
-ghost use Rattle.utf16_units.specs.Encoding.{IsText, text_of};
+ghost use Rattle.utf16_units.specs.Encoding.{IsText, text_of, utf8_of};
 ghost use Rattle.utf16_to_utf8.specs.Append.{IsPut};
 
 use crate::lens::utf8_len;
@@ -33,10 +33,10 @@ pub fn append_utf8<E: Utf16Order, A: Allocator>(
     to: &mut String<A>,
 ) -> Result<(), AllocError>
     requires { IsText E.BIG raw.now }
-    ensures text { OnOk result (string_bytes to.new ≡ string_bytes to.old ++ encode_utf8_all (text_of E.BIG raw.now)) }
+    ensures text { OnOk result (string_bytes to.new ≡ string_bytes to.old ++ utf8_of E.BIG raw.now) }
     ensures refused { OnErr result ((string_bytes to.new ≡ string_bytes to.old) × (string_capacity to.new ≡ string_capacity to.old)) }
     ensures grows { string_capacity to.old ≤ string_capacity to.new }
-    ensures room { string_len to.old + length (encode_utf8_all (text_of E.BIG raw.now)) ≤ string_capacity to.old → IsOk result }
+    ensures room { string_len to.old + length (utf8_of E.BIG raw.now) ≤ string_capacity to.old → IsOk result }
 {
     make_room::<E, A>(raw, to)?;
     if raw.len() < FEW {
@@ -51,7 +51,7 @@ pub fn append_utf8<E: Utf16Order, A: Allocator>(
 // Puts the characters behind a text that has room, one after another.
 fn put_few<E: Utf16Order, A: Allocator>(raw: &[u8], to: &mut String<A>) -> Result<(), AllocError>
     requires text { IsText E.BIG raw.now }
-    requires room { string_len to.old + length (encode_utf8_all (text_of E.BIG raw.now)) ≤ string_capacity to.old }
+    requires room { string_len to.old + length (utf8_of E.BIG raw.now) ≤ string_capacity to.old }
     ensures ok { IsOk result }
     ensures put { IsPut (text_of E.BIG raw.now) (string_bytes to.old) (string_bytes to.new) (string_capacity to.old) (string_capacity to.new) }
 {
@@ -67,7 +67,7 @@ fn put_few<E: Utf16Order, A: Allocator>(raw: &[u8], to: &mut String<A>) -> Resul
 // The same piece by piece.
 fn put_pieces<E: Utf16Order, A: Allocator>(raw: &[u8], to: &mut String<A>) -> Result<(), AllocError>
     requires text { IsText E.BIG raw.now }
-    requires room { string_len to.old + length (encode_utf8_all (text_of E.BIG raw.now)) ≤ string_capacity to.old }
+    requires room { string_len to.old + length (utf8_of E.BIG raw.now) ≤ string_capacity to.old }
     ensures ok { IsOk result }
     ensures put { IsPut (text_of E.BIG raw.now) (string_bytes to.old) (string_bytes to.new) (string_capacity to.old) (string_capacity to.new) }
 {
@@ -90,7 +90,7 @@ fn put_piece<E: Utf16Order, A: Allocator>(
 ) -> Result<(), AllocError>
     requires text { IsText E.BIG raw.now }
     requires buf { length raw.now / 2 * 3 + SPARE ≤ length buf.old }
-    requires room { string_len to.old + length (encode_utf8_all (text_of E.BIG raw.now)) ≤ string_capacity to.old }
+    requires room { string_len to.old + length (utf8_of E.BIG raw.now) ≤ string_capacity to.old }
     ensures ok { IsOk result }
     ensures put { IsPut (text_of E.BIG raw.now) (string_bytes to.old) (string_bytes to.new) (string_capacity to.old) (string_capacity to.new) }
 {
@@ -133,10 +133,10 @@ fn piece_end<E: Utf16Order>(raw: &[u8]) -> usize
 fn make_room<E: Utf16Order, A: Allocator>(raw: &[u8], to: &mut String<A>) -> Result<(), AllocError>
     requires { IsText E.BIG raw.now }
     ensures bytes { string_bytes to.new ≡ string_bytes to.old }
-    ensures room { OnOk result (string_len to.new + length (encode_utf8_all (text_of E.BIG raw.now)) ≤ string_capacity to.new) }
+    ensures room { OnOk result (string_len to.new + length (utf8_of E.BIG raw.now) ≤ string_capacity to.new) }
     ensures refused { OnErr result (string_capacity to.new ≡ string_capacity to.old) }
     ensures grows { string_capacity to.old ≤ string_capacity to.new }
-    ensures enough { string_len to.old + length (encode_utf8_all (text_of E.BIG raw.now)) ≤ string_capacity to.old → IsOk result }
+    ensures enough { string_len to.old + length (utf8_of E.BIG raw.now) ≤ string_capacity to.old → IsOk result }
 {
     if raw.len() / 2 * 3 <= to.capacity() - to.len() {
         return Ok(());
@@ -148,7 +148,7 @@ fn make_room<E: Utf16Order, A: Allocator>(raw: &[u8], to: &mut String<A>) -> Res
 #[inline]
 fn len_in_utf8<E: Utf16Order>(raw: &[u8]) -> usize
     requires { IsText E.BIG raw.now }
-    ensures { result ≡ length (encode_utf8_all (text_of E.BIG raw.now)) }
+    ensures { result ≡ length (utf8_of E.BIG raw.now) }
 {
     if raw.len() < FEW {
         few_len::<E>(raw)
@@ -160,7 +160,7 @@ fn len_in_utf8<E: Utf16Order>(raw: &[u8]) -> usize
 // The same of a short text, one character after another.
 fn few_len<E: Utf16Order>(raw: &[u8]) -> usize
     requires { IsText E.BIG raw.now }
-    ensures { result ≡ length (encode_utf8_all (text_of E.BIG raw.now)) }
+    ensures { result ≡ length (utf8_of E.BIG raw.now) }
 {
     let mut len = 0;
     let mut rest = raw;

@@ -3,12 +3,13 @@
 ghost use Rattle.std.specs.Prelude.{◌≡◌, ◌+◌, ◌-◌, ◌/◌, ◌%◌, ◌<◌, ◌≤◌, ◌++◌, ◌==◌, All, IsTrue, bit_and, length, map, replicate, slice_index, take};
 ghost use Rattle.std.specs.Simd.Lanes.{chunk, mask_l};
 ghost use Rattle.utf16_units.specs.Encoding.{units_of};
-ghost use Rattle.utf16_to_utf8.specs.Block.{AreOfKind, swapped};
+ghost use Rattle.utf16_to_utf8.specs.Block.{AreOfKind};
 ghost use Rattle.utf16_to_utf8.specs.Utf8.{units_utf8};
 
 use crate::pack::{put_any, put_narrow, put_wide};
 use std::simd::prelude::*;
 use utf16_units::Utf16Order;
+use utf16_units::blocks::units32;
 
 // What the units of a block have in common: all are below U+0800, or some are surrogates and the others below U+0800, or each
 // adds three bytes, or nothing of this.
@@ -18,16 +19,6 @@ pub(crate) enum Kind {
     Pairs,
     Wide,
     Mixed,
-}
-
-// The units of a block of bytes.
-#[inline(always)]
-pub(crate) fn units_in<E: Utf16Order>(block: u8x64) -> u16x32
-    ensures len { length result ≡ 32 }
-    ensures units { result ≡ units_of E.BIG block }
-{
-    let units = u16x32::from_le_bytes(block);
-    if E::BIG { swapped(units) } else { units }
 }
 
 // The units of less than a block of bytes, and zeros that fill it up.
@@ -40,16 +31,7 @@ pub(crate) fn filled_units<E: Utf16Order>(raw: &[u8]) -> u16x32
 {
     let mut block = [0; 64];
     block[..raw.len()].copy_from_slice(raw);
-    units_in::<E>(u8x64::from_array(block))
-}
-
-// The two bytes of each unit the other way round.
-#[inline(always)]
-fn swapped(units: u16x32) -> u16x32
-    ensures len { length result ≡ 32 }
-    ensures units { result ≡ map swapped units }
-{
-    (units << u16x32::splat(8)) + (units >> u16x32::splat(8))
+    units32::<E>(u8x64::from_array(block))
 }
 
 // Whether all units are ASCII.

@@ -1,14 +1,15 @@
 //! What eight units add to the UTF-8, by lanes: their first two bytes, their third, and how many.
 
 ghost use Rattle.std.specs.Prelude.{◌≡◌, ◌<◌, ℕ, false, slice_index};
-ghost use Rattle.utf16_to_utf8.specs.Lanes.{HasLanes, added_len, front, narrow, surrogate_bits, third, two_bytes, wide};
+ghost use Rattle.utf16_units.specs.Lanes.{HasLanes};
+ghost use Rattle.utf16_to_utf8.specs.Lanes.{added_len, front, narrow, surrogate_bits, third, two_bytes, wide};
 
 use crate::lanes::{down, each, masked, raised, sum, where_below, where_surrogate};
 use std::simd::prelude::*;
 
 #[inline(always)]
 fn two_bytes(marks: u16x8, bits: u16x8) -> u16x8
-    ensures { HasLanes result (λ i. two_bytes (slice_index marks i) (slice_index bits i)) }
+    ensures { HasLanes 8 result (λ i. two_bytes (slice_index marks i) (slice_index bits i)) }
 {
     sum(sum(down(bits, 6), marks), raised(masked(bits, 0x3F), 8))
 }
@@ -16,7 +17,7 @@ fn two_bytes(marks: u16x8, bits: u16x8) -> u16x8
 // The bits of both bytes of surrogates, the marks of the first above them.
 #[inline(always)]
 fn surrogate_bits(behind: u16x8, units: u16x8) -> u16x8
-    ensures { HasLanes result (λ i. surrogate_bits (slice_index behind i) (slice_index units i)) }
+    ensures { HasLanes 8 result (λ i. surrogate_bits (slice_index behind i) (slice_index units i)) }
 {
     let leading = down(sum(units, each(0x1840)), 2);
     let trailing = sum(raised(masked(behind, 3), 10), sum(units, each(0x4400)));
@@ -27,7 +28,7 @@ fn surrogate_bits(behind: u16x8, units: u16x8) -> u16x8
 #[inline(always)]
 pub(crate) fn narrow(behind: u16x8, units: u16x8, surrogates: bool) -> u16x8
     requires { surrogates ≡ false → (i : ℕ) → i < 8 → slice_index units i < 0x800 }
-    ensures { HasLanes result (λ i. narrow (slice_index behind i) (slice_index units i)) }
+    ensures { HasLanes 8 result (λ i. narrow (slice_index behind i) (slice_index units i)) }
 {
     if !surrogates {
         return where_below(units, 0x80, units, two_bytes(each(0x80C0), units));
@@ -40,7 +41,7 @@ pub(crate) fn narrow(behind: u16x8, units: u16x8, surrogates: bool) -> u16x8
 // The first two bytes of units that add three.
 #[inline(always)]
 pub(crate) fn wide(units: u16x8) -> u16x8
-    ensures { HasLanes result (λ i. wide (slice_index units i)) }
+    ensures { HasLanes 8 result (λ i. wide (slice_index units i)) }
 {
     two_bytes(each(0x80E0), down(units, 6))
 }
@@ -48,7 +49,7 @@ pub(crate) fn wide(units: u16x8) -> u16x8
 // The first two bytes of any units.
 #[inline(always)]
 pub(crate) fn fronts(behind: u16x8, units: u16x8) -> u16x8
-    ensures { HasLanes result (λ i. front (slice_index behind i) (slice_index units i)) }
+    ensures { HasLanes 8 result (λ i. front (slice_index behind i) (slice_index units i)) }
 {
     let narrow = narrow(behind, units, true);
     let above = where_surrogate(units, narrow, wide(units));
@@ -58,7 +59,7 @@ pub(crate) fn fronts(behind: u16x8, units: u16x8) -> u16x8
 // The third bytes of three.
 #[inline(always)]
 pub(crate) fn thirds(units: u16x8) -> u16x8
-    ensures { HasLanes result (λ i. third (slice_index units i)) }
+    ensures { HasLanes 8 result (λ i. third (slice_index units i)) }
 {
     sum(masked(units, 0x3F), each(0x80))
 }
@@ -66,7 +67,7 @@ pub(crate) fn thirds(units: u16x8) -> u16x8
 // How many bytes each unit adds.
 #[inline(always)]
 pub(crate) fn added_lens(units: u16x8) -> u16x8
-    ensures { HasLanes result (λ i. added_len (slice_index units i)) }
+    ensures { HasLanes 8 result (λ i. added_len (slice_index units i)) }
 {
     let above = where_surrogate(units, each(2), each(3));
     let short = where_below(units, 0x800, each(2), above);

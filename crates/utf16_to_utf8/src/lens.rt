@@ -1,18 +1,19 @@
 //! How many bytes a text takes in UTF-8.
 
-ghost use Rattle.std.specs.Prelude.{◌≡◌, ◌%◌, ◌≤◌, encode_utf8_all, length, map, nat_lt, sum_by};
+ghost use Rattle.std.specs.Prelude.{◌≡◌, ◌%◌, ◌≤◌, length, map, nat_lt, sum_by};
 ghost use Rattle.std.specs.Simd.Lanes.{mask_l};
-ghost use Rattle.utf16_units.specs.Encoding.{IsText, text_of, units_of};
+ghost use Rattle.utf16_units.specs.Encoding.{IsText, units_of, utf8_of};
 ghost use Rattle.utf16_to_utf8.specs.Lanes.{added_len};
 
-use crate::blocks::{class_bits, filled_units, is_ascii, units_in};
+use crate::blocks::{class_bits, filled_units, is_ascii};
 use std::simd::prelude::*;
 use utf16_units::Utf16Order;
+use utf16_units::blocks::units32;
 
 /// How many bytes the text takes in UTF-8, of bytes that the caller proves to be well formed. One pass.
 pub fn utf8_len<E: Utf16Order>(raw: &[u8]) -> usize
     requires { IsText E.BIG raw.now }
-    ensures { result ≡ length (encode_utf8_all (text_of E.BIG raw.now)) }
+    ensures { result ≡ length (utf8_of E.BIG raw.now) }
 {
     units_len::<E>(raw)
 }
@@ -25,7 +26,7 @@ fn units_len<E: Utf16Order>(raw: &[u8]) -> usize
     let mut at = 0;
     let mut len = 0;
     while raw.len() - at >= 64 {
-        len += block_len(units_in::<E>(u8x64::from_slice(&raw[at..])));
+        len += block_len(units32::<E>(u8x64::from_slice(&raw[at..])));
         at += 64;
     }
     len + rest_len::<E>(&raw[at..])

@@ -1,12 +1,13 @@
 //! A text's UTF-8, written into a buffer.
 
-ghost use Rattle.std.specs.Prelude.{◌≡◌, ◌+◌, ◌*◌, ◌/◌, ◌%◌, ◌<◌, ◌≤◌, ◌++◌, drop, encode_utf8_all, length, slice_index, take};
-ghost use Rattle.utf16_units.specs.Encoding.{IsText, text_of, units_of};
+ghost use Rattle.std.specs.Prelude.{◌≡◌, ◌+◌, ◌*◌, ◌/◌, ◌%◌, ◌<◌, ◌≤◌, ◌++◌, drop, length, slice_index, take};
+ghost use Rattle.utf16_units.specs.Encoding.{IsText, units_of, utf8_of};
 ghost use Rattle.utf16_to_utf8.specs.Utf8.{units_utf8};
 
-use crate::blocks::{eights, filled_units, put_block, units_in};
+use crate::blocks::{eights, filled_units, put_block};
 use std::simd::prelude::*;
 use utf16_units::Utf16Order;
+use utf16_units::blocks::units32;
 
 /// How many bytes of room `write_utf8` wants beyond three for each code unit.
 pub const SPARE: usize = 128;
@@ -17,8 +18,8 @@ pub const SPARE: usize = 128;
 pub fn write_utf8<E: Utf16Order>(raw: &[u8], to: &mut [u8]) -> usize
     requires text { IsText E.BIG raw.now }
     requires room { length raw.now / 2 * 3 + SPARE ≤ length to.old }
-    ensures utf8 { take result to.new ≡ encode_utf8_all (text_of E.BIG raw.now) }
-    ensures len { result ≡ length (encode_utf8_all (text_of E.BIG raw.now)) }
+    ensures utf8 { take result to.new ≡ utf8_of E.BIG raw.now }
+    ensures len { result ≡ length (utf8_of E.BIG raw.now) }
     ensures rest { drop (length raw.now / 2 * 3 + SPARE) to.new ≡ drop (length raw.now / 2 * 3 + SPARE) to.old }
 {
     let room = raw.len() / 2 * 3 + SPARE;
@@ -36,7 +37,7 @@ fn write_units<E: Utf16Order>(raw: &[u8], out: &mut [u8]) -> usize
     let mut end = 0;
     let mut previous = u16x8::splat(0);
     while raw.len() - at >= 64 {
-        let units = units_in::<E>(u8x64::from_slice(&raw[at..]));
+        let units = units32::<E>(u8x64::from_slice(&raw[at..]));
         end = put_block(out, end, previous, units);
         previous = eights(units).3;
         at += 64;

@@ -1,7 +1,4 @@
-pub mod MarkLemmas
-pub mod MarkRows
-pub use Rattle.utf16_forms.proofs.DecodesLemmas
-pub use Rattle.utf16_forms.proofs.FaultDecides
-pub use Rattle.utf16_forms.proofs.StreamLemmas
-pub mod FilterLemmas
-pub mod PiecesLemmas
+pub use Rattle.utf16_streams.proofs.MarkLemmas
+pub use Rattle.utf16_streams.proofs.DecodesLemmas
+pub use Rattle.utf16_streams.proofs.FaultDecides
+pub use Rattle.utf16_streams.proofs.StreamLemmas

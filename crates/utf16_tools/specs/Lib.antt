@@ -1,10 +1,9 @@
-pub use Rattle.utf16_units.specs.Split
+pub use Rattle.utf16_streams.specs.Split
 pub use Rattle.utf16_edits.specs.Step
 pub use Rattle.utf16_edits.specs.Edited
-pub mod Mark
-pub mod Watched
-pub use Rattle.utf16_forms.specs.Decodes
-pub mod Held
-pub mod Lossy
-pub mod AnyLossy
-pub mod Filter
+pub use Rattle.utf16_streams.specs.Mark
+pub use Rattle.utf16_streams.specs.Watched
+pub use Rattle.utf16_streams.specs.Lossy
+pub use Rattle.utf16_streams.specs.AnyLossy
+pub use Rattle.utf16_streams.specs.Filter
+pub use Rattle.utf16_streams.specs.Decodes

@@ -1,16 +1,8 @@
-//! UTF-16 that comes in pieces: a decoder, a filter from a reader to a writer, and readers and writers whose faults are
-//! counted. All of `utf16_edits` is re-exported, so that a user names this crate alone.
+//! Beside the strings, one name for the tools over them: edits as values, decoders of UTF-16 that comes in pieces, filters from a
+//! reader to a writer, and readers and writers whose faults are counted. All of it stands in `utf16_edits` and `utf16_streams`.
 #![tactic(auto)]
 
-mod any_lossy;
-mod decoder;
-mod filters;
-mod held;
-mod lossy;
-mod watched;
-
-pub use any_lossy::AnyLossy;
-pub use filters::{FilterFault, filter, filter_auto};
-pub use lossy::{Lossy, decode_pieces};
 pub use utf16_edits::{Edit, Reply, apply, run};
-pub use watched::{DeviceFault, Watched};
+pub use utf16_streams::{
+    AnyLossy, DeviceFault, FilterFault, Lossy, Watched, decode_pieces, filter, filter_auto,
+};

@@ -21,10 +21,6 @@ abbrev pub alternate : ℕ → ℕ → ℕ → List ℕ
 alternate first second zero = []
 alternate first second (suc n) = first ∷ second ∷ alternate first second n
 
-length-alternate : (first second n : ℕ) → length (alternate first second n) ≡ n + n
-length-alternate first second zero = refl
-length-alternate first second (suc n) = omega (arith, length-alternate first second n)
-
 clear : (a b : Bool) (m : ℕ) → (cond a 1 0 + 2 * (cond b 1 0 + 2 * m) ≡ 0) ↔ ((a ≡ false) × (b ≡ false) × (m ≡ 0))
 clear false false m = (λ e. (refl, refl, omega arith), λ h. omega (arith, h.2))
 clear true b m = (λ e. absurd (omega arith), λ h. absurd (false≢true (sym h.0)))

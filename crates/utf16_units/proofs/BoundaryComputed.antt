@@ -1,5 +1,5 @@
 -- The computed boundary is true exactly at the boundaries.
-use Rattle.std.proofs.Common.{◌≡◌, ℕ, ◌-◌, ◌≤◌, ◌⊎◌, true, List, [], ◌∷◌, ◌++◌, sym, ap, ◌∙◌, subst, ⊎_elim, inl, inr, arith, le-leb}
+use Rattle.std.proofs.Common.{◌≡◌, ℕ, ◌-◌, ◌≤◌, ◌⊎◌, List, [], ◌∷◌, ◌++◌, sym, ap, ◌∙◌, subst, ⊎_elim, inl, inr, arith, le-leb}
 use Rattle.std.specs.Prelude.{◌==◌, ◌&&◌, nat_le}
 use Rattle.std.specs.Bool.{Decides}
 use Rattle.std.proofs.lemmas.Bool.{leb-true}
@@ -42,9 +42,3 @@ is_boundary-Decides (c ∷ text) i =
     (λ b. first c text i b.front b.back b.split b.offset)
     (Decides-or (i == 0) (nat_le (char_size c) i && is_boundary text (i - char_size c)) (Decides-eqb i 0)
     (Decides-and (nat_le (char_size c) i) (is_boundary text (i - char_size c)) (leb-true (char_size c) i, le-leb (char_size c) i) (is_boundary-Decides text (i - char_size c))))
-
-pub IsBoundary-from_is_boundary : (text : List ℕ) (i : ℕ) → is_boundary text i ≡ true → IsBoundary text i
-IsBoundary-from_is_boundary text i = (is_boundary-Decides text i).0
-
-pub is_boundary-from_IsBoundary : (text : List ℕ) (i : ℕ) → IsBoundary text i → is_boundary text i ≡ true
-is_boundary-from_IsBoundary text i = (is_boundary-Decides text i).1

@@ -1,5 +1,5 @@
 -- The units and the bytes of one character.
-use Rattle.std.proofs.Common.{◌≡◌, ℕ, ◌+◌, ◌-◌, ◌*◌, ◌/◌, ◌%◌, ◌<◌, ◌≤◌, ◌⊎◌, Bool, List, ◌∷◌, ◌++◌, length, get_or, Some, ap, ◌∙◌, ⊎_elim, inl, inr, arith}
+use Rattle.std.proofs.Common.{◌≡◌, ℕ, ◌+◌, ◌-◌, ◌*◌, ◌/◌, ◌%◌, ◌<◌, ◌≤◌, ◌⊎◌, Bool, List, ◌∷◌, ◌++◌, length, get_or, Some, ap, append-nil, flat_map, ◌∙◌, ⊎_elim, inl, inr, arith}
 use Rattle.std.proofs.lemmas.Bool.{cases_lt}
 use Rattle.std.proofs.Math.Utf8.{scalar_cases}
 use Rattle.std.proofs.lemmas.Str.{utf16_chars_lone, utf16_chars_pair}
@@ -8,6 +8,7 @@ use Rattle.std.specs.Char.{IsScalar}
 use Rattle.std.specs.Char.Escape.{encode_utf16}
 use Rattle.std.specs.Char.Utf16.{utf16_chars, lone_unit_char, surrogate_pair_char}
 use Rattle.utf16_units.specs.Encoding.{char_bytes, char_size}
+use Rattle.utf16_units.specs.Unit.{unit_bytes}
 use Rattle.utf16_units.proofs.UnitLemmas.{length-units_bytes}
 
 -- a character is no surrogate
@@ -49,3 +50,7 @@ char_size_cases c = ⊎_elim (λ one. inl (char_size_two c one)) (λ two. inr (c
 
 pub length-char_bytes : (big : Bool) (c : ℕ) → length (char_bytes big c) ≡ char_size c
 length-char_bytes big c = length-units_bytes big (encode_utf16 c)
+
+-- the bytes of a character of one unit
+pub one_unit_bytes : (big : Bool) (c : ℕ) → c < 0x1_0000 → char_bytes big c ≡ unit_bytes big c
+one_unit_bytes big c one = ap (flat_map (unit_bytes big)) (one_unit c one) ∙ append-nil (unit_bytes big c)

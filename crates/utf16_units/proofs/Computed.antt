@@ -49,7 +49,7 @@ IsFront-front big bytes =
     let found = front_within-is big bytes (length bytes) in
     record { within = found.within; valid = found.valid; longest = found.longest }
 
--- and the only one
+-- and the only one. No proof cites it: it ties the computed front to its relation
 pub front-unique : (big : Bool) (bytes : List ℕ) (n : ℕ) → IsFront big bytes n → n ≡ front big bytes
 front-unique big bytes n f = IsFront-unique big bytes n (front big bytes) f (IsFront-front big bytes)
 
@@ -100,7 +100,7 @@ IsFault-computed big bytes refused = record {
   at_front = IsErrorLen-computed big (drop (front big bytes) bytes);
 }
 
--- and the only one
+-- and the only one. No proof cites it: it ties the computed fault to its relation
 pub fault-unique : (big : Bool) (bytes : List ℕ) (error_len : Option ℕ) → IsFault big bytes error_len → error_len ≡ fault big bytes
 fault-unique big bytes error_len f =
     let other = IsFault-computed big bytes f.refused in

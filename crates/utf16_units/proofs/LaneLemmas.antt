@@ -55,20 +55,22 @@ class_bits-mask_l highs n mask class long few =
 abbrev pub in_class : ℕ → ℕ → Bool
 in_class m unit = leb (1024 * m) unit && ltb unit (1024 * m + 1024)
 
+-- a test of two numbers that are equal exactly at the units of a class
+pub class_by : (m unit x y : ℕ) → (x ≡ y → (1024 * m ≤ unit) × (unit < 1024 * m + 1024)) → (1024 * m ≤ unit → unit < 1024 * m + 1024 → x ≡ y) → eqb x y ≡ in_class m unit
+class_by m unit x y within same = ⊎_elim
+    (λ (yes : eqb x y ≡ true).
+    let range = within (eqb-true x y yes) in
+    yes ∙ sym (ap₂ (λ a b. a && b) (le-leb (1024 * m) unit range.0) (lt-ltb unit (1024 * m + 1024) range.1)))
+    (λ (no : eqb x y ≡ false).
+    no ∙ sym (false_from_ne_true (in_class m unit) (λ yes.
+    let parts = and_parts (leb (1024 * m) unit) (ltb unit (1024 * m + 1024)) yes in
+    eqb-false x y no (same (leb-true _ _ parts.0) (ltb-true _ _ parts.1)))))
+    (cases_Bool (eqb x y))
+
 class_of_high : (m unit : ℕ) → unit / 256 < 256 → m < 64 → eqb (bit_and (high_byte unit) 0xFC) (4 * m) ≡ in_class m unit
 class_of_high m unit byte few =
     let upper : bit_and (unit / 256) 0xFC ≡ unit / 256 / 4 % 64 * 4 = and_high (unit / 256) 6 2 in
-    ⊎_elim
-    (λ (yes : eqb (bit_and (unit / 256) 0xFC) (4 * m) ≡ true).
-    let same = eqb-true _ _ yes in
-    yes ∙ sym (ap₂ (λ x y. x && y) (le-leb (1024 * m) unit (omega arith)) (lt-ltb unit (1024 * m + 1024) (omega arith))))
-    (λ (no : eqb (bit_and (unit / 256) 0xFC) (4 * m) ≡ false).
-    no ∙ sym (false_from_ne_true (in_class m unit) (λ yes.
-    let parts = and_parts (leb (1024 * m) unit) (ltb unit (1024 * m + 1024)) yes in
-    let from = leb-true _ _ parts.0 in
-    let below = ltb-true _ _ parts.1 in
-    eqb-false _ _ no (omega arith))))
-    (cases_Bool (eqb (bit_and (unit / 256) 0xFC) (4 * m)))
+    class_by m unit (bit_and (unit / 256) 0xFC) (4 * m) (λ same. (omega arith, omega arith)) (λ from below. omega arith)
 
 classes_of_highs : (m : ℕ) (units : List ℕ) → m < 64 → Each1 (Fits w8) (map high_byte units)
     → map (λ high. eqb (bit_and high 0xFC) (4 * m)) (map high_byte units) ≡ map (in_class m) units

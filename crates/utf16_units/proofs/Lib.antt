@@ -24,13 +24,14 @@ pub mod PieceLemmas
 pub mod LawProofs
 pub mod Rules
 pub mod BackChar
-pub mod CharCut
 pub mod PartsEnded
 pub mod DelimitedLemmas
 pub mod PutBetween
 pub mod Tests
 pub mod LaneLemmas
 pub mod UnitsUpTo
+pub mod BlockUnits
+pub mod LanesByIndex
 pub mod CountLemmas
 pub mod AsciiLemmas
 pub mod PairLemmas

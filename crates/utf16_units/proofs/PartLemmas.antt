@@ -43,14 +43,6 @@ IsBoundary-append text more i b = record {
 pub IsBoundary-seam : (text more : List ℕ) → IsBoundary (text ++ more) (size text)
 IsBoundary-seam text more = record { front = text; back = more; split = refl; offset = refl }
 
-pub IsBoundary-behind : (text more : List ℕ) (i : ℕ) → IsBoundary more i → IsBoundary (text ++ more) (size text + i)
-IsBoundary-behind text more i b = record {
-  front = text ++ b.front;
-  back = b.back;
-  split = append_assoc text b.front b.back ∙ ap (λ t. text ++ t) b.split;
-  offset = size-append text b.front ∙ ap (λ n. size text + n) b.offset;
-}
-
 pub text_to-append : (text more : List ℕ) (i : ℕ) → IsBoundary text i → text_to (text ++ more) i ≡ text_to text i
 unfolding IsBoundary-append
 text_to-append text more i b = text_to-front (text ++ more) i (IsBoundary-append text more i b) ∙ sym (text_to-front text i b)

@@ -57,9 +57,6 @@ take_take (suc n) (suc m) (x ∷ xs) le = ap (λ t. x ∷ t) (take_take n m xs (
 
 -- ---- blocks
 
-pub SameTo-none : (bytes other : List ℕ) → SameTo bytes other 0
-SameTo-none bytes other = record { within = omega arith; other_within = omega arith; even = refl; same = refl }
-
 module _ (bytes other : List ℕ) (at N : ℕ) (s : SameTo bytes other at) (lanes : N ≤ 64) (room : at + N ≤ length bytes) (other_room : at + N ≤ length other) where
   -- the bits of the bytes that differ in a block
   abbrev pub differing : ℕ

@@ -147,10 +147,6 @@ module _ (big : Bool) (bytes : List ℕ) (n : ℕ) (are : AreBytes bytes) (fault
       begins_lone big (drop n bytes) (AreBytes-drop n bytes are) (some_rest big bytes n (Some 2) fault front)
       (no_char big bytes n (Some 2) fault front) (at_front big bytes n (Some 2) fault front).1
 
-  -- what is faulty is a surrogate without its partner
-  pub IsSurrogate-fault : IsLeading (first_unit big (drop n bytes)) ⊎ IsTrailing (first_unit big (drop n bytes))
-  IsSurrogate-fault = lone_at.class
-
   -- behind it the split goes on as if the bytes began there
   pub split_items-fault : split_items big bytes
       ≡ map good (text_of big (take n bytes)) ++ lone_item (first_unit big (drop n bytes)) ∷ split_items big (drop (n + 2) bytes)

@@ -2,12 +2,13 @@
 use Rattle.std.proofs.Common.{◌≡◌, ℕ, suc, ◌+◌, ◌-◌, ◌*◌, ◌<◌, ◌≤◌, Bool, true, false, cond, List, [], ◌∷◌, ◌++◌, length, refl, sym, ap, ◌∙◌, subst, ⊎_elim, inl, inr, arith, append_assoc, append-nil, flat_map, le-leb, lt-ltb, le-ltb, true≢false}
 use Rattle.std.proofs.lemmas.Bool.{cases_lt, cases_Bool, lt-leb}
 use Rattle.std.proofs.lemmas.List.Elements.{All-nil, All-cons, All-head, All-tail}
-use Rattle.std.proofs.str.Utf16.{one_unit, pair_units}
+use Rattle.std.proofs.str.Utf16.{pair_units}
 use Rattle.std.specs.Char.{IsScalar}
 use Rattle.std.specs.Char.Utf16.{surrogate_pair_char}
 use Rattle.utf16_units.specs.Unit.{IsLeading, IsTrailing, unit_bytes, unit_of}
 use Rattle.utf16_units.specs.Encoding.{char_bytes}
 use Rattle.utf16_units.specs.Fault.{is_cut_off}
+pub use Rattle.utf16_units.proofs.CharLemmas.{one_unit_bytes}
 use Rattle.utf16_units.specs.Split.{BeginsUnpaired, IsItem, IsTail, Item, Split, good, item_bytes, items_bytes, lone_lead, lone_trail, put_leading, put_unit, split_items, split_tail}
 use Rattle.utf16_units.proofs.UnitLemmas.{unit_bytes-unit_of}
 use Rattle.utf16_units.proofs.FirstChar.{AreBytes, first_unit, high_scalar, scalar_unit, unit_below}
@@ -156,9 +157,6 @@ BeginsUnpaired-tail big (last ∷ []) ends long = absurd (omega arith)
 BeginsUnpaired-tail big (first ∷ second ∷ after) ends long = λ t.
     let lead = ends.0 in
     omega arith
-
-pub one_unit_bytes : (big : Bool) (c : ℕ) → c < 0x1_0000 → char_bytes big c ≡ unit_bytes big c
-one_unit_bytes big c one = ap (flat_map (unit_bytes big)) (one_unit c one) ∙ append-nil (unit_bytes big c)
 
 module _ (lead trail : ℕ) (l : IsLeading lead) (t : IsTrailing trail) where
   pair_scalar : IsScalar (surrogate_pair_char lead trail)

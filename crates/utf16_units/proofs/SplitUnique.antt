@@ -9,12 +9,12 @@ use Rattle.utf16_units.specs.Encoding.{char_bytes, encode}
 use Rattle.utf16_units.specs.Fault.{is_cut_off}
 use Rattle.utf16_units.specs.Split.{BeginsUnpaired, IsItem, IsTail, Item, Split, good, item_bytes, items_bytes, lone_lead, lone_trail, marked, put_leading, put_unit, split_items, split_tail}
 use Rattle.utf16_units.proofs.UnitLemmas.{length-unit_bytes}
-use Rattle.utf16_units.proofs.CharLemmas.{no_surrogate}
+use Rattle.utf16_units.proofs.CharLemmas.{no_surrogate, one_unit_bytes}
 use Rattle.utf16_units.proofs.EncodingLemmas.{encode-cons, encode-nil}
 use Rattle.utf16_units.proofs.FirstChar.{first_unit}
 use Rattle.utf16_units.proofs.FrontChar.{first_unit-bytes}
 use Rattle.utf16_units.proofs.Computed.{IsCutOff-from_is_cut_off, is_cut_off-from_IsCutOff}
-use Rattle.utf16_units.proofs.SplitLemmas.{Follows, Split-cons, Split-nil, Split-tail, cut_items, cut_tail, not_cut, one_unit_bytes, pair_bytes, put_unit-leading, put_unit-neither, put_unit-trailing, whole_items, whole_tail}
+use Rattle.utf16_units.proofs.SplitLemmas.{Follows, Split-cons, Split-nil, Split-tail, cut_items, cut_tail, not_cut, pair_bytes, put_unit-leading, put_unit-neither, put_unit-trailing, whole_items, whole_tail}
 
 -- the items and the tail are those that are computed
 abbrev IsComputed : Bool → List ℕ → List Item → List ℕ → Type 0

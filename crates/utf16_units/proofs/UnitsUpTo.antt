@@ -1,5 +1,5 @@
 -- The units of bytes up to a place between units, and from there on.
-use Rattle.std.proofs.Common.{◌≡◌, ℕ, suc, ◌+◌, ◌*◌, ◌%◌, ◌<◌, ◌≤◌, Bool, List, [], ◌∷◌, ◌++◌, length, take, drop, slice_index, refl, sym, ap, ◌∙◌, arith, append-nil, drop-cons, flat_map, length-drop, length-take-le, take-add, take-append-drop}
+use Rattle.std.proofs.Common.{◌≡◌, ℕ, suc, ◌+◌, ◌*◌, ◌%◌, ◌<◌, ◌≤◌, Bool, List, [], ◌∷◌, ◌++◌, length, take, drop, slice_index, refl, sym, ap, ◌∙◌, arith, append-nil, drop-cons, drop-drop, flat_map, length-drop, length-take-le, take-add, take-append-drop}
 use Rattle.std.specs.Char.Escape.{encode_utf16}
 use Rattle.utf16_units.specs.Unit.{unit_of}
 use Rattle.utf16_units.specs.Encoding.{encode, IsText, text_of, units_of}
@@ -39,6 +39,13 @@ pub units_of-split : (big : Bool) (bytes : List ℕ) (at : ℕ) → at % 2 ≡ 0
 units_of-split big bytes at even within =
     ap (units_of big) (sym (take-append-drop at bytes))
     ∙ units_of-append big (take at bytes) (drop at bytes) (omega (arith, length-take-le at bytes within))
+
+-- the units of the next n bytes, and of those behind them
+pub units_of-behind : (big : Bool) (bytes : List ℕ) (at n : ℕ) → n % 2 ≡ 0 → at + n ≤ length bytes
+    → units_of big (drop at bytes) ≡ units_of big (take n (drop at bytes)) ++ units_of big (drop (at + n) bytes)
+units_of-behind big bytes at n even room =
+    units_of-split big (drop at bytes) n even (omega (arith, length-drop at bytes, room))
+    ∙ ap (λ bs. units_of big (take n (drop at bytes)) ++ units_of big bs) (drop-drop n at bytes)
 
 -- where less than a unit is left, those up to there are all
 pub units_of-all : (big : Bool) (bytes : List ℕ) (at : ℕ) → at % 2 ≡ 0 → at ≤ length bytes → length bytes < at + 2 → units_of big bytes ≡ units_of big (take at bytes)

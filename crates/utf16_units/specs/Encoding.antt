@@ -1,5 +1,5 @@
 -- The encoding of a text in UTF-16, in either byte order. A text is a list of scalar values.
-use Rattle.std.specs.Prelude.{◌≡◌, ℕ, ◌*◌, Bool, ◌&&◌, List, [], ◌∷◌, length, All}
+use Rattle.std.specs.Prelude.{◌≡◌, ℕ, ◌*◌, Bool, ◌&&◌, List, [], ◌∷◌, length, All, encode_utf8_all}
 use Rattle.std.specs.Char.{IsScalar}
 use Rattle.std.specs.Char.Escape.{encode_utf16}
 use Rattle.std.specs.Char.Utf16.{utf16_lossy_chars}
@@ -42,6 +42,10 @@ units_of big (first ∷ second ∷ bytes) = unit_of big first second ∷ units_o
 -- the text that bytes encode, computed; where they encode none, a surrogate with no partner gives U+FFFD
 unfoldable pub text_of : Bool → List ℕ → List ℕ
 text_of big bytes = utf16_lossy_chars (units_of big bytes)
+
+-- that text in UTF-8
+abbrev pub utf8_of : Bool → List ℕ → List ℕ
+utf8_of big bytes = encode_utf8_all (text_of big bytes)
 
 -- whether bytes are well formed, computed: they are the encoding of the text that they spell
 unfoldable pub is_text : Bool → List ℕ → Bool

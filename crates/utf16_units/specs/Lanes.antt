@@ -1,7 +1,16 @@
--- Blocks of code units: what lanes see of a unit, and how surrogates are paired.
-use Rattle.std.specs.Prelude.{◌≡◌, ℕ, ◌/◌, ◌+◌, ◌%◌, ◌≤◌, Bool, false, cond, List, [], ◌∷◌, ◌++◌, length, drop, map, take}
+-- Blocks of code units: lanes by index, what lanes see of a unit, and how surrogates are paired.
+use Rattle.std.specs.Prelude.{◌≡◌, ℕ, ◌+◌, ◌*◌, ◌/◌, ◌%◌, ◌^◌, ◌<◌, ◌≤◌, Bool, false, cond, List, [], ◌∷◌, ◌++◌, length, drop, map, slice_index, take}
 use Rattle.std.specs.Char.Utf16.{is_high_surrogate, is_low_surrogate}
 use Rattle.utf16_units.specs.Encoding.{units_of}
+
+-- n lanes, by index
+pub record HasLanes (n : ℕ) (v : List ℕ) (lane : ℕ → ℕ) : Type 0 where
+  pub len : length v ≡ n
+  pub lanes : (i : ℕ) → i < n → slice_index v i ≡ lane i
+
+-- a unit with its two bytes the other way round, as lanes of sixteen bits compute it
+abbrev pub swapped : ℕ → ℕ
+swapped unit = (unit * 2 ^ 8 % 2 ^ 16 + unit / 2 ^ 8) % 2 ^ 16
 
 -- the high byte of a unit: it alone says whether the unit is a surrogate, and of which class
 abbrev pub high_byte : ℕ → ℕ

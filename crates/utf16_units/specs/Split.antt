@@ -88,3 +88,11 @@ split_tail big [] = []
 split_tail big (last ∷ []) = last ∷ []
 split_tail big (first ∷ second ∷ bytes) =
     if is_cut_off big (first ∷ second ∷ bytes) then first ∷ second ∷ bytes else split_tail big bytes
+
+-- the text that bytes decide, with U+FFFD for each surrogate without its partner
+abbrev pub decided_text : Bool → List ℕ → List ℕ
+decided_text big bytes = marked (split_items big bytes)
+
+-- the text of any bytes: one more U+FFFD where a tail is left
+abbrev pub lossy_text : Bool → List ℕ → List ℕ
+lossy_text big bytes = full (split_items big bytes) (split_tail big bytes)

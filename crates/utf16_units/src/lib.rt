@@ -3,6 +3,7 @@
 
 #[cfg(test)]
 mod block_tests;
+pub mod blocks;
 mod char;
 pub mod compare;
 pub mod ends;

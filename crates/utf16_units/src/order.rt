@@ -1,6 +1,6 @@
 //! The two byte orders of a code unit.
 
-ghost use Rattle.std.specs.Prelude.{◌≡◌, ℕ, Bool, true, false, slice_index};
+ghost use Rattle.std.specs.Prelude.{◌≡◌, Bool, true, false, slice_index};
 ghost use Rattle.utf16_units.specs.Unit.{unit_bytes, unit_of};
 
 use byteorder::ByteOrder;

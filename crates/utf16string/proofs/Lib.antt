@@ -1,3 +1,4 @@
+pub mod SwapLemmas
 pub mod Views
 pub mod Edited
 pub mod Removed

@@ -3,6 +3,7 @@
 //! The owned string stands here. All of `utf16_str` and the byte orders are re-exported, so that a user names this crate alone.
 #![tactic(auto)]
 
+mod reorder;
 mod wstring;
 
 pub use crate::wstring::WString;

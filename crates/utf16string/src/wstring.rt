@@ -11,7 +11,7 @@ mod retains;
 mod room;
 mod utf8;
 
-ghost use Rattle.std.specs.Prelude.{◌≡◌, ◌↔◌, ℕ, [], length, IsTrue, IsOk, IfOk, IfErr, IsSome, IfSome, Some, All, ◌+◌, ◌<◌, ◌≤◌, ◌^◌, List, OnErr, OnOk, chars, nat_eq, encode_utf8_all, string_bytes, true, false};
+ghost use Rattle.std.specs.Prelude.{◌≡◌, ◌↔◌, ℕ, [], length, IsTrue, IsOk, IfOk, IfErr, IsSome, IfSome, Some, All, ◌<◌, ◌≤◌, ◌^◌, List, chars, nat_eq, encode_utf8_all, string_bytes, true, false};
 ghost use Rattle.std.specs.Cmp.{on_equiv, on_per, partial_equiv_from_equiv};
 ghost use Rattle.std.specs.Cmp.Lexicographic.{nat_list_eq_equiv, pointwise};
 ghost use Rattle.std.specs.Cmp.Rules.{hashing};
@@ -24,7 +24,7 @@ ghost use Rattle.utf16_units.specs.Encoding.{Encodes, IsText, is_text, size};
 ghost use Rattle.utf16_units.specs.Utf16Error.{IsErrorOf};
 ghost use Rattle.utf16_str.specs.Offsets.{IsCharAt, char_offsets};
 ghost use Rattle.utf16_str.specs.WStr.{wstr_bytes, wstr_text};
-ghost use Rattle.utf16_str.specs.Window.{IsWindowOf, window_bytes, window_text};
+ghost use Rattle.utf16_str.specs.Window.{IsRangeOf, range_bytes, range_text};
 
 use std::alloc::{AllocError, Allocator, Global};
 use std::fmt;
@@ -161,9 +161,9 @@ impl<E: Utf16Order, A: Allocator> WString<E, A> {
     /// The part of a range, or `None` where its window is reversed, or an end is no character boundary.
     #[inline]
     pub fn get<I: SliceIndex<E>>(&self, index: I) -> Option<WStr<'_, E>>
-        ensures some { IsSome result ↔ IsWindowOf (wstring_text self.now) (I.window index (length (wstring_bytes self.now))) }
-        ensures part { IfSome result (λ part. wstr_text part ≡ window_text (wstring_text self.now) (I.window index (length (wstring_bytes self.now)))) }
-        ensures bytes { IfSome result (λ part. wstr_bytes part ≡ window_bytes (wstring_bytes self.now) (I.window index (length (wstring_bytes self.now)))) }
+        ensures some { IsSome result ↔ IsRangeOf E.BIG (wstring_bytes self.now) (I.window index) }
+        ensures part { IfSome result (λ part. wstr_text part ≡ range_text E.BIG (wstring_bytes self.now) (I.window index)) }
+        ensures bytes { IfSome result (λ part. wstr_bytes part ≡ range_bytes (wstring_bytes self.now) (I.window index)) }
     {
         self.as_wstr().get(index)
     }
@@ -171,9 +171,9 @@ impl<E: Utf16Order, A: Allocator> WString<E, A> {
     /// The part of a range. The caller proves that there is one; `get` tests it.
     #[inline]
     pub fn get_unchecked<I: SliceIndex<E>>(&self, index: I) -> WStr<'_, E>
-        requires { IsWindowOf (wstring_text self.now) (I.window index (length (wstring_bytes self.now))) }
-        ensures text { wstr_text result ≡ window_text (wstring_text self.now) (I.window index (length (wstring_bytes self.now))) }
-        ensures bytes { wstr_bytes result ≡ window_bytes (wstring_bytes self.now) (I.window index (length (wstring_bytes self.now))) }
+        requires { IsRangeOf E.BIG (wstring_bytes self.now) (I.window index) }
+        ensures text { wstr_text result ≡ range_text E.BIG (wstring_bytes self.now) (I.window index) }
+        ensures bytes { wstr_bytes result ≡ range_bytes (wstring_bytes self.now) (I.window index) }
     {
         self.as_wstr().get_unchecked(index)
     }
@@ -181,9 +181,9 @@ impl<E: Utf16Order, A: Allocator> WString<E, A> {
     /// The part of a range: write it for `s[a..b]`. The caller proves that there is one; `get` tests it.
     #[inline]
     pub fn index<I: SliceIndex<E>>(&self, index: I) -> WStr<'_, E>
-        requires { IsWindowOf (wstring_text self.now) (I.window index (length (wstring_bytes self.now))) }
-        ensures text { wstr_text result ≡ window_text (wstring_text self.now) (I.window index (length (wstring_bytes self.now))) }
-        ensures bytes { wstr_bytes result ≡ window_bytes (wstring_bytes self.now) (I.window index (length (wstring_bytes self.now))) }
+        requires { IsRangeOf E.BIG (wstring_bytes self.now) (I.window index) }
+        ensures text { wstr_text result ≡ range_text E.BIG (wstring_bytes self.now) (I.window index) }
+        ensures bytes { wstr_bytes result ≡ range_bytes (wstring_bytes self.now) (I.window index) }
     {
         self.as_wstr().index(index)
     }

@@ -1,6 +1,6 @@
 //! Characters and texts taken out of a string.
 
-ghost use Rattle.std.specs.Prelude.{◌≡◌, ◌≢◌, ◌↔◌, ◌+◌, ◌<◌, ◌≤◌, [], ◌++◌, length, take, Some, IsOk, IsSome, IfOk, OnErr, OnOk};
+ghost use Rattle.std.specs.Prelude.{◌≡◌, ◌≢◌, ◌↔◌, ◌+◌, ◌<◌, ◌≤◌, [], Some, IsOk, IsSome, IfOk, OnErr, OnOk};
 ghost use Rattle.std.specs.List.{remove_range};
 ghost use Rattle.std.specs.Option.{option_to_list};
 ghost use Rattle.std.specs.Vec.{vec_allocator, vec_capacity, vec_len};
@@ -13,7 +13,7 @@ use std::alloc::{AllocError, Allocator};
 use utf16_units::{Utf16CharExt, Utf16Order};
 
 impl<E: Utf16Order, A: Allocator> WString<E, A> {
-    ghost use Rattle.utf16string.specs.WString.{IsUnchanged, wstring_bytes, wstring_capacity, wstring_text, wstring_vec};
+    ghost use Rattle.utf16string.specs.WString.{IsUnchanged, wstring_capacity, wstring_text, wstring_vec};
 
     /// Takes off the last character, or answers `None` where there is none. The capacity stays.
     #[inline]

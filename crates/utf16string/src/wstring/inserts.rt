@@ -5,7 +5,7 @@ ghost use Rattle.std.specs.List.{splice};
 ghost use Rattle.std.specs.Vec.{VecUnchanged, vec_capacity, vec_len};
 ghost use Rattle.utf16_units.specs.Boundary.{IsBoundary};
 ghost use Rattle.utf16_units.specs.Edit.{insert_at, push_text};
-ghost use Rattle.utf16_units.specs.Encoding.{char_bytes, char_size, size};
+ghost use Rattle.utf16_units.specs.Encoding.{char_bytes, char_size};
 ghost use Rattle.utf16_str.specs.WStr.{wstr_bytes, wstr_text};
 
 use crate::WString;
@@ -100,7 +100,8 @@ fn append<A: Allocator>(raw: &mut Vec<u8, A>, bytes: &[u8]) -> Result<(), AllocE
     raw.extend_from_slice(bytes)
 }
 
-// Puts bytes in at an index. Room for them is asked for first: where it is refused, nothing has changed.
+// Puts bytes in at an index. Room for them is asked for first: where it is refused, nothing has changed. The bytes are written
+// twice: a vector grows only by bytes that are put last, and then they go where they belong.
 #[inline]
 fn insert_bytes<A: Allocator>(
     raw: &mut Vec<u8, A>,

@@ -5,8 +5,8 @@ ghost use Rattle.std.specs.Vec.{vec_allocator};
 ghost use Rattle.utf16_units.specs.Encoding.{Encodes};
 
 use crate::WString;
+use crate::reorder::reorder;
 use std::alloc::Allocator;
-use utf16_forms::reorder::reorder;
 use utf16_units::Utf16Order;
 
 impl<E: Utf16Order, A: Allocator> WString<E, A> {

@@ -7,21 +7,21 @@ use Rattle.utf16string.specs.WStr.{wstr_bytes, wstr_text}
 use Rattle.utf16_callers.proofs.KeyCut.{key_cuts, key_ends, key_starts}
 use Rattle.utf16_callers.proofs.laws.cut_at_key.Given.{Over}
 use Rattle.utf16_callers.proofs.laws.cut_at_key.Goals as goal
-use Rattle.utf16_callers.proofs.laws.cut_at_key.Goals.{After-found_aligned, After-len}
+use Rattle.utf16_callers.proofs.laws.cut_at_key.Goals.{After-found_aligned}
 
 stands : (g : Over) (c : After-found_aligned g) → StandsAt (wstr_bytes c.args.text) c.args.at (wstr_bytes c.args.key)
 stands g c = search rules
 
-pub cut-requires-2 : goal.cut-requires-2
-cut-requires-2 g c =
-    rw c.cut.ensures.back
+pub split_at-requires-2 : goal.split_at-requires-2
+split_at-requires-2 g c =
+    rw c.split_at.ensures.back
     (key_ends c.found_aligned.ensures g.E.Utf16Order.BIG (wstr_bytes c.args.text) (wstr_bytes c.args.key) c.args.at
     (IsText-from_is_text _ _ c.args.text.well_formed) (IsText-from_is_text _ _ c.args.key.well_formed)
-    (search rules) (omega arith) (stands g (goal.at.cut-requires-2 g c).After-found_aligned) c.len.result c.len.ensures.size)
+    (search rules) (omega arith) (stands g (goal.at.split_at-requires-2 g c).After-found_aligned) c.len.result c.len.ensures.size)
 
 pub returns-clause-found : goal.returns-clause-found
 returns-clause-found g c =
-    rw (c.cut.ensures.front, c.cut-2.ensures.back, c.cut.ensures.back)
+    rw (c.split_at.ensures.front, c.split_at-2.ensures.back, c.split_at.ensures.back)
     (key_cuts c.found_aligned.ensures g.E.Utf16Order.BIG (wstr_bytes c.args.text) (wstr_bytes c.args.key) c.args.at
     (IsText-from_is_text _ _ c.args.text.well_formed) (IsText-from_is_text _ _ c.args.key.well_formed)
     (search rules) (omega arith) (stands g (goal.at.returns-clause-found g c).After-found_aligned) c.len.result c.len.ensures.size)
@@ -32,5 +32,5 @@ returns-clause-offset g c =
     let start = key_starts c.found_aligned.ensures big (wstr_bytes c.args.text) (wstr_bytes c.args.key) c.args.at
     (IsText-from_is_text _ _ c.args.text.well_formed) (IsText-from_is_text _ _ c.args.key.well_formed)
     (search rules) (omega arith) (stands g (goal.at.returns-clause-offset g c).After-found_aligned) in
-    length-text big (wstr_bytes c.cut.result.0) (IsText-from_is_text _ _ c.cut.result.0.well_formed)
-    ∙ ap size c.cut.ensures.front ∙ size-text_to (wstr_text c.args.text) c.args.at start
+    length-text big (wstr_bytes c.split_at.result.0) (IsText-from_is_text _ _ c.split_at.result.0.well_formed)
+    ∙ ap size c.split_at.ensures.front ∙ size-text_to (wstr_text c.args.text) c.args.at start

@@ -1,6 +1,6 @@
 use Rattle.std.proofs.Common.{ℕ, ◌*◌, ◌%◌, ◌^◌}
-use Rattle.utf16_from_utf8.proofs.LaneLemmas.{lanes_one}
+use Rattle.utf16_units.proofs.LanesByIndex.{lanes_of_each}
 use Rattle.utf16_from_utf8.proofs.lanes.up.Goals as goal
 
 pub returns : goal.returns
-returns c = lanes_one (λ (a by : ℕ). a * 2 ^ by % 2 ^ 8) c.args.v c.args.by c.fits-v.0
+returns c = lanes_of_each 16 (λ (a by : ℕ). a * 2 ^ by % 2 ^ 8) c.args.v c.args.by c.fits-v.0

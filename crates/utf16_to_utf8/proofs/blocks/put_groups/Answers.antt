@@ -3,7 +3,7 @@ use Rattle.std.proofs.lemmas.Simd.{length-chunk}
 use lib.Lanes.{chunk}
 use Rattle.utf16_to_utf8.specs.Block.{IsOfKind}
 use Rattle.utf16_to_utf8.specs.Utf8.{units_utf8}
-use Rattle.utf16_to_utf8.proofs.BlockLemmas.{four_eights, kind_of-eight, wrote_eight}
+use Rattle.utf16_to_utf8.proofs.BlockLemmas.{four_eights, kind_of-eight, wrote_units}
 use Rattle.utf16_to_utf8.proofs.blocks.put_groups.Goals as goal
 
 pub put_group-one-requires-clause-kind : goal.put_group-one-requires-clause-kind
@@ -34,7 +34,7 @@ returns-clause-bytes c =
     let same = ap₂ (λ a b. a ++ b) c.eights.ensures.first (ap₂ (λ a b. a ++ b) c.eights.ensures.second (ap₂ (λ a b. a ++ b) c.eights.ensures.third c.eights.ensures.fourth)) in
     let whole = ap (λ us. start ++ units_utf8 before us) (same ∙ sym parts) in
     let eight : (a : ℕ) → a + 8 ≤ 32 → length (chunk a 8 units) ≡ 8 = λ a room. length-chunk a 8 units (omega (arith, room, c.fits-units.0)) in
-    let second_left = wrote_eight start one _ first (second ++ (third ++ fourth)) before (ap length c.eights.ensures.first ∙ eight 0 (omega arith)) c.put_group-one.ensures.bytes whole in
-    let third_left = wrote_eight one two _ second (third ++ fourth) _ (ap length c.eights.ensures.second ∙ eight 8 (omega arith)) c.put_group-two.ensures.bytes second_left in
+    let second_left = wrote_units 7 start one _ first (second ++ (third ++ fourth)) before (ap length c.eights.ensures.first ∙ eight 0 (omega arith)) c.put_group-one.ensures.bytes whole in
+    let third_left = wrote_units 7 one two _ second (third ++ fourth) _ (ap length c.eights.ensures.second ∙ eight 8 (omega arith)) c.put_group-two.ensures.bytes second_left in
     c.put_group.ensures.bytes
-    ∙ wrote_eight two three _ third fourth _ (ap length c.eights.ensures.third ∙ eight 16 (omega arith)) c.put_group-three.ensures.bytes third_left
+    ∙ wrote_units 7 two three _ third fourth _ (ap length c.eights.ensures.third ∙ eight 16 (omega arith)) c.put_group-three.ensures.bytes third_left

@@ -1,10 +1,9 @@
-use Rattle.std.proofs.Common.{◌+◌, ◌-◌, ◌∙◌, ap, arith, drop, length, length-drop, sum_by, take, take_all}
+use Rattle.std.proofs.Common.{◌+◌, ◌-◌, ◌∙◌, ap, arith, drop, length, length-drop, refl, sum_by, take, take_all}
 use Rattle.std.proofs.lemmas.List.Sums.{sum_by-append}
 use Rattle.utf16_units.specs.Encoding.{units_of}
-use Rattle.utf16_units.proofs.UnitsUpTo.{length-units_of}
+use Rattle.utf16_units.proofs.UnitsUpTo.{length-units_of, units_of-behind}
 use Rattle.utf16_to_utf8.specs.Lanes.{added_len}
 use Rattle.utf16_to_utf8.proofs.LenLemmas.{added-le}
-use Rattle.utf16_to_utf8.proofs.TextLemmas.{units_of-block}
 use Rattle.utf16_to_utf8.proofs.lens.units_len.Goals as goal
 
 pub loop-at-preserved : goal.loop-at-preserved
@@ -14,11 +13,11 @@ loop-at-preserved g c =
     let at = c.loop-at.at in
     let here = units_of big (take 64 (drop at bytes)) in
     let more = units_of big (drop (at + 64) bytes) in
-    let split = ap (sum_by added_len) (units_of-block big bytes at (omega arith)) ∙ sum_by-append added_len here more in
+    let split = ap (sum_by added_len) (units_of-behind big bytes at 64 refl (omega arith)) ∙ sum_by-append added_len here more in
     record {
       within = omega arith;
       even = omega (arith, c.loop-at.invariant.even);
-      counted = omega (arith, split, c.block_len-len.ensures, ap (sum_by added_len) c.units_in.ensures.units, c.loop-at.invariant.counted);
+      counted = omega (arith, split, c.block_len-len.ensures, ap (sum_by added_len) c.units32.ensures.units, c.loop-at.invariant.counted);
     }
 
 pub overflow_add-len : goal.overflow_add-len

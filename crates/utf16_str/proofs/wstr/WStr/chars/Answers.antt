@@ -1,4 +1,4 @@
-use Rattle.std.proofs.Common.{ap, length, arith}
+use Rattle.std.proofs.Common.{arith}
 use Rattle.utf16_units.proofs.BoundaryLemmas.{length-le-size}
 use Rattle.utf16_units.proofs.EncodingLemmas.{IsText-from_is_text, length-text}
 use Rattle.utf16_str.specs.WStr.{wstr_bytes, wstr_text}

@@ -1,4 +1,0 @@
-pub mod Wrote
-pub mod Stops
-pub mod Shown
-pub mod Stream

@@ -1,0 +1,69 @@
+-- What a part of a piece decides: it is UTF-8, how much room it takes, and that it is a step of decoding.
+use Rattle.std.proofs.Common.{◌≡◌, ℕ, ◌+◌, ◌-◌, ◌*◌, ◌<◌, ◌≤◌, Bool, List, [], ◌∷◌, ◌++◌, length, take, drop, refl, sym, ap, ◌∙◌, subst, ⊎_elim, arith, append-nil, append_assoc}
+use Rattle.std.proofs.lemmas.Bool.{cases_lt}
+use Rattle.std.proofs.lemmas.List.{drop_all, get_or-append_right, get_or-take, get_or_append_left, get_or_past, length-take}
+use Rattle.std.specs.Str.{IsUtf8}
+use Rattle.utf16_units.specs.Split.{Item, marked, split_items, split_tail}
+use Rattle.utf16_units.proofs.EncodingLemmas.{all_scalars-from_All}
+use Rattle.utf16_units.proofs.FirstChar.{AreBytes}
+use Rattle.utf16_units.proofs.ShownLemmas.{split_within}
+use Rattle.utf16_units.proofs.SplitLemmas.{Split-computed}
+use Rattle.utf16_units.proofs.SplitJoin.{split_items-append}
+use Rattle.utf16_transcode.specs.Decodes.{Decodes}
+use Rattle.utf16_transcode.proofs.DecodesLemmas.{Decodes-end, Decodes-piece, length-split_tail-le, shown, split_tail-again, undecided_items}
+use Rattle.utf16_transcode.proofs.WellFormedSplit.{encodes_marked}
+use Rattle.utf16_transcode.specs.Stream.{Feeds, StopsFeeding}
+use Rattle.utf16_transcode.specs.declared.progress.Stop.TheVariants.{Done}
+
+pub AreBytes-append : (front back : List ℕ) → AreBytes front → AreBytes back → AreBytes (front ++ back)
+AreBytes-append front back before behind k = ⊎_elim
+    (λ (within : k < length front). subst (λ b. b < 256) (sym (get_or_append_left front back 0 k within)) (before k))
+    (λ (past : length front ≤ k). subst (λ b. b < 256) (sym (get_or-append_right front back (length front) k 0 refl past)) (behind (k - length front)))
+    (cases_lt k (length front))
+
+pub AreBytes-take : (n : ℕ) (bytes : List ℕ) → AreBytes bytes → AreBytes (take n bytes)
+AreBytes-take n bytes are k = ⊎_elim
+    (λ (within : k < n). subst (λ b. b < 256) (sym (get_or-take n bytes k 0 within)) (are k))
+    (λ (past : n ≤ k). subst (λ b. b < 256) (sym (get_or_past (take n bytes) k 0 (omega (arith, past, length-take n bytes)))) (omega arith))
+    (cases_lt k n)
+
+module _ (big : Bool) (bytes : List ℕ) (are : AreBytes bytes) where
+  -- the text takes no more than half as much again as the bytes
+  pub shown_most : 2 * length (shown (split_items big bytes)) ≤ 3 * length bytes
+  shown_most = (split_within big bytes (split_items big bytes) (split_tail big bytes) (Split-computed big bytes are)).1
+
+  pub shown_utf8 : IsUtf8 (shown (split_items big bytes))
+  shown_utf8 =
+      let tail = length (split_tail big bytes) in
+      let ends : length bytes - tail + tail ≡ length bytes = omega (arith, length-split_tail-le big bytes) in
+      let text = marked (split_items big bytes) in
+      (text, (all_scalars-from_All text (encodes_marked big bytes (length bytes - tail) ends are []).scalars, refl))
+
+-- where all of a part was taken, what was written is all that it decides
+pub fed_text : (big : Bool) (held part left to : List ℕ) (read written room : ℕ) → Feeds big held part left to read written
+    → StopsFeeding big held part left read room Done → take written to ≡ shown (split_items big (held ++ part))
+fed_text big held part left to read written room feeds done =
+    let undecided = ap (split_tail big) done.1 ∙ split_tail-again big (held ++ part) ∙ sym done.1 in
+    let rest : left ++ drop read part ≡ left = ap (λ p. left ++ p) (drop_all read part (omega (arith, done.0))) ∙ append-nil left in
+    Decodes-end big (held ++ part) (left ++ drop read part) [] (take written to) feeds.decodes (ap (split_items big) rest ∙ undecided_items big left undecided)
+
+-- a part and the rest of a piece
+module _ (big : Bool) (held piece part rest : List ℕ) (joined : piece ≡ part ++ rest) where
+  whole : (held ++ part) ++ rest ≡ held ++ piece
+  whole = append_assoc held part rest ∙ ap (λ p. held ++ p) (sym joined)
+
+  -- what the part decides is one step
+  pub Decodes-part : (left old new : List ℕ) → left ≡ split_tail big (held ++ part) → new ≡ old ++ shown (split_items big (held ++ part))
+      → Decodes big (held ++ piece) (left ++ rest) old new
+  Decodes-part left old new is text =
+      subst (λ b. Decodes big b (left ++ rest) old new) whole
+      (subst (λ t. Decodes big ((held ++ part) ++ rest) (t ++ rest) old new) (sym is) (Decodes-piece big (held ++ part) rest old new text))
+
+  -- where the piece decides nothing, nor does the part
+  pub part_none : split_items big (held ++ piece) ≡ [] → split_items big (held ++ part) ≡ []
+  part_none none =
+      let both = sym (split_items-append big (held ++ part) rest) ∙ ap (split_items big) whole ∙ none in
+      front_none (split_items big (held ++ part)) _ both where
+        front_none : (items more : List Item) → items ++ more ≡ [] → items ≡ []
+        front_none [] more e = refl
+        front_none (item ∷ items) more e = absurd (cc)

@@ -1,0 +1,9 @@
+use Rattle.std.proofs.Common.{◌∙◌, ap, sym, subst}
+use Rattle.utf16_units.specs.Split.{IsTail, split_tail}
+use Rattle.utf16_units.proofs.SplitUnique.{IsTail-split_tail}
+use Rattle.utf16_streams.proofs.lossy.Lossy.pending.Goals as goal
+
+pub returns-clause-tail : goal.returns-clause-tail
+returns-clause-tail g c =
+    let same = ap (split_tail g.E.Utf16Order.BIG) c.held.ensures.bytes ∙ c.args.self.now.undecided ∙ sym c.held.ensures.bytes in
+    subst (IsTail g.E.Utf16Order.BIG) same (IsTail-split_tail g.E.Utf16Order.BIG c.held.result.now)

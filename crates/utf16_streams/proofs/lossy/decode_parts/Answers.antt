@@ -1,0 +1,20 @@
+use Rattle.std.proofs.Common.{◌≡◌, ◌++◌, [], sym, ap, ◌∙◌, append-nil, rules, true≢false}
+use Rattle.std.proofs.lemmas.List.{nil_from_length}
+use Rattle.utf16_units.specs.Split.{split_items}
+use Rattle.utf16_transcode.specs.Stream.{stream_held}
+use Rattle.utf16_transcode.proofs.DecodesLemmas.{Decodes-empty, Decodes-end, Decodes-then, undecided_items}
+use Rattle.utf16_streams.proofs.lossy.decode_parts.Goals as goal
+
+pub returns-in_err-stream-clause-nothing : goal.returns-in_err-stream-clause-nothing
+returns-in_err-stream-clause-nothing g c none =
+    absurd (true≢false (sym (c.in_err-stream.ensures.nothing (Decodes-empty _ _ _ _ _ c.loop-rest.invariant.0 none))))
+
+pub loop-rest-preserved : goal.loop-rest-preserved
+loop-rest-preserved g c = (Decodes-then _ _ _ _ _ _ _ c.loop-rest.invariant.0 c.in_ok-stream.ensures.step, c.in_ok-stream.ensures.undecided)
+
+pub returns-clause-text : goal.returns-clause-text
+returns-clause-text g c =
+    let held = stream_held c.loop-rest.stream in
+    let empty : c.loop-rest.rest.now ≡ [] = nil_from_length c.loop-rest.rest.now (search rules) in
+    let all : held ++ c.loop-rest.rest.now ≡ held = ap (λ r. held ++ r) empty ∙ append-nil held in
+    Decodes-end _ _ _ _ _ c.loop-rest.invariant.0 (ap (split_items g.E.Utf16Order.BIG) all ∙ undecided_items _ _ c.loop-rest.invariant.1)

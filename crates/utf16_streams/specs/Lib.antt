@@ -1,0 +1,7 @@
+pub use Rattle.utf16_units.specs.Split
+pub use Rattle.utf16_transcode.specs.Decodes
+pub mod Mark
+pub mod Watched
+pub mod Lossy
+pub mod AnyLossy
+pub mod Filter

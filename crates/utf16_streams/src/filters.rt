@@ -1,0 +1,136 @@
+//! A filter from UTF-16 to UTF-8.
+
+ghost use Rattle.std.specs.Prelude.{◌≡◌, ◌+◌, ◌-◌, ◌<◌, ◌^◌, [], OnErr, OnOk};
+ghost use Rattle.std.specs.Io.KnownBytes.{Appends};
+ghost use Rattle.utf16_streams.specs.Filter.{AppendsFront, FiltersAs, FiltersIn, FiltersAuto, mark_utf8, read_faults, write_faults};
+ghost use Rattle.utf16_streams.specs.Watched.{CountsFaults, watched_faults, watched_inner};
+
+use crate::any_lossy::AnyLossy;
+use crate::decoder::{Decoder, ROOM};
+use crate::lossy::Lossy;
+use crate::watched::{DeviceFault, Watched};
+use std::alloc::Allocator;
+use std::io::{Read, Write};
+use utf16_units::Utf16Order;
+
+/// How many bytes are read at a time, at most.
+const BLOCK: usize = 4096;
+
+/// Why a filter stopped before the end of its input.
+#[derive(Clone, Copy, Debug, PartialEq, Eq)]
+pub enum FilterFault {
+    /// A read failed. The text of what was read is written, but for the mark of a tail.
+    Read,
+    /// A write or the flush failed. A beginning of the text of what was read is written.
+    Write,
+    /// Memory was refused. The text of what was read before the last piece is written. With the last piece more is decided: for a
+    /// piece that decides nothing no memory is asked for.
+    Memory,
+    /// The input gave bytes at 2^64 - 1 reads. Their text is written, but for the mark of a tail.
+    Long,
+}
+
+/// Decodes all that the reader gives, in the order `E`, and writes it in UTF-8, with U+FFFD for each surrogate without its
+/// partner and one more where a beginning is left at the end. It reads pieces of up to 4,096 bytes until a read gives none,
+/// flushes once at the end, and stops at the first fault. It takes room for the text of one piece, whatever the input's length.
+/// The caller proves that there is a number for a fault of the reader, and for one of the writer.
+pub fn filter<E: Utf16Order, R: Read, W: Write, A: Allocator>(
+    alloc: A,
+    reader: &mut Watched<R>,
+    writer: &mut Watched<W>,
+) -> Result<(), FilterFault>
+    requires reader { watched_faults reader.old < 2 ^ 64 - 1 }
+    requires writer { watched_faults writer.old < 2 ^ 64 - 1 }
+    ensures bytes { FiltersAs E.BIG (R.remaining (watched_inner reader.old)) (R.remaining (watched_inner reader.new))
+        (W.contents (watched_inner writer.old)) (W.contents (watched_inner writer.new)) result }
+    ensures reads { watched_faults reader.new ≡ watched_faults reader.old + read_faults result }
+    ensures writes { watched_faults writer.new ≡ watched_faults writer.old + write_faults result }
+{
+    filter_by(alloc, Lossy::<E>::new(), reader, writer)
+}
+
+/// Decodes all that the reader gives, in the order that its beginning tells, and writes it in UTF-8, as `filter` does. A stream
+/// that begins with the bytes `FE FF` is big endian, one that begins with `FF FE` is little endian, and this byte order mark is
+/// not written; any other stream is big endian. The caller proves that there is a number for a fault of the reader, and for one
+/// of the writer.
+pub fn filter_auto<R: Read, W: Write, A: Allocator>(
+    alloc: A,
+    reader: &mut Watched<R>,
+    writer: &mut Watched<W>,
+) -> Result<(), FilterFault>
+    requires reader { watched_faults reader.old < 2 ^ 64 - 1 }
+    requires writer { watched_faults writer.old < 2 ^ 64 - 1 }
+    ensures bytes { FiltersAuto (R.remaining (watched_inner reader.old)) (R.remaining (watched_inner reader.new))
+        (W.contents (watched_inner writer.old)) (W.contents (watched_inner writer.new)) result }
+    ensures reads { watched_faults reader.new ≡ watched_faults reader.old + read_faults result }
+    ensures writes { watched_faults writer.new ≡ watched_faults writer.old + write_faults result }
+{
+    filter_by(alloc, AnyLossy::new(), reader, writer)
+}
+
+// Decodes all that the reader gives by a decoder that was given nothing yet, and writes it in UTF-8.
+fn filter_by<D: Decoder, R: Read, W: Write, A: Allocator>(
+    alloc: A,
+    decoder: D,
+    reader: &mut Watched<R>,
+    writer: &mut Watched<W>,
+) -> Result<(), FilterFault>
+    requires fresh { D.held decoder ≡ [] }
+    requires reader { watched_faults reader.old < 2 ^ 64 - 1 }
+    requires writer { watched_faults writer.old < 2 ^ 64 - 1 }
+    ensures bytes { FiltersIn (D.order decoder) (R.remaining (watched_inner reader.old)) (R.remaining (watched_inner reader.new))
+        (W.contents (watched_inner writer.old)) (W.contents (watched_inner writer.new)) result }
+    ensures reads { watched_faults reader.new ≡ watched_faults reader.old + read_faults result }
+    ensures writes { watched_faults writer.new ≡ watched_faults writer.old + write_faults result }
+{
+    let mut decoder = decoder;
+    let mut text = String::new(alloc);
+    let mut block = [0; BLOCK];
+    let mut buffer = [0; ROOM];
+    for _ in 0..u64::MAX {
+        let Ok(count) = reader.read(&mut block) else {
+            return Err(FilterFault::Read);
+        };
+        if count == 0 {
+            let Ok(()) = end(decoder, writer) else {
+                return Err(FilterFault::Write);
+            };
+            return Ok(());
+        }
+        text.clear();
+        let Ok(()) = decoder.feed_into(&block[..count], &mut buffer, &mut text) else {
+            return Err(FilterFault::Memory);
+        };
+        let Ok(()) = write_all(writer, text.as_bytes()) else {
+            return Err(FilterFault::Write);
+        };
+    }
+    Err(FilterFault::Long)
+}
+
+// Writes the mark of what is left, and flushes once.
+fn end<D: Decoder, W: Write>(decoder: D, writer: &mut Watched<W>) -> Result<(), DeviceFault>
+    requires { watched_faults writer.old < 2 ^ 64 - 1 }
+    ensures done { OnOk result (Appends (W.contents (watched_inner writer.old)) (W.contents (watched_inner writer.new)) (mark_utf8 (D.held decoder))) }
+    ensures fault { OnErr result (AppendsFront (W.contents (watched_inner writer.old)) (W.contents (watched_inner writer.new)) (mark_utf8 (D.held decoder))) }
+    ensures faults { CountsFaults writer.old writer.new result }
+{
+    if let Some(mark) = decoder.finish() {
+        write_all(writer, mark.encode_utf8(&mut [0; 4]).as_bytes())?;
+    }
+    writer.flush()
+}
+
+// Writes all of the bytes.
+fn write_all<W: Write>(writer: &mut Watched<W>, bytes: &[u8]) -> Result<(), DeviceFault>
+    requires { watched_faults writer.old < 2 ^ 64 - 1 }
+    ensures done { OnOk result (Appends (W.contents (watched_inner writer.old)) (W.contents (watched_inner writer.new)) bytes.now) }
+    ensures fault { OnErr result (AppendsFront (W.contents (watched_inner writer.old)) (W.contents (watched_inner writer.new)) bytes.now) }
+    ensures faults { CountsFaults writer.old writer.new result }
+{
+    let mut written = 0;
+    while written < bytes.len() {
+        written += writer.write(&bytes[written..])?;
+    }
+    Ok(())
+}

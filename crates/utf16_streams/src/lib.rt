@@ -1,0 +1,15 @@
+//! UTF-16 that comes in pieces: decoders, filters from a reader to a writer, and readers and writers whose faults are counted. The
+//! byte orders are re-exported, so that a user names this crate alone.
+#![tactic(auto)]
+
+mod any_lossy;
+mod decoder;
+mod filters;
+mod lossy;
+mod watched;
+
+pub use any_lossy::AnyLossy;
+pub use filters::{FilterFault, filter, filter_auto};
+pub use lossy::{Lossy, decode_pieces};
+pub use utf16_units::{BE, BigEndian, LE, LittleEndian, Utf16Order};
+pub use watched::{DeviceFault, Watched};

@@ -1,5 +1,0 @@
-use Rattle.std.proofs.Common.{rules}
-use Rattle.utf16_tools.proofs.any_lossy.AnyLossy.new.Goals as goal
-
-pub returns-clause-pending : goal.returns-clause-pending
-returns-clause-pending c = search rules

@@ -1,5 +1,0 @@
-use Rattle.std.proofs.Common.{rules}
-use Rattle.utf16_tools.proofs.lossy.Lossy.feed.Goals as goal
-
-pub returns-clause-text : goal.returns-clause-text
-returns-clause-text g c = search rules

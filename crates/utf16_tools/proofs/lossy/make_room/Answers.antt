@@ -1,5 +1,0 @@
-use Rattle.std.proofs.Common.{rules}
-use Rattle.utf16_tools.proofs.lossy.make_room.Goals as goal
-
-pub returns-clause-nothing : goal.returns-clause-nothing
-returns-clause-nothing g c = search rules

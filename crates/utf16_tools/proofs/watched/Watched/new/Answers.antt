@@ -1,5 +1,0 @@
-use Rattle.std.proofs.Common.{refl}
-use Rattle.utf16_tools.proofs.watched.Watched.new.Goals as goal
-
-pub returns-clause-faults : goal.returns-clause-faults
-returns-clause-faults g c = refl

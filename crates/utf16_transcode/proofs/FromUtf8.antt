@@ -1,0 +1,121 @@
+-- From UTF-8 to UTF-16: texts behind one another, characters, and where a fault is.
+use Rattle.std.proofs.Common.{◌≡◌, ℕ, ◌+◌, ◌-◌, ◌*◌, ◌<◌, ◌≤◌, Bool, true, false, List, [], ◌∷◌, ◌++◌, Option, drop_at, length, take, drop, encode_utf8_all, refl, sym, ap, ap₂, ◌∙◌, subst, ⊎_elim, arith, append-nil, append_assoc, length-append, length-drop, length-take, take_all, take_at, take-add, take-append-drop, take-take, le-ltb}
+use Rattle.std.specs.Prelude.{◌==◌, min}
+use borrow.Author.Tests.{ne_eqb}
+use Rattle.std.proofs.lemmas.Bool.{cases_lt}
+use Rattle.std.proofs.lemmas.List.{take_rest}
+use Rattle.std.proofs.lemmas.List.Elements.{All-cons, All-head, All-nil}
+use Rattle.std.proofs.lemmas.Str.{IsCharBoundary-from_take, IsUtf8-append, IsUtf8-drop, IsUtf8-encode, IsUtf8-nil, chars-append, chars-nil, chars-encodes, len_utf8_bounds, length-encode}
+use Rattle.std.specs.Char.{IsScalar, encode_utf8}
+use Rattle.std.specs.Str.{IsUtf8, IsValidUpTo, StartsWithNoChar, all_scalars, chars}
+use Rattle.std.specs.Str.Lossy.{utf8_error_len}
+use Rattle.utf16_units.specs.Encoding.{char_bytes, encode}
+use Rattle.utf16_units.proofs.EncodingLemmas.{All-from_all_scalars, all_scalars-from_All, encode-append, encode-nil, encode-one}
+use Rattle.utf16_units.proofs.FaultLemmas.{rest_from}
+use Rattle.utf16_transcode.specs.Wrote.{Gives, IsUtf16Of, Joins}
+use Rattle.utf16_transcode.specs.Stops.{IsUtf8Fault, IsUtf8FaultAt}
+
+pub room_grows : (m n : ℕ) → m ≤ n → 2 * m + 16 ≤ 2 * n + 16
+room_grows m n le = omega arith
+
+pub utf16_joins : (big : Bool) → Joins (IsUtf16Of big)
+utf16_joins big front back into more first second = (
+  IsUtf8-append front back first.0 second.0,
+  ap₂ (λ x y. x ++ y) first.1 second.1 ∙ sym (encode-append big (chars front) (chars back)) ∙ ap (encode big) (sym (chars-append front back first.0)),
+)
+
+pub utf16_empty : (big : Bool) → IsUtf16Of big [] []
+utf16_empty big = (IsUtf8-nil, sym (ap (encode big) chars-nil ∙ encode-nil big))
+
+-- the UTF-8 of a character spells it
+pub chars-char : (c : ℕ) → IsScalar c → chars (encode_utf8 c) ≡ c ∷ []
+chars-char c scalar =
+    ap chars (sym (append-nil (encode_utf8 c)))
+    ∙ chars-encodes (c ∷ []) (all_scalars-from_All (c ∷ []) (All-cons IsScalar c [] scalar (All-nil IsScalar)))
+
+pub char_gives : (big : Bool) (c : ℕ) → IsScalar c → Gives IsUtf8 (λ text. encode big (chars text)) (encode_utf8 c) (char_bytes big c)
+char_gives big c scalar = (IsUtf8-encode c scalar, sym (ap (encode big) (chars-char c scalar) ∙ encode-one big c))
+
+pub char_few : (c : ℕ) → IsScalar c → length (encode_utf8 c) ≤ 4
+char_few c scalar = omega (arith, length-encode c, (len_utf8_bounds c).1)
+
+-- what stands behind a text is a text where both are
+pub IsUtf8-behind : (front back : List ℕ) → IsUtf8 front → IsUtf8 (front ++ back) → IsUtf8 back
+IsUtf8-behind front back first all =
+    let n = length front in
+    let size = length-append front back in
+    let cut = IsCharBoundary-from_take (front ++ back) n all (omega arith) (subst IsUtf8 (sym (take_at front back n refl)) first) in
+    subst IsUtf8 (drop_at front back n refl) (IsUtf8-drop (front ++ back) n all cut)
+
+-- a text that is not empty begins with a character
+text_begins : (bytes : List ℕ) → IsUtf8 bytes → 0 < length bytes → (c : ℕ) × (more : List ℕ) × IsScalar c × (bytes ≡ encode_utf8 c ++ more)
+text_begins bytes u some = of u.0 u.1.0 u.1.1 where
+  of : (cs : List ℕ) → all_scalars cs ≡ true → encode_utf8_all cs ≡ bytes → (c : ℕ) × (more : List ℕ) × IsScalar c × (bytes ≡ encode_utf8 c ++ more)
+  of [] scalars e = absurd (omega (arith, ap length e))
+  of (c ∷ cs) scalars e = (c, encode_utf8_all cs, All-head IsScalar c cs (All-from_all_scalars (c ∷ cs) scalars), sym e)
+
+-- what stands behind a text is a text where both are
+text_behind : (bytes : List ℕ) (read m : ℕ) → read ≤ m → read ≤ length bytes → IsUtf8 (take read bytes) → IsUtf8 (take m bytes)
+    → IsUtf8 (take (m - read) (drop read bytes))
+text_behind bytes read m le within front all =
+    let same : read + (m - read) ≡ m = omega arith in
+    let split : take m bytes ≡ take read bytes ++ take (m - read) (drop read bytes) = ap (λ k. take k bytes) (sym same) ∙ take-add read (m - read) bytes in
+    IsUtf8-behind (take read bytes) (take (m - read) (drop read bytes)) front (subst IsUtf8 split all)
+
+-- a fault behind a text is where the longest valid beginning ends
+valid_to : (bytes : List ℕ) (read : ℕ) → read < length bytes → IsUtf8 (take read bytes) → StartsWithNoChar (drop read bytes) → IsValidUpTo bytes read
+valid_to bytes read within front none = record {
+  short = within;
+  front = front;
+  longest = λ m past all.
+      let k = m - read in
+      let back = take k (drop read bytes) in
+      let behind = text_behind bytes read m (omega arith) (omega arith) front all in
+      let left = length-drop read bytes in
+      let size = length-take k (drop read bytes) in
+      let some : 0 < length back = omega arith in
+      let begins = text_begins back behind some in
+      none begins.0 (begins.1 ++ drop k (drop read bytes)) begins.2
+      (sym (take-append-drop k (drop read bytes)) ∙ ap (λ t. t ++ drop k (drop read bytes)) begins.3
+      ∙ append_assoc (encode_utf8 begins.0) begins.1 (drop k (drop read bytes)));
+}
+
+pub faults_there : (text : List ℕ) (read : ℕ) (len : Option ℕ) → read < length text → IsUtf8 (take read text) → IsUtf8FaultAt (drop read text) len
+    → IsUtf8Fault text read len
+faults_there text read len within front here = (valid_to text read within front here.0, here.1)
+
+-- ---- a fault is told by four bytes
+
+four_tell : (rest : List ℕ) → utf8_error_len (take 4 rest) ≡ utf8_error_len rest
+unfolding utf8_error_len
+four_tell [] = refl
+four_tell (x ∷ []) = refl
+four_tell (x ∷ y ∷ []) = refl
+four_tell (x ∷ y ∷ z ∷ []) = refl
+four_tell (x ∷ y ∷ z ∷ w ∷ more) =
+    let n = length (x ∷ y ∷ z ∷ w ∷ more) in
+    let some : (n == 0) ≡ false = ne_eqb n 0 (omega arith) in
+    rw (some, le-ltb n 2 (omega arith), le-ltb n 3 (omega arith), le-ltb n 4 (omega arith)) refl
+
+pub window_tells : (rest : List ℕ) (m : ℕ) → m ≡ min (length rest) 4 → utf8_error_len (take m rest) ≡ utf8_error_len rest
+window_tells rest m is = ⊎_elim
+    (λ (short : length rest < 4). ap utf8_error_len (take_all m rest (omega arith)))
+    (λ (long : 4 ≤ length rest).
+    let four : m ≡ 4 = omega arith in
+    ap (λ k. utf8_error_len (take k rest)) four ∙ four_tell rest)
+    (cases_lt (length rest) 4)
+
+pub no_char : (rest : List ℕ) (m : ℕ) → m ≡ min (length rest) 4 → IsValidUpTo (take m rest) 0 → StartsWithNoChar rest
+no_char rest m is none c more scalar e =
+    let k = length (encode_utf8 c) in
+    let size = length-encode c in
+    let bounds = len_utf8_bounds c in
+    let within = ap length e ∙ length-append (encode_utf8 c) more in
+    let le : k ≤ m = omega arith in
+    none.longest k (omega arith)
+    (subst IsUtf8 (sym (take-take k m rest le ∙ ap (take k) e ∙ take_at (encode_utf8 c) more k refl)) (IsUtf8-encode c scalar))
+
+-- what is valid, and a valid beginning of what is left behind it
+pub valid_more : (text : List ℕ) (valid n : ℕ) → IsUtf8 (take valid text) → IsUtf8 (take n (rest_from text valid)) → IsUtf8 (take (valid + n) text)
+valid_more text valid n first second =
+    subst IsUtf8 (sym (take-add valid n text)) (IsUtf8-append (take valid text) (take n (drop valid text)) first (subst (λ r. IsUtf8 (take n r)) (take_rest text valid) second))

@@ -1,0 +1,14 @@
+use Rattle.std.proofs.Common.{arith}
+use Rattle.utf16_transcode.proofs.FromUtf8.{char_few, char_gives, faults_there, room_grows, utf16_empty, utf16_joins}
+use Rattle.utf16_transcode.proofs.utf16.FromUtf8Direction.laws.Goals as goal
+
+pub returns : goal.returns
+returns g c = record {
+  grows = room_grows;
+  fits = omega arith;
+  empty = utf16_empty g.E.Utf16Order.BIG;
+  joins = utf16_joins g.E.Utf16Order.BIG;
+  chars = char_gives g.E.Utf16Order.BIG;
+  few = char_few;
+  faults = faults_there;
+}

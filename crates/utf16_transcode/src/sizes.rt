@@ -1,0 +1,45 @@
+//! How many bytes a text takes in the other encoding.
+
+ghost use Rattle.std.specs.Prelude.{◌≡◌, encode_utf8_all, length, take};
+ghost use Rattle.std.specs.Str.{chars};
+ghost use Rattle.std.specs.Str.Lossy.{utf8_valid_len};
+ghost use Rattle.utf16_units.specs.Encoding.{size};
+ghost use Rattle.utf16_units.specs.Split.{lossy_text};
+
+use crate::marks::MARK;
+use utf16_from_utf8::utf16_len;
+use utf16_to_utf8::utf8_len;
+use utf16_units::{Utf16Order, validate_raw_utf16};
+
+/// How many bytes of UTF-8 `decode_whole` makes of all the bytes. Any bytes are allowed. Two passes.
+pub fn utf8_size<E: Utf16Order>(raw: &[u8]) -> usize
+    ensures { result ≡ length (encode_utf8_all (lossy_text E.BIG raw.now)) }
+{
+    let mut rest = raw;
+    let mut size = 0;
+    loop {
+        let error = match validate_raw_utf16::<E>(rest) {
+            Ok(()) => return size + utf8_len::<E>(rest),
+            Err(error) => error,
+        };
+        let (front, behind) = rest.split_at(error.valid_up_to());
+        size += utf8_len::<E>(front) + MARK.len();
+        match error.error_len() {
+            Some(len) => rest = &behind[len..],
+            None => return size,
+        }
+    }
+}
+
+/// How many bytes of UTF-16 the longest valid beginning of UTF-8 takes, in either order: all of the bytes, where they are UTF-8.
+/// Any bytes are allowed. Two passes.
+pub fn utf16_size(text: &[u8]) -> usize
+    ensures { result ≡ size (chars (take (utf8_valid_len text.now) text.now)) }
+{
+    match str::from_utf8(text) {
+        Ok(text) => utf16_len(text),
+        Err(error) => {
+            utf16_len(unsafe { str::from_utf8_unchecked(&text[..error.valid_up_to()]) })
+        }
+    }
+}

@@ -1,0 +1,142 @@
+//! UTF-8 in UTF-16, up to the first fault.
+
+ghost use Rattle.std.specs.Prelude.{◌+◌, ◌-◌, ◌*◌, ◌<◌, ◌≤◌, IfErr, IfOk, length, take};
+ghost use Rattle.std.specs.Char.{encode_utf8};
+ghost use Rattle.std.specs.Str.{IsUtf8, chars};
+ghost use Rattle.utf16_units.specs.Encoding.{char_bytes, encode};
+ghost use Rattle.utf16_transcode.specs.Wrote.{IsUtf16Of, Wrote};
+ghost use Rattle.utf16_transcode.specs.Stops.{BeginsWith, IsUtf8Fault, IsUtf8FaultAt, StopsEncoding};
+
+use crate::progress::Progress;
+use crate::transcode::{Direction, transcode};
+use std::marker::PhantomData;
+use utf16_from_utf8::write_units;
+use utf16_units::Utf16Order;
+
+// How many bytes are tested first, and how many times as many behind each part that is valid: the test of a part goes to its end
+// before it looks for the fault.
+const FIRST: usize = 16;
+
+const GROWTH: usize = 32;
+
+/// Writes UTF-8 in UTF-16 to the front of a buffer, up to the first fault or as far as whole characters fit. Any bytes are
+/// allowed. What stands behind the written bytes may have been written over. The time grows with what is read alone.
+pub fn from_utf8<E: Utf16Order>(text: &[u8], to: &mut [u8]) -> Progress
+    ensures wrote { Wrote (IsUtf16Of E.BIG) text.now to.new result.read result.written }
+    ensures stop { StopsEncoding E.BIG text.now result.read (length to.new - result.written) result.stop }
+{
+    transcode::<FromUtf8<E>>(text, to)
+}
+
+// From UTF-8 to UTF-16 in the order `E`.
+struct FromUtf8<E: Utf16Order>(PhantomData<E>);
+
+impl<E: Utf16Order> Direction for FromUtf8<E> {
+    ghost from = { encode_utf8 };
+
+    ghost into = { char_bytes E.BIG };
+
+    ghost IsValid = { IsUtf8 };
+
+    ghost other = { λ text. encode E.BIG (chars text) };
+
+    ghost IsFaultAt = { IsUtf8FaultAt };
+
+    ghost IsFault = { IsUtf8Fault };
+
+    ghost room_for = { λ n. 2 * n + 16 };
+
+    #[inline(always)]
+    fn laws() {}
+
+    #[inline(always)]
+    fn valid_len(bytes: &[u8]) -> usize {
+        valid_len(bytes)
+    }
+
+    #[inline(always)]
+    fn first_len(rest: &[u8]) -> Result<usize, Option<u8>> {
+        first_len(rest)
+    }
+
+    #[inline(always)]
+    fn most(room: usize) -> usize {
+        (room - 16) / 2
+    }
+
+    #[inline(always)]
+    fn write(text: &[u8], to: &mut [u8]) -> usize {
+        write_units::<E>([0; 2], text, to)
+    }
+}
+
+// The length of the longest valid beginning.
+fn valid_len(text: &[u8]) -> usize
+    ensures within { result ≤ length text.now }
+    ensures text { IsUtf8 (take result text.now) }
+{
+    let mut valid = 0;
+    let mut part = FIRST;
+    while valid < text.len() {
+        let rest = &text[valid..];
+        let len = part_len(rest, part);
+        match simdutf8::compat::from_utf8(&rest[..len]) {
+            Ok(_) => valid += len,
+            Err(error) => return valid + error.valid_up_to(),
+        }
+        part = part.saturating_mul(GROWTH);
+    }
+    valid
+}
+
+// How many bytes at the front to test at once: at most so many, and of more than four the last character is left for the next
+// part, since it may be cut off.
+fn part_len(rest: &[u8], part: usize) -> usize
+    requires some { 0 < length rest.now }
+    requires part { 0 < part }
+    ensures { (0 < result) × (result ≤ length rest.now) }
+{
+    let most = part.min(rest.len());
+    if most <= 4 {
+        return most;
+    }
+    let mut len = most;
+    while len > most - 3 && rest[len - 1] & 0xC0 == 0x80 {
+        len -= 1;
+    }
+    if rest[len - 1] < 0xC0 { len } else { len - 1 }
+}
+
+// How many bytes the character at the front has, or the `error_len` of what stands there. Four bytes tell it.
+fn first_len(rest: &[u8]) -> Result<usize, Option<u8>>
+    requires { 0 < length rest.now }
+    ensures char { IfOk result (BeginsWith encode_utf8 rest.now) }
+    ensures fault { IfErr result (IsUtf8FaultAt rest.now) }
+{
+    let window = &rest[..rest.len().min(4)];
+    match str::from_utf8(window) {
+        Ok(text) => Ok(first_of(text)),
+        Err(error) => {
+            let len = error.valid_up_to();
+            if len == 0 {
+                return match error.error_len() {
+                    Some(len) => Err(Some(len as u8)),
+                    None => Err(None),
+                };
+            }
+            Ok(first_of(unsafe { str::from_utf8_unchecked(&window[..len]) }))
+        }
+    }
+}
+
+// How many bytes the first character of a text has.
+fn first_of(text: &str) -> usize
+    requires { 0 < length text.now }
+    ensures { BeginsWith encode_utf8 text.now result }
+{
+    let mut chars = text.chars();
+    match chars.next() {
+        Some(c) => c.len_utf8(),
+        None => 0,
+    }
+}
