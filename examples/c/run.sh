@@ -44,7 +44,7 @@ library() {
     for below in ../*/out/rlib; do
         words+=(-L "dependency=$below")
     done
-    for below in utf16_transcode utf16_units; do
+    for below in utf16_transcode utf16_decode utf16_units; do
         words+=(--extern "$below=../$below/out/rlib/$below.rlib")
     done
     words+=(--extern "std=$kit/rlibs/std.rlib" -L "dependency=$kit/rlibs" --toolchain "$kit/toolchain")

@@ -4,8 +4,8 @@ use Rattle.utf16_units.specs.Encoding.{IsText}
 use Rattle.utf16_units.specs.Fault.{IsFault, IsFront}
 use Rattle.utf16_units.specs.Utf16Error.{error_len, valid_up_to}
 use Rattle.utf16_units.specs.declared.error.Utf16Error.{Utf16Error}
-use Rattle.utf16_transcode.specs.declared.progress.Stop.{Stop}
-use Rattle.utf16_transcode.specs.declared.progress.Stop.TheVariants.{CutOff, Done, Fault, NoRoom}
+use Rattle.utf16_decode.specs.declared.progress.Stop.{Stop}
+use Rattle.utf16_decode.specs.declared.progress.Stop.TheVariants.{CutOff, Done, Fault, NoRoom}
 
 -- why a call stopped, by its status and the length of the fault
 abbrev pub stop_of : ℕ → ℕ → Stop

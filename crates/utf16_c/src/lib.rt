@@ -15,11 +15,12 @@ ghost use Rattle.std.specs.Str.Lossy.{utf8_valid_len};
 ghost use Rattle.utf16_units.specs.Encoding.{IsText, char_bytes, size, text_of, units_of};
 ghost use Rattle.utf16_units.specs.Fault.{IsFront};
 ghost use Rattle.utf16_units.specs.Split.{lossy_text};
-ghost use Rattle.utf16_transcode.specs.Shown.{ShowsWhole, text_of_utf8};
-ghost use Rattle.utf16_transcode.specs.Stops.{StopsDecoding, StopsEncoding, StopsMarking, StopsMarkingWhole};
-ghost use Rattle.utf16_transcode.specs.Wrote.{DecodesTo, IsUtf16Of, IsUtf8Of, Wrote};
+ghost use Rattle.utf16_transcode.specs.FromUtf8.{IsUtf16Of, StopsEncoding, text_of_utf8};
+ghost use Rattle.utf16_decode.specs.Shown.{ShowsWhole};
+ghost use Rattle.utf16_decode.specs.Stops.{StopsDecoding, StopsMarking, StopsMarkingWhole};
+ghost use Rattle.utf16_decode.specs.Wrote.{DecodesTo, IsUtf8Of, Wrote};
 ghost use Rattle.utf16_c.specs.Answers.{AreNumbers, IsValidity, stop_of};
-ghost use Rattle.utf16_transcode.specs.declared.progress.Stop.TheVariants.{NoRoom};
+ghost use Rattle.utf16_decode.specs.declared.progress.Stop.TheVariants.{NoRoom};
 
 use crate::answers::{Answer, Order, Validity, answer_of, validity_of};
 use utf16_transcode::{

@@ -2,8 +2,8 @@
 
 ghost use Rattle.std.specs.Prelude.{◌≡◌, ◌≢◌, ◌↔◌, ◌+◌, ◌-◌, ◌<◌, ◌≤◌, [], ◌++◌, drop, length, take, encode_utf8_all};
 ghost use Rattle.utf16_units.specs.Split.{decided_text, full};
-ghost use Rattle.utf16_transcode.specs.Stream.{Feeds, StopsFeeding, stream_held};
-ghost use Rattle.utf16_transcode.specs.declared.progress.Stop.TheVariants.{Done, NoRoom};
+ghost use Rattle.utf16_decode.specs.Stream.{Feeds, StopsFeeding, stream_held};
+ghost use Rattle.utf16_decode.specs.declared.progress.Stop.TheVariants.{Done, NoRoom};
 ghost use Rattle.utf16_c.specs.Answers.{AreNumbers, stop_of};
 
 use crate::answers::{Answer, answer_of};

@@ -7,8 +7,8 @@ use Rattle.std.proofs.KnownBytes.{Appends-nil, Appends-trans, Consumes-kept, Con
 use Rattle.utf16_units.specs.Split.{full}
 use Rattle.utf16_streams.specs.Mark.{items_in, order_after, tail_in}
 use Rattle.utf16_streams.specs.Filter.{AppendsFront, Filters, FiltersBefore, FiltersFront, FiltersSome, decided_utf8, mark_utf8, whole_utf8}
-use Rattle.utf16_transcode.proofs.DecodesLemmas.{shown, shown-append}
-use Rattle.utf16_transcode.proofs.StreamLemmas.{full-mark, full-none}
+use Rattle.utf16_decode.proofs.DecodesLemmas.{shown, shown-append}
+use Rattle.utf16_decode.proofs.StreamLemmas.{full-mark, full-none}
 use Rattle.utf16_streams.proofs.MarkLemmas.{items_in-append, items_in-nil, order_after-append, order_after-nil, tail_in-append, tail_in-nil}
 
 -- so many reads gave bytes; what these decide was written, their tail is pending, and now the next are read in the order that

@@ -9,11 +9,11 @@ use Rattle.utf16_units.proofs.FirstChar.{AreBytes}
 use Rattle.utf16_units.proofs.ShownLemmas.{split_within}
 use Rattle.utf16_units.proofs.SplitLemmas.{Split-computed}
 use Rattle.utf16_units.proofs.SplitJoin.{split_items-append}
-use Rattle.utf16_transcode.specs.Decodes.{Decodes}
-use Rattle.utf16_transcode.proofs.DecodesLemmas.{Decodes-end, Decodes-piece, length-split_tail-le, shown, split_tail-again, undecided_items}
-use Rattle.utf16_transcode.proofs.WellFormedSplit.{encodes_marked}
-use Rattle.utf16_transcode.specs.Stream.{Feeds, StopsFeeding}
-use Rattle.utf16_transcode.specs.declared.progress.Stop.TheVariants.{Done}
+use Rattle.utf16_decode.specs.Decodes.{Decodes}
+use Rattle.utf16_decode.proofs.DecodesLemmas.{Decodes-end, Decodes-piece, length-split_tail-le, shown, split_tail-again, undecided_items}
+use Rattle.utf16_decode.proofs.WellFormedSplit.{encodes_marked}
+use Rattle.utf16_decode.specs.Stream.{Feeds, StopsFeeding}
+use Rattle.utf16_decode.specs.declared.progress.Stop.TheVariants.{Done}
 
 pub AreBytes-append : (front back : List ℕ) → AreBytes front → AreBytes back → AreBytes (front ++ back)
 AreBytes-append front back before behind k = ⊎_elim

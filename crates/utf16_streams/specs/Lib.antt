@@ -1,5 +1,5 @@
 pub use Rattle.utf16_units.specs.Split
-pub use Rattle.utf16_transcode.specs.Decodes
+pub use Rattle.utf16_decode.specs.Decodes
 pub mod Mark
 pub mod Watched
 pub mod Lossy

@@ -6,13 +6,13 @@ ghost use Rattle.std.specs.Option.{option_to_list};
 ghost use Rattle.std.specs.Str.{IsUtf8};
 ghost use Rattle.std.specs.Vec.{vec_items};
 ghost use Rattle.utf16_units.specs.Split.{decided_text, IsTail, lossy_text, split_items, split_tail};
-ghost use Rattle.utf16_transcode.specs.Decodes.{Decodes};
-ghost use Rattle.utf16_transcode.specs.Stream.{stream_held};
+ghost use Rattle.utf16_decode.specs.Decodes.{Decodes};
+ghost use Rattle.utf16_decode.specs.Stream.{stream_held};
 
 use crate::decoder::{Decoder, LEAST_ROOM, ROOM, SPARE, feed};
 use std::alloc::{AllocError, Allocator};
 use std::marker::PhantomData;
-use utf16_transcode::Stream;
+use utf16_decode::Stream;
 use utf16_units::Utf16Order;
 
 /// A decoder of UTF-16 in the byte order `E` that comes in pieces, cut anywhere. What is no text is shown by U+FFFD, one for

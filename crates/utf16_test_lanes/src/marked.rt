@@ -2,7 +2,7 @@
 
 use crate::checks::{ROOM, equal, holds, letters};
 use std::process::Abort;
-use utf16_transcode::write_well_formed;
+use utf16_decode::write_well_formed;
 use utf16string::{BE, LE, Utf16Order};
 
 // Two units between letters "a", and what is written of them.

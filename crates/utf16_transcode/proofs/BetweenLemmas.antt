@@ -8,8 +8,8 @@ use Rattle.std.specs.Option.{unwrap_or}
 use Rattle.std.specs.Str.{IsUtf8, chars}
 use Rattle.std.specs.Str.Lossy.{utf8_lossy}
 use Rattle.utf16_units.proofs.FaultLemmas.{rest_from}
-use Rattle.utf16_transcode.specs.Shown.{ShowsWhole, text_of_utf8}
-use Rattle.utf16_transcode.specs.Stops.{IsUtf8Fault}
+use Rattle.utf16_transcode.specs.FromUtf8.{IsUtf8Fault, text_of_utf8}
+use Rattle.utf16_decode.specs.Shown.{ShowsWhole}
 use Rattle.utf16_transcode.proofs.CutLemmas.{text-cut}
 use Rattle.utf16_transcode.proofs.LossyLemmas.{text-empty, utf8_lossy-behind}
 

@@ -8,8 +8,7 @@ use Rattle.std.specs.Int.{is_in_range}
 use Rattle.std.specs.Option.{unwrap_or}
 use Rattle.std.specs.Str.{IsUtf8, IsValidUpTo}
 use Rattle.std.specs.Str.Lossy.{second_byte_max, second_byte_min, utf8_error_len, utf8_invalid_len}
-use Rattle.utf16_transcode.specs.Shown.{text_of_utf8}
-use Rattle.utf16_transcode.specs.Stops.{IsUtf8Fault}
+use Rattle.utf16_transcode.specs.FromUtf8.{IsUtf8Fault, text_of_utf8}
 use Rattle.utf16_transcode.proofs.LossyLemmas.{text-fault}
 
 -- what the first three bytes tell of a fault's length

@@ -12,8 +12,8 @@ use Rattle.std.specs.Str.Lossy.{utf8_error_len}
 use Rattle.utf16_units.specs.Encoding.{char_bytes, encode}
 use Rattle.utf16_units.proofs.EncodingLemmas.{All-from_all_scalars, all_scalars-from_All, encode-append, encode-nil, encode-one}
 use Rattle.utf16_units.proofs.FaultLemmas.{rest_from}
-use Rattle.utf16_transcode.specs.Wrote.{Gives, IsUtf16Of, Joins}
-use Rattle.utf16_transcode.specs.Stops.{IsUtf8Fault, IsUtf8FaultAt}
+use Rattle.utf16_transcode.specs.FromUtf8.{IsUtf16Of, IsUtf8Fault, IsUtf8FaultAt}
+use Rattle.utf16_decode.specs.Wrote.{Gives, Joins}
 
 pub room_grows : (m n : ℕ) → m ≤ n → 2 * m + 16 ≤ 2 * n + 16
 room_grows m n le = omega arith

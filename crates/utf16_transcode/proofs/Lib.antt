@@ -1,14 +1,5 @@
-pub mod WellFormedLemmas
-pub mod WellFormedSplit
-pub mod DecodesLemmas
-pub mod FaultDecides
-pub mod StreamLemmas
-pub mod WroteLemmas
-pub mod MarkLemmas
 pub mod LossyLemmas
 pub mod LossyShown
 pub mod CutLemmas
 pub mod BetweenLemmas
-pub mod StreamSteps
-pub mod ToUtf8
 pub mod FromUtf8

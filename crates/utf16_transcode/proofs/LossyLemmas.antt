@@ -11,8 +11,7 @@ use Rattle.utf16_units.specs.Encoding.{size}
 use Rattle.utf16_units.proofs.EncodingLemmas.{size-append, size-cons}
 use Rattle.utf16_units.proofs.FaultLemmas.{take-past}
 use Rattle.utf16_transcode.proofs.FromUtf8.{IsUtf8-behind}
-use Rattle.utf16_transcode.specs.Shown.{text_of_utf8}
-use Rattle.utf16_transcode.specs.Stops.{IsUtf8Fault}
+use Rattle.utf16_transcode.specs.FromUtf8.{IsUtf8Fault, text_of_utf8}
 
 -- two tests that pass together
 same_test : (a b : Bool) → (a ≡ true → b ≡ true) → (b ≡ true → a ≡ true) → a ≡ b

@@ -15,16 +15,17 @@ use Rattle.std.specs.Str.Lossy.{error_len_after_one, error_len_after_two, error_
 use Rattle.utf16_units.specs.Encoding.{char_bytes, encode}
 use Rattle.utf16_units.specs.Unit.{unit_bytes}
 use Rattle.utf16_units.proofs.FaultLemmas.{rest_from}
-use Rattle.utf16_units.proofs.SplitLemmas.{one_unit_bytes}
+use Rattle.utf16_units.proofs.CharLemmas.{one_unit_bytes}
 use Rattle.utf16_units.proofs.UnitLemmas.{length-unit_bytes}
-use Rattle.utf16_transcode.specs.Shown.{ShowsWhole, text_of_utf8}
-use Rattle.utf16_transcode.specs.Stops.{IsUtf8Fault, StopsEncoding, StopsMarkingWhole, TextDoesNotFit}
-use Rattle.utf16_transcode.specs.Wrote.{IsUtf16Of, Wrote}
-use Rattle.utf16_transcode.specs.declared.progress.Stop.{Stop}
-use Rattle.utf16_transcode.specs.declared.progress.Stop.TheVariants.{Done, NoRoom}
+use Rattle.utf16_transcode.specs.FromUtf8.{IsUtf16Of, IsUtf8Fault, StopsEncoding, text_of_utf8}
+use Rattle.utf16_decode.specs.Shown.{ShowsWhole}
+use Rattle.utf16_decode.specs.Stops.{StopsMarkingWhole, TextDoesNotFit}
+use Rattle.utf16_decode.specs.Wrote.{Wrote}
+use Rattle.utf16_decode.specs.declared.progress.Stop.{Stop}
+use Rattle.utf16_decode.specs.declared.progress.Stop.TheVariants.{Done, NoRoom}
 use Rattle.utf16_transcode.proofs.FromUtf8.{chars-char}
 use Rattle.utf16_transcode.proofs.LossyLemmas.{text-behind, text-fault, utf8_lossy-behind}
-use Rattle.utf16_transcode.proofs.WroteLemmas.{put_end-long, take-end}
+use Rattle.utf16_decode.proofs.WroteLemmas.{put_end-long, take-end}
 
 -- nothing was read
 pub ShowsWhole-none : (text : List ℕ → List ℕ) (into : ℕ → List ℕ) (input to : List ℕ) → ShowsWhole text into input to 0 0

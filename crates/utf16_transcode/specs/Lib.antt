@@ -1,6 +1,1 @@
-pub mod WellFormed
-pub mod Decodes
-pub mod Wrote
-pub mod Stops
-pub mod Shown
-pub mod Stream
+pub mod FromUtf8

@@ -3,11 +3,12 @@
 ghost use Rattle.std.specs.Prelude.{◌≡◌, ◌-◌, ◌*◌, ◌≤◌, length, take, drop};
 ghost use Rattle.std.specs.List.{flat_map};
 ghost use Rattle.utf16_units.specs.Encoding.{char_bytes, size};
-ghost use Rattle.utf16_transcode.specs.Shown.{ShowsWhole, text_of_utf8};
-ghost use Rattle.utf16_transcode.specs.Stops.{StopsMarkingWhole};
+ghost use Rattle.utf16_transcode.specs.FromUtf8.{text_of_utf8};
+ghost use Rattle.utf16_decode.specs.Shown.{ShowsWhole};
+ghost use Rattle.utf16_decode.specs.Stops.{StopsMarkingWhole};
 
-use crate::progress::{Progress, Stop, put};
 use crate::utf16::from_utf8;
+use utf16_decode::{Progress, Stop, put};
 use utf16_from_utf8::utf16_len;
 use utf16_units::Utf16Order;
 

@@ -6,7 +6,7 @@ ghost use Rattle.std.specs.Str.Lossy.{utf8_valid_len};
 ghost use Rattle.utf16_units.specs.Encoding.{size};
 ghost use Rattle.utf16_units.specs.Split.{lossy_text};
 
-use crate::marks::MARK;
+use utf16_decode::MARK;
 use utf16_from_utf8::utf16_len;
 use utf16_to_utf8::utf8_len;
 use utf16_units::{Utf16Order, validate_raw_utf16};

@@ -4,12 +4,12 @@ ghost use Rattle.std.specs.Prelude.{◌+◌, ◌-◌, ◌*◌, ◌<◌, ◌≤�
 ghost use Rattle.std.specs.Char.{encode_utf8};
 ghost use Rattle.std.specs.Str.{IsUtf8, chars};
 ghost use Rattle.utf16_units.specs.Encoding.{char_bytes, encode};
-ghost use Rattle.utf16_transcode.specs.Wrote.{IsUtf16Of, Wrote};
-ghost use Rattle.utf16_transcode.specs.Stops.{BeginsWith, IsUtf8Fault, IsUtf8FaultAt, StopsEncoding};
+ghost use Rattle.utf16_transcode.specs.FromUtf8.{IsUtf16Of, IsUtf8Fault, IsUtf8FaultAt, StopsEncoding};
+ghost use Rattle.utf16_decode.specs.Wrote.{Wrote};
+ghost use Rattle.utf16_decode.specs.Stops.{BeginsWith};
 
-use crate::progress::Progress;
-use crate::transcode::{Direction, transcode};
 use std::marker::PhantomData;
+use utf16_decode::{Direction, Progress, transcode};
 use utf16_from_utf8::write_units;
 use utf16_units::Utf16Order;
 

@@ -8,7 +8,7 @@ use Rattle.std.specs.Char.Utf16.{surrogate_pair_char}
 use Rattle.utf16_units.specs.Unit.{IsLeading, IsTrailing, unit_bytes, unit_of}
 use Rattle.utf16_units.specs.Encoding.{char_bytes}
 use Rattle.utf16_units.specs.Fault.{is_cut_off}
-pub use Rattle.utf16_units.proofs.CharLemmas.{one_unit_bytes}
+use Rattle.utf16_units.proofs.CharLemmas.{one_unit_bytes}
 use Rattle.utf16_units.specs.Split.{BeginsUnpaired, IsItem, IsTail, Item, Split, good, item_bytes, items_bytes, lone_lead, lone_trail, put_leading, put_unit, split_items, split_tail}
 use Rattle.utf16_units.proofs.UnitLemmas.{unit_bytes-unit_of}
 use Rattle.utf16_units.proofs.FirstChar.{AreBytes, first_unit, high_scalar, scalar_unit, unit_below}

@@ -2,7 +2,7 @@ use Rattle.std.proofs.Common.{◌≡◌, ◌≤◌, ◌++◌, [], take, true≢f
 use Rattle.std.proofs.lemmas.List.{length-take-le}
 use Rattle.std.proofs.KnownBytes.{Keeps-refl}
 use Rattle.utf16_streams.specs.Mark.{items_in}
-use Rattle.utf16_transcode.proofs.DecodesLemmas.{shown}
+use Rattle.utf16_decode.proofs.DecodesLemmas.{shown}
 use Rattle.utf16_streams.proofs.FilterLemmas.{Filtering-end, Filtering-end_fault, Filtering-fault, Filtering-more, Filtering-refused, Filtering-some, Filtering-start}
 use Rattle.utf16_streams.proofs.filters.filter_by.Goals as goal
 

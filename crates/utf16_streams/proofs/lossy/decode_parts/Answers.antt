@@ -1,8 +1,8 @@
 use Rattle.std.proofs.Common.{◌≡◌, ◌++◌, [], sym, ap, ◌∙◌, append-nil, rules, true≢false}
 use Rattle.std.proofs.lemmas.List.{nil_from_length}
 use Rattle.utf16_units.specs.Split.{split_items}
-use Rattle.utf16_transcode.specs.Stream.{stream_held}
-use Rattle.utf16_transcode.proofs.DecodesLemmas.{Decodes-empty, Decodes-end, Decodes-then, undecided_items}
+use Rattle.utf16_decode.specs.Stream.{stream_held}
+use Rattle.utf16_decode.proofs.DecodesLemmas.{Decodes-empty, Decodes-end, Decodes-then, undecided_items}
 use Rattle.utf16_streams.proofs.lossy.decode_parts.Goals as goal
 
 pub returns-in_err-stream-clause-nothing : goal.returns-in_err-stream-clause-nothing

@@ -2,7 +2,7 @@ use Rattle.std.proofs.Common.{◌≡◌, ℕ, ◌+◌, ◌-◌, ◌++◌, Option
 use borrow.Rule.Slice.PartMut.{put_mid}
 use Rattle.std.specs.Option.{unwrap_or}
 use Rattle.utf16_units.proofs.FaultLemmas.{rest_from}
-use Rattle.utf16_transcode.specs.Stops.{IsUtf8Fault, StopsEncoding}
+use Rattle.utf16_transcode.specs.FromUtf8.{IsUtf8Fault, StopsEncoding}
 use Rattle.utf16_transcode.proofs.BetweenLemmas.{Between-front, Between-mark, Between-none, Between-written}
 use Rattle.utf16_transcode.proofs.LossyShown.{ShowsWhole-mark, ShowsWhole-none, ShowsWhole-text, fault-within, mark-full, stops-whole}
 use Rattle.utf16_transcode.proofs.encode.encode_whole.Given.{Over}

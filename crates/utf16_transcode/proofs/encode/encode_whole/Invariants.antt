@@ -1,6 +1,7 @@
 use Rattle.std.proofs.Common.{◌-◌, length}
 use Rattle.utf16_units.specs.Encoding.{char_bytes}
-use Rattle.utf16_transcode.specs.Shown.{ShowsWhole, text_of_utf8}
+use Rattle.utf16_transcode.specs.FromUtf8.{text_of_utf8}
+use Rattle.utf16_decode.specs.Shown.{ShowsWhole}
 use Rattle.utf16_transcode.proofs.BetweenLemmas.{Between}
 use Rattle.utf16_transcode.proofs.encode.encode_whole.Given as goal
 

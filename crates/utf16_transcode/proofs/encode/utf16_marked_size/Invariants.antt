@@ -1,7 +1,7 @@
 use Rattle.std.proofs.Common.{◌≡◌, length, ◌+◌, ◌*◌, ◌≤◌}
 use Rattle.std.specs.Str.Chunks.{utf8_chunks_rest}
 use Rattle.utf16_units.specs.Encoding.{size}
-use Rattle.utf16_transcode.specs.Shown.{text_of_utf8}
+use Rattle.utf16_transcode.specs.FromUtf8.{text_of_utf8}
 use Rattle.utf16_transcode.proofs.encode.utf16_marked_size.Given as goal
 
 -- the size so far and that of the rest are the size of all, and no byte took more than two

@@ -4,7 +4,7 @@ use Rattle.utf16_units.specs.Encoding.{text_of}
 use Rattle.utf16_units.proofs.FirstChar.{AreBytes}
 use Rattle.utf16_units.proofs.SplitFault.{AreBytes-drop}
 use Rattle.utf16_units.specs.Split.{lossy_text}
-use Rattle.utf16_transcode.proofs.MarkLemmas.{cut_off_size, fault_size, front_size, most_size, text_size}
+use Rattle.utf16_decode.proofs.MarkLemmas.{cut_off_size, fault_size, front_size, most_size, text_size}
 use Rattle.utf16_transcode.proofs.sizes.utf8_size.Given.{Over}
 use Rattle.utf16_transcode.proofs.sizes.utf8_size.Goals as goal
 use Rattle.utf16_transcode.proofs.sizes.utf8_size.Goals.{After-utf8_len, After-utf8_len-in-loop-error}

@@ -1,8 +1,7 @@
-use Rattle.std.proofs.Common.{◌≡◌, rules, ◌+◌, ◌<◌, ◌≤◌, ◌++◌, length, ⊎_elim, sym, ap, ◌∙◌, arith, length-append, true≢false}
-use Rattle.utf16_transcode.proofs.DecodesLemmas.{four_decide, split_tail-again}
+use Rattle.std.proofs.Common.{◌+◌, ◌<◌, ◌≤◌, ◌++◌, length, ⊎_elim, sym, ap, ◌∙◌, arith, length-append, true≢false}
+use Rattle.utf16_decode.proofs.DecodesLemmas.{four_decide, split_tail-again}
 use Rattle.std.proofs.lemmas.Bool.{cases_lt}
 use Rattle.utf16_units.specs.Split.{split_tail}
-use Rattle.utf16_transcode.specs.Stream.{stream_held}
 use Rattle.utf16_streams.specs.Lossy.{lossy_pending}
 use Rattle.utf16_streams.proofs.lossy.LossyDecoder.feed_into.Goals as goal
 

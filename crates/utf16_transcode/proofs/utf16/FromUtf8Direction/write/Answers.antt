@@ -1,6 +1,6 @@
 use Rattle.std.proofs.Common.{arith, ◌∙◌}
 use Rattle.utf16_from_utf8.proofs.AppendLemmas.{added_bytes-text}
-use Rattle.utf16_transcode.proofs.WroteLemmas.{long_enough}
+use Rattle.utf16_decode.proofs.WroteLemmas.{long_enough}
 use Rattle.utf16_transcode.proofs.utf16.FromUtf8Direction.write.Goals as goal
 
 pub returns-clause-bytes : goal.returns-clause-bytes

@@ -1,0 +1,9 @@
+pub mod WellFormedLemmas
+pub mod WellFormedSplit
+pub mod DecodesLemmas
+pub mod FaultDecides
+pub mod StreamLemmas
+pub mod WroteLemmas
+pub mod MarkLemmas
+pub mod StreamSteps
+pub mod ToUtf8

@@ -1,0 +1,26 @@
+use Rattle.std.proofs.Common.{◌≡◌, ◌+◌, ◌-◌, ◌<◌, ◌≤◌, ◌⊎◌, inl, inr, ℕ, List, [], ◌∷◌, ◌++◌, drop, take, length, ap₂, ◌∙◌, arith, length-append, rules, take_at, ⊎_elim}
+use Rattle.std.proofs.lemmas.Bool.{cases_lt}
+use Rattle.std.proofs.lemmas.Slice.{take-put_mid}
+use Rattle.utf16_decode.proofs.StreamSteps.{seam_bytes}
+use Rattle.utf16_decode.proofs.stream.seam.Goals as goal
+
+pub returns-clause-bytes : goal.returns-clause-bytes
+returns-clause-bytes c =
+    let held = c.args.held.now in
+    let piece = c.args.piece.now in
+    let zeros : List ℕ = drop (length held) (0 ∷ 0 ∷ 0 ∷ 0 ∷ []) in
+    let first = c.copy_from_slice.new.self in
+    let second = c.copy_from_slice-2.new.self in
+    let front : first ≡ held = search rules in
+    let behind : second ≡ take c.min.result piece = search rules in
+    let same : length first ≡ length held = search rules in
+    let long : length (first ++ zeros) ≡ length first + length zeros = length-append first zeros in
+    let ends : length held + length (take c.min.result piece) ≡ length held + length second = search rules in
+    let begins : length held ≤ length (first ++ zeros) = omega arith in
+    let enough : (length piece ≤ c.min.result) ⊎ (4 - length held ≤ c.min.result) = ⊎_elim
+    (λ (few : length piece < 4 - length held). inl (omega (arith, few, c.min.ensures)))
+    (λ (many : 4 - length held ≤ length piece). inr (omega (arith, many, c.min.ensures)))
+    (cases_lt (length piece) (4 - length held)) in
+    take-put_mid (length held) (length held + length (take c.min.result piece) - length held) (first ++ zeros) second _ ends begins
+    ∙ ap₂ (λ f b. f ++ b) (take_at first zeros (length held) same ∙ front) behind
+    ∙ seam_bytes held piece c.min.result (omega (arith, c.requires)) (omega (arith, c.min.ensures)) enough

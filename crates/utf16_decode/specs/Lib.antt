@@ -1,0 +1,6 @@
+pub mod WellFormed
+pub mod Decodes
+pub mod Wrote
+pub mod Stops
+pub mod Shown
+pub mod Stream

@@ -1,0 +1,184 @@
+//! From one encoding to the other, up to the first fault or as far as whole characters fit.
+
+ghost use Rattle.std.specs.Prelude.{◌≡◌, ◌≤◌, ◌<◌, ◌+◌, ◌-◌, ◌++◌, ℕ, List, Option, [], IfErr, IfOk, IfSome, None, length, take, drop};
+ghost use Rattle.std.specs.Char.{IsScalar};
+ghost use Rattle.utf16_decode.specs.Stops.{BeginsWith, Stops, StopsAt};
+ghost use Rattle.utf16_decode.specs.Wrote.{Gives, Joins, Puts, Wrote};
+
+use crate::progress::{Progress, Stop, put};
+
+// How many bytes are tested and then written at once: what is tested is still near when it is written.
+const PIECE: usize = 8192;
+
+// How many bytes are written at once through a buffer in the frame, and its size: what `write` wants for them in both directions.
+const FEW: usize = 128;
+
+const FEW_ROOM: usize = 320;
+
+// From so much room on, pieces are written where they are wanted.
+const MUCH: usize = 512;
+
+/// One of the two directions: how the bytes of one encoding are tested, and how a text is written in the other.
+pub trait Direction {
+    // The bytes of a character in the one encoding, and in the other.
+    ghost from: { ℕ → List ℕ };
+
+    ghost into: { ℕ → List ℕ };
+
+    // Whether bytes are a text in the one encoding, and the bytes of that text in the other.
+    ghost IsValid: { List ℕ → Type 0 };
+
+    ghost other: { List ℕ → List ℕ };
+
+    // What stands where no character begins, and what stands behind the longest valid beginning, by their `error_len`.
+    ghost IsFaultAt: { List ℕ → Option ℕ → Type 0 };
+
+    ghost IsFault: { List ℕ → ℕ → Option ℕ → Type 0 };
+
+    // How many bytes of room `write` wants for so many bytes.
+    ghost room_for: { ℕ → ℕ };
+
+    /// How many bytes at the front are valid: those before the first fault.
+    fn valid_len(bytes: &[u8]) -> usize
+        ensures within { result ≤ length bytes.now }
+        ensures valid { IsValid (take result bytes.now) };
+
+    /// How many bytes the character at the front has, or the `error_len` of what stands there.
+    fn first_len(rest: &[u8]) -> Result<usize, Option<u8>>
+        requires { 0 < length rest.now }
+        ensures char { IfOk result (BeginsWith from rest.now) }
+        ensures fault { IfErr result (IsFaultAt rest.now) };
+
+    /// How many bytes have enough room, whatever they are.
+    fn most(room: usize) -> usize
+        requires { 512 ≤ room }
+        ensures { room_for result ≤ room };
+
+    /// Writes a text in the other encoding to the front of a buffer, and returns how many bytes were written.
+    fn write(text: &[u8], to: &mut [u8]) -> usize
+        requires text { IsValid text.now }
+        requires room { room_for (length text.now) ≤ length to.old }
+        ensures bytes { take result to.new ≡ other text.now }
+        ensures len { result ≡ length (other text.now) };
+
+    /// What the proof of `transcode` rests on: fewer bytes want no more room, and a few have enough in the frame; two texts are a
+    /// text, and so is each character; a fault behind a text is one of the whole. It does nothing.
+    fn laws()
+        ensures grows { (m n : ℕ) → m ≤ n → room_for m ≤ room_for n }
+        ensures fits { room_for 128 ≤ 320 }
+        ensures empty { Gives IsValid other [] [] }
+        ensures joins { Joins (Gives IsValid other) }
+        ensures chars { (c : ℕ) → IsScalar c → Gives IsValid other (from c) (into c) }
+        ensures few { (c : ℕ) → IsScalar c → length (from c) ≤ 4 }
+        ensures faults { (input : List ℕ) (read : ℕ) (len : Option ℕ) → read < length input → IsValid (take read input)
+            → IsFaultAt (drop read input) len → IsFault input read len };
+}
+
+/// Writes what is valid in the other encoding to the front of a buffer, up to the first fault or as far as whole characters fit.
+pub fn transcode<D: Direction>(input: &[u8], to: &mut [u8]) -> Progress
+    ensures wrote { Wrote (Gives D.IsValid D.other) input.now to.new result.read result.written }
+    ensures stop { Stops D.from D.into D.IsFault input.now result.read (length to.new - result.written) result.stop }
+{
+    D::laws();
+    let mut read = 0;
+    let mut written = 0;
+    while read < input.len() {
+        let (len, end) = put_piece::<D>(&input[read..], to, written);
+        read += len;
+        written = end;
+        if read == input.len() {
+            break;
+        }
+        match put_char::<D>(&input[read..], to, written) {
+            Ok((len, end)) => {
+                read += len;
+                written = end;
+            }
+            Err(stop) => {
+                return Progress {
+                    read,
+                    written,
+                    stop,
+                };
+            }
+        }
+    }
+    Progress {
+        read,
+        written,
+        stop: Stop::Done,
+    }
+}
+
+// Writes some valid beginning of the bytes at a place: how many bytes of it were read, and where what was written ends. It may be
+// that nothing was.
+fn put_piece<D: Direction>(rest: &[u8], to: &mut [u8], at: usize) -> (usize, usize)
+    requires { at ≤ length to.old }
+    ensures { Puts (Gives D.IsValid D.other) rest.now to.old to.new at result.0 result.1 }
+{
+    D::laws();
+    let room = to.len() - at;
+    if room < MUCH {
+        return put_few::<D>(rest, to, at);
+    }
+    let most = D::most(room).min(PIECE).min(rest.len());
+    let len = D::valid_len(&rest[..most]);
+    if len == 0 {
+        return (0, at);
+    }
+    let written = D::write(&rest[..len], &mut to[at..]);
+    (len, at + written)
+}
+
+// The same of a few bytes, where they fit.
+fn put_few<D: Direction>(rest: &[u8], to: &mut [u8], at: usize) -> (usize, usize)
+    requires { at ≤ length to.old }
+    ensures { Puts (Gives D.IsValid D.other) rest.now to.old to.new at result.0 result.1 }
+{
+    D::laws();
+    let len = D::valid_len(&rest[..rest.len().min(FEW)]);
+    match put_text::<D>(&rest[..len], to, at) {
+        Some(end) => (len, end),
+        None => (0, at),
+    }
+}
+
+// Writes the first character at a place, or says why it cannot be.
+fn put_char<D: Direction>(rest: &[u8], to: &mut [u8], at: usize) -> Result<(usize, usize), Stop>
+    requires some { 0 < length rest.now }
+    requires place { at ≤ length to.old }
+    ensures wrote { IfOk result (λ r. Puts (Gives D.IsValid D.other) rest.now to.old to.new at r.0 r.1) }
+    ensures some { IfOk result (λ r. 0 < r.0) }
+    ensures stop { IfErr result (StopsAt D.from D.into D.IsFaultAt rest.now (length to.new - at)) }
+    ensures kept { IfErr result (λ _. to.new ≡ to.old) }
+{
+    D::laws();
+    let len = match D::first_len(rest) {
+        Ok(len) => len,
+        Err(Some(len)) => return Err(Stop::Fault(len)),
+        Err(None) => return Err(Stop::CutOff),
+    };
+    match put_text::<D>(&rest[..len], to, at) {
+        Some(end) => Ok((len, end)),
+        None => Err(Stop::NoRoom),
+    }
+}
+
+// Writes a few bytes of text at a place, where they fit, and returns where that ends.
+fn put_text<D: Direction>(text: &[u8], to: &mut [u8], at: usize) -> Option<usize>
+    requires text { D.IsValid text.now }
+    requires few { length text.now ≤ FEW }
+    requires place { at ≤ length to.old }
+    ensures room { IfSome result (λ end. end ≤ length to.new) }
+    ensures bytes { IfSome result (λ end. take end to.new ≡ take at to.old ++ D.other text.now) }
+    ensures full { result ≡ None → length to.new - at < length (D.other text.now) }
+    ensures kept { result ≡ None → to.new ≡ to.old }
+{
+    D::laws();
+    let mut buf = [0; FEW_ROOM];
+    let len = D::write(text, &mut buf);
+    if to.len() - at < len {
+        return None;
+    }
+    Some(put(&buf[..len], to, at))
+}

@@ -1,0 +1,108 @@
+//! Any bytes made well formed: U+FFFD in place of each surrogate without its partner, which is of the same length.
+
+ghost use Rattle.std.specs.Prelude.{◌≡◌, ◌+◌, ◌%◌, ◌≤◌, ◌++◌, ◌==◌, bit_and, drop, if◌then◌else◌, length, slice_index, take};
+ghost use Rattle.std.specs.List.{flat_map};
+ghost use Rattle.utf16_units.specs.Encoding.{Encodes, IsText, encode, units_of};
+ghost use Rattle.utf16_units.specs.Lanes.{HasLanes};
+ghost use Rattle.utf16_units.specs.Split.{marked, split_items, split_tail};
+ghost use Rattle.utf16_units.specs.Unit.{unit_bytes};
+ghost use Rattle.utf16_decode.specs.WellFormed.{well_formed_units};
+
+use std::simd::prelude::*;
+use utf16_units::blocks::{bytes16, units16};
+use utf16_units::{Utf16Order, is_leading_surrogate};
+
+/// Copies bytes of UTF-16 to the front of a buffer, with U+FFFD in place of each surrogate without its partner, and answers
+/// how many bytes that are: all but those at the end that more bytes could change, which are a last odd byte, and a leading
+/// surrogate with at most one byte after it. What is written is well formed, and each character of it stands where it or the
+/// surrogate stood. The caller proves that the buffer is as long as the bytes; what stands behind those written stays. One
+/// pass, by lanes.
+pub fn write_well_formed<E: Utf16Order>(raw: &[u8], to: &mut [u8]) -> usize
+    requires room { length raw.now ≤ length to.old }
+    ensures len { result + length (split_tail E.BIG raw.now) ≡ length raw.now }
+    ensures written { to.new ≡ encode E.BIG (marked (split_items E.BIG raw.now)) ++ drop result to.old }
+    ensures text { IsText E.BIG (take result to.new) }
+    ensures encoding { Encodes E.BIG (marked (split_items E.BIG raw.now)) (take result to.new) }
+{
+    let len = decided_len::<E>(raw);
+    write_units::<E>(&raw[..len], &mut to[..len]);
+    len
+}
+
+// How many bytes no more bytes could change.
+fn decided_len<E: Utf16Order>(raw: &[u8]) -> usize
+    ensures { result + length (split_tail E.BIG raw.now) ≡ length raw.now }
+{
+    let whole = raw.len() / 2 * 2;
+    if whole > 0 && is_leading_surrogate(E::read_unit([raw[whole - 2], raw[whole - 1]])) {
+        whole - 2
+    } else {
+        whole
+    }
+}
+
+// Writes whole units, by blocks of sixteen.
+fn write_units<E: Utf16Order>(raw: &[u8], to: &mut [u8])
+    requires even { length raw.now % 2 ≡ 0 }
+    requires room { length to.old ≡ length raw.now }
+    ensures { to.new ≡ flat_map (unit_bytes E.BIG) (well_formed_units 0 (units_of E.BIG raw.now) 0) }
+{
+    let mut at = 0;
+    let mut before = 0;
+    while raw.len() - at > 32 {
+        let units = units16::<E>(u8x32::from_slice(&raw[at..]));
+        let behind = E::read_unit([raw[at + 32], raw[at + 33]]);
+        bytes16::<E>(well_formed(before, units, behind)).copy_to_slice(&mut to[at..]);
+        before = units.to_array()[15];
+        at += 32;
+    }
+    write_rest::<E>(before, &raw[at..], &mut to[at..]);
+}
+
+// Writes a block of units at most, behind which none stands: those of a whole block, which zeros fill up.
+#[inline(always)]
+fn write_rest<E: Utf16Order>(before: u16, raw: &[u8], to: &mut [u8])
+    requires few { length raw.now ≤ 32 }
+    requires even { length raw.now % 2 ≡ 0 }
+    requires room { length to.old ≡ length raw.now }
+    ensures { to.new ≡ flat_map (unit_bytes E.BIG) (well_formed_units before (units_of E.BIG raw.now) 0) }
+{
+    let mut block = [0; 32];
+    block[..raw.len()].copy_from_slice(raw);
+    let units = units16::<E>(u8x32::from_array(block));
+    let written = bytes16::<E>(well_formed(before, units, 0)).to_array();
+    to.copy_from_slice(&written[..raw.len()]);
+}
+
+// The units of a block that stands between two other units, with U+FFFD in place of each surrogate without its partner.
+#[inline(always)]
+fn well_formed(before: u16, units: u16x16, behind: u16) -> u16x16
+    ensures len { length result ≡ 16 }
+    ensures units { result ≡ well_formed_units before units behind }
+{
+    let befores = u16x16::splat(before).shuffle(
+        units,
+        [
+            15, 16, 17, 18, 19, 20, 21, 22, 23, 24, 25, 26, 27, 28, 29, 30,
+        ],
+    );
+    let behinds = units.shuffle(
+        u16x16::splat(behind),
+        [1, 2, 3, 4, 5, 6, 7, 8, 9, 10, 11, 12, 13, 14, 15, 16],
+    );
+    let mark = u16x16::splat(0xFFFD);
+    let leading = where_class(behinds, 0xDC00, units, mark);
+    let trailing = where_class(befores, 0xD800, units, mark);
+    let others = where_class(units, 0xDC00, trailing, units);
+    where_class(units, 0xD800, leading, others)
+}
+
+// The lanes of `a` where those of `v` have these upper six bits, else of `b`.
+#[inline(always)]
+fn where_class(v: u16x16, class: u16, a: u16x16, b: u16x16) -> u16x16
+    ensures { HasLanes 16 result (λ i. if bit_and (slice_index v i) 0xFC00 == class then slice_index a i else slice_index b i) }
+{
+    (v & u16x16::splat(0xFC00))
+        .simd_eq(u16x16::splat(class))
+        .select(a, b)
+}

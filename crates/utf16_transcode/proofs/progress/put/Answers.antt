@@ -1,8 +1,0 @@
-use Rattle.std.proofs.Common.{◌+◌, ◌-◌, length, rules}
-use Rattle.std.proofs.lemmas.Slice.{drop-put_mid}
-use Rattle.utf16_transcode.proofs.progress.put.Goals as goal
-
-pub returns-clause-rest : goal.returns-clause-rest
-returns-clause-rest c =
-    let end = c.args.at + length c.args.bytes.now in
-    drop-put_mid c.args.at (end - c.args.at) c.args.to.now c.copy_from_slice.new.self end (search rules) (search rules) (search rules)
