@@ -1,0 +1,54 @@
+//! The parts of a line of a table.
+
+ghost use Rattle.std.specs.Prelude.{◌≡◌, ◌++◌, ◌∷◌, IfOk, IfSome, codes};
+
+use crate::trouble::Trouble;
+
+/// A case: what a line of a table says, word by word.
+#[derive(Clone, Copy, Drop)]
+pub struct Case<'a> {
+    /// What the case is called.
+    pub name: &'a str,
+    /// In which byte orders the call is made, and under which conditions.
+    pub how: &'a str,
+    /// The call.
+    pub call: &'a str,
+    /// The values on which it is made.
+    pub values: &'a [&'a str],
+    /// What it gives.
+    pub wanted: &'a [&'a str],
+}
+
+impl<'a> Case<'a> {
+    /// The case that the words of a line say: a name, how, a call, its values, `=`, and what it gives. `Form` where they are not
+    /// of that form.
+    pub fn read(words: &'a [&'a str]) -> Result<Self, Trouble>
+        ensures { IfOk result (λ case. (equals : _) × (equals.now ≡ codes "=") × (words.now
+            ≡ case.name ∷ case.how ∷ case.call ∷ case.values.now ++ equals ∷ case.wanted.now)) }
+    {
+        let (said, wanted) = around_equals(words).ok_or(Trouble::Form)?;
+        let [name, how, call, values @ ..] = said else {
+            return Err(Trouble::Form);
+        };
+        Ok(Case {
+            name,
+            how,
+            call,
+            values,
+            wanted,
+        })
+    }
+}
+
+// The words before the first `=`, and those behind it.
+fn around_equals<'a>(words: &'a [&'a str]) -> Option<(&'a [&'a str], &'a [&'a str])>
+    ensures { IfSome result (λ parts. (equals : _) × (equals.now ≡ codes "=")
+        × (words.now ≡ parts.0.now ++ equals ∷ parts.1.now)) }
+{
+    for (at, word) in words.iter().enumerate() {
+        if *word == "=" {
+            return Some((&words[..at], &words[at + 1..]));
+        }
+    }
+    None
+}

@@ -1,0 +1,129 @@
+//! In which byte orders a case is run, and under which conditions.
+
+use crate::trouble::Trouble;
+use crate::values::{number_of, numbers_of};
+use std::alloc::Global;
+
+/// Which requests for memory a case has refused, counted from 0.
+#[derive(Clone, Copy, Debug, PartialEq, Eq, Drop)]
+pub enum Refuse {
+    Nothing,
+    One(u64),
+    From(u64),
+}
+
+/// What a device does at the one call at which it does not move bytes.
+#[derive(Clone, Copy, Debug, PartialEq, Eq, Drop)]
+pub enum Odd {
+    Fails,
+    IsInterrupted,
+    MovesNothing,
+}
+
+/// How a reader or a writer answers its calls.
+#[derive(Drop)]
+pub struct Device {
+    /// How many bytes it moves at most, call by call, round and round. With none it moves all.
+    pub sizes: Vec<usize>,
+    /// The call at which it does something else, counted from 1. At 0 there is none.
+    pub odd_at: usize,
+    /// What it does there.
+    pub odd: Odd,
+}
+
+impl Device {
+    /// One that moves all that it is offered.
+    fn new(alloc: Global) -> Self {
+        Device {
+            sizes: Vec::new(alloc),
+            odd_at: 0,
+            odd: Odd::Fails,
+        }
+    }
+
+    // Reads what it does at its odd call, as `fails@3`.
+    fn read_odd(&mut self, word: &str) -> Result<(), Trouble> {
+        let (odd, at) = word.split_once('@').ok_or(Trouble::Form)?;
+        self.odd = match odd {
+            "fails" => Odd::Fails,
+            "interrupted" => Odd::IsInterrupted,
+            "nothing" => Odd::MovesNothing,
+            _ => return Err(Trouble::Form),
+        };
+        self.odd_at = number_of(at)?;
+        Ok(())
+    }
+}
+
+/// In which byte orders a case is run, and under which conditions.
+#[derive(Drop)]
+pub struct How {
+    /// Whether it is run in little endian.
+    pub little: bool,
+    /// Whether it is run in big endian.
+    pub big: bool,
+    /// The requests that are refused.
+    pub refuse: Refuse,
+    /// For how many bytes a string has room before the call, at least.
+    pub room: usize,
+    /// Whether the answer ends with how many requests for memory were made.
+    pub counted: bool,
+    /// The reader.
+    pub reads: Device,
+    /// The writer.
+    pub writes: Device,
+}
+
+impl How {
+    /// What a word says: `le`, `be` or `both`, and each condition behind a `;`: `refuse=2`, `refuse=2..`, `room=8`, `counted`,
+    /// `reads=1,2`, `writes=1,2`, `read=fails@3`, `write=nothing@1`.
+    pub fn read(alloc: Global, word: &str) -> Result<Self, Trouble> {
+        let mut parts = word.split(';');
+        let (little, big) = match parts.next() {
+            Some("le") => (true, false),
+            Some("be") => (false, true),
+            Some("both") => (true, true),
+            _ => return Err(Trouble::Form),
+        };
+        let mut how = How {
+            little,
+            big,
+            refuse: Refuse::Nothing,
+            room: 0,
+            counted: false,
+            reads: Device::new(alloc),
+            writes: Device::new(alloc),
+        };
+        for part in parts {
+            how.add(alloc, part)?;
+        }
+        Ok(how)
+    }
+
+    // Adds a condition.
+    fn add(&mut self, alloc: Global, part: &str) -> Result<(), Trouble> {
+        if part == "counted" {
+            self.counted = true;
+            return Ok(());
+        }
+        let (name, value) = part.split_once('=').ok_or(Trouble::Form)?;
+        match name {
+            "refuse" => self.refuse = refuse_of(value)?,
+            "room" => self.room = number_of(value)?,
+            "reads" => self.reads.sizes = numbers_of(alloc, value)?,
+            "writes" => self.writes.sizes = numbers_of(alloc, value)?,
+            "read" => self.reads.read_odd(value)?,
+            "write" => self.writes.read_odd(value)?,
+            _ => return Err(Trouble::Form),
+        }
+        Ok(())
+    }
+}
+
+// Which requests are refused: `2`, or `2..`.
+fn refuse_of(word: &str) -> Result<Refuse, Trouble> {
+    match word.strip_suffix("..") {
+        Some(first) => Ok(Refuse::From(number_of(first)? as u64)),
+        None => Ok(Refuse::One(number_of(word)? as u64)),
+    }
+}

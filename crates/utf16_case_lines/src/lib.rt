@@ -1,0 +1,16 @@
+//! A line of a table of cases: the words that it has, the values that they spell, and what a call gave written in the same
+//! words.
+#![tactic(auto)]
+
+mod answer;
+mod case;
+mod escapes;
+mod how;
+mod trouble;
+mod values;
+
+pub use crate::answer::Answer;
+pub use crate::case::Case;
+pub use crate::how::{Device, How, Odd, Refuse};
+pub use crate::trouble::Trouble;
+pub use crate::values::Values;

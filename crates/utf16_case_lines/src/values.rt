@@ -1,0 +1,127 @@
+//! The values of a case, read from their words.
+
+use crate::escapes::unescape;
+use crate::trouble::Trouble;
+use std::alloc::Global;
+
+/// The values of a case that are not yet taken.
+#[derive(Drop)]
+pub struct Values<'a> {
+    left: &'a [&'a str],
+}
+
+impl<'a> Values<'a> {
+    /// All of them.
+    pub fn new(words: &'a [&'a str]) -> Self {
+        Values { left: words }
+    }
+
+    /// Takes the next one, as it is spelled.
+    pub fn word(&mut self) -> Result<&'a str, Trouble> {
+        let [word, left @ ..] = self.left else {
+            return Err(Trouble::Value);
+        };
+        self.left = left;
+        Ok(*word)
+    }
+
+    /// Refuses a value that is left.
+    pub fn end(&self) -> Result<(), Trouble> {
+        if self.left.is_empty() {
+            Ok(())
+        } else {
+            Err(Trouble::Value)
+        }
+    }
+
+    /// Takes a number.
+    pub fn number(&mut self) -> Result<usize, Trouble> {
+        number_of(self.word()?)
+    }
+
+    /// Takes a text in double quotes.
+    pub fn text(&mut self, alloc: Global) -> Result<String, Trouble> {
+        quoted(alloc, self.word()?, '"')
+    }
+
+    /// Takes a character in single quotes.
+    pub fn character(&mut self, alloc: Global) -> Result<char, Trouble> {
+        let text = quoted(alloc, self.word()?, '\'')?;
+        let mut chars = text.chars();
+        let c = chars.next().ok_or(Trouble::Value)?;
+        match chars.next() {
+            None => Ok(c),
+            Some(_) => Err(Trouble::Value),
+        }
+    }
+
+    /// Takes bytes, in hex, as `~` and a text in double quotes for its UTF-16 in this byte order, or `-` for none.
+    pub fn bytes(&mut self, alloc: Global, is_big: bool) -> Result<Vec<u8>, Trouble> {
+        bytes_of(alloc, self.word()?, is_big)
+    }
+
+    /// Takes bytes in pieces, with a comma between.
+    pub fn pieces(&mut self, alloc: Global, is_big: bool) -> Result<Vec<Vec<u8>>, Trouble> {
+        let mut pieces = Vec::new(alloc);
+        for piece in self.word()?.split(',') {
+            pieces
+                .push(bytes_of(alloc, piece, is_big)?)
+                .map_err(|_| Trouble::Memory)?;
+        }
+        Ok(pieces)
+    }
+}
+
+/// The number that a word spells: decimal digits, hex digits behind `0x`, or `max` for the greatest `usize`.
+pub fn number_of(word: &str) -> Result<usize, Trouble> {
+    if word == "max" {
+        return Ok(usize::MAX);
+    }
+    let number = match word.strip_prefix("0x") {
+        Some(digits) => usize::from_str_radix(digits, 16),
+        None => word.parse::<usize>(),
+    };
+    number.map_err(|_| Trouble::Value)
+}
+
+// The text between two of these quotes.
+fn quoted(alloc: Global, word: &str, quote: char) -> Result<String, Trouble> {
+    let spelled = word
+        .strip_prefix(quote)
+        .and_then(|rest| rest.strip_suffix(quote));
+    unescape(alloc, spelled.ok_or(Trouble::Value)?)
+}
+
+/// The bytes that a word spells.
+pub fn bytes_of(alloc: Global, word: &str, is_big: bool) -> Result<Vec<u8>, Trouble> {
+    if word == "-" {
+        return Ok(Vec::new(alloc));
+    }
+    if let Some(text) = word.strip_prefix('~') {
+        return encoded(alloc, quoted(alloc, text, '"')?.as_str(), is_big);
+    }
+    hex::decode(alloc, word).map_err(|_| Trouble::Value)
+}
+
+// A text's UTF-16.
+fn encoded(alloc: Global, text: &str, is_big: bool) -> Result<Vec<u8>, Trouble> {
+    let mut bytes = Vec::new(alloc);
+    for unit in text.encode_utf16() {
+        let pair = if is_big {
+            unit.to_be_bytes()
+        } else {
+            unit.to_le_bytes()
+        };
+        bytes.extend_from_slice(&pair)?;
+    }
+    Ok(bytes)
+}
+
+/// The numbers that a word spells, with a comma between.
+pub fn numbers_of(alloc: Global, word: &str) -> Result<Vec<usize>, Trouble> {
+    let mut numbers = Vec::new(alloc);
+    for part in word.split(',') {
+        numbers.push(number_of(part)?).map_err(|_| Trouble::Memory)?;
+    }
+    Ok(numbers)
+}
