@@ -38,8 +38,9 @@ pub trait Direction {
     // How many bytes of room `write` wants for so many bytes.
     ghost room_for: { ℕ → ℕ };
 
-    /// How many bytes at the front are valid: those before the first fault.
-    fn valid_len(bytes: &[u8]) -> usize
+    /// How many bytes at the front are valid: those before the first fault. As many valid bytes as `before` says stand before them:
+    /// so many may be looked at behind a fault.
+    fn valid_len(bytes: &[u8], before: usize) -> usize
         ensures within { result ≤ length bytes.now }
         ensures valid { IsValid (take result bytes.now) };
 
@@ -83,7 +84,7 @@ pub fn transcode<D: Direction>(input: &[u8], to: &mut [u8]) -> Progress
     let mut read = 0;
     let mut written = 0;
     while read < input.len() {
-        let (len, end) = put_piece::<D>(&input[read..], to, written);
+        let (len, end) = put_piece::<D>(&input[read..], read, to, written);
         read += len;
         written = end;
         if read == input.len() {
@@ -111,8 +112,8 @@ pub fn transcode<D: Direction>(input: &[u8], to: &mut [u8]) -> Progress
 }
 
 // Writes some valid beginning of the bytes at a place: how many bytes of it were read, and where what was written ends. It may be
-// that nothing was.
-fn put_piece<D: Direction>(rest: &[u8], to: &mut [u8], at: usize) -> (usize, usize)
+// that nothing was. As many valid bytes as `before` says stand before them.
+fn put_piece<D: Direction>(rest: &[u8], before: usize, to: &mut [u8], at: usize) -> (usize, usize)
     requires { at ≤ length to.old }
     ensures { Puts (Gives D.IsValid D.other) rest.now to.old to.new at result.0 result.1 }
 {
@@ -122,7 +123,7 @@ fn put_piece<D: Direction>(rest: &[u8], to: &mut [u8], at: usize) -> (usize, usi
         return put_few::<D>(rest, to, at);
     }
     let most = D::most(room).min(PIECE).min(rest.len());
-    let len = D::valid_len(&rest[..most]);
+    let len = D::valid_len(&rest[..most], before);
     if len == 0 {
         return (0, at);
     }
@@ -136,7 +137,7 @@ fn put_few<D: Direction>(rest: &[u8], to: &mut [u8], at: usize) -> (usize, usize
     ensures { Puts (Gives D.IsValid D.other) rest.now to.old to.new at result.0 result.1 }
 {
     D::laws();
-    let len = D::valid_len(&rest[..rest.len().min(FEW)]);
+    let len = D::valid_len(&rest[..rest.len().min(FEW)], 0);
     match put_text::<D>(&rest[..len], to, at) {
         Some(end) => (len, end),
         None => (0, at),

@@ -44,7 +44,7 @@ impl<E: Utf16Order> Direction for ToUtf8<E> {
     fn laws() {}
 
     #[inline(always)]
-    fn valid_len(bytes: &[u8]) -> usize {
+    fn valid_len(bytes: &[u8], _before: usize) -> usize {
         match validate_raw_utf16::<E>(bytes) {
             Ok(()) => bytes.len(),
             Err(error) => error.valid_up_to(),

@@ -119,3 +119,10 @@ no_char rest m is none c more scalar e =
 pub valid_more : (text : List ℕ) (valid n : ℕ) → IsUtf8 (take valid text) → IsUtf8 (take n (rest_from text valid)) → IsUtf8 (take (valid + n) text)
 valid_more text valid n first second =
     subst IsUtf8 (sym (take-add valid n text)) (IsUtf8-append (take valid text) (take n (drop valid text)) first (subst (λ r. IsUtf8 (take n r)) (take_rest text valid) second))
+
+-- the same of a beginning of what is tested at once
+pub valid_part : (text : List ℕ) (valid len n : ℕ) → IsUtf8 (take valid text) → n ≤ length (take len (rest_from text valid))
+    → IsUtf8 (take n (take len (rest_from text valid))) → IsUtf8 (take (valid + n) text)
+valid_part text valid len n first within second =
+    let rest = rest_from text valid in
+    valid_more text valid n first (subst IsUtf8 (take-take n len rest (omega (arith, within, length-take len rest))) second)

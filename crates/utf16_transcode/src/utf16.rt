@@ -13,9 +13,9 @@ use utf16_decode::{Direction, Progress, transcode};
 use utf16_from_utf8::write_units;
 use utf16_units::Utf16Order;
 
-// How many bytes are tested first, and how many times as many behind each part that is valid: the test of a part goes to its end
-// before it looks for the fault.
-const FIRST: usize = 16;
+// How many bytes are tested first where few stand before them, and how many times as many behind each part that is valid: the test
+// of 64 bytes or more goes to their end before it looks for the fault, that of fewer stops at it.
+const FIRST: usize = 63;
 
 const GROWTH: usize = 32;
 
@@ -50,8 +50,8 @@ impl<E: Utf16Order> Direction for FromUtf8<E> {
     fn laws() {}
 
     #[inline(always)]
-    fn valid_len(bytes: &[u8]) -> usize {
-        valid_len(bytes)
+    fn valid_len(bytes: &[u8], before: usize) -> usize {
+        valid_len(bytes, before)
     }
 
     #[inline(always)]
@@ -70,23 +70,38 @@ impl<E: Utf16Order> Direction for FromUtf8<E> {
     }
 }
 
-// The length of the longest valid beginning.
-fn valid_len(text: &[u8]) -> usize
+// The length of the longest valid beginning. As many valid bytes as `before` says stand before it.
+fn valid_len(text: &[u8], before: usize) -> usize
     ensures within { result ≤ length text.now }
     ensures text { IsUtf8 (take result text.now) }
 {
+    if text.len() <= FIRST {
+        return tested_len(text);
+    }
     let mut valid = 0;
-    let mut part = FIRST;
+    let mut part = before.max(FIRST);
     while valid < text.len() {
         let rest = &text[valid..];
         let len = part_len(rest, part);
-        match simdutf8::compat::from_utf8(&rest[..len]) {
-            Ok(_) => valid += len,
-            Err(error) => return valid + error.valid_up_to(),
+        let tested = tested_len(&rest[..len]);
+        valid += tested;
+        if tested < len {
+            return valid;
         }
         part = part.saturating_mul(GROWTH);
     }
     valid
+}
+
+// The same, where all is tested at once.
+fn tested_len(text: &[u8]) -> usize
+    ensures within { result ≤ length text.now }
+    ensures text { IsUtf8 (take result text.now) }
+{
+    match simdutf8::compat::from_utf8(text) {
+        Ok(_) => text.len(),
+        Err(error) => error.valid_up_to(),
+    }
 }
 
 // How many bytes at the front to test at once: at most so many, and of more than four the last character is left for the next

@@ -1,0 +1,71 @@
+//! Units, byte orders and one character.
+
+use std::alloc::Global;
+use utf16_case_lines::{Answer, Trouble, Values};
+use utf16_units::{Utf16CharExt, decode_surrogates, is_leading_surrogate, is_trailing_surrogate, validate_raw_utf16};
+use utf16string::Utf16Order;
+
+pub fn call<E: Utf16Order>(
+    alloc: Global,
+    name: &str,
+    values: &mut Values,
+    answer: &mut Answer,
+) -> Result<(), Trouble> {
+    match name {
+        "is_leading_surrogate" => answer.truth(is_leading_surrogate(unit(values)?))?,
+        "is_trailing_surrogate" => answer.truth(is_trailing_surrogate(unit(values)?))?,
+        "decode_surrogates" => pair(values, answer)?,
+        "Utf16Order::read_unit" => read_unit::<E>(alloc, values, answer)?,
+        "Utf16Order::write_unit" => answer.bytes(&E::write_unit(unit(values)?))?,
+        "Utf16CharExt::encoded_utf16_len" => answer.number(values.character(alloc)?.encoded_utf16_len())?,
+        "Utf16CharExt::encode_utf16_into" => encode_utf16_into::<E>(alloc, values, answer)?,
+        "validate_raw_utf16" => validate::<E>(alloc, values, answer)?,
+        _ => return Err(Trouble::Call),
+    }
+    values.end()
+}
+
+// A code unit.
+fn unit(values: &mut Values) -> Result<u16, Trouble> {
+    u16::try_from(values.number()?).map_err(|_| Trouble::Value)
+}
+
+fn pair(values: &mut Values, answer: &mut Answer) -> Result<(), Trouble> {
+    let leading = unit(values)?;
+    let trailing = unit(values)?;
+    if !is_leading_surrogate(leading) || !is_trailing_surrogate(trailing) {
+        return Err(Trouble::Condition);
+    }
+    answer.character(decode_surrogates(leading, trailing))?;
+    Ok(())
+}
+
+fn read_unit<E: Utf16Order>(alloc: Global, values: &mut Values, answer: &mut Answer) -> Result<(), Trouble> {
+    let bytes = values.bytes(alloc, E::BIG)?;
+    let [first, second] = bytes.as_slice() else {
+        return Err(Trouble::Value);
+    };
+    answer.number(E::read_unit([*first, *second]) as usize)?;
+    Ok(())
+}
+
+// The buffer as the call leaves it, behind how many bytes were written.
+fn encode_utf16_into<E: Utf16Order>(alloc: Global, values: &mut Values, answer: &mut Answer) -> Result<(), Trouble> {
+    let c = values.character(alloc)?;
+    let mut buf = values.bytes(alloc, E::BIG)?;
+    if buf.len() < c.encoded_utf16_len() {
+        return Err(Trouble::Condition);
+    }
+    answer.number(c.encode_utf16_into::<E>(&mut buf))?;
+    answer.bytes(&buf)?;
+    Ok(())
+}
+
+fn validate<E: Utf16Order>(alloc: Global, values: &mut Values, answer: &mut Answer) -> Result<(), Trouble> {
+    let bytes = values.bytes(alloc, E::BIG)?;
+    match validate_raw_utf16::<E>(&bytes) {
+        Ok(()) => answer.word("done")?,
+        Err(error) => crate::made::refused(answer, error)?,
+    }
+    Ok(())
+}
