@@ -6,11 +6,13 @@ mod answer;
 mod case;
 mod escapes;
 mod how;
+mod span;
 mod trouble;
 mod values;
 
 pub use crate::answer::Answer;
 pub use crate::case::Case;
 pub use crate::how::{Device, How, Odd, Refuse};
+pub use crate::span::{By, Span};
 pub use crate::trouble::Trouble;
-pub use crate::values::Values;
+pub use crate::values::{Values, number_of};

@@ -5,7 +5,6 @@ mod compared;
 mod made;
 mod measures;
 mod parts;
-mod ranges;
 mod shown;
 mod units;
 mod walks;

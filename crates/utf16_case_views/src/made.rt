@@ -1,5 +1,8 @@
 //! Views made from bytes.
 
+ghost use Rattle.std.specs.Prelude.{IsOk};
+ghost use Rattle.utf16_units.specs.Encoding.{IsText};
+
 use std::alloc::Global;
 use utf16_case_lines::{Answer, Trouble, Values};
 use utf16string::{BigEndian, LittleEndian, Utf16Error, Utf16Order, WStr};
@@ -25,8 +28,13 @@ pub fn call<E: Utf16Order>(
 }
 
 /// The view over bytes, which the table means to be text.
-pub fn view<E: Utf16Order>(raw: &[u8]) -> Result<WStr<'_, E>, Trouble> {
-    WStr::from_utf16(raw).map_err(|_| Trouble::Condition)
+pub fn view<E: Utf16Order>(raw: &[u8]) -> Result<WStr<'_, E>, Trouble>
+    ensures { IsOk result → IsText E.BIG raw.now }
+{
+    match WStr::from_utf16(raw) {
+        Ok(text) => Ok(text),
+        Err(_) => Err(Trouble::Condition),
+    }
 }
 
 /// Adds the fields of an error.
@@ -40,14 +48,21 @@ pub fn refused(answer: &mut Answer, error: Utf16Error) -> Result<(), Trouble> {
     Ok(())
 }
 
-fn made<E: Utf16Order>(answer: &mut Answer, made: Result<WStr<E>, Utf16Error>) -> Result<(), Trouble> {
+fn made<E: Utf16Order>(
+    answer: &mut Answer,
+    made: Result<WStr<E>, Utf16Error>,
+) -> Result<(), Trouble> {
     match made {
         Ok(text) => Ok(answer.bytes(text.as_bytes())?),
         Err(error) => refused(answer, error),
     }
 }
 
-fn from_utf16<E: Utf16Order>(alloc: Global, values: &mut Values, answer: &mut Answer) -> Result<(), Trouble> {
+fn from_utf16<E: Utf16Order>(
+    alloc: Global,
+    values: &mut Values,
+    answer: &mut Answer,
+) -> Result<(), Trouble> {
     let raw = values.bytes(alloc, E::BIG)?;
     made::<E>(answer, WStr::from_utf16(&raw))
 }
@@ -62,28 +77,44 @@ fn from_utf16be(alloc: Global, values: &mut Values, answer: &mut Answer) -> Resu
     made(answer, WStr::from_utf16be(&raw))
 }
 
-fn from_utf16_unchecked<E: Utf16Order>(alloc: Global, values: &mut Values, answer: &mut Answer) -> Result<(), Trouble> {
+fn from_utf16_unchecked<E: Utf16Order>(
+    alloc: Global,
+    values: &mut Values,
+    answer: &mut Answer,
+) -> Result<(), Trouble> {
     let raw = values.bytes(alloc, E::BIG)?;
     view::<E>(&raw)?;
     answer.bytes(WStr::<E>::from_utf16_unchecked(&raw).as_bytes())?;
     Ok(())
 }
 
-fn from_utf16le_unchecked(alloc: Global, values: &mut Values, answer: &mut Answer) -> Result<(), Trouble> {
+fn from_utf16le_unchecked(
+    alloc: Global,
+    values: &mut Values,
+    answer: &mut Answer,
+) -> Result<(), Trouble> {
     let raw = values.bytes(alloc, false)?;
     view::<LittleEndian>(&raw)?;
     answer.bytes(WStr::from_utf16le_unchecked(&raw).as_bytes())?;
     Ok(())
 }
 
-fn from_utf16be_unchecked(alloc: Global, values: &mut Values, answer: &mut Answer) -> Result<(), Trouble> {
+fn from_utf16be_unchecked(
+    alloc: Global,
+    values: &mut Values,
+    answer: &mut Answer,
+) -> Result<(), Trouble> {
     let raw = values.bytes(alloc, true)?;
     view::<BigEndian>(&raw)?;
     answer.bytes(WStr::from_utf16be_unchecked(&raw).as_bytes())?;
     Ok(())
 }
 
-fn clone<E: Utf16Order>(alloc: Global, values: &mut Values, answer: &mut Answer) -> Result<(), Trouble> {
+fn clone<E: Utf16Order>(
+    alloc: Global,
+    values: &mut Values,
+    answer: &mut Answer,
+) -> Result<(), Trouble> {
     let raw = values.bytes(alloc, E::BIG)?;
     let cloned: Result<_, _> = view::<E>(&raw)?.clone();
     answer.bytes(cloned?.as_bytes())?;
@@ -91,7 +122,11 @@ fn clone<E: Utf16Order>(alloc: Global, values: &mut Values, answer: &mut Answer)
 }
 
 // The words of the error that the bytes have.
-fn shown<E: Utf16Order>(alloc: Global, values: &mut Values, answer: &mut Answer) -> Result<(), Trouble> {
+fn shown<E: Utf16Order>(
+    alloc: Global,
+    values: &mut Values,
+    answer: &mut Answer,
+) -> Result<(), Trouble> {
     let raw = values.bytes(alloc, E::BIG)?;
     match WStr::<E>::from_utf16(&raw) {
         Ok(_) => Err(Trouble::Condition),

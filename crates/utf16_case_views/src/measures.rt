@@ -35,14 +35,22 @@ pub fn call<E: Utf16Order>(
     values.end()
 }
 
-fn is_char_boundary<E: Utf16Order>(alloc: Global, values: &mut Values, answer: &mut Answer) -> Result<(), Trouble> {
+fn is_char_boundary<E: Utf16Order>(
+    alloc: Global,
+    values: &mut Values,
+    answer: &mut Answer,
+) -> Result<(), Trouble> {
     let raw = values.bytes(alloc, E::BIG)?;
     let index = values.number()?;
     answer.truth(view::<E>(&raw)?.is_char_boundary(index))?;
     Ok(())
 }
 
-fn fits<E: Utf16Order>(alloc: Global, values: &mut Values, answer: &mut Answer) -> Result<(), Trouble> {
+fn fits<E: Utf16Order>(
+    alloc: Global,
+    values: &mut Values,
+    answer: &mut Answer,
+) -> Result<(), Trouble> {
     let raw = values.bytes(alloc, E::BIG)?;
     let index = values.number()?;
     let part = values.bytes(alloc, E::BIG)?;

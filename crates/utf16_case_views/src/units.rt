@@ -2,7 +2,10 @@
 
 use std::alloc::Global;
 use utf16_case_lines::{Answer, Trouble, Values};
-use utf16_units::{Utf16CharExt, decode_surrogates, is_leading_surrogate, is_trailing_surrogate, validate_raw_utf16};
+use utf16_units::{
+    Utf16CharExt, decode_surrogates, is_leading_surrogate, is_trailing_surrogate,
+    validate_raw_utf16,
+};
 use utf16string::Utf16Order;
 
 pub fn call<E: Utf16Order>(
@@ -17,7 +20,9 @@ pub fn call<E: Utf16Order>(
         "decode_surrogates" => pair(values, answer)?,
         "Utf16Order::read_unit" => read_unit::<E>(alloc, values, answer)?,
         "Utf16Order::write_unit" => answer.bytes(&E::write_unit(unit(values)?))?,
-        "Utf16CharExt::encoded_utf16_len" => answer.number(values.character(alloc)?.encoded_utf16_len())?,
+        "Utf16CharExt::encoded_utf16_len" => answer.number(
+            values.character(alloc)?.encoded_utf16_len(),
+        )?,
         "Utf16CharExt::encode_utf16_into" => encode_utf16_into::<E>(alloc, values, answer)?,
         "validate_raw_utf16" => validate::<E>(alloc, values, answer)?,
         _ => return Err(Trouble::Call),
@@ -40,7 +45,11 @@ fn pair(values: &mut Values, answer: &mut Answer) -> Result<(), Trouble> {
     Ok(())
 }
 
-fn read_unit<E: Utf16Order>(alloc: Global, values: &mut Values, answer: &mut Answer) -> Result<(), Trouble> {
+fn read_unit<E: Utf16Order>(
+    alloc: Global,
+    values: &mut Values,
+    answer: &mut Answer,
+) -> Result<(), Trouble> {
     let bytes = values.bytes(alloc, E::BIG)?;
     let [first, second] = bytes.as_slice() else {
         return Err(Trouble::Value);
@@ -50,7 +59,11 @@ fn read_unit<E: Utf16Order>(alloc: Global, values: &mut Values, answer: &mut Ans
 }
 
 // The buffer as the call leaves it, behind how many bytes were written.
-fn encode_utf16_into<E: Utf16Order>(alloc: Global, values: &mut Values, answer: &mut Answer) -> Result<(), Trouble> {
+fn encode_utf16_into<E: Utf16Order>(
+    alloc: Global,
+    values: &mut Values,
+    answer: &mut Answer,
+) -> Result<(), Trouble> {
     let c = values.character(alloc)?;
     let mut buf = values.bytes(alloc, E::BIG)?;
     if buf.len() < c.encoded_utf16_len() {
@@ -61,7 +74,11 @@ fn encode_utf16_into<E: Utf16Order>(alloc: Global, values: &mut Values, answer: 
     Ok(())
 }
 
-fn validate<E: Utf16Order>(alloc: Global, values: &mut Values, answer: &mut Answer) -> Result<(), Trouble> {
+fn validate<E: Utf16Order>(
+    alloc: Global,
+    values: &mut Values,
+    answer: &mut Answer,
+) -> Result<(), Trouble> {
     let bytes = values.bytes(alloc, E::BIG)?;
     match validate_raw_utf16::<E>(&bytes) {
         Ok(()) => answer.word("done")?,

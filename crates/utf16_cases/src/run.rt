@@ -101,9 +101,9 @@ fn agrees<E: Utf16Order>(
 fn call<E: Utf16Order>(
     alloc: Global,
     case: &Case,
-    _how: &How,
+    how: &How,
     answer: &mut Answer,
 ) -> Result<(), Trouble> {
     let mut values = Values::new(case.values);
-    utf16_case_views::call::<E>(alloc, case.call, &mut values, answer)
+    utf16_case_views::call::<E>(alloc, case.call, how, &mut values, answer)
 }
