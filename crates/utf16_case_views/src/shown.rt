@@ -21,11 +21,6 @@ pub fn call<E: Utf16Order>(
             let text = view::<E>(&raw)?;
             answer.text(format!(in alloc; "{text}")?.as_str())?;
         }
-        "WStr::debug" => {
-            let raw = values.bytes(alloc, E::BIG)?;
-            let text = view::<E>(&raw)?;
-            answer.text(format!(in alloc; "{text:?}")?.as_str())?;
-        }
         _ => return Err(Trouble::Call),
     }
     values.end()
