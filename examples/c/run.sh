@@ -1,7 +1,7 @@
 #!/usr/bin/env bash
-# Builds the static library and the examples in C, in Python over a shared object, and in Rust, and runs each over table.txt. What
-# the machine lacks is left out with a line. The last line is 'N passed, M failed'. With --over-ci the library is built over the
-# libraries that rt ci has just proved.
+# Builds the static library and the examples in C, in Python over a shared object, and in Rust, and
+# runs each over table.txt. A tool that is missing is a failure. The last line is 'N passed, M
+# failed'. With --over-ci the library is built over the libraries that rt ci has just proved.
 set -uo pipefail
 here=$(cd "$(dirname "$0")" && pwd)
 top=$here/../..
@@ -31,12 +31,19 @@ count() {
     fi
 }
 
-# The static library. With --over-ci what rt ci left in out/ is taken as it stands, since rt lib would prove all of it once more.
-# Libraries that rt lib has kept have a stamp; rt lib sees by it whether they are those of today's text.
+# The static library, over what rt has kept of the crates below it.
 library() {
+    cd "$top/crates/utf16_c" && rt lib
+}
+
+# The static library over what rt ci has just proved. rt ci checks a static library and builds none,
+# and leaves those below it without the stamp by which rt lib would know them. So rt lib proves them
+# all once more, and no command of rt takes them as they are. This calls the compiler in rt's words
+# in its place, and is all that does so. Where an earlier rt lib left stamps, rt ci puts them back.
+library_over_ci() {
     local kit below words=()
     cd "$top/crates/utf16_c" || return 1
-    if [ "$1" != --over-ci ] || compgen -G '../*/out/rlib/stamp' > /dev/null; then
+    if compgen -G '../*/out/rlib/stamp' > /dev/null; then
         rt lib
         return
     fi
@@ -54,7 +61,10 @@ library() {
 }
 
 has() {
-    command -v "$1" > /dev/null || { echo "left out: $2, since this machine has no $1"; return 1; }
+    command -v "$1" > /dev/null && return
+    failed=$((failed + 1))
+    echo "failed: $2: there is no $1"
+    return 1
 }
 
 in_c() {
@@ -71,9 +81,8 @@ check_c() {
 
 # The program that decodes a file in pieces, on a text with a fault that is longer than a piece.
 decodes() {
-    local line
-    { printf '\xFE\xFF'; for line in {1..3000}; do printf '\0a\x4E\0'; done; printf '\xD8\0'; } | "$room/decode" auto > "$room/found"
-    { for line in {1..3000}; do printf 'a\xE4\xB8\x80'; done; printf '\xEF\xBF\xBD'; } | cmp - "$room/found"
+    { printf '\xFE\xFF'; for _ in {1..3000}; do printf '\0a\x4E\0'; done; printf '\xD8\0'; } | "$room/decode" auto > "$room/found"
+    { for _ in {1..3000}; do printf 'a\xE4\xB8\x80'; done; printf '\xEF\xBF\xBD'; } | cmp - "$room/found"
 }
 
 shared() {
@@ -93,7 +102,9 @@ check_rust() {
     "$room/rust/release/check" < "$here/table.txt"
 }
 
-(library "${1-}") > "$room/said" 2>&1 || { tail -n 20 "$room/said"; echo "0 passed, 1 failed"; exit 1; }
+built=library
+[ "${1-}" != --over-ci ] || built=library_over_ci
+("$built") > "$room/said" 2>&1 || { tail -n 20 "$room/said"; echo "0 passed, 1 failed"; exit 1; }
 if has cc 'C and Python'; then
     count 'the program in C' in_c decode && count 'a file in pieces' decodes
     count 'the check in C' in_c check && count 'the table in C' check_c
