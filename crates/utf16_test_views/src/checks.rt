@@ -18,16 +18,6 @@ pub fn holds(rt: &impl Abort, is: bool)
     assert!(rt; is);
 }
 
-/// The same in a row of a table, which a failure shows.
-pub fn equal_at<R: Debug, T: PartialEq + Debug + Drop>(
-    rt: &impl Abort,
-    row: &R,
-    found: T,
-    wanted: T,
-) {
-    assert_eq!(rt; found, wanted, "{row:?}");
-}
-
 /// A view of these bytes, which are text.
 pub fn view<'a, E: Utf16Order>(rt: &impl Abort, raw: &'a [u8]) -> WStr<'a, E> {
     WStr::from_utf16(raw).expect(rt, "text")

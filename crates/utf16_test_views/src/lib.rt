@@ -1,4 +1,4 @@
-//! Tests of views and of their iterators.
+//! Tests of views that no line of a table can say.
 #![tactic(auto)]
 
 #[cfg(test)]
