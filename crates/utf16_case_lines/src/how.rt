@@ -68,6 +68,8 @@ pub struct How {
     pub room: usize,
     /// Whether the answer ends with how many requests for memory were made.
     pub counted: bool,
+    /// Whether the answer names the capacity of the string that is left or made.
+    pub capacity: bool,
     /// The reader.
     pub reads: Device,
     /// The writer.
@@ -76,7 +78,7 @@ pub struct How {
 
 impl How {
     /// What a word says: `le`, `be` or `both`, and each condition behind a `;`: `refuse=2`, `refuse=2..`, `room=8`, `counted`,
-    /// `reads=1,2`, `writes=1,2`, `read=fails@3`, `write=nothing@1`.
+    /// `capacity`, `reads=1,2`, `writes=1,2`, `read=fails@3`, `write=nothing@1`.
     pub fn read(alloc: Global, word: &str) -> Result<Self, Trouble> {
         let mut parts = word.split(';');
         let (little, big) = match parts.next() {
@@ -91,6 +93,7 @@ impl How {
             refuse: Refuse::Nothing,
             room: 0,
             counted: false,
+            capacity: false,
             reads: Device::new(alloc),
             writes: Device::new(alloc),
         };
@@ -104,6 +107,10 @@ impl How {
     fn add(&mut self, alloc: Global, part: &str) -> Result<(), Trouble> {
         if part == "counted" {
             self.counted = true;
+            return Ok(());
+        }
+        if part == "capacity" {
+            self.capacity = true;
             return Ok(());
         }
         let (name, value) = part.split_once('=').ok_or(Trouble::Form)?;

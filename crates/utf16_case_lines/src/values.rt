@@ -25,6 +25,11 @@ impl<'a> Values<'a> {
         Ok(*word)
     }
 
+    /// How many are left.
+    pub fn count(&self) -> usize {
+        self.left.len()
+    }
+
     /// Refuses a value that is left.
     pub fn end(&self) -> Result<(), Trouble> {
         if self.left.is_empty() {
