@@ -1,0 +1,70 @@
+//! The calls of `WString`, as cases name them. The strings are made over an allocator that refuses
+//! what the case says and counts.
+#![tactic(auto)]
+
+mod bench;
+mod compared;
+mod cut;
+mod grown;
+mod made;
+mod parts;
+mod read;
+mod retained;
+mod written;
+
+pub use crate::bench::{Bench, Heap};
+use std::alloc::Global;
+use utf16_case_lines::{Answer, How, Trouble, Values};
+use utf16_testing::refusing::Refusing;
+use utf16string::Utf16Order;
+
+/// Makes a call on these values and adds what it gave, and `leaked` where memory was not given
+/// back. `Call` where no call of strings has this name.
+pub fn call<E: Utf16Order>(
+    alloc: Global,
+    name: &str,
+    how: &How,
+    values: &mut Values,
+    answer: &mut Answer,
+) -> Result<(), Trouble> {
+    let heap = Refusing::new(alloc);
+    let bench = Bench {
+        alloc,
+        heap: &heap,
+        how,
+    };
+    by_name::<E>(&bench, name, values, answer)?;
+    bench.end(answer)
+}
+
+// Makes a call of the first group that has its name.
+fn by_name<E: Utf16Order>(
+    bench: &Bench,
+    name: &str,
+    values: &mut Values,
+    answer: &mut Answer,
+) -> Result<(), Trouble> {
+    if name == "Extend::extend" {
+        return grown::extend_by_trait::<E>(bench, values, answer);
+    }
+    let Some(name) = name.strip_prefix("WString::") else {
+        return Err(Trouble::Call);
+    };
+    match made::call::<E>(bench, name, values, answer) {
+        Err(Trouble::Call) => {}
+        done => return done,
+    }
+    match grown::call::<E>(bench, name, values, answer) {
+        Err(Trouble::Call) => {}
+        done => return done,
+    }
+    match cut::call::<E>(bench, name, values, answer) {
+        Err(Trouble::Call) => {}
+        done => return done,
+    }
+    match read::call::<E>(bench, name, values, answer) {
+        Err(Trouble::Call) => {}
+        done => return done,
+    }
+    compared::call::<E>(bench, name, values, answer)
+}
