@@ -105,5 +105,13 @@ fn call<E: Utf16Order>(
     answer: &mut Answer,
 ) -> Result<(), Trouble> {
     let mut values = Values::new(case.values);
-    utf16_case_views::call::<E>(alloc, case.call, how, &mut values, answer)
+    match utf16_case_views::call::<E>(alloc, case.call, how, &mut values, answer) {
+        Err(Trouble::Call) => {}
+        done => return done,
+    }
+    match utf16_case_strings::call::<E>(alloc, case.call, how, &mut values, answer) {
+        Err(Trouble::Call) => {}
+        done => return done,
+    }
+    utf16_case_edits::call::<E>(alloc, case.call, how, &mut values, answer)
 }
