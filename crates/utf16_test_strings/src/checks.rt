@@ -1,10 +1,10 @@
-//! What the tests of this crate share: assertions, and strings made.
+//! What the tests of this crate share: assertions, and views made.
 
 ghost use Rattle.std.specs.Prelude.{IsTrue};
 
 use std::fmt::Debug;
 use std::process::Abort;
-use utf16string::{Utf16Order, WStr, WString};
+use utf16string::{Utf16Order, WStr};
 
 /// What is found is what is wanted.
 pub fn equal<T: PartialEq + Debug + Drop>(rt: &impl Abort, found: T, wanted: T) {
@@ -21,19 +21,4 @@ pub fn holds(rt: &impl Abort, is: bool)
 /// A view of these bytes, which are text.
 pub fn view<'a, E: Utf16Order>(rt: &impl Abort, raw: &'a [u8]) -> WStr<'a, E> {
     WStr::from_utf16(raw).expect(rt, "text")
-}
-
-/// These bytes in a vector.
-pub fn bytes(rt: &(impl Abort + AllocGlobal), raw: &[u8]) -> Vec<u8> {
-    raw.to_vec(rt.alloc()).expect(rt, "memory")
-}
-
-/// A string of these bytes, which are text.
-pub fn string<E: Utf16Order>(rt: &(impl Abort + AllocGlobal), raw: &[u8]) -> WString<E> {
-    WString::from_utf16(bytes(rt, raw)).expect(rt, "text")
-}
-
-/// A string of this text.
-pub fn encoded<E: Utf16Order>(rt: &(impl Abort + AllocGlobal), text: &str) -> WString<E> {
-    WString::from_str(rt.alloc(), text).expect(rt, "memory")
 }

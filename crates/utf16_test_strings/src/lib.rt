@@ -1,9 +1,7 @@
-//! Tests of owned strings made, read and compared, and of what `{}` and `{:?}` write.
+//! Tests of what `{}` and `{:?}` write of views and of the error.
 #![tactic(auto)]
 
 #[cfg(test)]
 mod checks;
 #[cfg(test)]
 mod shown;
-#[cfg(test)]
-mod strings;

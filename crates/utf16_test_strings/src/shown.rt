@@ -1,12 +1,13 @@
-//! What `{}` and `{:?}` write of views, of strings and of the error: one test has the Rust crate's name.
+//! What `{}` and `{:?}` write of views and of the error: one test has the Rust crate's name. A
+//! mistake that no clause would show: `{:?}` that fails or writes nothing.
 
-use crate::checks::{equal, holds, string, view};
+use crate::checks::{equal, holds, view};
 use std::alloc::AllocError;
 use std::fmt;
 use std::process::Abort;
 use utf16_callers::walks::shown;
 use utf16_testing::texts::{HELLO, MIXED, MIXED_BE, MIXED_UTF8, characters, faults};
-use utf16string::{BE, LE, Utf16Error, Utf16Order, WStr, WString};
+use utf16string::{BE, LE, Utf16Error, Utf16Order, WStr};
 
 fn is_written(rt: &impl Abort, found: Result<String, AllocError>, wanted: &[u8]) {
     equal(rt, found.expect(rt, "memory").as_bytes(), wanted);
@@ -42,15 +43,9 @@ fn debugs_indices<E: Utf16Order>(rt: &(impl Abort + AllocGlobal), view: WStr<E>)
     debugs(rt, &view.char_indices());
 }
 
-fn string_writes<E: Utf16Order>(rt: &(impl Abort + AllocGlobal), string: &WString<E>, utf8: &[u8]) {
-    displays(rt, string, utf8);
-    debugs(rt, string);
-}
-
-// A view of the bytes and a string of them write this UTF-8.
+// A view of the bytes writes this UTF-8.
 fn writes<E: Utf16Order>(rt: &(impl Abort + AllocGlobal), raw: &[u8], utf8: &[u8]) {
     view_writes(rt, view::<E>(rt, raw), utf8);
-    string_writes(rt, &string::<E>(rt, raw), utf8);
 }
 
 #[test]
