@@ -23,11 +23,6 @@ pub fn bytes(rt: &(impl Abort + AllocGlobal), raw: &[u8]) -> Vec<u8> {
     raw.to_vec(rt.alloc()).expect(rt, "memory")
 }
 
-/// A string of these bytes, which are text.
-pub fn string<E: Utf16Order>(rt: &(impl Abort + AllocGlobal), raw: &[u8]) -> WString<E> {
-    WString::from_utf16(bytes(rt, raw)).expect(rt, "text")
-}
-
 /// A string of this text.
 pub fn encoded<E: Utf16Order>(rt: &(impl Abort + AllocGlobal), text: &str) -> WString<E> {
     WString::from_str(rt.alloc(), text).expect(rt, "memory")

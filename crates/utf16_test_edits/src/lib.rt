@@ -1,9 +1,7 @@
-//! Tests of strings edited, cut, grown and written over.
+//! Tests of texts written over a part of the caller's bytes.
 #![tactic(auto)]
 
 #[cfg(test)]
 mod checks;
-#[cfg(test)]
-mod edited;
 #[cfg(test)]
 mod writing;

@@ -1,10 +1,10 @@
-//! Texts written over a part of a string, owned or in the caller's bytes.
+//! Texts written over a part of the caller's bytes.
 
-use crate::checks::{bytes, encoded, equal, holds, string, utf8_is};
+use crate::checks::{bytes, encoded, equal, holds, utf8_is};
 use std::process::Abort;
 use utf16_callers::edits::{overwritten_and_returned, overwritten_in_place};
 use utf16_testing::texts::{APB_BE, HELLO, HELLO_BE};
-use utf16string::{BE, LE, Utf16Order, WStr, WStrMut, WString};
+use utf16string::{BE, LE, Utf16Order, WStr, WStrMut};
 
 // Writes a text over a part, where it fits there: whether it does.
 fn put_over<E: Utf16Order>(view: &mut WStrMut<E>, idx: usize, part: WStr<E>) -> bool {
@@ -52,21 +52,6 @@ fn write_and_return<E: Utf16Order>(
     equal(rt, &*left, wanted);
 }
 
-// Writes a text over a part of a string, which keeps its room.
-fn write_over_owned<E: Utf16Order>(
-    rt: &impl Abort,
-    text: &mut WString<E>,
-    idx: usize,
-    part: WStr<E>,
-    wanted: &[u8],
-) {
-    let capacity = text.capacity();
-    holds(rt, text.fits(idx, part));
-    text.overwrite(idx, part);
-    equal(rt, text.as_bytes(), wanted);
-    equal(rt, text.capacity(), capacity);
-}
-
 // Each way to write a text over a part of these bytes.
 fn written<E: Utf16Order>(
     rt: &(impl Abort + AllocGlobal),
@@ -79,7 +64,6 @@ fn written<E: Utf16Order>(
     write_over(rt, &mut bytes(rt, raw), idx, part.as_wstr(), wanted);
     write_in_place(rt, &mut bytes(rt, raw), idx, part.as_wstr(), wanted);
     write_and_return(rt, &mut bytes(rt, raw), idx, part.as_wstr(), wanted);
-    write_over_owned(rt, &mut string(rt, raw), idx, part.as_wstr(), wanted);
 }
 
 #[test]
@@ -110,7 +94,7 @@ fn test_wstr_get_mut(rt: HostRuntime) {
     front_is(&rt, "x", &raw, "xello");
 }
 
-// Whether a text fits at an offset of these bytes, by a string and by a view of the caller's bytes.
+// Whether a text fits at an offset of these bytes.
 fn fits_is<E: Utf16Order>(
     rt: &(impl Abort + AllocGlobal),
     raw: &[u8],
@@ -119,7 +103,6 @@ fn fits_is<E: Utf16Order>(
     wanted: bool,
 ) {
     let part = encoded::<E>(rt, part);
-    equal(rt, string::<E>(rt, raw).fits(idx, part.as_wstr()), wanted);
     let mut buf = bytes(rt, raw);
     let view = WStrMut::<E>::from_utf16(&mut buf).expect(rt, "text");
     equal(rt, view.fits(idx, part.as_wstr()), wanted);
