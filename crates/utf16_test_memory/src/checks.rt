@@ -1,6 +1,7 @@
-//! What the tests of this crate share: an assertion, and strings made.
+//! What the tests of this crate share: assertions, and strings made.
 
-use std::alloc::Allocator;
+ghost use Rattle.std.specs.Prelude.{IsTrue};
+
 use std::fmt::Debug;
 use std::process::Abort;
 use utf16string::{Utf16Order, WString};
@@ -10,17 +11,20 @@ pub fn equal<T: PartialEq + Debug + Drop>(rt: &impl Abort, found: T, wanted: T) 
     assert_eq!(rt; found, wanted);
 }
 
+/// What is claimed is so.
+pub fn holds(rt: &impl Abort, is: bool)
+    ensures { IsTrue is }
+{
+    assert!(rt; is);
+}
+
 /// A string of these bytes, which are text, with no room left.
 pub fn string<E: Utf16Order>(rt: &(impl Abort + AllocGlobal), raw: &[u8]) -> WString<E> {
     let bytes = raw.to_vec(rt.alloc()).expect(rt, "memory");
     WString::from_utf16(bytes).expect(rt, "text")
 }
 
-/// A string of this text over an allocator, with no room left.
-pub fn encoded<E: Utf16Order, A: Allocator>(
-    rt: &impl Abort,
-    alloc: A,
-    text: &str,
-) -> WString<E, A> {
-    WString::from_str(alloc, text).expect(rt, "memory")
+/// A string of this text, with no room left.
+pub fn encoded<E: Utf16Order>(rt: &(impl Abort + AllocGlobal), text: &str) -> WString<E> {
+    WString::from_str(rt.alloc(), text).expect(rt, "memory")
 }

@@ -1,9 +1,9 @@
-//! Each growing call on a text of 1 MiB: it succeeds, and gives what it gives on a short one.
+//! Each growing call on a text of 1 MiB: it succeeds, and gives what it gives on a short one. A
+//! mistake that no clause would show: a long text is refused memory that is there.
 
-use crate::checks::{encoded, equal, string};
-use crate::refusals::{Edit, is_utf8, make_edit};
+use crate::checks::{encoded, equal, holds, string};
 use std::process::Abort;
-use utf16_callers::edits::split;
+use utf16_callers::edits::{inserted, split};
 use utf16_testing::texts::{MIXED, MIXED_BE, MIXED_UTF8};
 use utf16string::{BE, LE, Utf16Order, WStr, WString};
 
@@ -27,14 +27,28 @@ fn parts_are<E: Utf16Order>(rt: &impl Abort, text: &WString<E>, parts: &[&[u8]])
     assert!(rt; rest.is_empty());
 }
 
-// An edit leaves these parts.
-fn leaves<E: Utf16Order>(
+// A text is put last and leaves these parts.
+fn push_leaves<E: Utf16Order>(
     rt: &(impl Abort + AllocGlobal),
     text: &mut WString<E>,
-    edit: Edit,
+    part: &str,
     parts: &[&[u8]],
 ) {
-    make_edit(rt, text, edit).expect(rt, "memory");
+    let part = encoded::<E>(rt, part);
+    text.push_wstr(part.as_wstr()).expect(rt, "memory");
+    parts_are(rt, text, parts);
+}
+
+// A text is put in at a boundary and leaves these parts.
+fn insert_leaves<E: Utf16Order>(
+    rt: &(impl Abort + AllocGlobal),
+    text: &mut WString<E>,
+    idx: usize,
+    part: &str,
+    parts: &[&[u8]],
+) {
+    let part = encoded::<E>(rt, part);
+    equal(rt, inserted(text, idx, part.as_wstr()), Ok(true));
     parts_are(rt, text, parts);
 }
 
@@ -46,16 +60,17 @@ fn grows<'a, E: Utf16Order>(
     pair: &'a [u8],
 ) {
     let mut text = string::<E>(rt, raw);
-    leaves(rt, &mut text, Edit::Push('\u{10000}'), &[raw, pair]);
-    leaves(rt, &mut text, Edit::PushText(utf8), &[raw, pair, raw]);
+    text.push('\u{10000}').expect(rt, "memory");
+    parts_are(rt, &text, &[raw, pair]);
+    push_leaves(rt, &mut text, utf8, &[raw, pair, raw]);
     let mut text = string::<E>(rt, raw);
-    let first = Edit::InsertText(0, "\u{10000}");
-    leaves(rt, &mut text, first, &[pair, raw]);
-    leaves(rt, &mut text, Edit::InsertText(4, utf8), &[pair, raw, raw]);
-    let second = Edit::Insert(4, '\u{10000}');
-    leaves(rt, &mut text, second, &[pair, pair, raw, raw]);
+    insert_leaves(rt, &mut text, 0, "\u{10000}", &[pair, raw]);
+    insert_leaves(rt, &mut text, 4, utf8, &[pair, raw, raw]);
+    holds(rt, text.is_char_boundary(4));
+    text.insert(4, '\u{10000}').expect(rt, "memory");
+    parts_are(rt, &text, &[pair, pair, raw, raw]);
     let mut text = string::<E>(rt, pair);
-    leaves(rt, &mut text, Edit::PushText(utf8), &[pair, raw]);
+    push_leaves(rt, &mut text, utf8, &[pair, raw]);
     let back = split(&mut text, 4).expect(rt, "memory");
     parts_are(rt, &text, &[pair]);
     parts_are(rt, &back.expect(rt, "a boundary"), &[raw]);
@@ -63,21 +78,24 @@ fn grows<'a, E: Utf16Order>(
 
 fn has_room<E: Utf16Order>(rt: &(impl Abort + AllocGlobal), raw: &[u8]) {
     let mut text = string::<E>(rt, raw);
-    leaves(rt, &mut text, Edit::Reserve(MIB), &[raw]);
+    text.reserve(MIB).expect(rt, "memory");
+    parts_are(rt, &text, &[raw]);
     assert!(rt; 2 * MIB <= text.capacity());
-    leaves(rt, &mut text, Edit::Shrink, &[raw]);
+    text.shrink_to_fit().expect(rt, "memory");
+    parts_are(rt, &text, &[raw]);
     equal(rt, text.capacity(), MIB);
     let text = WString::<E>::with_capacity(rt.alloc(), MIB).expect(rt, "memory");
     assert!(rt; MIB <= text.capacity());
 }
 
 fn transcodes<E: Utf16Order>(rt: &(impl Abort + AllocGlobal), raw: &[u8], utf8: &str) {
-    let text = encoded::<E, _>(rt, rt.alloc(), utf8);
+    let text = encoded::<E>(rt, utf8);
     parts_are(rt, &text, &[raw]);
     let written = text.to_utf8(rt.alloc()).expect(rt, "memory");
     assert!(rt; written.as_str() == utf8);
     let view = WStr::<E>::from_utf16(raw).expect(rt, "text");
-    equal(rt, is_utf8(rt.alloc(), view, utf8), Ok(true));
+    let written = view.to_utf8(rt.alloc()).expect(rt, "memory");
+    assert!(rt; written.as_str() == utf8);
 }
 
 fn is_as_a_short_one<E: Utf16Order>(rt: &(impl Abort + AllocGlobal), eight: [u8; 8], pair: &[u8]) {
