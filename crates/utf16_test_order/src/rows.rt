@@ -1,4 +1,5 @@
-//! Known texts in order, compared, sorted and looked up.
+//! Known texts in order, compared as views, sorted and looked up. A mistake that no clause would show:
+//! a set or a map of std takes another order than `cmp`.
 
 use crate::checks::{equal, string};
 use std::cmp::Ordering::{Equal, Greater, Less};
@@ -25,16 +26,6 @@ const TEXTS: [&str; 6] = ["\u{10000}", "", "z", "\u{FFFF}", "zz", "\u{E000}"];
 
 const SORTED: [&str; 6] = ["", "z", "zz", "\u{E000}", "\u{FFFF}", "\u{10000}"];
 
-fn compares<E: Utf16Order>(rt: &impl Abort, smaller: &WString<E>, larger: &WString<E>) {
-    equal(rt, smaller.cmp(larger), Less);
-    equal(rt, larger.cmp(smaller), Greater);
-    equal(rt, larger.cmp(larger), Equal);
-    equal(rt, smaller.partial_cmp(larger), Some(Less));
-    equal(rt, larger.partial_cmp(smaller), Some(Greater));
-    equal(rt, smaller.partial_cmp(smaller), Some(Equal));
-    equal(rt, (smaller < larger, larger <= smaller), (true, false));
-}
-
 fn views_compare<E: Utf16Order>(rt: &impl Abort, smaller: &WString<E>, larger: &WString<E>) {
     let (first, second) = (smaller.as_wstr(), larger.as_wstr());
     equal(rt, first.cmp(&second), Less);
@@ -53,7 +44,6 @@ fn rows_compare<E: Utf16Order>(rt: &(impl Abort + AllocGlobal)) {
     for (smaller, larger) in ROWS {
         let first = string::<E>(rt, smaller);
         let second = string::<E>(rt, larger);
-        compares(rt, &first, &second);
         views_compare(rt, &first, &second);
         equal(rt, later(second, first) == string(rt, larger), true);
     }

@@ -1,4 +1,5 @@
-//! Texts that begin alike, compared around the seams of blocks.
+//! Texts that begin alike, compared around the seams of blocks. A mistake that no clause would show:
+//! the lanes are compiled to another comparison than was proved, at one length.
 
 use crate::checks::equal;
 use std::cmp::Ordering;
