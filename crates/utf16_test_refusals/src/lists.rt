@@ -1,5 +1,6 @@
-//! Lists of edits where requests are refused. What is refused is answered so, the edits behind it go on from the text before it,
-//! and the list without the refused edits has the same replies and leaves the same text.
+//! Lists of edits where requests are refused. What is refused is answered so, the edits behind it go
+//! on from the text before it, and the list without the refused edits has the same replies and leaves
+//! the same text. A mistake that no clause would show: `NoMemory` where no request was refused.
 
 use crate::checks::equal;
 use std::alloc::Global;
@@ -161,35 +162,4 @@ fn lists_in_turn<E: Utf16Order>(rt: &(impl Abort + AllocGlobal)) {
 fn each_request_of_a_list(rt: HostRuntime) {
     lists_in_turn::<LE>(&rt);
     lists_in_turn::<BE>(&rt);
-}
-
-// The first growth alone is refused.
-#[test]
-fn the_first_growth_of_a_list(rt: HostRuntime) {
-    let heap = Refusing::<Global>::new(rt.alloc());
-    let mut edits = Vec::new(rt.alloc());
-    for command in FIRST {
-        edits
-            .push(edit::<BE>(&rt, &heap, command))
-            .expect(&rt, "memory");
-    }
-    let mut text = WString::<BE, _>::new(&heap);
-    heap.refuse_one(1);
-    let replies = run(&heap, &mut text, edits).expect(&rt, "memory");
-    let wanted = [
-        ("no memory", '\0'),
-        ("done", '\0'),
-        ("done", '\0'),
-        ("bad offset", '\0'),
-        ("char", 'x'),
-        ("char", '\u{10000}'),
-        ("done", '\0'),
-        ("done", '\0'),
-        ("bad offset", '\0'),
-    ];
-    equal(&rt, replies.len(), wanted.len());
-    for (reply, (name, c)) in replies.iter().zip(wanted) {
-        equal(&rt, told(reply), (name, c, [].as_slice()));
-    }
-    equal(&rt, text.into_bytes().as_slice(), &[0x00, 0x62]);
 }
