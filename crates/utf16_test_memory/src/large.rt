@@ -3,7 +3,6 @@
 
 use crate::checks::{encoded, equal, holds, string};
 use std::process::Abort;
-use utf16_callers::edits::{inserted, split};
 use utf16_testing::texts::{MIXED, MIXED_BE, MIXED_UTF8};
 use utf16string::{BE, LE, Utf16Order, WStr, WString};
 
@@ -48,7 +47,8 @@ fn insert_leaves<E: Utf16Order>(
     parts: &[&[u8]],
 ) {
     let part = encoded::<E>(rt, part);
-    equal(rt, inserted(text, idx, part.as_wstr()), Ok(true));
+    holds(rt, text.is_char_boundary(idx));
+    text.insert_wstr(idx, part.as_wstr()).expect(rt, "memory");
     parts_are(rt, text, parts);
 }
 
@@ -71,9 +71,10 @@ fn grows<'a, E: Utf16Order>(
     parts_are(rt, &text, &[pair, pair, raw, raw]);
     let mut text = string::<E>(rt, pair);
     push_leaves(rt, &mut text, utf8, &[pair, raw]);
-    let back = split(&mut text, 4).expect(rt, "memory");
+    holds(rt, text.is_char_boundary(4));
+    let back = text.split_off(4).expect(rt, "memory");
     parts_are(rt, &text, &[pair]);
-    parts_are(rt, &back.expect(rt, "a boundary"), &[raw]);
+    parts_are(rt, &back, &[raw]);
 }
 
 fn has_room<E: Utf16Order>(rt: &(impl Abort + AllocGlobal), raw: &[u8]) {
