@@ -5,6 +5,7 @@
 use crate::checks::equal;
 use std::alloc::Global;
 use std::process::Abort;
+use std::test::Fail;
 use utf16_testing::refusing::Refusing;
 use utf16_tools::{Edit, Reply, apply, run};
 use utf16string::{BE, LE, Utf16Order, WString};
@@ -162,4 +163,24 @@ fn lists_in_turn<E: Utf16Order>(rt: &(impl Abort + AllocGlobal)) {
 fn each_request_of_a_list(rt: HostRuntime) {
     lists_in_turn::<LE>(&rt);
     lists_in_turn::<BE>(&rt);
+}
+
+// A pair pushed and a character put in behind the first, five thousand times.
+fn pushed_and_inserted(rt: &impl AllocGlobal) -> Result<Vec<Edit<LE>>, Fail> {
+    let mut edits = Vec::new(rt.alloc());
+    for _ in 0..5_000 {
+        edits.push(Edit::Push('\u{10000}'))?;
+        edits.push(Edit::Insert(2, 'x'))?;
+    }
+    Ok(edits)
+}
+
+// A mistake that no clause would show: a list longer than any line is refused memory that is there.
+#[test]
+fn ten_thousand_edits(rt: HostRuntime) -> Result<(), Fail> {
+    let mut text = WString::<LE>::from_str(rt.alloc(), "a")?;
+    let replies = run(rt.alloc(), &mut text, pushed_and_inserted(&rt)?)?;
+    equal(&rt, (replies.len(), text.len()), (10_000, 2 + 5_000 * 6));
+    equal(&rt, text.chars().count(), 10_001);
+    Ok(())
 }
