@@ -60,7 +60,8 @@ fn edits<'a, E: Utf16Order>(
         if edits.push(edit::<E>(bench, values)?).is_err() {
             return Err(Trouble::Memory);
         }
-        if values.count() != 0 && values.word()? != "/" {
+        let is_last = values.count() == 0;
+        if !is_last && (values.word()? != "/" || values.count() == 0) {
             return Err(Trouble::Value);
         }
     }
