@@ -2,7 +2,7 @@
 
 use crate::escapes::push_escaped;
 use crate::trouble::Trouble;
-use crate::values::bytes_of;
+use crate::values::{bytes_of, has_parts};
 use std::alloc::{AllocError, Global};
 
 /// What a call gave, in words with a space between.
@@ -19,12 +19,18 @@ impl Answer {
         }
     }
 
-    /// What the words of a table want: the same words, with bytes in place of a `~` and a text.
+    /// What the words of a table want: the same words, with bytes in place of a `~` and a text and of a
+    /// `^` and code units, and with the bytes or the text in place of parts that are repeated.
     pub fn wanted(alloc: Global, words: &[&str], is_big: bool) -> Result<Self, Trouble> {
         let mut answer = Answer::new(alloc);
         for word in words {
-            if word.starts_with('~') {
+            if word.starts_with('~') || word.starts_with('^') {
                 answer.bytes(bytes_of(alloc, word, is_big)?.as_slice())?;
+            } else if has_parts(word) {
+                answer.text_or_bytes(
+                    bytes_of(alloc, word, is_big)?.as_slice(),
+                    word.contains("*\""),
+                )?;
             } else {
                 answer.word(word)?;
             }
@@ -74,6 +80,14 @@ impl Answer {
             write!(self.words, "{byte:02X}")?;
         }
         Ok(())
+    }
+
+    /// Adds bytes that are wanted to be UTF-8 as a text, and any others as bytes.
+    pub fn text_or_bytes(&mut self, bytes: &[u8], is_text: bool) -> Result<(), AllocError> {
+        match str::from_utf8(bytes) {
+            Ok(text) if is_text => self.text(text),
+            _ => self.bytes(bytes),
+        }
     }
 
     /// Adds a text, in double quotes.

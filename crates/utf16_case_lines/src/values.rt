@@ -60,7 +60,7 @@ impl<'a> Values<'a> {
         }
     }
 
-    /// Takes bytes, in hex, as `~` and a text in double quotes for its UTF-16 in this byte order, or `-` for none.
+    /// Takes bytes, as `bytes_of` reads them.
     pub fn bytes(&mut self, alloc: Global, is_big: bool) -> Result<Vec<u8>, Trouble> {
         bytes_of(alloc, self.word()?, is_big)
     }
@@ -77,7 +77,8 @@ impl<'a> Values<'a> {
     }
 }
 
-/// The number that a word spells: decimal digits, hex digits behind `0x`, or `max` for the greatest `usize`.
+/// The number that a word spells: decimal digits, hex digits behind `0x`, or `max` for the greatest
+/// `usize`.
 pub fn number_of(word: &str) -> Result<usize, Trouble> {
     if word == "max" {
         return Ok(usize::MAX);
@@ -97,15 +98,61 @@ fn quoted(alloc: Global, word: &str, quote: char) -> Result<String, Trouble> {
     unescape(alloc, spelled.ok_or(Trouble::Value)?)
 }
 
-/// The bytes that a word spells.
+/// Whether a word has parts with a `+` between, each behind how often it is repeated and a `*`.
+pub fn has_parts(word: &str) -> bool {
+    word.starts_with(|c: char| c.is_ascii_digit()) && word.contains('*')
+}
+
+/// The bytes that a word spells: in hex, as `^` and code units in hex or `~` and a text in double
+/// quotes for its UTF-16, both in this byte order, as a text in double quotes for its UTF-8, in
+/// parts that are repeated, or `-` for none.
 pub fn bytes_of(alloc: Global, word: &str, is_big: bool) -> Result<Vec<u8>, Trouble> {
+    if !has_parts(word) {
+        return part_of(alloc, word, is_big);
+    }
+    let mut bytes = Vec::new(alloc);
+    for part in word.split('+') {
+        let (count, part) = part.split_once('*').ok_or(Trouble::Value)?;
+        let part = part_of(alloc, part, is_big)?;
+        for _ in 0..number_of(count)? {
+            bytes.extend_from_slice(&part)?;
+        }
+    }
+    Ok(bytes)
+}
+
+// The bytes that a word without parts spells.
+fn part_of(alloc: Global, word: &str, is_big: bool) -> Result<Vec<u8>, Trouble> {
     if word == "-" {
         return Ok(Vec::new(alloc));
     }
     if let Some(text) = word.strip_prefix('~') {
         return encoded(alloc, quoted(alloc, text, '"')?.as_str(), is_big);
     }
-    hex::decode(alloc, word).map_err(|_| Trouble::Value)
+    if let Some(units) = word.strip_prefix('^') {
+        return ordered(alloc, hexed(alloc, units)?.as_slice(), is_big);
+    }
+    if word.starts_with('"') {
+        return Ok(quoted(alloc, word, '"')?.into_bytes());
+    }
+    hexed(alloc, word)
+}
+
+// The bytes of digits in hex.
+fn hexed(alloc: Global, digits: &str) -> Result<Vec<u8>, Trouble> {
+    hex::decode(alloc, digits).map_err(|_| Trouble::Value)
+}
+
+// The bytes of big-endian code units in this byte order. A last odd byte stays.
+fn ordered(alloc: Global, units: &[u8], is_big: bool) -> Result<Vec<u8>, Trouble> {
+    let mut bytes = Vec::new(alloc);
+    for unit in units.chunks(2) {
+        match unit {
+            [high, low] if !is_big => bytes.extend_from_slice(&[*low, *high])?,
+            _ => bytes.extend_from_slice(unit)?,
+        }
+    }
+    Ok(bytes)
 }
 
 // A text's UTF-16.
