@@ -1,0 +1,156 @@
+//! Streams that are cut into pieces in many ways.
+
+use crate::fed::Decoder;
+use std::alloc::{AllocError, Global};
+use std::marker::PhantomData;
+use utf16_case_lines::{Answer, Trouble, Values};
+use utf16_streams::{AnyLossy, Lossy, Utf16Order, decode_pieces};
+
+// The longest stream that is cut behind its bytes in every way, and the longest one that is cut at
+// all.
+const FEW: usize = 10;
+
+const MOST: usize = 64;
+
+// A way to decode pieces.
+trait Way {
+    // The text of the pieces.
+    fn text(alloc: Global, pieces: &[Vec<u8>]) -> Result<String, AllocError>;
+}
+
+// By one call.
+struct AtOnce<E: Utf16Order>(PhantomData<E>);
+
+impl<E: Utf16Order> Way for AtOnce<E> {
+    fn text(alloc: Global, pieces: &[Vec<u8>]) -> Result<String, AllocError> {
+        decode_pieces::<E, _, _>(alloc, pieces)
+    }
+}
+
+// By a decoder that is fed them one by one and then finished.
+struct OneByOne<D: Decoder>(PhantomData<D>);
+
+impl<D: Decoder> Way for OneByOne<D> {
+    fn text(alloc: Global, pieces: &[Vec<u8>]) -> Result<String, AllocError> {
+        let mut decoder = D::new();
+        let mut text = String::new(alloc);
+        for piece in pieces {
+            let more = decoder.feed(alloc, piece)?;
+            text.push_str(more.as_str())?;
+        }
+        if let Some(mark) = decoder.finish() {
+            text.push(mark)?;
+        }
+        Ok(text)
+    }
+}
+
+/// The text of the bytes in one piece, and behind it each other one that a cutting has, by
+/// `decode_pieces` or by `Lossy`.
+pub fn every_cutting<E: Utf16Order>(
+    alloc: Global,
+    values: &mut Values,
+    answer: &mut Answer,
+) -> Result<(), Trouble> {
+    let bytes = values.bytes(alloc, E::BIG)?;
+    values.end()?;
+    let whole = AtOnce::<E>::text(alloc, &cut(alloc, &bytes, 0, false)?)?;
+    answer.text(whole.as_str())?;
+    add_other::<AtOnce<E>>(alloc, &bytes, whole.as_str(), answer)?;
+    add_other::<OneByOne<Lossy<E>>>(alloc, &bytes, whole.as_str(), answer)
+}
+
+/// The same by `AnyLossy`.
+pub fn every_marked_cutting(
+    alloc: Global,
+    values: &mut Values,
+    answer: &mut Answer,
+) -> Result<(), Trouble> {
+    let bytes = values.bytes(alloc, true)?;
+    values.end()?;
+    let whole = OneByOne::<AnyLossy>::text(alloc, &cut(alloc, &bytes, 0, false)?)?;
+    answer.text(whole.as_str())?;
+    add_other::<OneByOne<AnyLossy>>(alloc, &bytes, whole.as_str(), answer)
+}
+
+// Adds the first text of a cutting that is another.
+fn add_other<W: Way>(
+    alloc: Global,
+    bytes: &[u8],
+    whole: &str,
+    answer: &mut Answer,
+) -> Result<(), Trouble> {
+    for cuts in cuttings(alloc, bytes.len())? {
+        for with_empty in [false, true] {
+            let text = W::text(alloc, &cut(alloc, bytes, cuts, with_empty)?)?;
+            if text.as_str() != whole {
+                answer.text(text.as_str())?;
+                return Ok(());
+            }
+        }
+    }
+    Ok(())
+}
+
+// The cuttings of so many bytes: all of a few; of more all in two and in three pieces and that in
+// single bytes. In each a bit is set for each byte behind which there is a cut, the lowest for the
+// first.
+fn cuttings(alloc: Global, len: usize) -> Result<Vec<u64>, Trouble> {
+    let mut cuttings = Vec::new(alloc);
+    if len > MOST {
+        return Err(Trouble::Condition);
+    }
+    if len <= FEW {
+        for cuts in 0..bit(len.saturating_sub(1)) {
+            cuttings.push(cuts).map_err(|_| Trouble::Memory)?;
+        }
+        return Ok(cuttings);
+    }
+    cuttings.push(u64::MAX).map_err(|_| Trouble::Memory)?;
+    for second in 0..len {
+        for first in 0..=second {
+            cuttings
+                .push(bit(first) | bit(second))
+                .map_err(|_| Trouble::Memory)?;
+        }
+    }
+    Ok(cuttings)
+}
+
+// The bit of that number, which is less than 64.
+fn bit(number: usize) -> u64 {
+    match u32::try_from(number) {
+        Ok(number) => 1u64.wrapping_shl(number),
+        Err(_) => 0,
+    }
+}
+
+// The bytes, cut behind each byte whose bit is set. Where it is wanted, an empty piece stands at
+// the beginning, in each cut, and at the end.
+fn cut(alloc: Global, bytes: &[u8], cuts: u64, with_empty: bool) -> Result<Vec<Vec<u8>>, Trouble> {
+    let mut pieces = Vec::new(alloc);
+    let mut piece = Vec::new(alloc);
+    if with_empty {
+        add(&mut pieces, Vec::new(alloc))?;
+    }
+    for (at, byte) in bytes.iter().enumerate() {
+        piece.push(*byte).map_err(|_| Trouble::Memory)?;
+        if cuts & bit(at) != 0 {
+            add(&mut pieces, piece)?;
+            piece = Vec::new(alloc);
+            if with_empty {
+                add(&mut pieces, Vec::new(alloc))?;
+            }
+        }
+    }
+    add(&mut pieces, piece)?;
+    if with_empty {
+        add(&mut pieces, Vec::new(alloc))?;
+    }
+    Ok(pieces)
+}
+
+// Adds a piece.
+fn add(pieces: &mut Vec<Vec<u8>>, piece: Vec<u8>) -> Result<(), Trouble> {
+    pieces.push(piece).map_err(|_| Trouble::Memory)
+}

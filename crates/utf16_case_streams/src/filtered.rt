@@ -1,0 +1,99 @@
+//! Filters from a reader to a writer.
+
+use crate::devices::manner;
+use crate::memory::{add_kept, heap};
+use std::alloc::Global;
+use utf16_case_lines::{Answer, How, Trouble, Values};
+use utf16_streams::{FilterFault, Utf16Order, Watched, filter_auto};
+use utf16_testing::refusing::Refusing;
+use utf16_testing::stepped::{Giver, Taker};
+
+/// How a run of a filter ended.
+#[derive(Drop)]
+pub struct Ended {
+    pub result: Result<(), FilterFault>,
+    pub taken: Vec<u8>,
+    pub reads: usize,
+    pub writes: usize,
+    pub flushes: usize,
+    pub read_faults: u64,
+    pub write_faults: u64,
+}
+
+/// Runs a filter over the bytes, with devices that do something else at these calls.
+pub fn run<E: Utf16Order>(
+    alloc: Global,
+    heap: &Refusing<Global>,
+    how: &How,
+    bytes: &[u8],
+    is_auto: bool,
+    odd: (usize, usize),
+) -> Ended {
+    let mut reader = Watched::new(Giver::new(bytes, manner(&how.reads, odd.0)));
+    let mut writer = Watched::new(Taker::new(alloc, manner(&how.writes, odd.1)));
+    let result = if is_auto {
+        filter_auto(heap, &mut reader, &mut writer)
+    } else {
+        utf16_streams::filter::<E, _, _, _>(heap, &mut reader, &mut writer)
+    };
+    let (read_faults, write_faults) = (reader.faults(), writer.faults());
+    let (giver, taker) = (reader.into_inner(), writer.into_inner());
+    Ended {
+        result,
+        reads: giver.calls,
+        writes: taker.calls.saturating_sub(taker.flushes),
+        flushes: taker.flushes,
+        taken: taker.taken,
+        read_faults,
+        write_faults,
+    }
+}
+
+/// Adds the result.
+pub fn add_result(answer: &mut Answer, found: Result<(), FilterFault>) -> Result<(), Trouble> {
+    answer.word(match found {
+        Ok(()) => "done",
+        Err(FilterFault::Read) => "read",
+        Err(FilterFault::Write) => "write",
+        Err(FilterFault::Memory) => "memory",
+        Err(FilterFault::Long) => "long",
+    })?;
+    Ok(())
+}
+
+/// The result and what was written, and where a case counts them the calls of the devices and their
+/// faults. Where memory is not given back, that too.
+pub fn filter<E: Utf16Order>(
+    alloc: Global,
+    how: &How,
+    values: &mut Values,
+    answer: &mut Answer,
+    is_auto: bool,
+) -> Result<(), Trouble> {
+    let bytes = values.bytes(alloc, E::BIG)?;
+    values.end()?;
+    let heap = heap(alloc, how);
+    let odd = (how.reads.odd_at, how.writes.odd_at);
+    let ended = run::<E>(alloc, &heap, how, &bytes, is_auto, odd);
+    add_result(answer, ended.result)?;
+    answer.text_or_bytes(&ended.taken, true)?;
+    if how.counted {
+        add_counts(answer, &ended)?;
+    }
+    add_kept(&heap, answer)
+}
+
+// Adds how many reads, writes and flushes were made, and how many faults of each device were
+// counted.
+fn add_counts(answer: &mut Answer, ended: &Ended) -> Result<(), Trouble> {
+    answer.word("reads")?;
+    answer.number(ended.reads)?;
+    answer.word("writes")?;
+    answer.number(ended.writes)?;
+    answer.word("flushes")?;
+    answer.number(ended.flushes)?;
+    answer.word("faults")?;
+    answer.number(ended.read_faults as usize)?;
+    answer.number(ended.write_faults as usize)?;
+    Ok(())
+}

@@ -1,0 +1,40 @@
+//! The calls of `utf16_streams`, as cases name them.
+#![tactic(auto)]
+
+mod cuttings;
+mod devices;
+mod fed;
+mod filtered;
+mod memory;
+mod pieces;
+mod sweeps;
+
+use std::alloc::Global;
+use utf16_case_lines::{Answer, How, Trouble, Values};
+use utf16_streams::{AnyLossy, Lossy, Utf16Order};
+
+/// Makes a call on these values and adds what it gave. `Call` where no call of streams has this
+/// name; then no value was taken.
+pub fn call<E: Utf16Order>(
+    alloc: Global,
+    name: &str,
+    how: &How,
+    values: &mut Values,
+    answer: &mut Answer,
+) -> Result<(), Trouble> {
+    match name {
+        "decode_pieces" => pieces::decode_pieces::<E>(alloc, how, values, answer),
+        "every_cutting" => cuttings::every_cutting::<E>(alloc, values, answer),
+        "AnyLossy::every_cutting" => cuttings::every_marked_cutting(alloc, values, answer),
+        "Lossy::feed" => fed::feed::<E, Lossy<E>>(alloc, how, values, answer),
+        "AnyLossy::feed" => fed::feed::<E, AnyLossy>(alloc, how, values, answer),
+        "Watched::read" => devices::read::<E>(alloc, how, values, answer),
+        "Watched::write" => devices::write::<E>(alloc, how, values, answer),
+        "Watched::flush" => devices::flush(alloc, how, values, answer),
+        "filter" => filtered::filter::<E>(alloc, how, values, answer, false),
+        "filter_auto" => filtered::filter::<E>(alloc, how, values, answer, true),
+        "filter_each_read" => sweeps::each_read::<E>(alloc, how, values, answer),
+        "filter_each_write" => sweeps::each_write::<E>(alloc, how, values, answer),
+        _ => Err(Trouble::Call),
+    }
+}

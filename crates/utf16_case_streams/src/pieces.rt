@@ -1,0 +1,31 @@
+//! Pieces decoded at once.
+
+use crate::memory::{end, heap};
+use std::alloc::{AllocError, Global};
+use utf16_case_lines::{Answer, How, Trouble, Values};
+use utf16_streams::Utf16Order;
+
+/// Takes bytes in pieces, the last value of a case. Where no value is left there are no pieces.
+pub fn pieces<E: Utf16Order>(alloc: Global, values: &mut Values) -> Result<Vec<Vec<u8>>, Trouble> {
+    if values.end().is_ok() {
+        return Ok(Vec::new(alloc));
+    }
+    let pieces = values.pieces(alloc, E::BIG)?;
+    values.end()?;
+    Ok(pieces)
+}
+
+pub fn decode_pieces<E: Utf16Order>(
+    alloc: Global,
+    how: &How,
+    values: &mut Values,
+    answer: &mut Answer,
+) -> Result<(), Trouble> {
+    let pieces = pieces::<E>(alloc, values)?;
+    let heap = heap(alloc, how);
+    match utf16_streams::decode_pieces::<E, _, _>(&heap, &pieces) {
+        Ok(text) => answer.text(text.as_str())?,
+        Err(AllocError) => answer.word("no_memory")?,
+    }
+    end(&heap, how, answer)
+}

@@ -1,0 +1,59 @@
+//! Filters whose reader or writer does something else at a call, at each in turn.
+
+use crate::filtered::{Ended, add_result, run};
+use crate::memory::heap;
+use std::alloc::Global;
+use utf16_case_lines::{Answer, How, Trouble, Values};
+use utf16_streams::Utf16Order;
+
+// As many calls as that at most are tried.
+const MOST: usize = 1000;
+
+/// For each call of the reader in turn, until one is not made: the result, how many reads, writes
+/// and flushes were made, and what was written.
+pub fn each_read<E: Utf16Order>(
+    alloc: Global,
+    how: &How,
+    values: &mut Values,
+    answer: &mut Answer,
+) -> Result<(), Trouble> {
+    let bytes = values.bytes(alloc, E::BIG)?;
+    values.end()?;
+    for at in 1..MOST {
+        let ended = run::<E>(alloc, &heap(alloc, how), how, &bytes, false, (at, 0));
+        add(answer, &ended)?;
+        if ended.reads < at {
+            break;
+        }
+    }
+    Ok(())
+}
+
+/// The same for each call of the writer, a flush among them.
+pub fn each_write<E: Utf16Order>(
+    alloc: Global,
+    how: &How,
+    values: &mut Values,
+    answer: &mut Answer,
+) -> Result<(), Trouble> {
+    let bytes = values.bytes(alloc, E::BIG)?;
+    values.end()?;
+    for at in 1..MOST {
+        let ended = run::<E>(alloc, &heap(alloc, how), how, &bytes, false, (0, at));
+        add(answer, &ended)?;
+        if ended.writes.saturating_add(ended.flushes) < at {
+            break;
+        }
+    }
+    Ok(())
+}
+
+// Adds how a run ended.
+fn add(answer: &mut Answer, ended: &Ended) -> Result<(), Trouble> {
+    add_result(answer, ended.result)?;
+    answer.number(ended.reads)?;
+    answer.number(ended.writes)?;
+    answer.number(ended.flushes)?;
+    answer.text_or_bytes(&ended.taken, true)?;
+    Ok(())
+}
