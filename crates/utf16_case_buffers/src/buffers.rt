@@ -1,0 +1,43 @@
+//! Buffers, and what a call leaves in them.
+
+use std::alloc::{AllocError, Global};
+use utf16_case_lines::{Answer, Trouble};
+use utf16_transcode::{Progress, Stop};
+
+// What stands in a buffer before a call.
+const BEFORE: u8 = 0xEE;
+
+/// A buffer of so many bytes.
+pub fn buffer(alloc: Global, room: usize) -> Result<Vec<u8>, AllocError> {
+    vec![in alloc; BEFORE; room]
+}
+
+/// Adds `changed` where a byte of a buffer behind so many is not as it was before the call.
+pub fn add_changed(answer: &mut Answer, to: &[u8], written: usize) -> Result<(), Trouble> {
+    let behind = to.get(written..).ok_or(Trouble::Condition)?;
+    if behind.iter().any(|byte| *byte != BEFORE) {
+        answer.word("changed")?;
+    }
+    Ok(())
+}
+
+/// Adds how many bytes were read and written, and why the call stopped.
+pub fn add_progress(answer: &mut Answer, progress: Progress) -> Result<(), Trouble> {
+    answer.number(progress.read)?;
+    answer.number(progress.written)?;
+    match progress.stop {
+        Stop::Done => answer.word("end")?,
+        Stop::Fault(len) => {
+            answer.word("fault")?;
+            answer.number(len as usize)?;
+        }
+        Stop::CutOff => answer.word("cut")?,
+        Stop::NoRoom => answer.word("room")?,
+    }
+    Ok(())
+}
+
+/// What was written to a buffer.
+pub fn written(to: &[u8], progress: Progress) -> Result<&[u8], Trouble> {
+    to.get(..progress.written).ok_or(Trouble::Condition)
+}

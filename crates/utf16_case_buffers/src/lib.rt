@@ -1,0 +1,34 @@
+//! The calls of `utf16_transcode` over buffers of the caller's, as cases name them.
+#![tactic(auto)]
+
+mod buffers;
+mod conversions;
+mod questions;
+mod streams;
+mod well_formed;
+
+use crate::conversions::Conversion;
+use std::alloc::Global;
+use utf16_case_lines::{Answer, Trouble, Values};
+use utf16_units::Utf16Order;
+
+/// Makes a call on these values and adds what it gave. `Call` where no call over buffers has this
+/// name; then no value was taken.
+pub fn call<E: Utf16Order>(
+    alloc: Global,
+    name: &str,
+    values: &mut Values,
+    answer: &mut Answer,
+) -> Result<(), Trouble> {
+    if let Some(conversion) = Conversion::named(name) {
+        return conversions::convert::<E>(alloc, conversion, values, answer);
+    }
+    match name {
+        "every_room" => conversions::every_room::<E>(alloc, values, answer),
+        "write_well_formed" => well_formed::write_well_formed::<E>(alloc, values, answer),
+        "Stream::new" => streams::new(values, answer),
+        "Stream::held" => streams::held(alloc, values, answer),
+        "Stream::feed" => streams::feed::<E>(alloc, values, answer),
+        _ => questions::call::<E>(alloc, name, values, answer),
+    }
+}

@@ -1,0 +1,63 @@
+//! Streams whose undecided bytes are the caller's.
+
+use crate::buffers::{add_changed, add_progress, buffer, written};
+use std::alloc::Global;
+use utf16_case_lines::{Answer, Trouble, Values};
+use utf16_transcode::Stream;
+use utf16_units::Utf16Order;
+
+/// What a new stream holds.
+pub fn new(values: &mut Values, answer: &mut Answer) -> Result<(), Trouble> {
+    values.end()?;
+    answer.bytes(Stream::new().held())?;
+    Ok(())
+}
+
+/// What a stream holds whose fields are three bytes and a length.
+pub fn held(alloc: Global, values: &mut Values, answer: &mut Answer) -> Result<(), Trouble> {
+    let bytes = values.bytes(alloc, true)?;
+    let len = u8::try_from(values.number()?).map_err(|_| Trouble::Value)?;
+    values.end()?;
+    let [first, second, third] = bytes.as_slice() else {
+        return Err(Trouble::Value);
+    };
+    let stream = Stream {
+        bytes: [*first, *second, *third],
+        len,
+    };
+    answer.bytes(stream.held())?;
+    Ok(())
+}
+
+/// Feeds the pieces, each to a buffer of so many bytes: for each how far the call came, what was
+/// written, and what is held then; and last how far the end came, what it wrote, and what is held
+/// then.
+pub fn feed<E: Utf16Order>(
+    alloc: Global,
+    values: &mut Values,
+    answer: &mut Answer,
+) -> Result<(), Trouble> {
+    let pieces = values.pieces(alloc, E::BIG)?;
+    let room = values.number()?;
+    values.end()?;
+    let mut stream = Stream::new();
+    for piece in &pieces {
+        let mut to = buffer(alloc, room)?;
+        let progress = stream.feed::<E>(piece, &mut to);
+        add_progress(answer, progress)?;
+        answer.text_or_bytes(written(&to, progress)?, true)?;
+        answer.bytes(stream.held())?;
+    }
+    finish(alloc, stream, room, answer)
+}
+
+// Ends a stream.
+fn finish(alloc: Global, stream: Stream, room: usize, answer: &mut Answer) -> Result<(), Trouble> {
+    let mut stream = stream;
+    let mut to = buffer(alloc, room)?;
+    let progress = stream.finish(&mut to);
+    add_progress(answer, progress)?;
+    answer.text_or_bytes(written(&to, progress)?, true)?;
+    answer.bytes(stream.held())?;
+    add_changed(answer, &to, progress.written)
+}
