@@ -97,7 +97,17 @@ fn agrees<E: Utf16Order>(
     Ok(is_equal)
 }
 
-// Makes the call of a case.
+// Returns what a crate made of a call, unless it has none of this name.
+macro_rules! returns_unless_unknown {
+    ($made:expr) => {
+        match $made {
+            Err(Trouble::Call) => {}
+            made => return made,
+        }
+    };
+}
+
+// Makes the call of a case, by the crate that knows it.
 fn call<E: Utf16Order>(
     alloc: Global,
     case: &Case,
@@ -105,13 +115,10 @@ fn call<E: Utf16Order>(
     answer: &mut Answer,
 ) -> Result<(), Trouble> {
     let mut values = Values::new(case.values);
-    match utf16_case_views::call::<E>(alloc, case.call, how, &mut values, answer) {
-        Err(Trouble::Call) => {}
-        done => return done,
-    }
-    match utf16_case_strings::call::<E>(alloc, case.call, how, &mut values, answer) {
-        Err(Trouble::Call) => {}
-        done => return done,
-    }
-    utf16_case_edits::call::<E>(alloc, case.call, how, &mut values, answer)
+    let name = case.call;
+    returns_unless_unknown!(utf16_case_views::call::<E>(alloc, name, how, &mut values, answer));
+    returns_unless_unknown!(utf16_case_strings::call::<E>(alloc, name, how, &mut values, answer));
+    returns_unless_unknown!(utf16_case_edits::call::<E>(alloc, name, how, &mut values, answer));
+    returns_unless_unknown!(utf16_case_streams::call::<E>(alloc, name, how, &mut values, answer));
+    utf16_case_buffers::call::<E>(alloc, name, &mut values, answer)
 }
