@@ -8,7 +8,7 @@ use utf16_streams::{AnyLossy, Lossy, Utf16Order, decode_pieces};
 
 // The longest stream that is cut behind its bytes in every way, and the longest one that is cut at
 // all.
-const FEW: usize = 10;
+const FEW: usize = 12;
 
 const MOST: usize = 64;
 
