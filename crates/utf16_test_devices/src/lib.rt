@@ -1,10 +1,8 @@
-//! Tests of devices whose faults are counted, and of the filter over devices that move as few bytes as they like, and do something
-//! else at each of their calls in turn.
+//! Tests of the filter over devices that move as few bytes as they like, and do something else at each
+//! of their calls in turn.
 #![tactic(auto)]
 
 #[cfg(test)]
 mod checks;
 #[cfg(test)]
 mod odd;
-#[cfg(test)]
-mod watched;

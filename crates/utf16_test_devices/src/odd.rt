@@ -181,6 +181,7 @@ fn in_all_sizes(rt: &(impl Abort + AllocGlobal), big: bool, bytes: &[u8]) {
     }
 }
 
+// A mistake that no clause sees: behind a fault a device is called once more, and moves nothing.
 #[test]
 fn each_call_of_each_device_over_each_known_fault(rt: HostRuntime) {
     for (big, bytes, ..) in &faults() {
