@@ -1,9 +1,7 @@
-//! Tests where requests for memory are refused: each in turn, and all from each on, in lists of edits and in streams.
+//! Tests where requests for memory are refused in lists of edits: each in turn, and all from each on.
 #![tactic(auto)]
 
 #[cfg(test)]
 mod checks;
 #[cfg(test)]
 mod lists;
-#[cfg(test)]
-mod streams;
