@@ -49,6 +49,7 @@ fn case_is<E: Utf16Order>(rt: &impl Abort, place: usize, case: usize) {
     }
 }
 
+// A mistake that no clause sees: the compiler puts a lane of a shuffle elsewhere.
 #[test]
 fn units_around_each_seam(rt: HostRuntime) {
     for place in 0..70usize {
@@ -56,71 +57,5 @@ fn units_around_each_seam(rt: HostRuntime) {
             case_is::<LE>(&rt, place, case);
             case_is::<BE>(&rt, place, case);
         }
-    }
-}
-
-// The order, bytes, and what is written of them.
-type End = (bool, &'static [u8], &'static [u8]);
-
-const ENDS: [End; 14] = [
-    (false, &[], &[]),
-    (false, &[0x41], &[]),
-    (false, &[0x00, 0xD8], &[]),
-    (false, &[0x00, 0xD8, 0x00], &[]),
-    (false, &[0x61, 0x00, 0x00, 0xD8], &[0x61, 0x00]),
-    (false, &[0x61, 0x00, 0x00, 0xD8, 0x61], &[0x61, 0x00]),
-    (false, &[0x00, 0xD8, 0x00, 0xDC], &[0x00, 0xD8, 0x00, 0xDC]),
-    (false, &[0x00, 0xDC], &[0xFD, 0xFF]),
-    (false, &[0x00, 0xD8, 0x00, 0xD8, 0x00], &[0xFD, 0xFF]),
-    (true, &[0xDC], &[]),
-    (true, &[0xD8, 0x00, 0xDC], &[]),
-    (true, &[0xDC, 0x00], &[0xFF, 0xFD]),
-    (true, &[0xD8, 0x00, 0xD8, 0x00], &[0xFF, 0xFD]),
-    (true, &[0x00, 0xD8, 0x00, 0xDC], &[0x00, 0xD8, 0x00, 0xDC]),
-];
-
-fn ends_are(rt: &impl Abort, ends: &[End]) {
-    for (big, raw, wanted) in ends {
-        if *big {
-            is_written::<BE>(rt, raw, wanted);
-        } else {
-            is_written::<LE>(rt, raw, wanted);
-        }
-    }
-}
-
-#[test]
-fn ends_in_both_orders(rt: HostRuntime) {
-    ends_are(&rt, &ENDS);
-}
-
-// One letter, then pairs up to the end: each block ends on a leading unit, and of the last pair one unit may be left.
-fn pairs_are<E: Utf16Order>(rt: &impl Abort, len: usize, written: usize) {
-    let (first, second) = (E::write_unit(0xD83D), E::write_unit(0xDE00));
-    let mut buf = letters_and::<E>(rt, 0, [0x61, 0x61]);
-    for i in 2..ROOM {
-        let pair = [first[0], first[1], second[0], second[1]];
-        buf[i] = pair[(i - 2) % 4];
-    }
-    holds(rt, len <= ROOM && written <= len);
-    is_written::<E>(rt, &buf[..len], &buf[..written]);
-}
-
-#[test]
-fn pairs_over_each_seam(rt: HostRuntime) {
-    for (len, written) in [
-        (34, 34),
-        (35, 34),
-        (36, 34),
-        (37, 34),
-        (38, 38),
-        (64, 62),
-        (66, 66),
-        (98, 98),
-        (100, 98),
-        (130, 130),
-    ] {
-        pairs_are::<LE>(&rt, len, written);
-        pairs_are::<BE>(&rt, len, written);
     }
 }
