@@ -92,6 +92,7 @@ fn every_cutting_is<E: Utf16Order>(rt: &(impl Abort + AllocGlobal), bytes: &[u8]
     }
 }
 
+// A mistake that no clause sees: the specs and the loop misread the recipe of the error's fields.
 #[test]
 fn known_streams_and_what_is_kept(rt: HostRuntime) {
     for (big, bytes, wanted, kept) in &ROWS {
@@ -103,6 +104,7 @@ fn known_streams_and_what_is_kept(rt: HostRuntime) {
     }
 }
 
+// A mistake that no clause sees: the specs' recipe and split are wrong alike at a known fault.
 #[test]
 fn each_known_fault_by_both(rt: HostRuntime) {
     for (big, bytes, ..) in &faults() {
@@ -114,6 +116,7 @@ fn each_known_fault_by_both(rt: HostRuntime) {
     }
 }
 
+// A mistake that no clause sees: the loop over pieces refuses though memory is there.
 #[test]
 fn each_known_fault_resumed_over_every_cutting(rt: HostRuntime) {
     for (big, bytes, .., wanted) in &faults() {
@@ -146,6 +149,7 @@ fn refused_in_turn(rt: &(impl Abort + AllocGlobal), pieces: &[Vec<u8>], wanted: 
     panic!(rt; "no run met no refusal");
 }
 
+// A mistake that no clause sees: a run that is refused memory leaves a block.
 #[test]
 fn resumed_without_memory(rt: HostRuntime) {
     let bytes = [0x68, 0x00, 0x00, 0xD8, 0x65, 0x00, 0x00, 0x4E, 0x00];

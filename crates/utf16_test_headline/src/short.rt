@@ -74,6 +74,8 @@ fn at_every_cutting<E: Utf16Order>(rt: &(impl Abort + AllocGlobal), bytes: &[u8]
     }
 }
 
+// A mistake that no clause sees: a definition of the specs, which the bodies meet, is not that of
+// the Standard at a byte where a class of units begins or ends.
 #[test]
 fn all_short_strings_of_telling_bytes(rt: HostRuntime) {
     for (len, numbers) in [(0, 1), (1, 8), (2, 64), (3, 512), (4, 4096)] {

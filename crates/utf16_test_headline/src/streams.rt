@@ -40,6 +40,7 @@ fn streams_are<E: Utf16Order>(rt: &(impl Abort + AllocGlobal), bytes: &[u8; 9], 
     equal(rt, (early.as_str(), whole.as_str()), ("h", TEXT));
 }
 
+// A mistake that no clause sees: a caller refuses though memory is there.
 #[test]
 fn streams_in_both_orders(rt: HostRuntime) {
     streams_are::<LE>(&rt, &LITTLE, 0xDC);
@@ -52,6 +53,7 @@ fn passes<E: Utf16Order>(rt: &(impl Abort + AllocGlobal), bytes: &[u8], wanted: 
     equal(rt, (passed.as_str(), whole), (wanted, true));
 }
 
+// A mistake that no clause sees: a caller refuses though memory is there.
 #[test]
 fn texts_pass_through(rt: HostRuntime) {
     passes::<LE>(&rt, &[0x68, 0x00, 0x00, 0xD8, 0x00, 0xDC], "h\u{10000}");
@@ -59,6 +61,7 @@ fn texts_pass_through(rt: HostRuntime) {
     passes::<BE>(&rt, &[], "");
 }
 
+// A mistake that no clause sees: the clause and the body count the room wrong alike.
 #[test]
 fn room_for_streams(rt: HostRuntime) {
     equal(&rt, room_for(&[]), 3);
@@ -80,6 +83,7 @@ fn cut_is(rt: &(impl Abort + AllocGlobal), first: &[u8], second: &[u8], decided:
     equal(rt, text.expect(rt, "memory").as_str(), decided);
 }
 
+// A mistake that no clause sees: a caller refuses though memory is there.
 #[test]
 fn streams_with_marks(rt: HostRuntime) {
     for (bytes, whole, decided) in MARKED {
