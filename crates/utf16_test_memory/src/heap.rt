@@ -1,5 +1,5 @@
-//! The allocator that refuses what it is told to, and counts. A mistake that no clause would show: it
-//! grants what it was told to refuse, or counts wrong, and then no case shows a refusal.
+//! The allocator that refuses what it is told to, and counts. A mistake that no clause would show:
+//! it grants what it was told to refuse, or counts wrong, and then no case shows a refusal.
 
 use crate::checks::{equal, holds};
 use std::alloc::Global;

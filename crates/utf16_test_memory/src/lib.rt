@@ -1,4 +1,5 @@
-//! Tests of texts of more than a million bytes, and of the allocator that refuses what it is told to.
+//! Tests of texts of more than a million bytes, and of the allocator that refuses what it is told
+//! to.
 #![tactic(auto)]
 
 #[cfg(test)]
