@@ -5,7 +5,6 @@ use crate::checks::{equal, holds, view};
 use std::alloc::AllocError;
 use std::fmt;
 use std::process::Abort;
-use utf16_callers::walks::shown;
 use utf16_testing::texts::{HELLO, MIXED, MIXED_BE, MIXED_UTF8, characters, faults};
 use utf16string::{BE, LE, Utf16Error, Utf16Order, WStr};
 
@@ -93,7 +92,5 @@ fn each_error_is_written(rt: HostRuntime) {
 
 #[test]
 fn test_display(rt: HostRuntime) {
-    let text = shown::<LE>(rt.alloc(), view(&rt, &HELLO)).expect(&rt, "memory");
-    equal(&rt, text.as_str(), "hello");
     writes::<LE>(&rt, &HELLO, b"hello");
 }
