@@ -2,7 +2,6 @@
 //! are told to and count, and known texts as bytes.
 #![tactic(auto)]
 
-pub mod devices;
 pub mod plain;
 pub mod refusing;
 pub mod stepped;
