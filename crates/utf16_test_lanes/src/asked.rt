@@ -70,12 +70,14 @@ fn rows_are<E: Utf16Order>(rt: &(impl Abort + AllocGlobal)) {
     }
 }
 
+// A mistake that no clause sees: the compiler adds the lanes of a count wrong.
 #[test]
 fn rows_in_both_orders(rt: HostRuntime) {
     rows_are::<LE>(&rt);
     rows_are::<BE>(&rt);
 }
 
+// A mistake that no clause sees: the count of no block reads a lane.
 #[test]
 fn nothing_is_counted_and_is_ascii(rt: HostRuntime) {
     let text = WString::<LE>::new(rt.alloc());
