@@ -17,7 +17,7 @@ use utf16_units::Utf16Order;
 // of 64 bytes or more goes to their end before it looks for the fault, that of fewer stops at it.
 const FIRST: usize = 63;
 
-const GROWTH: usize = 32;
+const GROWTH: usize = 8;
 
 /// Writes UTF-8 in UTF-16 to the front of a buffer, up to the first fault or as far as whole characters fit. Any bytes are
 /// allowed. What stands behind the written bytes may have been written over. The time grows with what is read alone.
