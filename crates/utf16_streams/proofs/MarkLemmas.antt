@@ -16,6 +16,11 @@ unfolding split_tail
 first_waits big None = refl
 first_waits big (Some byte) = refl
 
+pub first_items : (first : Option ℕ) → items_in None (option_to_list first) ≡ []
+unfolding split_items
+first_items None = refl
+first_items (Some byte) = refl
+
 pub first_tail : (first : Option ℕ) → tail_in None (option_to_list first) ≡ option_to_list first
 unfolding split_tail
 first_tail None = refl

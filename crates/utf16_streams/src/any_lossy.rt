@@ -1,6 +1,6 @@
 //! A decoder of UTF-16 whose byte order a mark tells.
 
-ghost use Rattle.std.specs.Prelude.{◌≡◌, ◌≢◌, ◌↔◌, ◌≤◌, [], ◌++◌, None, Some, IfOk, IsOk, OnErr, OnOk, encode_utf8_all, length, string_bytes};
+ghost use Rattle.std.specs.Prelude.{◌≡◌, ◌≢◌, ◌↔◌, ◌≤◌, [], ◌++◌, None, Some, IfErr, IfOk, IsOk, OnErr, OnOk, encode_utf8_all, length, string_bytes};
 ghost use Rattle.std.specs.Option.{option_to_list};
 ghost use Rattle.utf16_units.specs.Split.{IsTail, marked};
 ghost use Rattle.utf16_streams.specs.AnyLossy.{any_order, any_pending, state_order, state_pending};
@@ -126,16 +126,27 @@ fn begin<A: Allocator>(
     ensures order { IfOk result (λ state. state_order state ≡ order_after None (option_to_list first ++ piece.now)) }
     ensures nothing { items_in None (option_to_list first ++ piece.now) ≡ [] → IsOk result }
 {
-    let (beginning, rest) = match (first, piece) {
-        (None, [first, second, rest @ ..]) => ([*first, *second], rest),
-        (Some(first), [second, rest @ ..]) => ([first, *second], rest),
-        (None, [only]) => return Ok(State::Undecided(Some(*only))),
-        (first, []) => return Ok(State::Undecided(first)),
+    let (beginning, rest) = match first_two(first, piece) {
+        Ok(parts) => parts,
+        Err(only) => return Ok(State::Undecided(only)),
     };
     match beginning {
         [0xFE, 0xFF] => Ok(State::Big(fed(Lossy::new(), rest, buffer, to)?)),
         [0xFF, 0xFE] => Ok(State::Little(fed(Lossy::new(), rest, buffer, to)?)),
         _ => Ok(State::Big(fed(Lossy::after(first), piece, buffer, to)?)),
+    }
+}
+
+// The first two bytes of a stream and those behind them; an error where fewer have come, with the one that came.
+fn first_two<'a>(first: Option<u8>, piece: &'a [u8]) -> Result<([u8; 2], &'a [u8]), Option<u8>>
+    ensures two { IfOk result (λ parts. option_to_list first ++ piece.now ≡ parts.0 ++ parts.1.now) }
+    ensures fewer { IfErr result (λ only. option_to_list first ++ piece.now ≡ option_to_list only) }
+{
+    match (first, piece) {
+        (None, [first, second, rest @ ..]) => Ok(([*first, *second], rest)),
+        (Some(first), [second, rest @ ..]) => Ok(([first, *second], rest)),
+        (None, [only]) => Err(Some(*only)),
+        (first, []) => Err(first),
     }
 }
 

@@ -1,34 +1,23 @@
 use Rattle.std.proofs.lemmas.Grind.{common_steps}
-use Rattle.std.proofs.Common.{rules, arith}
-use Rattle.utf16_units.specs.Split.{split_items, split_tail}
+use Rattle.std.proofs.Common.{◌++◌, None, ap, sym, ◌∙◌, append-nil, arith}
+use Rattle.std.specs.Prelude.{encode_utf8_all, string_bytes}
+use Rattle.utf16_units.specs.Split.{marked}
+use Rattle.utf16_streams.specs.Mark.{items_in, tail_in}
+use Rattle.utf16_streams.proofs.MarkLemmas.{first_items, first_tail}
 use Rattle.utf16_streams.proofs.any_lossy.begin.Goals as goal
 
-pub returns-in-None-len1-clause-text : goal.returns-in-None-len1-clause-text
-unfolding split_items split_tail
-returns-in-None-len1-clause-text g c = search rules
+pub returns-in-Err-clause-text : goal.returns-in-Err-clause-text
+returns-in-Err-clause-text g c =
+    let before = string_bytes c.args.to.now in
+    let items = ap (λ bytes. before ++ encode_utf8_all (marked (items_in None bytes))) c.in-Err.ensures.fewer in
+    let none = ap (λ items. before ++ encode_utf8_all (marked items)) (first_items c.in-Err.only) in
+    sym (items ∙ none ∙ append-nil before)
 
-pub returns-in-None-len1-clause-pending : goal.returns-in-None-len1-clause-pending
-unfolding split_items split_tail
-returns-in-None-len1-clause-pending g c = search rules
+pub returns-in-Err-clause-pending : goal.returns-in-Err-clause-pending
+returns-in-Err-clause-pending g c = sym (ap (tail_in None) c.in-Err.ensures.fewer ∙ first_tail c.in-Err.only)
 
-pub returns-in_default-empty-clause-text : goal.returns-in_default-empty-clause-text
-unfolding split_items split_tail
-returns-in_default-empty-clause-text g c = search rules
-
-pub returns-in_default-empty-clause-pending : goal.returns-in_default-empty-clause-pending
-unfolding split_items split_tail
-returns-in_default-empty-clause-pending g c = search rules
-
-pub returns-in_default-empty-2-clause-text : goal.returns-in_default-empty-2-clause-text
-unfolding split_items split_tail
-returns-in_default-empty-2-clause-text g c = search rules
-
-pub returns-in_default-empty-2-clause-pending : goal.returns-in_default-empty-2-clause-pending
-unfolding split_items split_tail
-returns-in_default-empty-2-clause-pending g c = search rules
-
-pub returns-in-None-len1-clause-order : goal.returns-in-None-len1-clause-order
-returns-in-None-len1-clause-order g c = search rules
+pub returns-in_ok-fed-in_default-clause-text : goal.returns-in_ok-fed-in_default-clause-text
+returns-in_ok-fed-in_default-clause-text g c = grind (arith, common_steps)
 
 pub returns-in_err-fed-in-255-clause-nothing : goal.returns-in_err-fed-in-255-clause-nothing
 returns-in_err-fed-in-255-clause-nothing g c = grind (arith, common_steps)
