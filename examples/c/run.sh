@@ -1,6 +1,6 @@
 #!/usr/bin/env bash
 # Builds the static library and the examples in C, in Python over a shared object, and in Rust, and
-# runs each over table.txt. A tool that is missing is a failure. The last line is 'N passed, M
+# runs each over the tables of cases. A tool that is missing is a failure. The last line is 'N passed, M
 # failed'. With --over-ci the library is built over the libraries that rt ci has just proved.
 set -uo pipefail
 here=$(cd "$(dirname "$0")" && pwd)
@@ -76,7 +76,7 @@ in_cxx() {
 }
 
 check_c() {
-    "$room/check" < "$here/table.txt"
+    "$room/check" < "$room/cases"
 }
 
 # The program that decodes a file in pieces, on a text with a fault that is longer than a piece.
@@ -90,7 +90,7 @@ shared() {
 }
 
 check_python() {
-    PYTHONDONTWRITEBYTECODE=1 UTF16_LIBRARY="$room/libutf16_c.so" python3 "$here/check.py" < "$here/table.txt"
+    PYTHONDONTWRITEBYTECODE=1 UTF16_LIBRARY="$room/libutf16_c.so" python3 "$here/check.py" < "$room/cases"
 }
 
 in_rust() {
@@ -99,24 +99,25 @@ in_rust() {
 }
 
 check_rust() {
-    "$room/rust/release/check" < "$here/table.txt"
+    "$room/rust/release/check" < "$room/cases"
 }
 
+cat "$top"/cases/*.txt > "$room/cases"
 built=library
 [ "${1-}" != --over-ci ] || built=library_over_ci
 ("$built") > "$room/said" 2>&1 || { tail -n 20 "$room/said"; echo "0 passed, 1 failed"; exit 1; }
 if has cc 'C and Python'; then
     count 'the program in C' in_c decode && count 'a file in pieces' decodes
-    count 'the check in C' in_c check && count 'the table in C' check_c
+    count 'the check in C' in_c check && count 'the cases in C' check_c
     if has c++ 'the header in C++'; then
         count 'the header in C++' in_cxx
     fi
     if has python3 'Python'; then
-        count 'the shared object' shared && count 'the table in Python' check_python
+        count 'the shared object' shared && count 'the cases in Python' check_python
     fi
 fi
 if has cargo 'Rust'; then
-    count 'the crate in Rust' in_rust && count 'the table in Rust' check_rust
+    count 'the crate in Rust' in_rust && count 'the cases in Rust' check_rust
 fi
 echo "$passed passed, $failed failed"
 [ $failed = 0 ]

@@ -66,32 +66,49 @@ def is_ascii(big, raw):
     return _is_ascii(big, raw, len(raw))
 
 
-def to_utf8(big, raw, marked=False):
-    """The UTF-8, and how far it came: with U+FFFD for each fault, or up to the first one."""
-    room = ctypes.create_string_buffer(_to_utf8_len(big, raw, len(raw)) or 1)
-    found = (_to_utf8_marked if marked else _to_utf8)(big, raw, len(raw), room, len(room))
-    return room.raw[: found.written], found.read, found.status
+def to_utf8_len(big, raw):
+    """How many bytes of UTF-8 the bytes take, with U+FFFD for each fault."""
+    return _to_utf8_len(big, raw, len(raw))
 
 
-def from_utf8(big, text, marked=False):
-    """The UTF-16, and how far it came: with U+FFFD for each fault, or up to the first one."""
-    size = (_from_utf8_marked_len if marked else _from_utf8_len)(text, len(text))
-    room = ctypes.create_string_buffer(size or 1)
-    found = (_from_utf8_marked if marked else _from_utf8)(big, text, len(text), room, size)
-    return room.raw[: found.written], found.read, found.status
+def from_utf8_len(text):
+    """How many bytes of UTF-16 the bytes take, up to the first fault."""
+    return _from_utf8_len(text, len(text))
+
+
+def from_utf8_marked_len(text):
+    """How many bytes of UTF-16 the bytes take, with U+FFFD for each fault."""
+    return _from_utf8_marked_len(text, len(text))
+
+
+def _conversion(call, size):
+    def convert(big, source, room=None):
+        room = size(big, source) if room is None else room
+        to = ctypes.create_string_buffer(room or 1)
+        found = call(big, source, len(source), to, room)
+        return to.raw[: found.written], found.read, found.status, found.fault_len
+
+    return convert
+
+
+def _back_len(_big, text):
+    return from_utf8_marked_len(text)
+
+
+# Each gives what is written, how many bytes were read, the status, and the length of a fault, with room for all or for so many bytes.
+# Up to the first fault, with U+FFFD for each, and with what more bytes could change left unread.
+to_utf8 = _conversion(_to_utf8, to_utf8_len)
+to_utf8_marked = _conversion(_to_utf8_marked, to_utf8_len)
+to_utf8_stream = _conversion(_to_utf8_stream, to_utf8_len)
+# The same of UTF-8.
+from_utf8 = _conversion(_from_utf8, _back_len)
+from_utf8_marked = _conversion(_from_utf8_marked, _back_len)
 
 
 def byte_order(raw):
     """The order that a byte order mark tells, and how many bytes it takes."""
     found = _byte_order(raw, len(raw))
     return found.order, found.mark_len
-
-
-def decided(big, raw):
-    """The UTF-8 of what no further bytes can change, and the bytes that are left, at most three."""
-    room = ctypes.create_string_buffer(_to_utf8_len(big, raw, len(raw)) or 1)
-    found = _to_utf8_stream(big, raw, len(raw), room, len(room))
-    return room.raw[: found.written], raw[found.read :]
 
 
 class Stream:
@@ -113,3 +130,7 @@ class Stream:
         """U+FFFD where bytes are held, and else nothing."""
         found = _stream_finish(ctypes.byref(self._state), self._room, len(self._room))
         return self._room.raw[: found.written]
+
+    def held(self):
+        """The bytes that were given and are not decided."""
+        return bytes(self._state.held[: self._state.len])

@@ -164,6 +164,11 @@ impl Stream {
         Stream { big, state: State::default() }
     }
 
+    /// The bytes that were given and are not decided, at most three.
+    pub fn held(&self) -> &[u8] {
+        &self.state.held[..self.state.len as usize]
+    }
+
     /// Puts the text of what is decided now behind another; at most three bytes are held.
     pub fn feed(&mut self, piece: &[u8], text: &mut String) {
         let (mut room, mut rest) = ([0; 1024], piece);
