@@ -21,7 +21,6 @@ pub fn call<E: Utf16Order>(
         "WStr::from_utf16le_unchecked" => from_utf16le_unchecked(alloc, values, answer)?,
         "WStr::from_utf16be_unchecked" => from_utf16be_unchecked(alloc, values, answer)?,
         "WStr::clone" => clone::<E>(alloc, values, answer)?,
-        "Utf16Error::fmt" => shown::<E>(alloc, values, answer)?,
         _ => return Err(Trouble::Call),
     }
     values.end()
@@ -119,17 +118,4 @@ fn clone<E: Utf16Order>(
     let cloned: Result<_, _> = view::<E>(&raw)?.clone();
     answer.bytes(cloned?.as_bytes())?;
     Ok(())
-}
-
-// The words of the error that the bytes have.
-fn shown<E: Utf16Order>(
-    alloc: Global,
-    values: &mut Values,
-    answer: &mut Answer,
-) -> Result<(), Trouble> {
-    let raw = values.bytes(alloc, E::BIG)?;
-    match WStr::<E>::from_utf16(&raw) {
-        Ok(_) => Err(Trouble::Condition),
-        Err(error) => Ok(answer.text(error.to_string(alloc)?.as_str())?),
-    }
 }

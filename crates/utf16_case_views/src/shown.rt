@@ -1,11 +1,13 @@
-//! Views in UTF-8.
+//! Views in UTF-8, and what `{}` and `{:?}` write.
 
 use crate::made::view;
 use std::alloc::Global;
+use std::fmt::{Debug, Display};
 use utf16_case_lines::{Answer, How, Refuse, Trouble, Values};
 use utf16_testing::refusing::Refusing;
-use utf16string::Utf16Order;
+use utf16string::{Utf16Order, WStr};
 
+/// Makes a call that shows a view or an error. `Call` where none has this name.
 pub fn call<E: Utf16Order>(
     alloc: Global,
     name: &str,
@@ -16,10 +18,8 @@ pub fn call<E: Utf16Order>(
     match name {
         "WStr::to_utf8" => to_utf8::<E>(alloc, how, values, answer)?,
         "WStr::push_utf8" => push_utf8::<E>(alloc, how, values, answer)?,
-        "WStr::fmt" => {
-            let raw = values.bytes(alloc, E::BIG)?;
-            let text = view::<E>(&raw)?;
-            answer.text(format!(in alloc; "{text}")?.as_str())?;
+        "WStr::fmt" | "WStrChars::fmt" | "WStrCharIndices::fmt" | "Utf16Error::fmt" => {
+            fmt::<E>(alloc, name, values, answer)?
         }
         _ => return Err(Trouble::Call),
     }
@@ -81,4 +81,51 @@ fn push_utf8<E: Utf16Order>(
     }
     answer.text(to.as_str())?;
     requests(&memory, how, answer)
+}
+
+// What a format writes of a view, of its iterators or of the error of bytes that are no text.
+fn fmt<E: Utf16Order>(
+    alloc: Global,
+    name: &str,
+    values: &mut Values,
+    answer: &mut Answer,
+) -> Result<(), Trouble> {
+    let raw = values.bytes(alloc, E::BIG)?;
+    let format = values.word()?;
+    match (name, WStr::<E>::from_utf16(&raw)) {
+        ("WStr::fmt", Ok(text)) => written(alloc, &text, format, answer),
+        ("WStrChars::fmt", Ok(text)) if format == "{:?}" => debugs(alloc, &text.chars(), answer),
+        ("WStrCharIndices::fmt", Ok(text)) if format == "{:?}" => {
+            debugs(alloc, &text.char_indices(), answer)
+        }
+        ("Utf16Error::fmt", Err(error)) => written(alloc, &error, format, answer),
+        _ => Err(Trouble::Condition),
+    }
+}
+
+// What a format writes of a value.
+fn written<T: Display + Debug>(
+    alloc: Global,
+    value: &T,
+    format: &str,
+    answer: &mut Answer,
+) -> Result<(), Trouble> {
+    let text = match format {
+        "{}" => format!(in alloc; "{value}")?,
+        "{:>60}" => format!(in alloc; "{value:>60}")?,
+        "{:<60}" => format!(in alloc; "{value:<60}")?,
+        "{:*^60}" => format!(in alloc; "{value:*^60}")?,
+        "{:.3}" => format!(in alloc; "{value:.3}")?,
+        "{:?}" => return debugs(alloc, value, answer),
+        _ => return Err(Trouble::Value),
+    };
+    answer.text(text.as_str())?;
+    Ok(())
+}
+
+// What `{:?}` writes is not promised: the answer is `done` where it writes something.
+fn debugs<T: Debug>(alloc: Global, value: &T, answer: &mut Answer) -> Result<(), Trouble> {
+    let text = format!(in alloc; "{value:?}")?;
+    answer.word(if text.is_empty() { "none" } else { "done" })?;
+    Ok(())
 }

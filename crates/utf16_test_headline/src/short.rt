@@ -2,7 +2,6 @@
 //! the error's fields show and keep what a decoder of the tests does.
 
 use crate::checks::equal;
-use crate::resumed::{cut, ways};
 use std::process::Abort;
 use utf16_callers_streams::headline::resume;
 use utf16_testing::plain::decode;
@@ -21,6 +20,32 @@ fn telling(rt: &(impl Abort + AllocGlobal), len: u32, number: usize) -> Vec<u8> 
         number /= 8;
     }
     bytes
+}
+
+// The bytes, cut behind each of them whose bit is set, the first byte's being the lowest.
+fn cut(rt: &(impl Abort + AllocGlobal), bytes: &[u8], cuts: u64) -> Vec<Vec<u8>> {
+    let mut pieces = Vec::new(rt.alloc());
+    let mut piece = Vec::new(rt.alloc());
+    let mut cuts = cuts;
+    for byte in bytes {
+        piece.push(*byte).expect(rt, "memory");
+        if cuts % 2 == 1 {
+            pieces.push(piece).expect(rt, "memory");
+            piece = Vec::new(rt.alloc());
+        }
+        cuts /= 2;
+    }
+    pieces.push(piece).expect(rt, "memory");
+    pieces
+}
+
+// Two to the number of bytes: in how many ways a cut can stand behind each of them or not.
+fn ways(bytes: &[u8]) -> u64 {
+    let mut ways: u64 = 1;
+    for _ in bytes {
+        ways = ways.saturating_mul(2);
+    }
+    ways
 }
 
 // The plain loop over the pieces, with what it kept before each.

@@ -1,0 +1,125 @@
+"""Writes cases/seams.txt: characters and faults at each place of a block, and texts of each length, by Python's codecs."""
+
+import codecs
+import sys
+
+# At the edges of what a character takes in UTF-8.
+CHARACTERS = [0x7F, 0x80, 0x7FF, 0x800, 0xE000, 0xFFFF, 0x10000, 0x10FFFF]
+# How much stands before: each place of the shorter blocks, and the seams of the longer ones.
+PLACES = [*range(18), *range(30, 35), *range(62, 67)]
+# A character of each length in UTF-8, and those at the edges of each.
+MIXED = "a\xe9\u4e00\u4e00\x7f\U0001f600\U0010ffff\uffff\u07ff\ud7ff\ue000"
+# Two units among letters, and what is written of them where they are made well formed.
+WELL_FORMED = {
+    "D83DDE00": "D83DDE00",
+    "D8000061": "FFFD0061",
+    "DBFFD800": "FFFDFFFD",
+    "0061DC00": "0061FFFD",
+    "DFFFDC00": "FFFDFFFD",
+    "DC00D800": "FFFDFFFD",
+    "D7FFE000": "D7FFE000",
+}
+
+
+def spelled(text):
+    """A text in double quotes."""
+    plain = lambda c: "!" <= c <= "~" and c not in "\"'\\+"
+    return '"' + "".join(c if plain(c) else f"\\u{{{ord(c):X}}}" for c in text) + '"'
+
+
+def line(name, call, values, *answer, how="both"):
+    print(name, how, call, *values, "=", *answer)
+
+
+def parts(*texts, mark=""):
+    """Texts one behind another, each so many times."""
+    found = [f"{count}*{mark}{spelled(text)}" for count, text in texts if count and text]
+    return "+".join(found) or ("-" if mark else '""')
+
+
+def utf16(*texts):
+    return parts(*texts, mark="~")
+
+
+def whole(texts):
+    return "".join(text * count for count, text in texts)
+
+
+def to_utf8(name, *texts):
+    line(name, "WStr::to_utf8", [utf16(*texts)], parts(*texts))
+
+
+def into_buffer(name, *texts):
+    text = whole(texts)
+    raw, utf8 = text.encode("utf-16-le"), text.encode()
+    line(name, "to_utf8", [utf16(*texts), len(utf8)], len(raw), len(utf8), "end", parts(*texts))
+    line(name, "from_utf8", [parts(*texts), len(raw)], len(utf8), len(raw), "end", utf16(*texts))
+
+
+def from_utf8(name, *texts):
+    line(name, "WString::from_str", [spelled(whole(texts))], utf16(*texts))
+    line(name, "WString::push_str", ['~"x"', spelled(whole(texts))], "done", utf16((1, "x"), *texts))
+
+
+def asked(name, *texts):
+    text = whole(texts)
+    line(name, "count", [utf16(*texts)], len(text))
+    line(name, "is_ascii", [utf16(*texts)], str(text.isascii()).lower())
+    line(name, "WStrChars::count", [utf16(*texts)], len(text))
+    line(name, "WStr::is_ascii", [utf16(*texts)], str(text.isascii()).lower())
+
+
+def taken(name, units, before, after, odd):
+    """By the codec's error: what stands before it, and how many bytes it has where more of them change nothing."""
+    raw = b"\0a" * before + bytes.fromhex(units) + b"\0a" * after + b"\0" * odd
+    ones = [f"{before}*^0061"] * (before > 0) + [f"1*^{units}"] + [f"{after}*^0061"] * (after > 0) + ["1*^00"] * odd
+    try:
+        codecs.utf_16_be_decode(raw, "strict", True)
+        answer = ["+".join(ones)]
+    except UnicodeDecodeError as error:
+        is_cut = "truncated" in error.reason or "unexpected end" in error.reason
+        answer = ["error", error.start, "none" if is_cut else 2]
+    line(name, "WStr::from_utf16", ["+".join(ones)], *answer)
+
+
+def well_formed(name, units, before, after):
+    front, back = f"{before}*^0061+" if before else "", f"+{after}*^0061" if after else ""
+    size = 2 * before + 4 + 2 * after
+    line(name, "write_well_formed", [f"{front}1*^{units}{back}", 256], size, f"{front}1*^{WELL_FORMED[units]}{back}")
+
+
+def main():
+    print("# Written by cases/seams.py, by Python's codecs: characters and faults at each place of a block, and texts of each")
+    print("# length, so that each lane of each way is passed once.")
+    for c in map(chr, CHARACTERS):
+        name = f"place.U+{ord(c):04X}"
+        for before in PLACES:
+            to_utf8(name, (before, "a"), (1, c), (35, "a"))
+            from_utf8(name, (before, "x"), (1, c), (20, "x"))
+        for before in range(18):
+            to_utf8(name, (before, "\u4e00"), (1, c), (35, "\u4e00"))
+            into_buffer(name, (before, "\U0001f600"), (1, c), (20, "\U0001f600"))
+        for before in (*range(507, 514), *range(1020, 1026)):
+            to_utf8(name, (before, "a"), (1, c), (520, "a"))
+            to_utf8(name, (before // 2, "\U0001f600"), (1, c), (600, "\U0001f600"))
+        for before in range(2040, 2050):
+            into_buffer(name, (before, "x"), (1, c), (20, "x"))
+        for before in (*PLACES[18:], *range(126, 131)):
+            asked(name, (before, "a"), (1, c), (35, "a"))
+    for count in (*range(70), 150, 209):
+        text = (MIXED * 30)[count % 11 : count % 11 + count]
+        to_utf8("length", (1, text))
+        into_buffer("length", (1, text))
+        from_utf8("length", (1, text))
+    for units in ("D83DDE00", "D8000061", "DC000061", "DBFFDFFF", "D800"):
+        for before in PLACES:
+            taken("taken", units, before, 0, 0)
+            taken("taken", units, before, 35, 0)
+            taken("taken.odd", units, before, 2, 1)
+    for units in WELL_FORMED:
+        for before in PLACES:
+            well_formed("well_formed", units, before, 1)
+            well_formed("well_formed", units, before, 6)
+
+
+sys.exit(main())
