@@ -14,51 +14,10 @@ pub fn call<E: Utf16Order>(
     answer: &mut Answer,
 ) -> Result<(), Trouble> {
     match name {
-        "eq" => eq::<E>(bench, values, answer),
-        "lt" => lt::<E>(bench, values, answer),
-        "le" => le::<E>(bench, values, answer),
-        "cmp" => cmp::<E>(bench, values, answer),
-        "partial_cmp" => partial_cmp::<E>(bench, values, answer),
+        "eq" | "lt" | "le" | "cmp" | "partial_cmp" => two::<E>(bench, name, values, answer),
         "hash" => hash::<E>(bench, values, answer),
         _ => Err(Trouble::Call),
     }
-}
-
-// `==` and `!=`, which never say the same.
-fn eq<E: Utf16Order>(
-    bench: &Bench,
-    values: &mut Values,
-    answer: &mut Answer,
-) -> Result<(), Trouble> {
-    let one = bench.string::<E>(values)?;
-    let other = bench.string::<E>(values)?;
-    values.end()?;
-    answer.truth(one == other)?;
-    Ok(())
-}
-
-fn lt<E: Utf16Order>(
-    bench: &Bench,
-    values: &mut Values,
-    answer: &mut Answer,
-) -> Result<(), Trouble> {
-    let one = bench.string::<E>(values)?;
-    let other = bench.string::<E>(values)?;
-    values.end()?;
-    answer.truth(one < other)?;
-    Ok(())
-}
-
-fn le<E: Utf16Order>(
-    bench: &Bench,
-    values: &mut Values,
-    answer: &mut Answer,
-) -> Result<(), Trouble> {
-    let one = bench.string::<E>(values)?;
-    let other = bench.string::<E>(values)?;
-    values.end()?;
-    answer.truth(one <= other)?;
-    Ok(())
 }
 
 // An ordering by its word.
@@ -70,29 +29,22 @@ fn word(ordering: Ordering) -> &'static str {
     }
 }
 
-fn cmp<E: Utf16Order>(
+// How two strings compare.
+fn two<E: Utf16Order>(
     bench: &Bench,
+    name: &str,
     values: &mut Values,
     answer: &mut Answer,
 ) -> Result<(), Trouble> {
     let one = bench.string::<E>(values)?;
     let other = bench.string::<E>(values)?;
     values.end()?;
-    answer.word(word(one.cmp(&other)))?;
-    Ok(())
-}
-
-fn partial_cmp<E: Utf16Order>(
-    bench: &Bench,
-    values: &mut Values,
-    answer: &mut Answer,
-) -> Result<(), Trouble> {
-    let one = bench.string::<E>(values)?;
-    let other = bench.string::<E>(values)?;
-    values.end()?;
-    match one.partial_cmp(&other) {
-        Some(ordering) => answer.word(word(ordering))?,
-        None => answer.word("none")?,
+    match name {
+        "eq" => answer.truth(one == other)?,
+        "lt" => answer.truth(one < other)?,
+        "le" => answer.truth(one <= other)?,
+        "cmp" => answer.word(word(one.cmp(&other)))?,
+        _ => answer.word(one.partial_cmp(&other).map_or("none", word))?,
     }
     Ok(())
 }

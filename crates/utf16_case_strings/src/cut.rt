@@ -13,12 +13,8 @@ pub fn call<E: Utf16Order>(
     answer: &mut Answer,
 ) -> Result<(), Trouble> {
     match name {
-        "pop" => pop::<E>(bench, values, answer),
-        "remove" => remove::<E>(bench, values, answer),
-        "truncate" => truncate::<E>(bench, values, answer),
-        "clear" => clear::<E>(bench, values, answer),
-        "split_off" => split_off::<E>(bench, values, answer),
-        "shrink_to_fit" => shrink_to_fit::<E>(bench, values, answer),
+        "pop" | "clear" | "shrink_to_fit" => changed::<E>(bench, name, values, answer),
+        "remove" | "truncate" | "split_off" => changed_at::<E>(bench, name, values, answer),
         "overwrite" => overwrite::<E>(bench, values, answer),
         "into_order" => into_order::<E>(bench, values, answer),
         "retain" => retained::retain::<E>(bench, values, answer),
@@ -27,14 +23,32 @@ pub fn call<E: Utf16Order>(
     }
 }
 
-fn pop<E: Utf16Order>(
+// A change where nothing more is said.
+fn changed<E: Utf16Order>(
     bench: &Bench,
+    name: &str,
     values: &mut Values,
     answer: &mut Answer,
 ) -> Result<(), Trouble> {
     let mut string = bench.string::<E>(values)?;
     values.end()?;
     bench.begin();
+    let done = match name {
+        "pop" => return popped(bench, answer, string),
+        "clear" => {
+            string.clear();
+            Ok(())
+        }
+        _ => string.shrink_to_fit(),
+    };
+    bench.done(answer, done, &string)
+}
+
+fn popped<E: Utf16Order>(
+    bench: &Bench,
+    answer: &mut Answer,
+    mut string: WString<E, Heap>,
+) -> Result<(), Trouble> {
     match string.pop() {
         Some(c) => answer.character(c)?,
         None => answer.word("none")?,
@@ -42,79 +56,35 @@ fn pop<E: Utf16Order>(
     bench.left(answer, &string)
 }
 
-fn remove<E: Utf16Order>(
+// A change at an offset.
+fn changed_at<E: Utf16Order>(
     bench: &Bench,
-    values: &mut Values,
-    answer: &mut Answer,
-) -> Result<(), Trouble> {
-    let mut string = bench.string::<E>(values)?;
-    let idx = values.number()?;
-    values.end()?;
-    if idx >= string.len() || !string.is_char_boundary(idx) {
-        return Err(Trouble::Condition);
-    }
-    bench.begin();
-    answer.character(string.remove(idx))?;
-    bench.left(answer, &string)
-}
-
-fn truncate<E: Utf16Order>(
-    bench: &Bench,
-    values: &mut Values,
-    answer: &mut Answer,
-) -> Result<(), Trouble> {
-    let mut string = bench.string::<E>(values)?;
-    let new_len = values.number()?;
-    values.end()?;
-    if new_len < string.len() && !string.is_char_boundary(new_len) {
-        return Err(Trouble::Condition);
-    }
-    bench.begin();
-    string.truncate(new_len);
-    bench.done(answer, Ok(()), &string)
-}
-
-fn clear<E: Utf16Order>(
-    bench: &Bench,
-    values: &mut Values,
-    answer: &mut Answer,
-) -> Result<(), Trouble> {
-    let mut string = bench.string::<E>(values)?;
-    values.end()?;
-    bench.begin();
-    string.clear();
-    bench.done(answer, Ok(()), &string)
-}
-
-fn split_off<E: Utf16Order>(
-    bench: &Bench,
+    name: &str,
     values: &mut Values,
     answer: &mut Answer,
 ) -> Result<(), Trouble> {
     let mut string = bench.string::<E>(values)?;
     let at = values.number()?;
     values.end()?;
-    if !string.is_char_boundary(at) {
+    let is_end = at >= string.len();
+    if !string.is_char_boundary(at) && !(name == "truncate" && is_end)
+        || name == "remove" && is_end
+    {
         return Err(Trouble::Condition);
     }
     bench.begin();
-    match string.split_off(at) {
-        Ok(back) => answer.bytes(back.as_bytes())?,
-        Err(_) => answer.word("no_memory")?,
+    match name {
+        "remove" => answer.character(string.remove(at))?,
+        "truncate" => {
+            string.truncate(at);
+            answer.word("done")?;
+        }
+        _ => match string.split_off(at) {
+            Ok(back) => answer.bytes(back.as_bytes())?,
+            Err(_) => answer.word("no_memory")?,
+        },
     }
     bench.left(answer, &string)
-}
-
-fn shrink_to_fit<E: Utf16Order>(
-    bench: &Bench,
-    values: &mut Values,
-    answer: &mut Answer,
-) -> Result<(), Trouble> {
-    let mut string = bench.string::<E>(values)?;
-    values.end()?;
-    bench.begin();
-    let done = string.shrink_to_fit();
-    bench.done(answer, done, &string)
 }
 
 fn overwrite<E: Utf16Order>(

@@ -18,7 +18,7 @@ pub fn call<E: Utf16Order>(
         "push_str" => push_str::<E>(bench, values, answer),
         "insert" => insert::<E>(bench, values, answer),
         "insert_wstr" => insert_wstr::<E>(bench, values, answer),
-        "extend" => extend::<E>(bench, values, answer),
+        "extend" => extend::<E>(bench, false, values, answer),
         "reserve" => reserve::<E>(bench, values, answer),
         _ => Err(Trouble::Call),
     }
@@ -114,8 +114,10 @@ fn extended<E: Utf16Order>(
     bench.done(answer, done, string)
 }
 
-fn extend<E: Utf16Order>(
+/// Puts characters last, by the call or by the trait of that name.
+pub fn extend<E: Utf16Order>(
     bench: &Bench,
+    by_trait: bool,
     values: &mut Values,
     answer: &mut Answer,
 ) -> Result<(), Trouble> {
@@ -124,23 +126,11 @@ fn extend<E: Utf16Order>(
     values.end()?;
     bench.begin();
     let mut chars = text.chars();
-    let done = string.extend(&mut chars);
-    let left: String<Global> = chars.collect(bench.alloc)?;
-    extended(bench, answer, done, left.as_str(), &string)
-}
-
-/// The same by the trait.
-pub fn extend_by_trait<E: Utf16Order>(
-    bench: &Bench,
-    values: &mut Values,
-    answer: &mut Answer,
-) -> Result<(), Trouble> {
-    let mut string = bench.string::<E>(values)?;
-    let text = values.text(bench.alloc)?;
-    values.end()?;
-    bench.begin();
-    let mut chars = text.chars();
-    let done = Extend::extend(&mut string, &mut chars);
+    let done = if by_trait {
+        Extend::extend(&mut string, &mut chars)
+    } else {
+        string.extend(&mut chars)
+    };
     let left: String<Global> = chars.collect(bench.alloc)?;
     extended(bench, answer, done, left.as_str(), &string)
 }

@@ -45,7 +45,7 @@ fn by_name<E: Utf16Order>(
     answer: &mut Answer,
 ) -> Result<(), Trouble> {
     if name == "Extend::extend" {
-        return grown::extend_by_trait::<E>(bench, values, answer);
+        return grown::extend::<E>(bench, true, values, answer);
     }
     let Some(name) = name.strip_prefix("WString::") else {
         return Err(Trouble::Call);

@@ -15,12 +15,10 @@ pub fn call<E: Utf16Order>(
     match name {
         "new" => new::<E>(bench, values, answer),
         "with_capacity" => with_capacity::<E>(bench, values, answer),
-        "from_utf16" => from_utf16::<E>(bench, values, answer),
-        "from_utf16le" => from_utf16le::<E>(bench, values, answer),
-        "from_utf16be" => from_utf16be::<E>(bench, values, answer),
-        "from_utf16_unchecked" => from_utf16_unchecked::<E>(bench, values, answer),
-        "from_utf16le_unchecked" => from_utf16le_unchecked::<E>(bench, values, answer),
-        "from_utf16be_unchecked" => from_utf16be_unchecked::<E>(bench, values, answer),
+        "from_utf16" | "from_utf16le" | "from_utf16be" => tested::<E>(bench, name, values, answer),
+        "from_utf16_unchecked" => unchecked::<E>(bench, values, answer),
+        "from_utf16le_unchecked" => unchecked_le::<E>(bench, values, answer),
+        "from_utf16be_unchecked" => unchecked_be::<E>(bench, values, answer),
         "from_str" => from_str::<E>(bench, values, answer),
         "from_wstr" => from_wstr::<E>(bench, values, answer),
         "from_iter" => from_iter::<E>(bench, values, answer),
@@ -57,7 +55,7 @@ fn with_capacity<E: Utf16Order>(
 }
 
 // A string that was made, or the fields of the error.
-fn tested<E: Utf16Order>(
+fn made_or_error<E: Utf16Order>(
     bench: &Bench,
     answer: &mut Answer,
     made: Result<WString<E>, Utf16Error>,
@@ -76,44 +74,24 @@ fn tested<E: Utf16Order>(
     }
 }
 
-fn from_utf16<E: Utf16Order>(
+// The calls for one order are made in that order alone.
+fn tested<E: Utf16Order>(
     bench: &Bench,
+    name: &str,
     values: &mut Values,
     answer: &mut Answer,
 ) -> Result<(), Trouble> {
     let raw = values.bytes(bench.alloc, E::BIG)?;
     values.end()?;
-    tested(bench, answer, WString::<E>::from_utf16(raw))
-}
-
-// The calls for one order are made in that order alone.
-fn from_utf16le<E: Utf16Order>(
-    bench: &Bench,
-    values: &mut Values,
-    answer: &mut Answer,
-) -> Result<(), Trouble> {
-    if E::BIG {
-        return Err(Trouble::Condition);
+    match name {
+        "from_utf16" => made_or_error(bench, answer, WString::<E>::from_utf16(raw)),
+        "from_utf16le" if !E::BIG => made_or_error(bench, answer, WString::from_utf16le(raw)),
+        "from_utf16be" if E::BIG => made_or_error(bench, answer, WString::from_utf16be(raw)),
+        _ => Err(Trouble::Condition),
     }
-    let raw = values.bytes(bench.alloc, false)?;
-    values.end()?;
-    tested(bench, answer, WString::from_utf16le(raw))
 }
 
-fn from_utf16be<E: Utf16Order>(
-    bench: &Bench,
-    values: &mut Values,
-    answer: &mut Answer,
-) -> Result<(), Trouble> {
-    if !E::BIG {
-        return Err(Trouble::Condition);
-    }
-    let raw = values.bytes(bench.alloc, true)?;
-    values.end()?;
-    tested(bench, answer, WString::from_utf16be(raw))
-}
-
-fn from_utf16_unchecked<E: Utf16Order>(
+fn unchecked<E: Utf16Order>(
     bench: &Bench,
     values: &mut Values,
     answer: &mut Answer,
@@ -126,7 +104,7 @@ fn from_utf16_unchecked<E: Utf16Order>(
     bench.left(answer, &WString::<E>::from_utf16_unchecked(raw))
 }
 
-fn from_utf16le_unchecked<E: Utf16Order>(
+fn unchecked_le<E: Utf16Order>(
     bench: &Bench,
     values: &mut Values,
     answer: &mut Answer,
@@ -139,7 +117,7 @@ fn from_utf16le_unchecked<E: Utf16Order>(
     bench.left(answer, &WString::from_utf16le_unchecked(raw))
 }
 
-fn from_utf16be_unchecked<E: Utf16Order>(
+fn unchecked_be<E: Utf16Order>(
     bench: &Bench,
     values: &mut Values,
     answer: &mut Answer,

@@ -1,9 +1,8 @@
 //! What a string shows of itself.
 
 use crate::bench::Bench;
-use crate::parts::{self, By};
-use crate::written;
-use utf16_case_lines::{Answer, Trouble, Values};
+use crate::{parts, written};
+use utf16_case_lines::{Answer, By, Trouble, Values};
 use utf16string::Utf16Order;
 
 /// Makes a call that reads a string. `Call` where none has this name.
@@ -14,14 +13,10 @@ pub fn call<E: Utf16Order>(
     answer: &mut Answer,
 ) -> Result<(), Trouble> {
     match name {
-        "capacity" => capacity::<E>(bench, values, answer),
-        "len" => len::<E>(bench, values, answer),
-        "is_empty" => is_empty::<E>(bench, values, answer),
-        "as_bytes" => as_bytes::<E>(bench, values, answer),
-        "as_wstr" => as_wstr::<E>(bench, values, answer),
-        "into_bytes" => into_bytes::<E>(bench, values, answer),
+        "capacity" | "len" | "is_empty" | "is_ascii" | "as_bytes" | "as_wstr" | "into_bytes" => {
+            shown::<E>(bench, name, values, answer)
+        }
         "is_char_boundary" => is_char_boundary::<E>(bench, values, answer),
-        "is_ascii" => is_ascii::<E>(bench, values, answer),
         "fits" => fits::<E>(bench, values, answer),
         "chars" => chars::<E>(bench, values, answer),
         "char_indices" => char_indices::<E>(bench, values, answer),
@@ -34,69 +29,24 @@ pub fn call<E: Utf16Order>(
     }
 }
 
-fn capacity<E: Utf16Order>(
+// What a string shows where nothing more is asked.
+fn shown<E: Utf16Order>(
     bench: &Bench,
+    name: &str,
     values: &mut Values,
     answer: &mut Answer,
 ) -> Result<(), Trouble> {
     let string = bench.string::<E>(values)?;
     values.end()?;
-    answer.number(string.capacity())?;
-    Ok(())
-}
-
-fn len<E: Utf16Order>(
-    bench: &Bench,
-    values: &mut Values,
-    answer: &mut Answer,
-) -> Result<(), Trouble> {
-    let string = bench.string::<E>(values)?;
-    values.end()?;
-    answer.number(string.len())?;
-    Ok(())
-}
-
-fn is_empty<E: Utf16Order>(
-    bench: &Bench,
-    values: &mut Values,
-    answer: &mut Answer,
-) -> Result<(), Trouble> {
-    let string = bench.string::<E>(values)?;
-    values.end()?;
-    answer.truth(string.is_empty())?;
-    Ok(())
-}
-
-fn as_bytes<E: Utf16Order>(
-    bench: &Bench,
-    values: &mut Values,
-    answer: &mut Answer,
-) -> Result<(), Trouble> {
-    let string = bench.string::<E>(values)?;
-    values.end()?;
-    answer.bytes(string.as_bytes())?;
-    Ok(())
-}
-
-fn as_wstr<E: Utf16Order>(
-    bench: &Bench,
-    values: &mut Values,
-    answer: &mut Answer,
-) -> Result<(), Trouble> {
-    let string = bench.string::<E>(values)?;
-    values.end()?;
-    answer.bytes(string.as_wstr().as_bytes())?;
-    Ok(())
-}
-
-fn into_bytes<E: Utf16Order>(
-    bench: &Bench,
-    values: &mut Values,
-    answer: &mut Answer,
-) -> Result<(), Trouble> {
-    let string = bench.string::<E>(values)?;
-    values.end()?;
-    answer.bytes(string.into_bytes().as_slice())?;
+    match name {
+        "capacity" => answer.number(string.capacity())?,
+        "len" => answer.number(string.len())?,
+        "is_empty" => answer.truth(string.is_empty())?,
+        "is_ascii" => answer.truth(string.is_ascii())?,
+        "as_bytes" => answer.bytes(string.as_bytes())?,
+        "as_wstr" => answer.bytes(string.as_wstr().as_bytes())?,
+        _ => answer.bytes(string.into_bytes().as_slice())?,
+    }
     Ok(())
 }
 
@@ -109,17 +59,6 @@ fn is_char_boundary<E: Utf16Order>(
     let index = values.number()?;
     values.end()?;
     answer.truth(string.is_char_boundary(index))?;
-    Ok(())
-}
-
-fn is_ascii<E: Utf16Order>(
-    bench: &Bench,
-    values: &mut Values,
-    answer: &mut Answer,
-) -> Result<(), Trouble> {
-    let string = bench.string::<E>(values)?;
-    values.end()?;
-    answer.truth(string.is_ascii())?;
     Ok(())
 }
 
