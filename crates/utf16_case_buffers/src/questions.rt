@@ -5,18 +5,13 @@ use utf16_case_lines::{Answer, Trouble, Values};
 use utf16_transcode::{count, is_ascii, utf8_size, utf16_marked_size, utf16_size};
 use utf16_units::Utf16Order;
 
+/// Answers one of the questions by its name.
 pub fn call<E: Utf16Order>(
     alloc: Global,
     name: &str,
     values: &mut Values,
     answer: &mut Answer,
 ) -> Result<(), Trouble> {
-    if !matches!(
-        name,
-        "utf8_size" | "utf16_size" | "utf16_marked_size" | "count" | "is_ascii"
-    ) {
-        return Err(Trouble::Call);
-    }
     let bytes = values.bytes(alloc, E::BIG)?;
     values.end()?;
     match name {

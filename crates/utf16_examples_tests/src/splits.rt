@@ -45,6 +45,7 @@ fn split_is<E: Utf16Order>(
     holds(rt, same);
 }
 
+// A mistake that no clause sees: as built, a character is found at bytes that stand inside another.
 #[test]
 fn split_once_at_the_first(rt: HostRuntime) {
     for (text, delimiter, wanted) in SPLITS {
@@ -76,6 +77,7 @@ fn split_gives(rt: &(impl Abort + AllocGlobal), text: &str, delimiter: char, wan
     parts_are::<BE>(rt, text, delimiter, wanted);
 }
 
+// A mistake that no clause sees: as built, the iterator loses an empty part.
 #[test]
 fn split_at_each(rt: HostRuntime) {
     split_gives(&rt, "", ',', &[""]);

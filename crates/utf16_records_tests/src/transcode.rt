@@ -65,6 +65,7 @@ fn goes<E: Utf16Order, F: Utf16Order>(
     are(rt, &swapped, other);
 }
 
+// A mistake that no clause sees: memory is refused though it is there.
 #[test]
 fn whole(rt: HostRuntime) {
     goes::<LE, BE>(&rt, Order::Little, &MIXED, &MIXED_BE);
@@ -106,6 +107,7 @@ fn no_text(
     }
 }
 
+// A mistake that no clause sees: the definition of an error is not that of the worked ones.
 #[test]
 fn no_texts(rt: HostRuntime) {
     for (big, bytes, place, len, _, text) in &faults() {
@@ -119,6 +121,7 @@ fn no_texts(rt: HostRuntime) {
     equal(&rt, marked.as_str() == "A\u{FFFD}", true);
 }
 
+// A mistake that no clause sees: a refused request leaves a block behind.
 #[test]
 fn memory_refused(rt: HostRuntime) {
     let heap = Refusing::new(rt.alloc());

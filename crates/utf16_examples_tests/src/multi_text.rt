@@ -83,6 +83,7 @@ fn steps<E: Utf16Order>(rt: &impl Abort, table: WStr<E>, wanted: &[WString<E>]) 
     holds(rt, left.next().is_none());
 }
 
+// A mistake that no clause sees: the definition of a table is not that of the worked ones.
 #[test]
 fn tables_are_read(rt: HostRuntime) {
     for (table, wanted) in TABLES {
@@ -99,6 +100,7 @@ fn one_is_read(rt: &(impl Abort + AllocGlobal), raw: &[u8], wanted: &[u8]) {
     holds(rt, found[0].as_bytes() == wanted);
 }
 
+// A mistake that no clause sees: the definition of a table is not the form that a registry has.
 #[test]
 fn a_registry_value_is_read(rt: HostRuntime) {
     let text = &BOOT_EXECUTE[..38];
@@ -112,6 +114,7 @@ fn is_written<E: Utf16Order>(rt: &(impl Abort + AllocGlobal), table: &str, texts
     holds(rt, written == string(rt, table));
 }
 
+// A mistake that no clause sees: memory is refused though it is there.
 #[test]
 fn tables_are_written(rt: HostRuntime) {
     for (table, texts) in &TABLES[..5] {
@@ -128,6 +131,7 @@ fn is_refused<E: Utf16Order>(rt: &(impl Abort + AllocGlobal), texts: &[&str], wa
     }
 }
 
+// A mistake that no clause sees: the definition lets in a text that would end its table.
 #[test]
 fn what_no_table_holds_is_refused(rt: HostRuntime) {
     for (texts, wanted) in REFUSED {
@@ -168,6 +172,7 @@ fn in_turn(rt: &(impl Abort + AllocGlobal), is_reading: bool) -> u64 {
     panic!(rt; "no run met no refusal");
 }
 
+// A mistake that no clause sees: a refused request leaves a block behind.
 #[test]
 fn memory_is_refused(rt: HostRuntime) {
     holds(&rt, 1 <= in_turn(&rt, true));

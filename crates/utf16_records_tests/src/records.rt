@@ -46,6 +46,7 @@ fn read<E: Utf16Order>(rt: &(impl Abort + AllocGlobal), record: &[u8]) {
     equal(rt, (first.len(), rest.len()), (10, 10));
 }
 
+// A mistake that no clause sees: the definition of a record is not that of the worked ones.
 #[test]
 fn all_of_a_record(rt: HostRuntime) {
     read::<LE>(&rt, &RECORD);
@@ -74,6 +75,7 @@ const CUTS: [(usize, usize, usize, usize); 4] = [
     (16, 21, 14, 16),
 ];
 
+// A mistake that no clause sees: the definition takes a field that is cut off for a whole one.
 #[test]
 fn cut_off(rt: HostRuntime) {
     for (first, last, field, place) in CUTS {
@@ -92,6 +94,7 @@ const CHANGED: [(usize, u8, (usize, usize, Option<Option<usize>>)); 4] = [
     (21, 0, (14, 18, Some(Some(2)))),
 ];
 
+// A mistake that no clause sees: the definition looks past a byte that makes another record.
 #[test]
 fn changed(rt: HostRuntime) {
     for (at, byte, wanted) in CHANGED {
@@ -101,6 +104,7 @@ fn changed(rt: HostRuntime) {
     }
 }
 
+// A mistake that no clause sees: a refused request leaves a block behind.
 #[test]
 fn memory_refused(rt: HostRuntime) {
     let heap = Refusing::new(rt.alloc());

@@ -105,6 +105,7 @@ fn refused_then_done<E: Utf16Order>(rt: &(impl Abort + AllocGlobal), call: Call,
     equal(rt, heap.live_blocks(), 0);
 }
 
+// A mistake that no clause sees: a call asks more than once, or a refused one leaves a block.
 #[test]
 fn calls_of_a_string(rt: HostRuntime) {
     for (call, wanted) in CALLS {
@@ -153,6 +154,7 @@ fn reserved<E: Utf16Order>(rt: &(impl Abort + AllocGlobal)) {
     equal(rt, heap.requests(), 0);
 }
 
+// A mistake that no clause sees: a size that no vector can hold is asked of the allocator.
 #[test]
 fn sizes_of_a_string(rt: HostRuntime) {
     sizes::<LE>(&rt);

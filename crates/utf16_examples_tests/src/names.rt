@@ -80,6 +80,7 @@ fn come<E: Utf16Order>(rt: &(impl Abort + AllocGlobal)) {
     equal(rt, table.in_order(), IN_ORDER.as_slice());
 }
 
+// A mistake that no clause sees: memory is refused though it is there.
 #[test]
 fn names_get_numbers(rt: HostRuntime) {
     come::<LE>(&rt);
@@ -113,6 +114,7 @@ fn put_in<E: Utf16Order, A: Allocator + Clone>(rt: &(impl Abort + AllocGlobal), 
     has_names(rt, &table, &NAMES);
 }
 
+// A mistake that no clause sees: a refused request leaves a block behind.
 #[test]
 fn memory_is_refused(rt: HostRuntime) {
     let requests = in_turn::<LE>(&rt);
