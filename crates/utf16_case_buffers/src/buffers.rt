@@ -1,5 +1,7 @@
 //! Buffers, and what a call leaves in them.
 
+ghost use Rattle.std.specs.Prelude.{◌≡◌, IfOk, length};
+
 use std::alloc::{AllocError, Global};
 use utf16_case_lines::{Answer, Trouble};
 use utf16_transcode::{Progress, Stop};
@@ -8,7 +10,9 @@ use utf16_transcode::{Progress, Stop};
 const BEFORE: u8 = 0xEE;
 
 /// A buffer of so many bytes.
-pub fn buffer(alloc: Global, room: usize) -> Result<Vec<u8>, AllocError> {
+pub fn buffer(alloc: Global, room: usize) -> Result<Vec<u8>, AllocError>
+    ensures { IfOk result (λ to. length to.items ≡ room) }
+{
     vec![in alloc; BEFORE; room]
 }
 

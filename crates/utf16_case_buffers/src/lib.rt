@@ -1,4 +1,5 @@
-//! The calls of `utf16_transcode` over buffers of the caller's, and those below it and below strings, as cases name them.
+//! The calls of `utf16_transcode` over buffers of the caller's, and those below it and below
+//! strings, as cases name them.
 #![tactic(auto)]
 
 mod buffers;
@@ -30,9 +31,14 @@ pub fn call<E: Utf16Order>(
         "Stream::new" => streams::new(values, answer),
         "Stream::held" => streams::held(alloc, values, answer),
         "Stream::feed" => streams::feed::<E>(alloc, values, answer),
-        "count" | "is_ascii" | "utf8_size" | "utf16_size" | "utf16_marked_size" => {
-            questions::call::<E>(alloc, name, values, answer)
-        }
+        "count"
+        | "is_ascii"
+        | "utf8_size"
+        | "utf16_size"
+        | "utf16_marked_size"
+        | "has_ascii_units"
+        | "trailing_units"
+        | "first_char_len" => { questions::call::<E>(alloc, name, values, answer) }
         _ => texts::call::<E>(alloc, name, values, answer),
     }
 }

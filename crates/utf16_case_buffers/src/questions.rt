@@ -3,7 +3,8 @@
 use std::alloc::Global;
 use utf16_case_lines::{Answer, Trouble, Values};
 use utf16_transcode::{count, is_ascii, utf8_size, utf16_marked_size, utf16_size};
-use utf16_units::Utf16Order;
+use utf16_units::text::{has_ascii_units, trailing_units};
+use utf16_units::{Utf16Order, first_char_len};
 
 /// Answers one of the questions by its name.
 pub fn call<E: Utf16Order>(
@@ -19,7 +20,26 @@ pub fn call<E: Utf16Order>(
         "utf16_size" => answer.number(utf16_size(&bytes))?,
         "utf16_marked_size" => answer.number(utf16_marked_size(&bytes))?,
         "count" => answer.number(count::<E>(&bytes))?,
-        _ => answer.truth(is_ascii::<E>(&bytes))?,
+        "is_ascii" => answer.truth(is_ascii::<E>(&bytes))?,
+        "has_ascii_units" => answer.truth(has_ascii_units::<E>(&bytes))?,
+        "trailing_units" => answer.number(trailing_units::<E>(&bytes))?,
+        _ => front::<E>(&bytes, answer)?,
+    }
+    Ok(())
+}
+
+// How many bytes the character at the front has, or `fault` and how many the fault has, or `cut`.
+fn front<E: Utf16Order>(bytes: &[u8], answer: &mut Answer) -> Result<(), Trouble> {
+    if bytes.is_empty() {
+        return Err(Trouble::Condition);
+    }
+    match first_char_len::<E>(bytes) {
+        Ok(len) => answer.number(len)?,
+        Err(Some(len)) => {
+            answer.word("fault")?;
+            answer.number(len as usize)?;
+        }
+        Err(None) => answer.word("cut")?,
     }
     Ok(())
 }

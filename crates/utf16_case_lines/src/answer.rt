@@ -19,8 +19,8 @@ impl Answer {
         }
     }
 
-    /// What the words of a table want: the same words, with bytes in place of a `~` and a text and of a
-    /// `^` and code units, and with the bytes or the text in place of parts that are repeated.
+    /// What the words of a table want: the same words, with bytes in place of a `~` and a text and
+    /// of a `^` and code units, and with the bytes or the text in place of parts that are repeated.
     pub fn wanted(alloc: Global, words: &[&str], is_big: bool) -> Result<Self, Trouble> {
         let mut answer = Answer::new(alloc);
         for word in words {

@@ -20,8 +20,8 @@ pub struct Case<'a> {
 }
 
 impl<'a> Case<'a> {
-    /// The case that the words of a line say: a name, how, a call, its values, `=`, and what it gives. `Form` where they are not
-    /// of that form.
+    /// The case that the words of a line say: a name, how, a call, its values, `=`, and what it
+    /// gives. `Form` where they are not of that form.
     pub fn read(words: &'a [&'a str]) -> Result<Self, Trouble>
         ensures { IfOk result (λ case. (equals : _) × (equals.now ≡ codes "=") × (words.now
             ≡ case.name ∷ case.how ∷ case.call ∷ case.values.now ++ equals ∷ case.wanted.now)) }

@@ -1,4 +1,5 @@
-//! Characters as a table spells them: those of ASCII that can be seen as they are, all others by their number.
+//! Characters as a table spells them: those of ASCII that can be seen as they are, all others by
+//! their number.
 
 use crate::trouble::Trouble;
 use std::alloc::{AllocError, Global};

@@ -77,8 +77,9 @@ pub struct How {
 }
 
 impl How {
-    /// What a word says: `le`, `be` or `both`, and each condition behind a `;`: `refuse=2`, `refuse=2..`, `room=8`, `counted`,
-    /// `capacity`, `reads=1,2`, `writes=1,2`, `read=fails@3`, `write=nothing@1`.
+    /// What a word says: `le`, `be` or `both`, and each condition behind a `;`: `refuse=2`,
+    /// `refuse=2..`, `room=8`, `counted`, `capacity`, `reads=1,2`, `writes=1,2`, `read=fails@3`,
+    /// `write=nothing@1`.
     pub fn read(alloc: Global, word: &str) -> Result<Self, Trouble> {
         let mut parts = word.split(';');
         let (little, big) = match parts.next() {

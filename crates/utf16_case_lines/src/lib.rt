@@ -1,5 +1,5 @@
-//! A line of a table of cases: the words that it has, the values that they spell, and what a call gave written in the same
-//! words.
+//! A line of a table of cases: the words that it has, the values that they spell, and what a call
+//! gave written in the same words.
 #![tactic(auto)]
 
 mod answer;

@@ -15,6 +15,7 @@ pub fn pieces<E: Utf16Order>(alloc: Global, values: &mut Values) -> Result<Vec<V
     Ok(pieces)
 }
 
+/// The text of pieces.
 pub fn decode_pieces<E: Utf16Order>(
     alloc: Global,
     how: &How,

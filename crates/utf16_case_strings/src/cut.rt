@@ -1,11 +1,11 @@
 //! Strings cut and written over.
 
 use crate::bench::{Bench, Heap};
-use crate::retained;
+use crate::{read, retained};
 use utf16_case_lines::{Answer, Trouble, Values};
 use utf16string::{BigEndian, LittleEndian, Utf16Order, WString};
 
-/// Makes a call that changes a string and does not make it grow. `Call` where none has this name.
+/// Makes a call that changes a string and does not make it grow, or any other, by `read`.
 pub fn call<E: Utf16Order>(
     bench: &Bench,
     name: &str,
@@ -19,7 +19,7 @@ pub fn call<E: Utf16Order>(
         "into_order" => into_order::<E>(bench, values, answer),
         "retain" => retained::retain::<E>(bench, values, answer),
         "retain_by" => retained::retain_by::<E>(bench, values, answer),
-        _ => Err(Trouble::Call),
+        _ => read::call::<E>(bench, name, values, answer),
     }
 }
 

@@ -1,11 +1,12 @@
 //! Strings that grow.
 
 use crate::bench::{Bench, Heap};
+use crate::cut;
 use std::alloc::{AllocError, Global};
 use utf16_case_lines::{Answer, Trouble, Values};
 use utf16string::{Utf16Order, WString};
 
-/// Makes a call by which a string grows. `Call` where none has this name.
+/// Makes a call by which a string grows, or any other, by `cut`.
 pub fn call<E: Utf16Order>(
     bench: &Bench,
     name: &str,
@@ -20,7 +21,7 @@ pub fn call<E: Utf16Order>(
         "insert_wstr" => insert_wstr::<E>(bench, values, answer),
         "extend" => extend::<E>(bench, false, values, answer),
         "reserve" => reserve::<E>(bench, values, answer),
-        _ => Err(Trouble::Call),
+        _ => cut::call::<E>(bench, name, values, answer),
     }
 }
 

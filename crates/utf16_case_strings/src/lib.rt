@@ -37,7 +37,7 @@ pub fn call<E: Utf16Order>(
     bench.end(answer)
 }
 
-// Makes a call of the first group that has its name.
+// Makes a call. Each module hands a name that it does not know on to the next one.
 fn by_name<E: Utf16Order>(
     bench: &Bench,
     name: &str,
@@ -50,21 +50,5 @@ fn by_name<E: Utf16Order>(
     let Some(name) = name.strip_prefix("WString::") else {
         return Err(Trouble::Call);
     };
-    match made::call::<E>(bench, name, values, answer) {
-        Err(Trouble::Call) => {}
-        done => return done,
-    }
-    match grown::call::<E>(bench, name, values, answer) {
-        Err(Trouble::Call) => {}
-        done => return done,
-    }
-    match cut::call::<E>(bench, name, values, answer) {
-        Err(Trouble::Call) => {}
-        done => return done,
-    }
-    match read::call::<E>(bench, name, values, answer) {
-        Err(Trouble::Call) => {}
-        done => return done,
-    }
-    compared::call::<E>(bench, name, values, answer)
+    made::call::<E>(bench, name, values, answer)
 }

@@ -1,11 +1,12 @@
 //! Strings made.
 
 use crate::bench::{Bench, Heap};
+use crate::grown;
 use std::alloc::AllocError;
 use utf16_case_lines::{Answer, Trouble, Values};
 use utf16string::{BigEndian, LittleEndian, Utf16Error, Utf16Order, WStr, WString};
 
-/// Makes a call that makes a string. `Call` where none has this name.
+/// Makes a call that makes a string, or any other, by `grown`.
 pub fn call<E: Utf16Order>(
     bench: &Bench,
     name: &str,
@@ -23,7 +24,7 @@ pub fn call<E: Utf16Order>(
         "from_wstr" => from_wstr::<E>(bench, values, answer),
         "from_iter" => from_iter::<E>(bench, values, answer),
         "clone" => clone::<E>(bench, values, answer),
-        _ => Err(Trouble::Call),
+        _ => grown::call::<E>(bench, name, values, answer),
     }
 }
 

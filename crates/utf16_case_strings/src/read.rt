@@ -1,11 +1,11 @@
 //! What a string shows of itself.
 
 use crate::bench::Bench;
-use crate::{parts, written};
+use crate::{compared, parts, written};
 use utf16_case_lines::{Answer, By, Trouble, Values};
 use utf16string::Utf16Order;
 
-/// Makes a call that reads a string. `Call` where none has this name.
+/// Makes a call that reads a string, or any other, by `compared`.
 pub fn call<E: Utf16Order>(
     bench: &Bench,
     name: &str,
@@ -25,7 +25,7 @@ pub fn call<E: Utf16Order>(
         "get_unchecked" => parts::part::<E>(bench, By::GetUnchecked, values, answer),
         "index" => parts::part::<E>(bench, By::Index, values, answer),
         "fmt" => written::fmt::<E>(bench, values, answer),
-        _ => Err(Trouble::Call),
+        _ => compared::call::<E>(bench, name, values, answer),
     }
 }
 

@@ -14,18 +14,9 @@ use std::alloc::Global;
 use utf16_case_lines::{Answer, How, Trouble, Values};
 use utf16string::Utf16Order;
 
-// Returns what a module made of a call, unless it has none of this name.
-macro_rules! returns_unless_unknown {
-    ($made:expr) => {
-        match $made {
-            Err(Trouble::Call) => {}
-            made => return made,
-        }
-    };
-}
-
-/// Makes a call on these values and adds what it gave. `Call` where no call of units and views has this name; then no value was
-/// taken.
+/// Makes a call on these values and adds what it gave. `Call` where no call of units and views has
+/// this name; then no value was taken. Each module hands a name that it does not know on to the
+/// next one.
 pub fn call<E: Utf16Order>(
     alloc: Global,
     name: &str,
@@ -33,12 +24,8 @@ pub fn call<E: Utf16Order>(
     values: &mut Values,
     answer: &mut Answer,
 ) -> Result<(), Trouble> {
-    returns_unless_unknown!(units::call::<E>(alloc, name, values, answer));
-    returns_unless_unknown!(made::call::<E>(alloc, name, values, answer));
-    returns_unless_unknown!(measures::call::<E>(alloc, name, values, answer));
-    returns_unless_unknown!(parts::call::<E>(alloc, name, values, answer));
-    returns_unless_unknown!(walks::call::<E>(alloc, name, values, answer));
-    returns_unless_unknown!(compared::call::<E>(alloc, name, values, answer));
-    returns_unless_unknown!(shown::call::<E>(alloc, name, how, values, answer));
-    written::call::<E>(alloc, name, values, answer)
+    match shown::call::<E>(alloc, name, how, values, answer) {
+        Err(Trouble::Call) => units::call::<E>(alloc, name, values, answer),
+        made => made,
+    }
 }

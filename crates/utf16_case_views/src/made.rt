@@ -3,10 +3,12 @@
 ghost use Rattle.std.specs.Prelude.{IsOk};
 ghost use Rattle.utf16_units.specs.Encoding.{IsText};
 
+use crate::measures;
 use std::alloc::Global;
 use utf16_case_lines::{Answer, Trouble, Values};
-use utf16string::{BigEndian, LittleEndian, Utf16Error, Utf16Order, WStr};
+use utf16string::{Utf16Error, Utf16Order, WStr};
 
+/// Makes a call that makes a view, in the order that its name says, or any other, by `measures`.
 pub fn call<E: Utf16Order>(
     alloc: Global,
     name: &str,
@@ -14,14 +16,14 @@ pub fn call<E: Utf16Order>(
     answer: &mut Answer,
 ) -> Result<(), Trouble> {
     match name {
-        "WStr::from_utf16" => from_utf16::<E>(alloc, values, answer)?,
-        "WStr::from_utf16le" => from_utf16le(alloc, values, answer)?,
-        "WStr::from_utf16be" => from_utf16be(alloc, values, answer)?,
-        "WStr::from_utf16_unchecked" => from_utf16_unchecked::<E>(alloc, values, answer)?,
-        "WStr::from_utf16le_unchecked" => from_utf16le_unchecked(alloc, values, answer)?,
-        "WStr::from_utf16be_unchecked" => from_utf16be_unchecked(alloc, values, answer)?,
+        "WStr::from_utf16" | "WStr::from_utf16le" | "WStr::from_utf16be" => {
+            tested::<E>(alloc, name, values, answer)?;
+        }
+        "WStr::from_utf16_unchecked"
+        | "WStr::from_utf16le_unchecked"
+        | "WStr::from_utf16be_unchecked" => untested::<E>(alloc, name, values, answer)?,
         "WStr::clone" => clone::<E>(alloc, values, answer)?,
-        _ => return Err(Trouble::Call),
+        _ => return measures::call::<E>(alloc, name, values, answer),
     }
     values.end()
 }
@@ -57,55 +59,41 @@ fn made<E: Utf16Order>(
     }
 }
 
-fn from_utf16<E: Utf16Order>(
+fn tested<E: Utf16Order>(
     alloc: Global,
+    name: &str,
     values: &mut Values,
     answer: &mut Answer,
 ) -> Result<(), Trouble> {
     let raw = values.bytes(alloc, E::BIG)?;
-    made::<E>(answer, WStr::from_utf16(&raw))
+    match name {
+        "WStr::from_utf16" => made::<E>(answer, WStr::from_utf16(&raw)),
+        "WStr::from_utf16le" if !E::BIG => made(answer, WStr::from_utf16le(&raw)),
+        "WStr::from_utf16be" if E::BIG => made(answer, WStr::from_utf16be(&raw)),
+        _ => Err(Trouble::Condition),
+    }
 }
 
-fn from_utf16le(alloc: Global, values: &mut Values, answer: &mut Answer) -> Result<(), Trouble> {
-    let raw = values.bytes(alloc, false)?;
-    made(answer, WStr::from_utf16le(&raw))
-}
-
-fn from_utf16be(alloc: Global, values: &mut Values, answer: &mut Answer) -> Result<(), Trouble> {
-    let raw = values.bytes(alloc, true)?;
-    made(answer, WStr::from_utf16be(&raw))
-}
-
-fn from_utf16_unchecked<E: Utf16Order>(
+fn untested<E: Utf16Order>(
     alloc: Global,
+    name: &str,
     values: &mut Values,
     answer: &mut Answer,
 ) -> Result<(), Trouble> {
     let raw = values.bytes(alloc, E::BIG)?;
     view::<E>(&raw)?;
-    answer.bytes(WStr::<E>::from_utf16_unchecked(&raw).as_bytes())?;
-    Ok(())
-}
-
-fn from_utf16le_unchecked(
-    alloc: Global,
-    values: &mut Values,
-    answer: &mut Answer,
-) -> Result<(), Trouble> {
-    let raw = values.bytes(alloc, false)?;
-    view::<LittleEndian>(&raw)?;
-    answer.bytes(WStr::from_utf16le_unchecked(&raw).as_bytes())?;
-    Ok(())
-}
-
-fn from_utf16be_unchecked(
-    alloc: Global,
-    values: &mut Values,
-    answer: &mut Answer,
-) -> Result<(), Trouble> {
-    let raw = values.bytes(alloc, true)?;
-    view::<BigEndian>(&raw)?;
-    answer.bytes(WStr::from_utf16be_unchecked(&raw).as_bytes())?;
+    match name {
+        "WStr::from_utf16_unchecked" => {
+            answer.bytes(WStr::<E>::from_utf16_unchecked(&raw).as_bytes())?;
+        }
+        "WStr::from_utf16le_unchecked" if !E::BIG => {
+            answer.bytes(WStr::from_utf16le_unchecked(&raw).as_bytes())?;
+        }
+        "WStr::from_utf16be_unchecked" if E::BIG => {
+            answer.bytes(WStr::from_utf16be_unchecked(&raw).as_bytes())?;
+        }
+        _ => return Err(Trouble::Condition),
+    }
     Ok(())
 }
 

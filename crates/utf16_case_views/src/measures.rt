@@ -1,10 +1,12 @@
 //! Lengths and boundaries of views.
 
 use crate::made::view;
+use crate::parts;
 use std::alloc::Global;
 use utf16_case_lines::{Answer, Trouble, Values};
 use utf16string::Utf16Order;
 
+/// Makes a call that measures a view or asks about an offset, or any other, by `parts`.
 pub fn call<E: Utf16Order>(
     alloc: Global,
     name: &str,
@@ -12,27 +14,31 @@ pub fn call<E: Utf16Order>(
     answer: &mut Answer,
 ) -> Result<(), Trouble> {
     match name {
-        "WStr::len" => {
-            let raw = values.bytes(alloc, E::BIG)?;
-            answer.number(view::<E>(&raw)?.len())?;
-        }
-        "WStr::is_empty" => {
-            let raw = values.bytes(alloc, E::BIG)?;
-            answer.truth(view::<E>(&raw)?.is_empty())?;
-        }
-        "WStr::is_ascii" => {
-            let raw = values.bytes(alloc, E::BIG)?;
-            answer.truth(view::<E>(&raw)?.is_ascii())?;
-        }
-        "WStr::as_bytes" => {
-            let raw = values.bytes(alloc, E::BIG)?;
-            answer.bytes(view::<E>(&raw)?.as_bytes())?;
+        "WStr::len" | "WStr::is_empty" | "WStr::is_ascii" | "WStr::as_bytes" => {
+            of_view::<E>(alloc, name, values, answer)?;
         }
         "WStr::is_char_boundary" => is_char_boundary::<E>(alloc, values, answer)?,
         "WStr::fits" => fits::<E>(alloc, values, answer)?,
-        _ => return Err(Trouble::Call),
+        _ => return parts::call::<E>(alloc, name, values, answer),
     }
     values.end()
+}
+
+fn of_view<E: Utf16Order>(
+    alloc: Global,
+    name: &str,
+    values: &mut Values,
+    answer: &mut Answer,
+) -> Result<(), Trouble> {
+    let raw = values.bytes(alloc, E::BIG)?;
+    let text = view::<E>(&raw)?;
+    match name {
+        "WStr::len" => answer.number(text.len())?,
+        "WStr::is_empty" => answer.truth(text.is_empty())?,
+        "WStr::is_ascii" => answer.truth(text.is_ascii())?,
+        _ => answer.bytes(text.as_bytes())?,
+    }
+    Ok(())
 }
 
 fn is_char_boundary<E: Utf16Order>(

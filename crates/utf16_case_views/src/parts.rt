@@ -1,10 +1,12 @@
 //! Parts of views: by ranges, on both sides of an offset or a character, and between delimiters.
 
 use crate::made::view;
+use crate::walks;
 use std::alloc::Global;
 use utf16_case_lines::{Answer, By, Span, Trouble, Values};
 use utf16string::{Utf16Order, WStr};
 
+/// Makes a call that takes a part of a view, or any other, by `walks`.
 pub fn call<E: Utf16Order>(
     alloc: Global,
     name: &str,
@@ -19,7 +21,7 @@ pub fn call<E: Utf16Order>(
         "WStr::split_at_checked" => split_at_checked::<E>(alloc, values, answer)?,
         "WStr::split_once" => split_once::<E>(alloc, values, answer)?,
         "WStr::split" => split::<E>(alloc, values, answer)?,
-        _ => return Err(Trouble::Call),
+        _ => return walks::call::<E>(alloc, name, values, answer),
     }
     values.end()
 }

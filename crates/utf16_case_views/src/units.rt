@@ -1,5 +1,6 @@
 //! Units, byte orders and one character.
 
+use crate::made;
 use std::alloc::Global;
 use utf16_case_lines::{Answer, Trouble, Values};
 use utf16_units::{
@@ -8,6 +9,7 @@ use utf16_units::{
 };
 use utf16string::Utf16Order;
 
+/// Makes a call on units, on an order or on one character, or any other, by `made`.
 pub fn call<E: Utf16Order>(
     alloc: Global,
     name: &str,
@@ -25,7 +27,7 @@ pub fn call<E: Utf16Order>(
         )?,
         "Utf16CharExt::encode_utf16_into" => encode_utf16_into::<E>(alloc, values, answer)?,
         "validate_raw_utf16" => validate::<E>(alloc, values, answer)?,
-        _ => return Err(Trouble::Call),
+        _ => return made::call::<E>(alloc, name, values, answer),
     }
     values.end()
 }
@@ -82,7 +84,7 @@ fn validate<E: Utf16Order>(
     let bytes = values.bytes(alloc, E::BIG)?;
     match validate_raw_utf16::<E>(&bytes) {
         Ok(()) => answer.word("done")?,
-        Err(error) => crate::made::refused(answer, error)?,
+        Err(error) => made::refused(answer, error)?,
     }
     Ok(())
 }

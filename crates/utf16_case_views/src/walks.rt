@@ -1,10 +1,12 @@
 //! Views walked from both ends.
 
+use crate::compared;
 use crate::made::view;
 use std::alloc::{AllocError, Global};
 use utf16_case_lines::{Answer, Trouble, Values};
 use utf16string::Utf16Order;
 
+/// Makes a call of an iterator over a view, or any other, by `compared`.
 pub fn call<E: Utf16Order>(
     alloc: Global,
     name: &str,
@@ -13,26 +15,31 @@ pub fn call<E: Utf16Order>(
 ) -> Result<(), Trouble> {
     match name {
         "WStr::chars" => chars::<E>(alloc, values, answer)?,
-        "WStrChars::count" => {
-            let raw = values.bytes(alloc, E::BIG)?;
-            answer.number(view::<E>(&raw)?.chars().count())?;
-        }
-        "WStrChars::last" => {
-            let raw = values.bytes(alloc, E::BIG)?;
-            character(answer, view::<E>(&raw)?.chars().last())?;
-        }
+        "WStrChars::count"
+        | "WStrChars::last"
+        | "WStrCharIndices::count"
+        | "WStrCharIndices::last" => end::<E>(alloc, name, values, answer)?,
         "WStr::char_indices" => char_indices::<E>(alloc, values, answer)?,
-        "WStrCharIndices::count" => {
-            let raw = values.bytes(alloc, E::BIG)?;
-            answer.number(view::<E>(&raw)?.char_indices().count())?;
-        }
-        "WStrCharIndices::last" => {
-            let raw = values.bytes(alloc, E::BIG)?;
-            place(answer, view::<E>(&raw)?.char_indices().last())?;
-        }
-        _ => return Err(Trouble::Call),
+        _ => return compared::call::<E>(alloc, name, values, answer),
     }
     values.end()
+}
+
+fn end<E: Utf16Order>(
+    alloc: Global,
+    name: &str,
+    values: &mut Values,
+    answer: &mut Answer,
+) -> Result<(), Trouble> {
+    let raw = values.bytes(alloc, E::BIG)?;
+    let text = view::<E>(&raw)?;
+    match name {
+        "WStrChars::count" => answer.number(text.chars().count())?,
+        "WStrChars::last" => character(answer, text.chars().last())?,
+        "WStrCharIndices::count" => answer.number(text.char_indices().count())?,
+        _ => place(answer, text.char_indices().last())?,
+    }
+    Ok(())
 }
 
 fn character(answer: &mut Answer, found: Option<char>) -> Result<(), AllocError> {

@@ -3,7 +3,34 @@
 use crate::made::{refused, view};
 use std::alloc::Global;
 use utf16_case_lines::{Answer, Trouble, Values};
-use utf16string::{BigEndian, LittleEndian, Utf16Order, WStr, WStrMut};
+use utf16string::{Utf16Order, WStr, WStrMut};
+
+/// Makes a call of a view that writes, and adds the bytes as they are after it. `Call` where none
+/// has this name.
+pub fn call<E: Utf16Order>(
+    alloc: Global,
+    name: &str,
+    values: &mut Values,
+    answer: &mut Answer,
+) -> Result<(), Trouble> {
+    if !name.starts_with("WStrMut::") {
+        return Err(Trouble::Call);
+    }
+    let mut raw = values.bytes(alloc, E::BIG)?;
+    match name {
+        "WStrMut::from_utf16" | "WStrMut::from_utf16le" | "WStrMut::from_utf16be" => {
+            tested::<E>(name, &mut raw, answer)?;
+        }
+        "WStrMut::from_utf16_unchecked"
+        | "WStrMut::from_utf16le_unchecked"
+        | "WStrMut::from_utf16be_unchecked" => untested::<E>(name, &mut raw, answer)?,
+        "WStrMut::fits" => fits::<E>(alloc, &mut raw, values, answer)?,
+        "WStrMut::overwrite" => overwrite::<E>(alloc, &mut raw, values, answer)?,
+        _ => return Err(Trouble::Call),
+    }
+    answer.bytes(&raw)?;
+    values.end()
+}
 
 // What the view shows and the bytes that it gives back, or the fields of the error.
 macro_rules! made {
@@ -18,46 +45,30 @@ macro_rules! made {
     };
 }
 
-pub fn call<E: Utf16Order>(
-    alloc: Global,
-    name: &str,
-    values: &mut Values,
-    answer: &mut Answer,
-) -> Result<(), Trouble> {
-    if !name.starts_with("WStrMut::") {
-        return Err(Trouble::Call);
-    }
-    let mut raw = values.bytes(alloc, E::BIG)?;
+fn tested<E: Utf16Order>(name: &str, raw: &mut [u8], answer: &mut Answer) -> Result<(), Trouble> {
     match name {
-        "WStrMut::from_utf16" => made!(answer, WStrMut::<E>::from_utf16(&mut raw)),
-        "WStrMut::from_utf16le" => made!(answer, WStrMut::from_utf16le(&mut raw)),
-        "WStrMut::from_utf16be" => made!(answer, WStrMut::from_utf16be(&mut raw)),
-        "WStrMut::from_utf16_unchecked" => unchecked::<E>(answer, &mut raw)?,
-        "WStrMut::from_utf16le_unchecked" => unchecked_le(answer, &mut raw)?,
-        "WStrMut::from_utf16be_unchecked" => unchecked_be(answer, &mut raw)?,
-        "WStrMut::fits" => fits::<E>(alloc, &mut raw, values, answer)?,
-        "WStrMut::overwrite" => overwrite::<E>(alloc, &mut raw, values, answer)?,
-        _ => return Err(Trouble::Call),
+        "WStrMut::from_utf16le" if !E::BIG => made!(answer, WStrMut::from_utf16le(raw)),
+        "WStrMut::from_utf16be" if E::BIG => made!(answer, WStrMut::from_utf16be(raw)),
+        "WStrMut::from_utf16" => made!(answer, WStrMut::<E>::from_utf16(raw)),
+        _ => return Err(Trouble::Condition),
     }
-    answer.bytes(&raw)?;
-    values.end()
+    Ok(())
 }
 
-fn unchecked<E: Utf16Order>(answer: &mut Answer, raw: &mut [u8]) -> Result<(), Trouble> {
+fn untested<E: Utf16Order>(name: &str, raw: &mut [u8], answer: &mut Answer) -> Result<(), Trouble> {
     view::<E>(raw)?;
-    answer.bytes(WStrMut::<E>::from_utf16_unchecked(raw).as_wstr().as_bytes())?;
-    Ok(())
-}
-
-fn unchecked_le(answer: &mut Answer, raw: &mut [u8]) -> Result<(), Trouble> {
-    view::<LittleEndian>(raw)?;
-    answer.bytes(WStrMut::from_utf16le_unchecked(raw).as_wstr().as_bytes())?;
-    Ok(())
-}
-
-fn unchecked_be(answer: &mut Answer, raw: &mut [u8]) -> Result<(), Trouble> {
-    view::<BigEndian>(raw)?;
-    answer.bytes(WStrMut::from_utf16be_unchecked(raw).as_wstr().as_bytes())?;
+    match name {
+        "WStrMut::from_utf16le_unchecked" if !E::BIG => {
+            answer.bytes(WStrMut::from_utf16le_unchecked(raw).as_wstr().as_bytes())?;
+        }
+        "WStrMut::from_utf16be_unchecked" if E::BIG => {
+            answer.bytes(WStrMut::from_utf16be_unchecked(raw).as_wstr().as_bytes())?;
+        }
+        "WStrMut::from_utf16_unchecked" => {
+            answer.bytes(WStrMut::<E>::from_utf16_unchecked(raw).as_wstr().as_bytes())?;
+        }
+        _ => return Err(Trouble::Condition),
+    }
     Ok(())
 }
 

@@ -1,4 +1,5 @@
-//! `utf16_cases` runs the cases of a table on standard input, and prints those that differ and how many passed and failed.
+//! `utf16_cases` runs the cases of a table on standard input, and prints those that differ and how
+//! many passed and failed.
 #![tactic(auto)]
 
 mod run;
