@@ -1,4 +1,5 @@
--- The parts of a text that is cut at each delimiter: how many they are, and what an iterator of them gives.
+-- The parts of a text that is cut at each delimiter: how many they are, and what an iterator of
+-- them gives.
 use Rattle.std.proofs.Common.{◌≡◌, ◌+◌, ◌^◌, ◌<◌, ℕ, Bool, true, eqb, List, ◌∷◌, length, Some, sym, subst, arith, ap}
 use Rattle.std.specs.Iterator.{MakesProgress, YieldsFirstBy, item_count}
 use Rattle.std.specs.Iterator.Runs.{EveryRun, ItemsMapTo}

@@ -12,7 +12,8 @@ abbrev pub parts_left : ℕ → Option (List ℕ) → List (List ℕ)
 parts_left delimiter None = []
 parts_left delimiter (Some rest) = slice_split (λ c. c == delimiter) rest
 
--- an iterator that shows the texts that are left gives views of them, in order; the view tells of which type they are
+-- an iterator that shows the texts that are left gives views of them, in order; the view tells of
+-- which type they are
 abbrev pub YieldsTexts : {E : Type 0} {order : Ghosts E} → WStr E order → Type 0
 YieldsTexts {E = E} {order = order} like =
     EveryRun (YieldsFirstBy (wstr_text {E = E} {order = order}) (λ (rest : List (List ℕ)). rest)) (λ p. ItemsMapTo p (wstr_text {E = E} {order = order}) p.from)

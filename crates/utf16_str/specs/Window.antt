@@ -1,4 +1,5 @@
--- Windows of ranges over a string, and the parts of its text and of its bytes in a window. Offsets count bytes.
+-- Windows of ranges over a string, and the parts of its text and of its bytes in a window. Offsets
+-- count bytes.
 use Rattle.std.specs.Prelude.{ℕ, ◌+◌, ◌-◌, ◌≤◌, Bool, List, [], Option, None, Some, drop, length, nat_lt, take, if◌then◌else◌}
 use Rattle.utf16_units.specs.Boundary.{IsBoundary, text_between}
 use Rattle.utf16_units.specs.Encoding.{text_of}
@@ -26,7 +27,8 @@ window_bytes bytes (Some window) = bytes_between bytes window.0 window.1
 abbrev pub inclusive_window : ℕ → ℕ → Option (ℕ × ℕ)
 inclusive_window start last = if nat_lt last 0xFFFF_FFFF_FFFF_FFFF then Some (start, last + 1) else None
 
--- a range of a string, by the string's bytes and the window that the range has for their number: whether it is one of the text
+-- a range of a string, by the string's bytes and the window that the range has for their number:
+-- whether it is one of the text
 abbrev pub IsRangeOf : Bool → List ℕ → (ℕ → Option (ℕ × ℕ)) → Type 0
 IsRangeOf big bytes window = IsWindowOf (text_of big bytes) (window (length bytes))
 

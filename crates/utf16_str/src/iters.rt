@@ -12,7 +12,8 @@ use utf16_units::ends::{first_char, last_char};
 use utf16_units::text::count_chars;
 use utf16_units::{Utf16CharExt, Utf16Order};
 
-/// The characters left of a [`WStr`], from either end. Where none is left, `next` and `next_back` answer `None` for good.
+/// The characters left of a [`WStr`], from either end. Where none is left, `next` and `next_back`
+/// answer `None` for good.
 #[derive(Drop)]
 pub struct WStrChars<'a, E: Utf16Order> {
     pub(crate) rest: WStr<'a, E>,
@@ -95,8 +96,8 @@ impl<'a, E: Utf16Order> fmt::Debug for WStrChars<'a, E> {
     }
 }
 
-/// The characters left of a [`WStr`], each beside its byte offset in it, from either end. Where none is left, `next` and
-/// `next_back` answer `None` for good.
+/// The characters left of a [`WStr`], each beside its byte offset in it, from either end. Where
+/// none is left, `next` and `next_back` answer `None` for good.
 #[derive(Drop)]
 pub struct WStrCharIndices<'a, E: Utf16Order> {
     pub(crate) offset: usize,

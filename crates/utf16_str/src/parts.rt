@@ -11,7 +11,8 @@ use crate::{SliceIndex, WStr};
 use utf16_units::{Utf16CharExt, Utf16Order};
 
 impl<'a, E: Utf16Order> WStr<'a, E> {
-    /// The part of a range, or `None` where its window is reversed, or an end is no character boundary.
+    /// The part of a range, or `None` where its window is reversed, or an end is no character
+    /// boundary.
     #[inline]
     pub fn get<I: SliceIndex<E>>(self, index: I) -> Option<WStr<'a, E>>
         ensures some { IsSome result ↔ IsRangeOf E.BIG (wstr_bytes self.entry) (I.window index) }
@@ -31,7 +32,8 @@ impl<'a, E: Utf16Order> WStr<'a, E> {
         index.get_unchecked(self)
     }
 
-    /// The part of a range: write it for `s[a..b]`. The caller proves that there is one; `get` tests it.
+    /// The part of a range: write it for `s[a..b]`. The caller proves that there is one; `get`
+    /// tests it.
     #[inline]
     pub fn index<I: SliceIndex<E>>(self, index: I) -> WStr<'a, E>
         requires { IsRangeOf E.BIG (wstr_bytes self) (I.window index) }
@@ -41,8 +43,8 @@ impl<'a, E: Utf16Order> WStr<'a, E> {
         index.index(self)
     }
 
-    /// The two parts on both sides of a byte offset. The caller proves that it is a character boundary; `is_char_boundary` tests
-    /// it.
+    /// The two parts on both sides of a byte offset. The caller proves that it is a character
+    /// boundary; `is_char_boundary` tests it.
     #[inline]
     pub fn split_at(self, mid: usize) -> (WStr<'a, E>, WStr<'a, E>)
         requires { IsBoundary (wstr_text self) mid }
@@ -76,8 +78,8 @@ impl<'a, E: Utf16Order> WStr<'a, E> {
         }
     }
 
-    /// What stands in front of the first such character, and what stands behind it, or `None` where the text lacks it. One pass,
-    /// up to that character; no copy.
+    /// What stands in front of the first such character, and what stands behind it, or `None` where
+    /// the text lacks it. One pass, up to that character; no copy.
     #[tactic(auto, using(crate::proofs::CharSearch::passing))]
     pub fn split_once(self, delimiter: char) -> Option<(WStr<'a, E>, WStr<'a, E>)>
         ensures none { IsNone result ↔ Lacks delimiter (wstr_text self.entry) }

@@ -9,16 +9,18 @@ use crate::WStr;
 use std::ops::{Range, RangeFrom, RangeFull, RangeInclusive, RangeTo, RangeToInclusive};
 use utf16_units::Utf16Order;
 
-/// A range that names a part of a string by its window, from one byte offset up to another. There is a part exactly where
-/// there is a window, its start is at most its end, and both are character boundaries.
+/// A range that names a part of a string by its window, from one byte offset up to another. There
+/// is a part exactly where there is a window, its start is at most its end, and both are character
+/// boundaries.
 ///
-/// Anyone may implement it: a type of ranges says what its window is, and proves that `window` computes it.
+/// Anyone may implement it: a type of ranges says what its window is, and proves that `window`
+/// computes it.
 pub trait SliceIndex<E: Utf16Order> {
     // The window over a string of so many bytes, where there is one.
     ghost window: { Self → ℕ → Option (ℕ × ℕ) };
 
-    /// The window over a string of `len` bytes, or `None` where there is none. It may be reversed, out of range or off the
-    /// boundaries; `get` tests that.
+    /// The window over a string of `len` bytes, or `None` where there is none. It may be reversed,
+    /// out of range or off the boundaries; `get` tests that.
     fn window(self, len: usize) -> Option<(usize, usize)>
         ensures { result ≡ window self len };
 

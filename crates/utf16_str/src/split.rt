@@ -11,8 +11,8 @@ use crate::WStr;
 use std::marker::Model;
 use utf16_units::Utf16Order;
 
-/// The parts that are left of a [`WStr`] cut at each such character, each a view without it. Where none is left, `next` answers
-/// `None` for good.
+/// The parts that are left of a [`WStr`] cut at each such character, each a view without it. Where
+/// none is left, `next` answers `None` for good.
 #[derive(Drop)]
 pub struct WStrSplit<'a, E: Utf16Order> {
     rest: Option<WStr<'a, E>>,
@@ -44,9 +44,10 @@ impl<'a, E: Utf16Order> Iterator for WStrSplit<'a, E> {
 }
 
 impl<'a, E: Utf16Order> WStr<'a, E> {
-    /// The parts of the text, cut at each such character and without it, in order, as `str::split` gives them: the empty text has
-    /// one part, the empty one, and a delimiter at an end or beside another has an empty part there. No copy is made and no memory
-    /// is asked for. One pass over the text.
+    /// The parts of the text, cut at each such character and without it, in order, as `str::split`
+    /// gives them: the empty text has one part, the empty one, and a delimiter at an end or beside
+    /// another has an empty part there. No copy is made and no memory is asked for. One pass over
+    /// the text.
     pub fn split(self, delimiter: char) -> WStrSplit<'a, E>
         ensures parts { result ≡ slice_split (λ c. c == delimiter) (wstr_text self.entry) }
         ensures joined { join_with_byte delimiter result ≡ wstr_text self.entry }

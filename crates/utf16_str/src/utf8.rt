@@ -10,8 +10,8 @@ use utf16_to_utf8::append_utf8;
 use utf16_units::Utf16Order;
 
 impl<'a, E: Utf16Order> WStr<'a, E> {
-    /// The same characters in UTF-8. The only error is a refused request for memory. Room is asked for once, for the empty text
-    /// not at all; two passes over the text.
+    /// The same characters in UTF-8. The only error is a refused request for memory. Room is asked
+    /// for once, for the empty text not at all; two passes over the text.
     pub fn to_utf8<A: Allocator>(&self, alloc: A) -> Result<String<A>, AllocError>
         ensures text { IfOk result (λ s. string_bytes s ≡ encode_utf8_all (wstr_text self.now)) }
         ensures nothing { wstr_text self.now ≡ [] → IsOk result }
@@ -21,9 +21,9 @@ impl<'a, E: Utf16Order> WStr<'a, E> {
         Ok(utf8)
     }
 
-    /// Puts the same characters in UTF-8 behind a text. The only error is a refused request for memory; it leaves the text as it
-    /// was. Room is asked for once, and not where it is there. One pass over the view where there is room for three bytes a code
-    /// unit, else two.
+    /// Puts the same characters in UTF-8 behind a text. The only error is a refused request for
+    /// memory; it leaves the text as it was. Room is asked for once, and not where it is there. One
+    /// pass over the view where there is room for three bytes a code unit, else two.
     pub fn push_utf8<A: Allocator>(self, to: &mut String<A>) -> Result<(), AllocError>
         ensures text { OnOk result (string_bytes to.new ≡ string_bytes to.old ++ encode_utf8_all (wstr_text self.entry)) }
         ensures refused { OnErr result ((string_bytes to.new ≡ string_bytes to.old) × (string_capacity to.new ≡ string_capacity to.old)) }

@@ -29,8 +29,8 @@ use utf16_units::{
     validate_raw_utf16,
 };
 
-/// A borrowed UTF-16 string in the byte order `E`, a view of the caller's bytes. It always holds well-formed text, and is
-/// `Copy`. Lengths and offsets count bytes.
+/// A borrowed UTF-16 string in the byte order `E`, a view of the caller's bytes. It always holds
+/// well-formed text, and is `Copy`. Lengths and offsets count bytes.
 pub struct WStr<'a, E: Utf16Order> {
     raw: &'a [u8],
     order: PhantomData<E>,
@@ -52,7 +52,8 @@ impl<'a, E: Utf16Order> Clone for WStr<'a, E> {
 impl<'a, E: Utf16Order> WStr<'a, E> {
     ghost use Rattle.utf16_str.specs.WStr.{wstr_bytes, wstr_text};
 
-    /// Takes bytes as text, where they are well formed in the order `E`. One pass over the bytes, no copy.
+    /// Takes bytes as text, where they are well formed in the order `E`. One pass over the bytes,
+    /// no copy.
     #[inline]
     pub fn from_utf16(raw: &'a [u8]) -> Result<Self, Utf16Error>
         ensures text { IsOk result ↔ IsText E.BIG raw.now }
@@ -64,8 +65,8 @@ impl<'a, E: Utf16Order> WStr<'a, E> {
         Ok(Self::from_utf16_unchecked(raw))
     }
 
-    /// Takes bytes as text without a test. The caller proves that they are well formed in the order `E`; `from_utf16`
-    /// tests it.
+    /// Takes bytes as text without a test. The caller proves that they are well formed in the order
+    /// `E`; `from_utf16` tests it.
     #[inline]
     pub fn from_utf16_unchecked(raw: &'a [u8]) -> Self
         requires { IsText E.BIG raw.now }
@@ -96,8 +97,8 @@ impl<'a, E: Utf16Order> WStr<'a, E> {
         self.as_bytes().is_empty()
     }
 
-    /// Whether a byte offset is a character boundary: the start, the end, or where one character ends and the next begins.
-    /// Any offset may be asked about. One read of a unit at most.
+    /// Whether a byte offset is a character boundary: the start, the end, or where one character
+    /// ends and the next begins. Any offset may be asked about. One read of a unit at most.
     #[inline]
     pub fn is_char_boundary(&self, index: usize) -> bool
         ensures { IsTrue result ↔ IsBoundary (wstr_text self.now) index }
@@ -112,8 +113,8 @@ impl<'a, E: Utf16Order> WStr<'a, E> {
         !is_trailing_surrogate(E::read_unit([raw[index], raw[index + 1]]))
     }
 
-    /// Whether a text could be written over as many bytes from a byte offset on: the offset and the one behind those bytes
-    /// are both character boundaries. Any offset may be asked about.
+    /// Whether a text could be written over as many bytes from a byte offset on: the offset and the
+    /// one behind those bytes are both character boundaries. Any offset may be asked about.
     #[inline]
     pub fn fits(self, idx: usize, text: WStr<E>) -> bool
         ensures { IsTrue result ↔ (IsBoundary (wstr_text self.entry) idx × IsBoundary (wstr_text self.entry) (idx + size (wstr_text text.entry))) }
@@ -135,9 +136,9 @@ impl<'a, E: Utf16Order> WStr<'a, E> {
 
     /// The characters, in order.
     ///
-    /// Of the result the clause `text` says all. The clauses `runs` and `runs_back` say that this type of iterator gives what
-    /// it shows, from the front and from the back: by them the proof of a caller knows what `collect`, `rev`, `position` and
-    /// other calls of a chain give.
+    /// Of the result the clause `text` says all. The clauses `runs` and `runs_back` say that this
+    /// type of iterator gives what it shows, from the front and from the back: by them the proof of
+    /// a caller knows what `collect`, `rev`, `position` and other calls of a chain give.
     #[inline]
     pub fn chars(self) -> WStrChars<'a, E>
         ensures text { result ≡ wstr_text self.entry }
@@ -148,8 +149,8 @@ impl<'a, E: Utf16Order> WStr<'a, E> {
         WStrChars { rest: self }
     }
 
-    /// The characters, in order, each beside its byte offset. The clauses are those of `chars`; beside them `offsets` says where
-    /// each character stands: between two boundaries.
+    /// The characters, in order, each beside its byte offset. The clauses are those of `chars`;
+    /// beside them `offsets` says where each character stands: between two boundaries.
     #[inline]
     pub fn char_indices(self) -> WStrCharIndices<'a, E>
         ensures text { result ≡ char_offsets 0 (wstr_text self.entry) }
@@ -164,7 +165,8 @@ impl<'a, E: Utf16Order> WStr<'a, E> {
         }
     }
 
-    /// Whether the characters are those of a `str`. One pass over both, up to the first that differs, in constant memory.
+    /// Whether the characters are those of a `str`. One pass over both, up to the first that
+    /// differs, in constant memory.
     pub fn eq_str(&self, s: &str) -> bool
         ensures { IsTrue result ↔ (wstr_text self.now ≡ chars s.now) }
     {
@@ -177,8 +179,8 @@ impl<'a, E: Utf16Order> WStr<'a, E> {
         theirs.next().is_none()
     }
 
-    /// Whether every character is ASCII, below U+0080. It asks the characters and not the bytes. One pass, up to the first block
-    /// that has another character.
+    /// Whether every character is ASCII, below U+0080. It asks the characters and not the bytes.
+    /// One pass, up to the first block that has another character.
     pub fn is_ascii(&self) -> bool
         ensures { IsTrue result ↔ All (λ c. c < 0x80) (wstr_text self.now) }
     {
@@ -190,7 +192,8 @@ impl<'a, E: Utf16Order> WStr<'a, E> {
         }
     }
 
-    // The same of a short text, one character after another. A call stays a call: so this loop is compiled by itself.
+    // The same of a short text, one character after another. A call stays a call: so this loop is
+    // compiled by itself.
     #[inline(never)]
     fn is_ascii_few(self) -> bool
         ensures { IsTrue result ↔ All (λ c. c < 0x80) (wstr_text self.entry) }
@@ -245,7 +248,8 @@ impl<'a, E: Utf16Order> Eq for WStr<'a, E> {
     ghost laws = { on_equiv wstr_bytes nat_list_eq_equiv };
 }
 
-/// By scalar values, character by character, as `str` compares: in neither order the order of the bytes, nor of the units.
+/// By scalar values, character by character, as `str` compares: in neither order the order of the
+/// bytes, nor of the units.
 impl<'a, E: Utf16Order> PartialOrd for WStr<'a, E> {
     ghost use Rattle.utf16_str.specs.WStr.{wstr_bytes, wstr_text};
 

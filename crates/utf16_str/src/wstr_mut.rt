@@ -12,8 +12,9 @@ use crate::WStr;
 use std::marker::PhantomData;
 use utf16_units::{BigEndian, LittleEndian, Utf16Error, Utf16Order, validate_raw_utf16};
 
-/// A UTF-16 string in the byte order `E` in the caller's bytes, which can be written over in place. It always holds
-/// well-formed text. When it ends, the caller's bytes are its bytes. Offsets count bytes.
+/// A UTF-16 string in the byte order `E` in the caller's bytes, which can be written over in place.
+/// It always holds well-formed text. When it ends, the caller's bytes are its bytes. Offsets count
+/// bytes.
 #[derive(Drop)]
 pub struct WStrMut<'a, E: Utf16Order> {
     raw: &'a mut [u8],
@@ -24,11 +25,12 @@ pub struct WStrMut<'a, E: Utf16Order> {
 impl<'a, E: Utf16Order> WStrMut<'a, E> {
     ghost use Rattle.utf16_str.specs.WStrMut.{wstr_mut_bytes, wstr_mut_lent, wstr_mut_text};
 
-    /// Takes bytes as text, where they are well formed in the order `E`. Where they are not, they stay as they were. One
-    /// pass over the bytes, no copy.
+    /// Takes bytes as text, where they are well formed in the order `E`. Where they are not, they
+    /// stay as they were. One pass over the bytes, no copy.
     ///
-    /// A view in a `Result` hides from the proof of a caller which bytes are left when it ends. End it by `into_bytes`, which
-    /// gives them back; or test by `WStr::from_utf16` and lend by `from_utf16_unchecked`.
+    /// A view in a `Result` hides from the proof of a caller which bytes are left when it ends. End
+    /// it by `into_bytes`, which gives them back; or test by `WStr::from_utf16` and lend by
+    /// `from_utf16_unchecked`.
     #[inline]
     pub fn from_utf16(raw: &'a mut [u8]) -> Result<Self, Utf16Error>
         ensures text { IsOk result ↔ IsText E.BIG raw.old }
@@ -41,8 +43,9 @@ impl<'a, E: Utf16Order> WStrMut<'a, E> {
         Ok(Self::from_utf16_unchecked(raw))
     }
 
-    /// Takes bytes as text without a test. The caller proves that they are well formed in the order `E`;
-    /// `WStr::from_utf16` tests it. When the view ends, the proof of a caller knows the bytes that are left.
+    /// Takes bytes as text without a test. The caller proves that they are well formed in the order
+    /// `E`; `WStr::from_utf16` tests it. When the view ends, the proof of a caller knows the bytes
+    /// that are left.
     #[inline]
     pub fn from_utf16_unchecked(raw: &'a mut [u8]) -> Self
         requires { IsText E.BIG raw.old }
@@ -65,8 +68,8 @@ impl<'a, E: Utf16Order> WStrMut<'a, E> {
         WStr::from_utf16_unchecked(self.raw)
     }
 
-    /// Whether a text can be written over as many bytes from a byte offset on: the offset and the one behind those bytes
-    /// are both character boundaries. Any offset may be asked about.
+    /// Whether a text can be written over as many bytes from a byte offset on: the offset and the
+    /// one behind those bytes are both character boundaries. Any offset may be asked about.
     #[inline]
     pub fn fits(&self, idx: usize, text: WStr<E>) -> bool
         ensures { IsTrue result ↔ (IsBoundary (wstr_mut_text self.now) idx × IsBoundary (wstr_mut_text self.now) (idx + size (wstr_text text.entry))) }
@@ -74,8 +77,8 @@ impl<'a, E: Utf16Order> WStrMut<'a, E> {
         self.as_wstr().fits(idx, text)
     }
 
-    /// Writes a text over as many bytes from a byte offset on. The caller proves that both ends are character boundaries;
-    /// `fits` tests it. All other bytes stay.
+    /// Writes a text over as many bytes from a byte offset on. The caller proves that both ends are
+    /// character boundaries; `fits` tests it. All other bytes stay.
     #[inline]
     pub fn overwrite(&mut self, idx: usize, text: WStr<E>)
         requires start { IsBoundary (wstr_mut_text self.old) idx }

@@ -11,8 +11,8 @@ use Rattle.utf16_decode.proofs.DecodesLemmas.{shown, shown-append}
 use Rattle.utf16_decode.proofs.StreamLemmas.{full-mark, full-none}
 use Rattle.utf16_streams.proofs.MarkLemmas.{items_in-append, items_in-nil, order_after-append, order_after-nil, tail_in-append, tail_in-nil}
 
--- so many reads gave bytes; what these decide was written, their tail is pending, and now the next are read in the order that
--- they leave
+-- so many reads gave bytes; what these decide was written, their tail is pending, and now the next
+-- are read in the order that they leave
 pub record Filtering (order : Option Bool) (input left old new : Option (List ℕ)) (now : Option Bool) (pending : List ℕ) (reads : ℕ) : Type 0 where
   bytes : List ℕ
   consumed : Consumes input left bytes

@@ -2,7 +2,8 @@
 use Rattle.std.proofs.Common.{◌≡◌, ℕ, Bool, true, false, List, [], ◌∷◌, None, Some, refl}
 use Rattle.utf16_streams.specs.Mark.{big_in, order_after, text_in}
 
--- the stream is read in this order, these of its bytes are read, and what follows it is read in that order
+-- the stream is read in this order, these of its bytes are read, and what follows it is read in
+-- that order
 abbrev IsRead : Bool → List ℕ → List ℕ → Type 0
 IsRead big bytes text = (big_in None bytes ≡ big) × (text_in None bytes ≡ text) × (order_after None bytes ≡ Some big)
 

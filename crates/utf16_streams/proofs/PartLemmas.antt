@@ -1,4 +1,5 @@
--- What a part of a piece decides: it is UTF-8, how much room it takes, and that it is a step of decoding.
+-- What a part of a piece decides: it is UTF-8, how much room it takes, and that it is a step of
+-- decoding.
 use Rattle.std.proofs.Common.{◌≡◌, ℕ, ◌+◌, ◌-◌, ◌*◌, ◌<◌, ◌≤◌, Bool, List, [], ◌∷◌, ◌++◌, length, take, drop, refl, sym, ap, ◌∙◌, subst, ⊎_elim, arith, append-nil, append_assoc}
 use Rattle.std.proofs.lemmas.Bool.{cases_lt}
 use Rattle.std.proofs.lemmas.List.{drop_all, get_or-append_right, get_or-take, get_or_append_left, get_or_past, length-take}

@@ -43,11 +43,19 @@ module _ {X : Type 0} (big : Bool) (bytes : X → List ℕ) (pieces : List X) (i
       sym (full-mark (split_items big so_far) (split_tail big so_far) some)
       ∙ ap (λ p. encode_utf8_all (full (split_items big (flat_map bytes p)) (split_tail big (flat_map bytes p)))) (take_all i pieces last)
 
+  -- behind the last piece the text is whole where nothing is pending
+  pub pieces-whole : length pieces ≤ i → split_tail big so_far ≡ []
+      → shown (split_items big so_far) ≡ encode_utf8_all (full (split_items big (flat_map bytes pieces)) (split_tail big (flat_map bytes pieces)))
+  pieces-whole last none =
+      ap (λ t. encode_utf8_all (full (split_items big so_far) t)) (sym none)
+      ∙ ap (λ p. encode_utf8_all (full (split_items big (flat_map bytes p)) (split_tail big (flat_map bytes p)))) (take_all i pieces last)
+
   module _ (piece : X) (within : i < length pieces) (is : piece ≡ get_or pieces i piece) where
     joined : flat_map bytes (take (i + 1) pieces) ≡ so_far ++ bytes piece
     joined = joined-more bytes pieces i piece within is
 
-    -- one more piece: what is pending and the piece decide what comes behind, and leave what is pending then
+    -- one more piece: what is pending and the piece decide what comes behind, and leave what is
+    -- pending then
     pub pieces-shown : shown (split_items big so_far) ++ shown (split_items big (split_tail big so_far ++ bytes piece)) ≡ shown (split_items big (flat_map bytes (take (i + 1) pieces)))
     pieces-shown = sym (shown-piece big so_far (bytes piece)) ∙ ap (λ b. shown (split_items big b)) (sym joined)
 

@@ -22,6 +22,7 @@ state_order (Little decoder) = Some false
 abbrev pub any_pending : AnyLossy → List ℕ
 any_pending decoder = state_pending decoder.state
 
--- the order that was found: `Some true` big endian, `Some false` little endian, `None` where fewer than two bytes have come
+-- the order that was found: `Some true` big endian, `Some false` little endian, `None` where fewer
+-- than two bytes have come
 abbrev pub any_order : AnyLossy → Option Bool
 any_order decoder = state_order decoder.state

@@ -1,5 +1,5 @@
--- What `filter` and `filter_auto` did to the bytes that their reader has left and to those that their writer holds, where these
--- are known.
+-- What `filter` and `filter_auto` did to the bytes that their reader has left and to those that
+-- their writer holds, where these are known.
 use Rattle.std.specs.Prelude.{◌≢◌, ℕ, ◌+◌, ◌-◌, ◌<◌, ◌≤◌, ◌^◌, Bool, List, [], ◌∷◌, Option, Some, None, Result, Ok, Err, encode_utf8_all, length, take}
 use Rattle.std.specs.Char.{encode_utf8}
 use Rattle.std.specs.Io.{StartsWith}
@@ -30,7 +30,8 @@ AppendsFront old new bytes = (n : ℕ) × Appends old new (take n bytes)
 abbrev pub IsNearEnd : List ℕ → ℕ → Type 0
 IsNearEnd bytes n = (n ≤ length bytes) × (length bytes ≤ n + 4096)
 
--- the order is `Some true` for big endian, `Some false` for little endian, and `None` where a byte order mark tells it
+-- the order is `Some true` for big endian, `Some false` for little endian, and `None` where a byte
+-- order mark tells it
 module _ (order : Option Bool) (input left old new : Option (List ℕ)) where
   -- the input was read to its end, and its whole text was written
   abbrev pub Filters : Type 0
@@ -40,12 +41,14 @@ module _ (order : Option Bool) (input left old new : Option (List ℕ)) where
   abbrev pub FiltersSome : ℕ → Type 0
   FiltersSome least = (bytes : List ℕ) × Consumes input left bytes × (least ≤ length bytes) × Appends old new (decided_utf8 order bytes)
 
-  -- some bytes were read; what all but the last 1 to 4,096 of them decide was written, and with these more is decided
+  -- some bytes were read; what all but the last 1 to 4,096 of them decide was written, and with
+  -- these more is decided
   abbrev pub FiltersBefore : Type 0
   FiltersBefore = (bytes : List ℕ) × Consumes input left bytes × ((n : ℕ) × (n < length bytes) × IsNearEnd bytes n
       × (items_in order (take n bytes) ≢ items_in order bytes) × Appends old new (decided_utf8 order (take n bytes)))
 
-  -- some bytes were read; a beginning of their whole text was written, and at least what all but the last 4,096 of them decide
+  -- some bytes were read; a beginning of their whole text was written, and at least what all but
+  -- the last 4,096 of them decide
   abbrev pub FiltersFront : Type 0
   FiltersFront = (bytes : List ℕ) × Consumes input left bytes × ((written : List ℕ) × Appends old new written
       × StartsWith (whole_utf8 order bytes) written × ((n : ℕ) × IsNearEnd bytes n × StartsWith written (decided_utf8 order (take n bytes))))

@@ -1,4 +1,5 @@
--- What the byte order mark at the beginning of a stream says (Unicode, section 23.8: byte order mark).
+-- What the byte order mark at the beginning of a stream says (Unicode, section 23.8: byte order
+-- mark).
 use Rattle.std.specs.Prelude.{ℕ, ◌&&◌, ◌||◌, Bool, false, not, List, ◌∷◌, Option, Some, None, drop, if◌then◌else◌}
 use Rattle.std.specs.Bool.{◌==◌}
 use Rattle.utf16_units.specs.Split.{Item, split_items, split_tail}
@@ -12,16 +13,18 @@ begins_with a b bytes = false
 abbrev pub has_mark : List ℕ → Bool
 has_mark bytes = begins_with 0xFE 0xFF bytes || begins_with 0xFF 0xFE bytes
 
--- the order of the stream is big endian: in all cases but the mark of little endian (Unicode, section 3.10: UTF-16 encoding scheme)
+-- the order of the stream is big endian: in all cases but the mark of little endian (Unicode,
+-- section 3.10: UTF-16 encoding scheme)
 abbrev pub is_big : List ℕ → Bool
 is_big bytes = not (begins_with 0xFF 0xFE bytes)
 
--- what the stream has beside its mark, which is no part of the text (Unicode, section 3.10: UTF-16 encoding scheme)
+-- what the stream has beside its mark, which is no part of the text (Unicode, section 3.10: UTF-16
+-- encoding scheme)
 abbrev pub behind_mark : List ℕ → List ℕ
 behind_mark bytes = if has_mark bytes then drop 2 bytes else bytes
 
--- In what follows an order is `Some true` for big endian, `Some false` for little endian, and `None` where the byte order mark
--- tells it.
+-- In what follows an order is `Some true` for big endian, `Some false` for little endian, and
+-- `None` where the byte order mark tells it.
 
 -- the order that the bytes are read in
 abbrev pub big_in : Option Bool → List ℕ → Bool

@@ -12,10 +12,12 @@ use crate::lossy::Lossy;
 use std::alloc::{AllocError, Allocator};
 use utf16_units::{BE, LE, Utf16Order};
 
-/// A decoder of UTF-16 that comes in pieces, cut anywhere, in the byte order that its beginning tells. A stream that begins with
-/// the bytes `FE FF` is big endian, one that begins with `FF FE` is little endian, and this byte order mark is no part of its
-/// text; any other stream is big endian, all of it text. A second mark is a character as any other. What is no text is shown
-/// by U+FFFD, one for each surrogate without its partner. At most three bytes are held back, in the value itself.
+/// A decoder of UTF-16 that comes in pieces, cut anywhere, in the byte order that its beginning
+/// tells. A stream that begins with the bytes `FE FF` is big endian, one that begins with `FF FE`
+/// is little endian, and this byte order mark is no part of its text; any other stream is big
+/// endian, all of it text. A second mark is a character as any other. What is no text is shown by
+/// U+FFFD, one for each surrogate without its partner. At most three bytes are held back, in the
+/// value itself.
 #[derive(Drop)]
 pub struct AnyLossy {
     state: State,
@@ -42,8 +44,9 @@ impl AnyLossy {
         }
     }
 
-    /// The bytes that were given and are not decided: until two have come those that have come, a byte of a mark too, and from
-    /// then on those of the order found, as by `Lossy::pending`. They are at most three.
+    /// The bytes that were given and are not decided: until two have come those that have come, a
+    /// byte of a mark too, and from then on those of the order found, as by `Lossy::pending`. They
+    /// are at most three.
     #[inline]
     pub fn pending(&self) -> &[u8]
         ensures bytes { result.now ≡ any_pending self.now }
@@ -59,10 +62,12 @@ impl AnyLossy {
         }
     }
 
-    /// Takes the next piece, and answers the text of all that is decided now, as `Lossy::feed` does in the order found. With the
-    /// second byte of the stream the order is decided, and a mark is dropped. The only error is a refused request for memory; it
-    /// leaves the decoder as it was, its order undecided if it was, and nothing of the piece is taken. Where the answer is empty
-    /// there is none. Room for the longest answer is asked for once: three bytes for each code unit.
+    /// Takes the next piece, and answers the text of all that is decided now, as `Lossy::feed` does
+    /// in the order found. With the second byte of the stream the order is decided, and a mark is
+    /// dropped. The only error is a refused request for memory; it leaves the decoder as it was,
+    /// its order undecided if it was, and nothing of the piece is taken. Where the answer is empty
+    /// there is none. Room for the longest answer is asked for once: three bytes for each code
+    /// unit.
     pub fn feed<A: Allocator>(&mut self, alloc: A, piece: &[u8]) -> Result<String<A>, AllocError>
         ensures text { IfOk result (λ s. string_bytes s ≡ encode_utf8_all (marked (items_in (any_order self.old) (any_pending self.old ++ piece.now)))) }
         ensures pending { OnOk result (any_pending self.new ≡ tail_in (any_order self.old) (any_pending self.old ++ piece.now)) }
@@ -113,7 +118,8 @@ impl Decoder for AnyLossy {
     }
 }
 
-// Takes a piece of a stream of which at most one byte has come, and decides the order with the second.
+// Takes a piece of a stream of which at most one byte has come, and decides the order with the
+// second.
 fn begin<A: Allocator>(
     first: Option<u8>,
     piece: &[u8],
@@ -137,7 +143,8 @@ fn begin<A: Allocator>(
     }
 }
 
-// The first two bytes of a stream and those behind them; an error where fewer have come, with the one that came.
+// The first two bytes of a stream and those behind them; an error where fewer have come, with the
+// one that came.
 fn first_two<'a>(first: Option<u8>, piece: &'a [u8]) -> Result<([u8; 2], &'a [u8]), Option<u8>>
     ensures two { IfOk result (λ parts. option_to_list first ++ piece.now ≡ parts.0 ++ parts.1.now) }
     ensures fewer { IfErr result (λ only. option_to_list first ++ piece.now ≡ option_to_list only) }

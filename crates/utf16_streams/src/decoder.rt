@@ -6,14 +6,16 @@ ghost use Rattle.utf16_streams.specs.Mark.{items_in, order_after, tail_in};
 
 use std::alloc::{AllocError, Allocator};
 
-// The least size of the buffer that a text goes through: it has room for what is pending and one code unit.
+// The least size of the buffer that a text goes through: it has room for what is pending and one
+// code unit.
 pub const LEAST_ROOM: usize = 646;
 
-// As long as so many bytes are left behind what it writes, `Stream::feed` writes by lanes where it is wanted.
+// As long as so many bytes are left behind what it writes, `Stream::feed` writes by lanes where it
+// is wanted.
 pub const SPARE: usize = 640;
 
-/// The size of the buffer that a text goes through: it has room for the text of 4,096 bytes, three bytes for each code unit, and
-/// `SPARE` more.
+/// The size of the buffer that a text goes through: it has room for the text of 4,096 bytes, three
+/// bytes for each code unit, and `SPARE` more.
 pub const ROOM: usize = 6784;
 
 // A piece of at most `FEW` bytes goes through a smaller buffer.
@@ -21,7 +23,8 @@ const FEW: usize = 512;
 
 const FEW_ROOM: usize = 1408;
 
-/// A decoder of a stream that comes in pieces, in an order that is known or that a byte order mark tells.
+/// A decoder of a stream that comes in pieces, in an order that is known or that a byte order mark
+/// tells.
 pub trait Decoder: Drop {
     // The order that it reads in: `None` as long as that is not told.
     ghost order: { Self → Option Bool };
@@ -29,8 +32,9 @@ pub trait Decoder: Drop {
     // The bytes that were given and are not decided.
     ghost held: { Self → List ℕ };
 
-    /// Takes the next piece, and puts the text of all that is decided now behind a text, through a buffer that has room for a part
-    /// of it. After an error a beginning of it may stand there, and the decoder is as it was.
+    /// Takes the next piece, and puts the text of all that is decided now behind a text, through a
+    /// buffer that has room for a part of it. After an error a beginning of it may stand there, and
+    /// the decoder is as it was.
     fn feed_into<A: Allocator>(
         &mut self,
         piece: &[u8],

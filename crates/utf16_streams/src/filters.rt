@@ -23,17 +23,18 @@ pub enum FilterFault {
     Read,
     /// A write or the flush failed. A beginning of the text of what was read is written.
     Write,
-    /// Memory was refused. The text of what was read before the last piece is written. With the last piece more is decided: for a
-    /// piece that decides nothing no memory is asked for.
+    /// Memory was refused. The text of what was read before the last piece is written. With the
+    /// last piece more is decided: for a piece that decides nothing no memory is asked for.
     Memory,
     /// The input gave bytes at 2^64 - 1 reads. Their text is written, but for the mark of a tail.
     Long,
 }
 
-/// Decodes all that the reader gives, in the order `E`, and writes it in UTF-8, with U+FFFD for each surrogate without its
-/// partner and one more where a beginning is left at the end. It reads pieces of up to 4,096 bytes until a read gives none,
-/// flushes once at the end, and stops at the first fault. It takes room for the text of one piece, whatever the input's length.
-/// The caller proves that there is a number for a fault of the reader, and for one of the writer.
+/// Decodes all that the reader gives, in the order `E`, and writes it in UTF-8, with U+FFFD for
+/// each surrogate without its partner and one more where a beginning is left at the end. It reads
+/// pieces of up to 4,096 bytes until a read gives none, flushes once at the end, and stops at the
+/// first fault. It takes room for the text of one piece, whatever the input's length. The caller
+/// proves that there is a number for a fault of the reader, and for one of the writer.
 pub fn filter<E: Utf16Order, R: Read, W: Write, A: Allocator>(
     alloc: A,
     reader: &mut Watched<R>,
@@ -49,9 +50,10 @@ pub fn filter<E: Utf16Order, R: Read, W: Write, A: Allocator>(
     filter_by(alloc, Lossy::<E>::new(), reader, writer)
 }
 
-/// Decodes all that the reader gives, in the order that its beginning tells, and writes it in UTF-8, as `filter` does. A stream
-/// that begins with the bytes `FE FF` is big endian, one that begins with `FF FE` is little endian, and this byte order mark is
-/// not written; any other stream is big endian. The caller proves that there is a number for a fault of the reader, and for one
+/// Decodes all that the reader gives, in the order that its beginning tells, and writes it in
+/// UTF-8, as `filter` does. A stream that begins with the bytes `FE FF` is big endian, one that
+/// begins with `FF FE` is little endian, and this byte order mark is not written; any other stream
+/// is big endian. The caller proves that there is a number for a fault of the reader, and for one
 /// of the writer.
 pub fn filter_auto<R: Read, W: Write, A: Allocator>(
     alloc: A,
@@ -68,7 +70,8 @@ pub fn filter_auto<R: Read, W: Write, A: Allocator>(
     filter_by(alloc, AnyLossy::new(), reader, writer)
 }
 
-// Decodes all that the reader gives by a decoder that was given nothing yet, and writes it in UTF-8.
+// Decodes all that the reader gives by a decoder that was given nothing yet, and writes it in
+// UTF-8.
 fn filter_by<D: Decoder, R: Read, W: Write, A: Allocator>(
     alloc: A,
     decoder: D,

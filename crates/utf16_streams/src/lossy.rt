@@ -15,8 +15,9 @@ use std::marker::PhantomData;
 use utf16_decode::Stream;
 use utf16_units::Utf16Order;
 
-/// A decoder of UTF-16 in the byte order `E` that comes in pieces, cut anywhere. What is no text is shown by U+FFFD, one for
-/// each surrogate without its partner. At most three bytes are held back, in the value itself.
+/// A decoder of UTF-16 in the byte order `E` that comes in pieces, cut anywhere. What is no text is
+/// shown by U+FFFD, one for each surrogate without its partner. At most three bytes are held back,
+/// in the value itself.
 #[derive(Drop)]
 pub struct Lossy<E: Utf16Order> {
     stream: Stream,
@@ -38,7 +39,8 @@ impl<E: Utf16Order> Lossy<E> {
         }
     }
 
-    /// The bytes that were given and are not decided: none, one byte, or a leading surrogate with at most one byte after it.
+    /// The bytes that were given and are not decided: none, one byte, or a leading surrogate with
+    /// at most one byte after it.
     #[inline]
     pub fn pending(&self) -> &[u8]
         ensures bytes { result.now ≡ lossy_pending self.now }
@@ -49,11 +51,13 @@ impl<E: Utf16Order> Lossy<E> {
         self.stream.held()
     }
 
-    /// Takes the next piece, and answers the text of all that is decided now: the characters, and U+FFFD for each surrogate
-    /// without its partner. What more bytes could change stays pending. The only error is a refused request for memory; it
-    /// leaves the decoder as it was, and nothing of the piece is taken. Where the answer is empty there is none. Room for the
-    /// longest answer is asked for once: three bytes for each code unit. The piece is read where it stands, and the text of
-    /// 4,096 bytes at a time goes through a buffer in the frame. The time grows with the number of bytes alone.
+    /// Takes the next piece, and answers the text of all that is decided now: the characters, and
+    /// U+FFFD for each surrogate without its partner. What more bytes could change stays pending.
+    /// The only error is a refused request for memory; it leaves the decoder as it was, and nothing
+    /// of the piece is taken. Where the answer is empty there is none. Room for the longest answer
+    /// is asked for once: three bytes for each code unit. The piece is read where it stands, and
+    /// the text of 4,096 bytes at a time goes through a buffer in the frame. The time grows with
+    /// the number of bytes alone.
     pub fn feed<A: Allocator>(&mut self, alloc: A, piece: &[u8]) -> Result<String<A>, AllocError>
         ensures text { IfOk result (λ s. string_bytes s ≡ encode_utf8_all (decided_text E.BIG (lossy_pending self.old ++ piece.now))) }
         ensures pending { OnOk result (lossy_pending self.new ≡ split_tail E.BIG (lossy_pending self.old ++ piece.now)) }
@@ -117,9 +121,9 @@ impl<E: Utf16Order> Decoder for Lossy<E> {
     }
 }
 
-/// The text of the pieces of a stream, joined: its characters, U+FFFD for each surrogate without its partner, and one more
-/// where a beginning is left at the end. The only error is a refused request for memory; where the pieces have no bytes none is
-/// asked for.
+/// The text of the pieces of a stream, joined: its characters, U+FFFD for each surrogate without
+/// its partner, and one more where a beginning is left at the end. The only error is a refused
+/// request for memory; where the pieces have no bytes none is asked for.
 pub fn decode_pieces<E: Utf16Order, A: Allocator, B: Allocator>(
     alloc: A,
     pieces: &[Vec<u8, B>],
@@ -140,8 +144,9 @@ pub fn decode_pieces<E: Utf16Order, A: Allocator, B: Allocator>(
     Ok(text)
 }
 
-// Asks for room for the longest answer to so many bytes: a code unit takes at most three bytes of UTF-8. Fewer than four bytes may
-// have no answer, and have one character at most, whose room is asked for where it is put.
+// Asks for room for the longest answer to so many bytes: a code unit takes at most three bytes of
+// UTF-8. Fewer than four bytes may have no answer, and have one character at most, whose room is
+// asked for where it is put.
 fn make_room<A: Allocator>(
     pending: usize,
     piece: usize,
@@ -157,8 +162,9 @@ fn make_room<A: Allocator>(
     to.reserve((bytes / 2).saturating_mul(3))
 }
 
-// Puts the text of what a stream and a piece decide behind a text, and answers the stream that holds what is pending then. It goes
-// through a buffer, as many bytes of the piece at a time as it has room for.
+// Puts the text of what a stream and a piece decide behind a text, and answers the stream that
+// holds what is pending then. It goes through a buffer, as many bytes of the piece at a time as it
+// has room for.
 fn decode_parts<E: Utf16Order, A: Allocator>(
     stream: Stream,
     piece: &[u8],
@@ -179,8 +185,8 @@ fn decode_parts<E: Utf16Order, A: Allocator>(
     Ok(stream)
 }
 
-// Decodes the first part of a piece, whose text goes through a buffer and then behind a text: the stream then, and the rest of the
-// piece.
+// Decodes the first part of a piece, whose text goes through a buffer and then behind a text: the
+// stream then, and the rest of the piece.
 fn decode_part<'a, E: Utf16Order, A: Allocator>(
     stream: Stream,
     piece: &'a [u8],
@@ -201,8 +207,9 @@ fn decode_part<'a, E: Utf16Order, A: Allocator>(
     Ok((stream, rest))
 }
 
-// A piece in two: the part that is decoded at once behind held bytes, whose text has room in a buffer of so many bytes, and the rest.
-// With the held bytes the part is of even length, so that no code unit is cut before the piece's last.
+// A piece in two: the part that is decoded at once behind held bytes, whose text has room in a
+// buffer of so many bytes, and the rest. With the held bytes the part is of even length, so that no
+// code unit is cut before the piece's last.
 fn cut<'a, E: Utf16Order>(held: &[u8], piece: &'a [u8], room: usize) -> (&'a [u8], &'a [u8])
     requires few { length held.now ≤ 3 }
     requires room { LEAST_ROOM ≤ room }

@@ -54,8 +54,9 @@ impl<T> Watched<T> {
 }
 
 impl<R: Read> Watched<R> {
-    /// Reads once, into the front of a buffer: how many bytes, none only at the end or without room. An error of the reader, an
-    /// interrupted call among them, is a fault and adds one to the count. The caller proves that there is a number for it.
+    /// Reads once, into the front of a buffer: how many bytes, none only at the end or without
+    /// room. An error of the reader, an interrupted call among them, is a fault and adds one to the
+    /// count. The caller proves that there is a number for it.
     pub fn read(&mut self, buf: &mut [u8]) -> Result<usize, DeviceFault>
         requires { watched_faults self.old < 2 ^ 64 - 1 }
         ensures bound { IfOk result (λ n. n ≤ length buf.new) }
@@ -70,9 +71,10 @@ impl<R: Read> Watched<R> {
 }
 
 impl<W: Write> Watched<W> {
-    /// Writes once, from the front of the bytes: how many were taken, of bytes that are there at least one. An error of the
-    /// writer, an interrupted call among them, is a fault, and so is a writer that takes none of them; it adds one to the count.
-    /// The caller proves that there is a number for it.
+    /// Writes once, from the front of the bytes: how many were taken, of bytes that are there at
+    /// least one. An error of the writer, an interrupted call among them, is a fault, and so is a
+    /// writer that takes none of them; it adds one to the count. The caller proves that there is a
+    /// number for it.
     pub fn write(&mut self, buf: &[u8]) -> Result<usize, DeviceFault>
         requires { watched_faults self.old < 2 ^ 64 - 1 }
         ensures bound { IfOk result (λ n. n ≤ length buf.now) }
@@ -87,8 +89,8 @@ impl<W: Write> Watched<W> {
         }
     }
 
-    /// Flushes once. An error of the writer, an interrupted call among them, is a fault and adds one to the count. The caller
-    /// proves that there is a number for it.
+    /// Flushes once. An error of the writer, an interrupted call among them, is a fault and adds
+    /// one to the count. The caller proves that there is a number for it.
     pub fn flush(&mut self) -> Result<(), DeviceFault>
         requires { watched_faults self.old < 2 ^ 64 - 1 }
         ensures bytes { Keeps (W.contents (watched_inner self.old)) (W.contents (watched_inner self.new)) }

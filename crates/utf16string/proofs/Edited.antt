@@ -5,7 +5,8 @@ use Rattle.utf16_units.specs.Encoding.{Encodes, is_text, text_of}
 use Rattle.utf16_units.proofs.EditLemmas.{checked-Encodes}
 use Rattle.utf16_units.proofs.EncodingLemmas.{text_of-Encodes}
 
--- a string in bytes that spell the edited text where the call was not refused, and else are as they were
+-- a string in bytes that spell the edited text where the call was not refused, and else are as they
+-- were
 module _ {X Y : Type 0} (big : Bool) (old new edited more : List ℕ) (checked : is_text big old ≡ true) (e : Encodes big edited more) where
   pub edited_text : (r : Result X Y) → OnOk r (new ≡ more) → OnOk r (text_of big new ≡ edited)
   edited_text (Ok x) ok = ap (text_of big) ok ∙ text_of-Encodes big edited more e

@@ -1,4 +1,5 @@
--- What is kept by a predicate whose answers and states are known: for callers of `retain` and `retain_by`.
+-- What is kept by a predicate whose answers and states are known: for callers of `retain` and
+-- `retain_by`.
 use Rattle.std.proofs.Common.{◌≡◌, ℕ, Bool, true, false, List, [], ◌∷◌, length, inr, refl, sym, ap, ◌∙◌, arith}
 use Rattle.std.specs.Fn.{Mut, Takes}
 use Rattle.std.specs.List.{items_where_true}
@@ -6,7 +7,8 @@ use Rattle.std.specs.List.Retain.{ReturnsInTurn}
 use Rattle.std.specs.Prelude.{if◌then◌else◌}
 use Rattle.utf16string.specs.Retain.{Answers, IsAskable, MayBeAsked, Retains, RetainsTo}
 
--- where I gives that the predicate may be called on the first character, and each call keeps it for the rest
+-- where I gives that the predicate may be called on the first character, and each call keeps it for
+-- the rest
 module _ {F : Type 0} (calls : Mut F (ℕ × Unit {0}) Bool) (I : F → List ℕ → Type 0)
     (asks : (f : F) (c : ℕ) (text : List ℕ) → I f (c ∷ text) → Takes calls f (c, tt))
     (keeps : (f : F) (c : ℕ) (text : List ℕ) (answer : Bool) (u : F) → I f (c ∷ text) → Answers calls f c answer u → I u text) where

@@ -10,8 +10,9 @@ use utf16_units::Utf16Order;
 // How many bytes are swapped at once.
 const BLOCK: usize = 64;
 
-/// Makes the bytes of a text in the order `E` those of the same text in the order `F`, where they stand. The caller proves
-/// that they are well formed in `E`; `validate_raw_utf16` tests it. One pass, by lanes; where the orders are the same, none.
+/// Makes the bytes of a text in the order `E` those of the same text in the order `F`, where they
+/// stand. The caller proves that they are well formed in `E`; `validate_raw_utf16` tests it. One
+/// pass, by lanes; where the orders are the same, none.
 pub fn reorder<E: Utf16Order, F: Utf16Order>(raw: &mut [u8])
     requires { IsText E.BIG raw.old }
     ensures encoding { Encodes F.BIG (text_of E.BIG raw.old) raw.new }

@@ -33,8 +33,9 @@ use std::marker::PhantomData;
 use utf16_str::{SliceIndex, WStr, WStrCharIndices, WStrChars};
 use utf16_units::{BigEndian, LittleEndian, Utf16Error, Utf16Order, validate_raw_utf16};
 
-/// An owned UTF-16 string in the byte order `E`, in memory of the allocator `A`. It always holds well-formed text. Lengths,
-/// offsets and capacities count bytes. A size past what a vector can hold is refused as a request for memory is.
+/// An owned UTF-16 string in the byte order `E`, in memory of the allocator `A`. It always holds
+/// well-formed text. Lengths, offsets and capacities count bytes. A size past what a vector can
+/// hold is refused as a request for memory is.
 #[derive(Drop)]
 pub struct WString<E: Utf16Order, A: Allocator = Global> {
     raw: Vec<u8, A>,
@@ -55,8 +56,8 @@ impl<E: Utf16Order, A: Allocator> WString<E, A> {
         Self::from_utf16_unchecked(Vec::new(alloc))
     }
 
-    /// An empty string with room for `capacity` bytes. The only error is a refused request for memory; for no room nothing is
-    /// asked.
+    /// An empty string with room for `capacity` bytes. The only error is a refused request for
+    /// memory; for no room nothing is asked.
     #[inline]
     pub fn with_capacity(alloc: A, capacity: usize) -> Result<Self, AllocError>
         ensures text { IfOk result (λ s. wstring_text s ≡ []) }
@@ -68,8 +69,8 @@ impl<E: Utf16Order, A: Allocator> WString<E, A> {
         Ok(Self::from_utf16_unchecked(buf))
     }
 
-    /// Takes a vector as text, where its bytes are well formed in the order `E`. One pass over the bytes, no copy. Where
-    /// they are not, the vector is dropped.
+    /// Takes a vector as text, where its bytes are well formed in the order `E`. One pass over the
+    /// bytes, no copy. Where they are not, the vector is dropped.
     #[inline]
     pub fn from_utf16(buf: Vec<u8, A>) -> Result<Self, Utf16Error>
         ensures text { IsOk result ↔ IsText E.BIG buf.items }
@@ -81,8 +82,8 @@ impl<E: Utf16Order, A: Allocator> WString<E, A> {
         Ok(Self::from_utf16_unchecked(buf))
     }
 
-    /// Takes a vector as text without a test. The caller proves that its bytes are well formed in the order `E`;
-    /// `WStr::from_utf16` tests it.
+    /// Takes a vector as text without a test. The caller proves that its bytes are well formed in
+    /// the order `E`; `WStr::from_utf16` tests it.
     #[inline]
     pub fn from_utf16_unchecked(buf: Vec<u8, A>) -> Self
         requires { IsText E.BIG buf.items }
@@ -149,8 +150,8 @@ impl<E: Utf16Order, A: Allocator> WString<E, A> {
         self.as_wstr().as_bytes()
     }
 
-    /// Whether a byte offset is a character boundary: the start, the end, or where one character ends and the next begins.
-    /// Any offset may be asked about.
+    /// Whether a byte offset is a character boundary: the start, the end, or where one character
+    /// ends and the next begins. Any offset may be asked about.
     #[inline]
     pub fn is_char_boundary(&self, index: usize) -> bool
         ensures { IsTrue result ↔ IsBoundary (wstring_text self.now) index }
@@ -158,7 +159,8 @@ impl<E: Utf16Order, A: Allocator> WString<E, A> {
         self.as_wstr().is_char_boundary(index)
     }
 
-    /// The part of a range, or `None` where its window is reversed, or an end is no character boundary.
+    /// The part of a range, or `None` where its window is reversed, or an end is no character
+    /// boundary.
     #[inline]
     pub fn get<I: SliceIndex<E>>(&self, index: I) -> Option<WStr<'_, E>>
         ensures some { IsSome result ↔ IsRangeOf E.BIG (wstring_bytes self.now) (I.window index) }
@@ -178,7 +180,8 @@ impl<E: Utf16Order, A: Allocator> WString<E, A> {
         self.as_wstr().get_unchecked(index)
     }
 
-    /// The part of a range: write it for `s[a..b]`. The caller proves that there is one; `get` tests it.
+    /// The part of a range: write it for `s[a..b]`. The caller proves that there is one; `get`
+    /// tests it.
     #[inline]
     pub fn index<I: SliceIndex<E>>(&self, index: I) -> WStr<'_, E>
         requires { IsRangeOf E.BIG (wstring_bytes self.now) (I.window index) }
@@ -199,7 +202,8 @@ impl<E: Utf16Order, A: Allocator> WString<E, A> {
         self.as_wstr().chars()
     }
 
-    /// The characters, in order, each beside its byte offset. The clauses are those of `WStr::char_indices`.
+    /// The characters, in order, each beside its byte offset. The clauses are those of
+    /// `WStr::char_indices`.
     #[inline]
     pub fn char_indices(&self) -> WStrCharIndices<'_, E>
         ensures text { result ≡ char_offsets 0 (wstring_text self.now) }
@@ -219,7 +223,8 @@ impl<E: Utf16Order, A: Allocator> WString<E, A> {
         self.as_wstr().is_ascii()
     }
 
-    /// The same characters in UTF-8. The only error is a refused request for memory; for the empty text nothing is asked.
+    /// The same characters in UTF-8. The only error is a refused request for memory; for the empty
+    /// text nothing is asked.
     #[inline]
     pub fn to_utf8<B: Allocator>(&self, alloc: B) -> Result<String<B>, AllocError>
         ensures text { IfOk result (λ s. string_bytes s ≡ encode_utf8_all (wstring_text self.now)) }

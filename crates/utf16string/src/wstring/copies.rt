@@ -12,8 +12,9 @@ use utf16_units::Utf16Order;
 impl<E: Utf16Order, A: Allocator> WString<E, A> {
     ghost use Rattle.utf16string.specs.WString.{wstring_bytes, wstring_text};
 
-    /// A string with the text of a view, in memory of the allocator. The only error is a refused request for memory. One
-    /// request for as many bytes as the text takes, for the empty text none; one copy of the bytes.
+    /// A string with the text of a view, in memory of the allocator. The only error is a refused
+    /// request for memory. One request for as many bytes as the text takes, for the empty text
+    /// none; one copy of the bytes.
     pub fn from_wstr(alloc: A, text: WStr<E>) -> Result<Self, AllocError>
         ensures text { IfOk result (λ s. wstring_text s ≡ wstr_text text.entry) }
         ensures bytes { IfOk result (λ s. wstring_bytes s ≡ wstr_bytes text.entry) }
@@ -30,9 +31,9 @@ impl<E: Utf16Order, A: Allocator> WString<E, A> {
 impl<E: Utf16Order, A: Allocator + Clone> WString<E, A> {
     ghost use Rattle.utf16string.specs.WString.{wstring_bytes, wstring_text, wstring_vec};
 
-    /// A string of its own with the same text, in memory of the string's allocator, cloned. The only error is a refused
-    /// request for memory, or an allocator that refuses to be cloned. One request for as many bytes as the text takes, for
-    /// the empty text none; one copy of the bytes.
+    /// A string of its own with the same text, in memory of the string's allocator, cloned. The
+    /// only error is a refused request for memory, or an allocator that refuses to be cloned. One
+    /// request for as many bytes as the text takes, for the empty text none; one copy of the bytes.
     pub fn clone(&self) -> Result<Self, AllocError>
         ensures text { IfOk result (λ copy. wstring_text copy ≡ wstring_text self.now) }
         ensures bytes { IfOk result (λ copy. wstring_bytes copy ≡ wstring_bytes self.now) }

@@ -28,8 +28,9 @@ impl<E: Utf16Order, A: Allocator> WString<E, A> {
         Some(last)
     }
 
-    /// Takes out the character at a byte offset. The caller proves that the offset is a character boundary below the length;
-    /// `is_char_boundary` and `len` test it. What stands behind is moved in one block. The capacity stays.
+    /// Takes out the character at a byte offset. The caller proves that the offset is a character
+    /// boundary below the length; `is_char_boundary` and `len` test it. What stands behind is moved
+    /// in one block. The capacity stays.
     pub fn remove(&mut self, idx: usize) -> char
         requires boundary { IsBoundary (wstring_text self.old) idx }
         requires within { idx < size (wstring_text self.old) }
@@ -42,8 +43,9 @@ impl<E: Utf16Order, A: Allocator> WString<E, A> {
         removed
     }
 
-    /// Cuts the text at a byte offset. The caller proves that an offset below the length is a character boundary;
-    /// `is_char_boundary` tests it. At or past the length, at an odd number too, nothing changes. The capacity stays.
+    /// Cuts the text at a byte offset. The caller proves that an offset below the length is a
+    /// character boundary; `is_char_boundary` tests it. At or past the length, at an odd number
+    /// too, nothing changes. The capacity stays.
     #[inline]
     pub fn truncate(&mut self, new_len: usize)
         requires { new_len < size (wstring_text self.old) → IsBoundary (wstring_text self.old) new_len }
@@ -63,9 +65,10 @@ impl<E: Utf16Order, A: Allocator> WString<E, A> {
         self.raw.clear();
     }
 
-    /// Splits the text at a byte offset: the string keeps the front and its capacity, and the back is answered. The caller
-    /// proves that the offset is a character boundary; `is_char_boundary` tests it. The only error is a refused request for
-    /// memory; it leaves the string as it was. An empty back asks for nothing. One copy of the back's bytes.
+    /// Splits the text at a byte offset: the string keeps the front and its capacity, and the back
+    /// is answered. The caller proves that the offset is a character boundary; `is_char_boundary`
+    /// tests it. The only error is a refused request for memory; it leaves the string as it was. An
+    /// empty back asks for nothing. One copy of the back's bytes.
     pub fn split_off(&mut self, at: usize) -> Result<WString<E, A>, AllocError>
     where
         A: Clone,

@@ -12,8 +12,9 @@ use utf16_units::Utf16Order;
 impl<E: Utf16Order, A: Allocator> WString<E, A> {
     ghost use Rattle.utf16string.specs.WString.{Extends, wstring_bytes, wstring_capacity};
 
-    /// Puts the characters of an iterator last, in order. The only error is a refused request for memory, for a character
-    /// that does not fit: those before it stay, and no further one is asked of the iterator. Each as by `push`.
+    /// Puts the characters of an iterator last, in order. The only error is a refused request for
+    /// memory, for a character that does not fit: those before it stay, and no further one is asked
+    /// of the iterator. Each as by `push`.
     pub fn extend<U: IntoIterator<Item = char>>(&mut self, iter: U) -> Result<(), AllocError>
         requires { (it : U.IntoIter) → U.into_iter_gives iter it → U.IntoIter.can_next it × IsFinite (U.IntoIter.remaining it) }
         ensures ran { ExtendsWithItems U.into_iter_gives U.IntoIter.next_gives Extends iter self.old self.new result }
@@ -56,7 +57,8 @@ impl<E: Utf16Order, A: Allocator> FromIterator<char> for WString<E, A> {
 
     ghost from_iter_gives = { λ text s. wstring_text s ≡ text };
 
-    /// The only error is a refused request for memory, for a character that came. No further one is asked of the iterator.
+    /// The only error is a refused request for memory, for a character that came. No further one is
+    /// asked of the iterator.
     fn from_iter<U: IntoIterator<Item = char>>(alloc: A, iter: U) -> Result<Self, AllocError>
         requires { (it : U.IntoIter) → U.into_iter_gives iter it → U.IntoIter.can_next it × IsFinite (U.IntoIter.remaining it) }
         ensures ran { IfOk result (λ s. (it : U.IntoIter) × (text : List ℕ)

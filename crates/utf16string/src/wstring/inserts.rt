@@ -16,8 +16,8 @@ use utf16_units::{Utf16CharExt, Utf16Order};
 impl<E: Utf16Order, A: Allocator> WString<E, A> {
     ghost use Rattle.utf16string.specs.WString.{IsUnchanged, wstring_bytes, wstring_capacity, wstring_text};
 
-    /// Puts a character last. The only error is a refused request for memory; it leaves the string as it was. Amortized
-    /// constant time; where the character fits, nothing is asked for.
+    /// Puts a character last. The only error is a refused request for memory; it leaves the string
+    /// as it was. Amortized constant time; where the character fits, nothing is asked for.
     #[inline]
     pub fn push(&mut self, ch: char) -> Result<(), AllocError>
         ensures text { OnOk result (wstring_text self.new ≡ push_text (wstring_text self.old) (ch ∷ [])) }
@@ -29,8 +29,8 @@ impl<E: Utf16Order, A: Allocator> WString<E, A> {
         push_char::<E, A>(&mut self.raw, ch)
     }
 
-    /// Puts a text last. The only error is a refused request for memory; it leaves the string as it was. One copy of the
-    /// text's bytes; where they fit, nothing is asked for.
+    /// Puts a text last. The only error is a refused request for memory; it leaves the string as it
+    /// was. One copy of the text's bytes; where they fit, nothing is asked for.
     #[inline]
     pub fn push_wstr(&mut self, string: WStr<E>) -> Result<(), AllocError>
         ensures text { OnOk result (wstring_text self.new ≡ push_text (wstring_text self.old) (wstr_text string.entry)) }
@@ -42,9 +42,9 @@ impl<E: Utf16Order, A: Allocator> WString<E, A> {
         append(&mut self.raw, string.as_bytes())
     }
 
-    /// Puts a character in at a byte offset. The caller proves that it is a character boundary; `is_char_boundary` tests it.
-    /// The only error is a refused request for memory; it leaves the string as it was. What stands behind is moved in one
-    /// block.
+    /// Puts a character in at a byte offset. The caller proves that it is a character boundary;
+    /// `is_char_boundary` tests it. The only error is a refused request for memory; it leaves the
+    /// string as it was. What stands behind is moved in one block.
     pub fn insert(&mut self, idx: usize, ch: char) -> Result<(), AllocError>
         requires { IsBoundary (wstring_text self.old) idx }
         ensures text { OnOk result (wstring_text self.new ≡ insert_at (wstring_text self.old) idx (ch ∷ [])) }
@@ -58,8 +58,9 @@ impl<E: Utf16Order, A: Allocator> WString<E, A> {
         self.insert_wstr(idx, WStr::from_utf16_unchecked(&units[..len]))
     }
 
-    /// Puts a text in at a byte offset. The caller proves that it is a character boundary; `is_char_boundary` tests it. The
-    /// only error is a refused request for memory; it leaves the string as it was. What stands behind is moved in one block.
+    /// Puts a text in at a byte offset. The caller proves that it is a character boundary;
+    /// `is_char_boundary` tests it. The only error is a refused request for memory; it leaves the
+    /// string as it was. What stands behind is moved in one block.
     pub fn insert_wstr(&mut self, idx: usize, string: WStr<E>) -> Result<(), AllocError>
         requires { IsBoundary (wstring_text self.old) idx }
         ensures text { OnOk result (wstring_text self.new ≡ insert_at (wstring_text self.old) idx (wstr_text string.entry)) }
@@ -72,7 +73,8 @@ impl<E: Utf16Order, A: Allocator> WString<E, A> {
     }
 }
 
-// Puts a character's bytes last. The two sizes are told apart, so that each copy is of a size known beforehand.
+// Puts a character's bytes last. The two sizes are told apart, so that each copy is of a size known
+// beforehand.
 #[inline]
 fn push_char<E: Utf16Order, A: Allocator>(raw: &mut Vec<u8, A>, ch: char) -> Result<(), AllocError>
     ensures items { OnOk result (raw.new.items ≡ raw.old.items ++ char_bytes E.BIG ch) }
@@ -100,8 +102,9 @@ fn append<A: Allocator>(raw: &mut Vec<u8, A>, bytes: &[u8]) -> Result<(), AllocE
     raw.extend_from_slice(bytes)
 }
 
-// Puts bytes in at an index. Room for them is asked for first: where it is refused, nothing has changed. The bytes are written
-// twice: a vector grows only by bytes that are put last, and then they go where they belong.
+// Puts bytes in at an index. Room for them is asked for first: where it is refused, nothing has
+// changed. The bytes are written twice: a vector grows only by bytes that are put last, and then
+// they go where they belong.
 #[inline]
 fn insert_bytes<A: Allocator>(
     raw: &mut Vec<u8, A>,

@@ -1,5 +1,5 @@
-//! The order of strings: by scalar values, character by character, as `String` compares. In neither byte order it is that of
-//! the bytes, nor of the units.
+//! The order of strings: by scalar values, character by character, as `String` compares. In neither
+//! byte order it is that of the bytes, nor of the units.
 
 ghost use Rattle.std.specs.Prelude.{◌≡◌, ◌↔◌, Some};
 ghost use Rattle.std.specs.Cmp.{on_total, po};

@@ -12,9 +12,9 @@ use utf16_units::Utf16Order;
 impl<E: Utf16Order, A: Allocator> WString<E, A> {
     ghost use Rattle.utf16string.specs.WString.{wstring_bytes, wstring_capacity, wstring_text, wstring_vec};
 
-    /// The same text in the byte order `F`, in the string's own memory: nothing is asked for, and the capacity stays. Where
-    /// the order changes, the two bytes of each unit are swapped, in one pass; else the bytes stay. For a copy in the other
-    /// order, `from_wstr` first.
+    /// The same text in the byte order `F`, in the string's own memory: nothing is asked for, and
+    /// the capacity stays. Where the order changes, the two bytes of each unit are swapped, in one
+    /// pass; else the bytes stay. For a copy in the other order, `from_wstr` first.
     pub fn into_order<F: Utf16Order>(self) -> WString<F, A>
         ensures text { wstring_text result ≡ wstring_text self }
         ensures encoding { Encodes F.BIG (wstring_text self) (wstring_bytes result) }

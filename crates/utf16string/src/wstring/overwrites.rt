@@ -15,8 +15,8 @@ use utf16_units::Utf16Order;
 impl<E: Utf16Order, A: Allocator> WString<E, A> {
     ghost use Rattle.utf16string.specs.WString.{wstring_bytes, wstring_capacity, wstring_text};
 
-    /// Whether a text can be written over as many bytes from a byte offset on: the offset and the one behind those bytes
-    /// are both character boundaries. Any offset may be asked about.
+    /// Whether a text can be written over as many bytes from a byte offset on: the offset and the
+    /// one behind those bytes are both character boundaries. Any offset may be asked about.
     #[inline]
     pub fn fits(&self, idx: usize, text: WStr<E>) -> bool
         ensures { IsTrue result ↔ (IsBoundary (wstring_text self.now) idx × IsBoundary (wstring_text self.now) (idx + size (wstr_text text.entry))) }
@@ -24,8 +24,8 @@ impl<E: Utf16Order, A: Allocator> WString<E, A> {
         self.as_wstr().fits(idx, text)
     }
 
-    /// Writes a text over as many bytes from a byte offset on. The caller proves that both ends are character boundaries;
-    /// `fits` tests it. All other bytes stay, and so does the capacity.
+    /// Writes a text over as many bytes from a byte offset on. The caller proves that both ends are
+    /// character boundaries; `fits` tests it. All other bytes stay, and so does the capacity.
     #[inline]
     pub fn overwrite(&mut self, idx: usize, text: WStr<E>)
         requires start { IsBoundary (wstring_text self.old) idx }

@@ -9,8 +9,9 @@ use utf16_units::Utf16Order;
 impl<E: Utf16Order, A: Allocator> WString<E, A> {
     ghost use Rattle.utf16string.specs.WString.{IsUnchanged, wstring_bytes, wstring_capacity};
 
-    /// Makes room for `additional` more bytes, or for more than that. The only error is a refused request for memory; it
-    /// leaves the string as it was. Where there is room already, the capacity stays and nothing is asked for.
+    /// Makes room for `additional` more bytes, or for more than that. The only error is a refused
+    /// request for memory; it leaves the string as it was. Where there is room already, the
+    /// capacity stays and nothing is asked for.
     #[inline]
     pub fn reserve(&mut self, additional: usize) -> Result<(), AllocError>
         ensures bytes { wstring_bytes self.new ≡ wstring_bytes self.old }
@@ -26,8 +27,9 @@ impl<E: Utf16Order, A: Allocator> WString<E, A> {
         self.raw.reserve(additional)
     }
 
-    /// Gives back the room that the text does not take. The only error is a refused request for the smaller block; the
-    /// text stays as it was. Where there is no such room, or no text, nothing is asked for.
+    /// Gives back the room that the text does not take. The only error is a refused request for the
+    /// smaller block; the text stays as it was. Where there is no such room, or no text, nothing is
+    /// asked for.
     pub fn shrink_to_fit(&mut self) -> Result<(), AllocError>
         ensures bytes { wstring_bytes self.new ≡ wstring_bytes self.old }
         ensures fits { IsOk result ↔ (wstring_capacity self.new ≡ length (wstring_bytes self.new)) }

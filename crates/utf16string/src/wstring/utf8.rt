@@ -13,8 +13,8 @@ use utf16_units::Utf16Order;
 impl<E: Utf16Order, A: Allocator> WString<E, A> {
     ghost use Rattle.utf16string.specs.WString.{IsUnchanged, wstring_bytes, wstring_capacity, wstring_text};
 
-    /// The same characters in UTF-16. The only error is a refused request for memory. Room is asked for once, for the empty
-    /// text not at all; two passes over the text.
+    /// The same characters in UTF-16. The only error is a refused request for memory. Room is asked
+    /// for once, for the empty text not at all; two passes over the text.
     pub fn from_str(alloc: A, s: &str) -> Result<Self, AllocError>
         ensures text { IfOk result (λ t. wstring_text t ≡ chars s.now) }
         ensures nothing { s.now ≡ [] → IsOk result }
@@ -27,8 +27,9 @@ impl<E: Utf16Order, A: Allocator> WString<E, A> {
         Ok(Self::from_utf16_unchecked(raw))
     }
 
-    /// Puts a text in UTF-8 last. The only error is a refused request for memory; it leaves the string as it was. Room is
-    /// asked for once, and where the text fits, not at all; two passes over the text.
+    /// Puts a text in UTF-8 last. The only error is a refused request for memory; it leaves the
+    /// string as it was. Room is asked for once, and where the text fits, not at all; two passes
+    /// over the text.
     pub fn push_str(&mut self, string: &str) -> Result<(), AllocError>
         ensures text { OnOk result (wstring_text self.new ≡ push_text (wstring_text self.old) (chars string.now)) }
         ensures len { OnOk result (length (wstring_bytes self.new) ≡ length (wstring_bytes self.old) + size (chars string.now)) }

@@ -1,5 +1,4 @@
-use Rattle.std.proofs.Common.{rules}
 use Rattle.utf16_streams.proofs.filters.filter.Goals as goal
 
 pub returns-clause-bytes : goal.returns-clause-bytes
-returns-clause-bytes g c = search rules
+returns-clause-bytes g c = c.filter_by.ensures.bytes

@@ -1,5 +1,10 @@
-use Rattle.std.proofs.Common.{rules}
+use Rattle.std.proofs.Common.{subst}
+use Rattle.utf16_streams.specs.Filter.{FiltersIn}
+use Rattle.utf16_streams.specs.Watched.{watched_inner}
 use Rattle.utf16_streams.proofs.filters.filter_auto.Goals as goal
 
 pub returns-clause-bytes : goal.returns-clause-bytes
-returns-clause-bytes g c = search rules
+returns-clause-bytes g c =
+    let read = g.R.Read.remaining in let held = g.W.Write.contents in
+    subst (λ order. FiltersIn order (read (watched_inner c.args.reader.now)) (read (watched_inner c.filter_by.new.reader))
+    (held (watched_inner c.args.writer.now)) (held (watched_inner c.filter_by.new.writer)) c.filter_by.result) c.new.ensures.order c.filter_by.ensures.bytes

@@ -15,6 +15,9 @@ returns-in_default-clause-bytes g c = Filtering-some _ _ _ _ _ _ _ _ c.loop.inva
 pub returns-clause-bytes : goal.returns-clause-bytes
 returns-clause-bytes g c = Filtering-some _ _ _ _ _ _ _ _ c.loop.invariant.0 _ _ c.loop-test.false (Keeps-refl _)
 
+pub returns-clause-writes : goal.returns-clause-writes
+returns-clause-writes g c = omega (arith, c.loop.invariant.2)
+
 pub returns-in_default-end-clause-bytes : goal.returns-in_default-end-clause-bytes
 returns-in_default-end-clause-bytes g c =
     let none : take c.in-Ok.count c.read.new.buf ≡ [] = ap (λ n. take n c.read.new.buf) c.if-count-eq0.true in

@@ -2,8 +2,11 @@ use Rattle.std.proofs.Common.{◌≡◌, ◌++◌, [], sym, ap, ◌∙◌, appen
 use Rattle.std.proofs.lemmas.List.{nil_from_length}
 use Rattle.utf16_units.specs.Split.{split_items}
 use Rattle.utf16_decode.specs.Stream.{stream_held}
-use Rattle.utf16_decode.proofs.DecodesLemmas.{Decodes-empty, Decodes-end, Decodes-then, undecided_items}
+use Rattle.utf16_decode.proofs.DecodesLemmas.{Decodes-empty, Decodes-end, Decodes-none, Decodes-then, undecided_items}
 use Rattle.utf16_streams.proofs.lossy.decode_parts.Goals as goal
+
+pub loop-rest-init : goal.loop-rest-init
+loop-rest-init g c = (Decodes-none _ _ _, c.requires.undecided)
 
 pub returns-in_err-stream-clause-nothing : goal.returns-in_err-stream-clause-nothing
 returns-in_err-stream-clause-nothing g c none =

@@ -1,11 +1,11 @@
-use Rattle.std.proofs.Common.{◌++◌, true≢false, sym, ap, ap₂, ◌∙◌}
+use Rattle.std.proofs.Common.{◌++◌, true≢false, refl, sym, ap, ap₂, ◌∙◌}
 use Rattle.std.specs.Char.{encode_utf8}
 use Rattle.std.specs.Vec.{vec_items}
 use Rattle.utf16_units.specs.Split.{split_items, split_tail}
 use Rattle.utf16_decode.proofs.StreamLemmas.{finished}
 use Rattle.utf16_decode.proofs.DecodesLemmas.{shown}
 use Rattle.utf16_streams.specs.Lossy.{lossy_pending}
-use Rattle.utf16_streams.proofs.PiecesLemmas.{pieces-end, pieces-shown, pieces-tail, pieces_decide_nothing, pieces_leave_nothing}
+use Rattle.utf16_streams.proofs.PiecesLemmas.{pieces-end, pieces-shown, pieces-tail, pieces-whole, pieces_decide_nothing, pieces_leave_nothing}
 use Rattle.utf16_streams.proofs.lossy.decode_pieces.Goals as goal
 
 pub loop-piece-init : goal.loop-piece-init
@@ -26,6 +26,13 @@ returns-in_err-feed_into-clause-nothing g c none =
     let same = ap₂ (λ p b. p ++ b) c.loop-piece.invariant.1 c.deref.ensures.value in
     absurd (true≢false (sym (c.in_err-feed_into.ensures.nothing (ap (split_items g.E.Utf16Order.BIG) same
     ∙ pieces_decide_nothing g.E.Utf16Order.BIG vec_items c.args.pieces.now c.loop-piece.piece-index c.piece-item.result c.loop-piece-test.true c.piece-item.is none))))
+
+pub returns-in_default-clause-nothing : goal.returns-in_default-clause-nothing
+returns-in_default-clause-nothing g c none = refl
+
+pub returns-in_default-clause-text : goal.returns-in_default-clause-text
+returns-in_default-clause-text g c = c.loop-piece.invariant.0
+    ∙ pieces-whole g.E.Utf16Order.BIG vec_items c.args.pieces.now c.loop-piece.piece-index c.loop-piece-test.false (sym c.loop-piece.invariant.1 ∙ c.finish.ensures.none.0 c.in_default.is)
 
 pub returns-in_err-push-clause-nothing : goal.returns-in_err-push-clause-nothing
 returns-in_err-push-clause-nothing g c none =

@@ -1,3 +1,4 @@
+use Rattle.std.proofs.Common.{refl}
 use Rattle.utf16_units.proofs.EncodingLemmas.{Encodes-text_of, is_text-from_IsText}
 use Rattle.utf16_str.proofs.wstr.WStr.from_utf16_unchecked.Goals as goal
 
@@ -6,3 +7,6 @@ invariant_of-result g c = record { well_formed = is_text-from_IsText _ _ c.requi
 
 pub returns-clause-encoding : goal.returns-clause-encoding
 returns-clause-encoding g c = Encodes-text_of _ _ c.requires
+
+pub returns-clause-bytes : goal.returns-clause-bytes
+returns-clause-bytes g c = refl

@@ -3,3 +3,9 @@ use Rattle.utf16_str.proofs.wstr.WStr.push_utf8.Goals as goal
 
 pub append_utf8-requires : goal.append_utf8-requires
 append_utf8-requires g c = IsText-from_Encodes _ _ _ c.as_bytes.ensures.encoding
+
+pub returns-clause-text : goal.returns-clause-text
+returns-clause-text g c = rw c.as_bytes.ensures.bytes at c.append_utf8.ensures.text
+
+pub returns-clause-refused : goal.returns-clause-refused
+returns-clause-refused g c = c.append_utf8.ensures.refused

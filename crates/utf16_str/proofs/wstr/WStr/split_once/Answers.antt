@@ -1,4 +1,5 @@
-use Rattle.std.proofs.Common.{◌≡◌, ◌∙◌, ◌+◌, ap, arith, drop, refl, sym, subst, take}
+use Rattle.std.proofs.Common.{◌≡◌, ◌∙◌, ◌+◌, ◌++◌, ◌∷◌, ap, arith, drop, refl, sym, subst, take}
+use Rattle.utf16_units.specs.Boundary.{text_from}
 use Rattle.utf16_units.specs.Delimited.{Lacks}
 use Rattle.utf16_units.specs.Encoding.{char_size, size}
 use Rattle.utf16_units.proofs.BoundaryLemmas.{IsBoundary-within}
@@ -38,3 +39,10 @@ returns-then-c-delimiter-clause-back_bytes g c =
 pub returns-clause-none : goal.returns-clause-none
 returns-clause-none g c =
     (λ none. passed-all _ _ (subst (IsPassed c.args.delimiter (wstr_text c.args.self)) c.in-None.ensures.steps.0 c.loop-at.invariant), λ lacks. refl)
+
+pub returns-then-c-delimiter-clause-split : goal.returns-then-c-delimiter-clause-split
+returns-then-c-delimiter-clause-split g c =
+    let at = first g (goal.at.returns-then-c-delimiter-clause-split g c).After-split_at in
+    let back = c.split_at-then-c-delimiter.ensures.back ∙ ap (λ n. text_from (wstr_text c.args.self) (c.in-Some.at + n)) (c.encoded_utf16_len.ensures ∙ ap char_size c.if-c-delimiter.true) in
+    at.split ∙ ap (λ t. t ++ c.args.delimiter ∷ text_from (wstr_text c.args.self) (c.in-Some.at + char_size c.args.delimiter)) (sym c.split_at.ensures.front)
+    ∙ ap (λ t. wstr_text c.split_at.result.0 ++ c.args.delimiter ∷ t) (sym back)

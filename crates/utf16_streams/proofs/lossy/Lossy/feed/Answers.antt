@@ -1,5 +1,4 @@
-use Rattle.std.proofs.Common.{rules}
 use Rattle.utf16_streams.proofs.lossy.Lossy.feed.Goals as goal
 
 pub returns-clause-text : goal.returns-clause-text
-returns-clause-text g c = search rules
+returns-clause-text g c = c.feed.ensures.text

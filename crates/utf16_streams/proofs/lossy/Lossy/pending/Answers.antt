@@ -7,3 +7,6 @@ pub returns-clause-tail : goal.returns-clause-tail
 returns-clause-tail g c =
     let same = ap (split_tail g.E.Utf16Order.BIG) c.held.ensures.bytes ∙ c.args.self.now.undecided ∙ sym c.held.ensures.bytes in
     subst (IsTail g.E.Utf16Order.BIG) same (IsTail-split_tail g.E.Utf16Order.BIG c.held.result.now)
+
+pub returns-clause-bytes : goal.returns-clause-bytes
+returns-clause-bytes g c = c.held.ensures.bytes

@@ -1,7 +1,7 @@
 use Rattle.std.proofs.Common.{◌≡◌, ◌∙◌, ap, length, subst, sym, take, true}
 use Rattle.utf16_units.specs.Encoding.{IsText, is_text, text_of}
 use Rattle.utf16_units.proofs.EncodingLemmas.{IsText-from_is_text, is_text-from_IsText}
-use Rattle.utf16string.specs.Retain.{IsAskable}
+use Rattle.utf16string.specs.Retain.{IsAskable, RetainsTo}
 use Rattle.utf16string.proofs.Edited.{written_back}
 use Rattle.utf16_retain.proofs.Asked.{MayBeAsked-askable}
 use Rattle.utf16string.proofs.wstring.WString.retain_by.Given.{Over}
@@ -29,3 +29,11 @@ invariant_of-self g c = record {
       subst (λ bytes. is_text g.E.Utf16Order.BIG bytes ≡ true) (sym (left g (goal.at.invariant_of-self g c).After-truncate))
       (is_text-from_IsText _ _ c.move_kept-kept.ensures.kept);
 }
+
+pub returns-clause-text : goal.returns-clause-text
+returns-clause-text g c =
+    let big = g.E.Utf16Order.BIG in
+    subst (λ now. RetainsTo g.F.FnMut c.args.f.now (text_of big c.args.self.now.raw.items) (text_of big now) c.move_kept-kept.new.keep)
+    (sym (left g (goal.at.returns-clause-text g c).After-truncate))
+    (subst (λ old. RetainsTo g.F.FnMut c.args.f.now (text_of big old) (text_of big (take c.move_kept-kept.result c.move_kept-kept.new.bytes)) c.move_kept-kept.new.keep)
+    c.as_mut_slice.ensures.value c.move_kept-kept.ensures.text)

@@ -1,0 +1,8 @@
+use Rattle.std.proofs.Common.{rules}
+use Rattle.utf16_streams.proofs.lossy.Lossy.finish.Goals as goal
+
+pub returns-else-is_empty-clause-none : goal.returns-else-is_empty-clause-none
+returns-else-is_empty-clause-none g c = search rules
+
+pub returns-else-is_empty-clause-mark : goal.returns-else-is_empty-clause-mark
+returns-else-is_empty-clause-mark g c = search rules
