@@ -29,7 +29,8 @@ abbrev pub validity_up_to : ℕ → Result (Unit {0}) Utf16Error → ℕ
 validity_up_to len (Ok done) = len
 validity_up_to len (Err e) = valid_up_to e
 
--- the longest well-formed beginning ends at `valid_up_to`: at the end of a text, or where the fault stands that is told
+-- the longest well-formed beginning ends at `valid_up_to`: at the end of a text, or where the fault
+-- stands that is told
 abbrev pub IsValidity : Bool → List ℕ → ℕ → Stop → Type 0
 IsValidity big raw valid_up_to Done = (valid_up_to ≡ length raw) × IsText big raw
 IsValidity big raw valid_up_to (Fault len) = IsFront big raw valid_up_to × IsFault big raw (Some len)

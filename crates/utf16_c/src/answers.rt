@@ -18,12 +18,14 @@ const NO_ROOM: u32 = 3;
 #[repr(C)]
 #[derive(Clone, Copy)]
 pub struct Answer {
-    /// How many bytes of the input were read: whole characters, and in a call with marks the faults among them.
+    /// How many bytes of the input were read: whole characters, and in a call with marks the faults
+    /// among them.
     pub read: usize,
-    /// How many bytes at the front of the buffer were written. What stands behind them has no meaning.
+    /// How many bytes at the front of the buffer were written. What stands behind them has no
+    /// meaning.
     pub written: usize,
-    /// Why the call read no more: 0 where all was read, 1 at a fault, 2 where the input ends inside a character, 3 where the room
-    /// that is left is shorter than what comes next.
+    /// Why the call read no more: 0 where all was read, 1 at a fault, 2 where the input ends inside
+    /// a character, 3 where the room that is left is shorter than what comes next.
     pub status: u32,
     /// With status 1 how many bytes the fault has, and else 0.
     pub fault_len: u32,

@@ -1,6 +1,7 @@
-//! UTF-16 for callers in C, and in any language that can call C; `include/utf16.h` tells them of these calls. Each hands on to a call
-//! of `utf16_transcode` in the byte order that it is given. A slice is a pointer and a length in bytes in C. No call asks for memory,
-//! and none requires anything of the bytes.
+//! UTF-16 for callers in C, and in any language that can call C; `include/utf16.h` tells them of
+//! these calls. Each hands on to a call of `utf16_transcode` in the byte order that it is given. A
+//! slice is a pointer and a length in bytes in C. No call asks for memory, and none requires
+//! anything of the bytes.
 #![tactic(auto)]
 
 mod answers;
@@ -29,8 +30,8 @@ use utf16_transcode::{
 };
 use utf16_units::{BE, LE, validate_raw_utf16};
 
-/// The longest well-formed beginning of the bytes, and what stands behind it: nothing, a surrogate without its partner, or a
-/// character that is cut off at the end. One pass, up to the first fault.
+/// The longest well-formed beginning of the bytes, and what stands behind it: nothing, a surrogate
+/// without its partner, or a character that is cut off at the end. One pass, up to the first fault.
 #[unsafe(no_mangle)]
 pub extern "C" fn utf16_validate(big: bool, raw: &[u8]) -> Validity
     ensures validity { IsValidity big raw.now result.valid_up_to (stop_of result.status result.fault_len) }
@@ -46,7 +47,8 @@ pub extern "C" fn utf16_validate(big: bool, raw: &[u8]) -> Validity
     )
 }
 
-/// How many characters well-formed bytes encode; of other bytes, how many whole code units are no trailing surrogates. One pass.
+/// How many characters well-formed bytes encode; of other bytes, how many whole code units are no
+/// trailing surrogates. One pass.
 #[unsafe(no_mangle)]
 pub extern "C" fn utf16_count(big: bool, raw: &[u8]) -> usize
     ensures units { result ≡ length raw.now / 2 - count_by is_low_surrogate (units_of big raw.now) }
@@ -59,8 +61,8 @@ pub extern "C" fn utf16_count(big: bool, raw: &[u8]) -> usize
     }
 }
 
-/// Whether the bytes are whole code units that are all ASCII: UTF-16, each character below U+0080. One pass, up to the first
-/// block that has another unit.
+/// Whether the bytes are whole code units that are all ASCII: UTF-16, each character below U+0080.
+/// One pass, up to the first block that has another unit.
 #[unsafe(no_mangle)]
 pub extern "C" fn utf16_is_ascii(big: bool, raw: &[u8]) -> bool
     ensures units { IsTrue result ↔ ((length raw.now % 2 ≡ 0) × All (λ unit. unit < 0x80) (units_of big raw.now)) }
@@ -85,9 +87,10 @@ pub extern "C" fn utf16_to_utf8_len(big: bool, raw: &[u8]) -> usize
     }
 }
 
-/// Writes UTF-16 in UTF-8, up to the first fault or as far as whole characters fit. A fault and a character that is cut off are not
-/// read. With status 3 the room that is left is shorter than the next character, and the call may go on behind `read`. What stands
-/// behind the written bytes may have been written over. In time linear in what is read.
+/// Writes UTF-16 in UTF-8, up to the first fault or as far as whole characters fit. A fault and a
+/// character that is cut off are not read. With status 3 the room that is left is shorter than the
+/// next character, and the call may go on behind `read`. What stands behind the written bytes may
+/// have been written over. In time linear in what is read.
 #[unsafe(no_mangle)]
 pub extern "C" fn utf16_to_utf8(big: bool, raw: &[u8], to: &mut [u8]) -> Answer
     ensures wrote { Wrote (IsUtf8Of big) raw.now to.new result.read result.written }
@@ -101,8 +104,9 @@ pub extern "C" fn utf16_to_utf8(big: bool, raw: &[u8], to: &mut [u8]) -> Answer
     })
 }
 
-/// The same with U+FFFD for each surrogate without its partner, and one for a character that is cut off at the end. The status is 0,
-/// or 3 where the room that is left is shorter than the next character or U+FFFD: the call may go on behind `read`.
+/// The same with U+FFFD for each surrogate without its partner, and one for a character that is cut
+/// off at the end. The status is 0, or 3 where the room that is left is shorter than the next
+/// character or U+FFFD: the call may go on behind `read`.
 #[unsafe(no_mangle)]
 pub extern "C" fn utf16_to_utf8_marked(big: bool, raw: &[u8], to: &mut [u8]) -> Answer
     ensures shown { ShowsWhole (lossy_text big) encode_utf8 raw.now to.new result.read result.written }
@@ -117,8 +121,8 @@ pub extern "C" fn utf16_to_utf8_marked(big: bool, raw: &[u8], to: &mut [u8]) -> 
     })
 }
 
-/// The same of a stream's next bytes: a character that is cut off at the end is not read, with status 2, and more bytes may complete
-/// it.
+/// The same of a stream's next bytes: a character that is cut off at the end is not read, with
+/// status 2, and more bytes may complete it.
 #[unsafe(no_mangle)]
 pub extern "C" fn utf16_to_utf8_stream(big: bool, raw: &[u8], to: &mut [u8]) -> Answer
     ensures decodes { DecodesTo big raw.now to.new result.read result.written }
@@ -132,9 +136,10 @@ pub extern "C" fn utf16_to_utf8_stream(big: bool, raw: &[u8], to: &mut [u8]) -> 
     })
 }
 
-/// Writes UTF-8 in UTF-16, up to the first fault or as far as whole characters fit. A fault and a character that is cut off are not
-/// read. With status 3 the room that is left is shorter than the next character, and the call may go on behind `read`. What stands
-/// behind the written bytes may have been written over. In time linear in what is read.
+/// Writes UTF-8 in UTF-16, up to the first fault or as far as whole characters fit. A fault and a
+/// character that is cut off are not read. With status 3 the room that is left is shorter than the
+/// next character, and the call may go on behind `read`. What stands behind the written bytes may
+/// have been written over. In time linear in what is read.
 #[unsafe(no_mangle)]
 pub extern "C" fn utf16_from_utf8(big: bool, text: &[u8], to: &mut [u8]) -> Answer
     ensures wrote { Wrote (IsUtf16Of big) text.now to.new result.read result.written }
@@ -148,10 +153,11 @@ pub extern "C" fn utf16_from_utf8(big: bool, text: &[u8], to: &mut [u8]) -> Answ
     })
 }
 
-/// Writes any bytes of UTF-8 in UTF-16, as far as whole characters fit, with U+FFFD where they are no UTF-8: one for each maximal
-/// subpart of an ill-formed sequence, and one for a character that is cut off at the end. The status is 0, or 3 where the room that
-/// is left is shorter than the next character or U+FFFD: the call may go on behind `read`. What stands behind the written bytes may
-/// have been written over. In time linear in what is read.
+/// Writes any bytes of UTF-8 in UTF-16, as far as whole characters fit, with U+FFFD where they are
+/// no UTF-8: one for each maximal subpart of an ill-formed sequence, and one for a character that
+/// is cut off at the end. The status is 0, or 3 where the room that is left is shorter than the
+/// next character or U+FFFD: the call may go on behind `read`. What stands behind the written bytes
+/// may have been written over. In time linear in what is read.
 #[unsafe(no_mangle)]
 pub extern "C" fn utf16_from_utf8_marked(big: bool, text: &[u8], to: &mut [u8]) -> Answer
     ensures shown { ShowsWhole text_of_utf8 (char_bytes big) text.now to.new result.read result.written }
@@ -166,7 +172,8 @@ pub extern "C" fn utf16_from_utf8_marked(big: bool, text: &[u8], to: &mut [u8]) 
     })
 }
 
-/// How many bytes of UTF-16 the longest valid beginning of UTF-8 takes, in either order. Two passes.
+/// How many bytes of UTF-16 the longest valid beginning of UTF-8 takes, in either order. Two
+/// passes.
 #[unsafe(no_mangle)]
 pub extern "C" fn utf16_from_utf8_len(text: &[u8]) -> usize
     ensures { result ≡ size (chars (take (utf8_valid_len text.now) text.now)) }
@@ -174,8 +181,8 @@ pub extern "C" fn utf16_from_utf8_len(text: &[u8]) -> usize
     utf16_size(text)
 }
 
-/// How many bytes of UTF-16 `utf16_from_utf8_marked` makes of all the bytes, in either order: two at most for each byte. Two
-/// passes.
+/// How many bytes of UTF-16 `utf16_from_utf8_marked` makes of all the bytes, in either order: two
+/// at most for each byte. Two passes.
 #[unsafe(no_mangle)]
 pub extern "C" fn utf16_from_utf8_marked_len(text: &[u8]) -> usize
     ensures size { result ≡ size (text_of_utf8 text.now) }
@@ -184,8 +191,8 @@ pub extern "C" fn utf16_from_utf8_marked_len(text: &[u8]) -> usize
     utf16_marked_size(text)
 }
 
-/// The byte order at the beginning of a stream: by its mark, and big endian without one; undecided where fewer than two bytes have
-/// come.
+/// The byte order at the beginning of a stream: by its mark, and big endian without one; undecided
+/// where fewer than two bytes have come.
 #[unsafe(no_mangle)]
 pub extern "C" fn utf16_byte_order(raw: &[u8]) -> Order
     ensures undecided { (result.order ≡ 2) ↔ (length raw.now < 2) }

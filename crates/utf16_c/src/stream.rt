@@ -10,10 +10,11 @@ use crate::answers::{Answer, answer_of};
 use utf16_transcode::Stream;
 use utf16_units::{BE, LE};
 
-/// Takes the next piece of a stream and writes in UTF-8 what is decided now, as far as whole characters fit: the characters, and
-/// U+FFFD for each surrogate without its partner. `read` counts the bytes of the piece that were taken: all of them, or the next
-/// character does not fit. Any bytes are allowed in the state, and a `len` of at most three is left there. In time linear in what is
-/// read.
+/// Takes the next piece of a stream and writes in UTF-8 what is decided now, as far as whole
+/// characters fit: the characters, and U+FFFD for each surrogate without its partner. `read` counts
+/// the bytes of the piece that were taken: all of them, or the next character does not fit. Any
+/// bytes are allowed in the state, and a `len` of at most three is left there. In time linear in
+/// what is read.
 #[unsafe(no_mangle)]
 pub extern "C" fn utf16_stream_feed(
     big: bool,
@@ -35,8 +36,8 @@ pub extern "C" fn utf16_stream_feed(
     })
 }
 
-/// Ends a stream: writes U+FFFD in UTF-8 where bytes are held, and else nothing. What stands behind it stays. With fewer than three
-/// bytes of room for it nothing changes.
+/// Ends a stream: writes U+FFFD in UTF-8 where bytes are held, and else nothing. What stands behind
+/// it stays. With fewer than three bytes of room for it nothing changes.
 #[unsafe(no_mangle)]
 pub extern "C" fn utf16_stream_finish(stream: &mut Stream, to: &mut [u8]) -> Answer
     ensures read { result.read ≡ 0 }

@@ -1,4 +1,5 @@
-//! Edits behind the tests of their conditions, by public calls alone: what a caller writes, and what it then knows.
+//! Edits behind the tests of their conditions, by public calls alone: what a caller writes, and
+//! what it then knows.
 
 ghost use Rattle.std.specs.Prelude.{◌≡◌, ◌↔◌, ◌⊎◌, ◌+◌, ◌<◌, ◌≤◌, length, false, true, Ok, Some, IfOk, IfSome, IsNone, IsOk, IsSome, IsTrue, OnErr, OnOk};
 ghost use Rattle.std.specs.List.{splice};
@@ -57,7 +58,8 @@ pub fn removed<E: Utf16Order, A: Allocator>(text: &mut WString<E, A>, idx: usize
     }
 }
 
-/// Keeps the front up to an offset, where that is a character boundary or past the text: whether it is.
+/// Keeps the front up to an offset, where that is a character boundary or past the text: whether it
+/// is.
 pub fn truncated<E: Utf16Order, A: Allocator>(text: &mut WString<E, A>, len: usize) -> bool
     ensures fits { IsTrue result ↔ ((size (wstring_text text.old) ≤ len) ⊎ IsBoundary (wstring_text text.old) len) }
     ensures cut { IsTrue result → len < size (wstring_text text.old) → wstring_text text.new ≡ text_to (wstring_text text.old) len }
@@ -111,7 +113,8 @@ pub fn overwritten_in_place<E: Utf16Order>(
     Ok(fits)
 }
 
-/// The same by a checked view, which is ended by giving the bytes back: the caller goes on with them.
+/// The same by a checked view, which is ended by giving the bytes back: the caller goes on with
+/// them.
 pub fn overwritten_and_returned<'a, E: Utf16Order>(
     buf: &'a mut [u8],
     idx: usize,

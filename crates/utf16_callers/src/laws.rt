@@ -53,8 +53,9 @@ pub fn cut_and_joined<E: Utf16Order, A: Allocator>(
     joined(alloc, head, tail)
 }
 
-/// A text cut at a key whose bytes stand at an even offset: what stands before the key, and what stands behind it. `None`
-/// where the key is empty, the offset is odd, or the key's bytes do not stand there.
+/// A text cut at a key whose bytes stand at an even offset: what stands before the key, and what
+/// stands behind it. `None` where the key is empty, the offset is odd, or the key's bytes do not
+/// stand there.
 pub fn cut_at_key<'a, E: Utf16Order>(
     text: WStr<'a, E>,
     key: WStr<'_, E>,
@@ -152,7 +153,8 @@ pub fn is_beginning<E: Utf16Order>(raw: &[u8]) -> bool
     !is_dead_end::<E>(&raw[e.valid_up_to()..])
 }
 
-// Whether what is left of a character that was cut off is past completing, as it can be in big endian alone.
+// Whether what is left of a character that was cut off is past completing, as it can be in big
+// endian alone.
 fn is_dead_end<E: Utf16Order>(rest: &[u8]) -> bool
     ensures { IsTrue result ↔ IsDeadEnd E.BIG rest.now }
 {

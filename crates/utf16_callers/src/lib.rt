@@ -1,4 +1,5 @@
-//! Proved callers of the strings, by public calls alone: walks, edits, ranges, and what users build on a law.
+//! Proved callers of the strings, by public calls alone: walks, edits, ranges, and what users build
+//! on a law.
 #![tactic(auto)]
 
 pub mod edits;

@@ -9,7 +9,8 @@ use std::alloc::{AllocError, Allocator};
 use utf16_tools::{Edit, Reply, run};
 use utf16string::{Utf16Order, WString};
 
-/// Puts two characters last by a script of two edits. Where neither was refused memory, the text has both.
+/// Puts two characters last by a script of two edits. Where neither was refused memory, the text
+/// has both.
 pub fn two_pushed<E: Utf16Order, A: Allocator + Clone, B: Allocator + Clone>(
     alloc: B,
     string: &mut WString<E, A>,

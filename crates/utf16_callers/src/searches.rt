@@ -8,8 +8,8 @@ ghost use Rattle.utf16string.specs.WStr.{wstr_text};
 use crate::laws::stands_at;
 use utf16string::{Utf16Order, WStr};
 
-/// Where a part stands in a text for the first time, or `None` where it stands nowhere in it. The caller proves that the part is not
-/// empty.
+/// Where a part stands in a text for the first time, or `None` where it stands nowhere in it. The
+/// caller proves that the part is not empty.
 #[tactic(auto, using(utf16_units::proofs::Rules::searches))]
 pub fn first_place<E: Utf16Order>(text: WStr<E>, part: WStr<E>) -> Option<usize>
     requires { wstr_text part ≢ [] }

@@ -1,4 +1,5 @@
-//! Callers that walk a text from either end. The loop says in one line what it keeps; no other has a proof file.
+//! Callers that walk a text from either end. The loop says in one line what it keeps; no other has
+//! a proof file.
 
 ghost use Rattle.std.specs.Prelude.{◌≡◌, ◌≢◌, ◌==◌, ◌↔◌, ◌<◌, ℕ, All, IfNone, IfOk, IfSome, IsTrue, Some, count_by, encode_utf8_all, reverse, slice_get, slice_index, string_bytes, length};
 ghost use Rattle.std.specs.List.{AllWithin};

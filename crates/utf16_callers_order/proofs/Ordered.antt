@@ -1,4 +1,5 @@
--- What the callers want of lists: neighbours in order, a key found by its text, and copies place by place.
+-- What the callers want of lists: neighbours in order, a key found by its text, and copies place by
+-- place.
 use Rattle.std.proofs.Common.{◌≡◌, ◌↔◌, ℕ, zero, suc, ◌+◌, ◌-◌, ◌<◌, Bool, true, false, List, [], ◌∷◌, Ordering, Less, Equal, Greater, IsTrue, length, map, slice_index_or, nat_cmp, refl, ap, ap₂, sym, subst, ◌∙◌, arith, is_eq, is_lt, true≢false}
 use Rattle.std.proofs.lemmas.List.Folds.{Any-from_list_any, list_any-from_Any}
 use Rattle.std.specs.Cmp.{Equal-is}

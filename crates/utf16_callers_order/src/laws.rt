@@ -10,7 +10,8 @@ use std::cmp::Ordering;
 use utf16_units::laws::{before_follows, before_total};
 use utf16string::{Utf16Order, WStr, WString};
 
-/// Whether two strings have the same text, for a table that only knows which of two is before the other.
+/// Whether two strings have the same text, for a table that only knows which of two is before the
+/// other.
 pub fn tied<E: Utf16Order>(first: WStr<E>, second: WStr<E>) -> bool
     ensures { IsTrue result ↔ (wstr_text first.entry ≡ wstr_text second.entry) }
 {

@@ -32,7 +32,8 @@ pub fn turned_round<E: Utf16Order, A: Allocator>(
     text.chars().rev().collect(alloc)
 }
 
-/// Puts the characters of a view last, which may be in another byte order. Where memory is refused, some of them may be put.
+/// Puts the characters of a view last, which may be in another byte order. Where memory is refused,
+/// some of them may be put.
 pub fn push_any<E: Utf16Order, F: Utf16Order, A: Allocator>(
     string: &mut WString<E, A>,
     text: WStr<F>,

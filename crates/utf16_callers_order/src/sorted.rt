@@ -1,5 +1,6 @@
-//! Strings in order: the later and the earlier of two, strings sorted, and one looked for among sorted ones. What is said in std's
-//! words of `Ord` proves with nothing written; what is said by `IsBefore` takes a line each.
+//! Strings in order: the later and the earlier of two, strings sorted, and one looked for among
+//! sorted ones. What is said in std's words of `Ord` proves with nothing written; what is said by
+//! `IsBefore` takes a line each.
 
 ghost use Rattle.std.specs.Prelude.{◌≡◌, IfOk, IsPermutation, IsSorted, OnErr, OnOk};
 ghost use Rattle.std.specs.Cmp.Lexicographic.{slice_cmp};
@@ -28,7 +29,8 @@ pub fn min_of<'a, E: Utf16Order>(first: WStr<'a, E>, second: WStr<'a, E>) -> WSt
     first.min(second)
 }
 
-/// Where a string stands among sorted ones, or where it could be put in, by halving, in std's words.
+/// Where a string stands among sorted ones, or where it could be put in, by halving, in std's
+/// words.
 pub fn searched<E: Utf16Order>(sorted: &[WString<E>], wanted: &WString<E>) -> Result<usize, usize>
     ensures place { IsBinarySearchResult (λ s. slice_cmp nat_cmp (wstring_text s) (wstring_text wanted.now)) sorted.now result }
     ensures found { IfOk result (HoldsAt (λ s. slice_cmp nat_cmp (wstring_text s) (wstring_text wanted.now) ≡ Equal) sorted.now) }

@@ -33,7 +33,8 @@ pub fn put_in<E: Utf16Order, A: Allocator>(
     Ok(Some(at + part.len()))
 }
 
-/// Writes a text over as many bytes from an offset on where it fits there, and answers whether it does. The string keeps its length.
+/// Writes a text over as many bytes from an offset on where it fits there, and answers whether it
+/// does. The string keeps its length.
 #[tactic(auto, using(utf16_units::proofs::Rules::edits))]
 pub fn put_over<E: Utf16Order, A: Allocator>(
     text: &mut WString<E, A>,
@@ -54,8 +55,8 @@ pub fn put_over<E: Utf16Order, A: Allocator>(
     fits
 }
 
-/// Takes off the back from an offset on, where that is a character boundary, and puts it last again. Where memory is refused the
-/// text is as it was, or its back is gone.
+/// Takes off the back from an offset on, where that is a character boundary, and puts it last
+/// again. Where memory is refused the text is as it was, or its back is gone.
 #[tactic(auto, using(utf16_units::proofs::Rules::edits))]
 pub fn cut_and_mended<E: Utf16Order, A: Allocator + Clone>(
     text: &mut WString<E, A>,

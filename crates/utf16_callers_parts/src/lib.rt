@@ -1,4 +1,5 @@
-//! Proved callers of the parts of a string, of the laws of boundaries and of the four users, by public calls alone.
+//! Proved callers of the parts of a string, of the laws of boundaries and of the four users, by
+//! public calls alone.
 #![tactic(auto)]
 
 pub mod edited;

@@ -35,7 +35,8 @@ pub fn halves<'a, E: Utf16Order>(text: WStr<'a, E>, at: usize) -> Option<(WStr<'
     Some((text.get(..at)?, text.get(at..)?))
 }
 
-/// Gives what stands before such a character, and what stands behind it; nothing where no offset of the text has one.
+/// Gives what stands before such a character, and what stands behind it; nothing where no offset of
+/// the text has one.
 #[tactic(auto, using(utf16_units::proofs::Rules::boundaries))]
 pub fn around<'a, E: Utf16Order>(
     text: WStr<'a, E>,
@@ -98,7 +99,8 @@ pub fn view<'a, E: Utf16Order>(name: WStr<'_, E>, raw: &'a [u8]) -> WStr<'a, E>
     WStr::from_utf16_unchecked(raw)
 }
 
-/// The two parts on both sides of an offset: joined they are the text, and each takes the bytes on its side.
+/// The two parts on both sides of an offset: joined they are the text, and each takes the bytes on
+/// its side.
 pub fn parted<'a, E: Utf16Order>(text: WStr<'a, E>, at: usize) -> Option<(WStr<'a, E>, WStr<'a, E>)>
     ensures some { IsSome result ↔ IsBoundary (wstr_text text.entry) at }
     ensures joined { IfSome result (λ parts. wstr_text parts.0 ++ wstr_text parts.1 ≡ wstr_text text.entry) }

@@ -1,8 +1,10 @@
-//! The sentence of the README that the project carries, phrase by phrase, each the contract of a function on public calls.
+//! The sentence of the README that the project carries, phrase by phrase, each the contract of a
+//! function on public calls.
 //!
-//! In either byte order, bytes are taken as text exactly when they encode a list of characters, and only one; every list of
-//! edits leaves the encoding of the equally edited list; where bytes are refused, the error marks the longest valid beginning;
-//! and resuming by it, over every cutting of a stream, yields the text of the stream's one split.
+//! In either byte order, bytes are taken as text exactly when they encode a list of characters, and
+//! only one; every list of edits leaves the encoding of the equally edited list; where bytes are
+//! refused, the error marks the longest valid beginning; and resuming by it, over every cutting of
+//! a stream, yields the text of the stream's one split.
 
 ghost use Rattle.std.specs.Prelude.{◌≡◌, ◌↔◌, ◌-◌, ◌<◌, ◌≤◌, ◌++◌, All, IfOk, IfSome, IsSome, List, OnErr, OnOk, ℕ, drop, encode_utf8_all, length, string_bytes};
 ghost use Rattle.std.specs.List.{flat_map};
@@ -20,8 +22,8 @@ use utf16_tools::{Edit, Lossy, Reply, run};
 use utf16_units::laws::{split_exists, split_unique, unique_text};
 use utf16string::{Utf16Order, WStr, WString};
 
-/// Bytes are taken as text exactly when they encode a list of characters, and only one: the view has that list, and there is no
-/// other.
+/// Bytes are taken as text exactly when they encode a list of characters, and only one: the view
+/// has that list, and there is no other.
 pub fn taken_as_text<E: Utf16Order>(bytes: &[u8]) -> Option<WStr<E>>
     ensures taken { IsSome result ↔ ((text : List ℕ) × Encodes E.BIG text bytes.now) }
     ensures one { IfSome result (λ s. Encodes E.BIG (wstr_text s) bytes.now × ((other : List ℕ) → Encodes E.BIG other bytes.now → other ≡ wstr_text s)) }
@@ -30,9 +32,9 @@ pub fn taken_as_text<E: Utf16Order>(bytes: &[u8]) -> Option<WStr<E>>
     WStr::<E>::from_utf16(bytes).ok()
 }
 
-/// Every list of edits leaves the encoding of the equally edited list: the replies and the last text are a run of the list
-/// from the text at the start, and the bytes are the encoding of that last text. Where room for the replies is refused, they
-/// are the bytes of before.
+/// Every list of edits leaves the encoding of the equally edited list: the replies and the last
+/// text are a run of the list from the text at the start, and the bytes are the encoding of that
+/// last text. Where room for the replies is refused, they are the bytes of before.
 pub fn every_list_of_edits<E: Utf16Order, A: Allocator + Clone, B: Allocator, C: Allocator>(
     alloc: B,
     string: WString<E, A>,
@@ -46,8 +48,8 @@ pub fn every_list_of_edits<E: Utf16Order, A: Allocator + Clone, B: Allocator, C:
     (replies, string.into_bytes())
 }
 
-/// Where bytes are refused, the error marks the longest valid beginning, and the fault behind it: the two fields of the error,
-/// and none exactly where the bytes are text.
+/// Where bytes are refused, the error marks the longest valid beginning, and the fault behind it:
+/// the two fields of the error, and none exactly where the bytes are text.
 pub fn marked_where_refused<E: Utf16Order>(bytes: &[u8]) -> Option<(usize, Option<usize>)>
     ensures refused { IsSome result ↔ ¬ (IsText E.BIG bytes.now) }
     ensures marked { IfSome result (λ fields. IsFront E.BIG bytes.now fields.0 × IsFault E.BIG bytes.now fields.1) }
@@ -56,9 +58,10 @@ pub fn marked_where_refused<E: Utf16Order>(bytes: &[u8]) -> Option<(usize, Optio
     Some((error.valid_up_to(), error.error_len()))
 }
 
-/// Resuming by the error, over every cutting of a stream, yields the text of the stream's one split: a plain loop that follows
-/// `valid_up_to` and `error_len`, and keeps what is cut off for the next piece. The text in UTF-8 is what `decode_pieces`
-/// answers, and what a `Lossy` gives that is fed the pieces: see [`fed`].
+/// Resuming by the error, over every cutting of a stream, yields the text of the stream's one
+/// split: a plain loop that follows `valid_up_to` and `error_len`, and keeps what is cut off for
+/// the next piece. The text in UTF-8 is what `decode_pieces` answers, and what a `Lossy` gives that
+/// is fed the pieces: see [`fed`].
 pub fn resumed<E: Utf16Order, A: Allocator, B: Allocator, C: Allocator>(
     text_alloc: A,
     rest_alloc: B,
@@ -84,8 +87,8 @@ pub fn resumed<E: Utf16Order, A: Allocator, B: Allocator, C: Allocator>(
     Ok(text)
 }
 
-/// The text of a `Lossy` that is fed the pieces one by one and then finished, in UTF-8: that of [`resumed`] and of
-/// `decode_pieces`. The only error is a refused request for memory.
+/// The text of a `Lossy` that is fed the pieces one by one and then finished, in UTF-8: that of
+/// [`resumed`] and of `decode_pieces`. The only error is a refused request for memory.
 pub fn fed<E: Utf16Order, A: Allocator, B: Allocator + Clone, C: Allocator>(
     text_alloc: A,
     answer_alloc: B,
@@ -107,8 +110,9 @@ pub fn fed<E: Utf16Order, A: Allocator, B: Allocator + Clone, C: Allocator>(
     Ok(text)
 }
 
-/// Puts the text of bytes behind another, with U+FFFD for each fault that has a length, and answers what is cut off at the end:
-/// the loop that Rust documents beside `Utf8Error::error_len`. The only error is a refused request for memory.
+/// Puts the text of bytes behind another, with U+FFFD for each fault that has a length, and answers
+/// what is cut off at the end: the loop that Rust documents beside `Utf8Error::error_len`. The only
+/// error is a refused request for memory.
 pub fn resume<'a, E: Utf16Order, A: Allocator>(
     bytes: &'a [u8],
     to: &mut String<A>,

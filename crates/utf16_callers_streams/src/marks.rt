@@ -8,8 +8,8 @@ ghost use Rattle.utf16_tools.specs.Split.{full, marked};
 use std::alloc::{AllocError, Allocator};
 use utf16_tools::AnyLossy;
 
-/// The text of a stream that comes at once, in the order that its mark tells: the mark is no part of it. What is no text is
-/// shown by U+FFFD. The only error is a refused request for memory.
+/// The text of a stream that comes at once, in the order that its mark tells: the mark is no part
+/// of it. What is no text is shown by U+FFFD. The only error is a refused request for memory.
 pub fn marked_stream<A: Allocator>(alloc: A, bytes: &[u8]) -> Result<String<A>, AllocError>
     ensures { IfOk result (λ s. string_bytes s ≡ encode_utf8_all (full (items_in None bytes.now) (tail_in None bytes.now))) }
 {
@@ -22,9 +22,10 @@ pub fn marked_stream<A: Allocator>(alloc: A, bytes: &[u8]) -> Result<String<A>, 
     Ok(text)
 }
 
-/// Feeds two pieces, cut in the mark or behind it, and answers the text of both: what a decoder that is fed the two joined
-/// answers. It keeps what that one keeps, and has found the order that it has. The only error is a refused request for memory;
-/// it leaves the decoder as it was, or behind the first piece, or behind both, and the text is lost.
+/// Feeds two pieces, cut in the mark or behind it, and answers the text of both: what a decoder
+/// that is fed the two joined answers. It keeps what that one keeps, and has found the order that
+/// it has. The only error is a refused request for memory; it leaves the decoder as it was, or
+/// behind the first piece, or behind both, and the text is lost.
 pub fn marked_in_two<A: Allocator, B: Allocator>(
     decoder: &mut AnyLossy,
     alloc: A,

@@ -15,7 +15,8 @@ use utf16_units::laws::{
 };
 use utf16string::{Utf16Order, WStr};
 
-/// Whether a decoder waits for the second half of a pair: what is pending then begins with a leading surrogate.
+/// Whether a decoder waits for the second half of a pair: what is pending then begins with a
+/// leading surrogate.
 pub fn waits_for_a_pair<E: Utf16Order>(decoder: &Lossy<E>) -> bool
     ensures waits { IsTrue result ↔ (2 ≤ length (lossy_pending decoder.now)) }
     ensures tail { IsTail E.BIG (lossy_pending decoder.now) }
@@ -23,9 +24,9 @@ pub fn waits_for_a_pair<E: Utf16Order>(decoder: &Lossy<E>) -> bool
     decoder.pending().len() >= 2
 }
 
-/// Feeds two pieces, and answers the text of both: what a decoder that is fed the two joined answers. It keeps what that one
-/// keeps. The only error is a refused request for memory; it leaves the decoder as it was, or behind the first piece, or behind
-/// both, and the text is lost.
+/// Feeds two pieces, and answers the text of both: what a decoder that is fed the two joined
+/// answers. It keeps what that one keeps. The only error is a refused request for memory; it leaves
+/// the decoder as it was, or behind the first piece, or behind both, and the text is lost.
 pub fn fed_in_two<E: Utf16Order, A: Allocator, B: Allocator>(
     decoder: &mut Lossy<E>,
     alloc: A,
@@ -44,8 +45,8 @@ pub fn fed_in_two<E: Utf16Order, A: Allocator, B: Allocator>(
     Ok(text)
 }
 
-/// The text of bytes that come at once, and how many are kept. Whatever split of the bytes one takes, the text is that of its
-/// items, and what is kept is its tail.
+/// The text of bytes that come at once, and how many are kept. Whatever split of the bytes one
+/// takes, the text is that of its items, and what is kept is its tail.
 pub fn decoded<E: Utf16Order, A: Allocator>(
     alloc: A,
     bytes: &[u8],
@@ -85,7 +86,8 @@ pub fn passed_through<E: Utf16Order, A: Allocator>(
     Ok((passed, decoder.pending().is_empty()))
 }
 
-/// What a decoder shows of a beginning, and what it shows of all: the first stays at the front of the second.
+/// What a decoder shows of a beginning, and what it shows of all: the first stays at the front of
+/// the second.
 pub fn early_and_whole<E: Utf16Order, A: Allocator, B: Allocator>(
     early_alloc: A,
     whole_alloc: B,
@@ -103,7 +105,8 @@ pub fn early_and_whole<E: Utf16Order, A: Allocator, B: Allocator>(
     Ok((early, all))
 }
 
-/// How many bytes of UTF-8 the whole text of bytes takes at most, in either order: at most three more than half as many again.
+/// How many bytes of UTF-8 the whole text of bytes takes at most, in either order: at most three
+/// more than half as many again.
 pub fn room_for(bytes: &[u8]) -> usize
     ensures most { 2 * result ≤ 3 * length bytes.now + 6 }
     ensures enough { (big : Bool) → length (encode_utf8_all (lossy_text big bytes.now)) ≤ result }

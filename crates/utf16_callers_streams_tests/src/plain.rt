@@ -12,7 +12,8 @@ fn is(rt: &(impl Abort + AllocGlobal), big: bool, bytes: &[u8], wanted: &[u8]) -
     Ok(())
 }
 
-// A mistake that no clause sees: the decoder of the tests, which has none, is wrong as the other is.
+// A mistake that no clause sees: the decoder of the tests, which has none, is wrong as the other
+// is.
 #[test]
 fn known_bytes_have_their_texts(rt: HostRuntime) -> Result<(), Fail> {
     for (_, little, big, utf8) in &characters() {

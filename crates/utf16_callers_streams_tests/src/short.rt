@@ -1,5 +1,6 @@
-//! Every string of at most four of eight telling bytes, at every cutting: the decoder of streams and the plain loop that follows
-//! the error's fields show and keep what a decoder of the tests does.
+//! Every string of at most four of eight telling bytes, at every cutting: the decoder of streams
+//! and the plain loop that follows the error's fields show and keep what a decoder of the tests
+//! does.
 
 use crate::checks::equal;
 use std::process::Abort;
@@ -8,7 +9,8 @@ use utf16_testing::plain::decode;
 use utf16_tools::{Lossy, decode_pieces};
 use utf16string::{BE, LE, Utf16Order};
 
-// Zero, a letter, the first and the last high byte of a leading and of a trailing surrogate, and high bytes behind them.
+// Zero, a letter, the first and the last high byte of a leading and of a trailing surrogate, and
+// high bytes behind them.
 const TELLING: [u8; 8] = [0x00, 0x41, 0xD8, 0xDB, 0xDC, 0xDF, 0xE0, 0xFF];
 
 // The byte string of that length and number: the number's digits to the base eight.

@@ -14,8 +14,9 @@ outcome (Err fault.Write) = Write
 outcome (Err fault.Memory) = Memory
 outcome (Err fault.Long) = Long
 
--- the outcome is that of a filter in an order, which did to its bytes what its answer tells; the order is `Some true` for big
--- endian, `Some false` for little endian, and `None` where a byte order mark tells it
+-- the outcome is that of a filter in an order, which did to its bytes what its answer tells; the
+-- order is `Some true` for big endian, `Some false` for little endian, and `None` where a byte
+-- order mark tells it
 abbrev pub EndsAs : Outcome → Option Bool → Option (List ℕ) → Option (List ℕ) → Option (List ℕ) → Option (List ℕ) → Type 0
 EndsAs ended order input left old new =
     (answer : Result (Unit {0}) FilterFault) × (ended ≡ outcome answer) × FiltersIn order input left old new answer

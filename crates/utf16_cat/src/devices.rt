@@ -26,7 +26,8 @@ impl<'a> Read for Giver<'a> {
     }
 }
 
-/// Takes a byte a write, and fails once it holds `room`. Counts its flushes, and fails them where `flushes` is false.
+/// Takes a byte a write, and fails once it holds `room`. Counts its flushes, and fails them where
+/// `flushes` is false.
 #[derive(Drop)]
 pub struct Counter {
     pub taken: Vec<u8>,

@@ -1,4 +1,5 @@
-//! `utf16_cat le`, `utf16_cat be` and `utf16_cat auto` decode UTF-16 on standard input to UTF-8 on standard output.
+//! `utf16_cat le`, `utf16_cat be` and `utf16_cat auto` decode UTF-16 on standard input to UTF-8 on
+//! standard output.
 #![tactic(auto)]
 
 #[cfg(test)]

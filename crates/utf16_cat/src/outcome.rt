@@ -28,7 +28,8 @@ pub enum Outcome {
     Read,
     /// A write or the flush failed. A beginning of the text was written.
     Write,
-    /// Memory was refused. What was read before the last piece was decoded and written, if anything was read.
+    /// Memory was refused. What was read before the last piece was decoded and written, if anything
+    /// was read.
     Memory,
     /// The input gave bytes at 2^64 - 1 reads. They were decoded and written.
     Long,
@@ -66,8 +67,8 @@ pub fn order(words: &[String]) -> Option<Choice>
     }
 }
 
-/// Writes the line that tells of the outcome, nothing for `Done`, and answers the exit status. A failure to write is
-/// ignored.
+/// Writes the line that tells of the outcome, nothing for `Done`, and answers the exit status. A
+/// failure to write is ignored.
 pub fn report<W: Write>(outcome: &Outcome, to: &mut W) -> u8
     ensures status { result ≡ status_of outcome.now }
     ensures quiet { outcome.now ≡ Outcome.Done → Keeps (W.contents to.old) (W.contents to.new) }

@@ -15,9 +15,9 @@ use std::io::{ErrorKind, Read, Write};
 use std::process::ExitCode;
 use utf16_streams::Watched;
 
-/// Runs on the words of the environment, writes the line that tells of the outcome to `errors`, and answers the status: 0
-/// where the input was decoded, 2 where the words name no order, and else 1. The caller proves that there is a number for a
-/// fault of the reader, and for one of the writer.
+/// Runs on the words of the environment, writes the line that tells of the outcome to `errors`, and
+/// answers the status: 0 where the input was decoded, 2 where the words name no order, and else 1.
+/// The caller proves that there is a number for a fault of the reader, and for one of the writer.
 pub fn program<E: Env + AllocGlobal, R: Read, W: Write, T: Write>(
     env: &E,
     reader: &mut Watched<R>,
@@ -51,8 +51,8 @@ fn ended<T: Write>(outcome: Outcome, errors: &mut T) -> ExitCode
     ExitCode::from(report(&outcome, errors))
 }
 
-/// The words after the program's name. `Memory` says that memory for them was refused, `Usage` that one is not UTF-8, so that
-/// it names no order.
+/// The words after the program's name. `Memory` says that memory for them was refused, `Usage` that
+/// one is not UTF-8, so that it names no order.
 pub fn words<E: Env + AllocGlobal>(env: &E) -> Result<Vec<String>, Outcome>
     ensures { IfErr result (λ outcome. (outcome ≡ Outcome.Memory) ⊎ (outcome ≡ Outcome.Usage)) }
 {

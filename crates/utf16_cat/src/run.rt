@@ -10,9 +10,11 @@ use std::alloc::Allocator;
 use std::io::{Read, Write};
 use utf16_streams::{BE, LE, Watched, filter, filter_auto};
 
-/// Decodes all that the reader gives to the writer, in the order that the words after the program's name ask for: the one
-/// word `le`, the one word `be`, or the one word `auto` for the order that a byte order mark tells. With any other words, and only
-/// then, it answers `Usage`, and reads and writes nothing. The caller proves that there is a number for a fault of the reader, and for one of the writer.
+/// Decodes all that the reader gives to the writer, in the order that the words after the program's
+/// name ask for: the one word `le`, the one word `be`, or the one word `auto` for the order that a
+/// byte order mark tells. With any other words, and only then, it answers `Usage`, and reads and
+/// writes nothing. The caller proves that there is a number for a fault of the reader, and for one
+/// of the writer.
 pub fn run<R: Read, W: Write, A: Allocator>(
     alloc: A,
     words: &[String],

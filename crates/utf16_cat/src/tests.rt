@@ -1,5 +1,5 @@
-//! What a run of the built program can't show: flushes, devices that fail in the middle, and the lines of all outcomes.
-//! `.ci/program.sh` shows the rest.
+//! What a run of the built program can't show: flushes, devices that fail in the middle, and the
+//! lines of all outcomes. `.ci/program.sh` shows the rest.
 
 use crate::devices::{Counter, Giver, NoArguments};
 use crate::outcome::{Outcome, report};
@@ -8,7 +8,8 @@ use crate::run::run;
 use std::process::Abort;
 use utf16_streams::Watched;
 
-// What is claimed is so. It has the one assertion of these tests, since the proof of each takes long.
+// What is claimed is so. It has the one assertion of these tests, since the proof of each takes
+// long.
 fn holds(rt: &impl Abort, is: bool) {
     assert!(rt; is);
 }
@@ -61,7 +62,8 @@ fn run_flushes_once_and_only_what_it_decodes(rt: HostRuntime) {
     flushes(&rt, "utf16", b"h\0i\0", Outcome::Usage, b"", 0);
 }
 
-// A run on "hi" ends so, where the reader fails behind it, or the writer behind `room` bytes, or each flush.
+// A run on "hi" ends so, where the reader fails behind it, or the writer behind `room` bytes, or
+// each flush.
 fn fails(
     rt: &(impl Abort + AllocGlobal),
     reads_fail: bool,

@@ -87,7 +87,8 @@ module _ (big : Bool) (bytes : List ℕ) (e : Utf16Error) (is : IsErrorOf big by
     fault : IsFault big bytes None
     fault = subst (IsFault big bytes) none is.fault
 
-    -- a character was cut off: the valid beginning is all that is decided, and what stands behind it is the tail
+    -- a character was cut off: the valid beginning is all that is decided, and what stands behind
+    -- it is the tail
     pub cut_off_decides : (old new : List ℕ) → new ≡ old ++ encode_utf8_all (text_of big (take n bytes)) → new ≡ old ++ shown (split_items big bytes)
     cut_off_decides old new valid =
         valid ∙ ap (λ t. old ++ encode_utf8_all t) (sym (marked-good (text_of big (take n bytes))))

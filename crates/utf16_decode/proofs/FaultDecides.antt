@@ -36,7 +36,8 @@ Decodes-fault big bytes n old mid new are fault front valid marked_behind =
           );
     }
 
--- a surrogate has no partner: the valid beginning and U+FFFD are decided, and the rest begins behind the surrogate
+-- a surrogate has no partner: the valid beginning and U+FFFD are decided, and the rest begins
+-- behind the surrogate
 module _ (big : Bool) (bytes : List ℕ) (e : Utf16Error) (is : IsErrorOf big bytes e) (n : ℕ) (at : n ≡ valid_up_to e) (are : AreBytes bytes) (len : ℕ) (some : error_len e ≡ Some len) where
   pub fault_decides : (old mid new : List ℕ) → mid ≡ old ++ encode_utf8_all (text_of big (take n bytes)) → new ≡ mid ++ encode_utf8 0xFFFD
       → Decodes big bytes (drop len (drop n bytes)) old new

@@ -1,4 +1,5 @@
--- The units of the split's marked text are the units between their neighbors; and where its tail begins.
+-- The units of the split's marked text are the units between their neighbors; and where its tail
+-- begins.
 use Rattle.std.proofs.Common.{◌≡◌, ℕ, zero, suc, ◌+◌, ◌-◌, ◌*◌, ◌/◌, ◌%◌, ◌<◌, ◌≤◌, Bool, true, false, cond, List, [], ◌∷◌, ◌++◌, All, length, slice_index, take, refl, sym, ap, ap₂, ◌∙◌, subst, ⊎_elim, arith}
 use Rattle.std.proofs.lemmas.Bool.{cases_Bool, false_from_ne_true, le-leb, lt-ltb}
 use Rattle.std.proofs.lemmas.List.{take_at}

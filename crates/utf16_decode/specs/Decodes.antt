@@ -2,8 +2,8 @@
 use Rattle.std.specs.Prelude.{◌≡◌, ℕ, Bool, List, ◌++◌, encode_utf8_all}
 use Rattle.utf16_units.specs.Split.{Item, marked, split_items, split_tail}
 
--- the first items of the bytes were taken, their marked text was put behind the old bytes in UTF-8, and the split goes on as
--- that of the rest
+-- the first items of the bytes were taken, their marked text was put behind the old bytes in UTF-8,
+-- and the split goes on as that of the rest
 pub record Decodes (big : Bool) (bytes rest old new : List ℕ) : Type 0 where
   pub taken : List Item
   pub items : split_items big bytes ≡ taken ++ split_items big rest

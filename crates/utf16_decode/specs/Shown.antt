@@ -2,7 +2,8 @@
 use Rattle.std.specs.Prelude.{◌≡◌, ℕ, ◌≤◌, List, ◌++◌, length, take, drop}
 use Rattle.std.specs.List.{flat_map}
 
--- the first bytes of the input were read, and the written ones begin the bytes of its whole text, which those of the rest end
+-- the first bytes of the input were read, and the written ones begin the bytes of its whole text,
+-- which those of the rest end
 pub record ShowsWhole (text : List ℕ → List ℕ) (into : ℕ → List ℕ) (input to : List ℕ) (read written : ℕ) : Type 0 where
   pub within : read ≤ length input
   pub room : written ≤ length to

@@ -1,4 +1,5 @@
--- Why a call stopped where it did. `left` is how many bytes of the buffer are left behind what was written.
+-- Why a call stopped where it did. `left` is how many bytes of the buffer are left behind what was
+-- written.
 use Rattle.std.specs.Prelude.{◌≡◌, ◌≢◌, ℕ, ◌<◌, ◌≤◌, Bool, List, [], ◌∷◌, ◌++◌, Option, None, Some, length, take, drop}
 use Rattle.std.specs.Char.{IsScalar, encode_utf8}
 use Rattle.utf16_units.specs.Encoding.{char_bytes}
@@ -15,7 +16,8 @@ pub record NextDoesNotFit (from into : ℕ → List ℕ) (rest : List ℕ) (left
   pub begins : rest ≡ from char ++ more
   pub too_long : left < length (into char)
 
--- all was read, or the longest valid beginning was and the fault behind it is told, or the next character does not fit
+-- all was read, or the longest valid beginning was and the fault behind it is told, or the next
+-- character does not fit
 module _ (from into : ℕ → List ℕ) (IsFaultOf : List ℕ → ℕ → Option ℕ → Type 0) where
   abbrev pub Stops : List ℕ → ℕ → ℕ → Stop → Type 0
   Stops input read left Done = read ≡ length input
@@ -31,7 +33,8 @@ module _ (from into : ℕ → List ℕ) (IsFaultHere : List ℕ → Option ℕ �
   StopsAt rest left CutOff = IsFaultHere rest None
   StopsAt rest left NoRoom = NextDoesNotFit from into rest left
 
--- the longest well-formed beginning of bytes that are not UTF-16, and Rust's `error_len` of what stands behind it
+-- the longest well-formed beginning of bytes that are not UTF-16, and Rust's `error_len` of what
+-- stands behind it
 abbrev pub IsUtf16Fault : Bool → List ℕ → ℕ → Option ℕ → Type 0
 IsUtf16Fault big raw valid_up_to error_len = IsFront big raw valid_up_to × IsFault big raw error_len
 
@@ -46,7 +49,8 @@ pub record TextDoesNotFit (into : ℕ → List ℕ) (text : List ℕ) (left : �
   pub begins : text ≡ char ∷ more
   pub too_long : left < length (into char)
 
--- with marks: nothing is left, or what is left could be changed by more bytes, or the next character does not fit
+-- with marks: nothing is left, or what is left could be changed by more bytes, or the next
+-- character does not fit
 abbrev pub StopsMarking : Bool → List ℕ → ℕ → Stop → Type 0
 StopsMarking big rest left Done = rest ≡ []
 StopsMarking big rest left (Fault len) = ⊥

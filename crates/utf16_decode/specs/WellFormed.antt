@@ -1,9 +1,11 @@
--- Units made well formed: U+FFFD in place of each surrogate without its partner. Each unit is looked at between its neighbors.
+-- Units made well formed: U+FFFD in place of each surrogate without its partner. Each unit is
+-- looked at between its neighbors.
 use Rattle.std.specs.Prelude.{ℕ, List, [], ◌∷◌, if◌then◌else◌}
 use Rattle.std.specs.Char.Utf16.{is_high_surrogate, is_low_surrogate}
 
--- what stands for a unit between two others: U+FFFD for a leading unit with no trailing one behind it, and for a trailing unit
--- with no leading one before it (Unicode, section 3.8: surrogate pair), else the unit
+-- what stands for a unit between two others: U+FFFD for a leading unit with no trailing one behind
+-- it, and for a trailing unit with no leading one before it (Unicode, section 3.8: surrogate pair),
+-- else the unit
 abbrev pub well_formed_unit : ℕ → ℕ → ℕ → ℕ
 well_formed_unit before unit behind =
     if is_high_surrogate unit then (if is_low_surrogate behind then unit else 0xFFFD) else

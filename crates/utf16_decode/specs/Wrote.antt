@@ -21,7 +21,8 @@ pub record Wrote (Gives : List ℕ → List ℕ → Type 0) (input to : List ℕ
   pub room : written ≤ length to
   pub gives : Gives (take read input) (take written to)
 
--- some bytes of the rest were read, and what they give was put at a place of the buffer; it ends at `last`
+-- some bytes of the rest were read, and what they give was put at a place of the buffer; it ends at
+-- `last`
 pub record Puts (Gives : List ℕ → List ℕ → Type 0) (rest old new : List ℕ) (at len last : ℕ) : Type 0 where
   pub within : len ≤ length rest
   pub room : last ≤ length new
@@ -29,7 +30,8 @@ pub record Puts (Gives : List ℕ → List ℕ → Type 0) (rest old new : List 
   pub gives : Gives (take len rest) added
   pub bytes : take last new ≡ take at old ++ added
 
--- the first bytes of UTF-16 were decided, and what they show stands at the front of the buffer in UTF-8
+-- the first bytes of UTF-16 were decided, and what they show stands at the front of the buffer in
+-- UTF-8
 pub record DecodesTo (big : Bool) (raw to : List ℕ) (read written : ℕ) : Type 0 where
   pub within : read ≤ length raw
   pub room : written ≤ length to

@@ -7,10 +7,12 @@ ghost use Rattle.utf16_decode.specs.Wrote.{Gives, Joins, Puts, Wrote};
 
 use crate::progress::{Progress, Stop, put};
 
-// How many bytes are tested and then written at once: what is tested is still near when it is written.
+// How many bytes are tested and then written at once: what is tested is still near when it is
+// written.
 const PIECE: usize = 8192;
 
-// How many bytes are written at once through a buffer in the frame, and its size: what `write` wants for them in both directions.
+// How many bytes are written at once through a buffer in the frame, and its size: what `write`
+// wants for them in both directions.
 const FEW: usize = 128;
 
 const FEW_ROOM: usize = 320;
@@ -18,7 +20,8 @@ const FEW_ROOM: usize = 320;
 // From so much room on, pieces are written where they are wanted.
 const MUCH: usize = 512;
 
-/// One of the two directions: how the bytes of one encoding are tested, and how a text is written in the other.
+/// One of the two directions: how the bytes of one encoding are tested, and how a text is written
+/// in the other.
 pub trait Direction {
     // The bytes of a character in the one encoding, and in the other.
     ghost from: { ℕ → List ℕ };
@@ -30,7 +33,8 @@ pub trait Direction {
 
     ghost other: { List ℕ → List ℕ };
 
-    // What stands where no character begins, and what stands behind the longest valid beginning, by their `error_len`.
+    // What stands where no character begins, and what stands behind the longest valid beginning, by
+    // their `error_len`.
     ghost IsFaultAt: { List ℕ → Option ℕ → Type 0 };
 
     ghost IsFault: { List ℕ → ℕ → Option ℕ → Type 0 };
@@ -38,8 +42,8 @@ pub trait Direction {
     // How many bytes of room `write` wants for so many bytes.
     ghost room_for: { ℕ → ℕ };
 
-    /// How many bytes at the front are valid: those before the first fault. As many valid bytes as `before` says stand before them:
-    /// so many may be looked at behind a fault.
+    /// How many bytes at the front are valid: those before the first fault. As many valid bytes as
+    /// `before` says stand before them: so many may be looked at behind a fault.
     fn valid_len(bytes: &[u8], before: usize) -> usize
         ensures within { result ≤ length bytes.now }
         ensures valid { IsValid (take result bytes.now) };
@@ -55,15 +59,17 @@ pub trait Direction {
         requires { 512 ≤ room }
         ensures { room_for result ≤ room };
 
-    /// Writes a text in the other encoding to the front of a buffer, and returns how many bytes were written.
+    /// Writes a text in the other encoding to the front of a buffer, and returns how many bytes
+    /// were written.
     fn write(text: &[u8], to: &mut [u8]) -> usize
         requires text { IsValid text.now }
         requires room { room_for (length text.now) ≤ length to.old }
         ensures bytes { take result to.new ≡ other text.now }
         ensures len { result ≡ length (other text.now) };
 
-    /// What the proof of `transcode` rests on: fewer bytes want no more room, and a few have enough in the frame; two texts are a
-    /// text, and so is each character; a fault behind a text is one of the whole. It does nothing.
+    /// What the proof of `transcode` rests on: fewer bytes want no more room, and a few have enough
+    /// in the frame; two texts are a text, and so is each character; a fault behind a text is one
+    /// of the whole. It does nothing.
     fn laws()
         ensures grows { (m n : ℕ) → m ≤ n → room_for m ≤ room_for n }
         ensures fits { room_for 128 ≤ 320 }
@@ -75,7 +81,8 @@ pub trait Direction {
             → IsFaultAt (drop read input) len → IsFault input read len };
 }
 
-/// Writes what is valid in the other encoding to the front of a buffer, up to the first fault or as far as whole characters fit.
+/// Writes what is valid in the other encoding to the front of a buffer, up to the first fault or as
+/// far as whole characters fit.
 pub fn transcode<D: Direction>(input: &[u8], to: &mut [u8]) -> Progress
     ensures wrote { Wrote (Gives D.IsValid D.other) input.now to.new result.read result.written }
     ensures stop { Stops D.from D.into D.IsFault input.now result.read (length to.new - result.written) result.stop }
@@ -111,8 +118,9 @@ pub fn transcode<D: Direction>(input: &[u8], to: &mut [u8]) -> Progress
     }
 }
 
-// Writes some valid beginning of the bytes at a place: how many bytes of it were read, and where what was written ends. It may be
-// that nothing was. As many valid bytes as `before` says stand before them.
+// Writes some valid beginning of the bytes at a place: how many bytes of it were read, and where
+// what was written ends. It may be that nothing was. As many valid bytes as `before` says stand
+// before them.
 fn put_piece<D: Direction>(rest: &[u8], before: usize, to: &mut [u8], at: usize) -> (usize, usize)
     requires { at ≤ length to.old }
     ensures { Puts (Gives D.IsValid D.other) rest.now to.old to.new at result.0 result.1 }

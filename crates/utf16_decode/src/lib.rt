@@ -1,5 +1,5 @@
-//! UTF-16 to UTF-8 over buffers of the caller's, without memory: up to the first fault, with U+FFFD for each, and as a stream that
-//! comes in pieces.
+//! UTF-16 to UTF-8 over buffers of the caller's, without memory: up to the first fault, with U+FFFD
+//! for each, and as a stream that comes in pieces.
 #![tactic(auto)]
 
 mod direction;

@@ -14,7 +14,8 @@ use crate::well_formed::write_well_formed;
 use utf16_to_utf8::{SPARE, write_utf8};
 use utf16_units::Utf16Order;
 
-// Where fewer bytes than these stand before a fault, others are near, and the next bytes are copied with U+FFFD put in.
+// Where fewer bytes than these stand before a fault, others are near, and the next bytes are copied
+// with U+FFFD put in.
 const CLOSE: usize = 256;
 
 // How many bytes are copied at once at most, and from how much room on.
@@ -25,9 +26,10 @@ const COPIED_ROOM: usize = 512;
 /// U+FFFD in UTF-8.
 pub const MARK: [u8; 3] = [0xEF, 0xBF, 0xBD];
 
-/// Writes in UTF-8 what the bytes decide to the front of a buffer, as far as whole characters fit: the characters, and U+FFFD
-/// for each surrogate without its partner. What more bytes could change is not read. Any bytes are allowed. What stands behind
-/// the written bytes may have been written over. In time linear in what is read.
+/// Writes in UTF-8 what the bytes decide to the front of a buffer, as far as whole characters fit:
+/// the characters, and U+FFFD for each surrogate without its partner. What more bytes could change
+/// is not read. Any bytes are allowed. What stands behind the written bytes may have been written
+/// over. In time linear in what is read.
 pub fn decode<E: Utf16Order>(raw: &[u8], to: &mut [u8]) -> Progress
     ensures decodes { DecodesTo E.BIG raw.now to.new result.read result.written }
     ensures stop { StopsMarking E.BIG (drop result.read raw.now) (length to.new - result.written) result.stop }
@@ -63,8 +65,9 @@ pub fn decode<E: Utf16Order>(raw: &[u8], to: &mut [u8]) -> Progress
     }
 }
 
-// Writes what the next bytes decide to the front of a buffer, as many as surely fit, by a copy of them in the frame with U+FFFD
-// for each surrogate without its partner: how many bytes were read, and how many were written.
+// Writes what the next bytes decide to the front of a buffer, as many as surely fit, by a copy of
+// them in the frame with U+FFFD for each surrogate without its partner: how many bytes were read,
+// and how many were written.
 #[inline(never)]
 fn put_copied<E: Utf16Order>(raw: &[u8], to: &mut [u8]) -> (usize, usize)
     requires { COPIED_ROOM ≤ length to.old }
@@ -77,9 +80,10 @@ fn put_copied<E: Utf16Order>(raw: &[u8], to: &mut [u8]) -> (usize, usize)
     (len, write_utf8::<E>(&copy[..len], to))
 }
 
-/// Writes UTF-16 in UTF-8 to the front of a buffer, as far as whole characters fit, with U+FFFD for each surrogate without its
-/// partner and one for a character that is cut off at the end. Any bytes are allowed. What stands behind the written bytes may
-/// have been written over. In time linear in what is read.
+/// Writes UTF-16 in UTF-8 to the front of a buffer, as far as whole characters fit, with U+FFFD for
+/// each surrogate without its partner and one for a character that is cut off at the end. Any bytes
+/// are allowed. What stands behind the written bytes may have been written over. In time linear in
+/// what is read.
 pub fn decode_whole<E: Utf16Order>(raw: &[u8], to: &mut [u8]) -> Progress
     ensures shown { ShowsWhole (lossy_text E.BIG) encode_utf8 raw.now to.new result.read result.written }
     ensures stop { StopsMarkingWhole (lossy_text E.BIG) encode_utf8 (drop result.read raw.now) (length to.new - result.written) result.stop }

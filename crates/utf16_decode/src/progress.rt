@@ -7,22 +7,25 @@ ghost use Rattle.std.specs.Prelude.{◌≡◌, ◌+◌, ◌≤◌, ◌++◌, len
 pub enum Stop {
     /// All of the input was read.
     Done,
-    /// Behind what was read stands a fault of so many bytes, where no character begins. A call may go on behind it.
+    /// Behind what was read stands a fault of so many bytes, where no character begins. A call may
+    /// go on behind it.
     Fault(u8),
-    /// The input ends inside a character, which begins behind what was read. More bytes may complete it.
+    /// The input ends inside a character, which begins behind what was read. More bytes may
+    /// complete it.
     CutOff,
-    /// The buffer has fewer bytes left than what comes next takes: a character, which begins behind what was read, or U+FFFD. A call
-    /// may go on there with another buffer.
+    /// The buffer has fewer bytes left than what comes next takes: a character, which begins behind
+    /// what was read, or U+FFFD. A call may go on there with another buffer.
     NoRoom,
 }
 
 /// How far a call came. Offsets count bytes.
 #[derive(Clone, Copy, Debug, PartialEq, Eq)]
 pub struct Progress {
-    /// How many bytes of the input were read: whole characters, and in a call with marks the faults among them.
+    /// How many bytes of the input were read: whole characters, and in a call with marks the faults
+    /// among them.
     pub read: usize,
-    /// How many bytes at the front of the buffer are what was read, in the other encoding. What stands behind them has no
-    /// meaning.
+    /// How many bytes at the front of the buffer are what was read, in the other encoding. What
+    /// stands behind them has no meaning.
     pub written: usize,
     /// Why the call read no more.
     pub stop: Stop,

@@ -11,8 +11,9 @@ use crate::marks::{MARK, decode};
 use crate::progress::{Progress, Stop, put};
 use utf16_units::Utf16Order;
 
-/// What a stream holds between two pieces: its last bytes, at most three, where only more bytes tell what they are. Any values are
-/// allowed in the fields: a `len` above three is read as three, and no `feed` leaves one. All zero is a stream that was given nothing.
+/// What a stream holds between two pieces: its last bytes, at most three, where only more bytes
+/// tell what they are. Any values are allowed in the fields: a `len` above three is read as three,
+/// and no `feed` leaves one. All zero is a stream that was given nothing.
 #[repr(C)]
 #[derive(Clone, Copy, Debug)]
 pub struct Stream {
@@ -45,8 +46,8 @@ impl Stream {
         }
     }
 
-    /// The bytes that the stream holds, at most three. After a `feed` that answered `Done` they are none, one byte, or a leading
-    /// surrogate with at most one byte after it.
+    /// The bytes that the stream holds, at most three. After a `feed` that answered `Done` they are
+    /// none, one byte, or a leading surrogate with at most one byte after it.
     pub fn held(&self) -> &[u8]
         ensures bytes { result.now ≡ stream_held self.now }
         ensures few { length result.now ≤ 3 }
@@ -54,11 +55,13 @@ impl Stream {
         &self.bytes[..(self.len as usize).min(3)]
     }
 
-    /// Takes the next piece and writes in UTF-8 what is decided now to the front of a buffer, as far as whole characters fit: the
-    /// characters, and U+FFFD for each surrogate without its partner. `read` counts the bytes of the piece that were taken. With
-    /// `Done` all of it was, and what more bytes could change is held. With `NoRoom` the next character does not fit: the caller
-    /// feeds the rest of the piece with more room. Fewer than four bytes of the buffer are left then, so with room for four or
-    /// more something was written. What stands behind the written bytes may have been written over. In time linear in what is read.
+    /// Takes the next piece and writes in UTF-8 what is decided now to the front of a buffer, as
+    /// far as whole characters fit: the characters, and U+FFFD for each surrogate without its
+    /// partner. `read` counts the bytes of the piece that were taken. With `Done` all of it was,
+    /// and what more bytes could change is held. With `NoRoom` the next character does not fit: the
+    /// caller feeds the rest of the piece with more room. Fewer than four bytes of the buffer are
+    /// left then, so with room for four or more something was written. What stands behind the
+    /// written bytes may have been written over. In time linear in what is read.
     pub fn feed<E: Utf16Order>(&mut self, piece: &[u8], to: &mut [u8]) -> Progress
         ensures feeds { Feeds E.BIG (stream_held self.old) piece.now (stream_held self.new) to.new result.read result.written }
         ensures stop { StopsFeeding E.BIG (stream_held self.old) piece.now (stream_held self.new) result.read (length to.new - result.written) result.stop }
@@ -71,9 +74,9 @@ impl Stream {
         progress
     }
 
-    /// Ends the stream: writes U+FFFD in UTF-8 to the front of a buffer where bytes are held, and else nothing. No bytes are held
-    /// then. With `NoRoom` the buffer has fewer than three bytes, and nothing changed. `read` is 0. What stands behind the written
-    /// bytes stays.
+    /// Ends the stream: writes U+FFFD in UTF-8 to the front of a buffer where bytes are held, and
+    /// else nothing. No bytes are held then. With `NoRoom` the buffer has fewer than three bytes,
+    /// and nothing changed. `read` is 0. What stands behind the written bytes stays.
     pub fn finish(&mut self, to: &mut [u8]) -> Progress
         ensures read { result.read ≡ 0 }
         ensures done { (result.stop ≡ Done) ↔ (length (encode_utf8_all (full [] (stream_held self.old))) ≤ length to.new) }
@@ -107,7 +110,8 @@ impl Stream {
     }
 }
 
-// Takes the next piece behind held bytes, as `feed` does: how far it came, and the stream that holds what is undecided then.
+// Takes the next piece behind held bytes, as `feed` does: how far it came, and the stream that
+// holds what is undecided then.
 fn feed_behind<E: Utf16Order>(held: &[u8], piece: &[u8], to: &mut [u8]) -> (Progress, Stream)
     requires { length held.now ≤ 3 }
     ensures feeds { Feeds E.BIG held.now piece.now (stream_held result.1) to.new result.0.read result.0.written }
@@ -135,8 +139,8 @@ fn feed_behind<E: Utf16Order>(held: &[u8], piece: &[u8], to: &mut [u8]) -> (Prog
     (done, Stream::of(&tail[..len]))
 }
 
-// Decodes held bytes and a piece behind them as `decode` does, as if they stood together: four bytes where they meet go through a
-// buffer in the frame.
+// Decodes held bytes and a piece behind them as `decode` does, as if they stood together: four
+// bytes where they meet go through a buffer in the frame.
 fn decode_joined<E: Utf16Order>(held: &[u8], piece: &[u8], to: &mut [u8]) -> Progress
     requires { length held.now ≤ 3 }
     ensures decodes { DecodesTo E.BIG (held.now ++ piece.now) to.new result.read result.written }
@@ -177,7 +181,8 @@ fn rest_of<'a>(held: &'a [u8], piece: &'a [u8], at: usize) -> (&'a [u8], &'a [u8
     )
 }
 
-// The first four bytes of held bytes and a piece behind them, or all where they are fewer, and how many they are.
+// The first four bytes of held bytes and a piece behind them, or all where they are fewer, and how
+// many they are.
 fn seam(held: &[u8], piece: &[u8]) -> ([u8; 4], usize)
     requires { length held.now ≤ 3 }
     ensures within { result.1 ≤ 4 }

@@ -13,8 +13,9 @@ use std::marker::PhantomData;
 use utf16_to_utf8::{SPARE, write_utf8};
 use utf16_units::{Utf16Order, first_char_len, validate_raw_utf16};
 
-/// Writes UTF-16 in UTF-8 to the front of a buffer, up to the first fault or as far as whole characters fit. Any bytes are
-/// allowed. What stands behind the written bytes may have been written over. In time linear in what is read.
+/// Writes UTF-16 in UTF-8 to the front of a buffer, up to the first fault or as far as whole
+/// characters fit. Any bytes are allowed. What stands behind the written bytes may have been
+/// written over. In time linear in what is read.
 pub fn to_utf8<E: Utf16Order>(raw: &[u8], to: &mut [u8]) -> Progress
     ensures wrote { Wrote (IsUtf8Of E.BIG) raw.now to.new result.read result.written }
     ensures stop { StopsDecoding E.BIG raw.now result.read (length to.new - result.written) result.stop }

@@ -1,4 +1,5 @@
-//! Any bytes made well formed: U+FFFD in place of each surrogate without its partner, which is of the same length.
+//! Any bytes made well formed: U+FFFD in place of each surrogate without its partner, which is of
+//! the same length.
 
 ghost use Rattle.std.specs.Prelude.{◌≡◌, ◌+◌, ◌%◌, ◌≤◌, ◌++◌, ◌==◌, bit_and, drop, if◌then◌else◌, length, slice_index, take};
 ghost use Rattle.std.specs.List.{flat_map};
@@ -12,11 +13,12 @@ use std::simd::prelude::*;
 use utf16_units::blocks::{bytes16, units16};
 use utf16_units::{Utf16Order, is_leading_surrogate};
 
-/// Copies bytes of UTF-16 to the front of a buffer, with U+FFFD in place of each surrogate without its partner, and answers
-/// how many bytes that are: all but those at the end that more bytes could change, which are a last odd byte, and a leading
-/// surrogate with at most one byte after it. What is written is well formed, and each character of it stands where it or the
-/// surrogate stood. The caller proves that the buffer is as long as the bytes; what stands behind those written stays. One
-/// pass, by lanes.
+/// Copies bytes of UTF-16 to the front of a buffer, with U+FFFD in place of each surrogate without
+/// its partner, and answers how many bytes that are: all but those at the end that more bytes could
+/// change, which are a last odd byte, and a leading surrogate with at most one byte after it. What
+/// is written is well formed, and each character of it stands where it or the surrogate stood. The
+/// caller proves that the buffer is as long as the bytes; what stands behind those written stays.
+/// One pass, by lanes.
 pub fn write_well_formed<E: Utf16Order>(raw: &[u8], to: &mut [u8]) -> usize
     requires room { length raw.now ≤ length to.old }
     ensures len { result + length (split_tail E.BIG raw.now) ≡ length raw.now }
@@ -59,7 +61,8 @@ fn write_units<E: Utf16Order>(raw: &[u8], to: &mut [u8])
     write_rest::<E>(before, &raw[at..], &mut to[at..]);
 }
 
-// Writes a block of units at most, behind which none stands: those of a whole block, which zeros fill up.
+// Writes a block of units at most, behind which none stands: those of a whole block, which zeros
+// fill up.
 #[inline(always)]
 fn write_rest<E: Utf16Order>(before: u16, raw: &[u8], to: &mut [u8])
     requires few { length raw.now ≤ 32 }
@@ -74,7 +77,8 @@ fn write_rest<E: Utf16Order>(before: u16, raw: &[u8], to: &mut [u8])
     to.copy_from_slice(&written[..raw.len()]);
 }
 
-// The units of a block that stands between two other units, with U+FFFD in place of each surrogate without its partner.
+// The units of a block that stands between two other units, with U+FFFD in place of each surrogate
+// without its partner.
 #[inline(always)]
 fn well_formed(before: u16, units: u16x16, behind: u16) -> u16x16
     ensures len { length result ≡ 16 }

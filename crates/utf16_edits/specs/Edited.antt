@@ -37,7 +37,8 @@ module _ {E Z : Type 0} {order : Ghosts E} where
   said BadOffset = bad_offset
   said NoMemory = no_memory
 
-  -- whether the offset of the edit is one that it can be done at; an edit without an offset can be done at any time
+  -- whether the offset of the edit is one that it can be done at; an edit without an offset can be
+  -- done at any time
   abbrev pub is_possible : List ℕ → Edit E Z order → Bool
   is_possible text (Insert i c) = is_boundary text i
   is_possible text (InsertText i t) = is_boundary text i
@@ -68,11 +69,13 @@ module _ {E Z : Type 0} {order : Ghosts E} where
   told text (SplitOff i) = rest (split_back text i)
   told text _ = done
 
-  -- the text after an edit that is not refused memory; where its offset is not possible, the text itself
+  -- the text after an edit that is not refused memory; where its offset is not possible, the text
+  -- itself
   abbrev pub edited : List ℕ → Edit E Z order → List ℕ
   edited text edit = if is_possible text edit then changed text edit else text
 
-  -- what an edit answers that is not refused memory; where its offset is not possible, that it is not
+  -- what an edit answers that is not refused memory; where its offset is not possible, that it is
+  -- not
   abbrev pub answered : List ℕ → Edit E Z order → Said
   answered text edit = if is_possible text edit then told text edit else bad_offset
 

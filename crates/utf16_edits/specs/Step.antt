@@ -19,7 +19,8 @@ abbrev pub is_in : List ℕ → ℕ → Bool
 is_in set c = list_any (λ kept. kept == c) set
 
 module _ {E Z : Type 0} {order : Ghosts E} where
-  -- the offset of the edit is one that it can be done at; an edit without an offset can be done at any time
+  -- the offset of the edit is one that it can be done at; an edit without an offset can be done at
+  -- any time
   abbrev pub IsPossible : List ℕ → Edit E Z order → Type 0
   IsPossible text (Push c) = ⊤
   IsPossible text (PushText t) = ⊤
@@ -61,7 +62,8 @@ module _ {E Z : Type 0} {order : Ghosts E} where
   AsksForMemory (Overwrite i t) = ⊥
   AsksForMemory Clear = ⊥
 
-  -- one edit: it is done where its offset is possible, unless it grows and memory is refused; else the text stays
+  -- one edit: it is done where its offset is possible, unless it grows and memory is refused; else
+  -- the text stays
   abbrev pub Step : List ℕ → Edit E Z order → Reply E Z order → List ℕ → Type 0
   Step old edit reply new =
       (IsPossible old edit × IsDone old edit reply new)

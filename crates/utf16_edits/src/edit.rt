@@ -46,13 +46,15 @@ pub enum Reply<E: Utf16Order, A: Allocator = Global> {
     Nothing,
     /// What was taken off.
     Rest(WString<E, A>),
-    /// The offset is no character boundary of the text, or has not what the edit wants there. Nothing has changed.
+    /// The offset is no character boundary of the text, or has not what the edit wants there.
+    /// Nothing has changed.
     BadOffset,
     /// A request for memory was refused. Nothing has changed.
     NoMemory,
 }
 
-/// Does an edit. The offset is looked at before memory is asked for. What can't be done changes nothing.
+/// Does an edit. The offset is looked at before memory is asked for. What can't be done changes
+/// nothing.
 pub fn apply<E: Utf16Order, A: Allocator + Clone>(
     string: &mut WString<E, A>,
     edit: Edit<E, A>,
@@ -91,9 +93,9 @@ pub fn apply<E: Utf16Order, A: Allocator + Clone>(
     }
 }
 
-/// Does a list of edits in order, and answers a reply for each. Room for the replies is asked for first: where it is refused,
-/// the string is as it was. What then can't be done, or is refused memory, is answered so and changes nothing, and the edits
-/// behind it are done.
+/// Does a list of edits in order, and answers a reply for each. Room for the replies is asked for
+/// first: where it is refused, the string is as it was. What then can't be done, or is refused
+/// memory, is answered so and changes nothing, and the edits behind it are done.
 pub fn run<E: Utf16Order, A: Allocator + Clone, B: Allocator, C: Allocator>(
     alloc: B,
     string: &mut WString<E, A>,

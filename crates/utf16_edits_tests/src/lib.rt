@@ -1,4 +1,5 @@
-//! Tests where requests for memory are refused in lists of edits: each in turn, and all from each on.
+//! Tests where requests for memory are refused in lists of edits: each in turn, and all from each
+//! on.
 #![tactic(auto)]
 
 #[cfg(test)]

@@ -1,6 +1,7 @@
-//! Lists of edits where requests are refused. What is refused is answered so, the edits behind it go
-//! on from the text before it, and the list without the refused edits has the same replies and leaves
-//! the same text. A mistake that no clause would show: `NoMemory` where no request was refused.
+//! Lists of edits where requests are refused. What is refused is answered so, the edits behind it
+//! go on from the text before it, and the list without the refused edits has the same replies and
+//! leaves the same text. A mistake that no clause would show: `NoMemory` where no request was
+//! refused.
 
 use crate::checks::equal;
 use std::alloc::Global;
@@ -80,8 +81,8 @@ fn told<'a, E: Utf16Order>(reply: &'a Reply<E, Heap>) -> (&'static str, char, &'
     }
 }
 
-// Does with memory what was not refused, one edit after the other: the same replies, and the same text. Answers how many edits were
-// refused.
+// Does with memory what was not refused, one edit after the other: the same replies, and the same
+// text. Answers how many edits were refused.
 fn goes_on<'a, E: Utf16Order>(
     rt: &impl Abort,
     heap: Heap<'a>,
@@ -104,8 +105,9 @@ fn goes_on<'a, E: Utf16Order>(
     refused
 }
 
-// A run of the edits, with the request of that number refused, and those behind it too or not. Answers whether one was met. The
-// first request is for the replies: refused, it leaves the text as it was.
+// A run of the edits, with the request of that number refused, and those behind it too or not.
+// Answers whether one was met. The first request is for the replies: refused, it leaves the text as
+// it was.
 fn is_refused<E: Utf16Order>(
     rt: &(impl Abort + AllocGlobal),
     commands: &[Command],

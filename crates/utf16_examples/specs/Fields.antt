@@ -16,7 +16,8 @@ module _ {E : Type 0} {order : Ghosts E} where
   abbrev pub fields_offset : Fields E order → ℕ
   fields_offset fields = fields.offset
 
-  -- a call gave the first field, and stands behind it; or the error there, after which nothing is left; or nothing was left
+  -- a call gave the first field, and stands behind it; or the error there, after which nothing is
+  -- left; or nothing was left
   abbrev pub GivesField : Fields E order → Option (Result (WStr E order) FieldError) → Fields E order → Type 0
   GivesField old None new = (fields_rest old ≡ []) × (fields_rest new ≡ []) × (fields_offset new ≡ fields_offset old)
   GivesField old (Some (Ok field)) new =

@@ -1,4 +1,5 @@
--- Tables of texts: behind each text stands a NUL, U+0000, and behind the last one more, as the registry's REG_MULTI_SZ has it.
+-- Tables of texts: behind each text stands a NUL, U+0000, and behind the last one more, as the
+-- registry's REG_MULTI_SZ has it.
 use Rattle.std.specs.Prelude.{◌≡◌, ◌≢◌, ℕ, List, [], All, slice_get, take, Some}
 use Rattle.std.specs.List.{Contains}
 use Rattle.utf16_units.specs.Delimited.{IsListBegun, Lacks, closed, listed}
@@ -17,17 +18,18 @@ IsEntry text = (text ≢ []) × HasNoNul text
 abbrev pub table_of : List (List ℕ) → List ℕ
 table_of texts = closed 0 texts
 
--- what a reader gets of any text: it is cut at each NUL, and ends at the first empty text, or where the text ends
+-- what a reader gets of any text: it is cut at each NUL, and ends at the first empty text, or where
+-- the text ends
 abbrev pub texts_in : List ℕ → List (List ℕ)
 texts_in text = listed 0 text
 
--- the texts are those that a table begins with, where the last NUL, or the last two, may be missing: none is empty or has a NUL, and
--- with two NULs put last the text begins with their table
+-- the texts are those that a table begins with, where the last NUL, or the last two, may be
+-- missing: none is empty or has a NUL, and with two NULs put last the text begins with their table
 abbrev pub IsReading : List ℕ → List (List ℕ) → Type 0
 IsReading text texts = IsListBegun 0 text texts
 
--- why texts make no table: the text of that number is empty, or has a NUL, and all before it can stand in one; or all can, and
--- memory was refused
+-- why texts make no table: the text of that number is empty, or has a NUL, and all before it can
+-- stand in one; or all can, and memory was refused
 abbrev pub IsRefusal : List (List ℕ) → WriteError → Type 0
 IsRefusal texts (Empty i) = (slice_get texts i ≡ Some []) × All IsEntry (take i texts)
 IsRefusal texts (HasNul i) = (text : List ℕ) × (slice_get texts i ≡ Some text) × Contains text 0 × All IsEntry (take i texts)

@@ -8,7 +8,8 @@ use Rattle.utf16string.specs.WString.{wstring_text}
 use Rattle.utf16string.specs.declared.WStr.{WStr}
 use Rattle.utf16string.specs.declared.wstring.WString.{WString}
 
--- a name has the number: it had it before, and nothing has changed; or no name was equal to it, and it came last
+-- a name has the number: it had it before, and nothing has changed; or no name was equal to it, and
+-- it came last
 abbrev pub IsInterned : List (List ℕ) → List ℕ → ℕ → List (List ℕ) → Type 0
 IsInterned old name number new =
     ((slice_get old number ≡ Some name) × (new ≡ old)) ⊎ (All (λ other. other ≢ name) old × (number ≡ length old) × (new ≡ old ++ name ∷ []))

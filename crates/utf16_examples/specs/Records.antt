@@ -12,7 +12,8 @@ use Rattle.utf16_examples.specs.declared.records.FieldFault.TheVariants.{NoCount
 use Rattle.utf16_examples.specs.declared.records.ReadError.{ReadError}
 use Rattle.utf16_examples.specs.declared.records.ReadError.TheVariants.{Field, Memory}
 
--- the bytes of a field: how many code units its text has, the low byte first, and then the text's encoding
+-- the bytes of a field: how many code units its text has, the low byte first, and then the text's
+-- encoding
 abbrev pub field_bytes : Bool → List ℕ → List ℕ
 field_bytes big text = unit_bytes false (size text / 2) ++ encode big text
 
@@ -29,20 +30,23 @@ fields_size big texts = length (flat_map (field_bytes big) texts)
 abbrev pub told_len : List ℕ → ℕ
 told_len bytes = 2 * little_number 2 bytes
 
--- why no field begins the bytes: there is no whole count; behind it are fewer bytes than it tells of; or these are no text
+-- why no field begins the bytes: there is no whole count; behind it are fewer bytes than it tells
+-- of; or these are no text
 abbrev pub IsFieldFault : Bool → List ℕ → FieldFault → Type 0
 IsFieldFault big bytes NoCount = length bytes < 2
 IsFieldFault big bytes Short = (2 ≤ length bytes) × (length (drop 2 bytes) < told_len bytes)
 IsFieldFault big bytes (NoText e) =
     (2 ≤ length bytes) × (told_len bytes ≤ length (drop 2 bytes)) × IsErrorOf big (take (told_len bytes) (drop 2 bytes)) e
 
--- where in its field a fault stands: at the count, behind it, or behind the longest valid beginning of what it tells of
+-- where in its field a fault stands: at the count, behind it, or behind the longest valid beginning
+-- of what it tells of
 abbrev pub place_in : FieldFault → ℕ
 place_in NoCount = 0
 place_in Short = 2
 place_in (NoText e) = 2 + valid_up_to e
 
--- at an offset of a buffer some bytes are left, and no field begins there: the error says where and why
+-- at an offset of a buffer some bytes are left, and no field begins there: the error says where and
+-- why
 pub record IsFieldError (big : Bool) (at : ℕ) (rest : List ℕ) (e : FieldError) : Type 0 where
   pub some : 0 < length rest
   pub field : e.field ≡ at
@@ -56,8 +60,9 @@ pub record StopsAt (big : Bool) (buffer : List ℕ) (e : FieldError) : Type 0 wh
   pub fields : HoldsFields big texts rest buffer
   pub error : IsFieldError big (fields_size big texts) rest e
 
--- why the fields of a buffer were not given: memory was refused, and the buffer begins with a whole field or more, since memory is
--- asked for at the first of them; or an error stands behind the fields
+-- why the fields of a buffer were not given: memory was refused, and the buffer begins with a whole
+-- field or more, since memory is asked for at the first of them; or an error stands behind the
+-- fields
 abbrev pub IsReadError : Bool → List ℕ → ReadError → Type 0
 IsReadError big buffer Memory = (texts : List (List ℕ)) × (rest : List ℕ) × (texts ≢ []) × HoldsFields big texts rest buffer
 IsReadError big buffer (Field e) = StopsAt big buffer e

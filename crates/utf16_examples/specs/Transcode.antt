@@ -12,12 +12,14 @@ abbrev pub order_big : Order → Bool
 order_big Big = true
 order_big Little = false
 
--- why the bytes were not transcoded: they are no text, by this error; or they are, and memory was refused
+-- why the bytes were not transcoded: they are no text, by this error; or they are, and memory was
+-- refused
 abbrev pub IsTranscodeError : Bool → List ℕ → TranscodeError → Type 0
 IsTranscodeError big bytes (NoText e) = IsErrorOf big bytes e
 IsTranscodeError big bytes Memory = IsText big bytes
 
--- the same of pieces that are joined first, for which memory may be refused before a byte is tested, if they have any
+-- the same of pieces that are joined first, for which memory may be refused before a byte is
+-- tested, if they have any
 abbrev pub IsPiecesError : Bool → List ℕ → TranscodeError → Type 0
 IsPiecesError big bytes (NoText e) = IsErrorOf big bytes e
 IsPiecesError big bytes Memory = bytes ≢ []

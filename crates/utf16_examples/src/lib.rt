@@ -1,4 +1,5 @@
-//! What users of the strings make of them: tables of texts, tables of names, fields of records, and transcoders.
+//! What users of the strings make of them: tables of texts, tables of names, fields of records, and
+//! transcoders.
 #![tactic(auto)]
 
 pub mod multi_text;

@@ -1,4 +1,5 @@
-//! A table of texts, each ended by a NUL, and the table by one more, as the registry stores a list of strings.
+//! A table of texts, each ended by a NUL, and the table by one more, as the registry stores a list
+//! of strings.
 
 ghost use Rattle.std.specs.Prelude.{◌≡◌, ◌∷◌, [], ℕ, List, All, IfErr, IfOk, IfSome, IsOk, None, OnOk, map};
 ghost use Rattle.std.specs.Bool.{OnFalse, OnTrue};
@@ -33,7 +34,8 @@ impl From<AllocError> for WriteError {
     }
 }
 
-/// The texts left of a table, each a view without its NUL. Where none is left, `next` answers `None` for good.
+/// The texts left of a table, each a view without its NUL. Where none is left, `next` answers
+/// `None` for good.
 #[derive(Drop)]
 pub struct MultiText<'a, E: Utf16Order> {
     rest: WStr<'a, E>,
@@ -59,9 +61,9 @@ impl<'a, E: Utf16Order> Iterator for MultiText<'a, E> {
     }
 }
 
-/// The texts of a table, in order, with no copy and no memory. Any text is read as a table, and none is refused: an empty text
-/// ends it, and so does the end of what was given, so the last NUL may be missing, and the last text's own with it. What stands
-/// behind the empty text is left out.
+/// The texts of a table, in order, with no copy and no memory. Any text is read as a table, and
+/// none is refused: an empty text ends it, and so does the end of what was given, so the last NUL
+/// may be missing, and the last text's own with it. What stands behind the empty text is left out.
 pub fn texts<'a, E: Utf16Order>(table: WStr<'a, E>) -> MultiText<'a, E>
     ensures texts { result ≡ texts_in (wstr_text table.entry) }
     ensures reading { IsReading (wstr_text table.entry) result }
@@ -69,8 +71,8 @@ pub fn texts<'a, E: Utf16Order>(table: WStr<'a, E>) -> MultiText<'a, E>
     MultiText { rest: table }
 }
 
-/// The texts of a table in a vector, as `texts` gives them. The only error is a refused request for memory; a table without texts
-/// asks for none.
+/// The texts of a table in a vector, as `texts` gives them. The only error is a refused request for
+/// memory; a table without texts asks for none.
 pub fn read<'a, E: Utf16Order, A: Allocator>(
     alloc: A,
     table: WStr<'a, E>,
@@ -86,8 +88,9 @@ pub fn read<'a, E: Utf16Order, A: Allocator>(
     Ok(found)
 }
 
-/// The table of texts, in the order given. An empty text or one with a NUL is refused, the first such one, by its number, before
-/// any memory is asked for. Where all can stand in a table, the only error is a refused request for memory.
+/// The table of texts, in the order given. An empty text or one with a NUL is refused, the first
+/// such one, by its number, before any memory is asked for. Where all can stand in a table, the
+/// only error is a refused request for memory.
 #[tactic(auto, using(utf16_units::proofs::DelimitedLemmas::delimited))]
 pub fn write<E: Utf16Order, A: Allocator>(
     alloc: A,

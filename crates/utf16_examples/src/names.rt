@@ -1,4 +1,5 @@
-//! A table that gives each name a number: equal names have one number, and numbers count from 0 in the order of arrival.
+//! A table that gives each name a number: equal names have one number, and numbers count from 0 in
+//! the order of arrival.
 
 ghost use Rattle.std.specs.Prelude.{◌≡◌, ◌≢◌, ◌++◌, ◌<◌, ◌≤◌, ◌↔◌, ℕ, List, [], ◌∷◌, All, IfErr, IfNone, IfOk, IfSome, IsOk, IsTrue, OnErr, OnOk, Some, length, option_map, slice_get, slice_index, vec_len};
 ghost use Rattle.std.specs.List.{Contains, insert as insert_at_index};
@@ -14,8 +15,8 @@ use std::cmp::Ordering;
 use std::marker::Model;
 use utf16string::{Utf16Order, WStr, WString};
 
-/// Names, each once, under the numbers 0, 1, 2 and so on, in the order in which they came. They stand one after another in one
-/// string. A clause sees the list of their texts.
+/// Names, each once, under the numbers 0, 1, 2 and so on, in the order in which they came. They
+/// stand one after another in one string. A clause sees the list of their texts.
 #[derive(Drop)]
 pub struct Names<E: Utf16Order, A: Allocator = Global> {
     text: WString<E, A>,
@@ -32,7 +33,8 @@ impl<E: Utf16Order, A: Allocator> Model for Names<E, A> {
 }
 
 impl<E: Utf16Order, A: Allocator> Names<E, A> {
-    /// A table without names. It asks for no memory; the only error is an allocator that refuses to be cloned.
+    /// A table without names. It asks for no memory; the only error is an allocator that refuses to
+    /// be cloned.
     #[tactic(auto, unfolding(utf16_units::specs::Parts::parts_from))]
     pub fn new(alloc: A) -> Result<Self, AllocError>
     where
@@ -64,15 +66,16 @@ impl<E: Utf16Order, A: Allocator> Names<E, A> {
         self.len() == 0
     }
 
-    /// The name of a number. `None` exactly where no name has it: where the number is `len()` or more. Constant time.
+    /// The name of a number. `None` exactly where no name has it: where the number is `len()` or
+    /// more. Constant time.
     pub fn get(&self, number: usize) -> Option<WStr<'_, E>>
         ensures { option_map wstr_text result ≡ slice_get self.now number }
     {
         nth(&self.text, &self.ends, number)
     }
 
-    /// The number of a name. `None` exactly where no name of the table is equal to it. It asks for no memory. By halving: one
-    /// comparison of names for each doubling of the table.
+    /// The number of a name. `None` exactly where no name of the table is equal to it. It asks for
+    /// no memory. By halving: one comparison of names for each doubling of the table.
     pub fn find(&self, name: WStr<E>) -> Option<usize>
         ensures some { IfSome result (λ number. slice_get self.now number ≡ Some (wstr_text name.entry)) }
         ensures none { IfNone result (All (λ other. other ≢ wstr_text name.entry) self.now) }
@@ -83,18 +86,19 @@ impl<E: Utf16Order, A: Allocator> Names<E, A> {
         }
     }
 
-    /// All numbers, each once, in the order of their names by scalar values, as `str` compares. It asks for no memory, and takes
-    /// constant time: the order is kept.
+    /// All numbers, each once, in the order of their names by scalar values, as `str` compares. It
+    /// asks for no memory, and takes constant time: the order is kept.
     pub fn in_order(&self) -> &[usize]
         ensures order { IsOrder self.now result.now }
     {
         &self.order
     }
 
-    /// The number of a name. A known name keeps the number that it has, and the table stays as it was. A new one is put in, and
-    /// gets the number `len()`; all others keep theirs. The only error is a refused request for memory, which only a new name makes; it
-    /// leaves all names and their numbers as they were. A known name costs what `find` does; for a new one the numbers of larger
-    /// names are moved in one block.
+    /// The number of a name. A known name keeps the number that it has, and the table stays as it
+    /// was. A new one is put in, and gets the number `len()`; all others keep theirs. The only
+    /// error is a refused request for memory, which only a new name makes; it leaves all names and
+    /// their numbers as they were. A known name costs what `find` does; for a new one the numbers
+    /// of larger names are moved in one block.
     pub fn intern(&mut self, name: WStr<E>) -> Result<usize, AllocError>
         ensures interned { IfOk result (λ number. IsInterned self.old (wstr_text name.entry) number self.new) }
         ensures known { Contains self.old (wstr_text name.entry) → IsOk result }
@@ -195,7 +199,8 @@ fn place_of<E: Utf16Order, A: Allocator>(
     Err(low)
 }
 
-// Puts a name last, and its number at a place. All room is made first: where memory is refused, nothing has changed.
+// Puts a name last, and its number at a place. All room is made first: where memory is refused,
+// nothing has changed.
 fn insert<E: Utf16Order, A: Allocator>(
     text: &mut WString<E, A>,
     ends: &mut Vec<usize, A>,

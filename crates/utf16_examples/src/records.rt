@@ -1,4 +1,5 @@
-//! Fields of a record in a buffer, one after another: each a count of code units in little endian, and then a text of so many.
+//! Fields of a record in a buffer, one after another: each a count of code units in little endian,
+//! and then a text of so many.
 
 ghost use Rattle.std.specs.Prelude.{◌≡◌, ◌+◌, ◌<◌, ◌^◌, [], ◌++◌, IfErr, IfOk, IsOk, length, map};
 ghost use Rattle.std.specs.Vec.{vec_items};
@@ -17,7 +18,8 @@ pub enum FieldFault {
     NoCount,
     /// Behind the count are fewer bytes than it tells of.
     Short,
-    /// The bytes that the count tells of are no text. The error's offsets count from behind the count.
+    /// The bytes that the count tells of are no text. The error's offsets count from behind the
+    /// count.
     NoText(Utf16Error),
 }
 
@@ -26,7 +28,8 @@ pub enum FieldFault {
 pub struct FieldError {
     /// Where the bytes begin that are no field. All before them are whole fields.
     pub field: usize,
-    /// Where the fault stands: at the count, behind it, or behind the longest valid beginning of what the count tells of.
+    /// Where the fault stands: at the count, behind it, or behind the longest valid beginning of
+    /// what the count tells of.
     pub place: usize,
     /// What stands there.
     pub fault: FieldFault,
@@ -35,7 +38,8 @@ pub struct FieldError {
 /// Why the fields of a buffer were not given.
 #[derive(Clone, Copy, Debug, PartialEq, Eq)]
 pub enum ReadError {
-    /// Memory was refused. The buffer begins with at least one whole field: at the first one memory is asked for.
+    /// Memory was refused. The buffer begins with at least one whole field: at the first one memory
+    /// is asked for.
     Memory,
     /// The buffer is not fields alone.
     Field(FieldError),
@@ -61,8 +65,8 @@ impl<T: Drop> From<AllocFailed<T>> for ReadError {
     }
 }
 
-/// The field that the bytes begin with, as a view of them, and the bytes behind it. Its text is tested, and not copied. Where
-/// there are no bytes, there is no count.
+/// The field that the bytes begin with, as a view of them, and the bytes behind it. Its text is
+/// tested, and not copied. Where there are no bytes, there is no count.
 pub fn next_field<E: Utf16Order>(bytes: &[u8]) -> Result<(WStr<'_, E>, &[u8]), FieldFault>
     ensures field { IfOk result (λ read. bytes.now ≡ field_bytes E.BIG (wstr_text read.0) ++ read.1.now) }
     ensures fault { IfErr result (IsFieldFault E.BIG bytes.now) }
@@ -82,7 +86,8 @@ pub fn next_field<E: Utf16Order>(bytes: &[u8]) -> Result<(WStr<'_, E>, &[u8]), F
     }
 }
 
-/// The fields of a buffer, in order, each a view of it; where a field is none, an error in its place, and nothing behind it.
+/// The fields of a buffer, in order, each a view of it; where a field is none, an error in its
+/// place, and nothing behind it.
 #[derive(Drop)]
 pub struct Fields<'a, E: Utf16Order> {
     rest: &'a [u8],
@@ -162,8 +167,9 @@ fn error_at<E: Utf16Order>(offset: usize, rest: &[u8], fault: FieldFault) -> Fie
     }
 }
 
-/// All fields of a buffer, each a view of it, in order. The errors: the buffer is not fields alone, and the error says up to where
-/// it is; or memory was refused, which is asked for only where the buffer begins with a whole field.
+/// All fields of a buffer, each a view of it, in order. The errors: the buffer is not fields alone,
+/// and the error says up to where it is; or memory was refused, which is asked for only where the
+/// buffer begins with a whole field.
 pub fn read_fields<'a, E: Utf16Order, A: Allocator>(
     alloc: A,
     buffer: &'a [u8],

@@ -66,8 +66,8 @@ pub fn utf8_of<E: Utf16Order, A: Allocator>(
     Ok(text.to_utf8(alloc)?)
 }
 
-/// The whole text of any bytes in UTF-8, with U+FFFD for each surrogate without its partner, and one more where a beginning is
-/// left at the end. The only error is a refused request for memory.
+/// The whole text of any bytes in UTF-8, with U+FFFD for each surrogate without its partner, and
+/// one more where a beginning is left at the end. The only error is a refused request for memory.
 pub fn utf8_marked<E: Utf16Order, A: Allocator>(
     alloc: A,
     bytes: &[u8],
@@ -84,7 +84,8 @@ pub fn utf8_marked<E: Utf16Order, A: Allocator>(
     Ok(text)
 }
 
-/// A text in UTF-16. The only error is a refused request for memory; for the empty text none is asked for.
+/// A text in UTF-16. The only error is a refused request for memory; for the empty text none is
+/// asked for.
 pub fn utf16_of<E: Utf16Order, A: Allocator>(alloc: A, text: &str) -> Result<Vec<u8, A>, AllocError>
     ensures text { IfOk result (λ bytes. Encodes E.BIG (chars text.now) (vec_items bytes)) }
     ensures nothing { text.now ≡ [] → IsOk result }
@@ -92,7 +93,8 @@ pub fn utf16_of<E: Utf16Order, A: Allocator>(alloc: A, text: &str) -> Result<Vec
     Ok(WString::<E, A>::from_str(alloc, text)?.into_bytes())
 }
 
-/// The text of UTF-16 in one order, in UTF-16 in another. Memory is asked for once, for the empty text not at all.
+/// The text of UTF-16 in one order, in UTF-16 in another. Memory is asked for once, for the empty
+/// text not at all.
 #[tactic(auto, using(crate::proofs::Rules::empty))]
 pub fn reordered<E: Utf16Order, F: Utf16Order, A: Allocator>(
     alloc: A,
@@ -107,8 +109,9 @@ pub fn reordered<E: Utf16Order, F: Utf16Order, A: Allocator>(
     Ok(copy.into_order::<F>().into_bytes())
 }
 
-/// The text of UTF-16 that comes in pieces, cut anywhere, in UTF-8. The pieces are joined first, in memory of another allocator,
-/// and the error's offsets count bytes of the pieces joined. Where they have no bytes, no memory is asked for.
+/// The text of UTF-16 that comes in pieces, cut anywhere, in UTF-8. The pieces are joined first, in
+/// memory of another allocator, and the error's offsets count bytes of the pieces joined. Where
+/// they have no bytes, no memory is asked for.
 pub fn utf8_of_pieces<E: Utf16Order, A: Allocator, B: Allocator, C: Allocator>(
     alloc: A,
     joined_alloc: B,
@@ -136,8 +139,9 @@ fn joined<A: Allocator, B: Allocator>(
     Ok(bytes)
 }
 
-/// The whole text of any bytes that come in pieces, cut anywhere, in UTF-8, with the marks of `utf8_marked`, in an order that is
-/// known when the program runs. The only error is a refused request for memory; where the pieces have no bytes none is asked for.
+/// The whole text of any bytes that come in pieces, cut anywhere, in UTF-8, with the marks of
+/// `utf8_marked`, in an order that is known when the program runs. The only error is a refused
+/// request for memory; where the pieces have no bytes none is asked for.
 pub fn utf8_marked_in<A: Allocator, B: Allocator>(
     alloc: A,
     order: Order,
@@ -179,7 +183,8 @@ pub fn utf16_in<A: Allocator>(alloc: A, order: Order, text: &str) -> Result<Vec<
     }
 }
 
-/// Goes from UTF-16 to UTF-8 and back, and gives the bytes themselves. For the empty text no memory is asked for.
+/// Goes from UTF-16 to UTF-8 and back, and gives the bytes themselves. For the empty text no memory
+/// is asked for.
 #[tactic(auto, using(crate::proofs::Rules::empty))]
 pub fn there_and_back<E: Utf16Order, A: Allocator, B: Allocator>(
     alloc: A,
@@ -194,8 +199,8 @@ pub fn there_and_back<E: Utf16Order, A: Allocator, B: Allocator>(
     Ok(utf16_of::<E, B>(back_alloc, &text)?)
 }
 
-/// Goes from UTF-8 to UTF-16 and back, and gives the text itself. The only error is a refused request for memory; for the empty
-/// text none is asked for.
+/// Goes from UTF-8 to UTF-16 and back, and gives the text itself. The only error is a refused
+/// request for memory; for the empty text none is asked for.
 #[tactic(auto, using(crate::proofs::Rules::empty))]
 pub fn back_and_there<E: Utf16Order, A: Allocator, B: Allocator>(
     alloc: A,

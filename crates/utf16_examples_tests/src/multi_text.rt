@@ -14,7 +14,8 @@ const BOOT_EXECUTE: [u8; 42] = [
     0x6B, 0x00, 0x20, 0x00, 0x2A, 0x00, 0x00, 0x00, 0x00, 0x00,
 ];
 
-// A table, and its texts. All but the first five lack a NUL or two at the end, or have more behind the table.
+// A table, and its texts. All but the first five lack a NUL or two at the end, or have more behind
+// the table.
 const TABLES: [(&str, &[&str]); 13] = [
     ("\0", &[]),
     ("a\0\0", &["a"]),
@@ -140,7 +141,8 @@ fn what_no_table_holds_is_refused(rt: HostRuntime) {
     }
 }
 
-// Reads and writes with each request for memory refused in turn, until a run meets no refusal: how many it makes.
+// Reads and writes with each request for memory refused in turn, until a run meets no refusal: how
+// many it makes.
 fn in_turn(rt: &(impl Abort + AllocGlobal), is_reading: bool) -> u64 {
     let heap = Refusing::new(rt.alloc());
     let strings = strings::<BE>(rt, &["a", "\u{10000}"]);

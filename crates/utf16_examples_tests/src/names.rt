@@ -7,7 +7,8 @@ use utf16_examples::names::Names;
 use utf16_testing::refusing::Refusing;
 use utf16string::{BE, LE, Utf16Order, WString};
 
-// Names as they come, and the number that each gets. By bytes or by units the order of some is another.
+// Names as they come, and the number that each gets. By bytes or by units the order of some is
+// another.
 const COMING: [(&str, usize); 10] = [
     ("b", 0),
     ("", 1),
@@ -87,8 +88,8 @@ fn names_get_numbers(rt: HostRuntime) {
     come::<BE>(&rt);
 }
 
-// Names put in with each request for memory refused in turn, until a run meets no refusal: how many it makes. A refusal leaves
-// the table as it was, and it goes on.
+// Names put in with each request for memory refused in turn, until a run meets no refusal: how many
+// it makes. A refusal leaves the table as it was, and it goes on.
 fn in_turn<E: Utf16Order>(rt: &(impl Abort + AllocGlobal)) -> u64 {
     let heap = Refusing::new(rt.alloc());
     for k in 0..40 {

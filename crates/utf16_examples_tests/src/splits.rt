@@ -4,8 +4,8 @@ use crate::checks::holds;
 use std::process::Abort;
 use utf16string::{BE, LE, Utf16Order, WString};
 
-// A text, the character, and what stands in front of it and behind it. In little endian the bytes of U+10000 hold the unit of
-// U+00D8 at an odd offset, in big endian that of U+00DC.
+// A text, the character, and what stands in front of it and behind it. In little endian the bytes
+// of U+10000 hold the unit of U+00D8 at an odd offset, in big endian that of U+00DC.
 const SPLITS: [(&str, char, Option<(&str, &str)>); 13] = [
     ("", '=', None),
     ("key", '=', None),

@@ -1,4 +1,5 @@
--- What a byte adds, by the classes of it and of the bytes before it; and what bytes add one behind the other.
+-- What a byte adds, by the classes of it and of the bytes before it; and what bytes add one behind
+-- the other.
 use Rattle.std.proofs.Common.{◌≡◌, ℕ, zero, suc, ◌+◌, ◌*◌, ◌/◌, ◌%◌, ◌<◌, ◌≤◌, ◌&&◌, Bool, true, false, cond, ltb, List, [], ◌∷◌, ◌++◌, length, get_or, refl, sym, ap, ap₂, ◌∙◌, arith, flat_map, append_assoc, lt-ltb, le-ltb}
 use Rattle.std.proofs.lemmas.Grind.{flat_map-append}
 use Rattle.utf16_units.specs.Unit.{unit_bytes}
@@ -62,7 +63,8 @@ pub added_bytes-cons : (big : Bool) (b2 b1 b0 : ℕ) (bytes : List ℕ) → adde
 added_bytes-cons big b2 b1 b0 bytes =
     ap (flat_map (unit_bytes big)) (all_added-cons b2 b1 b0 bytes) ∙ flat_map-append (unit_bytes big) (added b2 b1 b0) (all_added b1 b0 bytes)
 
--- the last byte of several that stand behind one, and the last but one of those that stand behind two
+-- the last byte of several that stand behind one, and the last but one of those that stand behind
+-- two
 abbrev pub last_of : ℕ → List ℕ → ℕ
 last_of b1 [] = b1
 last_of b1 (b0 ∷ bytes) = last_of b0 bytes

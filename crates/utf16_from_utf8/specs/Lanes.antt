@@ -3,7 +3,8 @@ use Rattle.std.specs.Prelude.{◌≡◌, ℕ, ◌*◌, ◌/◌, ◌%◌, ◌≤�
 use Rattle.std.specs.List.{range_with_len}
 use Rattle.std.specs.Simd.Lanes.{all_below}
 
--- the two bytes of a unit by its high and its low byte (Unicode, section 3.10: UTF-16BE and UTF-16LE)
+-- the two bytes of a unit by its high and its low byte (Unicode, section 3.10: UTF-16BE and
+-- UTF-16LE)
 abbrev pub pair_bytes : Bool → ℕ → ℕ → List ℕ
 pair_bytes true high low = high ∷ low ∷ []
 pair_bytes false high low = low ∷ high ∷ []
@@ -20,7 +21,8 @@ kept_pairs bits [] = []
 kept_pairs bits (byte ∷ []) = []
 kept_pairs bits (first ∷ second ∷ pairs) = (if bits % 2 == 1 then first ∷ second ∷ [] else []) ++ kept_pairs (bits / 2) pairs
 
--- where the bytes stand of those of eight pairs that the bits keep: the first of sixteen positions in a vector
+-- where the bytes stand of those of eight pairs that the bits keep: the first of sixteen positions
+-- in a vector
 pub record Packs (bits : ℕ) (positions : List ℕ) : Type 0 where
   pub kept : take (2 * count_ones bits) positions ≡ kept_pairs bits (range_with_len 0 16)
   pub len : length positions ≡ 16

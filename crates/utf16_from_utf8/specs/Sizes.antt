@@ -1,7 +1,8 @@
 -- The size of a text in UTF-16 by the bytes of its UTF-8.
 use Rattle.std.specs.Prelude.{ℕ, ◌+◌, Bool, not, List, ◌==◌, bit_and, count_by}
 
--- a byte that begins a character: any but a byte behind a first one (Unicode, section 3.9: table 3-6)
+-- a byte that begins a character: any but a byte behind a first one (Unicode, section 3.9: table
+-- 3-6)
 abbrev pub begins_char : ℕ → Bool
 begins_char byte = not (bit_and byte 0xC0 == 0x80)
 

@@ -12,13 +12,14 @@ use crate::write::write_units;
 use std::alloc::{AllocError, Allocator};
 use utf16_units::Utf16Order;
 
-// How many bytes are written at once, of a short text and of a long one. They are written to a buffer in the frame first.
+// How many bytes are written at once, of a short text and of a long one. They are written to a
+// buffer in the frame first.
 const SHORT: usize = 64;
 
 const PIECE: usize = 2048;
 
-/// Puts the UTF-16 of a text last. The caller proves that there is room for it, `utf16_len` bytes, and so it does not fail.
-/// One pass, by lanes, and one copy of what it writes.
+/// Puts the UTF-16 of a text last. The caller proves that there is room for it, `utf16_len` bytes,
+/// and so it does not fail. One pass, by lanes, and one copy of what it writes.
 pub fn extend_utf16<E: Utf16Order, A: Allocator>(
     raw: &mut Vec<u8, A>,
     s: &str,
@@ -37,8 +38,8 @@ pub fn extend_utf16<E: Utf16Order, A: Allocator>(
     }
 }
 
-/// Puts the UTF-16 of a text last. The only error is a refused request for memory; it leaves the bytes as they were. Room is
-/// asked for once, and where the text fits, not at all.
+/// Puts the UTF-16 of a text last. The only error is a refused request for memory; it leaves the
+/// bytes as they were. Room is asked for once, and where the text fits, not at all.
 pub fn append_utf16<E: Utf16Order, A: Allocator>(
     raw: &mut Vec<u8, A>,
     s: &str,
@@ -67,7 +68,8 @@ fn extend_short<E: Utf16Order, A: Allocator>(
     extend_piece::<E, A>(raw, [0; 2], s.as_bytes(), &mut [0; 2 * SHORT + 16])
 }
 
-// Puts a text last that is written a piece at a time. It is a function of its own, so that no other pays for its buffer.
+// Puts a text last that is written a piece at a time. It is a function of its own, so that no other
+// pays for its buffer.
 #[inline(never)]
 fn extend_long<E: Utf16Order, A: Allocator>(raw: &mut Vec<u8, A>, s: &str) -> Result<(), AllocError>
     requires room { vec_len raw.old + size (chars s.now) ≤ vec_capacity raw.old }

@@ -22,7 +22,8 @@ pub(crate) fn few_len(s: &str) -> usize
     len
 }
 
-// Writes the characters to the front of a buffer that has room for them, and answers how many bytes they take.
+// Writes the characters to the front of a buffer that has room for them, and answers how many bytes
+// they take.
 fn write_few<E: Utf16Order>(s: &str, buf: &mut [u8]) -> usize
     requires { size (chars s.now) ≤ length buf.old }
     ensures bytes { take result buf.new ≡ encode E.BIG (chars s.now) }

@@ -6,8 +6,8 @@ ghost use Rattle.utf16_from_utf8.specs.Lanes.{kept_pairs};
 use crate::positions::positions;
 use std::simd::prelude::*;
 
-// Stores of eight pairs those whose bit is set, at `at`, and answers where they end. Sixteen bytes from `at` on are written
-// over.
+// Stores of eight pairs those whose bit is set, at `at`, and answers where they end. Sixteen bytes
+// from `at` on are written over.
 #[inline(always)]
 fn put_eight(out: &mut [u8], at: usize, pairs: u8x16, bits: usize) -> usize
     requires bits { bits < 256 }

@@ -35,7 +35,8 @@ fn units(bytes: &[u8]) -> usize
     units
 }
 
-// Those of sixty-four bytes: a first byte has none of the upper bits of a byte behind one, and one of four bytes all four.
+// Those of sixty-four bytes: a first byte has none of the upper bits of a byte behind one, and one
+// of four bytes all four.
 #[inline(always)]
 fn units_of_block(block: u8x64) -> usize
     ensures { result ≡ units_begun block }

@@ -1,4 +1,5 @@
-//! UTF-16 written from UTF-8, piece by piece: a piece may begin and end anywhere, for each byte is looked at with the two before it.
+//! UTF-16 written from UTF-8, piece by piece: a piece may begin and end anywhere, for each byte is
+//! looked at with the two before it.
 
 ghost use Rattle.std.specs.Prelude.{◌≡◌, ◌+◌, ◌*◌, ◌<◌, ◌≤◌, ◌++◌, ◌∷◌, [], ℕ, bit_and, drop, length, slice_index, take};
 ghost use Rattle.std.specs.Simd.Lanes.{zip2};
@@ -13,9 +14,10 @@ use crate::units::{
 use std::simd::prelude::*;
 use utf16_units::Utf16Order;
 
-/// Writes what the bytes of a piece of UTF-8 add in UTF-16, and answers how many bytes that are. `before` is the two bytes
-/// that stand before the piece, zeros where there are none. The caller proves that the buffer has two bytes for each byte of
-/// the piece and sixteen more. What stands behind the bytes written may be written over, up to the end of that room. One pass.
+/// Writes what the bytes of a piece of UTF-8 add in UTF-16, and answers how many bytes that are.
+/// `before` is the two bytes that stand before the piece, zeros where there are none. The caller
+/// proves that the buffer has two bytes for each byte of the piece and sixteen more. What stands
+/// behind the bytes written may be written over, up to the end of that room. One pass.
 pub fn write_units<E: Utf16Order>(before: [u8; 2], piece: &[u8], out: &mut [u8]) -> usize
     requires { 2 * length piece.now + 16 ≤ length out.old }
     ensures bytes { take result out.new ≡ added_bytes E.BIG (slice_index before 0) (slice_index before 1) piece.now }
@@ -56,7 +58,8 @@ fn put_units<E: Utf16Order>(before: [u8; 2], piece: &[u8], out: &mut [u8]) -> us
     end
 }
 
-// Writes what the first of sixteen bytes add behind two, and answers how many of them that is and where it ends.
+// Writes what the first of sixteen bytes add behind two, and answers how many of them that is and
+// where it ends.
 #[inline(always)]
 fn put_next<E: Utf16Order>(
     out: &mut [u8],
@@ -142,7 +145,8 @@ fn put_block<E: Utf16Order>(
     put_kept(out, at, first, second, ended_bits(b1, block))
 }
 
-// Writes what at most sixteen bytes add behind two: those of a whole block, filled up with bytes that add nothing.
+// Writes what at most sixteen bytes add behind two: those of a whole block, filled up with bytes
+// that add nothing.
 #[inline(always)]
 fn put_rest<E: Utf16Order>(
     out: &mut [u8],

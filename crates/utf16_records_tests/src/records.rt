@@ -1,4 +1,4 @@
-//! Fields of a record, whole, cut off at each byte and with bytes changed. CPython wrote it, for 'utf-16-le' and 'utf-16-be':
+//! Fields of a record, whole, cut off and with bytes changed. CPython wrote it, in either order:
 //!
 //! ```python
 //! fields = [text.encode(code) for text in ('Grüße', '', '★\U0001F600')]
@@ -53,8 +53,7 @@ fn all_of_a_record(rt: HostRuntime) {
     read::<BE>(&rt, &RECORD_BE);
 }
 
-// The error of a buffer: where its field begins, where the fault stands, and of what is no text the error's length. Behind it
-// nothing comes.
+// The last error: where its field begins, where the fault stands, and its length if it is no text.
 fn stops(rt: &(impl Abort + AllocGlobal), buffer: &[u8]) -> (usize, usize, Option<Option<usize>>) {
     let mut fields = Fields::<LE>::new(buffer);
     let error = fields.find_map(|field| field.err()).expect(rt, "an error");
@@ -67,7 +66,7 @@ fn stops(rt: &(impl Abort + AllocGlobal), buffer: &[u8]) -> (usize, usize, Optio
     }
 }
 
-// Where a cut of the record stops: the first and the last cut, where the field begins, and where the fault stands.
+// The first and the last cut of the record, where the field begins, and where the fault stands.
 const CUTS: [(usize, usize, usize, usize); 4] = [
     (1, 1, 0, 0),
     (2, 11, 0, 2),

@@ -1,5 +1,5 @@
-//! Strings and views where all requests are refused, or sizes are asked for that no vector can have: the refusal, and text, bytes
-//! and capacity as they were. Then the same call with memory.
+//! Strings and views where all requests are refused, or sizes are asked for that no vector can
+//! have: the refusal, and text, bytes and capacity as they were. Then the same call with memory.
 
 use crate::checks::{equal, holds};
 use std::alloc::{AllocError, Global};

@@ -1,4 +1,5 @@
--- Units that a predicate is asked about one by one, while those that stay are written one behind another.
+-- Units that a predicate is asked about one by one, while those that stay are written one behind
+-- another.
 use Rattle.std.proofs.Common.{◌≡◌, ℕ, ◌+◌, ◌<◌, Bool, true, false, List, [], ◌∷◌, ◌++◌, get_or, length, take, refl, sym, ap, ◌∙◌, subst, append_assoc, append-nil}
 use Rattle.std.proofs.lemmas.List.{take_more}
 use Rattle.std.proofs.lemmas.List.Elements.{All-cons, All-nil}
@@ -12,7 +13,8 @@ use Rattle.utf16_retain.proofs.Asked.{RetainsTo-append}
 use Rattle.utf16_retain.proofs.PlainUnits.{IsUnit, encode-units}
 
 module _ {F : Type 0} (calls : Mut F (ℕ × Unit {0}) Bool) (big : Bool) (first : F) (units front : List ℕ) where
-  -- the predicate was asked about the first i units and left the state f, and those kept stand behind `front`, up to `end`
+  -- the predicate was asked about the first i units and left the state f, and those kept stand
+  -- behind `front`, up to `end`
   pub record Keeping (f : F) (bytes : List ℕ) (end i : ℕ) : Type 0 where
     pub left : List ℕ
     pub asked : RetainsTo calls first (take i units) left f

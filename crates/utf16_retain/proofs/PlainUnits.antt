@@ -1,4 +1,5 @@
--- Blocks of units, each a character by itself: their test, their bytes, and those of which a predicate answers true.
+-- Blocks of units, each a character by itself: their test, their bytes, and those of which a
+-- predicate answers true.
 use Rattle.std.proofs.Common.{◌≡◌, ℕ, ◌+◌, ◌-◌, ◌*◌, ◌/◌, ◌%◌, ◌^◌, ◌<◌, ◌≤◌, Bool, true, false, cond, not, nat_eq, bit_and, List, [], ◌∷◌, ◌++◌, All, get_or, length, map, replicate, take, drop, refl, sym, ap, ap₂, ◌∙◌, subst, arith, append_assoc, length-append, flat_map}
 use Rattle.std.proofs.lemmas.Bool.{eqb-false, false≢true}
 use Rattle.std.proofs.lemmas.Grind.{flat_map-append}

@@ -22,8 +22,8 @@ module _ (big : Bool) (c : ℕ) (text bytes : List ℕ) (e : Encodes big (c ∷ 
 
 module _ {F : Type 0} (calls : Mut F (ℕ × Unit {0}) Bool) where
   module _ (big : Bool) (first : F) (text : List ℕ) where
-    -- the predicate was asked about `done` and left the state f, and `rest` is to come. What it keeps of `done` stands in the
-    -- first `kept` bytes, and `rest` in those from `read` on
+    -- the predicate was asked about `done` and left the state f, and `rest` is to come. What it
+    -- keeps of `done` stands in the first `kept` bytes, and `rest` in those from `read` on
     pub record Retaining (f : F) (bytes : List ℕ) (kept read : ℕ) : Type 0 where
       pub done : List ℕ
       pub left : List ℕ

@@ -1,4 +1,5 @@
-//! Blocks of sixteen units, of which a predicate keeps characters: asked about together where no surrogate is among them.
+//! Blocks of sixteen units, of which a predicate keeps characters: asked about together where no
+//! surrogate is among them.
 
 ghost use Rattle.std.specs.Prelude.{◌≡◌, ◌+◌, ◌*◌, ◌<◌, ◌≤◌, ◌++◌, ℕ, All, List, length, take, drop, true, false};
 ghost use Rattle.std.specs.Char.{IsScalar};
@@ -20,7 +21,8 @@ pub(crate) const HALF: usize = 8;
 /// How many bytes a block takes.
 pub(crate) const BLOCK: usize = 32;
 
-// The units of the block at the front, and how many of them stand before the first surrogate: each of these is a character.
+// The units of the block at the front, and how many of them stand before the first surrogate: each
+// of these is a character.
 #[inline]
 pub(crate) fn plain_units<E: Utf16Order>(raw: &[u8]) -> ([u16; UNITS], usize)
     requires { BLOCK ≤ length raw.now }
@@ -48,7 +50,8 @@ fn plain_front(units: u16x16) -> usize
     }
 }
 
-// Asks about each character of a block or of half of one, in turn, and moves those that stay down. Answers where they end.
+// Asks about each character of a block or of half of one, in turn, and moves those that stay down.
+// Answers where they end.
 #[inline(always)]
 pub(crate) fn keep_block<E: Utf16Order, F: FnMut(char) -> bool, const N: usize>(
     bytes: &mut [u8],
@@ -91,8 +94,8 @@ fn ask_each<F: FnMut(char) -> bool, const N: usize>(
     (answers, many)
 }
 
-// Asks about each of a few characters, in turn, and writes each that stays behind those before it, over bytes up to their end.
-// Answers where they end.
+// Asks about each of a few characters, in turn, and writes each that stays behind those before it,
+// over bytes up to their end. Answers where they end.
 #[inline]
 pub(crate) fn keep_each<E: Utf16Order, F: FnMut(char) -> bool>(
     bytes: &mut [u8],
@@ -119,7 +122,8 @@ pub(crate) fn keep_each<E: Utf16Order, F: FnMut(char) -> bool>(
     end
 }
 
-// Moves the characters of a block that stay down, and answers where they end. All of them are moved at once.
+// Moves the characters of a block that stay down, and answers where they end. All of them are moved
+// at once.
 #[inline(always)]
 fn move_block<E: Utf16Order, const N: usize>(
     bytes: &mut [u8],

@@ -8,10 +8,11 @@ use crate::blocks::{BLOCK, HALF, UNITS, keep_block, keep_each, plain_units};
 use utf16_units::ends::first_char;
 use utf16_units::{Utf16Order, is_leading_surrogate};
 
-/// Moves the characters that the predicate keeps to the front, and answers how many bytes they take. The predicate is asked once
-/// about each character, from the front to the back, and its state runs through. Nothing is moved before the first character that
-/// goes; what is behind those kept has no meaning. The caller proves that the bytes are well formed in the order `E`, and that the
-/// predicate may be asked about each character in turn. In time linear in the length.
+/// Moves the characters that the predicate keeps to the front, and answers how many bytes they
+/// take. The predicate is asked once about each character, from the front to the back, and its
+/// state runs through. Nothing is moved before the first character that goes; what is behind those
+/// kept has no meaning. The caller proves that the bytes are well formed in the order `E`, and that
+/// the predicate may be asked about each character in turn. In time linear in the length.
 pub fn move_kept<E: Utf16Order, F: FnMut(char) -> bool>(bytes: &mut [u8], keep: &mut F) -> usize
     requires text { IsText E.BIG bytes.old }
     requires askable { MayBeAsked F.FnMut keep.old (text_of E.BIG bytes.old) }
@@ -19,8 +20,9 @@ pub fn move_kept<E: Utf16Order, F: FnMut(char) -> bool>(bytes: &mut [u8], keep: 
     ensures text { RetainsTo F.FnMut keep.old (text_of E.BIG bytes.old) (text_of E.BIG (take result bytes.new)) keep.new }
     ensures within { result ≤ length bytes.old }
 {
-    // Sixteen characters of one unit each are asked about together. Where there is a pair among the next sixteen units, the first eight
-    // are asked about together if they stand before it, and else those before it one by one.
+    // Sixteen characters of one unit each are asked about together. Where there is a pair among the
+    // next sixteen units, the first eight are asked about together if they stand before it, and
+    // else those before it one by one.
     let mut kept = 0;
     let mut read = 0;
     while read < bytes.len() {
@@ -55,8 +57,8 @@ pub fn move_kept<E: Utf16Order, F: FnMut(char) -> bool>(bytes: &mut [u8], keep: 
     kept
 }
 
-// The character at an index, if it has one unit. Those of one unit have a branch of their own in the loop, so that the next place
-// does not wait for a size computed from what was read.
+// The character at an index, if it has one unit. Those of one unit have a branch of their own in
+// the loop, so that the next place does not wait for a size computed from what was read.
 #[inline]
 fn single_at<E: Utf16Order>(bytes: &[u8], at: usize) -> Option<char>
     requires within { at < length bytes.now }
@@ -84,7 +86,8 @@ fn char_from<E: Utf16Order>(bytes: &[u8], at: usize) -> (char, usize)
     first_char::<E>(&bytes[at..])
 }
 
-// Asks about the character at an index, and moves it down if it stays. Answers where those that stay end.
+// Asks about the character at an index, and moves it down if it stays. Answers where those that
+// stay end.
 #[inline]
 fn keep_one<E: Utf16Order, F: FnMut(char) -> bool>(
     bytes: &mut [u8],

@@ -20,7 +20,8 @@ fn chars_are<E: Utf16Order>(rt: &(impl Abort + AllocGlobal), raw: &[u8], wanted:
     equal(rt, found.as_slice(), wanted);
 }
 
-// It would catch an adapter of std that goes wrong over an iterator of another crate as it is built.
+// It would catch an adapter of std that goes wrong over an iterator of another crate as it is
+// built.
 #[test]
 fn characters_behind_adapters(rt: HostRuntime) {
     chars_are::<LE>(&rt, &PX, &['\u{10000}', 'x']);

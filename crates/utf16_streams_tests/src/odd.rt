@@ -1,5 +1,6 @@
-//! The filter over a reader or a writer that fails, is interrupted or moves nothing at one of its calls, at each in turn, and would
-//! go on afterwards. What is written is compared with a decoder of the tests.
+//! The filter over a reader or a writer that fails, is interrupted or moves nothing at one of its
+//! calls, at each in turn, and would go on afterwards. What is written is compared with a decoder
+//! of the tests.
 
 use crate::checks::{equal, holds};
 use std::process::Abort;
@@ -93,7 +94,8 @@ fn is_done(rt: &(impl Abort + AllocGlobal), stream: Stream, ended: Ended) {
     equal(rt, (giver.last, taker.flushes), (0, 1));
 }
 
-// A run that a read ended: it was the last call of the reader, and what was read before it is written without a mark of its tail.
+// A run that a read ended: it was the last call of the reader, and what was read before it is
+// written without a mark of its tail.
 fn read_failed(rt: &(impl Abort + AllocGlobal), stream: Stream, odd: Odd, ended: Ended) {
     let (answer, giver, taker) = ended;
     equal(rt, answer, Err(FilterFault::Read));
@@ -102,8 +104,9 @@ fn read_failed(rt: &(impl Abort + AllocGlobal), stream: Stream, odd: Odd, ended:
     equal(rt, (giver.calls, taker.flushes), (odd.at, 0));
 }
 
-// A run that a write or the flush ended: it was the last call of the writer. What the reads before the last decided is written,
-// and of the text of them all a beginning, all of it where the flush failed.
+// A run that a write or the flush ended: it was the last call of the writer. What the reads before
+// the last decided is written, and of the text of them all a beginning, all of it where the flush
+// failed.
 fn write_failed(rt: &(impl Abort + AllocGlobal), stream: Stream, odd: Odd, ended: Ended) {
     let (answer, giver, taker) = ended;
     equal(rt, answer, Err(FilterFault::Write));
@@ -142,7 +145,8 @@ fn odd_write(rt: &(impl Abort + AllocGlobal), stream: Stream, odd: Odd) -> bool 
     is_met
 }
 
-// Each call of the reader in turn does something else, until a run does not come to it, and then each of the writer.
+// Each call of the reader in turn does something else, until a run does not come to it, and then
+// each of the writer.
 fn at_each_call(rt: &(impl Abort + AllocGlobal), stream: Stream, oddity: Oddity) {
     for at in 1..100 {
         if !odd_read(rt, stream, Odd { at, oddity }) {

@@ -1,4 +1,5 @@
--- A function of a `&Cell<T>` alone, of whose answer its contract says nothing, at a call. Assumes `Logic`.
+-- A function of a `&Cell<T>` alone, of whose answer its contract says nothing, at a call. Assumes
+-- `Logic`.
 --     AtCell T R           the contract, where it answers an R
 --     asks_cell            a proof's step: from the `&` and the token of its lifetime, by a step for the call, as `calls_at`, to the answer and the token
 use Rattle.std.proofs.Common.{ℕ, List, [], ◌∷◌, refl}

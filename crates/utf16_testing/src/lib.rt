@@ -1,5 +1,5 @@
-//! What tests of the other crates share: an allocator that refuses what it is told to and counts, devices that fail where they
-//! are told to and count, and known texts as bytes.
+//! What tests of the other crates share: an allocator that refuses what it is told to and counts,
+//! devices that fail where they are told to and count, and known texts as bytes.
 #![tactic(auto)]
 
 pub mod plain;

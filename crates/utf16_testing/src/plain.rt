@@ -1,4 +1,5 @@
-//! A decoder for tests, one code unit after another by the definition of UTF-16, which calls nothing of the libraries.
+//! A decoder for tests, one code unit after another by the definition of UTF-16, which calls
+//! nothing of the libraries.
 
 use std::alloc::{AllocError, Allocator};
 
@@ -19,8 +20,9 @@ fn pair(leading: u32, trailing: u32) -> Option<char> {
     }
 }
 
-/// Puts the text that the bytes decide behind another, with U+FFFD for each surrogate without its partner, and answers how many
-/// bytes at the end are undecided: an odd one, and a leading surrogate before it or alone.
+/// Puts the text that the bytes decide behind another, with U+FFFD for each surrogate without its
+/// partner, and answers how many bytes at the end are undecided: an odd one, and a leading
+/// surrogate before it or alone.
 pub fn decode<A: Allocator>(
     big: bool,
     bytes: &[u8],

@@ -1,5 +1,5 @@
-//! An allocator for tests, which passes calls on to an inner one, refuses the requests for memory that it is told to, and
-//! counts the blocks that are handed out and not given back.
+//! An allocator for tests, which passes calls on to an inner one, refuses the requests for memory
+//! that it is told to, and counts the blocks that are handed out and not given back.
 
 use std::alloc::{AllocError, Allocator};
 use std::cell::Cell;
@@ -30,9 +30,10 @@ impl Plan {
     }
 }
 
-/// An allocator that passes each call on to an inner one, except the requests for memory that it is told to refuse. To grow
-/// or to shrink a block is a request too. A test makes its values over a `&` to it, and then says what it refuses. Once they
-/// are dropped, [`live_blocks`](Refusing::live_blocks) shows whether they gave all their memory back.
+/// An allocator that passes each call on to an inner one, except the requests for memory that it is
+/// told to refuse. To grow or to shrink a block is a request too. A test makes its values over a
+/// `&` to it, and then says what it refuses. Once they are dropped,
+/// [`live_blocks`](Refusing::live_blocks) shows whether they gave all their memory back.
 pub struct Refusing<B: Allocator> {
     inner: B,
     plan: Cell<Plan>,
@@ -49,12 +50,14 @@ impl<B: Allocator> Refusing<B> {
         }
     }
 
-    /// From now on the `k`-th request is refused, where 0 is the next, and no other. Both counts start anew.
+    /// From now on the `k`-th request is refused, where 0 is the next, and no other. Both counts
+    /// start anew.
     pub fn refuse_one(&self, k: u64) {
         self.plan.set(Plan::new(Refused::One(k)));
     }
 
-    /// From now on the `k`-th request is refused, where 0 is the next, and all after it. Both counts start anew.
+    /// From now on the `k`-th request is refused, where 0 is the next, and all after it. Both
+    /// counts start anew.
     pub fn refuse_from(&self, k: u64) {
         self.plan.set(Plan::new(Refused::From(k)));
     }
@@ -74,8 +77,9 @@ impl<B: Allocator> Refusing<B> {
         self.plan.get().refusals
     }
 
-    /// How many blocks are handed out and not given back. A refused request hands none out, and a block that grows or shrinks
-    /// stays one block. What is refused has no part in this count, which never starts anew.
+    /// How many blocks are handed out and not given back. A refused request hands none out, and a
+    /// block that grows or shrinks stays one block. What is refused has no part in this count,
+    /// which never starts anew.
     pub fn live_blocks(&self) -> u64 {
         self.live_blocks.get()
     }

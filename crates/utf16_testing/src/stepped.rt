@@ -1,5 +1,5 @@
-//! A reader and a writer for tests that move at each call as many bytes as a list says, round and round, do something else at
-//! one call and would go on after it, and count their calls.
+//! A reader and a writer for tests that move at each call as many bytes as a list says, round and
+//! round, do something else at one call and would go on after it, and count their calls.
 
 ghost use Rattle.std.specs.Prelude.{◌≤◌, IfOk};
 

@@ -1,4 +1,5 @@
-//! Texts that tests share, as bytes in one of the orders, and the tables of characters and of faults.
+//! Texts that tests share, as bytes in one of the orders, and the tables of characters and of
+//! faults.
 
 /// "hello" in little endian.
 pub const HELLO: [u8; 10] = [0x68, 0, 0x65, 0, 0x6C, 0, 0x6C, 0, 0x6F, 0];
@@ -114,8 +115,9 @@ pub fn characters() -> [Character; 15] {
     CHARACTERS
 }
 
-/// Whether the order is big endian, bytes that are no text, the error's `valid_up_to` and `error_len`, bytes that make them a
-/// text, where there are any, and the text of the bytes as a whole stream.
+/// Whether the order is big endian, bytes that are no text, the error's `valid_up_to` and
+/// `error_len`, bytes that make them a text, where there are any, and the text of the bytes as a
+/// whole stream.
 pub type Fault = (
     bool,
     &'static [u8],

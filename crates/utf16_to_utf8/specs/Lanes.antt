@@ -12,7 +12,8 @@ up a bits = a * 2 ^ bits % 2 ^ 16
 abbrev pub is_surrogate : ℕ → Bool
 is_surrogate unit = bit_and unit 0xF800 == 0xD800
 
--- two bytes, the first the low one: the marks of both, and these bits, the last six in the second byte
+-- two bytes, the first the low one: the marks of both, and these bits, the last six in the second
+-- byte
 abbrev pub two_bytes : ℕ → ℕ → ℕ
 two_bytes marks bits = plus (plus (bits / 2 ^ 6) marks) (up (bit_and bits 0x3F) 8)
 

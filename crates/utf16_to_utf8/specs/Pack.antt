@@ -12,7 +12,8 @@ packed (flag ∷ flags) (first ∷ second ∷ bytes) = cond flag (first ∷ []) 
 abbrev pub HasBytes : List ℕ → List ℕ → Type 0
 HasBytes bytes lanes = (i : ℕ) → i < 8 → (slice_index bytes (2 * i) ≡ slice_index lanes i % 256) × (slice_index bytes (2 * i + 1) ≡ slice_index lanes i / 256 % 256)
 
--- where the three bytes of n lanes stand, from lane i on: two among those of sixteen bytes, the third sixteen bytes behind
+-- where the three bytes of n lanes stand, from lane i on: two among those of sixteen bytes, the
+-- third sixteen bytes behind
 abbrev pub threes : ℕ → ℕ → List ℕ
 threes i zero = []
 threes i (suc n) = (2 * i) ∷ (2 * i + 1) ∷ (16 + 2 * i) ∷ threes (i + 1) n

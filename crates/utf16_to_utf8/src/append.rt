@@ -25,9 +25,9 @@ const PIECE: usize = 1024;
 
 const ROOM: usize = 1664;
 
-/// Puts a text in UTF-8 behind another, of bytes that the caller proves to be well formed. The only error is a refused request
-/// for memory; it leaves the other as it was. Room is asked for once, and not where it is there. One pass where there is room
-/// for three bytes a code unit, else two.
+/// Puts a text in UTF-8 behind another, of bytes that the caller proves to be well formed. The only
+/// error is a refused request for memory; it leaves the other as it was. Room is asked for once,
+/// and not where it is there. One pass where there is room for three bytes a code unit, else two.
 pub fn append_utf8<E: Utf16Order, A: Allocator>(
     raw: &[u8],
     to: &mut String<A>,
@@ -128,7 +128,8 @@ fn piece_end<E: Utf16Order>(raw: &[u8]) -> usize
     }
 }
 
-// Makes room for the characters in UTF-8. They are counted where there is no room for three bytes a code unit.
+// Makes room for the characters in UTF-8. They are counted where there is no room for three bytes a
+// code unit.
 #[inline]
 fn make_room<E: Utf16Order, A: Allocator>(raw: &[u8], to: &mut String<A>) -> Result<(), AllocError>
     requires { IsText E.BIG raw.now }

@@ -11,8 +11,8 @@ use std::simd::prelude::*;
 use utf16_units::Utf16Order;
 use utf16_units::blocks::units32;
 
-// What the units of a block have in common: all are below U+0800, or some are surrogates and the others below U+0800, or each
-// adds three bytes, or nothing of this.
+// What the units of a block have in common: all are below U+0800, or some are surrogates and the
+// others below U+0800, or each adds three bytes, or nothing of this.
 #[derive(Clone, Copy)]
 pub(crate) enum Kind {
     Letters,

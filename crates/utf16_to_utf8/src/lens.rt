@@ -10,7 +10,8 @@ use std::simd::prelude::*;
 use utf16_units::Utf16Order;
 use utf16_units::blocks::units32;
 
-/// How many bytes the text takes in UTF-8, of bytes that the caller proves to be well formed. One pass.
+/// How many bytes the text takes in UTF-8, of bytes that the caller proves to be well formed. One
+/// pass.
 pub fn utf8_len<E: Utf16Order>(raw: &[u8]) -> usize
     requires { IsText E.BIG raw.now }
     ensures { result ≡ length (utf8_of E.BIG raw.now) }
@@ -42,8 +43,8 @@ fn rest_len<E: Utf16Order>(raw: &[u8]) -> usize
     block_len(filled_units::<E>(raw)) - (32 - raw.len() / 2)
 }
 
-// How many bytes the units of a block add: each three, one less where it is below U+0800, one less again where it is ASCII,
-// and one less where it is a surrogate.
+// How many bytes the units of a block add: each three, one less where it is below U+0800, one less
+// again where it is ASCII, and one less where it is a surrogate.
 #[inline(always)]
 fn block_len(units: u16x32) -> usize
     ensures { result ≡ sum_by added_len units }

@@ -1,4 +1,5 @@
-//! From UTF-16 to UTF-8, by lanes of code units: the length, and a writer into a buffer of the caller's.
+//! From UTF-16 to UTF-8, by lanes of code units: the length, and a writer into a buffer of the
+//! caller's.
 #![tactic(auto)]
 
 mod append;

@@ -61,7 +61,8 @@ pub(crate) fn put_narrow(
     put_eight(out, at, pairs, ascii_bits(units))
 }
 
-// Of eight units that add three bytes each the first sixteen bytes, of the first two of each unit and the third.
+// Of eight units that add three bytes each the first sixteen bytes, of the first two of each unit
+// and the third.
 #[inline(always)]
 fn first_threes(fronts: u8x16, thirds: u8x16) -> u8x16
     ensures { result ≡ take 16 (pick_l 0 (fronts ++ thirds) (threes 0 8)) }

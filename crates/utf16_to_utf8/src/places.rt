@@ -7,7 +7,8 @@ ghost use Rattle.utf16_to_utf8.specs.Pack.{packed};
 
 use std::simd::prelude::*;
 
-// The places, by a bit for each unit that adds one byte: at every second place the first byte of a unit, behind it the second.
+// The places, by a bit for each unit that adds one byte: at every second place the first byte of a
+// unit, behind it the second.
 #[inline(always)]
 pub(crate) fn places(one: usize) -> u8x16
     requires { one < 256 }

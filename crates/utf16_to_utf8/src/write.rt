@@ -12,9 +12,10 @@ use utf16_units::blocks::units32;
 /// How many bytes of room `write_utf8` wants beyond three for each code unit.
 pub const SPARE: usize = 128;
 
-/// Writes UTF-16 in UTF-8 to the front of a buffer, and answers how many bytes were written. The caller proves that the bytes are
-/// well formed, and that the buffer has room for three bytes for each code unit and `SPARE` more. Behind what was written the
-/// bytes within this room may have changed; those behind the room stay. One pass, by blocks of thirty-two units.
+/// Writes UTF-16 in UTF-8 to the front of a buffer, and answers how many bytes were written. The
+/// caller proves that the bytes are well formed, and that the buffer has room for three bytes for
+/// each code unit and `SPARE` more. Behind what was written the bytes within this room may have
+/// changed; those behind the room stay. One pass, by blocks of thirty-two units.
 pub fn write_utf8<E: Utf16Order>(raw: &[u8], to: &mut [u8]) -> usize
     requires text { IsText E.BIG raw.now }
     requires room { length raw.now / 2 * 3 + SPARE ≤ length to.old }
@@ -48,7 +49,8 @@ fn write_units<E: Utf16Order>(raw: &[u8], out: &mut [u8]) -> usize
     put_rest::<E>(&raw[at..], out, end, previous)
 }
 
-// Writes what the units of less than a block add: those of a whole block, which zeros fill up, and each of them adds a byte.
+// Writes what the units of less than a block add: those of a whole block, which zeros fill up, and
+// each of them adds a byte.
 #[inline(always)]
 fn put_rest<E: Utf16Order>(raw: &[u8], out: &mut [u8], at: usize, previous: u16x8) -> usize
     requires few { length raw.now ≤ 64 }

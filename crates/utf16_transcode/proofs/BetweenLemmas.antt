@@ -1,4 +1,5 @@
--- UTF-8 that is read as far as between two characters or faults, so that what was written is the text of what was read.
+-- UTF-8 that is read as far as between two characters or faults, so that what was written is the
+-- text of what was read.
 use Rattle.std.proofs.Common.{◌≡◌, ℕ, ◌+◌, ◌-◌, ◌<◌, List, [], ◌∷◌, ◌++◌, Option, length, take, drop, refl, sym, ap, ap₂, ◌∙◌, subst, arith, append_assoc, take_all, take-add}
 use Rattle.std.proofs.lemmas.List.{append_cancel_right, drop-drop, take_rest}
 use Rattle.std.proofs.lemmas.List.Concat.{flat_map-append}

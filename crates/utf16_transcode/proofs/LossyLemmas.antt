@@ -1,4 +1,5 @@
--- The text of any bytes, with U+FFFD where they are no UTF-8: behind a valid beginning, and at a fault.
+-- The text of any bytes, with U+FFFD where they are no UTF-8: behind a valid beginning, and at a
+-- fault.
 use Rattle.std.proofs.Common.{◌≡◌, ℕ, zero, suc, ◌+◌, ◌*◌, ◌<◌, ◌≤◌, Bool, true, false, cond, List, [], ◌∷◌, ◌++◌, Option, length, take, drop, refl, sym, ap, ap₂, ◌∙◌, subst, ⊎_elim, arith, append-nil, append_assoc, drop_at, length-append, take_at, take-append-drop}
 use Rattle.std.proofs.lemmas.Bool.{cases_lt, cond-true}
 use Rattle.std.proofs.lemmas.List.{append_cancel_left, drop-drop}
@@ -109,7 +110,8 @@ unfolding chars
 replaced [] = refl
 replaced (b ∷ bytes) = refl
 
--- where the longest valid beginning ends there is U+FFFD, and then the text of what stands behind the fault
+-- where the longest valid beginning ends there is U+FFFD, and then the text of what stands behind
+-- the fault
 pub text-fault : (bytes : List ℕ) (n : ℕ) (error_len : Option ℕ) → IsUtf8Fault bytes n error_len
     → text_of_utf8 (drop n bytes) ≡ 0xFFFD ∷ text_of_utf8 (drop (unwrap_or error_len (length (drop n bytes))) (drop n bytes))
 text-fault bytes n error_len fault =

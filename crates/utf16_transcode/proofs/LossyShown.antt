@@ -1,4 +1,5 @@
--- UTF-8 written in UTF-16 with U+FFFD: the text that was written, then the mark of what stands behind it.
+-- UTF-8 written in UTF-16 with U+FFFD: the text that was written, then the mark of what stands
+-- behind it.
 use Rattle.std.proofs.Common.{◌≡◌, ◌⊎◌, ℕ, ◌+◌, ◌-◌, ◌<◌, ◌≤◌, Bool, true, false, cond, List, [], ◌∷◌, ◌++◌, Option, None, Some, length, take, drop, refl, sym, ap, ap₂, ◌∙◌, subst, ⊎_elim, arith, append_assoc, length-drop}
 use Rattle.std.specs.Prelude.{nat_lt, ◌==◌, slice_index, if◌then◌else◌}
 use borrow.Rule.Slice.PartMut.{put_mid}

@@ -11,7 +11,8 @@ use Rattle.utf16_decode.specs.declared.progress.Stop.{Stop}
 abbrev pub IsUtf16Of : Bool → List ℕ → List ℕ → Type 0
 IsUtf16Of big text raw = IsUtf8 text × (raw ≡ encode big (chars text))
 
--- the text of UTF-8, as `String::from_utf8_lossy` has it (Unicode, section 3.9: U+FFFD substitution of maximal subparts)
+-- the text of UTF-8, as `String::from_utf8_lossy` has it (Unicode, section 3.9: U+FFFD substitution
+-- of maximal subparts)
 abbrev pub text_of_utf8 : List ℕ → List ℕ
 text_of_utf8 bytes = chars (utf8_lossy bytes)
 
@@ -19,7 +20,8 @@ text_of_utf8 bytes = chars (utf8_lossy bytes)
 abbrev pub IsUtf8FaultAt : List ℕ → Option ℕ → Type 0
 IsUtf8FaultAt rest error_len = StartsWithNoChar rest × (error_len ≡ utf8_error_len rest)
 
--- the longest valid beginning of bytes that are not UTF-8, and Rust's `error_len` of what stands behind it
+-- the longest valid beginning of bytes that are not UTF-8, and Rust's `error_len` of what stands
+-- behind it
 abbrev pub IsUtf8Fault : List ℕ → ℕ → Option ℕ → Type 0
 IsUtf8Fault bytes valid_up_to error_len = IsValidUpTo bytes valid_up_to × (error_len ≡ utf8_error_len (drop valid_up_to bytes))
 

@@ -17,11 +17,13 @@ const MARK: u16 = 0xFFFD;
 
 const MARK_LEN: usize = 2;
 
-/// Writes UTF-8 in UTF-16 to the front of a buffer, as far as whole characters fit, with U+FFFD where the bytes are no UTF-8: one for
-/// each maximal subpart of an ill-formed sequence, as `String::from_utf8_lossy` has it, and one for a character that is cut off at
-/// the end. Any bytes are allowed. It stops at the end of the input, or with `NoRoom` where the buffer has fewer bytes left than the next
-/// character takes, U+FFFD too: the call may go on behind `read` with another buffer. What stands behind the written bytes may have
-/// been written over. In time linear in what is read.
+/// Writes UTF-8 in UTF-16 to the front of a buffer, as far as whole characters fit, with U+FFFD
+/// where the bytes are no UTF-8: one for each maximal subpart of an ill-formed sequence, as
+/// `String::from_utf8_lossy` has it, and one for a character that is cut off at the end. Any bytes
+/// are allowed. It stops at the end of the input, or with `NoRoom` where the buffer has fewer bytes
+/// left than the next character takes, U+FFFD too: the call may go on behind `read` with another
+/// buffer. What stands behind the written bytes may have been written over. In time linear in what
+/// is read.
 pub fn encode_whole<E: Utf16Order>(text: &[u8], to: &mut [u8]) -> Progress
     ensures shown { ShowsWhole text_of_utf8 (char_bytes E.BIG) text.now to.new result.read result.written }
     ensures stop { StopsMarkingWhole text_of_utf8 (char_bytes E.BIG) (drop result.read text.now) (length to.new - result.written) result.stop }
@@ -57,8 +59,8 @@ pub fn encode_whole<E: Utf16Order>(text: &[u8], to: &mut [u8]) -> Progress
     }
 }
 
-/// How many bytes of UTF-16 `encode_whole` makes of all the bytes, in either order: two at most for each byte. Any bytes are
-/// allowed. Two passes.
+/// How many bytes of UTF-16 `encode_whole` makes of all the bytes, in either order: two at most for
+/// each byte. Any bytes are allowed. Two passes.
 pub fn utf16_marked_size(text: &[u8]) -> usize
     ensures size { result ≡ size (text_of_utf8 text.now) }
     ensures most { result ≤ 2 * length text.now }

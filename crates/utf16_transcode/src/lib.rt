@@ -1,5 +1,5 @@
-//! UTF-16 to UTF-8 and back over buffers of the caller's, without memory: what `utf16_decode` has, UTF-8 in UTF-16, and the size of
-//! each result.
+//! UTF-16 to UTF-8 and back over buffers of the caller's, without memory: what `utf16_decode` has,
+//! UTF-8 in UTF-16, and the size of each result.
 #![tactic(auto)]
 
 mod encode;

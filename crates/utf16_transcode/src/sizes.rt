@@ -11,7 +11,8 @@ use utf16_from_utf8::utf16_len;
 use utf16_to_utf8::utf8_len;
 use utf16_units::{Utf16Order, validate_raw_utf16};
 
-/// How many bytes of UTF-8 `decode_whole` makes of all the bytes. Any bytes are allowed. Two passes.
+/// How many bytes of UTF-8 `decode_whole` makes of all the bytes. Any bytes are allowed. Two
+/// passes.
 pub fn utf8_size<E: Utf16Order>(raw: &[u8]) -> usize
     ensures { result ≡ length (encode_utf8_all (lossy_text E.BIG raw.now)) }
 {
@@ -31,8 +32,8 @@ pub fn utf8_size<E: Utf16Order>(raw: &[u8]) -> usize
     }
 }
 
-/// How many bytes of UTF-16 the longest valid beginning of UTF-8 takes, in either order: all of the bytes, where they are UTF-8.
-/// Any bytes are allowed. Two passes.
+/// How many bytes of UTF-16 the longest valid beginning of UTF-8 takes, in either order: all of the
+/// bytes, where they are UTF-8. Any bytes are allowed. Two passes.
 pub fn utf16_size(text: &[u8]) -> usize
     ensures { result ≡ size (chars (take (utf8_valid_len text.now) text.now)) }
 {

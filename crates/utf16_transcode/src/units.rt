@@ -7,8 +7,8 @@ ghost use Rattle.utf16_units.specs.Encoding.{IsText, text_of, units_of};
 use utf16_units::Utf16Order;
 use utf16_units::text::{has_ascii_units, trailing_units};
 
-/// How many whole code units are no trailing surrogates: of well-formed bytes, how many characters they encode. Any bytes are
-/// allowed. One pass.
+/// How many whole code units are no trailing surrogates: of well-formed bytes, how many characters
+/// they encode. Any bytes are allowed. One pass.
 pub fn count<E: Utf16Order>(raw: &[u8]) -> usize
     ensures units { result ≡ length raw.now / 2 - count_by is_low_surrogate (units_of E.BIG raw.now) }
     ensures text { IsText E.BIG raw.now → result ≡ length (text_of E.BIG raw.now) }
@@ -16,8 +16,8 @@ pub fn count<E: Utf16Order>(raw: &[u8]) -> usize
     raw.len() / 2 - trailing_units::<E>(raw)
 }
 
-/// Whether the bytes are whole code units that are all ASCII, as well-formed bytes are where each character is. Any bytes are
-/// allowed. One pass, up to the first block that has another unit.
+/// Whether the bytes are whole code units that are all ASCII, as well-formed bytes are where each
+/// character is. Any bytes are allowed. One pass, up to the first block that has another unit.
 pub fn is_ascii<E: Utf16Order>(raw: &[u8]) -> bool
     ensures units { IsTrue result ↔ ((length raw.now % 2 ≡ 0) × All (λ unit. unit < 0x80) (units_of E.BIG raw.now)) }
     ensures text { IsText E.BIG raw.now → (IsTrue result ↔ All (λ c. c < 0x80) (text_of E.BIG raw.now)) }

@@ -13,14 +13,16 @@ use utf16_decode::{Direction, Progress, transcode};
 use utf16_from_utf8::write_units;
 use utf16_units::Utf16Order;
 
-// How many bytes are tested first where few stand before them, and how many times as many behind each part that is valid: the test
-// of 64 bytes or more goes to their end before it looks for the fault, that of fewer stops at it.
+// How many bytes are tested first where few stand before them, and how many times as many behind
+// each part that is valid: the test of 64 bytes or more goes to their end before it looks for the
+// fault, that of fewer stops at it.
 const FIRST: usize = 63;
 
 const GROWTH: usize = 8;
 
-/// Writes UTF-8 in UTF-16 to the front of a buffer, up to the first fault or as far as whole characters fit. Any bytes are
-/// allowed. What stands behind the written bytes may have been written over. The time grows with what is read alone.
+/// Writes UTF-8 in UTF-16 to the front of a buffer, up to the first fault or as far as whole
+/// characters fit. Any bytes are allowed. What stands behind the written bytes may have been
+/// written over. The time grows with what is read alone.
 pub fn from_utf8<E: Utf16Order>(text: &[u8], to: &mut [u8]) -> Progress
     ensures wrote { Wrote (IsUtf16Of E.BIG) text.now to.new result.read result.written }
     ensures stop { StopsEncoding E.BIG text.now result.read (length to.new - result.written) result.stop }
@@ -104,8 +106,8 @@ fn tested_len(text: &[u8]) -> usize
     }
 }
 
-// How many bytes at the front to test at once: at most so many, and of more than four the last character is left for the next
-// part, since it may be cut off.
+// How many bytes at the front to test at once: at most so many, and of more than four the last
+// character is left for the next part, since it may be cut off.
 fn part_len(rest: &[u8], part: usize) -> usize
     requires some { 0 < length rest.now }
     requires part { 0 < part }
@@ -122,7 +124,8 @@ fn part_len(rest: &[u8], part: usize) -> usize
     if rest[len - 1] < 0xC0 { len } else { len - 1 }
 }
 
-// How many bytes the character at the front has, or the `error_len` of what stands there. Four bytes tell it.
+// How many bytes the character at the front has, or the `error_len` of what stands there. Four
+// bytes tell it.
 fn first_len(rest: &[u8]) -> Result<usize, Option<u8>>
     requires { 0 < length rest.now }
     ensures char { IfOk result (BeginsWith encode_utf8 rest.now) }

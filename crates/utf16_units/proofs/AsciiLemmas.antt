@@ -1,4 +1,5 @@
--- ASCII by units: a character is ASCII exactly where its units are, and a unit where neither of its bytes is above that of U+007F.
+-- ASCII by units: a character is ASCII exactly where its units are, and a unit where neither of its
+-- bytes is above that of U+007F.
 use Rattle.std.proofs.Common.{◌≡◌, ◌↔◌, ℕ, zero, suc, ◌+◌, ◌-◌, ◌*◌, ◌/◌, ◌%◌, ◌^◌, ◌<◌, ◌≤◌, Bool, true, false, cond, eqb, ltb, List, [], ◌∷◌, ◌++◌, length, map, take, drop, slice_index, All, IsTrue, refl, sym, ap, ◌∙◌, subst, ⊎_elim, arith, flat_map, w8}
 use Rattle.std.proofs.lemmas.Bool.{cases_lt, eq-eqb, false≢true, eqb-true, le-ltb, ltb-false}
 use Rattle.std.proofs.lemmas.List.Elements.{All-append, All-cons, All-head, All-nil, All-tail}

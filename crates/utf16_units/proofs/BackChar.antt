@@ -1,4 +1,5 @@
--- The last character of well-formed bytes, by the units at their end, and boundaries by the unit at an offset.
+-- The last character of well-formed bytes, by the units at their end, and boundaries by the unit at
+-- an offset.
 use Rattle.std.proofs.Common.{◌≡◌, ◌≢◌, ℕ, ◌+◌, ◌-◌, ◌/◌, ◌%◌, ◌<◌, ◌≤◌, ◌⊎◌, Bool, List, [], ◌∷◌, ◌++◌, length, take, drop, slice_index, All, refl, sym, ap, ap₂, ◌∙◌, subst, ⊎_elim, inl, inr, arith, append_assoc, append-nil, length-append, drop_at, take_at, flat_map, get_or-drop}
 use Rattle.std.proofs.lemmas.Bool.{cases_lt}
 use Rattle.std.proofs.lemmas.List.Elements.{All-head}

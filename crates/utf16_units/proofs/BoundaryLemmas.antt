@@ -154,7 +154,8 @@ IsBoundary-within text i b =
 pub IsBoundary-end : (text : List ℕ) → IsBoundary text (size text)
 IsBoundary-end text = record { front = text; back = []; split = append-nil text; offset = refl }
 
--- the bytes before a boundary encode the characters before it, and the bytes behind it those behind it
+-- the bytes before a boundary encode the characters before it, and the bytes behind it those behind
+-- it
 module _ (big : Bool) (text bytes : List ℕ) (i : ℕ) (e : Encodes big text bytes) (b : IsBoundary text i) where
   scalars : All IsScalar (text_to text i ++ text_from text i)
   scalars = subst (All IsScalar) (sym (text_to-text_from text i)) e.scalars

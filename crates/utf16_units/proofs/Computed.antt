@@ -1,4 +1,5 @@
--- The computed forms of the longest valid beginning and of the fault are the relations' only answers.
+-- The computed forms of the longest valid beginning and of the fault are the relations' only
+-- answers.
 use Rattle.std.proofs.Common.{◌≡◌, ℕ, zero, suc, ◌<◌, ◌≤◌, Bool, true, false, ◌&&◌, cond, List, [], ◌∷◌, length, take, drop, Option, None, Some, refl, sym, ap, ap₂, ◌∙◌, subst, ⊎_elim, arith, leb-true, le-leb, true≢false}
 use Rattle.std.proofs.lemmas.Bool.{cases_lt, cases_Bool}
 use Rattle.std.proofs.lemmas.Bool.{and_parts}

@@ -22,7 +22,8 @@ nothing_more big bytes n k front some within t =
     (subst (IsText big) (sym (take-add n k bytes)) (IsText-append big (take n bytes) (take k (drop n bytes)) front.valid t)) in
     omega arith
 
--- where bytes are the beginning of a text, what stands behind their longest valid beginning is one too
+-- where bytes are the beginning of a text, what stands behind their longest valid beginning is one
+-- too
 rest_continues : (big : Bool) (bytes : List ℕ) (n : ℕ) → IsFront big bytes n → (b : IsBeginning big bytes) → IsText big (drop n bytes ++ b.more)
 rest_continues big bytes n front b =
     IsText-rest big (take n bytes) (drop n bytes ++ b.more) front.valid

@@ -101,7 +101,8 @@ counted_text (c ∷ text) scalars =
       length-append (encode_utf16 c) units,
     )
 
--- well-formed bytes have a unit for each two bytes, and a character for each unit that is not trailing
+-- well-formed bytes have a unit for each two bytes, and a character for each unit that is not
+-- trailing
 pub counted_bytes : (big : Bool) (bytes : List ℕ) → IsText big bytes → 2 * (length (text_of big bytes) + count_by is_low_surrogate (units_of big bytes)) ≡ length bytes
 unfolding size
 counted_bytes big bytes t =

@@ -18,7 +18,8 @@ same e = elim (eqb_tells e e) [ inl is ↦ is.0 | inr other ↦ absurd (other.1 
 tested : (e : ℕ) (text : List ℕ) → Lacks e text → All (λ c. eqb c e ≡ false) text
 tested e text lacks = All-weaker (λ c. c ≢ e) (λ c. eqb c e ≡ false) (λ c. ne_eqb c e) text lacks
 
--- a text cut at each delimiter: the part in front of the first one, and then those behind; or the whole, where there is none
+-- a text cut at each delimiter: the part in front of the first one, and then those behind; or the
+-- whole, where there is none
 pub parts-first : (e : ℕ) (text front back : List ℕ) → text ≡ front ++ e ∷ back → Lacks e front
     → slice_split (λ c. eqb c e) text ≡ front ∷ slice_split (λ c. eqb c e) back
 parts-first e text front back is lacks =

@@ -34,7 +34,8 @@ first_of big bytes t some = of_text t.text t.encodes where
     spelled = sym e.spelled ∙ encode-cons big c text;
   }
 
--- the rest behind the first character is well formed, and the characters are that one and the rest's
+-- the rest behind the first character is well formed, and the characters are that one and the
+-- rest's
 pub record SplitsAt (big : Bool) (bytes : List ℕ) (c n : ℕ) : Type 0 where
   pub scalar : IsScalar c
   pub within : n ≤ length bytes

@@ -50,7 +50,8 @@ class_bits-mask_l highs n mask class long few =
     ∙ ap (λ bs. mask_l (map (λ b. eqb b class) bs)) masked
     ∙ ap mask_l (map-map (λ b. eqb b class) (λ high. bit_and high mask) highs)
 
--- ---- the two classes of surrogates, each of 1024 units: at 54 the leading ones, at 55 the trailing ones
+-- ---- the two classes of surrogates, each of 1024 units: at 54 the leading ones, at 55 the
+-- trailing ones
 
 abbrev pub in_class : ℕ → ℕ → Bool
 in_class m unit = leb (1024 * m) unit && ltb unit (1024 * m + 1024)
@@ -153,8 +154,8 @@ module _ (highs : List ℕ) (n leading : ℕ) (long : length highs ≡ n)
       let most : 2 ^ n ≤ 2 ^ 32 = pow-le-pow_right {n = 2} (omega arith) few in
       omega (arith, leading-below, byte-cond before, bit-below before)
 
-  -- where the trailing units are the leading ones one place on, the surrogates are paired, and the bit above says whether the
-  -- last unit is leading
+  -- where the trailing units are the leading ones one place on, the surrogates are paired, and the
+  -- bit above says whether the last unit is leading
   pub paired_by_bits : (before : Bool) (units : List ℕ) → n ≤ 32 → map high_byte units ≡ highs
       → mask_l (map is_low_surrogate units) ≡ (2 * leading + bool_byte before) % (1 * 2 ^ n % 2 ^ 64)
       → Paired before units (leb (1 * 2 ^ n % 2 ^ 64) (2 * leading + bool_byte before))

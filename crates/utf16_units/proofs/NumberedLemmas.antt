@@ -86,7 +86,8 @@ module _ (texts : List (List ℕ)) (order : List ℕ) (is : IsOrder texts order)
             (λ k d from below. subst₂ IsBefore (sym last) (sym (same k d below)) (at.larger k d from below));
       }
 
--- halving: at first the place can be any, each comparison leaves one side, and where nothing is left the place is found
+-- halving: at first the place can be any, each comparison leaves one side, and where nothing is
+-- left the place is found
 pub place_start : (texts : List (List ℕ)) (order text : List ℕ) → IsPlaceWithin texts order text 0 (length order)
 place_start texts order text = record {
   ordered = omega arith;

@@ -1,4 +1,5 @@
--- Units whose surrogates are paired are those of a text, and of a leading unit behind it where the last one is leading.
+-- Units whose surrogates are paired are those of a text, and of a leading unit behind it where the
+-- last one is leading.
 use Rattle.std.proofs.Common.{◌≡◌, ℕ, ◌+◌, ◌-◌, ◌*◌, ◌%◌, ◌<◌, ◌≤◌, Bool, true, false, cond, leb, ltb, List, [], ◌∷◌, ◌++◌, length, map, take, drop, slice_index, refl, sym, ap, ◌∙◌, subst, arith, append_assoc, Fits, w8, length-append, length-drop, length-take-le}
 use Rattle.std.proofs.lemmas.Bool.{and_from, and_parts, false≢true, false_from_ne_true, leb-true, le-leb, lt-ltb, ltb-true}
 use Rattle.std.proofs.lemmas.List.{append_cancel_left, drop-drop, map-append, take-take}

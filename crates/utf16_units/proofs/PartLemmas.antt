@@ -1,4 +1,5 @@
--- Boundaries and parts of a text: of one alone, of one with more behind it, and where a part was found in one.
+-- Boundaries and parts of a text: of one alone, of one with more behind it, and where a part was
+-- found in one.
 use Rattle.std.proofs.Common.{◌≡◌, ℕ, ◌+◌, ◌-◌, ◌%◌, ◌≤◌, List, [], ◌++◌, refl, sym, ap, ap₂, ◌∙◌, arith, append_assoc, append-nil}
 use Rattle.utf16_units.specs.Boundary.{CutAt, IsBoundary, text_between, text_from, text_to}
 use Rattle.utf16_units.specs.Encoding.{size}

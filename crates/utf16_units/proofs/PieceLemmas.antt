@@ -1,4 +1,5 @@
--- Pieces of a text: of two even offsets next to each other one is a boundary, and how much room a piece takes in UTF-8.
+-- Pieces of a text: of two even offsets next to each other one is a boundary, and how much room a
+-- piece takes in UTF-8.
 use Rattle.std.proofs.Common.{◌≡◌, ℕ, ◌+◌, ◌-◌, ◌%◌, ◌<◌, ◌≤◌, ◌⊎◌, List, [], ◌∷◌, ◌++◌, inl, inr, refl, sym, ap, ◌∙◌, subst, ⊎_elim, arith, append_assoc, encode_utf8_all, length, length-append, ◌*◌}
 use Rattle.std.proofs.lemmas.Bool.{cases_lt}
 use Rattle.std.specs.Char.{encode_utf8}

@@ -1,4 +1,5 @@
--- The definitions computed at known characters and at known faults: each row is checked by evaluation alone.
+-- The definitions computed at known characters and at known faults: each row is checked by
+-- evaluation alone.
 use Rattle.std.specs.Prelude.{◌≡◌, ◌==◌, ℕ, Bool, true, false, not, ◌&&◌, List, [], ◌∷◌, Option, None, Some, refl, length, encode_utf8_all, bytes_eq}
 use Rattle.std.specs.List.{list_all}
 use Rattle.std.specs.Char.{encode_utf8}

@@ -27,7 +27,8 @@ pub ruleset boundaries = (IsBoundary-start, IsBoundary-end, IsBoundary-within, t
 -- what stays when more is put behind a text, and where it stands
 pub ruleset behind = (IsBoundary-append, IsBoundary-seam, IsBoundary-end, text_between-append, text_between-behind, size-append, length-checked)
 
--- a text after an edit at a boundary: what stands before it, there and behind it, and how long the text is
+-- a text after an edit at a boundary: what stands before it, there and behind it, and how long the
+-- text is
 pub ruleset edits = (IsBoundary-within, kept-start, kept-front, kept-back, put-end, put-there, put-back, size-insert_at, size-overwrite_at, text_to-text_from, length-checked)
 
 -- texts, and the bytes that encode them
@@ -41,7 +42,8 @@ module _ (big : Bool) (bytes part : List ℕ) (i : ℕ) (checked : is_text big b
   pub stands-found : i % 2 ≡ 0 → StandsAt bytes i part → StandsIn (text_of big bytes) i (text_of big part)
   stands-found even stands = exactly.0 (even, stands)
 
-  -- a search that has found the part nowhere before an even offset, nor at it, has found it nowhere before the next one
+  -- a search that has found the part nowhere before an even offset, nor at it, has found it nowhere
+  -- before the next one
   pub absent-step : i % 2 ≡ 0 → IsAbsentBefore (text_of big bytes) i (text_of big part) → ¬ (StandsAt bytes i part)
       → IsAbsentBefore (text_of big bytes) (i + 2) (text_of big part)
   absent-step even before none = record {

@@ -32,7 +32,8 @@ cut_off big (first ∷ second ∷ after) cut =
 abbrev NoChar : Bool → List ℕ → Type 0
 NoChar big bytes = (n : ℕ) → BeginsWithChar big bytes (suc n) → ⊥
 
--- bytes at whose front no character is, and that are not cut off, begin with a surrogate that has no partner
+-- bytes at whose front no character is, and that are not cut off, begin with a surrogate that has
+-- no partner
 record BeginsLone (big : Bool) (bytes : List ℕ) : Type 0 where
   class : IsLeading (first_unit big bytes) ⊎ IsTrailing (first_unit big bytes)
   items : split_items big bytes ≡ lone_item (first_unit big bytes) ∷ split_items big (drop 2 bytes)

@@ -93,7 +93,8 @@ some_put_unit unit items none = by_class (class_of unit) where
       let e : good unit ∷ items ≡ [] = sym (put_unit-neither unit items l t) ∙ none in
       absurd (cc)
 
--- two bytes or more that have no item are cut off: they begin with a leading unit, and with them more bytes do too
+-- two bytes or more that have no item are cut off: they begin with a leading unit, and with them
+-- more bytes do too
 more_begins : (big : Bool) (bytes back : List ℕ) → 2 ≤ length bytes → split_items big bytes ≡ [] → BeginsNoTrail (split_items big (split_tail big bytes ++ back))
 more_begins big [] back long none = absurd (omega arith)
 more_begins big (last ∷ []) back long none = absurd (omega arith)
@@ -144,7 +145,8 @@ module _ (big : Bool) (first second : ℕ) (bytes back : List ℕ) where
       ∙ ap (λ t. split_tail big (t ++ back)) (sym (whole_tail big first second bytes whole)))
       (cases_Bool (is_cut_off big piece))
 
--- the items of two pieces are those of the first, and then those of what it leaves before the second
+-- the items of two pieces are those of the first, and then those of what it leaves before the
+-- second
 pub split_items-append : (big : Bool) (front back : List ℕ) → split_items big (front ++ back) ≡ split_items big front ++ split_items big (split_tail big front ++ back)
 unfolding split_items split_tail
 split_items-append big [] back = refl

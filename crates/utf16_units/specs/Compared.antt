@@ -5,8 +5,8 @@ use Rattle.std.specs.Ordering.{nat_cmp, on}
 use Rattle.std.specs.declared.cmp.Ordering.{Ordering}
 use Rattle.utf16_units.specs.Encoding.{units_of}
 
--- where a unit stands among all units when surrogates stand above the others (Unicode, section 5.17: fix-up of UTF-16 for code
--- point order)
+-- where a unit stands among all units when surrogates stand above the others (Unicode, section
+-- 5.17: fix-up of UTF-16 for code point order)
 abbrev pub unit_rank : ℕ → ℕ
 unit_rank unit = if nat_lt unit 0xD800 then unit else (if nat_lt unit 0xE000 then unit + 0x2000 else unit - 0x800)
 

@@ -12,8 +12,9 @@ pub record IsBeginning (big : Bool) (bytes : List ℕ) : Type 0 where
 abbrev pub IsTrailingHigh : ℕ → Type 0
 IsTrailingHigh byte = (0xDC ≤ byte) × (byte ≤ 0xDF)
 
--- what is left of a character that was cut off, and that no bytes can complete. It is so in big endian alone, where the high
--- byte comes first: that byte of a trailing surrogate, or a whole leading surrogate and another byte than it
+-- what is left of a character that was cut off, and that no bytes can complete. It is so in big
+-- endian alone, where the high byte comes first: that byte of a trailing surrogate, or a whole
+-- leading surrogate and another byte than it
 abbrev pub IsDeadEnd : Bool → List ℕ → Type 0
 IsDeadEnd true (last ∷ []) = IsTrailingHigh last
 IsDeadEnd true (first ∷ second ∷ last ∷ []) = IsLeading (unit_of true first second) × ¬ (IsTrailingHigh last)

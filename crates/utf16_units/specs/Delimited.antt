@@ -24,12 +24,14 @@ before_empty [] = []
 before_empty ([] ∷ texts) = []
 before_empty ((c ∷ text) ∷ texts) = (c ∷ text) ∷ before_empty texts
 
--- what a reader gets of any text: it is cut at each delimiter, and ends at the first empty text, or where the text ends
+-- what a reader gets of any text: it is cut at each delimiter, and ends at the first empty text, or
+-- where the text ends
 unfoldable pub listed : ℕ → List ℕ → List (List ℕ)
 listed delimiter text = before_empty (slice_split (λ c. c == delimiter) text)
 
--- the texts are those that a list begins with, where the last delimiter, or the last two, may be missing: each can stand in a list,
--- and with two delimiters put last the text begins with their list
+-- the texts are those that a list begins with, where the last delimiter, or the last two, may be
+-- missing: each can stand in a list, and with two delimiters put last the text begins with their
+-- list
 pub record IsListBegun (delimiter : ℕ) (text : List ℕ) (texts : List (List ℕ)) : Type 0 where
   pub entries : All (IsEntry delimiter) texts
   pub behind : List ℕ

@@ -26,6 +26,7 @@ split_front text i = text_to text i
 abbrev pub split_back : List ℕ → ℕ → List ℕ
 split_back text i = text_from text i
 
--- another text put over as many bytes from i on: what stands before i, then it, then what stands behind those bytes
+-- another text put over as many bytes from i on: what stands before i, then it, then what stands
+-- behind those bytes
 abbrev pub overwrite_at : List ℕ → ℕ → List ℕ → List ℕ
 overwrite_at text i other = text_to text i ++ (other ++ text_from text (i + size other))

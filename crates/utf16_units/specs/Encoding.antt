@@ -7,11 +7,13 @@ use Rattle.std.specs.List.{flat_map}
 use Rattle.std.specs.Str.{all_scalars, bytes_eq}
 use Rattle.utf16_units.specs.Unit.{unit_bytes, unit_of}
 
--- the bytes of a character: those of its one or two units (Unicode, section 3.9: UTF-16 encoding form)
+-- the bytes of a character: those of its one or two units (Unicode, section 3.9: UTF-16 encoding
+-- form)
 abbrev pub char_bytes : Bool → ℕ → List ℕ
 char_bytes big c = flat_map (unit_bytes big) (encode_utf16 c)
 
--- the bytes of a text: those of its characters, one after another (Unicode, section 3.10: UTF-16BE and UTF-16LE)
+-- the bytes of a text: those of its characters, one after another (Unicode, section 3.10: UTF-16BE
+-- and UTF-16LE)
 unfoldable pub encode : Bool → List ℕ → List ℕ
 encode big text = flat_map (char_bytes big) text
 
@@ -23,7 +25,8 @@ char_size c = 2 * length (encode_utf16 c)
 unfoldable pub size : List ℕ → ℕ
 size text = 2 * length (flat_map encode_utf16 text)
 
--- the bytes are the encoding of the text, whose characters are scalar values (Unicode, section 3.9: scalar value)
+-- the bytes are the encoding of the text, whose characters are scalar values (Unicode, section 3.9:
+-- scalar value)
 pub record Encodes (big : Bool) (text bytes : List ℕ) : Type 0 where
   pub scalars : All IsScalar text
   pub spelled : encode big text ≡ bytes
@@ -39,7 +42,8 @@ units_of big [] = []
 units_of big (last ∷ []) = []
 units_of big (first ∷ second ∷ bytes) = unit_of big first second ∷ units_of big bytes
 
--- the text that bytes encode, computed; where they encode none, a surrogate with no partner gives U+FFFD
+-- the text that bytes encode, computed; where they encode none, a surrogate with no partner gives
+-- U+FFFD
 unfoldable pub text_of : Bool → List ℕ → List ℕ
 text_of big bytes = utf16_lossy_chars (units_of big bytes)
 

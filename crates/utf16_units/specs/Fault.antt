@@ -5,7 +5,8 @@ use Rattle.std.specs.Char.{IsScalar}
 use Rattle.std.specs.Option.{ForSome}
 use Rattle.utf16_units.specs.Encoding.{char_bytes, IsText, is_text}
 
--- n is the length of the longest valid beginning: the first n bytes are well formed, and no more than n are
+-- n is the length of the longest valid beginning: the first n bytes are well formed, and no more
+-- than n are
 pub record IsFront (big : Bool) (bytes : List ℕ) (n : ℕ) : Type 0 where
   pub within : n ≤ length bytes
   pub valid : IsText big (take n bytes)
@@ -17,7 +18,8 @@ IsCutOff big [] = ⊥
 IsCutOff big (last ∷ []) = Unit {0}
 IsCutOff big (first ∷ second ∷ after) = IsLeading (unit_of big first second) × (length after ≤ 1)
 
--- the length of what is faulty where the rest begins, by Rust's `error_len`: none where a character was cut off, else one unit
+-- the length of what is faulty where the rest begins, by Rust's `error_len`: none where a character
+-- was cut off, else one unit
 abbrev pub IsErrorLen : Bool → List ℕ → Option ℕ → Type 0
 IsErrorLen big rest None = IsCutOff big rest
 IsErrorLen big rest (Some n) = (n ≡ 2) × ¬ (IsCutOff big rest)

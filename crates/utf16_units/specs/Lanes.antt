@@ -16,27 +16,31 @@ swapped unit = (unit * 2 ^ 8 % 2 ^ 16 + unit / 2 ^ 8) % 2 ^ 16
 abbrev pub high_byte : ℕ → ℕ
 high_byte unit = unit / 256
 
--- each unit is a trailing surrogate exactly where the one before it is a leading one (Unicode, section 3.8: surrogate pair):
--- `before` says whether the unit before the first is leading, `after` whether the last one is
+-- each unit is a trailing surrogate exactly where the one before it is a leading one (Unicode,
+-- section 3.8: surrogate pair): `before` says whether the unit before the first is leading, `after`
+-- whether the last one is
 abbrev pub Paired : Bool → List ℕ → Bool → Type 0
 Paired before units after = map is_low_surrogate units ++ after ∷ [] ≡ before ∷ map is_high_surrogate units
 
--- the surrogates are not paired: a trailing unit has no leading one before it, or a leading one that is not the last has no
--- trailing one behind it
+-- the surrogates are not paired: a trailing unit has no leading one before it, or a leading one
+-- that is not the last has no trailing one behind it
 abbrev pub Unpaired : Bool → List ℕ → Type 0
 Unpaired before units = (after : Bool) → ¬ Paired before units after
 
--- the bytes up to `at` are whole units whose surrogates are paired, and `after` says whether the last one is leading
+-- the bytes up to `at` are whole units whose surrogates are paired, and `after` says whether the
+-- last one is leading
 pub record PairedTo (big : Bool) (bytes : List ℕ) (at : ℕ) (after : Bool) : Type 0 where
   pub within : at ≤ length bytes
   pub even : at % 2 ≡ 0
   pub paired : Paired false (units_of big (take at bytes)) after
 
--- blocks of `size` bytes stop at `at`: fewer bytes are left, or the surrogates of the next block are not paired
+-- blocks of `size` bytes stop at `at`: fewer bytes are left, or the surrogates of the next block
+-- are not paired
 abbrev pub StopsAt : ℕ → Bool → List ℕ → ℕ → Bool → Type 0
 StopsAt size big bytes at before = at + size ≤ length bytes → Unpaired before (units_of big (take size (drop at bytes)))
 
--- blocks of 32 bytes pass the bytes up to `size`: they stop at the place `at`, and a leading unit that ends there is left out
+-- blocks of 32 bytes pass the bytes up to `size`: they stop at the place `at`, and a leading unit
+-- that ends there is left out
 pub record PassedTo (big : Bool) (bytes : List ℕ) (size : ℕ) : Type 0 where
   pub at : ℕ
   pub leading : Bool

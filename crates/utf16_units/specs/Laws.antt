@@ -22,8 +22,8 @@ JoinedText = (big : Bool) (front back : List ℕ) → encode big (front ++ back)
 abbrev pub StandsAt : List ℕ → ℕ → List ℕ → Type 0
 StandsAt bytes i part = take (length part) (drop i bytes) ≡ part
 
--- where the encoding of a text that is not empty stands in a text's bytes at an even offset, both its ends are boundaries,
--- and the characters between them are that text
+-- where the encoding of a text that is not empty stands in a text's bytes at an even offset, both
+-- its ends are boundaries, and the characters between them are that text
 abbrev pub FoundAligned : Type 0
 FoundAligned = (big : Bool) (text found : List ℕ) (i : ℕ) → All IsScalar text → All IsScalar found → found ≢ [] → i % 2 ≡ 0
     → StandsAt (encode big text) i (encode big found)
@@ -35,16 +35,19 @@ swap_bytes [] = []
 swap_bytes (last ∷ []) = last ∷ []
 swap_bytes (first ∷ second ∷ bytes) = second ∷ first ∷ swap_bytes bytes
 
--- the encodings of a text in the two orders differ by the swap of the two bytes of each unit, and by nothing else
+-- the encodings of a text in the two orders differ by the swap of the two bytes of each unit, and
+-- by nothing else
 abbrev pub SwappedOrders : Type 0
 SwappedOrders = (big : Bool) (text : List ℕ) → encode (not big) text ≡ swap_bytes (encode big text)
 
--- a character put in at a boundary is the character there, and taking it out gives the text from before
+-- a character put in at a boundary is the character there, and taking it out gives the text from
+-- before
 abbrev pub InsertThenRemove : Type 0
 InsertThenRemove = (text : List ℕ) (i c : ℕ) → IsBoundary text i
     → (char_at (insert_at text i (c ∷ [])) i ≡ Some c) × (remove_at (insert_at text i (c ∷ [])) i ≡ text)
 
--- a text split at a boundary has a front of that size, and the back put last again gives the text from before
+-- a text split at a boundary has a front of that size, and the back put last again gives the text
+-- from before
 abbrev pub SplitThenPush : Type 0
 SplitThenPush = (text : List ℕ) (i : ℕ) → IsBoundary text i
     → (size (split_front text i) ≡ i) × (push_text (split_front text i) (split_back text i) ≡ text)
@@ -57,8 +60,8 @@ Utf8Back = (text : List ℕ) → All IsScalar text → chars (encode_utf8_all te
 abbrev pub TwoNeverContinues : Type 0
 TwoNeverContinues = (big : Bool) (bytes : List ℕ) → IsFault big bytes (Some 2) → ¬ (IsBeginning big bytes)
 
--- bytes with a fault of no length are the beginning of a text exactly where what is left behind their longest valid beginning
--- is no dead end: in little endian always
+-- bytes with a fault of no length are the beginning of a text exactly where what is left behind
+-- their longest valid beginning is no dead end: in little endian always
 abbrev pub NoneContinues : Type 0
 NoneContinues = (big : Bool) (bytes : List ℕ) (n : ℕ) → All (λ b. b < 256) bytes → IsFault big bytes None → IsFront big bytes n
     → (IsBeginning big bytes ↔ ¬ (IsDeadEnd big (drop n bytes)))
@@ -78,7 +81,8 @@ SplitExtends = (big : Bool) (front back : List ℕ)
     → (split_items big (front ++ back) ≡ split_items big front ++ split_items big (split_tail big front ++ back))
     × (split_tail big (front ++ back) ≡ split_tail big (split_tail big front ++ back))
 
--- what a reader gets who resumes by the fields of the error is the marked text of the split's items, and what is kept its tail
+-- what a reader gets who resumes by the fields of the error is the marked text of the split's
+-- items, and what is kept its tail
 abbrev pub RecipeIsSplit : Type 0
 RecipeIsSplit = (big : Bool) (bytes text kept : List ℕ) → All (λ b. b < 256) bytes
     → (Recipe big bytes text kept ↔ ((text ≡ marked (split_items big bytes)) × (kept ≡ split_tail big bytes)))
@@ -91,12 +95,14 @@ TextIsShown = (big : Bool) (text bytes : List ℕ) → Encodes big text bytes �
 abbrev pub ItemsStay : Type 0
 ItemsStay = (big : Bool) (front back : List ℕ) → take (length (split_items big front)) (split_items big (front ++ back)) ≡ split_items big front
 
--- what a stream shows, however it is cut in two: what the first piece does, and then its tail with the second
+-- what a stream shows, however it is cut in two: what the first piece does, and then its tail with
+-- the second
 abbrev pub CutAnywhere : Type 0
 CutAnywhere = (big : Bool) (front back : List ℕ)
     → marked (split_items big (front ++ back)) ≡ marked (split_items big front) ++ marked (split_items big (split_tail big front ++ back))
 
--- an item has two bytes at least, and two bytes are shown by three of UTF-8 at most; a tail adds at most three
+-- an item has two bytes at least, and two bytes are shown by three of UTF-8 at most; a tail adds at
+-- most three
 abbrev pub ShownWithin : Type 0
 ShownWithin = (big : Bool) (bytes : List ℕ) → All (λ b. b < 256) bytes
     → (2 * length (split_items big bytes) ≤ length bytes)
@@ -110,7 +116,8 @@ pub record IsOneOf (P Q R : Type 0) : Type 0 where
   pub first_third : P → ¬ R
   pub second_third : Q → ¬ R
 
--- of two texts exactly one holds: the first is before the second, they are equal, the second is before the first
+-- of two texts exactly one holds: the first is before the second, they are equal, the second is
+-- before the first
 abbrev pub BeforeTotal : Type 0
 BeforeTotal = (text other : List ℕ) → IsOneOf (IsBefore text other) (text ≡ other) (IsBefore other text)
 
@@ -118,7 +125,8 @@ BeforeTotal = (text other : List ℕ) → IsOneOf (IsBefore text other) (text �
 abbrev pub BeforeFollows : Type 0
 BeforeFollows = (text other third : List ℕ) → IsBefore text other → IsBefore other third → IsBefore text third
 
--- the start and the end of a text are boundaries, the whole range is the text, and a boundary cuts it
+-- the start and the end of a text are boundaries, the whole range is the text, and a boundary cuts
+-- it
 pub record IsCut (text : List ℕ) : Type 0 where
   pub start : IsBoundary text 0
   pub end : IsBoundary text (size text)
@@ -129,7 +137,8 @@ pub record IsCut (text : List ℕ) : Type 0 where
 abbrev pub BoundaryCuts : Type 0
 BoundaryCuts = (text : List ℕ) → IsCut text
 
--- with more behind a text, its boundaries and the parts between them stay, and what was put behind is the part there
+-- with more behind a text, its boundaries and the parts between them stay, and what was put behind
+-- is the part there
 pub record StaysBefore (text more : List ℕ) : Type 0 where
   pub boundary : (i : ℕ) → IsBoundary text i → IsBoundary (text ++ more) i
   pub part : (i j : ℕ) → i ≤ j → IsBoundary text i → IsBoundary text j → text_between (text ++ more) i j ≡ text_between text i j
@@ -141,7 +150,8 @@ pub record StaysBefore (text more : List ℕ) : Type 0 where
 abbrev pub MoreBehind : Type 0
 MoreBehind = (text more : List ℕ) → StaysBefore text more
 
--- a part that is not empty stands in a text exactly at the even offsets at which its bytes stand in the bytes of the text
+-- a part that is not empty stands in a text exactly at the even offsets at which its bytes stand in
+-- the bytes of the text
 abbrev pub FoundExactly : Type 0
 FoundExactly = (big : Bool) (text part bytes part_bytes : List ℕ) (i : ℕ) → Encodes big text bytes → Encodes big part part_bytes → part ≢ []
     → (((i % 2 ≡ 0) × StandsAt bytes i part_bytes) ↔ StandsIn text i part)

@@ -17,18 +17,21 @@ pub record IsOrder (texts : List (List ℕ)) (order : List ℕ) : Type 0 where
   pub numbers : IsPermutation (range_with_len 0 (length texts)) order
   pub ascends : AllPairs (λ number other. IsBefore (text_at texts number) (text_at texts other)) order
 
--- among the numbers in order, those in front of `low` are of smaller texts than this one, and those from `high` on of larger ones
+-- among the numbers in order, those in front of `low` are of smaller texts than this one, and those
+-- from `high` on of larger ones
 pub record IsPlaceWithin (texts : List (List ℕ)) (order text : List ℕ) (low high : ℕ) : Type 0 where
   pub ordered : low ≤ high
   pub within : high ≤ length order
   pub smaller : AllWithin (λ number. IsBefore (text_at texts number) text) order 0 low
   pub larger : AllWithin (λ number. IsBefore text (text_at texts number)) order high (length order)
 
--- where the number of a new text goes: behind those of smaller texts, in front of those of larger ones
+-- where the number of a new text goes: behind those of smaller texts, in front of those of larger
+-- ones
 abbrev pub IsPlace : List (List ℕ) → List ℕ → List ℕ → ℕ → Type 0
 IsPlace texts order text place = IsPlaceWithin texts order text place place
 
--- a text, the offsets where its parts end, and their numbers in order: a table of texts, each of which stands in it once
+-- a text, the offsets where its parts end, and their numbers in order: a table of texts, each of
+-- which stands in it once
 pub record IsTable (text offsets numbers : List ℕ) : Type 0 where
   pub ends : AreEnds text offsets
   pub count : length (parts_of text offsets) ≡ length offsets

@@ -3,12 +3,13 @@ use Rattle.std.specs.Prelude.{ℕ, ◌+◌, Bool, List, [], ◌∷◌, ◌++◌,
 use Rattle.utf16_units.specs.Encoding.{Encodes}
 use Rattle.utf16_units.specs.Fault.{IsFault, IsFront}
 
--- the text that the reader gets of the bytes, and the bytes that are kept for more to come, by what Rust's documentation of
--- `error_len` tells to do
+-- the text that the reader gets of the bytes, and the bytes that are kept for more to come, by what
+-- Rust's documentation of `error_len` tells to do
 pub data Recipe (big : Bool) : List ℕ → List ℕ → List ℕ → Type 0 where
   -- the bytes are text: that text, and nothing is kept
   valid : (bytes text : List ℕ) → Encodes big text bytes → Recipe big bytes text []
-  -- the error has a length: the text of the valid beginning, one U+FFFD, and decoding resumes behind what is faulty
+  -- the error has a length: the text of the valid beginning, one U+FFFD, and decoding resumes
+  -- behind what is faulty
   resumed : (bytes front text kept : List ℕ) (valid_up_to len : ℕ) → IsFront big bytes valid_up_to → IsFault big bytes (Some len)
       → Encodes big front (take valid_up_to bytes) → Recipe big (drop (valid_up_to + len) bytes) text kept
       → Recipe big bytes (front ++ 0xFFFD ∷ text) kept

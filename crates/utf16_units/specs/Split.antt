@@ -1,4 +1,5 @@
--- The split of any bytes into characters, surrogates without a partner, and a tail that more bytes could change.
+-- The split of any bytes into characters, surrogates without a partner, and a tail that more bytes
+-- could change.
 use Rattle.std.specs.Prelude.{◌≡◌, ℕ, ◌≤◌, Bool, List, [], ◌∷◌, ◌++◌, All, length, map, if◌then◌else◌}
 use Rattle.std.specs.Char.{IsScalar}
 use Rattle.std.specs.Char.Utf16.{is_high_surrogate, is_low_surrogate, surrogate_pair_char}
@@ -7,7 +8,8 @@ use Rattle.utf16_units.specs.Unit.{IsLeading, IsTrailing, unit_bytes, unit_of}
 use Rattle.utf16_units.specs.Encoding.{char_bytes}
 use Rattle.utf16_units.specs.Fault.{is_cut_off}
 
--- a character, or a surrogate code unit without its partner (Unicode, section 3.8: isolated surrogate code units)
+-- a character, or a surrogate code unit without its partner (Unicode, section 3.8: isolated
+-- surrogate code units)
 pub data Item : Type 0 where
   good : ℕ → Item
   lone_trail : ℕ → Item
@@ -41,8 +43,8 @@ BeginsUnpaired big [] = ⊥
 BeginsUnpaired big (last ∷ []) = ⊥
 BeginsUnpaired big (first ∷ second ∷ after) = ¬ (IsTrailing (unit_of big first second))
 
--- the bytes are those of the items and then of the tail, and behind each lone leading unit stands a whole unit that is not
--- trailing (Unicode, section 3.8: surrogate pair)
+-- the bytes are those of the items and then of the tail, and behind each lone leading unit stands a
+-- whole unit that is not trailing (Unicode, section 3.8: surrogate pair)
 pub record Split (big : Bool) (bytes : List ℕ) (items : List Item) (tail : List ℕ) : Type 0 where
   pub made : All IsItem items
   pub spelled : items_bytes big items ++ tail ≡ bytes
@@ -50,7 +52,8 @@ pub record Split (big : Bool) (bytes : List ℕ) (items : List Item) (tail : Lis
   pub unpaired : (front : List Item) (unit : ℕ) (back : List Item) → front ++ lone_lead unit ∷ back ≡ items
       → BeginsUnpaired big (items_bytes big back ++ tail)
 
--- the character that an item is shown by: U+FFFD for a surrogate without its partner (Unicode, section 3.9: U+FFFD substitution)
+-- the character that an item is shown by: U+FFFD for a surrogate without its partner (Unicode,
+-- section 3.9: U+FFFD substitution)
 abbrev pub mark : Item → ℕ
 mark (good c) = c
 mark (lone_trail unit) = 0xFFFD
@@ -75,7 +78,8 @@ unfoldable pub put_unit : ℕ → List Item → List Item
 put_unit unit items =
     if is_high_surrogate unit then put_leading unit items else if is_low_surrogate unit then lone_trail unit ∷ items else good unit ∷ items
 
--- the items of the split, computed from the last unit to the first; what is cut off at the end is in no item
+-- the items of the split, computed from the last unit to the first; what is cut off at the end is
+-- in no item
 unfoldable pub split_items : Bool → List ℕ → List Item
 split_items big [] = []
 split_items big (last ∷ []) = []

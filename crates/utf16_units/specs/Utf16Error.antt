@@ -11,7 +11,8 @@ valid_up_to e = e.valid_up_to
 abbrev pub error_len : Utf16Error → Option ℕ
 error_len e = e.error_len
 
--- the error is that of bytes that are not well formed: it marks the longest valid beginning and the fault behind it
+-- the error is that of bytes that are not well formed: it marks the longest valid beginning and the
+-- fault behind it
 pub record IsErrorOf (big : Bool) (bytes : List ℕ) (e : Utf16Error) : Type 0 where
   pub front : IsFront big bytes (valid_up_to e)
   pub fault : IsFault big bytes (error_len e)

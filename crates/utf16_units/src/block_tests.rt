@@ -1,4 +1,5 @@
-//! The block functions of the validator, of `count_chars` and of `is_ascii`, each on known blocks, and the loop over units.
+//! The block functions of the validator, of `count_chars` and of `is_ascii`, each on known blocks,
+//! and the loop over units.
 
 ghost use Rattle.std.specs.Prelude.{IsTrue};
 

@@ -14,8 +14,9 @@ pub trait Utf16CharExt {
     fn encoded_utf16_len(self) -> usize
         ensures { result ≡ char_size (code self) };
 
-    /// Writes the character's bytes at the front of `buf` and answers how many they are. Later bytes stay. The caller proves
-    /// that the buffer has room for them; `encoded_utf16_len` tells how much they need.
+    /// Writes the character's bytes at the front of `buf` and answers how many they are. Later
+    /// bytes stay. The caller proves that the buffer has room for them; `encoded_utf16_len` tells
+    /// how much they need.
     fn encode_utf16_into<E: Utf16Order>(self, buf: &mut [u8]) -> usize
         requires { char_size (code self) ≤ length buf.old }
         ensures len { result ≡ char_size (code self) }

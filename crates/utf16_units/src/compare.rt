@@ -12,8 +12,9 @@ use crate::Utf16Order;
 use std::cmp::Ordering;
 use std::simd::prelude::*;
 
-/// Which of two texts is before the other by scalar values, of bytes that the caller proves to be well formed in the order
-/// `E`. It reads both up to the first unit that differs, equal beginnings by blocks.
+/// Which of two texts is before the other by scalar values, of bytes that the caller proves to be
+/// well formed in the order `E`. It reads both up to the first unit that differs, equal beginnings
+/// by blocks.
 pub fn compare<E: Utf16Order>(first: &[u8], second: &[u8]) -> Ordering
     requires first { IsText E.BIG first.now }
     requires second { IsText E.BIG second.now }

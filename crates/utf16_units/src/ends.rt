@@ -5,8 +5,8 @@ ghost use Rattle.utf16_units.specs.Encoding.{IsText, char_size, text_of};
 
 use crate::{Utf16Order, decode_surrogates, is_leading_surrogate, is_trailing_surrogate};
 
-/// The first character of a text that is not empty, and how many bytes it takes. The caller proves that the bytes are well
-/// formed.
+/// The first character of a text that is not empty, and how many bytes it takes. The caller proves
+/// that the bytes are well formed.
 #[inline]
 pub fn first_char<E: Utf16Order>(raw: &[u8]) -> (char, usize)
     requires text { IsText E.BIG raw.now }
@@ -24,8 +24,8 @@ pub fn first_char<E: Utf16Order>(raw: &[u8]) -> (char, usize)
     (decode_surrogates(unit, trailing), 4)
 }
 
-/// The last character of a text that is not empty, and how many bytes it takes. The caller proves that the bytes are well
-/// formed.
+/// The last character of a text that is not empty, and how many bytes it takes. The caller proves
+/// that the bytes are well formed.
 #[inline]
 pub fn last_char<E: Utf16Order>(raw: &[u8]) -> (char, usize)
     requires text { IsText E.BIG raw.now }

@@ -25,8 +25,9 @@ impl Utf16Error {
         self.valid_up_to
     }
 
-    /// `Some(2)` where a surrogate has no partner: decoding can resume two bytes behind `valid_up_to`. `None`
-    /// where the bytes end inside a character: the last 1 to 3 bytes may be its beginning.
+    /// `Some(2)` where a surrogate has no partner: decoding can resume two bytes behind
+    /// `valid_up_to`. `None` where the bytes end inside a character: the last 1 to 3 bytes may be
+    /// its beginning.
     #[inline]
     pub fn error_len(&self) -> Option<usize>
         ensures { result ≡ error_len self.now }

@@ -1,4 +1,5 @@
-//! Code units by lanes: the surrogates of a block as bits, whether they are paired, and whether a block is ASCII.
+//! Code units by lanes: the surrogates of a block as bits, whether they are paired, and whether a
+//! block is ASCII.
 
 ghost use Rattle.std.specs.Prelude.{◌≡◌, ◌↔◌, ◌<◌, ◌≤◌, ◌==◌, ℕ, All, List, IfNone, IfSome, IsTrue, bit_and, map};
 ghost use Rattle.std.specs.Char.Utf16.{is_high_surrogate, is_low_surrogate};
@@ -68,8 +69,8 @@ pub(crate) fn trailing_bits<const N: usize>(highs: Simd<u8, N>) -> u64
     class_bits(highs, 0xDC)
 }
 
-// Whether the last unit is leading, where the surrogates are paired: each unit is trailing exactly where the one before it
-// is leading, and of the unit before the first `before` says it.
+// Whether the last unit is leading, where the surrogates are paired: each unit is trailing exactly
+// where the one before it is leading, and of the unit before the first `before` says it.
 #[inline(always)]
 pub(crate) fn paired<const N: usize>(highs: Simd<u8, N>, before: bool) -> Option<bool>
     requires { N ≤ 32 }

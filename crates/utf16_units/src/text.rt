@@ -1,4 +1,5 @@
-//! What strings ask about the text of their bytes: how many characters it has, and whether all are ASCII.
+//! What strings ask about the text of their bytes: how many characters it has, and whether all are
+//! ASCII.
 
 ghost use Rattle.std.specs.Prelude.{◌≡◌, ◌↔◌, ◌<◌, All, IsTrue, count_by, length};
 ghost use Rattle.std.specs.Char.Utf16.{is_low_surrogate};
@@ -9,8 +10,8 @@ use crate::lanes::{high_bytes32, is_ascii_block, trailing_bits};
 use crate::{Utf16Order, is_trailing_surrogate};
 use std::simd::prelude::*;
 
-/// How many characters the bytes encode, which the caller proves to be well formed. One pass: each character has one unit
-/// that is no trailing surrogate.
+/// How many characters the bytes encode, which the caller proves to be well formed. One pass: each
+/// character has one unit that is no trailing surrogate.
 pub fn count_chars<E: Utf16Order>(raw: &[u8]) -> usize
     requires { IsText E.BIG raw.now }
     ensures { result ≡ length (text_of E.BIG raw.now) }
@@ -22,7 +23,8 @@ pub fn count_chars<E: Utf16Order>(raw: &[u8]) -> usize
     }
 }
 
-// How many characters a short text has, one after another. A call stays a call: so this loop is compiled by itself.
+// How many characters a short text has, one after another. A call stays a call: so this loop is
+// compiled by itself.
 #[inline(never)]
 fn count_few<E: Utf16Order>(raw: &[u8]) -> usize
     requires { IsText E.BIG raw.now }
@@ -56,8 +58,8 @@ pub fn trailing_units<E: Utf16Order>(raw: &[u8]) -> usize
     trailing
 }
 
-/// Whether each character is ASCII, of bytes that the caller proves to be well formed. One pass, up to the first block that
-/// has another character.
+/// Whether each character is ASCII, of bytes that the caller proves to be well formed. One pass, up
+/// to the first block that has another character.
 pub fn is_ascii<E: Utf16Order>(raw: &[u8]) -> bool
     requires { IsText E.BIG raw.now }
     ensures { IsTrue result ↔ All (λ c. c < 0x80) (text_of E.BIG raw.now) }
@@ -65,8 +67,8 @@ pub fn is_ascii<E: Utf16Order>(raw: &[u8]) -> bool
     has_ascii_units::<E>(raw)
 }
 
-/// Whether each unit is ASCII, of any bytes. A last odd byte is in no unit. One pass, up to the first block that has another
-/// unit.
+/// Whether each unit is ASCII, of any bytes. A last odd byte is in no unit. One pass, up to the
+/// first block that has another unit.
 pub fn has_ascii_units<E: Utf16Order>(raw: &[u8]) -> bool
     ensures { IsTrue result ↔ All (λ unit. unit < 0x80) (units_of E.BIG raw.now) }
 {

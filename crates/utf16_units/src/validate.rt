@@ -10,8 +10,8 @@ use crate::lanes::{high_bytes16, high_bytes32, paired};
 use crate::{Utf16Error, Utf16Order, is_trailing_surrogate};
 use std::simd::prelude::*;
 
-/// Tests in one pass whether `raw` is well-formed UTF-16 in the order `E`. The error says how many bytes from the front
-/// are, and what stands there: see [`Utf16Error`].
+/// Tests in one pass whether `raw` is well-formed UTF-16 in the order `E`. The error says how many
+/// bytes from the front are, and what stands there: see [`Utf16Error`].
 pub fn validate_raw_utf16<E: Utf16Order>(raw: &[u8]) -> Result<(), Utf16Error>
     ensures text { IsOk result ↔ IsText E.BIG raw.now }
     ensures error { IfErr result (IsErrorOf E.BIG raw.now) }
@@ -68,8 +68,8 @@ fn paired_half_block<E: Utf16Order>(raw: &[u8], at: usize, leading: bool) -> (us
     }
 }
 
-// The same test unit by unit, from a place on that well-formed bytes end at. A copy at each call: that of short fields starts
-// at 0, and costs them what it would without blocks.
+// The same test unit by unit, from a place on that well-formed bytes end at. A copy at each call:
+// that of short fields starts at 0, and costs them what it would without blocks.
 #[inline(always)]
 pub(crate) fn validate_units<E: Utf16Order>(raw: &[u8], from: usize) -> Result<(), Utf16Error>
     requires within { from ≤ length raw.now }
@@ -92,8 +92,8 @@ pub(crate) fn validate_units<E: Utf16Order>(raw: &[u8], from: usize) -> Result<(
     Ok(())
 }
 
-/// How many bytes the character at the front takes, 2 or 4, or the `error_len` of what stands there. The caller proves that
-/// there is a byte.
+/// How many bytes the character at the front takes, 2 or 4, or the `error_len` of what stands
+/// there. The caller proves that there is a byte.
 #[inline]
 pub fn first_char_len<E: Utf16Order>(rest: &[u8]) -> Result<usize, Option<u8>>
     requires { 0 < length rest.now }

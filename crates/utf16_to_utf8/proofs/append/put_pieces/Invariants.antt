@@ -3,7 +3,8 @@ use Rattle.std.specs.String.{string_capacity, string_len}
 use Rattle.utf16_units.specs.Encoding.{IsText, text_of}
 use Rattle.utf16_to_utf8.proofs.append.put_pieces.Given as goal
 
--- the UTF-8 so far and that of the rest are the text before and that of the whole, and there is room for it
+-- the UTF-8 so far and that of the rest are the text before and that of the whole, and there is
+-- room for it
 abbrev pub invariant-loop-rest : goal.invariant-loop-rest
 invariant-loop-rest g l = record {
   text : IsText g.E.Utf16Order.BIG l.rest;

@@ -1,4 +1,5 @@
--- It answers `Err` where `refuses` says so, and else what the inner allocator answers, and counts a block. Assumes `Logic`.
+-- It answers `Err` where `refuses` says so, and else what the inner allocator answers, and counts a
+-- block. Assumes `Logic`.
 use Rattle.utf16_testing.proofs.Steps.{◌≡◌, true, false, [], ◌∷◌, Ok, Err, refl, sym, subst, ap, T, w64, after, front, arm_body, Al, token, Answer, answer_val, Answer-typed, Answer-Ok, Answer-err, Takes, at_takes, Answered, Takes-goes, Takes-gives, answers, proved, block_if_ok, ftrue, flft, ◌⊑◌, ⊑_trans, fact, tables, bool, u64, unit, usize, yes, layout, uint_vals, uint_Tells, owns, block_ptr, shr_vals, plain, types_at, heard, nothing, only, calls_at, calls_at_last, framed, Stays, stay_dropped, walk_of, ends_at, Goes-dropped, inst_fn, Val, vint, has_ty, WT, size, align, capped, Wp, after_seq, at_return, alloc_all, pass_all, free_all, look_at, get, get_tag, through, sets, lands_as, lands_last, env, Sq, Post, ‵, raw, ◌⊛◌, later, prop, any_q, at_ret, ◌$◌, ◌∵◌, !, qed, move, drop, use0, use1, use2, split, join, fjoin, feq_l, suffices, await, done, vrt, agg, whole, stop, fld, lit, addr, of_opd, no_more, and_then, first, branches, skips, switches_on, exec, returns, returns_within, enter}
 use Rattle.utf16_testing.proofs.AtCell.{asks_cell}
 use Rattle.utf16_testing.proofs.Walks.{args, self, inner_at, plan_at, live_blocks_at, starts}
@@ -33,7 +34,8 @@ allocate_spec 𝓤 𝓛 𝓜 𝓡 wired Y L g d d' met _ =
     nothing ! $ use0 𝓛 (‵ (Answer.own_val (Err (record {})) (answer_val false 0 0 ∷ []))) (Answer-err 𝓛) $ ends (answer_val false 0 0) (Err (record {})) in
     qed 𝓛 (((‵ (flft κ q) ⊛ Tokens) ⊛ ‵ (owns (types_at S.signature.params κs) a y.0.4)) ∷ (raw (fact 𝓤 (κs.1.0 ⊑ Y.lives)) ⊛ raw (fact 𝓤 Said)) ∷ []) ∵
     starts Z ! (λ le. move ! (5 ∷ []) $ heard ! Said (λ said. move ! (1 ∷ 3 ∷ []) $
-    -- [the `&` to the plan; the token of κ; the `&` to the inner allocator and to the count; the other tokens]
+    -- [the `&` to the plan; the token of κ; the `&` to the inner allocator and to the count; the
+    -- other tokens]
     enter ! _ _ _ _ _ $ alloc_all ! (λ l. pass_all ! refl ((tt, tt), ((tt, record { fits = are.1.0.1 }), ((tt, record { fits = are.1.1.0.1 }), tt))) $
     let E = env here.locals l in
     sets ! (addr ! (through ! refl (fld ! refl (stop !)))) refl (tt, tt) $

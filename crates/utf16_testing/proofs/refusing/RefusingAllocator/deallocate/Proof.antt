@@ -29,7 +29,8 @@ deallocate_spec 𝓤 𝓛 𝓜 𝓡 wired Y L g d d' met _ =
     starts Z ! (λ le. move ! (5 ∷ []) $ split ! $ heard ! Said (λ said. keep ! (0 ∷ 1 ∷ 4 ∷ 3 ∷ 5 ∷ []) $
     in_a_block ! a.1.0 Lent (fst∗ 𝓤 (never 𝓤) (sem 𝓛 (token Z h τ null_ptr))) (λ b o e.
     regoal ! (λ (x : Ptr). prop (WpFn 𝓤 𝓛.H 𝓣.C 𝓣.Λ here (vs x) (W.post (y x)))) e refl $ fsplit ! $
-    -- [the room; what lets it go back; the `&` to the inner allocator; the token of κ; the `&` to the count; the other tokens]
+    -- [the room; what lets it go back; the `&` to the inner allocator; the token of κ; the `&` to
+    -- the count; the other tokens]
     enter ! _ _ _ _ _ $ alloc_all ! (λ l. pass_all ! refl ((tt, tt), ((tt, tt), ((tt, record { fits = are.1.1.0.1 }), ((tt, record { fits = are.1.1.1.0.1 }), tt)))) $
     sets ! (addr ! (through ! refl (fld ! refl (stop !)))) refl (tt, tt) $
     let G = Gives Z 𝓛 𝓜.mem 𝓡.returns in let p = inner_at Z r.ref_ptr in let z : G.Ghost = at_gives Z 𝓛 𝓜.mem 𝓡.returns κ q p h b o n al τ in
