@@ -15,14 +15,20 @@ use Rattle.utf16_units.specs.Encoding.{char_bytes, char_size, encode, size, Enco
 use Rattle.utf16_units.proofs.UnitLemmas.{units_of-units}
 use Rattle.utf16_units.proofs.CharLemmas.{utf16_chars-char, length-char_bytes}
 
+-- what holds of all of a list holds of all of its parts
+pub All-back : (P : ℕ → Type 0) (xs ys : List ℕ) → All P (xs ++ ys) → All P ys
+All-back P [] ys all = all
+All-back P (x ∷ xs) ys all = All-back P xs ys (All-tail P x (xs ++ ys) all)
+
+pub All-front : (P : ℕ → Type 0) (xs ys : List ℕ) → All P (xs ++ ys) → All P xs
+All-front P [] ys all = All-nil P
+All-front P (x ∷ xs) ys all = All-cons P x xs (All-head P x (xs ++ ys) all) (All-front P xs ys (All-tail P x (xs ++ ys) all))
+
 pub All-after : (xs ys : List ℕ) → All IsScalar (xs ++ ys) → All IsScalar ys
-All-after [] ys scalars = scalars
-All-after (x ∷ xs) ys scalars = All-after xs ys (All-tail IsScalar x (xs ++ ys) scalars)
+All-after = All-back IsScalar
 
 pub All-before : (xs ys : List ℕ) → All IsScalar (xs ++ ys) → All IsScalar xs
-All-before [] ys scalars = All-nil IsScalar
-All-before (x ∷ xs) ys scalars =
-    All-cons IsScalar x xs (All-head IsScalar x (xs ++ ys) scalars) (All-before xs ys (All-tail IsScalar x (xs ++ ys) scalars))
+All-before = All-front IsScalar
 
 pub encode-nil : (big : Bool) → encode big [] ≡ []
 unfolding encode

@@ -1,6 +1,7 @@
 -- What the first units of bytes say of the character at their front.
-use Rattle.std.proofs.Common.{◌≡◌, ℕ, ◌+◌, ◌-◌, ◌*◌, ◌/◌, ◌<◌, ◌≤◌, Bool, true, false, List, [], ◌∷◌, ◌++◌, length, slice_index, refl, sym, ap, ap₂, ◌∙◌, ⊎_elim, arith, flat_map, le-ltb, le-leb, lt-ltb}
+use Rattle.std.proofs.Common.{◌≡◌, ℕ, zero, suc, ◌+◌, ◌-◌, ◌*◌, ◌/◌, ◌<◌, ◌≤◌, Bool, true, false, List, [], ◌∷◌, ◌++◌, All, length, slice_index, refl, sym, ap, ap₂, ◌∙◌, ⊎_elim, arith, flat_map, le-ltb, le-leb, lt-ltb}
 use Rattle.std.proofs.lemmas.Bool.{cases_lt}
+use Rattle.std.proofs.lemmas.List.Elements.{All-head, All-tail}
 use Rattle.std.proofs.Math.Utf8.{low_scalar}
 use Rattle.std.proofs.str.Utf16.{one_unit, pair_units}
 use Rattle.std.specs.Char.{IsScalar}
@@ -12,6 +13,11 @@ use Rattle.utf16_units.proofs.UnitLemmas.{unit_bytes-unit_of}
 -- each of the numbers is a byte
 abbrev pub AreBytes : List ℕ → Type 0
 AreBytes bytes = (k : ℕ) → slice_index bytes k < 256
+
+pub AreBytes-from_All : (bytes : List ℕ) → All (λ b. b < 256) bytes → AreBytes bytes
+AreBytes-from_All [] are k = omega arith
+AreBytes-from_All (b ∷ bytes) are zero = All-head (λ b. b < 256) b bytes are
+AreBytes-from_All (b ∷ bytes) are (suc k) = AreBytes-from_All bytes (All-tail (λ b. b < 256) b bytes are) k
 
 -- the unit at the front
 abbrev pub first_unit : Bool → List ℕ → ℕ

@@ -1,24 +1,26 @@
 -- The proofs of the laws, each under its law's name.
-use Rattle.std.proofs.Common.{◌≡◌, ◌≢◌, ℕ, zero, suc, ◌+◌, ◌-◌, ◌%◌, ◌<◌, Bool, true, false, not, List, [], ◌∷◌, ◌++◌, length, drop, take, slice_get, All, refl, sym, ap, ap₂, ◌∙◌, subst, arith, append_assoc, length-append, length-drop, take-append-drop, drop_at, flat_map}
-use Rattle.std.proofs.lemmas.List.Elements.{All-head, All-tail}
+use Rattle.std.proofs.Common.{◌≡◌, ◌≢◌, ℕ, ◌+◌, ◌-◌, ◌%◌, ◌<◌, Bool, true, false, not, List, [], ◌∷◌, ◌++◌, length, drop, take, slice_get, All, refl, sym, ap, ap₂, ◌∙◌, subst, arith, append_assoc, length-append, length-drop, take-append-drop, drop_at, flat_map}
+use Rattle.std.proofs.lemmas.List.Elements.{All-head}
 use Rattle.std.proofs.lemmas.List.{map-append}
 use Rattle.std.proofs.lemmas.Str.{chars-encodes}
 use Rattle.std.specs.Char.{IsScalar}
+use Rattle.std.specs.List.{concat}
 use Rattle.std.specs.Char.Escape.{encode_utf16}
 use Rattle.utf16_units.specs.Unit.{IsTrailing, unit_bytes}
 use Rattle.utf16_units.specs.Encoding.{Encodes, char_bytes, encode, size, text_of}
 use Rattle.utf16_units.specs.Boundary.{IsBoundary, StandsIn, text_between, text_from, text_to}
 use Rattle.utf16_units.specs.Edit.{insert_at}
-use Rattle.utf16_units.specs.Laws.{BoundaryCuts, CutAnywhere, EncodedText, FoundAligned, FoundExactly, InsertThenRemove, ItemsStay, JoinedText, MoreBehind, NoneContinues, RecipeIsSplit, ShownWithin, SplitExists, SplitExtends, SplitThenPush, SplitUnique, StandsAt, SwappedOrders, TextIsShown, TwoNeverContinues, UniqueText, Utf8Back, swap_bytes}
+use Rattle.utf16_units.specs.Laws.{BoundaryCuts, CutAnywhere, EncodedText, FoundAligned, FoundExactly, InsertThenRemove, ItemsStay, JoinedText, MoreBehind, NoneContinues, RecipeIsSplit, ResumesIsSplit, ShownWithin, SplitExists, SplitExtends, SplitThenPush, SplitUnique, StandsAt, SwappedOrders, TextIsShown, TwoNeverContinues, UniqueText, Utf8Back, swap_bytes}
 use Rattle.utf16_units.proofs.PartLemmas.{IsBoundary-append, IsBoundary-even, cut_at, text_between-append, text_between-behind, text_between-whole}
 use Rattle.utf16_units.proofs.BoundaryLemmas.{Encodes-between, IsBoundary-at_unit, IsBoundary-end, IsBoundary-start, char_size-pos, size-text_to, text_from-at, text_to-at, text_to-text_from}
 use Rattle.utf16_units.proofs.ContinuedLemmas.{none_where, two_never}
-use Rattle.utf16_units.proofs.FirstChar.{AreBytes, first_unit}
+use Rattle.utf16_units.proofs.FirstChar.{AreBytes-from_All, first_unit}
 use Rattle.utf16_units.proofs.FrontChar.{first_unit-char}
 use Rattle.utf16_units.proofs.EncodingLemmas.{All-after, IsText-from_Encodes, all_scalars-from_All, encode-append, encode-cons, encode-nil, length-encode, size-append, size-cons, text_of-Encodes, text_of-encode, text_of-encode_then}
-use Rattle.utf16_units.specs.Recipe.{Recipe}
+use Rattle.utf16_units.specs.Recipe.{Recipe, Resumes}
 use Rattle.utf16_units.specs.Split.{mark, marked, split_items, split_tail}
 use Rattle.utf16_units.proofs.RecipeLemmas.{marked-good, recipe_of_split, split_of_recipe, split_text}
+use Rattle.utf16_units.proofs.ResumesLemmas.{resumes_of_split, split_of_resumes}
 use Rattle.utf16_units.proofs.ShownLemmas.{split_within}
 use Rattle.utf16_units.proofs.SplitLemmas.{Split-computed}
 use Rattle.utf16_units.proofs.SplitUnique.{Split-unique}
@@ -38,11 +40,6 @@ two_never_continues big bytes fault = two_never big bytes fault
 
 pub none_continues : NoneContinues
 none_continues big bytes n are fault front = none_where big bytes n are fault front
-
-AreBytes-from_All : (bytes : List ℕ) → All (λ b. b < 256) bytes → AreBytes bytes
-AreBytes-from_All [] are k = omega arith
-AreBytes-from_All (b ∷ bytes) are zero = All-head (λ b. b < 256) b bytes are
-AreBytes-from_All (b ∷ bytes) are (suc k) = AreBytes-from_All bytes (All-tail (λ b. b < 256) b bytes are) k
 
 pub split_exists : SplitExists
 split_exists big bytes are = Split-computed big bytes (AreBytes-from_All bytes are)
@@ -66,6 +63,16 @@ recipe_is_split big bytes text kept all =
           subst (λ t. Recipe big bytes t kept) (sym same.0)
           (subst (Recipe big bytes (marked (split_items big bytes))) (sym same.1) (split_of_recipe big bytes are))),
     )
+
+pub resumes_is_split : ResumesIsSplit
+resumes_is_split big pieces text kept all = (
+  (λ resumes.
+      let same = split_of_resumes all resumes in
+      (same.shown, same.tail)),
+  (λ same.
+      subst (λ t. Resumes big [] pieces t kept) (sym same.0)
+      (subst (Resumes big [] pieces (marked (split_items big (concat pieces)))) (sym same.1) (resumes_of_split big pieces all))),
+)
 
 pub text_is_shown : TextIsShown
 text_is_shown big text bytes e =

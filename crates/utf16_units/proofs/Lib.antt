@@ -12,6 +12,7 @@ pub mod SplitUnique
 pub mod SplitJoin
 pub mod SplitFault
 pub mod RecipeLemmas
+pub mod ResumesLemmas
 pub mod ShownLemmas
 pub mod FrontChar
 pub mod BoundaryLemmas

@@ -1,13 +1,14 @@
 -- The laws of UTF-16 that users of the format rest on, each a statement over the definitions alone.
 use Rattle.std.specs.Prelude.{◌≡◌, ◌≢◌, ◌↔◌, ◌⊎◌, ℕ, ◌+◌, ◌*◌, ◌%◌, ◌<◌, ◌≤◌, Bool, not, List, [], ◌∷◌, ◌++◌, None, Some, All, length, take, drop, encode_utf8_all, chars}
 use Rattle.std.specs.Char.{IsScalar}
+use Rattle.std.specs.List.{concat}
 use Rattle.utf16_units.specs.Boundary.{CutAt, IsBoundary, StandsIn, text_between, text_from, text_to}
 use Rattle.utf16_units.specs.Continued.{IsBeginning, IsDeadEnd}
 use Rattle.utf16_units.specs.Edit.{char_at, insert_at, push_text, remove_at, split_back, split_front}
 use Rattle.utf16_units.specs.Encoding.{Encodes, IsText, encode, size, text_of}
 use Rattle.utf16_units.specs.Fault.{IsFault, IsFront}
 use Rattle.utf16_units.specs.Order.{IsBefore}
-use Rattle.utf16_units.specs.Recipe.{Recipe}
+use Rattle.utf16_units.specs.Recipe.{Recipe, Resumes}
 use Rattle.utf16_units.specs.Split.{Item, Split, full, marked, split_items, split_tail}
 
 -- two texts with equal encodings in one order are equal
@@ -86,6 +87,12 @@ SplitExtends = (big : Bool) (front back : List ℕ)
 abbrev pub RecipeIsSplit : Type 0
 RecipeIsSplit = (big : Bool) (bytes text kept : List ℕ) → All (λ b. b < 256) bytes
     → (Recipe big bytes text kept ↔ ((text ≡ marked (split_items big bytes)) × (kept ≡ split_tail big bytes)))
+
+-- what a reader gets who resumes so over the pieces of a stream, however it is cut, is the marked
+-- text of the split of the pieces joined, and what is kept its tail
+abbrev pub ResumesIsSplit : Type 0
+ResumesIsSplit = (big : Bool) (pieces : List (List ℕ)) (text kept : List ℕ) → All (λ b. b < 256) (concat pieces)
+    → (Resumes big [] pieces text kept ↔ ((text ≡ marked (split_items big (concat pieces))) × (kept ≡ split_tail big (concat pieces))))
 
 -- the text of a text's encoding is that text, and nothing is left
 abbrev pub TextIsShown : Type 0

@@ -16,3 +16,12 @@ pub data Recipe (big : Bool) : List ℕ → List ℕ → List ℕ → Type 0 whe
   -- the error has none: the text of the valid beginning, and what stands behind it is kept
   cut_off : (bytes front : List ℕ) (valid_up_to : ℕ) → IsFront big bytes valid_up_to → IsFault big bytes None
       → Encodes big front (take valid_up_to bytes) → Recipe big bytes front (drop valid_up_to bytes)
+
+-- the text that a reader gets of the pieces of a stream, one after another, and the bytes that are
+-- kept at their end, where `before` was kept in front of them
+pub data Resumes (big : Bool) : List ℕ → List (List ℕ) → List ℕ → List ℕ → Type 0 where
+  -- no piece: no text, and what was kept is kept
+  ended : (kept : List ℕ) → Resumes big kept [] [] kept
+  -- a piece: the text of what was kept and the piece; then what that keeps, and the other pieces
+  fed : (before piece : List ℕ) (pieces : List (List ℕ)) (text kept more last : List ℕ) → Recipe big (before ++ piece) text kept
+      → Resumes big kept pieces more last → Resumes big before (piece ∷ pieces) (text ++ more) last

@@ -5,7 +5,7 @@
 //! in the module `Rattle.utf16_units.proofs.LawProofs`. The statements are in `specs/Laws.antt`:
 //! they speak of the definitions alone, for all texts, all bytes and both byte orders.
 
-ghost use Rattle.utf16_units.specs.Laws.{BeforeFollows, BeforeTotal, BoundaryCuts, CutAnywhere, EncodedText, FoundAligned, FoundExactly, InsertThenRemove, ItemsStay, JoinedText, MoreBehind, NoneContinues, RecipeIsSplit, ShownWithin, SplitExists, SplitExtends, SplitThenPush, SplitUnique, SwappedOrders, TextIsShown, TwoNeverContinues, UniqueText, Utf8Back};
+ghost use Rattle.utf16_units.specs.Laws.{BeforeFollows, BeforeTotal, BoundaryCuts, CutAnywhere, EncodedText, FoundAligned, FoundExactly, InsertThenRemove, ItemsStay, JoinedText, MoreBehind, NoneContinues, RecipeIsSplit, ResumesIsSplit, ShownWithin, SplitExists, SplitExtends, SplitThenPush, SplitUnique, SwappedOrders, TextIsShown, TwoNeverContinues, UniqueText, Utf8Back};
 
 /// Two texts with equal encodings in one order are equal.
 pub fn unique_text()
@@ -79,6 +79,13 @@ pub fn split_extends()
 /// tail.
 pub fn recipe_is_split()
     ensures { RecipeIsSplit }
+{}
+
+/// What a reader gets who resumes so over the pieces of a stream is the text of the split of the
+/// pieces joined, with one U+FFFD for each surrogate without its partner, and what the reader keeps
+/// at the end is its tail: however the stream is cut.
+pub fn resumes_is_split()
+    ensures { ResumesIsSplit }
 {}
 
 /// The text of well-formed bytes is what they encode, and nothing is left.
