@@ -1,7 +1,10 @@
 -- Sixteen bytes: the bits of those that are not zero, and two vectors interleaved.
-use Rattle.std.proofs.Common.{◌+◌, ◌*◌, ◌≤◌, ◌++◌, ◌∷◌, [], ap₂, eqb-true, ◌/◌, ◌%◌, ◌^◌, true, not, eqb, subst, ◌≡◌, ℕ, ◌<◌, Bool, false, cond, List, map, length, slice_index, replicate, refl, sym, ap, ◌∙◌, arith, w8}
+use Rattle.std.proofs.Common.{◌+◌, ◌*◌, ◌≤◌, ◌++◌, ◌∷◌, [], ap₂, eqb-true, ◌/◌, ◌%◌, ◌^◌, true, not, eqb, subst, ◌≡◌, ℕ, ◌<◌, Bool, false, cond, ⊎_elim, List, map, length, slice_index, replicate, refl, sym, ap, ◌∙◌, arith, w8, w16}
+use Rattle.std.proofs.lemmas.Bool.{cases_Bool, cases_lt}
+use Rattle.std.proofs.lemmas.Nat.Bits.{bit_at-trailing_zeros, bit_at-zero}
 use Rattle.std.proofs.lemmas.List.{get_or-map, length-map}
 use Rattle.std.proofs.lemmas.Simd.{mask_l-mod, pick_l_whole, bit_mask_l, bitmask_splat, mask_l-lt, length-zip2, tops_compared}
+use Rattle.std.specs.Int.{trailing_zeros}
 use Rattle.std.specs.List.{range_with_len}
 use lib.Lanes.{pick_l, mask_l, top, zip2}
 use Rattle.utf16_from_utf8.specs.Lanes.{pairs_of}
@@ -25,6 +28,28 @@ bit-set v bits long is i below =
 pub few-set : (v : List ℕ) (bits : ℕ) → length v ≡ 16 → bits ≡ mask_l (map (λ x. not (eqb x 0)) v) → bits < 2 ^ 16
 few-set v bits long is =
     subst (λ k. bits < 2 ^ k) (length-map v (λ x. not (eqb x 0)) ∙ long) (subst (λ n. n < 2 ^ length (map (λ x. not (eqb x 0)) v)) (sym is) (mask_l-lt (map (λ x. not (eqb x 0)) v)))
+
+-- no bit is set exactly where every lane is zero
+pub zero_lane : (v : List ℕ) (bits : ℕ) → bits ≡ 0 → ((i : ℕ) → i < 16 → ◌≡◌ {A = ℕ} (bits / 2 ^ i % 2) (cond (eqb (slice_index v i) 0) 0 1))
+    → (i : ℕ) → i < 16 → slice_index v i ≡ 0
+zero_lane v bits none set i below = ⊎_elim
+    (λ (is : eqb (slice_index v i) 0 ≡ true). eqb-true _ _ is)
+    (λ (not_zero : eqb (slice_index v i) 0 ≡ false).
+    let one = set i below ∙ ap (λ b. cond b 0 1) not_zero in
+    let clear : bits / 2 ^ i % 2 ≡ 0 = ap (λ n. n / 2 ^ i % 2) none ∙ bit_at-zero i in
+    absurd (omega (arith, one, clear)))
+    (cases_Bool (eqb (slice_index v i) 0))
+
+pub none_set : (v : List ℕ) (bits : ℕ) → bits < 2 ^ 16 → ((i : ℕ) → i < 16 → ◌≡◌ {A = ℕ} (bits / 2 ^ i % 2) (cond (eqb (slice_index v i) 0) 0 1))
+    → ((i : ℕ) → i < 16 → slice_index v i ≡ 0) → bits ≡ 0
+none_set v bits few set zeros = ⊎_elim
+    (λ (none : bits < 1). omega arith)
+    (λ (some : 1 ≤ bits).
+    let first = bit_at-trailing_zeros w16 bits some few in
+    let place = trailing_zeros w16 bits in
+    let zero = set place first.0 ∙ ap (λ x. cond (eqb x 0) 0 1) (zeros place first.0) in
+    absurd (omega (arith, first.1, zero)))
+    (cases_lt bits 1)
 
 -- where no lane of two vectors differs, they are the same
 pub none_differs : (xs ys : List ℕ) → length xs ≡ 16 → length ys ≡ 16

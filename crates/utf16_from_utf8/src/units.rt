@@ -1,6 +1,6 @@
 //! The two bytes of the unit that ends at each of sixteen bytes, and at which of them one ends.
 
-ghost use Rattle.std.specs.Prelude.{◌≡◌, ◌<◌, ℕ, bit_and, if◌then◌else◌, slice_index, ◌/◌, ◌%◌, ◌^◌, IsTrue};
+ghost use Rattle.std.specs.Prelude.{◌≡◌, ◌<◌, ◌↔◌, ℕ, bit_and, if◌then◌else◌, slice_index, ◌/◌, ◌%◌, ◌^◌, IsTrue};
 ghost use Rattle.std.specs.Simd.Lanes.{zip2};
 ghost use Rattle.utf16_from_utf8.specs.Added.{ends_unit};
 ghost use Rattle.utf16_from_utf8.specs.LaneBytes.{high_lane, lead_high, lead_part, low_lane, middle, short_low, three_high, trail_high};
@@ -96,7 +96,7 @@ pub(crate) fn ended_bits(b1: u8x16, b0: u8x16) -> u64
 // Whether all are characters of one byte.
 #[inline(always)]
 pub(crate) fn is_ascii(block: u8x16) -> bool
-    ensures { IsTrue result → (i : ℕ) → i < 16 → slice_index block i < 0x80 }
+    ensures { IsTrue result ↔ ((i : ℕ) → i < 16 → slice_index block i < 0x80) }
 {
     set_bits(masked(block, 0x80)) == 0
 }
