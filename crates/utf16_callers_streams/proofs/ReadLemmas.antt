@@ -1,15 +1,17 @@
 -- A stream that is read piece by piece: its text so far, and what is kept.
-use Rattle.std.proofs.Common.{◌≡◌, ◌≢◌, ℕ, ◌+◌, ◌<◌, ◌≤◌, Bool, List, [], ◌++◌, All, get_or, flat_map, length, take, take_all, drop, encode_utf8_all, append_assoc, take-append-drop, take_at, refl, sym, ap, ◌∙◌, subst, arith, length-append}
+use Rattle.std.proofs.Common.{◌≡◌, ◌≢◌, ℕ, ◌+◌, ◌<◌, ◌≤◌, Bool, List, [], ◌∷◌, ◌++◌, All, get_or, flat_map, length, map, take, take_all, drop, encode_utf8_all, append_assoc, take-append-drop, take_at, refl, sym, ap, ◌∙◌, subst, arith, length-append}
 use Rattle.std.proofs.lemmas.List.{get_or-append-add, map-append}
-use Rattle.std.proofs.lemmas.List.Concat.{flat_map-append}
+use Rattle.std.proofs.lemmas.List.Concat.{concat_is, flat_map-append}
 use Rattle.std.proofs.lemmas.List.Elements.{All-append}
+use Rattle.std.proofs.lemmas.List.Folds.{flat_map-map}
 use Rattle.std.specs.Char.{encode_utf8}
 use Rattle.std.specs.Io.{StartsWith}
-use Rattle.utf16_units.specs.Laws.{CutAnywhere, ItemsStay, SplitExists, SplitUnique}
-use Rattle.utf16_tools.specs.Split.{full, mark, marked, split_items, split_tail}
+use Rattle.std.specs.List.{concat}
+use Rattle.utf16_units.specs.Laws.{CutAnywhere, ItemsStay, ResumesIsSplit, SplitExists, SplitUnique}
+use Rattle.utf16_tools.specs.Split.{Item, full, mark, marked, split_items, split_tail}
 use Rattle.utf16_tools.proofs.StreamLemmas.{full-mark, full-none, joined-more, shown-piece}
 use Rattle.utf16_units.proofs.SplitJoin.{split_tail-append}
-use Rattle.utf16_callers_streams.specs.OneSplit.{IsTextOfOneSplit}
+use Rattle.utf16_callers_streams.specs.OneSplit.{IsTextByResuming, IsTextOfOneSplit, text_at_end}
 
 abbrev pub IsByte : ℕ → Type 0
 IsByte b = b < 256
@@ -53,6 +55,10 @@ module _ (big : Bool) (bytes text kept : List ℕ) (all : Told big bytes text ke
   some_kept whole some mark =
       mark ∙ ap (λ t. t ++ encode_utf8 0xFFFD) all.shown ∙ sym (full-mark (split_items big bytes) (split_tail big bytes) (λ none. some (all.tail ∙ none)))
 
+at_end : (items : List Item) (kept : List ℕ) → full items kept ≡ text_at_end (marked items) kept
+at_end items [] = refl
+at_end items (first ∷ after) = refl
+
 -- the text of the computed split is that of the one split
 pub of_one : SplitExists → SplitUnique → (big : Bool) (bytes : List ℕ) → All IsByte bytes
     → (whole : List ℕ) → whole ≡ encode_utf8_all (full (split_items big bytes) (split_tail big bytes)) → IsTextOfOneSplit big bytes whole
@@ -63,6 +69,23 @@ of_one exists unique big bytes are whole same = record {
   only = λ others other split. unique big bytes others (split_items big bytes) other (split_tail big bytes) split (exists big bytes are);
   text = same;
 }
+
+-- and it is that of resuming by the error over the pieces
+pub by_resuming : ResumesIsSplit → {X : Type 0} (of : X → List ℕ) (big : Bool) (pieces : List X) → All IsByte (flat_map of pieces)
+    → (whole : List ℕ) → whole ≡ encode_utf8_all (full (split_items big (flat_map of pieces)) (split_tail big (flat_map of pieces)))
+    → IsTextByResuming big (map of pieces) whole
+by_resuming law of big pieces are whole same =
+    let joined : concat (map of pieces) ≡ flat_map of pieces = concat_is (map of pieces) ∙ flat_map-map (λ x. x) of pieces in
+    let text = marked (split_items big (flat_map of pieces)) in
+    let kept = split_tail big (flat_map of pieces) in
+    let bytes = subst (All IsByte) (sym joined) are in
+    let back = (law big (map of pieces) text kept bytes).1 in
+    record {
+      text = text;
+      kept = kept;
+      resumes = back (ap (λ b. marked (split_items big b)) (sym joined), ap (split_tail big) (sym joined));
+      written = same ∙ ap encode_utf8_all (at_end (split_items big (flat_map of pieces)) kept);
+    }
 
 -- one more piece has bytes alone where what is kept and the piece do
 pub bytes-more : {X : Type 0} (of : X → List ℕ) (pieces : List X) (i : ℕ) (piece : X) (kept : List ℕ) → i < length pieces → piece ≡ get_or pieces i piece

@@ -6,7 +6,7 @@
 //! refused, the error marks the longest valid beginning; and resuming by it, over every cutting of
 //! a stream, yields the text of the stream's one split.
 
-ghost use Rattle.std.specs.Prelude.{◌≡◌, ◌↔◌, ◌-◌, ◌<◌, ◌≤◌, ◌++◌, All, IfOk, IfSome, IsSome, List, OnErr, OnOk, ℕ, drop, encode_utf8_all, length, string_bytes};
+ghost use Rattle.std.specs.Prelude.{◌≡◌, ◌↔◌, ◌-◌, ◌<◌, ◌≤◌, ◌++◌, All, IfOk, IfSome, IsSome, List, OnErr, OnOk, ℕ, drop, encode_utf8_all, length, map, string_bytes};
 ghost use Rattle.std.specs.List.{flat_map};
 ghost use Rattle.std.specs.Vec.{vec_items};
 ghost use Rattle.utf16_tools.specs.Split.{decided_text, lossy_text, marked, split_tail};
@@ -15,11 +15,11 @@ ghost use Rattle.utf16string.specs.Encoding.{Encodes, IsText};
 ghost use Rattle.utf16string.specs.Fault.{IsFault, IsFront};
 ghost use Rattle.utf16string.specs.WStr.{wstr_text};
 ghost use Rattle.utf16string.specs.WString.{wstring_bytes, wstring_text};
-ghost use Rattle.utf16_callers_streams.specs.OneSplit.{IsTextOfOneSplit};
+ghost use Rattle.utf16_callers_streams.specs.OneSplit.{IsTextByResuming, IsTextOfOneSplit};
 
 use std::alloc::{AllocError, Allocator};
 use utf16_tools::{Edit, Lossy, Reply, run};
-use utf16_units::laws::{split_exists, split_unique, unique_text};
+use utf16_units::laws::{resumes_is_split, split_exists, split_unique, unique_text};
 use utf16string::{Utf16Order, WStr, WString};
 
 /// Bytes are taken as text exactly when they encode a list of characters, and only one: the view
@@ -59,31 +59,24 @@ pub fn marked_where_refused<E: Utf16Order>(bytes: &[u8]) -> Option<(usize, Optio
 }
 
 /// Resuming by the error, over every cutting of a stream, yields the text of the stream's one
-/// split: a plain loop that follows `valid_up_to` and `error_len`, and keeps what is cut off for
-/// the next piece. The text in UTF-8 is what `decode_pieces` answers, and what a `Lossy` gives that
-/// is fed the pieces: see [`fed`].
+/// split. `resuming` says the first half: the text is what a reader gets who goes on by
+/// `valid_up_to` and `error_len` over the pieces, and keeps what is cut off for the next piece; one
+/// more U+FFFD stands where bytes are kept at the end. `one` says the second. The text in UTF-8 is
+/// what `decode_pieces` returns, and what a `Lossy` gives that is fed the pieces: see [`fed`].
 pub fn resumed<E: Utf16Order, A: Allocator, B: Allocator, C: Allocator>(
     text_alloc: A,
     rest_alloc: B,
     pieces: &[Vec<u8, C>],
 ) -> Result<String<A>, AllocError>
+    ensures resuming { IfOk result (λ text. IsTextByResuming E.BIG (map vec_items pieces.now) (string_bytes text)) }
     ensures one { IfOk result (λ text. IsTextOfOneSplit E.BIG (flat_map vec_items pieces.now) (string_bytes text)) }
     ensures same { IfOk result (λ text. string_bytes text ≡ encode_utf8_all
         (lossy_text E.BIG (flat_map vec_items pieces.now))) }
 {
     split_exists();
     split_unique();
-    let mut text = String::new(text_alloc);
-    let mut rest = Vec::new(rest_alloc);
-    for piece in pieces {
-        rest.extend_from_slice(piece)?;
-        let kept = resume::<E, A>(&rest, &mut text)?.len();
-        keep_last(&mut rest, kept);
-    }
-    if rest.is_empty() {
-        return Ok(text);
-    }
-    text.push('\u{FFFD}')?;
+    resumes_is_split();
+    let text = resume_pieces::<E, A, B, C>(text_alloc, rest_alloc, pieces)?;
     Ok(text)
 }
 
@@ -110,7 +103,7 @@ pub fn fed<E: Utf16Order, A: Allocator, B: Allocator + Clone, C: Allocator>(
     Ok(text)
 }
 
-/// Puts the text of bytes behind another, with U+FFFD for each fault that has a length, and answers
+/// Puts the text of bytes behind another, with U+FFFD for each fault that has a length, and returns
 /// what is cut off at the end: the loop that Rust documents beside `Utf8Error::error_len`. The only
 /// error is a refused request for memory.
 pub fn resume<'a, E: Utf16Order, A: Allocator>(
@@ -140,6 +133,30 @@ pub fn resume<'a, E: Utf16Order, A: Allocator>(
             None => return Ok(faulty),
         }
     }
+}
+
+// The text of pieces by a plain loop that follows the fields of the error.
+fn resume_pieces<E: Utf16Order, A: Allocator, B: Allocator, C: Allocator>(
+    text_alloc: A,
+    rest_alloc: B,
+    pieces: &[Vec<u8, C>],
+) -> Result<String<A>, AllocError>
+    ensures text { IfOk result (λ text. string_bytes text ≡ encode_utf8_all
+        (lossy_text E.BIG (flat_map vec_items pieces.now))) }
+    ensures bytes { OnOk result (All (λ b. b < 256) (flat_map vec_items pieces.now)) }
+{
+    let mut text = String::new(text_alloc);
+    let mut rest = Vec::new(rest_alloc);
+    for piece in pieces {
+        rest.extend_from_slice(piece)?;
+        let kept = resume::<E, A>(&rest, &mut text)?.len();
+        keep_last(&mut rest, kept);
+    }
+    if rest.is_empty() {
+        return Ok(text);
+    }
+    text.push('\u{FFFD}')?;
+    Ok(text)
 }
 
 // Takes off all but the last bytes.

@@ -2,7 +2,7 @@ use Rattle.std.proofs.Common.{All, string_bytes, take}
 use Rattle.std.specs.List.{flat_map}
 use Rattle.std.specs.Vec.{vec_items}
 use Rattle.utf16_callers_streams.proofs.ReadLemmas.{IsByte, Told}
-use Rattle.utf16_callers_streams.proofs.headline.resumed.Given as goal
+use Rattle.utf16_callers_streams.proofs.headline.resume_pieces.Given as goal
 
 -- the text so far is that of the pieces so far, and their tail is kept
 abbrev pub invariant-loop-piece : goal.invariant-loop-piece
