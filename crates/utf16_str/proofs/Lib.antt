@@ -3,3 +3,4 @@ mod SplitLemmas
 pub mod CharSearch
 pub mod Overwritten
 pub mod StrLemmas
+mod AffixLemmas

@@ -1,6 +1,7 @@
 //! Views of UTF-16 strings in either byte order: what `&str` and `&mut str` are to UTF-8.
 #![tactic(auto)]
 
+mod affixes;
 mod iters;
 mod parts;
 mod slicing;

@@ -1,10 +1,12 @@
 //! A UTF-16 string in the caller's bytes that can be written over.
 
-ghost use Rattle.std.specs.Prelude.{◌≡◌, ◌↔◌, ◌+◌, ◌≤◌, length, IsTrue, IsOk, IfOk, IfErr, true, false};
+ghost use Rattle.std.specs.Prelude.{◌≡◌, ◌↔◌, ◌+◌, ◌++◌, ◌≤◌, [], length, IsTrue, IsOk, IfOk, IfErr, true, false};
+ghost use Rattle.std.specs.Borrow.{Array, LendsBoth, sem, u8};
 ghost use Rattle.std.specs.List.{splice};
 ghost use Rattle.utf16_units.specs.Boundary.{IsBoundary};
 ghost use Rattle.utf16_units.specs.Edit.{overwrite_at};
 ghost use Rattle.utf16_units.specs.Encoding.{Encodes, IsText, is_text, size};
+ghost use Rattle.utf16_units.specs.Fault.{IsFront};
 ghost use Rattle.utf16_units.specs.Utf16Error.{IsErrorOf};
 ghost use Rattle.utf16_str.specs.WStr.{wstr_bytes, wstr_text};
 
@@ -57,6 +59,28 @@ impl<'a, E: Utf16Order> WStrMut<'a, E> {
             raw,
             order: PhantomData,
         }
+    }
+
+    /// The longest text in the order `E` that the bytes begin with, and the rest: cut at
+    /// `valid_up_to` of the error, and the rest is empty exactly where the bytes are text. One pass
+    /// over the bytes, no copy.
+    ///
+    /// The proof of a caller goes on knowing the bytes, also of the rest. So this lends bytes that
+    /// may be refused: a view of the text is made by `from_utf16_unchecked`, and whoever wants the
+    /// whole first looks whether the rest is empty.
+    #[inline]
+    pub fn split_valid(raw: &'a mut [u8]) -> (&'a mut [u8], &'a mut [u8])
+        ensures* lent { sem 𝓛 (LendsBoth (Array u8 0) (Array u8 0) (Array u8 0) raw.entry result (◌++◌)) }
+        ensures joined { raw.old ≡ result.0.now ++ result.1.now }
+        ensures text { IsText E.BIG result.0.now }
+        ensures longest { IsFront E.BIG raw.old (length result.0.now) }
+        ensures whole { (result.1.now ≡ []) ↔ IsText E.BIG raw.old }
+    {
+        let len = match validate_raw_utf16::<E>(raw) {
+            Ok(()) => raw.len(),
+            Err(error) => error.valid_up_to(),
+        };
+        raw.split_at_mut(len)
     }
 
     /// The text as a view, to read it.

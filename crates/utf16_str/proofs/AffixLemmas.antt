@@ -1,0 +1,72 @@
+-- What a text begins and ends with, by its bytes.
+use Rattle.std.proofs.Common.{◌≡◌, ℕ, ◌+◌, ◌-◌, ◌%◌, Bool, true, nat_eq, ◌↔◌, List, [], ◌∷◌, ◌++◌, length, take, take_all, drop, refl, sym, ap, ◌∙◌, subst, arith, append-nil, length-append, drop_at}
+use Rattle.std.proofs.lemmas.Bool.Decides.{Decides-eqb}
+use Rattle.std.proofs.lemmas.Slice.Eq.{ends_is, starts_is}
+use Rattle.std.specs.List.{ends_with, starts_with}
+use Rattle.utf16_units.specs.Boundary.{IsBoundary, text_between, text_from, text_to}
+use Rattle.utf16_units.specs.Encoding.{IsText, encode, size, text_of}
+use Rattle.utf16_units.proofs.BackChar.{length-even}
+use Rattle.utf16_units.proofs.BoundaryLemmas.{text_between-end, text_from-at, text_to-at, text_to-text_from}
+use Rattle.utf16_units.proofs.EncodingLemmas.{Encodes-text_of, encode-append, encode-text_of, length-text, text_of-append}
+use Rattle.utf16_units.proofs.LawProofs.{found_exactly}
+use Rattle.utf16_units.proofs.PartLemmas.{IsBoundary-seam}
+
+module _ (big : Bool) (bytes part : List ℕ) (t : IsText big bytes) (p : IsText big part) where
+  -- bytes that begin with those of a part are those of a text that begins with it
+  pub text_begins : (rest : List ℕ) → bytes ≡ part ++ rest → text_of big bytes ≡ text_of big part ++ text_of big rest
+  text_begins rest e = ap (text_of big) e ∙ text_of-append big part rest p
+
+  pub bytes_begin : (rest : List ℕ) → text_of big bytes ≡ text_of big part ++ rest → bytes ≡ part ++ encode big rest
+  bytes_begin rest e =
+      sym (encode-text_of big bytes t) ∙ ap (encode big) e ∙ encode-append big (text_of big part) rest
+      ∙ ap (λ b. b ++ encode big rest) (encode-text_of big part p)
+
+  pub bytes_end : (front : List ℕ) → text_of big bytes ≡ front ++ text_of big part → bytes ≡ encode big front ++ part
+  bytes_end front e =
+      sym (encode-text_of big bytes t) ∙ ap (encode big) e ∙ encode-append big front (text_of big part)
+      ∙ ap (λ b. encode big front ++ b) (encode-text_of big part p)
+
+  pub begins_with : (r : Bool) → r ≡ starts_with nat_eq bytes part → (r ≡ true) ↔ ((rest : List ℕ) × (text_of big bytes ≡ text_of big part ++ rest))
+  begins_with r e =
+      let is = starts_is Decides-eqb bytes part r e in (
+        λ yes. (text_of big (drop (length part) bytes), text_begins (drop (length part) bytes) (is.0 yes)),
+        λ begins. is.1 (encode big begins.0) (bytes_begin begins.0 begins.1),
+      )
+
+  -- and bytes that end with them those of a text that ends with it
+  pub text_ends : (front : List ℕ) → bytes ≡ front ++ part → (before : List ℕ) × (text_of big bytes ≡ before ++ text_of big part)
+  text_ends front e = by_part (text_of big part) refl where
+    by_part : (found : List ℕ) → found ≡ text_of big part → (before : List ℕ) × (text_of big bytes ≡ before ++ text_of big part)
+    by_part [] none = (text_of big bytes, sym (append-nil (text_of big bytes)) ∙ ap (λ x. text_of big bytes ++ x) none)
+    by_part (c ∷ found) some =
+        let long = ap length e ∙ length-append front part in
+        let even : length front % 2 ≡ 0 = omega (arith, long, length-even big bytes t, length-even big part p) in
+        let behind : drop (length front) bytes ≡ part = ap (drop (length front)) e ∙ drop_at front part (length front) refl in
+        let stands = ap (take (length part)) behind ∙ take_all (length part) part (omega arith) in
+        let at = (found_exactly big (text_of big bytes) (text_of big part) bytes part (length front)
+        (Encodes-text_of big bytes t) (Encodes-text_of big part p) (λ none. absurd (cc (some ∙ none)))).0 (even, stands) in
+        let whole : length front + size (text_of big part) ≡ size (text_of big bytes) = omega (arith, long, length-text big bytes t, length-text big part p) in
+        let last : text_from (text_of big bytes) (length front) ≡ text_of big part =
+        sym (text_between-end (text_of big bytes) (length front) at.start)
+        ∙ ap (text_between (text_of big bytes) (length front)) (sym whole) ∙ at.between in
+        (text_to (text_of big bytes) (length front), sym (text_to-text_from (text_of big bytes) (length front)) ∙ ap (λ x. text_to (text_of big bytes) (length front) ++ x) last)
+
+  pub ends_in : (r : Bool) → r ≡ ends_with nat_eq bytes part → (r ≡ true) ↔ ((front : List ℕ) × (text_of big bytes ≡ front ++ text_of big part))
+  ends_in r e =
+      let is = ends_is Decides-eqb bytes part r e in (
+        λ yes. text_ends (take (length bytes - length part) bytes) (is.0 yes),
+        λ ends. is.1 (encode big ends.0) (bytes_end ends.0 ends.1),
+      )
+
+-- a text cut behind a part at its front, or before one at its end
+pub record IsCutBetween (front back text : List ℕ) (i : ℕ) : Type 0 where
+  pub boundary : IsBoundary text i
+  pub to : text_to text i ≡ front
+  pub from : text_from text i ≡ back
+
+pub cut_between : (front back text : List ℕ) (i : ℕ) → text ≡ front ++ back → size front ≡ i → IsCutBetween front back text i
+cut_between front back text i e at = subst (λ t. IsCutBetween front back t i) (sym e) (subst (IsCutBetween front back (front ++ back)) at (record {
+  boundary = IsBoundary-seam front back;
+  to = text_to-at front back (size front) refl;
+  from = text_from-at front back (size front) refl;
+}))
