@@ -1,11 +1,12 @@
 //! Edits behind the tests of their conditions, by public calls alone: what a caller writes, and
 //! what it then knows.
 
-ghost use Rattle.std.specs.Prelude.{◌≡◌, ◌↔◌, ◌⊎◌, ◌+◌, ◌<◌, ◌≤◌, length, false, true, Ok, Some, IfOk, IfSome, IsNone, IsOk, IsSome, IsTrue, OnErr, OnOk};
+ghost use Rattle.std.specs.Prelude.{◌≡◌, ◌↔◌, ◌⊎◌, ◌+◌, ◌<◌, ◌≤◌, length, take, ℕ, false, true, Ok, Some, IfOk, IfSome, IsNone, IsOk, IsSome, IsTrue, OnErr, OnOk};
 ghost use Rattle.std.specs.List.{splice};
 ghost use Rattle.utf16_units.specs.Boundary.{IsBoundary, text_to};
 ghost use Rattle.utf16_units.specs.Edit.{char_at, insert_at, push_text, remove_at, split_back, split_front};
 ghost use Rattle.utf16_units.specs.Encoding.{IsText, size, text_of};
+ghost use Rattle.utf16_units.specs.Fault.{IsFront};
 ghost use Rattle.utf16string.specs.WStr.{wstr_bytes, wstr_text};
 ghost use Rattle.utf16string.specs.WString.{wstring_text};
 
@@ -111,6 +112,23 @@ pub fn overwritten_in_place<E: Utf16Order>(
         view.overwrite(idx, part);
     }
     Ok(fits)
+}
+
+/// Writes a text over a part of the longest text that the caller's bytes begin with, where it fits
+/// there: whether it does. What stands behind that text stays, and where nothing is written all
+/// bytes do.
+pub fn overwritten_in_front<E: Utf16Order>(buf: &mut [u8], idx: usize, part: WStr<E>) -> bool
+    ensures fits { (n : ℕ) → IsFront E.BIG buf.old n → (IsTrue result ↔ (IsBoundary (text_of E.BIG (take n buf.old)) idx × IsBoundary (text_of E.BIG (take n buf.old)) (idx + size (wstr_text part.entry)))) }
+    ensures over { IsTrue result → buf.new ≡ splice buf.old idx (idx + length (wstr_bytes part.entry)) (wstr_bytes part.entry) }
+    ensures kept { result ≡ false → buf.new ≡ buf.old }
+{
+    let (front, _rest) = WStrMut::<E>::split_valid(buf);
+    let mut view = WStrMut::<E>::from_utf16_unchecked(front);
+    let fits = view.fits(idx, part);
+    if fits {
+        view.overwrite(idx, part);
+    }
+    fits
 }
 
 /// The same by a checked view, which is ended by giving the bytes back: the caller goes on with
