@@ -31,7 +31,7 @@ passed-start wanted text items is =
 
 module _ (wanted : ℕ) (text : List ℕ) (items : List (ℕ × ℕ)) (i c : ℕ) where
   -- the item is that of the first character of the rest
-  next : (front rest : List ℕ) → (i, c) ∷ items ≡ char_offsets (size front) rest
+  pub next : (front rest : List ℕ) → (i, c) ∷ items ≡ char_offsets (size front) rest
       → (more : List ℕ) × (rest ≡ c ∷ more) × (i ≡ size front) × (items ≡ char_offsets (size front + char_size c) more)
   next front [] is = absurd (cc (is ∙ char_offsets-nil (size front)))
   next front (d ∷ more) is =

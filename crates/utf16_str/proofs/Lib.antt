@@ -4,3 +4,4 @@ pub mod CharSearch
 pub mod Overwritten
 pub mod StrLemmas
 mod AffixLemmas
+mod CommonLemmas

@@ -13,3 +13,4 @@ pub mod Splits
 pub mod Window
 pub mod WStr
 pub mod WStrMut
+pub mod Common

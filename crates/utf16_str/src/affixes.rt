@@ -1,6 +1,7 @@
-//! What texts begin with and what they end with.
+//! What texts begin with and what they end with, and what two begin with in common.
 
 ghost use Rattle.std.specs.Prelude.{◌≡◌, ◌↔◌, ◌-◌, ◌++◌, IfSome, IsSome, IsTrue, List, ℕ, drop, length, take};
+ghost use Rattle.utf16_str.specs.Common.{IsCommonPrefix};
 ghost use Rattle.utf16_str.specs.WStr.{wstr_bytes, wstr_text};
 
 use crate::WStr;
@@ -47,5 +48,20 @@ impl<'a, E: Utf16Order> WStr<'a, E> {
             return None;
         }
         Some(self.split_at(self.len() - suffix.len()).0)
+    }
+
+    /// The longest text that both begin with, as the front of this one. One pass, up to the first
+    /// character that differs; no copy.
+    pub fn common_prefix(self, other: WStr<E>) -> WStr<'a, E>
+        ensures text { IsCommonPrefix (wstr_text self.entry) (wstr_text other.entry) (wstr_text result) }
+        ensures bytes { wstr_bytes result ≡ take (length (wstr_bytes result)) (wstr_bytes self.entry) }
+    {
+        let mut theirs = other.chars();
+        for (at, c) in self.char_indices() {
+            if theirs.next() != Some(c) {
+                return self.split_at(at).0;
+            }
+        }
+        self
     }
 }

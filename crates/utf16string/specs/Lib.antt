@@ -8,6 +8,7 @@ pub use Rattle.utf16_units.specs.Parts
 pub use Rattle.utf16_units.specs.Numbered
 pub use Rattle.utf16_units.specs.Edit
 pub use Rattle.utf16_units.specs.Order
+pub use Rattle.utf16_str.specs.Common
 pub use Rattle.utf16_str.specs.Offsets
 pub use Rattle.utf16_str.specs.Window
 pub use Rattle.utf16_str.specs.WStr
