@@ -1,5 +1,5 @@
 -- A text cut at a delimiter, text after text, and the list of texts that it begins with.
-use Rattle.std.proofs.Common.{◌≡◌, ◌≢◌, ℕ, ◌+◌, ◌<◌, ◌≤◌, List, [], ◌∷◌, ◌++◌, All, true, false, eqb, get_or, length, map, take, arith, refl, ap, subst, sym, ◌∙◌, append_assoc, append-nil, inl, inr}
+use Rattle.std.proofs.Common.{◌≡◌, ◌≢◌, ℕ, ◌+◌, ◌<◌, ◌≤◌, List, [], ◌∷◌, ◌++◌, All, true, false, eqb, get_or, length, map, take, arith, refl, ap, ap₂, subst, sym, ◌∙◌, append_assoc, append-nil, inl, inr}
 use Rattle.std.proofs.lemmas.Bool.{ne_eqb}
 use Rattle.std.proofs.lemmas.Bool.Decides.{eqb_tells}
 use Rattle.std.proofs.lemmas.List.{get_or-map, length-map, take_all}
@@ -24,6 +24,17 @@ pub parts-first : (e : ℕ) (text front back : List ℕ) → text ≡ front ++ e
     → slice_split (λ c. eqb c e) text ≡ front ∷ slice_split (λ c. eqb c e) back
 parts-first e text front back is lacks =
     ap (slice_split (λ c. eqb c e)) is ∙ slice_split_at (λ c. eqb c e) front e back (tested e front lacks) (same e)
+
+-- a text has one part in front of the first such character, and one behind it
+pub one_split : (e : ℕ) (front back other rest : List ℕ) → Lacks e front → Lacks e other → front ++ e ∷ back ≡ other ++ e ∷ rest
+    → (front ≡ other) × (back ≡ rest)
+one_split e [] back [] rest lacks lack same_text = (refl, cc)
+one_split e [] back (c ∷ other) rest lacks lack same_text = absurd (All-head (λ x. x ≢ e) c other lack cc)
+one_split e (c ∷ front) back [] rest lacks lack same_text = absurd (All-head (λ x. x ≢ e) c front lacks cc)
+one_split e (c ∷ front) back (d ∷ other) rest lacks lack same_text =
+    let first : c ≡ d = cc in
+    let after = one_split e front back other rest (All-tail (λ x. x ≢ e) c front lacks) (All-tail (λ x. x ≢ e) d other lack) cc in
+    (ap₂ (λ x xs. x ∷ xs) first after.0, after.1)
 
 pub parts-last : (e : ℕ) (text : List ℕ) → Lacks e text → slice_split (λ c. eqb c e) text ≡ text ∷ []
 parts-last e text lacks = slice_split_none (λ c. eqb c e) text (tested e text lacks)
