@@ -1,11 +1,17 @@
-use Rattle.std.proofs.Common.{rules}
+use Rattle.std.proofs.Common.{refl, subst, sym}
+use Rattle.std.proofs.lemmas.Result.{err_from_is_err_and}
+use Rattle.utf16_units.specs.Encoding.{IsText}
+use Rattle.utf16_units.specs.Utf16Error.{IsErrorOf}
 use Rattle.utf16string.proofs.wstring.WString.from_utf16.Goals as goal
 
 pub from_utf16_unchecked-requires : goal.from_utf16_unchecked-requires
-from_utf16_unchecked-requires g c = search rules
+from_utf16_unchecked-requires g c = subst (IsText g.E.Utf16Order.BIG) c.deref.ensures.value (c.in_ok-validate_raw_utf16.ensures.text.0 refl)
 
 pub returns-in_err-validate_raw_utf16-clause-text : goal.returns-in_err-validate_raw_utf16-clause-text
-returns-in_err-validate_raw_utf16-clause-text g c = search rules
+returns-in_err-validate_raw_utf16-clause-text g c =
+    rw (err_from_is_err_and c.from_residual.result c.from_residual.ensures.1).1 (rw c.deref.ensures.value at c.in_err-validate_raw_utf16.ensures.text)
 
 pub returns-in_err-validate_raw_utf16-clause-error : goal.returns-in_err-validate_raw_utf16-clause-error
-returns-in_err-validate_raw_utf16-clause-error g c = search rules
+returns-in_err-validate_raw_utf16-clause-error g c =
+    let p = err_from_is_err_and c.from_residual.result c.from_residual.ensures.1 in
+    rw p.1 (subst (IsErrorOf g.E.Utf16Order.BIG c.args.buf.items) (sym p.2) (rw c.deref.ensures.value at c.in_err-validate_raw_utf16.ensures.error))
