@@ -18,3 +18,6 @@ pub returns-clause-text : goal.returns-clause-text
 returns-clause-text c done =
     let some : 0 < length c.held.result.now = search rules in
     c.put.ensures.bytes ∙ end_mark (stream_held c.args.self.now) _ c.held.ensures.bytes some
+
+pub put-requires : goal.put-requires
+put-requires c = omega arith
