@@ -5,7 +5,7 @@ use Rattle.std.specs.Bool.{Decides}
 use Rattle.std.specs.List.{last_or}
 use Rattle.std.proofs.lemmas.Bool.{cases_lt, leb-true}
 use Rattle.std.proofs.lemmas.Bool.Decides.{Decides-and, Decides-like, Decides-ltb, Decides-or, not_from_Decides}
-use Rattle.std.proofs.lemmas.List.Elements.{All-head, All-tail}
+use Rattle.std.proofs.lemmas.List.Elements.{All-cons, All-head, All-nil, All-tail}
 use Rattle.utf16_units.specs.declared.order.Utf16Order.{Ghosts}
 use Rattle.utf16_units.proofs.BoundaryComputed.{is_boundary-Decides}
 use Rattle.utf16_units.proofs.BoundaryLemmas.{text_from-back}
@@ -15,7 +15,7 @@ use Rattle.utf16string.specs.Edit.{char_at, push_text}
 use Rattle.utf16string.specs.Encoding.{size}
 use Rattle.utf16string.specs.WString.{wstring_text}
 use Rattle.utf16_edits.specs.Edited.{all_answered, all_edited, answered, bad_offset, changed, char, done, edited, is_possible, no_memory, nothing, rest, said, taken, told}
-use Rattle.utf16_edits.specs.Step.{IsDone, IsPossible, Run, Step}
+use Rattle.utf16_edits.specs.Step.{AsksForMemory, IsDone, IsPossible, Run, Step}
 use Rattle.utf16_edits.specs.declared.edit.Edit.{Edit}
 use Rattle.utf16_edits.specs.declared.edit.Edit.TheVariants.{Clear, Insert, InsertText, Overwrite, Pop, Push, PushText, Remove, Retain, SplitOff, Truncate}
 use Rattle.utf16_edits.specs.declared.edit.Reply.{Reply}
@@ -56,6 +56,11 @@ possible_cut text n (inr b) before = b
 denied : {P : Type 0} (b : Bool) → Decides b P → ¬ P → b ≡ false
 denied true d fails = absurd (fails (d.0 refl))
 denied false d fails = refl
+
+-- what a character that was looked for is answered by is never that memory was missing
+taken-granted : (o : Option ℕ) → taken o ≢ no_memory
+taken-granted None = λ e. absurd cc
+taken-granted (Some c) = λ e. absurd cc
 
 module _ {E Z : Type 0} {order : Ghosts E} where
   -- the computed test is true exactly where the edit is possible
@@ -146,6 +151,33 @@ module _ {E Z : Type 0} {order : Ghosts E} where
   told-done old (SplitOff i) reply new d = (ap said d.1 ∙ ap (λ t. rest t) d.2, d.3)
   told-done old (Overwrite i t) reply new d = (ap said d.0, d.1)
   told-done old Clear reply new d = (ap said d.0, d.1)
+
+  -- ---- an edit that asks for no memory
+
+  told-granted : (text : List ℕ) (edit : Edit E Z order) → told text edit ≢ no_memory
+  told-granted text Pop = taken-granted (last_or None text)
+  told-granted text (Remove i) = taken-granted (char_at text i)
+  told-granted text (SplitOff i) = λ e. absurd cc
+  told-granted text edit = λ e. absurd cc
+
+  Step-granted : (old : List ℕ) (edit : Edit E Z order) (reply : Reply E Z order) (new : List ℕ) → Step old edit reply new
+      → ¬ (AsksForMemory edit) → ¬ (reply ≡ NoMemory)
+  Step-granted old edit reply new (inl p) free missing = told-granted old edit (sym (told-done old edit reply new p.1).0 ∙ ap said missing)
+  Step-granted old edit reply new (inr (inl p)) free missing = free p.1
+  Step-granted old edit reply new (inr (inr p)) free missing =
+      let same : bad_offset ≡ no_memory = sym (ap said p.1) ∙ ap said missing in
+      absurd cc
+
+  -- of edits that ask for no memory none is answered that memory was missing
+  pub Run-granted : (old : List ℕ) (edits : List (Edit E Z order)) (replies : List (Reply E Z order)) (new : List ℕ) → Run old edits replies new
+      → All (λ edit. ¬ (AsksForMemory edit)) edits → All (λ reply. ¬ (reply ≡ NoMemory)) replies
+  Run-granted old [] [] new run free = All-nil (λ reply. ¬ (reply ≡ NoMemory))
+  Run-granted old [] (reply ∷ replies) new run free = absurd run
+  Run-granted old (edit ∷ edits) [] new run free = absurd run
+  Run-granted old (edit ∷ edits) (reply ∷ replies) new run free =
+      All-cons (λ reply. ¬ (reply ≡ NoMemory)) reply replies
+      (Step-granted old edit reply run.0 run.1 (All-head (λ edit. ¬ (AsksForMemory edit)) edit edits free))
+      (Run-granted run.0 edits replies new run.2 (All-tail (λ edit. ¬ (AsksForMemory edit)) edit edits free))
 
   popped : (old : List ℕ) (reply : Reply E Z order) (new : List ℕ) → said reply ≡ taken (last_or None old) → new ≡ take (length old - 1) old → IsDone old Pop reply new
   popped [] reply new s n = inl (refl, said-nothing reply s, n)

@@ -1,5 +1,5 @@
 -- What an edit does to a text, and what a list of edits does.
-use Rattle.std.specs.Prelude.{◌≡◌, ℕ, ◌+◌, ◌<◌, Bool, List, [], ◌∷◌, ◌⊎◌, ⊤, Some, filter, nat_lt, if◌then◌else◌}
+use Rattle.std.specs.Prelude.{◌≡◌, ℕ, ◌+◌, ◌<◌, ◌≤◌, Bool, List, [], ◌∷◌, ◌⊎◌, ⊤, Some, filter, length, nat_lt, if◌then◌else◌}
 use Rattle.std.specs.Bool.{◌==◌}
 use Rattle.std.specs.List.{list_any}
 use Rattle.std.specs.Vec.{vec_items}
@@ -7,8 +7,8 @@ use Rattle.utf16_units.specs.declared.order.Utf16Order.{Ghosts}
 use Rattle.utf16string.specs.declared.wstring.WString.{WString}
 use Rattle.utf16string.specs.Boundary.{IsBoundary, text_to}
 use Rattle.utf16string.specs.Edit.{char_at, insert_at, overwrite_at, push_text, remove_at, split_back, split_front}
-use Rattle.utf16string.specs.Encoding.{size}
-use Rattle.utf16string.specs.WString.{wstring_text}
+use Rattle.utf16string.specs.Encoding.{char_size, size}
+use Rattle.utf16string.specs.WString.{wstring_bytes, wstring_capacity, wstring_text}
 use Rattle.utf16_edits.specs.declared.edit.Edit.{Edit}
 use Rattle.utf16_edits.specs.declared.edit.Edit.TheVariants.{Clear, Insert, InsertText, Overwrite, Pop, Push, PushText, Remove, Retain, SplitOff, Truncate}
 use Rattle.utf16_edits.specs.declared.edit.Reply.{Reply}
@@ -61,6 +61,21 @@ module _ {E Z : Type 0} {order : Ghosts E} where
   AsksForMemory (SplitOff i) = ⊤
   AsksForMemory (Overwrite i t) = ⊥
   AsksForMemory Clear = ⊥
+
+  -- the string has room for what the edit leaves in it; a part that is split off wants memory of its
+  -- own
+  abbrev pub HasRoomFor : WString E Z order → Edit E Z order → Type 0
+  HasRoomFor string (Push c) = length (wstring_bytes string) + char_size c ≤ wstring_capacity string
+  HasRoomFor string (PushText t) = length (wstring_bytes string) + length (wstring_bytes t) ≤ wstring_capacity string
+  HasRoomFor string Pop = ⊤
+  HasRoomFor string (Insert i c) = length (wstring_bytes string) + char_size c ≤ wstring_capacity string
+  HasRoomFor string (InsertText i t) = length (wstring_bytes string) + length (wstring_bytes t) ≤ wstring_capacity string
+  HasRoomFor string (Remove i) = ⊤
+  HasRoomFor string (Retain set) = ⊤
+  HasRoomFor string (Truncate n) = ⊤
+  HasRoomFor string (SplitOff i) = ⊥
+  HasRoomFor string (Overwrite i t) = ⊤
+  HasRoomFor string Clear = ⊤
 
   -- one edit: it is done where its offset is possible, unless it grows and memory is refused; else
   -- the text stays

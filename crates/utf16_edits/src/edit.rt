@@ -1,7 +1,7 @@
 //! Edits as values, and what they do.
 
-ghost use Rattle.std.specs.Prelude.{◌≡◌, ◌⊎◌, ◌≤◌, ◌↔◌, IfOk, IfSome, IsTrue, None, OnErr, filter, if◌then◌else◌, is_ok};
-ghost use Rattle.utf16_edits.specs.Step.{IsPossible, Run, Step, is_in};
+ghost use Rattle.std.specs.Prelude.{◌≡◌, ◌⊎◌, ◌≤◌, ◌↔◌, All, IfOk, IfSome, IsTrue, None, OnErr, [], filter, if◌then◌else◌, is_ok, vec_capacity, vec_len};
+ghost use Rattle.utf16_edits.specs.Step.{AsksForMemory, HasRoomFor, IsPossible, Run, Step, is_in};
 ghost use Rattle.utf16string.specs.Boundary.{IsBoundary};
 ghost use Rattle.utf16string.specs.WString.{IsUnchanged, wstring_capacity, wstring_text};
 
@@ -54,7 +54,8 @@ pub enum Reply<E: Utf16Order, A: Allocator = Global> {
 }
 
 /// Does an edit. The offset is looked at before memory is asked for. What can't be done changes
-/// nothing.
+/// nothing. An edit for which the string has room is never refused memory, and one that asks for
+/// none leaves the capacity as it is.
 pub fn apply<E: Utf16Order, A: Allocator + Clone>(
     string: &mut WString<E, A>,
     edit: Edit<E, A>,
@@ -62,6 +63,8 @@ pub fn apply<E: Utf16Order, A: Allocator + Clone>(
     ensures step { Step (wstring_text string.old) edit result (wstring_text string.new) }
     ensures kept { (result ≡ Reply.BadOffset) ⊎ (result ≡ Reply.NoMemory) → IsUnchanged string.old string.new }
     ensures room { wstring_capacity string.old ≤ wstring_capacity string.new }
+    ensures stays { AsksForMemory edit ⊎ (wstring_capacity string.new ≡ wstring_capacity string.old) }
+    ensures fits { HasRoomFor string.old edit → ¬ (result ≡ Reply.NoMemory) }
 {
     if !is_possible(string, &edit) {
         return Reply::BadOffset;
@@ -105,11 +108,29 @@ pub fn run<E: Utf16Order, A: Allocator + Clone, B: Allocator, C: Allocator>(
     ensures refused { OnErr result (IsUnchanged string.old string.new) }
 {
     let mut replies = Vec::with_capacity(alloc, edits.len())?;
+    answer_each(string, edits, &mut replies);
+    Ok(replies)
+}
+
+// Does a list of edits in order, and puts a reply for each into room that was given for them: so
+// once there is room, nothing but an edit can be refused memory.
+fn answer_each<E: Utf16Order, A: Allocator + Clone, B: Allocator, C: Allocator>(
+    string: &mut WString<E, A>,
+    edits: Vec<Edit<E, A>, C>,
+    replies: &mut Vec<Reply<E, A>, B>,
+)
+    requires empty { replies.old.items ≡ [] }
+    requires room { vec_len edits ≤ vec_capacity replies.old }
+    ensures run { Run (wstring_text string.old) edits.items replies.new.items (wstring_text string.new) }
+    ensures stays { All (λ edit. ¬ (AsksForMemory edit)) edits.items
+        → wstring_capacity string.new ≡ wstring_capacity string.old }
+{
     for edit in edits {
         let reply = apply(string, edit);
-        replies.push(reply)?;
+        let Ok(()) = replies.push(reply) else {
+            unreachable!()
+        };
     }
-    Ok(replies)
 }
 
 // Whether the offset of an edit is one that it can be done at.

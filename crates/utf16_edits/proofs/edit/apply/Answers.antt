@@ -1,4 +1,4 @@
-use Rattle.std.proofs.Common.{inr, refl}
+use Rattle.std.proofs.Common.{inr, refl, rules}
 use Rattle.utf16_edits.proofs.Steps.{Step-cut, Step-popped}
 use Rattle.utf16_edits.proofs.edit.apply.Goals as goal
 
@@ -10,3 +10,18 @@ returns-in-Pop-clause-step g c = Step-popped _ _ _ _ _ c.in-Pop.is c.pop.ensures
 
 pub returns-in-Truncate-clause-step : goal.returns-in-Truncate-clause-step
 returns-in-Truncate-clause-step g c = Step-cut _ _ _ _ c.in-Truncate.is (c.if-not-is_possible.ensures.0 refl) c.truncate.ensures.cut c.truncate.ensures.past
+
+pub returns-in-Clear-clause-stays : goal.returns-in-Clear-clause-stays
+returns-in-Clear-clause-stays g c = inr c.clear.ensures.capacity
+
+pub returns-in-PushText-clause-fits : goal.returns-in-PushText-clause-fits
+returns-in-PushText-clause-fits g c room = search rules
+
+pub returns-then-not-is_possible-clause-kept : goal.returns-then-not-is_possible-clause-kept
+returns-then-not-is_possible-clause-kept g c e = (refl, refl)
+
+pub returns-then-not-is_possible-clause-stays : goal.returns-then-not-is_possible-clause-stays
+returns-then-not-is_possible-clause-stays g c = inr refl
+
+pub returns-then-not-is_possible-clause-fits : goal.returns-then-not-is_possible-clause-fits
+returns-then-not-is_possible-clause-fits g c room missing = absurd cc
