@@ -1,6 +1,6 @@
 //! UTF-16 that comes in pieces, cut anywhere, with what is undecided in a value of the caller's.
 
-ghost use Rattle.std.specs.Prelude.{◌≡◌, ◌≢◌, ◌↔◌, ◌+◌, ◌-◌, ◌<◌, ◌≤◌, [], ◌++◌, length, take, drop, encode_utf8_all};
+ghost use Rattle.std.specs.Prelude.{◌≡◌, ◌≢◌, ◌↔◌, ◌+◌, ◌-◌, ◌<◌, ◌≤◌, [], ◌∷◌, ◌++◌, length, take, drop, encode_utf8_all};
 ghost use Rattle.utf16_units.specs.Split.{decided_text, full};
 ghost use Rattle.utf16_decode.specs.Stops.{StopsMarking};
 ghost use Rattle.utf16_decode.specs.Stream.{Feeds, StopsFeeding, stream_held};
@@ -22,9 +22,10 @@ pub struct Stream {
 }
 
 impl Stream {
-    /// A stream that was given nothing yet.
+    /// A stream that was given nothing yet. All of it is zero.
     pub fn new() -> Self
-        ensures { stream_held result ≡ [] }
+        ensures held { stream_held result ≡ [] }
+        ensures zero { (result.bytes ≡ 0 ∷ 0 ∷ 0 ∷ []) × (result.len ≡ 0) }
     {
         Stream {
             bytes: [0; 3],

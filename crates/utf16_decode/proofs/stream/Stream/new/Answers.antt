@@ -1,5 +1,5 @@
 use Rattle.std.proofs.Common.{refl}
 use Rattle.utf16_decode.proofs.stream.Stream.new.Goals as goal
 
-pub returns : goal.returns
-returns c = refl
+pub returns-clause-held : goal.returns-clause-held
+returns-clause-held c = refl
