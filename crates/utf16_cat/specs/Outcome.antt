@@ -2,6 +2,7 @@
 use Rattle.std.specs.Prelude.{◌≡◌, Bool, List, ℕ, Option, Result, Ok, Err}
 use Rattle.utf16_cat.specs.declared.outcome.Outcome.{Outcome}
 use Rattle.utf16_cat.specs.declared.outcome.Outcome.TheVariants.{Done, Long, Memory, Read, Write}
+use Rattle.utf16_cat.specs.Status.{status_of}
 use Rattle.utf16_streams.specs.Filter.{FiltersIn}
 use Rattle.utf16_streams.specs.declared.filters.FilterFault.{FilterFault}
 use Rattle.utf16_streams.specs.declared.filters.FilterFault.TheVariants as fault
@@ -20,3 +21,7 @@ outcome (Err fault.Long) = Long
 abbrev pub EndsAs : Outcome → Option Bool → Option (List ℕ) → Option (List ℕ) → Option (List ℕ) → Option (List ℕ) → Type 0
 EndsAs ended order input left old new =
     (answer : Result (Unit {0}) FilterFault) × (ended ≡ outcome answer) × FiltersIn order input left old new answer
+
+-- the same of a run that ended with a status: that of its outcome
+abbrev pub ExitsAs : ℕ → Option Bool → Option (List ℕ) → Option (List ℕ) → Option (List ℕ) → Option (List ℕ) → Type 0
+ExitsAs status order input left old new = (ended : Outcome) × (status ≡ status_of ended) × EndsAs ended order input left old new

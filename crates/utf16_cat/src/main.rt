@@ -2,13 +2,9 @@
 //! standard output.
 #![tactic(auto)]
 
-#[cfg(test)]
-mod devices;
 mod outcome;
 mod program;
 mod run;
-#[cfg(test)]
-mod tests;
 
 use crate::program::program;
 use std::process::ExitCode;

@@ -1,11 +1,12 @@
 //! The arguments of the program, and how its run ended.
 
-ghost use Rattle.std.specs.Prelude.{◌≡◌, ◌↔◌, Some, [], ◌∷◌, map, codes, string_bytes};
-ghost use Rattle.std.specs.Io.KnownBytes.{Keeps};
+ghost use Rattle.std.specs.Prelude.{◌≡◌, ◌↔◌, OnOk, Some, [], ◌∷◌, map, codes, string_bytes};
+ghost use Rattle.std.specs.Io.KnownBytes.{Appends, Keeps};
+ghost use Rattle.utf16_cat.specs.Line.{line_of};
 ghost use Rattle.utf16_cat.specs.Outcome.{outcome};
 ghost use Rattle.utf16_cat.specs.Status.{status_of};
 
-use std::io::Write;
+use std::io::{self, Write};
 use utf16_streams::FilterFault;
 
 /// The byte order that the arguments ask for.
@@ -67,20 +68,41 @@ pub fn order(words: &[String]) -> Option<Choice>
     }
 }
 
-/// Writes the line that tells of the outcome, nothing for `Done`, and answers the exit status. A
-/// failure to write is ignored.
+// The line that tells of an outcome, with its newline; nothing for `Done`.
+fn line(outcome: &Outcome) -> &'static str
+    ensures { result.now ≡ line_of outcome.now }
+{
+    match outcome {
+        Outcome::Done => "",
+        Outcome::Read => "utf16_cat: read failed\n",
+        Outcome::Write => "utf16_cat: write failed\n",
+        Outcome::Memory => "utf16_cat: out of memory\n",
+        Outcome::Long => "utf16_cat: input too long\n",
+        Outcome::Usage => "usage: utf16_cat le|be|auto\n",
+    }
+}
+
+/// Writes the line that tells of the outcome. For `Done` there is none, and nothing is called.
+pub fn tell<W: Write>(outcome: &Outcome, to: &mut W) -> io::Result<()>
+    ensures line { OnOk result (Appends (W.contents to.old) (W.contents to.new) (line_of outcome.now)) }
+    ensures quiet { outcome.now ≡ Outcome.Done → Keeps (W.contents to.old) (W.contents to.new) }
+{
+    if let Outcome::Done = outcome {
+        return Ok(());
+    }
+    to.write_all(line(outcome).as_bytes())
+}
+
+/// Writes the line that tells of the outcome, and answers the exit status. A failure to write is
+/// ignored.
 pub fn report<W: Write>(outcome: &Outcome, to: &mut W) -> u8
     ensures status { result ≡ status_of outcome.now }
     ensures quiet { outcome.now ≡ Outcome.Done → Keeps (W.contents to.old) (W.contents to.new) }
 {
-    let (written, status) = match outcome {
-        Outcome::Done => (Ok(()), 0),
-        Outcome::Read => (writeln!(to, "utf16_cat: read failed"), 1),
-        Outcome::Write => (writeln!(to, "utf16_cat: write failed"), 1),
-        Outcome::Memory => (writeln!(to, "utf16_cat: out of memory"), 1),
-        Outcome::Long => (writeln!(to, "utf16_cat: input too long"), 1),
-        Outcome::Usage => (writeln!(to, "usage: utf16_cat le|be|auto"), 2),
-    };
-    let _ = written;
-    status
+    let _ = tell(outcome, to);
+    match outcome {
+        Outcome::Done => 0,
+        Outcome::Read | Outcome::Write | Outcome::Memory | Outcome::Long => 1,
+        Outcome::Usage => 2,
+    }
 }

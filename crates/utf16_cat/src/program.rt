@@ -1,16 +1,19 @@
 //! The program, over any environment and any three devices.
 
-ghost use Rattle.std.specs.Prelude.{◌≡◌, ◌⊎◌, ◌-◌, ◌<◌, ◌≤◌, ◌^◌, Bool, Err, IfErr, Ok, Option};
+ghost use Rattle.std.specs.Prelude.{◌≡◌, ◌⊎◌, ◌-◌, ◌<◌, ◌≤◌, ◌^◌, [], ◌∷◌, Bool, true, false, Err, IfErr, IfOk, None, Ok, Option, Some, codes, drop, map, string_bytes};
 ghost use Rattle.std.specs.Io.KnownBytes.{Keeps};
 ghost use Rattle.std.specs.Process.{exit_status};
+ghost use Rattle.std.specs.Vec.Iter.{into_iter_items};
 ghost use Rattle.utf16_streams.specs.Filter.{Filters, FiltersIn};
 ghost use Rattle.utf16_streams.specs.Watched.{watched_faults, watched_inner};
 ghost use Rattle.utf16_streams.specs.declared.filters.FilterFault.{FilterFault};
+ghost use Rattle.utf16_cat.specs.Outcome.{ExitsAs};
 ghost use Rattle.utf16_cat.specs.Status.{status_of};
 
 use crate::outcome::{Outcome, report};
 use crate::run::run;
-use std::env::{self, Env};
+use std::alloc::{Allocator, Global};
+use std::env::{self, Args, Env};
 use std::io::{ErrorKind, Read, Write};
 use std::process::ExitCode;
 use utf16_streams::Watched;
@@ -38,9 +41,36 @@ pub fn program<E: Env + AllocGlobal, R: Read, W: Write, T: Write>(
     ensures cases { exit_status result ≤ 2 }
 {
     match words(env) {
-        Ok(words) => ended(run(env.alloc(), &words, reader, writer), errors),
+        Ok(words) => program_on(env.alloc(), &words, reader, writer, errors),
         Err(outcome) => ended(outcome, errors),
     }
+}
+
+/// The same on these words after the program's name, which name the order, as `run` says.
+pub fn program_on<R: Read, W: Write, T: Write, A: Allocator>(
+    alloc: A,
+    words: &[String],
+    reader: &mut Watched<R>,
+    writer: &mut Watched<W>,
+    errors: &mut T,
+) -> ExitCode
+    requires reader { watched_faults reader.old < 2 ^ 64 - 1 }
+    requires writer { watched_faults writer.old < 2 ^ 64 - 1 }
+    ensures le { map string_bytes words.now ≡ codes "le" ∷ [] → ExitsAs (exit_status result) (Some false)
+        (R.remaining (watched_inner reader.old)) (R.remaining (watched_inner reader.new))
+        (W.contents (watched_inner writer.old)) (W.contents (watched_inner writer.new)) }
+    ensures be { map string_bytes words.now ≡ codes "be" ∷ [] → ExitsAs (exit_status result) (Some true)
+        (R.remaining (watched_inner reader.old)) (R.remaining (watched_inner reader.new))
+        (W.contents (watched_inner writer.old)) (W.contents (watched_inner writer.new)) }
+    ensures auto { map string_bytes words.now ≡ codes "auto" ∷ [] → ExitsAs (exit_status result) None
+        (R.remaining (watched_inner reader.old)) (R.remaining (watched_inner reader.new))
+        (W.contents (watched_inner writer.old)) (W.contents (watched_inner writer.new)) }
+    ensures other { (map string_bytes words.now ≡ codes "le" ∷ []) ⊎ (map string_bytes words.now ≡ codes "be" ∷ [])
+        ⊎ (map string_bytes words.now ≡ codes "auto" ∷ [])
+        ⊎ ((exit_status result ≡ 2) × (reader.new ≡ reader.old) × (writer.new ≡ writer.old)) }
+    ensures quiet { exit_status result ≡ 0 → Keeps (T.contents errors.old) (T.contents errors.new) }
+{
+    ended(run(alloc, words, reader, writer), errors)
 }
 
 // Writes the line that tells of an outcome, and answers the status.
@@ -56,11 +86,21 @@ fn ended<T: Write>(outcome: Outcome, errors: &mut T) -> ExitCode
 pub fn words<E: Env + AllocGlobal>(env: &E) -> Result<Vec<String>, Outcome>
     ensures { IfErr result (λ outcome. (outcome ≡ Outcome.Memory) ⊎ (outcome ≡ Outcome.Usage)) }
 {
-    let mut all = match env::args(env) {
-        Ok(all) => all,
-        Err(e) if e.kind() == ErrorKind::OutOfMemory => return Err(Outcome::Memory),
-        Err(_) => return Err(Outcome::Usage),
-    };
+    match env::args(env) {
+        Ok(all) => after_name(env.alloc(), all),
+        Err(e) if e.kind() == ErrorKind::OutOfMemory => Err(Outcome::Memory),
+        Err(_) => Err(Outcome::Usage),
+    }
+}
+
+// The words behind the first, the program's name. The only error is `Memory`.
+fn after_name(alloc: Global, mut all: Args) -> Result<Vec<String>, Outcome>
+    ensures words { IfOk result (λ words. words.items ≡ drop 1 (into_iter_items all)) }
+    ensures memory { IfErr result (λ outcome. outcome ≡ Outcome.Memory) }
+{
     let _program = all.next();
-    all.collect(env.alloc()).map_err(|_| Outcome::Memory)
+    let Ok(words) = all.collect(alloc) else {
+        return Err(Outcome::Memory);
+    };
+    Ok(words)
 }

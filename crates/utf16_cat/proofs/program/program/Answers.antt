@@ -1,16 +1,42 @@
-use Rattle.std.proofs.Common.{None, Some, false, true, sym, ap, ◌∙◌, ⊎_elim, rules}
-use Rattle.utf16_cat.specs.Status.{status_of}
-use Rattle.utf16_cat.proofs.EndsLemmas.{EndsAs-zero}
+use Rattle.std.proofs.Common.{None, Some, false, true, ⊎_elim, inl, inr, arith, rules}
+use Rattle.utf16_cat.proofs.EndsLemmas.{ExitsAs-le, ExitsAs-one, ExitsAs-zero}
 use Rattle.utf16_cat.proofs.program.program.Goals as goal
 
 pub returns-in-Ok-clause-done : goal.returns-in-Ok-clause-done
-returns-in-Ok-clause-done g c ended =
-    let zero = sym c.ended.ensures.status ∙ ended in
-    ⊎_elim (λ le. EndsAs-zero (Some false) _ _ _ _ _ (c.run.ensures.le le) zero)
-    (⊎_elim (λ be. EndsAs-zero (Some true) _ _ _ _ _ (c.run.ensures.be be) zero)
-    (⊎_elim (λ auto. EndsAs-zero None _ _ _ _ _ (c.run.ensures.auto auto) zero)
-    (λ usage. let two = sym (ap status_of usage.0) ∙ zero in absurd (cc))))
-    c.run.ensures.usage
+returns-in-Ok-clause-done g c zero =
+    let on = c.program_on.ensures in
+    ⊎_elim (λ le. ExitsAs-zero (Some false) _ _ _ _ _ (on.le le) zero)
+    (⊎_elim (λ be. ExitsAs-zero (Some true) _ _ _ _ _ (on.be be) zero)
+    (⊎_elim (λ auto. ExitsAs-zero None _ _ _ _ _ (on.auto auto) zero)
+    (λ other. absurd (omega (arith, other.0, zero)))))
+    on.other
+
+pub returns-in-Ok-clause-failed : goal.returns-in-Ok-clause-failed
+returns-in-Ok-clause-failed g c one =
+    let on = c.program_on.ensures in
+    ⊎_elim (λ le. inr (ExitsAs-one (Some false) _ _ _ _ _ (on.le le) one))
+    (⊎_elim (λ be. inr (ExitsAs-one (Some true) _ _ _ _ _ (on.be be) one))
+    (⊎_elim (λ auto. inr (ExitsAs-one None _ _ _ _ _ (on.auto auto) one))
+    (λ other. inl (other.1, other.2))))
+    on.other
+
+pub returns-in-Ok-clause-usage : goal.returns-in-Ok-clause-usage
+returns-in-Ok-clause-usage g c two =
+    let on = c.program_on.ensures in
+    ⊎_elim (λ le. absurd (omega (arith, two, ExitsAs-le (Some false) _ _ _ _ _ (on.le le))))
+    (⊎_elim (λ be. absurd (omega (arith, two, ExitsAs-le (Some true) _ _ _ _ _ (on.be be))))
+    (⊎_elim (λ auto. absurd (omega (arith, two, ExitsAs-le None _ _ _ _ _ (on.auto auto))))
+    (λ other. (other.1, other.2))))
+    on.other
+
+pub returns-in-Ok-clause-cases : goal.returns-in-Ok-clause-cases
+returns-in-Ok-clause-cases g c =
+    let on = c.program_on.ensures in
+    ⊎_elim (λ le. omega (arith, ExitsAs-le (Some false) _ _ _ _ _ (on.le le)))
+    (⊎_elim (λ be. omega (arith, ExitsAs-le (Some true) _ _ _ _ _ (on.be be)))
+    (⊎_elim (λ auto. omega (arith, ExitsAs-le None _ _ _ _ _ (on.auto auto)))
+    (λ other. omega (arith, other.0))))
+    on.other
 
 pub returns-in-Err-clause-done : goal.returns-in-Err-clause-done
 returns-in-Err-clause-done g c = search rules

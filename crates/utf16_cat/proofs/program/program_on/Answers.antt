@@ -1,0 +1,10 @@
+use Rattle.utf16_cat.proofs.program.program_on.Goals as goal
+
+pub returns-clause-le : goal.returns-clause-le
+returns-clause-le g c le = (c.run.result, c.ended.ensures.status, c.run.ensures.le le)
+
+pub returns-clause-be : goal.returns-clause-be
+returns-clause-be g c be = (c.run.result, c.ended.ensures.status, c.run.ensures.be be)
+
+pub returns-clause-auto : goal.returns-clause-auto
+returns-clause-auto g c auto = (c.run.result, c.ended.ensures.status, c.run.ensures.auto auto)

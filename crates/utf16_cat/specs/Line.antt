@@ -1,0 +1,13 @@
+-- The line that tells of a run's outcome, as bytes.
+use Rattle.std.specs.Prelude.{ℕ, List, [], ◌∷◌, ◌++◌, codes}
+use Rattle.utf16_cat.specs.declared.outcome.Outcome.{Outcome}
+use Rattle.utf16_cat.specs.declared.outcome.Outcome.TheVariants.{Done, Long, Memory, Read, Usage, Write}
+
+-- the words, and a newline; nothing where all was decoded
+abbrev pub line_of : Outcome → List ℕ
+line_of Done = []
+line_of Read = codes "utf16_cat: read failed" ++ 0x0A ∷ []
+line_of Write = codes "utf16_cat: write failed" ++ 0x0A ∷ []
+line_of Memory = codes "utf16_cat: out of memory" ++ 0x0A ∷ []
+line_of Long = codes "utf16_cat: input too long" ++ 0x0A ∷ []
+line_of Usage = codes "usage: utf16_cat le|be|auto" ++ 0x0A ∷ []
