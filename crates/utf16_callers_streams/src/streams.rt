@@ -1,6 +1,6 @@
 //! What users of streams want, each resting on a law of the split.
 
-ghost use Rattle.std.specs.Prelude.{◌≡◌, ◌↔◌, ◌*◌, ◌+◌, ◌≤◌, ◌++◌, List, ℕ, Bool, IfOk, IsTrue, OnOk, encode_utf8_all, length, string_bytes, take};
+ghost use Rattle.std.specs.Prelude.{◌≡◌, ◌⊎◌, ◌↔◌, ◌*◌, ◌+◌, ◌≤◌, ◌++◌, List, ℕ, Bool, IfOk, IsTrue, OnErr, OnOk, encode_utf8_all, length, string_bytes, take};
 ghost use Rattle.std.specs.Io.{StartsWith};
 ghost use Rattle.utf16_units.specs.Recipe.{Recipe};
 ghost use Rattle.utf16_tools.specs.Lossy.{lossy_pending};
@@ -36,6 +36,9 @@ pub fn fed_in_two<E: Utf16Order, A: Allocator, B: Allocator>(
 ) -> Result<String<A>, AllocError>
     ensures text { IfOk result (λ s. string_bytes s ≡ encode_utf8_all (decided_text E.BIG (lossy_pending decoder.old ++ (first.now ++ second.now)))) }
     ensures pending { OnOk result (lossy_pending decoder.new ≡ split_tail E.BIG (lossy_pending decoder.old ++ (first.now ++ second.now))) }
+    ensures refused { OnErr result ((lossy_pending decoder.new ≡ lossy_pending decoder.old)
+        ⊎ (lossy_pending decoder.new ≡ split_tail E.BIG (lossy_pending decoder.old ++ first.now))
+        ⊎ (lossy_pending decoder.new ≡ split_tail E.BIG (lossy_pending decoder.old ++ (first.now ++ second.now)))) }
 {
     split_extends();
     cut_anywhere();

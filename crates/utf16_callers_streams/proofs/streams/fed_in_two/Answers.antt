@@ -20,3 +20,6 @@ returns-clause-pending g c =
     c.in_ok-more.ensures.pending ∙ ap (λ p. split_tail big (p ++ c.args.second.now)) c.in_ok-text.ensures.pending
     ∙ sym (c.split_extends.ensures big (pending ++ c.args.first.now) c.args.second.now).1
     ∙ ap (split_tail big) (append_assoc pending c.args.first.now c.args.second.now)
+
+pub returns-in_err-more-clause-refused : goal.returns-in_err-more-clause-refused
+returns-in_err-more-clause-refused g c = search rules
