@@ -20,24 +20,42 @@ pub fn buffer(alloc: Global, room: usize) -> Result<Vec<u8>, AllocError>
 pub fn add_changed(answer: &mut Answer, to: &[u8], written: usize) -> Result<(), Trouble> {
     let behind = to.get(written..).ok_or(Trouble::Condition)?;
     if behind.iter().any(|byte| *byte != BEFORE) {
-        answer.word("changed")?;
+        answer.word("changed");
     }
     Ok(())
 }
 
-/// Adds how many bytes were read and written, and why the call stopped.
-pub fn add_progress(answer: &mut Answer, progress: Progress) -> Result<(), Trouble> {
-    answer.number(progress.read)?;
-    answer.number(progress.written)?;
+// Adds how many bytes were read and written, and why the call stopped.
+fn add_progress(answer: &mut Answer, progress: Progress) {
+    answer.number(progress.read);
+    answer.number(progress.written);
     match progress.stop {
-        Stop::Done => answer.word("end")?,
+        Stop::Done => answer.word("end"),
         Stop::Fault(len) => {
-            answer.word("fault")?;
-            answer.number(len as usize)?;
+            answer.word("fault");
+            answer.number(len as usize);
         }
-        Stop::CutOff => answer.word("cut")?,
-        Stop::NoRoom => answer.word("room")?,
+        Stop::CutOff => answer.word("cut"),
+        Stop::NoRoom => answer.word("room"),
     }
+}
+
+/// Adds how far a call came, and what it wrote to a buffer.
+pub fn add_written(
+    answer: &mut Answer,
+    to: &[u8],
+    progress: Progress,
+    is_text: bool,
+) -> Result<(), Trouble> {
+    add_progress(answer, progress);
+    answer.text_or_bytes(written(to, progress)?, is_text);
+    Ok(())
+}
+
+/// Adds how many bytes were written to a buffer, and they.
+pub fn add_bytes(answer: &mut Answer, to: &[u8], written: usize) -> Result<(), Trouble> {
+    answer.number(written);
+    answer.bytes(to.get(..written).ok_or(Trouble::Condition)?);
     Ok(())
 }
 

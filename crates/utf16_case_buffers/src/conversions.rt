@@ -1,6 +1,6 @@
 //! From one encoding to the other.
 
-use crate::buffers::{add_progress, buffer, written};
+use crate::buffers::{add_written, buffer, written};
 use std::alloc::Global;
 use utf16_case_lines::{Answer, Trouble, Values};
 use utf16_transcode::{
@@ -70,12 +70,9 @@ pub fn convert<E: Utf16Order>(
         "size" => conversion.size::<E>(&from),
         word => utf16_case_lines::number_of(word)?,
     };
-    values.end()?;
     let mut to = buffer(alloc, room)?;
     let progress = conversion.make::<E>(&from, &mut to);
-    add_progress(answer, progress)?;
-    answer.text_or_bytes(written(&to, progress)?, conversion.writes_utf8())?;
-    Ok(())
+    add_written(answer, &to, progress, conversion.writes_utf8())
 }
 
 /// For each size of a buffer, up to the one that the call of sizes tells: how many bytes the call
@@ -88,18 +85,30 @@ pub fn every_room<E: Utf16Order>(
 ) -> Result<(), Trouble> {
     let conversion = Conversion::named(values.word()?).ok_or(Trouble::Value)?;
     let from = values.bytes(alloc, E::BIG)?;
-    values.end()?;
     let size = conversion.size::<E>(&from);
     let mut all = buffer(alloc, size)?;
     let last = conversion.make::<E>(&from, &mut all);
     for room in 0..=size {
-        let mut to = buffer(alloc, room)?;
-        let progress = conversion.make::<E>(&from, &mut to);
-        answer.number(progress.written)?;
-        if !all.starts_with(written(&to, progress)?) {
-            answer.word("differs")?;
-        }
+        begins::<E>(alloc, conversion, &from, &all, room, answer)?;
     }
-    answer.text_or_bytes(written(&all, last)?, conversion.writes_utf8())?;
+    answer.text_or_bytes(written(&all, last)?, conversion.writes_utf8());
+    Ok(())
+}
+
+// How many bytes a call writes to a buffer of so many, and whether they are not the first of all.
+fn begins<E: Utf16Order>(
+    alloc: Global,
+    conversion: Conversion,
+    from: &[u8],
+    all: &[u8],
+    room: usize,
+    answer: &mut Answer,
+) -> Result<(), Trouble> {
+    let mut to = buffer(alloc, room)?;
+    let progress = conversion.make::<E>(from, &mut to);
+    answer.number(progress.written);
+    if !all.starts_with(written(&to, progress)?) {
+        answer.word("differs");
+    }
     Ok(())
 }

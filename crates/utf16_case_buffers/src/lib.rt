@@ -28,7 +28,10 @@ pub fn call<E: Utf16Order>(
     match name {
         "every_room" => conversions::every_room::<E>(alloc, values, answer),
         "write_well_formed" => well_formed::write_well_formed::<E>(alloc, values, answer),
-        "Stream::new" => streams::new(values, answer),
+        "Stream::new" => {
+            streams::new(answer);
+            Ok(())
+        }
         "Stream::held" => streams::held(alloc, values, answer),
         "Stream::feed" => streams::feed::<E>(alloc, values, answer),
         "count"

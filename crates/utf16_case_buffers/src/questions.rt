@@ -14,18 +14,25 @@ pub fn call<E: Utf16Order>(
     answer: &mut Answer,
 ) -> Result<(), Trouble> {
     let bytes = values.bytes(alloc, E::BIG)?;
-    values.end()?;
     match name {
-        "utf8_size" => answer.number(utf8_size::<E>(&bytes))?,
-        "utf16_size" => answer.number(utf16_size(&bytes))?,
-        "utf16_marked_size" => answer.number(utf16_marked_size(&bytes))?,
-        "count" => answer.number(count::<E>(&bytes))?,
-        "is_ascii" => answer.truth(is_ascii::<E>(&bytes))?,
-        "has_ascii_units" => answer.truth(has_ascii_units::<E>(&bytes))?,
-        "trailing_units" => answer.number(trailing_units::<E>(&bytes))?,
-        _ => front::<E>(&bytes, answer)?,
+        "first_char_len" => front::<E>(&bytes, answer),
+        _ => {
+            about::<E>(&bytes, name, answer);
+            Ok(())
+        }
     }
-    Ok(())
+}
+
+fn about<E: Utf16Order>(bytes: &[u8], name: &str, answer: &mut Answer) {
+    match name {
+        "utf8_size" => answer.number(utf8_size::<E>(bytes)),
+        "utf16_size" => answer.number(utf16_size(bytes)),
+        "utf16_marked_size" => answer.number(utf16_marked_size(bytes)),
+        "count" => answer.number(count::<E>(bytes)),
+        "is_ascii" => answer.truth(is_ascii::<E>(bytes)),
+        "has_ascii_units" => answer.truth(has_ascii_units::<E>(bytes)),
+        _ => answer.number(trailing_units::<E>(bytes)),
+    }
 }
 
 // How many bytes the character at the front has, or `fault` and how many the fault has, or `cut`.
@@ -34,12 +41,12 @@ fn front<E: Utf16Order>(bytes: &[u8], answer: &mut Answer) -> Result<(), Trouble
         return Err(Trouble::Condition);
     }
     match first_char_len::<E>(bytes) {
-        Ok(len) => answer.number(len)?,
+        Ok(len) => answer.number(len),
         Err(Some(len)) => {
-            answer.word("fault")?;
-            answer.number(len as usize)?;
+            answer.word("fault");
+            answer.number(len as usize);
         }
-        Err(None) => answer.word("cut")?,
+        Err(None) => answer.word("cut"),
     }
     Ok(())
 }

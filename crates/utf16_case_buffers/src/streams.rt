@@ -1,23 +1,20 @@
 //! Streams whose undecided bytes are the caller's.
 
-use crate::buffers::{add_changed, add_progress, buffer, written};
+use crate::buffers::{add_changed, add_written, buffer};
 use std::alloc::Global;
 use utf16_case_lines::{Answer, Trouble, Values};
 use utf16_transcode::Stream;
 use utf16_units::Utf16Order;
 
 /// What a new stream holds.
-pub fn new(values: &mut Values, answer: &mut Answer) -> Result<(), Trouble> {
-    values.end()?;
-    answer.bytes(Stream::new().held())?;
-    Ok(())
+pub fn new(answer: &mut Answer) {
+    answer.bytes(Stream::new().held());
 }
 
 /// What a stream holds whose fields are three bytes and a length.
 pub fn held(alloc: Global, values: &mut Values, answer: &mut Answer) -> Result<(), Trouble> {
     let bytes = values.bytes(alloc, true)?;
     let len = u8::try_from(values.number()?).map_err(|_| Trouble::Value)?;
-    values.end()?;
     let [first, second, third] = bytes.as_slice() else {
         return Err(Trouble::Value);
     };
@@ -25,7 +22,7 @@ pub fn held(alloc: Global, values: &mut Values, answer: &mut Answer) -> Result<(
         bytes: [*first, *second, *third],
         len,
     };
-    answer.bytes(stream.held())?;
+    answer.bytes(stream.held());
     Ok(())
 }
 
@@ -39,14 +36,12 @@ pub fn feed<E: Utf16Order>(
 ) -> Result<(), Trouble> {
     let pieces = values.pieces(alloc, E::BIG)?;
     let room = values.number()?;
-    values.end()?;
     let mut stream = Stream::new();
     for piece in &pieces {
         let mut to = buffer(alloc, room)?;
         let progress = stream.feed::<E>(piece, &mut to);
-        add_progress(answer, progress)?;
-        answer.text_or_bytes(written(&to, progress)?, true)?;
-        answer.bytes(stream.held())?;
+        add_written(answer, &to, progress, true)?;
+        answer.bytes(stream.held());
     }
     finish(alloc, stream, room, answer)
 }
@@ -56,8 +51,7 @@ fn finish(alloc: Global, stream: Stream, room: usize, answer: &mut Answer) -> Re
     let mut stream = stream;
     let mut to = buffer(alloc, room)?;
     let progress = stream.finish(&mut to);
-    add_progress(answer, progress)?;
-    answer.text_or_bytes(written(&to, progress)?, true)?;
-    answer.bytes(stream.held())?;
+    add_written(answer, &to, progress, true)?;
+    answer.bytes(stream.held());
     add_changed(answer, &to, progress.written)
 }

@@ -4,7 +4,7 @@
 ghost use Rattle.std.specs.Prelude.{IfOk};
 ghost use Rattle.utf16_units.specs.Encoding.{IsText};
 
-use crate::buffers::{add_changed, buffer};
+use crate::buffers::{add_bytes, add_changed, buffer};
 use std::alloc::Global;
 use std::cmp::Ordering;
 use utf16_case_lines::{Answer, Trouble, Values};
@@ -56,24 +56,22 @@ fn of_text<E: Utf16Order>(
     answer: &mut Answer,
 ) -> Result<(), Trouble> {
     let raw = text::<E>(alloc, values)?;
-    values.end()?;
     match name {
-        "count_chars" => answer.number(count_chars::<E>(&raw))?,
-        "utf8_len" => answer.number(utf8_len::<E>(&raw))?,
-        "text::is_ascii" => answer.truth(is_ascii::<E>(&raw))?,
+        "count_chars" => answer.number(count_chars::<E>(&raw)),
+        "utf8_len" => answer.number(utf8_len::<E>(&raw)),
+        "text::is_ascii" => answer.truth(is_ascii::<E>(&raw)),
         _ if raw.is_empty() => return Err(Trouble::Condition),
-        "first_char" => end(answer, first_char::<E>(&raw))?,
-        _ => end(answer, last_char::<E>(&raw))?,
+        "first_char" => end(answer, first_char::<E>(&raw)),
+        _ => end(answer, last_char::<E>(&raw)),
     }
     Ok(())
 }
 
 // The character at an end, and how many bytes it has.
-fn end(answer: &mut Answer, found: (char, usize)) -> Result<(), Trouble> {
+fn end(answer: &mut Answer, found: (char, usize)) {
     let (c, size) = found;
-    answer.character(c)?;
-    answer.number(size)?;
-    Ok(())
+    answer.character(c);
+    answer.number(size);
 }
 
 fn compared<E: Utf16Order>(
@@ -83,12 +81,11 @@ fn compared<E: Utf16Order>(
 ) -> Result<(), Trouble> {
     let first = text::<E>(alloc, values)?;
     let second = text::<E>(alloc, values)?;
-    values.end()?;
     answer.word(match compare::<E>(&first, &second) {
         Ordering::Less => "less",
         Ordering::Equal => "equal",
         Ordering::Greater => "greater",
-    })?;
+    });
     Ok(())
 }
 
@@ -100,9 +97,8 @@ fn to_string<E: Utf16Order>(
 ) -> Result<(), Trouble> {
     let raw = text::<E>(alloc, values)?;
     let mut to = values.text(alloc)?;
-    values.end()?;
     append_utf8::<E, Global>(&raw, &mut to)?;
-    answer.text(to.as_str())?;
+    answer.text(to.as_str());
     Ok(())
 }
 
@@ -114,21 +110,19 @@ fn to_buffer<E: Utf16Order>(
 ) -> Result<(), Trouble> {
     let raw = text::<E>(alloc, values)?;
     let room = values.number()?;
-    values.end()?;
     let mut to = buffer(alloc, room)?;
     if to.len() < SPARE || (to.len() - SPARE) / 3 < raw.len() / 2 {
         return Err(Trouble::Condition);
     }
     let len = write_utf8::<E>(&raw, &mut to);
-    answer.number(len)?;
-    answer.text_or_bytes(to.get(..len).ok_or(Trouble::Condition)?, true)?;
+    answer.number(len);
+    answer.text_or_bytes(to.get(..len).ok_or(Trouble::Condition)?, true);
     Ok(())
 }
 
 fn of_utf8(alloc: Global, values: &mut Values, answer: &mut Answer) -> Result<(), Trouble> {
     let text = values.text(alloc)?;
-    values.end()?;
-    answer.number(utf16_len(text.as_str()))?;
+    answer.number(utf16_len(text.as_str()));
     Ok(())
 }
 
@@ -141,14 +135,13 @@ fn to_bytes<E: Utf16Order>(
 ) -> Result<(), Trouble> {
     let mut raw = values.bytes(alloc, E::BIG)?;
     let text = values.text(alloc)?;
-    values.end()?;
     if name == "extend_utf16" {
         raw.reserve(utf16_len(text.as_str()))?;
         extend_utf16::<E, Global>(&mut raw, text.as_str())?;
     } else {
         append_utf16::<E, Global>(&mut raw, text.as_str())?;
     }
-    answer.bytes(raw.as_slice())?;
+    answer.bytes(raw.as_slice());
     Ok(())
 }
 
@@ -161,7 +154,6 @@ fn units_to_buffer<E: Utf16Order>(
 ) -> Result<(), Trouble> {
     let before = values.bytes(alloc, true)?;
     let piece = values.bytes(alloc, true)?;
-    values.end()?;
     let [first, second] = before.as_slice() else {
         return Err(Trouble::Value);
     };
@@ -171,8 +163,7 @@ fn units_to_buffer<E: Utf16Order>(
     let room = 2 * piece.len() + 16;
     let mut to = buffer(alloc, room + 1)?;
     let len = write_units::<E>([*first, *second], &piece, &mut to);
-    answer.number(len)?;
-    answer.bytes(to.get(..len).ok_or(Trouble::Condition)?)?;
+    add_bytes(answer, &to, len)?;
     add_changed(answer, &to, room)
 }
 
@@ -181,11 +172,10 @@ fn at_place(alloc: Global, values: &mut Values, answer: &mut Answer) -> Result<(
     let bytes = values.bytes(alloc, true)?;
     let mut to = values.bytes(alloc, true)?;
     let at = values.number()?;
-    values.end()?;
     if at > to.len() || to.len() - at < bytes.len() {
         return Err(Trouble::Condition);
     }
-    answer.number(put(&bytes, &mut to, at))?;
-    answer.bytes(&to)?;
+    answer.number(put(&bytes, &mut to, at));
+    answer.bytes(&to);
     Ok(())
 }

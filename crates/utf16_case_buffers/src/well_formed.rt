@@ -1,6 +1,6 @@
 //! Bytes made well formed.
 
-use crate::buffers::{add_changed, buffer};
+use crate::buffers::{add_bytes, add_changed, buffer};
 use std::alloc::Global;
 use utf16_case_lines::{Answer, Trouble, Values};
 use utf16_units::Utf16Order;
@@ -13,13 +13,11 @@ pub fn write_well_formed<E: Utf16Order>(
 ) -> Result<(), Trouble> {
     let raw = values.bytes(alloc, E::BIG)?;
     let room = values.number()?;
-    values.end()?;
     let mut to = buffer(alloc, room)?;
     if to.len() < raw.len() {
         return Err(Trouble::Condition);
     }
     let len = utf16_transcode::write_well_formed::<E>(&raw, &mut to);
-    answer.number(len)?;
-    answer.bytes(to.get(..len).ok_or(Trouble::Condition)?)?;
+    add_bytes(answer, &to, len)?;
     add_changed(answer, &to, len)
 }

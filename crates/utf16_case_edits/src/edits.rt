@@ -31,20 +31,32 @@ fn edit<'a, E: Utf16Order>(
     bench: &Bench<'a>,
     values: &mut Values,
 ) -> Result<Edit<E, Heap<'a>>, Trouble> {
-    Ok(match values.word()? {
-        "Push" => Edit::Push(values.character(bench.alloc)?),
-        "PushText" => Edit::PushText(text(bench, values)?),
-        "Pop" => Edit::Pop,
-        "Insert" => Edit::Insert(values.number()?, values.character(bench.alloc)?),
-        "InsertText" => Edit::InsertText(values.number()?, text(bench, values)?),
-        "Remove" => Edit::Remove(values.number()?),
-        "Retain" => Edit::Retain(set(bench, values)?),
-        "Truncate" => Edit::Truncate(values.number()?),
-        "SplitOff" => Edit::SplitOff(values.number()?),
-        "Overwrite" => Edit::Overwrite(values.number()?, text(bench, values)?),
-        "Clear" => Edit::Clear,
-        _ => return Err(Trouble::Value),
-    })
+    match values.word()? {
+        "Pop" => Ok(Edit::Pop),
+        "Clear" => Ok(Edit::Clear),
+        "Push" => Ok(Edit::Push(values.character(bench.alloc)?)),
+        "PushText" => Ok(Edit::PushText(text(bench, values)?)),
+        "Retain" => Ok(Edit::Retain(set(bench, values)?)),
+        name => edit_at(bench, name, values.number()?, values),
+    }
+}
+
+// Takes what an edit at an offset holds behind it.
+fn edit_at<'a, E: Utf16Order>(
+    bench: &Bench<'a>,
+    name: &str,
+    at: usize,
+    values: &mut Values,
+) -> Result<Edit<E, Heap<'a>>, Trouble> {
+    match name {
+        "Remove" => Ok(Edit::Remove(at)),
+        "Truncate" => Ok(Edit::Truncate(at)),
+        "SplitOff" => Ok(Edit::SplitOff(at)),
+        "Insert" => Ok(Edit::Insert(at, values.character(bench.alloc)?)),
+        "InsertText" => Ok(Edit::InsertText(at, text(bench, values)?)),
+        "Overwrite" => Ok(Edit::Overwrite(at, text(bench, values)?)),
+        _ => Err(Trouble::Value),
+    }
 }
 
 // Takes the edits that are left, with a `/` between.
@@ -60,25 +72,39 @@ fn edits<'a, E: Utf16Order>(
         if edits.push(edit::<E>(bench, values)?).is_err() {
             return Err(Trouble::Memory);
         }
-        let is_last = values.count() == 0;
-        if !is_last && (values.word()? != "/" || values.count() == 0) {
-            return Err(Trouble::Value);
-        }
+        slash(values)?;
     }
     Ok(edits)
 }
 
-// Adds a reply.
-fn reply<E: Utf16Order>(answer: &mut Answer, reply: &Reply<E, Heap>) -> Result<(), Trouble> {
-    match reply {
-        Reply::Done => answer.word("done")?,
-        Reply::Char(c) => answer.character(*c)?,
-        Reply::Nothing => answer.word("nothing")?,
-        Reply::Rest(rest) => answer.bytes(rest.as_bytes())?,
-        Reply::BadOffset => answer.word("bad_offset")?,
-        Reply::NoMemory => answer.word("no_memory")?,
+// Takes the `/` behind an edit that is not the last one.
+fn slash(values: &mut Values) -> Result<(), Trouble> {
+    if values.count() != 0 && (values.word()? != "/" || values.count() == 0) {
+        return Err(Trouble::Value);
     }
     Ok(())
+}
+
+// Adds a reply.
+fn reply<E: Utf16Order>(answer: &mut Answer, reply: &Reply<E, Heap>) {
+    match reply {
+        Reply::Done => answer.word("done"),
+        Reply::Char(c) => answer.character(*c),
+        Reply::Nothing => answer.word("nothing"),
+        Reply::Rest(rest) => answer.bytes(rest.as_bytes()),
+        Reply::BadOffset => answer.word("bad_offset"),
+        Reply::NoMemory => answer.word("no_memory"),
+    }
+}
+
+// Adds replies, with a `/` between.
+fn replies<E: Utf16Order>(answer: &mut Answer, given: &[Reply<E, Heap>]) {
+    for (at, given) in given.iter().enumerate() {
+        if at != 0 {
+            answer.word("/");
+        }
+        reply(answer, given);
+    }
 }
 
 /// Does one edit of a string.
@@ -89,11 +115,10 @@ pub fn by_apply<E: Utf16Order>(
 ) -> Result<(), Trouble> {
     let mut string = bench.string::<E>(values)?;
     let edit = edit::<E>(bench, values)?;
-    values.end()?;
     bench.begin();
-    let given = apply(&mut string, edit);
-    reply(answer, &given)?;
-    bench.left(answer, &string)
+    reply(answer, &apply(&mut string, edit));
+    bench.left(answer, &string);
+    Ok(())
 }
 
 /// Does a list of edits of a string. The replies have a `/` between.
@@ -106,15 +131,9 @@ pub fn by_run<E: Utf16Order>(
     let edits = edits::<E>(bench, values)?;
     bench.begin();
     match run(bench.heap, &mut string, edits) {
-        Ok(replies) => {
-            for (at, given) in replies.iter().enumerate() {
-                if at != 0 {
-                    answer.word("/")?;
-                }
-                reply(answer, given)?;
-            }
-        }
-        Err(_) => answer.word("no_memory")?,
+        Ok(given) => replies(answer, &given),
+        Err(_) => answer.word("no_memory"),
     }
-    bench.left(answer, &string)
+    bench.left(answer, &string);
+    Ok(())
 }

@@ -29,5 +29,6 @@ pub fn call<E: Utf16Order>(
         "run" => edits::by_run::<E>(&bench, values, answer)?,
         _ => return Err(Trouble::Call),
     }
-    bench.end(answer)
+    bench.end(answer);
+    Ok(())
 }

@@ -5,10 +5,12 @@ use crate::trouble::Trouble;
 use crate::values::{bytes_of, has_parts};
 use std::alloc::{AllocError, Global};
 
-/// What a call gave, in words with a space between.
+/// What a call gave, in words with a space between. Where memory for a word is refused, `as_str`
+/// says so.
 #[derive(Drop)]
 pub struct Answer {
     words: String,
+    is_refused: bool,
 }
 
 impl Answer {
@@ -16,6 +18,7 @@ impl Answer {
     pub fn new(alloc: Global) -> Self {
         Answer {
             words: String::new(alloc),
+            is_refused: false,
         }
     }
 
@@ -24,66 +27,92 @@ impl Answer {
     pub fn wanted(alloc: Global, words: &[&str], is_big: bool) -> Result<Self, Trouble> {
         let mut answer = Answer::new(alloc);
         for word in words {
-            if word.starts_with('~') || word.starts_with('^') {
-                answer.bytes(bytes_of(alloc, word, is_big)?.as_slice())?;
-            } else if has_parts(word) {
-                answer.text_or_bytes(
-                    bytes_of(alloc, word, is_big)?.as_slice(),
-                    word.contains("*\""),
-                )?;
-            } else {
-                answer.word(word)?;
-            }
+            answer.want(alloc, word, is_big)?;
         }
         Ok(answer)
     }
 
-    /// The words so far.
-    pub fn as_str(&self) -> &str {
-        self.words.as_str()
-    }
-
-    // The space before a further word.
-    fn space(&mut self) -> Result<(), AllocError> {
-        if self.words.is_empty() {
-            Ok(())
+    // Adds what a word of a table wants.
+    fn want(&mut self, alloc: Global, word: &str, is_big: bool) -> Result<(), Trouble> {
+        let is_encoded = word.starts_with('~') || word.starts_with('^');
+        if is_encoded || has_parts(word) {
+            let is_text = !is_encoded && word.contains("*\"");
+            self.text_or_bytes(&bytes_of(alloc, word, is_big)?, is_text);
         } else {
-            self.words.push(' ')
-        }
-    }
-
-    /// Adds a word.
-    pub fn word(&mut self, word: &str) -> Result<(), AllocError> {
-        self.space()?;
-        self.words.push_str(word)
-    }
-
-    /// Adds a number.
-    pub fn number(&mut self, number: usize) -> Result<(), AllocError> {
-        self.space()?;
-        write!(self.words, "{number}")
-    }
-
-    /// Adds `true` or `false`.
-    pub fn truth(&mut self, is: bool) -> Result<(), AllocError> {
-        self.word(if is { "true" } else { "false" })
-    }
-
-    /// Adds bytes, two digits each, or `-` where there are none.
-    pub fn bytes(&mut self, bytes: &[u8]) -> Result<(), AllocError> {
-        if bytes.is_empty() {
-            return self.word("-");
-        }
-        self.space()?;
-        for byte in bytes {
-            let byte = *byte;
-            write!(self.words, "{byte:02X}")?;
+            self.word(word);
         }
         Ok(())
     }
 
+    /// The words so far.
+    pub fn as_str(&self) -> Result<&str, Trouble> {
+        if self.is_refused {
+            Err(Trouble::Memory)
+        } else {
+            Ok(self.words.as_str())
+        }
+    }
+
+    /// Whether there is no word so far.
+    pub fn is_empty(&self) -> bool {
+        self.words.is_empty()
+    }
+
+    // Keeps that memory was refused.
+    fn note(&mut self, done: Result<(), AllocError>) {
+        self.is_refused = self.is_refused || done.is_err();
+    }
+
+    fn put(&mut self, text: &str) {
+        let done = self.words.push_str(text);
+        self.note(done);
+    }
+
+    fn put_escaped(&mut self, c: char) {
+        let done = push_escaped(&mut self.words, c);
+        self.note(done);
+    }
+
+    // The space before a further word.
+    fn space(&mut self) {
+        if !self.words.is_empty() {
+            self.put(" ");
+        }
+    }
+
+    /// Adds a word.
+    pub fn word(&mut self, word: &str) {
+        self.space();
+        self.put(word);
+    }
+
+    /// Adds a number.
+    pub fn number(&mut self, number: usize) {
+        self.space();
+        let done = write!(self.words, "{number}");
+        self.note(done);
+    }
+
+    /// Adds `true` or `false`.
+    pub fn truth(&mut self, is: bool) {
+        self.word(if is { "true" } else { "false" });
+    }
+
+    /// Adds bytes, two digits each, or `-` where there are none.
+    pub fn bytes(&mut self, bytes: &[u8]) {
+        self.space();
+        if bytes.is_empty() {
+            self.put("-");
+        }
+        for byte in bytes {
+            let byte = *byte;
+            let done = write!(self.words, "{byte:02X}");
+            self.note(done);
+        }
+    }
+
     /// Adds bytes that are wanted to be UTF-8 as a text, and any others as bytes.
-    pub fn text_or_bytes(&mut self, bytes: &[u8], is_text: bool) -> Result<(), AllocError> {
+    pub fn text_or_bytes(&mut self, bytes: &[u8], is_text: bool) {
         match str::from_utf8(bytes) {
             Ok(text) if is_text => self.text(text),
             _ => self.bytes(bytes),
@@ -91,20 +120,20 @@ impl Answer {
     }
 
     /// Adds a text, in double quotes.
-    pub fn text(&mut self, text: &str) -> Result<(), AllocError> {
-        self.space()?;
-        self.words.push('"')?;
+    pub fn text(&mut self, text: &str) {
+        self.space();
+        self.put("\"");
         for c in text.chars() {
-            push_escaped(&mut self.words, c)?;
+            self.put_escaped(c);
         }
-        self.words.push('"')
+        self.put("\"");
     }
 
     /// Adds a character, in single quotes.
-    pub fn character(&mut self, c: char) -> Result<(), AllocError> {
-        self.space()?;
-        self.words.push('\'')?;
-        push_escaped(&mut self.words, c)?;
-        self.words.push('\'')
+    pub fn character(&mut self, c: char) {
+        self.space();
+        self.put("'");
+        self.put_escaped(c);
+        self.put("'");
     }
 }

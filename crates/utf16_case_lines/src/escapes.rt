@@ -27,10 +27,19 @@ pub fn unescape(alloc: Global, spelled: &str) -> Result<String, Trouble> {
         text.push_str(plain)?;
     }
     for part in parts {
-        let (digits, plain) = part.split_once('}').ok_or(Trouble::Value)?;
-        let number = u32::from_str_radix(digits, 16).map_err(|_| Trouble::Value)?;
-        text.push(char::from_u32(number).ok_or(Trouble::Value)?)?;
-        text.push_str(plain)?;
+        push_unescaped(&mut text, part)?;
     }
     Ok(text)
+}
+
+// Appends the character of a number in hex before a `}`, and what is behind it as it is.
+fn push_unescaped(text: &mut String, part: &str) -> Result<(), Trouble> {
+    let (digits, plain) = part.split_once('}').ok_or(Trouble::Value)?;
+    text.push(numbered(digits).ok_or(Trouble::Value)?)?;
+    Ok(text.push_str(plain)?)
+}
+
+// The character of a number in hex.
+fn numbered(digits: &str) -> Option<char> {
+    char::from_u32(u32::from_str_radix(digits, 16).ok()?)
 }

@@ -5,7 +5,7 @@ use crate::values::{number_of, numbers_of};
 use std::alloc::Global;
 
 /// Which requests for memory a case has refused, counted from 0.
-#[derive(Clone, Copy, Debug, PartialEq, Eq, Drop)]
+#[derive(Clone, Copy, Drop)]
 pub enum Refuse {
     Nothing,
     One(u64),
@@ -13,7 +13,7 @@ pub enum Refuse {
 }
 
 /// What a device does at the one call at which it does not move bytes.
-#[derive(Clone, Copy, Debug, PartialEq, Eq, Drop)]
+#[derive(Clone, Copy, Drop)]
 pub enum Odd {
     Fails,
     IsInterrupted,
@@ -39,6 +39,12 @@ impl Device {
             odd_at: 0,
             odd: Odd::Fails,
         }
+    }
+
+    // Reads how many bytes it moves, as `1,2`.
+    fn read_sizes(&mut self, alloc: Global, word: &str) -> Result<(), Trouble> {
+        self.sizes = numbers_of(alloc, word)?;
+        Ok(())
     }
 
     // Reads what it does at its odd call, as `fails@3`.
@@ -106,32 +112,47 @@ impl How {
 
     // Adds a condition.
     fn add(&mut self, alloc: Global, part: &str) -> Result<(), Trouble> {
-        if part == "counted" {
-            self.counted = true;
-            return Ok(());
+        match part.split_once('=') {
+            None => self.add_word(part),
+            Some(("refuse", value)) => self.refuse_as(value),
+            Some(("room", value)) => self.make_room(value),
+            Some((name, value)) => self.add_device(alloc, name, value),
         }
-        if part == "capacity" {
-            self.capacity = true;
-            return Ok(());
-        }
-        let (name, value) = part.split_once('=').ok_or(Trouble::Form)?;
-        match name {
-            "refuse" => self.refuse = refuse_of(value)?,
-            "room" => self.room = number_of(value)?,
-            "reads" => self.reads.sizes = numbers_of(alloc, value)?,
-            "writes" => self.writes.sizes = numbers_of(alloc, value)?,
-            "read" => self.reads.read_odd(value)?,
-            "write" => self.writes.read_odd(value)?,
+    }
+
+    // Adds a condition that is a word alone.
+    fn add_word(&mut self, word: &str) -> Result<(), Trouble> {
+        match word {
+            "counted" => self.counted = true,
+            "capacity" => self.capacity = true,
             _ => return Err(Trouble::Form),
         }
         Ok(())
     }
-}
 
-// Which requests are refused: `2`, or `2..`.
-fn refuse_of(word: &str) -> Result<Refuse, Trouble> {
-    match word.strip_suffix("..") {
-        Some(first) => Ok(Refuse::From(number_of(first)? as u64)),
-        None => Ok(Refuse::One(number_of(word)? as u64)),
+    // Adds which requests are refused: `2`, or `2..`.
+    fn refuse_as(&mut self, value: &str) -> Result<(), Trouble> {
+        self.refuse = match value.strip_suffix("..") {
+            Some(first) => Refuse::From(number_of(first)? as u64),
+            None => Refuse::One(number_of(value)? as u64),
+        };
+        Ok(())
+    }
+
+    // Adds for how many bytes there is room.
+    fn make_room(&mut self, value: &str) -> Result<(), Trouble> {
+        self.room = number_of(value)?;
+        Ok(())
+    }
+
+    // Adds a condition on a device.
+    fn add_device(&mut self, alloc: Global, name: &str, value: &str) -> Result<(), Trouble> {
+        match name {
+            "reads" => self.reads.read_sizes(alloc, value),
+            "writes" => self.writes.read_sizes(alloc, value),
+            "read" => self.reads.read_odd(value),
+            "write" => self.writes.read_odd(value),
+            _ => Err(Trouble::Form),
+        }
     }
 }

@@ -1,17 +1,17 @@
-//! A line of a table of cases: the words that it has, the values that they spell, and what a call
-//! gave written in the same words.
+//! The words of a line of a table of cases: the conditions and the values that they spell, and what
+//! a call gave written in the same words.
 #![tactic(auto)]
 
 mod answer;
-mod case;
 mod escapes;
+mod formats;
 mod how;
 mod span;
 mod trouble;
 mod values;
 
 pub use crate::answer::Answer;
-pub use crate::case::Case;
+pub use crate::formats::{add_debug, add_written};
 pub use crate::how::{Device, How, Odd, Refuse};
 pub use crate::span::{By, Span};
 pub use crate::trouble::Trouble;

@@ -4,7 +4,7 @@ use crate::trouble::Trouble;
 use crate::values::number_of;
 
 /// A range of bytes, of one of the six kinds.
-#[derive(Clone, Copy, Debug, PartialEq, Eq, Drop)]
+#[derive(Clone, Copy, Drop)]
 pub enum Span {
     Between(usize, usize),
     From(usize),
@@ -36,7 +36,7 @@ impl Span {
 }
 
 /// The call that takes a part.
-#[derive(Clone, Copy, Debug, PartialEq, Eq, Drop)]
+#[derive(Clone, Copy, Drop)]
 pub enum By {
     Get,
     GetUnchecked,

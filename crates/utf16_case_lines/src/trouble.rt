@@ -4,7 +4,7 @@ use std::alloc::AllocError;
 
 /// Why a line of a table is not run. It is no case that failed: the table itself is wrong, or
 /// memory was refused.
-#[derive(Clone, Copy, Debug, PartialEq, Eq, Drop)]
+#[derive(Clone, Copy, Debug, Drop)]
 pub enum Trouble {
     /// The line is not of the form that the tables have.
     Form,

@@ -112,13 +112,20 @@ pub fn bytes_of(alloc: Global, word: &str, is_big: bool) -> Result<Vec<u8>, Trou
     }
     let mut bytes = Vec::new(alloc);
     for part in word.split('+') {
-        let (count, part) = part.split_once('*').ok_or(Trouble::Value)?;
-        let part = part_of(alloc, part, is_big)?;
-        for _ in 0..number_of(count)? {
-            bytes.extend_from_slice(&part)?;
-        }
+        repeat(alloc, part, is_big, &mut bytes)?;
     }
     Ok(bytes)
+}
+
+// Appends the bytes of a part as often as it says.
+fn repeat(alloc: Global, part: &str, is_big: bool, bytes: &mut Vec<u8>) -> Result<(), Trouble> {
+    let (count, part) = part.split_once('*').ok_or(Trouble::Value)?;
+    let count = number_of(count)?;
+    let part = part_of(alloc, part, is_big)?;
+    for _ in 0..count {
+        bytes.extend_from_slice(&part)?;
+    }
+    Ok(())
 }
 
 // The bytes that a word without parts spells.

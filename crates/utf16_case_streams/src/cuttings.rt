@@ -53,9 +53,8 @@ pub fn every_cutting<E: Utf16Order>(
     answer: &mut Answer,
 ) -> Result<(), Trouble> {
     let bytes = values.bytes(alloc, E::BIG)?;
-    values.end()?;
     let whole = AtOnce::<E>::text(alloc, &cut(alloc, &bytes, 0, false)?)?;
-    answer.text(whole.as_str())?;
+    answer.text(whole.as_str());
     add_other::<AtOnce<E>>(alloc, &bytes, whole.as_str(), answer)?;
     add_other::<OneByOne<Lossy<E>>>(alloc, &bytes, whole.as_str(), answer)
 }
@@ -67,9 +66,8 @@ pub fn every_marked_cutting(
     answer: &mut Answer,
 ) -> Result<(), Trouble> {
     let bytes = values.bytes(alloc, true)?;
-    values.end()?;
     let whole = OneByOne::<AnyLossy>::text(alloc, &cut(alloc, &bytes, 0, false)?)?;
-    answer.text(whole.as_str())?;
+    answer.text(whole.as_str());
     add_other::<OneByOne<AnyLossy>>(alloc, &bytes, whole.as_str(), answer)
 }
 
@@ -84,7 +82,7 @@ fn add_other<W: Way>(
         for with_empty in [false, true] {
             let text = W::text(alloc, &cut(alloc, bytes, cuts, with_empty)?)?;
             if text.as_str() != whole {
-                answer.text(text.as_str())?;
+                answer.text(text.as_str());
                 return Ok(());
             }
         }

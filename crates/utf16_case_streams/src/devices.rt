@@ -20,21 +20,19 @@ pub fn manner(device: &Device, odd_at: usize) -> Manner<'_> {
 }
 
 // Adds how many bytes were moved, or that the device failed.
-fn moved(answer: &mut Answer, found: Result<usize, DeviceFault>) -> Result<(), Trouble> {
+fn moved(answer: &mut Answer, found: Result<usize, DeviceFault>) {
     match found {
-        Ok(count) => answer.number(count)?,
-        Err(DeviceFault) => answer.word("fault")?,
+        Ok(count) => answer.number(count),
+        Err(DeviceFault) => answer.word("fault"),
     }
-    Ok(())
 }
 
 // Adds how many faults were counted and how many calls were made.
-fn counts(answer: &mut Answer, faults: u64, calls: usize) -> Result<(), Trouble> {
-    answer.word("faults")?;
-    answer.number(faults as usize)?;
-    answer.word("calls")?;
-    answer.number(calls)?;
-    Ok(())
+fn counts(answer: &mut Answer, faults: u64, calls: usize) {
+    answer.word("faults");
+    answer.number(faults as usize);
+    answer.word("calls");
+    answer.number(calls);
 }
 
 /// One read into a buffer of so many zeros: how many bytes, and the buffer then.
@@ -46,12 +44,16 @@ pub fn read<E: Utf16Order>(
 ) -> Result<(), Trouble> {
     let bytes = values.bytes(alloc, E::BIG)?;
     let room = values.number()?;
-    values.end()?;
     let mut buf = vec![in alloc; 0; room]?;
-    let mut reader = Watched::new(Giver::new(&bytes, manner(&how.reads, how.reads.odd_at)));
-    moved(answer, reader.read(&mut buf))?;
-    answer.bytes(&buf)?;
-    counts(answer, reader.faults(), reader.inner().calls)
+    read_into(&bytes, how, &mut buf, answer);
+    Ok(())
+}
+
+fn read_into(bytes: &[u8], how: &How, buf: &mut [u8], answer: &mut Answer) {
+    let mut reader = Watched::new(Giver::new(bytes, manner(&how.reads, how.reads.odd_at)));
+    moved(answer, reader.read(buf));
+    answer.bytes(buf);
+    counts(answer, reader.faults(), reader.inner().calls);
 }
 
 /// One write of each piece: how many bytes of it; and all that was taken, and what a flush gives
@@ -68,26 +70,21 @@ pub fn write<E: Utf16Order>(
         if writer.faults() == u64::MAX {
             return Err(Trouble::Condition);
         }
-        moved(answer, writer.write(piece))?;
+        moved(answer, writer.write(piece));
     }
     let faults = writer.faults();
     let taker = writer.into_inner();
-    answer.bytes(&taker.taken)?;
-    counts(answer, faults, taker.calls)
+    answer.bytes(&taker.taken);
+    counts(answer, faults, taker.calls);
+    Ok(())
 }
 
 /// One flush.
-pub fn flush(
-    alloc: Global,
-    how: &How,
-    values: &mut Values,
-    answer: &mut Answer,
-) -> Result<(), Trouble> {
-    values.end()?;
+pub fn flush(alloc: Global, how: &How, answer: &mut Answer) {
     let mut writer = Watched::new(Taker::new(alloc, manner(&how.writes, how.writes.odd_at)));
     match writer.flush() {
-        Ok(()) => answer.word("done")?,
-        Err(DeviceFault) => answer.word("fault")?,
+        Ok(()) => answer.word("done"),
+        Err(DeviceFault) => answer.word("fault"),
     }
-    counts(answer, writer.faults(), writer.inner().calls)
+    counts(answer, writer.faults(), writer.inner().calls);
 }

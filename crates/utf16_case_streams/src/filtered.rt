@@ -50,15 +50,14 @@ pub fn run<E: Utf16Order>(
 }
 
 /// Adds the result.
-pub fn add_result(answer: &mut Answer, found: Result<(), FilterFault>) -> Result<(), Trouble> {
+pub fn add_result(answer: &mut Answer, found: Result<(), FilterFault>) {
     answer.word(match found {
         Ok(()) => "done",
         Err(FilterFault::Read) => "read",
         Err(FilterFault::Write) => "write",
         Err(FilterFault::Memory) => "memory",
         Err(FilterFault::Long) => "long",
-    })?;
-    Ok(())
+    });
 }
 
 /// The result and what was written, and where a case counts them the calls of the devices and their
@@ -71,29 +70,28 @@ pub fn filter<E: Utf16Order>(
     is_auto: bool,
 ) -> Result<(), Trouble> {
     let bytes = values.bytes(alloc, E::BIG)?;
-    values.end()?;
     let heap = heap(alloc, how);
     let odd = (how.reads.odd_at, how.writes.odd_at);
     let ended = run::<E>(alloc, &heap, how, &bytes, is_auto, odd);
-    add_result(answer, ended.result)?;
-    answer.text_or_bytes(&ended.taken, true)?;
+    add_result(answer, ended.result);
+    answer.text_or_bytes(&ended.taken, true);
     if how.counted {
-        add_counts(answer, &ended)?;
+        add_counts(answer, &ended);
     }
-    add_kept(&heap, answer)
+    add_kept(&heap, answer);
+    Ok(())
 }
 
 // Adds how many reads, writes and flushes were made, and how many faults of each device were
 // counted.
-fn add_counts(answer: &mut Answer, ended: &Ended) -> Result<(), Trouble> {
-    answer.word("reads")?;
-    answer.number(ended.reads)?;
-    answer.word("writes")?;
-    answer.number(ended.writes)?;
-    answer.word("flushes")?;
-    answer.number(ended.flushes)?;
-    answer.word("faults")?;
-    answer.number(ended.read_faults as usize)?;
-    answer.number(ended.write_faults as usize)?;
-    Ok(())
+fn add_counts(answer: &mut Answer, ended: &Ended) {
+    answer.word("reads");
+    answer.number(ended.reads);
+    answer.word("writes");
+    answer.number(ended.writes);
+    answer.word("flushes");
+    answer.number(ended.flushes);
+    answer.word("faults");
+    answer.number(ended.read_faults as usize);
+    answer.number(ended.write_faults as usize);
 }

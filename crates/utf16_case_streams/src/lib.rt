@@ -28,9 +28,25 @@ pub fn call<E: Utf16Order>(
         "AnyLossy::every_cutting" => cuttings::every_marked_cutting(alloc, values, answer),
         "Lossy::feed" => fed::feed::<E, Lossy<E>>(alloc, how, values, answer),
         "AnyLossy::feed" => fed::feed::<E, AnyLossy>(alloc, how, values, answer),
+        _ => on_devices::<E>(alloc, name, how, values, answer),
+    }
+}
+
+// Makes a call on devices. `Call` where none has this name.
+fn on_devices<E: Utf16Order>(
+    alloc: Global,
+    name: &str,
+    how: &How,
+    values: &mut Values,
+    answer: &mut Answer,
+) -> Result<(), Trouble> {
+    match name {
         "Watched::read" => devices::read::<E>(alloc, how, values, answer),
         "Watched::write" => devices::write::<E>(alloc, how, values, answer),
-        "Watched::flush" => devices::flush(alloc, how, values, answer),
+        "Watched::flush" => {
+            devices::flush(alloc, how, answer);
+            Ok(())
+        }
         "filter" => filtered::filter::<E>(alloc, how, values, answer, false),
         "filter_auto" => filtered::filter::<E>(alloc, how, values, answer, true),
         "filter_each_read" => sweeps::each_read::<E>(alloc, how, values, answer),

@@ -1,7 +1,7 @@
 //! Memory that is refused as a case says, and counted.
 
 use std::alloc::Global;
-use utf16_case_lines::{Answer, How, Refuse, Trouble};
+use utf16_case_lines::{Answer, How, Refuse};
 use utf16_testing::refusing::Refusing;
 
 /// An allocator that refuses the requests that a case has refused.
@@ -17,20 +17,19 @@ pub fn heap(alloc: Global, how: &How) -> Refusing<Global> {
 
 /// Adds how many requests were made, where they are counted, and `kept` and how many blocks where
 /// any are not given back.
-pub fn end(heap: &Refusing<Global>, how: &How, answer: &mut Answer) -> Result<(), Trouble> {
+pub fn end(heap: &Refusing<Global>, how: &How, answer: &mut Answer) {
     if how.counted {
-        answer.word("requests")?;
-        answer.number(heap.requests() as usize)?;
+        answer.word("requests");
+        answer.number(heap.requests() as usize);
     }
-    add_kept(heap, answer)
+    add_kept(heap, answer);
 }
 
 /// Adds `kept` and how many blocks where any are not given back.
-pub fn add_kept(heap: &Refusing<Global>, answer: &mut Answer) -> Result<(), Trouble> {
+pub fn add_kept(heap: &Refusing<Global>, answer: &mut Answer) {
     let live = heap.live_blocks();
     if live != 0 {
-        answer.word("kept")?;
-        answer.number(live as usize)?;
+        answer.word("kept");
+        answer.number(live as usize);
     }
-    Ok(())
 }

@@ -10,9 +10,7 @@ pub fn pieces<E: Utf16Order>(alloc: Global, values: &mut Values) -> Result<Vec<V
     if values.end().is_ok() {
         return Ok(Vec::new(alloc));
     }
-    let pieces = values.pieces(alloc, E::BIG)?;
-    values.end()?;
-    Ok(pieces)
+    values.pieces(alloc, E::BIG)
 }
 
 /// The text of pieces.
@@ -25,8 +23,9 @@ pub fn decode_pieces<E: Utf16Order>(
     let pieces = pieces::<E>(alloc, values)?;
     let heap = heap(alloc, how);
     match utf16_streams::decode_pieces::<E, _, _>(&heap, &pieces) {
-        Ok(text) => answer.text(text.as_str())?,
-        Err(AllocError) => answer.word("no_memory")?,
+        Ok(text) => answer.text(text.as_str()),
+        Err(AllocError) => answer.word("no_memory"),
     }
-    end(&heap, how, answer)
+    end(&heap, how, answer);
+    Ok(())
 }

@@ -27,8 +27,14 @@ impl<'a> Bench<'a> {
         values: &mut Values,
     ) -> Result<WString<E, Heap<'a>>, Trouble> {
         let raw = values.bytes(self.alloc, E::BIG)?;
-        let text = WStr::<E>::from_utf16(&raw).map_err(|_| Trouble::Value)?;
-        let mut string = WString::with_capacity(self.heap, self.how.room.max(raw.len()))?;
+        match WStr::<E>::from_utf16(&raw) {
+            Ok(text) => Ok(self.copy(text)?),
+            Err(_) => Err(Trouble::Value),
+        }
+    }
+
+    fn copy<E: Utf16Order>(&self, text: WStr<E>) -> Result<WString<E, Heap<'a>>, AllocError> {
+        let mut string = WString::with_capacity(self.heap, self.how.room.max(text.len()))?;
         string.push_wstr(text)?;
         Ok(string)
     }
@@ -49,35 +55,29 @@ impl<'a> Bench<'a> {
     }
 
     /// Adds how many requests were made, where the case asks for it.
-    pub fn requests(&self, answer: &mut Answer) -> Result<(), Trouble> {
+    pub fn requests(&self, answer: &mut Answer) {
         if self.how.counted {
-            answer.word("requests")?;
-            answer.number(self.heap.requests() as usize)?;
+            answer.word("requests");
+            answer.number(self.heap.requests() as usize);
         }
-        Ok(())
     }
 
     /// Adds `leaked` where memory was not given back. All strings of the case are dropped by then.
-    pub fn end(&self, answer: &mut Answer) -> Result<(), Trouble> {
+    pub fn end(&self, answer: &mut Answer) {
         if self.heap.live_blocks() != 0 {
-            answer.word("leaked")?;
+            answer.word("leaked");
         }
-        Ok(())
     }
 
     /// Adds the bytes of a string that was made or is left, and its capacity and the requests where
     /// the case asks for them.
-    pub fn left<E: Utf16Order, A: Allocator>(
-        &self,
-        answer: &mut Answer,
-        string: &WString<E, A>,
-    ) -> Result<(), Trouble> {
-        answer.bytes(string.as_bytes())?;
+    pub fn left<E: Utf16Order, A: Allocator>(&self, answer: &mut Answer, string: &WString<E, A>) {
+        answer.bytes(string.as_bytes());
         if self.how.capacity {
-            answer.word("capacity")?;
-            answer.number(string.capacity())?;
+            answer.word("capacity");
+            answer.number(string.capacity());
         }
-        self.requests(answer)
+        self.requests(answer);
     }
 
     /// Adds a string that was made, or that memory was refused.
@@ -85,12 +85,12 @@ impl<'a> Bench<'a> {
         &self,
         answer: &mut Answer,
         made: Result<WString<E, A>, AllocError>,
-    ) -> Result<(), Trouble> {
+    ) {
         match made {
             Ok(string) => self.left(answer, &string),
             Err(_) => {
-                answer.word("no_memory")?;
-                self.requests(answer)
+                answer.word("no_memory");
+                self.requests(answer);
             }
         }
     }
@@ -101,8 +101,8 @@ impl<'a> Bench<'a> {
         answer: &mut Answer,
         done: Result<(), AllocError>,
         string: &WString<E, Heap>,
-    ) -> Result<(), Trouble> {
-        answer.word(if done.is_ok() { "done" } else { "no_memory" })?;
-        self.left(answer, string)
+    ) {
+        answer.word(if done.is_ok() { "done" } else { "no_memory" });
+        self.left(answer, string);
     }
 }

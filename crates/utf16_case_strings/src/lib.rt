@@ -10,7 +10,6 @@ mod made;
 mod parts;
 mod read;
 mod retained;
-mod written;
 
 pub use crate::bench::{Bench, Heap};
 use std::alloc::Global;
@@ -34,7 +33,8 @@ pub fn call<E: Utf16Order>(
         how,
     };
     by_name::<E>(&bench, name, values, answer)?;
-    bench.end(answer)
+    bench.end(answer);
+    Ok(())
 }
 
 // Makes a call. Each module hands a name that it does not know on to the next one.
@@ -44,11 +44,9 @@ fn by_name<E: Utf16Order>(
     values: &mut Values,
     answer: &mut Answer,
 ) -> Result<(), Trouble> {
-    if name == "Extend::extend" {
-        return grown::extend::<E>(bench, true, values, answer);
+    match name.strip_prefix("WString::") {
+        Some(name) => made::call::<E>(bench, name, values, answer),
+        None if name == "Extend::extend" => made::on_string::<E>(bench, name, values, answer),
+        None => Err(Trouble::Call),
     }
-    let Some(name) = name.strip_prefix("WString::") else {
-        return Err(Trouble::Call);
-    };
-    made::call::<E>(bench, name, values, answer)
 }

@@ -1,23 +1,21 @@
 //! The parts of a string, by each kind of range.
 
-use crate::bench::{Bench, Heap};
+use crate::bench::Heap;
 use utf16_case_lines::{Answer, By, Span, Trouble, Values};
 use utf16string::{Utf16Order, WStr, WString};
 
 /// Takes a part of a string. The kind of range is that of the word.
 pub fn part<E: Utf16Order>(
-    bench: &Bench,
+    string: &WString<E, Heap>,
     by: By,
     values: &mut Values,
     answer: &mut Answer,
 ) -> Result<(), Trouble> {
-    let string = bench.string::<E>(values)?;
     let span = Span::read(values.word()?)?;
-    values.end()?;
-    match taken(&string, by, span) {
-        Some(part) => answer.bytes(part.as_bytes())?,
-        None if by == By::Get => answer.word("none")?,
-        None => return Err(Trouble::Condition),
+    match (taken(string, by, span), by) {
+        (Some(part), _) => answer.bytes(part.as_bytes()),
+        (None, By::Get) => answer.word("none"),
+        _ => return Err(Trouble::Condition),
     }
     Ok(())
 }
@@ -40,11 +38,25 @@ fn taken<'a, E: Utf16Order>(
     span: Span,
 ) -> Option<WStr<'a, E>> {
     match span {
-        Span::Between(start, end) => part!(string, by, start..end),
         Span::From(start) => part!(string, by, start..),
-        Span::To(end) => part!(string, by, ..end),
-        Span::Full => part!(string, by, ..),
+        Span::Between(start, end) => part!(string, by, start..end),
         Span::Through(start, end) => part!(string, by, start..=end),
-        Span::ToThrough(end) => part!(string, by, ..=end),
+        Span::Full => part!(string, by, ..),
+        Span::To(end) => front(string, by, end, false),
+        Span::ToThrough(end) => front(string, by, end, true),
+    }
+}
+
+// The part that begins where the string does.
+fn front<'a, E: Utf16Order>(
+    string: &'a WString<E, Heap>,
+    by: By,
+    end: usize,
+    is_inclusive: bool,
+) -> Option<WStr<'a, E>> {
+    if is_inclusive {
+        part!(string, by, ..=end)
+    } else {
+        part!(string, by, ..end)
     }
 }

@@ -1,8 +1,8 @@
 //! Characters kept by a predicate, whose answers the case says one by one.
 
-use crate::bench::Bench;
+use crate::bench::{Bench, Heap};
 use utf16_case_lines::{Answer, Trouble, Values};
-use utf16string::Utf16Order;
+use utf16string::{Utf16Order, WString};
 
 // Takes the answers: a `y` or an `n` for each character, or `-` for none.
 fn answers<'a>(values: &mut Values<'a>) -> Result<&'a [u8], Trouble> {
@@ -22,12 +22,11 @@ fn answers<'a>(values: &mut Values<'a>) -> Result<&'a [u8], Trouble> {
 /// not asked about each character once, from the front.
 pub fn retain<E: Utf16Order>(
     bench: &Bench,
+    string: &mut WString<E, Heap>,
     values: &mut Values,
     answer: &mut Answer,
 ) -> Result<(), Trouble> {
-    let mut string = bench.string::<E>(values)?;
     let letters = answers(values)?;
-    values.end()?;
     let text = string.to_utf8(bench.alloc)?;
     bench.begin();
     let mut chars = text.chars();
@@ -40,21 +39,21 @@ pub fn retain<E: Utf16Order>(
         is_kept
     });
     if !in_order || chars.next().is_some() || asked != letters.len() {
-        answer.word("asked")?;
+        answer.word("asked");
     }
-    bench.done(answer, Ok(()), &string)
+    bench.done(answer, Ok(()), string);
+    Ok(())
 }
 
 /// As `retain`. The answer begins with how many characters the predicate was asked about, which it
 /// noted down.
 pub fn retain_by<E: Utf16Order>(
     bench: &Bench,
+    string: &mut WString<E, Heap>,
     values: &mut Values,
     answer: &mut Answer,
 ) -> Result<(), Trouble> {
-    let mut string = bench.string::<E>(values)?;
     let letters = answers(values)?;
-    values.end()?;
     bench.begin();
     let mut asked = 0usize;
     let mut predicate = |_: char| {
@@ -63,6 +62,7 @@ pub fn retain_by<E: Utf16Order>(
         is_kept
     };
     string.retain_by(&mut predicate);
-    answer.number(asked)?;
-    bench.left(answer, &string)
+    answer.number(asked);
+    bench.left(answer, string);
+    Ok(())
 }

@@ -15,8 +15,8 @@ use utf16_case_lines::{Answer, How, Trouble, Values};
 use utf16string::Utf16Order;
 
 /// Makes a call on these values and adds what it gave. `Call` where no call of units and views has
-/// this name; then no value was taken. Each module hands a name that it does not know on to the
-/// next one.
+/// this name; no value was taken then where the name is that of another crate. Each module hands a
+/// name that it does not know on to the next one.
 pub fn call<E: Utf16Order>(
     alloc: Global,
     name: &str,
@@ -24,8 +24,11 @@ pub fn call<E: Utf16Order>(
     values: &mut Values,
     answer: &mut Answer,
 ) -> Result<(), Trouble> {
-    match shown::call::<E>(alloc, name, how, values, answer) {
-        Err(Trouble::Call) => units::call::<E>(alloc, name, values, answer),
-        made => made,
+    match name.split_once("::") {
+        Some(("WStr" | "WStrChars" | "WStrCharIndices", _)) => {
+            made::call::<E>(alloc, name, how, values, answer)
+        }
+        Some(("WStrMut", _)) => written::call::<E>(alloc, name, values, answer),
+        _ => units::call::<E>(alloc, name, values, answer),
     }
 }

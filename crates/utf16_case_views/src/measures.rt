@@ -4,62 +4,60 @@ use crate::made::view;
 use crate::parts;
 use std::alloc::Global;
 use utf16_case_lines::{Answer, Trouble, Values};
-use utf16string::Utf16Order;
+use utf16string::{Utf16Order, WStr};
 
 /// Makes a call that measures a view or asks about an offset, or any other, by `parts`.
 pub fn call<E: Utf16Order>(
     alloc: Global,
+    text: WStr<E>,
     name: &str,
     values: &mut Values,
     answer: &mut Answer,
 ) -> Result<(), Trouble> {
     match name {
         "WStr::len" | "WStr::is_empty" | "WStr::is_ascii" | "WStr::as_bytes" => {
-            of_view::<E>(alloc, name, values, answer)?;
+            of_view(text, name, answer);
+            Ok(())
         }
-        "WStr::is_char_boundary" => is_char_boundary::<E>(alloc, values, answer)?,
-        "WStr::fits" => fits::<E>(alloc, values, answer)?,
-        _ => return parts::call::<E>(alloc, name, values, answer),
+        "WStr::is_char_boundary" => is_char_boundary(text, values, answer),
+        "WStr::fits" => fits(alloc, text, values, answer),
+        "WStr::clone" => clone(text, answer),
+        _ => parts::call(alloc, text, name, values, answer),
     }
-    values.end()
 }
 
-fn of_view<E: Utf16Order>(
-    alloc: Global,
-    name: &str,
-    values: &mut Values,
-    answer: &mut Answer,
-) -> Result<(), Trouble> {
-    let raw = values.bytes(alloc, E::BIG)?;
-    let text = view::<E>(&raw)?;
+fn of_view<E: Utf16Order>(text: WStr<E>, name: &str, answer: &mut Answer) {
     match name {
-        "WStr::len" => answer.number(text.len())?,
-        "WStr::is_empty" => answer.truth(text.is_empty())?,
-        "WStr::is_ascii" => answer.truth(text.is_ascii())?,
-        _ => answer.bytes(text.as_bytes())?,
+        "WStr::len" => answer.number(text.len()),
+        "WStr::is_empty" => answer.truth(text.is_empty()),
+        "WStr::is_ascii" => answer.truth(text.is_ascii()),
+        _ => answer.bytes(text.as_bytes()),
     }
-    Ok(())
 }
 
 fn is_char_boundary<E: Utf16Order>(
-    alloc: Global,
+    text: WStr<E>,
     values: &mut Values,
     answer: &mut Answer,
 ) -> Result<(), Trouble> {
-    let raw = values.bytes(alloc, E::BIG)?;
-    let index = values.number()?;
-    answer.truth(view::<E>(&raw)?.is_char_boundary(index))?;
+    answer.truth(text.is_char_boundary(values.number()?));
     Ok(())
 }
 
 fn fits<E: Utf16Order>(
     alloc: Global,
+    text: WStr<E>,
     values: &mut Values,
     answer: &mut Answer,
 ) -> Result<(), Trouble> {
-    let raw = values.bytes(alloc, E::BIG)?;
     let index = values.number()?;
     let part = values.bytes(alloc, E::BIG)?;
-    answer.truth(view::<E>(&raw)?.fits(index, view(&part)?))?;
+    answer.truth(text.fits(index, view(&part)?));
+    Ok(())
+}
+
+fn clone<E: Utf16Order>(text: WStr<E>, answer: &mut Answer) -> Result<(), Trouble> {
+    let cloned: Result<_, _> = text.clone();
+    answer.bytes(cloned?.as_bytes());
     Ok(())
 }

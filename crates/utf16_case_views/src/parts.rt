@@ -1,29 +1,41 @@
 //! Parts of views: by ranges, on both sides of an offset or a character, and between delimiters.
 
-use crate::made::view;
 use crate::walks;
 use std::alloc::Global;
 use utf16_case_lines::{Answer, By, Span, Trouble, Values};
 use utf16string::{Utf16Order, WStr};
 
-/// Makes a call that takes a part of a view, or any other, by `walks`.
+/// Makes a call that takes the part of a range, or any other, by `cut`.
 pub fn call<E: Utf16Order>(
     alloc: Global,
+    text: WStr<E>,
     name: &str,
     values: &mut Values,
     answer: &mut Answer,
 ) -> Result<(), Trouble> {
     match name {
-        "WStr::get" => range::<E>(alloc, By::Get, values, answer)?,
-        "WStr::get_unchecked" => range::<E>(alloc, By::GetUnchecked, values, answer)?,
-        "WStr::index" => range::<E>(alloc, By::Index, values, answer)?,
-        "WStr::split_at" => split_at::<E>(alloc, values, answer)?,
-        "WStr::split_at_checked" => split_at_checked::<E>(alloc, values, answer)?,
-        "WStr::split_once" => split_once::<E>(alloc, values, answer)?,
-        "WStr::split" => split::<E>(alloc, values, answer)?,
-        _ => return walks::call::<E>(alloc, name, values, answer),
+        "WStr::get" => range(text, By::Get, values, answer),
+        "WStr::get_unchecked" => range(text, By::GetUnchecked, values, answer),
+        "WStr::index" => range(text, By::Index, values, answer),
+        _ => cut(alloc, text, name, values, answer),
     }
-    values.end()
+}
+
+// Makes a call that cuts a view at an offset or at characters, or any other, by `walks`.
+fn cut<E: Utf16Order>(
+    alloc: Global,
+    text: WStr<E>,
+    name: &str,
+    values: &mut Values,
+    answer: &mut Answer,
+) -> Result<(), Trouble> {
+    match name {
+        "WStr::split_at" => split_at(text, values, answer),
+        "WStr::split_at_checked" => split_at_checked(text, values, answer),
+        "WStr::split_once" => split_once(alloc, text, values, answer),
+        "WStr::split" => split(alloc, text, values, answer),
+        _ => walks::call(alloc, text, name, values, answer),
+    }
 }
 
 // The part that a call takes, where `get` has one.
@@ -40,88 +52,94 @@ macro_rules! part {
 
 fn part<'a, E: Utf16Order>(text: WStr<'a, E>, by: By, span: Span) -> Option<WStr<'a, E>> {
     match span {
-        Span::Between(start, end) => part!(text, by, start..end),
         Span::From(start) => part!(text, by, start..),
-        Span::To(end) => part!(text, by, ..end),
-        Span::Full => part!(text, by, ..),
+        Span::Between(start, end) => part!(text, by, start..end),
         Span::Through(start, end) => part!(text, by, start..=end),
-        Span::ToThrough(end) => part!(text, by, ..=end),
+        Span::Full => part!(text, by, ..),
+        Span::To(end) => front(text, by, end, false),
+        Span::ToThrough(end) => front(text, by, end, true),
+    }
+}
+
+// The part that begins where the view does.
+fn front<'a, E: Utf16Order>(
+    text: WStr<'a, E>,
+    by: By,
+    end: usize,
+    is_inclusive: bool,
+) -> Option<WStr<'a, E>> {
+    if is_inclusive {
+        part!(text, by, ..=end)
+    } else {
+        part!(text, by, ..end)
     }
 }
 
 fn range<E: Utf16Order>(
-    alloc: Global,
+    text: WStr<E>,
     by: By,
     values: &mut Values,
     answer: &mut Answer,
 ) -> Result<(), Trouble> {
-    let raw = values.bytes(alloc, E::BIG)?;
     let span = Span::read(values.word()?)?;
-    match part(view::<E>(&raw)?, by, span) {
-        Some(part) => answer.bytes(part.as_bytes())?,
-        None if by == By::Get => answer.word("none")?,
-        None => return Err(Trouble::Condition),
+    match (part(text, by, span), by) {
+        (Some(part), _) => answer.bytes(part.as_bytes()),
+        (None, By::Get) => answer.word("none"),
+        _ => return Err(Trouble::Condition),
     }
     Ok(())
 }
 
-fn both<E: Utf16Order>(
-    answer: &mut Answer,
-    parts: Option<(WStr<E>, WStr<E>)>,
-) -> Result<(), Trouble> {
+fn both<E: Utf16Order>(answer: &mut Answer, parts: Option<(WStr<E>, WStr<E>)>) {
     match parts {
         Some((front, back)) => {
-            answer.bytes(front.as_bytes())?;
-            answer.bytes(back.as_bytes())?;
+            answer.bytes(front.as_bytes());
+            answer.bytes(back.as_bytes());
         }
-        None => answer.word("none")?,
+        None => answer.word("none"),
     }
-    Ok(())
 }
 
 fn split_at<E: Utf16Order>(
-    alloc: Global,
+    text: WStr<E>,
     values: &mut Values,
     answer: &mut Answer,
 ) -> Result<(), Trouble> {
-    let raw = values.bytes(alloc, E::BIG)?;
     let mid = values.number()?;
-    let text = view::<E>(&raw)?;
     if !text.is_char_boundary(mid) {
         return Err(Trouble::Condition);
     }
-    both(answer, Some(text.split_at(mid)))
+    both(answer, Some(text.split_at(mid)));
+    Ok(())
 }
 
 fn split_at_checked<E: Utf16Order>(
-    alloc: Global,
+    text: WStr<E>,
     values: &mut Values,
     answer: &mut Answer,
 ) -> Result<(), Trouble> {
-    let raw = values.bytes(alloc, E::BIG)?;
-    let mid = values.number()?;
-    both(answer, view::<E>(&raw)?.split_at_checked(mid))
+    both(answer, text.split_at_checked(values.number()?));
+    Ok(())
 }
 
 fn split_once<E: Utf16Order>(
     alloc: Global,
+    text: WStr<E>,
     values: &mut Values,
     answer: &mut Answer,
 ) -> Result<(), Trouble> {
-    let raw = values.bytes(alloc, E::BIG)?;
-    let delimiter = values.character(alloc)?;
-    both(answer, view::<E>(&raw)?.split_once(delimiter))
+    both(answer, text.split_once(values.character(alloc)?));
+    Ok(())
 }
 
 fn split<E: Utf16Order>(
     alloc: Global,
+    text: WStr<E>,
     values: &mut Values,
     answer: &mut Answer,
 ) -> Result<(), Trouble> {
-    let raw = values.bytes(alloc, E::BIG)?;
-    let delimiter = values.character(alloc)?;
-    for part in view::<E>(&raw)?.split(delimiter) {
-        answer.bytes(part.as_bytes())?;
+    for part in text.split(values.character(alloc)?) {
+        answer.bytes(part.as_bytes());
     }
     Ok(())
 }

@@ -13,34 +13,40 @@ pub fn call<E: Utf16Order>(
     values: &mut Values,
     answer: &mut Answer,
 ) -> Result<(), Trouble> {
-    if !name.starts_with("WStrMut::") {
-        return Err(Trouble::Call);
-    }
     let mut raw = values.bytes(alloc, E::BIG)?;
+    by_name::<E>(alloc, name, &mut raw, values, answer)?;
+    answer.bytes(&raw);
+    Ok(())
+}
+
+fn by_name<E: Utf16Order>(
+    alloc: Global,
+    name: &str,
+    raw: &mut [u8],
+    values: &mut Values,
+    answer: &mut Answer,
+) -> Result<(), Trouble> {
     match name {
         "WStrMut::from_utf16" | "WStrMut::from_utf16le" | "WStrMut::from_utf16be" => {
-            tested::<E>(name, &mut raw, answer)?;
+            tested::<E>(name, raw, answer)
         }
         "WStrMut::from_utf16_unchecked"
         | "WStrMut::from_utf16le_unchecked"
-        | "WStrMut::from_utf16be_unchecked" => untested::<E>(name, &mut raw, answer)?,
-        "WStrMut::fits" => fits::<E>(alloc, &mut raw, values, answer)?,
-        "WStrMut::overwrite" => overwrite::<E>(alloc, &mut raw, values, answer)?,
-        _ => return Err(Trouble::Call),
+        | "WStrMut::from_utf16be_unchecked" => untested::<E>(name, raw, answer),
+        "WStrMut::fits" | "WStrMut::overwrite" => part::<E>(alloc, name, raw, values, answer),
+        _ => Err(Trouble::Call),
     }
-    answer.bytes(&raw)?;
-    values.end()
 }
 
-// What the view shows and the bytes that it gives back, or the fields of the error.
+// Adds what the view shows and the bytes that it gives back, or the fields of the error.
 macro_rules! made {
     ($answer:expr, $made:expr) => {
         match $made {
             Ok(text) => {
-                $answer.bytes(text.as_wstr().as_bytes())?;
-                $answer.bytes(text.into_bytes())?;
+                $answer.bytes(text.as_wstr().as_bytes());
+                $answer.bytes(text.into_bytes());
             }
-            Err(error) => refused($answer, error)?,
+            Err(error) => refused($answer, error),
         }
     };
 }
@@ -59,46 +65,50 @@ fn untested<E: Utf16Order>(name: &str, raw: &mut [u8], answer: &mut Answer) -> R
     view::<E>(raw)?;
     match name {
         "WStrMut::from_utf16le_unchecked" if !E::BIG => {
-            answer.bytes(WStrMut::from_utf16le_unchecked(raw).as_wstr().as_bytes())?;
+            answer.bytes(WStrMut::from_utf16le_unchecked(raw).as_wstr().as_bytes());
         }
         "WStrMut::from_utf16be_unchecked" if E::BIG => {
-            answer.bytes(WStrMut::from_utf16be_unchecked(raw).as_wstr().as_bytes())?;
+            answer.bytes(WStrMut::from_utf16be_unchecked(raw).as_wstr().as_bytes());
         }
         "WStrMut::from_utf16_unchecked" => {
-            answer.bytes(WStrMut::<E>::from_utf16_unchecked(raw).as_wstr().as_bytes())?;
+            answer.bytes(WStrMut::<E>::from_utf16_unchecked(raw).as_wstr().as_bytes());
         }
         _ => return Err(Trouble::Condition),
     }
     Ok(())
 }
 
-fn fits<E: Utf16Order>(
+// Makes a call on an index and a text.
+fn part<E: Utf16Order>(
     alloc: Global,
+    name: &str,
     raw: &mut [u8],
     values: &mut Values,
     answer: &mut Answer,
 ) -> Result<(), Trouble> {
     let index = values.number()?;
     let part = values.bytes(alloc, E::BIG)?;
-    let text = WStrMut::<E>::from_utf16(raw).map_err(|_| Trouble::Condition)?;
-    answer.truth(text.fits(index, view(&part)?))?;
-    Ok(())
+    put::<E>(name, raw, index, view(&part)?, answer)
 }
 
-fn overwrite<E: Utf16Order>(
-    alloc: Global,
+// Whether a text fits at an index, or the view once it is written there.
+fn put<E: Utf16Order>(
+    name: &str,
     raw: &mut [u8],
-    values: &mut Values,
+    index: usize,
+    part: WStr<E>,
     answer: &mut Answer,
 ) -> Result<(), Trouble> {
-    let index = values.number()?;
-    let part = values.bytes(alloc, E::BIG)?;
-    let part: WStr<E> = view(&part)?;
     let mut text = WStrMut::<E>::from_utf16(raw).map_err(|_| Trouble::Condition)?;
-    if !text.fits(index, part) {
+    let fits = text.fits(index, part);
+    if name == "WStrMut::fits" {
+        answer.truth(fits);
+        return Ok(());
+    }
+    if !fits {
         return Err(Trouble::Condition);
     }
     text.overwrite(index, part);
-    answer.bytes(text.as_wstr().as_bytes())?;
+    answer.bytes(text.as_wstr().as_bytes());
     Ok(())
 }

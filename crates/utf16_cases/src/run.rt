@@ -2,7 +2,8 @@
 
 use std::alloc::Global;
 use std::io;
-use utf16_case_lines::{Answer, Case, How, Trouble, Values};
+use utf16_case_lines::{Answer, How, Trouble, Values};
+use utf16_case_parser::Case;
 use utf16string::{BigEndian, LittleEndian, Utf16Order};
 
 /// How many cases passed and failed.
@@ -71,7 +72,7 @@ impl From<io::Error> for Failure {
 // Runs the case of a line in each order that it names, and says whether it gave what is wanted.
 fn run(rt: &impl Print, alloc: Global, line: &str) -> Result<bool, Failure> {
     let words: Vec<&str> = line.split_ascii_whitespace().collect(alloc)?;
-    let case = Case::read(&words)?;
+    let case = Case::read(&words).ok_or(Trouble::Form)?;
     let how = How::read(alloc, case.how)?;
     let little = !how.little || agrees::<LittleEndian>(rt, alloc, &case, &how)?;
     let big = !how.big || agrees::<BigEndian>(rt, alloc, &case, &how)?;
@@ -88,18 +89,16 @@ fn agrees<E: Utf16Order>(
     let mut found = Answer::new(alloc);
     call::<E>(alloc, case, how, &mut found)?;
     let wanted = Answer::wanted(alloc, case.wanted, E::BIG)?;
-    let is_equal = found.as_str() == wanted.as_str();
+    let (found, wanted) = (found.as_str()?, wanted.as_str()?);
+    let is_equal = found == wanted;
     if !is_equal {
         let name = case.name;
-        let found = found.as_str();
-        let wanted = wanted.as_str();
         println!(rt; "{name}: {found}, wanted: {wanted}")?;
     }
     Ok(is_equal)
 }
 
-// Makes the call of a case, by the crate that knows it. The crates are asked in turn, each in a
-// function of its own: the proof of one that asks all takes a hundred times as long.
+// Makes the call of a case and refuses a value that is left.
 fn call<E: Utf16Order>(
     alloc: Global,
     case: &Case,
@@ -107,8 +106,21 @@ fn call<E: Utf16Order>(
     answer: &mut Answer,
 ) -> Result<(), Trouble> {
     let mut values = Values::new(case.values);
-    match utf16_case_views::call::<E>(alloc, case.call, how, &mut values, answer) {
-        Err(Trouble::Call) => on_strings::<E>(alloc, case.call, how, &mut values, answer),
+    on_views::<E>(alloc, case.call, how, &mut values, answer)?;
+    values.end()
+}
+
+// Makes a call, by the crate that knows it. The crates are asked in turn, each in a function of its
+// own: the proof of one that asks all takes a hundred times as long.
+fn on_views<E: Utf16Order>(
+    alloc: Global,
+    name: &str,
+    how: &How,
+    values: &mut Values,
+    answer: &mut Answer,
+) -> Result<(), Trouble> {
+    match utf16_case_views::call::<E>(alloc, name, how, values, answer) {
+        Err(Trouble::Call) => on_strings::<E>(alloc, name, how, values, answer),
         made => made,
     }
 }

@@ -1,7 +1,7 @@
 use Rattle.std.proofs.Common.{rules, ◌≡◌, suc, [], ◌++◌, ◌∷◌, ◌+◌, slice_index_or, take, drop, sym, ap, ◌∙◌, arith, ℕ, List, Bor}
 use Rattle.std.proofs.lemmas.List.{take_rest}
 use Rattle.std.proofs.Math.Seq.{split_at}
-use Rattle.utf16_case_lines.proofs.case.around_equals.Goals as goal
+use Rattle.utf16_case_parser.proofs.case.around_equals.Goals as goal
 
 pub returns-then-eq : goal.returns-then-eq
 returns-then-eq c =

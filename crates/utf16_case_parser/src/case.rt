@@ -1,8 +1,6 @@
 //! The parts of a line of a table.
 
-ghost use Rattle.std.specs.Prelude.{◌≡◌, ◌++◌, ◌∷◌, IfOk, IfSome, codes};
-
-use crate::trouble::Trouble;
+ghost use Rattle.std.specs.Prelude.{◌≡◌, ◌++◌, ◌∷◌, IfSome, codes};
 
 /// A case: what a line of a table says, word by word.
 #[derive(Clone, Copy, Drop)]
@@ -21,16 +19,16 @@ pub struct Case<'a> {
 
 impl<'a> Case<'a> {
     /// The case that the words of a line say: a name, how, a call, its values, `=`, and what it
-    /// gives. `Form` where they are not of that form.
-    pub fn read(words: &'a [&'a str]) -> Result<Self, Trouble>
-        ensures { IfOk result (λ case. (equals : _) × (equals.now ≡ codes "=") × (words.now
+    /// gives. `None` where they are not of that form.
+    pub fn read(words: &'a [&'a str]) -> Option<Self>
+        ensures { IfSome result (λ case. (equals : _) × (equals.now ≡ codes "=") × (words.now
             ≡ case.name ∷ case.how ∷ case.call ∷ case.values.now ++ equals ∷ case.wanted.now)) }
     {
-        let (said, wanted) = around_equals(words).ok_or(Trouble::Form)?;
+        let (said, wanted) = around_equals(words)?;
         let [name, how, call, values @ ..] = said else {
-            return Err(Trouble::Form);
+            return None;
         };
-        Ok(Case {
+        Some(Case {
             name,
             how,
             call,
