@@ -1,1 +1,2 @@
 mod Ordered
+pub mod Fronts

@@ -1,6 +1,6 @@
 //! Strings made from views in another byte order, and from characters.
 
-ghost use Rattle.std.specs.Prelude.{◌≡◌, [], IfOk, IsOk, OnOk, reverse};
+ghost use Rattle.std.specs.Prelude.{◌≡◌, [], ◌++◌, List, ℕ, IfOk, IsOk, OnErr, OnOk, reverse};
 ghost use Rattle.utf16_units.specs.Edit.{push_text};
 ghost use Rattle.utf16string.specs.Encoding.{Encodes};
 ghost use Rattle.utf16string.specs.WStr.{wstr_text};
@@ -33,12 +33,14 @@ pub fn turned_round<E: Utf16Order, A: Allocator>(
 }
 
 /// Puts the characters of a view last, which may be in another byte order. Where memory is refused,
-/// some of them may be put.
+/// a beginning of them is put.
 pub fn push_any<E: Utf16Order, F: Utf16Order, A: Allocator>(
     string: &mut WString<E, A>,
     text: WStr<F>,
 ) -> Result<(), AllocError>
-    ensures { OnOk result (wstring_text string.new ≡ push_text (wstring_text string.old) (wstr_text text.entry)) }
+    ensures text { OnOk result (wstring_text string.new ≡ push_text (wstring_text string.old) (wstr_text text.entry)) }
+    ensures refused { OnErr result ((front rest : List ℕ) × (wstr_text text.entry ≡ front ++ rest)
+        × (wstring_text string.new ≡ push_text (wstring_text string.old) front)) }
 {
     string.extend(text.chars())
 }
