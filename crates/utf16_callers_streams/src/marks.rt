@@ -1,9 +1,10 @@
 //! What users of streams want whose byte order a mark tells.
 
-ghost use Rattle.std.specs.Prelude.{◌≡◌, ◌++◌, None, IfOk, OnOk, encode_utf8_all, string_bytes};
+ghost use Rattle.std.specs.Prelude.{◌≡◌, ◌⊎◌, ◌++◌, None, IfOk, OnErr, OnOk, encode_utf8_all, string_bytes};
 ghost use Rattle.utf16_tools.specs.AnyLossy.{any_order, any_pending};
 ghost use Rattle.utf16_tools.specs.Mark.{items_in, order_after, tail_in};
 ghost use Rattle.utf16_tools.specs.Split.{full, marked};
+ghost use Rattle.utf16_callers_streams.specs.Given.{Leaves};
 
 use std::alloc::{AllocError, Allocator};
 use utf16_tools::AnyLossy;
@@ -36,6 +37,9 @@ pub fn marked_in_two<A: Allocator, B: Allocator>(
     ensures text { IfOk result (λ s. string_bytes s ≡ encode_utf8_all (marked (items_in (any_order decoder.old) (any_pending decoder.old ++ (first.now ++ second.now))))) }
     ensures pending { OnOk result (any_pending decoder.new ≡ tail_in (any_order decoder.old) (any_pending decoder.old ++ (first.now ++ second.now))) }
     ensures order { OnOk result (any_order decoder.new ≡ order_after (any_order decoder.old) (any_pending decoder.old ++ (first.now ++ second.now))) }
+    ensures refused { OnErr result (((any_pending decoder.new ≡ any_pending decoder.old) × (any_order decoder.new ≡ any_order decoder.old))
+        ⊎ Leaves (any_order decoder.old) (any_pending decoder.old ++ first.now) (any_order decoder.new) (any_pending decoder.new)
+        ⊎ Leaves (any_order decoder.old) (any_pending decoder.old ++ (first.now ++ second.now)) (any_order decoder.new) (any_pending decoder.new)) }
 {
     let mut text = decoder.feed(alloc, first)?;
     let more = decoder.feed(second_alloc, second)?;
