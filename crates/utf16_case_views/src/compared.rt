@@ -1,5 +1,6 @@
 //! Views compared and hashed.
 
+use crate::affixes;
 use crate::made::view;
 use std::alloc::Global;
 use std::cmp::Ordering;
@@ -7,7 +8,7 @@ use std::hash::{FoldHasher, Hash, Hasher};
 use utf16_case_lines::{Answer, Trouble, Values};
 use utf16string::{Utf16Order, WStr};
 
-/// Makes a call that compares or hashes views. `Call` where none has this name.
+/// Makes a call that compares or hashes views, or any other, by `affixes`.
 pub fn call<E: Utf16Order>(
     alloc: Global,
     text: WStr<E>,
@@ -20,7 +21,7 @@ pub fn call<E: Utf16Order>(
             beside(alloc, text, name, values, answer)
         }
         "WStr::eq_str" => eq_str(alloc, text, values, answer),
-        _ => Err(Trouble::Call),
+        _ => affixes::call(alloc, text, name, values, answer),
     }
 }
 

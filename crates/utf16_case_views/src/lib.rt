@@ -1,6 +1,7 @@
 //! The calls of `utf16_units` and of views, as cases name them.
 #![tactic(auto)]
 
+mod affixes;
 mod compared;
 mod made;
 mod measures;

@@ -33,6 +33,10 @@ fn by_name<E: Utf16Order>(
         "WStrMut::from_utf16_unchecked"
         | "WStrMut::from_utf16le_unchecked"
         | "WStrMut::from_utf16be_unchecked" => untested::<E>(name, raw, answer),
+        "WStrMut::split_valid" => {
+            split_valid::<E>(raw, answer);
+            Ok(())
+        }
         "WStrMut::fits" | "WStrMut::overwrite" => part::<E>(alloc, name, raw, values, answer),
         _ => Err(Trouble::Call),
     }
@@ -76,6 +80,12 @@ fn untested<E: Utf16Order>(name: &str, raw: &mut [u8], answer: &mut Answer) -> R
         _ => return Err(Trouble::Condition),
     }
     Ok(())
+}
+
+fn split_valid<E: Utf16Order>(raw: &mut [u8], answer: &mut Answer) {
+    let (text, rest) = WStrMut::<E>::split_valid(raw);
+    answer.bytes(text);
+    answer.bytes(rest);
 }
 
 // Makes a call on an index and a text.
