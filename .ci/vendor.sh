@@ -1,0 +1,64 @@
+#!/usr/bin/env bash
+# Tries vendor.sh: what it copies, the lines that it prints, and what it refuses. Prints each check that fails, and last a line
+# 'N passed, M failed'.
+set -uo pipefail
+cd "$(dirname "$0")/.." || exit 1
+room=$(mktemp -d)
+trap 'rm -rf "$room"' EXIT
+passed=0
+failed=0
+
+holds() {
+    local what=$1
+    shift
+    if "$@"; then
+        passed=$((passed + 1))
+    else
+        failed=$((failed + 1))
+        echo "failed: $what"
+    fi
+}
+
+# Each crate that a line names is a line before it, or a library of the kit.
+stand_on_those_above() {
+    local line below seen=' byteorder simdutf8 '
+    while IFS= read -r line; do
+        for below in ${line#*:}; do
+            [[ $seen == *" $below "* ]] || return 1
+        done
+        line=${line%%:*}
+        seen+="${line%% *} "
+    done < "$1"
+}
+
+are_lines_of_this_tree() {
+    ! grep -vxFf crates.txt "$1"
+}
+
+has_only_what_is_needed() {
+    [ -z "$(find "$1" -name out -o -name must-fail)" ] && diff -rq -x out -x must-fail crates/utf16_str "$1/crates/utf16_str"
+}
+
+refuses() {
+    local status=$1
+    shift
+    ./vendor.sh "$@" > "$room/refused" 2> "$room/line"
+    [ $? = "$status" ] && [ ! -s "$room/refused" ] && [ "$(wc -l < "$room/line")" = 1 ]
+}
+
+./vendor.sh "$room/one" utf16string > "$room/lines"
+holds 'six crates of a string' [ "$(cut -d: -f1 "$room/lines" | paste -sd' ')" = 'utf16_units utf16_to_utf8 utf16_from_utf8 utf16_str utf16_retain utf16string' ]
+holds 'each is copied' [ "$(cut -d: -f1 "$room/lines" | sort)" = "$(ls "$room/one/crates")" ]
+holds 'the lines stand on one another' stand_on_those_above "$room/lines"
+holds 'the lines are those of crates.txt' are_lines_of_this_tree "$room/lines"
+holds 'sources alone' has_only_what_is_needed "$room/one"
+./vendor.sh "$room/two" utf16_c utf16_tools > "$room/lines"
+holds 'crates of two, each once' [ "$(sort "$room/lines" | uniq -d | wc -l) $(wc -l < "$room/lines")" = '0 12' ]
+holds 'these stand on one another' stand_on_those_above "$room/lines"
+holds 'a crate that is there is refused' refuses 1 "$room/one" utf16_edits
+holds 'and nothing is copied' [ ! -e "$room/one/crates/utf16_edits" ]
+holds 'a crate that is none is refused' refuses 1 "$room/three" utf16
+holds 'and nothing is made' [ ! -e "$room/three" ]
+holds 'no crate is refused' refuses 2 "$room/three"
+echo "$passed passed, $failed failed"
+[ $failed = 0 ]
