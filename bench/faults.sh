@@ -15,7 +15,7 @@ cc -O2 -Wall -shared -fPIC -o faults.so "$top/bench/faults.c" -ldl || exit 1
 passed=0
 failed=0
 
-# Four blocks of letters, lone surrogates and pairs, cut at odd places, and the first two bytes of a pair.
+# Four blocks of letters, unpaired surrogates and pairs, cut at odd places, and the first two bytes of a pair.
 { for _ in $(seq 1200); do printf 'a\0\0\xDC\0\xD8\0\xDC\0\xD8b\0'; done; printf '\0\xD8'; } > le
 { for _ in $(seq 1200); do printf '\0a\xDC\0\xD8\0\xDC\0\xD8\0\0b'; done; printf '\xD8\0'; } > be
 { for _ in $(seq 1200); do printf 'a\xEF\xBF\xBD\xF0\x90\x80\x80\xEF\xBF\xBDb'; done; printf '\xEF\xBF\xBD'; } > wanted

@@ -282,7 +282,7 @@ static unsigned unit_at(bool big, const uint8_t *at) {
     return big ? (unsigned)(at[0] << 8) + at[1] : (unsigned)(at[1] << 8) + at[0];
 }
 
-/* A surrogate without its partner has as many bytes as any other unit, and U+FFFD as many as any other character from U+0800 on. */
+/* An unpaired surrogate has as many bytes as any other unit, and U+FFFD as many as any other character from U+0800 on. */
 static item item_of_utf16(bool big, const uint8_t *at, size_t left) {
     unsigned unit = left < 2 ? 0 : unit_at(big, at);
     bool leads = (unit & 0xFC00) == 0xD800;

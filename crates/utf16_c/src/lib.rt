@@ -30,8 +30,8 @@ use utf16_transcode::{
 };
 use utf16_units::{BE, LE, validate_raw_utf16};
 
-/// The longest well-formed beginning of the bytes, and what stands behind it: nothing, a surrogate
-/// without its partner, or a character that is cut off at the end. One pass, up to the first fault.
+/// The longest well-formed beginning of the bytes, and what stands behind it: nothing, an unpaired
+/// surrogate, or a character that is cut off at the end. One pass, up to the first fault.
 #[unsafe(no_mangle)]
 pub extern "C" fn utf16_validate(big: bool, raw: &[u8]) -> Validity
     ensures validity { IsValidity big raw.now result.valid_up_to (stop_of result.status result.fault_len) }
@@ -104,7 +104,7 @@ pub extern "C" fn utf16_to_utf8(big: bool, raw: &[u8], to: &mut [u8]) -> Answer
     })
 }
 
-/// The same with U+FFFD for each surrogate without its partner, and one for a character that is cut
+/// The same with U+FFFD for each unpaired surrogate, and one for a character that is cut
 /// off at the end. The status is 0, or 3 where the room that is left is shorter than the next
 /// character or U+FFFD: the call may go on behind `read`.
 #[unsafe(no_mangle)]

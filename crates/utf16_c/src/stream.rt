@@ -11,7 +11,7 @@ use utf16_transcode::Stream;
 use utf16_units::{BE, LE};
 
 /// Takes the next piece of a stream and writes in UTF-8 what is decided now, as far as whole
-/// characters fit: the characters, and U+FFFD for each surrogate without its partner. `read` counts
+/// characters fit: the characters, and U+FFFD for each unpaired surrogate. `read` counts
 /// the bytes of the piece that were taken: all of them, or the next character does not fit. Any
 /// bytes are allowed in the state, and a `len` of at most three is left there. In time linear in
 /// what is read.

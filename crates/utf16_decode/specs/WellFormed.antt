@@ -1,4 +1,4 @@
--- Units made well formed: U+FFFD in place of each surrogate without its partner. Each unit is
+-- Units made well formed: U+FFFD in place of each unpaired surrogate. Each unit is
 -- looked at between its neighbors.
 use Rattle.std.specs.Prelude.{ℕ, List, [], ◌∷◌, if◌then◌else◌}
 use Rattle.std.specs.Char.Utf16.{is_high_surrogate, is_low_surrogate}

@@ -27,7 +27,7 @@ const COPIED_ROOM: usize = 512;
 pub const MARK: [u8; 3] = [0xEF, 0xBF, 0xBD];
 
 /// Writes in UTF-8 what the bytes decide to the front of a buffer, as far as whole characters fit:
-/// the characters, and U+FFFD for each surrogate without its partner. What more bytes could change
+/// the characters, and U+FFFD for each unpaired surrogate. What more bytes could change
 /// is not read. Any bytes are allowed. What stands behind the written bytes may have been written
 /// over. In time linear in what is read.
 pub fn decode<E: Utf16Order>(raw: &[u8], to: &mut [u8]) -> Progress
@@ -66,7 +66,7 @@ pub fn decode<E: Utf16Order>(raw: &[u8], to: &mut [u8]) -> Progress
 }
 
 // Writes what the next bytes decide to the front of a buffer, as many as surely fit, by a copy of
-// them in the frame with U+FFFD for each surrogate without its partner: how many bytes were read,
+// them in the frame with U+FFFD for each unpaired surrogate: how many bytes were read,
 // and how many were written.
 #[inline(never)]
 fn put_copied<E: Utf16Order>(raw: &[u8], to: &mut [u8]) -> (usize, usize)
@@ -81,7 +81,7 @@ fn put_copied<E: Utf16Order>(raw: &[u8], to: &mut [u8]) -> (usize, usize)
 }
 
 /// Writes UTF-16 in UTF-8 to the front of a buffer, as far as whole characters fit, with U+FFFD for
-/// each surrogate without its partner and one for a character that is cut off at the end. Any bytes
+/// each unpaired surrogate and one for a character that is cut off at the end. Any bytes
 /// are allowed. What stands behind the written bytes may have been written over. In time linear in
 /// what is read.
 pub fn decode_whole<E: Utf16Order>(raw: &[u8], to: &mut [u8]) -> Progress

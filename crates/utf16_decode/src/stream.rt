@@ -57,8 +57,8 @@ impl Stream {
     }
 
     /// Takes the next piece and writes in UTF-8 what is decided now to the front of a buffer, as
-    /// far as whole characters fit: the characters, and U+FFFD for each surrogate without its
-    /// partner. `read` counts the bytes of the piece that were taken. With `Done` all of it was,
+    /// far as whole characters fit: the characters, and U+FFFD for each unpaired surrogate.
+    /// `read` counts the bytes of the piece that were taken. With `Done` all of it was,
     /// and what more bytes could change is held. With `NoRoom` the next character does not fit: the
     /// caller feeds the rest of the piece with more room. Fewer than four bytes of the buffer are
     /// left then, so with room for four or more something was written. What stands behind the

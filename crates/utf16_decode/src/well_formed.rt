@@ -1,4 +1,4 @@
-//! Any bytes made well formed: U+FFFD in place of each surrogate without its partner, which is of
+//! Any bytes made well formed: U+FFFD in place of each unpaired surrogate, which is of
 //! the same length.
 
 ghost use Rattle.std.specs.Prelude.{◌≡◌, ◌+◌, ◌%◌, ◌≤◌, ◌++◌, ◌==◌, bit_and, drop, if◌then◌else◌, length, slice_index, take};
@@ -13,12 +13,11 @@ use std::simd::prelude::*;
 use utf16_units::blocks::{bytes16, units16};
 use utf16_units::{Utf16Order, is_leading_surrogate};
 
-/// Copies bytes of UTF-16 to the front of a buffer, with U+FFFD in place of each surrogate without
-/// its partner, and answers how many bytes that are: all but those at the end that more bytes could
-/// change, which are a last odd byte, and a leading surrogate with at most one byte after it. What
-/// is written is well formed, and each character of it stands where it or the surrogate stood. The
-/// caller proves that the buffer is as long as the bytes; what stands behind those written stays.
-/// One pass, by lanes.
+/// Copies UTF-16 to the front of a buffer and replaces each unpaired surrogate by U+FFFD. Returns
+/// the number of bytes written: all but an incomplete character at the end (an odd byte, or a
+/// leading surrogate and at most one byte after it). What is written is well formed, and each of
+/// its characters is where it, or the surrogate, was. The caller proves that the buffer is as long
+/// as the bytes; what follows those written stays. One pass, with SIMD.
 pub fn write_well_formed<E: Utf16Order>(raw: &[u8], to: &mut [u8]) -> usize
     requires room { length raw.now ≤ length to.old }
     ensures len { result + length (split_tail E.BIG raw.now) ≡ length raw.now }
@@ -77,8 +76,8 @@ fn write_rest<E: Utf16Order>(before: u16, raw: &[u8], to: &mut [u8])
     to.copy_from_slice(&written[..raw.len()]);
 }
 
-// The units of a block that stands between two other units, with U+FFFD in place of each surrogate
-// without its partner.
+// The units of a block that stands between two other units, with U+FFFD in place of each unpaired
+// surrogate.
 #[inline(always)]
 fn well_formed(before: u16, units: u16x16, behind: u16) -> u16x16
     ensures len { length result ≡ 16 }

@@ -66,7 +66,7 @@ pub fn utf8_of<E: Utf16Order, A: Allocator>(
     Ok(text.to_utf8(alloc)?)
 }
 
-/// The whole text of any bytes in UTF-8, with U+FFFD for each surrogate without its partner, and
+/// The whole text of any bytes in UTF-8, with U+FFFD for each unpaired surrogate, and
 /// one more where a beginning is left at the end. The only error is a refused request for memory.
 pub fn utf8_marked<E: Utf16Order, A: Allocator>(
     alloc: A,

@@ -16,7 +16,7 @@ use utf16_units::{BE, LE, Utf16Order};
 /// tells. A stream that begins with the bytes `FE FF` is big endian, one that begins with `FF FE`
 /// is little endian, and this byte order mark is no part of its text; any other stream is big
 /// endian, all of it text. A second mark is a character as any other. What is no text is shown by
-/// U+FFFD, one for each surrogate without its partner. At most three bytes are held back, in the
+/// U+FFFD, one for each unpaired surrogate. At most three bytes are held back, in the
 /// value itself.
 #[derive(Drop)]
 pub struct AnyLossy {

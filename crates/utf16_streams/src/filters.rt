@@ -31,7 +31,7 @@ pub enum FilterFault {
 }
 
 /// Decodes all that the reader gives, in the order `E`, and writes it in UTF-8, with U+FFFD for
-/// each surrogate without its partner and one more where a beginning is left at the end. It reads
+/// each unpaired surrogate and one more where a beginning is left at the end. It reads
 /// pieces of up to 4,096 bytes until a read gives none, flushes once at the end, and stops at the
 /// first fault. It takes room for the text of one piece, whatever the input's length. The caller
 /// proves that there is a number for a fault of the reader, and for one of the writer.

@@ -16,7 +16,7 @@ use utf16_decode::Stream;
 use utf16_units::Utf16Order;
 
 /// A decoder of UTF-16 in the byte order `E` that comes in pieces, cut anywhere. What is no text is
-/// shown by U+FFFD, one for each surrogate without its partner. At most three bytes are held back,
+/// shown by U+FFFD, one for each unpaired surrogate. At most three bytes are held back,
 /// in the value itself.
 #[derive(Drop)]
 pub struct Lossy<E: Utf16Order> {
@@ -52,7 +52,7 @@ impl<E: Utf16Order> Lossy<E> {
     }
 
     /// Takes the next piece, and answers the text of all that is decided now: the characters, and
-    /// U+FFFD for each surrogate without its partner. What more bytes could change stays pending.
+    /// U+FFFD for each unpaired surrogate. What more bytes could change stays pending.
     /// The only error is a refused request for memory; it leaves the decoder as it was, and nothing
     /// of the piece is taken. Where the answer is empty there is none. Room for the longest answer
     /// is asked for once: three bytes for each code unit. The piece is read where it stands, and
@@ -121,8 +121,8 @@ impl<E: Utf16Order> Decoder for Lossy<E> {
     }
 }
 
-/// The text of the pieces of a stream, joined: its characters, U+FFFD for each surrogate without
-/// its partner, and one more where a beginning is left at the end. The only error is a refused
+/// The text of the pieces of a stream, joined: its characters, U+FFFD for each unpaired surrogate,
+/// and one more where a beginning is left at the end. The only error is a refused
 /// request for memory; where the pieces have no bytes none is asked for.
 pub fn decode_pieces<E: Utf16Order, A: Allocator, B: Allocator>(
     alloc: A,

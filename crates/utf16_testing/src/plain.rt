@@ -20,8 +20,8 @@ fn pair(leading: u32, trailing: u32) -> Option<char> {
     }
 }
 
-/// Puts the text that the bytes decide behind another, with U+FFFD for each surrogate without its
-/// partner, and answers how many bytes at the end are undecided: an odd one, and a leading
+/// Puts the text that the bytes decide behind another, with U+FFFD for each unpaired surrogate,
+/// and answers how many bytes at the end are undecided: an odd one, and a leading
 /// surrogate before it or alone.
 pub fn decode<A: Allocator>(
     big: bool,

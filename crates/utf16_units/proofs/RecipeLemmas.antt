@@ -21,7 +21,7 @@ pub marked-good : (text : List ℕ) → marked (map good text) ≡ text
 marked-good [] = refl
 marked-good (c ∷ text) = ap (λ t. c ∷ t) (marked-good text)
 
--- and a surrogate without its partner by U+FFFD
+-- and an unpaired surrogate by U+FFFD
 pub mark-lone_item : (unit : ℕ) → mark (lone_item unit) ≡ 0xFFFD
 mark-lone_item unit = ⊎_elim (λ (e : is_high_surrogate unit ≡ true). rw e refl) (λ (e : is_high_surrogate unit ≡ false). rw e refl)
     (cases_Bool (is_high_surrogate unit))

@@ -15,7 +15,7 @@ use Rattle.utf16_units.proofs.Computed.{IsCutOff-from_is_cut_off, is_cut_off-fro
 use Rattle.utf16_units.proofs.SplitLemmas.{Class, class_of, leading, trailing, neither, cut_items, cut_tail, put_unit-leading, put_unit-trailing, whole_items, whole_tail}
 use Rattle.utf16_units.proofs.SplitJoin.{BeginsNoTrail, BeginsNoTrail-split_items, put_leading-no_trail, split_items-text, split_tail-text}
 
--- the item of a surrogate without its partner
+-- the item of an unpaired surrogate
 abbrev pub lone_item : ℕ → Item
 lone_item unit = if is_high_surrogate unit then lone_lead unit else lone_trail unit
 

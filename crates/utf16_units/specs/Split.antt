@@ -1,4 +1,4 @@
--- The split of any bytes into characters, surrogates without a partner, and a tail that more bytes
+-- The split of any bytes into characters, unpaired surrogates, and a tail that more bytes
 -- could change.
 use Rattle.std.specs.Prelude.{◌≡◌, ℕ, ◌≤◌, Bool, List, [], ◌∷◌, ◌++◌, All, length, map, if◌then◌else◌}
 use Rattle.std.specs.Char.{IsScalar}
@@ -8,7 +8,7 @@ use Rattle.utf16_units.specs.Unit.{IsLeading, IsTrailing, unit_bytes, unit_of}
 use Rattle.utf16_units.specs.Encoding.{char_bytes}
 use Rattle.utf16_units.specs.Fault.{is_cut_off}
 
--- a character, or a surrogate code unit without its partner (Unicode, section 3.8: isolated
+-- a character, or an unpaired surrogate code unit (Unicode, section 3.8: isolated
 -- surrogate code units)
 pub data Item : Type 0 where
   good : ℕ → Item
@@ -52,7 +52,7 @@ pub record Split (big : Bool) (bytes : List ℕ) (items : List Item) (tail : Lis
   pub unpaired : (front : List Item) (unit : ℕ) (back : List Item) → front ++ lone_lead unit ∷ back ≡ items
       → BeginsUnpaired big (items_bytes big back ++ tail)
 
--- the character that an item is shown by: U+FFFD for a surrogate without its partner (Unicode,
+-- the character that an item is shown by: U+FFFD for an unpaired surrogate (Unicode,
 -- section 3.9: U+FFFD substitution)
 abbrev pub mark : Item → ℕ
 mark (good c) = c
@@ -93,7 +93,7 @@ split_tail big (last ∷ []) = last ∷ []
 split_tail big (first ∷ second ∷ bytes) =
     if is_cut_off big (first ∷ second ∷ bytes) then first ∷ second ∷ bytes else split_tail big bytes
 
--- the text that bytes decide, with U+FFFD for each surrogate without its partner
+-- the text that bytes decide, with U+FFFD for each unpaired surrogate
 abbrev pub decided_text : Bool → List ℕ → List ℕ
 decided_text big bytes = marked (split_items big bytes)
 

@@ -57,7 +57,7 @@ pub fn none_continues()
     ensures { NoneContinues }
 {}
 
-/// Any bytes split into characters, surrogates without a partner and a tail that more bytes could
+/// Any bytes split into characters, unpaired surrogates and a tail that more bytes could
 /// change; the computed split is one.
 pub fn split_exists()
     ensures { SplitExists }
@@ -75,14 +75,14 @@ pub fn split_extends()
 {}
 
 /// What a reader gets who resumes decoding by `valid_up_to` and `error_len` is the text of the
-/// split, with one U+FFFD for each surrogate without its partner, and what the reader keeps is its
+/// split, with one U+FFFD for each unpaired surrogate, and what the reader keeps is its
 /// tail.
 pub fn recipe_is_split()
     ensures { RecipeIsSplit }
 {}
 
 /// What a reader gets who resumes so over the pieces of a stream is the text of the split of the
-/// pieces joined, with one U+FFFD for each surrogate without its partner, and what the reader keeps
+/// pieces joined, with one U+FFFD for each unpaired surrogate, and what the reader keeps
 /// at the end is its tail: however the stream is cut.
 pub fn resumes_is_split()
     ensures { ResumesIsSplit }
