@@ -1,6 +1,7 @@
 #!/usr/bin/env bash
-# Copies crates, with all that they stand on, into the `crates` folder of another repository, and prints the lines that its
-# `crates.txt` wants, lowest first. Tests, must-fail edits and what was built stay here.
+# Copies crates, with all that they depend on, into the `crates` folder of another repository, and
+# prints the lines for its `crates.txt`, lowest first. Tests, must-fail edits and builds are not
+# copied.
 #
 #     ./vendor.sh DEST CRATE..
 set -euo pipefail
@@ -18,7 +19,7 @@ line_of() {
 }
 
 wanted=' '
-# Adds a crate and what it stands on; a library of the kit has no line.
+# Adds a crate and what it depends on; a library of the kit has no line.
 want() {
     local line below
     [[ $wanted != *" $1 "* ]] || return 0

@@ -1,6 +1,7 @@
 #!/usr/bin/env bash
-# Looks for each piece of Rattle in the documents in the file of the tree that the text before it names last: it must stand there,
-# paragraph by paragraph, so what a document shows is proved. Prints each that does not, and last a line 'N passed, M failed'.
+# Looks for each block of Rattle in the documents in the file of the tree that the text before it
+# names last: it must be there, paragraph by paragraph, so the code of a document is proved. Prints
+# each that is not, and last a line 'N passed, M failed'.
 set -uo pipefail
 cd "$(dirname "$0")/.." || exit 1
 passed=0

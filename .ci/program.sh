@@ -1,7 +1,8 @@
 #!/usr/bin/env bash
-# Runs the built program over a table of cases: what it writes, its line on standard error and its status, on plain inputs, on
-# standard streams that are closed, full, broken or no files, and with too little memory. Without words it takes each build that
-# stands in its crate, and builds one where there is none. Prints each case that fails, and last a line 'N passed, M failed'.
+# Runs the built program over a table of cases: what it writes, its line on standard error and its
+# status, on plain inputs, on standard streams that are closed, full, broken or no files, and with
+# too little memory. Without arguments it takes each build that is in its crate, and builds one
+# where there is none. Prints each case that fails, and last a line 'N passed, M failed'.
 set -uo pipefail
 top=$(cd "$(dirname "$0")/.." && pwd)
 room=$(mktemp -d)
@@ -19,7 +20,7 @@ out_of_memory='utf16_cat: out of memory\n'
 printf 'h\0i\0' > hi
 : > empty
 mkdir folder
-# 2,047 letters and then a pair, which a block of 4,096 bytes cuts.
+# 2,047 letters and then a pair, across the boundary of a block of 4,096 bytes.
 { head -c 2047 /dev/zero | sed 's/\x0/a\x0/g'; printf '\0\xD8\0\xDC'; } > long
 { head -c 2047 /dev/zero | tr '\0' a; printf '\xF0\x90\x80\x80'; } > long_utf8
 # 70,000 letters and then a pair.
@@ -29,8 +30,8 @@ head -c 3000000 /dev/zero > zeros
 head -c 1500000 /dev/zero > half
 head -c 1024 /dev/zero > front
 
-# The name, the status, the line on standard error, what is on standard output as printf writes it, and the command, of which
-# $P is the program.
+# The name, the status, the line on standard error, what is on standard output as printf writes it,
+# and the command, of which $P is the program.
 is() {
     local name=$1 status=$2 line=$3 wanted=$4 command=$5 found
     P=$program bash -c "$command" > found 2> errors < hi
@@ -44,19 +45,19 @@ is() {
     fi
 }
 
-# A case that decodes these bytes without a fault.
+# A case that decodes these bytes without an error.
 decodes() {
     printf "$2" > input
     is "$1 of $2" 0 "$none" "$3" "\$P $1 < input"
 }
 
-# A case of other words, as the shell takes them: nothing is read or written.
+# A case of other arguments, as the shell splits them: nothing is read or written.
 refuses() {
     is "$1" 2 "$usage" 'h\0i\0' "\$P $2; status=\$?; cat; exit \$status"
 }
 
-# Runs $P in an order with so little memory that it starts and is refused what it asks for. The limit is searched between one at
-# which it does not start and one at which it decodes.
+# Runs $P in a byte order with so little memory that it starts and an allocation fails. The limit is
+# searched between one at which it does not start and one at which it decodes.
 with_little_memory() {
     local low=0 high=1048576 limit status
     while [ $((high - low)) -gt 1 ]; do

@@ -1,6 +1,6 @@
 #!/usr/bin/env bash
-# Tries vendor.sh: what it copies, the lines that it prints, and what it refuses. Prints each check that fails, and last a line
-# 'N passed, M failed'.
+# Tests vendor.sh: what it copies, the lines that it prints, and its errors. Prints each check that
+# fails, and last a line 'N passed, M failed'.
 set -uo pipefail
 cd "$(dirname "$0")/.." || exit 1
 room=$(mktemp -d)
@@ -52,7 +52,7 @@ holds 'each is copied' [ "$(cut -d: -f1 "$room/lines" | sort)" = "$(ls "$room/on
 holds 'the lines stand on one another' stand_on_those_above "$room/lines"
 holds 'the lines are those of crates.txt' are_lines_of_this_tree "$room/lines"
 holds 'sources alone' has_only_what_is_needed "$room/one"
-./vendor.sh "$room/two" utf16_c utf16_tools > "$room/lines"
+./vendor.sh "$room/two" dethrux utf16_tools > "$room/lines"
 holds 'crates of two, each once' [ "$(sort "$room/lines" | uniq -d | wc -l) $(wc -l < "$room/lines")" = '0 12' ]
 holds 'these stand on one another' stand_on_those_above "$room/lines"
 holds 'a crate that is there is refused' refuses 1 "$room/one" utf16_edits

@@ -1,5 +1,6 @@
-//! Times the library's calls beside those of other decoders on the texts of a folder: a line for each call, text, byte order and
-//! decoder, with GB/s of UTF-16, for short fields with nanoseconds a call. First all answers are compared.
+//! Times the library's calls and those of other decoders on the texts of a folder: a line for each
+//! call, text, byte order and decoder, with GB/s of UTF-16, for short fields with nanoseconds per
+//! call. First all results are compared.
 mod plain;
 
 use encoding_rs::{UTF_16BE, UTF_16LE, mem};
@@ -11,32 +12,32 @@ use std::time::Instant;
 const ROUNDS: usize = 15;
 const CLASSES: [&str; 4] = ["ascii", "latin_cyrillic", "cjk", "emoji"];
 
-// The last argument is a buffer, to which a text that the call makes is written where it has room.
+// The last argument is a buffer, to which a text that the call makes is written where it fits.
 type Call = fn(bool, &[u8], &mut [u8]) -> usize;
 
-// The answers of `utf16.h`.
+// The results of `dethrux.h`.
 #[repr(C)]
 struct Progress {
     read: usize,
     written: usize,
     status: u32,
-    fault_len: u32,
+    error_len: u32,
 }
 
 #[repr(C)]
 struct Validity {
     valid_up_to: usize,
     status: u32,
-    fault_len: u32,
+    error_len: u32,
 }
 
 unsafe extern "C" {
-    fn utf16_validate(big: bool, raw: *const u8, len: usize) -> Validity;
-    fn loop_validate(big: bool, raw: *const u8, len: usize) -> Validity;
-    fn utf16_count(big: bool, raw: *const u8, len: usize) -> usize;
-    fn utf16_is_ascii(big: bool, raw: *const u8, len: usize) -> bool;
-    fn utf16_to_utf8(big: bool, raw: *const u8, len: usize, to: *mut u8, room: usize) -> Progress;
-    fn utf16_from_utf8(big: bool, text: *const u8, len: usize, to: *mut u8, room: usize) -> Progress;
+    fn dethrux_validate(order: u32, utf16: *const u8, len: usize) -> Validity;
+    fn loop_validate(order: u32, utf16: *const u8, len: usize) -> Validity;
+    fn dethrux_count_chars(order: u32, utf16: *const u8, len: usize) -> usize;
+    fn dethrux_is_ascii(order: u32, utf16: *const u8, len: usize) -> bool;
+    fn dethrux_to_utf8(order: u32, utf16: *const u8, len: usize, to: *mut u8, capacity: usize) -> Progress;
+    fn dethrux_from_utf8(order: u32, utf8: *const u8, len: usize, to: *mut u8, capacity: usize) -> Progress;
     fn icu_valid_up_to(units: *const u16, len: usize) -> usize;
     fn icu_count(units: *const u16, len: usize) -> usize;
     fn icu_to_utf8(units: *const u16, len: usize, to: *mut u8, room: usize) -> usize;
@@ -48,7 +49,8 @@ unsafe extern "C" {
 
 thread_local!(static SWAPPED: RefCell<Vec<u16>> = const { RefCell::new(Vec::new()) });
 
-// The units, for decoders that read them in the machine's order alone: those in big endian are swapped first.
+// The units, for decoders that read them in the machine's byte order alone: those in big endian are
+// swapped first.
 fn units<T>(big: bool, raw: &[u8], read: impl FnOnce(&[u16]) -> T) -> T {
     let units = unsafe { raw.align_to::<u16>().1 };
     if !big {
@@ -65,7 +67,8 @@ fn icu<T>(big: bool, raw: &[u8], call: impl FnOnce(*const u16, usize) -> T) -> T
     units(big, raw, |units| call(units.as_ptr(), units.len()))
 }
 
-// Makes a text in room that is enough, three bytes of UTF-8 for each unit, one unit for each byte of UTF-8.
+// Makes a text in a buffer that is long enough: three bytes of UTF-8 per unit, one unit per byte of
+// UTF-8.
 fn made<T>(room: usize, make: impl FnOnce(*mut T, usize) -> usize) -> Vec<T> {
     let mut made = Vec::with_capacity(room + 1);
     let len = make(made.as_mut_ptr(), made.capacity());
@@ -112,36 +115,38 @@ fn str_of(text: &[u8]) -> &str {
     unsafe { std::str::from_utf8_unchecked(text) }
 }
 
-// As long as the answer says: done or at a fault of two bytes, or the bytes end inside a character.
+// As long as the result says: done or at an ill-formed sequence of two bytes, or the bytes end
+// inside a character.
 fn valid_up_to(answer: Validity) -> usize {
-    assert_eq!(answer.fault_len, if answer.status == 1 { 2 } else { 0 });
+    assert_eq!(answer.error_len, if answer.status == 1 { 2 } else { 0 });
     answer.valid_up_to
 }
 
-// All of the input was read, and none of it is at fault.
+// All of the input was read, and none of it is ill formed.
 fn done(answer: Progress, len: usize) -> usize {
-    assert_eq!((answer.read, answer.status, answer.fault_len), (len, 0, 0));
+    assert_eq!((answer.read, answer.status, answer.error_len), (len, 0, 0));
     answer.written
 }
 
 fn here_valid_up_to(big: bool, raw: &[u8]) -> usize {
-    valid_up_to(unsafe { utf16_validate(big, raw.as_ptr(), raw.len()) })
+    valid_up_to(unsafe { dethrux_validate(big.into(), raw.as_ptr(), raw.len()) })
 }
 
 fn icu_units(units: &[u16]) -> usize {
     unsafe { icu_valid_up_to(units.as_ptr(), units.len()) }
 }
 
-// `unit loop` is the library's own loop over units, which stands behind the blocks; `plain loop` has the Rust crate's shape.
+// `unit loop` is the library's own loop over units, which follows the blocks; `plain loop` has the
+// Rust crate's structure.
 const VALIDATE: [(&str, Call); 5] = [
     ("here", |big, raw, _| here_valid_up_to(big, raw)),
-    ("unit loop", |big, raw, _| valid_up_to(unsafe { loop_validate(big, raw.as_ptr(), raw.len()) })),
+    ("unit loop", |big, raw, _| valid_up_to(unsafe { loop_validate(big.into(), raw.as_ptr(), raw.len()) })),
     ("plain loop", |big, raw, _| plain!(valid_up_to, big, raw)),
     ("encoding_rs mem", |big, raw, _| 2 * units(big, raw, mem::utf16_valid_up_to)),
     ("ICU", |big, raw, _| 2 * units(big, raw, icu_units)),
 ];
 
-// The number of faults in random bytes, each found from behind the one before.
+// The number of ill-formed sequences in random bytes, each found after the one before.
 const FAULTS: [(&str, Call); 4] = [
     ("here", |big, raw, _| faults(raw, 2, |rest| here_valid_up_to(big, rest))),
     ("plain loop", |big, raw, _| faults(raw, 2, |rest| plain!(valid_up_to, big, rest))),
@@ -161,25 +166,25 @@ fn faults<T>(mut rest: &[T], unit: usize, valid_up_to: impl Fn(&[T]) -> usize) -
 }
 
 const COUNT: [(&str, Call); 3] = [
-    ("here", |big, raw, _| unsafe { utf16_count(big, raw.as_ptr(), raw.len()) }),
+    ("here", |big, raw, _| unsafe { dethrux_count_chars(big.into(), raw.as_ptr(), raw.len()) }),
     ("plain loop", |big, raw, _| plain!(count, big, raw)),
     ("ICU", |big, raw, _| icu(big, raw, |at, len| unsafe { icu_count(at, len) })),
 ];
 
-// A read of all bytes, as a measure of what memory gives.
+// A read of all bytes, as a measure of the memory's speed.
 const READ: [(&str, Call); 1] =
     [("plain loop", |_, raw, _| unsafe { raw.align_to::<u64>().1 }.iter().fold(0, |all, word| all ^ word) as usize)];
 
 const IS_ASCII: [(&str, Call); 3] = [
-    ("here", |big, raw, _| unsafe { utf16_is_ascii(big, raw.as_ptr(), raw.len()) }.into()),
+    ("here", |big, raw, _| unsafe { dethrux_is_ascii(big.into(), raw.as_ptr(), raw.len()) }.into()),
     ("plain loop", |big, raw, _| plain!(is_ascii, big, raw).into()),
     ("encoding_rs mem", |big, raw, _| units(big, raw, mem::is_basic_latin).into()),
 ];
 
-// Of `encoding_rs` the decoder of bytes, and the call on units in the order of the machine.
+// Of `encoding_rs` the decoder of bytes, and the call on units in the byte order of the machine.
 const TO_UTF8: [(&str, Call); 6] = [
     ("here", |big, raw, to| {
-        let write = |at, room| done(unsafe { utf16_to_utf8(big, raw.as_ptr(), raw.len(), at, room) }, raw.len());
+        let write = |at, room| done(unsafe { dethrux_to_utf8(big.into(), raw.as_ptr(), raw.len(), at, room) }, raw.len());
         keep(&made(raw.len() / 2 * 3, write), to)
     }),
     ("plain loop", |big, raw, to| keep(plain!(to_utf8, big, raw).as_bytes(), to)),
@@ -194,7 +199,7 @@ const TO_UTF8: [(&str, Call); 6] = [
 
 const FROM_STR: [(&str, Call); 5] = [
     ("here", |big, text, to| {
-        let write = |at, room| done(unsafe { utf16_from_utf8(big, text.as_ptr(), text.len(), at, room) }, text.len());
+        let write = |at, room| done(unsafe { dethrux_from_utf8(big.into(), text.as_ptr(), text.len(), at, room) }, text.len());
         keep(&made(2 * text.len(), write), to)
     }),
     ("plain loop", |big, text, to| keep(&plain!(from_str, big, str_of(text)), to)),
@@ -224,7 +229,8 @@ impl Case {
     }
 }
 
-// A case for each decoder; their answers and the texts that they make are equal. Each field of some bytes is one call.
+// A case for each decoder; their results and the texts that they make are equal. Each field of some
+// bytes is one call.
 fn cases(call: &str, text: &str, big: bool, raw: &'static [u8], size: f64, field: usize, decoders: &[(&str, Call)]) -> Vec<Case> {
     let mut wanted = None;
     let case = |(decoder, f): &(&str, Call)| {
@@ -257,7 +263,7 @@ fn main() {
                 add("is_ascii", raw, &IS_ASCII);
                 add("read", raw, &READ);
             } else {
-                // Compared alone: the first character answers it.
+                // Compared alone: the first character decides it.
                 cases("is_ascii", class, big, raw, 1.0, raw.len(), &IS_ASCII);
             }
         }

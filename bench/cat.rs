@@ -1,5 +1,6 @@
-//! What `utf16_cat` is timed beside: `cat copy` copies standard input to standard output in blocks of 4 KiB; `cat le` and
-//! `cat be` decode it by `encoding_rs` in pieces of 4 KiB, with U+FFFD for each fault, and write the text of each piece.
+//! What `utf16_cat` is compared with: `cat copy` copies standard input to standard output in blocks
+//! of 4 KiB; `cat le` and `cat be` decode it by `encoding_rs` in chunks of 4 KiB, with U+FFFD for
+//! each ill-formed sequence, and write the text of each chunk.
 use std::fs::File;
 use std::io::{Read, Write};
 use std::os::fd::FromRawFd;

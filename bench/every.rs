@@ -1,28 +1,30 @@
-//! Takes every character from UTF-16 to UTF-8 and back in both byte orders by the library's calls, and compares with what Rust's
-//! `char` gives: alone, which goes by characters, and among letters and repeated, which goes by lanes, at each place of a block.
-//! The last line says how many calls were made and how many of their answers differed.
+//! Converts every character from UTF-16 to UTF-8 and back in both byte orders by the library's
+//! calls, and compares with what Rust's `char` gives: alone, which is converted without SIMD, and
+//! among letters and repeated, which is converted with SIMD, at each offset of a block. The last
+//! line says how many calls were made and how many of their results differed.
 
 #[repr(C)]
 struct Progress {
     read: usize,
     written: usize,
     status: u32,
-    fault_len: u32,
+    error_len: u32,
 }
 
-type Call = unsafe extern "C" fn(bool, *const u8, usize, *mut u8, usize) -> Progress;
+type Call = unsafe extern "C" fn(u32, *const u8, usize, *mut u8, usize) -> Progress;
 
 unsafe extern "C" {
-    fn utf16_to_utf8(big: bool, raw: *const u8, len: usize, to: *mut u8, room: usize) -> Progress;
-    fn utf16_from_utf8(big: bool, text: *const u8, len: usize, to: *mut u8, room: usize) -> Progress;
+    fn dethrux_to_utf8(order: u32, utf16: *const u8, len: usize, to: *mut u8, capacity: usize) -> Progress;
+    fn dethrux_from_utf8(order: u32, utf8: *const u8, len: usize, to: *mut u8, capacity: usize) -> Progress;
 }
 
-// Whether a call makes just this of a text in a buffer of so many bytes, and writes nothing behind the buffer.
+// Whether a call makes just this of a text in a buffer of so many bytes, and writes nothing after
+// the buffer.
 fn makes_in(call: Call, big: bool, of: &[u8], wanted: &[u8], room: usize) -> bool {
     let mut to = [0xA5; 1024];
-    let found = unsafe { call(big, of.as_ptr(), of.len(), to.as_mut_ptr(), room) };
+    let found = unsafe { call(big.into(), of.as_ptr(), of.len(), to.as_mut_ptr(), room) };
     found.status == 0
-        && found.fault_len == 0
+        && found.error_len == 0
         && found.read == of.len()
         && to[..found.written] == *wanted
         && to[room..].iter().all(|byte| *byte == 0xA5)
@@ -38,7 +40,7 @@ fn differing(text: &str) -> usize {
     let differs = |big: bool| {
         let bytes = |unit: u16| if big { unit.to_be_bytes() } else { unit.to_le_bytes() };
         let utf16: Vec<u8> = text.encode_utf16().flat_map(bytes).collect();
-        !makes(utf16_to_utf8, big, &utf16, text.as_bytes()) as usize + !makes(utf16_from_utf8, big, text.as_bytes(), &utf16) as usize
+        !makes(dethrux_to_utf8, big, &utf16, text.as_bytes()) as usize + !makes(dethrux_from_utf8, big, text.as_bytes(), &utf16) as usize
     };
     differs(false) + differs(true)
 }

@@ -1,12 +1,13 @@
 #!/bin/sh
-# Takes every character from UTF-16 to UTF-8 and back, in both byte orders, beside Rust's `char`. It builds the static library
-# `utf16_c` and links `every.rs` with it. The last line says how many calls ran and how many differed.
+# Converts every character from UTF-16 to UTF-8 and back, in both byte orders, and compares with
+# Rust's `char`. It builds the C library, `libdethrux.a`, and links `every.rs` with it. The last line
+# says how many calls ran and how many differed.
 set -e
 top=$(cd "$(dirname "$0")/.." && pwd)
 kit=$(dirname "$(rt doc)")
 room=$(mktemp -d)
-(cd "$top/crates/utf16_c" && rt lib > "$room/said" 2>&1) || { cat "$room/said" >&2; exit 1; }
-rustc --edition 2024 -O -o "$room/every" "$top/bench/every.rs" -C link-args="$top/crates/utf16_c/out/libutf16_c.a $kit/c/liblibc_c.a"
+(cd "$top/crates/dethrux" && rt lib > "$room/said" 2>&1) || { cat "$room/said" >&2; exit 1; }
+rustc --edition 2024 -O -o "$room/every" "$top/bench/every.rs" -C link-args="$top/crates/dethrux/out/libdethrux.a $kit/c/liblibc_c.a"
 status=0
 "$room/every" || status=$?
 rm -r "$room"

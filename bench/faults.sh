@@ -1,9 +1,10 @@
 #!/usr/bin/env bash
-# Runs utf16_cat with its first request for memory refused, then the second, and so on until a run meets no refusal; and so
-# with each read and each write that fails, is interrupted, or moves one byte, and each write that takes nothing. `faults.c`
-# stands before the C library for it. A run may end with the whole output, or with status 1, the line of its fault and a
-# beginning of the output; a short call changes nothing. Prints a line for each kind, and last 'N passed, M failed'.
-# With a number it also runs `rt try --fail-alloc` from 1 to that number, on the interpreter and with checks: slow.
+# Runs utf16_cat with its first allocation failing, then the second, and so on until no allocation
+# of a run fails; and so with each read and each write that fails, is interrupted, or moves one
+# byte, and each write that takes nothing. `faults.c` is preloaded for it. A run may end with the
+# whole output, or with status 1, the message of its error and a prefix of the output; a short call
+# changes nothing. Prints a line for each kind, and last 'N passed, M failed'. With a number it also
+# runs `rt try --fail-alloc` from 1 to that number, on the interpreter and with checks: slow.
 set -uo pipefail
 top=$(cd "$(dirname "$0")/.." && pwd)
 program="$top/crates/utf16_cat/out/utf16_cat"
@@ -15,17 +16,19 @@ cc -O2 -Wall -shared -fPIC -o faults.so "$top/bench/faults.c" -ldl || exit 1
 passed=0
 failed=0
 
-# Four blocks of letters, unpaired surrogates and pairs, cut at odd places, and the first two bytes of a pair.
+# Four blocks of letters, unpaired surrogates and pairs, with boundaries at odd offsets, and the
+# first two bytes of a pair.
 { for _ in $(seq 1200); do printf 'a\0\0\xDC\0\xD8\0\xDC\0\xD8b\0'; done; printf '\0\xD8'; } > le
 { for _ in $(seq 1200); do printf '\0a\xDC\0\xD8\0\xDC\0\xD8\0\0b'; done; printf '\xD8\0'; } > be
 { for _ in $(seq 1200); do printf 'a\xEF\xBF\xBD\xF0\x90\x80\x80\xEF\xBF\xBDb'; done; printf '\xEF\xBF\xBD'; } > wanted
 
-# Whether the output is a beginning of what is wanted.
+# Whether the output is a prefix of the expected one.
 begins() {
     cmp -s found <(head -c "$(stat -c %s found)" wanted)
 }
 
-# The order, the kind, and the line that its fault has, none where it has no consequence: all its calls in turn.
+# The byte order, the kind, and the message of its error, none where it has no consequence: all its
+# calls in turn.
 each() {
     local order=$1 kind=$2 line=$3 at=0 whole=0 told=0 found
     while :; do
@@ -58,7 +61,8 @@ for order in le be; do
     each $order write_short ''
 done
 
-# A system that tells of more bytes than were offered: what is written has no meaning then, but nothing crashes or hangs.
+# A system that returns more bytes than were offered: what is written has no meaning then, but
+# nothing crashes or hangs.
 for order in le be; do
     for kind in read_more write_more; do
         for at in $(seq 6); do
@@ -76,7 +80,7 @@ for order in le be; do
     done
 done
 
-# The line is that of wrong words: it is written in vain, and the status stays.
+# The message is the usage line: it cannot be written, and the status stays.
 for kind in write write_interrupted write_nothing; do
     FAULT_KIND=$kind FAULT_AT=1 LD_PRELOAD=$room/faults.so "$program" LE < le > found 2> errors 9> met
     if [ $? = 2 ] && [ -s met ] && [ ! -s found ]; then

@@ -1,6 +1,6 @@
-/* Nanoseconds a byte of the calls on bytes with faults, and beside them the same call on a text: a line each, the name, a tab, the
- * figure. Each row is the best of some rounds. A strict call is resumed behind each fault. */
-#include "../include/utf16.h"
+/* Nanoseconds a byte of the calls on ill-formed bytes, and beside them the same call on a text: a line each, the name, a tab, the
+ * figure. Each row is the best of some rounds. A strict call is resumed after each ill-formed sequence. */
+#include "../include/dethrux.h"
 #include <stdio.h>
 #include <stdlib.h>
 #include <string.h>
@@ -20,36 +20,37 @@ static uint8_t random_byte(void)
     return (uint8_t)(seed >> 32);
 }
 
-typedef utf16_progress call(const uint8_t *from, size_t len, uint8_t *to, size_t room);
+typedef dethrux_progress call(const uint8_t *from, size_t len, uint8_t *to, size_t room);
 
-static utf16_progress to_strict(const uint8_t *from, size_t len, uint8_t *to, size_t room)
+static dethrux_progress to_strict(const uint8_t *from, size_t len, uint8_t *to, size_t room)
 {
-    return utf16_to_utf8(false, from, len, to, room);
+    return dethrux_to_utf8(DETHRUX_LITTLE_ENDIAN, from, len, to, room);
 }
 
-static utf16_progress to_marked(const uint8_t *from, size_t len, uint8_t *to, size_t room)
+static dethrux_progress to_lossy(const uint8_t *from, size_t len, uint8_t *to, size_t room)
 {
-    return utf16_to_utf8_marked(false, from, len, to, room);
+    return dethrux_to_utf8_lossy(DETHRUX_LITTLE_ENDIAN, from, len, to, room);
 }
 
-static utf16_progress from_strict(const uint8_t *from, size_t len, uint8_t *to, size_t room)
+static dethrux_progress from_strict(const uint8_t *from, size_t len, uint8_t *to, size_t room)
 {
-    return utf16_from_utf8(false, from, len, to, room);
+    return dethrux_from_utf8(DETHRUX_LITTLE_ENDIAN, from, len, to, room);
 }
 
-static utf16_progress from_marked(const uint8_t *from, size_t len, uint8_t *to, size_t room)
+static dethrux_progress from_lossy(const uint8_t *from, size_t len, uint8_t *to, size_t room)
 {
-    return utf16_from_utf8_marked(false, from, len, to, room);
+    return dethrux_from_utf8_lossy(DETHRUX_LITTLE_ENDIAN, from, len, to, room);
 }
 
-/* A stream in pieces of 4,096 bytes. */
-static utf16_progress to_fed(const uint8_t *from, size_t len, uint8_t *to, size_t room)
+/* A stream in chunks of 4,096 bytes. */
+static dethrux_progress to_fed(const uint8_t *from, size_t len, uint8_t *to, size_t room)
 {
-    utf16_stream stream = {{0}, 0};
-    utf16_progress all = {0, 0, UTF16_DONE, 0};
+    dethrux_decoder decoder = DETHRUX_DECODER_INIT;
+    dethrux_progress all = {0, 0, DETHRUX_DONE, 0};
     while (all.read < len) {
-        size_t piece = len - all.read < 4096 ? len - all.read : 4096;
-        utf16_progress one = utf16_stream_feed(false, &stream, from + all.read, piece, to + all.written, room - all.written);
+        size_t chunk = len - all.read < 4096 ? len - all.read : 4096;
+        dethrux_progress one =
+            dethrux_decoder_feed(&decoder, DETHRUX_LITTLE_ENDIAN, from + all.read, chunk, to + all.written, room - all.written);
         all.read += one.read;
         all.written += one.written;
     }
@@ -60,11 +61,11 @@ static size_t whole(call *f)
 {
     size_t read = 0, written = 0;
     while (read < SIZE) {
-        utf16_progress p = f(input + read, SIZE - read, output + written, sizeof output - written);
+        dethrux_progress p = f(input + read, SIZE - read, output + written, sizeof output - written);
         read += p.read;
         written += p.written;
-        if (p.status == UTF16_FAULT)
-            read += p.fault_len;
+        if (p.status == DETHRUX_ILL_FORMED)
+            read += p.error_len;
         else
             break;
     }
@@ -103,14 +104,14 @@ static void break_at(const char *fault, size_t len, size_t every)
 static void to_rows(const char *bytes)
 {
     row("to_utf8, strict and resumed", bytes, to_strict);
-    row("to_utf8, lossy", bytes, to_marked);
+    row("to_utf8, lossy", bytes, to_lossy);
     row("to_utf8, a stream", bytes, to_fed);
 }
 
 static void from_rows(const char *bytes)
 {
     row("from_utf8, strict and resumed", bytes, from_strict);
-    row("from_utf8, lossy", bytes, from_marked);
+    row("from_utf8, lossy", bytes, from_lossy);
 }
 
 int main(void)

@@ -1,10 +1,11 @@
 #!/bin/sh
-# Builds the calls for C and times them on bytes with faults: nanoseconds a byte, the best of some runs. With another archive of
-# the calls as its argument it times both in turn, and prints how many times as fast this one is. Each archive is linked at two places
-# sixteen bytes apart, and the better one counts: where a branch of a loop lies across 32 bytes, some processors halve its speed.
+# Builds the calls for C and times them on ill-formed bytes: nanoseconds per byte, the best of some
+# runs. With another archive of the calls as its argument it times both in turn, and prints how many
+# times as fast this one is. Each archive is linked at two addresses sixteen bytes apart, and the
+# better one counts: where a branch of a loop lies across 32 bytes, some processors halve its speed.
 set -eu
 cd "$(dirname "$0")"
-(cd ../crates/utf16_c && rt lib > /dev/null 2>&1) || { echo 'bench: rt lib failed in crates/utf16_c' >&2; exit 1; }
+(cd ../crates/dethrux && rt lib > /dev/null 2>&1) || { echo 'bench: rt lib failed in crates/dethrux' >&2; exit 1; }
 room=$(mktemp -d)
 trap 'rm -rf "$room"' EXIT
 build() { # which, its archive
@@ -14,7 +15,7 @@ build() { # which, its archive
         cc -O2 -Wall -I../include faulty.c "$room/skip.o" "$2" -o "$room/$1.$skip"
     done
 }
-build here ../crates/utf16_c/out/libutf16_c.a
+build here ../crates/dethrux/out/libdethrux.a
 [ $# = 0 ] || build other "$1"
 for _ in 1 2 3 4 5 6 7 8; do
     for which in here ${1:+other}; do

@@ -1,4 +1,4 @@
-// ICU's calls on units in the machine's order. Each answers SIZE_MAX where it fails.
+// ICU's calls on units in the machine's byte order. Each returns SIZE_MAX where it fails.
 #include <stdint.h>
 #include <unicode/ustring.h>
 #include <unicode/utf16.h>

@@ -1,5 +1,6 @@
-//! Plain loops in the shape of the Rust crate `utf16string` 0.2.0: one unit of `chunks_exact(2)` after another, behind a leading
-//! surrogate the next one. Its `is_ascii` looks at the bytes, which is another question; here it looks at the units.
+//! Plain loops with the structure of the Rust crate `utf16string` 0.2.0: one unit of
+//! `chunks_exact(2)` after another, after a leading surrogate the next one. Its `is_ascii` tests
+//! the bytes, which is another question; here it tests the units.
 
 fn unit<const BIG: bool>(bytes: &[u8]) -> u16 {
     if BIG { u16::from_be_bytes([bytes[0], bytes[1]]) } else { u16::from_le_bytes([bytes[0], bytes[1]]) }

@@ -1,17 +1,19 @@
-//! Times `utf16_cat` beside other programs on the files of a folder: `programs FOLDER UTF16_CAT MIB`. A line for each text,
-//! order and program with GB/s of UTF-16, and the peak of memory on so many MiB from a pipe. What they write is compared first.
+//! Times `utf16_cat` and other programs on the files of a folder: `programs FOLDER UTF16_CAT MIB`.
+//! A line for each text, byte order and program with GB/s of UTF-16, and the peak of memory on so
+//! many MiB from a pipe. What they write is compared first.
 use std::fs::File;
 use std::process::{Command, Stdio};
 use std::time::Instant;
 
 const ROUNDS: usize = 5;
 
-// What `wait4` tells of a process: the fifth word is the peak of its memory in KiB.
+// What `wait4` returns of a process: the fifth number is the peak of its memory in KiB.
 unsafe extern "C" {
     fn wait4(process: i32, status: &mut i32, options: i32, used: &mut [i64; 18]) -> i32;
 }
 
-// Runs a program from one device to another; answers the seconds, and the peak of memory where it succeeds.
+// Runs a program from one stream to another; returns the seconds, and the peak of memory where it
+// succeeds.
 fn run(words: &str, from: Stdio, to: Stdio) -> (f64, Option<i64>) {
     let mut words = words.split(' ');
     let mut command = Command::new(words.next().unwrap());
@@ -48,7 +50,7 @@ fn main() {
                 let made = format!("{folder}/{program}.made");
                 let (_, ended) = run(&words, File::open(&file).unwrap().into(), File::create(&made).unwrap().into());
                 let same = Command::new("cmp").args(["-s", &made, &format!("{folder}/encoding_rs.made")]).status().unwrap().success();
-                // `iconv -c` leaves faults out and says so by its status.
+                // `iconv -c` leaves ill-formed sequences out and says so by its status.
                 let other = program == "copy" || class == "random" && program == "iconv";
                 if ended.is_some() && !same && !other || ended.is_none() && !other && class != "random" {
                     println!("differs\t{class}\t{order}\t{program}\t-");

@@ -1,5 +1,6 @@
-# Makes tables in Markdown of lines of call, text, order, decoder and value, and of those in little endian a chart in the file
-# `chart`. Beside a value stands how many times as fast `here` is.
+# Makes tables in Markdown of lines of call, text, byte order, decoder and value, and of those in
+# little endian a chart in the file `chart`. A value is followed by how many times as fast `here`
+# is.
 BEGIN { FS = "\t" }
 
 { value[$1, $2, $3, $4] = $5; known[$1, $2, $3] = 1 }
@@ -31,7 +32,7 @@ function table(calls, texts, list,    c, t, o, d, row) {
     print ""
 }
 
-# The bars of a call from y on; answers where the next call may begin.
+# The bars of a call from y on; returns where the next call may begin.
 function panel(call, x, y,    t, d, most, width) {
     for (t = 1; t in text; t++) for (d = 1; d in decoders; d++)
         if (value[call, text[t], "le", decoders[d]] + 0 > most) most = value[call, text[t], "le", decoders[d]]

@@ -1,5 +1,5 @@
-//! Times `String::retain` and `Vec<u16>::retain` on the characters of `retain.rt.txt`: three lines for each text and predicate, as
-//! there.
+//! Times `String::retain` and `Vec<u16>::retain` on the characters of `retain.rt.txt`: three lines
+//! for each text and predicate, as there.
 use std::hint::black_box;
 use std::time::Instant;
 

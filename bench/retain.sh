@@ -1,7 +1,8 @@
 #!/bin/sh
-# Times `retain` beside Rust's `String::retain` and `Vec::retain`, in one run: for each text and predicate the best of twelve in
-# milliseconds here in little and in big endian, of `String` and of `Vec<u16>`, then each order's ratio to `String` and to `Vec`.
-# The two programs run in turn, four times, so that what else the machine does falls on both.
+# Times `retain`, Rust's `String::retain` and `Vec::retain` in one run: for each text and predicate
+# the best of twelve in milliseconds here in little and in big endian, of `String` and of
+# `Vec<u16>`, then the ratio of each byte order to `String` and to `Vec`. The two programs run in
+# turn, four times, so that other work of the machine affects both.
 set -e
 top=$(cd "$(dirname "$0")/.." && pwd)
 room=$(mktemp -d)

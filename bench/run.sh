@@ -1,5 +1,6 @@
 #!/bin/sh
-# Builds what is compared, makes the texts, runs all of it, and leaves in bench/out the tables (table.md) and the chart (chart.svg).
+# Builds what is compared, makes the texts, runs all of it, and leaves in bench/out the tables
+# (table.md) and the chart (chart.svg).
 set -eu
 cd "$(dirname "$0")"
 missing=0
@@ -21,18 +22,19 @@ need "ls $registry/cfg-if-*/src/lib.rs" 'the Rust crate cfg-if (Debian: librust-
 
 kit=$(dirname "$(rt doc)")
 mkdir -p out
-(cd ../crates/utf16_c && rt lib > ../../bench/out/rt.log 2>&1) || { cat out/rt.log >&2; exit 1; }
-# The validator with the loop over units that stands behind its blocks, for every length: the same code and proof, in an archive of
-# its own under another name.
+(cd ../crates/dethrux && rt lib > ../../bench/out/rt.log 2>&1) || { cat out/rt.log >&2; exit 1; }
+# The validator with its loop over units, which follows its blocks, for every length: the same code
+# and proof, in an archive of its own under another name.
 rm -rf out/loop && mkdir out/loop && cp -r ../HANDLES ../crates.txt ../crates out/loop
 sed -i 's/if raw.len() < 32 {/if raw.len() < usize::MAX {/' out/loop/crates/utf16_units/src/validate.rt
 ! cmp -s ../crates/utf16_units/src/validate.rt out/loop/crates/utf16_units/src/validate.rt
-(cd out/loop/crates/utf16_c && rt lib > ../../../rt.log 2>&1) || { cat out/rt.log >&2; exit 1; }
-objcopy --redefine-sym utf16_validate=loop_validate --keep-global-symbol=loop_validate \
-    out/loop/crates/utf16_c/out/libutf16_c.a out/libutf16_loop.a
+(cd out/loop/crates/dethrux && rt lib > ../../../rt.log 2>&1) || { cat out/rt.log >&2; exit 1; }
+objcopy --redefine-sym dethrux_validate=loop_validate --keep-global-symbol=loop_validate \
+    out/loop/crates/dethrux/out/libdethrux.a out/libdethrux_loop.a
 (cd ../crates/utf16_cat && rt run -- le < /dev/null > ../../bench/out/rt.log 2>&1) || { cat out/rt.log >&2; exit 1; }
 
-# The processor that rt builds for. No branch lies across 32 bytes, since where one does some processors halve the speed of a loop.
+# The processor that rt builds for. No branch lies across 32 bytes, since some processors halve the
+# speed of a loop where one does.
 level=x86-64-v2
 rust() {
     rustc -C opt-level=3 -C target-cpu=$level -C llvm-args=-x86-branches-within-32B-boundaries --out-dir out -L out "$@"
@@ -45,7 +47,7 @@ rust --edition 2024 texts.rs
 rust --edition 2024 programs.rs
 rust --edition 2024 cat.rs --extern encoding_rs=out/libencoding_rs.rlib
 rust --edition 2024 calls.rs --extern encoding_rs=out/libencoding_rs.rlib -l icuuc \
-    -C link-args="out/icu.o ../crates/utf16_c/out/libutf16_c.a out/libutf16_loop.a $kit/c/liblibc_c.a"
+    -C link-args="out/icu.o ../crates/dethrux/out/libdethrux.a out/libdethrux_loop.a $kit/c/liblibc_c.a"
 
 for order in le be; do
     for class in ascii latin_cyrillic cjk emoji random; do

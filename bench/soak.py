@@ -1,6 +1,7 @@
-"""Sends GiB of bytes through utf16_cat and through CPython's decoder of the same order with `replace`, in one order and then in
-the other, and compares the hashes of what they give; `soak.sh` runs it. Of eight MiB seven are random bytes, and the eighth is
-of the bytes 00 41 D8 DB DC DF E0 FF alone. Pieces are cut at random."""
+"""Sends GiB of bytes through utf16_cat and through CPython's decoder of the same byte order with
+`replace`, in one byte order and then in the other, and compares the hashes of their outputs;
+`soak.sh` runs it. Of eight MiB seven are random bytes, and the eighth is of the bytes
+00 41 D8 DB DC DF E0 FF alone. Chunk boundaries are random."""
 
 import codecs
 import hashlib

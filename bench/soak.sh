@@ -1,6 +1,7 @@
 #!/bin/sh
-# Sends random bytes through utf16_cat in both orders, beside CPython's decoder with `replace`: the outputs are equal, and the
-# peak of resident memory is flat. In words: how many GiB, 8 where none is given, and a seed, 1 where none is given.
+# Sends random bytes through utf16_cat in both byte orders, and through CPython's decoder with
+# `replace`: the outputs are equal, and the peak of resident memory is flat. Arguments: how many
+# GiB, by default 8, and a seed, by default 1.
 set -e
 top=$(cd "$(dirname "$0")/.." && pwd)
 program="$top/crates/utf16_cat/out/utf16_cat"

@@ -1,8 +1,9 @@
 #!/bin/sh
-# Times `sort` on a million short strings, in one run: for each kind of text (random letters, equal beginnings of 39 letters, and
-# characters of many scripts) the best of four in milliseconds of `WString` in little and in big endian, of `String` here and of
-# Rust's `String`, then each order's ratio to `String` here and to Rust's. The two programs run in turn, so that what else the
-# machine does falls on both. It stops where two of them found different orders.
+# Times `sort` on a million short strings, in one run: for each kind of text (random letters, equal
+# prefixes of 39 letters, and characters of many scripts) the best of four in milliseconds of
+# `WString` in little and in big endian, of `String` here and of Rust's `String`, then the ratio of
+# each byte order to `String` here and to Rust's. The two programs run in turn, so that other work
+# of the machine affects both. It stops where two of them sort differently.
 set -e
 top=$(cd "$(dirname "$0")/.." && pwd)
 room=$(mktemp -d)

@@ -1,5 +1,5 @@
-//! Writes UTF-16 to standard output: `texts CLASS ORDER BYTES`, of a class of text or of random bytes. The same words give the
-//! same bytes each time.
+//! Writes UTF-16 to standard output: `texts CLASS ORDER BYTES`, of a class of text or of random
+//! bytes. The same arguments give the same bytes each time.
 use std::io::Write;
 
 struct Random {
@@ -20,7 +20,7 @@ impl Random {
         match (class, self.among(0, 7)) {
             ("ascii", _) => self.among(0x20, 0x7E),
             ("latin_cyrillic", 0) => {
-                // A space, and behind it a word in either script.
+                // A space, and then a word in either script.
                 self.cyrillic = self.among(0, 1) == 1;
                 0x20
             }
@@ -43,7 +43,7 @@ fn main() {
         while bytes.len() < 65536 && left > 0 {
             let (mut pair, next) = ([0; 2], random.next(class));
             let units = match char::from_u32(next) {
-                // Where no pair fits a letter stands.
+                // Where no pair fits there is a letter.
                 Some(c) => (if left > 1 || next < 0x10000 { c } else { 'a' }).encode_utf16(&mut pair),
                 None => &mut [next as u16][..],
             };

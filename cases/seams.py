@@ -1,15 +1,16 @@
-"""Writes cases/seams.txt: characters and faults at each place of a block, and texts of each length, by Python's codecs."""
+"""Writes cases/seams.txt, by Python's codecs: characters and ill-formed sequences at each offset
+of a block, and texts of each length."""
 
 import codecs
 import sys
 
-# At the edges of what a character takes in UTF-8.
+# The first and the last characters of each length in UTF-8.
 CHARACTERS = [0x7F, 0x80, 0x7FF, 0x800, 0xE000, 0xFFFF, 0x10000, 0x10FFFF]
-# How much stands before: each place of the shorter blocks, and the seams of the longer ones.
+# How much comes before: each offset of the shorter blocks, and the boundaries of the longer ones.
 PLACES = [*range(18), *range(30, 35), *range(62, 67)]
-# A character of each length in UTF-8, and those at the edges of each.
+# A character of each length in UTF-8, and the first or last ones of each.
 MIXED = "a\xe9\u4e00\u4e00\x7f\U0001f600\U0010ffff\uffff\u07ff\ud7ff\ue000"
-# Two units among letters, and what is written of them where they are made well formed.
+# Two units among letters, and what is written for them where they are made well formed.
 WELL_FORMED = {
     "D83DDE00": "D83DDE00",
     "D8000061": "FFFD0061",
@@ -32,7 +33,7 @@ def line(name, call, values, *answer, how="both"):
 
 
 def parts(*texts, mark=""):
-    """Texts one behind another, each so many times."""
+    """Texts one after another, each so many times."""
     found = [f"{count}*{mark}{spelled(text)}" for count, text in texts if count and text]
     return "+".join(found) or ("-" if mark else '""')
 
@@ -63,14 +64,14 @@ def from_utf8(name, *texts):
 
 def asked(name, *texts):
     text = whole(texts)
-    line(name, "count", [utf16(*texts)], len(text))
+    line(name, "count_chars", [utf16(*texts)], len(text))
     line(name, "is_ascii", [utf16(*texts)], str(text.isascii()).lower())
     line(name, "WStrChars::count", [utf16(*texts)], len(text))
     line(name, "WStr::is_ascii", [utf16(*texts)], str(text.isascii()).lower())
 
 
 def taken(name, units, before, after, odd):
-    """By the codec's error: what stands before it, and how many bytes it has where more of them change nothing."""
+    """By the codec's error: what comes before it, and its length where more bytes change nothing."""
     raw = b"\0a" * before + bytes.fromhex(units) + b"\0a" * after + b"\0" * odd
     ones = [f"{before}*^0061"] * (before > 0) + [f"1*^{units}"] + [f"{after}*^0061"] * (after > 0) + ["1*^00"] * odd
     try:
@@ -89,8 +90,8 @@ def well_formed(name, units, before, after):
 
 
 def main():
-    print("# Written by cases/seams.py, by Python's codecs: characters and faults at each place of a block, and texts of each")
-    print("# length, so that each lane of each way is passed once.")
+    print("# Written by cases/seams.py, by Python's codecs: characters and ill-formed sequences at each offset")
+    print("# of a block, and texts of each length, so that each SIMD lane of each conversion is used once.")
     for c in map(chr, CHARACTERS):
         name = f"place.U+{ord(c):04X}"
         for before in PLACES:

@@ -1,6 +1,7 @@
-/* Makes the calls of cases that the library has: reads tables of cases/ on standard input, prints each case whose answer differs,
- * with both, and last how many passed. A case of another call, or one with a condition on memory or devices, is not made. */
-#include "utf16.h"
+/* Reads tables of cases/ on standard input, makes the calls that the library has, prints each case
+ * whose result differs, with both, and last how many passed. Cases of other calls, and those with a
+ * condition on memory or devices, are skipped. */
+#include "dethrux.h"
 
 #include <ctype.h>
 #include <stdio.h>
@@ -39,7 +40,7 @@ static bool same(const text *a, const text *b) {
     return a->len == b->len && (a->len == 0 || memcmp(a->bytes, b->bytes, a->len) == 0);
 }
 
-/* A buffer of so many bytes and some behind them, filled with a byte that no call writes. */
+/* A buffer of so many bytes and some after them, filled with a byte that no call writes. */
 static text blank(size_t room) {
     text found = {0};
     for (size_t i = 0; i < room + 8; i++) {
@@ -57,7 +58,8 @@ static bool is_blank(const text *buffer, size_t from) {
     return true;
 }
 
-/* How values are spelled. Each of these answers whether the word between two places is spelled as it should be. */
+/* How values are spelled. Each of these returns whether the word between two places is well
+ * spelled. */
 
 static void append_utf8(text *to, unsigned long c) {
     if (c < 0x80) {
@@ -78,22 +80,22 @@ static void append_utf8(text *to, unsigned long c) {
     append_byte(to, 0x80 | (unsigned)(c & 0x3F));
 }
 
-static void append_unit(text *to, bool big, unsigned unit) {
-    append_byte(to, big ? unit >> 8 : unit & 0xFF);
-    append_byte(to, big ? unit & 0xFF : unit >> 8);
+static void append_unit(text *to, dethrux_byte_order order, unsigned unit) {
+    append_byte(to, order == DETHRUX_BIG_ENDIAN ? unit >> 8 : unit & 0xFF);
+    append_byte(to, order == DETHRUX_BIG_ENDIAN ? unit & 0xFF : unit >> 8);
 }
 
-static void append_utf16(text *to, bool big, unsigned long c) {
+static void append_utf16(text *to, dethrux_byte_order order, unsigned long c) {
     if (c < 0x10000) {
-        append_unit(to, big, (unsigned)c);
+        append_unit(to, order, (unsigned)c);
     } else {
-        append_unit(to, big, 0xD800 + (unsigned)((c - 0x10000) >> 10));
-        append_unit(to, big, 0xDC00 + (unsigned)((c - 0x10000) & 0x3FF));
+        append_unit(to, order, 0xD800 + (unsigned)((c - 0x10000) >> 10));
+        append_unit(to, order, 0xDC00 + (unsigned)((c - 0x10000) & 0x3FF));
     }
 }
 
 /* A text in double quotes, in UTF-16 or in UTF-8. */
-static bool quoted(const char *at, const char *end, bool utf16, bool big, text *to) {
+static bool quoted(const char *at, const char *end, bool utf16, dethrux_byte_order order, text *to) {
     if (end - at < 2 || *at != '"' || end[-1] != '"') {
         return false;
     }
@@ -111,7 +113,7 @@ static bool quoted(const char *at, const char *end, bool utf16, bool big, text *
             at = behind + 1;
         }
         if (utf16) {
-            append_utf16(to, big, c);
+            append_utf16(to, order, c);
         } else {
             append_utf8(to, c);
         }
@@ -130,13 +132,13 @@ static bool hex(const char *at, const char *end, text *to) {
     return at == end;
 }
 
-/* Code units in hex, of which a last odd byte stays. */
-static bool units(const char *at, const char *end, bool big, text *to) {
+/* Code units in hex; a last odd byte stays as it is. */
+static bool units(const char *at, const char *end, dethrux_byte_order order, text *to) {
     size_t front = to->len;
     if (!hex(at, end, to)) {
         return false;
     }
-    for (size_t i = front; !big && i + 1 < to->len; i += 2) {
+    for (size_t i = front; order != DETHRUX_BIG_ENDIAN && i + 1 < to->len; i += 2) {
         uint8_t high = to->bytes[i];
         to->bytes[i] = to->bytes[i + 1];
         to->bytes[i + 1] = high;
@@ -144,12 +146,12 @@ static bool units(const char *at, const char *end, bool big, text *to) {
     return true;
 }
 
-static bool part(const char *at, const char *end, bool big, text *to) {
+static bool part(const char *at, const char *end, dethrux_byte_order order, text *to) {
     switch (at < end ? *at : 0) {
     case '-': return end - at == 1;
-    case '~': return quoted(at + 1, end, true, big, to);
-    case '^': return units(at + 1, end, big, to);
-    case '"': return quoted(at, end, false, big, to);
+    case '~': return quoted(at + 1, end, true, order, to);
+    case '^': return units(at + 1, end, order, to);
+    case '"': return quoted(at, end, false, order, to);
     default: return at < end && hex(at, end, to);
     }
 }
@@ -163,17 +165,17 @@ static bool has_parts(const char *at, const char *end) {
     return at < end && isdigit((unsigned char)*at) && found_or_end(at, end, '*') != end;
 }
 
-/* Bytes, or parts of them that are repeated, with a plus sign between. */
-static bool spelled(const char *at, const char *end, bool big, text *to) {
+/* Bytes, or repeated parts of them, separated by plus signs. */
+static bool spelled(const char *at, const char *end, dethrux_byte_order order, text *to) {
     if (!has_parts(at, end)) {
-        return part(at, end, big, to);
+        return part(at, end, order, to);
     }
     while (at < end) {
         const char *behind = found_or_end(at, end, '+');
         char *star;
         unsigned long count = strtoul(at, &star, 10);
         text one = {0};
-        bool is = *star == '*' && part(star + 1, behind, big, &one);
+        bool is = *star == '*' && part(star + 1, behind, order, &one);
         while (is && count-- > 0) {
             append(to, one.bytes, one.len);
         }
@@ -186,11 +188,11 @@ static bool spelled(const char *at, const char *end, bool big, text *to) {
     return true;
 }
 
-static bool bytes_of(const char *word, bool big, text *to) {
-    return spelled(word, word + strlen(word), big, to);
+static bool bytes_of(const char *word, dethrux_byte_order order, text *to) {
+    return spelled(word, word + strlen(word), order, to);
 }
 
-/* What a call gave, in words with a space between. */
+/* The result of a call, in words separated by spaces. */
 
 static void add_word(text *answer, const char *word) {
     append(answer, " ", answer->len > 0);
@@ -212,7 +214,7 @@ static void add_bytes(text *answer, const uint8_t *bytes, size_t len) {
     }
 }
 
-/* UTF-8 as a text: what is no visible ASCII, a quote or a backslash by its number. */
+/* UTF-8 as a text: a quote, a backslash and what is not visible ASCII by its number. */
 static void add_text(text *answer, const uint8_t *utf8, size_t len) {
     add_word(answer, "\"");
     for (size_t i = 0; i < len;) {
@@ -238,13 +240,13 @@ static void add_found(text *answer, bool is_text, const uint8_t *bytes, size_t l
 }
 
 /* The words of a table, with bytes in place of code units, texts of UTF-16 and parts. */
-static bool wanted(char **words, size_t count, bool big, text *answer) {
+static bool wanted(char **words, size_t count, dethrux_byte_order order, text *answer) {
     for (size_t i = 0; i < count; i++) {
         const char *word = words[i];
         bool parts = has_parts(word, word + strlen(word));
         if (parts || *word == '~' || *word == '^') {
             text bytes = {0};
-            bool is = bytes_of(word, big, &bytes);
+            bool is = bytes_of(word, order, &bytes);
             add_found(answer, parts && strstr(word, "*\"") != NULL, bytes.bytes, bytes.len);
             free(bytes.bytes);
             if (!is) {
@@ -259,43 +261,45 @@ static bool wanted(char **words, size_t count, bool big, text *answer) {
 
 static const char *const stops[] = {"end", "fault", "cut", "room"};
 
-static void add_progress(text *answer, utf16_progress found) {
+static void add_progress(text *answer, dethrux_progress found) {
     add_number(answer, found.read);
     add_number(answer, found.written);
-    add_word(answer, found.status <= UTF16_NO_ROOM ? stops[found.status] : "no status");
-    if (found.status == UTF16_FAULT) {
-        add_number(answer, found.fault_len);
-    } else if (found.fault_len != 0) {
+    add_word(answer, found.status <= DETHRUX_NO_SPACE ? stops[found.status] : "no status");
+    if (found.status == DETHRUX_ILL_FORMED) {
+        add_number(answer, found.error_len);
+    } else if (found.error_len != 0) {
         add_word(answer, "length of no fault");
     }
 }
 
-/* What stands at a place: a character, a fault, or a character that is cut off at the end. How many bytes it has, and how many the
- * other encoding takes for it. */
+/* What is at an offset: a character, an ill-formed sequence, or an incomplete character at the end.
+ * How many bytes it has, and how many it takes in the other encoding. */
 typedef struct {
     size_t from;
     size_t to;
     bool cut;
 } item;
 
-static unsigned unit_at(bool big, const uint8_t *at) {
-    return big ? (unsigned)(at[0] << 8) + at[1] : (unsigned)(at[1] << 8) + at[0];
+static unsigned unit_at(dethrux_byte_order order, const uint8_t *at) {
+    return order == DETHRUX_BIG_ENDIAN ? (unsigned)(at[0] << 8) + at[1] : (unsigned)(at[1] << 8) + at[0];
 }
 
-/* An unpaired surrogate has as many bytes as any other unit, and U+FFFD as many as any other character from U+0800 on. */
-static item item_of_utf16(bool big, const uint8_t *at, size_t left) {
-    unsigned unit = left < 2 ? 0 : unit_at(big, at);
+/* An unpaired surrogate has as many bytes as any other unit, and U+FFFD as many as any other
+ * character from U+0800 on. */
+static item item_of_utf16(dethrux_byte_order order, const uint8_t *at, size_t left) {
+    unsigned unit = left < 2 ? 0 : unit_at(order, at);
     bool leads = (unit & 0xFC00) == 0xD800;
     if (left < 2 || (leads && left < 4)) {
         return (item){left, 3, true};
     }
-    if (leads && (unit_at(big, at + 2) & 0xFC00) == 0xDC00) {
+    if (leads && (unit_at(order, at + 2) & 0xFC00) == 0xDC00) {
         return (item){4, 4, false};
     }
     return (item){2, unit < 0x80 ? 1 : unit < 0x800 ? 2 : 3, false};
 }
 
-/* By table 3-7 of the Unicode Standard; a fault is the longest beginning of a character that stands there, or one byte. */
+/* By table 3-7 of the Unicode Standard; an ill-formed sequence is the longest prefix of a character
+ * there, or one byte. */
 static item item_of_utf8(const uint8_t *at, size_t left) {
     size_t found = 1;
     uint8_t first = at[0];
@@ -310,7 +314,7 @@ static item item_of_utf8(const uint8_t *at, size_t left) {
     return (item){found, found == 4 ? 4 : 2, found < whole && found == left};
 }
 
-typedef utf16_progress convert(bool big, const uint8_t *from, size_t len, uint8_t *to, size_t room);
+typedef dethrux_progress convert(dethrux_byte_order order, const uint8_t *from, size_t len, uint8_t *to, size_t room);
 
 typedef struct {
     const char *name;
@@ -319,9 +323,9 @@ typedef struct {
 } conversion;
 
 static const conversion conversions[] = {
-    {"to_utf8", utf16_to_utf8, false},           {"decode", utf16_to_utf8_stream, false},
-    {"decode_whole", utf16_to_utf8_marked, false}, {"from_utf8", utf16_from_utf8, true},
-    {"encode_whole", utf16_from_utf8_marked, true},
+    {"to_utf8", dethrux_to_utf8, false},           {"to_utf8_partial", dethrux_to_utf8_partial, false},
+    {"to_utf8_lossy", dethrux_to_utf8_lossy, false}, {"from_utf8", dethrux_from_utf8, true},
+    {"from_utf8_lossy", dethrux_from_utf8_lossy, true},
 };
 
 static const conversion *conversion_of(const char *name) {
@@ -333,18 +337,24 @@ static const conversion *conversion_of(const char *name) {
     return NULL;
 }
 
-static size_t size_of(const conversion *by, bool big, const text *from) {
-    return by->back ? utf16_from_utf8_marked_len(from->bytes, from->len) : utf16_to_utf8_len(big, from->bytes, from->len);
+static size_t size_of(const conversion *by, dethrux_byte_order order, const text *from) {
+    return by->back ? dethrux_from_utf8_lossy_len(from->bytes, from->len) : dethrux_to_utf8_lossy_len(order, from->bytes, from->len);
 }
 
-/* How far a call comes that may read up to a place, into a buffer of so many bytes: up to there, or to what does not fit. */
-static utf16_progress reached(bool back, bool big, const text *from, size_t end, size_t room) {
-    utf16_progress found = {0, 0, UTF16_DONE, 0};
+/* The capacity that the header says suffices. */
+static size_t most(const conversion *by, size_t len) {
+    return by->back ? DETHRUX_UTF16_MAX(len) : by->make == dethrux_to_utf8_lossy ? DETHRUX_UTF8_MAX(len) : len / 2 * 3;
+}
+
+/* How far a call comes that may read up to an offset, with a buffer of so many bytes: up to there,
+ * or to what does not fit. */
+static dethrux_progress reached(bool back, dethrux_byte_order order, const text *from, size_t end, size_t room) {
+    dethrux_progress found = {0, 0, DETHRUX_DONE, 0};
     while (found.read < end) {
         const uint8_t *at = from->bytes + found.read;
-        item next = back ? item_of_utf8(at, from->len - found.read) : item_of_utf16(big, at, from->len - found.read);
+        item next = back ? item_of_utf8(at, from->len - found.read) : item_of_utf16(order, at, from->len - found.read);
         if (next.to > room - found.written) {
-            found.status = UTF16_NO_ROOM;
+            found.status = DETHRUX_NO_SPACE;
             break;
         }
         found.read += next.from;
@@ -353,34 +363,36 @@ static utf16_progress reached(bool back, bool big, const text *from, size_t end,
     return found;
 }
 
-/* Whether a call comes as far as it did in buffers of all sizes, as far as there is room, and writes nothing behind them. */
-static bool comes_so_far(const conversion *by, bool big, const text *from, utf16_progress whole, const uint8_t *written) {
+/* Whether a call comes as far in buffers of all sizes, as far as there is capacity, and writes
+ * nothing after them. */
+static bool comes_so_far(const conversion *by, dethrux_byte_order order, const text *from, dethrux_progress whole, const uint8_t *written) {
     bool is = true;
     for (size_t room = 0; is && room <= 2 * SHORT; room++) {
         text to = blank(room);
-        utf16_progress found = by->make(big, from->bytes, from->len, to.bytes, room);
-        utf16_progress should = reached(by->back, big, from, whole.read, room);
-        if (should.status == UTF16_DONE) {
+        dethrux_progress found = by->make(order, from->bytes, from->len, to.bytes, room);
+        dethrux_progress should = reached(by->back, order, from, whole.read, room);
+        if (should.status == DETHRUX_DONE) {
             should.status = whole.status;
-            should.fault_len = whole.fault_len;
+            should.error_len = whole.error_len;
         }
         is = found.read == should.read && found.written == should.written && found.status == should.status
-            && found.fault_len == should.fault_len && found.written <= whole.written
+            && found.error_len == should.error_len && found.written <= whole.written
             && memcmp(to.bytes, written, found.written) == 0 && is_blank(&to, room);
         free(to.bytes);
     }
     return is;
 }
 
-/* Gives a stream a piece, again with what is left of it, into a buffer of so many bytes, and appends what was written. */
-static bool feed_all(bool big, utf16_stream *stream, const uint8_t *piece, size_t len, size_t room, text *all) {
+/* Feeds a decoder a chunk, again with the rest of it, with a buffer of so many bytes, and appends
+ * what was written. */
+static bool feed_all(dethrux_byte_order order, dethrux_decoder *decoder, const uint8_t *piece, size_t len, size_t room, text *all) {
     bool is = true;
-    utf16_progress found = {0, 0, UTF16_NO_ROOM, 0};
-    while (is && found.status == UTF16_NO_ROOM) {
+    dethrux_progress found = {0, 0, DETHRUX_NO_SPACE, 0};
+    while (is && found.status == DETHRUX_NO_SPACE) {
         text to = blank(room);
-        found = utf16_stream_feed(big, stream, piece, len, to.bytes, room);
-        is = found.read <= len && found.fault_len == 0 && stream->len <= 3 && found.written <= room && is_blank(&to, room)
-            && (found.status == UTF16_NO_ROOM ? found.written > 0 : found.status == UTF16_DONE && found.read == len);
+        found = dethrux_decoder_feed(decoder, order, piece, len, to.bytes, room);
+        is = found.read <= len && found.error_len == 0 && decoder->pending_len <= DETHRUX_PENDING_MAX && found.written <= room && is_blank(&to, room)
+            && (found.status == DETHRUX_NO_SPACE ? found.written > 0 : found.status == DETHRUX_DONE && found.read == len);
         append(all, to.bytes, is ? found.written : 0);
         piece += is ? found.read : 0;
         len -= is ? found.read : 0;
@@ -389,50 +401,51 @@ static bool feed_all(bool big, utf16_stream *stream, const uint8_t *piece, size_
     return is;
 }
 
-/* Ends a stream: without room for U+FFFD nothing changes, else it is written where bytes are held. */
-static bool finish_all(utf16_stream *stream, text *all) {
-    size_t held = stream->len;
-    text to = blank(3);
+/* Ends a stream: without capacity for U+FFFD nothing changes, else it is written if bytes are
+ * pending. */
+static bool finish_all(dethrux_decoder *decoder, text *all) {
+    size_t pending = decoder->pending_len;
+    text to = blank(DETHRUX_FINISH_MAX);
     bool is = true;
-    for (size_t room = 0; is && room < 3; room++) {
-        utf16_stream before = *stream;
-        utf16_progress found = utf16_stream_finish(stream, to.bytes, room);
-        is = found.status == (held > 0 ? UTF16_NO_ROOM : UTF16_DONE) && found.read == 0 && found.written == 0
-            && memcmp(&before, stream, sizeof before) == 0 && is_blank(&to, 0);
+    for (size_t room = 0; is && room < DETHRUX_FINISH_MAX; room++) {
+        dethrux_decoder before = *decoder;
+        dethrux_progress found = dethrux_decoder_finish(decoder, to.bytes, room);
+        is = found.status == (pending > 0 ? DETHRUX_NO_SPACE : DETHRUX_DONE) && found.read == 0 && found.written == 0
+            && memcmp(&before, decoder, sizeof before) == 0 && is_blank(&to, 0);
     }
-    utf16_progress end = utf16_stream_finish(stream, to.bytes, 3);
-    is = is && end.status == UTF16_DONE && end.read == 0 && end.written == (held > 0 ? 3 : 0) && end.fault_len == 0
-        && stream->len == 0 && is_blank(&to, 3);
+    dethrux_progress end = dethrux_decoder_finish(decoder, to.bytes, DETHRUX_FINISH_MAX);
+    is = is && end.status == DETHRUX_DONE && end.read == 0 && end.written == (pending > 0 ? DETHRUX_FINISH_MAX : 0) && end.error_len == 0
+        && decoder->pending_len == 0 && is_blank(&to, DETHRUX_FINISH_MAX);
     append(all, to.bytes, is ? end.written : 0);
     free(to.bytes);
     return is;
 }
 
-/* In pieces of so many bytes, with a state that the library keeps: the text, into buffers of so many. */
-static bool in_pieces(bool big, const text *from, size_t first, size_t then, size_t room, text *all) {
-    utf16_stream stream = {{0}, 0};
+/* Decodes in chunks of so many bytes by a decoder, with buffers of so many. */
+static bool in_pieces(dethrux_byte_order order, const text *from, size_t first, size_t then, size_t room, text *all) {
+    dethrux_decoder decoder = DETHRUX_DECODER_INIT;
     size_t at = 0, len = first < from->len ? first : from->len;
     bool is = true;
     do {
-        is = feed_all(big, &stream, from->bytes + at, len, room, all);
+        is = feed_all(order, &decoder, from->bytes + at, len, room, all);
         at += len;
         len = then < from->len - at ? then : from->len - at;
     } while (is && at < from->len);
-    return is && finish_all(&stream, all);
+    return is && finish_all(&decoder, all);
 }
 
-/* The same with what is left put before the next piece by the caller. */
-static bool by_hand(bool big, const text *from, size_t piece, size_t room, text *all) {
+/* Decodes in chunks by the partial call: the caller puts the unread bytes before the next chunk. */
+static bool by_hand(dethrux_byte_order order, const text *from, size_t piece, size_t room, text *all) {
     text waiting = {0};
     size_t at = 0;
     bool at_end = false, is = true, done = false;
     while (is && !done) {
         text to = blank(room);
-        convert *make = at_end ? utf16_to_utf8_marked : utf16_to_utf8_stream;
-        utf16_progress found = make(big, waiting.bytes, waiting.len, to.bytes, room);
-        is = found.read <= waiting.len && found.fault_len == 0 && found.written <= room && is_blank(&to, room)
-            && (found.status != UTF16_NO_ROOM || found.written > 0)
-            && (found.status != UTF16_CUT_OFF || waiting.len - found.read <= 3);
+        convert *make = at_end ? dethrux_to_utf8_lossy : dethrux_to_utf8_partial;
+        dethrux_progress found = make(order, waiting.bytes, waiting.len, to.bytes, room);
+        is = found.read <= waiting.len && found.error_len == 0 && found.written <= room && is_blank(&to, room)
+            && (found.status != DETHRUX_NO_SPACE || found.written > 0)
+            && (found.status != DETHRUX_INCOMPLETE || waiting.len - found.read <= DETHRUX_PENDING_MAX);
         if (is) {
             append(all, to.bytes, found.written);
             waiting.len -= found.read;
@@ -440,7 +453,7 @@ static bool by_hand(bool big, const text *from, size_t piece, size_t room, text 
                 memmove(waiting.bytes, waiting.bytes + found.read, waiting.len);
             }
         }
-        if (found.status != UTF16_NO_ROOM) {
+        if (found.status != DETHRUX_NO_SPACE) {
             size_t len = piece < from->len - at ? piece : from->len - at;
             done = at_end;
             at_end = at == from->len;
@@ -453,15 +466,16 @@ static bool by_hand(bool big, const text *from, size_t piece, size_t room, text 
     return is;
 }
 
-/* Whether every cutting gives this text: into two, into pieces of one length, in buffers of several sizes. */
-static bool is_cut_anywhere(bool big, const text *from, const text *utf8) {
+/* Whether every chunking gives this text: in two, in chunks of one length, with buffers of several
+ * sizes. */
+static bool is_cut_anywhere(dethrux_byte_order order, const text *from, const text *utf8) {
     bool is = true;
     for (size_t room = 4; is && room <= 9; room++) {
         for (size_t at = 0; is && at <= from->len + 1; at++) {
             text kept = {0}, pieces = {0}, hand = {0};
-            is = in_pieces(big, from, at, from->len, room, &kept) && same(&kept, utf8)
-                && in_pieces(big, from, at + 1, at + 1, room, &pieces) && same(&pieces, utf8)
-                && by_hand(big, from, at + 1, room, &hand) && same(&hand, utf8);
+            is = in_pieces(order, from, at, from->len, room, &kept) && same(&kept, utf8)
+                && in_pieces(order, from, at + 1, at + 1, room, &pieces) && same(&pieces, utf8)
+                && by_hand(order, from, at + 1, room, &hand) && same(&hand, utf8);
             free(kept.bytes);
             free(pieces.bytes);
             free(hand.bytes);
@@ -470,7 +484,7 @@ static bool is_cut_anywhere(bool big, const text *from, const text *utf8) {
     return is;
 }
 
-/* The calls. Each answers whether its values were spelled as it wants them. */
+/* The calls. Each returns whether its values are well spelled. */
 
 static size_t characters(const text *utf8) {
     size_t count = 0;
@@ -489,56 +503,59 @@ static bool is_ascii(const text *utf8) {
     return true;
 }
 
-/* What follows from a conversion that came to its end, as a word where it does not hold. */
-static const char *contradicted(const conversion *by, bool big, const text *from, utf16_progress found, const text *to) {
+/* Returns a word for what a conversion that came to its end contradicts, or NULL. */
+static const char *contradicted(const conversion *by, dethrux_byte_order order, const text *from, dethrux_progress found, const text *to) {
     text written = {to->bytes, found.written, 0};
-    bool strict = by->make == utf16_to_utf8 || by->make == utf16_from_utf8;
-    if (by->make == utf16_to_utf8 && found.status == UTF16_DONE
-        && (utf16_count(big, from->bytes, from->len) != characters(&written)
-            || utf16_is_ascii(big, from->bytes, from->len) != is_ascii(&written))) {
+    bool strict = by->make == dethrux_to_utf8 || by->make == dethrux_from_utf8;
+    if (by->make == dethrux_to_utf8 && found.status == DETHRUX_DONE
+        && (dethrux_count_chars(order, from->bytes, from->len) != characters(&written)
+            || dethrux_is_ascii(order, from->bytes, from->len) != is_ascii(&written))) {
         return "characters";
     }
-    if (by->make == utf16_to_utf8) {
-        utf16_validity valid = utf16_validate(big, from->bytes, from->len);
-        if (valid.valid_up_to != found.read || valid.status != found.status || valid.fault_len != found.fault_len) {
+    if (by->make == dethrux_to_utf8) {
+        dethrux_validity valid = dethrux_validate(order, from->bytes, from->len);
+        if (valid.valid_up_to != found.read || valid.status != found.status || valid.error_len != found.error_len) {
             return "validate";
         }
     }
-    if (by->make == utf16_from_utf8 && utf16_from_utf8_len(from->bytes, from->len) != found.written) {
+    if (by->make == dethrux_from_utf8 && dethrux_from_utf8_len(from->bytes, from->len) != found.written) {
         return "size";
+    }
+    if (found.written > most(by, from->len)) {
+        return "bound";
     }
     if (from->len > SHORT) {
         return NULL;
     }
-    if (!comes_so_far(by, big, from, found, to->bytes)) {
+    if (!comes_so_far(by, order, from, found, to->bytes)) {
         return "rooms";
     }
-    if (by->make == utf16_to_utf8_marked && !is_cut_anywhere(big, from, &written)) {
+    if (by->make == dethrux_to_utf8_lossy && !is_cut_anywhere(order, from, &written)) {
         return "pieces";
     }
-    if (strict && found.status == UTF16_DONE) {
+    if (strict && found.status == DETHRUX_DONE) {
         text again = blank(from->len);
-        convert *back = by->back ? utf16_to_utf8 : utf16_from_utf8;
-        utf16_progress end = back(big, to->bytes, found.written, again.bytes, from->len);
+        convert *back = by->back ? dethrux_to_utf8 : dethrux_from_utf8;
+        dethrux_progress end = back(order, to->bytes, found.written, again.bytes, from->len);
         again.len = end.written;
-        bool is = end.status == UTF16_DONE && same(&again, from);
+        bool is = end.status == DETHRUX_DONE && same(&again, from);
         free(again.bytes);
         return is ? NULL : "back";
     }
     return NULL;
 }
 
-static bool call_convert(const conversion *by, bool big, char **values, size_t count, text *answer) {
+static bool call_convert(const conversion *by, dethrux_byte_order order, char **values, size_t count, text *answer) {
     text from = {0};
-    bool is = count == 2 && bytes_of(values[0], big, &from);
+    bool is = count == 2 && bytes_of(values[0], order, &from);
     if (is) {
         bool sized = strcmp(values[1], "size") == 0;
-        size_t room = sized ? size_of(by, big, &from) : strtoul(values[1], NULL, 10);
+        size_t room = sized ? size_of(by, order, &from) : strtoul(values[1], NULL, 10);
         text to = blank(room);
-        utf16_progress found = by->make(big, from.bytes, from.len, to.bytes, room);
-        const char *but = !is_blank(&to, room) ? "written behind the buffer"
-            : found.status == UTF16_NO_ROOM    ? NULL
-                                               : contradicted(by, big, &from, found, &to);
+        dethrux_progress found = by->make(order, from.bytes, from.len, to.bytes, room);
+        const char *but = !is_blank(&to, room) ? "written after the buffer"
+            : found.status == DETHRUX_NO_SPACE    ? NULL
+                                               : contradicted(by, order, &from, found, &to);
         add_progress(answer, found);
         add_found(answer, !by->back, to.bytes, found.written);
         if (but != NULL) {
@@ -550,17 +567,17 @@ static bool call_convert(const conversion *by, bool big, char **values, size_t c
     return is;
 }
 
-static bool call_every_room(bool big, char **values, size_t count, text *answer) {
+static bool call_every_room(dethrux_byte_order order, char **values, size_t count, text *answer) {
     text from = {0};
     const conversion *by = count == 2 ? conversion_of(values[0]) : NULL;
-    bool is = by != NULL && bytes_of(values[1], big, &from);
+    bool is = by != NULL && bytes_of(values[1], order, &from);
     if (is) {
-        size_t size = size_of(by, big, &from);
+        size_t size = size_of(by, order, &from);
         text all = blank(size);
-        utf16_progress last = by->make(big, from.bytes, from.len, all.bytes, size);
+        dethrux_progress last = by->make(order, from.bytes, from.len, all.bytes, size);
         for (size_t room = 0; room <= size; room++) {
             text to = blank(room);
-            utf16_progress found = by->make(big, from.bytes, from.len, to.bytes, room);
+            dethrux_progress found = by->make(order, from.bytes, from.len, to.bytes, room);
             add_number(answer, found.written);
             if (memcmp(to.bytes, all.bytes, found.written) != 0 || !is_blank(&to, room)) {
                 add_word(answer, "differs");
@@ -574,35 +591,35 @@ static bool call_every_room(bool big, char **values, size_t count, text *answer)
     return is;
 }
 
-/* What is asked of bytes. */
-typedef void question(bool big, const text *raw, text *answer);
+/* Calls that read bytes. */
+typedef void question(dethrux_byte_order order, const text *raw, text *answer);
 
-static void ask_count(bool big, const text *raw, text *answer) {
-    add_number(answer, utf16_count(big, raw->bytes, raw->len));
+static void ask_count(dethrux_byte_order order, const text *raw, text *answer) {
+    add_number(answer, dethrux_count_chars(order, raw->bytes, raw->len));
 }
 
-static void ask_is_ascii(bool big, const text *raw, text *answer) {
-    add_word(answer, utf16_is_ascii(big, raw->bytes, raw->len) ? "true" : "false");
+static void ask_is_ascii(dethrux_byte_order order, const text *raw, text *answer) {
+    add_word(answer, dethrux_is_ascii(order, raw->bytes, raw->len) ? "true" : "false");
 }
 
-static void ask_utf8_size(bool big, const text *raw, text *answer) {
-    add_number(answer, utf16_to_utf8_len(big, raw->bytes, raw->len));
+static void ask_utf8_size(dethrux_byte_order order, const text *raw, text *answer) {
+    add_number(answer, dethrux_to_utf8_lossy_len(order, raw->bytes, raw->len));
 }
 
-static void ask_utf16_size(bool big, const text *raw, text *answer) {
-    (void)big;
-    add_number(answer, utf16_from_utf8_len(raw->bytes, raw->len));
+static void ask_utf16_size(dethrux_byte_order order, const text *raw, text *answer) {
+    (void)order;
+    add_number(answer, dethrux_from_utf8_len(raw->bytes, raw->len));
 }
 
-static void ask_utf16_marked_size(bool big, const text *raw, text *answer) {
-    (void)big;
-    add_number(answer, utf16_from_utf8_marked_len(raw->bytes, raw->len));
+static void ask_utf16_marked_size(dethrux_byte_order order, const text *raw, text *answer) {
+    (void)order;
+    add_number(answer, dethrux_from_utf8_lossy_len(raw->bytes, raw->len));
 }
 
-/* The error's fields, or what stands where there is none. */
-static void add_validity(bool big, const text *raw, const char *none, text *answer) {
-    utf16_validity found = utf16_validate(big, raw->bytes, raw->len);
-    if (found.status == UTF16_DONE && found.valid_up_to == raw->len) {
+/* The error's fields, or what is written if there is no error. */
+static void add_validity(dethrux_byte_order order, const text *raw, const char *none, text *answer) {
+    dethrux_validity found = dethrux_validate(order, raw->bytes, raw->len);
+    if (found.status == DETHRUX_DONE && found.valid_up_to == raw->len) {
         if (none != NULL) {
             add_word(answer, none);
         } else {
@@ -612,88 +629,88 @@ static void add_validity(bool big, const text *raw, const char *none, text *answ
     }
     add_word(answer, "error");
     add_number(answer, found.valid_up_to);
-    if (found.status == UTF16_CUT_OFF) {
+    if (found.status == DETHRUX_INCOMPLETE) {
         add_word(answer, "none");
     } else {
-        add_number(answer, found.fault_len);
+        add_number(answer, found.error_len);
     }
 }
 
-static void ask_validate(bool big, const text *raw, text *answer) {
-    add_validity(big, raw, "done", answer);
+static void ask_validate(dethrux_byte_order order, const text *raw, text *answer) {
+    add_validity(order, raw, "done", answer);
 }
 
-static void ask_from_utf16(bool big, const text *raw, text *answer) {
-    add_validity(big, raw, NULL, answer);
+static void ask_from_utf16(dethrux_byte_order order, const text *raw, text *answer) {
+    add_validity(order, raw, NULL, answer);
 }
 
-/* The text of a stream, which every cutting of it has. */
-static void add_decoded(bool big, const uint8_t *raw, size_t len, text *answer) {
+/* The text of a stream, which every chunking of it has. */
+static void add_decoded(dethrux_byte_order order, const uint8_t *raw, size_t len, text *answer) {
     text from = {0}, utf8 = {0};
     append(&from, raw, len);
-    if (!in_pieces(big, &from, len, len, 3 * len + 4, &utf8)) {
+    if (!in_pieces(order, &from, len, len, 3 * len + 4, &utf8)) {
         add_word(answer, "stream");
     }
     add_text(answer, utf8.bytes, utf8.len);
-    if (len <= SHORT && !is_cut_anywhere(big, &from, &utf8)) {
+    if (len <= SHORT && !is_cut_anywhere(order, &from, &utf8)) {
         add_word(answer, "pieces");
     }
     free(from.bytes);
     free(utf8.bytes);
 }
 
-static void ask_every_cutting(bool big, const text *raw, text *answer) {
-    add_decoded(big, raw->bytes, raw->len, answer);
+static void ask_every_cutting(dethrux_byte_order order, const text *raw, text *answer) {
+    add_decoded(order, raw->bytes, raw->len, answer);
 }
 
-static void ask_every_marked_cutting(bool big, const text *raw, text *answer) {
-    utf16_order order = utf16_byte_order(raw->bytes, raw->len);
-    (void)big;
-    if (order.mark_len > raw->len || (order.order == UTF16_UNDECIDED) != (raw->len < 2)) {
-        add_word(answer, "order");
+static void ask_every_marked_cutting(dethrux_byte_order order, const text *raw, text *answer) {
+    dethrux_bom bom = dethrux_detect_bom(raw->bytes, raw->len);
+    (void)order;
+    if (bom.len > raw->len || (bom.status == DETHRUX_BOM_UNDECIDED) != (raw->len < 2)) {
+        add_word(answer, "BOM");
         return;
     }
-    const uint8_t *behind = raw->len > 0 ? raw->bytes + order.mark_len : NULL;
-    add_decoded(order.order != UTF16_LITTLE, behind, raw->len - order.mark_len, answer);
+    const uint8_t *after = raw->len > 0 ? raw->bytes + bom.len : NULL;
+    add_decoded(bom.byte_order, after, raw->len - bom.len, answer);
 }
 
-/* Calls over pieces. */
-typedef bool over_pieces(bool big, utf16_stream *stream, const text *piece, size_t room, text *answer, text *all);
+/* Calls over chunks. */
+typedef bool over_pieces(dethrux_byte_order order, dethrux_decoder *decoder, const text *piece, size_t room, text *answer, text *all);
 
-static bool feed_to_buffer(bool big, utf16_stream *stream, const text *piece, size_t room, text *answer, text *all) {
+static bool feed_to_buffer(dethrux_byte_order order, dethrux_decoder *decoder, const text *piece, size_t room, text *answer, text *all) {
     text to = blank(room);
-    utf16_progress found = utf16_stream_feed(big, stream, piece->bytes, piece->len, to.bytes, room);
+    dethrux_progress found = dethrux_decoder_feed(decoder, order, piece->bytes, piece->len, to.bytes, room);
     (void)all;
     add_progress(answer, found);
     add_text(answer, to.bytes, found.written);
-    add_bytes(answer, stream->bytes, stream->len);
+    add_bytes(answer, decoder->pending, decoder->pending_len);
     bool is = is_blank(&to, room);
     free(to.bytes);
     return is;
 }
 
-static bool feed_and_show(bool big, utf16_stream *stream, const text *piece, size_t room, text *answer, text *all) {
+static bool feed_and_show(dethrux_byte_order order, dethrux_decoder *decoder, const text *piece, size_t room, text *answer, text *all) {
     text utf8 = {0};
     (void)all;
-    bool is = feed_all(big, stream, piece->bytes, piece->len, room + 3 * piece->len + 4, &utf8);
+    bool is = feed_all(order, decoder, piece->bytes, piece->len, room + 3 * piece->len + 4, &utf8);
     add_text(answer, utf8.bytes, utf8.len);
-    add_bytes(answer, stream->bytes, stream->len);
+    add_bytes(answer, decoder->pending, decoder->pending_len);
     free(utf8.bytes);
     return is;
 }
 
-static bool feed_only(bool big, utf16_stream *stream, const text *piece, size_t room, text *answer, text *all) {
+static bool feed_only(dethrux_byte_order order, dethrux_decoder *decoder, const text *piece, size_t room, text *answer, text *all) {
     (void)answer;
-    return feed_all(big, stream, piece->bytes, piece->len, room + 4, all);
+    return feed_all(order, decoder, piece->bytes, piece->len, room + 4, all);
 }
 
-/* Gives a stream the pieces that a word spells, where there is one. */
-static bool feed_pieces(bool big, const char *word, over_pieces *feed, utf16_stream *stream, size_t room, text *answer, text *all) {
+/* Feeds a decoder the chunks that a word spells. */
+static bool feed_pieces(dethrux_byte_order order, const char *word, over_pieces *feed, dethrux_decoder *decoder, size_t room, text *answer, text *all) {
     for (const char *end = word + strlen(word), *at = word; at <= end;) {
         const char *behind = found_or_end(at, end, ',');
         text piece = {0};
-        bool is = spelled(at, behind, big, &piece);
-        if (is && !feed(big, stream, &piece, room, answer, all)) {
+        bool is = spelled(at, behind, order, &piece);
+        if (is && !feed(order, decoder, &piece, room, answer, all)) {
             add_word(answer, "stream");
         }
         free(piece.bytes);
@@ -705,17 +722,17 @@ static bool feed_pieces(bool big, const char *word, over_pieces *feed, utf16_str
     return true;
 }
 
-static bool call_stream_feed(bool big, char **values, size_t count, text *answer) {
-    utf16_stream stream = {{0}, 0};
+static bool call_stream_feed(dethrux_byte_order order, char **values, size_t count, text *answer) {
+    dethrux_decoder decoder = DETHRUX_DECODER_INIT;
     size_t room = count == 2 ? strtoul(values[1], NULL, 10) : 0;
-    if (count != 2 || !feed_pieces(big, values[0], feed_to_buffer, &stream, room, answer, NULL)) {
+    if (count != 2 || !feed_pieces(order, values[0], feed_to_buffer, &decoder, room, answer, NULL)) {
         return false;
     }
     text to = blank(room);
-    utf16_progress end = utf16_stream_finish(&stream, to.bytes, room);
+    dethrux_progress end = dethrux_decoder_finish(&decoder, to.bytes, room);
     add_progress(answer, end);
     add_text(answer, to.bytes, end.written);
-    add_bytes(answer, stream.bytes, stream.len);
+    add_bytes(answer, decoder.pending, decoder.pending_len);
     if (!is_blank(&to, end.written)) {
         add_word(answer, "changed");
     }
@@ -723,13 +740,13 @@ static bool call_stream_feed(bool big, char **values, size_t count, text *answer
     return true;
 }
 
-static bool call_lossy_feed(bool big, char **values, size_t count, text *answer) {
-    utf16_stream stream = {{0}, 0};
+static bool call_lossy_feed(dethrux_byte_order order, char **values, size_t count, text *answer) {
+    dethrux_decoder decoder = DETHRUX_DECODER_INIT;
     text end = {0};
-    if (count > 1 || (count == 1 && !feed_pieces(big, values[0], feed_and_show, &stream, 0, answer, NULL))) {
+    if (count > 1 || (count == 1 && !feed_pieces(order, values[0], feed_and_show, &decoder, 0, answer, NULL))) {
         return false;
     }
-    if (!finish_all(&stream, &end)) {
+    if (!finish_all(&decoder, &end)) {
         add_word(answer, "finish");
     }
     add_word(answer, end.len > 0 ? "'\\u{FFFD}'" : "none");
@@ -737,11 +754,11 @@ static bool call_lossy_feed(bool big, char **values, size_t count, text *answer)
     return true;
 }
 
-static bool call_decode_pieces(bool big, char **values, size_t count, text *answer) {
-    utf16_stream stream = {{0}, 0};
+static bool call_decode_pieces(dethrux_byte_order order, char **values, size_t count, text *answer) {
+    dethrux_decoder decoder = DETHRUX_DECODER_INIT;
     text all = {0};
-    bool is = count == 0 || (count == 1 && feed_pieces(big, values[0], feed_only, &stream, 0, answer, &all));
-    if (!finish_all(&stream, &all)) {
+    bool is = count == 0 || (count == 1 && feed_pieces(order, values[0], feed_only, &decoder, 0, answer, &all));
+    if (!finish_all(&decoder, &all)) {
         add_word(answer, "finish");
     }
     add_text(answer, all.bytes, all.len);
@@ -749,10 +766,10 @@ static bool call_decode_pieces(bool big, char **values, size_t count, text *answ
     return is;
 }
 
-/* A call by its name: of values, or of bytes alone. The conversions have a table of their own. */
+/* A call by its name: of values, or of bytes alone. The conversions have their own table. */
 static struct {
     const char *name;
-    bool (*make)(bool big, char **values, size_t count, text *answer);
+    bool (*make)(dethrux_byte_order order, char **values, size_t count, text *answer);
     question *ask;
     unsigned made;
 } calls[] = {
@@ -760,11 +777,11 @@ static struct {
     {"Stream::feed", call_stream_feed, NULL, 0},
     {"Lossy::feed", call_lossy_feed, NULL, 0},
     {"decode_pieces", call_decode_pieces, NULL, 0},
-    {"count", NULL, ask_count, 0},
+    {"count_chars", NULL, ask_count, 0},
     {"is_ascii", NULL, ask_is_ascii, 0},
-    {"utf8_size", NULL, ask_utf8_size, 0},
-    {"utf16_size", NULL, ask_utf16_size, 0},
-    {"utf16_marked_size", NULL, ask_utf16_marked_size, 0},
+    {"to_utf8_lossy_len", NULL, ask_utf8_size, 0},
+    {"from_utf8_len", NULL, ask_utf16_size, 0},
+    {"from_utf8_lossy_len", NULL, ask_utf16_marked_size, 0},
     {"validate_raw_utf16", NULL, ask_validate, 0},
     {"WStr::from_utf16", NULL, ask_from_utf16, 0},
     {"every_cutting", NULL, ask_every_cutting, 0},
@@ -785,7 +802,7 @@ static void count(bool passes, const char *name) {
 }
 
 /* Makes a call in a byte order and compares. */
-static void run(bool big, const char *line, char **words, size_t said, size_t all) {
+static void run(dethrux_byte_order order, const char *line, char **words, size_t said, size_t all) {
     text found = {0}, should = {0};
     const conversion *by = conversion_of(words[2]);
     bool is = false;
@@ -794,18 +811,18 @@ static void run(bool big, const char *line, char **words, size_t said, size_t al
             text raw = {0};
             calls[i].made++;
             if (calls[i].make != NULL) {
-                is = calls[i].make(big, words + 3, said - 3, &found);
-            } else if ((is = said == 4 && bytes_of(words[3], big, &raw))) {
-                calls[i].ask(big, &raw, &found);
+                is = calls[i].make(order, words + 3, said - 3, &found);
+            } else if ((is = said == 4 && bytes_of(words[3], order, &raw))) {
+                calls[i].ask(order, &raw, &found);
             }
             free(raw.bytes);
         }
     }
-    is = by != NULL ? call_convert(by, big, words + 3, said - 3, &found) : is;
-    is = wanted(words + said + 1, all - said - 1, big, &should) && is && same(&found, &should);
+    is = by != NULL ? call_convert(by, order, words + 3, said - 3, &found) : is;
+    is = wanted(words + said + 1, all - said - 1, order, &should) && is && same(&found, &should);
     count(is, line);
     if (!is) {
-        printf("   found in %s: %.*s\n", big ? "be" : "le", (int)found.len, (const char *)found.bytes);
+        printf("   found in %s: %.*s\n", order == DETHRUX_BIG_ENDIAN ? "be" : "le", (int)found.len, (const char *)found.bytes);
     }
     free(found.bytes);
     free(should.bytes);
@@ -819,7 +836,7 @@ static bool has_call(const char *name) {
     return is;
 }
 
-/* Runs a line of a table: a name, a byte order, a call, its values, `=`, and what it gives. */
+/* Runs a line of a table: a name, a byte order, a call, its values, `=`, and its result. */
 static void run_line(const char *line) {
     static char copy[LINE];
     char *words[WORDS];
@@ -838,46 +855,197 @@ static void run_line(const char *line) {
         return;
     }
     if (little) {
-        run(false, line, words, said, all);
+        run(DETHRUX_LITTLE_ENDIAN, line, words, said, all);
     }
     if (big) {
-        run(true, line, words, said, all);
+        run(DETHRUX_BIG_ENDIAN, line, words, said, all);
     }
 }
 
-/* What no case can say: calls that C alone has. */
+/* What no case can say: what C alone has. */
 
-/* Byte orders: the bytes, how many of them the mark has, and the order. */
-static bool is_order_told(void) {
+/* The BOM and the byte order of first bytes. */
+static bool is_bom_detected(void) {
     static const struct {
         const char *bytes;
-        size_t mark_len;
-        uint32_t order;
+        dethrux_bom_status status;
+        dethrux_byte_order byte_order;
     } rows[] = {
-        {"", 0, UTF16_UNDECIDED},     {"FF", 0, UTF16_UNDECIDED}, {"FE", 0, UTF16_UNDECIDED}, {"FFFE", 2, UTF16_LITTLE},
-        {"FFFE41", 2, UTF16_LITTLE},  {"FEFF", 2, UTF16_BIG},     {"FEFF41", 2, UTF16_BIG},   {"FFFF", 0, UTF16_BIG},
-        {"FEFE", 0, UTF16_BIG},       {"4100", 0, UTF16_BIG},
+        {"", DETHRUX_BOM_UNDECIDED, DETHRUX_BIG_ENDIAN},     {"FF", DETHRUX_BOM_UNDECIDED, DETHRUX_BIG_ENDIAN},
+        {"FE", DETHRUX_BOM_UNDECIDED, DETHRUX_BIG_ENDIAN},   {"FFFE", DETHRUX_BOM_PRESENT, DETHRUX_LITTLE_ENDIAN},
+        {"FFFE41", DETHRUX_BOM_PRESENT, DETHRUX_LITTLE_ENDIAN}, {"FEFF", DETHRUX_BOM_PRESENT, DETHRUX_BIG_ENDIAN},
+        {"FEFF41", DETHRUX_BOM_PRESENT, DETHRUX_BIG_ENDIAN}, {"FFFF", DETHRUX_BOM_ABSENT, DETHRUX_BIG_ENDIAN},
+        {"FEFE", DETHRUX_BOM_ABSENT, DETHRUX_BIG_ENDIAN},    {"4100", DETHRUX_BOM_ABSENT, DETHRUX_BIG_ENDIAN},
     };
     bool is = true;
     for (size_t i = 0; i < sizeof rows / sizeof *rows; i++) {
         text raw = {0};
         is = hex(rows[i].bytes, rows[i].bytes + strlen(rows[i].bytes), &raw) && is;
-        utf16_order found = utf16_byte_order(raw.bytes, raw.len);
-        is = is && found.order == rows[i].order && found.mark_len == rows[i].mark_len;
+        dethrux_bom found = dethrux_detect_bom(raw.bytes, raw.len);
+        is = is && found.status == rows[i].status && found.byte_order == rows[i].byte_order
+            && found.len == (rows[i].status == DETHRUX_BOM_PRESENT ? 2 : 0);
         free(raw.bytes);
     }
     return is;
 }
 
-/* Gives a state a piece of little endian: the text that is written, all of the piece or nothing, and what is held then. */
-static bool feeds(utf16_stream *stream, const char *piece, size_t room, uint32_t status, const char *written, const char *held) {
+static bool is_same(dethrux_progress a, const text *a_to, dethrux_progress b, const text *b_to) {
+    return a.read == b.read && a.written == b.written && a.status == b.status && a.error_len == b.error_len
+        && memcmp(a_to->bytes, b_to->bytes, a.written) == 0;
+}
+
+/* Whether every call reads a byte order as little endian, of bytes that big endian reads as
+ * another text. */
+static bool is_read_as_little(dethrux_byte_order order, const text *utf16, const text *utf8) {
+    const dethrux_byte_order little = DETHRUX_LITTLE_ENDIAN;
+    dethrux_validity valid = dethrux_validate(order, utf16->bytes, utf16->len), wanted = dethrux_validate(little, utf16->bytes, utf16->len);
+    bool is = valid.valid_up_to == wanted.valid_up_to && valid.status == wanted.status && valid.error_len == wanted.error_len
+        && dethrux_count_chars(order, utf16->bytes, utf16->len) == dethrux_count_chars(little, utf16->bytes, utf16->len)
+        && dethrux_is_ascii(order, utf16->bytes, 2) && !dethrux_is_ascii(DETHRUX_BIG_ENDIAN, utf16->bytes, 2)
+        && dethrux_to_utf8_lossy_len(order, utf16->bytes, utf16->len) == dethrux_to_utf8_lossy_len(little, utf16->bytes, utf16->len);
+    for (size_t i = 0; i < sizeof conversions / sizeof *conversions; i++) {
+        const conversion *by = &conversions[i];
+        const text *from = by->back ? utf8 : utf16;
+        text to = blank(64), should = blank(64);
+        dethrux_progress found = by->make(order, from->bytes, from->len, to.bytes, 64);
+        is = is && is_same(found, &to, by->make(little, from->bytes, from->len, should.bytes, 64), &should);
+        free(to.bytes);
+        free(should.bytes);
+    }
+    text fed = {0}, should = {0};
+    is = in_pieces(order, utf16, 1, 3, 4, &fed) && in_pieces(little, utf16, 1, 3, 4, &should) && same(&fed, &should) && is;
+    free(fed.bytes);
+    free(should.bytes);
+    return is;
+}
+
+/* Values of a byte order that the header does not name. */
+static bool is_any_byte_order_fine(void) {
+    static const uint32_t values[] = {2, 3, 256, 257, 0x10000, 0x7FFFFFFF, 0x80000000, 0xFFFFFFFF};
+    text utf16 = {0}, utf8 = {0};
+    bool is = bytes_of("6100052641DC00D800D83DD800DE61", DETHRUX_LITTLE_ENDIAN, &utf16)
+        && bytes_of("61E29885F09F988061FF", DETHRUX_LITTLE_ENDIAN, &utf8);
+    for (size_t i = 0; is && i < sizeof values / sizeof *values; i++) {
+        is = is_read_as_little((dethrux_byte_order)values[i], &utf16, &utf8);
+    }
+    free(utf16.bytes);
+    free(utf8.bytes);
+    return is;
+}
+
+/* Whether a conversion writes just as many bytes as its capacity, and does not come to its end with
+ * a byte less. */
+static bool needs(convert *make, const text *from, size_t capacity, dethrux_status status) {
+    text to = blank(capacity);
+    dethrux_progress found = make(DETHRUX_BIG_ENDIAN, from->bytes, from->len, to.bytes, capacity);
+    bool is = found.status == status && found.written == capacity && is_blank(&to, capacity);
+    if (capacity > 0) {
+        is = is && make(DETHRUX_BIG_ENDIAN, from->bytes, from->len, to.bytes, capacity - 1).status == DETHRUX_NO_SPACE;
+    }
+    free(to.bytes);
+    return is;
+}
+
+/* So many bytes of characters that take three bytes in UTF-8, of unpaired surrogates, of ASCII, and
+ * of a byte that UTF-8 never has. */
+static bool is_bound_reached(size_t len) {
+    text three = {0}, lone = {0}, ascii = {0}, never = {0};
+    for (size_t i = 0; i < len; i++) {
+        append_byte(&three, i % 2 == 0 ? 0x4E : 0x00);
+        append_byte(&lone, i % 2 == 0 ? 0xDC : 0x00);
+        append_byte(&ascii, 'a');
+        append_byte(&never, 0xFF);
+    }
+    dethrux_status end = len % 2 == 0 ? DETHRUX_DONE : DETHRUX_INCOMPLETE;
+    bool is = needs(dethrux_to_utf8, &three, len / 2 * 3, end) && needs(dethrux_to_utf8_partial, &three, len / 2 * 3, end)
+        && needs(dethrux_to_utf8_partial, &lone, len / 2 * 3, end)
+        && needs(dethrux_to_utf8_lossy, &three, DETHRUX_UTF8_MAX(len), DETHRUX_DONE)
+        && needs(dethrux_to_utf8_lossy, &lone, DETHRUX_UTF8_MAX(len), DETHRUX_DONE)
+        && dethrux_to_utf8_lossy_len(DETHRUX_BIG_ENDIAN, lone.bytes, len) == DETHRUX_UTF8_MAX(len)
+        && needs(dethrux_from_utf8, &ascii, DETHRUX_UTF16_MAX(len), DETHRUX_DONE)
+        && needs(dethrux_from_utf8_lossy, &ascii, DETHRUX_UTF16_MAX(len), DETHRUX_DONE)
+        && needs(dethrux_from_utf8_lossy, &never, DETHRUX_UTF16_MAX(len), DETHRUX_DONE)
+        && dethrux_from_utf8_len(ascii.bytes, len) == DETHRUX_UTF16_MAX(len)
+        && dethrux_from_utf8_lossy_len(never.bytes, len) == DETHRUX_UTF16_MAX(len);
+    free(three.bytes);
+    free(lone.bytes);
+    free(ascii.bytes);
+    free(never.bytes);
+    return is;
+}
+
+/* Whether a decoder in a state writes just as many bytes as its capacity, and does not come to the
+ * chunk's end with a byte less. */
+static bool feed_needs(dethrux_decoder state, const text *chunk, size_t capacity) {
+    dethrux_decoder decoder = state;
+    text to = blank(capacity);
+    dethrux_progress found = dethrux_decoder_feed(&decoder, DETHRUX_BIG_ENDIAN, chunk->bytes, chunk->len, to.bytes, capacity);
+    bool is = found.status == DETHRUX_DONE && found.written == capacity && is_blank(&to, capacity);
+    decoder = state;
+    found = dethrux_decoder_feed(&decoder, DETHRUX_BIG_ENDIAN, chunk->bytes, chunk->len, to.bytes, capacity - 1);
+    free(to.bytes);
+    return is && found.status == DETHRUX_NO_SPACE;
+}
+
+/* A state with three bytes, as a call leaves it and as none does, and a chunk of characters that
+ * take three bytes each. */
+static bool is_feed_bound_reached(size_t len) {
+    static const uint8_t left[] = {0xD8, 0x00, 0x4E};
+    dethrux_decoder by_call = DETHRUX_DECODER_INIT, by_hand = {{0x4E, 0x00, 0x4E}, DETHRUX_PENDING_MAX};
+    dethrux_progress found = dethrux_decoder_feed(&by_call, DETHRUX_BIG_ENDIAN, left, sizeof left, NULL, 0);
+    bool is = found.status == DETHRUX_DONE && by_call.pending_len == DETHRUX_PENDING_MAX;
+    text chunk = {0};
+    for (size_t i = 0; i < len; i++) {
+        append_byte(&chunk, i % 2 == 0 ? 0x00 : 0x4E);
+    }
+    is = is && (len == 0 || feed_needs(by_call, &chunk, DETHRUX_FEED_MAX(len))) && feed_needs(by_hand, &chunk, DETHRUX_FEED_MAX(len));
+    free(chunk.bytes);
+    return is;
+}
+
+/* The most bytes that are left unread, and the most that a character takes, by the partial call and
+ * by a decoder. */
+static bool is_pending_bound_reached(void) {
+    static const uint8_t pair[] = {0xD8, 0x3D, 0xDE, 0x00};
+    uint8_t to[4];
+    dethrux_decoder decoder = DETHRUX_DECODER_INIT;
+    dethrux_progress cut = dethrux_to_utf8_partial(DETHRUX_BIG_ENDIAN, pair, 3, to, 0);
+    dethrux_progress three = dethrux_to_utf8_partial(DETHRUX_BIG_ENDIAN, pair, 4, to, 3);
+    dethrux_progress four = dethrux_to_utf8_partial(DETHRUX_BIG_ENDIAN, pair, 4, to, 4);
+    bool is = cut.read == 0 && cut.status == DETHRUX_INCOMPLETE && three.written == 0 && three.status == DETHRUX_NO_SPACE && four.written == 4
+        && four.status == DETHRUX_DONE;
+    three = dethrux_decoder_feed(&decoder, DETHRUX_BIG_ENDIAN, pair, 4, to, 3);
+    is = is && three.written == 0 && three.status == DETHRUX_NO_SPACE;
+    dethrux_validity found = dethrux_validate(DETHRUX_BIG_ENDIAN, pair, 3);
+    return is && found.valid_up_to == 0 && found.status == DETHRUX_INCOMPLETE && DETHRUX_PENDING_MAX == 3;
+}
+
+/* Each bound that the header states, at inputs that need it. */
+static bool are_bounds_reached(void) {
+    bool is = is_pending_bound_reached();
+    for (size_t len = 0; is && len <= 2 * SHORT + 1; len++) {
+        is = is_bound_reached(len) && is_feed_bound_reached(len);
+    }
+    return is;
+}
+
+/* The version of the header, of the library, and by its parts. */
+static bool is_version_same(void) {
+    return dethrux_version() == DETHRUX_VERSION && DETHRUX_VERSION == 1000 && DETHRUX_VERSION_MAJOR == 0 && DETHRUX_VERSION_MINOR == 1
+        && DETHRUX_VERSION_PATCH == 0;
+}
+
+/* Feeds a decoder a chunk in little endian: the text that is written, all of the chunk or nothing,
+ * and the bytes that are pending then. */
+static bool feeds(dethrux_decoder *decoder, const char *chunk, size_t room, dethrux_status status, const char *written, const char *pending) {
     text from = {0}, utf8 = {0}, left = {0}, to = blank(room);
-    bool is = bytes_of(piece, false, &from) && bytes_of(written, false, &utf8) && bytes_of(held, false, &left);
-    utf16_progress found = utf16_stream_feed(false, stream, from.bytes, from.len, to.bytes, room);
-    is = is && found.status == status && found.read == (status == UTF16_DONE ? from.len : 0) && found.fault_len == 0
+    bool is = bytes_of(chunk, DETHRUX_LITTLE_ENDIAN, &from) && bytes_of(written, DETHRUX_LITTLE_ENDIAN, &utf8)
+        && bytes_of(pending, DETHRUX_LITTLE_ENDIAN, &left);
+    dethrux_progress found = dethrux_decoder_feed(decoder, DETHRUX_LITTLE_ENDIAN, from.bytes, from.len, to.bytes, room);
+    is = is && found.status == status && found.read == (status == DETHRUX_DONE ? from.len : 0) && found.error_len == 0
         && is_blank(&to, room);
     to.len = found.written;
-    text holds = {stream->bytes, stream->len, 0};
+    text holds = {decoder->pending, decoder->pending_len, 0};
     is = is && same(&to, &utf8) && same(&holds, &left);
     free(from.bytes);
     free(utf8.bytes);
@@ -888,24 +1056,25 @@ static bool feeds(utf16_stream *stream, const char *piece, size_t room, uint32_t
 
 /* A state that no call left: three bytes of two characters, and a length above three. */
 static bool is_any_state_fine(void) {
-    utf16_stream stream = {{0x41, 0x00, 0x42}, 200};
-    return feeds(&stream, "-", 4, UTF16_DONE, "41", "42") && feeds(&stream, "0043", 0, UTF16_NO_ROOM, "-", "42")
-        && feeds(&stream, "0043", 4, UTF16_DONE, "42", "43");
+    dethrux_decoder decoder = {{0x41, 0x00, 0x42}, 200};
+    return feeds(&decoder, "-", 4, DETHRUX_DONE, "41", "42") && feeds(&decoder, "0043", 0, DETHRUX_NO_SPACE, "-", "42")
+        && feeds(&decoder, "0043", 4, DETHRUX_DONE, "42", "43");
 }
 
 /* Null pointers with length 0. */
 static bool is_empty_fine(void) {
-    utf16_stream stream = {{0}, 0};
-    return utf16_stream_feed(true, &stream, NULL, 0, NULL, 0).status == UTF16_DONE
-        && utf16_stream_finish(&stream, NULL, 0).status == UTF16_DONE
-        && utf16_validate(false, NULL, 0).status == UTF16_DONE && utf16_count(false, NULL, 0) == 0
-        && utf16_is_ascii(true, NULL, 0) && utf16_to_utf8_len(true, NULL, 0) == 0 && utf16_from_utf8_len(NULL, 0) == 0
-        && utf16_from_utf8_marked_len(NULL, 0) == 0 && utf16_from_utf8_marked(false, NULL, 0, NULL, 0).status == UTF16_DONE
-        && utf16_to_utf8(false, NULL, 0, NULL, 0).status == UTF16_DONE
-        && utf16_from_utf8(true, NULL, 0, NULL, 0).status == UTF16_DONE
-        && utf16_to_utf8_marked(true, NULL, 0, NULL, 0).status == UTF16_DONE
-        && utf16_to_utf8_stream(true, NULL, 0, NULL, 0).status == UTF16_DONE
-        && utf16_byte_order(NULL, 0).order == UTF16_UNDECIDED;
+    dethrux_decoder decoder = DETHRUX_DECODER_INIT;
+    const dethrux_byte_order little = DETHRUX_LITTLE_ENDIAN, big = DETHRUX_BIG_ENDIAN;
+    return dethrux_decoder_feed(&decoder, big, NULL, 0, NULL, 0).status == DETHRUX_DONE
+        && dethrux_decoder_finish(&decoder, NULL, 0).status == DETHRUX_DONE
+        && dethrux_validate(little, NULL, 0).status == DETHRUX_DONE && dethrux_count_chars(little, NULL, 0) == 0
+        && dethrux_is_ascii(big, NULL, 0) && dethrux_to_utf8_lossy_len(big, NULL, 0) == 0 && dethrux_from_utf8_len(NULL, 0) == 0
+        && dethrux_from_utf8_lossy_len(NULL, 0) == 0 && dethrux_from_utf8_lossy(little, NULL, 0, NULL, 0).status == DETHRUX_DONE
+        && dethrux_to_utf8(little, NULL, 0, NULL, 0).status == DETHRUX_DONE
+        && dethrux_from_utf8(big, NULL, 0, NULL, 0).status == DETHRUX_DONE
+        && dethrux_to_utf8_lossy(big, NULL, 0, NULL, 0).status == DETHRUX_DONE
+        && dethrux_to_utf8_partial(big, NULL, 0, NULL, 0).status == DETHRUX_DONE
+        && dethrux_detect_bom(NULL, 0).status == DETHRUX_BOM_UNDECIDED;
 }
 
 int main(void) {
@@ -918,7 +1087,10 @@ int main(void) {
             count(false, calls[i].name);
         }
     }
-    count(is_order_told(), "the order that a byte order mark tells");
+    count(is_bom_detected(), "the BOM and the byte order of first bytes");
+    count(is_any_byte_order_fine(), "values of a byte order that the header does not name");
+    count(are_bounds_reached(), "the bounds of the header at inputs that need them");
+    count(is_version_same(), "the version of the header and of the library");
     count(is_any_state_fine(), "a state that no call left");
     count(is_empty_fine(), "null pointers of length 0");
     printf("%u passed, %u failed\n", passed, failed);

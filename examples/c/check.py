@@ -1,13 +1,19 @@
-"""Makes the calls of cases that utf16.py has: reads tables of cases/ on standard input, prints each case whose answer differs, with
-both, and last how many passed. A case of another call, or one with a condition on memory or devices, is not made."""
+"""Reads tables of cases/ on standard input, makes the calls that dethrux.py has, prints each case whose
+result differs, with both, and last how many passed. Cases of other calls, and those with a condition
+on memory or devices, are skipped."""
 
 import collections
 import re
 import sys
 
-import utf16
+import dethrux
 
-STOPS = {utf16.DONE: ["end"], utf16.CUT_OFF: ["cut"], utf16.NO_ROOM: ["room"]}
+ORDERS = {
+    "le": [dethrux.LITTLE_ENDIAN],
+    "be": [dethrux.BIG_ENDIAN],
+    "both": [dethrux.LITTLE_ENDIAN, dethrux.BIG_ENDIAN],
+}
+STOPS = {dethrux.DONE: ["end"], dethrux.INCOMPLETE: ["cut"], dethrux.NO_SPACE: ["room"]}
 
 
 class Text(bytes):
@@ -18,42 +24,42 @@ def unescaped(spelled):
     return re.sub(r"\\u\{([0-9A-F]+)\}", lambda found: chr(int(found[1], 16)), spelled)
 
 
-def part(word, big):
+def part(word, order):
     if word == "-":
         return b""
     if word.startswith("~"):
-        return unescaped(word[2:-1]).encode("utf-16-be" if big else "utf-16-le")
+        return unescaped(word[2:-1]).encode("utf-16-be" if order == dethrux.BIG_ENDIAN else "utf-16-le")
     if word.startswith('"'):
         return unescaped(word[1:-1]).encode()
     if not word.startswith("^"):
         return bytes.fromhex(word)
     units = bytes.fromhex(word[1:])
-    return units if big else b"".join(units[at : at + 2][::-1] for at in range(0, len(units), 2))
+    return units if order == dethrux.BIG_ENDIAN else b"".join(units[at : at + 2][::-1] for at in range(0, len(units), 2))
 
 
 def has_parts(word):
     return word[0].isdigit() and "*" in word
 
 
-def spelled(word, big):
+def spelled(word, order):
     """The bytes that a word of a case spells."""
     if not has_parts(word):
-        return part(word, big)
-    return b"".join(int(count) * part(one, big) for count, one in (each.split("*", 1) for each in word.split("+")))
+        return part(word, order)
+    return b"".join(int(count) * part(one, order) for count, one in (each.split("*", 1) for each in word.split("+")))
 
 
-def pieces(words, big):
-    return [spelled(word, big) for word in words[0].split(",")] if words else []
+def pieces(words, order):
+    return [spelled(word, order) for word in words[0].split(",")] if words else []
 
 
-def is_wanted(found, word, big):
+def is_wanted(found, word, order):
     if isinstance(found, bytes):
-        return isinstance(found, Text) == ('"' in word and "~" not in word) and spelled(word, big) == found
+        return isinstance(found, Text) == ('"' in word and "~" not in word) and spelled(word, order) == found
     return str(found) == word
 
 
-def stop(status, fault_len):
-    return STOPS.get(status) or ["fault", fault_len]
+def stop(status, error_len):
+    return STOPS.get(status) or ["fault", error_len]
 
 
 def cuttings(raw):
@@ -61,76 +67,76 @@ def cuttings(raw):
     return [singly, *([raw[:at], raw[at:]] for at in range(len(raw) + 1))]
 
 
-def fed(big, parts, room=4096):
-    stream = utf16.Stream(big, room)
-    return Text(b"".join(stream.feed(piece) for piece in parts) + stream.finish())
+def fed(order, parts, room=4096):
+    decoder = dethrux.Decoder(order, room)
+    return Text(b"".join(decoder.feed(piece) for piece in parts) + decoder.finish())
 
 
-def cut_anywhere(big, raw):
-    """The text of a stream, and any other that a cutting has."""
-    text = fed(big, [raw])
+def cut_anywhere(order, raw):
+    """The text of a stream, and any other that a chunking has."""
+    text = fed(order, [raw])
     rooms = (4, 5, 4096) if len(raw) <= 64 else ()
-    return [text, *({fed(big, parts, room) for parts in cuttings(raw) for room in rooms} - {text})]
+    return [text, *({fed(order, parts, room) for parts in cuttings(raw) for room in rooms} - {text})]
 
 
-# The calls: each takes whether the byte order is big endian and the values, and gives the answer's words.
+# The calls: each takes a byte order and the values, and returns the words of the result.
 
 
 def converted(convert, is_text):
-    def call(big, source, room):
-        found, read, status, fault_len = convert(big, spelled(source, big), None if room == "size" else int(room))
-        return [read, len(found), *stop(status, fault_len), Text(found) if is_text else found]
+    def call(order, source, room):
+        found, read, status, error_len = convert(order, spelled(source, order), None if room == "size" else int(room))
+        return [read, len(found), *stop(status, error_len), Text(found) if is_text else found]
 
     return call
 
 
-def validate(big, raw, *whole):
-    raw = spelled(raw, big)
-    valid_up_to, status, fault_len = utf16.validate(big, raw)
-    if status == utf16.DONE:
+def validate(order, raw, *whole):
+    raw = spelled(raw, order)
+    valid_up_to, status, error_len = dethrux.validate(order, raw)
+    if status == dethrux.DONE:
         return list(whole) or [raw]
-    return ["error", valid_up_to, "none" if status == utf16.CUT_OFF else fault_len]
+    return ["error", valid_up_to, "none" if status == dethrux.INCOMPLETE else error_len]
 
 
-def every_marked_cutting(big, raw):
-    raw = spelled(raw, big)
-    order, mark_len = utf16.byte_order(raw)
-    return cut_anywhere(order != utf16.LITTLE, raw[mark_len:])
+def every_marked_cutting(order, raw):
+    raw = spelled(raw, order)
+    found, bom_len, _status = dethrux.detect_bom(raw)
+    return cut_anywhere(found, raw[bom_len:])
 
 
-def lossy_feed(big, *words):
-    stream, found = utf16.Stream(big), []
-    for piece in pieces(words, big):
-        found += [Text(stream.feed(piece)), stream.held()]
-    return [*found, "'\\u{FFFD}'" if stream.finish() else "none"]
+def lossy_feed(order, *words):
+    decoder, found = dethrux.Decoder(order), []
+    for piece in pieces(words, order):
+        found += [Text(decoder.feed(piece)), decoder.pending()]
+    return [*found, "'\\u{FFFD}'" if decoder.finish() else "none"]
 
 
 CALLS = {
-    "to_utf8": converted(utf16.to_utf8, True),
-    "decode": converted(utf16.to_utf8_stream, True),
-    "decode_whole": converted(utf16.to_utf8_marked, True),
-    "from_utf8": converted(utf16.from_utf8, False),
-    "encode_whole": converted(utf16.from_utf8_marked, False),
-    "count": lambda big, raw: [utf16.count(big, spelled(raw, big))],
-    "is_ascii": lambda big, raw: [str(utf16.is_ascii(big, spelled(raw, big))).lower()],
-    "utf8_size": lambda big, raw: [utf16.to_utf8_len(big, spelled(raw, big))],
-    "utf16_size": lambda big, text: [utf16.from_utf8_len(spelled(text, big))],
-    "utf16_marked_size": lambda big, text: [utf16.from_utf8_marked_len(spelled(text, big))],
-    "validate_raw_utf16": lambda big, raw: validate(big, raw, "done"),
+    "to_utf8": converted(dethrux.to_utf8, True),
+    "to_utf8_partial": converted(dethrux.to_utf8_partial, True),
+    "to_utf8_lossy": converted(dethrux.to_utf8_lossy, True),
+    "from_utf8": converted(dethrux.from_utf8, False),
+    "from_utf8_lossy": converted(dethrux.from_utf8_lossy, False),
+    "count_chars": lambda order, raw: [dethrux.count_chars(order, spelled(raw, order))],
+    "is_ascii": lambda order, raw: [str(dethrux.is_ascii(order, spelled(raw, order))).lower()],
+    "to_utf8_lossy_len": lambda order, raw: [dethrux.to_utf8_lossy_len(order, spelled(raw, order))],
+    "from_utf8_len": lambda order, text: [dethrux.from_utf8_len(spelled(text, order))],
+    "from_utf8_lossy_len": lambda order, text: [dethrux.from_utf8_lossy_len(spelled(text, order))],
+    "validate_raw_utf16": lambda order, raw: validate(order, raw, "done"),
     "WStr::from_utf16": validate,
-    "every_cutting": lambda big, raw: cut_anywhere(big, spelled(raw, big)),
+    "every_cutting": lambda order, raw: cut_anywhere(order, spelled(raw, order)),
     "AnyLossy::every_cutting": every_marked_cutting,
     "Lossy::feed": lossy_feed,
-    "decode_pieces": lambda big, *words: [fed(big, pieces(words, big))],
+    "decode_pieces": lambda order, *words: [fed(order, pieces(words, order))],
 }
 
 
-def holds(big, call, values, wanted):
+def holds(order, call, values, wanted):
     try:
-        found = CALLS[call](big, *values)
-        if len(found) == len(wanted) and all(is_wanted(one, word, big) for one, word in zip(found, wanted)):
+        found = CALLS[call](order, *values)
+        if len(found) == len(wanted) and all(is_wanted(one, word, order) for one, word in zip(found, wanted)):
             return True
-        print(f"   found in {'be' if big else 'le'}: {found}")
+        print(f"   found in {'be' if order == dethrux.BIG_ENDIAN else 'le'}: {found}")
     except (TypeError, ValueError) as error:
         print(f"   {error}")
     return False
@@ -142,14 +148,14 @@ def main():
         words = line.split()
         if not words or line.startswith("#") or len(words) > 2 and (";" in words[1] or words[2] not in CALLS):
             continue
-        if len(words) < 4 or "=" not in words[3:] or words[1] not in ("le", "be", "both"):
+        if len(words) < 4 or "=" not in words[3:] or words[1] not in ORDERS:
             counts[False] += 1
             print(f"Python failed, no case: {line}", end="")
             continue
         equals = words.index("=", 3)
         made.add(words[2])
-        for big in {"le": [False], "be": [True]}.get(words[1], [False, True]):
-            is_so = holds(big, words[2], words[3:equals], words[equals + 1 :])
+        for order in ORDERS[words[1]]:
+            is_so = holds(order, words[2], words[3:equals], words[equals + 1 :])
             counts[is_so] += 1
             if not is_so:
                 print(f"Python failed: {line}", end="")

@@ -1,11 +1,12 @@
 #!/usr/bin/env bash
-# Builds the static library and the examples in C, in Python over a shared object, and in Rust, and
-# runs each over the tables of cases. A tool that is missing is a failure. The last line is 'N passed, M
-# failed'. With --over-ci the library is built over the libraries that rt ci has just proved.
+# Builds the library libdethrux.a and the examples in C, in Python over a shared object, and in Rust,
+# and runs each over the tables of cases. A tool that is missing is a failure. The last line is
+# 'N passed, M failed'. With --over-ci the library is built over the libraries that rt ci has just
+# proved.
 set -uo pipefail
 here=$(cd "$(dirname "$0")" && pwd)
 top=$here/../..
-archive=$top/crates/utf16_c/out/libutf16_c.a
+archive=$top/crates/dethrux/out/libdethrux.a
 room=$(mktemp -d)
 trap 'rm -rf "$room"' EXIT
 passed=0
@@ -33,7 +34,7 @@ count() {
 
 # The static library, over what rt has kept of the crates below it.
 library() {
-    cd "$top/crates/utf16_c" && rt lib
+    cd "$top/crates/dethrux" && rt lib
 }
 
 # The static library over what rt ci has just proved. rt ci checks a static library and builds none,
@@ -42,7 +43,7 @@ library() {
 # in its place, and is all that does so. Where an earlier rt lib left stamps, rt ci puts them back.
 library_over_ci() {
     local kit below words=()
-    cd "$top/crates/utf16_c" || return 1
+    cd "$top/crates/dethrux" || return 1
     if compgen -G '../*/out/rlib/stamp' > /dev/null; then
         rt lib
         return
@@ -56,8 +57,8 @@ library_over_ci() {
     done
     words+=(--extern "std=$kit/rlibs/std.rlib" -L "dependency=$kit/rlibs" --toolchain "$kit/toolchain")
     words+=(--antt-project "$kit/rattle/logic/antt-project.json" --logic-built "$kit/logic_built")
-    "$kit/bin/rattle" build --crate-name utf16_c --crate-type staticlib --links utf16_c= --backend llvm --jobs 4 \
-        "${words[@]}" -o out/libutf16_c.a src/lib.rt
+    "$kit/bin/rattle" build --crate-name dethrux --crate-type staticlib --links dethrux= --backend llvm --jobs 4 \
+        "${words[@]}" -o out/libdethrux.a src/lib.rt
 }
 
 has() {
@@ -72,25 +73,35 @@ in_c() {
 }
 
 in_cxx() {
-    c++ -std=c++11 -Wall -Wextra -Wpedantic -Werror "-I$top/include" -x c++ -fsyntax-only "$top/include/utf16.h"
+    local standard
+    for standard in c++11 c++17; do
+        c++ -std=$standard -Wall -Wextra -Wpedantic -Werror "-I$top/include" -x c++ -fsyntax-only "$top/include/dethrux.h" || return
+    done
+}
+
+# Whether a compiler, with its words, refuses a call whose result is ignored.
+refuses_ignored() {
+    printf '#include "dethrux.h"\nint main() { dethrux_version(); }\n' > "$room/ignored"
+    ! "$@" -Werror "-I$top/include" -c "$room/ignored" -o "$room/ignored.o" > "$room/warning" 2>&1 && grep -q dethrux_version "$room/warning"
 }
 
 check_c() {
     "$room/check" < "$room/cases"
 }
 
-# The program that decodes a file in pieces, on a text with a fault that is longer than a piece.
+# The program that decodes a file in chunks, on a text that is longer than a chunk and ends with an
+# unpaired surrogate.
 decodes() {
     { printf '\xFE\xFF'; for _ in {1..3000}; do printf '\0a\x4E\0'; done; printf '\xD8\0'; } | "$room/decode" auto > "$room/found"
     { for _ in {1..3000}; do printf 'a\xE4\xB8\x80'; done; printf '\xEF\xBF\xBD'; } | cmp - "$room/found"
 }
 
 shared() {
-    cc -shared -o "$room/libutf16_c.so" -Wl,--whole-archive "$archive" -Wl,--no-whole-archive
+    cc -shared -o "$room/libdethrux.so" -Wl,--whole-archive "$archive" -Wl,--no-whole-archive
 }
 
 check_python() {
-    PYTHONDONTWRITEBYTECODE=1 UTF16_LIBRARY="$room/libutf16_c.so" python3 "$here/check.py" < "$room/cases"
+    PYTHONDONTWRITEBYTECODE=1 DETHRUX_LIBRARY="$room/libdethrux.so" python3 "$here/check.py" < "$room/cases"
 }
 
 in_rust() {
@@ -107,10 +118,12 @@ built=library
 [ "${1-}" != --over-ci ] || built=library_over_ci
 ("$built") > "$room/said" 2>&1 || { tail -n 20 "$room/said"; echo "0 passed, 1 failed"; exit 1; }
 if has cc 'C and Python'; then
-    count 'the program in C' in_c decode && count 'a file in pieces' decodes
+    count 'the program in C' in_c decode && count 'a file in chunks' decodes
     count 'the check in C' in_c check && count 'the cases in C' check_c
+    count 'an ignored result in C' refuses_ignored cc -std=c99 -x c
     if has c++ 'the header in C++'; then
         count 'the header in C++' in_cxx
+        count 'an ignored result in C++' refuses_ignored c++ -std=c++17 -x c++
     fi
     if has python3 'Python'; then
         count 'the shared object' shared && count 'the cases in Python' check_python

@@ -6,17 +6,17 @@ use std::alloc::{AllocError, Global};
 use utf16_case_lines::{Answer, Trouble};
 use utf16_transcode::{Progress, Stop};
 
-// What stands in a buffer before a call.
+// Each byte of a buffer before a call.
 const BEFORE: u8 = 0xEE;
 
-/// A buffer of so many bytes.
+/// Returns a buffer of `room` bytes.
 pub fn buffer(alloc: Global, room: usize) -> Result<Vec<u8>, AllocError>
     ensures { IfOk result (λ to. length to.items ≡ room) }
 {
     vec![in alloc; BEFORE; room]
 }
 
-/// Adds `changed` where a byte of a buffer behind so many is not as it was before the call.
+/// Adds `changed` if a byte after the first `written` of a buffer is not as it was before the call.
 pub fn add_changed(answer: &mut Answer, to: &[u8], written: usize) -> Result<(), Trouble> {
     let behind = to.get(written..).ok_or(Trouble::Condition)?;
     if behind.iter().any(|byte| *byte != BEFORE) {
@@ -31,11 +31,11 @@ fn add_progress(answer: &mut Answer, progress: Progress) {
     answer.number(progress.written);
     match progress.stop {
         Stop::Done => answer.word("end"),
-        Stop::Fault(len) => {
+        Stop::IllFormed(len) => {
             answer.word("fault");
             answer.number(len as usize);
         }
-        Stop::CutOff => answer.word("cut"),
+        Stop::Incomplete => answer.word("cut"),
         Stop::NoRoom => answer.word("room"),
     }
 }
@@ -45,21 +45,21 @@ pub fn add_written(
     answer: &mut Answer,
     to: &[u8],
     progress: Progress,
-    is_text: bool,
+    is_utf16: bool,
 ) -> Result<(), Trouble> {
     add_progress(answer, progress);
-    answer.text_or_bytes(written(to, progress)?, is_text);
+    answer.text_or_bytes(written(to, progress)?, is_utf16);
     Ok(())
 }
 
-/// Adds how many bytes were written to a buffer, and they.
+/// Adds the number of bytes written to a buffer, and the bytes.
 pub fn add_bytes(answer: &mut Answer, to: &[u8], written: usize) -> Result<(), Trouble> {
     answer.number(written);
     answer.bytes(to.get(..written).ok_or(Trouble::Condition)?);
     Ok(())
 }
 
-/// What was written to a buffer.
+/// Returns what was written to a buffer.
 pub fn written(to: &[u8], progress: Progress) -> Result<&[u8], Trouble> {
     to.get(..progress.written).ok_or(Trouble::Condition)
 }

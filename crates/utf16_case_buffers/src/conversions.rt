@@ -4,7 +4,8 @@ use crate::buffers::{add_written, buffer, written};
 use std::alloc::Global;
 use utf16_case_lines::{Answer, Trouble, Values};
 use utf16_transcode::{
-    Progress, decode, decode_whole, encode_whole, from_utf8, to_utf8, utf8_size, utf16_marked_size,
+    Progress, from_utf8, from_utf8_lossy, from_utf8_lossy_len, to_utf8, to_utf8_lossy,
+    to_utf8_lossy_len, to_utf8_partial,
 };
 use utf16_units::Utf16Order;
 
@@ -19,29 +20,29 @@ pub enum Conversion {
 }
 
 impl Conversion {
-    /// The call of that name.
+    /// Returns the call of that name.
     pub fn named(name: &str) -> Option<Self> {
         match name {
             "to_utf8" => Some(Conversion::ToUtf8),
-            "decode" => Some(Conversion::Decode),
-            "decode_whole" => Some(Conversion::DecodeWhole),
+            "to_utf8_partial" => Some(Conversion::Decode),
+            "to_utf8_lossy" => Some(Conversion::DecodeWhole),
             "from_utf8" => Some(Conversion::FromUtf8),
-            "encode_whole" => Some(Conversion::EncodeWhole),
+            "from_utf8_lossy" => Some(Conversion::EncodeWhole),
             _ => None,
         }
     }
 
-    // Whether it writes UTF-8.
+    // Returns whether it writes UTF-8.
     fn writes_utf8(self) -> bool {
         !matches!(self, Conversion::FromUtf8 | Conversion::EncodeWhole)
     }
 
-    // How many bytes it writes at most, with U+FFFD for each fault.
+    // Returns how many bytes it writes at most, with U+FFFD for each ill-formed sequence.
     fn size<E: Utf16Order>(self, from: &[u8]) -> usize {
         if self.writes_utf8() {
-            utf8_size::<E>(from)
+            to_utf8_lossy_len::<E>(from)
         } else {
-            utf16_marked_size(from)
+            from_utf8_lossy_len(from)
         }
     }
 
@@ -49,16 +50,16 @@ impl Conversion {
     fn make<E: Utf16Order>(self, from: &[u8], to: &mut [u8]) -> Progress {
         match self {
             Conversion::ToUtf8 => to_utf8::<E>(from, to),
-            Conversion::Decode => decode::<E>(from, to),
-            Conversion::DecodeWhole => decode_whole::<E>(from, to),
+            Conversion::Decode => to_utf8_partial::<E>(from, to),
+            Conversion::DecodeWhole => to_utf8_lossy::<E>(from, to),
             Conversion::FromUtf8 => from_utf8::<E>(from, to),
-            Conversion::EncodeWhole => encode_whole::<E>(from, to),
+            Conversion::EncodeWhole => from_utf8_lossy::<E>(from, to),
         }
     }
 }
 
-/// How far a call came with a buffer of so many bytes, or of the size that the call of sizes tells,
-/// and what was written.
+/// Adds how far a call came with a buffer of so many bytes, or of the length that its length call
+/// returns, and what was written.
 pub fn convert<E: Utf16Order>(
     alloc: Global,
     conversion: Conversion,
@@ -75,9 +76,9 @@ pub fn convert<E: Utf16Order>(
     add_written(answer, &to, progress, conversion.writes_utf8())
 }
 
-/// For each size of a buffer, up to the one that the call of sizes tells: how many bytes the call
-/// writes to it, and `differs` where they are not the first of those that it writes to the last.
-/// And those.
+/// Adds, for each length of a buffer up to the one that the length call returns, how many bytes the
+/// call writes to it, and `differs` if they are not a prefix of those that it writes to the last;
+/// and then those.
 pub fn every_room<E: Utf16Order>(
     alloc: Global,
     values: &mut Values,
@@ -95,7 +96,8 @@ pub fn every_room<E: Utf16Order>(
     Ok(())
 }
 
-// How many bytes a call writes to a buffer of so many, and whether they are not the first of all.
+// Adds how many bytes a call writes to a buffer of so many, and `differs` if they are not a prefix
+// of `all`.
 fn begins<E: Utf16Order>(
     alloc: Global,
     conversion: Conversion,

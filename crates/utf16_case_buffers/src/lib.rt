@@ -14,8 +14,8 @@ use std::alloc::Global;
 use utf16_case_lines::{Answer, Trouble, Values};
 use utf16_units::Utf16Order;
 
-/// Makes a call on these values and adds what it gave. `Call` where no call over buffers has this
-/// name; then no value was taken.
+/// Makes a call on these values and adds its result. `Call` if no call over buffers has this name;
+/// then no value was taken.
 pub fn call<E: Utf16Order>(
     alloc: Global,
     name: &str,
@@ -32,13 +32,13 @@ pub fn call<E: Utf16Order>(
             streams::new(answer);
             Ok(())
         }
-        "Stream::held" => streams::held(alloc, values, answer),
+        "Stream::pending" => streams::pending(alloc, values, answer),
         "Stream::feed" => streams::feed::<E>(alloc, values, answer),
-        "count"
+        "count_chars"
         | "is_ascii"
-        | "utf8_size"
-        | "utf16_size"
-        | "utf16_marked_size"
+        | "to_utf8_lossy_len"
+        | "from_utf8_len"
+        | "from_utf8_lossy_len"
         | "has_ascii_units"
         | "trailing_units"
         | "first_char_len" => { questions::call::<E>(alloc, name, values, answer) }

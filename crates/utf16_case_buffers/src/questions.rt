@@ -1,12 +1,14 @@
-//! What is asked of bytes.
+//! Calls that measure or test bytes.
 
 use std::alloc::Global;
 use utf16_case_lines::{Answer, Trouble, Values};
-use utf16_transcode::{count, is_ascii, utf8_size, utf16_marked_size, utf16_size};
+use utf16_transcode::{
+    count_chars, from_utf8_len, from_utf8_lossy_len, is_ascii, to_utf8_lossy_len,
+};
 use utf16_units::text::{has_ascii_units, trailing_units};
 use utf16_units::{Utf16Order, first_char_len};
 
-/// Answers one of the questions by its name.
+/// Makes the call of this name.
 pub fn call<E: Utf16Order>(
     alloc: Global,
     name: &str,
@@ -25,17 +27,18 @@ pub fn call<E: Utf16Order>(
 
 fn about<E: Utf16Order>(bytes: &[u8], name: &str, answer: &mut Answer) {
     match name {
-        "utf8_size" => answer.number(utf8_size::<E>(bytes)),
-        "utf16_size" => answer.number(utf16_size(bytes)),
-        "utf16_marked_size" => answer.number(utf16_marked_size(bytes)),
-        "count" => answer.number(count::<E>(bytes)),
+        "to_utf8_lossy_len" => answer.number(to_utf8_lossy_len::<E>(bytes)),
+        "from_utf8_len" => answer.number(from_utf8_len(bytes)),
+        "from_utf8_lossy_len" => answer.number(from_utf8_lossy_len(bytes)),
+        "count_chars" => answer.number(count_chars::<E>(bytes)),
         "is_ascii" => answer.truth(is_ascii::<E>(bytes)),
         "has_ascii_units" => answer.truth(has_ascii_units::<E>(bytes)),
         _ => answer.number(trailing_units::<E>(bytes)),
     }
 }
 
-// How many bytes the character at the front has, or `fault` and how many the fault has, or `cut`.
+// Adds the length of the first character, or `fault` and the length of an ill-formed sequence, or
+// `cut`.
 fn front<E: Utf16Order>(bytes: &[u8], answer: &mut Answer) -> Result<(), Trouble> {
     if bytes.is_empty() {
         return Err(Trouble::Condition);

@@ -1,4 +1,4 @@
-//! Streams whose undecided bytes are the caller's.
+//! Streams whose pending bytes are in a value of the caller's.
 
 use crate::buffers::{add_changed, add_written, buffer};
 use std::alloc::Global;
@@ -6,13 +6,13 @@ use utf16_case_lines::{Answer, Trouble, Values};
 use utf16_transcode::Stream;
 use utf16_units::Utf16Order;
 
-/// What a new stream holds.
+/// Adds the pending bytes of a new stream.
 pub fn new(answer: &mut Answer) {
-    answer.bytes(Stream::new().held());
+    answer.bytes(Stream::new().pending());
 }
 
-/// What a stream holds whose fields are three bytes and a length.
-pub fn held(alloc: Global, values: &mut Values, answer: &mut Answer) -> Result<(), Trouble> {
+/// Adds the pending bytes of a stream whose fields are three bytes and a length.
+pub fn pending(alloc: Global, values: &mut Values, answer: &mut Answer) -> Result<(), Trouble> {
     let bytes = values.bytes(alloc, true)?;
     let len = u8::try_from(values.number()?).map_err(|_| Trouble::Value)?;
     let [first, second, third] = bytes.as_slice() else {
@@ -22,13 +22,13 @@ pub fn held(alloc: Global, values: &mut Values, answer: &mut Answer) -> Result<(
         bytes: [*first, *second, *third],
         len,
     };
-    answer.bytes(stream.held());
+    answer.bytes(stream.pending());
     Ok(())
 }
 
-/// Feeds the pieces, each to a buffer of so many bytes: for each how far the call came, what was
-/// written, and what is held then; and last how far the end came, what it wrote, and what is held
-/// then.
+/// Feeds the chunks, each to a buffer of so many bytes: adds for each how far the call came, what
+/// was written, and what is pending then; and last how far the end came, what it wrote, and what is
+/// pending then.
 pub fn feed<E: Utf16Order>(
     alloc: Global,
     values: &mut Values,
@@ -41,7 +41,7 @@ pub fn feed<E: Utf16Order>(
         let mut to = buffer(alloc, room)?;
         let progress = stream.feed::<E>(piece, &mut to);
         add_written(answer, &to, progress, true)?;
-        answer.bytes(stream.held());
+        answer.bytes(stream.pending());
     }
     finish(alloc, stream, room, answer)
 }
@@ -52,6 +52,6 @@ fn finish(alloc: Global, stream: Stream, room: usize, answer: &mut Answer) -> Re
     let mut to = buffer(alloc, room)?;
     let progress = stream.finish(&mut to);
     add_written(answer, &to, progress, true)?;
-    answer.bytes(stream.held());
+    answer.bytes(stream.pending());
     add_changed(answer, &to, progress.written)
 }

@@ -1,8 +1,7 @@
-//! Texts as bytes: their characters, how they compare, and each encoding written behind other
-//! bytes.
+//! Texts as bytes: their characters, how they compare, and each encoding appended to other bytes.
 
 ghost use Rattle.std.specs.Prelude.{IfOk};
-ghost use Rattle.utf16_units.specs.Encoding.{IsText};
+ghost use Rattle.utf16_units.specs.Encoding.{IsUtf16};
 
 use crate::buffers::{add_bytes, add_changed, buffer};
 use std::alloc::Global;
@@ -10,13 +9,13 @@ use std::cmp::Ordering;
 use utf16_case_lines::{Answer, Trouble, Values};
 use utf16_decode::put;
 use utf16_from_utf8::{append_utf16, extend_utf16, utf16_len, write_units};
-use utf16_to_utf8::{SPARE, append_utf8, utf8_len, write_utf8};
+use utf16_to_utf8::{SLACK, append_utf8, utf8_len, write_utf8};
 use utf16_units::compare::compare;
 use utf16_units::ends::{first_char, last_char};
 use utf16_units::text::{count_chars, is_ascii};
 use utf16_units::{Utf16Order, validate_raw_utf16};
 
-/// Makes a call on bytes that are a text, or on a text in UTF-8. `Call` where none has this name.
+/// Makes a call on bytes that are a text, or on a text in UTF-8. `Call` if none has this name.
 pub fn call<E: Utf16Order>(
     alloc: Global,
     name: &str,
@@ -24,7 +23,7 @@ pub fn call<E: Utf16Order>(
     answer: &mut Answer,
 ) -> Result<(), Trouble> {
     match name {
-        "count_chars" | "text::is_ascii" | "utf8_len" | "first_char" | "last_char" => {
+        "text::count_chars" | "text::is_ascii" | "utf8_len" | "first_char" | "last_char" => {
             of_text::<E>(alloc, name, values, answer)
         }
         "compare" => compared::<E>(alloc, values, answer),
@@ -40,7 +39,7 @@ pub fn call<E: Utf16Order>(
 
 // Takes bytes that are a text.
 fn text<E: Utf16Order>(alloc: Global, values: &mut Values) -> Result<Vec<u8>, Trouble>
-    ensures { IfOk result (λ raw. IsText E.BIG raw.items) }
+    ensures { IfOk result (λ raw. IsUtf16 E.BIG raw.items) }
 {
     let raw = values.bytes(alloc, E::BIG)?;
     match validate_raw_utf16::<E>(&raw) {
@@ -57,7 +56,7 @@ fn of_text<E: Utf16Order>(
 ) -> Result<(), Trouble> {
     let raw = text::<E>(alloc, values)?;
     match name {
-        "count_chars" => answer.number(count_chars::<E>(&raw)),
+        "text::count_chars" => answer.number(count_chars::<E>(&raw)),
         "utf8_len" => answer.number(utf8_len::<E>(&raw)),
         "text::is_ascii" => answer.truth(is_ascii::<E>(&raw)),
         _ if raw.is_empty() => return Err(Trouble::Condition),
@@ -67,7 +66,7 @@ fn of_text<E: Utf16Order>(
     Ok(())
 }
 
-// The character at an end, and how many bytes it has.
+// Adds the character at an end, and its length in bytes.
 fn end(answer: &mut Answer, found: (char, usize)) {
     let (c, size) = found;
     answer.character(c);
@@ -89,7 +88,7 @@ fn compared<E: Utf16Order>(
     Ok(())
 }
 
-// A text in UTF-16 behind a text in UTF-8.
+// Appends a text in UTF-16 to a text in UTF-8.
 fn to_string<E: Utf16Order>(
     alloc: Global,
     values: &mut Values,
@@ -102,7 +101,7 @@ fn to_string<E: Utf16Order>(
     Ok(())
 }
 
-// A text in UTF-8 at the front of a buffer of so many bytes.
+// Writes a text in UTF-8 to the start of a buffer of so many bytes.
 fn to_buffer<E: Utf16Order>(
     alloc: Global,
     values: &mut Values,
@@ -111,7 +110,7 @@ fn to_buffer<E: Utf16Order>(
     let raw = text::<E>(alloc, values)?;
     let room = values.number()?;
     let mut to = buffer(alloc, room)?;
-    if to.len() < SPARE || (to.len() - SPARE) / 3 < raw.len() / 2 {
+    if to.len() < SLACK || (to.len() - SLACK) / 3 < raw.len() / 2 {
         return Err(Trouble::Condition);
     }
     let len = write_utf8::<E>(&raw, &mut to);
@@ -126,7 +125,7 @@ fn of_utf8(alloc: Global, values: &mut Values, answer: &mut Answer) -> Result<()
     Ok(())
 }
 
-// A text in UTF-8 behind bytes, in UTF-16, with room that is there already or not.
+// Appends a text in UTF-8 to bytes, in UTF-16, with capacity that is reserved or not.
 fn to_bytes<E: Utf16Order>(
     alloc: Global,
     name: &str,
@@ -145,8 +144,8 @@ fn to_bytes<E: Utf16Order>(
     Ok(())
 }
 
-// What a piece of UTF-8 adds behind two bytes, at the front of a buffer with one byte more than the
-// call may write over.
+// Adds what a chunk of UTF-8 writes after two bytes, at the start of a buffer with one byte more
+// than the call may write.
 fn units_to_buffer<E: Utf16Order>(
     alloc: Global,
     values: &mut Values,
@@ -167,7 +166,7 @@ fn units_to_buffer<E: Utf16Order>(
     add_changed(answer, &to, room)
 }
 
-// Bytes written at a place of a buffer, and where they end.
+// Adds the bytes of a buffer to which bytes were written at an offset, and where these end.
 fn at_place(alloc: Global, values: &mut Values, answer: &mut Answer) -> Result<(), Trouble> {
     let bytes = values.bytes(alloc, true)?;
     let mut to = values.bytes(alloc, true)?;

@@ -5,7 +5,7 @@ use std::alloc::Global;
 use utf16_case_lines::{Answer, Trouble, Values};
 use utf16_units::Utf16Order;
 
-/// How many bytes were written to a buffer of so many, and they.
+/// Adds the number of bytes written to a buffer of so many, and the bytes.
 pub fn write_well_formed<E: Utf16Order>(
     alloc: Global,
     values: &mut Values,

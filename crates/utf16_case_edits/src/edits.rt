@@ -1,88 +1,83 @@
 //! Edits as values, one by one and as a list.
 
-use utf16_case_lines::{Answer, Trouble, Values};
-use utf16_case_strings::{Bench, Heap};
+use utf16_case_lines::{Answer, Run, Trouble};
+use utf16_case_strings::{Heap, left, part, string};
 use utf16_edits::{Edit, Reply, apply, run};
 use utf16string::{Utf16Order, WString};
 
-// Takes a text that an edit holds, in memory of the case and with no room left.
-fn text<'a, E: Utf16Order>(
-    bench: &Bench<'a>,
-    values: &mut Values,
-) -> Result<WString<E, Heap<'a>>, Trouble> {
-    let part = bench.part::<E>(values)?;
-    Ok(WString::from_wstr(bench.heap, part.as_wstr())?)
+// Takes a text that an edit holds, in memory of the case and with no spare capacity.
+fn text<'a, E: Utf16Order>(case: &mut Run<'a>) -> WString<E, Heap<'a>> {
+    let part = part::<E>(case);
+    match WString::from_wstr(case.heap, part.as_wstr()) {
+        Ok(text) => text,
+        Err(_) => {
+            case.refuse(Trouble::Memory);
+            WString::new(case.heap)
+        }
+    }
 }
 
 // Takes the characters that an edit keeps, as one text.
-fn set<'a>(bench: &Bench<'a>, values: &mut Values) -> Result<Vec<char, Heap<'a>>, Trouble> {
-    let text = values.text(bench.alloc)?;
-    let mut set = Vec::new(bench.heap);
+fn set<'a>(case: &mut Run<'a>) -> Vec<char, Heap<'a>> {
+    let text = case.text();
+    let mut set = Vec::new(case.heap);
     for c in text.chars() {
         if set.push(c).is_err() {
-            return Err(Trouble::Memory);
+            case.refuse(Trouble::Memory);
         }
     }
-    Ok(set)
+    set
 }
 
 // Takes an edit: its name and what it holds.
-fn edit<'a, E: Utf16Order>(
-    bench: &Bench<'a>,
-    values: &mut Values,
-) -> Result<Edit<E, Heap<'a>>, Trouble> {
-    match values.word()? {
-        "Pop" => Ok(Edit::Pop),
-        "Clear" => Ok(Edit::Clear),
-        "Push" => Ok(Edit::Push(values.character(bench.alloc)?)),
-        "PushText" => Ok(Edit::PushText(text(bench, values)?)),
-        "Retain" => Ok(Edit::Retain(set(bench, values)?)),
-        name => edit_at(bench, name, values.number()?, values),
+fn edit<'a, E: Utf16Order>(case: &mut Run<'a>) -> Edit<E, Heap<'a>> {
+    match case.word() {
+        "Pop" => Edit::Pop,
+        "Clear" => Edit::Clear,
+        "Push" => Edit::Push(case.character()),
+        "PushText" => Edit::PushText(text(case)),
+        "Retain" => Edit::Retain(set(case)),
+        name => edit_at(case, name),
     }
 }
 
-// Takes what an edit at an offset holds behind it.
-fn edit_at<'a, E: Utf16Order>(
-    bench: &Bench<'a>,
-    name: &str,
-    at: usize,
-    values: &mut Values,
-) -> Result<Edit<E, Heap<'a>>, Trouble> {
+// Takes what an edit at an offset holds.
+fn edit_at<'a, E: Utf16Order>(case: &mut Run<'a>, name: &str) -> Edit<E, Heap<'a>> {
+    let at = case.number();
     match name {
-        "Remove" => Ok(Edit::Remove(at)),
-        "Truncate" => Ok(Edit::Truncate(at)),
-        "SplitOff" => Ok(Edit::SplitOff(at)),
-        "Insert" => Ok(Edit::Insert(at, values.character(bench.alloc)?)),
-        "InsertText" => Ok(Edit::InsertText(at, text(bench, values)?)),
-        "Overwrite" => Ok(Edit::Overwrite(at, text(bench, values)?)),
-        _ => Err(Trouble::Value),
+        "Remove" => Edit::Remove(at),
+        "Truncate" => Edit::Truncate(at),
+        "SplitOff" => Edit::SplitOff(at),
+        "Insert" => Edit::Insert(at, case.character()),
+        "InsertText" => Edit::InsertText(at, text(case)),
+        "Overwrite" => Edit::Overwrite(at, text(case)),
+        _ => {
+            case.refuse(Trouble::Value);
+            Edit::Clear
+        }
     }
 }
 
 // Takes the edits that are left, with a `/` between.
-fn edits<'a, E: Utf16Order>(
-    bench: &Bench<'a>,
-    values: &mut Values,
-) -> Result<Vec<Edit<E, Heap<'a>>>, Trouble> {
-    let mut edits = Vec::new(bench.alloc);
-    for _ in 0..values.count() {
-        if values.count() == 0 {
+fn edits<'a, E: Utf16Order>(case: &mut Run<'a>) -> Vec<Edit<E, Heap<'a>>> {
+    let mut edits = Vec::new(case.alloc);
+    for _ in 0..case.values.count() {
+        if case.values.count() == 0 {
             break;
         }
-        if edits.push(edit::<E>(bench, values)?).is_err() {
-            return Err(Trouble::Memory);
+        if edits.push(edit::<E>(case)).is_err() {
+            case.refuse(Trouble::Memory);
         }
-        slash(values)?;
+        slash(case);
     }
-    Ok(edits)
+    edits
 }
 
-// Takes the `/` behind an edit that is not the last one.
-fn slash(values: &mut Values) -> Result<(), Trouble> {
-    if values.count() != 0 && (values.word()? != "/" || values.count() == 0) {
-        return Err(Trouble::Value);
+// Takes the `/` after an edit that is not the last one.
+fn slash(case: &mut Run) {
+    if case.values.count() != 0 && (case.word() != "/" || case.values.count() == 0) {
+        case.refuse(Trouble::Value);
     }
-    Ok(())
 }
 
 // Adds a reply.
@@ -97,7 +92,7 @@ fn reply<E: Utf16Order>(answer: &mut Answer, reply: &Reply<E, Heap>) {
     }
 }
 
-// Adds replies, with a `/` between.
+// Adds replies, separated by `/`.
 fn replies<E: Utf16Order>(answer: &mut Answer, given: &[Reply<E, Heap>]) {
     for (at, given) in given.iter().enumerate() {
         if at != 0 {
@@ -108,32 +103,22 @@ fn replies<E: Utf16Order>(answer: &mut Answer, given: &[Reply<E, Heap>]) {
 }
 
 /// Does one edit of a string.
-pub fn by_apply<E: Utf16Order>(
-    bench: &Bench,
-    values: &mut Values,
-    answer: &mut Answer,
-) -> Result<(), Trouble> {
-    let mut string = bench.string::<E>(values)?;
-    let edit = edit::<E>(bench, values)?;
-    bench.begin();
-    reply(answer, &apply(&mut string, edit));
-    bench.left(answer, &string);
-    Ok(())
+pub fn by_apply<E: Utf16Order>(case: &mut Run) {
+    let mut string = string::<E>(case);
+    let edit = edit::<E>(case);
+    case.begin();
+    reply(&mut case.answer, &apply(&mut string, edit));
+    left(case, &string);
 }
 
 /// Does a list of edits of a string. The replies have a `/` between.
-pub fn by_run<E: Utf16Order>(
-    bench: &Bench,
-    values: &mut Values,
-    answer: &mut Answer,
-) -> Result<(), Trouble> {
-    let mut string = bench.string::<E>(values)?;
-    let edits = edits::<E>(bench, values)?;
-    bench.begin();
-    match run(bench.heap, &mut string, edits) {
-        Ok(given) => replies(answer, &given),
-        Err(_) => answer.word("no_memory"),
+pub fn by_run<E: Utf16Order>(case: &mut Run) {
+    let mut string = string::<E>(case);
+    let edits = edits::<E>(case);
+    case.begin();
+    match run(case.heap, &mut string, edits) {
+        Ok(given) => replies(&mut case.answer, &given),
+        Err(_) => case.done(false),
     }
-    bench.left(answer, &string);
-    Ok(())
+    left(case, &string);
 }

@@ -1,11 +1,11 @@
-//! What a call gave, in the words of a table.
+//! The result of a call, in the words of a table.
 
 use crate::escapes::push_escaped;
 use crate::trouble::Trouble;
 use crate::values::{bytes_of, has_parts};
 use std::alloc::{AllocError, Global};
 
-/// What a call gave, in words with a space between. Where memory for a word is refused, `as_str`
+/// The result of a call, in words separated by spaces. If allocation for a word fails, `as_str`
 /// says so.
 #[derive(Drop)]
 pub struct Answer {
@@ -14,7 +14,7 @@ pub struct Answer {
 }
 
 impl Answer {
-    /// Nothing yet.
+    /// Returns a result without words.
     pub fn new(alloc: Global) -> Self {
         Answer {
             words: String::new(alloc),
@@ -22,8 +22,9 @@ impl Answer {
         }
     }
 
-    /// What the words of a table want: the same words, with bytes in place of a `~` and a text and
-    /// of a `^` and code units, and with the bytes or the text in place of parts that are repeated.
+    /// Returns the words of the expected result: the same words, with bytes in place of a `~` and a
+    /// text and of a `^` and code units, and with the bytes or the text in place of parts that are
+    /// repeated.
     pub fn wanted(alloc: Global, words: &[&str], is_big: bool) -> Result<Self, Trouble> {
         let mut answer = Answer::new(alloc);
         for word in words {
@@ -32,19 +33,19 @@ impl Answer {
         Ok(answer)
     }
 
-    // Adds what a word of a table wants.
+    // Adds a word of the expected result.
     fn want(&mut self, alloc: Global, word: &str, is_big: bool) -> Result<(), Trouble> {
         let is_encoded = word.starts_with('~') || word.starts_with('^');
         if is_encoded || has_parts(word) {
-            let is_text = !is_encoded && word.contains("*\"");
-            self.text_or_bytes(&bytes_of(alloc, word, is_big)?, is_text);
+            let is_utf16 = !is_encoded && word.contains("*\"");
+            self.text_or_bytes(&bytes_of(alloc, word, is_big)?, is_utf16);
         } else {
             self.word(word);
         }
         Ok(())
     }
 
-    /// The words so far.
+    /// Returns the words so far.
     pub fn as_str(&self) -> Result<&str, Trouble> {
         if self.is_refused {
             Err(Trouble::Memory)
@@ -53,12 +54,12 @@ impl Answer {
         }
     }
 
-    /// Whether there is no word so far.
+    /// Returns whether there is no word so far.
     pub fn is_empty(&self) -> bool {
         self.words.is_empty()
     }
 
-    // Keeps that memory was refused.
+    // Records whether an allocation failed.
     fn note(&mut self, done: Result<(), AllocError>) {
         self.is_refused = self.is_refused || done.is_err();
     }
@@ -73,7 +74,7 @@ impl Answer {
         self.note(done);
     }
 
-    // The space before a further word.
+    // Adds the space before another word.
     fn space(&mut self) {
         if !self.words.is_empty() {
             self.put(" ");
@@ -98,7 +99,7 @@ impl Answer {
         self.word(if is { "true" } else { "false" });
     }
 
-    /// Adds bytes, two digits each, or `-` where there are none.
+    /// Adds bytes, two digits each, or `-` for none.
     pub fn bytes(&mut self, bytes: &[u8]) {
         self.space();
         if bytes.is_empty() {
@@ -111,10 +112,10 @@ impl Answer {
         }
     }
 
-    /// Adds bytes that are wanted to be UTF-8 as a text, and any others as bytes.
-    pub fn text_or_bytes(&mut self, bytes: &[u8], is_text: bool) {
+    /// Adds bytes that should be UTF-8 as a text if they are, and all others as bytes.
+    pub fn text_or_bytes(&mut self, bytes: &[u8], is_utf16: bool) {
         match str::from_utf8(bytes) {
-            Ok(text) if is_text => self.text(text),
+            Ok(text) if is_utf16 => self.text(text),
             _ => self.bytes(bytes),
         }
     }

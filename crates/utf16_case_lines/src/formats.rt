@@ -5,7 +5,7 @@ use crate::trouble::Trouble;
 use std::alloc::Global;
 use std::fmt::{Debug, Display};
 
-/// Adds what a format, as `{:>60}`, writes of a value.
+/// Adds what a format, such as `{:>60}`, writes for a value.
 pub fn add_written<T: Display + Debug>(
     alloc: Global,
     value: &T,
@@ -25,7 +25,7 @@ pub fn add_written<T: Display + Debug>(
     Ok(())
 }
 
-/// Adds `done` where `{:?}` writes something, since what it writes is not promised.
+/// Adds `done` if `{:?}` writes something: what it writes is not promised.
 pub fn add_debug<T: Debug>(alloc: Global, value: &T, answer: &mut Answer) -> Result<(), Trouble> {
     let text = format!(in alloc; "{value:?}")?;
     answer.word(if text.is_empty() { "none" } else { "done" });

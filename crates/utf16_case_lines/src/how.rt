@@ -1,10 +1,10 @@
-//! In which byte orders a case is run, and under which conditions.
+//! The byte orders and the conditions of a case.
 
 use crate::trouble::Trouble;
 use crate::values::{number_of, numbers_of};
 use std::alloc::Global;
 
-/// Which requests for memory a case has refused, counted from 0.
+/// The allocations that fail in a case, counted from 0.
 #[derive(Clone, Copy, Drop)]
 pub enum Refuse {
     Nothing,
@@ -12,7 +12,7 @@ pub enum Refuse {
     From(u64),
 }
 
-/// What a device does at the one call at which it does not move bytes.
+/// What a reader or a writer does at the one call at which it does not move bytes.
 #[derive(Clone, Copy, Drop)]
 pub enum Odd {
     Fails,
@@ -20,19 +20,19 @@ pub enum Odd {
     MovesNothing,
 }
 
-/// How a reader or a writer answers its calls.
+/// How a reader or a writer behaves at its calls.
 #[derive(Drop)]
 pub struct Device {
-    /// How many bytes it moves at most, call by call, round and round. With none it moves all.
+    /// The most bytes that it moves, call by call, over and over. With an empty list it moves all.
     pub sizes: Vec<usize>,
-    /// The call at which it does something else, counted from 1. At 0 there is none.
+    /// The call at which it does something else, counted from 1; 0 for none.
     pub odd_at: usize,
     /// What it does there.
     pub odd: Odd,
 }
 
 impl Device {
-    /// One that moves all that it is offered.
+    /// Returns one that moves all that it is offered.
     fn new(alloc: Global) -> Self {
         Device {
             sizes: Vec::new(alloc),
@@ -41,13 +41,13 @@ impl Device {
         }
     }
 
-    // Reads how many bytes it moves, as `1,2`.
+    // Reads how many bytes it moves, such as `1,2`.
     fn read_sizes(&mut self, alloc: Global, word: &str) -> Result<(), Trouble> {
         self.sizes = numbers_of(alloc, word)?;
         Ok(())
     }
 
-    // Reads what it does at its odd call, as `fails@3`.
+    // Reads what it does at its odd call, such as `fails@3`.
     fn read_odd(&mut self, word: &str) -> Result<(), Trouble> {
         let (odd, at) = word.split_once('@').ok_or(Trouble::Form)?;
         self.odd = match odd {
@@ -61,20 +61,20 @@ impl Device {
     }
 }
 
-/// In which byte orders a case is run, and under which conditions.
+/// The byte orders and the conditions of a case.
 #[derive(Drop)]
 pub struct How {
     /// Whether it is run in little endian.
     pub little: bool,
     /// Whether it is run in big endian.
     pub big: bool,
-    /// The requests that are refused.
+    /// The allocations that fail.
     pub refuse: Refuse,
-    /// For how many bytes a string has room before the call, at least.
+    /// The least capacity of a string before the call, in bytes.
     pub room: usize,
-    /// Whether the answer ends with how many requests for memory were made.
+    /// Whether the result ends with the number of allocations.
     pub counted: bool,
-    /// Whether the answer names the capacity of the string that is left or made.
+    /// Whether the result has the capacity of the string that is left or made.
     pub capacity: bool,
     /// The reader.
     pub reads: Device,
@@ -83,7 +83,7 @@ pub struct How {
 }
 
 impl How {
-    /// What a word says: `le`, `be` or `both`, and each condition behind a `;`: `refuse=2`,
+    /// Reads a word: `le`, `be` or `both`, and each condition after a `;`: `refuse=2`,
     /// `refuse=2..`, `room=8`, `counted`, `capacity`, `reads=1,2`, `writes=1,2`, `read=fails@3`,
     /// `write=nothing@1`.
     pub fn read(alloc: Global, word: &str) -> Result<Self, Trouble> {
@@ -130,7 +130,7 @@ impl How {
         Ok(())
     }
 
-    // Adds which requests are refused: `2`, or `2..`.
+    // Adds which allocations fail: `2`, or `2..`.
     fn refuse_as(&mut self, value: &str) -> Result<(), Trouble> {
         self.refuse = match value.strip_suffix("..") {
             Some(first) => Refuse::From(number_of(first)? as u64),
@@ -139,13 +139,13 @@ impl How {
         Ok(())
     }
 
-    // Adds for how many bytes there is room.
+    // Adds the capacity in bytes.
     fn make_room(&mut self, value: &str) -> Result<(), Trouble> {
         self.room = number_of(value)?;
         Ok(())
     }
 
-    // Adds a condition on a device.
+    // Adds a condition on the reader or the writer.
     fn add_device(&mut self, alloc: Global, name: &str, value: &str) -> Result<(), Trouble> {
         match name {
             "reads" => self.reads.read_sizes(alloc, value),

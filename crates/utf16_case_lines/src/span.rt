@@ -1,4 +1,4 @@
-//! Ranges as a table spells them, and the three calls that take the part of one.
+//! Ranges as a table spells them, and the three calls that return the substring at a range.
 
 use crate::trouble::Trouble;
 use crate::values::number_of;
@@ -15,7 +15,7 @@ pub enum Span {
 }
 
 impl Span {
-    /// The range that a word spells.
+    /// Returns the range that a word spells.
     pub fn read(word: &str) -> Result<Self, Trouble> {
         match word.split_once("..=") {
             Some(("", end)) => Ok(Span::ToThrough(number_of(end)?)),
@@ -24,7 +24,7 @@ impl Span {
         }
     }
 
-    // One that ends before its second number.
+    // Returns a range without an end, or with an end that is not included.
     fn read_open(word: &str) -> Result<Self, Trouble> {
         match word.split_once("..").ok_or(Trouble::Value)? {
             ("", "") => Ok(Span::Full),
@@ -35,7 +35,7 @@ impl Span {
     }
 }
 
-/// The call that takes a part.
+/// A call that returns a substring.
 #[derive(Clone, Copy, Drop)]
 pub enum By {
     Get,

@@ -2,19 +2,19 @@
 
 use std::alloc::AllocError;
 
-/// Why a line of a table is not run. It is no case that failed: the table itself is wrong, or
-/// memory was refused.
+/// Why a line of a table is not run. It is not a case that failed: the table itself is wrong, or
+/// allocation failed.
 #[derive(Clone, Copy, Debug, Drop)]
 pub enum Trouble {
-    /// The line is not of the form that the tables have.
+    /// The line does not have the form of the tables.
     Form,
     /// No call has this name.
     Call,
-    /// A value is not spelled as the call wants it, or there are too few values, or too many.
+    /// A value is not spelled as the call needs it, or there are too few values, or too many.
     Value,
-    /// The call may not be made on these values.
+    /// The values do not meet the precondition of the call.
     Condition,
-    /// The program was refused memory of its own.
+    /// An allocation of the program itself failed.
     Memory,
 }
 

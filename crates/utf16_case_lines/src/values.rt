@@ -4,19 +4,19 @@ use crate::escapes::unescape;
 use crate::trouble::Trouble;
 use std::alloc::Global;
 
-/// The values of a case that are not yet taken.
+/// The values of a case that are not taken yet.
 #[derive(Drop)]
 pub struct Values<'a> {
     left: &'a [&'a str],
 }
 
 impl<'a> Values<'a> {
-    /// All of them.
+    /// Returns all values of a case.
     pub fn new(words: &'a [&'a str]) -> Self {
         Values { left: words }
     }
 
-    /// Takes the next one, as it is spelled.
+    /// Takes the next value, as it is spelled.
     pub fn word(&mut self) -> Result<&'a str, Trouble> {
         let [word, left @ ..] = self.left else {
             return Err(Trouble::Value);
@@ -25,12 +25,12 @@ impl<'a> Values<'a> {
         Ok(*word)
     }
 
-    /// How many are left.
+    /// Returns the number of remaining values.
     pub fn count(&self) -> usize {
         self.left.len()
     }
 
-    /// Refuses a value that is left.
+    /// Returns an error if a value remains.
     pub fn end(&self) -> Result<(), Trouble> {
         if self.left.is_empty() {
             Ok(())
@@ -65,7 +65,7 @@ impl<'a> Values<'a> {
         bytes_of(alloc, self.word()?, is_big)
     }
 
-    /// Takes bytes in pieces, with a comma between.
+    /// Takes bytes in chunks, separated by commas.
     pub fn pieces(&mut self, alloc: Global, is_big: bool) -> Result<Vec<Vec<u8>>, Trouble> {
         let mut pieces = Vec::new(alloc);
         for piece in self.word()?.split(',') {
@@ -77,8 +77,8 @@ impl<'a> Values<'a> {
     }
 }
 
-/// The number that a word spells: decimal digits, hex digits behind `0x`, or `max` for the greatest
-/// `usize`.
+/// Returns the number that a word spells: decimal digits, hex digits after `0x`, or `max` for the
+/// greatest `usize`.
 pub fn number_of(word: &str) -> Result<usize, Trouble> {
     if word == "max" {
         return Ok(usize::MAX);
@@ -90,7 +90,7 @@ pub fn number_of(word: &str) -> Result<usize, Trouble> {
     number.map_err(|_| Trouble::Value)
 }
 
-// The text between two of these quotes.
+// Returns the text between two of these quotes.
 fn quoted(alloc: Global, word: &str, quote: char) -> Result<String, Trouble> {
     let spelled = word
         .strip_prefix(quote)
@@ -98,14 +98,15 @@ fn quoted(alloc: Global, word: &str, quote: char) -> Result<String, Trouble> {
     unescape(alloc, spelled.ok_or(Trouble::Value)?)
 }
 
-/// Whether a word has parts with a `+` between, each behind how often it is repeated and a `*`.
+/// Returns whether a word has parts separated by `+`, each after its number of repetitions and a
+/// `*`.
 pub fn has_parts(word: &str) -> bool {
     word.starts_with(|c: char| c.is_ascii_digit()) && word.contains('*')
 }
 
-/// The bytes that a word spells: in hex, as `^` and code units in hex or `~` and a text in double
-/// quotes for its UTF-16, both in this byte order, as a text in double quotes for its UTF-8, in
-/// parts that are repeated, or `-` for none.
+/// Returns the bytes that a word spells: in hex, as `^` and code units in hex or `~` and a text in
+/// double quotes for its UTF-16, both in this byte order, as a text in double quotes for its UTF-8,
+/// in parts that are repeated, or `-` for none.
 pub fn bytes_of(alloc: Global, word: &str, is_big: bool) -> Result<Vec<u8>, Trouble> {
     if !has_parts(word) {
         return part_of(alloc, word, is_big);
@@ -128,7 +129,7 @@ fn repeat(alloc: Global, part: &str, is_big: bool, bytes: &mut Vec<u8>) -> Resul
     Ok(())
 }
 
-// The bytes that a word without parts spells.
+// Returns the bytes that a word without parts spells.
 fn part_of(alloc: Global, word: &str, is_big: bool) -> Result<Vec<u8>, Trouble> {
     if word == "-" {
         return Ok(Vec::new(alloc));
@@ -145,12 +146,12 @@ fn part_of(alloc: Global, word: &str, is_big: bool) -> Result<Vec<u8>, Trouble> 
     hexed(alloc, word)
 }
 
-// The bytes of digits in hex.
+// Returns the bytes of digits in hex.
 fn hexed(alloc: Global, digits: &str) -> Result<Vec<u8>, Trouble> {
     hex::decode(alloc, digits).map_err(|_| Trouble::Value)
 }
 
-// The bytes of big-endian code units in this byte order. A last odd byte stays.
+// Returns the bytes of big-endian code units in this byte order. A last odd byte stays.
 fn ordered(alloc: Global, units: &[u8], is_big: bool) -> Result<Vec<u8>, Trouble> {
     let mut bytes = Vec::new(alloc);
     for unit in units.chunks(2) {
@@ -162,7 +163,7 @@ fn ordered(alloc: Global, units: &[u8], is_big: bool) -> Result<Vec<u8>, Trouble
     Ok(bytes)
 }
 
-// A text's UTF-16.
+// Returns a text in UTF-16.
 fn encoded(alloc: Global, text: &str, is_big: bool) -> Result<Vec<u8>, Trouble> {
     let mut bytes = Vec::new(alloc);
     for unit in text.encode_utf16() {
@@ -176,7 +177,7 @@ fn encoded(alloc: Global, text: &str, is_big: bool) -> Result<Vec<u8>, Trouble> 
     Ok(bytes)
 }
 
-/// The numbers that a word spells, with a comma between.
+/// Returns the numbers that a word spells, separated by commas.
 pub fn numbers_of(alloc: Global, word: &str) -> Result<Vec<usize>, Trouble> {
     let mut numbers = Vec::new(alloc);
     for part in word.split(',') {

@@ -5,21 +5,21 @@ ghost use Rattle.std.specs.Prelude.{◌≡◌, ◌++◌, ◌∷◌, IfSome, code
 /// A case: what a line of a table says, word by word.
 #[derive(Clone, Copy, Drop)]
 pub struct Case<'a> {
-    /// What the case is called.
+    /// The name of the case.
     pub name: &'a str,
-    /// In which byte orders the call is made, and under which conditions.
+    /// The byte orders in which the call is made, and its conditions.
     pub how: &'a str,
     /// The call.
     pub call: &'a str,
     /// The values on which it is made.
     pub values: &'a [&'a str],
-    /// What it gives.
+    /// The expected result.
     pub wanted: &'a [&'a str],
 }
 
 impl<'a> Case<'a> {
-    /// The case that the words of a line say: a name, how, a call, its values, `=`, and what it
-    /// gives. `None` where they are not of that form.
+    /// Returns the case of the words of a line: a name, how, a call, its values, `=`, and the
+    /// expected result. `None` if they do not have this form.
     pub fn read(words: &'a [&'a str]) -> Option<Self>
         ensures { IfSome result (λ case. (equals : _) × (equals.now ≡ codes "=") × (words.now
             ≡ case.name ∷ case.how ∷ case.call ∷ case.values.now ++ equals ∷ case.wanted.now)) }
@@ -38,7 +38,7 @@ impl<'a> Case<'a> {
     }
 }
 
-// The words before the first `=`, and those behind it.
+// Returns the words before the first `=`, and those after it.
 fn around_equals<'a>(words: &'a [&'a str]) -> Option<(&'a [&'a str], &'a [&'a str])>
     ensures { IfSome result (λ parts. (equals : _) × (equals.now ≡ codes "=")
         × (words.now ≡ parts.0.now ++ equals ∷ parts.1.now)) }

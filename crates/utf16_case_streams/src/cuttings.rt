@@ -1,4 +1,4 @@
-//! Streams that are cut into pieces in many ways.
+//! Streams that are cut into chunks in many ways.
 
 use crate::fed::Decoder;
 use std::alloc::{AllocError, Global};
@@ -6,15 +6,14 @@ use std::marker::PhantomData;
 use utf16_case_lines::{Answer, Trouble, Values};
 use utf16_streams::{AnyLossy, Lossy, Utf16Order, decode_pieces};
 
-// The longest stream that is cut behind its bytes in every way, and the longest one that is cut at
-// all.
+// The longest stream, in bytes, that is cut in every way, and the longest one that is cut at all.
 const FEW: usize = 12;
 
 const MOST: usize = 64;
 
-// A way to decode pieces.
+// A way to decode chunks.
 trait Way {
-    // The text of the pieces.
+    // Returns the text of the chunks.
     fn text(alloc: Global, pieces: &[Vec<u8>]) -> Result<String, AllocError>;
 }
 
@@ -27,7 +26,7 @@ impl<E: Utf16Order> Way for AtOnce<E> {
     }
 }
 
-// By a decoder that is fed them one by one and then finished.
+// By a decoder that is fed the chunks one by one and then finished.
 struct OneByOne<D: Decoder>(PhantomData<D>);
 
 impl<D: Decoder> Way for OneByOne<D> {
@@ -38,14 +37,14 @@ impl<D: Decoder> Way for OneByOne<D> {
             let more = decoder.feed(alloc, piece)?;
             text.push_str(more.as_str())?;
         }
-        if let Some(mark) = decoder.finish() {
-            text.push(mark)?;
+        if let Some(replacement) = decoder.finish() {
+            text.push(replacement)?;
         }
         Ok(text)
     }
 }
 
-/// The text of the bytes in one piece, and behind it each other one that a cutting has, by
+/// Adds the text of the bytes in one chunk, and after it any other text that a chunking gives, by
 /// `decode_pieces` or by `Lossy`.
 pub fn every_cutting<E: Utf16Order>(
     alloc: Global,
@@ -59,7 +58,7 @@ pub fn every_cutting<E: Utf16Order>(
     add_other::<OneByOne<Lossy<E>>>(alloc, &bytes, whole.as_str(), answer)
 }
 
-/// The same by `AnyLossy`.
+/// Does the same by `AnyLossy`.
 pub fn every_marked_cutting(
     alloc: Global,
     values: &mut Values,
@@ -71,7 +70,7 @@ pub fn every_marked_cutting(
     add_other::<OneByOne<AnyLossy>>(alloc, &bytes, whole.as_str(), answer)
 }
 
-// Adds the first text of a cutting that is another.
+// Adds the first text of a chunking that differs.
 fn add_other<W: Way>(
     alloc: Global,
     bytes: &[u8],
@@ -90,9 +89,9 @@ fn add_other<W: Way>(
     Ok(())
 }
 
-// The cuttings of so many bytes: all of a few; of more all in two and in three pieces and that in
-// single bytes. In each a bit is set for each byte behind which there is a cut, the lowest for the
-// first.
+// Returns the chunkings of `len` bytes: all of them if there are few bytes; otherwise those into
+// two and three chunks and the one into single bytes. In each a bit is set for each byte after
+// which the stream is cut, the lowest bit for the first byte.
 fn cuttings(alloc: Global, len: usize) -> Result<Vec<u64>, Trouble> {
     let mut cuttings = Vec::new(alloc);
     if len > MOST {
@@ -115,7 +114,7 @@ fn cuttings(alloc: Global, len: usize) -> Result<Vec<u64>, Trouble> {
     Ok(cuttings)
 }
 
-// The bit of that number, which is less than 64.
+// Returns the bit of that number, which is less than 64.
 fn bit(number: usize) -> u64 {
     match u32::try_from(number) {
         Ok(number) => 1u64.wrapping_shl(number),
@@ -123,8 +122,8 @@ fn bit(number: usize) -> u64 {
     }
 }
 
-// The bytes, cut behind each byte whose bit is set. Where it is wanted, an empty piece stands at
-// the beginning, in each cut, and at the end.
+// Returns the bytes in chunks, cut after each byte whose bit is set. With `with_empty`, there are
+// empty chunks at the start, at each chunk boundary, and at the end.
 fn cut(alloc: Global, bytes: &[u8], cuts: u64, with_empty: bool) -> Result<Vec<Vec<u8>>, Trouble> {
     let mut pieces = Vec::new(alloc);
     let mut piece = Vec::new(alloc);
@@ -148,7 +147,7 @@ fn cut(alloc: Global, bytes: &[u8], cuts: u64, with_empty: bool) -> Result<Vec<V
     Ok(pieces)
 }
 
-// Adds a piece.
+// Adds a chunk.
 fn add(pieces: &mut Vec<Vec<u8>>, piece: Vec<u8>) -> Result<(), Trouble> {
     pieces.push(piece).map_err(|_| Trouble::Memory)
 }

@@ -1,12 +1,12 @@
-//! Readers and writers whose faults are counted.
+//! Readers and writers whose I/O errors are counted.
 
 use crate::pieces::pieces;
 use std::alloc::Global;
 use utf16_case_lines::{Answer, Device, How, Odd, Trouble, Values};
 use utf16_streams::{DeviceFault, Utf16Order, Watched};
-use utf16_testing::stepped::{Giver, Manner, Oddity, Taker};
+use utf16_test_support::stepped::{Giver, Manner, Oddity, Taker};
 
-/// How a device of a case answers its calls, with something else at that call.
+/// Returns how the reader or the writer of a case behaves, with something else at that call.
 pub fn manner(device: &Device, odd_at: usize) -> Manner<'_> {
     Manner {
         sizes: &device.sizes,
@@ -19,7 +19,7 @@ pub fn manner(device: &Device, odd_at: usize) -> Manner<'_> {
     }
 }
 
-// Adds how many bytes were moved, or that the device failed.
+// Adds the number of bytes moved, or that the call failed.
 fn moved(answer: &mut Answer, found: Result<usize, DeviceFault>) {
     match found {
         Ok(count) => answer.number(count),
@@ -27,7 +27,7 @@ fn moved(answer: &mut Answer, found: Result<usize, DeviceFault>) {
     }
 }
 
-// Adds how many faults were counted and how many calls were made.
+// Adds the number of I/O errors and the number of calls.
 fn counts(answer: &mut Answer, faults: u64, calls: usize) {
     answer.word("faults");
     answer.number(faults as usize);
@@ -35,7 +35,8 @@ fn counts(answer: &mut Answer, faults: u64, calls: usize) {
     answer.number(calls);
 }
 
-/// One read into a buffer of so many zeros: how many bytes, and the buffer then.
+/// Adds the result of one read into a buffer of so many zeros: the number of bytes, and the buffer
+/// then.
 pub fn read<E: Utf16Order>(
     alloc: Global,
     how: &How,
@@ -56,8 +57,8 @@ fn read_into(bytes: &[u8], how: &How, buf: &mut [u8], answer: &mut Answer) {
     counts(answer, reader.faults(), reader.inner().calls);
 }
 
-/// One write of each piece: how many bytes of it; and all that was taken, and what a flush gives
-/// then.
+/// Adds the result of one write of each chunk: the number of bytes written; and all bytes written,
+/// and the result of a flush then.
 pub fn write<E: Utf16Order>(
     alloc: Global,
     how: &How,
@@ -79,7 +80,7 @@ pub fn write<E: Utf16Order>(
     Ok(())
 }
 
-/// One flush.
+/// Adds the result of one flush.
 pub fn flush(alloc: Global, how: &How, answer: &mut Answer) {
     let mut writer = Watched::new(Taker::new(alloc, manner(&how.writes, how.writes.odd_at)));
     match writer.flush() {

@@ -1,4 +1,4 @@
-//! Decoders that are fed piece by piece.
+//! Decoders that are fed chunk by chunk.
 
 use crate::memory::{end, heap};
 use crate::pieces::pieces;
@@ -6,18 +6,18 @@ use std::alloc::{AllocError, Allocator, Global};
 use utf16_case_lines::{Answer, How, Trouble, Values};
 use utf16_streams::{AnyLossy, Lossy, Utf16Order};
 
-/// What both decoders do.
+/// The calls that both decoders have.
 pub trait Decoder: Drop {
-    /// A decoder that was given nothing yet.
+    /// Returns a decoder at the beginning of a stream.
     fn new() -> Self;
 
-    /// The bytes that are not decided.
+    /// Returns the pending bytes.
     fn pending(&self) -> &[u8];
 
-    /// Takes the next piece, and returns the text of all that is decided now.
+    /// Decodes the next chunk, and returns the text that is now certain.
     fn feed<A: Allocator>(&mut self, alloc: A, piece: &[u8]) -> Result<String<A>, AllocError>;
 
-    /// Ends the stream: U+FFFD where bytes are pending, and else nothing.
+    /// Ends the stream: returns U+FFFD if bytes are pending, and `None` if not.
     fn finish(self) -> Option<char>;
 }
 
@@ -57,7 +57,8 @@ impl Decoder for AnyLossy {
     }
 }
 
-/// Feeds the pieces: for each the text and what is pending then, and at last what the end gives.
+/// Feeds the chunks: adds for each the text and what is pending then, and at last the result of the
+/// end.
 pub fn feed<E: Utf16Order, D: Decoder>(
     alloc: Global,
     how: &How,
@@ -75,7 +76,7 @@ pub fn feed<E: Utf16Order, D: Decoder>(
         answer.bytes(decoder.pending());
     }
     match decoder.finish() {
-        Some(mark) => answer.character(mark),
+        Some(replacement) => answer.character(replacement),
         None => answer.word("none"),
     }
     end(&heap, how, answer);

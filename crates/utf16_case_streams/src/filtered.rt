@@ -5,8 +5,8 @@ use crate::memory::{add_kept, heap};
 use std::alloc::Global;
 use utf16_case_lines::{Answer, How, Trouble, Values};
 use utf16_streams::{FilterFault, Utf16Order, Watched, filter_auto};
-use utf16_testing::refusing::Refusing;
-use utf16_testing::stepped::{Giver, Taker};
+use utf16_test_support::refusing::Refusing;
+use utf16_test_support::stepped::{Giver, Taker};
 
 /// How a run of a filter ended.
 #[derive(Drop)]
@@ -20,7 +20,7 @@ pub struct Ended {
     pub write_faults: u64,
 }
 
-/// Runs a filter over the bytes, with devices that do something else at these calls.
+/// Runs a filter over the bytes, with a reader and a writer that do something else at these calls.
 pub fn run<E: Utf16Order>(
     alloc: Global,
     heap: &Refusing<Global>,
@@ -60,8 +60,8 @@ pub fn add_result(answer: &mut Answer, found: Result<(), FilterFault>) {
     });
 }
 
-/// The result and what was written, and where a case counts them the calls of the devices and their
-/// faults. Where memory is not given back, that too.
+/// Adds the result and what was written, and if a case counts them the calls of the reader and the
+/// writer and their I/O errors. If memory was not freed, adds that too.
 pub fn filter<E: Utf16Order>(
     alloc: Global,
     how: &How,
@@ -82,8 +82,8 @@ pub fn filter<E: Utf16Order>(
     Ok(())
 }
 
-// Adds how many reads, writes and flushes were made, and how many faults of each device were
-// counted.
+// Adds the numbers of reads, writes and flushes, and the counted I/O errors of the reader and of
+// the writer.
 fn add_counts(answer: &mut Answer, ended: &Ended) {
     answer.word("reads");
     answer.number(ended.reads);

@@ -13,8 +13,8 @@ use std::alloc::Global;
 use utf16_case_lines::{Answer, How, Trouble, Values};
 use utf16_streams::{AnyLossy, Lossy, Utf16Order};
 
-/// Makes a call on these values and adds what it gave. `Call` where no call of streams has this
-/// name; then no value was taken.
+/// Makes a call on these values and adds its result. `Call` if no call of streams has this name;
+/// then no value was taken.
 pub fn call<E: Utf16Order>(
     alloc: Global,
     name: &str,
@@ -32,7 +32,7 @@ pub fn call<E: Utf16Order>(
     }
 }
 
-// Makes a call on devices. `Call` where none has this name.
+// Makes a call of a reader or a writer. `Call` if none has this name.
 fn on_devices<E: Utf16Order>(
     alloc: Global,
     name: &str,

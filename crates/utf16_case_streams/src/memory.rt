@@ -1,10 +1,10 @@
-//! Memory that is refused as a case says, and counted.
+//! Allocations that fail as a case says, and are counted.
 
 use std::alloc::Global;
 use utf16_case_lines::{Answer, How, Refuse};
-use utf16_testing::refusing::Refusing;
+use utf16_test_support::refusing::Refusing;
 
-/// An allocator that refuses the requests that a case has refused.
+/// Returns an allocator whose allocations fail as the case says.
 pub fn heap(alloc: Global, how: &How) -> Refusing<Global> {
     let heap = Refusing::new(alloc);
     match how.refuse {
@@ -15,8 +15,8 @@ pub fn heap(alloc: Global, how: &How) -> Refusing<Global> {
     heap
 }
 
-/// Adds how many requests were made, where they are counted, and `kept` and how many blocks where
-/// any are not given back.
+/// Adds the number of allocations, if they are counted, and `kept` and the number of blocks if any
+/// are not freed.
 pub fn end(heap: &Refusing<Global>, how: &How, answer: &mut Answer) {
     if how.counted {
         answer.word("requests");
@@ -25,7 +25,7 @@ pub fn end(heap: &Refusing<Global>, how: &How, answer: &mut Answer) {
     add_kept(heap, answer);
 }
 
-/// Adds `kept` and how many blocks where any are not given back.
+/// Adds `kept` and the number of blocks if any are not freed.
 pub fn add_kept(heap: &Refusing<Global>, answer: &mut Answer) {
     let live = heap.live_blocks();
     if live != 0 {

@@ -1,11 +1,11 @@
-//! Pieces decoded at once.
+//! Chunks decoded at once.
 
 use crate::memory::{end, heap};
 use std::alloc::{AllocError, Global};
 use utf16_case_lines::{Answer, How, Trouble, Values};
 use utf16_streams::Utf16Order;
 
-/// Takes bytes in pieces, the last value of a case. Where no value is left there are no pieces.
+/// Takes bytes in chunks, the last value of a case. If no value remains there are no chunks.
 pub fn pieces<E: Utf16Order>(alloc: Global, values: &mut Values) -> Result<Vec<Vec<u8>>, Trouble> {
     if values.end().is_ok() {
         return Ok(Vec::new(alloc));
@@ -13,7 +13,7 @@ pub fn pieces<E: Utf16Order>(alloc: Global, values: &mut Values) -> Result<Vec<V
     values.pieces(alloc, E::BIG)
 }
 
-/// The text of pieces.
+/// Adds the text of chunks.
 pub fn decode_pieces<E: Utf16Order>(
     alloc: Global,
     how: &How,

@@ -1,4 +1,4 @@
-//! Filters whose reader or writer does something else at a call, at each in turn.
+//! Filters whose reader or writer does something else at one call, at each in turn.
 
 use crate::filtered::{Ended, add_result, run};
 use crate::memory::heap;
@@ -6,11 +6,11 @@ use std::alloc::Global;
 use utf16_case_lines::{Answer, How, Trouble, Values};
 use utf16_streams::Utf16Order;
 
-// As many calls as that at most are tried.
+// The most calls that are tried.
 const MOST: usize = 1000;
 
-/// For each call of the reader in turn, until one is not made: the result, how many reads, writes
-/// and flushes were made, and what was written.
+/// For each call of the reader in turn, up to the first that is not made: adds the result, the
+/// numbers of reads, writes and flushes, and what was written.
 pub fn each_read<E: Utf16Order>(
     alloc: Global,
     how: &How,
@@ -28,7 +28,7 @@ pub fn each_read<E: Utf16Order>(
     Ok(())
 }
 
-/// The same for each call of the writer, a flush among them.
+/// Does the same for each call of the writer, flushes included.
 pub fn each_write<E: Utf16Order>(
     alloc: Global,
     how: &How,

@@ -1,108 +1,71 @@
-//! The memory of a case: the strings that are made over it, what it refuses, and what the answer
-//! says of it.
+//! The strings of a case, and what the result says of them.
 
 use std::alloc::{AllocError, Allocator, Global};
-use utf16_case_lines::{Answer, How, Refuse, Trouble, Values};
-use utf16_testing::refusing::Refusing;
+use utf16_case_lines::{Run, Trouble};
+use utf16_test_support::refusing::Refusing;
 use utf16string::{Utf16Order, WStr, WString};
 
 /// The allocator of a case's strings.
 pub type Heap<'a> = &'a Refusing<Global>;
 
-/// What a case is run with.
-#[derive(Clone, Copy, Drop)]
-pub struct Bench<'a> {
-    /// Memory for all that is no string of the case. It is never refused as a case says.
-    pub alloc: Global,
-    /// Memory for the strings of the case.
-    pub heap: Heap<'a>,
-    /// The conditions of the case.
-    pub how: &'a How,
+/// Takes a string of these bytes, with the capacity that the case says.
+pub fn string<'a, E: Utf16Order>(run: &mut Run<'a>) -> WString<E, Heap<'a>> {
+    let raw = run.bytes();
+    let found = match WStr::<E>::from_utf16(&raw) {
+        Ok(text) => copy(run.heap, run.how.room.max(text.len()), text),
+        Err(_) => Err(Trouble::Value),
+    };
+    match found {
+        Ok(string) => string,
+        Err(trouble) => {
+            run.refuse(trouble);
+            WString::new(run.heap)
+        }
+    }
 }
 
-impl<'a> Bench<'a> {
-    /// Takes a string of these bytes, with room for as many bytes as the case says.
-    pub fn string<E: Utf16Order>(
-        &self,
-        values: &mut Values,
-    ) -> Result<WString<E, Heap<'a>>, Trouble> {
-        let raw = values.bytes(self.alloc, E::BIG)?;
-        match WStr::<E>::from_utf16(&raw) {
-            Ok(text) => Ok(self.copy(text)?),
-            Err(_) => Err(Trouble::Value),
+fn copy<'a, E: Utf16Order>(
+    heap: Heap<'a>,
+    room: usize,
+    text: WStr<E>,
+) -> Result<WString<E, Heap<'a>>, Trouble> {
+    let mut string = WString::with_capacity(heap, room)?;
+    string.push_wstr(text)?;
+    Ok(string)
+}
+
+/// Takes a text that is appended or inserted, in memory of its own and with no spare capacity.
+pub fn part<E: Utf16Order>(run: &mut Run) -> WString<E> {
+    match WString::from_utf16(run.bytes()) {
+        Ok(text) => text,
+        Err(_) => {
+            run.refuse(Trouble::Value);
+            WString::new(run.alloc)
         }
     }
+}
 
-    fn copy<E: Utf16Order>(&self, text: WStr<E>) -> Result<WString<E, Heap<'a>>, AllocError> {
-        let mut string = WString::with_capacity(self.heap, self.how.room.max(text.len()))?;
-        string.push_wstr(text)?;
-        Ok(string)
+/// Adds the bytes of a string that was made or is left, and its capacity and the requests where the
+/// case wants them.
+pub fn left<E: Utf16Order, A: Allocator>(run: &mut Run, string: &WString<E, A>) {
+    run.answer.bytes(string.as_bytes());
+    if run.how.capacity {
+        run.answer.word("capacity");
+        run.answer.number(string.capacity());
     }
+    run.requests();
+}
 
-    /// Takes a text that is put into a string, in memory of its own and with no room left.
-    pub fn part<E: Utf16Order>(&self, values: &mut Values) -> Result<WString<E>, Trouble> {
-        let raw = values.bytes(self.alloc, E::BIG)?;
-        WString::from_utf16(raw).map_err(|_| Trouble::Value)
+/// Adds a string that was made, or that an allocation failed.
+pub fn made<E: Utf16Order>(run: &mut Run, made: Result<WString<E, Heap>, AllocError>) {
+    match made {
+        Ok(string) => left(run, &string),
+        Err(_) => refused(run),
     }
+}
 
-    /// From now on requests are refused as the case says, and counted.
-    pub fn begin(&self) {
-        match self.how.refuse {
-            Refuse::Nothing => self.heap.refuse_none(),
-            Refuse::One(k) => self.heap.refuse_one(k),
-            Refuse::From(k) => self.heap.refuse_from(k),
-        }
-    }
-
-    /// Adds how many requests were made, where the case asks for it.
-    pub fn requests(&self, answer: &mut Answer) {
-        if self.how.counted {
-            answer.word("requests");
-            answer.number(self.heap.requests() as usize);
-        }
-    }
-
-    /// Adds `leaked` where memory was not given back. All strings of the case are dropped by then.
-    pub fn end(&self, answer: &mut Answer) {
-        if self.heap.live_blocks() != 0 {
-            answer.word("leaked");
-        }
-    }
-
-    /// Adds the bytes of a string that was made or is left, and its capacity and the requests where
-    /// the case asks for them.
-    pub fn left<E: Utf16Order, A: Allocator>(&self, answer: &mut Answer, string: &WString<E, A>) {
-        answer.bytes(string.as_bytes());
-        if self.how.capacity {
-            answer.word("capacity");
-            answer.number(string.capacity());
-        }
-        self.requests(answer);
-    }
-
-    /// Adds a string that was made, or that memory was refused.
-    pub fn made<E: Utf16Order, A: Allocator>(
-        &self,
-        answer: &mut Answer,
-        made: Result<WString<E, A>, AllocError>,
-    ) {
-        match made {
-            Ok(string) => self.left(answer, &string),
-            Err(_) => {
-                answer.word("no_memory");
-                self.requests(answer);
-            }
-        }
-    }
-
-    /// Adds whether a call was done or refused memory, and the string that it leaves.
-    pub fn done<E: Utf16Order>(
-        &self,
-        answer: &mut Answer,
-        done: Result<(), AllocError>,
-        string: &WString<E, Heap>,
-    ) {
-        answer.word(if done.is_ok() { "done" } else { "no_memory" });
-        self.left(answer, string);
-    }
+/// Adds that an allocation failed.
+pub fn refused(run: &mut Run) {
+    run.done(false);
+    run.requests();
 }

@@ -1,46 +1,30 @@
 //! Two strings compared.
 
-use crate::bench::{Bench, Heap};
+use crate::bench::{Heap, part, string};
 use std::cmp::Ordering;
 use std::hash::{FoldHasher, Hash, Hasher};
-use utf16_case_lines::{Answer, Trouble, Values};
+use utf16_case_lines::{Answer, Run};
 use utf16string::{Utf16Order, WString};
 
-/// Makes a call that compares two strings. `Call` where none has this name.
-pub fn call<'a, E: Utf16Order>(
-    bench: &Bench<'a>,
-    string: &WString<E, Heap<'a>>,
-    name: &str,
-    values: &mut Values,
-    answer: &mut Answer,
-) -> Result<(), Trouble> {
+/// Makes a call that compares two strings. Returns whether one has this name.
+pub fn call<'a, E: Utf16Order>(run: &mut Run<'a>, one: &WString<E, Heap<'a>>, name: &str) -> bool {
     match name {
         "eq" | "lt" | "le" | "cmp" | "partial_cmp" => {
-            beside(bench, string, name, values, answer)
+            let other = string::<E>(run);
+            two(&mut run.answer, one, &other, name);
         }
-        "hash" => hash(bench, string, values, answer),
-        _ => Err(Trouble::Call),
+        "hash" => hash(run, one),
+        _ => return false,
     }
+    true
 }
 
-fn beside<'a, E: Utf16Order>(
-    bench: &Bench<'a>,
-    string: &WString<E, Heap<'a>>,
-    name: &str,
-    values: &mut Values,
-    answer: &mut Answer,
-) -> Result<(), Trouble> {
-    let other = bench.string::<E>(values)?;
-    two(string, &other, name, answer);
-    Ok(())
-}
-
-// How two strings compare.
+// Adds how two strings compare.
 fn two<'a, E: Utf16Order>(
+    answer: &mut Answer,
     one: &WString<E, Heap<'a>>,
     other: &WString<E, Heap<'a>>,
     name: &str,
-    answer: &mut Answer,
 ) {
     match name {
         "eq" => answer.truth(one == other),
@@ -51,7 +35,7 @@ fn two<'a, E: Utf16Order>(
     }
 }
 
-// An ordering by its word.
+// Returns the word for an ordering.
 fn word(found: Option<Ordering>) -> &'static str {
     match found {
         Some(Ordering::Less) => "less",
@@ -67,16 +51,10 @@ fn hash_of<T: Hash>(value: &T) -> u64 {
     hasher.finish()
 }
 
-// Whether a string hashes as another one that has no room left, and as the view of the other one.
-fn hash<E: Utf16Order>(
-    bench: &Bench,
-    string: &WString<E, Heap>,
-    values: &mut Values,
-    answer: &mut Answer,
-) -> Result<(), Trouble> {
-    let other = bench.part::<E>(values)?;
+// Whether a string hashes as another one that has no spare capacity, and as the view of that one.
+fn hash<E: Utf16Order>(run: &mut Run, string: &WString<E, Heap>) {
+    let other = part::<E>(run);
     let found = hash_of(string);
-    answer.truth(found == hash_of(&other));
-    answer.truth(found == hash_of(&other.as_wstr()));
-    Ok(())
+    run.answer.truth(found == hash_of(&other));
+    run.answer.truth(found == hash_of(&other.as_wstr()));
 }

@@ -1,5 +1,5 @@
-//! The calls of `WString`, as cases name them. The strings are made over an allocator that refuses
-//! what the case says and counts.
+//! The calls of `WString`, as cases name them. The strings are made over an allocator that fails as
+//! the case says, and counts.
 #![tactic(auto)]
 
 mod bench;
@@ -10,43 +10,18 @@ mod made;
 mod parts;
 mod read;
 mod retained;
+mod taken;
 
-pub use crate::bench::{Bench, Heap};
-use std::alloc::Global;
-use utf16_case_lines::{Answer, How, Trouble, Values};
-use utf16_testing::refusing::Refusing;
+pub use crate::bench::{Heap, left, part, string};
+use utf16_case_lines::Run;
 use utf16string::Utf16Order;
 
-/// Makes a call on these values and adds what it gave, and `leaked` where memory was not given
-/// back. `Call` where no call of strings has this name.
-pub fn call<E: Utf16Order>(
-    alloc: Global,
-    name: &str,
-    how: &How,
-    values: &mut Values,
-    answer: &mut Answer,
-) -> Result<(), Trouble> {
-    let heap = Refusing::new(alloc);
-    let bench = Bench {
-        alloc,
-        heap: &heap,
-        how,
-    };
-    by_name::<E>(&bench, name, values, answer)?;
-    bench.end(answer);
-    Ok(())
-}
-
-// Makes a call. Each module hands a name that it does not know on to the next one.
-fn by_name<E: Utf16Order>(
-    bench: &Bench,
-    name: &str,
-    values: &mut Values,
-    answer: &mut Answer,
-) -> Result<(), Trouble> {
+/// Makes a call and adds what it gave. Returns whether a call of strings has this name; where none
+/// has, no value was taken. Each module hands a name that it does not know on to the next one.
+pub fn call<E: Utf16Order>(run: &mut Run, name: &str) -> bool {
     match name.strip_prefix("WString::") {
-        Some(name) => made::call::<E>(bench, name, values, answer),
-        None if name == "Extend::extend" => made::on_string::<E>(bench, name, values, answer),
-        None => Err(Trouble::Call),
+        Some(name) => made::call::<E>(run, name),
+        None if name == "Extend::extend" => made::on_string::<E>(run, name),
+        None => false,
     }
 }

@@ -1,26 +1,20 @@
-//! The parts of a string, by each kind of range.
+//! The substrings of a string, by each kind of range.
 
 use crate::bench::Heap;
-use utf16_case_lines::{Answer, By, Span, Trouble, Values};
+use utf16_case_lines::{By, Run, Span};
 use utf16string::{Utf16Order, WStr, WString};
 
 /// Takes a part of a string. The kind of range is that of the word.
-pub fn part<E: Utf16Order>(
-    string: &WString<E, Heap>,
-    by: By,
-    values: &mut Values,
-    answer: &mut Answer,
-) -> Result<(), Trouble> {
-    let span = Span::read(values.word()?)?;
+pub fn part<E: Utf16Order>(run: &mut Run, string: &WString<E, Heap>, by: By) {
+    let span = run.span();
     match (taken(string, by, span), by) {
-        (Some(part), _) => answer.bytes(part.as_bytes()),
-        (None, By::Get) => answer.word("none"),
-        _ => return Err(Trouble::Condition),
+        (Some(part), _) => run.answer.bytes(part.as_bytes()),
+        (None, By::Get) => run.answer.word("none"),
+        _ => run.unmet(),
     }
-    Ok(())
 }
 
-// The part that a call takes, where `get` has one.
+// The substring that a call returns, if `get` returns one.
 macro_rules! part {
     ($string:expr, $by:expr, $range:expr) => {
         match ($string.get($range), $by) {
@@ -47,7 +41,7 @@ fn taken<'a, E: Utf16Order>(
     }
 }
 
-// The part that begins where the string does.
+// The substring at a range that begins at 0.
 fn front<'a, E: Utf16Order>(
     string: &'a WString<E, Heap>,
     by: By,

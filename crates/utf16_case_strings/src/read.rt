@@ -1,57 +1,45 @@
-//! What a string shows of itself.
+//! Calls that read a string.
 
-use crate::bench::{Bench, Heap};
+use crate::bench::{Heap, made, part, refused};
 use crate::{compared, parts};
-use utf16_case_lines::{Answer, By, Trouble, Values, add_written};
+use utf16_case_lines::{Answer, By, Run, Trouble, add_written};
 use utf16string::{Utf16Order, WString};
 
-/// Makes a call that shows a string, or any other, by `asked`.
+/// Makes a call that reads a string, or any other, by `asked`.
 pub fn call<'a, E: Utf16Order>(
-    bench: &Bench<'a>,
+    run: &mut Run<'a>,
     string: &WString<E, Heap<'a>>,
     name: &str,
-    values: &mut Values,
-    answer: &mut Answer,
-) -> Result<(), Trouble> {
+) -> bool {
     match name {
         "capacity" | "len" | "is_empty" | "is_ascii" | "as_bytes" | "as_wstr" => {
-            shown(string, name, answer);
-            Ok(())
+            shown(&mut run.answer, string, name);
         }
-        "clone" | "to_utf8" => {
-            copied(bench, string, name, answer);
-            Ok(())
-        }
-        "chars" => chars(bench, string, answer),
-        "char_indices" => {
-            char_indices(string, answer);
-            Ok(())
-        }
-        _ => asked(bench, string, name, values, answer),
+        "clone" => made(run, string.clone()),
+        "to_utf8" => to_utf8(run, string),
+        "chars" => chars(run, string),
+        "char_indices" => char_indices(&mut run.answer, string),
+        _ => return asked(run, string, name),
     }
+    true
 }
 
 // Makes a call that asks a string about values or takes a part, or any other, by `compared`.
-fn asked<'a, E: Utf16Order>(
-    bench: &Bench<'a>,
-    string: &WString<E, Heap<'a>>,
-    name: &str,
-    values: &mut Values,
-    answer: &mut Answer,
-) -> Result<(), Trouble> {
+fn asked<'a, E: Utf16Order>(run: &mut Run<'a>, string: &WString<E, Heap<'a>>, name: &str) -> bool {
     match name {
-        "is_char_boundary" => is_char_boundary(string, values, answer),
-        "fits" => fits(bench, string, values, answer),
-        "get" => parts::part(string, By::Get, values, answer),
-        "get_unchecked" => parts::part(string, By::GetUnchecked, values, answer),
-        "index" => parts::part(string, By::Index, values, answer),
-        "fmt" => add_written(bench.alloc, string, values.word()?, answer),
-        _ => compared::call(bench, string, name, values, answer),
+        "is_char_boundary" => is_char_boundary(run, string),
+        "fits" => fits(run, string),
+        "get" => parts::part(run, string, By::Get),
+        "get_unchecked" => parts::part(run, string, By::GetUnchecked),
+        "index" => parts::part(run, string, By::Index),
+        "fmt" => fmt(run, string),
+        _ => return compared::call(run, string, name),
     }
+    true
 }
 
 // What a string shows where nothing more is asked.
-fn shown<E: Utf16Order>(string: &WString<E, Heap>, name: &str, answer: &mut Answer) {
+fn shown<E: Utf16Order>(answer: &mut Answer, string: &WString<E, Heap>, name: &str) {
     match name {
         "capacity" => answer.number(string.capacity()),
         "len" => answer.number(string.len()),
@@ -62,45 +50,29 @@ fn shown<E: Utf16Order>(string: &WString<E, Heap>, name: &str, answer: &mut Answ
     }
 }
 
-// A copy, as a string or in UTF-8.
-fn copied<E: Utf16Order>(
-    bench: &Bench,
-    string: &WString<E, Heap>,
-    name: &str,
-    answer: &mut Answer,
-) {
-    bench.begin();
-    if name == "clone" {
-        bench.made(answer, string.clone());
-    } else {
-        to_utf8(bench, string, answer);
+fn to_utf8<E: Utf16Order>(run: &mut Run, string: &WString<E, Heap>) {
+    match string.to_utf8(run.heap) {
+        Ok(text) => {
+            run.answer.text(text.as_str());
+            run.requests();
+        }
+        Err(_) => refused(run),
     }
-}
-
-fn to_utf8<E: Utf16Order>(bench: &Bench, string: &WString<E, Heap>, answer: &mut Answer) {
-    match string.to_utf8(bench.heap) {
-        Ok(text) => answer.text(text.as_str()),
-        Err(_) => answer.word("no_memory"),
-    }
-    bench.requests(answer);
 }
 
 // The characters are shown as one text.
-fn chars<E: Utf16Order>(
-    bench: &Bench,
-    string: &WString<E, Heap>,
-    answer: &mut Answer,
-) -> Result<(), Trouble> {
-    let mut text = String::new(bench.alloc);
+fn chars<E: Utf16Order>(run: &mut Run, string: &WString<E, Heap>) {
+    let mut text = String::new(run.alloc);
     for c in string.chars() {
-        text.push(c)?;
+        if text.push(c).is_err() {
+            run.refuse(Trouble::Memory);
+        }
     }
-    answer.text(text.as_str());
-    Ok(())
+    run.answer.text(text.as_str());
 }
 
 // Each offset and its character, or `none` where there is no character.
-fn char_indices<E: Utf16Order>(string: &WString<E, Heap>, answer: &mut Answer) {
+fn char_indices<E: Utf16Order>(answer: &mut Answer, string: &WString<E, Heap>) {
     for (offset, c) in string.char_indices() {
         answer.number(offset);
         answer.character(c);
@@ -110,23 +82,18 @@ fn char_indices<E: Utf16Order>(string: &WString<E, Heap>, answer: &mut Answer) {
     }
 }
 
-fn is_char_boundary<E: Utf16Order>(
-    string: &WString<E, Heap>,
-    values: &mut Values,
-    answer: &mut Answer,
-) -> Result<(), Trouble> {
-    answer.truth(string.is_char_boundary(values.number()?));
-    Ok(())
+fn is_char_boundary<E: Utf16Order>(run: &mut Run, string: &WString<E, Heap>) {
+    let idx = run.number();
+    run.answer.truth(string.is_char_boundary(idx));
 }
 
-fn fits<E: Utf16Order>(
-    bench: &Bench,
-    string: &WString<E, Heap>,
-    values: &mut Values,
-    answer: &mut Answer,
-) -> Result<(), Trouble> {
-    let idx = values.number()?;
-    let text = bench.part::<E>(values)?;
-    answer.truth(string.fits(idx, text.as_wstr()));
-    Ok(())
+fn fits<E: Utf16Order>(run: &mut Run, string: &WString<E, Heap>) {
+    let idx = run.number();
+    let text = part::<E>(run);
+    run.answer.truth(string.fits(idx, text.as_wstr()));
+}
+
+fn fmt<E: Utf16Order>(run: &mut Run, string: &WString<E, Heap>) {
+    let format = run.word();
+    run.written(string, format);
 }

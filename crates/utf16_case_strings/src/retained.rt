@@ -1,34 +1,30 @@
-//! Characters kept by a predicate, whose answers the case says one by one.
+//! Characters kept by a predicate, whose results the case gives one by one.
 
-use crate::bench::{Bench, Heap};
-use utf16_case_lines::{Answer, Trouble, Values};
+use crate::bench::Heap;
+use utf16_case_lines::{Run, Trouble};
 use utf16string::{Utf16Order, WString};
 
-// Takes the answers: a `y` or an `n` for each character, or `-` for none.
-fn answers<'a>(values: &mut Values<'a>) -> Result<&'a [u8], Trouble> {
-    let word = values.word()?;
+// Takes the results of the predicate: a `y` or an `n` for each character, or `-` for none.
+fn answers<'a>(run: &mut Run<'a>) -> &'a [u8] {
+    let word = run.word();
     if word == "-" {
-        return Ok(&[]);
+        return &[];
     }
     for letter in word.as_bytes() {
         if *letter != b'y' && *letter != b'n' {
-            return Err(Trouble::Value);
+            run.refuse(Trouble::Value);
         }
     }
-    Ok(word.as_bytes())
+    word.as_bytes()
 }
 
-/// Keeps the characters of which the answer is `y`. The answer says `asked` where the predicate is
+/// Keeps the characters whose result is `y`. The result says `asked` where the predicate is
 /// not asked about each character once, from the front.
-pub fn retain<E: Utf16Order>(
-    bench: &Bench,
-    string: &mut WString<E, Heap>,
-    values: &mut Values,
-    answer: &mut Answer,
-) -> Result<(), Trouble> {
-    let letters = answers(values)?;
-    let text = string.to_utf8(bench.alloc)?;
-    bench.begin();
+pub fn retain<E: Utf16Order>(run: &mut Run, string: &mut WString<E, Heap>) {
+    let letters = answers(run);
+    let Ok(text) = string.to_utf8(run.alloc) else {
+        return run.refuse(Trouble::Memory);
+    };
     let mut chars = text.chars();
     let mut in_order = true;
     let mut asked = 0usize;
@@ -39,22 +35,14 @@ pub fn retain<E: Utf16Order>(
         is_kept
     });
     if !in_order || chars.next().is_some() || asked != letters.len() {
-        answer.word("asked");
+        run.answer.word("asked");
     }
-    bench.done(answer, Ok(()), string);
-    Ok(())
 }
 
-/// As `retain`. The answer begins with how many characters the predicate was asked about, which it
+/// As `retain`. The result begins with how many characters the predicate was called on, which it
 /// noted down.
-pub fn retain_by<E: Utf16Order>(
-    bench: &Bench,
-    string: &mut WString<E, Heap>,
-    values: &mut Values,
-    answer: &mut Answer,
-) -> Result<(), Trouble> {
-    let letters = answers(values)?;
-    bench.begin();
+pub fn retain_by<E: Utf16Order>(run: &mut Run, string: &mut WString<E, Heap>) {
+    let letters = answers(run);
     let mut asked = 0usize;
     let mut predicate = |_: char| {
         let is_kept = asked < letters.len() && letters[asked] == b'y';
@@ -62,7 +50,5 @@ pub fn retain_by<E: Utf16Order>(
         is_kept
     };
     string.retain_by(&mut predicate);
-    answer.number(asked);
-    bench.left(answer, string);
-    Ok(())
+    run.answer.number(asked);
 }

@@ -1,33 +1,30 @@
-//! Views asked what they begin and end with.
+//! What views begin and end with.
 
 use crate::made::view;
-use std::alloc::Global;
-use utf16_case_lines::{Answer, Trouble, Values};
+use utf16_case_lines::{Answer, Run};
 use utf16string::{Utf16Order, WStr};
 
-/// Makes a call that asks what a view begins or ends with. `Call` where none has this name.
-pub fn call<E: Utf16Order>(
-    alloc: Global,
-    text: WStr<E>,
-    name: &str,
-    values: &mut Values,
-    answer: &mut Answer,
-) -> Result<(), Trouble> {
+/// Makes a call that asks what a view begins or ends with. Returns whether one has this name.
+pub fn call<E: Utf16Order>(run: &mut Run, text: WStr<E>, name: &str) -> bool {
     match name {
         "WStr::starts_with"
         | "WStr::ends_with"
         | "WStr::strip_prefix"
         | "WStr::strip_suffix"
-        | "WStr::common_prefix" => {
-            let other = values.bytes(alloc, E::BIG)?;
-            beside(text, view(&other)?, name, answer);
-            Ok(())
-        }
-        _ => Err(Trouble::Call),
+        | "WStr::common_prefix" => beside(run, text, name),
+        _ => return false,
+    }
+    true
+}
+
+fn beside<E: Utf16Order>(run: &mut Run, text: WStr<E>, name: &str) {
+    let other = run.bytes();
+    if let Some(other) = view(run, &other) {
+        two(&mut run.answer, text, other, name);
     }
 }
 
-fn beside<E: Utf16Order>(text: WStr<E>, other: WStr<E>, name: &str, answer: &mut Answer) {
+fn two<E: Utf16Order>(answer: &mut Answer, text: WStr<E>, other: WStr<E>, name: &str) {
     match name {
         "WStr::starts_with" => answer.truth(text.starts_with(other)),
         "WStr::ends_with" => answer.truth(text.ends_with(other)),
@@ -37,7 +34,7 @@ fn beside<E: Utf16Order>(text: WStr<E>, other: WStr<E>, name: &str, answer: &mut
     }
 }
 
-// What is left of a view, if it began or ended so.
+// Adds what is left of a view, if it began or ended so.
 fn left<E: Utf16Order>(answer: &mut Answer, part: Option<WStr<E>>) {
     match part {
         Some(part) => answer.bytes(part.as_bytes()),

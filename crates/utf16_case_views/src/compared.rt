@@ -2,54 +2,35 @@
 
 use crate::affixes;
 use crate::made::view;
-use std::alloc::Global;
 use std::cmp::Ordering;
 use std::hash::{FoldHasher, Hash, Hasher};
-use utf16_case_lines::{Answer, Trouble, Values};
+use utf16_case_lines::{Answer, Run};
 use utf16string::{Utf16Order, WStr};
 
 /// Makes a call that compares or hashes views, or any other, by `affixes`.
-pub fn call<E: Utf16Order>(
-    alloc: Global,
-    text: WStr<E>,
-    name: &str,
-    values: &mut Values,
-    answer: &mut Answer,
-) -> Result<(), Trouble> {
+pub fn call<E: Utf16Order>(run: &mut Run, text: WStr<E>, name: &str) -> bool {
     match name {
-        "WStr::eq" | "WStr::cmp" | "WStr::partial_cmp" | "WStr::hash" => {
-            beside(alloc, text, name, values, answer)
-        }
-        "WStr::eq_str" => eq_str(alloc, text, values, answer),
-        _ => affixes::call(alloc, text, name, values, answer),
+        "WStr::eq" | "WStr::cmp" | "WStr::partial_cmp" | "WStr::hash" => beside(run, text, name),
+        "WStr::eq_str" => eq_str(run, text),
+        _ => return affixes::call(run, text, name),
+    }
+    true
+}
+
+fn beside<E: Utf16Order>(run: &mut Run, text: WStr<E>, name: &str) {
+    let other = run.bytes();
+    if let Some(other) = view(run, &other) {
+        two(&mut run.answer, text, other, name);
     }
 }
 
-fn beside<E: Utf16Order>(
-    alloc: Global,
-    text: WStr<E>,
-    name: &str,
-    values: &mut Values,
-    answer: &mut Answer,
-) -> Result<(), Trouble> {
-    let other = values.bytes(alloc, E::BIG)?;
-    two(text, view(&other)?, name, answer);
-    Ok(())
-}
-
-fn eq_str<E: Utf16Order>(
-    alloc: Global,
-    text: WStr<E>,
-    values: &mut Values,
-    answer: &mut Answer,
-) -> Result<(), Trouble> {
-    let other = values.text(alloc)?;
-    answer.truth(text.eq_str(other.as_str()));
-    Ok(())
+fn eq_str<E: Utf16Order>(run: &mut Run, text: WStr<E>) {
+    let other = run.text();
+    run.answer.truth(text.eq_str(other.as_str()));
 }
 
 // Two views beside one another. Of `hash`: whether the two hash alike.
-fn two<E: Utf16Order>(first: WStr<E>, second: WStr<E>, name: &str, answer: &mut Answer) {
+fn two<E: Utf16Order>(answer: &mut Answer, first: WStr<E>, second: WStr<E>, name: &str) {
     match name {
         "WStr::eq" => answer.truth(first == second),
         "WStr::cmp" => answer.word(word(Some(first.cmp(&second)))),

@@ -11,25 +11,16 @@ mod units;
 mod walks;
 mod written;
 
-use std::alloc::Global;
-use utf16_case_lines::{Answer, How, Trouble, Values};
+use utf16_case_lines::Run;
 use utf16string::Utf16Order;
 
-/// Makes a call on these values and adds what it gave. `Call` where no call of units and views has
-/// this name; no value was taken then where the name is that of another crate. Each module hands a
-/// name that it does not know on to the next one.
-pub fn call<E: Utf16Order>(
-    alloc: Global,
-    name: &str,
-    how: &How,
-    values: &mut Values,
-    answer: &mut Answer,
-) -> Result<(), Trouble> {
+/// Makes a call and adds what it gave. Returns whether a call of units and views has this name; no
+/// value was taken where the name is that of another crate. Each module hands a name that it does
+/// not know on to the next one.
+pub fn call<E: Utf16Order>(run: &mut Run, name: &str) -> bool {
     match name.split_once("::") {
-        Some(("WStr" | "WStrChars" | "WStrCharIndices", _)) => {
-            made::call::<E>(alloc, name, how, values, answer)
-        }
-        Some(("WStrMut", _)) => written::call::<E>(alloc, name, values, answer),
-        _ => units::call::<E>(alloc, name, values, answer),
+        Some(("WStr" | "WStrChars" | "WStrCharIndices", _)) => made::call::<E>(run, name),
+        Some(("WStrMut", _)) => written::call::<E>(run, name),
+        _ => units::call::<E>(run, name),
     }
 }

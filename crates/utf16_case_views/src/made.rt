@@ -1,36 +1,33 @@
 //! Views made from bytes.
 
-ghost use Rattle.std.specs.Prelude.{IsOk};
-ghost use Rattle.utf16_units.specs.Encoding.{IsText};
+ghost use Rattle.std.specs.Prelude.{IsSome};
+ghost use Rattle.utf16_units.specs.Encoding.{IsUtf16};
 
 use crate::shown;
-use std::alloc::Global;
-use utf16_case_lines::{Answer, How, Trouble, Values};
+use utf16_case_lines::{Answer, Run};
 use utf16string::{Utf16Error, Utf16Order, WStr};
 
 /// Makes a call that makes a view, in the order that its name says, or any other, by `on_view`.
-pub fn call<E: Utf16Order>(
-    alloc: Global,
-    name: &str,
-    how: &How,
-    values: &mut Values,
-    answer: &mut Answer,
-) -> Result<(), Trouble> {
+pub fn call<E: Utf16Order>(run: &mut Run, name: &str) -> bool {
     match name {
         "WStr::from_utf16" | "WStr::from_utf16le" | "WStr::from_utf16be" => {
-            tested::<E>(name, &values.bytes(alloc, E::BIG)?, answer)
+            tested::<E>(run, name);
+            true
         }
-        _ => on_view::<E>(alloc, name, how, values, answer),
+        _ => on_view::<E>(run, name),
     }
 }
 
 /// The view over bytes, which the table means to be text.
-pub fn view<E: Utf16Order>(raw: &[u8]) -> Result<WStr<'_, E>, Trouble>
-    ensures { IsOk result → IsText E.BIG raw.now }
+pub fn view<'a, E: Utf16Order>(run: &mut Run, raw: &'a [u8]) -> Option<WStr<'a, E>>
+    ensures { IsSome result → IsUtf16 E.BIG raw.now }
 {
     match WStr::from_utf16(raw) {
-        Ok(text) => Ok(text),
-        Err(_) => Err(Trouble::Condition),
+        Ok(text) => Some(text),
+        Err(_) => {
+            run.unmet();
+            None
+        }
     }
 }
 
@@ -51,35 +48,38 @@ fn made<E: Utf16Order>(answer: &mut Answer, made: Result<WStr<E>, Utf16Error>) {
     }
 }
 
-fn tested<E: Utf16Order>(name: &str, raw: &[u8], answer: &mut Answer) -> Result<(), Trouble> {
+fn tested<E: Utf16Order>(run: &mut Run, name: &str) {
+    let raw = run.bytes();
     match name {
-        "WStr::from_utf16" => made::<E>(answer, WStr::from_utf16(raw)),
-        "WStr::from_utf16le" if !E::BIG => made(answer, WStr::from_utf16le(raw)),
-        "WStr::from_utf16be" if E::BIG => made(answer, WStr::from_utf16be(raw)),
-        _ => return Err(Trouble::Condition),
+        "WStr::from_utf16" => made::<E>(&mut run.answer, WStr::from_utf16(&raw)),
+        "WStr::from_utf16le" if !E::BIG => made(&mut run.answer, WStr::from_utf16le(&raw)),
+        "WStr::from_utf16be" if E::BIG => made(&mut run.answer, WStr::from_utf16be(&raw)),
+        _ => run.unmet(),
     }
-    Ok(())
 }
 
 // Makes a call on a view, whose bytes are the first value.
-fn on_view<E: Utf16Order>(
-    alloc: Global,
-    name: &str,
-    how: &How,
-    values: &mut Values,
-    answer: &mut Answer,
-) -> Result<(), Trouble> {
-    let raw = values.bytes(alloc, E::BIG)?;
+fn on_view<E: Utf16Order>(run: &mut Run, name: &str) -> bool {
+    let raw = run.bytes();
     match name {
         "WStr::from_utf16_unchecked"
         | "WStr::from_utf16le_unchecked"
-        | "WStr::from_utf16be_unchecked" => untested::<E>(name, &raw, answer),
-        _ => shown::call(alloc, view::<E>(&raw)?, name, how, values, answer),
+        | "WStr::from_utf16be_unchecked" => untested::<E>(run, &raw, name),
+        _ => {
+            return match view::<E>(run, &raw) {
+                Some(text) => shown::call(run, text, name),
+                None => true,
+            };
+        }
     }
+    true
 }
 
-fn untested<E: Utf16Order>(name: &str, raw: &[u8], answer: &mut Answer) -> Result<(), Trouble> {
-    view::<E>(raw)?;
+fn untested<E: Utf16Order>(run: &mut Run, raw: &[u8], name: &str) {
+    if view::<E>(run, raw).is_none() {
+        return;
+    }
+    let answer = &mut run.answer;
     match name {
         "WStr::from_utf16_unchecked" => {
             answer.bytes(WStr::<E>::from_utf16_unchecked(raw).as_bytes());
@@ -90,7 +90,6 @@ fn untested<E: Utf16Order>(name: &str, raw: &[u8], answer: &mut Answer) -> Resul
         "WStr::from_utf16be_unchecked" if E::BIG => {
             answer.bytes(WStr::from_utf16be_unchecked(raw).as_bytes());
         }
-        _ => return Err(Trouble::Condition),
+        _ => run.unmet(),
     }
-    Ok(())
 }

@@ -2,31 +2,24 @@
 
 use crate::made::view;
 use crate::parts;
-use std::alloc::Global;
-use utf16_case_lines::{Answer, Trouble, Values};
+use utf16_case_lines::{Answer, Run, Trouble};
 use utf16string::{Utf16Order, WStr};
 
 /// Makes a call that measures a view or asks about an offset, or any other, by `parts`.
-pub fn call<E: Utf16Order>(
-    alloc: Global,
-    text: WStr<E>,
-    name: &str,
-    values: &mut Values,
-    answer: &mut Answer,
-) -> Result<(), Trouble> {
+pub fn call<E: Utf16Order>(run: &mut Run, text: WStr<E>, name: &str) -> bool {
     match name {
         "WStr::len" | "WStr::is_empty" | "WStr::is_ascii" | "WStr::as_bytes" => {
-            of_view(text, name, answer);
-            Ok(())
+            of_view(&mut run.answer, text, name);
         }
-        "WStr::is_char_boundary" => is_char_boundary(text, values, answer),
-        "WStr::fits" => fits(alloc, text, values, answer),
-        "WStr::clone" => clone(text, answer),
-        _ => parts::call(alloc, text, name, values, answer),
+        "WStr::is_char_boundary" => is_char_boundary(run, text),
+        "WStr::fits" => fits(run, text),
+        "WStr::clone" => clone(run, text),
+        _ => return parts::call(run, text, name),
     }
+    true
 }
 
-fn of_view<E: Utf16Order>(text: WStr<E>, name: &str, answer: &mut Answer) {
+fn of_view<E: Utf16Order>(answer: &mut Answer, text: WStr<E>, name: &str) {
     match name {
         "WStr::len" => answer.number(text.len()),
         "WStr::is_empty" => answer.truth(text.is_empty()),
@@ -35,29 +28,23 @@ fn of_view<E: Utf16Order>(text: WStr<E>, name: &str, answer: &mut Answer) {
     }
 }
 
-fn is_char_boundary<E: Utf16Order>(
-    text: WStr<E>,
-    values: &mut Values,
-    answer: &mut Answer,
-) -> Result<(), Trouble> {
-    answer.truth(text.is_char_boundary(values.number()?));
-    Ok(())
+fn is_char_boundary<E: Utf16Order>(run: &mut Run, text: WStr<E>) {
+    let index = run.number();
+    run.answer.truth(text.is_char_boundary(index));
 }
 
-fn fits<E: Utf16Order>(
-    alloc: Global,
-    text: WStr<E>,
-    values: &mut Values,
-    answer: &mut Answer,
-) -> Result<(), Trouble> {
-    let index = values.number()?;
-    let part = values.bytes(alloc, E::BIG)?;
-    answer.truth(text.fits(index, view(&part)?));
-    Ok(())
+fn fits<E: Utf16Order>(run: &mut Run, text: WStr<E>) {
+    let index = run.number();
+    let part = run.bytes();
+    if let Some(part) = view(run, &part) {
+        run.answer.truth(text.fits(index, part));
+    }
 }
 
-fn clone<E: Utf16Order>(text: WStr<E>, answer: &mut Answer) -> Result<(), Trouble> {
+fn clone<E: Utf16Order>(run: &mut Run, text: WStr<E>) {
     let cloned: Result<_, _> = text.clone();
-    answer.bytes(cloned?.as_bytes());
-    Ok(())
+    match cloned {
+        Ok(cloned) => run.answer.bytes(cloned.as_bytes()),
+        Err(_) => run.refuse(Trouble::Memory),
+    }
 }

@@ -1,44 +1,33 @@
-//! Parts of views: by ranges, on both sides of an offset or a character, and between delimiters.
+//! Parts of views: by ranges, before and after an offset or a character, and between delimiters.
 
 use crate::walks;
-use std::alloc::Global;
-use utf16_case_lines::{Answer, By, Span, Trouble, Values};
+use utf16_case_lines::{Answer, By, Run, Span};
 use utf16string::{Utf16Order, WStr};
 
 /// Makes a call that takes the part of a range, or any other, by `cut`.
-pub fn call<E: Utf16Order>(
-    alloc: Global,
-    text: WStr<E>,
-    name: &str,
-    values: &mut Values,
-    answer: &mut Answer,
-) -> Result<(), Trouble> {
+pub fn call<E: Utf16Order>(run: &mut Run, text: WStr<E>, name: &str) -> bool {
     match name {
-        "WStr::get" => range(text, By::Get, values, answer),
-        "WStr::get_unchecked" => range(text, By::GetUnchecked, values, answer),
-        "WStr::index" => range(text, By::Index, values, answer),
-        _ => cut(alloc, text, name, values, answer),
+        "WStr::get" => range(run, text, By::Get),
+        "WStr::get_unchecked" => range(run, text, By::GetUnchecked),
+        "WStr::index" => range(run, text, By::Index),
+        _ => return cut(run, text, name),
     }
+    true
 }
 
 // Makes a call that cuts a view at an offset or at characters, or any other, by `walks`.
-fn cut<E: Utf16Order>(
-    alloc: Global,
-    text: WStr<E>,
-    name: &str,
-    values: &mut Values,
-    answer: &mut Answer,
-) -> Result<(), Trouble> {
+fn cut<E: Utf16Order>(run: &mut Run, text: WStr<E>, name: &str) -> bool {
     match name {
-        "WStr::split_at" => split_at(text, values, answer),
-        "WStr::split_at_checked" => split_at_checked(text, values, answer),
-        "WStr::split_once" => split_once(alloc, text, values, answer),
-        "WStr::split" => split(alloc, text, values, answer),
-        _ => walks::call(alloc, text, name, values, answer),
+        "WStr::split_at" => split_at(run, text),
+        "WStr::split_at_checked" => split_at_checked(run, text),
+        "WStr::split_once" => split_once(run, text),
+        "WStr::split" => split(run, text),
+        _ => return walks::call(run, text, name),
     }
+    true
 }
 
-// The part that a call takes, where `get` has one.
+// The substring that a call returns, if `get` returns one.
 macro_rules! part {
     ($text:expr, $by:expr, $range:expr) => {
         match ($text.get($range), $by) {
@@ -61,7 +50,7 @@ fn part<'a, E: Utf16Order>(text: WStr<'a, E>, by: By, span: Span) -> Option<WStr
     }
 }
 
-// The part that begins where the view does.
+// The substring at a range that begins at 0.
 fn front<'a, E: Utf16Order>(
     text: WStr<'a, E>,
     by: By,
@@ -75,19 +64,13 @@ fn front<'a, E: Utf16Order>(
     }
 }
 
-fn range<E: Utf16Order>(
-    text: WStr<E>,
-    by: By,
-    values: &mut Values,
-    answer: &mut Answer,
-) -> Result<(), Trouble> {
-    let span = Span::read(values.word()?)?;
+fn range<E: Utf16Order>(run: &mut Run, text: WStr<E>, by: By) {
+    let span = run.span();
     match (part(text, by, span), by) {
-        (Some(part), _) => answer.bytes(part.as_bytes()),
-        (None, By::Get) => answer.word("none"),
-        _ => return Err(Trouble::Condition),
+        (Some(part), _) => run.answer.bytes(part.as_bytes()),
+        (None, By::Get) => run.answer.word("none"),
+        _ => run.unmet(),
     }
-    Ok(())
 }
 
 fn both<E: Utf16Order>(answer: &mut Answer, parts: Option<(WStr<E>, WStr<E>)>) {
@@ -100,46 +83,27 @@ fn both<E: Utf16Order>(answer: &mut Answer, parts: Option<(WStr<E>, WStr<E>)>) {
     }
 }
 
-fn split_at<E: Utf16Order>(
-    text: WStr<E>,
-    values: &mut Values,
-    answer: &mut Answer,
-) -> Result<(), Trouble> {
-    let mid = values.number()?;
-    if !text.is_char_boundary(mid) {
-        return Err(Trouble::Condition);
+fn split_at<E: Utf16Order>(run: &mut Run, text: WStr<E>) {
+    let mid = run.number();
+    if text.is_char_boundary(mid) {
+        both(&mut run.answer, Some(text.split_at(mid)));
+    } else {
+        run.unmet();
     }
-    both(answer, Some(text.split_at(mid)));
-    Ok(())
 }
 
-fn split_at_checked<E: Utf16Order>(
-    text: WStr<E>,
-    values: &mut Values,
-    answer: &mut Answer,
-) -> Result<(), Trouble> {
-    both(answer, text.split_at_checked(values.number()?));
-    Ok(())
+fn split_at_checked<E: Utf16Order>(run: &mut Run, text: WStr<E>) {
+    let mid = run.number();
+    both(&mut run.answer, text.split_at_checked(mid));
 }
 
-fn split_once<E: Utf16Order>(
-    alloc: Global,
-    text: WStr<E>,
-    values: &mut Values,
-    answer: &mut Answer,
-) -> Result<(), Trouble> {
-    both(answer, text.split_once(values.character(alloc)?));
-    Ok(())
+fn split_once<E: Utf16Order>(run: &mut Run, text: WStr<E>) {
+    let delimiter = run.character();
+    both(&mut run.answer, text.split_once(delimiter));
 }
 
-fn split<E: Utf16Order>(
-    alloc: Global,
-    text: WStr<E>,
-    values: &mut Values,
-    answer: &mut Answer,
-) -> Result<(), Trouble> {
-    for part in text.split(values.character(alloc)?) {
-        answer.bytes(part.as_bytes());
+fn split<E: Utf16Order>(run: &mut Run, text: WStr<E>) {
+    for part in text.split(run.character()) {
+        run.answer.bytes(part.as_bytes());
     }
-    Ok(())
 }

@@ -1,8 +1,7 @@
-//! Units, byte orders, one character and errors.
+//! Code units, byte orders, single characters and errors.
 
 use crate::made;
-use std::alloc::Global;
-use utf16_case_lines::{Answer, Trouble, Values, add_written};
+use utf16_case_lines::{Run, Trouble};
 use utf16_units::{
     Utf16CharExt, decode_surrogates, is_leading_surrogate, is_trailing_surrogate,
     validate_raw_utf16,
@@ -10,127 +9,97 @@ use utf16_units::{
 use utf16string::{Utf16Order, WStr};
 
 /// Makes a call on units or on an order, or any other, by `by_character`.
-pub fn call<E: Utf16Order>(
-    alloc: Global,
-    name: &str,
-    values: &mut Values,
-    answer: &mut Answer,
-) -> Result<(), Trouble> {
+pub fn call<E: Utf16Order>(run: &mut Run, name: &str) -> bool {
     match name {
         "is_leading_surrogate" | "is_trailing_surrogate" | "Utf16Order::write_unit" => {
-            of_unit::<E>(name, values, answer)
+            of_unit::<E>(run, name);
         }
-        "decode_surrogates" => pair(values, answer),
-        "Utf16Order::read_unit" => read_unit::<E>(alloc, values, answer),
-        _ => by_character::<E>(alloc, name, values, answer),
+        "decode_surrogates" => pair(run),
+        "Utf16Order::read_unit" => read_unit::<E>(run),
+        _ => return by_character::<E>(run, name),
     }
+    true
 }
 
-// Makes a call on one character, on bytes or on an error. `Call` where none has this name.
-fn by_character<E: Utf16Order>(
-    alloc: Global,
-    name: &str,
-    values: &mut Values,
-    answer: &mut Answer,
-) -> Result<(), Trouble> {
+// Makes a call on one character, on bytes or on an error. Returns whether one has this name.
+fn by_character<E: Utf16Order>(run: &mut Run, name: &str) -> bool {
     match name {
-        "Utf16CharExt::encoded_utf16_len" => encoded_utf16_len(alloc, values, answer),
-        "Utf16CharExt::encode_utf16_into" => encode_utf16_into::<E>(alloc, values, answer),
-        "validate_raw_utf16" => validate::<E>(alloc, values, answer),
-        "Utf16Error::fmt" => fmt::<E>(alloc, values, answer),
-        _ => Err(Trouble::Call),
+        "Utf16CharExt::encoded_utf16_len" => encoded_utf16_len(run),
+        "Utf16CharExt::encode_utf16_into" => encode_utf16_into::<E>(run),
+        "validate_raw_utf16" => validate::<E>(run),
+        "Utf16Error::fmt" => fmt::<E>(run),
+        _ => return false,
     }
+    true
 }
 
 // A code unit.
-fn unit(values: &mut Values) -> Result<u16, Trouble> {
-    u16::try_from(values.number()?).map_err(|_| Trouble::Value)
+fn unit(run: &mut Run) -> u16 {
+    match u16::try_from(run.number()) {
+        Ok(unit) => unit,
+        Err(_) => {
+            run.refuse(Trouble::Value);
+            0
+        }
+    }
 }
 
-fn of_unit<E: Utf16Order>(
-    name: &str,
-    values: &mut Values,
-    answer: &mut Answer,
-) -> Result<(), Trouble> {
-    let unit = unit(values)?;
+fn of_unit<E: Utf16Order>(run: &mut Run, name: &str) {
+    let unit = unit(run);
     match name {
-        "is_leading_surrogate" => answer.truth(is_leading_surrogate(unit)),
-        "is_trailing_surrogate" => answer.truth(is_trailing_surrogate(unit)),
-        _ => answer.bytes(&E::write_unit(unit)),
+        "is_leading_surrogate" => run.answer.truth(is_leading_surrogate(unit)),
+        "is_trailing_surrogate" => run.answer.truth(is_trailing_surrogate(unit)),
+        _ => run.answer.bytes(&E::write_unit(unit)),
     }
-    Ok(())
 }
 
-fn pair(values: &mut Values, answer: &mut Answer) -> Result<(), Trouble> {
-    let leading = unit(values)?;
-    let trailing = unit(values)?;
-    if !is_leading_surrogate(leading) || !is_trailing_surrogate(trailing) {
-        return Err(Trouble::Condition);
+fn pair(run: &mut Run) {
+    let leading = unit(run);
+    let trailing = unit(run);
+    if is_leading_surrogate(leading) && is_trailing_surrogate(trailing) {
+        run.answer.character(decode_surrogates(leading, trailing));
+    } else {
+        run.unmet();
     }
-    answer.character(decode_surrogates(leading, trailing));
-    Ok(())
 }
 
-fn read_unit<E: Utf16Order>(
-    alloc: Global,
-    values: &mut Values,
-    answer: &mut Answer,
-) -> Result<(), Trouble> {
-    let bytes = values.bytes(alloc, E::BIG)?;
-    let [first, second] = bytes.as_slice() else {
-        return Err(Trouble::Value);
-    };
-    answer.number(E::read_unit([*first, *second]) as usize);
-    Ok(())
+fn read_unit<E: Utf16Order>(run: &mut Run) {
+    match run.bytes().as_slice() {
+        [first, second] => run.answer.number(E::read_unit([*first, *second]) as usize),
+        _ => run.refuse(Trouble::Value),
+    }
 }
 
-fn encoded_utf16_len(
-    alloc: Global,
-    values: &mut Values,
-    answer: &mut Answer,
-) -> Result<(), Trouble> {
-    answer.number(values.character(alloc)?.encoded_utf16_len());
-    Ok(())
+fn encoded_utf16_len(run: &mut Run) {
+    let c = run.character();
+    run.answer.number(c.encoded_utf16_len());
 }
 
-// The buffer as the call leaves it, behind how many bytes were written.
-fn encode_utf16_into<E: Utf16Order>(
-    alloc: Global,
-    values: &mut Values,
-    answer: &mut Answer,
-) -> Result<(), Trouble> {
-    let c = values.character(alloc)?;
-    let mut buf = values.bytes(alloc, E::BIG)?;
+// The buffer as the call leaves it, after the number of bytes that were written.
+fn encode_utf16_into<E: Utf16Order>(run: &mut Run) {
+    let c = run.character();
+    let mut buf = run.bytes();
     if buf.len() < c.encoded_utf16_len() {
-        return Err(Trouble::Condition);
+        return run.unmet();
     }
-    answer.number(c.encode_utf16_into::<E>(&mut buf));
-    answer.bytes(&buf);
-    Ok(())
+    run.answer.number(c.encode_utf16_into::<E>(&mut buf));
+    run.answer.bytes(&buf);
 }
 
-fn validate<E: Utf16Order>(
-    alloc: Global,
-    values: &mut Values,
-    answer: &mut Answer,
-) -> Result<(), Trouble> {
-    let bytes = values.bytes(alloc, E::BIG)?;
+fn validate<E: Utf16Order>(run: &mut Run) {
+    let bytes = run.bytes();
     match validate_raw_utf16::<E>(&bytes) {
-        Ok(()) => answer.word("done"),
-        Err(error) => made::refused(answer, error),
+        Ok(()) => run.answer.word("done"),
+        Err(error) => made::refused(&mut run.answer, error),
     }
-    Ok(())
 }
 
-// What a format writes of the error of bytes that are no text.
-fn fmt<E: Utf16Order>(
-    alloc: Global,
-    values: &mut Values,
-    answer: &mut Answer,
-) -> Result<(), Trouble> {
-    let raw = values.bytes(alloc, E::BIG)?;
-    match WStr::<E>::from_utf16(&raw) {
-        Ok(_) => Err(Trouble::Condition),
-        Err(error) => add_written(alloc, &error, values.word()?, answer),
+// What a format writes of the error of ill-formed bytes.
+fn fmt<E: Utf16Order>(run: &mut Run) {
+    let raw = run.bytes();
+    let format = run.word();
+    match validate_raw_utf16::<E>(&raw) {
+        Ok(()) => run.unmet(),
+        Err(error) => run.written(&error, format),
     }
 }

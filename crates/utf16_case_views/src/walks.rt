@@ -1,33 +1,24 @@
-//! Views walked from both ends.
+//! Iteration over views from both ends.
 
 use crate::compared;
-use std::alloc::Global;
-use utf16_case_lines::{Answer, Trouble, Values};
+use utf16_case_lines::{Answer, Run, Trouble};
 use utf16string::{Utf16Order, WStr};
 
 /// Makes a call of an iterator over a view, or any other, by `compared`.
-pub fn call<E: Utf16Order>(
-    alloc: Global,
-    text: WStr<E>,
-    name: &str,
-    values: &mut Values,
-    answer: &mut Answer,
-) -> Result<(), Trouble> {
+pub fn call<E: Utf16Order>(run: &mut Run, text: WStr<E>, name: &str) -> bool {
     match name {
-        "WStr::chars" => chars(text, values, answer),
-        "WStr::char_indices" => char_indices(text, values, answer),
+        "WStr::chars" => chars(run, text),
+        "WStr::char_indices" => char_indices(run, text),
         "WStrChars::count"
         | "WStrChars::last"
         | "WStrCharIndices::count"
-        | "WStrCharIndices::last" => {
-            end(text, name, answer);
-            Ok(())
-        }
-        _ => compared::call(alloc, text, name, values, answer),
+        | "WStrCharIndices::last" => end(&mut run.answer, text, name),
+        _ => return compared::call(run, text, name),
     }
+    true
 }
 
-fn end<E: Utf16Order>(text: WStr<E>, name: &str, answer: &mut Answer) {
+fn end<E: Utf16Order>(answer: &mut Answer, text: WStr<E>, name: &str) {
     match name {
         "WStrChars::count" => answer.number(text.chars().count()),
         "WStrChars::last" => character(answer, text.chars().last()),
@@ -55,40 +46,26 @@ fn place(answer: &mut Answer, found: Option<(usize, char)>) {
 
 // What each call gives, and the view that is left. The steps say from which end each call takes:
 // `f` from the front, `b` from the back.
-fn chars<E: Utf16Order>(
-    text: WStr<E>,
-    values: &mut Values,
-    answer: &mut Answer,
-) -> Result<(), Trouble> {
-    let steps = values.word()?;
+fn chars<E: Utf16Order>(run: &mut Run, text: WStr<E>) {
     let mut chars = text.chars();
-    for step in steps.chars() {
-        let found = match step {
-            'f' => chars.next(),
-            'b' => chars.next_back(),
-            _ => return Err(Trouble::Value),
-        };
-        character(answer, found);
+    for step in run.word().chars() {
+        match step {
+            'f' => character(&mut run.answer, chars.next()),
+            'b' => character(&mut run.answer, chars.next_back()),
+            _ => run.refuse(Trouble::Value),
+        }
     }
-    answer.bytes(chars.as_wstr().as_bytes());
-    Ok(())
+    run.answer.bytes(chars.as_wstr().as_bytes());
 }
 
-fn char_indices<E: Utf16Order>(
-    text: WStr<E>,
-    values: &mut Values,
-    answer: &mut Answer,
-) -> Result<(), Trouble> {
-    let steps = values.word()?;
+fn char_indices<E: Utf16Order>(run: &mut Run, text: WStr<E>) {
     let mut places = text.char_indices();
-    for step in steps.chars() {
-        let found = match step {
-            'f' => places.next(),
-            'b' => places.next_back(),
-            _ => return Err(Trouble::Value),
-        };
-        place(answer, found);
+    for step in run.word().chars() {
+        match step {
+            'f' => place(&mut run.answer, places.next()),
+            'b' => place(&mut run.answer, places.next_back()),
+            _ => run.refuse(Trouble::Value),
+        }
     }
-    answer.bytes(places.as_wstr().as_bytes());
-    Ok(())
+    run.answer.bytes(places.as_wstr().as_bytes());
 }

@@ -2,11 +2,12 @@
 
 use std::alloc::Global;
 use std::io;
-use utf16_case_lines::{Answer, How, Trouble, Values};
+use utf16_case_lines::{Answer, How, Run, Trouble};
 use utf16_case_parser::Case;
+use utf16_test_support::refusing::Refusing;
 use utf16string::{BigEndian, LittleEndian, Utf16Order};
 
-/// How many cases passed and failed.
+/// The number of cases that passed and failed.
 #[derive(Drop)]
 pub struct Counts {
     pub passed: u64,
@@ -14,7 +15,7 @@ pub struct Counts {
 }
 
 impl Counts {
-    /// None yet.
+    /// Returns counts of 0.
     pub fn new() -> Self {
         Counts {
             passed: 0,
@@ -22,8 +23,8 @@ impl Counts {
         }
     }
 
-    /// Runs the case of a line, prints what differs, and counts it. An empty line is none, nor is a
-    /// remark behind `#`.
+    /// Runs the case of a line, prints what differs, and counts it. Empty lines and comments after
+    /// `#` are not cases.
     pub fn line(&mut self, rt: &(impl Print + AllocGlobal), line: &str) -> io::Result<()> {
         if line.is_empty() || line.starts_with('#') {
             return Ok(());
@@ -69,7 +70,8 @@ impl From<io::Error> for Failure {
     }
 }
 
-// Runs the case of a line in each order that it names, and says whether it gave what is wanted.
+// Runs the case of a line in each byte order that it names, and returns whether it gave the
+// expected result.
 fn run(rt: &impl Print, alloc: Global, line: &str) -> Result<bool, Failure> {
     let words: Vec<&str> = line.split_ascii_whitespace().collect(alloc)?;
     let case = Case::read(&words).ok_or(Trouble::Form)?;
@@ -79,15 +81,15 @@ fn run(rt: &impl Print, alloc: Global, line: &str) -> Result<bool, Failure> {
     Ok(little && big)
 }
 
-// Whether the call gives what is wanted in this order. Prints both where it does not.
+// Returns whether the call gives the expected result in this byte order. Prints both if it does
+// not.
 fn agrees<E: Utf16Order>(
     rt: &impl Print,
     alloc: Global,
     case: &Case,
     how: &How,
 ) -> Result<bool, Failure> {
-    let mut found = Answer::new(alloc);
-    call::<E>(alloc, case, how, &mut found)?;
+    let found = answer::<E>(alloc, case, how)?;
     let wanted = Answer::wanted(alloc, case.wanted, E::BIG)?;
     let (found, wanted) = (found.as_str()?, wanted.as_str()?);
     let is_equal = found == wanted;
@@ -98,71 +100,59 @@ fn agrees<E: Utf16Order>(
     Ok(is_equal)
 }
 
-// Makes the call of a case and refuses a value that is left.
-fn call<E: Utf16Order>(
-    alloc: Global,
-    case: &Case,
-    how: &How,
-    answer: &mut Answer,
-) -> Result<(), Trouble> {
-    let mut values = Values::new(case.values);
-    on_views::<E>(alloc, case.call, how, &mut values, answer)?;
-    values.end()
+// Returns the result of the call of a case. A value that is left is an error.
+fn answer<E: Utf16Order>(alloc: Global, case: &Case, how: &How) -> Result<Answer, Trouble> {
+    let heap = Refusing::new(alloc);
+    let mut run = Run::new(alloc, &heap, how, case.values, E::BIG);
+    on_views::<E>(&mut run, case.call);
+    run.end()
 }
 
 // Makes a call, by the crate that knows it. The crates are asked in turn, each in a function of its
 // own: the proof of one that asks all takes a hundred times as long.
-fn on_views<E: Utf16Order>(
-    alloc: Global,
-    name: &str,
-    how: &How,
-    values: &mut Values,
-    answer: &mut Answer,
-) -> Result<(), Trouble> {
-    match utf16_case_views::call::<E>(alloc, name, how, values, answer) {
-        Err(Trouble::Call) => on_strings::<E>(alloc, name, how, values, answer),
-        made => made,
+fn on_views<E: Utf16Order>(run: &mut Run, name: &str) {
+    if !utf16_case_views::call::<E>(run, name) {
+        on_strings::<E>(run, name);
     }
 }
 
-// A call of strings, or of what stands above them or beside them.
-fn on_strings<E: Utf16Order>(
-    alloc: Global,
-    name: &str,
-    how: &How,
-    values: &mut Values,
-    answer: &mut Answer,
-) -> Result<(), Trouble> {
-    match utf16_case_strings::call::<E>(alloc, name, how, values, answer) {
-        Err(Trouble::Call) => by_edits::<E>(alloc, name, how, values, answer),
-        made => made,
+// A call of strings, or of what is above them or beside them.
+fn on_strings<E: Utf16Order>(run: &mut Run, name: &str) {
+    if !utf16_case_strings::call::<E>(run, name) {
+        by_edits::<E>(run, name);
     }
 }
 
 // A call of edits, of streams or of buffers.
-fn by_edits<E: Utf16Order>(
-    alloc: Global,
-    name: &str,
-    how: &How,
-    values: &mut Values,
-    answer: &mut Answer,
-) -> Result<(), Trouble> {
-    match utf16_case_edits::call::<E>(alloc, name, how, values, answer) {
-        Err(Trouble::Call) => on_streams::<E>(alloc, name, how, values, answer),
-        made => made,
+fn by_edits<E: Utf16Order>(run: &mut Run, name: &str) {
+    if !utf16_case_edits::call::<E>(run, name) {
+        on_streams::<E>(run, name);
     }
 }
 
 // A call of streams or of buffers.
-fn on_streams<E: Utf16Order>(
-    alloc: Global,
-    name: &str,
-    how: &How,
-    values: &mut Values,
-    answer: &mut Answer,
-) -> Result<(), Trouble> {
-    match utf16_case_streams::call::<E>(alloc, name, how, values, answer) {
-        Err(Trouble::Call) => utf16_case_buffers::call::<E>(alloc, name, values, answer),
-        made => made,
+fn on_streams<E: Utf16Order>(run: &mut Run, name: &str) {
+    match utf16_case_streams::call::<E>(
+        run.alloc,
+        name,
+        run.how,
+        &mut run.values,
+        &mut run.answer,
+    ) {
+        Err(Trouble::Call) => on_buffers::<E>(run, name),
+        Err(trouble) => run.refuse(trouble),
+        Ok(()) => {}
+    }
+}
+
+// A call over buffers.
+fn on_buffers<E: Utf16Order>(run: &mut Run, name: &str) {
+    if let Err(trouble) = utf16_case_buffers::call::<E>(
+        run.alloc,
+        name,
+        &mut run.values,
+        &mut run.answer,
+    ) {
+        run.refuse(trouble);
     }
 }

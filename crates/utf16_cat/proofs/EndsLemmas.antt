@@ -1,4 +1,4 @@
--- What a run did, by the status that it ended with.
+-- What a run did, by its exit status.
 use Rattle.std.proofs.Common.{◌≡◌, ◌≤◌, ◌⊎◌, ℕ, Bool, List, Option, Result, Ok, Err, inl, inr, refl, subst, sym, ap, ◌∙◌, ⊎_elim, arith}
 use Rattle.utf16_streams.specs.Filter.{Filters, FiltersIn}
 use Rattle.utf16_streams.specs.declared.filters.FilterFault.{FilterFault}
@@ -7,7 +7,7 @@ use Rattle.utf16_cat.specs.Outcome.{ExitsAs, outcome}
 use Rattle.utf16_cat.specs.Status.{status_of}
 
 module _ (order : Option Bool) (input left old new : Option (List ℕ)) where
-  -- with 0 its filter read the input to its end, with 1 a fault stopped it
+  -- with 0 its filter read the input to its end, with 1 an error stopped it
   abbrev Ended : ℕ → Type 0
   Ended status = ((status ≡ 0) × Filters order input left old new) ⊎ ((status ≡ 1) × ((fault : FilterFault) × FiltersIn order input left old new (Err fault)))
 

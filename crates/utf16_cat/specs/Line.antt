@@ -1,9 +1,9 @@
--- The line that tells of a run's outcome, as bytes.
+-- The message of a run's outcome, as bytes.
 use Rattle.std.specs.Prelude.{ℕ, List, [], ◌∷◌, ◌++◌, codes}
 use Rattle.utf16_cat.specs.declared.outcome.Outcome.{Outcome}
 use Rattle.utf16_cat.specs.declared.outcome.Outcome.TheVariants.{Done, Long, Memory, Read, Usage, Write}
 
--- the words, and a newline; nothing where all was decoded
+-- the message and a newline; empty if all was decoded
 abbrev pub line_of : Outcome → List ℕ
 line_of Done = []
 line_of Read = codes "utf16_cat: read failed" ++ 0x0A ∷ []

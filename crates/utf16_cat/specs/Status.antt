@@ -3,7 +3,7 @@ use Rattle.std.specs.Prelude.{ℕ}
 use Rattle.utf16_cat.specs.declared.outcome.Outcome.{Outcome}
 use Rattle.utf16_cat.specs.declared.outcome.Outcome.TheVariants.{Done, Long, Memory, Read, Usage, Write}
 
--- 0 where the input was decoded, 2 where the arguments name no order, else 1
+-- 0 if the input was decoded, 2 if the arguments name no byte order, otherwise 1
 abbrev pub status_of : Outcome → ℕ
 status_of Done = 0
 status_of Read = 1
@@ -12,7 +12,7 @@ status_of Memory = 1
 status_of Long = 1
 status_of Usage = 2
 
--- how many faults of the reader the outcome tells of
+-- the number of I/O errors of the reader that an outcome stands for
 abbrev pub reads_failed : Outcome → ℕ
 reads_failed Done = 0
 reads_failed Read = 1
@@ -21,7 +21,7 @@ reads_failed Memory = 0
 reads_failed Long = 0
 reads_failed Usage = 0
 
--- and of the writer
+-- the number of I/O errors of the writer that an outcome stands for
 abbrev pub writes_failed : Outcome → ℕ
 writes_failed Done = 0
 writes_failed Read = 0

@@ -9,36 +9,36 @@ ghost use Rattle.utf16_cat.specs.Status.{status_of};
 use std::io::{self, Write};
 use utf16_streams::FilterFault;
 
-/// The byte order that the arguments ask for.
+/// The byte order that the arguments name.
 #[derive(Clone, Copy, Debug, PartialEq, Eq)]
 pub enum Choice {
-    /// Little endian: the low byte of a unit comes first.
+    /// Little endian: the low byte of a code unit comes first.
     Le,
     /// Big endian: the high byte comes first.
     Be,
-    /// The order that a byte order mark at the beginning tells; big endian where there is none.
+    /// The byte order of the BOM at the beginning of the input; big endian if there is none.
     Auto,
 }
 
 /// How a run ended.
 #[derive(Clone, Copy, Debug, PartialEq, Eq)]
 pub enum Outcome {
-    /// The whole input was decoded and written, with a mark for each fault.
+    /// The whole input was decoded and written, with U+FFFD for each ill-formed sequence.
     Done,
     /// A read failed. What was read before was decoded and written.
     Read,
-    /// A write or the flush failed. A beginning of the text was written.
+    /// A write or the flush failed. A prefix of the text was written.
     Write,
-    /// Memory was refused. What was read before the last piece was decoded and written, if anything
+    /// Allocation failed. What was read before the last chunk was decoded and written, if anything
     /// was read.
     Memory,
-    /// The input gave bytes at 2^64 - 1 reads. They were decoded and written.
+    /// 2^64 - 1 reads returned bytes, which were decoded and written.
     Long,
-    /// The arguments are not one of `le`, `be` and `auto` alone. Nothing was read or written.
+    /// The arguments are not exactly one of `le`, `be` and `auto`. Nothing was read or written.
     Usage,
 }
 
-/// The outcome of a filter's answer.
+/// Returns the outcome of a run by the result of its filter.
 pub fn outcome_of(answer: Result<(), FilterFault>) -> Outcome
     ensures { result ≡ outcome answer }
 {
@@ -51,7 +51,8 @@ pub fn outcome_of(answer: Result<(), FilterFault>) -> Outcome
     }
 }
 
-/// The order that the words after the program's name ask for: the one word `le`, `be` or `auto`.
+/// Returns the byte order that the arguments name, if they are exactly one of `le`, `be` and
+/// `auto`. The name of the program is not among them.
 pub fn order(words: &[String]) -> Option<Choice>
     ensures le { (result ≡ Some Choice.Le) ↔ (map string_bytes words.now ≡ codes "le" ∷ []) }
     ensures be { (result ≡ Some Choice.Be) ↔ (map string_bytes words.now ≡ codes "be" ∷ []) }
@@ -68,7 +69,7 @@ pub fn order(words: &[String]) -> Option<Choice>
     }
 }
 
-// The line that tells of an outcome, with its newline; nothing for `Done`.
+// Returns the message of an outcome, a line with its newline; empty for `Done`.
 fn line(outcome: &Outcome) -> &'static str
     ensures { result.now ≡ line_of outcome.now }
 {
@@ -82,9 +83,10 @@ fn line(outcome: &Outcome) -> &'static str
     }
 }
 
-/// Writes the line that tells of the outcome. For `Done` there is none, and nothing is called.
+/// Writes the message of an outcome. For `Done` there is none, and nothing is called.
 pub fn tell<W: Write>(outcome: &Outcome, to: &mut W) -> io::Result<()>
-    ensures line { OnOk result (Appends (W.contents to.old) (W.contents to.new) (line_of outcome.now)) }
+    ensures line { OnOk result (Appends (W.contents to.old) (W.contents to.new)
+        (line_of outcome.now)) }
     ensures quiet { outcome.now ≡ Outcome.Done → Keeps (W.contents to.old) (W.contents to.new) }
 {
     if let Outcome::Done = outcome {
@@ -93,8 +95,7 @@ pub fn tell<W: Write>(outcome: &Outcome, to: &mut W) -> io::Result<()>
     to.write_all(line(outcome).as_bytes())
 }
 
-/// Writes the line that tells of the outcome, and answers the exit status. A failure to write is
-/// ignored.
+/// Writes the message of an outcome, and returns the exit status. A failure to write is ignored.
 pub fn report<W: Write>(outcome: &Outcome, to: &mut W) -> u8
     ensures status { result ≡ status_of outcome.now }
     ensures quiet { outcome.now ≡ Outcome.Done → Keeps (W.contents to.old) (W.contents to.new) }

@@ -1,4 +1,4 @@
-//! The program, over any environment and any three devices.
+//! The program, over any environment, reader and writers.
 
 ghost use Rattle.std.specs.Prelude.{◌≡◌, ◌⊎◌, ◌-◌, ◌<◌, ◌≤◌, ◌^◌, [], ◌∷◌, Bool, true, false, Err, IfErr, IfOk, None, Ok, Option, Some, codes, drop, map, string_bytes};
 ghost use Rattle.std.specs.Io.KnownBytes.{Keeps};
@@ -18,9 +18,13 @@ use std::io::{ErrorKind, Read, Write};
 use std::process::ExitCode;
 use utf16_streams::Watched;
 
-/// Runs on the words of the environment, writes the line that tells of the outcome to `errors`, and
-/// answers the status: 0 where the input was decoded, 2 where the words name no order, and else 1.
-/// The caller proves that there is a number for a fault of the reader, and for one of the writer.
+/// Runs the program on the arguments of the environment, writes the message of its outcome to
+/// `errors`, and returns the exit status: 0 if the input was decoded, 2 if the arguments name no
+/// byte order, and 1 otherwise.
+///
+/// # Precondition
+///
+/// Neither error count is `u64::MAX`.
 pub fn program<E: Env + AllocGlobal, R: Read, W: Write, T: Write>(
     env: &E,
     reader: &mut Watched<R>,
@@ -32,12 +36,16 @@ pub fn program<E: Env + AllocGlobal, R: Read, W: Write, T: Write>(
     ensures done { exit_status result ≡ 0 → (order : Option Bool) × Filters order
         (R.remaining (watched_inner reader.old)) (R.remaining (watched_inner reader.new))
         (W.contents (watched_inner writer.old)) (W.contents (watched_inner writer.new)) }
-    ensures quiet { exit_status result ≡ 0 → Keeps (T.contents errors.old) (T.contents errors.new) }
-    ensures failed { exit_status result ≡ 1 → ((reader.new ≡ reader.old) × (writer.new ≡ writer.old))
-        ⊎ ((order : Option Bool) × (fault : FilterFault) × FiltersIn order
-        (R.remaining (watched_inner reader.old)) (R.remaining (watched_inner reader.new))
-        (W.contents (watched_inner writer.old)) (W.contents (watched_inner writer.new)) (Err fault)) }
-    ensures usage { exit_status result ≡ 2 → (reader.new ≡ reader.old) × (writer.new ≡ writer.old) }
+    ensures quiet { exit_status result ≡ 0
+        → Keeps (T.contents errors.old) (T.contents errors.new) }
+    ensures failed { exit_status result ≡ 1
+        → ((reader.new ≡ reader.old) × (writer.new ≡ writer.old))
+        ⊎ ((order : Option Bool) × (fault : FilterFault)
+        × FiltersIn order (R.remaining (watched_inner reader.old))
+        (R.remaining (watched_inner reader.new)) (W.contents (watched_inner writer.old))
+        (W.contents (watched_inner writer.new)) (Err fault)) }
+    ensures usage { exit_status result ≡ 2 → (reader.new ≡ reader.old)
+        × (writer.new ≡ writer.old) }
     ensures cases { exit_status result ≤ 2 }
 {
     match words(env) {
@@ -46,7 +54,12 @@ pub fn program<E: Env + AllocGlobal, R: Read, W: Write, T: Write>(
     }
 }
 
-/// The same on these words after the program's name, which name the order, as `run` says.
+/// Runs the program on these arguments, which name the byte order as for `run`, and returns the
+/// exit status, as `program` does.
+///
+/// # Precondition
+///
+/// Neither error count is `u64::MAX`.
 pub fn program_on<R: Read, W: Write, T: Write, A: Allocator>(
     alloc: A,
     words: &[String],
@@ -56,33 +69,43 @@ pub fn program_on<R: Read, W: Write, T: Write, A: Allocator>(
 ) -> ExitCode
     requires reader { watched_faults reader.old < 2 ^ 64 - 1 }
     requires writer { watched_faults writer.old < 2 ^ 64 - 1 }
-    ensures le { map string_bytes words.now ≡ codes "le" ∷ [] → ExitsAs (exit_status result) (Some false)
-        (R.remaining (watched_inner reader.old)) (R.remaining (watched_inner reader.new))
-        (W.contents (watched_inner writer.old)) (W.contents (watched_inner writer.new)) }
-    ensures be { map string_bytes words.now ≡ codes "be" ∷ [] → ExitsAs (exit_status result) (Some true)
-        (R.remaining (watched_inner reader.old)) (R.remaining (watched_inner reader.new))
-        (W.contents (watched_inner writer.old)) (W.contents (watched_inner writer.new)) }
-    ensures auto { map string_bytes words.now ≡ codes "auto" ∷ [] → ExitsAs (exit_status result) None
-        (R.remaining (watched_inner reader.old)) (R.remaining (watched_inner reader.new))
-        (W.contents (watched_inner writer.old)) (W.contents (watched_inner writer.new)) }
-    ensures other { (map string_bytes words.now ≡ codes "le" ∷ []) ⊎ (map string_bytes words.now ≡ codes "be" ∷ [])
+    ensures le { map string_bytes words.now ≡ codes "le" ∷ []
+        → ExitsAs (exit_status result) (Some false) (R.remaining (watched_inner reader.old))
+        (R.remaining (watched_inner reader.new)) (W.contents (watched_inner writer.old))
+        (W.contents (watched_inner writer.new)) }
+    ensures be { map string_bytes words.now ≡ codes "be" ∷ []
+        → ExitsAs (exit_status result) (Some true) (R.remaining (watched_inner reader.old))
+        (R.remaining (watched_inner reader.new)) (W.contents (watched_inner writer.old))
+        (W.contents (watched_inner writer.new)) }
+    ensures auto { map string_bytes words.now ≡ codes "auto" ∷ []
+        → ExitsAs (exit_status result) None (R.remaining (watched_inner reader.old))
+        (R.remaining (watched_inner reader.new)) (W.contents (watched_inner writer.old))
+        (W.contents (watched_inner writer.new)) }
+    ensures other { (map string_bytes words.now ≡ codes "le" ∷ [])
+        ⊎ (map string_bytes words.now ≡ codes "be" ∷ [])
         ⊎ (map string_bytes words.now ≡ codes "auto" ∷ [])
         ⊎ ((exit_status result ≡ 2) × (reader.new ≡ reader.old) × (writer.new ≡ writer.old)) }
-    ensures quiet { exit_status result ≡ 0 → Keeps (T.contents errors.old) (T.contents errors.new) }
+    ensures quiet { exit_status result ≡ 0
+        → Keeps (T.contents errors.old) (T.contents errors.new) }
 {
     ended(run(alloc, words, reader, writer), errors)
 }
 
-// Writes the line that tells of an outcome, and answers the status.
+// Writes the message of an outcome, and returns the exit status.
 fn ended<T: Write>(outcome: Outcome, errors: &mut T) -> ExitCode
     ensures status { exit_status result ≡ status_of outcome }
-    ensures quiet { outcome ≡ Outcome.Done → Keeps (T.contents errors.old) (T.contents errors.new) }
+    ensures quiet { outcome ≡ Outcome.Done
+        → Keeps (T.contents errors.old) (T.contents errors.new) }
 {
     ExitCode::from(report(&outcome, errors))
 }
 
-/// The words after the program's name. `Memory` says that memory for them was refused, `Usage` that
-/// one is not UTF-8, so that it names no order.
+/// Returns the arguments, without the name of the program.
+///
+/// # Errors
+///
+/// `Memory` if allocation fails; `Usage` if an argument is not UTF-8, so that it names no byte
+/// order.
 pub fn words<E: Env + AllocGlobal>(env: &E) -> Result<Vec<String>, Outcome>
     ensures { IfErr result (λ outcome. (outcome ≡ Outcome.Memory) ⊎ (outcome ≡ Outcome.Usage)) }
 {
@@ -93,7 +116,7 @@ pub fn words<E: Env + AllocGlobal>(env: &E) -> Result<Vec<String>, Outcome>
     }
 }
 
-// The words behind the first, the program's name. The only error is `Memory`.
+// Returns the arguments after the first, the name of the program. The only error is `Memory`.
 fn after_name(alloc: Global, mut all: Args) -> Result<Vec<String>, Outcome>
     ensures words { IfOk result (λ words. words.items ≡ drop 1 (into_iter_items all)) }
     ensures memory { IfErr result (λ outcome. outcome ≡ Outcome.Memory) }

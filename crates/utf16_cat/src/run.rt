@@ -1,4 +1,4 @@
-//! A run of the program on its words.
+//! A run of the program on its arguments.
 
 ghost use Rattle.std.specs.Prelude.{◌≡◌, ◌⊎◌, ◌+◌, ◌-◌, ◌<◌, ◌^◌, [], ◌∷◌, true, false, None, Some, map, codes, string_bytes};
 ghost use Rattle.utf16_streams.specs.Watched.{watched_faults, watched_inner};
@@ -10,11 +10,13 @@ use std::alloc::Allocator;
 use std::io::{Read, Write};
 use utf16_streams::{BE, LE, Watched, filter, filter_auto};
 
-/// Decodes all that the reader gives to the writer, in the order that the words after the program's
-/// name ask for: the one word `le`, the one word `be`, or the one word `auto` for the order that a
-/// byte order mark tells. With any other words, and only then, it answers `Usage`, and reads and
-/// writes nothing. The caller proves that there is a number for a fault of the reader, and for one
-/// of the writer.
+/// Decodes a reader to a writer in the byte order that the arguments name, and returns the outcome.
+/// The only argument is `le`, `be`, or `auto` for the byte order of the BOM. With any other
+/// arguments, and only then, it returns `Usage`, and reads and writes nothing.
+///
+/// # Precondition
+///
+/// Neither error count is `u64::MAX`.
 pub fn run<R: Read, W: Write, A: Allocator>(
     alloc: A,
     words: &[String],
@@ -32,8 +34,10 @@ pub fn run<R: Read, W: Write, A: Allocator>(
     ensures auto { map string_bytes words.now ≡ codes "auto" ∷ [] → EndsAs result None
         (R.remaining (watched_inner reader.old)) (R.remaining (watched_inner reader.new))
         (W.contents (watched_inner writer.old)) (W.contents (watched_inner writer.new)) }
-    ensures usage { (map string_bytes words.now ≡ codes "le" ∷ []) ⊎ (map string_bytes words.now ≡ codes "be" ∷ [])
-        ⊎ (map string_bytes words.now ≡ codes "auto" ∷ []) ⊎ ((result ≡ Outcome.Usage) × (reader.new ≡ reader.old) × (writer.new ≡ writer.old)) }
+    ensures usage { (map string_bytes words.now ≡ codes "le" ∷ [])
+        ⊎ (map string_bytes words.now ≡ codes "be" ∷ [])
+        ⊎ (map string_bytes words.now ≡ codes "auto" ∷ [])
+        ⊎ ((result ≡ Outcome.Usage) × (reader.new ≡ reader.old) × (writer.new ≡ writer.old)) }
     ensures reads { watched_faults reader.new ≡ watched_faults reader.old + reads_failed result }
     ensures writes { watched_faults writer.new ≡ watched_faults writer.old + writes_failed result }
 {

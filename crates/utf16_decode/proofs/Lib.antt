@@ -1,9 +1,9 @@
 pub mod WellFormedLemmas
 pub mod WellFormedSplit
 pub mod DecodesLemmas
-pub mod FaultDecides
+pub mod IllFormedDecides
 pub mod StreamLemmas
 pub mod WroteLemmas
-pub mod MarkLemmas
+pub mod LossyLemmas
 pub mod StreamSteps
 pub mod ToUtf8

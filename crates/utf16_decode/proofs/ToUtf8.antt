@@ -1,35 +1,35 @@
--- From UTF-16 to UTF-8: texts behind one another, characters, and where a fault is.
+-- From UTF-16 to UTF-8: texts one after another, characters, and the place of an error.
 use Rattle.std.proofs.Common.{ℕ, ◌+◌, ◌*◌, ◌/◌, ◌<◌, ◌≤◌, Bool, List, [], ◌++◌, Option, length, take, drop, encode_utf8_all, sym, ap, ap₂, ◌∙◌, subst, arith, append-nil}
 use Rattle.std.proofs.lemmas.List.{take_rest}
 use Rattle.std.proofs.lemmas.List.Concat.{flat_map-append}
 use Rattle.std.specs.Char.{IsScalar, encode_utf8}
-use Rattle.utf16_units.specs.Encoding.{IsText, char_bytes, text_of}
-use Rattle.utf16_units.specs.Fault.{IsFaultAt}
-use Rattle.utf16_units.proofs.EncodingLemmas.{IsText-append, IsText-char, IsText-nil, char_text, text_of-append, text_of-nil}
+use Rattle.utf16_units.specs.Encoding.{IsUtf16, char_bytes, text_of}
+use Rattle.utf16_units.specs.IllFormed.{IsIllFormedAt}
+use Rattle.utf16_units.proofs.EncodingLemmas.{IsUtf16-append, IsUtf16-char, IsUtf16-nil, char_text, text_of-append, text_of-nil}
 use Rattle.utf16_units.proofs.CharLemmas.{char_size_cases, length-char_bytes}
-use Rattle.utf16_units.proofs.FaultLemmas.{faults}
-use Rattle.utf16_decode.specs.Wrote.{Gives, IsUtf8Of, Joins}
-use Rattle.utf16_decode.specs.Stops.{IsUtf16Fault}
+use Rattle.utf16_units.proofs.IllFormedLemmas.{faults}
+use Rattle.utf16_decode.specs.Wrote.{Gives, TranscodesToUtf8, Joins}
+use Rattle.utf16_decode.specs.Stops.{IsIllFormedUtf16}
 
 pub room_grows : (m n : ℕ) → m ≤ n → m / 2 * 3 + 128 ≤ n / 2 * 3 + 128
 room_grows m n le = omega arith
 
-pub utf8_joins : (big : Bool) → Joins (IsUtf8Of big)
+pub utf8_joins : (big : Bool) → Joins (TranscodesToUtf8 big)
 utf8_joins big front back into more first second = (
-  IsText-append big front back first.0 second.0,
+  IsUtf16-append big front back first.0 second.0,
   ap₂ (λ x y. x ++ y) first.1 second.1 ∙ sym (flat_map-append encode_utf8 (text_of big front) (text_of big back))
       ∙ ap encode_utf8_all (sym (text_of-append big front back first.0)),
 )
 
-pub utf8_empty : (big : Bool) → IsUtf8Of big [] []
-utf8_empty big = (IsText-nil big, ap encode_utf8_all (sym (text_of-nil big)))
+pub utf8_empty : (big : Bool) → TranscodesToUtf8 big [] []
+utf8_empty big = (IsUtf16-nil big, ap encode_utf8_all (sym (text_of-nil big)))
 
-pub char_gives : (big : Bool) (c : ℕ) → IsScalar c → Gives (IsText big) (λ raw. encode_utf8_all (text_of big raw)) (char_bytes big c) (encode_utf8 c)
-char_gives big c scalar = (IsText-char big c scalar, sym (ap encode_utf8_all (char_text big c scalar) ∙ append-nil (encode_utf8 c)))
+pub char_gives : (big : Bool) (c : ℕ) → IsScalar c → Gives (IsUtf16 big) (λ raw. encode_utf8_all (text_of big raw)) (char_bytes big c) (encode_utf8 c)
+char_gives big c scalar = (IsUtf16-char big c scalar, sym (ap encode_utf8_all (char_text big c scalar) ∙ append-nil (encode_utf8 c)))
 
 pub char_few : (big : Bool) (c : ℕ) → IsScalar c → length (char_bytes big c) ≤ 4
 char_few big c scalar = omega (arith, length-char_bytes big c, char_size_cases c)
 
-pub faults_there : (big : Bool) (raw : List ℕ) (read : ℕ) (len : Option ℕ) → read < length raw → IsText big (take read raw) → IsFaultAt big (drop read raw) len
-    → IsUtf16Fault big raw read len
-faults_there big raw read len within text here = faults big raw read len within text (subst (λ r. IsFaultAt big r len) (sym (take_rest raw read)) here)
+pub faults_there : (big : Bool) (raw : List ℕ) (read : ℕ) (len : Option ℕ) → read < length raw → IsUtf16 big (take read raw) → IsIllFormedAt big (drop read raw) len
+    → IsIllFormedUtf16 big raw read len
+faults_there big raw read len within text here = faults big raw read len within text (subst (λ r. IsIllFormedAt big r len) (sym (take_rest raw read)) here)

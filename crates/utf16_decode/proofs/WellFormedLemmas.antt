@@ -1,4 +1,4 @@
--- Units between their neighbors: by lanes, and block by block.
+-- Code units between their neighbors: with SIMD, and block by block.
 use Rattle.std.proofs.Common.{◌≡◌, ℕ, zero, suc, ◌+◌, ◌-◌, ◌*◌, ◌/◌, ◌%◌, ◌<◌, ◌≤◌, Bool, cond, eqb, List, [], ◌∷◌, ◌++◌, length, get_or, slice_index, take, drop, replicate, bit_and, refl, sym, ap, ap₂, ◌∙◌, arith, Fits, w16, flat_map, append_assoc, length-append, length-drop, get_or-drop}
 use Rattle.std.proofs.lemmas.Grind.{flat_map-append}
 use Rattle.std.proofs.lemmas.List.{ext_get_or, take_at}
@@ -16,7 +16,7 @@ use Rattle.utf16_units.proofs.LaneLemmas.{class_by, in_class}
 use Rattle.utf16_units.proofs.LanesByIndex.{lanes_behind}
 use Rattle.utf16_units.proofs.UnitLemmas.{length-units_bytes}
 
--- the lane behind each
+-- the lane after each
 behind_each : (behind : ℕ) (v : List ℕ) → length v ≡ 16 → HasLanes 16 (pick_l 0 (v ++ replicate 16 behind) (range_with_len 1 16)) (λ i. slice_index (v ++ replicate 16 behind) (suc i))
 behind_each behind v p =
     let both = v ++ replicate 16 behind in
@@ -80,7 +80,7 @@ module _ (before behind : ℕ) (units : List ℕ) (long : length units ≡ 16) (
   abbrev Chosen : List ℕ → List ℕ → ℕ → List ℕ → List ℕ → Type 0
   Chosen r v class a b = HasLanes 16 r (λ i. cond (eqb (bit_and (slice_index v i) 0xFC00) class) (slice_index a i) (slice_index b i))
 
-  -- the units of a block between two others, by four choices
+  -- the units of a block between two others, by four selections
   pub well_formed_lanes : Chosen leading behinds 0xDC00 units (replicate 16 0xFFFD) → Chosen trailing befores 0xD800 units (replicate 16 0xFFFD)
       → Chosen others units 0xDC00 trailing units → Chosen result units 0xD800 leading others → result ≡ well_formed_units before units behind
   well_formed_lanes l t o r =
@@ -93,12 +93,12 @@ module _ (before behind : ℕ) (units : List ℕ) (long : length units ≡ 16) (
           let unit = slice_index units i in
           let prior = slice_index (before ∷ units) i in
           let next = slice_index (units ++ replicate 16 behind) (suc i) in
-          let mark : slice_index (replicate 16 0xFFFD) i ≡ 0xFFFD = get_or-replicate 16 i 0xFFFD 0 h in
+          let replacement : slice_index (replicate 16 0xFFFD) i ≡ 0xFFFD = get_or-replicate 16 i 0xFFFD 0 h in
           let here_below : unit < 0x1_0000 = below_at units i (omega (arith, h, long)) fit in
           let prior_below : prior < 0x1_0000 = below_at (before ∷ units) i (omega (arith, h, long)) (fit_before, fit) in
           let next_below : next < 0x1_0000 = below_at (units ++ replicate 16 behind) (suc i) (omega (arith, h, long, both)) (below_append units (replicate 16 behind) fit (below_all 16 behind fit_behind)) in
-          let led = l.lanes i h ∙ ap₂ (λ c m. cond c unit m) (ap (λ u. eqb (bit_and u 0xFC00) 0xDC00) ((behind_each behind units long).lanes i h) ∙ is_trailing next next_below) mark in
-          let trailed = t.lanes i h ∙ ap₂ (λ c m. cond c unit m) (ap (λ u. eqb (bit_and u 0xFC00) 0xD800) ((lanes_behind 15 (replicate 16 before) units refl long).lanes i h) ∙ is_leading prior prior_below) mark in
+          let led = l.lanes i h ∙ ap₂ (λ c m. cond c unit m) (ap (λ u. eqb (bit_and u 0xFC00) 0xDC00) ((behind_each behind units long).lanes i h) ∙ is_trailing next next_below) replacement in
+          let trailed = t.lanes i h ∙ ap₂ (λ c m. cond c unit m) (ap (λ u. eqb (bit_and u 0xFC00) 0xD800) ((lanes_behind 15 (replicate 16 before) units refl long).lanes i h) ∙ is_leading prior prior_below) replacement in
           let other = o.lanes i h ∙ ap₂ (λ c a. cond c a unit) (is_trailing unit here_below) trailed in
           r.lanes i h ∙ ap (λ c. cond c (slice_index leading i) (slice_index others i)) (is_leading unit here_below)
           ∙ ap₂ (λ a b. cond (is_high_surrogate unit) a b) led other
@@ -106,7 +106,7 @@ module _ (before behind : ℕ) (units : List ℕ) (long : length units ≡ 16) (
 
 -- ---- units and then more
 
--- the last unit of some, or what stands before them where there is none
+-- the last unit of a list, or what precedes the list if it is empty
 abbrev last_or : ℕ → List ℕ → ℕ
 last_or before [] = before
 last_or before (u ∷ units) = last_or u units
@@ -166,7 +166,7 @@ wrote_block big done next all units more before behind long is wrote e =
     ∙ ap (λ u. done ++ (spelled big before units (first_or more 0) ++ spelled big u more 0)) (sym (last_or-index 15 before units long))
     ∙ ap (λ bs. done ++ bs) (sym (spelled-append big before units more 0)) ∙ e
 
--- ---- the last block, which zeros fill up
+-- ---- the last block, padded with zeros
 
 first-zeros : (k : ℕ) → first_or (replicate k 0) 0 ≡ 0
 first-zeros zero = refl
@@ -178,7 +178,7 @@ length-units big [] even = refl
 length-units big (x ∷ []) even = absurd (omega arith)
 length-units big (x ∷ y ∷ bytes) even = omega (arith, length-units big bytes (omega arith))
 
--- what is written of the filled block is, up to the zeros, what the bytes are to be
+-- the output for the padded block is, up to the zeros, the output for the bytes
 pub filled_block : (big : Bool) (before : ℕ) (bytes : List ℕ) → length bytes ≤ 32 → length bytes % 2 ≡ 0
     → take (length bytes) (spelled big before (units_of big (bytes ++ drop (length bytes) (replicate 32 0))) 0) ≡ spelled big before (units_of big bytes) 0
 filled_block big before bytes few even =

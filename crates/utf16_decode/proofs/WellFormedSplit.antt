@@ -1,5 +1,5 @@
--- The units of the split's marked text are the units between their neighbors; and where its tail
--- begins.
+-- The units of the split's lossy text are the units made well formed by their neighbors; and where
+-- its tail begins.
 use Rattle.std.proofs.Common.{◌≡◌, ℕ, zero, suc, ◌+◌, ◌-◌, ◌*◌, ◌/◌, ◌%◌, ◌<◌, ◌≤◌, Bool, true, false, cond, List, [], ◌∷◌, ◌++◌, All, length, slice_index, take, refl, sym, ap, ap₂, ◌∙◌, subst, ⊎_elim, arith}
 use Rattle.std.proofs.lemmas.Bool.{cases_Bool, false_from_ne_true, le-leb, lt-ltb}
 use Rattle.std.proofs.lemmas.List.{take_at}
@@ -8,11 +8,11 @@ use Rattle.std.specs.Char.{IsScalar}
 use Rattle.std.specs.Char.Utf16.{is_high_surrogate, is_low_surrogate, surrogate_pair_char}
 use Rattle.utf16_units.specs.Unit.{IsLeading, IsTrailing, unit_bytes, unit_of}
 use Rattle.utf16_units.specs.Encoding.{Encodes, encode, units_of}
-use Rattle.utf16_units.specs.Fault.{is_cut_off}
-use Rattle.utf16_units.specs.Split.{IsItem, Item, good, lone_lead, lone_trail, mark, marked, put_leading, put_unit, split_items, split_tail}
+use Rattle.utf16_units.specs.IllFormed.{is_incomplete}
+use Rattle.utf16_units.specs.Split.{IsItem, Item, good, lone_lead, lone_trail, lossy_char, lossy_chars, put_leading, put_unit, split_items, split_tail}
 use Rattle.utf16_decode.specs.WellFormed.{first_or, well_formed_unit, well_formed_units}
 use Rattle.utf16_units.proofs.FirstChar.{AreBytes, unit_below}
-use Rattle.utf16_units.proofs.Computed.{is_cut_off-from_IsCutOff}
+use Rattle.utf16_units.proofs.Computed.{is_incomplete-from_IsIncomplete}
 use Rattle.utf16_units.proofs.EncodingLemmas.{encode-cons, encode-nil}
 use Rattle.utf16_units.proofs.PairLemmas.{is_of}
 use Rattle.utf16_units.proofs.CharLemmas.{one_unit_bytes}
@@ -39,7 +39,7 @@ module _ (unit : ℕ) where
   not_low : ¬ (IsTrailing unit) → is_low_surrogate unit ≡ false
   not_low n = false_from_ne_true (is_low_surrogate unit) (λ e. n (is_of 55 unit e))
 
--- what stands for a unit
+-- what a unit becomes
 module _ (before unit behind : ℕ) where
   stays : ¬ (IsLeading unit) → ¬ (IsTrailing unit) → well_formed_unit before unit behind ≡ unit
   stays l t = rw (not_high unit l, not_low unit t) refl
@@ -56,19 +56,19 @@ module _ (before unit behind : ℕ) where
   lone_trails : ¬ (IsLeading before) → IsTrailing unit → well_formed_unit before unit behind ≡ 0xFFFD
   lone_trails l t = rw (not_high unit (λ n. omega arith), low_of unit t, not_high before l) refl
 
--- ---- the units that are decided
+-- ---- the units before the tail
 
 decided : Bool → List ℕ → List ℕ
 decided big [] = []
 decided big (last ∷ []) = []
-decided big (first ∷ second ∷ bytes) = cond (is_cut_off big (first ∷ second ∷ bytes)) [] (unit_of big first second ∷ decided big bytes)
+decided big (first ∷ second ∷ bytes) = cond (is_incomplete big (first ∷ second ∷ bytes)) [] (unit_of big first second ∷ decided big bytes)
 
 module _ (big : Bool) (first second : ℕ) (bytes : List ℕ) where
-  cut_decided : is_cut_off big (first ∷ second ∷ bytes) ≡ true → decided big (first ∷ second ∷ bytes) ≡ []
+  cut_decided : is_incomplete big (first ∷ second ∷ bytes) ≡ true → decided big (first ∷ second ∷ bytes) ≡ []
   unfolding decided
   cut_decided e = ap (λ t. cond t [] (unit_of big first second ∷ decided big bytes)) e
 
-  whole_decided : is_cut_off big (first ∷ second ∷ bytes) ≡ false → decided big (first ∷ second ∷ bytes) ≡ unit_of big first second ∷ decided big bytes
+  whole_decided : is_incomplete big (first ∷ second ∷ bytes) ≡ false → decided big (first ∷ second ∷ bytes) ≡ unit_of big first second ∷ decided big bytes
   unfolding decided
   whole_decided e = ap (λ t. cond t [] (unit_of big first second ∷ decided big bytes)) e
 
@@ -77,11 +77,11 @@ unfolding decided split_tail
 length-decided big [] = refl
 length-decided big (last ∷ []) = refl
 length-decided big (first ∷ second ∷ bytes) = ⊎_elim
-    (λ (cut : is_cut_off big (first ∷ second ∷ bytes) ≡ true).
+    (λ (cut : is_incomplete big (first ∷ second ∷ bytes) ≡ true).
     omega (arith, ap length (cut_decided big first second bytes cut), ap length (cut_tail big first second bytes cut)))
-    (λ (whole : is_cut_off big (first ∷ second ∷ bytes) ≡ false).
+    (λ (whole : is_incomplete big (first ∷ second ∷ bytes) ≡ false).
     omega (arith, ap length (whole_decided big first second bytes whole), ap length (whole_tail big first second bytes whole), length-decided big bytes))
-    (cases_Bool (is_cut_off big (first ∷ second ∷ bytes)))
+    (cases_Bool (is_incomplete big (first ∷ second ∷ bytes)))
 
 -- they are those before the tail
 units_of-decided : (big : Bool) (bytes : List ℕ) (n : ℕ) → n + length (split_tail big bytes) ≡ length bytes → units_of big (take n bytes) ≡ decided big bytes
@@ -91,32 +91,32 @@ units_of-decided big [] (suc n) e = absurd (omega arith)
 units_of-decided big (last ∷ []) zero e = refl
 units_of-decided big (last ∷ []) (suc n) e = absurd (omega arith)
 units_of-decided big (first ∷ second ∷ bytes) zero e = ⊎_elim
-    (λ (cut : is_cut_off big (first ∷ second ∷ bytes) ≡ true). sym (cut_decided big first second bytes cut))
-    (λ (whole : is_cut_off big (first ∷ second ∷ bytes) ≡ false).
+    (λ (cut : is_incomplete big (first ∷ second ∷ bytes) ≡ true). sym (cut_decided big first second bytes cut))
+    (λ (whole : is_incomplete big (first ∷ second ∷ bytes) ≡ false).
     absurd (omega (arith, e, ap length (whole_tail big first second bytes whole), length-decided big bytes)))
-    (cases_Bool (is_cut_off big (first ∷ second ∷ bytes)))
+    (cases_Bool (is_incomplete big (first ∷ second ∷ bytes)))
 units_of-decided big (first ∷ second ∷ bytes) (suc zero) e = ⊎_elim
-    (λ (cut : is_cut_off big (first ∷ second ∷ bytes) ≡ true). sym (cut_decided big first second bytes cut))
-    (λ (whole : is_cut_off big (first ∷ second ∷ bytes) ≡ false).
+    (λ (cut : is_incomplete big (first ∷ second ∷ bytes) ≡ true). sym (cut_decided big first second bytes cut))
+    (λ (whole : is_incomplete big (first ∷ second ∷ bytes) ≡ false).
     absurd (omega (arith, e, ap length (whole_tail big first second bytes whole), length-decided big bytes)))
-    (cases_Bool (is_cut_off big (first ∷ second ∷ bytes)))
+    (cases_Bool (is_incomplete big (first ∷ second ∷ bytes)))
 units_of-decided big (first ∷ second ∷ bytes) (suc (suc n)) e = ⊎_elim
-    (λ (cut : is_cut_off big (first ∷ second ∷ bytes) ≡ true).
+    (λ (cut : is_incomplete big (first ∷ second ∷ bytes) ≡ true).
     absurd (omega (arith, e, ap length (cut_tail big first second bytes cut))))
-    (λ (whole : is_cut_off big (first ∷ second ∷ bytes) ≡ false).
+    (λ (whole : is_incomplete big (first ∷ second ∷ bytes) ≡ false).
     ap (λ us. unit_of big first second ∷ us) (units_of-decided big bytes n (omega (arith, e, ap length (whole_tail big first second bytes whole))))
     ∙ sym (whole_decided big first second bytes whole))
-    (cases_Bool (is_cut_off big (first ∷ second ∷ bytes)))
+    (cases_Bool (is_incomplete big (first ∷ second ∷ bytes)))
 
--- ---- the marked text, unit by unit
+-- ---- the lossy text, unit by unit
 
--- no trailing unit comes first behind a leading one
+-- the first unit after a leading one is not a trailing one
 abbrev Unpaired : ℕ → List ℕ → Type 0
 Unpaired before units = IsLeading before → ¬ (IsTrailing (first_or units 0))
 
--- whatever unit stands before, the decided units spell the encoding of the marked text
-abbrev SpellsMarked : Bool → List ℕ → Type 0
-SpellsMarked big bytes = (before : ℕ) → Unpaired before (decided big bytes) → spelled big before (decided big bytes) 0 ≡ encode big (marked (split_items big bytes))
+-- for any unit before them, the units before the tail spell the encoding of the lossy text
+abbrev SpellsLossy : Bool → List ℕ → Type 0
+SpellsLossy big bytes = (before : ℕ) → Unpaired before (decided big bytes) → spelled big before (decided big bytes) 0 ≡ encode big (lossy_chars (split_items big bytes))
 
 encode-good : (big : Bool) (unit : ℕ) (text : List ℕ) → unit < 0x1_0000 → encode big (unit ∷ text) ≡ unit_bytes big unit ++ encode big text
 encode-good big unit text below = encode-cons big unit text ∙ ap (λ bs. bs ++ encode big text) (one_unit_bytes big unit below)
@@ -126,7 +126,7 @@ spelled-cons : (big : Bool) (before unit : ℕ) (units : List ℕ)
 unfolding well_formed_units
 spelled-cons big before unit units = refl
 
-nothing : (big : Bool) (before : ℕ) → spelled big before [] 0 ≡ encode big (marked [])
+nothing : (big : Bool) (before : ℕ) → spelled big before [] 0 ≡ encode big (lossy_chars [])
 unfolding well_formed_units
 nothing big before = sym (encode-nil big)
 
@@ -143,37 +143,37 @@ module _ (big : Bool) (first second : ℕ) (bytes : List ℕ) (first_byte : firs
   abbrev rest : List ℕ
   rest = decided big bytes
 
-  -- the first of the decided units is the unit of the first two bytes
+  -- the first unit before the tail is the unit of the first two bytes
   first-decided : ¬ (IsTrailing unit) → ¬ (IsTrailing (first_or (decided big all) 0))
   first-decided n = ⊎_elim
-      (λ (cut : is_cut_off big all ≡ true). subst (λ us. ¬ (IsTrailing (first_or us 0))) (sym (cut_decided big first second bytes cut)) zero_not_trailing)
-      (λ (whole : is_cut_off big all ≡ false). subst (λ us. ¬ (IsTrailing (first_or us 0))) (sym (whole_decided big first second bytes whole)) n)
-      (cases_Bool (is_cut_off big all))
+      (λ (cut : is_incomplete big all ≡ true). subst (λ us. ¬ (IsTrailing (first_or us 0))) (sym (cut_decided big first second bytes cut)) zero_not_trailing)
+      (λ (whole : is_incomplete big all ≡ false). subst (λ us. ¬ (IsTrailing (first_or us 0))) (sym (whole_decided big first second bytes whole)) n)
+      (cases_Bool (is_incomplete big all))
 
-  -- one unit more, of which the item is shown by one unit
-  one_more : (shown : ℕ) (item : Item) (before : ℕ) → is_cut_off big all ≡ false → shown < 0x1_0000 → mark item ≡ shown
+  -- one unit more, whose item is written as one unit
+  one_more : (shown : ℕ) (item : Item) (before : ℕ) → is_incomplete big all ≡ false → shown < 0x1_0000 → lossy_char item ≡ shown
       → well_formed_unit before unit (first_or rest 0) ≡ shown
-      → put_unit unit (split_items big bytes) ≡ item ∷ split_items big bytes → Unpaired unit rest → SpellsMarked big bytes
-      → spelled big before (decided big all) 0 ≡ encode big (marked (split_items big all))
+      → put_unit unit (split_items big bytes) ≡ item ∷ split_items big bytes → Unpaired unit rest → SpellsLossy big bytes
+      → spelled big before (decided big all) 0 ≡ encode big (lossy_chars (split_items big all))
   one_more shown item before whole below is stands put unpaired behind =
       ap (λ us. spelled big before us 0) (whole_decided big first second bytes whole)
       ∙ spelled-cons big before unit rest
       ∙ ap₂ (λ u bs. unit_bytes big u ++ bs) stands (behind unit unpaired)
-      ∙ sym (encode-good big shown (marked (split_items big bytes)) below)
-      ∙ ap (λ c. encode big (c ∷ marked (split_items big bytes))) (sym is)
-      ∙ ap (λ i. encode big (marked i)) (sym put ∙ sym (whole_items big first second bytes whole))
+      ∙ sym (encode-good big shown (lossy_chars (split_items big bytes)) below)
+      ∙ ap (λ c. encode big (c ∷ lossy_chars (split_items big bytes))) (sym is)
+      ∙ ap (λ i. encode big (lossy_chars i)) (sym put ∙ sym (whole_items big first second bytes whole))
 
-  -- a unit more, where the case of a leading one is known
-  unit_more : SpellsMarked big bytes → (IsLeading unit → is_cut_off big all ≡ false → SpellsMarked big all) → SpellsMarked big all
+  -- one unit more, given the case of a leading one
+  unit_more : SpellsLossy big bytes → (IsLeading unit → is_incomplete big all ≡ false → SpellsLossy big all) → SpellsLossy big all
   unit_more behind lead before unpaired = ⊎_elim
-      (λ (cut : is_cut_off big all ≡ true).
+      (λ (cut : is_incomplete big all ≡ true).
       ap (λ us. spelled big before us 0) (cut_decided big first second bytes cut)
       ∙ nothing big before
-      ∙ ap (λ i. encode big (marked i)) (sym (cut_items big first second bytes cut)))
-      (λ (whole : is_cut_off big all ≡ false). by_class whole (class_of unit))
-      (cases_Bool (is_cut_off big all))
+      ∙ ap (λ i. encode big (lossy_chars i)) (sym (cut_items big first second bytes cut)))
+      (λ (whole : is_incomplete big all ≡ false). by_class whole (class_of unit))
+      (cases_Bool (is_incomplete big all))
     where
-      by_class : is_cut_off big all ≡ false → Class unit → spelled big before (decided big all) 0 ≡ encode big (marked (split_items big all))
+      by_class : is_incomplete big all ≡ false → Class unit → spelled big before (decided big all) 0 ≡ encode big (lossy_chars (split_items big all))
       by_class whole (leading l) = lead l whole before unpaired
       by_class whole (trailing t) =
           let alone : ¬ (IsLeading before) = λ l. unpaired l (subst (λ us. IsTrailing (first_or us 0)) (sym (whole_decided big first second bytes whole)) t) in
@@ -186,7 +186,7 @@ module _ (big : Bool) (first second : ℕ) (bytes : List ℕ) (first_byte : firs
 -- a leading unit before two bytes more
 module _ (big : Bool) (first second third fourth : ℕ) (bytes : List ℕ) (first_byte : first < 256) (second_byte : second < 256)
     (third_byte : third < 256) (fourth_byte : fourth < 256) (l : IsLeading (unit_of big first second))
-    (whole : is_cut_off big (first ∷ second ∷ third ∷ fourth ∷ bytes) ≡ false) where
+    (whole : is_incomplete big (first ∷ second ∷ third ∷ fourth ∷ bytes) ≡ false) where
   abbrev lead : ℕ
   lead = unit_of big first second
 
@@ -196,7 +196,7 @@ module _ (big : Bool) (first second third fourth : ℕ) (bytes : List ℕ) (firs
   abbrev behind_lead : List ℕ
   behind_lead = third ∷ fourth ∷ bytes
 
-  alone : ¬ (IsTrailing next) → SpellsMarked big behind_lead → SpellsMarked big (first ∷ second ∷ behind_lead)
+  alone : ¬ (IsTrailing next) → SpellsLossy big behind_lead → SpellsLossy big (first ∷ second ∷ behind_lead)
   alone n behind before unpaired =
       let follows = first-decided big third fourth bytes third_byte fourth_byte n in
       one_more big first second behind_lead first_byte second_byte 0xFFFD (lone_lead lead) before whole (omega arith) refl
@@ -204,11 +204,11 @@ module _ (big : Bool) (first second third fourth : ℕ) (bytes : List ℕ) (firs
       (put_unit-leading lead (split_items big behind_lead) l ∙ put_leading-no_trail lead (split_items big behind_lead) (BeginsNoTrail-split_items big third fourth bytes n))
       (λ _. follows) behind
 
-  paired : IsTrailing next → SpellsMarked big bytes → SpellsMarked big (first ∷ second ∷ behind_lead)
+  paired : IsTrailing next → SpellsLossy big bytes → SpellsLossy big (first ∷ second ∷ behind_lead)
   unfolding put_leading
   paired t behind before unpaired =
-      let stands : is_cut_off big behind_lead ≡ false = not_cut big third fourth bytes (λ n. absurd (omega arith)) in
-      let text = marked (split_items big bytes) in
+      let stands : is_incomplete big behind_lead ≡ false = not_cut big third fourth bytes (λ n. absurd (omega arith)) in
+      let text = lossy_chars (split_items big bytes) in
       let units = whole_decided big first second behind_lead whole ∙ ap (λ us. lead ∷ us) (whole_decided big third fourth bytes stands) in
       let items = whole_items big first second behind_lead whole ∙ put_unit-leading lead (split_items big behind_lead) l
       ∙ ap (put_leading lead) (whole_items big third fourth bytes stands ∙ put_unit-trailing next (split_items big bytes) t) in
@@ -218,16 +218,16 @@ module _ (big : Bool) (first second third fourth : ℕ) (bytes : List ℕ) (firs
       ∙ ap₂ (λ u bs. unit_bytes big lead ++ (unit_bytes big u ++ bs)) (trails lead next (first_or (decided big bytes) 0) l t) (behind next (λ n. absurd (omega arith)))
       ∙ sym (pair_bytes lead next l t big (encode big text))
       ∙ sym (encode-cons big (surrogate_pair_char lead next) text)
-      ∙ ap (λ i. encode big (marked i)) (sym items)
+      ∙ ap (λ i. encode big (lossy_chars i)) (sym items)
 
-  either : SpellsMarked big behind_lead → SpellsMarked big bytes → SpellsMarked big (first ∷ second ∷ behind_lead)
+  either : SpellsLossy big behind_lead → SpellsLossy big bytes → SpellsLossy big (first ∷ second ∷ behind_lead)
   either behind rest = by_class (class_of next) where
-    by_class : Class next → SpellsMarked big (first ∷ second ∷ behind_lead)
+    by_class : Class next → SpellsLossy big (first ∷ second ∷ behind_lead)
     by_class (leading n) = alone (λ t. omega arith) behind
     by_class (trailing t) = paired t rest
     by_class (neither n t) = alone t behind
 
-spells_marked : (big : Bool) (bytes : List ℕ) → AreBytes bytes → SpellsMarked big bytes
+spells_marked : (big : Bool) (bytes : List ℕ) → AreBytes bytes → SpellsLossy big bytes
 unfolding decided split_items well_formed_units
 spells_marked big [] are = λ before n. sym (encode-nil big)
 spells_marked big (x ∷ []) are = λ before n. sym (encode-nil big)
@@ -242,36 +242,36 @@ spells_marked big (x ∷ y ∷ z ∷ w ∷ bytes) are =
 
 -- ---- what is written
 
-scalar_mark : (item : Item) → IsItem item → IsScalar (mark item)
-scalar_mark (good c) is = is
-scalar_mark (lone_trail u) is = refl
-scalar_mark (lone_lead u) is = refl
+scalar_lossy : (item : Item) → IsItem item → IsScalar (lossy_char item)
+scalar_lossy (good c) is = is
+scalar_lossy (lone_trail u) is = refl
+scalar_lossy (lone_lead u) is = refl
 
-scalars_marked : (items : List Item) → All IsItem items → All IsScalar (marked items)
-scalars_marked [] are = All-nil IsScalar
-scalars_marked (item ∷ items) are =
-    All-cons IsScalar (mark item) (marked items) (scalar_mark item (All-head IsItem item items are)) (scalars_marked items (All-tail IsItem item items are))
+scalars_lossy : (items : List Item) → All IsItem items → All IsScalar (lossy_chars items)
+scalars_lossy [] are = All-nil IsScalar
+scalars_lossy (item ∷ items) are =
+    All-cons IsScalar (lossy_char item) (lossy_chars items) (scalar_lossy item (All-head IsItem item items are)) (scalars_lossy items (All-tail IsItem item items are))
 
 module _ (big : Bool) (bytes : List ℕ) (n : ℕ) (ends : n + length (split_tail big bytes) ≡ length bytes) where
   pub even_end : n % 2 ≡ 0
   even_end = omega (arith, ends, length-decided big bytes)
 
-  -- the bytes before the tail, each unit between its neighbors, encode the marked text
-  pub written_is : AreBytes bytes → spelled big 0 (units_of big (take n bytes)) 0 ≡ encode big (marked (split_items big bytes))
+  -- the bytes before the tail, each unit made well formed, encode the lossy text
+  pub written_is : AreBytes bytes → spelled big 0 (units_of big (take n bytes)) 0 ≡ encode big (lossy_chars (split_items big bytes))
   written_is are = ap (λ us. spelled big 0 us 0) (units_of-decided big bytes n ends) ∙ spells_marked big bytes are 0 (λ l. absurd (omega (arith, l.0)))
 
-  length-written : AreBytes bytes → length (encode big (marked (split_items big bytes))) ≡ n
+  length-written : AreBytes bytes → length (encode big (lossy_chars (split_items big bytes))) ≡ n
   length-written are =
       ap length (sym (spells_marked big bytes are 0 (λ l. absurd (omega (arith, l.0))))) ∙ length-spelled big 0 (decided big bytes) 0
       ∙ omega (arith, ends, length-decided big bytes)
 
-  pub encodes_marked : AreBytes bytes → (rest : List ℕ) → Encodes big (marked (split_items big bytes)) (take n (encode big (marked (split_items big bytes)) ++ rest))
+  pub encodes_marked : AreBytes bytes → (rest : List ℕ) → Encodes big (lossy_chars (split_items big bytes)) (take n (encode big (lossy_chars (split_items big bytes)) ++ rest))
   encodes_marked are rest = record {
-    scalars = scalars_marked (split_items big bytes) (Split-computed big bytes are).made;
-    spelled = sym (take_at (encode big (marked (split_items big bytes))) rest n (length-written are));
+    scalars = scalars_lossy (split_items big bytes) (Split-computed big bytes are).made;
+    spelled = sym (take_at (encode big (lossy_chars (split_items big bytes))) rest n (length-written are));
   }
 
--- ---- where the tail begins, by the last whole unit
+-- ---- where the tail begins, by the last complete unit
 
 abbrev double : ℕ → ℕ
 double zero = zero
@@ -295,7 +295,7 @@ module _ (big : Bool) where
   last_at n (x ∷ []) long short = absurd (omega arith)
   last_at zero (x ∷ y ∷ bytes) long short = (
     λ l.
-        let cut = is_cut_off-from_IsCutOff big (x ∷ y ∷ bytes) (l, omega arith) in
+        let cut = is_incomplete-from_IsIncomplete big (x ∷ y ∷ bytes) (l, omega arith) in
         omega (arith, ap length (cut_tail big x y bytes cut)),
     λ n.
         let whole = not_cut big x y bytes (λ l. absurd (n l)) in

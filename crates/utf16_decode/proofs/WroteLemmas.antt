@@ -1,16 +1,16 @@
--- Pieces that were read and written, one behind another.
+-- Chunks that were read and written, one after another.
 use Rattle.std.proofs.Common.{◌≡◌, ℕ, ◌+◌, ◌-◌, ◌<◌, ◌≤◌, List, [], ◌++◌, Option, None, Some, length, take, drop, sym, ap, ◌∙◌, subst, ⊎_elim, arith, append-nil, length-append, length-drop, length-take-le, take_all, take-add, take-append-drop}
 use borrow.Rule.Slice.PartMut.{put_mid}
 use Rattle.std.proofs.lemmas.Bool.{cases_lt}
 use Rattle.std.proofs.lemmas.List.{take-append-le, take_rest}
 use Rattle.std.specs.Char.{IsScalar}
-use Rattle.utf16_units.proofs.FaultLemmas.{rest_from, take-past}
+use Rattle.utf16_units.proofs.IllFormedLemmas.{rest_from, take-past}
 use Rattle.utf16_decode.specs.Wrote.{Gives, Joins, Puts, Wrote}
 use Rattle.utf16_decode.specs.Stops.{BeginsWith, NextDoesNotFit, Stops, StopsAt}
 use Rattle.utf16_decode.specs.declared.progress.Stop.{Stop}
-use Rattle.utf16_decode.specs.declared.progress.Stop.TheVariants.{CutOff, Done, Fault, NoRoom}
+use Rattle.utf16_decode.specs.declared.progress.Stop.TheVariants.{Incomplete, Done, IllFormed, NoRoom}
 
--- one more piece behind what was written
+-- one more chunk appended to what was written
 pub Wrote-then : {Gives : List ℕ → List ℕ → Type 0} → Joins Gives → (input old new : List ℕ) (read at len last : ℕ) → Wrote Gives input old read at
     → Puts Gives (rest_from input read) old new at len last → Wrote Gives input new (read + len) last
 Wrote-then {Gives} joins input old new read at len last before piece =
@@ -31,7 +31,7 @@ Wrote-then {Gives} joins input old new read at len last before piece =
 pub Wrote-none : {Gives : List ℕ → List ℕ → Type 0} → Gives [] [] → (input to : List ℕ) → Wrote Gives input to 0 0
 Wrote-none empty input to = record { within = omega arith; room = omega arith; gives = empty }
 
--- nothing was put
+-- nothing was written
 pub Puts-none : {Gives : List ℕ → List ℕ → Type 0} → Gives [] [] → (rest old new : List ℕ) (at : ℕ) → at ≤ length old → new ≡ old
     → Puts Gives rest old new at 0 at
 Puts-none empty rest old new at within kept = record {
@@ -42,7 +42,7 @@ Puts-none empty rest old new at within kept = record {
   bytes = ap (take at) kept ∙ sym (append-nil (take at old));
 }
 
--- a buffer whose end was written over is as long as before
+-- a buffer whose end was overwritten has the same length
 pub put_end-long : (at : ℕ) (old part : List ℕ) → at ≤ length old → length part ≡ length old - at → length (put_mid at (length old - at) old part) ≡ length old
 put_end-long at old part within long =
     let all = length-append (take at old) (part ++ drop (length old - at) (drop at old)) in
@@ -52,7 +52,7 @@ put_end-long at old part within long =
     let behind = length-drop at old in
     omega arith
 
--- what was written to the front of a buffer's end stands behind what was written before
+-- what was written to the start of a buffer's end follows what was written before
 pub take-end : (at n : ℕ) (old part : List ℕ) → at ≤ length old → length part ≡ length old - at → n ≤ length part
     → take (at + n) (put_mid at (length old - at) old part) ≡ take at old ++ take n part
 take-end at n old part within long few =
@@ -61,7 +61,7 @@ take-end at n old part within long few =
     ap (λ k. take (k + n) (take at old ++ (part ++ after))) (sym front) ∙ take-past (take at old) (part ++ after) n
     ∙ ap (λ t. take at old ++ t) (take-append-le n part after few)
 
--- a character that begins the rest
+-- a character at the start of the rest
 module _ (from into : ℕ → List ℕ) (IsValid : List ℕ → Type 0) (other : List ℕ → List ℕ) (chars : (c : ℕ) → IsScalar c → Gives IsValid other (from c) (into c))
     (rest : List ℕ) (n : ℕ) (first : BeginsWith from rest n) where
   pub first_text : IsValid (take n rest)
@@ -79,21 +79,21 @@ module _ (from into : ℕ → List ℕ) (IsValid : List ℕ → Type 0) (other :
     too_long = omega (arith, long, ap (λ b. length (other b)) first.spelled, ap length (chars first.char first.scalar).1);
   }
 
--- why a call stopped, told of the whole
-module _ (from into : ℕ → List ℕ) (IsValid : List ℕ → Type 0) (IsFaultAt : List ℕ → Option ℕ → Type 0) (IsFault : List ℕ → ℕ → Option ℕ → Type 0)
-    (faults : (input : List ℕ) (read : ℕ) (len : Option ℕ) → read < length input → IsValid (take read input) → IsFaultAt (drop read input) len → IsFault input read len)
+-- why a call stopped, stated of the whole input
+module _ (from into : ℕ → List ℕ) (IsValid : List ℕ → Type 0) (IsIllFormedAt : List ℕ → Option ℕ → Type 0) (IsIllFormed : List ℕ → ℕ → Option ℕ → Type 0)
+    (faults : (input : List ℕ) (read : ℕ) (len : Option ℕ) → read < length input → IsValid (take read input) → IsIllFormedAt (drop read input) len → IsIllFormed input read len)
     (input : List ℕ) (read left : ℕ) (within : read < length input) (text : IsValid (take read input)) where
-  pub stops_there : (stop : Stop) → StopsAt from into IsFaultAt (rest_from input read) left stop → Stops from into IsFault input read left stop
+  pub stops_there : (stop : Stop) → StopsAt from into IsIllFormedAt (rest_from input read) left stop → Stops from into IsIllFormed input read left stop
   stops_there Done here = absurd here
-  stops_there (Fault len) here = faults input read (Some len) within text (subst (λ r. IsFaultAt r (Some len)) (take_rest input read) here)
-  stops_there CutOff here = faults input read None within text (subst (λ r. IsFaultAt r None) (take_rest input read) here)
+  stops_there (IllFormed len) here = faults input read (Some len) within text (subst (λ r. IsIllFormedAt r (Some len)) (take_rest input read) here)
+  stops_there Incomplete here = faults input read None within text (subst (λ r. IsIllFormedAt r None) (take_rest input read) here)
   stops_there NoRoom here = subst (λ r. NextDoesNotFit from into r left) (take_rest input read) here
 
--- what was written, as far as it fits
+-- the number of bytes written is their length, if they fit
 pub long_enough : (n : ℕ) (buf bytes : List ℕ) → take n buf ≡ bytes → n ≤ length buf → n ≡ length bytes
 long_enough n buf bytes is room = sym (length-take-le n buf room) ∙ ap length is
 
--- bytes that could be taken were there
+-- if n bytes could be taken, there are at least n
 pub enough : (n : ℕ) (bytes front : List ℕ) → take n bytes ≡ front → n ≡ length front → n ≤ length bytes
 enough n bytes front is long = ⊎_elim
     (λ (short : length bytes < n).
@@ -102,7 +102,7 @@ enough n bytes front is long = ⊎_elim
     (λ (le : n ≤ length bytes). le)
     (cases_lt (length bytes) n)
 
--- a piece was written where it is wanted
+-- a chunk was written directly to its place
 pub Puts-put : {Gives : List ℕ → List ℕ → Type 0} (rest old part added : List ℕ) (at len n : ℕ) → at ≤ length old
     → length part ≡ length old - at → len ≤ length rest → Gives (take len rest) added → take n part ≡ added → n ≤ length part
     → Puts Gives rest old (put_mid at (length old - at) old part) at len (at + n)

@@ -1,9 +1,10 @@
--- The whole text of any bytes, with U+FFFD for each fault, and a part of it that was written.
+-- The whole text of any bytes, with U+FFFD for each ill-formed sequence, and a prefix of it that
+-- was written.
 use Rattle.std.specs.Prelude.{◌≡◌, ℕ, ◌≤◌, List, ◌++◌, length, take, drop}
 use Rattle.std.specs.List.{flat_map}
 
--- the first bytes of the input were read, and the written ones begin the bytes of its whole text,
--- which those of the rest end
+-- the first bytes of the input were read, and what was written is a prefix of the bytes of its
+-- whole text; those of the rest's whole text follow it
 pub record ShowsWhole (text : List ℕ → List ℕ) (into : ℕ → List ℕ) (input to : List ℕ) (read written : ℕ) : Type 0 where
   pub within : read ≤ length input
   pub room : written ≤ length to

@@ -1,28 +1,28 @@
 -- What a call read and what it wrote.
 use Rattle.std.specs.Prelude.{◌≡◌, ℕ, ◌≤◌, Bool, List, [], ◌++◌, length, take, drop, encode_utf8_all}
-use Rattle.utf16_units.specs.Encoding.{IsText, text_of}
+use Rattle.utf16_units.specs.Encoding.{IsUtf16, text_of}
 use Rattle.utf16_decode.specs.Decodes.{Decodes}
 
--- valid bytes of one encoding, and what stands for them in the other
+-- valid bytes of one encoding, and the bytes of the same text in the other
 abbrev pub Gives : (List ℕ → Type 0) → (List ℕ → List ℕ) → List ℕ → List ℕ → Type 0
 Gives IsValid other input out = IsValid input × (out ≡ other input)
 
--- what stands for two parts stands for both together
+-- the outputs for two parts, joined, are the output for both together
 abbrev pub Joins : (List ℕ → List ℕ → Type 0) → Type 0
 Joins Given = (front back into more : List ℕ) → Given front into → Given back more → Given (front ++ back) (into ++ more)
 
 -- bytes of UTF-16 and the UTF-8 of the same text
-abbrev pub IsUtf8Of : Bool → List ℕ → List ℕ → Type 0
-IsUtf8Of big raw utf8 = IsText big raw × (utf8 ≡ encode_utf8_all (text_of big raw))
+abbrev pub TranscodesToUtf8 : Bool → List ℕ → List ℕ → Type 0
+TranscodesToUtf8 big raw utf8 = IsUtf16 big raw × (utf8 ≡ encode_utf8_all (text_of big raw))
 
--- the first bytes of the input were read, and what they give stands at the front of the buffer
+-- the first bytes of the input were read, and their output is at the start of the buffer
 pub record Wrote (Gives : List ℕ → List ℕ → Type 0) (input to : List ℕ) (read written : ℕ) : Type 0 where
   pub within : read ≤ length input
   pub room : written ≤ length to
   pub gives : Gives (take read input) (take written to)
 
--- some bytes of the rest were read, and what they give was put at a place of the buffer; it ends at
--- `last`
+-- some bytes of the rest were read, and their output was written at an offset of the buffer; it
+-- ends at `last`
 pub record Puts (Gives : List ℕ → List ℕ → Type 0) (rest old new : List ℕ) (at len last : ℕ) : Type 0 where
   pub within : len ≤ length rest
   pub room : last ≤ length new
@@ -30,8 +30,7 @@ pub record Puts (Gives : List ℕ → List ℕ → Type 0) (rest old new : List 
   pub gives : Gives (take len rest) added
   pub bytes : take last new ≡ take at old ++ added
 
--- the first bytes of UTF-16 were decided, and what they show stands at the front of the buffer in
--- UTF-8
+-- the first bytes of UTF-16 were decoded, and their text is at the start of the buffer in UTF-8
 pub record DecodesTo (big : Bool) (raw to : List ℕ) (read written : ℕ) : Type 0 where
   pub within : read ≤ length raw
   pub room : written ≤ length to

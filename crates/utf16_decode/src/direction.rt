@@ -1,4 +1,5 @@
-//! From one encoding to the other, up to the first fault or as far as whole characters fit.
+//! Transcoding from one encoding to the other, up to the first ill-formed sequence or as far as
+//! whole characters fit.
 
 ghost use Rattle.std.specs.Prelude.{◌≡◌, ◌≤◌, ◌<◌, ◌+◌, ◌-◌, ◌++◌, ℕ, List, Option, [], IfErr, IfOk, IfSome, None, length, take, drop};
 ghost use Rattle.std.specs.Char.{IsScalar};
@@ -7,69 +8,82 @@ ghost use Rattle.utf16_decode.specs.Wrote.{Gives, Joins, Puts, Wrote};
 
 use crate::progress::{Progress, Stop, put};
 
-// How many bytes are tested and then written at once: what is tested is still near when it is
-// written.
+// The most bytes that are validated and then written at once, so that they are still in the cache
+// when they are written.
 const PIECE: usize = 8192;
 
-// How many bytes are written at once through a buffer in the frame, and its size: what `write`
-// wants for them in both directions.
+// The most bytes that are written through a buffer on the stack, and the length of that buffer:
+// what `write` needs for them in both directions.
 const FEW: usize = 128;
 
 const FEW_ROOM: usize = 320;
 
-// From so much room on, pieces are written where they are wanted.
+// With at least this much space left, chunks are written directly to their place.
 const MUCH: usize = 512;
 
-/// One of the two directions: how the bytes of one encoding are tested, and how a text is written
-/// in the other.
+/// One of the two directions: how the bytes of one encoding are validated, and how a text is
+/// written in the other.
 pub trait Direction {
-    // The bytes of a character in the one encoding, and in the other.
+    // The bytes of a character in the first encoding, and in the second.
     ghost from: { ℕ → List ℕ };
 
     ghost into: { ℕ → List ℕ };
 
-    // Whether bytes are a text in the one encoding, and the bytes of that text in the other.
+    // Whether bytes are a text in the first encoding, and the bytes of that text in the second.
     ghost IsValid: { List ℕ → Type 0 };
 
     ghost other: { List ℕ → List ℕ };
 
-    // What stands where no character begins, and what stands behind the longest valid beginning, by
+    // What is at a place where no character begins, and what follows the longest valid prefix, by
     // their `error_len`.
-    ghost IsFaultAt: { List ℕ → Option ℕ → Type 0 };
+    ghost IsIllFormedAt: { List ℕ → Option ℕ → Type 0 };
 
-    ghost IsFault: { List ℕ → ℕ → Option ℕ → Type 0 };
+    ghost IsIllFormed: { List ℕ → ℕ → Option ℕ → Type 0 };
 
-    // How many bytes of room `write` wants for so many bytes.
+    // How many bytes of space `write` needs for so many bytes of input.
     ghost room_for: { ℕ → ℕ };
 
-    /// How many bytes at the front are valid: those before the first fault. As many valid bytes as
-    /// `before` says stand before them: so many may be looked at behind a fault.
+    /// Returns the length in bytes of a valid prefix: the bytes before the first ill-formed
+    /// sequence. `before` valid bytes precede the slice; as many bytes past the error may be read.
     fn valid_len(bytes: &[u8], before: usize) -> usize
         ensures within { result ≤ length bytes.now }
         ensures valid { IsValid (take result bytes.now) };
 
-    /// How many bytes the character at the front has, or the `error_len` of what stands there.
+    /// Returns the length in bytes of the first character, or the `error_len` of what is there
+    /// instead.
+    ///
+    /// # Precondition
+    ///
+    /// There is at least one byte.
     fn first_len(rest: &[u8]) -> Result<usize, Option<u8>>
         requires { 0 < length rest.now }
         ensures char { IfOk result (BeginsWith from rest.now) }
-        ensures fault { IfErr result (IsFaultAt rest.now) };
+        ensures fault { IfErr result (IsIllFormedAt rest.now) };
 
-    /// How many bytes have enough room, whatever they are.
+    /// Returns how many bytes of input surely fit in `room` bytes, whatever they are.
+    ///
+    /// # Precondition
+    ///
+    /// `room` is at least 512.
     fn most(room: usize) -> usize
         requires { 512 ≤ room }
         ensures { room_for result ≤ room };
 
-    /// Writes a text in the other encoding to the front of a buffer, and returns how many bytes
-    /// were written.
+    /// Writes a text in the second encoding to the start of a buffer, and returns the number of
+    /// bytes written.
+    ///
+    /// # Precondition
+    ///
+    /// The text is valid, and the buffer has the space that `room_for` gives.
     fn write(text: &[u8], to: &mut [u8]) -> usize
         requires text { IsValid text.now }
         requires room { room_for (length text.now) ≤ length to.old }
         ensures bytes { take result to.new ≡ other text.now }
         ensures len { result ≡ length (other text.now) };
 
-    /// What the proof of `transcode` rests on: fewer bytes want no more room, and a few have enough
-    /// in the frame; two texts are a text, and so is each character; a fault behind a text is one
-    /// of the whole. It does nothing.
+    /// States what the proof of `transcode` needs, and does nothing: fewer bytes need no more
+    /// space, and a few fit in the buffer on the stack; two texts together are a text, and so is
+    /// each character; an ill-formed sequence after a text is one of the whole input.
     fn laws()
         ensures grows { (m n : ℕ) → m ≤ n → room_for m ≤ room_for n }
         ensures fits { room_for 128 ≤ 320 }
@@ -77,15 +91,17 @@ pub trait Direction {
         ensures joins { Joins (Gives IsValid other) }
         ensures chars { (c : ℕ) → IsScalar c → Gives IsValid other (from c) (into c) }
         ensures few { (c : ℕ) → IsScalar c → length (from c) ≤ 4 }
-        ensures faults { (input : List ℕ) (read : ℕ) (len : Option ℕ) → read < length input → IsValid (take read input)
-            → IsFaultAt (drop read input) len → IsFault input read len };
+        ensures faults { (input : List ℕ) (read : ℕ) (len : Option ℕ) → read < length input
+            → IsValid (take read input) → IsIllFormedAt (drop read input) len
+            → IsIllFormed input read len };
 }
 
-/// Writes what is valid in the other encoding to the front of a buffer, up to the first fault or as
-/// far as whole characters fit.
+/// Writes the longest valid prefix in the second encoding to the start of a buffer, as far as whole
+/// characters fit.
 pub fn transcode<D: Direction>(input: &[u8], to: &mut [u8]) -> Progress
     ensures wrote { Wrote (Gives D.IsValid D.other) input.now to.new result.read result.written }
-    ensures stop { Stops D.from D.into D.IsFault input.now result.read (length to.new - result.written) result.stop }
+    ensures stop { Stops D.from D.into D.IsIllFormed input.now result.read
+        (length to.new - result.written) result.stop }
 {
     D::laws();
     let mut read = 0;
@@ -118,9 +134,8 @@ pub fn transcode<D: Direction>(input: &[u8], to: &mut [u8]) -> Progress
     }
 }
 
-// Writes some valid beginning of the bytes at a place: how many bytes of it were read, and where
-// what was written ends. It may be that nothing was. As many valid bytes as `before` says stand
-// before them.
+// Writes a valid prefix of the bytes, perhaps an empty one, at `at`; returns how many bytes of it
+// were read, and where the written bytes end. `before` valid bytes precede `rest`.
 fn put_piece<D: Direction>(rest: &[u8], before: usize, to: &mut [u8], at: usize) -> (usize, usize)
     requires { at ≤ length to.old }
     ensures { Puts (Gives D.IsValid D.other) rest.now to.old to.new at result.0 result.1 }
@@ -139,7 +154,7 @@ fn put_piece<D: Direction>(rest: &[u8], before: usize, to: &mut [u8], at: usize)
     (len, at + written)
 }
 
-// The same of a few bytes, where they fit.
+// Does the same for a few bytes, if they fit.
 fn put_few<D: Direction>(rest: &[u8], to: &mut [u8], at: usize) -> (usize, usize)
     requires { at ≤ length to.old }
     ensures { Puts (Gives D.IsValid D.other) rest.now to.old to.new at result.0 result.1 }
@@ -152,20 +167,22 @@ fn put_few<D: Direction>(rest: &[u8], to: &mut [u8], at: usize) -> (usize, usize
     }
 }
 
-// Writes the first character at a place, or says why it cannot be.
+// Writes the first character at `at`, or returns why it cannot.
 fn put_char<D: Direction>(rest: &[u8], to: &mut [u8], at: usize) -> Result<(usize, usize), Stop>
     requires some { 0 < length rest.now }
     requires place { at ≤ length to.old }
-    ensures wrote { IfOk result (λ r. Puts (Gives D.IsValid D.other) rest.now to.old to.new at r.0 r.1) }
+    ensures wrote { IfOk result (λ r.
+        Puts (Gives D.IsValid D.other) rest.now to.old to.new at r.0 r.1) }
     ensures some { IfOk result (λ r. 0 < r.0) }
-    ensures stop { IfErr result (StopsAt D.from D.into D.IsFaultAt rest.now (length to.new - at)) }
+    ensures stop { IfErr result (StopsAt D.from D.into D.IsIllFormedAt rest.now
+        (length to.new - at)) }
     ensures kept { IfErr result (λ _. to.new ≡ to.old) }
 {
     D::laws();
     let len = match D::first_len(rest) {
         Ok(len) => len,
-        Err(Some(len)) => return Err(Stop::Fault(len)),
-        Err(None) => return Err(Stop::CutOff),
+        Err(Some(len)) => return Err(Stop::IllFormed(len)),
+        Err(None) => return Err(Stop::Incomplete),
     };
     match put_text::<D>(&rest[..len], to, at) {
         Some(end) => Ok((len, end)),
@@ -173,7 +190,7 @@ fn put_char<D: Direction>(rest: &[u8], to: &mut [u8], at: usize) -> Result<(usiz
     }
 }
 
-// Writes a few bytes of text at a place, where they fit, and returns where that ends.
+// Writes a few bytes of text at `at` if they fit, and returns where the written bytes end.
 fn put_text<D: Direction>(text: &[u8], to: &mut [u8], at: usize) -> Option<usize>
     requires text { D.IsValid text.now }
     requires few { length text.now ≤ FEW }

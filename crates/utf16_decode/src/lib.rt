@@ -1,16 +1,16 @@
-//! UTF-16 to UTF-8 over buffers of the caller's, without memory: up to the first fault, with U+FFFD
-//! for each, and as a stream that comes in pieces.
+//! UTF-16 to UTF-8 over buffers of the caller's, without allocation: up to the first ill-formed
+//! sequence, lossy with U+FFFD for each, and as a stream that comes in chunks.
 #![tactic(auto)]
 
 mod direction;
-mod marks;
+mod lossy;
 mod progress;
 mod stream;
 mod utf8;
 mod well_formed;
 
 pub use crate::direction::{Direction, transcode};
-pub use crate::marks::{MARK, decode, decode_whole};
+pub use crate::lossy::{REPLACEMENT, to_utf8_lossy, to_utf8_partial};
 pub use crate::progress::{Progress, Stop, put};
 pub use crate::stream::Stream;
 pub use crate::utf8::to_utf8;

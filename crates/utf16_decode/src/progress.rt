@@ -7,31 +7,34 @@ ghost use Rattle.std.specs.Prelude.{◌≡◌, ◌+◌, ◌≤◌, ◌++◌, len
 pub enum Stop {
     /// All of the input was read.
     Done,
-    /// Behind what was read stands a fault of so many bytes, where no character begins. A call may
-    /// go on behind it.
-    Fault(u8),
-    /// The input ends inside a character, which begins behind what was read. More bytes may
-    /// complete it.
-    CutOff,
-    /// The buffer has fewer bytes left than what comes next takes: a character, which begins behind
-    /// what was read, or U+FFFD. A call may go on there with another buffer.
+    /// An ill-formed sequence of this many bytes follows what was read. Resume after it.
+    IllFormed(u8),
+    /// The input is truncated: it ends inside the character that follows what was read. More bytes
+    /// may complete it.
+    Incomplete,
+    /// The buffer has less space left than the next item takes: a character, or U+FFFD. Call again
+    /// with the rest of the input and another buffer.
     NoRoom,
 }
 
-/// How far a call came. Offsets count bytes.
+/// How far a call came. Offsets and lengths are in bytes.
 #[derive(Clone, Copy, Debug, PartialEq, Eq)]
 pub struct Progress {
-    /// How many bytes of the input were read: whole characters, and in a call with marks the faults
-    /// among them.
+    /// The number of bytes of the input that were read: whole characters, and in a lossy call the
+    /// ill-formed sequences among them.
     pub read: usize,
-    /// How many bytes at the front of the buffer are what was read, in the other encoding. What
-    /// stands behind them has no meaning.
+    /// The number of bytes at the start of the buffer that hold what was read, in the other
+    /// encoding. The bytes after them are unspecified.
     pub written: usize,
     /// Why the call read no more.
     pub stop: Stop,
 }
 
-/// Writes bytes at a place, where there is room for them, and returns where they end.
+/// Writes bytes at `at`, and returns where they end.
+///
+/// # Precondition
+///
+/// They fit: `at` plus their number is at most the length of the buffer.
 #[inline(always)]
 pub fn put(bytes: &[u8], to: &mut [u8], at: usize) -> usize
     requires { at + length bytes.now ≤ length to.old }

@@ -1,29 +1,34 @@
-//! UTF-16 in UTF-8, up to the first fault.
+//! UTF-16 to UTF-8, up to the first ill-formed sequence.
 
 ghost use Rattle.std.specs.Prelude.{◌+◌, ◌-◌, ◌*◌, ◌/◌, length};
 ghost use Rattle.std.specs.Char.{encode_utf8};
-ghost use Rattle.utf16_units.specs.Encoding.{char_bytes, IsText, utf8_of};
-ghost use Rattle.utf16_units.specs.Fault.{IsFaultAt};
-ghost use Rattle.utf16_decode.specs.Wrote.{IsUtf8Of, Wrote};
-ghost use Rattle.utf16_decode.specs.Stops.{IsUtf16Fault, StopsDecoding};
+ghost use Rattle.utf16_units.specs.Encoding.{char_bytes, IsUtf16, utf8_of};
+ghost use Rattle.utf16_units.specs.IllFormed.{IsIllFormedAt};
+ghost use Rattle.utf16_decode.specs.Wrote.{TranscodesToUtf8, Wrote};
+ghost use Rattle.utf16_decode.specs.Stops.{IsIllFormedUtf16, StopsDecoding};
 
 use crate::direction::{Direction, transcode};
 use crate::progress::Progress;
 use std::marker::PhantomData;
-use utf16_to_utf8::{SPARE, write_utf8};
+use utf16_to_utf8::{SLACK, write_utf8};
 use utf16_units::{Utf16Order, first_char_len, validate_raw_utf16};
 
-/// Writes UTF-16 in UTF-8 to the front of a buffer, up to the first fault or as far as whole
-/// characters fit. Any bytes are allowed. What stands behind the written bytes may have been
-/// written over. In time linear in what is read.
+/// Writes UTF-16 in UTF-8 to the start of a buffer, up to the first ill-formed sequence or as far
+/// as whole characters fit. Any bytes are allowed. Bytes of the buffer after the written ones may
+/// have been overwritten.
+///
+/// # Complexity
+///
+/// Linear time in the number of bytes read.
 pub fn to_utf8<E: Utf16Order>(raw: &[u8], to: &mut [u8]) -> Progress
-    ensures wrote { Wrote (IsUtf8Of E.BIG) raw.now to.new result.read result.written }
-    ensures stop { StopsDecoding E.BIG raw.now result.read (length to.new - result.written) result.stop }
+    ensures wrote { Wrote (TranscodesToUtf8 E.BIG) raw.now to.new result.read result.written }
+    ensures stop { StopsDecoding E.BIG raw.now result.read (length to.new - result.written)
+        result.stop }
 {
     transcode::<ToUtf8<E>>(raw, to)
 }
 
-// From UTF-16 in the order `E` to UTF-8.
+// From UTF-16 in byte order `E` to UTF-8.
 struct ToUtf8<E: Utf16Order>(PhantomData<E>);
 
 impl<E: Utf16Order> Direction for ToUtf8<E> {
@@ -31,13 +36,13 @@ impl<E: Utf16Order> Direction for ToUtf8<E> {
 
     ghost into = { encode_utf8 };
 
-    ghost IsValid = { IsText E.BIG };
+    ghost IsValid = { IsUtf16 E.BIG };
 
     ghost other = { λ raw. utf8_of E.BIG raw };
 
-    ghost IsFaultAt = { IsFaultAt E.BIG };
+    ghost IsIllFormedAt = { IsIllFormedAt E.BIG };
 
-    ghost IsFault = { IsUtf16Fault E.BIG };
+    ghost IsIllFormed = { IsIllFormedUtf16 E.BIG };
 
     ghost room_for = { λ n. n / 2 * 3 + 128 };
 
@@ -59,7 +64,7 @@ impl<E: Utf16Order> Direction for ToUtf8<E> {
 
     #[inline(always)]
     fn most(room: usize) -> usize {
-        (room - SPARE) / 3 * 2
+        (room - SLACK) / 3 * 2
     }
 
     #[inline(always)]

@@ -1,11 +1,11 @@
-//! Any bytes made well formed: U+FFFD in place of each unpaired surrogate, which is of
-//! the same length.
+//! Any bytes made well formed: U+FFFD in place of each unpaired surrogate, which has the same
+//! length.
 
 ghost use Rattle.std.specs.Prelude.{◌≡◌, ◌+◌, ◌%◌, ◌≤◌, ◌++◌, ◌==◌, bit_and, drop, if◌then◌else◌, length, slice_index, take};
 ghost use Rattle.std.specs.List.{flat_map};
-ghost use Rattle.utf16_units.specs.Encoding.{Encodes, IsText, encode, units_of};
+ghost use Rattle.utf16_units.specs.Encoding.{Encodes, IsUtf16, encode, units_of};
 ghost use Rattle.utf16_units.specs.Lanes.{HasLanes};
-ghost use Rattle.utf16_units.specs.Split.{marked, split_items, split_tail};
+ghost use Rattle.utf16_units.specs.Split.{lossy_chars, split_items, split_tail};
 ghost use Rattle.utf16_units.specs.Unit.{unit_bytes};
 ghost use Rattle.utf16_decode.specs.WellFormed.{well_formed_units};
 
@@ -13,24 +13,34 @@ use std::simd::prelude::*;
 use utf16_units::blocks::{bytes16, units16};
 use utf16_units::{Utf16Order, is_leading_surrogate};
 
-/// Copies UTF-16 to the front of a buffer and replaces each unpaired surrogate by U+FFFD. Returns
-/// the number of bytes written: all but an incomplete character at the end (an odd byte, or a
-/// leading surrogate and at most one byte after it). What is written is well formed, and each of
-/// its characters is where it, or the surrogate, was. The caller proves that the buffer is as long
-/// as the bytes; what follows those written stays. One pass, with SIMD.
+/// Copies UTF-16 to the start of a buffer with U+FFFD in place of each unpaired surrogate, and
+/// returns the number of bytes written: all but an incomplete character at the end (an odd byte, or
+/// a leading surrogate and at most one byte after it). The written bytes are well formed, and each
+/// of their characters is at the offset of the character or surrogate that it stands for. The bytes
+/// of the buffer after them stay.
+///
+/// # Precondition
+///
+/// The buffer is at least as long as the bytes.
+///
+/// # Complexity
+///
+/// One pass, with SIMD.
 pub fn write_well_formed<E: Utf16Order>(raw: &[u8], to: &mut [u8]) -> usize
     requires room { length raw.now ≤ length to.old }
     ensures len { result + length (split_tail E.BIG raw.now) ≡ length raw.now }
-    ensures written { to.new ≡ encode E.BIG (marked (split_items E.BIG raw.now)) ++ drop result to.old }
-    ensures text { IsText E.BIG (take result to.new) }
-    ensures encoding { Encodes E.BIG (marked (split_items E.BIG raw.now)) (take result to.new) }
+    ensures written { to.new ≡ encode E.BIG (lossy_chars (split_items E.BIG raw.now))
+        ++ drop result to.old }
+    ensures text { IsUtf16 E.BIG (take result to.new) }
+    ensures encoding { Encodes E.BIG (lossy_chars (split_items E.BIG raw.now))
+        (take result to.new) }
 {
     let len = decided_len::<E>(raw);
     write_units::<E>(&raw[..len], &mut to[..len]);
     len
 }
 
-// How many bytes no more bytes could change.
+// Returns the number of bytes before the incomplete character at the end.
 fn decided_len<E: Utf16Order>(raw: &[u8]) -> usize
     ensures { result + length (split_tail E.BIG raw.now) ≡ length raw.now }
 {
@@ -42,11 +52,12 @@ fn decided_len<E: Utf16Order>(raw: &[u8]) -> usize
     }
 }
 
-// Writes whole units, by blocks of sixteen.
+// Writes complete code units, in blocks of sixteen.
 fn write_units<E: Utf16Order>(raw: &[u8], to: &mut [u8])
     requires even { length raw.now % 2 ≡ 0 }
     requires room { length to.old ≡ length raw.now }
-    ensures { to.new ≡ flat_map (unit_bytes E.BIG) (well_formed_units 0 (units_of E.BIG raw.now) 0) }
+    ensures { to.new ≡ flat_map (unit_bytes E.BIG)
+        (well_formed_units 0 (units_of E.BIG raw.now) 0) }
 {
     let mut at = 0;
     let mut before = 0;
@@ -60,14 +71,14 @@ fn write_units<E: Utf16Order>(raw: &[u8], to: &mut [u8])
     write_rest::<E>(before, &raw[at..], &mut to[at..]);
 }
 
-// Writes a block of units at most, behind which none stands: those of a whole block, which zeros
-// fill up.
+// Writes the last code units, a block at most: those of a whole block, padded with zeros.
 #[inline(always)]
 fn write_rest<E: Utf16Order>(before: u16, raw: &[u8], to: &mut [u8])
     requires few { length raw.now ≤ 32 }
     requires even { length raw.now % 2 ≡ 0 }
     requires room { length to.old ≡ length raw.now }
-    ensures { to.new ≡ flat_map (unit_bytes E.BIG) (well_formed_units before (units_of E.BIG raw.now) 0) }
+    ensures { to.new ≡ flat_map (unit_bytes E.BIG)
+        (well_formed_units before (units_of E.BIG raw.now) 0) }
 {
     let mut block = [0; 32];
     block[..raw.len()].copy_from_slice(raw);
@@ -76,7 +87,7 @@ fn write_rest<E: Utf16Order>(before: u16, raw: &[u8], to: &mut [u8])
     to.copy_from_slice(&written[..raw.len()]);
 }
 
-// The units of a block that stands between two other units, with U+FFFD in place of each unpaired
+// Returns the code units of a block between two other units, with U+FFFD in place of each unpaired
 // surrogate.
 #[inline(always)]
 fn well_formed(before: u16, units: u16x16, behind: u16) -> u16x16
@@ -93,17 +104,19 @@ fn well_formed(before: u16, units: u16x16, behind: u16) -> u16x16
         u16x16::splat(behind),
         [1, 2, 3, 4, 5, 6, 7, 8, 9, 10, 11, 12, 13, 14, 15, 16],
     );
-    let mark = u16x16::splat(0xFFFD);
-    let leading = where_class(behinds, 0xDC00, units, mark);
-    let trailing = where_class(befores, 0xD800, units, mark);
+    let replacement = u16x16::splat(0xFFFD);
+    let leading = where_class(behinds, 0xDC00, units, replacement);
+    let trailing = where_class(befores, 0xD800, units, replacement);
     let others = where_class(units, 0xDC00, trailing, units);
     where_class(units, 0xD800, leading, others)
 }
 
-// The lanes of `a` where those of `v` have these upper six bits, else of `b`.
+// Returns the lanes of `a` where those of `v` have these upper six bits, and the lanes of `b`
+// elsewhere.
 #[inline(always)]
 fn where_class(v: u16x16, class: u16, a: u16x16, b: u16x16) -> u16x16
-    ensures { HasLanes 16 result (λ i. if bit_and (slice_index v i) 0xFC00 == class then slice_index a i else slice_index b i) }
+    ensures { HasLanes 16 result (λ i. if bit_and (slice_index v i) 0xFC00 == class
+        then slice_index a i else slice_index b i) }
 {
     (v & u16x16::splat(0xFC00))
         .simd_eq(u16x16::splat(class))

@@ -6,7 +6,7 @@ use Rattle.std.specs.List.{last_or}
 use Rattle.std.proofs.lemmas.Bool.{cases_lt, leb-true}
 use Rattle.std.proofs.lemmas.Bool.Decides.{Decides-and, Decides-like, Decides-ltb, Decides-or, not_from_Decides}
 use Rattle.std.proofs.lemmas.List.Elements.{All-cons, All-head, All-nil, All-tail}
-use Rattle.utf16_units.specs.declared.order.Utf16Order.{Ghosts}
+use Rattle.utf16_units.specs.declared.byte_order.Utf16Order.{Ghosts}
 use Rattle.utf16_units.proofs.BoundaryComputed.{is_boundary-Decides}
 use Rattle.utf16_units.proofs.BoundaryLemmas.{text_from-back}
 use Rattle.utf16string.specs.declared.wstring.WString.{WString}
@@ -21,7 +21,7 @@ use Rattle.utf16_edits.specs.declared.edit.Edit.TheVariants.{Clear, Insert, Inse
 use Rattle.utf16_edits.specs.declared.edit.Reply.{Reply}
 use Rattle.utf16_edits.specs.declared.edit.Reply.TheVariants.{BadOffset, Char, Done, NoMemory, Nothing, Rest}
 
--- at a boundary before the end stands a character
+-- at a boundary before the end there is a character
 some_char : (text front back : List ℕ) (i : ℕ) → front ++ back ≡ text → size front ≡ i → i < size text → text_from text i ≡ back → char_at text i ≢ None
 some_char text front [] i split at before from none =
     let whole = ap size (sym (append-nil front) ∙ split) in
@@ -57,13 +57,13 @@ denied : {P : Type 0} (b : Bool) → Decides b P → ¬ P → b ≡ false
 denied true d fails = absurd (fails (d.0 refl))
 denied false d fails = refl
 
--- what a character that was looked for is answered by is never that memory was missing
+-- the result of an edit that looks for a character is never that allocation failed
 taken-granted : (o : Option ℕ) → taken o ≢ no_memory
 taken-granted None = λ e. absurd cc
 taken-granted (Some c) = λ e. absurd cc
 
 module _ {E Z : Type 0} {order : Ghosts E} where
-  -- the computed test is true exactly where the edit is possible
+  -- the computed test is true exactly if the edit is possible
   pub is_possible-IsPossible : (text : List ℕ) (edit : Edit E Z order) → (is_possible text edit ≡ true) ↔ IsPossible text edit
   is_possible-IsPossible text (Push c) = (λ e. tt, λ p. refl)
   is_possible-IsPossible text (PushText t) = (λ e. tt, λ p. refl)
@@ -81,7 +81,7 @@ module _ {E Z : Type 0} {order : Ghosts E} where
       Decides-and (is_boundary text i) (is_boundary text (i + size (wstring_text t))) (is_boundary-Decides text i) (is_boundary-Decides text (i + size (wstring_text t)))
   is_possible-IsPossible text Clear = (λ e. tt, λ p. refl)
 
-  -- ---- the reply that says it
+  -- ---- a reply, by what it says
 
   said-done : (reply : Reply E Z order) → said reply ≡ done → reply ≡ Done
   said-done Done e = refl
@@ -131,7 +131,7 @@ module _ {E Z : Type 0} {order : Ghosts E} where
   said-taken reply None some e = absurd (some refl)
   said-taken reply (Some c) some e = (c, refl, said-char reply c e)
 
-  -- ---- an edit that is done
+  -- ---- an edit that was made
 
   told-done : (old : List ℕ) (edit : Edit E Z order) (reply : Reply E Z order) (new : List ℕ) → IsDone old edit reply new
       → (said reply ≡ told old edit) × (new ≡ changed old edit)
@@ -152,7 +152,7 @@ module _ {E Z : Type 0} {order : Ghosts E} where
   told-done old (Overwrite i t) reply new d = (ap said d.0, d.1)
   told-done old Clear reply new d = (ap said d.0, d.1)
 
-  -- ---- an edit that asks for no memory
+  -- ---- an edit that does not allocate
 
   told-granted : (text : List ℕ) (edit : Edit E Z order) → told text edit ≢ no_memory
   told-granted text Pop = taken-granted (last_or None text)
@@ -168,7 +168,7 @@ module _ {E Z : Type 0} {order : Ghosts E} where
       let same : bad_offset ≡ no_memory = sym (ap said p.1) ∙ ap said missing in
       absurd cc
 
-  -- of edits that ask for no memory none is answered that memory was missing
+  -- of edits that do not allocate none has the reply that allocation failed
   pub Run-granted : (old : List ℕ) (edits : List (Edit E Z order)) (replies : List (Reply E Z order)) (new : List ℕ) → Run old edits replies new
       → All (λ edit. ¬ (AsksForMemory edit)) edits → All (λ reply. ¬ (reply ≡ NoMemory)) replies
   Run-granted old [] [] new run free = All-nil (λ reply. ¬ (reply ≡ NoMemory))
@@ -207,7 +207,7 @@ module _ {E Z : Type 0} {order : Ghosts E} where
 
   -- ---- one edit
 
-  -- a step that is not refused memory answers and leaves what is computed
+  -- a step whose allocation does not fail has the computed result and leaves the computed text
   pub Step-computed : (old : List ℕ) (edit : Edit E Z order) (reply : Reply E Z order) (new : List ℕ) → Step old edit reply new → said reply ≢ no_memory
       → (said reply ≡ answered old edit) × (new ≡ edited old edit)
   Step-computed old edit reply new (inl p) granted =
@@ -226,14 +226,15 @@ module _ {E Z : Type 0} {order : Ghosts E} where
       inl (p, done-told old edit reply new p s n)
   by_test old edit reply new false e s n = inr (inr (not_from_Decides (is_possible old edit) (is_possible-IsPossible old edit) e, said-bad_offset reply s, n))
 
-  -- what answers and leaves what is computed is a step
+  -- a computed result and text are a step
   pub Step-from_computed : (old : List ℕ) (edit : Edit E Z order) (reply : Reply E Z order) (new : List ℕ)
       → said reply ≡ answered old edit → new ≡ edited old edit → Step old edit reply new
   Step-from_computed old edit reply new s n = by_test old edit reply new (is_possible old edit) refl s n
 
   -- ---- a list of edits
 
-  -- a run in which no edit is refused memory answers and leaves what is computed
+  -- a run in which no allocation of an edit fails has the computed results and leaves the computed
+  -- text
   pub Run-computed : (old : List ℕ) (edits : List (Edit E Z order)) (replies : List (Reply E Z order)) (new : List ℕ) → Run old edits replies new
       → All (λ reply. said reply ≢ no_memory) replies → (map said replies ≡ all_answered old edits) × (new ≡ all_edited old edits)
   Run-computed old [] [] new run granted = (refl, run)
@@ -244,7 +245,7 @@ module _ {E Z : Type 0} {order : Ghosts E} where
       let later = Run-computed run.0 edits replies new run.2 (All-tail (λ reply. said reply ≢ no_memory) reply replies granted) in
       (ap₂ (λ x xs. x ∷ xs) now.0 (later.0 ∙ ap (λ t. all_answered t edits) now.1), later.1 ∙ ap (λ t. all_edited t edits) now.1)
 
-  -- what answers and leaves what is computed is a run
+  -- computed results and text are a run
   pub Run-from_computed : (old : List ℕ) (edits : List (Edit E Z order)) (replies : List (Reply E Z order)) (new : List ℕ)
       → map said replies ≡ all_answered old edits → new ≡ all_edited old edits → Run old edits replies new
   Run-from_computed old [] [] new s n = n

@@ -2,3 +2,4 @@ pub mod Steps
 pub mod Runs
 pub mod EditedLemmas
 pub mod Rows
+pub mod Served

@@ -1,6 +1,6 @@
 -- Lists of edits computed: each row is checked by evaluation alone.
 use Rattle.std.proofs.Common.{◌≡◌, ℕ, List, [], ◌∷◌, ◌++◌, refl}
-use Rattle.utf16_units.specs.declared.order.Utf16Order.{Ghosts}
+use Rattle.utf16_units.specs.declared.byte_order.Utf16Order.{Ghosts}
 use Rattle.utf16string.specs.Boundary.{is_boundary, text_from, text_to}
 use Rattle.utf16string.specs.Encoding.{size}
 use Rattle.utf16_edits.specs.Edited.{all_answered, all_edited, bad_offset, char, done, nothing, rest}

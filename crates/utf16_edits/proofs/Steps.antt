@@ -1,8 +1,8 @@
--- The steps of edits that answer by what they find.
+-- The steps of edits whose result depends on the text: `Pop` and `Truncate`.
 use Rattle.std.proofs.Common.{◌≡◌, ◌≢◌, ℕ, ◌<◌, ◌≤◌, List, [], ◌∷◌, Option, Some, None, IsSome, IfSome, ◌↔◌, inl, inr, refl, sym, ap, ◌∙◌, subst, append-nil, ⊎_elim, cond}
 use Rattle.std.specs.Option.{option_to_list}
 use Rattle.std.proofs.lemmas.Bool.{cases_lt, lt-ltb, le-ltb}
-use Rattle.utf16_units.specs.declared.order.Utf16Order.{Ghosts}
+use Rattle.utf16_units.specs.declared.byte_order.Utf16Order.{Ghosts}
 use Rattle.utf16string.specs.Boundary.{text_to}
 use Rattle.utf16string.specs.Edit.{push_text}
 use Rattle.utf16string.specs.Encoding.{size}

@@ -3,7 +3,7 @@ use Rattle.std.specs.Prelude.{◌≡◌, ℕ, ◌+◌, ◌<◌, ◌≤◌, Bool,
 use Rattle.std.specs.Bool.{◌==◌}
 use Rattle.std.specs.List.{list_any}
 use Rattle.std.specs.Vec.{vec_items}
-use Rattle.utf16_units.specs.declared.order.Utf16Order.{Ghosts}
+use Rattle.utf16_units.specs.declared.byte_order.Utf16Order.{Ghosts}
 use Rattle.utf16string.specs.declared.wstring.WString.{WString}
 use Rattle.utf16string.specs.Boundary.{IsBoundary, text_to}
 use Rattle.utf16string.specs.Edit.{char_at, insert_at, overwrite_at, push_text, remove_at, split_back, split_front}
@@ -19,8 +19,7 @@ abbrev pub is_in : List ℕ → ℕ → Bool
 is_in set c = list_any (λ kept. kept == c) set
 
 module _ {E Z : Type 0} {order : Ghosts E} where
-  -- the offset of the edit is one that it can be done at; an edit without an offset can be done at
-  -- any time
+  -- the edit is possible at its offset; an edit without an offset always is
   abbrev pub IsPossible : List ℕ → Edit E Z order → Type 0
   IsPossible text (Push c) = ⊤
   IsPossible text (PushText t) = ⊤
@@ -34,7 +33,7 @@ module _ {E Z : Type 0} {order : Ghosts E} where
   IsPossible text (Overwrite i t) = IsBoundary text i × IsBoundary text (i + size (wstring_text t))
   IsPossible text Clear = ⊤
 
-  -- the edit was done: what it answers, and the text that it leaves
+  -- the edit was made: its reply, and the text after it
   abbrev pub IsDone : List ℕ → Edit E Z order → Reply E Z order → List ℕ → Type 0
   IsDone old (Push c) reply new = (reply ≡ Done) × (new ≡ push_text old (c ∷ []))
   IsDone old (PushText t) reply new = (reply ≡ Done) × (new ≡ push_text old (wstring_text t))
@@ -48,7 +47,7 @@ module _ {E Z : Type 0} {order : Ghosts E} where
   IsDone old (Overwrite i t) reply new = (reply ≡ Done) × (new ≡ overwrite_at old i (wstring_text t))
   IsDone old Clear reply new = (reply ≡ Done) × (new ≡ [])
 
-  -- the edit asks for memory, which may be refused
+  -- the edit may allocate, which may fail
   abbrev pub AsksForMemory : Edit E Z order → Type 0
   AsksForMemory (Push c) = ⊤
   AsksForMemory (PushText t) = ⊤
@@ -62,8 +61,8 @@ module _ {E Z : Type 0} {order : Ghosts E} where
   AsksForMemory (Overwrite i t) = ⊥
   AsksForMemory Clear = ⊥
 
-  -- the string has room for what the edit leaves in it; a part that is split off wants memory of its
-  -- own
+  -- the string has the capacity that the edit needs; a part that is split off needs an allocation
+  -- of its own
   abbrev pub HasRoomFor : WString E Z order → Edit E Z order → Type 0
   HasRoomFor string (Push c) = length (wstring_bytes string) + char_size c ≤ wstring_capacity string
   HasRoomFor string (PushText t) = length (wstring_bytes string) + length (wstring_bytes t) ≤ wstring_capacity string
@@ -77,14 +76,14 @@ module _ {E Z : Type 0} {order : Ghosts E} where
   HasRoomFor string (Overwrite i t) = ⊤
   HasRoomFor string Clear = ⊤
 
-  -- one edit: it is done where its offset is possible, unless it grows and memory is refused; else
-  -- the text stays
+  -- one edit: it is made if it is possible, unless it may allocate and that fails; otherwise the
+  -- text is unchanged
   abbrev pub Step : List ℕ → Edit E Z order → Reply E Z order → List ℕ → Type 0
   Step old edit reply new =
       (IsPossible old edit × IsDone old edit reply new)
       ⊎ ((IsPossible old edit × AsksForMemory edit × (reply ≡ NoMemory) × (new ≡ old)) ⊎ (¬ (IsPossible old edit) × (reply ≡ BadOffset) × (new ≡ old)))
 
-  -- a list of edits: a reply for each, and each a step from where the one before left
+  -- a list of edits: a reply for each, and each a step from the text that the one before left
   abbrev pub Run : List ℕ → List (Edit E Z order) → List (Reply E Z order) → List ℕ → Type 0
   Run old [] [] new = new ≡ old
   Run old (edit ∷ edits) (reply ∷ replies) new = (next : List ℕ) × Step old edit reply next × Run next edits replies new

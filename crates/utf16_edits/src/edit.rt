@@ -1,6 +1,7 @@
-//! Edits as values, and what they do.
+//! Edits as values, and their effect.
 
-ghost use Rattle.std.specs.Prelude.{◌≡◌, ◌⊎◌, ◌≤◌, ◌↔◌, All, IfOk, IfSome, IsTrue, None, OnErr, [], filter, if◌then◌else◌, is_ok, vec_capacity, vec_len};
+ghost use Rattle.std.specs.Prelude.{◌≡◌, ◌⊎◌, ◌≤◌, ◌↔◌, All, IfOk, IfSome, IsOk, IsTrue, None, OnErr, [], filter, if◌then◌else◌, is_ok, vec_capacity, vec_len};
+ghost use Rattle.utf16_edits.specs.Edited.{EachFits};
 ghost use Rattle.utf16_edits.specs.Step.{AsksForMemory, HasRoomFor, IsPossible, Run, Step, is_in};
 ghost use Rattle.utf16string.specs.Boundary.{IsBoundary};
 ghost use Rattle.utf16string.specs.WString.{IsUnchanged, wstring_capacity, wstring_text};
@@ -8,62 +9,72 @@ ghost use Rattle.utf16string.specs.WString.{IsUnchanged, wstring_capacity, wstri
 use std::alloc::{AllocError, Allocator, Global};
 use utf16string::{Utf16Order, WString};
 
-/// An edit of a string, as a value. Offsets count bytes.
+/// An edit of a string, as a value. Offsets and lengths count bytes.
 #[derive(Drop)]
 pub enum Edit<E: Utf16Order, A: Allocator = Global> {
-    /// Puts a character last.
+    /// Appends a character.
     Push(char),
-    /// Puts a text last.
+    /// Appends a text.
     PushText(WString<E, A>),
-    /// Takes off the last character.
+    /// Removes the last character.
     Pop,
-    /// Puts a character in at an offset.
+    /// Inserts a character at an offset.
     Insert(usize, char),
-    /// Puts a text in at an offset.
+    /// Inserts a text at an offset.
     InsertText(usize, WString<E, A>),
-    /// Takes out the character at an offset.
+    /// Removes the character at an offset.
     Remove(usize),
-    /// Keeps the characters that the vector holds.
+    /// Keeps the characters that are in the vector, and removes the others.
     Retain(Vec<char, A>),
-    /// Cuts the text at an offset; at or past the length nothing changes.
+    /// Shortens the text to a length; does nothing if that is at or past its length.
     Truncate(usize),
-    /// Takes off what stands from an offset on.
+    /// Removes what follows an offset, and returns it.
     SplitOff(usize),
-    /// Puts a text over as many bytes from an offset on.
+    /// Writes a text over as many bytes starting at an offset.
     Overwrite(usize, WString<E, A>),
-    /// Takes off all characters.
+    /// Removes all characters.
     Clear,
 }
 
-/// What an edit answers.
+/// The result of an edit.
 #[derive(Drop)]
 pub enum Reply<E: Utf16Order, A: Allocator = Global> {
-    /// It was done.
+    /// The edit was made.
     Done,
-    /// The character that was taken off or out.
+    /// The character that was removed.
     Char(char),
-    /// There was no character to take off.
+    /// There was no character to remove.
     Nothing,
-    /// What was taken off.
+    /// The text that was split off.
     Rest(WString<E, A>),
-    /// The offset is no character boundary of the text, or has not what the edit wants there.
+    /// The offset is not a character boundary of the text, or the edit is not possible there.
     /// Nothing has changed.
     BadOffset,
-    /// A request for memory was refused. Nothing has changed.
+    /// Allocation failed. Nothing has changed.
     NoMemory,
 }
 
-/// Does an edit. The offset is looked at before memory is asked for. What can't be done changes
-/// nothing. An edit for which the string has room is never refused memory, and one that asks for
-/// none leaves the capacity as it is.
+/// Applies an edit to a string, and returns its result. Tests the offset before it allocates.
+///
+/// # Errors
+///
+/// `BadOffset` if the edit is not possible at its offset; `NoMemory` if allocation fails, which it
+/// does not if the result fits in the capacity (but `SplitOff` allocates a string of its own). The
+/// string is unchanged then.
+///
+/// # Complexity
+///
+/// An edit that does not allocate leaves the capacity as it is.
 pub fn apply<E: Utf16Order, A: Allocator + Clone>(
     string: &mut WString<E, A>,
     edit: Edit<E, A>,
 ) -> Reply<E, A>
     ensures step { Step (wstring_text string.old) edit result (wstring_text string.new) }
-    ensures kept { (result ≡ Reply.BadOffset) ⊎ (result ≡ Reply.NoMemory) → IsUnchanged string.old string.new }
+    ensures kept { (result ≡ Reply.BadOffset) ⊎ (result ≡ Reply.NoMemory)
+        → IsUnchanged string.old string.new }
     ensures room { wstring_capacity string.old ≤ wstring_capacity string.new }
-    ensures stays { AsksForMemory edit ⊎ (wstring_capacity string.new ≡ wstring_capacity string.old) }
+    ensures stays { AsksForMemory edit
+        ⊎ (wstring_capacity string.new ≡ wstring_capacity string.old) }
     ensures fits { HasRoomFor string.old edit → ¬ (result ≡ Reply.NoMemory) }
 {
     if !is_possible(string, &edit) {
@@ -96,24 +107,36 @@ pub fn apply<E: Utf16Order, A: Allocator + Clone>(
     }
 }
 
-/// Does a list of edits in order, and answers a reply for each. Room for the replies is asked for
-/// first: where it is refused, the string is as it was. What then can't be done, or is refused
-/// memory, is answered so and changes nothing, and the edits behind it are done.
+/// Applies a list of edits to a string, in order, and returns a reply for each. An edit that is not
+/// possible, or whose allocation fails, has a reply that says so and changes nothing; the edits
+/// after it are applied. Where the capacity suffices for each edit in turn, no allocation fails.
+/// Edits that do not allocate leave the capacity as it is.
+///
+/// # Errors
+///
+/// If the allocation of the replies fails, before the first edit. The string is unchanged then. For
+/// no edits nothing is allocated.
 pub fn run<E: Utf16Order, A: Allocator + Clone, B: Allocator, C: Allocator>(
     alloc: B,
     string: &mut WString<E, A>,
     edits: Vec<Edit<E, A>, C>,
 ) -> Result<Vec<Reply<E, A>, B>, AllocError>
-    ensures run { IfOk result (λ replies. Run (wstring_text string.old) edits.items replies.items (wstring_text string.new)) }
+    ensures run { IfOk result (λ replies.
+        Run (wstring_text string.old) edits.items replies.items (wstring_text string.new)) }
     ensures refused { OnErr result (IsUnchanged string.old string.new) }
+    ensures nothing { edits.items ≡ [] → IsOk result }
+    ensures served { EachFits (wstring_capacity string.old) (wstring_text string.old) edits.items
+        → IfOk result (λ replies. All (λ reply. ¬ (reply ≡ Reply.NoMemory)) replies.items) }
+    ensures stays { All (λ edit. ¬ (AsksForMemory edit)) edits.items
+        → wstring_capacity string.new ≡ wstring_capacity string.old }
 {
     let mut replies = Vec::with_capacity(alloc, edits.len())?;
     answer_each(string, edits, &mut replies);
     Ok(replies)
 }
 
-// Does a list of edits in order, and puts a reply for each into room that was given for them: so
-// once there is room, nothing but an edit can be refused memory.
+// Applies a list of edits in order, and appends a reply for each to `replies`, whose capacity
+// suffices: so only an edit can fail to allocate.
 fn answer_each<E: Utf16Order, A: Allocator + Clone, B: Allocator, C: Allocator>(
     string: &mut WString<E, A>,
     edits: Vec<Edit<E, A>, C>,
@@ -121,7 +144,10 @@ fn answer_each<E: Utf16Order, A: Allocator + Clone, B: Allocator, C: Allocator>(
 )
     requires empty { replies.old.items ≡ [] }
     requires room { vec_len edits ≤ vec_capacity replies.old }
-    ensures run { Run (wstring_text string.old) edits.items replies.new.items (wstring_text string.new) }
+    ensures run { Run (wstring_text string.old) edits.items replies.new.items
+        (wstring_text string.new) }
+    ensures served { EachFits (wstring_capacity string.old) (wstring_text string.old) edits.items
+        → All (λ reply. ¬ (reply ≡ Reply.NoMemory)) replies.new.items }
     ensures stays { All (λ edit. ¬ (AsksForMemory edit)) edits.items
         → wstring_capacity string.new ≡ wstring_capacity string.old }
 {
@@ -133,7 +159,7 @@ fn answer_each<E: Utf16Order, A: Allocator + Clone, B: Allocator, C: Allocator>(
     }
 }
 
-// Whether the offset of an edit is one that it can be done at.
+// Returns whether an edit is possible at its offset.
 fn is_possible<E: Utf16Order, A: Allocator>(string: &WString<E, A>, edit: &Edit<E, A>) -> bool
     ensures { IsTrue result ↔ IsPossible (wstring_text string.now) edit.now }
 {
@@ -156,13 +182,14 @@ fn keep<E: Utf16Order, A: Allocator>(string: &mut WString<E, A>, set: &[char])
     string.retain(|c| set.contains(&c));
 }
 
-// The reply to an edit that takes off what stands from a boundary on.
+// Splits off what follows a boundary, and returns the reply.
 fn split_off<E: Utf16Order, A: Allocator + Clone>(
     string: &mut WString<E, A>,
     at: usize,
 ) -> Reply<E, A>
     requires { IsBoundary (wstring_text string.old) at }
-    ensures step { Step (wstring_text string.old) (Edit.SplitOff at) result (wstring_text string.new) }
+    ensures step { Step (wstring_text string.old) (Edit.SplitOff at) result
+        (wstring_text string.new) }
     ensures kept { result ≡ Reply.NoMemory → IsUnchanged string.old string.new }
     ensures room { wstring_capacity string.old ≤ wstring_capacity string.new }
     ensures possible { ¬ (result ≡ Reply.BadOffset) }
@@ -173,7 +200,7 @@ fn split_off<E: Utf16Order, A: Allocator + Clone>(
     }
 }
 
-// The reply to an edit that grows.
+// Returns the reply to an edit that grows the string.
 fn grown<E: Utf16Order, A: Allocator>(done: Result<(), AllocError>) -> Reply<E, A>
     ensures { result ≡ (if is_ok done then Reply.Done else Reply.NoMemory) }
 {
@@ -183,7 +210,7 @@ fn grown<E: Utf16Order, A: Allocator>(done: Result<(), AllocError>) -> Reply<E, 
     }
 }
 
-// The reply to an edit that takes off the last character.
+// Returns the reply to an edit that removes the last character.
 fn taken_off<E: Utf16Order, A: Allocator>(last: Option<char>) -> Reply<E, A>
     ensures some { IfSome last (λ c. result ≡ Reply.Char c) }
     ensures none { last ≡ None → result ≡ Reply.Nothing }

@@ -1,9 +1,9 @@
-//! What the tests of this crate share: an assertion.
+//! An assertion that the tests of this crate share.
 
 use std::fmt::Debug;
 use std::process::Abort;
 
-/// What is found is what is wanted.
+/// Asserts that the value found is the expected one.
 pub fn equal<T: PartialEq + Debug + Drop>(rt: &impl Abort, found: T, wanted: T) {
     assert_eq!(rt; found, wanted);
 }

@@ -1,5 +1,4 @@
-//! Tests where requests for memory are refused in lists of edits: each in turn, and all from each
-//! on.
+//! Tests of lists of edits whose allocations fail: each in turn, and all from each on.
 #![tactic(auto)]
 
 #[cfg(test)]

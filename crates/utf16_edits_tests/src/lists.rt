@@ -1,13 +1,12 @@
-//! Lists of edits where requests are refused. What is refused is answered so, the edits behind it
-//! go on from the text before it, and the list without the refused edits has the same replies and
-//! leaves the same text. A mistake that no clause would show: `NoMemory` where no request was
-//! refused.
+//! Lists of edits whose allocations fail. An edit that fails says so, the edits after it continue
+//! from the text before it, and the list without the failed edits has the same replies and leaves
+//! the same text. A bug that no clause excludes: `NoMemory` where no allocation failed.
 
 use crate::checks::equal;
 use std::alloc::Global;
 use std::process::Abort;
 use std::test::Fail;
-use utf16_testing::refusing::Refusing;
+use utf16_test_support::refusing::Refusing;
 use utf16_tools::{Edit, Reply, apply, run};
 use utf16string::{BE, LE, Utf16Order, WString};
 
@@ -38,7 +37,7 @@ const FIRST: [Command; 9] = [
     Command::Truncate(1),
 ];
 
-// Edits that grow further and further.
+// Edits that grow the text more and more.
 const GROWING: [Command; 8] = [
     Command::PushText("hello"),
     Command::InsertText(0, "hello hello hello"),
@@ -81,8 +80,8 @@ fn told<'a, E: Utf16Order>(reply: &'a Reply<E, Heap>) -> (&'static str, char, &'
     }
 }
 
-// Does with memory what was not refused, one edit after the other: the same replies, and the same
-// text. Answers how many edits were refused.
+// Checks that without failures the edits that did not fail have the same replies, one after the
+// other, and leave the same text. Returns how many edits failed.
 fn goes_on<'a, E: Utf16Order>(
     rt: &impl Abort,
     heap: Heap<'a>,
@@ -105,9 +104,9 @@ fn goes_on<'a, E: Utf16Order>(
     refused
 }
 
-// A run of the edits, with the request of that number refused, and those behind it too or not.
-// Answers whether one was met. The first request is for the replies: refused, it leaves the text as
-// it was.
+// Checks a run of the edits in which the allocation of that number fails, and those after it too or
+// not. Returns whether one failed. The first allocation is for the replies: if it fails, the text
+// is unchanged.
 fn is_refused<E: Utf16Order>(
     rt: &(impl Abort + AllocGlobal),
     commands: &[Command],
@@ -140,7 +139,7 @@ fn is_refused<E: Utf16Order>(
     refusals != 0
 }
 
-// Refuses each request in turn until none is met. Answers how many there are.
+// Makes each allocation fail in turn until none does. Returns how many there are.
 fn in_turn<E: Utf16Order>(
     rt: &(impl Abort + AllocGlobal),
     commands: &[Command],
@@ -167,7 +166,7 @@ fn each_request_of_a_list(rt: HostRuntime) {
     lists_in_turn::<BE>(&rt);
 }
 
-// A pair pushed and a character put in behind the first, five thousand times.
+// Returns five thousand times two edits: a pair appended, and a character inserted after the first.
 fn pushed_and_inserted(rt: &impl AllocGlobal) -> Result<Vec<Edit<LE>>, Fail> {
     let mut edits = Vec::new(rt.alloc());
     for _ in 0..5_000 {
@@ -177,7 +176,7 @@ fn pushed_and_inserted(rt: &impl AllocGlobal) -> Result<Vec<Edit<LE>>, Fail> {
     Ok(edits)
 }
 
-// A mistake that no clause would show: a list longer than any line is refused memory that is there.
+// A bug that no clause excludes: a list longer than any line fails though there is memory.
 #[test]
 fn ten_thousand_edits(rt: HostRuntime) -> Result<(), Fail> {
     let mut text = WString::<LE>::from_str(rt.alloc(), "a")?;

@@ -1,1 +1,3 @@
 pub mod Rules
+pub mod CountLemmas
+mod PrefixLemmas

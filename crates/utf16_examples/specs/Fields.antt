@@ -1,6 +1,6 @@
--- What a clause sees of `Fields`, the fields of a buffer that are still to come.
+-- What contracts can say of `Fields`, the fields of a buffer that are still to come.
 use Rattle.std.specs.Prelude.{◌≡◌, ℕ, ◌+◌, List, [], ◌++◌, Option, None, Some, Result, Ok, Err, length}
-use Rattle.utf16_units.specs.declared.order.Utf16Order.{Ghosts}
+use Rattle.utf16_units.specs.declared.byte_order.Utf16Order.{Ghosts}
 use Rattle.utf16string.specs.WStr.{wstr_text}
 use Rattle.utf16string.specs.declared.WStr.{WStr}
 use Rattle.utf16_examples.specs.Records.{IsFieldError, field_bytes}
@@ -8,7 +8,7 @@ use Rattle.utf16_examples.specs.declared.records.FieldError.{FieldError}
 use Rattle.utf16_examples.specs.declared.records.Fields.{Fields}
 
 module _ {E : Type 0} {order : Ghosts E} where
-  -- the bytes of which no field was given yet
+  -- the bytes of the fields that were not yielded yet
   abbrev pub fields_rest : Fields E order → List ℕ
   fields_rest fields = fields.rest.now
 
@@ -16,8 +16,8 @@ module _ {E : Type 0} {order : Ghosts E} where
   abbrev pub fields_offset : Fields E order → ℕ
   fields_offset fields = fields.offset
 
-  -- a call gave the first field, and stands behind it; or the error there, after which nothing is
-  -- left; or nothing was left
+  -- a call yielded the first field, and goes on after it; or the error there, after which nothing
+  -- is left; or nothing was left
   abbrev pub GivesField : Fields E order → Option (Result (WStr E order) FieldError) → Fields E order → Type 0
   GivesField old None new = (fields_rest old ≡ []) × (fields_rest new ≡ []) × (fields_offset new ≡ fields_offset old)
   GivesField old (Some (Ok field)) new =

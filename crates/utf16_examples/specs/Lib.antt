@@ -1,5 +1,9 @@
-pub mod MultiText
-pub mod Names
+pub mod Counts
+pub mod Json
+pub mod MultiSz
+pub mod Interner
+pub mod Prefixes
 pub mod Records
+pub mod Registry
 pub mod Fields
 pub mod Transcode

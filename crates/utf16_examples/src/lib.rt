@@ -1,8 +1,12 @@
-//! What users of the strings make of them: tables of texts, tables of names, fields of records, and
-//! transcoders.
+//! Users of the strings and streams: tables of texts, tables of names, fields of records,
+//! transcoders, lines of a registry export, JSON strings, common prefixes, and counts of a stream.
 #![tactic(auto)]
 
-pub mod multi_text;
-pub mod names;
+pub mod counts;
+pub mod interner;
+pub mod json;
+pub mod multi_sz;
+pub mod prefixes;
 pub mod records;
+pub mod registry;
 pub mod transcode;

@@ -1,47 +1,47 @@
 //! Fields of a record in a buffer, one after another: each a count of code units in little endian,
-//! and then a text of so many.
+//! and then a text of that many.
 
 ghost use Rattle.std.specs.Prelude.{◌≡◌, ◌+◌, ◌<◌, ◌^◌, [], ◌++◌, IfErr, IfOk, IsOk, length, map};
 ghost use Rattle.std.specs.Vec.{vec_items};
 ghost use Rattle.utf16string.specs.WStr.{wstr_text};
-ghost use Rattle.utf16_examples.specs.Records.{HoldsFields, IsFieldError, IsFieldFault, IsReadError, field_bytes};
+ghost use Rattle.utf16_examples.specs.Records.{HoldsFields, IsFieldError, IsFieldErrorKind, IsReadError, field_bytes};
 
 use byteorder::{ByteOrder, LittleEndian};
 use std::alloc::{AllocFailed, Allocator};
 use std::marker::PhantomData;
 use utf16string::{Utf16Error, Utf16Order, WStr};
 
-/// Why no field begins at a place.
+/// Why no field begins at an offset.
 #[derive(Clone, Copy, Debug, PartialEq, Eq)]
-pub enum FieldFault {
-    /// Fewer than two bytes are left: there is no whole count.
+pub enum FieldErrorKind {
+    /// Fewer than two bytes are left: the count is truncated.
     NoCount,
-    /// Behind the count are fewer bytes than it tells of.
+    /// Fewer bytes follow the count than it says.
     Short,
-    /// The bytes that the count tells of are no text. The error's offsets count from behind the
+    /// The bytes of the text are ill-formed. The error's offsets count bytes from the end of the
     /// count.
     NoText(Utf16Error),
 }
 
-/// Where a buffer stops being fields, and why. Offsets count bytes of the buffer.
+/// The first malformed field of a buffer. Offsets count bytes of the buffer.
 #[derive(Clone, Copy, Debug, PartialEq, Eq)]
 pub struct FieldError {
-    /// Where the bytes begin that are no field. All before them are whole fields.
+    /// The offset of the malformed field. All before it are well-formed fields.
     pub field: usize,
-    /// Where the fault stands: at the count, behind it, or behind the longest valid beginning of
-    /// what the count tells of.
+    /// The offset of the problem: of the count, of what follows the count, or of what follows the
+    /// longest valid prefix of the text.
     pub place: usize,
-    /// What stands there.
-    pub fault: FieldFault,
+    /// The kind of the problem.
+    pub fault: FieldErrorKind,
 }
 
-/// Why the fields of a buffer were not given.
+/// Why the fields of a buffer were not read.
 #[derive(Clone, Copy, Debug, PartialEq, Eq)]
 pub enum ReadError {
-    /// Memory was refused. The buffer begins with at least one whole field: at the first one memory
-    /// is asked for.
+    /// Allocation failed. The buffer starts with at least one well-formed field: the first one is
+    /// the first to allocate.
     Memory,
-    /// The buffer is not fields alone.
+    /// A field is malformed.
     Field(FieldError),
 }
 
@@ -65,29 +65,34 @@ impl<T: Drop> From<AllocFailed<T>> for ReadError {
     }
 }
 
-/// The field that the bytes begin with, as a view of them, and the bytes behind it. Its text is
-/// tested, and not copied. Where there are no bytes, there is no count.
-pub fn next_field<E: Utf16Order>(bytes: &[u8]) -> Result<(WStr<'_, E>, &[u8]), FieldFault>
-    ensures field { IfOk result (λ read. bytes.now ≡ field_bytes E.BIG (wstr_text read.0) ++ read.1.now) }
-    ensures fault { IfErr result (IsFieldFault E.BIG bytes.now) }
+/// Returns the first field, as a view of the bytes, and the bytes after it. The text is validated
+/// and not copied.
+///
+/// # Errors
+///
+/// If the bytes do not begin with a field. Empty bytes have no count.
+pub fn next_field<E: Utf16Order>(bytes: &[u8]) -> Result<(WStr<'_, E>, &[u8]), FieldErrorKind>
+    ensures field { IfOk result (λ read. bytes.now ≡ field_bytes E.BIG (wstr_text read.0)
+        ++ read.1.now) }
+    ensures fault { IfErr result (IsFieldErrorKind E.BIG bytes.now) }
 {
     if bytes.len() < 2 {
-        return Err(FieldFault::NoCount);
+        return Err(FieldErrorKind::NoCount);
     }
     let len = 2 * usize::from(LittleEndian::read_u16(bytes));
     let behind = &bytes[2..];
     if behind.len() < len {
-        return Err(FieldFault::Short);
+        return Err(FieldErrorKind::Short);
     }
     let (text, rest) = behind.split_at(len);
     match WStr::from_utf16(text) {
         Ok(field) => Ok((field, rest)),
-        Err(e) => Err(FieldFault::NoText(e)),
+        Err(e) => Err(FieldErrorKind::NoText(e)),
     }
 }
 
-/// The fields of a buffer, in order, each a view of it; where a field is none, an error in its
-/// place, and nothing behind it.
+/// An iterator over the fields of a buffer, each a view of it. If a field is malformed, it yields
+/// the error in its place, and nothing after it.
 #[derive(Drop)]
 pub struct Fields<'a, E: Utf16Order> {
     rest: &'a [u8],
@@ -99,7 +104,7 @@ pub struct Fields<'a, E: Utf16Order> {
 impl<'a, E: Utf16Order> Fields<'a, E> {
     ghost use Rattle.utf16_examples.specs.Fields.{fields_offset, fields_rest};
 
-    /// The fields of a buffer.
+    /// Returns an iterator over the fields of a buffer.
     pub fn new(buffer: &'a [u8]) -> Self
         ensures rest { fields_rest result ≡ buffer.now }
         ensures offset { fields_offset result ≡ 0 }
@@ -111,7 +116,8 @@ impl<'a, E: Utf16Order> Fields<'a, E> {
         }
     }
 
-    /// Where in the buffer the next field begins, or where the one began that is none.
+    /// Returns the offset in bytes at which the next field begins, or at which the malformed one
+    /// begins.
     pub fn offset(&self) -> usize
         ensures { result ≡ fields_offset self.now }
     {
@@ -148,17 +154,18 @@ impl<'a, E: Utf16Order> Iterator for Fields<'a, E> {
     }
 }
 
-// The error of a fault at an offset of a buffer, from which these bytes are left.
-fn error_at<E: Utf16Order>(offset: usize, rest: &[u8], fault: FieldFault) -> FieldError
+// Returns the error for a malformed field at an offset of a buffer; `rest` is the buffer from there
+// on.
+fn error_at<E: Utf16Order>(offset: usize, rest: &[u8], fault: FieldErrorKind) -> FieldError
     requires within { offset + length rest.now < 2 ^ 64 }
     requires some { 0 < length rest.now }
-    requires fault { IsFieldFault E.BIG rest.now fault }
+    requires fault { IsFieldErrorKind E.BIG rest.now fault }
     ensures { IsFieldError E.BIG offset rest.now result }
 {
     let behind = match fault {
-        FieldFault::NoCount => 0,
-        FieldFault::Short => 2,
-        FieldFault::NoText(e) => 2 + e.valid_up_to(),
+        FieldErrorKind::NoCount => 0,
+        FieldErrorKind::Short => 2,
+        FieldErrorKind::NoText(e) => 2 + e.valid_up_to(),
     };
     FieldError {
         field: offset,
@@ -167,14 +174,18 @@ fn error_at<E: Utf16Order>(offset: usize, rest: &[u8], fault: FieldFault) -> Fie
     }
 }
 
-/// All fields of a buffer, each a view of it, in order. The errors: the buffer is not fields alone,
-/// and the error says up to where it is; or memory was refused, which is asked for only where the
-/// buffer begins with a whole field.
+/// Returns all fields of a buffer, in order, each a view of it.
+///
+/// # Errors
+///
+/// `Field` for the first malformed field. `Memory` if allocation fails, which can only happen if
+/// the buffer starts with a well-formed field.
 pub fn read_fields<'a, E: Utf16Order, A: Allocator>(
     alloc: A,
     buffer: &'a [u8],
 ) -> Result<Vec<WStr<'a, E>, A>, ReadError>
-    ensures fields { IfOk result (λ fields. HoldsFields E.BIG (map wstr_text (vec_items fields)) [] buffer.now) }
+    ensures fields { IfOk result (λ fields.
+        HoldsFields E.BIG (map wstr_text (vec_items fields)) [] buffer.now) }
     ensures error { IfErr result (IsReadError E.BIG buffer.now) }
     ensures nothing { buffer.now ≡ [] → IsOk result }
 {

@@ -1,4 +1,4 @@
-//! What the tests of this crate share: strings made.
+//! Assertions that the tests of this crate share, and strings made.
 
 ghost use Rattle.std.specs.Prelude.{IsTrue};
 
@@ -6,19 +6,19 @@ use std::fmt::Debug;
 use std::process::Abort;
 use utf16string::{Utf16Order, WString};
 
-/// What is found is what is wanted.
+/// Asserts that the value found is the expected one.
 pub fn equal<T: PartialEq + Debug + Drop>(rt: &impl Abort, found: T, wanted: T) {
     assert_eq!(rt; found, wanted);
 }
 
-/// What is claimed is so.
+/// Asserts that a claim holds.
 pub fn holds(rt: &impl Abort, is: bool)
     ensures { IsTrue is }
 {
     assert!(rt; is);
 }
 
-/// A string of this text.
+/// Returns a string of this text.
 pub fn string<E: Utf16Order>(rt: &(impl Abort + AllocGlobal), text: &str) -> WString<E> {
     WString::from_str(rt.alloc(), text).expect(rt, "memory")
 }

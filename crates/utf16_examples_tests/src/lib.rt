@@ -1,11 +1,11 @@
-//! Tests of the users of the strings.
+//! Tests of the examples of users of the strings.
 #![tactic(auto)]
 
 #[cfg(test)]
 mod checks;
 #[cfg(test)]
-mod multi_text;
+mod interner;
 #[cfg(test)]
-mod names;
+mod multi_sz;
 #[cfg(test)]
 mod splits;

@@ -1,11 +1,11 @@
-//! A text split at a character: once, in front of the first such one and behind it, and at each.
+//! A text split at a character: once, at the first occurrence, and at each occurrence.
 
 use crate::checks::holds;
 use std::process::Abort;
 use utf16string::{BE, LE, Utf16Order, WString};
 
-// A text, the character, and what stands in front of it and behind it. In little endian the bytes
-// of U+10000 hold the unit of U+00D8 at an odd offset, in big endian that of U+00DC.
+// A text, the character, and what is before it and after it. In little endian the bytes of U+10000
+// contain the unit of U+00D8 at an odd offset, in big endian that of U+00DC.
 const SPLITS: [(&str, char, Option<(&str, &str)>); 13] = [
     ("", '=', None),
     ("key", '=', None),
@@ -45,7 +45,7 @@ fn split_is<E: Utf16Order>(
     holds(rt, same);
 }
 
-// A mistake that no clause sees: as built, a character is found at bytes that stand inside another.
+// A bug that no clause excludes: in the built code, a character is found inside another.
 #[test]
 fn split_once_at_the_first(rt: HostRuntime) {
     for (text, delimiter, wanted) in SPLITS {
@@ -77,7 +77,7 @@ fn split_gives(rt: &(impl Abort + AllocGlobal), text: &str, delimiter: char, wan
     parts_are::<BE>(rt, text, delimiter, wanted);
 }
 
-// A mistake that no clause sees: as built, the iterator loses an empty part.
+// A bug that no clause excludes: in the built code, the iterator loses an empty part.
 #[test]
 fn split_at_each(rt: HostRuntime) {
     split_gives(&rt, "", ',', &[""]);

@@ -1,45 +1,44 @@
--- What a byte adds, by the classes of it and of the bytes before it; and what bytes add one behind
--- the other.
+-- What a byte adds, by its class and those of the bytes before it; and what consecutive bytes add.
 use Rattle.std.proofs.Common.{◌≡◌, ℕ, zero, suc, ◌+◌, ◌*◌, ◌/◌, ◌%◌, ◌<◌, ◌≤◌, ◌&&◌, Bool, true, false, cond, ltb, List, [], ◌∷◌, ◌++◌, length, get_or, refl, sym, ap, ap₂, ◌∙◌, arith, flat_map, append_assoc, lt-ltb, le-ltb}
 use Rattle.std.proofs.lemmas.Grind.{flat_map-append}
 use Rattle.utf16_units.specs.Unit.{unit_bytes}
-use Rattle.utf16_from_utf8.specs.Added.{added, added_bytes, all_added, unit_behind}
+use Rattle.utf16_from_utf8.specs.Added.{added, added_bytes, all_added, unit_after}
 
 -- ---- one byte
 
-pub adds-one : (b2 b1 b0 : ℕ) → b0 < 0xC0 → b1 < 0xE0 → added b2 b1 b0 ≡ unit_behind b2 b1 b0 ∷ []
-adds-one b2 b1 b0 low behind = ap₂ (λ (x y : Bool). cond (x && y) (unit_behind b2 b1 b0 ∷ []) []) (lt-ltb b0 0xC0 low) (lt-ltb b1 0xE0 behind)
+pub adds-one : (b2 b1 b0 : ℕ) → b0 < 0xC0 → b1 < 0xE0 → added b2 b1 b0 ≡ unit_after b2 b1 b0 ∷ []
+adds-one b2 b1 b0 low behind = ap₂ (λ (x y : Bool). cond (x && y) (unit_after b2 b1 b0 ∷ []) []) (lt-ltb b0 0xC0 low) (lt-ltb b1 0xE0 behind)
 
 pub adds-none-first : (b2 b1 b0 : ℕ) → 0xC0 ≤ b0 → added b2 b1 b0 ≡ []
-adds-none-first b2 b1 b0 first = ap (λ (x : Bool). cond (x && ltb b1 0xE0) (unit_behind b2 b1 b0 ∷ []) []) (le-ltb b0 0xC0 first)
+adds-none-first b2 b1 b0 first = ap (λ (x : Bool). cond (x && ltb b1 0xE0) (unit_after b2 b1 b0 ∷ []) []) (le-ltb b0 0xC0 first)
 
 pub adds-none-behind : (b2 b1 b0 : ℕ) → 0xE0 ≤ b1 → added b2 b1 b0 ≡ []
-adds-none-behind b2 b1 b0 first = ap (λ (y : Bool). cond (ltb b0 0xC0 && y) (unit_behind b2 b1 b0 ∷ []) []) (le-ltb b1 0xE0 first) ∙ neither (ltb b0 0xC0)
+adds-none-behind b2 b1 b0 first = ap (λ (y : Bool). cond (ltb b0 0xC0 && y) (unit_after b2 b1 b0 ∷ []) []) (le-ltb b1 0xE0 first) ∙ neither (ltb b0 0xC0)
   where
-    neither : (x : Bool) → cond (x && false) (unit_behind b2 b1 b0 ∷ []) [] ≡ []
+    neither : (x : Bool) → cond (x && false) (unit_after b2 b1 b0 ∷ []) [] ≡ []
     neither true = refl
     neither false = refl
 
-pub unit-one : (b2 b1 b0 : ℕ) → b0 < 0x80 → unit_behind b2 b1 b0 ≡ b0
-unfolding unit_behind
+pub unit-one : (b2 b1 b0 : ℕ) → b0 < 0x80 → unit_after b2 b1 b0 ≡ b0
+unfolding unit_after
 unit-one b2 b1 b0 a = rw (lt-ltb b0 0x80 a) refl
 
-pub unit-two : (b2 b1 b0 : ℕ) → 0x80 ≤ b0 → 0xC0 ≤ b1 → unit_behind b2 b1 b0 ≡ b1 % 32 * 64 + b0 % 64
-unfolding unit_behind
+pub unit-two : (b2 b1 b0 : ℕ) → 0x80 ≤ b0 → 0xC0 ≤ b1 → unit_after b2 b1 b0 ≡ b1 % 32 * 64 + b0 % 64
+unfolding unit_after
 unit-two b2 b1 b0 a b = rw (le-ltb b0 0x80 a, le-ltb b1 0xC0 b) refl
 
-pub unit-three : (b2 b1 b0 : ℕ) → 0x80 ≤ b0 → b1 < 0xC0 → 0xE0 ≤ b2 → b2 < 0xF0 → unit_behind b2 b1 b0 ≡ b2 % 16 * 4096 + (b1 % 64 * 64 + b0 % 64)
-unfolding unit_behind
+pub unit-three : (b2 b1 b0 : ℕ) → 0x80 ≤ b0 → b1 < 0xC0 → 0xE0 ≤ b2 → b2 < 0xF0 → unit_after b2 b1 b0 ≡ b2 % 16 * 4096 + (b1 % 64 * 64 + b0 % 64)
+unfolding unit_after
 unit-three b2 b1 b0 a b c d = rw (le-ltb b0 0x80 a, lt-ltb b1 0xC0 b, le-ltb b2 0xE0 c, lt-ltb b2 0xF0 d) refl
 
-pub unit-leading : (b2 b1 b0 : ℕ) → 0x80 ≤ b0 → b1 < 0xC0 → 0xF0 ≤ b2 → unit_behind b2 b1 b0 ≡ 0xD7C0 + (b2 % 8 * 256 + (b1 % 64 * 4 + b0 % 64 / 16))
-unfolding unit_behind
+pub unit-leading : (b2 b1 b0 : ℕ) → 0x80 ≤ b0 → b1 < 0xC0 → 0xF0 ≤ b2 → unit_after b2 b1 b0 ≡ 0xD7C0 + (b2 % 8 * 256 + (b1 % 64 * 4 + b0 % 64 / 16))
+unfolding unit_after
 unit-leading b2 b1 b0 a b c =
     let d : 0xE0 ≤ b2 = omega arith in
     rw (le-ltb b0 0x80 a, lt-ltb b1 0xC0 b, le-ltb b2 0xE0 d, le-ltb b2 0xF0 c) refl
 
-pub unit-trailing : (b2 b1 b0 : ℕ) → 0x80 ≤ b0 → b1 < 0xC0 → b2 < 0xE0 → unit_behind b2 b1 b0 ≡ 0xDC00 + (b1 % 16 * 64 + b0 % 64)
-unfolding unit_behind
+pub unit-trailing : (b2 b1 b0 : ℕ) → 0x80 ≤ b0 → b1 < 0xC0 → b2 < 0xE0 → unit_after b2 b1 b0 ≡ 0xDC00 + (b1 % 16 * 64 + b0 % 64)
+unfolding unit_after
 unit-trailing b2 b1 b0 a b c = rw (le-ltb b0 0x80 a, lt-ltb b1 0xC0 b, lt-ltb b2 0xE0 c) refl
 
 -- ---- several
@@ -63,8 +62,7 @@ pub added_bytes-cons : (big : Bool) (b2 b1 b0 : ℕ) (bytes : List ℕ) → adde
 added_bytes-cons big b2 b1 b0 bytes =
     ap (flat_map (unit_bytes big)) (all_added-cons b2 b1 b0 bytes) ∙ flat_map-append (unit_bytes big) (added b2 b1 b0) (all_added b1 b0 bytes)
 
--- the last byte of several that stand behind one, and the last but one of those that stand behind
--- two
+-- the last byte of several that follow one, and the last but one of those that follow two
 abbrev pub last_of : ℕ → List ℕ → ℕ
 last_of b1 [] = b1
 last_of b1 (b0 ∷ bytes) = last_of b0 bytes

@@ -1,4 +1,4 @@
--- A text put behind bytes, a piece at a time.
+-- A text appended to bytes, chunk by chunk.
 use Rattle.std.proofs.Common.{◌≡◌, ℕ, ◌+◌, ◌≤◌, Bool, List, [], ◌∷◌, ◌++◌, length, take, drop, sym, ap, ◌∙◌, arith, flat_map, length-append}
 use Rattle.std.proofs.lemmas.Grind.{flat_map-append}
 use Rattle.std.proofs.lemmas.Simd.{chunk-drop}
@@ -13,7 +13,7 @@ use Rattle.utf16_from_utf8.proofs.AddedLemmas.{added_bytes-append, last_but_one,
 use Rattle.utf16_from_utf8.proofs.SizeLemmas.{scalars-of}
 use Rattle.utf16_from_utf8.proofs.TextLemmas.{all_added-text}
 
--- where there is room for all, there is for the next piece
+-- if there is capacity for all, there is for the next chunk
 pub room-piece : (big : Bool) (items all bytes : List ℕ) (at n b2 b1 room : ℕ) → items ++ added_bytes big b2 b1 (drop at bytes) ≡ all → length all ≤ room
     → length items + length (added_bytes big b2 b1 (take n (drop at bytes))) ≤ room
 room-piece big items all bytes at n b2 b1 room e fits =

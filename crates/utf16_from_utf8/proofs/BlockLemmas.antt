@@ -1,4 +1,4 @@
--- What the lanes of a block are is what its bytes add.
+-- What the lanes of a block hold is what its bytes add.
 use Rattle.std.proofs.Common.{◌≡◌, ℕ, zero, suc, drop-cons, ◌+◌, ◌-◌, ◌*◌, ◌/◌, ◌%◌, ◌^◌, ◌<◌, ◌≤◌, ◌&&◌, ◌==◌, Bool, true, false, cond, ltb, List, [], ◌∷◌, ◌++◌, length, take, drop, get_or, slice_index, set, append_assoc, bit_and, refl, sym, ap, ap₂, ◌∙◌, ⊎_elim, arith, append-nil, flat_map, lt-ltb, le-ltb, Fits, w8, replicate, length-append}
 use Rattle.std.proofs.lemmas.Bool.{cases_lt}
 use Rattle.std.proofs.lemmas.List.{drop_all, length-set, take_more_set}
@@ -9,7 +9,7 @@ use Rattle.std.specs.List.{range_with_len}
 use lib.Lanes.{Each1, pick_l, put_chunk, zip2}
 use Rattle.utf16_units.specs.Lanes.{HasLanes}
 use Rattle.utf16_units.specs.Unit.{unit_bytes}
-use Rattle.utf16_from_utf8.specs.Added.{added_bytes, ends_unit, unit_behind}
+use Rattle.utf16_from_utf8.specs.Added.{added_bytes, ends_unit, unit_after}
 use Rattle.utf16_from_utf8.specs.LaneBytes.{high_lane, low_lane, short_low, three_high}
 use Rattle.utf16_from_utf8.specs.Lanes.{kept_pairs, pair_bytes, pairs_of}
 use Rattle.utf16_from_utf8.specs.declared.units.TheConstants.{THREES, UPPER}
@@ -22,8 +22,8 @@ pub added_bytes-one : (big : Bool) (b2 b1 b0 : ℕ) → added_bytes big b2 b1 (b
 added_bytes-one big b2 b1 b0 =
     added_bytes-cons big b2 b1 b0 [] ∙ ap (λ t. byte_adds big b2 b1 b0 ++ t) (added_bytes-nil big b1 b0) ∙ append-nil (byte_adds big b2 b1 b0)
 
-pub byte-adds-one : (big : Bool) (b2 b1 b0 : ℕ) → b0 < 0xC0 → b1 < 0xE0 → byte_adds big b2 b1 b0 ≡ unit_bytes big (unit_behind b2 b1 b0)
-byte-adds-one big b2 b1 b0 a b = ap (flat_map (unit_bytes big)) (adds-one b2 b1 b0 a b) ∙ append-nil (unit_bytes big (unit_behind b2 b1 b0))
+pub byte-adds-one : (big : Bool) (b2 b1 b0 : ℕ) → b0 < 0xC0 → b1 < 0xE0 → byte_adds big b2 b1 b0 ≡ unit_bytes big (unit_after b2 b1 b0)
+byte-adds-one big b2 b1 b0 a b = ap (flat_map (unit_bytes big)) (adds-one b2 b1 b0 a b) ∙ append-nil (unit_bytes big (unit_after b2 b1 b0))
 
 pub byte-adds-first : (big : Bool) (b2 b1 b0 : ℕ) → 0xC0 ≤ b0 → byte_adds big b2 b1 b0 ≡ []
 byte-adds-first big b2 b1 b0 a = ap (flat_map (unit_bytes big)) (adds-none-first b2 b1 b0 a)
@@ -42,7 +42,7 @@ ascii-added big b2 b1 (h ∷ highs) (b0 ∷ block) long behind none ascii =
     let low : b0 < 0x80 = ascii 0 (omega arith) in
     let unit = unit-one b2 b1 b0 low in
     let high = none 0 (omega arith) in
-    let pair = pair-unit big (unit_behind b2 b1 b0) h b0 (record { is_high = omega (arith, unit, high, low); is_low = omega (arith, unit, low) }) in
+    let pair = pair-unit big (unit_after b2 b1 b0) h b0 (record { is_high = omega (arith, unit, high, low); is_low = omega (arith, unit, low) }) in
     ap₂ (λ x y. x ++ y) (pair ∙ sym (byte-adds-one big b2 b1 b0 (omega arith) behind))
     (ascii-added big b1 b0 highs block (omega arith) (omega arith) (λ i below. none (suc i) (omega arith)) (λ i below. ascii (suc i) (omega arith)))
     ∙ sym (added_bytes-cons big b2 b1 b0 block)
@@ -62,7 +62,7 @@ kept-one big b2 b1 b0 bit high low small is h l = ⊎_elim
     let one : bit ≡ 1 = is ∙ ap₂ (λ (x y : Bool). cond (x && y) 1 0) (lt-ltb b0 0xC0 a) (lt-ltb b1 0xE0 b) in
     ap (λ n. cond (n == 1) (pair_bytes big high low) []) one
     ∙ ap₂ (pair_bytes big) h l
-    ∙ pair-unit big (unit_behind b2 b1 b0) (high_lane b2 b1 b0) (low_lane b2 b1 b0) (lane-bytes b2 b1 b0 small b)
+    ∙ pair-unit big (unit_after b2 b1 b0) (high_lane b2 b1 b0) (low_lane b2 b1 b0) (lane-bytes b2 b1 b0 small b)
     ∙ sym (byte-adds-one big b2 b1 b0 a b))
     (λ (b : 0xE0 ≤ b1).
     let none : bit ≡ 0 = is ∙ ap₂ (λ (x y : Bool). cond (x && y) 1 0) (lt-ltb b0 0xC0 a) (le-ltb b1 0xE0 b) in
@@ -73,7 +73,7 @@ kept-one big b2 b1 b0 bit high low small is h l = ⊎_elim
     ap (λ n. cond (n == 1) (pair_bytes big high low) []) none ∙ sym (byte-adds-first big b2 b1 b0 a))
     (cases_lt b0 0xC0)
 
--- the lanes and the bits of a block behind two bytes
+-- the lanes and the bits of a block after two bytes
 pub record AreLanesOf (b2 b1 : ℕ) (block highs lows : List ℕ) (bits : ℕ) : Type 0 where
   high_len : length highs ≡ length block
   low_len : length lows ≡ length block
@@ -146,7 +146,7 @@ fives : (big : Bool) (highs lows : List ℕ) → Fives big highs lows
 fives true highs lows = refl
 fives false highs lows = refl
 
--- where the first, the second and the third bytes stand
+-- the indices of the first, the second and the third bytes
 abbrev pub firsts : List ℕ
 firsts = 0 ∷ 3 ∷ 6 ∷ 9 ∷ 12 ∷ 0 ∷ 0 ∷ 0 ∷ 0 ∷ 0 ∷ 0 ∷ 0 ∷ 0 ∷ 0 ∷ 0 ∷ 0 ∷ []
 
@@ -236,7 +236,7 @@ both_stored at first second out a b room =
     ∙ ap (λ t. t ++ second) (take_more_put_chunk at out first (at + 16) (omega (arith, a)) (omega arith))
     ∙ append_assoc (take at out) first second
 
--- what was written and what the rest adds are all, and so they are n bytes on
+-- what was written and what the rest adds are all, and so they are after n more bytes
 pub added-step : (big : Bool) (done done' all piece : List ℕ) (at n b2 b1 : ℕ) → 2 ≤ n → at + n ≤ length piece
     → done' ≡ done ++ added_bytes big b2 b1 (take n (drop at piece)) → done ++ added_bytes big b2 b1 (drop at piece) ≡ all
     → done' ++ added_bytes big (slice_index piece (at + n - 2)) (slice_index piece (at + n - 1)) (drop (at + n) piece) ≡ all
@@ -270,7 +270,7 @@ pub added-all : (big : Bool) (done all piece : List ℕ) (at b2 b1 : ℕ) → le
 added-all big done all piece at b2 b1 end e =
     sym (append-nil done) ∙ ap (λ t. done ++ t) (sym (ap (added_bytes big b2 b1) (drop_all at piece end) ∙ added_bytes-nil big b2 b1)) ∙ e
 
--- ---- a last block, filled up
+-- ---- a last block, padded
 
 -- bytes that end no unit add none
 pub added-filled : (big : Bool) (b2 b1 : ℕ) (bytes : List ℕ) (k : ℕ) → added_bytes big b2 b1 (bytes ++ replicate k 0xFF) ≡ added_bytes big b2 b1 bytes
@@ -291,13 +291,13 @@ unit-two false unit = refl
 byte-short : (big : Bool) (b2 b1 b0 : ℕ) → length (byte_adds big b2 b1 b0) ≤ 2
 byte-short big b2 b1 b0 = ⊎_elim
     (λ (a : b0 < 0xC0). ⊎_elim
-    (λ (b : b1 < 0xE0). let two : length (byte_adds big b2 b1 b0) ≡ 2 = ap length (byte-adds-one big b2 b1 b0 a b) ∙ unit-two big (unit_behind b2 b1 b0) in omega (arith, two))
+    (λ (b : b1 < 0xE0). let two : length (byte_adds big b2 b1 b0) ≡ 2 = ap length (byte-adds-one big b2 b1 b0 a b) ∙ unit-two big (unit_after b2 b1 b0) in omega (arith, two))
     (λ (b : 0xE0 ≤ b1). let none : length (byte_adds big b2 b1 b0) ≡ 0 = ap length (byte-adds-behind big b2 b1 b0 b) in omega (arith, none))
     (cases_lt b1 0xE0))
     (λ (a : 0xC0 ≤ b0). let none : length (byte_adds big b2 b1 b0) ≡ 0 = ap length (byte-adds-first big b2 b1 b0 a) in omega (arith, none))
     (cases_lt b0 0xC0)
 
--- each byte adds a unit at most
+-- each byte adds at most one unit
 pub added-short : (big : Bool) (b2 b1 : ℕ) (bytes : List ℕ) → length (added_bytes big b2 b1 bytes) ≤ 2 * length bytes
 added-short big b2 b1 [] = let none : length (added_bytes big b2 b1 []) ≡ 0 = ap length (added_bytes-nil big b2 b1) in omega (arith, none)
 added-short big b2 b1 (b0 ∷ bytes) =

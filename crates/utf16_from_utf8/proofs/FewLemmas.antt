@@ -1,4 +1,4 @@
--- A walk over the characters of a text in UTF-8, and how much room they take in UTF-16.
+-- Iteration over the characters of a text in UTF-8, and how many bytes they take in UTF-16.
 use borrow.Rule.Slice.PartMut.{put_mid}
 use Rattle.std.proofs.Common.{◌≡◌, ℕ, ◌+◌, ◌-◌, ◌*◌, ◌<◌, ◌≤◌, Bool, List, [], ◌∷◌, ◌++◌, length, take, drop, get_or, encode_utf8_all, refl, sym, ap, ap₂, subst, ◌∙◌, ⊎_elim, arith, append_assoc, length-append, length-take-le, take_at, take-append-drop}
 use Rattle.std.proofs.lemmas.Bool.{cases_lt}
@@ -12,7 +12,7 @@ use Rattle.utf16_units.specs.Encoding.{char_bytes, char_size, encode, size}
 use Rattle.utf16_units.proofs.CharLemmas.{char_size_four, char_size_two, length-char_bytes}
 use Rattle.utf16_units.proofs.EncodingLemmas.{encode-append, encode-one, size-append, size-cons, size-nil}
 
--- what was given is the beginning of the list
+-- what was yielded is a prefix of the list
 abbrev pub IsBeginningOf : List ℕ → List ℕ → Type 0
 IsBeginningOf given all = given ≡ take (length given) all
 
@@ -33,7 +33,7 @@ size-beginning given all begins =
 pub size-push : (text : List ℕ) (c : ℕ) → size (text ++ c ∷ []) ≡ size text + char_size c
 size-push text c = omega (arith, size-append text (c ∷ []), size-cons c [], size-nil)
 
--- a character takes no more than twice as much in UTF-16 as in UTF-8
+-- a character takes at most twice as many bytes in UTF-16 as in UTF-8
 char_size-le : (c : ℕ) → char_size c ≤ 2 * length (encode_utf8 c)
 char_size-le c =
     let utf8 = length-encode c in
@@ -53,7 +53,7 @@ size-le-encodes (c ∷ text) =
 pub size-chars : (bytes : List ℕ) → IsUtf8 bytes → size (chars bytes) ≤ 2 * length bytes
 size-chars bytes utf8 = subst (λ t. size (chars bytes) ≤ 2 * length t) (encodes-chars bytes utf8) (size-le-encodes (chars bytes))
 
--- the bytes of one more character, written behind those of the characters before it
+-- the bytes of one more character, written after those of the characters before it
 module _ (big : Bool) (buf part rest given : List ℕ) (len c n : ℕ) (written : take len buf ≡ encode big given) (counted : len ≡ size given)
     (within : len ≤ length buf) (added : part ≡ char_bytes big c ++ rest) (size_c : n ≡ char_size c) (room : length part ≡ length buf - len) where
   tail : List ℕ

@@ -3,7 +3,7 @@ use Rattle.std.proofs.Common.{[], ◌∷◌, ◌≡◌, ℕ, ◌+◌, ◌*◌, �
 use Rattle.std.proofs.lemmas.Bool.{cases_lt}
 use Rattle.std.proofs.lemmas.Nat.{and_mask}
 use Rattle.utf16_units.specs.Unit.{unit_bytes}
-use Rattle.utf16_from_utf8.specs.Added.{unit_behind}
+use Rattle.utf16_from_utf8.specs.Added.{unit_after}
 use Rattle.utf16_from_utf8.specs.LaneBytes.{high_lane, lead_high, lead_low, lead_part, low_lane, middle, short_low, three_high, trail_high}
 use Rattle.utf16_from_utf8.specs.Lanes.{pair_bytes}
 use Rattle.utf16_from_utf8.proofs.AddedLemmas.{unit-leading, unit-one, unit-three, unit-trailing, unit-two}
@@ -63,7 +63,7 @@ leading-bytes b2 b1 b0 small =
     })
     (cases_lt (lead_part b1 b0) 0x40)
 
--- what was computed of a unit's number, of its bytes
+-- from the bytes of one number to those of an equal one
 moved : (unit unit' high low high' low' : ℕ) → unit ≡ unit' → high ≡ high' → low ≡ low' → AreBytes unit' high' low' → AreBytes unit high low
 moved unit unit' high low high' low' u h l are = record { is_high = h ∙ are.is_high ∙ sym (ap (λ n. n / 256) u); is_low = l ∙ are.is_low ∙ sym (ap (λ n. n % 256) u) }
 
@@ -71,7 +71,7 @@ either : (b : Bool) (n : ℕ) → cond b n n ≡ n
 either true n = refl
 either false n = refl
 
-pub lane-bytes : (b2 b1 b0 : ℕ) → b0 < 256 → b1 < 0xE0 → AreBytes (unit_behind b2 b1 b0) (high_lane b2 b1 b0) (low_lane b2 b1 b0)
+pub lane-bytes : (b2 b1 b0 : ℕ) → b0 < 256 → b1 < 0xE0 → AreBytes (unit_after b2 b1 b0) (high_lane b2 b1 b0) (low_lane b2 b1 b0)
 lane-bytes b2 b1 b0 small behind = ⊎_elim
     (λ (one : b0 < 0x80).
     let t = lt-ltb b0 0x80 one in

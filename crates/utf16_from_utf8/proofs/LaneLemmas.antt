@@ -29,7 +29,7 @@ pub few-set : (v : List ℕ) (bits : ℕ) → length v ≡ 16 → bits ≡ mask_
 few-set v bits long is =
     subst (λ k. bits < 2 ^ k) (length-map v (λ x. not (eqb x 0)) ∙ long) (subst (λ n. n < 2 ^ length (map (λ x. not (eqb x 0)) v)) (sym is) (mask_l-lt (map (λ x. not (eqb x 0)) v)))
 
--- no bit is set exactly where every lane is zero
+-- no bit is set exactly if every lane is zero
 pub zero_lane : (v : List ℕ) (bits : ℕ) → bits ≡ 0 → ((i : ℕ) → i < 16 → ◌≡◌ {A = ℕ} (bits / 2 ^ i % 2) (cond (eqb (slice_index v i) 0) 0 1))
     → (i : ℕ) → i < 16 → slice_index v i ≡ 0
 zero_lane v bits none set i below = ⊎_elim
@@ -51,7 +51,7 @@ none_set v bits few set zeros = ⊎_elim
     absurd (omega (arith, first.1, zero)))
     (cases_lt bits 1)
 
--- where no lane of two vectors differs, they are the same
+-- if no lane of two vectors differs, they are the same
 pub none_differs : (xs ys : List ℕ) → length xs ≡ 16 → length ys ≡ 16
     → mask_l (map (top 7) (zip2 (λ a b. cond (not (eqb a b)) 255 0) xs ys)) % 2 ^ 64 ≡ 0 → xs ≡ ys
 none_differs xs ys a b e =
@@ -71,7 +71,7 @@ none_differs xs ys a b e =
         let parts = clear (eqb x y) (mask_l (zip2 (λ (a b : ℕ). not (eqb a b)) xs ys)) e in
         ap₂ (λ z zs. z ∷ zs) (eqb-true x y parts.0) (same xs ys (omega arith) parts.1)
 
--- two vectors interleaved: where their lanes stand then
+-- the positions of the lanes of two interleaved vectors
 abbrev pub sixteen : List ℕ
 sixteen = range_with_len 0 16
 

@@ -1,4 +1,4 @@
--- Pairs packed by a table of positions.
+-- Pairs compacted by a table of positions.
 use Rattle.std.proofs.Common.{append_assoc, length-drop, length-take-le, take-append-drop, take_all, ◌≡◌, ℕ, zero, suc, ◌+◌, ◌*◌, ◌/◌, ◌%◌, ◌<◌, ◌≤◌, ◌==◌, ◌&&◌, Bool, true, false, cond, eqb, eqb-true, leb, List, [], ◌∷◌, ◌++◌, count_ones, map, length, take, drop, get_or, refl, sym, ap, ap₂, ◌∙◌, subst, arith, w8}
 use Rattle.std.proofs.lemmas.Bool.{and_parts, false_from_ne_true, leb-true}
 use Rattle.std.proofs.lemmas.List.{map-append, take-take}
@@ -70,7 +70,7 @@ kept_pairs-map f bits (x ∷ y ∷ pairs) =
     choice true = refl
     choice false = refl
 
--- a vector's eight pairs, packed
+-- a vector's eight pairs, compacted
 pub packed : (pairs positions : List ℕ) (bits : ℕ) → length pairs ≡ 16 → Packs bits positions
     → take (2 * count_ones bits) (swz_l w8 16 pairs 0 positions) ≡ kept_pairs bits pairs
 packed pairs positions bits long is =
@@ -83,7 +83,7 @@ packed pairs positions bits long is =
 pub positions-fit : (bits : ℕ) (positions : List ℕ) → Packs bits positions → SwzOk w8 16 16 0 positions
 positions-fit bits positions is = SwzOk-from_below w8 16 1 16 0 positions refl (omega (arith, is.len)) (all_below-each 16 positions is.below)
 
--- of a vector that is stored the front n bytes stand
+-- the first n bytes of a stored vector, after those before it
 pub stored_front : (at n : ℕ) (out v : List ℕ) → n ≤ length v → at + length v ≤ length out → take (at + n) (put_chunk at out v) ≡ take at out ++ take n v
 stored_front at n out v few room =
     sym (take-take (at + n) (at + length v) (put_chunk at out v) (omega arith))
@@ -97,7 +97,7 @@ assoc_four p q r s t =
     append_assoc p (q ++ (r ++ (s ++ []))) t
     ∙ ap (λ l. p ++ l) (append_assoc q (r ++ (s ++ [])) t ∙ ap (λ l. q ++ l) (append_assoc r (s ++ []) t ∙ ap (λ l. r ++ l) (append_assoc s [] t)))
 
--- the first four, and those behind them
+-- the first four, and those after them
 kept_pairs-four : (bits : ℕ) (four more : List ℕ) → length four ≡ 8 → kept_pairs bits (four ++ more) ≡ kept_pairs (bits % 16) four ++ kept_pairs (bits / 16) more
 kept_pairs-four bits four more long = subst (λ xs. kept_pairs bits (xs ++ more) ≡ kept_pairs (bits % 16) xs ++ kept_pairs (bits / 16) more) (pick_l_whole 0 four 8 long)
     (let pair = λ (bit i : ℕ). cond (bit == 1) (get_or four (2 * i) 0 ∷ get_or four (2 * i + 1) 0 ∷ []) [] in
@@ -111,7 +111,7 @@ kept_pairs-four bits four more long = subst (λ xs. kept_pairs bits (xs ++ more)
     ∙ ap (λ a. pair (bits % 16 % 2) 0 ++ (pair (bits % 16 / 2 % 2) 1 ++ (pair (bits % 16 / 2 / 2 % 2) 2 ++ (pair (bits % 16 / 2 / 2 / 2 % 2) 3 ++ kept_pairs a more)))) others
     ∙ sym (assoc_four (pair (bits % 16 % 2) 0) (pair (bits % 16 / 2 % 2) 1) (pair (bits % 16 / 2 / 2 % 2) 2) (pair (bits % 16 / 2 / 2 / 2 % 2) 3) (kept_pairs (bits / 16) more)))
 
--- the first eight, and those behind them
+-- the first eight, and those after them
 kept_pairs-eight : (bits : ℕ) (eight more : List ℕ) → length eight ≡ 16 → kept_pairs bits (eight ++ more) ≡ kept_pairs (bits % 256) eight ++ kept_pairs (bits / 256) more
 kept_pairs-eight bits eight more long =
     let front = take 8 eight in
@@ -132,7 +132,7 @@ kept_pairs-eight bits eight more long =
     ∙ sym (append_assoc one two (kept_pairs (bits / 256) more))
     ∙ ap (λ bytes. bytes ++ kept_pairs (bits / 256) more) (sym small)
 
--- what two stores leave, one behind the other
+-- what two stores leave, one after the other
 pub kept_pairs-all : (bits : ℕ) (first second start middle all : List ℕ) → length first ≡ 16
     → middle ≡ start ++ kept_pairs (bits % 256) first → all ≡ middle ++ kept_pairs (bits / 256) second → all ≡ start ++ kept_pairs bits (first ++ second)
 kept_pairs-all bits first second start middle all long e f =

@@ -1,4 +1,4 @@
--- How many units the characters take that bytes of UTF-8 begin.
+-- How many units the characters have that begin in bytes of UTF-8.
 use Rattle.std.proofs.Common.{◌≡◌, ℕ, suc, ◌+◌, ◌*◌, ◌/◌, ◌%◌, ◌^◌, ◌<◌, ◌≤◌, ◌⊎◌, Bool, true, false, not, cond, eqb, eq-eqb, eqb-true, List, [], ◌∷◌, ◌++◌, All, map, length, take, drop, slice_index, replicate, bit_and, count_ones, encode_utf8_all, flat_map, refl, sym, ap, ap₂, ◌∙◌, ⊎_elim, inl, inr, arith, drop-cons, length-append, w8}
 use Rattle.std.proofs.lemmas.Bool.{cases_lt, false_from_ne_true}
 use Rattle.std.proofs.lemmas.List.{drop_all, length-map}
@@ -152,7 +152,7 @@ begun-append xs ys = omega (arith, sum_by-append (λ b. bit (begins_char b)) xs 
 pub begun-le : (xs : List ℕ) → units_begun xs ≤ 2 * length xs
 begun-le xs = omega (arith, count_by-le-length begins_char xs, count_by-le-length begins_four xs)
 
--- the count goes on by n bytes
+-- the count continues by n bytes
 pub begun-step : (bytes : List ℕ) (at n units more : ℕ) → units + units_begun (drop at bytes) ≡ units_begun bytes → more ≡ units_begun (take n (drop at bytes))
     → units + more + units_begun (drop (at + n) bytes) ≡ units_begun bytes
 begun-step bytes at n units more e is =

@@ -10,7 +10,7 @@ use Rattle.utf16_units.proofs.CharLemmas.{no_surrogate}
 use Rattle.utf16_from_utf8.specs.Added.{added, all_added}
 use Rattle.utf16_from_utf8.proofs.AddedLemmas.{adds-none-behind, adds-none-first, adds-one, all_added-cons, all_added-nil, unit-leading, unit-one, unit-three, unit-trailing, unit-two}
 
--- ---- a character's bytes by their number
+-- ---- a character's bytes, by how many there are
 
 pub one_byte : (c : ℕ) → c < 0x80 → encode c ≡ c ∷ []
 unfolding encode
@@ -35,7 +35,7 @@ four_bytes c a =
 
 -- ---- what they add
 
--- what the bytes of a character add, and the two bytes that stand before the next one
+-- what the bytes of a character add, and the two bytes before the next one
 record Adds (b2 b1 c : ℕ) (more : List ℕ) : Type 0 where
   last_but_one : ℕ
   last : ℕ

@@ -1,11 +1,11 @@
--- The two bytes of the unit that ends at b0, as lanes of a byte compute them.
+-- The two bytes of the unit that ends at b0, as lanes of one byte compute them.
 use Rattle.std.specs.Prelude.{ℕ, ◌+◌, ◌*◌, ◌/◌, ◌%◌, ◌^◌, bit_and, nat_lt, if◌then◌else◌}
 
--- the low byte, but of a leading surrogate and of a character of one byte
+-- the low byte, except of a leading surrogate and of a character of one byte
 abbrev pub short_low : ℕ → ℕ → ℕ
 short_low b1 b0 = (b1 * 2 ^ 6 % 2 ^ 8 + bit_and b0 0x3F) % 2 ^ 8
 
--- what b1 has in the high byte
+-- the bits of b1 in the high byte
 abbrev pub middle : ℕ → ℕ
 middle b1 = bit_and (b1 / 2 ^ 2) 0xF
 
@@ -17,7 +17,7 @@ three_high b2 b1 = (b2 * 2 ^ 4 % 2 ^ 8 + middle b1) % 2 ^ 8
 abbrev pub trail_high : ℕ → ℕ
 trail_high b1 = (bit_and (b1 / 2 ^ 2) 3 + 0xDC) % 2 ^ 8
 
--- what b1 and b0 add to a leading surrogate, and its two bytes
+-- the bits of b1 and b0 in a leading surrogate, and its two bytes
 abbrev pub lead_part : ℕ → ℕ → ℕ
 lead_part b1 b0 = (b1 * 2 ^ 2 % 2 ^ 8 + bit_and (b0 / 2 ^ 4) 3) % 2 ^ 8
 

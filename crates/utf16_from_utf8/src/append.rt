@@ -1,4 +1,4 @@
-//! A text in UTF-8 put behind bytes of UTF-16.
+//! Appends a text in UTF-8 to bytes of UTF-16.
 
 ghost use Rattle.std.specs.Prelude.{◌≡◌, ◌+◌, ◌*◌, ◌≤◌, ◌++◌, length, slice_index, IsOk, OnErr, OnOk};
 ghost use Rattle.std.specs.Str.{chars};
@@ -12,14 +12,21 @@ use crate::write::write_units;
 use std::alloc::{AllocError, Allocator};
 use utf16_units::Utf16Order;
 
-// How many bytes are written at once, of a short text and of a long one. They are written to a
-// buffer in the frame first.
+// The number of bytes converted at once, of a short text and of a long one. Their UTF-16 is first
+// written to a buffer on the stack.
 const SHORT: usize = 64;
 
 const PIECE: usize = 2048;
 
-/// Puts the UTF-16 of a text last. The caller proves that there is room for it, `utf16_len` bytes,
-/// and so it does not fail. One pass, by lanes, and one copy of what it writes.
+/// Appends a text in UTF-16 to `raw`. It does not fail, because the capacity suffices.
+///
+/// # Precondition
+///
+/// `raw` has spare capacity of `utf16_len(s)` bytes.
+///
+/// # Complexity
+///
+/// One pass, with SIMD, and one copy of what is written.
 pub fn extend_utf16<E: Utf16Order, A: Allocator>(
     raw: &mut Vec<u8, A>,
     s: &str,
@@ -38,14 +45,22 @@ pub fn extend_utf16<E: Utf16Order, A: Allocator>(
     }
 }
 
-/// Puts the UTF-16 of a text last. The only error is a refused request for memory; it leaves the
-/// bytes as they were. Room is asked for once, and where the text fits, not at all.
+/// Appends a text in UTF-16 to `raw`.
+///
+/// # Errors
+///
+/// `AllocError`, only if allocation fails. `raw` is unchanged.
+///
+/// # Complexity
+///
+/// Allocates once, and not at all if the spare capacity suffices.
 pub fn append_utf16<E: Utf16Order, A: Allocator>(
     raw: &mut Vec<u8, A>,
     s: &str,
 ) -> Result<(), AllocError>
     ensures items { OnOk result (raw.new.items ≡ raw.old.items ++ encode E.BIG (chars s.now)) }
-    ensures refused { OnErr result (VecUnchanged raw.old raw.new × (vec_capacity raw.new ≡ vec_capacity raw.old)) }
+    ensures refused { OnErr result (VecUnchanged raw.old raw.new
+        × (vec_capacity raw.new ≡ vec_capacity raw.old)) }
     ensures room { vec_len raw.old + size (chars s.now) ≤ vec_capacity raw.old → IsOk result }
     ensures grows { vec_capacity raw.old ≤ vec_capacity raw.new }
 {
@@ -53,7 +68,7 @@ pub fn append_utf16<E: Utf16Order, A: Allocator>(
     extend_utf16::<E, A>(raw, s)
 }
 
-// Puts a text last that is written at once.
+// Appends a text that is converted at once.
 #[inline(never)]
 fn extend_short<E: Utf16Order, A: Allocator>(
     raw: &mut Vec<u8, A>,
@@ -68,8 +83,8 @@ fn extend_short<E: Utf16Order, A: Allocator>(
     extend_piece::<E, A>(raw, [0; 2], s.as_bytes(), &mut [0; 2 * SHORT + 16])
 }
 
-// Puts a text last that is written a piece at a time. It is a function of its own, so that no other
-// pays for its buffer.
+// Appends a text that is converted chunk by chunk. A function of its own, so that no other pays for
+// its buffer.
 #[inline(never)]
 fn extend_long<E: Utf16Order, A: Allocator>(raw: &mut Vec<u8, A>, s: &str) -> Result<(), AllocError>
     requires room { vec_len raw.old + size (chars s.now) ≤ vec_capacity raw.old }
@@ -80,13 +95,14 @@ fn extend_long<E: Utf16Order, A: Allocator>(raw: &mut Vec<u8, A>, s: &str) -> Re
     extend_pieces::<E, A>(raw, s.as_bytes(), &mut [0; 2 * PIECE + 16])
 }
 
-// Puts last what bytes add, a piece at a time.
+// Appends the UTF-16 that bytes add, chunk by chunk.
 fn extend_pieces<E: Utf16Order, A: Allocator>(
     raw: &mut Vec<u8, A>,
     bytes: &[u8],
     buf: &mut [u8],
 ) -> Result<(), AllocError>
-    requires room { vec_len raw.old + length (added_bytes E.BIG 0 0 bytes.now) ≤ vec_capacity raw.old }
+    requires room { vec_len raw.old + length (added_bytes E.BIG 0 0 bytes.now)
+        ≤ vec_capacity raw.old }
     requires buf { length buf.old ≡ 2 * PIECE + 16 }
     ensures items { raw.new.items ≡ raw.old.items ++ added_bytes E.BIG 0 0 bytes.now }
     ensures fits { IsOk result }
@@ -102,16 +118,19 @@ fn extend_pieces<E: Utf16Order, A: Allocator>(
     extend_piece::<E, A>(raw, before, &bytes[at..], buf)
 }
 
-// Puts last what a piece adds behind two bytes.
+// Appends the UTF-16 that a chunk adds after the two bytes `before`.
 fn extend_piece<E: Utf16Order, A: Allocator>(
     raw: &mut Vec<u8, A>,
     before: [u8; 2],
     piece: &[u8],
     buf: &mut [u8],
 ) -> Result<(), AllocError>
-    requires room { vec_len raw.old + length (added_bytes E.BIG (slice_index before 0) (slice_index before 1) piece.now) ≤ vec_capacity raw.old }
+    requires room { vec_len raw.old + length
+        (added_bytes E.BIG (slice_index before 0) (slice_index before 1) piece.now)
+        ≤ vec_capacity raw.old }
     requires buf { 2 * length piece.now + 16 ≤ length buf.old }
-    ensures items { raw.new.items ≡ raw.old.items ++ added_bytes E.BIG (slice_index before 0) (slice_index before 1) piece.now }
+    ensures items { raw.new.items ≡ raw.old.items ++ added_bytes E.BIG (slice_index before 0)
+        (slice_index before 1) piece.now }
     ensures fits { IsOk result }
     ensures capacity { vec_capacity raw.old ≤ vec_capacity raw.new }
 {

@@ -1,4 +1,4 @@
-//! Short texts, which go one character after another.
+//! Short texts, which are converted character by character.
 
 ghost use Rattle.std.specs.Prelude.{◌≡◌, ◌+◌, ◌*◌, ◌<◌, ◌≤◌, ◌++◌, length, take, IsOk};
 ghost use Rattle.std.specs.Str.{chars};
@@ -8,10 +8,10 @@ ghost use Rattle.utf16_units.specs.Encoding.{encode, size};
 use std::alloc::{AllocError, Allocator};
 use utf16_units::{Utf16CharExt, Utf16Order};
 
-// Texts of fewer bytes go by characters: two blocks of the lanes.
+// Texts of fewer bytes than this, two SIMD blocks, are converted character by character.
 pub(crate) const FEW: usize = 32;
 
-// How many bytes the characters take in UTF-16.
+// The length of the text in UTF-16, in bytes.
 pub(crate) fn few_len(s: &str) -> usize
     ensures { result ≡ size (chars s.now) }
 {
@@ -22,8 +22,8 @@ pub(crate) fn few_len(s: &str) -> usize
     len
 }
 
-// Writes the characters to the front of a buffer that has room for them, and answers how many bytes
-// they take.
+// Writes the characters to the start of a buffer that has space for them, and returns the number of
+// bytes written.
 fn write_few<E: Utf16Order>(s: &str, buf: &mut [u8]) -> usize
     requires { size (chars s.now) ≤ length buf.old }
     ensures bytes { take result buf.new ≡ encode E.BIG (chars s.now) }
@@ -36,7 +36,7 @@ fn write_few<E: Utf16Order>(s: &str, buf: &mut [u8]) -> usize
     len
 }
 
-// Puts the characters last, of which there are few.
+// Appends the characters of a short text.
 pub(crate) fn extend_few<E: Utf16Order, A: Allocator>(
     raw: &mut Vec<u8, A>,
     s: &str,

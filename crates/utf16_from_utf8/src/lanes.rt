@@ -1,4 +1,4 @@
-//! Sixteen bytes by lanes: each function says what stands in the lane at `i`.
+//! SIMD operations on sixteen bytes, each with what it computes in the lane at `i`.
 
 ghost use Rattle.std.specs.Prelude.{◌≡◌, ℕ, ◌+◌, ◌*◌, ◌/◌, ◌%◌, ◌^◌, ◌<◌, ◌==◌, ◌∷◌, bit_and, if◌then◌else◌, nat_lt, slice_index};
 ghost use Rattle.utf16_units.specs.Lanes.{HasLanes};
@@ -26,7 +26,7 @@ pub(crate) fn sum(a: u8x16, b: u8x16) -> u8x16
     a + b
 }
 
-// The bits moved down.
+// Shifts the bits right.
 #[inline(always)]
 pub(crate) fn down(v: u8x16, by: u8) -> u8x16
     requires { by < 8 }
@@ -35,7 +35,7 @@ pub(crate) fn down(v: u8x16, by: u8) -> u8x16
     v >> u8x16::splat(by)
 }
 
-// The bits moved up, those above a byte dropped.
+// Shifts the bits left, and drops those above a byte.
 #[inline(always)]
 pub(crate) fn up(v: u8x16, by: u8) -> u8x16
     requires { by < 8 }
@@ -44,15 +44,16 @@ pub(crate) fn up(v: u8x16, by: u8) -> u8x16
     v << u8x16::splat(by)
 }
 
-// `a` where a lane is below the limit, else `b`.
+// Selects the lane of `a` if that of `v` is below `limit`, else the lane of `b`.
 #[inline(always)]
 pub(crate) fn where_below(v: u8x16, limit: u8, a: u8x16, b: u8x16) -> u8x16
-    ensures { HasLanes 16 result (λ i. if nat_lt (slice_index v i) limit then slice_index a i else slice_index b i) }
+    ensures { HasLanes 16 result (λ i. if nat_lt (slice_index v i) limit then slice_index a i
+        else slice_index b i) }
 {
     v.simd_lt(u8x16::splat(limit)).select(a, b)
 }
 
-// The byte before each one; before the first stands `before`.
+// The byte before each one; before the first, `before`.
 #[inline(always)]
 pub(crate) fn behind(v: u8x16, before: u8) -> u8x16
     ensures { HasLanes 16 result (λ i. slice_index (before ∷ v) i) }

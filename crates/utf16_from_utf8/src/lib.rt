@@ -1,4 +1,4 @@
-//! UTF-16 from UTF-8, sixteen bytes at a time.
+//! Conversion of UTF-8 to UTF-16 with SIMD, sixteen bytes at a time.
 #![tactic(auto)]
 
 mod append;

@@ -1,4 +1,4 @@
-//! Pairs of bytes packed: of eight in a vector those are stored that count, one behind the other.
+//! Compaction: of eight pairs of bytes in a vector, those whose bit is set are stored contiguously.
 
 ghost use Rattle.std.specs.Prelude.{◌≡◌, ◌+◌, ◌^◌, ◌<◌, ◌≤◌, ◌++◌, length, take};
 ghost use Rattle.utf16_from_utf8.specs.Lanes.{kept_pairs};
@@ -6,8 +6,8 @@ ghost use Rattle.utf16_from_utf8.specs.Lanes.{kept_pairs};
 use crate::positions::positions;
 use std::simd::prelude::*;
 
-// Stores of eight pairs those whose bit is set, at `at`, and answers where they end. Sixteen bytes
-// from `at` on are written over.
+// Stores those of eight pairs whose bit is set, starting at `at`, and returns their end. Overwrites
+// sixteen bytes starting at `at`.
 #[inline(always)]
 fn put_eight(out: &mut [u8], at: usize, pairs: u8x16, bits: usize) -> usize
     requires bits { bits < 256 }
@@ -21,7 +21,7 @@ fn put_eight(out: &mut [u8], at: usize, pairs: u8x16, bits: usize) -> usize
     at + 2 * bits.count_ones() as usize
 }
 
-// Stores of all sixteen pairs those whose bit is set, at `at`, and answers where they end.
+// Stores those of all sixteen pairs whose bit is set, starting at `at`, and returns their end.
 #[inline(always)]
 pub(crate) fn put_kept(out: &mut [u8], at: usize, first: u8x16, second: u8x16, bits: u64) -> usize
     requires bits { bits < 2 ^ 16 }

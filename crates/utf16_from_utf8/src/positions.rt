@@ -1,11 +1,11 @@
-//! Where the bytes stand of those of eight pairs that bits keep.
+//! Shuffle indices that compact eight pairs of bytes to those whose bit is set.
 
 ghost use Rattle.std.specs.Prelude.{◌<◌};
 ghost use Rattle.utf16_from_utf8.specs.Lanes.{Packs};
 
 use std::simd::prelude::*;
 
-// Those of these bits, a bit for each pair.
+// The indices for the pairs in `bits`, which has a bit for each pair.
 #[inline(always)]
 pub(crate) fn positions(bits: usize) -> u8x16
     requires { bits < 256 }

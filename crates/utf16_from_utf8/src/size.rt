@@ -1,4 +1,4 @@
-//! How many bytes a text in UTF-8 takes in UTF-16.
+//! The length of a text in UTF-16.
 
 ghost use Rattle.std.specs.Prelude.{◌≡◌, ◌∷◌, []};
 ghost use Rattle.std.specs.Str.{chars};
@@ -8,7 +8,11 @@ ghost use Rattle.utf16_from_utf8.specs.Sizes.{units_begun};
 use crate::few::{FEW, few_len};
 use std::simd::prelude::*;
 
-/// How many bytes a text takes in UTF-16. One pass, by lanes.
+/// Returns the length of a text in UTF-16, in bytes.
+///
+/// # Complexity
+///
+/// One pass, with SIMD.
 pub fn utf16_len(s: &str) -> usize
     ensures { result ≡ size (chars s.now) }
 {
@@ -18,7 +22,7 @@ pub fn utf16_len(s: &str) -> usize
     2 * units(s.as_bytes())
 }
 
-// How many units the characters take that the bytes begin.
+// The number of code units of the characters that begin in the bytes.
 fn units(bytes: &[u8]) -> usize
     ensures { result ≡ units_begun bytes.now }
 {
@@ -35,8 +39,8 @@ fn units(bytes: &[u8]) -> usize
     units
 }
 
-// Those of sixty-four bytes: a first byte has none of the upper bits of a byte behind one, and one
-// of four bytes all four.
+// The same for sixty-four bytes: the first byte of a character does not have the upper two bits of
+// a continuation byte, and the first of four has all upper four bits.
 #[inline(always)]
 fn units_of_block(block: u8x64) -> usize
     ensures { result ≡ units_begun block }
@@ -46,7 +50,7 @@ fn units_of_block(block: u8x64) -> usize
     begun.to_bitmask().count_ones() as usize + fours.to_bitmask().count_ones() as usize
 }
 
-// Those of one byte.
+// The same for one byte.
 #[inline(always)]
 fn units_of_byte(byte: u8) -> usize
     ensures { result ≡ units_begun (byte ∷ []) }

@@ -1,4 +1,5 @@
-//! The two bytes of the unit that ends at each of sixteen bytes, and at which of them one ends.
+//! The two bytes of the code unit that ends at each of sixteen bytes of UTF-8, and where a unit
+//! ends.
 
 ghost use Rattle.std.specs.Prelude.{◌≡◌, ◌<◌, ◌↔◌, ℕ, bit_and, if◌then◌else◌, slice_index, ◌/◌, ◌%◌, ◌^◌, IsTrue};
 ghost use Rattle.std.specs.Simd.Lanes.{zip2};
@@ -9,7 +10,7 @@ ghost use Rattle.utf16_units.specs.Lanes.{HasLanes};
 use crate::lanes::{down, each, masked, set_bits, sum, up, where_below};
 use std::simd::prelude::*;
 
-// The low bytes, but of leading surrogates and of characters of one byte.
+// The low bytes, except of leading surrogates and of characters of one byte.
 #[inline(always)]
 pub(crate) fn short_lows(b1: u8x16, b0: u8x16) -> u8x16
     ensures { HasLanes 16 result (λ i. short_low (slice_index b1 i) (slice_index b0 i)) }
@@ -59,7 +60,8 @@ fn lead_highs(b2: u8x16, parts: u8x16) -> u8x16
 // The low bytes.
 #[inline(always)]
 pub(crate) fn lows(b2: u8x16, b1: u8x16, b0: u8x16) -> u8x16
-    ensures { HasLanes 16 result (λ i. low_lane (slice_index b2 i) (slice_index b1 i) (slice_index b0 i)) }
+    ensures { HasLanes 16 result
+        (λ i. low_lane (slice_index b2 i) (slice_index b1 i) (slice_index b0 i)) }
 {
     let short = short_lows(b1, b0);
     let lead = sum(lead_parts(b1, b0), each(0xC0));
@@ -70,7 +72,8 @@ pub(crate) fn lows(b2: u8x16, b1: u8x16, b0: u8x16) -> u8x16
 // The high bytes.
 #[inline(always)]
 pub(crate) fn highs(b2: u8x16, b1: u8x16, b0: u8x16) -> u8x16
-    ensures { HasLanes 16 result (λ i. high_lane (slice_index b2 i) (slice_index b1 i) (slice_index b0 i)) }
+    ensures { HasLanes 16 result
+        (λ i. high_lane (slice_index b2 i) (slice_index b1 i) (slice_index b0 i)) }
 {
     let lead = lead_highs(b2, lead_parts(b1, b0));
     let last = where_below(b2, 0xF0, three_highs(b2, b1), lead);
@@ -79,10 +82,11 @@ pub(crate) fn highs(b2: u8x16, b1: u8x16, b0: u8x16) -> u8x16
     where_below(b0, 0x80, each(0), long)
 }
 
-// A bit for each byte that ends a unit.
+// A bit for each byte at which a unit ends.
 #[inline(always)]
 pub(crate) fn ended_bits(b1: u8x16, b0: u8x16) -> u64
-    ensures bits { (i : ℕ) → i < 16 → result / 2 ^ i % 2 ≡ if ends_unit (slice_index b1 i) (slice_index b0 i) then 1 else 0 }
+    ensures bits { (i : ℕ) → i < 16
+        → result / 2 ^ i % 2 ≡ if ends_unit (slice_index b1 i) (slice_index b0 i) then 1 else 0 }
     ensures few { result < 2 ^ 16 }
 {
     set_bits(where_below(
@@ -93,7 +97,7 @@ pub(crate) fn ended_bits(b1: u8x16, b0: u8x16) -> u64
     ))
 }
 
-// Whether all are characters of one byte.
+// Whether all are characters of one byte, ASCII.
 #[inline(always)]
 pub(crate) fn is_ascii(block: u8x16) -> bool
     ensures { IsTrue result ↔ ((i : ℕ) → i < 16 → slice_index block i < 0x80) }
@@ -101,7 +105,7 @@ pub(crate) fn is_ascii(block: u8x16) -> bool
     set_bits(masked(block, 0x80)) == 0
 }
 
-// What the upper bits of each byte are in five characters of three bytes, and which bits these are.
+// The upper bits of each byte in five characters of three bytes, and the mask of these bits.
 pub(crate) const THREES: [u8; 16] = [
     0xE0, 0x80, 0x80, 0xE0, 0x80, 0x80, 0xE0, 0x80, 0x80, 0xE0, 0x80, 0x80, 0xE0, 0x80, 0x80, 0,
 ];

@@ -1,9 +1,11 @@
-//! UTF-16 written from UTF-8, piece by piece: a piece may begin and end anywhere, for each byte is
-//! looked at with the two before it.
+//! Writes UTF-16 from UTF-8, chunk by chunk. A chunk may begin and end anywhere, because each byte
+//! is decoded with the two before it.
 
 ghost use Rattle.std.specs.Prelude.{◌≡◌, ◌+◌, ◌*◌, ◌<◌, ◌≤◌, ◌++◌, ◌∷◌, [], ℕ, bit_and, drop, length, slice_index, take};
 ghost use Rattle.std.specs.Simd.Lanes.{zip2};
-ghost use Rattle.utf16_from_utf8.specs.Added.{added_bytes, unit_behind};
+ghost use Rattle.std.specs.Str.{IsUtf8, chars};
+ghost use Rattle.utf16_units.specs.Encoding.{encode};
+ghost use Rattle.utf16_from_utf8.specs.Added.{added_bytes, unit_after};
 ghost use Rattle.utf16_from_utf8.specs.Lanes.{pairs_of};
 
 use crate::lanes::{behind, each};
@@ -14,24 +16,39 @@ use crate::units::{
 use std::simd::prelude::*;
 use utf16_units::Utf16Order;
 
-/// Writes what the bytes of a piece of UTF-8 add in UTF-16, and answers how many bytes that are.
-/// `before` is the two bytes that stand before the piece, zeros where there are none. The caller
-/// proves that the buffer has two bytes for each byte of the piece and sixteen more. What stands
-/// behind the bytes written may be written over, up to the end of that room. One pass.
+/// Writes to the start of `out` the UTF-16 that a chunk of UTF-8 adds, and returns the number of
+/// bytes written.
+///
+/// `before` is the two bytes before the chunk, zeros if there are none: then a text is written as
+/// the UTF-16 of its characters. The bytes after those written and before `2 * piece.len() + 16`
+/// may be overwritten.
+///
+/// # Precondition
+///
+/// `out` has at least `2 * piece.len() + 16` bytes.
+///
+/// # Complexity
+///
+/// One pass.
 pub fn write_units<E: Utf16Order>(before: [u8; 2], piece: &[u8], out: &mut [u8]) -> usize
     requires { 2 * length piece.now + 16 ≤ length out.old }
-    ensures bytes { take result out.new ≡ added_bytes E.BIG (slice_index before 0) (slice_index before 1) piece.now }
+    ensures bytes { take result out.new ≡ added_bytes E.BIG (slice_index before 0)
+        (slice_index before 1) piece.now }
+    ensures text { slice_index before 0 ≡ 0 → slice_index before 1 ≡ 0 → IsUtf8 piece.now
+        → take result out.new ≡ encode E.BIG (chars piece.now) }
     ensures end { result ≤ 2 * length piece.now }
-    ensures rest { drop (2 * length piece.now + 16) out.new ≡ drop (2 * length piece.now + 16) out.old }
+    ensures rest { drop (2 * length piece.now + 16) out.new
+        ≡ drop (2 * length piece.now + 16) out.old }
 {
     let room = 2 * piece.len() + 16;
     put_units::<E>(before, piece, &mut out[..room])
 }
 
-// The same, where what stands behind that room may be written over too.
+// The same, but all bytes after those written may be overwritten.
 fn put_units<E: Utf16Order>(before: [u8; 2], piece: &[u8], out: &mut [u8]) -> usize
     requires { 2 * length piece.now + 16 ≤ length out.old }
-    ensures bytes { take result out.new ≡ added_bytes E.BIG (slice_index before 0) (slice_index before 1) piece.now }
+    ensures bytes { take result out.new ≡ added_bytes E.BIG (slice_index before 0)
+        (slice_index before 1) piece.now }
     ensures end { result ≤ 2 * length piece.now }
 {
     let [mut b2, mut b1] = before;
@@ -58,8 +75,8 @@ fn put_units<E: Utf16Order>(before: [u8; 2], piece: &[u8], out: &mut [u8]) -> us
     end
 }
 
-// Writes what the first of sixteen bytes add behind two, and answers how many of them that is and
-// where it ends.
+// Writes the UTF-16 that the first of sixteen bytes add after the bytes `b2` and `b1`. Returns how
+// many of them that are, and the end of what was written.
 #[inline(always)]
 fn put_next<E: Utf16Order>(
     out: &mut [u8],
@@ -69,7 +86,8 @@ fn put_next<E: Utf16Order>(
     block: u8x16,
 ) -> (usize, usize)
     requires room { at + 40 ≤ length out.old }
-    ensures bytes { take result.1 out.new ≡ take at out.old ++ added_bytes E.BIG b2 b1 (take result.0 block) }
+    ensures bytes { take result.1 out.new ≡ take at out.old
+        ++ added_bytes E.BIG b2 b1 (take result.0 block) }
     ensures used { (2 ≤ result.0) × (result.0 ≤ 16) }
     ensures end { result.1 ≤ at + 2 * result.0 }
 {
@@ -82,7 +100,7 @@ fn put_next<E: Utf16Order>(
     (16, put_block::<E>(out, at, b2, b1, block))
 }
 
-// The bytes of each unit side by side, of the first eight units and of the others.
+// The two bytes of each unit next to each other, of the first eight units and of the others.
 #[inline(always)]
 fn paired<E: Utf16Order>(highs: u8x16, lows: u8x16) -> (u8x16, u8x16)
     ensures pairs { result.0 ++ result.1 ≡ pairs_of E.BIG highs lows }
@@ -101,7 +119,8 @@ fn paired<E: Utf16Order>(highs: u8x16, lows: u8x16) -> (u8x16, u8x16)
 fn put_ascii<E: Utf16Order>(out: &mut [u8], at: usize, block: u8x16) -> usize
     requires room { at + 32 ≤ length out.old }
     requires ascii { (i : ℕ) → i < 16 → slice_index block i < 0x80 }
-    ensures bytes { (b2 b1 : ℕ) → b1 < 0xE0 → take result out.new ≡ take at out.old ++ added_bytes E.BIG b2 b1 block }
+    ensures bytes { (b2 b1 : ℕ) → b1 < 0xE0
+        → take result out.new ≡ take at out.old ++ added_bytes E.BIG b2 b1 block }
     ensures end { result ≡ at + 32 }
 {
     let (first, second) = paired::<E>(each(0), block);
@@ -115,7 +134,8 @@ fn put_ascii<E: Utf16Order>(out: &mut [u8], at: usize, block: u8x16) -> usize
 fn put_threes<E: Utf16Order>(out: &mut [u8], at: usize, block: u8x16) -> usize
     requires room { at + 16 ≤ length out.old }
     requires threes { zip2 bit_and block UPPER ≡ THREES }
-    ensures bytes { (b2 b1 : ℕ) → take result out.new ≡ take at out.old ++ added_bytes E.BIG b2 b1 (take 15 block) }
+    ensures bytes { (b2 b1 : ℕ) → take result out.new ≡ take at out.old
+        ++ added_bytes E.BIG b2 b1 (take 15 block) }
     ensures end { result ≡ at + 10 }
 {
     let b2 = block.swizzle([0, 3, 6, 9, 12, 0, 0, 0, 0, 0, 0, 0, 0, 0, 0, 0]);
@@ -126,7 +146,7 @@ fn put_threes<E: Utf16Order>(out: &mut [u8], at: usize, block: u8x16) -> usize
     at + 10
 }
 
-// Writes what sixteen bytes add behind two.
+// Writes the UTF-16 that sixteen bytes add after two others.
 #[inline(always)]
 fn put_block<E: Utf16Order>(
     out: &mut [u8],
@@ -136,7 +156,8 @@ fn put_block<E: Utf16Order>(
     block: u8x16,
 ) -> usize
     requires room { at + 32 ≤ length out.old }
-    ensures bytes { take result out.new ≡ take at out.old ++ added_bytes E.BIG before2 before1 block }
+    ensures bytes { take result out.new ≡ take at out.old ++ added_bytes E.BIG before2 before1
+        block }
     ensures end { result ≤ at + 32 }
 {
     let b1 = behind(block, before1);
@@ -145,7 +166,7 @@ fn put_block<E: Utf16Order>(
     put_kept(out, at, first, second, ended_bits(b1, block))
 }
 
-// Writes what at most sixteen bytes add behind two: those of a whole block, filled up with bytes
+// Writes the UTF-16 that at most sixteen bytes add after two others, padded to a block with bytes
 // that add nothing.
 #[inline(always)]
 fn put_rest<E: Utf16Order>(
@@ -157,7 +178,8 @@ fn put_rest<E: Utf16Order>(
 ) -> usize
     requires few { length rest.now ≤ 16 }
     requires room { at + 32 ≤ length out.old }
-    ensures bytes { take result out.new ≡ take at out.old ++ added_bytes E.BIG before2 before1 rest.now }
+    ensures bytes { take result out.new ≡ take at out.old ++ added_bytes E.BIG before2 before1
+        rest.now }
     ensures end { result ≤ at + 2 * length rest.now }
 {
     let mut block = [0xFF; 16];
@@ -165,7 +187,7 @@ fn put_rest<E: Utf16Order>(
     put_block::<E>(out, at, before2, before1, u8x16::from_array(block))
 }
 
-// Writes what one byte adds behind two.
+// Writes the UTF-16 that one byte adds after two others.
 #[inline(always)]
 fn put_byte<E: Utf16Order>(out: &mut [u8], at: usize, b2: u8, b1: u8, b0: u8) -> usize
     requires room { at + 2 ≤ length out.old }
@@ -181,9 +203,9 @@ fn put_byte<E: Utf16Order>(out: &mut [u8], at: usize, b2: u8, b1: u8, b0: u8) ->
     at + 2
 }
 
-// The unit that ends at a byte.
+// The code unit that ends at a byte.
 fn unit(b2: u8, b1: u8, b0: u8) -> u16
-    ensures { result ≡ unit_behind b2 b1 b0 }
+    ensures { result ≡ unit_after b2 b1 b0 }
 {
     if b0 < 0x80 {
         return b0 as u16;

@@ -1,16 +1,16 @@
-//! What the tests of this crate share: an assertion.
+//! Assertions that the tests of this crate share.
 
 ghost use Rattle.std.specs.Prelude.{IsTrue};
 
 use std::fmt::Debug;
 use std::process::Abort;
 
-/// What is found is what is wanted.
+/// Asserts that the value found is the expected one.
 pub fn equal<T: PartialEq + Debug + Drop>(rt: &impl Abort, found: T, wanted: T) {
     assert_eq!(rt; found, wanted);
 }
 
-/// What is claimed is so.
+/// Asserts that a claim holds.
 pub fn holds(rt: &impl Abort, is: bool)
     ensures { IsTrue is }
 {

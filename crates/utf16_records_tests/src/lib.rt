@@ -1,11 +1,9 @@
-//! Tests of the fields of records, of transcoders, and of strings that are refused room.
+//! Tests of the fields of records, and of transcoders.
 #![tactic(auto)]
 
 #[cfg(test)]
 mod checks;
 #[cfg(test)]
 mod records;
-#[cfg(test)]
-mod room;
 #[cfg(test)]
 mod transcode;

@@ -1,4 +1,4 @@
-//! Fields of a record, whole, cut off and with bytes changed. CPython wrote it, in either order:
+//! Fields of a record, whole, truncated and with bytes changed. CPython wrote it, in either order:
 //!
 //! ```python
 //! fields = [text.encode(code) for text in ('Grüße', '', '★\U0001F600')]
@@ -7,8 +7,8 @@
 
 use crate::checks::equal;
 use std::process::Abort;
-use utf16_examples::records::{FieldFault, Fields, ReadError, next_field, read_fields};
-use utf16_testing::refusing::Refusing;
+use utf16_examples::records::{FieldErrorKind, Fields, ReadError, next_field, read_fields};
+use utf16_test_support::refusing::Refusing;
 use utf16string::{BE, LE, Utf16Order};
 
 const RECORD: [u8; 22] = [
@@ -21,7 +21,7 @@ const RECORD_BE: [u8; 22] = [
     0xDE, 0,
 ];
 
-// The next field holds this text and ends here.
+// Checks that the next field holds this text and ends at this offset.
 fn field_is<E: Utf16Order>(
     rt: &(impl Abort + AllocGlobal),
     fields: &mut Fields<E>,
@@ -46,14 +46,14 @@ fn read<E: Utf16Order>(rt: &(impl Abort + AllocGlobal), record: &[u8]) {
     equal(rt, (first.len(), rest.len()), (10, 10));
 }
 
-// A mistake that no clause sees: the definition of a record is not that of the worked ones.
+// A bug that no clause excludes: the definition of a record differs from the worked examples.
 #[test]
 fn all_of_a_record(rt: HostRuntime) {
     read::<LE>(&rt, &RECORD);
     read::<BE>(&rt, &RECORD_BE);
 }
 
-// The last error: where its field begins, where the fault stands, and its length if it is no text.
+// Returns the last error: the offsets of field and problem, and `error_len` for ill-formed bytes.
 fn stops(rt: &(impl Abort + AllocGlobal), buffer: &[u8]) -> (usize, usize, Option<Option<usize>>) {
     let mut fields = Fields::<LE>::new(buffer);
     let error = fields.find_map(|field| field.err()).expect(rt, "an error");
@@ -61,12 +61,12 @@ fn stops(rt: &(impl Abort + AllocGlobal), buffer: &[u8]) -> (usize, usize, Optio
     let read = read_fields::<LE, _>(rt.alloc(), buffer).err();
     equal(rt, read == Some(ReadError::Field(error)), true);
     match error.fault {
-        FieldFault::NoCount | FieldFault::Short => (error.field, error.place, None),
-        FieldFault::NoText(e) => (error.field, error.place, Some(e.error_len())),
+        FieldErrorKind::NoCount | FieldErrorKind::Short => (error.field, error.place, None),
+        FieldErrorKind::NoText(e) => (error.field, error.place, Some(e.error_len())),
     }
 }
 
-// The first and the last cut of the record, where the field begins, and where the fault stands.
+// The first and the last length of a truncated record, and the offsets of field and problem.
 const CUTS: [(usize, usize, usize, usize); 4] = [
     (1, 1, 0, 0),
     (2, 11, 0, 2),
@@ -74,9 +74,9 @@ const CUTS: [(usize, usize, usize, usize); 4] = [
     (16, 21, 14, 16),
 ];
 
-// A mistake that no clause sees: the definition takes a field that is cut off for a whole one.
+// A bug that no clause excludes: the definition accepts a truncated field as a whole one.
 #[test]
-fn cut_off(rt: HostRuntime) {
+fn incomplete(rt: HostRuntime) {
     for (first, last, field, place) in CUTS {
         for cut in first..last + 1 {
             let front = RECORD.get(..cut).expect(&rt, "bytes");
@@ -85,7 +85,7 @@ fn cut_off(rt: HostRuntime) {
     }
 }
 
-// A byte of the record changed: which, to what, and where that stops.
+// A changed byte of the record: its index, its value, and the error.
 const CHANGED: [(usize, u8, (usize, usize, Option<Option<usize>>)); 4] = [
     (0, 4, (10, 12, None)),
     (14, 2, (14, 18, Some(None))),
@@ -93,7 +93,7 @@ const CHANGED: [(usize, u8, (usize, usize, Option<Option<usize>>)); 4] = [
     (21, 0, (14, 18, Some(Some(2)))),
 ];
 
-// A mistake that no clause sees: the definition looks past a byte that makes another record.
+// A bug that no clause excludes: the definition ignores a byte that makes another record.
 #[test]
 fn changed(rt: HostRuntime) {
     for (at, byte, wanted) in CHANGED {
@@ -103,7 +103,7 @@ fn changed(rt: HostRuntime) {
     }
 }
 
-// A mistake that no clause sees: a refused request leaves a block behind.
+// A bug that no clause excludes: a failed allocation leaks a block.
 #[test]
 fn memory_refused(rt: HostRuntime) {
     let heap = Refusing::new(rt.alloc());

@@ -1,4 +1,4 @@
--- A predicate that is asked about the characters of a text in turn, one more and several more.
+-- A predicate that is called on the characters of a text in turn, one more and several more.
 use Rattle.std.proofs.Common.{◌≡◌, ℕ, All, ◌+◌, ◌<◌, Bool, true, false, List, [], ◌∷◌, ◌++◌, get_or, length, take, inl, inr, refl, sym, ap, ap₂, ◌∙◌, subst, arith, length-append}
 use Rattle.std.proofs.lemmas.List.{length-take-le, take_more}
 use Rattle.std.proofs.lemmas.List.Elements.{All-cons, All-head, All-nil, All-tail}
@@ -31,7 +31,8 @@ module _ {F : Type 0} (calls : Mut F (ℕ × Unit {0}) Bool) where
   asked-ready f [] may = tt
   asked-ready f (c ∷ text) may = (may.0, λ answer next call. asked-ready next text (may.1 answer next call))
 
-  -- a predicate that may be called on anything in any number of calls may be asked about any text
+  -- a predicate that may be called on anything in any number of calls may be called on any text in
+  -- turn
   pub MayBeAsked-always : (f : F) (text : List ℕ) → always_mut calls f → MayBeAsked calls f text
   MayBeAsked-always f text always = asked-ready f text (always.at (map (λ c. (c, tt)) text))
 
@@ -39,12 +40,12 @@ module _ {F : Type 0} (calls : Mut F (ℕ × Unit {0}) Bool) where
   MayBeAsked-askable f text (inl always) = MayBeAsked-always f text always
   MayBeAsked-askable f text (inr may) = may
 
-  -- a predicate that may be asked about a text may be asked about its front
+  -- a predicate that may be called on a text in turn may be called on a prefix of it
   pub MayBeAsked-front : (f : F) (front back : List ℕ) → MayBeAsked calls f (front ++ back) → MayBeAsked calls f front
   MayBeAsked-front f [] back may = tt
   MayBeAsked-front f (c ∷ front) back may = (may.0, λ answer next call. MayBeAsked-front next front back (may.1 answer next call))
 
-  -- and, once it was, about the others
+  -- and, once it was, on the rest
   pub MayBeAsked-back : (f u : F) (answers : List Bool) (front back : List ℕ) → length answers ≡ length front → ReturnsInTurn (Answers calls) f answers front u
       → MayBeAsked calls f (front ++ back) → MayBeAsked calls u back
   MayBeAsked-back f u [] [] back long asked may = subst (λ g. MayBeAsked calls g back) asked may
@@ -53,7 +54,7 @@ module _ {F : Type 0} (calls : Mut F (ℕ × Unit {0}) Bool) where
   MayBeAsked-back f u (b ∷ answers) (c ∷ front) back long asked may =
       MayBeAsked-back asked.0 u answers front back (omega (arith, long)) asked.2 (may.1 b asked.0 asked.1)
 
-  -- answers about one text and then about another are answers about both
+  -- results for one text and then for another are results for both
   pub asked-append : (p q u : F) (answers more : List Bool) (xs ys : List ℕ) → length answers ≡ length xs
       → ReturnsInTurn (Answers calls) p answers xs q → ReturnsInTurn (Answers calls) q more ys u
       → ReturnsInTurn (Answers calls) p (answers ++ more) (xs ++ ys) u
@@ -72,7 +73,7 @@ module _ {F : Type 0} (calls : Mut F (ℕ × Unit {0}) Bool) where
     ap₂ (λ l m. l ++ m) first.3 then.3 ∙ sym (kept-append first.0 then.0 xs ys first.1),
   )
 
-  -- the answers so far and one more
+  -- the results so far and one more
   module _ (p q u : F) (answers : List Bool) (text : List ℕ) (i : ℕ) (answer : Bool) (long : i < length answers) (room : i < length text)
       (asked : ReturnsInTurn (Answers calls) p (take i answers) (take i text) q) (call : Answers calls q (get_or text i 0) answer u) where
     same : length (take i answers) ≡ length (take i text)

@@ -1,4 +1,4 @@
--- Units that a predicate is asked about one by one, while those that stay are written one behind
+-- Units on which a predicate is called one by one, while those that are kept are written one after
 -- another.
 use Rattle.std.proofs.Common.{◌≡◌, ℕ, ◌+◌, ◌<◌, Bool, true, false, List, [], ◌∷◌, ◌++◌, get_or, length, take, refl, sym, ap, ◌∙◌, subst, append_assoc, append-nil}
 use Rattle.std.proofs.lemmas.List.{take_more}
@@ -13,8 +13,8 @@ use Rattle.utf16_retain.proofs.Asked.{RetainsTo-append}
 use Rattle.utf16_retain.proofs.PlainUnits.{IsUnit, encode-units}
 
 module _ {F : Type 0} (calls : Mut F (ℕ × Unit {0}) Bool) (big : Bool) (first : F) (units front : List ℕ) where
-  -- the predicate was asked about the first i units and left the state f, and those kept stand
-  -- behind `front`, up to `end`
+  -- the predicate was called on the first i units and left the state f, and those kept follow
+  -- `front`, up to `end`
   pub record Keeping (f : F) (bytes : List ℕ) (end i : ℕ) : Type 0 where
     pub left : List ℕ
     pub asked : RetainsTo calls first (take i units) left f
@@ -27,7 +27,7 @@ module _ {F : Type 0} (calls : Mut F (ℕ × Unit {0}) Bool) (big : Bool) (first
     written = held ∙ sym (ap (λ l. front ++ l) (encode-nil big) ∙ append-nil front);
   }
 
-  -- one more, which is kept or goes
+  -- one more, which is kept or removed
   module _ (f u : F) (bytes : List ℕ) (end i : ℕ) (at : Keeping f bytes end i) (room : i < length units) where
     asked-one : (answer : Bool) → Answers calls f (get_or units i 0) answer u
         → RetainsTo calls first (take (i + 1) units) (at.left ++ items_where_true (answer ∷ []) (get_or units i 0 ∷ [])) u

@@ -1,5 +1,5 @@
--- Blocks of units, each a character by itself: their test, their bytes, and those of which a
--- predicate answers true.
+-- Blocks of units, each of which is a character: their test, their bytes, and those for which a
+-- predicate returns true.
 use Rattle.std.proofs.Common.{◌≡◌, ℕ, ◌+◌, ◌-◌, ◌*◌, ◌/◌, ◌%◌, ◌^◌, ◌<◌, ◌≤◌, Bool, true, false, cond, not, nat_eq, bit_and, List, [], ◌∷◌, ◌++◌, All, get_or, length, map, replicate, take, drop, refl, sym, ap, ap₂, ◌∙◌, subst, arith, append_assoc, length-append, flat_map}
 use Rattle.std.proofs.lemmas.Bool.{eqb-false, false≢true}
 use Rattle.std.proofs.lemmas.Grind.{flat_map-append}
@@ -22,7 +22,7 @@ use Rattle.utf16_retain.proofs.Asked.{All-kept, kept-append}
 use Rattle.utf16_units.proofs.CharLemmas.{one_unit_bytes}
 use Rattle.utf16_units.proofs.UnitLemmas.{length-units_bytes}
 
--- a unit whose high five bits are not those of a surrogate is a character
+-- a unit whose upper five bits are not those of a surrogate is a character
 scalar-high : (u : ℕ) → u < 0x1_0000 → nat_eq (bit_and u 0xF800) 0xD800 ≡ false → IsScalar u
 scalar-high u below other =
     let high : bit_and u 0xF800 ≡ u / 2048 % 32 * 2048 = and_high u 5 11 in
@@ -41,7 +41,7 @@ is_surrogate u = nat_eq (bit_and u 0xF800) 0xD800
 abbrev pub lane_bits : List ℕ → ℕ
 lane_bits units = mask_l (map (top 15) (zip2 (λ a b. cond (nat_eq a b) 65535 0) (zip2 bit_and units (replicate 16 0xF800)) (replicate 16 0xD800))) % 2 ^ 64
 
--- how many units stand before the first surrogate
+-- how many units precede the first surrogate
 abbrev pub plain_len : List ℕ → ℕ
 plain_len units = prefix_len (λ u. not (is_surrogate u)) units
 
@@ -74,7 +74,7 @@ length-kept (b ∷ answers) [] = elim b [ true ↦ omega arith | false ↦ omega
 length-kept (true ∷ answers) (d ∷ items) = omega (arith, length-kept answers items)
 length-kept (false ∷ answers) (d ∷ items) = omega (arith, length-kept answers items)
 
--- where as many are kept as there are, all are
+-- if as many are kept as there are, all are
 pub kept-all : {X : Type 0} → (answers : List Bool) (items : List X) → length (items_where_true answers items) ≡ length items → items_where_true answers items ≡ items
 kept-all [] [] many = refl
 kept-all [] (d ∷ items) many = absurd (omega (arith, many))
@@ -83,7 +83,7 @@ kept-all (false ∷ answers) [] many = refl
 kept-all (true ∷ answers) (d ∷ items) many = ap (λ l. d ∷ l) (kept-all answers items (omega (arith, many)))
 kept-all (false ∷ answers) (d ∷ items) many = absurd (omega (arith, many, length-kept answers items))
 
--- what is kept of the first units and one more, where the answer about it is known
+-- what is kept of the first units and one more, for which the result is known
 module _ (answers : List Bool) (units : List ℕ) (i : ℕ) (answer : Bool) (long : i < length answers) (room : i < length units) where
   same : length (take i answers) ≡ length (take i units)
   same = length-take-le i answers (omega arith) ∙ sym (length-take-le i units (omega arith))
@@ -104,7 +104,7 @@ pub bool_byte-below : (b : Bool) → bool_byte b ≤ 1
 bool_byte-below true = omega arith
 bool_byte-below false = omega arith
 
--- a step of writing those kept, behind what stands in front
+-- a step of writing those kept, after what precedes them
 pub written-more : (big : Bool) (front : List ℕ) (answers : List Bool) (units : List ℕ) (i : ℕ) (answer : Bool) → i < length answers → i < length units
     → get_or answers i false ≡ answer → (old new : List ℕ) → old ≡ front ++ flat_map (unit_bytes big) (items_where_true (take i answers) (take i units))
     → new ≡ old ++ flat_map (unit_bytes big) (items_where_true (answer ∷ []) (get_or units i 0 ∷ []))
@@ -116,7 +116,7 @@ written-more big front answers units i answer long room is old new so_far more =
     ∙ ap (λ l. front ++ flat_map (unit_bytes big) (items_where_true l (take (i + 1) units)))
     (ap (λ b. take i answers ++ b ∷ []) (sym is) ∙ sym (take_more answers i false long))
 
--- what agrees from one place on agrees from each later one on
+-- lists that agree from one index on agree from each later one on
 pub drop-later : (a b : ℕ) (xs ys : List ℕ) → a ≤ b → drop a xs ≡ drop a ys → drop b xs ≡ drop b ys
 drop-later a b xs ys le same_from =
     let all : a + (b - a) ≡ b = omega arith in
@@ -143,13 +143,13 @@ pub encode-kept : (big : Bool) (answers : List Bool) (units : List ℕ) → All 
 encode-kept big answers units below =
     encode-units big (items_where_true answers units) (All-kept IsUnit answers units below)
 
--- the first n units of what was read from an index on spell the next 2 * n bytes
+-- the first n units of what was read from an index on encode to the next 2 * n bytes
 pub front-here : (big : Bool) (units bytes : List ℕ) (n read : ℕ) → Encodes big (take n units) (take (2 * n) (take (length bytes - read) (drop read bytes)))
     → Encodes big (take n units) (take (2 * n) (drop read bytes))
 front-here big units bytes n read e =
     subst (λ l. Encodes big (take n units) (take (2 * n) l)) (take_all (length bytes - read) (drop read bytes) (omega (arith, length-drop read bytes))) e
 
--- all sixteen spell the next thirty-two bytes
+-- all sixteen encode to the next thirty-two bytes
 pub whole-here : (big : Bool) (units bytes : List ℕ) (read : ℕ) → Encodes big (take 16 units) (take 32 (take (length bytes - read) (drop read bytes)))
     → length units ≡ 16 → Encodes big units (take 32 (drop read bytes))
 whole-here big units bytes read e long =

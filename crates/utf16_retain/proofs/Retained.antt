@@ -1,12 +1,12 @@
--- A text of which a predicate keeps some characters, while their bytes are moved to the front.
+-- A text of which a predicate keeps some characters, while their bytes are moved down in place.
 use Rattle.std.proofs.Common.{◌≡◌, ℕ, ◌+◌, ◌≤◌, All, Bool, List, [], ◌∷◌, ◌++◌, length, take, drop, refl, sym, ap, ◌∙◌, subst, arith, append_assoc, append-nil}
 use Rattle.std.proofs.lemmas.List.{drop-drop, take-append-drop}
 use Rattle.std.proofs.lemmas.List.Elements.{All-append, All-nil}
 use Rattle.std.specs.Char.{IsScalar}
 use Rattle.std.specs.Fn.{Mut}
 use Rattle.utf16_units.specs.Boundary.{IsBoundary}
-use Rattle.utf16_units.specs.Encoding.{Encodes, IsText, char_size, encode, text_of}
-use Rattle.utf16_units.proofs.EncodingLemmas.{Encodes-text_of, IsText-from_Encodes, IsText-rest, encode-append, encode-nil, text_of-Encodes, text_of-append, text_of-nil, size-cons, size-nil}
+use Rattle.utf16_units.specs.Encoding.{Encodes, IsUtf16, char_size, encode, text_of}
+use Rattle.utf16_units.proofs.EncodingLemmas.{Encodes-text_of, IsUtf16-from_Encodes, IsUtf16-rest, encode-append, encode-nil, text_of-Encodes, text_of-append, text_of-nil, size-cons, size-nil}
 use Rattle.utf16_units.proofs.BoundaryLemmas.{Encodes-to, text_to-front}
 use Rattle.utf16_retain.specs.Retain.{MayBeAsked, RetainsTo}
 use Rattle.utf16_retain.proofs.Asked.{All-kept, MayBeAsked-back, MayBeAsked-front, RetainsTo-append}
@@ -22,8 +22,8 @@ module _ (big : Bool) (c : ℕ) (text bytes : List ℕ) (e : Encodes big (c ∷ 
 
 module _ {F : Type 0} (calls : Mut F (ℕ × Unit {0}) Bool) where
   module _ (big : Bool) (first : F) (text : List ℕ) where
-    -- the predicate was asked about `done` and left the state f, and `rest` is to come. What it
-    -- keeps of `done` stands in the first `kept` bytes, and `rest` in those from `read` on
+    -- the predicate was called on `done` and left the state f, and `rest` is to come. What it keeps
+    -- of `done` is in the first `kept` bytes, and `rest` in those from `read` on
     pub record Retaining (f : F) (bytes : List ℕ) (kept read : ℕ) : Type 0 where
       pub done : List ℕ
       pub left : List ℕ
@@ -35,7 +35,7 @@ module _ {F : Type 0} (calls : Mut F (ℕ × Unit {0}) Bool) where
       pub may : MayBeAsked calls f rest
       pub order : (kept ≤ read) × (read ≤ length bytes)
 
-    -- nothing was asked yet
+    -- no call yet
     pub Retaining-start : (bytes : List ℕ) → Encodes big text bytes → MayBeAsked calls first text → Retaining first bytes 0 0
     Retaining-start bytes e may = record {
       done = [];
@@ -50,15 +50,15 @@ module _ {F : Type 0} (calls : Mut F (ℕ × Unit {0}) Bool) where
     }
 
     module _ (f : F) (bytes : List ℕ) (kept read : ℕ) (at : Retaining f bytes kept read) where
-      -- all was asked, where no bytes are left
+      -- if no bytes are left, the predicate was called on all
       module _ (none : drop read bytes ≡ []) where
         all-asked : at.done ≡ text
         all-asked =
             sym (append-nil at.done) ∙ ap (λ l. at.done ++ l) (sym (ap (text_of big) none ∙ text_of-nil big) ∙ text_of-Encodes _ _ _ at.ahead) ∙ at.split
 
-        pub Retaining-end : IsText big (take kept bytes) × RetainsTo calls first text (text_of big (take kept bytes)) f
+        pub Retaining-end : IsUtf16 big (take kept bytes) × RetainsTo calls first text (text_of big (take kept bytes)) f
         Retaining-end = (
-          IsText-from_Encodes _ _ _ at.held,
+          IsUtf16-from_Encodes _ _ _ at.held,
           subst (λ l. RetainsTo calls first l (text_of big (take kept bytes)) f) all-asked
               (subst (λ l. RetainsTo calls first at.done l f) (sym (text_of-Encodes _ _ _ at.held)) at.asked),
         )
@@ -72,12 +72,12 @@ module _ {F : Type 0} (calls : Mut F (ℕ × Unit {0}) Bool) where
         unfolding others
         whole = take-append-drop n (drop read bytes)
 
-        front : IsText big (take n (drop read bytes))
-        front = IsText-from_Encodes _ _ _ here
+        front : IsUtf16 big (take n (drop read bytes))
+        front = IsUtf16-from_Encodes _ _ _ here
 
-        back : IsText big others
+        back : IsUtf16 big others
         unfolding others
-        back = IsText-rest big (take n (drop read bytes)) others front (subst (IsText big) (sym whole) (IsText-from_Encodes _ _ _ at.ahead))
+        back = IsUtf16-rest big (take n (drop read bytes)) others front (subst (IsUtf16 big) (sym whole) (IsUtf16-from_Encodes _ _ _ at.ahead))
 
         coming : at.rest ≡ xs ++ text_of big others
         coming =
@@ -90,7 +90,8 @@ module _ {F : Type 0} (calls : Mut F (ℕ × Unit {0}) Bool) where
         pub may-ask : MayBeAsked calls f xs
         may-ask = MayBeAsked-front calls f xs _ may-others
 
-        -- they are asked about, and what is kept of them is moved behind what was kept before
+        -- the predicate is called on them, and what it keeps of them is moved after what was kept
+        -- before
         pub Retaining-step : (u : F) (left : List ℕ) → RetainsTo calls f xs left u → (moved : List ℕ) (k : ℕ) → length moved ≡ length bytes
             → take k moved ≡ take kept bytes ++ encode big left → drop (read + n) moved ≡ drop (read + n) bytes → k ≤ read + n
             → Retaining u moved k (read + n)
@@ -110,7 +111,7 @@ module _ {F : Type 0} (calls : Mut F (ℕ × Unit {0}) Bool) where
           order = (down, omega (arith, within, long));
         }
 
-        -- the same, where what is kept comes with its bytes
+        -- the same, if what is kept comes with its bytes
         pub Retaining-kept : (u : F) (moved : List ℕ) (k : ℕ) → length moved ≡ length bytes
             → (left : List ℕ) × RetainsTo calls f xs left u × (take k moved ≡ take kept bytes ++ encode big left)
             → drop (read + n) moved ≡ drop (read + n) bytes → k ≤ read + n → Retaining u moved k (read + n)

@@ -1,5 +1,5 @@
-//! Blocks of sixteen units, of which a predicate keeps characters: asked about together where no
-//! surrogate is among them.
+//! Blocks of sixteen units, of which a predicate keeps characters: tested together if there is no
+//! surrogate among them.
 
 ghost use Rattle.std.specs.Prelude.{◌≡◌, ◌+◌, ◌*◌, ◌<◌, ◌≤◌, ◌++◌, ℕ, All, List, length, take, drop, true, false};
 ghost use Rattle.std.specs.Char.{IsScalar};
@@ -12,29 +12,30 @@ use std::simd::prelude::*;
 use utf16_units::Utf16Order;
 use utf16_units::blocks::units16;
 
-/// How many units a block has.
+/// The number of units of a block.
 pub(crate) const UNITS: usize = 16;
 
-/// How many units half of a block has.
+/// The number of units of half a block.
 pub(crate) const HALF: usize = 8;
 
-/// How many bytes a block takes.
+/// The number of bytes of a block.
 pub(crate) const BLOCK: usize = 32;
 
-// The units of the block at the front, and how many of them stand before the first surrogate: each
-// of these is a character.
+// The units of the block at the start, and how many of them precede the first surrogate: each of
+// these is a character.
 #[inline]
 pub(crate) fn plain_units<E: Utf16Order>(raw: &[u8]) -> ([u16; UNITS], usize)
     requires { BLOCK ≤ length raw.now }
     ensures few { result.1 ≤ UNITS }
     ensures units { All (λ unit. unit < 0x1_0000) result.0 }
-    ensures spelled { (n : ℕ) → n ≤ result.1 → Encodes E.BIG (take n result.0) (take (2 * n) raw.now) }
+    ensures spelled { (n : ℕ) → n ≤ result.1
+        → Encodes E.BIG (take n result.0) (take (2 * n) raw.now) }
 {
     let units = units16::<E>(u8x32::from_slice(raw));
     (units.to_array(), plain_front(units))
 }
 
-// How many units stand before the first surrogate.
+// The number of units before the first surrogate.
 #[inline(always)]
 fn plain_front(units: u16x16) -> usize
     ensures few { result ≤ UNITS }
@@ -50,8 +51,8 @@ fn plain_front(units: u16x16) -> usize
     }
 }
 
-// Asks about each character of a block or of half of one, in turn, and moves those that stay down.
-// Answers where they end.
+// Calls the predicate on each character of a block or of half of one, in turn, and moves those kept
+// down. Returns the end of those kept.
 #[inline(always)]
 pub(crate) fn keep_block<E: Utf16Order, F: FnMut(char) -> bool, const N: usize>(
     bytes: &mut [u8],
@@ -65,7 +66,8 @@ pub(crate) fn keep_block<E: Utf16Order, F: FnMut(char) -> bool, const N: usize>(
     requires units { All (λ unit. unit < 0x1_0000) units.now }
     requires here { Encodes E.BIG units.now (take (2 * N) (drop start bytes.old)) }
     requires askable { MayBeAsked F.FnMut keep.old units.now }
-    ensures kept { (left : List ℕ) × RetainsTo F.FnMut keep.old units.now left keep.new × (take result bytes.new ≡ take to bytes.old ++ encode E.BIG left) }
+    ensures kept { (left : List ℕ) × RetainsTo F.FnMut keep.old units.now left keep.new
+        × (take result bytes.new ≡ take to bytes.old ++ encode E.BIG left) }
     ensures behind { drop (start + 2 * N) bytes.new ≡ drop (start + 2 * N) bytes.old }
     ensures down { result ≤ start + 2 * N }
 {
@@ -73,7 +75,7 @@ pub(crate) fn keep_block<E: Utf16Order, F: FnMut(char) -> bool, const N: usize>(
     move_block::<E, N>(bytes, to, start, units, &answers, many)
 }
 
-// Asks about each character of a block, in turn, and counts those that stay.
+// Calls the predicate on each character of a block, in turn, and counts those kept.
 #[inline]
 fn ask_each<F: FnMut(char) -> bool, const N: usize>(
     keep: &mut F,
@@ -81,7 +83,8 @@ fn ask_each<F: FnMut(char) -> bool, const N: usize>(
 ) -> ([bool; N], usize)
     requires scalars { All IsScalar units.now }
     requires askable { MayBeAsked F.FnMut keep.old units.now }
-    ensures asked { RetainsTo F.FnMut keep.old units.now (items_where_true result.0 units.now) keep.new }
+    ensures asked { RetainsTo F.FnMut keep.old units.now (items_where_true result.0 units.now)
+        keep.new }
     ensures many { result.1 ≡ length (items_where_true result.0 units.now) }
 {
     let mut answers = [false; N];
@@ -94,8 +97,8 @@ fn ask_each<F: FnMut(char) -> bool, const N: usize>(
     (answers, many)
 }
 
-// Asks about each of a few characters, in turn, and writes each that stays behind those before it,
-// over bytes up to their end. Answers where they end.
+// Calls the predicate on each of a few characters, in turn, and writes those kept one after
+// another; no byte after these characters changes. Returns the end of those kept.
 #[inline]
 pub(crate) fn keep_each<E: Utf16Order, F: FnMut(char) -> bool>(
     bytes: &mut [u8],
@@ -108,8 +111,10 @@ pub(crate) fn keep_each<E: Utf16Order, F: FnMut(char) -> bool>(
     requires within { start + 2 * length units.now ≤ length bytes.old }
     requires scalars { All IsScalar units.now }
     requires askable { MayBeAsked F.FnMut keep.old units.now }
-    ensures kept { (left : List ℕ) × RetainsTo F.FnMut keep.old units.now left keep.new × (take result bytes.new ≡ take to bytes.old ++ encode E.BIG left) }
-    ensures behind { drop (start + 2 * length units.now) bytes.new ≡ drop (start + 2 * length units.now) bytes.old }
+    ensures kept { (left : List ℕ) × RetainsTo F.FnMut keep.old units.now left keep.new
+        × (take result bytes.new ≡ take to bytes.old ++ encode E.BIG left) }
+    ensures behind { drop (start + 2 * length units.now) bytes.new
+        ≡ drop (start + 2 * length units.now) bytes.old }
     ensures down { result ≤ start + 2 * length units.now }
 {
     let mut end = to;
@@ -122,8 +127,8 @@ pub(crate) fn keep_each<E: Utf16Order, F: FnMut(char) -> bool>(
     end
 }
 
-// Moves the characters of a block that stay down, and answers where they end. All of them are moved
-// at once.
+// Moves the characters of a block that are kept down; if all are kept, by one move. Returns their
+// end.
 #[inline(always)]
 fn move_block<E: Utf16Order, const N: usize>(
     bytes: &mut [u8],
@@ -138,7 +143,8 @@ fn move_block<E: Utf16Order, const N: usize>(
     requires units { All (λ unit. unit < 0x1_0000) units.now }
     requires here { Encodes E.BIG units.now (take (2 * N) (drop start bytes.old)) }
     requires many { many ≡ length (items_where_true answers.now units.now) }
-    ensures moved { take result bytes.new ≡ take to bytes.old ++ encode E.BIG (items_where_true answers.now units.now) }
+    ensures moved { take result bytes.new ≡ take to bytes.old
+        ++ encode E.BIG (items_where_true answers.now units.now) }
     ensures behind { drop (start + 2 * N) bytes.new ≡ drop (start + 2 * N) bytes.old }
     ensures down { result ≤ start + 2 * N }
 {
@@ -157,7 +163,8 @@ fn move_block<E: Utf16Order, const N: usize>(
 fn move_all<const N: usize>(bytes: &mut [u8], to: usize, start: usize)
     requires down { to ≤ start }
     requires within { start + 2 * N ≤ length bytes.old }
-    ensures moved { take (to + 2 * N) bytes.new ≡ take to bytes.old ++ take (2 * N) (drop start bytes.old) }
+    ensures moved { take (to + 2 * N) bytes.new ≡ take to bytes.old
+        ++ take (2 * N) (drop start bytes.old) }
     ensures behind { drop (start + 2 * N) bytes.new ≡ drop (start + 2 * N) bytes.old }
 {
     if to < start {
@@ -165,7 +172,7 @@ fn move_all<const N: usize>(bytes: &mut [u8], to: usize, start: usize)
     }
 }
 
-// Writes the units that stay one behind another, over bytes up to the end of their block.
+// Writes the units that are kept one after another; no byte after their block changes.
 #[inline]
 fn write_some<E: Utf16Order, const N: usize>(
     bytes: &mut [u8],
@@ -176,7 +183,8 @@ fn write_some<E: Utf16Order, const N: usize>(
 ) -> usize
     requires down { to ≤ start }
     requires within { start + 2 * N ≤ length bytes.old }
-    ensures written { take result bytes.new ≡ take to bytes.old ++ flat_map (unit_bytes E.BIG) (items_where_true answers.now units.now) }
+    ensures written { take result bytes.new ≡ take to bytes.old ++ flat_map (unit_bytes E.BIG)
+        (items_where_true answers.now units.now) }
     ensures behind { drop (start + 2 * N) bytes.new ≡ drop (start + 2 * N) bytes.old }
     ensures down { result ≤ start + 2 * N }
 {

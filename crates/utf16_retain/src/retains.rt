@@ -1,28 +1,42 @@
-//! The characters of UTF-16 that a predicate keeps, moved to the front where they stand.
+//! Retains the characters of UTF-16 that a predicate accepts, in place.
 
 ghost use Rattle.std.specs.Prelude.{◌≡◌, ◌⊎◌, ◌+◌, ◌<◌, ◌≤◌, [], ◌∷◌, ◌++◌, IfSome, List, ℕ, length, take, drop};
-ghost use Rattle.utf16_units.specs.Encoding.{Encodes, IsText, char_size, encode, text_of};
+ghost use Rattle.utf16_units.specs.Encoding.{Encodes, IsUtf16, char_size, encode, text_of};
 ghost use Rattle.utf16_retain.specs.Retain.{MayBeAsked, RetainsTo};
 
 use crate::blocks::{BLOCK, HALF, UNITS, keep_block, keep_each, plain_units};
 use utf16_units::ends::first_char;
 use utf16_units::{Utf16Order, is_leading_surrogate};
 
-/// Moves the characters that the predicate keeps to the front, and answers how many bytes they
-/// take. The predicate is asked once about each character, from the front to the back, and its
-/// state runs through. Nothing is moved before the first character that goes; what is behind those
-/// kept has no meaning. The caller proves that the bytes are well formed in the order `E`, and that
-/// the predicate may be asked about each character in turn. In time linear in the length.
-pub fn move_kept<E: Utf16Order, F: FnMut(char) -> bool>(bytes: &mut [u8], keep: &mut F) -> usize
-    requires text { IsText E.BIG bytes.old }
+/// Moves the characters for which `keep` returns `true` to the start of `bytes`, and returns the
+/// length of these in bytes.
+///
+/// `keep` is called once for each character, from first to last, and its state carries through.
+/// Nothing is moved before the first character that is removed. The bytes after those kept are
+/// unspecified.
+///
+/// # Precondition
+///
+/// `bytes` is well-formed UTF-16 in the byte order `E` (check with
+/// `utf16_units::validate_raw_utf16`), and `keep` may be called on each character in turn.
+///
+/// # Complexity
+///
+/// Linear in the length.
+pub fn retain_in_place<E: Utf16Order, F: FnMut(char) -> bool>(
+    bytes: &mut [u8],
+    keep: &mut F,
+) -> usize
+    requires text { IsUtf16 E.BIG bytes.old }
     requires askable { MayBeAsked F.FnMut keep.old (text_of E.BIG bytes.old) }
-    ensures kept { IsText E.BIG (take result bytes.new) }
-    ensures text { RetainsTo F.FnMut keep.old (text_of E.BIG bytes.old) (text_of E.BIG (take result bytes.new)) keep.new }
+    ensures kept { IsUtf16 E.BIG (take result bytes.new) }
+    ensures text { RetainsTo F.FnMut keep.old (text_of E.BIG bytes.old)
+        (text_of E.BIG (take result bytes.new)) keep.new }
     ensures within { result ≤ length bytes.old }
 {
-    // Sixteen characters of one unit each are asked about together. Where there is a pair among the
-    // next sixteen units, the first eight are asked about together if they stand before it, and
-    // else those before it one by one.
+    // Sixteen characters of one unit each are tested together. If there is a surrogate pair among
+    // the next sixteen units, the first eight are tested together if they come before it, and
+    // otherwise those before it one by one.
     let mut kept = 0;
     let mut read = 0;
     while read < bytes.len() {
@@ -57,12 +71,12 @@ pub fn move_kept<E: Utf16Order, F: FnMut(char) -> bool>(bytes: &mut [u8], keep: 
     kept
 }
 
-// The character at an index, if it has one unit. Those of one unit have a branch of their own in
-// the loop, so that the next place does not wait for a size computed from what was read.
+// The character at an index, if it has one unit. Those of one unit have their own branch in the
+// loop, so that the next index does not wait for a size computed from what was read.
 #[inline]
 fn single_at<E: Utf16Order>(bytes: &[u8], at: usize) -> Option<char>
     requires within { at < length bytes.now }
-    requires text { IsText E.BIG (drop at bytes.now) }
+    requires text { IsUtf16 E.BIG (drop at bytes.now) }
     ensures char { IfSome result (λ c. Encodes E.BIG (c ∷ []) (take 2 (drop at bytes.now))) }
     ensures within { at + 2 ≤ length bytes.now }
 {
@@ -78,7 +92,7 @@ fn single_at<E: Utf16Order>(bytes: &[u8], at: usize) -> Option<char>
 #[inline]
 fn char_from<E: Utf16Order>(bytes: &[u8], at: usize) -> (char, usize)
     requires within { at < length bytes.now }
-    requires text { IsText E.BIG (drop at bytes.now) }
+    requires text { IsUtf16 E.BIG (drop at bytes.now) }
     ensures char { Encodes E.BIG (result.0 ∷ []) (take result.1 (drop at bytes.now)) }
     ensures size { result.1 ≡ char_size result.0 }
     ensures within { at + result.1 ≤ length bytes.now }
@@ -86,8 +100,8 @@ fn char_from<E: Utf16Order>(bytes: &[u8], at: usize) -> (char, usize)
     first_char::<E>(&bytes[at..])
 }
 
-// Asks about the character at an index, and moves it down if it stays. Answers where those that
-// stay end.
+// Calls the predicate on the character at an index, and moves it down if it is kept. Returns the
+// end of those kept.
 #[inline]
 fn keep_one<E: Utf16Order, F: FnMut(char) -> bool>(
     bytes: &mut [u8],
@@ -102,7 +116,8 @@ fn keep_one<E: Utf16Order, F: FnMut(char) -> bool>(
     requires within { start + size ≤ length bytes.old }
     requires here { Encodes E.BIG (c ∷ []) (take size (drop start bytes.old)) }
     requires askable { MayBeAsked F.FnMut keep.old (c ∷ []) }
-    ensures kept { (left : List ℕ) × RetainsTo F.FnMut keep.old (c ∷ []) left keep.new × (take result bytes.new ≡ take to bytes.old ++ encode E.BIG left) }
+    ensures kept { (left : List ℕ) × RetainsTo F.FnMut keep.old (c ∷ []) left keep.new
+        × (take result bytes.new ≡ take to bytes.old ++ encode E.BIG left) }
     ensures behind { drop (start + size) bytes.new ≡ drop (start + size) bytes.old }
     ensures down { result ≤ start + size }
 {
@@ -114,7 +129,7 @@ fn keep_one<E: Utf16Order, F: FnMut(char) -> bool>(
     }
 }
 
-// Asks about one character, once.
+// Calls the predicate once, on one character.
 #[inline]
 fn ask<F: FnMut(char) -> bool>(keep: &mut F, c: char) -> bool
     requires { F.pre keep.old c }
@@ -129,7 +144,8 @@ fn move_down(bytes: &mut [u8], to: usize, start: usize, size: usize)
     requires down { to ≤ start }
     requires size { (size ≡ 2) ⊎ (size ≡ 4) }
     requires within { start + size ≤ length bytes.old }
-    ensures moved { take (to + size) bytes.new ≡ take to bytes.old ++ take size (drop start bytes.old) }
+    ensures moved { take (to + size) bytes.new ≡ take to bytes.old
+        ++ take size (drop start bytes.old) }
     ensures behind { drop (start + size) bytes.new ≡ drop (start + size) bytes.old }
 {
     if to < start {

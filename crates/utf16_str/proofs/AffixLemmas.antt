@@ -1,18 +1,18 @@
--- What a text begins and ends with, by its bytes.
+-- Prefixes and suffixes of a text, by its bytes.
 use Rattle.std.proofs.Common.{◌≡◌, ℕ, ◌+◌, ◌-◌, ◌%◌, Bool, true, nat_eq, ◌↔◌, List, [], ◌∷◌, ◌++◌, length, take, take_all, drop, refl, sym, ap, ◌∙◌, subst, arith, append-nil, length-append, drop_at}
 use Rattle.std.proofs.lemmas.Bool.Decides.{Decides-eqb}
 use Rattle.std.proofs.lemmas.Slice.Eq.{ends_is, starts_is}
 use Rattle.std.specs.List.{ends_with, starts_with}
 use Rattle.utf16_units.specs.Boundary.{IsBoundary, text_between, text_from, text_to}
-use Rattle.utf16_units.specs.Encoding.{IsText, encode, size, text_of}
+use Rattle.utf16_units.specs.Encoding.{IsUtf16, encode, size, text_of}
 use Rattle.utf16_units.proofs.BackChar.{length-even}
 use Rattle.utf16_units.proofs.BoundaryLemmas.{text_between-end, text_from-at, text_to-at, text_to-text_from}
 use Rattle.utf16_units.proofs.EncodingLemmas.{Encodes-text_of, encode-append, encode-text_of, length-text, text_of-append}
 use Rattle.utf16_units.proofs.LawProofs.{found_exactly}
 use Rattle.utf16_units.proofs.PartLemmas.{IsBoundary-seam}
 
-module _ (big : Bool) (bytes part : List ℕ) (t : IsText big bytes) (p : IsText big part) where
-  -- bytes that begin with those of a part are those of a text that begins with it
+module _ (big : Bool) (bytes part : List ℕ) (t : IsUtf16 big bytes) (p : IsUtf16 big part) where
+  -- bytes that start with those of a part are those of a text that starts with it
   pub text_begins : (rest : List ℕ) → bytes ≡ part ++ rest → text_of big bytes ≡ text_of big part ++ text_of big rest
   text_begins rest e = ap (text_of big) e ∙ text_of-append big part rest p
 
@@ -33,7 +33,7 @@ module _ (big : Bool) (bytes part : List ℕ) (t : IsText big bytes) (p : IsText
         λ begins. is.1 (encode big begins.0) (bytes_begin begins.0 begins.1),
       )
 
-  -- and bytes that end with them those of a text that ends with it
+  -- and bytes that end with them are those of a text that ends with it
   pub text_ends : (front : List ℕ) → bytes ≡ front ++ part → (before : List ℕ) × (text_of big bytes ≡ before ++ text_of big part)
   text_ends front e = by_part (text_of big part) refl where
     by_part : (found : List ℕ) → found ≡ text_of big part → (before : List ℕ) × (text_of big bytes ≡ before ++ text_of big part)
@@ -58,7 +58,7 @@ module _ (big : Bool) (bytes part : List ℕ) (t : IsText big bytes) (p : IsText
         λ ends. is.1 (encode big ends.0) (bytes_end ends.0 ends.1),
       )
 
--- a text cut behind a part at its front, or before one at its end
+-- a text split after a prefix, or before a suffix
 pub record IsCutBetween (front back text : List ℕ) (i : ℕ) : Type 0 where
   pub boundary : IsBoundary text i
   pub to : text_to text i ≡ front

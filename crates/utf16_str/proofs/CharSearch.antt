@@ -1,4 +1,4 @@
--- A search for a character from the front, over the characters beside their offsets.
+-- A forward search for a character, over the characters with their offsets.
 use Rattle.std.proofs.Common.{◌≡◌, ◌≢◌, ℕ, ◌+◌, List, [], ◌∷◌, ◌++◌, refl, sym, ap, ◌∙◌, subst, append_assoc, append-nil, arith}
 use Rattle.std.proofs.lemmas.List.Elements.{All-head, All-nil, All-push, All-tail}
 use Rattle.utf16_units.specs.Boundary.{IsBoundary, text_from, text_to}
@@ -9,7 +9,7 @@ use Rattle.utf16_units.proofs.EncodingLemmas.{size-append, size-cons, size-nil}
 use Rattle.utf16_str.specs.Offsets.{IsCharAt, char_offsets}
 use Rattle.utf16_str.proofs.OffsetLemmas.{char_at_size, char_offsets-cons, char_offsets-nil}
 
--- the characters passed lack the one that is looked for, and the items left are those of the rest
+-- the characters passed are not the wanted one, and the items left are those of the rest
 pub record IsPassed (wanted : ℕ) (text : List ℕ) (items : List (ℕ × ℕ)) : Type 0 where
   pub front : List ℕ
   pub rest : List ℕ
@@ -17,7 +17,7 @@ pub record IsPassed (wanted : ℕ) (text : List ℕ) (items : List (ℕ × ℕ))
   pub left : items ≡ char_offsets (size front) rest
   pub lacks : Lacks wanted front
 
--- the character stands at the offset, for the first time
+-- the first occurrence of the character is at the offset
 pub record IsFirstAt (wanted : ℕ) (text : List ℕ) (i : ℕ) : Type 0 where
   pub start : IsBoundary text i
   pub end : IsBoundary text (i + char_size wanted)
@@ -68,7 +68,7 @@ module _ (wanted : ℕ) (text : List ℕ) (items : List (ℕ × ℕ)) (i c : ℕ
         lacks = subst (Lacks wanted) (sym before) passed.lacks;
       }
 
--- where nothing is left, the text lacks it
+-- if nothing is left, the character does not occur in the text
 none_left : (wanted : ℕ) (text front rest : List ℕ) → text ≡ front ++ rest → [] ≡ char_offsets (size front) rest → Lacks wanted front → Lacks wanted text
 none_left wanted text front [] is left lacks = subst (Lacks wanted) (sym (is ∙ append-nil front)) lacks
 none_left wanted text front (c ∷ rest) is left lacks = absurd (cc (left ∙ char_offsets-cons (size front) c rest))
@@ -76,7 +76,7 @@ none_left wanted text front (c ∷ rest) is left lacks = absurd (cc (left ∙ ch
 pub passed-all : (wanted : ℕ) (text : List ℕ) → IsPassed wanted text [] → Lacks wanted text
 passed-all wanted text passed = none_left wanted text passed.front passed.rest passed.split passed.left passed.lacks
 
--- a text that has a character lacks it not
+-- a text in which a character occurs does not lack it
 has : (wanted : ℕ) (front back : List ℕ) → Lacks wanted (front ++ wanted ∷ back) → ⊥
 has wanted [] back lacks = All-head (λ c. c ≢ wanted) wanted back lacks refl
 has wanted (c ∷ front) back lacks = has wanted front back (All-tail (λ c. c ≢ wanted) c (front ++ wanted ∷ back) lacks)
@@ -84,5 +84,5 @@ has wanted (c ∷ front) back lacks = has wanted front back (All-tail (λ c. c �
 pub lacks-not : (wanted : ℕ) (text front back : List ℕ) → text ≡ front ++ wanted ∷ back → Lacks wanted text → ⊥
 lacks-not wanted text front back is lacks = has wanted front back (subst (Lacks wanted) is lacks)
 
--- a loop that goes on where the character is another
+-- a loop that continues while the character is another
 pub ruleset passing = (passed-start, passed-step, lacks-not)

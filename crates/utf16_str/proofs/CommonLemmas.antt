@@ -1,4 +1,4 @@
--- Two texts read side by side, up to the first character that differs.
+-- Two texts read in parallel, up to the first character that differs.
 use Rattle.std.proofs.Common.{◌≡◌, ℕ, ◌+◌, Bool, true, false, not, nat_eq, List, [], ◌∷◌, ◌++◌, Option, None, Some, refl, sym, ap, ◌∙◌, subst, append_assoc, append-nil, arith, eqb-true, eq-eqb}
 use Rattle.std.specs.Option.{MatchOption, option_eq}
 use Rattle.utf16_units.specs.Boundary.{text_to}
@@ -11,7 +11,7 @@ use Rattle.utf16_str.proofs.CharSearch.{next}
 use Rattle.utf16_str.proofs.OffsetLemmas.{char_offsets-cons}
 
 -- what was read is the same in both: the items left are those of the rest of the one, and the
--- characters left the rest of the other
+-- characters left are the rest of the other
 pub record IsShared (text other : List ℕ) (items : List (ℕ × ℕ)) (theirs : List ℕ) : Type 0 where
   pub front : List ℕ
   pub rest : List ℕ
@@ -36,7 +36,7 @@ shared-step text other theirs items i c so_far =
       shared = so_far.shared ∙ sym (append_assoc so_far.front (c ∷ []) theirs);
     }
 
--- the other goes on with another character, or ends
+-- the other continues with another character, or ends
 pub shared-stop : (text other theirs : List ℕ) (items : List (ℕ × ℕ)) (i c : ℕ) → IsShared text other ((i, c) ∷ items) theirs
     → ((more : List ℕ) → ¬ (theirs ≡ c ∷ more)) → IsCommonPrefix text other (text_to text i)
 shared-stop text other theirs items i c so_far differs =
@@ -72,7 +72,7 @@ is_true : (b : Bool) → false ≡ not b → b ≡ true
 is_true true e = refl
 is_true false e = absurd cc
 
--- what the next character of the other tells
+-- what the comparison with the other's next character implies
 pub same_ahead : (r : Option ℕ) (c : ℕ) (theirs left : List ℕ) → false ≡ not (option_eq nat_eq r (Some c))
     → MatchOption r ((theirs ≡ []) × (left ≡ [])) (λ d. theirs ≡ d ∷ left) → theirs ≡ c ∷ left
 same_ahead None c theirs left same steps = absurd cc

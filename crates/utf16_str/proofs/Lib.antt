@@ -5,3 +5,6 @@ pub mod Overwritten
 pub mod StrLemmas
 mod AffixLemmas
 mod CommonLemmas
+mod Lent
+mod LentSteps
+mod LentValues

@@ -1,4 +1,4 @@
--- Characters beside their offsets, from either end.
+-- Characters with their offsets, from either end.
 use Rattle.std.proofs.Common.{◌≡◌, ℕ, ◌+◌, ◌<◌, All, Bool, true, nat_eq, eqb-true, List, [], ◌∷◌, ◌++◌, length, length-append, map, Some, refl, sym, ap, ◌∙◌, subst, append_assoc, arith}
 use Rattle.std.proofs.iter.runs.Sources.{as_is, as_is_back, from_back, from_front}
 use Rattle.std.specs.Iterator.{MakesProgress, YieldsFirst, YieldsLast, item_count}
@@ -9,7 +9,7 @@ use Rattle.utf16_units.specs.Boundary.{text_from, text_to}
 use Rattle.utf16_units.specs.Encoding.{char_size, size, text_of}
 use Rattle.utf16_units.proofs.EncodingLemmas.{size-append, size-cons, size-nil, text_of-nil}
 use Rattle.utf16_units.proofs.BoundaryLemmas.{text_from-at, text_to-at, text_to-text_from}
-use Rattle.utf16_str.specs.Offsets.{IsCharAt, OffsetsStand, char_offsets}
+use Rattle.utf16_str.specs.Offsets.{IsCharAt, OffsetsHold, char_offsets}
 
 pub char_offsets-nil : (offset : ℕ) → char_offsets offset [] ≡ []
 unfolding char_offsets
@@ -19,7 +19,7 @@ pub char_offsets-cons : (offset c : ℕ) (text : List ℕ) → char_offsets offs
 unfolding char_offsets
 char_offsets-cons offset c text = refl
 
--- the last character stands behind the size of all before it
+-- the offset of the last character is the size of all characters before it
 pub char_offsets-push : (offset : ℕ) (text : List ℕ) (c : ℕ) → char_offsets offset (text ++ c ∷ []) ≡ char_offsets offset text ++ (offset + size text, c) ∷ []
 unfolding char_offsets
 char_offsets-push offset [] c =
@@ -40,7 +40,7 @@ unfolding char_offsets
 map-char_offsets offset [] = refl
 map-char_offsets offset (c ∷ text) = ap (λ t. c ∷ t) (map-char_offsets (offset + char_size c) text)
 
--- a character behind a beginning of the text stands at the size of that beginning
+-- the offset of a character after a prefix of the text is the size of that prefix
 pub char_at_size : (front : List ℕ) (c : ℕ) (back : List ℕ) → IsCharAt (front ++ c ∷ back) (size front, c)
 char_at_size front c back =
     let text = front ++ c ∷ back in
@@ -71,16 +71,16 @@ chars_stand front (c ∷ text) =
     (subst (λ n. All (IsCharAt ((front ++ c ∷ []) ++ text)) (char_offsets n text)) next (chars_stand (front ++ c ∷ []) text)) in
     All-cons (IsCharAt (front ++ c ∷ text)) (size front, c) (char_offsets (size front + char_size c) text) (char_at_size front c text) rest
 
-pub offsets_stand : OffsetsStand
+pub offsets_stand : OffsetsHold
 offsets_stand text = subst (λ n. All (IsCharAt text) (char_offsets n text)) size-nil (chars_stand [] text)
 
--- where no character is left, nothing is shown
+-- if no character is left, the list of those left is empty
 pub char_offsets-none : (offset : ℕ) (text rest : List ℕ) (shown : List (ℕ × ℕ)) → char_offsets offset text ≡ shown → (text ≡ []) × (rest ≡ [])
     → (shown ≡ []) × (char_offsets offset rest ≡ [])
 char_offsets-none offset text rest shown view none =
     (sym view ∙ ap (char_offsets offset) none.0 ∙ char_offsets-nil offset, ap (char_offsets offset) none.1 ∙ char_offsets-nil offset)
 
--- no bytes left, by their test, show no character
+-- if no bytes are left, by the test of their length, no characters are
 pub none-left : (big : Bool) (raw bytes shown : List ℕ) (test : Bool) → text_of big bytes ≡ shown → raw ≡ bytes → test ≡ nat_eq (length raw) 0 → test ≡ true
     → (shown ≡ []) × (shown ≡ [])
 none-left big raw bytes shown test view same tested empty =
@@ -88,7 +88,7 @@ none-left big raw bytes shown test view same tested empty =
     let none = sym view ∙ ap (text_of big) (sym same ∙ nil) ∙ text_of-nil big in
     (none, none)
 
--- a call that gave the first item left, or the last, leaves fewer
+-- a call that returned the first item left, or the last, leaves fewer
 module _ {A : Type 0} (can : List A → Type 0) (always : (items : List A) → can items) (before after : List A) (x : A) where
   pub progress-first : before ≡ x ∷ after → MakesProgress can (item_count (λ rest. rest)) before (Some x) after
   progress-first e = record {
@@ -104,7 +104,7 @@ module _ {A : Type 0} (can : List A → Type 0) (always : (items : List A) → c
     rests = λ _. tt;
   }
 
--- an iterator that shows the list of what is left gives that list, in order and from the back
+-- an iterator whose model is the list of what is left yields that list, forwards and backwards
 module _ {A : Type 0} where
   pub in_order : YieldsInOrder (YieldsFirst {A = A} (λ (rest : List A). rest)) (λ rest. rest)
   in_order p s = as_is p p.from (from_front (YieldsFirst {A = A} (λ (rest : List A). rest)) (λ x. x) (λ rest. rest) (λ s t h. ap length h.0) (λ s x t h. h) p s)

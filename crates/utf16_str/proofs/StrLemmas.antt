@@ -12,14 +12,14 @@ use Rattle.utf16_units.proofs.EncodingLemmas.{all_scalars-from_All}
 one : (c : ℕ) → IsScalar c → all_scalars (c ∷ []) ≡ true
 one c scalar = all_scalars-from_All (c ∷ []) (All-cons IsScalar c [] scalar (All-nil IsScalar))
 
--- the characters of a character's bytes and then others
+-- the characters of a character's bytes followed by others
 pub chars-char : (c : ℕ) (rest : List ℕ) → IsScalar c → chars (encode_utf8 c ++ rest) ≡ c ∷ chars rest
 chars-char c rest scalar =
     let alone : encode_utf8 c ++ [] ≡ encode_utf8 c = append-nil (encode_utf8 c) in
     chars-append (encode_utf8 c) rest (c ∷ [], (one c scalar, alone))
     ∙ ap (λ t. t ++ chars rest) (ap chars (sym alone) ∙ chars-encodes (c ∷ []) (one c scalar))
 
--- where a character was taken from the front of bytes
+-- if a character was decoded from the start of the bytes
 pub char_ahead : (c : ℕ) (bytes rest : List ℕ) (r : Option ℕ) (End : Type 0) → IsScalar c → r ≡ Some c → MatchOption r End (λ d. bytes ≡ encode_utf8 d ++ rest)
     → chars bytes ≡ c ∷ chars rest
 char_ahead c bytes rest None End scalar some taken = absurd cc
@@ -27,7 +27,7 @@ char_ahead c bytes rest (Some d) End scalar some taken =
     let same : d ≡ c = cc in
     ap chars (taken ∙ ap (λ x. encode_utf8 x ++ rest) same) ∙ chars-char c rest scalar
 
--- where none was left
+-- if none was left
 pub none_ahead : (bytes : List ℕ) (r : Option ℕ) (Same : Type 0) (Taken : ℕ → Type 0) → MatchOption r ((length bytes ≡ 0) × Same) Taken → r ≡ slice_get (chars bytes) 0
     → (r ≡ None) ↔ ([] ≡ chars bytes)
 none_ahead bytes None Same Taken end first = (λ none. sym (ap chars (nil_from_length bytes end.0) ∙ chars-nil), λ none. refl)

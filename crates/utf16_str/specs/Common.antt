@@ -1,7 +1,7 @@
--- What two texts begin with in common.
+-- The longest common prefix of two texts.
 use Rattle.std.specs.Prelude.{◌≡◌, ℕ, List, ◌∷◌, ◌++◌}
 
--- the longest text that both begin with: what follows it does not begin with one character in both
+-- the longest common prefix: what follows it does not start with the same character in both
 pub record IsCommonPrefix (text other prefix : List ℕ) : Type 0 where
   pub rest : List ℕ
   pub other_rest : List ℕ

@@ -1,6 +1,6 @@
 -- What a clause sees of a `WStr`.
 use Rattle.std.specs.Prelude.{ℕ, List}
-use Rattle.utf16_units.specs.declared.order.Utf16Order.{Ghosts}
+use Rattle.utf16_units.specs.declared.byte_order.Utf16Order.{Ghosts}
 use Rattle.utf16_units.specs.Encoding.{text_of}
 use Rattle.utf16_str.specs.declared.wstr.WStr.{WStr}
 

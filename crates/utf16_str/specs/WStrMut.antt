@@ -1,12 +1,13 @@
 -- What a clause sees of a `WStrMut`.
-use Rattle.std.specs.Prelude.{ℕ, List}
-use Rattle.utf16_units.specs.declared.order.Utf16Order.{Ghosts}
+use Rattle.std.specs.Prelude.{◌≡◌, ℕ, List, Result}
+use Rattle.utf16_units.specs.declared.byte_order.Utf16Order.{Ghosts}
 use Rattle.utf16_units.specs.Encoding.{text_of}
+use Rattle.utf16_units.specs.declared.error.Utf16Error.{Utf16Error}
 use Rattle.utf16_str.specs.declared.wstr_mut.WStrMut.{WStrMut}
-use Rattle.std.specs.Borrow.{MutBor}
+use Rattle.std.specs.Borrow.{Array, Fml, MutBor, RestsIfErr, u8}
 
 module _ {E : Type 0} {order : Ghosts E} where
-  -- the caller's bytes that it stands for
+  -- the mutable borrow of the caller's bytes
   abbrev pub wstr_mut_lent : WStrMut E order → MutBor (List ℕ)
   wstr_mut_lent s = s.raw
 
@@ -17,3 +18,8 @@ module _ {E : Type 0} {order : Ghosts E} where
   -- the characters of the string
   abbrev pub wstr_mut_text : WStrMut E order → List ℕ
   wstr_mut_text s = text_of order.BIG (wstr_mut_bytes s)
+
+  -- bytes that are lent for a view: after an error they end as they were, and otherwise as the view
+  -- leaves them
+  abbrev pub RestsIfRefused : MutBor (List ℕ) → Result (WStrMut E order) Utf16Error → Fml
+  RestsIfRefused lent answer = RestsIfErr (Array u8 0) lent (λ s. (wstr_mut_lent s).ghost_name) answer (λ bytes. bytes ≡ lent.now)

@@ -1,9 +1,9 @@
-//! The characters of a string, from either end, and beside their offsets.
+//! Iterators over the characters of a string, from either end, alone or with their byte offsets.
 
 ghost use Rattle.std.specs.Prelude.{◌≡◌, ◌<◌, ◌-◌, ◌^◌, ℕ, List, length, map, slice_get};
 ghost use Rattle.std.specs.Iterator.{YieldsFirst, YieldsLast, item_count};
 ghost use Rattle.utf16_units.specs.Encoding.{size, text_of};
-ghost use Rattle.utf16_str.specs.Offsets.{char_offsets, offset_behind};
+ghost use Rattle.utf16_str.specs.Offsets.{char_offsets, offset_after};
 
 use crate::WStr;
 use std::fmt;
@@ -12,8 +12,8 @@ use utf16_units::ends::{first_char, last_char};
 use utf16_units::text::count_chars;
 use utf16_units::{Utf16CharExt, Utf16Order};
 
-/// The characters left of a [`WStr`], from either end. Where none is left, `next` and `next_back`
-/// answer `None` for good.
+/// An iterator over the remaining characters of a [`WStr`], from either end. Once none is left,
+/// `next` and `next_back` always return `None`.
 #[derive(Drop)]
 pub struct WStrChars<'a, E: Utf16Order> {
     pub(crate) rest: WStr<'a, E>,
@@ -28,7 +28,7 @@ impl<'a, E: Utf16Order> Model for WStrChars<'a, E> {
 impl<'a, E: Utf16Order> WStrChars<'a, E> {
     ghost use Rattle.utf16_str.specs.WStr.{wstr_text};
 
-    /// What is left, as a view.
+    /// Returns the remaining text as a view.
     #[inline]
     pub fn as_wstr(&self) -> WStr<'a, E>
         ensures { wstr_text result ≡ self.now }
@@ -37,14 +37,22 @@ impl<'a, E: Utf16Order> WStrChars<'a, E> {
         *rest
     }
 
-    /// How many characters are left. One pass over what is left.
+    /// Returns the number of remaining characters.
+    ///
+    /// # Complexity
+    ///
+    /// One pass over the remaining text.
     pub fn count(self) -> usize
         ensures { result ≡ length self.entry }
     {
         count_chars::<E>(self.rest.as_bytes())
     }
 
-    /// The last character left, or `None` where none is. One look at the end.
+    /// Returns the last remaining character, or `None` if none is left.
+    ///
+    /// # Complexity
+    ///
+    /// Constant time: reads one character at the end.
     #[inline]
     pub fn last(self) -> Option<char>
         ensures { result ≡ slice_get self.entry (length self.entry - 1) }
@@ -96,8 +104,8 @@ impl<'a, E: Utf16Order> fmt::Debug for WStrChars<'a, E> {
     }
 }
 
-/// The characters left of a [`WStr`], each beside its byte offset in it, from either end. Where
-/// none is left, `next` and `next_back` answer `None` for good.
+/// An iterator over the remaining characters of a [`WStr`], each with its byte offset in it, from
+/// either end. Once none is left, `next` and `next_back` always return `None`.
 #[derive(Drop)]
 pub struct WStrCharIndices<'a, E: Utf16Order> {
     pub(crate) offset: usize,
@@ -109,13 +117,13 @@ impl<'a, E: Utf16Order> Model for WStrCharIndices<'a, E> {
 
     ghost view = { λ it. char_offsets it.offset it.chars };
 
-    ghost invariant = { λ it. offset_behind it.offset it.chars < 2 ^ 64 };
+    ghost invariant = { λ it. offset_after it.offset it.chars < 2 ^ 64 };
 }
 
 impl<'a, E: Utf16Order> WStrCharIndices<'a, E> {
     ghost use Rattle.utf16_str.specs.WStr.{wstr_text};
 
-    /// What is left, as a view.
+    /// Returns the remaining text as a view.
     #[inline]
     pub fn as_wstr(&self) -> WStr<'a, E>
         ensures { wstr_text result ≡ map (λ at. at.1) self.now }
@@ -123,14 +131,22 @@ impl<'a, E: Utf16Order> WStrCharIndices<'a, E> {
         self.chars.as_wstr()
     }
 
-    /// How many characters are left. One pass over what is left.
+    /// Returns the number of remaining characters.
+    ///
+    /// # Complexity
+    ///
+    /// One pass over the remaining text.
     pub fn count(self) -> usize
         ensures { result ≡ length self.entry }
     {
         self.chars.count()
     }
 
-    /// The last character left and its offset, or `None` where none is. One look at the end.
+    /// Returns the last remaining character with its byte offset, or `None` if none is left.
+    ///
+    /// # Complexity
+    ///
+    /// Constant time: reads one character at the end.
     #[inline]
     pub fn last(self) -> Option<(usize, char)>
         ensures { result ≡ slice_get self.entry (length self.entry - 1) }

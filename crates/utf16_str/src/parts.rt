@@ -1,4 +1,4 @@
-//! The parts of a view: by ranges, on both sides of an offset, and on both sides of a character.
+//! Substrings of a view: by ranges, and by splitting at an offset or at a character.
 
 ghost use Rattle.std.specs.Prelude.{◌≡◌, ◌↔◌, IfSome, IsNone, IsSome, Some, ◌++◌, ◌+◌, ◌∷◌, drop, take};
 ghost use Rattle.utf16_units.specs.Boundary.{IsBoundary, text_between, text_from, text_to};
@@ -11,40 +11,56 @@ use crate::{SliceIndex, WStr};
 use utf16_units::{Utf16CharExt, Utf16Order};
 
 impl<'a, E: Utf16Order> WStr<'a, E> {
-    /// The part of a range, or `None` where its window is reversed, or an end is no character
-    /// boundary.
+    /// Returns the substring at a range, or `None` if there is none.
+    ///
+    /// There is one if the range has a window (see [`SliceIndex`]), the window is not reversed, and
+    /// both its ends are character boundaries.
     #[inline]
     pub fn get<I: SliceIndex<E>>(self, index: I) -> Option<WStr<'a, E>>
         ensures some { IsSome result ↔ IsRangeOf E.BIG (wstr_bytes self.entry) (I.window index) }
-        ensures part { IfSome result (λ part. wstr_text part ≡ range_text E.BIG (wstr_bytes self.entry) (I.window index)) }
-        ensures bytes { IfSome result (λ part. wstr_bytes part ≡ range_bytes (wstr_bytes self.entry) (I.window index)) }
+        ensures part { IfSome result (λ part.
+            wstr_text part ≡ range_text E.BIG (wstr_bytes self.entry) (I.window index)) }
+        ensures bytes { IfSome result (λ part.
+            wstr_bytes part ≡ range_bytes (wstr_bytes self.entry) (I.window index)) }
     {
         index.get(self)
     }
 
-    /// The part of a range. The caller proves that there is one; `get` tests it.
+    /// Returns the substring at a range.
+    ///
+    /// # Precondition
+    ///
+    /// There is a substring at the range (check with `get`).
     #[inline]
     pub fn get_unchecked<I: SliceIndex<E>>(self, index: I) -> WStr<'a, E>
         requires { IsRangeOf E.BIG (wstr_bytes self) (I.window index) }
-        ensures text { wstr_text result ≡ range_text E.BIG (wstr_bytes self.entry) (I.window index) }
+        ensures text { wstr_text result ≡ range_text E.BIG (wstr_bytes self.entry)
+            (I.window index) }
         ensures bytes { wstr_bytes result ≡ range_bytes (wstr_bytes self.entry) (I.window index) }
     {
         index.get_unchecked(self)
     }
 
-    /// The part of a range: write it for `s[a..b]`. The caller proves that there is one; `get`
-    /// tests it.
+    /// Returns the substring at a range. This replaces `s[a..b]`.
+    ///
+    /// # Precondition
+    ///
+    /// There is a substring at the range (check with `get`).
     #[inline]
     pub fn index<I: SliceIndex<E>>(self, index: I) -> WStr<'a, E>
         requires { IsRangeOf E.BIG (wstr_bytes self) (I.window index) }
-        ensures text { wstr_text result ≡ range_text E.BIG (wstr_bytes self.entry) (I.window index) }
+        ensures text { wstr_text result ≡ range_text E.BIG (wstr_bytes self.entry)
+            (I.window index) }
         ensures bytes { wstr_bytes result ≡ range_bytes (wstr_bytes self.entry) (I.window index) }
     {
         index.index(self)
     }
 
-    /// The two parts on both sides of a byte offset. The caller proves that it is a character
-    /// boundary; `is_char_boundary` tests it.
+    /// Splits the text in two at the byte offset `mid`.
+    ///
+    /// # Precondition
+    ///
+    /// `mid` is a character boundary (check with `is_char_boundary`).
     #[inline]
     pub fn split_at(self, mid: usize) -> (WStr<'a, E>, WStr<'a, E>)
         requires { IsBoundary (wstr_text self) mid }
@@ -61,15 +77,21 @@ impl<'a, E: Utf16Order> WStr<'a, E> {
         )
     }
 
-    /// The two parts on both sides of a byte offset, or `None` where it is no character boundary.
+    /// Splits the text in two at the byte offset `mid`, or returns `None` if it is not a character
+    /// boundary.
     #[inline]
     pub fn split_at_checked(self, mid: usize) -> Option<(WStr<'a, E>, WStr<'a, E>)>
         ensures some { IsSome result ↔ IsBoundary (wstr_text self.entry) mid }
-        ensures joined { IfSome result (λ parts. wstr_text parts.0 ++ wstr_text parts.1 ≡ wstr_text self.entry) }
-        ensures front { IfSome result (λ parts. wstr_text parts.0 ≡ text_to (wstr_text self.entry) mid) }
-        ensures back { IfSome result (λ parts. wstr_text parts.1 ≡ text_from (wstr_text self.entry) mid) }
-        ensures front_bytes { IfSome result (λ parts. wstr_bytes parts.0 ≡ take mid (wstr_bytes self.entry)) }
-        ensures back_bytes { IfSome result (λ parts. wstr_bytes parts.1 ≡ drop mid (wstr_bytes self.entry)) }
+        ensures joined { IfSome result (λ parts. wstr_text parts.0 ++ wstr_text parts.1
+            ≡ wstr_text self.entry) }
+        ensures front { IfSome result (λ parts.
+            wstr_text parts.0 ≡ text_to (wstr_text self.entry) mid) }
+        ensures back { IfSome result (λ parts.
+            wstr_text parts.1 ≡ text_from (wstr_text self.entry) mid) }
+        ensures front_bytes { IfSome result (λ parts.
+            wstr_bytes parts.0 ≡ take mid (wstr_bytes self.entry)) }
+        ensures back_bytes { IfSome result (λ parts.
+            wstr_bytes parts.1 ≡ drop mid (wstr_bytes self.entry)) }
     {
         if self.is_char_boundary(mid) {
             Some(self.split_at(mid))
@@ -78,15 +100,23 @@ impl<'a, E: Utf16Order> WStr<'a, E> {
         }
     }
 
-    /// What stands in front of the first such character, and what stands behind it, or `None` where
-    /// the text lacks it. One pass, up to that character; no copy.
+    /// Splits the text at the first occurrence of `delimiter`, and returns the text before it and
+    /// the text after it, or `None` if it does not occur.
+    ///
+    /// # Complexity
+    ///
+    /// One pass, up to that character. Copies nothing.
     #[tactic(auto, using(crate::proofs::CharSearch::passing))]
     pub fn split_once(self, delimiter: char) -> Option<(WStr<'a, E>, WStr<'a, E>)>
         ensures none { IsNone result ↔ Lacks delimiter (wstr_text self.entry) }
-        ensures split { IfSome result (λ parts. wstr_text self.entry ≡ wstr_text parts.0 ++ delimiter ∷ wstr_text parts.1) }
+        ensures split { IfSome result (λ parts.
+            wstr_text self.entry ≡ wstr_text parts.0 ++ delimiter ∷ wstr_text parts.1) }
         ensures first { IfSome result (λ parts. Lacks delimiter (wstr_text parts.0)) }
-        ensures front_bytes { IfSome result (λ parts. wstr_bytes parts.0 ≡ take (size (wstr_text parts.0)) (wstr_bytes self.entry)) }
-        ensures back_bytes { IfSome result (λ parts. wstr_bytes parts.1 ≡ drop (size (wstr_text parts.0) + char_size delimiter) (wstr_bytes self.entry)) }
+        ensures front_bytes { IfSome result (λ parts.
+            wstr_bytes parts.0 ≡ take (size (wstr_text parts.0)) (wstr_bytes self.entry)) }
+        ensures back_bytes { IfSome result (λ parts.
+            wstr_bytes parts.1 ≡ drop (size (wstr_text parts.0) + char_size delimiter)
+            (wstr_bytes self.entry)) }
     {
         for (at, c) in self.char_indices() {
             if c == delimiter {
@@ -98,12 +128,14 @@ impl<'a, E: Utf16Order> WStr<'a, E> {
         None
     }
 
-    // The part from one offset up to another, where both are boundaries in this order.
+    // The substring between two offsets, or `None` if they are reversed or one is not a boundary.
     #[inline]
     pub(crate) fn part(self, start: usize, end: usize) -> Option<WStr<'a, E>>
         ensures some { IsSome result ↔ IsWindowOf (wstr_text self.entry) (Some (start, end)) }
-        ensures part { IfSome result (λ part. wstr_text part ≡ text_between (wstr_text self.entry) start end) }
-        ensures bytes { IfSome result (λ part. wstr_bytes part ≡ bytes_between (wstr_bytes self.entry) start end) }
+        ensures part { IfSome result (λ part.
+            wstr_text part ≡ text_between (wstr_text self.entry) start end) }
+        ensures bytes { IfSome result (λ part.
+            wstr_bytes part ≡ bytes_between (wstr_bytes self.entry) start end) }
     {
         if start <= end && self.is_char_boundary(start) && self.is_char_boundary(end) {
             Some(self.part_unchecked(start, end))

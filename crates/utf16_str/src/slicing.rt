@@ -1,4 +1,4 @@
-//! Parts of a string by ranges of byte offsets.
+//! Substrings by ranges of byte offsets.
 
 ghost use Rattle.std.specs.Prelude.{◌≡◌, ◌↔◌, ℕ, Option, Some, IsSome, IfSome, length};
 ghost use Rattle.std.specs.Range.{range_inclusive_end, range_inclusive_start};
@@ -9,52 +9,73 @@ use crate::WStr;
 use std::ops::{Range, RangeFrom, RangeFull, RangeInclusive, RangeTo, RangeToInclusive};
 use utf16_units::Utf16Order;
 
-/// A range that names a part of a string by its window, from one byte offset up to another. There
-/// is a part exactly where there is a window, its start is at most its end, and both are character
-/// boundaries.
+/// A range that selects a substring by its window, from one byte offset up to another.
 ///
-/// Anyone may implement it: a type of ranges says what its window is, and proves that `window`
+/// There is such a substring exactly if there is a window, its start is at most its end, and both
+/// are character boundaries.
+///
+/// Any crate may implement it: a type of ranges defines its window, and proves that `window`
 /// computes it.
 pub trait SliceIndex<E: Utf16Order> {
-    // The window over a string of so many bytes, where there is one.
+    // The window in a string of the given length in bytes, if there is one.
     ghost window: { Self → ℕ → Option (ℕ × ℕ) };
 
-    /// The window over a string of `len` bytes, or `None` where there is none. It may be reversed,
-    /// out of range or off the boundaries; `get` tests that.
+    /// Returns the window in a string of `len` bytes, or `None` if there is none.
+    ///
+    /// The window may be reversed, out of range, or not at character boundaries; `get` tests that.
     fn window(self, len: usize) -> Option<(usize, usize)>
         ensures { result ≡ window self len };
 
-    /// The part, or `None` where the window is reversed or an end of it is no character boundary.
+    /// Returns the substring of `slice`, or `None` if there is none.
     final fn get<'a>(self, slice: WStr<'a, E>) -> Option<WStr<'a, E>>
     where
         Self: Sized,
-        ensures some { IsSome result ↔ IsWindowOf (wstr_text slice.entry) (window self (length (wstr_bytes slice.entry))) }
-        ensures part { IfSome result (λ part. wstr_text part ≡ window_text (wstr_text slice.entry) (window self (length (wstr_bytes slice.entry)))) }
-        ensures bytes { IfSome result (λ part. wstr_bytes part ≡ window_bytes (wstr_bytes slice.entry) (window self (length (wstr_bytes slice.entry)))) }
+        ensures some { IsSome result ↔ IsWindowOf (wstr_text slice.entry)
+            (window self (length (wstr_bytes slice.entry))) }
+        ensures part { IfSome result (λ part.
+            wstr_text part ≡ window_text (wstr_text slice.entry)
+            (window self (length (wstr_bytes slice.entry)))) }
+        ensures bytes { IfSome result (λ part.
+            wstr_bytes part ≡ window_bytes (wstr_bytes slice.entry)
+            (window self (length (wstr_bytes slice.entry)))) }
     {
         let (start, end) = self.window(slice.len())?;
         slice.part(start, end)
     }
 
-    /// The part. The caller proves that there is one; `get` tests it.
+    /// Returns the substring of `slice`.
+    ///
+    /// # Precondition
+    ///
+    /// There is such a substring (check with `get`).
     final fn get_unchecked<'a>(self, slice: WStr<'a, E>) -> WStr<'a, E>
     where
         Self: Sized,
         requires { IsWindowOf (wstr_text slice) (window self (length (wstr_bytes slice))) }
-        ensures text { wstr_text result ≡ window_text (wstr_text slice.entry) (window self (length (wstr_bytes slice.entry))) }
-        ensures bytes { wstr_bytes result ≡ window_bytes (wstr_bytes slice.entry) (window self (length (wstr_bytes slice.entry))) }
+        ensures text { wstr_text result
+            ≡ window_text (wstr_text slice.entry) (window self (length (wstr_bytes slice.entry))) }
+        ensures bytes { wstr_bytes result
+            ≡ window_bytes (wstr_bytes slice.entry)
+            (window self (length (wstr_bytes slice.entry))) }
     {
         let (start, end) = self.window(slice.len()).unwrap();
         slice.part_unchecked(start, end)
     }
 
-    /// The part. The caller proves that there is one; `get` tests it.
+    /// Returns the substring of `slice`.
+    ///
+    /// # Precondition
+    ///
+    /// There is such a substring (check with `get`).
     final fn index<'a>(self, slice: WStr<'a, E>) -> WStr<'a, E>
     where
         Self: Sized,
         requires { IsWindowOf (wstr_text slice) (window self (length (wstr_bytes slice))) }
-        ensures text { wstr_text result ≡ window_text (wstr_text slice.entry) (window self (length (wstr_bytes slice.entry))) }
-        ensures bytes { wstr_bytes result ≡ window_bytes (wstr_bytes slice.entry) (window self (length (wstr_bytes slice.entry))) }
+        ensures text { wstr_text result
+            ≡ window_text (wstr_text slice.entry) (window self (length (wstr_bytes slice.entry))) }
+        ensures bytes { wstr_bytes result
+            ≡ window_bytes (wstr_bytes slice.entry)
+            (window self (length (wstr_bytes slice.entry))) }
     {
         self.get_unchecked(slice)
     }
@@ -97,7 +118,8 @@ impl<E: Utf16Order> SliceIndex<E> for RangeFull {
 }
 
 impl<E: Utf16Order> SliceIndex<E> for RangeInclusive<usize> {
-    ghost window = { λ range _. inclusive_window (range_inclusive_start range) (range_inclusive_end range) };
+    ghost window = { λ range _. inclusive_window (range_inclusive_start range)
+        (range_inclusive_end range) };
 
     #[inline]
     fn window(self, _len: usize) -> Option<(usize, usize)> {

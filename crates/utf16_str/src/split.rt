@@ -1,4 +1,4 @@
-//! The parts of a string that is cut at each such character.
+//! The substrings of a text between occurrences of a delimiter.
 
 ghost use Rattle.std.specs.Prelude.{◌≡◌, ◌==◌, ◌^◌, ◌<◌, ℕ, List, All, length, option_map};
 ghost use Rattle.std.specs.Iterator.{YieldsFirstBy, item_count};
@@ -11,8 +11,8 @@ use crate::WStr;
 use std::marker::Model;
 use utf16_units::Utf16Order;
 
-/// The parts that are left of a [`WStr`] cut at each such character, each a view without it. Where
-/// none is left, `next` answers `None` for good.
+/// An iterator over the remaining substrings of a [`WStr`] separated by a delimiter, each a view
+/// without it. Once none is left, `next` always returns `None`.
 #[derive(Drop)]
 pub struct WStrSplit<'a, E: Utf16Order> {
     rest: Option<WStr<'a, E>>,
@@ -44,10 +44,18 @@ impl<'a, E: Utf16Order> Iterator for WStrSplit<'a, E> {
 }
 
 impl<'a, E: Utf16Order> WStr<'a, E> {
-    /// The parts of the text, cut at each such character and without it, in order, as `str::split`
-    /// gives them: the empty text has one part, the empty one, and a delimiter at an end or beside
-    /// another has an empty part there. No copy is made and no memory is asked for. One pass over
-    /// the text.
+    /// Returns an iterator over the substrings separated by `delimiter`, in order and without it.
+    ///
+    /// The empty text has one substring, the empty one. A delimiter at an end of the text, or next
+    /// to another, has an empty substring there.
+    ///
+    /// # Complexity
+    ///
+    /// One pass over the text. Copies nothing and does not allocate.
+    ///
+    /// # Source
+    ///
+    /// `str::split` returns the same.
     pub fn split(self, delimiter: char) -> WStrSplit<'a, E>
         ensures parts { result ≡ slice_split (λ c. c == delimiter) (wstr_text self.entry) }
         ensures joined { join_with_byte delimiter result ≡ wstr_text self.entry }

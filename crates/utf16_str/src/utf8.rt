@@ -1,4 +1,4 @@
-//! The characters of a view in UTF-8.
+//! Conversion of a view to UTF-8.
 
 ghost use Rattle.std.specs.Prelude.{◌≡◌, ◌+◌, ◌≤◌, [], ◌++◌, length, IfOk, IsOk, OnErr, OnOk, encode_utf8_all, string_bytes};
 ghost use Rattle.std.specs.String.{string_capacity, string_len};
@@ -10,8 +10,15 @@ use utf16_to_utf8::append_utf8;
 use utf16_units::Utf16Order;
 
 impl<'a, E: Utf16Order> WStr<'a, E> {
-    /// The same characters in UTF-8. The only error is a refused request for memory. Room is asked
-    /// for once, for the empty text not at all; two passes over the text.
+    /// Returns the text in UTF-8, as a new `String`.
+    ///
+    /// # Errors
+    ///
+    /// `AllocError`, only if allocation fails.
+    ///
+    /// # Complexity
+    ///
+    /// Two passes over the text. Allocates once, and not at all for the empty text.
     pub fn to_utf8<A: Allocator>(&self, alloc: A) -> Result<String<A>, AllocError>
         ensures text { IfOk result (λ s. string_bytes s ≡ encode_utf8_all (wstr_text self.now)) }
         ensures nothing { wstr_text self.now ≡ [] → IsOk result }
@@ -21,14 +28,24 @@ impl<'a, E: Utf16Order> WStr<'a, E> {
         Ok(utf8)
     }
 
-    /// Puts the same characters in UTF-8 behind a text. The only error is a refused request for
-    /// memory; it leaves the text as it was. Room is asked for once, and not where it is there. One
-    /// pass over the view where there is room for three bytes a code unit, else two.
+    /// Appends the text, in UTF-8, to a `String`.
+    ///
+    /// # Errors
+    ///
+    /// `AllocError`, only if allocation fails. `to` is unchanged.
+    ///
+    /// # Complexity
+    ///
+    /// One pass over the view if `to` has spare capacity of three bytes per code unit, else two.
+    /// Allocates once, and not at all if the spare capacity suffices.
     pub fn push_utf8<A: Allocator>(self, to: &mut String<A>) -> Result<(), AllocError>
-        ensures text { OnOk result (string_bytes to.new ≡ string_bytes to.old ++ encode_utf8_all (wstr_text self.entry)) }
-        ensures refused { OnErr result ((string_bytes to.new ≡ string_bytes to.old) × (string_capacity to.new ≡ string_capacity to.old)) }
+        ensures text { OnOk result (string_bytes to.new ≡ string_bytes to.old
+            ++ encode_utf8_all (wstr_text self.entry)) }
+        ensures refused { OnErr result ((string_bytes to.new ≡ string_bytes to.old)
+            × (string_capacity to.new ≡ string_capacity to.old)) }
         ensures grows { string_capacity to.old ≤ string_capacity to.new }
-        ensures room { string_len to.old + length (encode_utf8_all (wstr_text self.entry)) ≤ string_capacity to.old → IsOk result }
+        ensures room { string_len to.old + length (encode_utf8_all (wstr_text self.entry))
+            ≤ string_capacity to.old → IsOk result }
         ensures nothing { wstr_text self.entry ≡ [] → IsOk result }
     {
         append_utf8::<E, A>(self.as_bytes(), to)

@@ -1,4 +1,4 @@
-//! A borrowed UTF-16 string.
+//! A borrowed UTF-16 string slice.
 
 ghost use Rattle.std.specs.Prelude.{◌≡◌, ◌↔◌, ⊤, [], true, false, length, IsTrue, IsOk, IfOk, IfErr, Some, All, ◌+◌, ◌<◌, ◌^◌, ℕ, List, chars, nat_eq, encode_utf8_all};
 ghost use Rattle.std.specs.Cmp.{on_equiv, on_per, on_total, partial_equiv_from_equiv, po};
@@ -11,10 +11,10 @@ ghost use Rattle.std.specs.Ordering.{nat_cmp};
 ghost use Rattle.std.specs.declared.cmp.Ordering.TheVariants.{Equal, Greater, Less};
 ghost use Rattle.std.proofs.Common.{refl, rules};
 ghost use Rattle.utf16_units.specs.Boundary.{IsBoundary};
-ghost use Rattle.utf16_units.specs.Encoding.{Encodes, IsText, is_text, size};
-ghost use Rattle.utf16_units.specs.Order.{IsBefore};
+ghost use Rattle.utf16_units.specs.Encoding.{Encodes, IsUtf16, is_utf16, size};
+ghost use Rattle.utf16_units.specs.TextOrder.{IsBefore};
 ghost use Rattle.utf16_units.specs.Utf16Error.{IsErrorOf};
-ghost use Rattle.utf16_units.proofs.OrderTies.{same_ties};
+ghost use Rattle.utf16_units.proofs.TextOrderTies.{same_ties};
 ghost use Rattle.utf16_str.specs.Offsets.{IsCharAt, char_offsets};
 
 use crate::{WStrCharIndices, WStrChars};
@@ -29,12 +29,13 @@ use utf16_units::{
     validate_raw_utf16,
 };
 
-/// A borrowed UTF-16 string in the byte order `E`, a view of the caller's bytes. It always holds
-/// well-formed text, and is `Copy`. Lengths and offsets count bytes.
+/// A borrowed UTF-16 string slice in the byte order `E`, a view of the caller's bytes.
+///
+/// The bytes are always well-formed UTF-16. The type is `Copy`. Lengths and offsets are in bytes.
 pub struct WStr<'a, E: Utf16Order> {
     raw: &'a [u8],
     order: PhantomData<E>,
-    ghost well_formed: { is_text E.BIG raw.now ≡ true },
+    ghost well_formed: { is_utf16 E.BIG raw.now ≡ true },
 }
 
 impl<'a, E: Utf16Order> Copy for WStr<'a, E> {}
@@ -52,11 +53,18 @@ impl<'a, E: Utf16Order> Clone for WStr<'a, E> {
 impl<'a, E: Utf16Order> WStr<'a, E> {
     ghost use Rattle.utf16_str.specs.WStr.{wstr_bytes, wstr_text};
 
-    /// Takes bytes as text, where they are well formed in the order `E`. One pass over the bytes,
-    /// no copy.
+    /// Returns a view of `raw`, if it is well-formed UTF-16 in the byte order `E`.
+    ///
+    /// # Errors
+    ///
+    /// [`Utf16Error`], if `raw` is ill-formed.
+    ///
+    /// # Complexity
+    ///
+    /// One pass over the bytes. Copies nothing.
     #[inline]
     pub fn from_utf16(raw: &'a [u8]) -> Result<Self, Utf16Error>
-        ensures text { IsOk result ↔ IsText E.BIG raw.now }
+        ensures text { IsOk result ↔ IsUtf16 E.BIG raw.now }
         ensures bytes { IfOk result (λ s. wstr_bytes s ≡ raw.now) }
         ensures encoding { IfOk result (λ s. Encodes E.BIG (wstr_text s) raw.now) }
         ensures error { IfErr result (IsErrorOf E.BIG raw.now) }
@@ -65,11 +73,14 @@ impl<'a, E: Utf16Order> WStr<'a, E> {
         Ok(Self::from_utf16_unchecked(raw))
     }
 
-    /// Takes bytes as text without a test. The caller proves that they are well formed in the order
-    /// `E`; `from_utf16` tests it.
+    /// Returns a view of `raw` without a test.
+    ///
+    /// # Precondition
+    ///
+    /// `raw` is well-formed UTF-16 in the byte order `E` (check with `from_utf16`).
     #[inline]
     pub fn from_utf16_unchecked(raw: &'a [u8]) -> Self
-        requires { IsText E.BIG raw.now }
+        requires { IsUtf16 E.BIG raw.now }
         ensures bytes { wstr_bytes result ≡ raw.now }
         ensures encoding { Encodes E.BIG (wstr_text result) raw.now }
     {
@@ -79,7 +90,7 @@ impl<'a, E: Utf16Order> WStr<'a, E> {
         }
     }
 
-    /// How many bytes the text takes. It is a character boundary.
+    /// Returns the length of the text in bytes. It is a character boundary.
     #[inline]
     pub fn len(&self) -> usize
         ensures bytes { result ≡ length (wstr_bytes self.now) }
@@ -89,7 +100,7 @@ impl<'a, E: Utf16Order> WStr<'a, E> {
         self.as_bytes().len()
     }
 
-    /// Whether the text has no character.
+    /// Returns `true` if the text has no characters.
     #[inline]
     pub fn is_empty(&self) -> bool
         ensures { IsTrue result ↔ (wstr_text self.now ≡ []) }
@@ -97,8 +108,14 @@ impl<'a, E: Utf16Order> WStr<'a, E> {
         self.as_bytes().is_empty()
     }
 
-    /// Whether a byte offset is a character boundary: the start, the end, or where one character
-    /// ends and the next begins. Any offset may be asked about. One read of a unit at most.
+    /// Returns `true` if `index`, an offset in bytes, is a character boundary.
+    ///
+    /// A boundary is the start of the text, its end, or the place where one character ends and the
+    /// next begins. Any offset may be given.
+    ///
+    /// # Complexity
+    ///
+    /// Constant time: reads at most one code unit.
     #[inline]
     pub fn is_char_boundary(&self, index: usize) -> bool
         ensures { IsTrue result ↔ IsBoundary (wstr_text self.now) index }
@@ -113,11 +130,14 @@ impl<'a, E: Utf16Order> WStr<'a, E> {
         !is_trailing_surrogate(E::read_unit([raw[index], raw[index + 1]]))
     }
 
-    /// Whether a text could be written over as many bytes from a byte offset on: the offset and the
-    /// one behind those bytes are both character boundaries. Any offset may be asked about.
+    /// Returns `true` if `text` can overwrite the bytes starting at the byte offset `idx`.
+    ///
+    /// It can if `idx` and `idx + text.len()` are both character boundaries. Any offset may be
+    /// given.
     #[inline]
     pub fn fits(self, idx: usize, text: WStr<E>) -> bool
-        ensures { IsTrue result ↔ (IsBoundary (wstr_text self.entry) idx × IsBoundary (wstr_text self.entry) (idx + size (wstr_text text.entry))) }
+        ensures { IsTrue result ↔ (IsBoundary (wstr_text self.entry) idx
+            × IsBoundary (wstr_text self.entry) (idx + size (wstr_text text.entry))) }
     {
         let Some(end) = idx.checked_add(text.len()) else {
             return false;
@@ -125,7 +145,7 @@ impl<'a, E: Utf16Order> WStr<'a, E> {
         self.is_char_boundary(idx) && self.is_char_boundary(end)
     }
 
-    /// The bytes, the encoding of the text, for as long as they were lent.
+    /// Returns the bytes that encode the text, borrowed for `'a`.
     #[inline]
     pub fn as_bytes(self) -> &'a [u8]
         ensures bytes { result.now ≡ wstr_bytes self.entry }
@@ -134,11 +154,11 @@ impl<'a, E: Utf16Order> WStr<'a, E> {
         self.raw
     }
 
-    /// The characters, in order.
+    /// Returns an iterator over the characters, in order.
     ///
-    /// Of the result the clause `text` says all. The clauses `runs` and `runs_back` say that this
-    /// type of iterator gives what it shows, from the front and from the back: by them the proof of
-    /// a caller knows what `collect`, `rev`, `position` and other calls of a chain give.
+    /// The clause `text` determines the result. The clauses `runs` and `runs_back` restate it for
+    /// the prover at the start of an iterator chain, forwards and backwards: from them a caller's
+    /// proof knows what `collect`, `rev`, `position` and other calls of the chain return.
     #[inline]
     pub fn chars(self) -> WStrChars<'a, E>
         ensures text { result ≡ wstr_text self.entry }
@@ -149,15 +169,18 @@ impl<'a, E: Utf16Order> WStr<'a, E> {
         WStrChars { rest: self }
     }
 
-    /// The characters, in order, each beside its byte offset. The clauses are those of `chars`;
-    /// beside them `offsets` says where each character stands: between two boundaries.
+    /// Returns an iterator over the characters, in order, each with its byte offset.
+    ///
+    /// The clauses are those of `chars`. In addition `offsets` says where each character is:
+    /// between two boundaries, the first of which is its offset.
     #[inline]
     pub fn char_indices(self) -> WStrCharIndices<'a, E>
         ensures text { result ≡ char_offsets 0 (wstr_text self.entry) }
         ensures offsets { All (IsCharAt (wstr_text self.entry)) result }
         ensures bound { length result < 2 ^ 64 }
         ensures runs { YieldsInOrder (YieldsFirst (λ (rest : List (ℕ × ℕ)). rest)) (λ rest. rest) }
-        ensures runs_back { YieldsInReverse (YieldsLast (λ (rest : List (ℕ × ℕ)). rest)) (λ rest. rest) }
+        ensures runs_back { YieldsInReverse (YieldsLast (λ (rest : List (ℕ × ℕ)). rest))
+            (λ rest. rest) }
     {
         WStrCharIndices {
             offset: 0,
@@ -165,8 +188,11 @@ impl<'a, E: Utf16Order> WStr<'a, E> {
         }
     }
 
-    /// Whether the characters are those of a `str`. One pass over both, up to the first that
-    /// differs, in constant memory.
+    /// Returns `true` if the characters of the text are those of `s`.
+    ///
+    /// # Complexity
+    ///
+    /// One pass over both, up to the first character that differs, in constant memory.
     pub fn eq_str(&self, s: &str) -> bool
         ensures { IsTrue result ↔ (wstr_text self.now ≡ chars s.now) }
     {
@@ -179,8 +205,11 @@ impl<'a, E: Utf16Order> WStr<'a, E> {
         theirs.next().is_none()
     }
 
-    /// Whether every character is ASCII, below U+0080. It asks the characters and not the bytes.
-    /// One pass, up to the first block that has another character.
+    /// Returns `true` if every character is ASCII, below U+0080. It tests characters, not bytes.
+    ///
+    /// # Complexity
+    ///
+    /// One pass, up to the first block that has a non-ASCII character.
     pub fn is_ascii(&self) -> bool
         ensures { IsTrue result ↔ All (λ c. c < 0x80) (wstr_text self.now) }
     {
@@ -192,8 +221,8 @@ impl<'a, E: Utf16Order> WStr<'a, E> {
         }
     }
 
-    // The same of a short text, one character after another. A call stays a call: so this loop is
-    // compiled by itself.
+    // `is_ascii` of a short text, character by character. Not inlined, so that the loop is
+    // optimized on its own.
     #[inline(never)]
     fn is_ascii_few(self) -> bool
         ensures { IsTrue result ↔ All (λ c. c < 0x80) (wstr_text self.entry) }
@@ -248,14 +277,15 @@ impl<'a, E: Utf16Order> Eq for WStr<'a, E> {
     ghost laws = { on_equiv wstr_bytes nat_list_eq_equiv };
 }
 
-/// By scalar values, character by character, as `str` compares: in neither order the order of the
-/// bytes, nor of the units.
+/// Compares by scalar values, character by character, as `str` does. In both byte orders this
+/// differs from the ordering of the bytes and from that of the code units.
 impl<'a, E: Utf16Order> PartialOrd for WStr<'a, E> {
     ghost use Rattle.utf16_str.specs.WStr.{wstr_bytes, wstr_text};
 
     ghost partial_cmp = { λ x y. Some (slice_cmp nat_cmp (wstr_text x) (wstr_text y)) };
 
-    ghost laws = { po (on_total wstr_text nat_list_cmp_total) (λ x y. same_ties E.BIG (wstr_bytes x) (wstr_bytes y) x.well_formed y.well_formed) };
+    ghost laws = { po (on_total wstr_text nat_list_cmp_total)
+        (λ x y. same_ties E.BIG (wstr_bytes x) (wstr_bytes y) x.well_formed y.well_formed) };
 
     #[inline]
     fn partial_cmp(&self, other: &Self) -> Option<Ordering> {
@@ -272,7 +302,8 @@ impl<'a, E: Utf16Order> Ord for WStr<'a, E> {
 
     ghost matches_partial_cmp = { λ x y. refl };
 
-    ghost matches_eq = { λ x y. same_ties E.BIG (wstr_bytes x) (wstr_bytes y) x.well_formed y.well_formed };
+    ghost matches_eq = { λ x y. same_ties E.BIG (wstr_bytes x) (wstr_bytes y) x.well_formed
+        y.well_formed };
 
     #[inline]
     fn cmp(&self, other: &Self) -> Ordering
@@ -301,10 +332,14 @@ impl<'a, E: Utf16Order> Hash for WStr<'a, E> {
 impl<'a> WStr<'a, LittleEndian> {
     ghost use Rattle.utf16_str.specs.WStr.{wstr_bytes, wstr_text};
 
-    /// `from_utf16` in little endian.
+    /// Returns a view of `raw`, if it is well-formed UTF-16LE: `from_utf16` in little endian.
+    ///
+    /// # Errors
+    ///
+    /// [`Utf16Error`], if `raw` is ill-formed.
     #[inline]
     pub fn from_utf16le(raw: &'a [u8]) -> Result<Self, Utf16Error>
-        ensures text { IsOk result ↔ IsText false raw.now }
+        ensures text { IsOk result ↔ IsUtf16 false raw.now }
         ensures bytes { IfOk result (λ s. wstr_bytes s ≡ raw.now) }
         ensures encoding { IfOk result (λ s. Encodes false (wstr_text s) raw.now) }
         ensures error { IfErr result (IsErrorOf false raw.now) }
@@ -312,10 +347,14 @@ impl<'a> WStr<'a, LittleEndian> {
         WStr::<LittleEndian>::from_utf16(raw)
     }
 
-    /// `from_utf16_unchecked` in little endian.
+    /// Returns a view of `raw` without a test: `from_utf16_unchecked` in little endian.
+    ///
+    /// # Precondition
+    ///
+    /// `raw` is well-formed UTF-16LE (check with `from_utf16le`).
     #[inline]
     pub fn from_utf16le_unchecked(raw: &'a [u8]) -> Self
-        requires { IsText false raw.now }
+        requires { IsUtf16 false raw.now }
         ensures bytes { wstr_bytes result ≡ raw.now }
         ensures encoding { Encodes false (wstr_text result) raw.now }
     {
@@ -326,10 +365,14 @@ impl<'a> WStr<'a, LittleEndian> {
 impl<'a> WStr<'a, BigEndian> {
     ghost use Rattle.utf16_str.specs.WStr.{wstr_bytes, wstr_text};
 
-    /// `from_utf16` in big endian.
+    /// Returns a view of `raw`, if it is well-formed UTF-16BE: `from_utf16` in big endian.
+    ///
+    /// # Errors
+    ///
+    /// [`Utf16Error`], if `raw` is ill-formed.
     #[inline]
     pub fn from_utf16be(raw: &'a [u8]) -> Result<Self, Utf16Error>
-        ensures text { IsOk result ↔ IsText true raw.now }
+        ensures text { IsOk result ↔ IsUtf16 true raw.now }
         ensures bytes { IfOk result (λ s. wstr_bytes s ≡ raw.now) }
         ensures encoding { IfOk result (λ s. Encodes true (wstr_text s) raw.now) }
         ensures error { IfErr result (IsErrorOf true raw.now) }
@@ -337,10 +380,14 @@ impl<'a> WStr<'a, BigEndian> {
         WStr::<BigEndian>::from_utf16(raw)
     }
 
-    /// `from_utf16_unchecked` in big endian.
+    /// Returns a view of `raw` without a test: `from_utf16_unchecked` in big endian.
+    ///
+    /// # Precondition
+    ///
+    /// `raw` is well-formed UTF-16BE (check with `from_utf16be`).
     #[inline]
     pub fn from_utf16be_unchecked(raw: &'a [u8]) -> Self
-        requires { IsText true raw.now }
+        requires { IsUtf16 true raw.now }
         ensures bytes { wstr_bytes result ≡ raw.now }
         ensures encoding { Encodes true (wstr_text result) raw.now }
     {

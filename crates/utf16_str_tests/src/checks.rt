@@ -1,4 +1,4 @@
-//! What the tests of this crate share: assertions, and bytes taken as text.
+//! Assertions that the tests of this crate share, and views of bytes.
 
 ghost use Rattle.std.specs.Prelude.{IsTrue};
 
@@ -6,19 +6,19 @@ use std::fmt::Debug;
 use std::process::Abort;
 use utf16string::{Utf16Order, WStr};
 
-/// What is found is what is wanted.
+/// Asserts that the value found is the expected one.
 pub fn equal<T: PartialEq + Debug + Drop>(rt: &impl Abort, found: T, wanted: T) {
     assert_eq!(rt; found, wanted);
 }
 
-/// What is claimed is so.
+/// Asserts that a claim holds.
 pub fn holds(rt: &impl Abort, is: bool)
     ensures { IsTrue is }
 {
     assert!(rt; is);
 }
 
-/// A view of these bytes, which are text.
+/// Returns a view of these bytes, which are text.
 pub fn view<'a, E: Utf16Order>(rt: &impl Abort, raw: &'a [u8]) -> WStr<'a, E> {
     WStr::from_utf16(raw).expect(rt, "text")
 }

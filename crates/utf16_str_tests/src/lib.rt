@@ -1,4 +1,4 @@
-//! Tests of views that no line of a table can say.
+//! Tests of views that no line of a table can express.
 #![tactic(auto)]
 
 #[cfg(test)]

@@ -1,8 +1,9 @@
-pub mod MarkLemmas
-pub mod MarkRows
+pub mod BomLemmas
+pub mod BomRows
 pub use Rattle.utf16_decode.proofs.DecodesLemmas
-pub use Rattle.utf16_decode.proofs.FaultDecides
+pub use Rattle.utf16_decode.proofs.IllFormedDecides
 pub use Rattle.utf16_decode.proofs.StreamLemmas
 pub mod FilterLemmas
 pub mod PiecesLemmas
 pub mod PartLemmas
+pub mod StreamRules

@@ -1,10 +1,9 @@
--- What a part of a piece decides: it is UTF-8, how much room it takes, and that it is a step of
--- decoding.
+-- The text of a part of a chunk: it is UTF-8, its length is bounded, and it is a step of decoding.
 use Rattle.std.proofs.Common.{◌≡◌, ℕ, ◌+◌, ◌-◌, ◌*◌, ◌<◌, ◌≤◌, Bool, List, [], ◌∷◌, ◌++◌, length, take, drop, refl, sym, ap, ◌∙◌, subst, ⊎_elim, arith, append-nil, append_assoc}
 use Rattle.std.proofs.lemmas.Bool.{cases_lt}
 use Rattle.std.proofs.lemmas.List.{drop_all, get_or-append_right, get_or-take, get_or_append_left, get_or_past, length-take}
 use Rattle.std.specs.Str.{IsUtf8}
-use Rattle.utf16_units.specs.Split.{Item, marked, split_items, split_tail}
+use Rattle.utf16_units.specs.Split.{Item, lossy_chars, split_items, split_tail}
 use Rattle.utf16_units.proofs.EncodingLemmas.{all_scalars-from_All}
 use Rattle.utf16_units.proofs.FirstChar.{AreBytes}
 use Rattle.utf16_units.proofs.ShownLemmas.{split_within}
@@ -29,7 +28,7 @@ AreBytes-take n bytes are k = ⊎_elim
     (cases_lt k n)
 
 module _ (big : Bool) (bytes : List ℕ) (are : AreBytes bytes) where
-  -- the text takes no more than half as much again as the bytes
+  -- the text has at most three bytes for each two bytes decoded
   pub shown_most : 2 * length (shown (split_items big bytes)) ≤ 3 * length bytes
   shown_most = (split_within big bytes (split_items big bytes) (split_tail big bytes) (Split-computed big bytes are)).1
 
@@ -37,34 +36,34 @@ module _ (big : Bool) (bytes : List ℕ) (are : AreBytes bytes) where
   shown_utf8 =
       let tail = length (split_tail big bytes) in
       let ends : length bytes - tail + tail ≡ length bytes = omega (arith, length-split_tail-le big bytes) in
-      let text = marked (split_items big bytes) in
+      let text = lossy_chars (split_items big bytes) in
       (text, (all_scalars-from_All text (encodes_marked big bytes (length bytes - tail) ends are []).scalars, refl))
 
--- where all of a part was taken, what was written is all that it decides
-pub fed_text : (big : Bool) (held part left to : List ℕ) (read written room : ℕ) → Feeds big held part left to read written
-    → StopsFeeding big held part left read room Done → take written to ≡ shown (split_items big (held ++ part))
-fed_text big held part left to read written room feeds done =
-    let undecided = ap (split_tail big) done.1 ∙ split_tail-again big (held ++ part) ∙ sym done.1 in
+-- if all of a part was read, all of its certain text was written
+pub fed_text : (big : Bool) (pending part left to : List ℕ) (read written room : ℕ) → Feeds big pending part left to read written
+    → StopsFeeding big pending part left read room Done → take written to ≡ shown (split_items big (pending ++ part))
+fed_text big pending part left to read written room feeds done =
+    let undecided = ap (split_tail big) done.1 ∙ split_tail-again big (pending ++ part) ∙ sym done.1 in
     let rest : left ++ drop read part ≡ left = ap (λ p. left ++ p) (drop_all read part (omega (arith, done.0))) ∙ append-nil left in
-    Decodes-end big (held ++ part) (left ++ drop read part) [] (take written to) feeds.decodes (ap (split_items big) rest ∙ undecided_items big left undecided)
+    Decodes-end big (pending ++ part) (left ++ drop read part) [] (take written to) feeds.decodes (ap (split_items big) rest ∙ undecided_items big left undecided)
 
--- a part and the rest of a piece
-module _ (big : Bool) (held piece part rest : List ℕ) (joined : piece ≡ part ++ rest) where
-  whole : (held ++ part) ++ rest ≡ held ++ piece
-  whole = append_assoc held part rest ∙ ap (λ p. held ++ p) (sym joined)
+-- a part and the rest of a chunk
+module _ (big : Bool) (pending piece part rest : List ℕ) (joined : piece ≡ part ++ rest) where
+  whole : (pending ++ part) ++ rest ≡ pending ++ piece
+  whole = append_assoc pending part rest ∙ ap (λ p. pending ++ p) (sym joined)
 
-  -- what the part decides is one step
-  pub Decodes-part : (left old new : List ℕ) → left ≡ split_tail big (held ++ part) → new ≡ old ++ shown (split_items big (held ++ part))
-      → Decodes big (held ++ piece) (left ++ rest) old new
+  -- decoding the part is one step
+  pub Decodes-part : (left old new : List ℕ) → left ≡ split_tail big (pending ++ part) → new ≡ old ++ shown (split_items big (pending ++ part))
+      → Decodes big (pending ++ piece) (left ++ rest) old new
   Decodes-part left old new is text =
       subst (λ b. Decodes big b (left ++ rest) old new) whole
-      (subst (λ t. Decodes big ((held ++ part) ++ rest) (t ++ rest) old new) (sym is) (Decodes-piece big (held ++ part) rest old new text))
+      (subst (λ t. Decodes big ((pending ++ part) ++ rest) (t ++ rest) old new) (sym is) (Decodes-piece big (pending ++ part) rest old new text))
 
-  -- where the piece decides nothing, nor does the part
-  pub part_none : split_items big (held ++ piece) ≡ [] → split_items big (held ++ part) ≡ []
+  -- if the chunk decodes to nothing, so does the part
+  pub part_none : split_items big (pending ++ piece) ≡ [] → split_items big (pending ++ part) ≡ []
   part_none none =
-      let both = sym (split_items-append big (held ++ part) rest) ∙ ap (split_items big) whole ∙ none in
-      front_none (split_items big (held ++ part)) _ both where
+      let both = sym (split_items-append big (pending ++ part) rest) ∙ ap (split_items big) whole ∙ none in
+      front_none (split_items big (pending ++ part)) _ both where
         front_none : (items more : List Item) → items ++ more ≡ [] → items ≡ []
         front_none [] more e = refl
         front_none (item ∷ items) more e = absurd (cc)

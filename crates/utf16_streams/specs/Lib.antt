@@ -1,6 +1,6 @@
 pub use Rattle.utf16_units.specs.Split
 pub use Rattle.utf16_decode.specs.Decodes
-pub mod Mark
+pub mod Bom
 pub mod Watched
 pub mod Lossy
 pub mod AnyLossy

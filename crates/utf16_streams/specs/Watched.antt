@@ -1,4 +1,4 @@
--- What a clause sees of a `Watched`.
+-- What contracts can say of a `Watched`: its reader or writer, and its error count.
 use Rattle.std.specs.Prelude.{◌≡◌, ℕ, ◌+◌, Result, MatchResult}
 use Rattle.utf16_streams.specs.declared.watched.Watched.{Watched}
 
@@ -11,6 +11,6 @@ module _ {T : Type 0} where
   abbrev pub watched_faults : Watched T → ℕ
   watched_faults w = w.faults
 
-  -- a fault adds one to the count, and nothing else changes it
+  -- an I/O error adds one to the count, and nothing else changes it
   abbrev pub CountsFaults : {A X : Type 0} → Watched T → Watched T → Result A X → Type 0
   CountsFaults old new result = MatchResult result (λ _. watched_faults new ≡ watched_faults old) (λ _. watched_faults new ≡ watched_faults old + 1)

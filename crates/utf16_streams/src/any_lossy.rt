@@ -1,29 +1,29 @@
-//! A decoder of UTF-16 whose byte order a mark tells.
+//! A decoder of UTF-16 whose byte order the BOM gives.
 
-ghost use Rattle.std.specs.Prelude.{◌≡◌, ◌≢◌, ◌↔◌, ◌≤◌, [], ◌++◌, None, Some, IfErr, IfOk, IsOk, OnErr, OnOk, encode_utf8_all, length, string_bytes};
+ghost use Rattle.std.specs.Prelude.{◌≡◌, ◌≢◌, ◌↔◌, ◌<◌, ◌≤◌, [], ◌++◌, All, None, Some, IfErr, IfOk, IsOk, OnErr, OnOk, chars, encode_utf8_all, length, string_bytes};
 ghost use Rattle.std.specs.Option.{option_to_list};
-ghost use Rattle.utf16_units.specs.Split.{IsTail, marked};
-ghost use Rattle.utf16_streams.specs.AnyLossy.{any_order, any_pending, state_order, state_pending};
+ghost use Rattle.utf16_units.specs.Split.{IsTail, lossy_chars};
+ghost use Rattle.utf16_streams.specs.AnyLossy.{any_byte_order, any_pending, state_byte_order, state_pending};
 ghost use Rattle.utf16_streams.specs.Lossy.{lossy_pending};
-ghost use Rattle.utf16_streams.specs.Mark.{big_in, items_in, order_after, tail_in};
+ghost use Rattle.utf16_streams.specs.Bom.{big_in, items_in, byte_order_after, tail_in};
 
-use crate::decoder::{Decoder, LEAST_ROOM, feed};
+use crate::decoder::{Decoder, LEAST_ROOM, are_bytes, feed};
 use crate::lossy::Lossy;
 use std::alloc::{AllocError, Allocator};
 use utf16_units::{BE, LE, Utf16Order};
 
-/// A decoder of UTF-16 that comes in pieces, cut anywhere, in the byte order that its beginning
-/// tells. A stream that begins with the bytes `FE FF` is big endian, one that begins with `FF FE`
-/// is little endian, and this byte order mark is no part of its text; any other stream is big
-/// endian, all of it text. A second mark is a character as any other. What is no text is shown by
-/// U+FFFD, one for each unpaired surrogate. At most three bytes are held back, in the
-/// value itself.
+/// A decoder of UTF-16 that comes in chunks, cut anywhere, in the byte order that its BOM gives. A
+/// stream that begins with the bytes `FE FF` is big endian, one that begins with `FF FE` is little
+/// endian, and this BOM (byte order mark) is no part of its text. Any other stream is big endian,
+/// and all of it is text. A second BOM is a character like any other. Ill-formed sequences become
+/// U+FFFD, the replacement character: one for each unpaired surrogate. At most three bytes are
+/// pending, in the value itself.
 #[derive(Drop)]
 pub struct AnyLossy {
     state: State,
 }
 
-// Whether two bytes have come, and what decodes then.
+// The pending byte, or the decoder once two bytes have come.
 #[derive(Drop)]
 enum State {
     // Fewer than two bytes have come.
@@ -33,56 +33,83 @@ enum State {
 }
 
 impl AnyLossy {
-    /// A decoder that was given nothing yet. Its order is not decided.
+    /// Returns a decoder at the beginning of a stream. Its byte order is not decided.
     #[inline]
     pub fn new() -> Self
         ensures pending { any_pending result ≡ [] }
-        ensures order { any_order result ≡ None }
+        ensures order { any_byte_order result ≡ None }
     {
         AnyLossy {
             state: State::Undecided(None),
         }
     }
 
-    /// The bytes that were given and are not decided: until two have come those that have come, a
-    /// byte of a mark too, and from then on those of the order found, as by `Lossy::pending`. They
-    /// are at most three.
+    /// Returns the bytes that are not decoded yet, at most three: before the second byte of the
+    /// stream, the first one if it came (it may be a byte of a BOM); later as `Lossy::pending`.
     #[inline]
     pub fn pending(&self) -> &[u8]
         ensures bytes { result.now ≡ any_pending self.now }
-        ensures undecided { tail_in (any_order self.now) result.now ≡ result.now }
-        ensures tail { IsTail (big_in (any_order self.now) result.now) result.now }
+        ensures undecided { tail_in (any_byte_order self.now) result.now ≡ result.now }
+        ensures tail { IsTail (big_in (any_byte_order self.now) result.now) result.now }
         ensures few { length result.now ≤ 3 }
-        ensures none { any_order self.now ≡ None → length result.now ≤ 1 }
+        ensures are_bytes { All (λ b. b < 256) result.now }
+        ensures none { any_byte_order self.now ≡ None → length result.now ≤ 1 }
     {
         match &self.state {
-            State::Undecided(first) => first.as_slice(),
+            State::Undecided(first) => {
+                let pending = first.as_slice();
+                are_bytes(pending);
+                pending
+            }
             State::Big(decoder) => decoder.pending(),
             State::Little(decoder) => decoder.pending(),
         }
     }
 
-    /// Takes the next piece, and answers the text of all that is decided now, as `Lossy::feed` does
-    /// in the order found. With the second byte of the stream the order is decided, and a mark is
-    /// dropped. The only error is a refused request for memory; it leaves the decoder as it was,
-    /// its order undecided if it was, and nothing of the piece is taken. Where the answer is empty
-    /// there is none. Room for the longest answer is asked for once: three bytes for each code
-    /// unit.
+    /// Decodes the next chunk, and returns the text that is now certain, as `Lossy::feed` does in
+    /// the byte order found. The second byte of the stream decides the byte order; a BOM is
+    /// dropped.
+    ///
+    /// # Errors
+    ///
+    /// If allocation fails. The decoder is unchanged then, its byte order undecided if it was, and
+    /// nothing of the chunk is taken. A call that returns the empty string never fails.
+    ///
+    /// # Complexity
+    ///
+    /// Allocates once for the longest possible result: three bytes for each code unit.
     pub fn feed<A: Allocator>(&mut self, alloc: A, piece: &[u8]) -> Result<String<A>, AllocError>
-        ensures text { IfOk result (λ s. string_bytes s ≡ encode_utf8_all (marked (items_in (any_order self.old) (any_pending self.old ++ piece.now)))) }
-        ensures pending { OnOk result (any_pending self.new ≡ tail_in (any_order self.old) (any_pending self.old ++ piece.now)) }
-        ensures order { OnOk result (any_order self.new ≡ order_after (any_order self.old) (any_pending self.old ++ piece.now)) }
-        ensures refused { OnErr result ((any_pending self.new ≡ any_pending self.old) × (any_order self.new ≡ any_order self.old)) }
-        ensures nothing { marked (items_in (any_order self.old) (any_pending self.old ++ piece.now)) ≡ [] → IsOk result }
+        ensures text { IfOk result (λ s.
+            string_bytes s ≡ encode_utf8_all
+            (lossy_chars (items_in (any_byte_order self.old)
+            (any_pending self.old ++ piece.now)))) }
+        ensures chars { IfOk result (λ s.
+            chars (string_bytes s)
+            ≡ lossy_chars (items_in (any_byte_order self.old)
+            (any_pending self.old ++ piece.now))) }
+        ensures pending { OnOk result (any_pending self.new
+            ≡ tail_in (any_byte_order self.old) (any_pending self.old ++ piece.now)) }
+        ensures order { OnOk result (any_byte_order self.new
+            ≡ byte_order_after (any_byte_order self.old) (any_pending self.old ++ piece.now)) }
+        ensures refused { OnErr result ((any_pending self.new ≡ any_pending self.old)
+            × (any_byte_order self.new ≡ any_byte_order self.old)) }
+        ensures nothing { lossy_chars (items_in (any_byte_order self.old)
+            (any_pending self.old ++ piece.now)) ≡ [] → IsOk result }
+        ensures are_bytes { All (λ b. b < 256) (any_pending self.old ++ piece.now) }
     {
+        are_bytes(self.pending());
         feed(self, alloc, piece)
     }
 
-    /// Ends the stream: U+FFFD where bytes are pending, and else nothing. It takes no memory.
+    /// Ends the stream: returns U+FFFD if bytes are pending, and `None` if not.
+    ///
+    /// # Complexity
+    ///
+    /// Allocates nothing.
     #[inline]
     pub fn finish(self) -> Option<char>
         ensures none { (result ≡ None) ↔ (any_pending self ≡ []) }
-        ensures mark { (result ≡ Some 0xFFFD) ↔ (any_pending self ≢ []) }
+        ensures replacement { (result ≡ Some 0xFFFD) ↔ (any_pending self ≢ []) }
     {
         match self.state {
             State::Undecided(first) => first.map(|_| '\u{FFFD}'),
@@ -93,9 +120,9 @@ impl AnyLossy {
 }
 
 impl Decoder for AnyLossy {
-    ghost order = { any_order };
+    ghost order = { any_byte_order };
 
-    ghost held = { any_pending };
+    ghost pending = { any_pending };
 
     fn feed_into<A: Allocator>(
         &mut self,
@@ -118,8 +145,8 @@ impl Decoder for AnyLossy {
     }
 }
 
-// Takes a piece of a stream of which at most one byte has come, and decides the order with the
-// second.
+// Decodes a chunk of a stream of which at most one byte has come. The second byte decides the byte
+// order.
 fn begin<A: Allocator>(
     first: Option<u8>,
     piece: &[u8],
@@ -127,9 +154,12 @@ fn begin<A: Allocator>(
     to: &mut String<A>,
 ) -> Result<State, AllocError>
     requires { LEAST_ROOM ≤ length buffer.old }
-    ensures text { OnOk result (string_bytes to.new ≡ string_bytes to.old ++ encode_utf8_all (marked (items_in None (option_to_list first ++ piece.now)))) }
-    ensures pending { IfOk result (λ state. state_pending state ≡ tail_in None (option_to_list first ++ piece.now)) }
-    ensures order { IfOk result (λ state. state_order state ≡ order_after None (option_to_list first ++ piece.now)) }
+    ensures text { OnOk result (string_bytes to.new ≡ string_bytes to.old
+        ++ encode_utf8_all (lossy_chars (items_in None (option_to_list first ++ piece.now)))) }
+    ensures pending { IfOk result (λ state.
+        state_pending state ≡ tail_in None (option_to_list first ++ piece.now)) }
+    ensures order { IfOk result (λ state.
+        state_byte_order state ≡ byte_order_after None (option_to_list first ++ piece.now)) }
     ensures nothing { items_in None (option_to_list first ++ piece.now) ≡ [] → IsOk result }
 {
     let (beginning, rest) = match first_two(first, piece) {
@@ -143,11 +173,13 @@ fn begin<A: Allocator>(
     }
 }
 
-// The first two bytes of a stream and those behind them; an error where fewer have come, with the
-// one that came.
+// Returns the first two bytes of a stream and the bytes after them; the error is for a stream of
+// fewer bytes, and holds the one that came.
 fn first_two<'a>(first: Option<u8>, piece: &'a [u8]) -> Result<([u8; 2], &'a [u8]), Option<u8>>
-    ensures two { IfOk result (λ parts. option_to_list first ++ piece.now ≡ parts.0 ++ parts.1.now) }
-    ensures fewer { IfErr result (λ only. option_to_list first ++ piece.now ≡ option_to_list only) }
+    ensures two { IfOk result (λ parts. option_to_list first ++ piece.now
+        ≡ parts.0 ++ parts.1.now) }
+    ensures fewer { IfErr result (λ only. option_to_list first ++ piece.now
+        ≡ option_to_list only) }
 {
     match (first, piece) {
         (None, [first, second, rest @ ..]) => Ok(([*first, *second], rest)),
@@ -157,7 +189,7 @@ fn first_two<'a>(first: Option<u8>, piece: &'a [u8]) -> Result<([u8; 2], &'a [u8
     }
 }
 
-// A decoder that was given a piece, whose text was put behind a text.
+// Returns the decoder after it decoded a chunk, whose text is appended to `to`.
 fn fed<E: Utf16Order, A: Allocator>(
     decoder: Lossy<E>,
     piece: &[u8],
@@ -165,9 +197,13 @@ fn fed<E: Utf16Order, A: Allocator>(
     to: &mut String<A>,
 ) -> Result<Lossy<E>, AllocError>
     requires { LEAST_ROOM ≤ length buffer.old }
-    ensures text { OnOk result (string_bytes to.new ≡ string_bytes to.old ++ encode_utf8_all (marked (items_in (Some E.BIG) (lossy_pending decoder ++ piece.now)))) }
-    ensures pending { IfOk result (λ fed. lossy_pending fed ≡ tail_in (Some E.BIG) (lossy_pending decoder ++ piece.now)) }
-    ensures nothing { items_in (Some E.BIG) (lossy_pending decoder ++ piece.now) ≡ [] → IsOk result }
+    ensures text { OnOk result (string_bytes to.new ≡ string_bytes to.old
+        ++ encode_utf8_all
+        (lossy_chars (items_in (Some E.BIG) (lossy_pending decoder ++ piece.now)))) }
+    ensures pending { IfOk result (λ fed.
+        lossy_pending fed ≡ tail_in (Some E.BIG) (lossy_pending decoder ++ piece.now)) }
+    ensures nothing { items_in (Some E.BIG) (lossy_pending decoder ++ piece.now) ≡ []
+        → IsOk result }
 {
     let mut decoder = decoder;
     decoder.feed_into(piece, buffer, to)?;

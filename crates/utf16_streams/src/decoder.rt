@@ -1,40 +1,48 @@
-//! What decodes a stream that comes in pieces.
+//! Decoding of a stream that comes in chunks.
 
-ghost use Rattle.std.specs.Prelude.{◌≡◌, ◌≢◌, ◌↔◌, ℕ, Bool, List, Option, [], ◌++◌, ◌≤◌, None, Some, IfOk, IsOk, OnErr, OnOk, encode_utf8_all, length, string_bytes};
-ghost use Rattle.utf16_units.specs.Split.{marked};
-ghost use Rattle.utf16_streams.specs.Mark.{items_in, order_after, tail_in};
+ghost use Rattle.std.specs.Prelude.{◌≡◌, ◌≢◌, ◌↔◌, ℕ, Bool, List, Option, [], ◌++◌, ◌<◌, ◌≤◌, All, None, Some, IfOk, IsOk, OnErr, OnOk, encode_utf8_all, length, string_bytes};
+ghost use Rattle.utf16_units.specs.Split.{lossy_chars};
+ghost use Rattle.utf16_streams.specs.Bom.{items_in, byte_order_after, tail_in};
 
 use std::alloc::{AllocError, Allocator};
 
-// The least size of the buffer that a text goes through: it has room for what is pending and one
-// code unit.
+// The least length, in bytes, of the buffer that decoded text is written to: it has capacity for
+// the text of the pending bytes and one code unit.
 pub const LEAST_ROOM: usize = 646;
 
-// As long as so many bytes are left behind what it writes, `Stream::feed` writes by lanes where it
-// is wanted.
-pub const SPARE: usize = 640;
+// As long as the buffer has this many bytes left after what was written, `Stream::feed` writes with
+// SIMD.
+pub const SLACK: usize = 640;
 
-/// The size of the buffer that a text goes through: it has room for the text of 4,096 bytes, three
-/// bytes for each code unit, and `SPARE` more.
+/// The length, in bytes, of the buffer that decoded text is written to: it has capacity for the
+/// text of 4,096 bytes, three bytes for each code unit, and `SLACK` more.
 pub const ROOM: usize = 6784;
 
-// A piece of at most `FEW` bytes goes through a smaller buffer.
+// A chunk of at most `FEW` bytes is decoded through a smaller buffer.
 const FEW: usize = 512;
 
 const FEW_ROOM: usize = 1408;
 
-/// A decoder of a stream that comes in pieces, in an order that is known or that a byte order mark
-/// tells.
+/// A decoder of a stream that comes in chunks, in a given byte order or in the one that the BOM
+/// gives.
 pub trait Decoder: Drop {
-    // The order that it reads in: `None` as long as that is not told.
+    // The byte order that it decodes: `None` as long as it is not decided.
     ghost order: { Self → Option Bool };
 
-    // The bytes that were given and are not decided.
-    ghost held: { Self → List ℕ };
+    // The bytes that are pending: given, but not decoded yet.
+    ghost pending: { Self → List ℕ };
 
-    /// Takes the next piece, and puts the text of all that is decided now behind a text, through a
-    /// buffer that has room for a part of it. After an error a beginning of it may stand there, and
-    /// the decoder is as it was.
+    /// Decodes the next chunk, and appends the text that is now certain to `to`. The text passes
+    /// through `buffer`, part by part.
+    ///
+    /// # Errors
+    ///
+    /// If allocation fails. The decoder is unchanged then; a prefix of the text may have been
+    /// appended.
+    ///
+    /// # Precondition
+    ///
+    /// The buffer has at least `LEAST_ROOM` bytes.
     fn feed_into<A: Allocator>(
         &mut self,
         piece: &[u8],
@@ -42,29 +50,46 @@ pub trait Decoder: Drop {
         to: &mut String<A>,
     ) -> Result<(), AllocError>
         requires { LEAST_ROOM ≤ length buffer.old }
-        ensures text { OnOk result (string_bytes to.new ≡ string_bytes to.old ++ encode_utf8_all (marked (items_in (order self.old) (held self.old ++ piece.now)))) }
-        ensures held { OnOk result (held self.new ≡ tail_in (order self.old) (held self.old ++ piece.now)) }
-        ensures order { OnOk result (order self.new ≡ order_after (order self.old) (held self.old ++ piece.now)) }
-        ensures refused { OnErr result ((held self.new ≡ held self.old) × (order self.new ≡ order self.old)) }
-        ensures nothing { items_in (order self.old) (held self.old ++ piece.now) ≡ [] → IsOk result };
+        ensures text { OnOk result (string_bytes to.new ≡ string_bytes to.old
+            ++ encode_utf8_all
+            (lossy_chars (items_in (order self.old) (pending self.old ++ piece.now)))) }
+        ensures pending { OnOk result (pending self.new
+            ≡ tail_in (order self.old) (pending self.old ++ piece.now)) }
+        ensures order { OnOk result (order self.new
+            ≡ byte_order_after (order self.old) (pending self.old ++ piece.now)) }
+        ensures refused { OnErr result ((pending self.new ≡ pending self.old)
+            × (order self.new ≡ order self.old)) }
+        ensures nothing { items_in (order self.old) (pending self.old ++ piece.now) ≡ []
+            → IsOk result };
 
-    /// Ends the stream: U+FFFD where bytes are held, and else nothing.
+    /// Ends the stream: returns U+FFFD if bytes are pending, and `None` if not.
     fn finish(self) -> Option<char>
-        ensures none { (result ≡ None) ↔ (held self ≡ []) }
-        ensures mark { (result ≡ Some 0xFFFD) ↔ (held self ≢ []) };
+        ensures none { (result ≡ None) ↔ (pending self ≡ []) }
+        ensures replacement { (result ≡ Some 0xFFFD) ↔ (pending self ≢ []) };
 }
 
-/// Takes the next piece, and returns the text of all that is decided now.
+/// Decodes the next chunk, and returns the text that is now certain.
+///
+/// # Errors
+///
+/// If allocation fails. The decoder is unchanged then. A call that returns the empty string never
+/// fails.
 pub fn feed<D: Decoder, A: Allocator>(
     decoder: &mut D,
     alloc: A,
     piece: &[u8],
 ) -> Result<String<A>, AllocError>
-    ensures text { IfOk result (λ s. string_bytes s ≡ encode_utf8_all (marked (items_in (D.order decoder.old) (D.held decoder.old ++ piece.now)))) }
-    ensures held { OnOk result (D.held decoder.new ≡ tail_in (D.order decoder.old) (D.held decoder.old ++ piece.now)) }
-    ensures order { OnOk result (D.order decoder.new ≡ order_after (D.order decoder.old) (D.held decoder.old ++ piece.now)) }
-    ensures refused { OnErr result ((D.held decoder.new ≡ D.held decoder.old) × (D.order decoder.new ≡ D.order decoder.old)) }
-    ensures nothing { items_in (D.order decoder.old) (D.held decoder.old ++ piece.now) ≡ [] → IsOk result }
+    ensures text { IfOk result (λ s.
+        string_bytes s ≡ encode_utf8_all
+        (lossy_chars (items_in (D.order decoder.old) (D.pending decoder.old ++ piece.now)))) }
+    ensures pending { OnOk result (D.pending decoder.new
+        ≡ tail_in (D.order decoder.old) (D.pending decoder.old ++ piece.now)) }
+    ensures order { OnOk result (D.order decoder.new
+        ≡ byte_order_after (D.order decoder.old) (D.pending decoder.old ++ piece.now)) }
+    ensures refused { OnErr result ((D.pending decoder.new ≡ D.pending decoder.old)
+        × (D.order decoder.new ≡ D.order decoder.old)) }
+    ensures nothing { items_in (D.order decoder.old) (D.pending decoder.old ++ piece.now) ≡ []
+        → IsOk result }
 {
     let mut text = String::new(alloc);
     if piece.len() <= FEW {
@@ -74,3 +99,10 @@ pub fn feed<D: Decoder, A: Allocator>(
     }
     Ok(text)
 }
+
+/// States that bytes are below 256, as the type of their slice says. It does nothing: a proof cites
+/// it by a call.
+#[inline]
+pub fn are_bytes(bytes: &[u8])
+    ensures { All (λ b. b < 256) bytes.now }
+{}

@@ -2,7 +2,7 @@
 
 ghost use Rattle.std.specs.Prelude.{◌≡◌, ◌+◌, ◌-◌, ◌<◌, ◌^◌, [], OnErr, OnOk};
 ghost use Rattle.std.specs.Io.KnownBytes.{Appends};
-ghost use Rattle.utf16_streams.specs.Filter.{AppendsFront, FiltersAs, FiltersIn, FiltersAuto, mark_utf8, read_faults, write_faults};
+ghost use Rattle.utf16_streams.specs.Filter.{AppendsPrefix, FiltersAs, FiltersIn, FiltersAuto, tail_utf8, read_faults, write_faults};
 ghost use Rattle.utf16_streams.specs.Watched.{CountsFaults, watched_faults, watched_inner};
 
 use crate::any_lossy::AnyLossy;
@@ -13,28 +13,39 @@ use std::alloc::Allocator;
 use std::io::{Read, Write};
 use utf16_units::Utf16Order;
 
-/// How many bytes are read at a time, at most.
+/// The most bytes that are read at a time.
 const BLOCK: usize = 4096;
 
 /// Why a filter stopped before the end of its input.
 #[derive(Clone, Copy, Debug, PartialEq, Eq)]
 pub enum FilterFault {
-    /// A read failed. The text of what was read is written, but for the mark of a tail.
+    /// A read failed. The text of the bytes read is written, but no U+FFFD for an incomplete end.
     Read,
-    /// A write or the flush failed. A beginning of the text of what was read is written.
+    /// A write or the flush failed. A prefix of the text of the bytes read is written.
     Write,
-    /// Memory was refused. The text of what was read before the last piece is written. With the
-    /// last piece more is decided: for a piece that decides nothing no memory is asked for.
+    /// Allocation failed. The text of the bytes read before the last chunk is written. The last
+    /// chunk would have added to it: a chunk that adds no text needs no allocation.
     Memory,
-    /// The input gave bytes at 2^64 - 1 reads. Their text is written, but for the mark of a tail.
+    /// 2^64 - 1 reads returned bytes. Their text is written, but no U+FFFD for an incomplete end.
     Long,
 }
 
-/// Decodes all that the reader gives, in the order `E`, and writes it in UTF-8, with U+FFFD for
-/// each unpaired surrogate and one more where a beginning is left at the end. It reads
-/// pieces of up to 4,096 bytes until a read gives none, flushes once at the end, and stops at the
-/// first fault. It takes room for the text of one piece, whatever the input's length. The caller
-/// proves that there is a number for a fault of the reader, and for one of the writer.
+/// Decodes a reader in byte order `E` and writes the text to a writer in UTF-8, with U+FFFD for
+/// each unpaired surrogate and one more for an incomplete end. It reads chunks of up to 4,096 bytes
+/// until a read returns 0, and flushes once at the end.
+///
+/// # Errors
+///
+/// At the first I/O error, if allocation fails, or after 2^64 - 1 reads that returned bytes.
+/// `FilterFault` says what is written then.
+///
+/// # Precondition
+///
+/// Neither error count is `u64::MAX`.
+///
+/// # Complexity
+///
+/// Allocates capacity for the text of one chunk, however long the input is.
 pub fn filter<E: Utf16Order, R: Read, W: Write, A: Allocator>(
     alloc: A,
     reader: &mut Watched<R>,
@@ -42,19 +53,26 @@ pub fn filter<E: Utf16Order, R: Read, W: Write, A: Allocator>(
 ) -> Result<(), FilterFault>
     requires reader { watched_faults reader.old < 2 ^ 64 - 1 }
     requires writer { watched_faults writer.old < 2 ^ 64 - 1 }
-    ensures bytes { FiltersAs E.BIG (R.remaining (watched_inner reader.old)) (R.remaining (watched_inner reader.new))
-        (W.contents (watched_inner writer.old)) (W.contents (watched_inner writer.new)) result }
+    ensures bytes { FiltersAs E.BIG (R.remaining (watched_inner reader.old))
+        (R.remaining (watched_inner reader.new)) (W.contents (watched_inner writer.old))
+        (W.contents (watched_inner writer.new)) result }
     ensures reads { watched_faults reader.new ≡ watched_faults reader.old + read_faults result }
     ensures writes { watched_faults writer.new ≡ watched_faults writer.old + write_faults result }
 {
     filter_by(alloc, Lossy::<E>::new(), reader, writer)
 }
 
-/// Decodes all that the reader gives, in the order that its beginning tells, and writes it in
-/// UTF-8, as `filter` does. A stream that begins with the bytes `FE FF` is big endian, one that
-/// begins with `FF FE` is little endian, and this byte order mark is not written; any other stream
-/// is big endian. The caller proves that there is a number for a fault of the reader, and for one
-/// of the writer.
+/// Decodes a reader in the byte order that its BOM gives and writes the text to a writer in UTF-8,
+/// as `filter` does. A stream that begins with the bytes `FE FF` is big endian, one that begins
+/// with `FF FE` is little endian, and this BOM is not written. Any other stream is big endian.
+///
+/// # Errors
+///
+/// As `filter`.
+///
+/// # Precondition
+///
+/// Neither error count is `u64::MAX`.
 pub fn filter_auto<R: Read, W: Write, A: Allocator>(
     alloc: A,
     reader: &mut Watched<R>,
@@ -62,27 +80,28 @@ pub fn filter_auto<R: Read, W: Write, A: Allocator>(
 ) -> Result<(), FilterFault>
     requires reader { watched_faults reader.old < 2 ^ 64 - 1 }
     requires writer { watched_faults writer.old < 2 ^ 64 - 1 }
-    ensures bytes { FiltersAuto (R.remaining (watched_inner reader.old)) (R.remaining (watched_inner reader.new))
-        (W.contents (watched_inner writer.old)) (W.contents (watched_inner writer.new)) result }
+    ensures bytes { FiltersAuto (R.remaining (watched_inner reader.old))
+        (R.remaining (watched_inner reader.new)) (W.contents (watched_inner writer.old))
+        (W.contents (watched_inner writer.new)) result }
     ensures reads { watched_faults reader.new ≡ watched_faults reader.old + read_faults result }
     ensures writes { watched_faults writer.new ≡ watched_faults writer.old + write_faults result }
 {
     filter_by(alloc, AnyLossy::new(), reader, writer)
 }
 
-// Decodes all that the reader gives by a decoder that was given nothing yet, and writes it in
-// UTF-8.
+// Decodes a reader by a decoder at the beginning of its stream, and writes the text in UTF-8.
 fn filter_by<D: Decoder, R: Read, W: Write, A: Allocator>(
     alloc: A,
     decoder: D,
     reader: &mut Watched<R>,
     writer: &mut Watched<W>,
 ) -> Result<(), FilterFault>
-    requires fresh { D.held decoder ≡ [] }
+    requires fresh { D.pending decoder ≡ [] }
     requires reader { watched_faults reader.old < 2 ^ 64 - 1 }
     requires writer { watched_faults writer.old < 2 ^ 64 - 1 }
-    ensures bytes { FiltersIn (D.order decoder) (R.remaining (watched_inner reader.old)) (R.remaining (watched_inner reader.new))
-        (W.contents (watched_inner writer.old)) (W.contents (watched_inner writer.new)) result }
+    ensures bytes { FiltersIn (D.order decoder) (R.remaining (watched_inner reader.old))
+        (R.remaining (watched_inner reader.new)) (W.contents (watched_inner writer.old))
+        (W.contents (watched_inner writer.new)) result }
     ensures reads { watched_faults reader.new ≡ watched_faults reader.old + read_faults result }
     ensures writes { watched_faults writer.new ≡ watched_faults writer.old + write_faults result }
 {
@@ -111,15 +130,17 @@ fn filter_by<D: Decoder, R: Read, W: Write, A: Allocator>(
     Err(FilterFault::Long)
 }
 
-// Writes the mark of what is left, and flushes once.
+// Writes U+FFFD if bytes are pending, and flushes once.
 fn end<D: Decoder, W: Write>(decoder: D, writer: &mut Watched<W>) -> Result<(), DeviceFault>
     requires { watched_faults writer.old < 2 ^ 64 - 1 }
-    ensures done { OnOk result (Appends (W.contents (watched_inner writer.old)) (W.contents (watched_inner writer.new)) (mark_utf8 (D.held decoder))) }
-    ensures fault { OnErr result (AppendsFront (W.contents (watched_inner writer.old)) (W.contents (watched_inner writer.new)) (mark_utf8 (D.held decoder))) }
+    ensures done { OnOk result (Appends (W.contents (watched_inner writer.old))
+        (W.contents (watched_inner writer.new)) (tail_utf8 (D.pending decoder))) }
+    ensures fault { OnErr result (AppendsPrefix (W.contents (watched_inner writer.old))
+        (W.contents (watched_inner writer.new)) (tail_utf8 (D.pending decoder))) }
     ensures faults { CountsFaults writer.old writer.new result }
 {
-    if let Some(mark) = decoder.finish() {
-        write_all(writer, mark.encode_utf8(&mut [0; 4]).as_bytes())?;
+    if let Some(replacement) = decoder.finish() {
+        write_all(writer, replacement.encode_utf8(&mut [0; 4]).as_bytes())?;
     }
     writer.flush()
 }
@@ -127,8 +148,10 @@ fn end<D: Decoder, W: Write>(decoder: D, writer: &mut Watched<W>) -> Result<(), 
 // Writes all of the bytes.
 fn write_all<W: Write>(writer: &mut Watched<W>, bytes: &[u8]) -> Result<(), DeviceFault>
     requires { watched_faults writer.old < 2 ^ 64 - 1 }
-    ensures done { OnOk result (Appends (W.contents (watched_inner writer.old)) (W.contents (watched_inner writer.new)) bytes.now) }
-    ensures fault { OnErr result (AppendsFront (W.contents (watched_inner writer.old)) (W.contents (watched_inner writer.new)) bytes.now) }
+    ensures done { OnOk result (Appends (W.contents (watched_inner writer.old))
+        (W.contents (watched_inner writer.new)) bytes.now) }
+    ensures fault { OnErr result (AppendsPrefix (W.contents (watched_inner writer.old))
+        (W.contents (watched_inner writer.new)) bytes.now) }
     ensures faults { CountsFaults writer.old writer.new result }
 {
     let mut written = 0;

@@ -1,5 +1,5 @@
-//! UTF-16 that comes in pieces: decoders, filters from a reader to a writer, and readers and
-//! writers whose faults are counted. The byte orders are re-exported, so that a user names this
+//! UTF-16 that comes in chunks: decoders, filters from a reader to a writer, and readers and
+//! writers whose I/O errors are counted. The byte orders are re-exported, so that a user names this
 //! crate alone.
 #![tactic(auto)]
 

@@ -1,34 +1,35 @@
-//! A decoder of UTF-16 that comes in pieces.
+//! A decoder of UTF-16 that comes in chunks.
 
-ghost use Rattle.std.specs.Prelude.{◌≡◌, ◌≢◌, ◌↔◌, ◌+◌, ◌*◌, ◌<◌, ◌≤◌, [], ◌++◌, None, Some, IfOk, IsOk, OnErr, OnOk, encode_utf8_all, length, string_bytes};
+ghost use Rattle.std.specs.Prelude.{◌≡◌, ◌≢◌, ◌↔◌, ◌+◌, ◌*◌, ◌<◌, ◌≤◌, [], ◌++◌, All, None, Some, IfOk, IsOk, OnErr, OnOk, chars, encode_utf8_all, length, string_bytes};
 ghost use Rattle.std.specs.List.{flat_map};
 ghost use Rattle.std.specs.Option.{option_to_list};
 ghost use Rattle.std.specs.Str.{IsUtf8};
+ghost use Rattle.std.specs.String.{string_capacity};
 ghost use Rattle.std.specs.Vec.{vec_items};
 ghost use Rattle.utf16_units.specs.Split.{decided_text, IsTail, lossy_text, split_items, split_tail};
 ghost use Rattle.utf16_decode.specs.Decodes.{Decodes};
-ghost use Rattle.utf16_decode.specs.Stream.{stream_held};
+ghost use Rattle.utf16_decode.specs.Stream.{stream_pending};
 
-use crate::decoder::{Decoder, LEAST_ROOM, ROOM, SPARE, feed};
+use crate::decoder::{Decoder, LEAST_ROOM, ROOM, SLACK, are_bytes, feed};
 use std::alloc::{AllocError, Allocator};
 use std::marker::PhantomData;
 use utf16_decode::Stream;
 use utf16_units::Utf16Order;
 
-/// A decoder of UTF-16 in the byte order `E` that comes in pieces, cut anywhere. What is no text is
-/// shown by U+FFFD, one for each unpaired surrogate. At most three bytes are held back,
-/// in the value itself.
+/// A decoder of UTF-16 in the byte order `E` that comes in chunks, cut anywhere. Ill-formed
+/// sequences become U+FFFD, the replacement character: one for each unpaired surrogate. At most
+/// three bytes are pending, in the value itself.
 #[derive(Drop)]
 pub struct Lossy<E: Utf16Order> {
     stream: Stream,
     order: PhantomData<E>,
-    ghost undecided: { split_tail E.BIG (stream_held stream) ≡ stream_held stream },
+    ghost undecided: { split_tail E.BIG (stream_pending stream) ≡ stream_pending stream },
 }
 
 impl<E: Utf16Order> Lossy<E> {
     ghost use Rattle.utf16_streams.specs.Lossy.{lossy_pending};
 
-    /// A decoder that was given nothing yet.
+    /// Returns a decoder at the beginning of a stream.
     #[inline]
     pub fn new() -> Self
         ensures { lossy_pending result ≡ [] }
@@ -39,35 +40,52 @@ impl<E: Utf16Order> Lossy<E> {
         }
     }
 
-    /// The bytes that were given and are not decided: none, one byte, or a leading surrogate with
-    /// at most one byte after it.
+    /// Returns the bytes that are not decoded yet: none, one byte, or a leading surrogate and at
+    /// most one byte after it.
     #[inline]
     pub fn pending(&self) -> &[u8]
         ensures bytes { result.now ≡ lossy_pending self.now }
         ensures undecided { split_tail E.BIG result.now ≡ result.now }
         ensures tail { IsTail E.BIG result.now }
         ensures few { length result.now ≤ 3 }
+        ensures are_bytes { All (λ b. b < 256) result.now }
     {
-        self.stream.held()
+        let pending = self.stream.pending();
+        are_bytes(pending);
+        pending
     }
 
-    /// Takes the next piece, and answers the text of all that is decided now: the characters, and
-    /// U+FFFD for each unpaired surrogate. What more bytes could change stays pending.
-    /// The only error is a refused request for memory; it leaves the decoder as it was, and nothing
-    /// of the piece is taken. Where the answer is empty there is none. Room for the longest answer
-    /// is asked for once: three bytes for each code unit. The piece is read where it stands, and
-    /// the text of 4,096 bytes at a time goes through a buffer in the frame. The time grows with
-    /// the number of bytes alone.
+    /// Decodes the next chunk, and returns the text that is now certain: the characters, and U+FFFD
+    /// for each unpaired surrogate. What more bytes could change stays pending.
+    ///
+    /// # Errors
+    ///
+    /// If allocation fails. The decoder is unchanged then, and nothing of the chunk is taken. A
+    /// call that returns the empty string never fails.
+    ///
+    /// # Complexity
+    ///
+    /// Linear time. Allocates once for the longest possible result: three bytes for each code unit.
+    /// The chunk is not copied; the text of 4,096 bytes at a time passes through a buffer on the
+    /// stack.
     pub fn feed<A: Allocator>(&mut self, alloc: A, piece: &[u8]) -> Result<String<A>, AllocError>
-        ensures text { IfOk result (λ s. string_bytes s ≡ encode_utf8_all (decided_text E.BIG (lossy_pending self.old ++ piece.now))) }
-        ensures pending { OnOk result (lossy_pending self.new ≡ split_tail E.BIG (lossy_pending self.old ++ piece.now)) }
+        ensures text { IfOk result (λ s.
+            string_bytes s ≡ encode_utf8_all
+            (decided_text E.BIG (lossy_pending self.old ++ piece.now))) }
+        ensures chars { IfOk result (λ s.
+            chars (string_bytes s) ≡ decided_text E.BIG (lossy_pending self.old ++ piece.now)) }
+        ensures pending { OnOk result (lossy_pending self.new
+            ≡ split_tail E.BIG (lossy_pending self.old ++ piece.now)) }
         ensures refused { OnErr result (lossy_pending self.new ≡ lossy_pending self.old) }
-        ensures nothing { decided_text E.BIG (lossy_pending self.old ++ piece.now) ≡ [] → IsOk result }
+        ensures nothing { decided_text E.BIG (lossy_pending self.old ++ piece.now) ≡ []
+            → IsOk result }
+        ensures are_bytes { All (λ b. b < 256) (lossy_pending self.old ++ piece.now) }
     {
+        are_bytes(self.stream.pending());
         feed(self, alloc, piece)
     }
 
-    // A decoder that was given a byte, or nothing.
+    // Returns a decoder whose pending bytes are `first`, or none.
     pub(crate) fn after(first: Option<u8>) -> Self
         ensures { lossy_pending result ≡ option_to_list first }
     {
@@ -84,13 +102,17 @@ impl<E: Utf16Order> Lossy<E> {
         }
     }
 
-    /// Ends the stream: U+FFFD where bytes are pending, and else nothing. It takes no memory.
+    /// Ends the stream: returns U+FFFD if bytes are pending, and `None` if not.
+    ///
+    /// # Complexity
+    ///
+    /// Allocates nothing.
     #[inline]
     pub fn finish(self) -> Option<char>
         ensures none { (result ≡ None) ↔ (lossy_pending self ≡ []) }
-        ensures mark { (result ≡ Some 0xFFFD) ↔ (lossy_pending self ≢ []) }
+        ensures replacement { (result ≡ Some 0xFFFD) ↔ (lossy_pending self ≢ []) }
     {
-        if self.stream.held().is_empty() {
+        if self.stream.pending().is_empty() {
             None
         } else {
             Some('\u{FFFD}')
@@ -103,7 +125,7 @@ impl<E: Utf16Order> Decoder for Lossy<E> {
 
     ghost order = { λ _. Some E.BIG };
 
-    ghost held = { lossy_pending };
+    ghost pending = { lossy_pending };
 
     fn feed_into<A: Allocator>(
         &mut self,
@@ -111,7 +133,7 @@ impl<E: Utf16Order> Decoder for Lossy<E> {
         buffer: &mut [u8],
         to: &mut String<A>,
     ) -> Result<(), AllocError> {
-        make_room(self.stream.held().len(), piece.len(), to)?;
+        make_room(self.stream.pending().len(), piece.len(), to)?;
         self.stream = decode_parts::<E, A>(self.stream, piece, buffer, to)?;
         Ok(())
     }
@@ -121,32 +143,54 @@ impl<E: Utf16Order> Decoder for Lossy<E> {
     }
 }
 
-/// The text of the pieces of a stream, joined: its characters, U+FFFD for each unpaired surrogate,
-/// and one more where a beginning is left at the end. The only error is a refused
-/// request for memory; where the pieces have no bytes none is asked for.
+/// Returns the text of the chunks of a stream, joined: its characters, U+FFFD for each unpaired
+/// surrogate, and one more for an incomplete end.
+///
+/// # Errors
+///
+/// If allocation fails. It does not fail if the chunks have no bytes.
 pub fn decode_pieces<E: Utf16Order, A: Allocator, B: Allocator>(
     alloc: A,
     pieces: &[Vec<u8, B>],
 ) -> Result<String<A>, AllocError>
-    ensures text { IfOk result (λ s. string_bytes s ≡ encode_utf8_all (lossy_text E.BIG (flat_map vec_items pieces.now))) }
+    ensures text { IfOk result (λ s.
+        string_bytes s ≡ encode_utf8_all (lossy_text E.BIG (flat_map vec_items pieces.now))) }
+    ensures chars { IfOk result (λ s.
+        chars (string_bytes s) ≡ lossy_text E.BIG (flat_map vec_items pieces.now)) }
+    ensures are_bytes { OnOk result (All (λ b. b < 256) (flat_map vec_items pieces.now)) }
+    ensures nothing { flat_map vec_items pieces.now ≡ [] → IsOk result }
+{
+    decode_each::<E, A, B>(alloc, pieces)
+}
+
+// Returns the text of the chunks, as `decode_pieces` does.
+fn decode_each<E: Utf16Order, A: Allocator, B: Allocator>(
+    alloc: A,
+    pieces: &[Vec<u8, B>],
+) -> Result<String<A>, AllocError>
+    ensures text { IfOk result (λ s.
+        string_bytes s ≡ encode_utf8_all (lossy_text E.BIG (flat_map vec_items pieces.now))) }
+    ensures are_bytes { OnOk result (All (λ b. b < 256) (flat_map vec_items pieces.now)) }
     ensures nothing { flat_map vec_items pieces.now ≡ [] → IsOk result }
 {
     let mut text = String::new(alloc);
     let mut decoder = Lossy::<E>::new();
     let mut buffer = [0; ROOM];
     for piece in pieces {
+        are_bytes(piece);
         decoder.feed_into(piece, &mut buffer, &mut text)?;
     }
-    let Some(mark) = decoder.finish() else {
+    let Some(replacement) = decoder.finish() else {
         return Ok(text);
     };
-    text.push(mark)?;
+    text.push(replacement)?;
     Ok(text)
 }
 
-// Asks for room for the longest answer to so many bytes: a code unit takes at most three bytes of
-// UTF-8. Fewer than four bytes may have no answer, and have one character at most, whose room is
-// asked for where it is put.
+// Reserves capacity for the longest text of `pending` and `piece` bytes: a code unit takes at most
+// three bytes of UTF-8. An empty text without capacity gets exactly that; one with capacity grows
+// as `String` does. Fewer than four bytes may decode to nothing, and decode to one character at
+// most, for which capacity is reserved when it is appended.
 fn make_room<A: Allocator>(
     pending: usize,
     piece: usize,
@@ -154,28 +198,36 @@ fn make_room<A: Allocator>(
 ) -> Result<(), AllocError>
     ensures text { string_bytes to.new ≡ string_bytes to.old }
     ensures nothing { pending + piece < 4 → IsOk result }
+    ensures most { string_capacity to.old ≡ 0
+        → 2 * string_capacity to.new ≤ 3 * (pending + piece) }
 {
     let bytes = piece.saturating_add(pending);
     if bytes < 4 {
         return Ok(());
     }
-    to.reserve((bytes / 2).saturating_mul(3))
+    let room = (bytes / 2).saturating_mul(3);
+    if to.capacity() == 0 {
+        return to.reserve_exact(room);
+    }
+    to.reserve(room)
 }
 
-// Puts the text of what a stream and a piece decide behind a text, and answers the stream that
-// holds what is pending then. It goes through a buffer, as many bytes of the piece at a time as it
-// has room for.
+// Appends the text of a stream's pending bytes and a chunk, and returns the stream with the bytes
+// that are pending then. The text passes through a buffer, as many bytes of the chunk at a time as
+// its capacity allows.
 fn decode_parts<E: Utf16Order, A: Allocator>(
     stream: Stream,
     piece: &[u8],
     buffer: &mut [u8],
     to: &mut String<A>,
 ) -> Result<Stream, AllocError>
-    requires undecided { split_tail E.BIG (stream_held stream) ≡ stream_held stream }
+    requires undecided { split_tail E.BIG (stream_pending stream) ≡ stream_pending stream }
     requires room { LEAST_ROOM ≤ length buffer.old }
-    ensures text { OnOk result (string_bytes to.new ≡ string_bytes to.old ++ encode_utf8_all (decided_text E.BIG (stream_held stream ++ piece.now))) }
-    ensures tail { IfOk result (λ fed. stream_held fed ≡ split_tail E.BIG (stream_held stream ++ piece.now)) }
-    ensures nothing { split_items E.BIG (stream_held stream ++ piece.now) ≡ [] → IsOk result }
+    ensures text { OnOk result (string_bytes to.new ≡ string_bytes to.old
+        ++ encode_utf8_all (decided_text E.BIG (stream_pending stream ++ piece.now))) }
+    ensures tail { IfOk result (λ fed.
+        stream_pending fed ≡ split_tail E.BIG (stream_pending stream ++ piece.now)) }
+    ensures nothing { split_items E.BIG (stream_pending stream ++ piece.now) ≡ [] → IsOk result }
 {
     let mut stream = stream;
     let mut rest = piece;
@@ -185,8 +237,8 @@ fn decode_parts<E: Utf16Order, A: Allocator>(
     Ok(stream)
 }
 
-// Decodes the first part of a piece, whose text goes through a buffer and then behind a text: the
-// stream then, and the rest of the piece.
+// Decodes the first part of a chunk, whose text passes through a buffer and is appended to `to`;
+// returns the stream then, and the rest of the chunk.
 fn decode_part<'a, E: Utf16Order, A: Allocator>(
     stream: Stream,
     piece: &'a [u8],
@@ -195,29 +247,33 @@ fn decode_part<'a, E: Utf16Order, A: Allocator>(
 ) -> Result<(Stream, &'a [u8]), AllocError>
     requires some { 0 < length piece.now }
     requires room { LEAST_ROOM ≤ length buffer.old }
-    ensures step { IfOk result (λ left. Decodes E.BIG (stream_held stream ++ piece.now) (stream_held left.0 ++ left.1.now) (string_bytes to.old) (string_bytes to.new)) }
-    ensures undecided { IfOk result (λ left. split_tail E.BIG (stream_held left.0) ≡ stream_held left.0) }
+    ensures step { IfOk result (λ left.
+        Decodes E.BIG (stream_pending stream ++ piece.now) (stream_pending left.0 ++ left.1.now)
+        (string_bytes to.old) (string_bytes to.new)) }
+    ensures undecided { IfOk result (λ left. split_tail E.BIG (stream_pending left.0)
+        ≡ stream_pending left.0) }
     ensures less { IfOk result (λ left. length left.1.now < length piece.now) }
-    ensures nothing { split_items E.BIG (stream_held stream ++ piece.now) ≡ [] → IsOk result }
+    ensures nothing { split_items E.BIG (stream_pending stream ++ piece.now) ≡ [] → IsOk result }
 {
     let mut stream = stream;
-    let (part, rest) = cut::<E>(stream.held(), piece, buffer.len());
+    let (part, rest) = cut::<E>(stream.pending(), piece, buffer.len());
     let written = stream.feed::<E>(part, buffer).written;
     to.push_str(unsafe { str::from_utf8_unchecked(&buffer[..written]) })?;
     Ok((stream, rest))
 }
 
-// A piece in two: the part that is decoded at once behind held bytes, whose text has room in a
-// buffer of so many bytes, and the rest. With the held bytes the part is of even length, so that no
-// code unit is cut before the piece's last.
-fn cut<'a, E: Utf16Order>(held: &[u8], piece: &'a [u8], room: usize) -> (&'a [u8], &'a [u8])
-    requires few { length held.now ≤ 3 }
+// Splits a chunk: the part to decode at once after the pending bytes, whose text fits in a buffer
+// of `room` bytes, and the rest. The pending bytes and the part have an even number of bytes
+// together, so that no code unit is split before the end of the chunk.
+fn cut<'a, E: Utf16Order>(pending: &[u8], piece: &'a [u8], room: usize) -> (&'a [u8], &'a [u8])
+    requires few { length pending.now ≤ 3 }
     requires room { LEAST_ROOM ≤ room }
     ensures joined { piece.now ≡ result.0.now ++ result.1.now }
     ensures some { 0 < length piece.now → 0 < length result.0.now }
-    ensures utf8 { IsUtf8 (encode_utf8_all (decided_text E.BIG (held.now ++ result.0.now))) }
-    ensures room { length (encode_utf8_all (decided_text E.BIG (held.now ++ result.0.now))) ≤ room }
+    ensures utf8 { IsUtf8 (encode_utf8_all (decided_text E.BIG (pending.now ++ result.0.now))) }
+    ensures room { length (encode_utf8_all (decided_text E.BIG (pending.now ++ result.0.now)))
+        ≤ room }
 {
-    let most = (room - SPARE) / 3 * 2;
-    piece.split_at(piece.len().min(most - held.len()))
+    let most = (room - SLACK) / 3 * 2;
+    piece.split_at(piece.len().min(most - pending.len()))
 }

@@ -1,4 +1,4 @@
-//! Readers and writers whose faults are counted.
+//! Readers and writers whose I/O errors are counted.
 
 ghost use Rattle.std.specs.Prelude.{◌≡◌, ◌+◌, ◌-◌, ◌<◌, ◌≤◌, ◌^◌, IfOk, length};
 ghost use Rattle.std.specs.Io.KnownBytes.{Keeps, ReadConsumes, WriteAppends};
@@ -6,11 +6,11 @@ ghost use Rattle.utf16_streams.specs.Watched.{CountsFaults, watched_faults, watc
 
 use std::io::{Read, Write};
 
-/// A read, a write or a flush that a device refused.
+/// An I/O error: a read, a write or a flush that failed.
 #[derive(Clone, Copy, Debug, PartialEq, Eq)]
 pub struct DeviceFault;
 
-/// A reader or a writer that is asked once for each call, and how often it has failed.
+/// A reader or a writer that each call uses once, with a count of its I/O errors.
 #[derive(Drop)]
 pub struct Watched<T> {
     inner: T,
@@ -18,7 +18,7 @@ pub struct Watched<T> {
 }
 
 impl<T> Watched<T> {
-    /// A device that has not failed yet.
+    /// Wraps a reader or a writer. The error count is 0.
     #[inline]
     pub fn new(inner: T) -> Self
         ensures inner { watched_inner result ≡ inner }
@@ -27,7 +27,7 @@ impl<T> Watched<T> {
         Watched { inner, faults: 0 }
     }
 
-    /// The device.
+    /// Returns a reference to the reader or the writer.
     #[inline]
     pub fn inner(&self) -> &T
         ensures { result.now ≡ watched_inner self.now }
@@ -35,7 +35,7 @@ impl<T> Watched<T> {
         &self.inner
     }
 
-    /// The device, given back.
+    /// Returns the reader or the writer.
     #[inline]
     pub fn into_inner(self) -> T
         ensures { result ≡ watched_inner self }
@@ -44,7 +44,7 @@ impl<T> Watched<T> {
         inner
     }
 
-    /// How often it has failed.
+    /// Returns the number of its I/O errors.
     #[inline]
     pub fn faults(&self) -> u64
         ensures { result ≡ watched_faults self.now }
@@ -54,13 +54,21 @@ impl<T> Watched<T> {
 }
 
 impl<R: Read> Watched<R> {
-    /// Reads once, into the front of a buffer: how many bytes, none only at the end or without
-    /// room. An error of the reader, an interrupted call among them, is a fault and adds one to the
-    /// count. The caller proves that there is a number for it.
+    /// Reads once, into the start of a buffer, and returns the number of bytes read; 0 only at the
+    /// end of input or for an empty buffer.
+    ///
+    /// # Errors
+    ///
+    /// If the reader fails, also with an interrupted call. The error count goes up by one.
+    ///
+    /// # Precondition
+    ///
+    /// The error count is not `u64::MAX` (check with `faults`).
     pub fn read(&mut self, buf: &mut [u8]) -> Result<usize, DeviceFault>
         requires { watched_faults self.old < 2 ^ 64 - 1 }
         ensures bound { IfOk result (λ n. n ≤ length buf.new) }
-        ensures bytes { ReadConsumes (R.remaining (watched_inner self.old)) (R.remaining (watched_inner self.new)) result buf.new }
+        ensures bytes { ReadConsumes (R.remaining (watched_inner self.old))
+            (R.remaining (watched_inner self.new)) result buf.new }
         ensures faults { CountsFaults self.old self.new result }
     {
         match self.inner.read(buf) {
@@ -71,15 +79,23 @@ impl<R: Read> Watched<R> {
 }
 
 impl<W: Write> Watched<W> {
-    /// Writes once, from the front of the bytes: how many were taken, of bytes that are there at
-    /// least one. An error of the writer, an interrupted call among them, is a fault, and so is a
-    /// writer that takes none of them; it adds one to the count. The caller proves that there is a
-    /// number for it.
+    /// Writes once, from the start of the bytes, and returns the number of bytes written, at least
+    /// one if there are any.
+    ///
+    /// # Errors
+    ///
+    /// If the writer fails, also with an interrupted call, or writes none of the bytes. The error
+    /// count goes up by one.
+    ///
+    /// # Precondition
+    ///
+    /// The error count is not `u64::MAX` (check with `faults`).
     pub fn write(&mut self, buf: &[u8]) -> Result<usize, DeviceFault>
         requires { watched_faults self.old < 2 ^ 64 - 1 }
         ensures bound { IfOk result (λ n. n ≤ length buf.now) }
         ensures some { 0 < length buf.now → IfOk result (λ n. 0 < n) }
-        ensures bytes { WriteAppends (W.contents (watched_inner self.old)) (W.contents (watched_inner self.new)) result buf.now }
+        ensures bytes { WriteAppends (W.contents (watched_inner self.old))
+            (W.contents (watched_inner self.new)) result buf.now }
         ensures faults { CountsFaults self.old self.new result }
     {
         match self.inner.write(buf) {
@@ -89,11 +105,19 @@ impl<W: Write> Watched<W> {
         }
     }
 
-    /// Flushes once. An error of the writer, an interrupted call among them, is a fault and adds
-    /// one to the count. The caller proves that there is a number for it.
+    /// Flushes once.
+    ///
+    /// # Errors
+    ///
+    /// If the writer fails, also with an interrupted call. The error count goes up by one.
+    ///
+    /// # Precondition
+    ///
+    /// The error count is not `u64::MAX` (check with `faults`).
     pub fn flush(&mut self) -> Result<(), DeviceFault>
         requires { watched_faults self.old < 2 ^ 64 - 1 }
-        ensures bytes { Keeps (W.contents (watched_inner self.old)) (W.contents (watched_inner self.new)) }
+        ensures bytes { Keeps (W.contents (watched_inner self.old))
+            (W.contents (watched_inner self.new)) }
         ensures faults { CountsFaults self.old self.new result }
     {
         match self.inner.flush() {
@@ -104,7 +128,7 @@ impl<W: Write> Watched<W> {
 }
 
 impl<T> Watched<T> {
-    // Counts a fault.
+    // Counts an I/O error.
     #[inline]
     fn fault(&mut self) -> DeviceFault
         requires { watched_faults self.old < 2 ^ 64 - 1 }

@@ -1,5 +1,5 @@
-//! Tests of the filter over devices that move as few bytes as they like, and do something else at
-//! each of their calls in turn.
+//! Tests of the filter over readers and writers that move as few bytes as they like, and do
+//! something else at each of their calls in turn.
 #![tactic(auto)]
 
 #[cfg(test)]

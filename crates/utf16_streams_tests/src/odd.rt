@@ -1,16 +1,16 @@
 //! The filter over a reader or a writer that fails, is interrupted or moves nothing at one of its
-//! calls, at each in turn, and would go on afterwards. What is written is compared with a decoder
-//! of the tests.
+//! calls, at each in turn, and would continue afterwards. What is written is compared with the
+//! tests' own decoder.
 
 use crate::checks::{equal, holds};
 use std::process::Abort;
-use utf16_testing::plain::{decode, decode_whole};
-use utf16_testing::stepped::{Giver, Manner, Oddity, Taker};
-use utf16_testing::texts::faults;
+use utf16_test_support::plain::{decode, to_utf8_lossy};
+use utf16_test_support::stepped::{Giver, Manner, Oddity, Taker};
+use utf16_test_support::texts::faults;
 use utf16_tools::{FilterFault, Watched, filter};
 use utf16string::{BE, LE};
 
-// How a run of the filter ends: its answer, and the devices as they are then.
+// How a run of the filter ends: its result, and the reader and the writer as they are then.
 type Ended<'a> = (Result<(), FilterFault>, Giver<'a>, Taker<'a>);
 
 // A stream, and how many bytes are read and written at each call.
@@ -22,7 +22,7 @@ struct Stream<'a> {
     writes: &'a [usize],
 }
 
-// What is done at a call, counted from 1.
+// What happens at a call, counted from 1.
 #[derive(Clone, Copy)]
 struct Odd {
     at: usize,
@@ -42,7 +42,7 @@ fn manner(sizes: &[usize], odd: Odd) -> Manner<'_> {
     }
 }
 
-// Runs the filter: the counts of faults tell of its answer.
+// Runs the filter, and checks that the error counts agree with its result.
 fn filtered<'a>(
     rt: &(impl Abort + AllocGlobal),
     stream: Stream<'a>,
@@ -64,7 +64,7 @@ fn filtered<'a>(
     (answer, reader.into_inner(), writer.into_inner())
 }
 
-// What was read, all but so many bytes at the end of it.
+// Returns what was read, without the last `but` bytes.
 fn given<'a>(rt: &impl Abort, stream: Stream<'a>, giver: &Giver, but: usize) -> &'a [u8] {
     let count = stream.bytes.len().saturating_sub(giver.left.len());
     stream
@@ -81,11 +81,11 @@ fn decided(rt: &(impl Abort + AllocGlobal), big: bool, bytes: &[u8]) -> String {
 
 fn whole(rt: &(impl Abort + AllocGlobal), big: bool, bytes: &[u8]) -> String {
     let mut text = String::new(rt.alloc());
-    decode_whole(big, bytes, &mut text).expect(rt, "memory");
+    to_utf8_lossy(big, bytes, &mut text).expect(rt, "memory");
     text
 }
 
-// A run without a fault, which ends where a read gives nothing.
+// Checks a run without an I/O error, which ends when a read returns 0.
 fn is_done(rt: &(impl Abort + AllocGlobal), stream: Stream, ended: Ended) {
     let (answer, giver, taker) = ended;
     equal(rt, answer, Ok(()));
@@ -94,8 +94,8 @@ fn is_done(rt: &(impl Abort + AllocGlobal), stream: Stream, ended: Ended) {
     equal(rt, (giver.last, taker.flushes), (0, 1));
 }
 
-// A run that a read ended: it was the last call of the reader, and what was read before it is
-// written without a mark of its tail.
+// Checks a run that a failed read ended: it was the last call of the reader, and the text of what
+// was read before it is written, without U+FFFD for an incomplete end.
 fn read_failed(rt: &(impl Abort + AllocGlobal), stream: Stream, odd: Odd, ended: Ended) {
     let (answer, giver, taker) = ended;
     equal(rt, answer, Err(FilterFault::Read));
@@ -104,9 +104,9 @@ fn read_failed(rt: &(impl Abort + AllocGlobal), stream: Stream, odd: Odd, ended:
     equal(rt, (giver.calls, taker.flushes), (odd.at, 0));
 }
 
-// A run that a write or the flush ended: it was the last call of the writer. What the reads before
-// the last decided is written, and of the text of them all a beginning, all of it where the flush
-// failed.
+// Checks a run that a failed write or flush ended: it was the last call of the writer. The certain
+// text of what was read before the last read is written, and a prefix of the text of it all, which
+// is all of it if the flush failed.
 fn write_failed(rt: &(impl Abort + AllocGlobal), stream: Stream, odd: Odd, ended: Ended) {
     let (answer, giver, taker) = ended;
     equal(rt, answer, Err(FilterFault::Write));
@@ -118,7 +118,7 @@ fn write_failed(rt: &(impl Abort + AllocGlobal), stream: Stream, odd: Odd, ended
     equal(rt, taker.taken.len() == text.len(), taker.flushes == 1);
 }
 
-// The reader does something else at a call, if it comes to it.
+// The reader does something else at a call, if it makes that call.
 fn odd_read(rt: &(impl Abort + AllocGlobal), stream: Stream, odd: Odd) -> bool {
     let ended = filtered(rt, stream, odd, NOWHERE);
     let is_met = odd.at <= ended.1.calls;
@@ -131,7 +131,7 @@ fn odd_read(rt: &(impl Abort + AllocGlobal), stream: Stream, odd: Odd) -> bool {
     is_met
 }
 
-// The writer does something else at a call, if it comes to it. A flush moves nothing as it is.
+// The writer does something else at a call, if it makes that call. A flush moves nothing anyway.
 fn odd_write(rt: &(impl Abort + AllocGlobal), stream: Stream, odd: Odd) -> bool {
     let ended = filtered(rt, stream, NOWHERE, odd);
     let is_met = odd.at <= ended.2.calls;
@@ -145,8 +145,8 @@ fn odd_write(rt: &(impl Abort + AllocGlobal), stream: Stream, odd: Odd) -> bool 
     is_met
 }
 
-// Each call of the reader in turn does something else, until a run does not come to it, and then
-// each of the writer.
+// Each call of the reader in turn does something else, until a run does not make that call, and
+// then each of the writer.
 fn at_each_call(rt: &(impl Abort + AllocGlobal), stream: Stream, oddity: Oddity) {
     for at in 1..100 {
         if !odd_read(rt, stream, Odd { at, oddity }) {
@@ -160,7 +160,7 @@ fn at_each_call(rt: &(impl Abort + AllocGlobal), stream: Stream, oddity: Oddity)
     }
 }
 
-// Sizes of reads and of writes.
+// The sizes of reads and of writes, in bytes.
 const SIZES: [(&[usize], &[usize]); 5] = [
     (&[1], &[1]),
     (&[], &[1]),
@@ -185,7 +185,7 @@ fn in_all_sizes(rt: &(impl Abort + AllocGlobal), big: bool, bytes: &[u8]) {
     }
 }
 
-// A mistake that no clause sees: behind a fault a device is called once more, and moves nothing.
+// A bug that no clause excludes: after an I/O error one more call is made, and moves nothing.
 #[test]
 fn each_call_of_each_device_over_each_known_fault(rt: HostRuntime) {
     for (big, bytes, ..) in &faults() {

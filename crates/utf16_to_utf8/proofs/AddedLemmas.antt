@@ -36,8 +36,8 @@ surrogate-no u below s =
     ⊎_elim (λ (l : u < 0xD800). omega (arith, high, is, l)) (λ (g : 0xE000 ≤ u). omega (arith, high, is, g)) s)
 
 -- two bytes in a lane
-two_bytes-is : (mark bits : ℕ) → mark + bits / 64 < 0x100 → two_bytes (0x8000 + mark) bits ≡ (mark + bits / 64) + 256 * continuation bits
-two_bytes-is mark bits small =
+two_bytes-is : (replacement bits : ℕ) → replacement + bits / 64 < 0x100 → two_bytes (0x8000 + replacement) bits ≡ (replacement + bits / 64) + 256 * continuation bits
+two_bytes-is replacement bits small =
     let low : bit_and bits 0x3F ≡ bits % 64 = and_mask bits 6 in
     omega (arith, low)
 
@@ -81,7 +81,7 @@ narrow-trailing p u b =
     let chosen : surrogate_bits p u ≡ plus (up (bit_and p 3) 10) (plus u 0x4400) = rw (le-ltb u 0xDC00 b.0) refl in
     surrogate_two p u (omega (arith, b.0), b.1) ∙ ap (two_bytes 0x8000) (chosen ∙ is) ∙ two_bytes-is 0 bits (omega arith) ∙ omega arith
 
--- a unit that adds two bytes at most and is no surrogate
+-- a unit that adds at most two bytes and is not a surrogate
 pub letter-below : (u : ℕ) → is_surrogate u ≡ false → added_len u ≤ 2 → u < 0x800
 letter-below u none few = ⊎_elim (λ (a : u < 0x800). a) (λ (b : 0x800 ≤ u). absurd (go b)) (cases_lt u 0x800)
   where
@@ -107,7 +107,7 @@ added_len-surrogate u b =
     let a : 0x800 ≤ u = omega (arith, b.0) in
     rw (le-ltb u 0x80 above, le-ltb u 0x800 a, surrogate-is u below b.0 b.1) refl
 
--- one byte or both of a lane, where the unit adds no third
+-- one byte of a lane or both, if the unit adds no third
 abbrev pub one_or_two : Bool → ℕ → ℕ → List ℕ
 one_or_two flag first second = cond flag (first ∷ []) (first ∷ second ∷ [])
 

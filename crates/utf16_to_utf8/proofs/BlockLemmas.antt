@@ -1,4 +1,4 @@
--- The units of a block, and what the bits of its classes say of them.
+-- The units of a block, and what the bits of its classes mean.
 use Rattle.std.proofs.Common.{◌≡◌, ℕ, zero, suc, ◌+◌, ◌*◌, ◌/◌, ◌%◌, ◌^◌, ◌<◌, ◌≤◌, ◌⊎◌, Bool, true, false, not, cond, eqb, ltb, inl, inr, List, [], ◌∷◌, ◌++◌, All, length, map, slice_index, drop, replicate, bit_and, refl, sym, ap, ap₂, ◌∙◌, subst, ⊎_elim, arith, Fits, w16, eqb-true, eq-eqb, lt-ltb, le-ltb, append-nil, append_assoc, length-drop, take_all}
 use Rattle.std.proofs.lemmas.Bool.{cases_lt, false_from_ne_true, true≢false}
 use Rattle.std.proofs.lemmas.List.{length-map}
@@ -49,7 +49,7 @@ module _ (p q : ℕ → Bool) where
   each_by_bits (u ∷ units) e (suc i) lt =
       each_by_bits units (one_of (p u) (q u) (mask_l (map p units)) (mask_l (map q units)) (2 ^ length units) (e ∙ omega (arith, two-pow-succ (length units)))).1 i (omega arith)
 
--- ---- what the upper five bits say of how many bytes a unit adds
+-- ---- how many bytes a unit adds, by its upper five bits
 
 abbrev pub is_low : ℕ → Bool
 is_low unit = eqb (bit_and unit 0xF800) 0
@@ -124,7 +124,7 @@ ascii-mask units long =
 
 -- ---- eight of a block
 
--- what units add, behind which others stand
+-- what units add that are followed by others
 pub units-append : (n before : ℕ) (units more : List ℕ) → length units ≡ n + 1 → units_utf8 before (units ++ more) ≡ units_utf8 before units ++ units_utf8 (slice_index units n) more
 units-append n before [] more long = absurd (omega arith)
 units-append zero before (u ∷ []) more long = units-cons before u more ∙ sym (ap (λ bs. bs ++ units_utf8 u more) (units-cons before u [] ∙ ap (λ bs. unit_utf8 before u ++ bs) (units-nil u) ∙ append-nil (unit_utf8 before u)))
@@ -149,7 +149,7 @@ four_eights units long =
     ∙ ap (λ us. chunk 8 8 units ++ us) (chunk-drop 16 8 units
     ∙ ap (λ us. chunk 16 8 units ++ us) (sym (take_all 8 (drop 24 units) (omega (arith, length-drop 24 units, long))))))
 
--- what is of a kind in a block is so in eight of it
+-- what holds of each unit of a block holds of eight of them
 pub kind_of-eight : (P : ℕ → Type 0) (units part : List ℕ) (a : ℕ) → length units ≡ 32 → a + 8 ≤ 32 → part ≡ chunk a 8 units
     → ((i : ℕ) → i < length units → P (slice_index units i)) → (i : ℕ) → i < length part → P (slice_index part i)
 kind_of-eight P units part a long room is are i lt =

@@ -5,7 +5,7 @@ use Rattle.std.proofs.lemmas.List.Sums.{sum_by-cons}
 use Rattle.std.proofs.lemmas.Bool.{cases_lt}
 use Rattle.std.proofs.lemmas.Simd.{Each1-from_get_or}
 use lib.Lanes.{Each1}
-use Rattle.utf16_units.specs.Encoding.{IsText, text_of, units_of}
+use Rattle.utf16_units.specs.Encoding.{IsUtf16, text_of, units_of}
 use Rattle.utf16_to_utf8.specs.Lanes.{added_len, is_surrogate}
 use Rattle.utf16_to_utf8.specs.Utf8.{unit_utf8, units_utf8}
 use Rattle.utf16_to_utf8.proofs.AddedLemmas.{added_len-le, length-unit, surrogate-no}
@@ -34,11 +34,11 @@ units-fit true (x ∷ y ∷ bytes) fit = let a = fit.0.fits in let b = fit.1.0.f
 units-fit false (x ∷ y ∷ bytes) fit = let a = fit.0.fits in let b = fit.1.0.fits in (record { fits = omega (arith, a, b) }, units-fit false bytes fit.1.1)
 
 -- a text's UTF-8 is as long as its units add
-pub length-utf8 : (big : Bool) (bytes : List ℕ) → ((k : ℕ) → Fits w8 (get_or bytes k 0)) → IsText big bytes → sum_by added_len (units_of big bytes) ≡ length (encode_utf8_all (text_of big bytes))
+pub length-utf8 : (big : Bool) (bytes : List ℕ) → ((k : ℕ) → Fits w8 (get_or bytes k 0)) → IsUtf16 big bytes → sum_by added_len (units_of big bytes) ≡ length (encode_utf8_all (text_of big bytes))
 length-utf8 big bytes fit t =
     sym (length-units 0 (units_of big bytes) (units-fit big bytes (Each1-from_get_or (Fits w8) bytes 0 (λ k lt. fit k)))) ∙ ap length (bytes-utf8 big bytes t)
 
--- each unit adds three bytes, but for one less in each of these classes
+-- each unit adds three bytes, less one for each of these classes that it is in
 abbrev less : ℕ → ℕ
 less u = cond (is_low u) 1 0 + cond (is_surrogate u) 1 0 + cond (ltb u 0x80) 1 0
 
@@ -81,7 +81,7 @@ added-zeros k [] = zeros k
     zeros (suc k) = omega (arith, zeros k, sum_by-cons added_len 0 (replicate k 0))
 added-zeros k (u ∷ units) = omega (arith, added-zeros k units, sum_by-cons added_len u units, sum_by-cons added_len u (units ++ replicate k 0))
 
--- no unit adds more than three
+-- no unit adds more than three bytes
 pub added-le : (units : List ℕ) → sum_by added_len units ≤ 3 * length units
 added-le [] = omega arith
 added-le (u ∷ units) = omega (arith, added_len-le u, added-le units, sum_by-cons added_len u units)

@@ -1,4 +1,4 @@
--- The bytes of several lanes, one behind another.
+-- The bytes of several lanes, one after another.
 use Rattle.std.proofs.Common.{◌≡◌, ℕ, suc, ◌+◌, ◌*◌, ◌<◌, Bool, List, [], ◌∷◌, ◌++◌, length, slice_index, map, refl, sym, ap, ap₂, ◌∙◌, arith, append_assoc, append-nil}
 use Rattle.std.proofs.lemmas.List.{get_or_append_left, get_or-append-add}
 use lib.Lanes.{pick_l}
@@ -31,7 +31,7 @@ module _ (flag : ℕ → Bool) where
       ap₂ (λ m n. one_or_two (flag (slice_index units i)) (slice_index (x ∷ y ∷ bytes) m) (slice_index (x ∷ y ∷ bytes) n)) (sym even) (sym odd) ∙ are (suc i) (omega arith)))
       ∙ sym (units-cons before u units)
 
--- ---- lanes of three bytes, picked from fronts and thirds
+-- ---- lanes of three bytes, picked from the first two and the third
 
 abbrev pub three_at : List ℕ → ℕ → List ℕ
 three_at bytes i = slice_index bytes (2 * i) ∷ slice_index bytes (2 * i + 1) ∷ slice_index bytes (16 + 2 * i) ∷ []
@@ -46,7 +46,7 @@ threes-units before (u ∷ units) bytes at are =
     (threes-units u units bytes (at + 1) (λ i lt last. let next : at + 1 + i ≡ at + suc i = omega arith in ap (three_at bytes) next ∙ are (suc i) (omega arith) last))
     ∙ sym (units-cons before u units)
 
--- the three bytes of a lane, two of sixteen bytes and the third of those behind
+-- the three bytes of a lane, two of sixteen bytes and the third of those after them
 pub three_from : (fronts thirds : List ℕ) (i x y z : ℕ) → length fronts ≡ 16 → i < 8 → slice_index fronts (2 * i) ≡ x → slice_index fronts (2 * i + 1) ≡ y → slice_index thirds (2 * i) ≡ z
     → three_at (fronts ++ thirds) (0 + i) ≡ x ∷ y ∷ z ∷ []
 three_from fronts thirds i x y z long lt a b d =

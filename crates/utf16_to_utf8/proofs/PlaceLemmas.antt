@@ -1,4 +1,4 @@
--- The table of places, row by row.
+-- The table of source indices, row by row.
 use Rattle.std.proofs.Common.{◌≡◌, ℕ, zero, suc, ◌-◌, ◌<◌, ◌&&◌, Bool, true, false, List, [], ◌∷◌, count_ones, eqb, length, get_or, take, refl, arith, eqb-true}
 use Rattle.std.proofs.lemmas.Bool.{and_parts}
 use Rattle.std.proofs.lemmas.Slice.Eq.{bytes_eq-Decides}
@@ -30,7 +30,7 @@ pub row : (flags : List Bool) → length flags ≡ 8 → take (16 - count_ones (
 unfolding ones
 row flags long = (bytes_eq-Decides _ _).0 (all_flags-each 8 is_row refl flags long)
 
--- whether all rows are sixteen places in a vector
+-- whether all rows are sixteen indices in a vector
 abbrev all_good : List (List ℕ) → Bool
 all_good [] = true
 all_good (places ∷ rows) = (eqb (length places) 16 && all_below 16 places) && all_good rows

@@ -1,4 +1,4 @@
--- What stands in a buffer where a vector was stored, and which bytes of it are picked.
+-- What a buffer holds where a vector was stored, and which bytes of a vector are picked.
 use Rattle.std.proofs.Common.{◌≡◌, ℕ, zero, suc, ◌+◌, ◌*◌, ◌/◌, ◌<◌, ◌≤◌, Bool, true, false, cond, List, [], ◌∷◌, ◌++◌, length, map, take, drop, get_or, refl, ap, ap₂, ◌∙◌, subst, arith, leb, w8, length-take-le, take_all}
 use Rattle.std.proofs.lemmas.Bool.{lt-leb}
 use Rattle.std.proofs.lemmas.List.{take-append-le}
@@ -18,7 +18,7 @@ stored-front at n out bytes few room =
     ∙ subst (λ m. take (m + n) (front ++ (bytes ++ rest)) ≡ front ++ take n (bytes ++ rest)) long (take-append-add front (bytes ++ rest) n)
     ∙ ap (λ bs. front ++ bs) (take-append-le n bytes rest few)
 
--- bytes picked by places in sixteen
+-- bytes picked by indices into sixteen
 pub swz-picked : (bytes : List ℕ) (i : ℕ) (places : List ℕ) → i + length places ≤ 16 → Each1 (λ place. place < 16) places
     → swz_l w8 16 bytes i places ≡ map (λ place. get_or bytes place 0) places
 swz-picked bytes i [] long within = refl
@@ -42,7 +42,7 @@ take-map f zero xs = refl
 take-map f (suc n) [] = refl
 take-map f (suc n) (x ∷ xs) = ap (λ t. f x ∷ t) (take-map f n xs)
 
--- of sixteen bytes those that flags let stand
+-- those of sixteen bytes that the flags keep
 pub picked-packed : (flags : List Bool) (bytes places : List ℕ) (n : ℕ) → length bytes ≡ 16 → take n places ≡ packed flags (range_with_len 0 16)
     → take n (map (λ place. get_or bytes place 0) places) ≡ packed flags bytes
 picked-packed flags bytes places n long is =

@@ -1,14 +1,14 @@
--- A text's bytes block by block, and a last block that zeros fill up.
+-- A text's bytes block by block, and a last block padded with zeros.
 use Rattle.std.proofs.Common.{◌≡◌, ℕ, zero, suc, ◌-◌, ◌≤◌, Bool, List, [], ◌∷◌, ◌++◌, length, take, replicate, sym, ap, ap₂, ◌∙◌, arith, append_assoc, encode_utf8_all, length-append, length-take-le}
 use Rattle.std.proofs.lemmas.List.{length-replicate, take-append-le, take-take, take_all}
-use Rattle.utf16_units.specs.Encoding.{IsText, text_of, units_of}
+use Rattle.utf16_units.specs.Encoding.{IsUtf16, text_of, units_of}
 use Rattle.utf16_units.proofs.EncodingLemmas.{scalars-text_of}
 use Rattle.utf16_units.proofs.UnitsUpTo.{units_of-text}
 use Rattle.utf16_to_utf8.specs.Utf8.{unit_utf8, units_utf8}
 use Rattle.utf16_to_utf8.proofs.ListLemmas.{units-cons, units-nil}
 use Rattle.utf16_to_utf8.proofs.UnitLemmas.{text_utf8, unit-one}
 
--- no bytes, no units
+-- no bytes have no units
 pub no_units : (big : Bool) {bytes : List ℕ} → bytes ≡ [] → units_of big bytes ≡ []
 unfolding units_of
 no_units big none = ap (units_of big) none
@@ -37,5 +37,5 @@ less-zeros new front end k room e =
     )
 
 -- what a text's units add
-pub bytes-utf8 : (big : Bool) (bytes : List ℕ) → IsText big bytes → units_utf8 0 (units_of big bytes) ≡ encode_utf8_all (text_of big bytes)
+pub bytes-utf8 : (big : Bool) (bytes : List ℕ) → IsUtf16 big bytes → units_utf8 0 (units_of big bytes) ≡ encode_utf8_all (text_of big bytes)
 bytes-utf8 big bytes t = ap (units_utf8 0) (units_of-text big bytes t) ∙ text_utf8 0 (text_of big bytes) (scalars-text_of big bytes t)

@@ -79,7 +79,7 @@ char_two before c two below =
     ∙ ap₂ (λ (x y : ℕ). (240 + c / 262144) ∷ (128 + c / 4096 % 64) ∷ x ∷ y ∷ []) (omega arith) (omega arith)
     ∙ sym (four c two)
 
--- what the units of a character add, before others
+-- what the units of a character add, followed by others
 char_utf8 : (before c : ℕ) (units : List ℕ) → IsScalar c → (last : ℕ) × (units_utf8 before (encode_utf16 c ++ units) ≡ encode c ++ units_utf8 last units)
 unfolding units_utf8
 char_utf8 before c units scalar = ⊎_elim
@@ -96,7 +96,7 @@ char_utf8 before c units scalar = ⊎_elim
     ))
     (cases_lt c 0x1_0000)
 
--- what the units of a text add is its UTF-8, whatever unit stands before them
+-- what the units of a text add is its UTF-8, whatever unit comes before them
 pub text_utf8 : (before : ℕ) (text : List ℕ) → All IsScalar text → units_utf8 before (flat_map encode_utf16 text) ≡ encode_utf8_all text
 unfolding units_utf8
 text_utf8 before [] scalars = refl

@@ -1,10 +1,10 @@
--- What kind the units of a block are of.
+-- The kinds of blocks of code units.
 use Rattle.std.specs.Prelude.{◌≡◌, ℕ, ◌<◌, ◌≤◌, List, false, length, slice_index}
 use Rattle.utf16_to_utf8.specs.declared.blocks.Kind.{Kind}
 use Rattle.utf16_to_utf8.specs.declared.blocks.Kind.TheVariants.{Letters, Mixed, Pairs, Wide}
 use Rattle.utf16_to_utf8.specs.Lanes.{added_len, is_surrogate}
 
--- what a unit of a kind is
+-- a unit is of a kind
 abbrev pub IsOfKind : Kind → ℕ → Type 0
 IsOfKind Letters unit = (is_surrogate unit ≡ false) × (added_len unit ≤ 2)
 IsOfKind Pairs unit = added_len unit ≤ 2

@@ -1,4 +1,4 @@
--- What lanes of sixteen bits make of a unit.
+-- What lanes of sixteen bits compute of a unit.
 use Rattle.std.specs.Prelude.{ℕ, ◌+◌, ◌*◌, ◌/◌, ◌%◌, ◌^◌, ◌==◌, Bool, nat_lt, bit_and, if◌then◌else◌}
 
 -- `+` and `<<` of a lane wrap
@@ -12,16 +12,17 @@ up a bits = a * 2 ^ bits % 2 ^ 16
 abbrev pub is_surrogate : ℕ → Bool
 is_surrogate unit = bit_and unit 0xF800 == 0xD800
 
--- two bytes, the first the low one: the marks of both, and these bits, the last six in the second
--- byte
+-- two bytes, the first in the low half: the tag bits of both, and these payload bits, the last six
+-- of them in the second byte
 abbrev pub two_bytes : ℕ → ℕ → ℕ
 two_bytes marks bits = plus (plus (bits / 2 ^ 6) marks) (up (bit_and bits 0x3F) 8)
 
--- the bits of the two bytes that a surrogate adds, the marks of the first above them
+-- the payload bits of the two bytes that a surrogate adds, with the tag bits of the first above
+-- them
 abbrev pub surrogate_bits : ℕ → ℕ → ℕ
 surrogate_bits before unit = if nat_lt unit 0xDC00 then plus unit 0x1840 / 2 ^ 2 else plus (up (bit_and before 3) 10) (plus unit 0x4400)
 
--- the two bytes of a unit that adds two at most
+-- the two bytes of a unit that adds at most two
 abbrev pub narrow : ℕ → ℕ → ℕ
 narrow before unit = if nat_lt unit 0x80 then unit else two_bytes 0x8000 (if nat_lt unit 0x8000 then plus unit 0x3000 else surrogate_bits before unit)
 
@@ -32,7 +33,7 @@ wide unit = two_bytes 0x80E0 (unit / 2 ^ 6)
 abbrev pub third : ℕ → ℕ
 third unit = plus (bit_and unit 0x3F) 0x80
 
--- whether a unit adds three bytes, the first two of what any unit adds, and how many it adds
+-- the first two bytes that any unit adds, and how many bytes it adds
 abbrev pub front : ℕ → ℕ → ℕ
 front before unit = if nat_lt unit 0x800 then narrow before unit else (if is_surrogate unit then narrow before unit else wide unit)
 

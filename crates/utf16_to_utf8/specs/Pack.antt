@@ -1,7 +1,7 @@
--- Bytes of lanes, one behind another.
+-- The bytes of lanes, one after another.
 use Rattle.std.specs.Prelude.{◌≡◌, ℕ, zero, suc, ◌+◌, ◌*◌, ◌/◌, ◌%◌, ◌<◌, ◌++◌, Bool, cond, List, [], ◌∷◌, slice_index}
 
--- of two bytes a lane the first alone, where its flag is set, and else both
+-- of two bytes per lane, the first alone if the lane's flag is set, else both
 abbrev pub packed : List Bool → List ℕ → List ℕ
 packed [] bytes = []
 packed (flag ∷ flags) [] = []
@@ -12,8 +12,8 @@ packed (flag ∷ flags) (first ∷ second ∷ bytes) = cond flag (first ∷ []) 
 abbrev pub HasBytes : List ℕ → List ℕ → Type 0
 HasBytes bytes lanes = (i : ℕ) → i < 8 → (slice_index bytes (2 * i) ≡ slice_index lanes i % 256) × (slice_index bytes (2 * i + 1) ≡ slice_index lanes i / 256 % 256)
 
--- where the three bytes of n lanes stand, from lane i on: two among those of sixteen bytes, the
--- third sixteen bytes behind
+-- the indices of the three bytes of n lanes, from lane i on: two among sixteen bytes, the third one
+-- sixteen bytes later
 abbrev pub threes : ℕ → ℕ → List ℕ
 threes i zero = []
 threes i (suc n) = (2 * i) ∷ (2 * i + 1) ∷ (16 + 2 * i) ∷ threes (i + 1) n

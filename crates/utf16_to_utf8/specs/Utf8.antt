@@ -1,4 +1,4 @@
--- The UTF-8 of a text by its code units: what each unit adds behind the unit before it.
+-- The UTF-8 of a text by its code units: what each unit adds after the unit before it.
 use Rattle.std.specs.Prelude.{◌≡◌, ℕ, ◌+◌, ◌-◌, ◌*◌, ◌/◌, ◌%◌, List, [], ◌∷◌, ◌++◌, All, encode_utf8_all, nat_lt, if◌then◌else◌}
 use Rattle.std.specs.Char.{IsScalar}
 use Rattle.std.specs.Char.Escape.{encode_utf16}
@@ -9,9 +9,9 @@ use Rattle.std.specs.List.{flat_map}
 abbrev pub continuation : ℕ → ℕ
 continuation bits = 0x80 + bits % 64
 
--- what a unit adds behind the unit before it (Unicode, section 3.9: tables 3-5 and 3-6): the one to
--- three bytes of its character; of a pair's four bytes the leading surrogate adds two, and the
--- trailing one two, for which it needs two bits of the leading one
+-- what a unit adds after the unit before it (Unicode, section 3.9: tables 3-5 and 3-6): the one to
+-- three bytes of its character; of the four bytes of a surrogate pair the leading surrogate adds
+-- two, and the trailing one two, for which it needs two bits of the leading one
 unfoldable pub unit_utf8 : ℕ → ℕ → List ℕ
 unit_utf8 before unit =
     if nat_lt unit 0x80 then unit ∷ [] else
@@ -20,11 +20,11 @@ unit_utf8 before unit =
     (if is_low_surrogate unit then continuation (before % 4 * 16 + unit % 1024 / 64) ∷ continuation unit ∷ [] else
     (0xE0 + unit / 4096) ∷ continuation (unit / 64) ∷ continuation unit ∷ [])))
 
--- what several units add, one behind another, the first behind `before`
+-- what several units add, one after another, the first after `before`
 unfoldable pub units_utf8 : ℕ → List ℕ → List ℕ
 units_utf8 before [] = []
 units_utf8 before (unit ∷ units) = unit_utf8 before unit ++ units_utf8 unit units
 
--- what the units of a text add is its UTF-8, whatever unit stands before them
+-- what the units of a text add is its UTF-8, whatever unit comes before them
 abbrev pub UnitsAddUtf8 : Type 0
 UnitsAddUtf8 = (before : ℕ) (text : List ℕ) → All IsScalar text → units_utf8 before (flat_map encode_utf16 text) ≡ encode_utf8_all text

@@ -1,4 +1,4 @@
-//! A block of thirty-two units: what kind it is of, and what it adds.
+//! A block of thirty-two code units: its kind, and the UTF-8 that it adds.
 
 ghost use Rattle.std.specs.Prelude.{◌≡◌, ◌+◌, ◌-◌, ◌/◌, ◌%◌, ◌<◌, ◌≤◌, ◌++◌, ◌==◌, All, IsTrue, bit_and, length, map, replicate, slice_index, take};
 ghost use Rattle.std.specs.Simd.Lanes.{chunk, mask_l};
@@ -11,8 +11,8 @@ use std::simd::prelude::*;
 use utf16_units::Utf16Order;
 use utf16_units::blocks::units32;
 
-// What the units of a block have in common: all are below U+0800, or some are surrogates and the
-// others below U+0800, or each adds three bytes, or nothing of this.
+// What the units of a block have in common: all are below U+0800; some are surrogates and the
+// others below U+0800; each adds three bytes; or none of these.
 #[derive(Clone, Copy)]
 pub(crate) enum Kind {
     Letters,
@@ -21,7 +21,7 @@ pub(crate) enum Kind {
     Mixed,
 }
 
-// The units of less than a block of bytes, and zeros that fill it up.
+// The units of at most 64 bytes, padded to a block with zeros.
 #[inline(always)]
 pub(crate) fn filled_units<E: Utf16Order>(raw: &[u8]) -> u16x32
     requires few { length raw.now ≤ 64 }
@@ -45,7 +45,7 @@ pub(crate) fn is_ascii(units: u16x32) -> bool
         == 0
 }
 
-// A bit for each unit with these upper five bits.
+// A bit for each unit that has the upper five bits of `class`.
 #[inline(always)]
 pub(crate) fn class_bits(units: u16x32, class: u16) -> u64
     ensures bits { result ≡ mask_l (map (λ unit. bit_and unit 0xF800 == class) units) }
@@ -75,11 +75,12 @@ fn kind_of(units: u16x32) -> Kind
     }
 }
 
-// Writes what a block adds.
+// Writes the UTF-8 that a block adds.
 #[inline(always)]
 pub(crate) fn put_block(out: &mut [u8], at: usize, previous: u16x8, units: u16x32) -> usize
     requires { at + 104 ≤ length out.old }
-    ensures bytes { take result out.new ≡ take at out.old ++ units_utf8 (slice_index previous 7) units }
+    ensures bytes { take result out.new ≡ take at out.old ++ units_utf8 (slice_index previous 7)
+        units }
     ensures end { result ≤ at + 96 }
 {
     if is_ascii(units) {
@@ -99,7 +100,7 @@ fn put_ascii(out: &mut [u8], at: usize, units: u16x32)
     units.cast::<u8>().copy_to_slice(&mut out[at..]);
 }
 
-// The units of a block, eight by eight.
+// The units of a block in groups of eight.
 #[inline(always)]
 pub(crate) fn eights(units: u16x32) -> (u16x8, u16x8, u16x8, u16x8)
     ensures first { result.0 ≡ chunk 0 8 units }
@@ -115,12 +116,13 @@ pub(crate) fn eights(units: u16x32) -> (u16x8, u16x8, u16x8, u16x8)
     )
 }
 
-// Writes what the units of a block of a kind add, eight by eight.
+// Writes the UTF-8 that a block of a kind adds, group by group.
 #[inline(always)]
 fn put_groups(out: &mut [u8], at: usize, previous: u16x8, units: u16x32, kind: Kind) -> usize
     requires room { at + 104 ≤ length out.old }
     requires kind { AreOfKind kind units }
-    ensures bytes { take result out.new ≡ take at out.old ++ units_utf8 (slice_index previous 7) units }
+    ensures bytes { take result out.new ≡ take at out.old ++ units_utf8 (slice_index previous 7)
+        units }
     ensures end { result ≤ at + 96 }
 {
     let (first, second, third, fourth) = eights(units);
@@ -134,7 +136,8 @@ fn put_groups(out: &mut [u8], at: usize, previous: u16x8, units: u16x32, kind: K
 fn put_group(out: &mut [u8], at: usize, previous: u16x8, units: u16x8, kind: Kind) -> usize
     requires room { at + 32 ≤ length out.old }
     requires kind { AreOfKind kind units }
-    ensures bytes { take result out.new ≡ take at out.old ++ units_utf8 (slice_index previous 7) units }
+    ensures bytes { take result out.new ≡ take at out.old ++ units_utf8 (slice_index previous 7)
+        units }
     ensures end { result ≤ at + 24 }
 {
     match kind {

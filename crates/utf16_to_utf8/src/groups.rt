@@ -1,4 +1,5 @@
-//! What eight units add to the UTF-8, by lanes: their first two bytes, their third, and how many.
+//! The UTF-8 that eight units add, with SIMD: their first two bytes, their third, and their
+//! lengths.
 
 ghost use Rattle.std.specs.Prelude.{◌≡◌, ◌<◌, ℕ, false, slice_index};
 ghost use Rattle.utf16_units.specs.Lanes.{HasLanes};
@@ -14,17 +15,18 @@ fn two_bytes(marks: u16x8, bits: u16x8) -> u16x8
     sum(sum(down(bits, 6), marks), raised(masked(bits, 0x3F), 8))
 }
 
-// The bits of both bytes of surrogates, the marks of the first above them.
+// The payload bits of the two bytes of surrogates, with the tag bits of the first byte above them.
 #[inline(always)]
 fn surrogate_bits(behind: u16x8, units: u16x8) -> u16x8
-    ensures { HasLanes 8 result (λ i. surrogate_bits (slice_index behind i) (slice_index units i)) }
+    ensures { HasLanes 8 result
+        (λ i. surrogate_bits (slice_index behind i) (slice_index units i)) }
 {
     let leading = down(sum(units, each(0x1840)), 2);
     let trailing = sum(raised(masked(behind, 3), 10), sum(units, each(0x4400)));
     where_below(units, 0xDC00, leading, trailing)
 }
 
-// The two bytes of units that add two at most. Of other units they say nothing.
+// The two bytes of units that add at most two; unspecified for other units.
 #[inline(always)]
 pub(crate) fn narrow(behind: u16x8, units: u16x8, surrogates: bool) -> u16x8
     requires { surrogates ≡ false → (i : ℕ) → i < 8 → slice_index units i < 0x800 }
@@ -56,7 +58,7 @@ pub(crate) fn fronts(behind: u16x8, units: u16x8) -> u16x8
     where_below(units, 0x800, narrow, above)
 }
 
-// The third bytes of three.
+// The third bytes of units that add three.
 #[inline(always)]
 pub(crate) fn thirds(units: u16x8) -> u16x8
     ensures { HasLanes 8 result (λ i. third (slice_index units i)) }
@@ -64,7 +66,7 @@ pub(crate) fn thirds(units: u16x8) -> u16x8
     sum(masked(units, 0x3F), each(0x80))
 }
 
-// How many bytes each unit adds.
+// The number of bytes that each unit adds.
 #[inline(always)]
 pub(crate) fn added_lens(units: u16x8) -> u16x8
     ensures { HasLanes 8 result (λ i. added_len (slice_index units i)) }

@@ -1,4 +1,4 @@
-//! Eight lanes of sixteen bits: what each operation makes of a lane.
+//! SIMD operations on eight lanes of sixteen bits, with what each computes per lane.
 
 ghost use Rattle.std.specs.Prelude.{◌<◌, ◌/◌, ◌^◌, ◌∷◌, bit_and, if◌then◌else◌, nat_lt, slice_index};
 ghost use Rattle.utf16_units.specs.Lanes.{HasLanes};
@@ -43,25 +43,27 @@ pub(crate) fn raised(v: u16x8, bits: u16) -> u16x8
     v << u16x8::splat(bits)
 }
 
-// The lanes of `a` where those of `v` are below a limit, else of `b`.
+// Selects the lane of `a` if that of `v` is below `limit`, else the lane of `b`.
 #[inline(always)]
 pub(crate) fn where_below(v: u16x8, limit: u16, a: u16x8, b: u16x8) -> u16x8
-    ensures { HasLanes 8 result (λ i. if nat_lt (slice_index v i) limit then slice_index a i else slice_index b i) }
+    ensures { HasLanes 8 result (λ i. if nat_lt (slice_index v i) limit then slice_index a i
+        else slice_index b i) }
 {
     v.simd_lt(u16x8::splat(limit)).select(a, b)
 }
 
-// The lanes of `a` where those of `v` are surrogates, else of `b`.
+// Selects the lane of `a` if that of `v` is a surrogate, else the lane of `b`.
 #[inline(always)]
 pub(crate) fn where_surrogate(v: u16x8, a: u16x8, b: u16x8) -> u16x8
-    ensures { HasLanes 8 result (λ i. if is_surrogate (slice_index v i) then slice_index a i else slice_index b i) }
+    ensures { HasLanes 8 result (λ i. if is_surrogate (slice_index v i) then slice_index a i
+        else slice_index b i) }
 {
     (v & u16x8::splat(0xF800))
         .simd_eq(u16x8::splat(0xD800))
         .select(a, b)
 }
 
-// The lane before each, the first behind the last one of `previous`.
+// The lane before each one; before the first, the last lane of `previous`.
 #[inline(always)]
 pub(crate) fn behind(previous: u16x8, v: u16x8) -> u16x8
     ensures { HasLanes 8 result (λ i. slice_index (slice_index previous 7 ∷ v) i) }

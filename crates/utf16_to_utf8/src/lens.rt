@@ -1,8 +1,8 @@
-//! How many bytes a text takes in UTF-8.
+//! The length of a text in UTF-8.
 
 ghost use Rattle.std.specs.Prelude.{◌≡◌, ◌%◌, ◌≤◌, length, map, nat_lt, sum_by};
 ghost use Rattle.std.specs.Simd.Lanes.{mask_l};
-ghost use Rattle.utf16_units.specs.Encoding.{IsText, units_of, utf8_of};
+ghost use Rattle.utf16_units.specs.Encoding.{IsUtf16, units_of, utf8_of};
 ghost use Rattle.utf16_to_utf8.specs.Lanes.{added_len};
 
 use crate::blocks::{class_bits, filled_units, is_ascii};
@@ -10,16 +10,24 @@ use std::simd::prelude::*;
 use utf16_units::Utf16Order;
 use utf16_units::blocks::units32;
 
-/// How many bytes the text takes in UTF-8, of bytes that the caller proves to be well formed. One
-/// pass.
+/// Returns the length of the text in UTF-8, in bytes.
+///
+/// # Precondition
+///
+/// `raw` is well-formed UTF-16 in the byte order `E` (check with
+/// `utf16_units::validate_raw_utf16`).
+///
+/// # Complexity
+///
+/// One pass.
 pub fn utf8_len<E: Utf16Order>(raw: &[u8]) -> usize
-    requires { IsText E.BIG raw.now }
+    requires { IsUtf16 E.BIG raw.now }
     ensures { result ≡ length (utf8_of E.BIG raw.now) }
 {
     units_len::<E>(raw)
 }
 
-// How many bytes the units add.
+// The number of bytes that the units add.
 fn units_len<E: Utf16Order>(raw: &[u8]) -> usize
     requires { length raw.now % 2 ≡ 0 }
     ensures { result ≡ sum_by added_len (units_of E.BIG raw.now) }
@@ -33,7 +41,7 @@ fn units_len<E: Utf16Order>(raw: &[u8]) -> usize
     len + rest_len::<E>(&raw[at..])
 }
 
-// The same of less than a block: of a block that zeros fill up, and each of them adds a byte.
+// The same for at most a block: it is padded with zeros, each of which adds one byte.
 #[inline(always)]
 fn rest_len<E: Utf16Order>(raw: &[u8]) -> usize
     requires few { length raw.now ≤ 64 }
@@ -43,8 +51,8 @@ fn rest_len<E: Utf16Order>(raw: &[u8]) -> usize
     block_len(filled_units::<E>(raw)) - (32 - raw.len() / 2)
 }
 
-// How many bytes the units of a block add: each three, one less where it is below U+0800, one less
-// again where it is ASCII, and one less where it is a surrogate.
+// The number of bytes that the units of a block add: three each, one less if it is below U+0800,
+// one less again if it is ASCII, and one less if it is a surrogate.
 #[inline(always)]
 fn block_len(units: u16x32) -> usize
     ensures { result ≡ sum_by added_len units }
@@ -57,7 +65,7 @@ fn block_len(units: u16x32) -> usize
     96 - low - surrogates - ascii_bits(units).count_ones() as usize
 }
 
-// A bit for each unit that is ASCII.
+// A bit for each ASCII unit.
 #[inline(always)]
 fn ascii_bits(units: u16x32) -> u64
     ensures { result ≡ mask_l (map (λ unit. nat_lt unit 0x80) units) }

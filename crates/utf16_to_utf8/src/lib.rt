@@ -1,5 +1,5 @@
-//! From UTF-16 to UTF-8, by lanes of code units: the length, and a writer into a buffer of the
-//! caller's.
+//! Conversion of UTF-16 to UTF-8 with SIMD: the length, a writer into a buffer of the caller's, and
+//! an append to a `String`.
 #![tactic(auto)]
 
 mod append;
@@ -14,4 +14,4 @@ mod write;
 
 pub use crate::append::append_utf8;
 pub use crate::lens::utf8_len;
-pub use crate::write::{SPARE, write_utf8};
+pub use crate::write::{SLACK, write_utf8};

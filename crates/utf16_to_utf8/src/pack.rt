@@ -1,4 +1,4 @@
-//! What eight units add, written one behind another.
+//! Writes the UTF-8 that eight units add, one after another.
 
 ghost use Rattle.std.specs.Prelude.{◌≡◌, ◌+◌, ◌*◌, ◌/◌, ◌%◌, ◌<◌, ◌≤◌, ◌++◌, [], ◌∷◌, ℕ, Bool, List, drop, false, length, map, nat_lt, slice_index, take};
 ghost use Rattle.std.specs.Simd.Lanes.{mask_l, pick_l};
@@ -11,7 +11,7 @@ use crate::lanes::behind;
 use crate::places::places;
 use std::simd::prelude::*;
 
-// The bytes of lanes, of each the low one first.
+// The bytes of the lanes, low byte first.
 #[inline(always)]
 fn lane_bytes(lanes: u16x8) -> u8x16
     ensures len { length result ≡ 16 }
@@ -20,12 +20,13 @@ fn lane_bytes(lanes: u16x8) -> u8x16
     lanes.to_le_bytes()
 }
 
-// Writes of sixteen bytes, two a unit, those that stand.
+// Writes sixteen bytes, two per unit, without the second byte of units with a bit in `one`.
 #[inline(always)]
 fn put_eight(out: &mut [u8], at: usize, pairs: u8x16, one: usize) -> usize
     requires room { at + 16 ≤ length out.old }
     requires one { one < 256 }
-    ensures bytes { (flags : List Bool) → length flags ≡ 8 → one ≡ mask_l flags → take result out.new ≡ take at out.old ++ packed flags pairs }
+    ensures bytes { (flags : List Bool) → length flags ≡ 8 → one ≡ mask_l flags
+        → take result out.new ≡ take at out.old ++ packed flags pairs }
     ensures end { result ≤ at + 16 }
 {
     let standing = pairs.swizzle_dyn(places(one));
@@ -33,7 +34,7 @@ fn put_eight(out: &mut [u8], at: usize, pairs: u8x16, one: usize) -> usize
     at + (16 - one.count_ones() as usize)
 }
 
-// A bit for each unit that is ASCII.
+// A bit for each ASCII unit.
 #[inline(always)]
 fn ascii_bits(units: u16x8) -> usize
     ensures bits { result ≡ mask_l (map (λ unit. nat_lt unit 0x80) units) }
@@ -42,7 +43,7 @@ fn ascii_bits(units: u16x8) -> usize
     units.simd_lt(u16x8::splat(0x80)).to_bitmask() as usize
 }
 
-// Writes what eight units add that add two bytes at most.
+// Writes the UTF-8 of eight units that add at most two bytes each.
 #[inline(always)]
 pub(crate) fn put_narrow(
     out: &mut [u8],
@@ -52,17 +53,19 @@ pub(crate) fn put_narrow(
     surrogates: bool,
 ) -> usize
     requires room { at + 24 ≤ length out.old }
-    requires none { surrogates ≡ false → (i : ℕ) → i < 8 → is_surrogate (slice_index units i) ≡ false }
+    requires none { surrogates ≡ false → (i : ℕ) → i < 8
+        → is_surrogate (slice_index units i) ≡ false }
     requires narrow { (i : ℕ) → i < 8 → added_len (slice_index units i) ≤ 2 }
-    ensures bytes { take result out.new ≡ take at out.old ++ units_utf8 (slice_index previous 7) units }
+    ensures bytes { take result out.new ≡ take at out.old ++ units_utf8 (slice_index previous 7)
+        units }
     ensures end { result ≤ at + 16 }
 {
     let pairs = lane_bytes(narrow(behind(previous, units), units, surrogates));
     put_eight(out, at, pairs, ascii_bits(units))
 }
 
-// Of eight units that add three bytes each the first sixteen bytes, of the first two of each unit
-// and the third.
+// The first sixteen bytes of eight units that add three bytes each, from the first two bytes of
+// each unit and its third.
 #[inline(always)]
 fn first_threes(fronts: u8x16, thirds: u8x16) -> u8x16
     ensures { result ≡ take 16 (pick_l 0 (fronts ++ thirds) (threes 0 8)) }
@@ -73,7 +76,7 @@ fn first_threes(fronts: u8x16, thirds: u8x16) -> u8x16
     )
 }
 
-// The last eight.
+// The last eight of these bytes.
 #[inline(always)]
 fn last_threes(fronts: u8x16, thirds: u8x16) -> u8x8
     ensures { result ≡ drop 16 (pick_l 0 (fronts ++ thirds) (threes 0 8)) }
@@ -81,12 +84,13 @@ fn last_threes(fronts: u8x16, thirds: u8x16) -> u8x8
     fronts.shuffle(thirds, [11, 26, 12, 13, 28, 14, 15, 30])
 }
 
-// Writes what eight units add that add three bytes each.
+// Writes the UTF-8 of eight units that add three bytes each.
 #[inline(always)]
 pub(crate) fn put_wide(out: &mut [u8], at: usize, units: u16x8) -> usize
     requires room { at + 24 ≤ length out.old }
     requires wide { (i : ℕ) → i < 8 → added_len (slice_index units i) ≡ 3 }
-    ensures bytes { (before : ℕ) → take result out.new ≡ take at out.old ++ units_utf8 before units }
+    ensures bytes { (before : ℕ) → take result out.new ≡ take at out.old
+        ++ units_utf8 before units }
     ensures end { result ≡ at + 24 }
 {
     let fronts = lane_bytes(wide(units));
@@ -96,11 +100,12 @@ pub(crate) fn put_wide(out: &mut [u8], at: usize, units: u16x8) -> usize
     at + 24
 }
 
-// Writes what eight units add: each by one store of four bytes, which the next one overlaps.
+// Writes the UTF-8 of any eight units, each by a store of four bytes, which the next one overlaps.
 #[inline(always)]
 pub(crate) fn put_any(out: &mut [u8], at: usize, previous: u16x8, units: u16x8) -> usize
     requires { at + 32 ≤ length out.old }
-    ensures bytes { take result out.new ≡ take at out.old ++ units_utf8 (slice_index previous 7) units }
+    ensures bytes { take result out.new ≡ take at out.old ++ units_utf8 (slice_index previous 7)
+        units }
     ensures end { result ≤ at + 24 }
 {
     let words = words(fronts(behind(previous, units), units), thirds(units)).to_array();
@@ -112,21 +117,23 @@ pub(crate) fn put_any(out: &mut [u8], at: usize, previous: u16x8, units: u16x8) 
     end
 }
 
-// The first two bytes and the third of each lane in one.
+// The first two bytes and the third of each lane in one word.
 #[inline(always)]
 fn words(fronts: u16x8, thirds: u16x8) -> u32x8
     requires { (i : ℕ) → i < 8 → slice_index thirds i < 256 }
-    ensures { (i : ℕ) → i < 8 → slice_index result i ≡ slice_index fronts i + 65536 * slice_index thirds i }
+    ensures { (i : ℕ) → i < 8 → slice_index result i ≡ slice_index fronts i + 65536 * slice_index
+        thirds i }
 {
     fronts.cast::<u32>() + (thirds.cast::<u32>() << u32x8::splat(16))
 }
 
-// Writes a word of four bytes, of which the first few count.
+// Writes a word of four bytes, of which the first `len` count.
 #[inline(always)]
 fn put_word(out: &mut [u8], at: usize, word: u32, len: u16) -> usize
     requires room { at + 4 ≤ length out.old }
     requires len { len ≤ 3 }
-    ensures bytes { take result out.new ≡ take at out.old ++ take len (word % 256 ∷ word / 256 % 256 ∷ word / 65536 % 256 ∷ []) }
+    ensures bytes { take result out.new ≡ take at out.old
+        ++ take len (word % 256 ∷ word / 256 % 256 ∷ word / 65536 % 256 ∷ []) }
     ensures end { result ≡ at + len }
 {
     u8x4::from_array(word.to_le_bytes()).copy_to_slice(&mut out[at..]);

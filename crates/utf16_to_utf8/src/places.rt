@@ -1,4 +1,4 @@
-//! Where the bytes of eight units come from that add one or two each.
+//! The source indices of the UTF-8 of eight units that add one or two bytes each.
 
 ghost use Rattle.std.specs.Prelude.{◌≡◌, ◌-◌, ◌<◌, ◌≤◌, Bool, List, count_ones, length, take};
 ghost use Rattle.std.specs.List.{range_with_len};
@@ -7,12 +7,13 @@ ghost use Rattle.utf16_to_utf8.specs.Pack.{packed};
 
 use std::simd::prelude::*;
 
-// The places, by a bit for each unit that adds one byte: at every second place the first byte of a
-// unit, behind it the second.
+// The source indices, by a bit for each unit that adds one byte: at an even index is the first byte
+// of a unit, at the next index its second.
 #[inline(always)]
 pub(crate) fn places(one: usize) -> u8x16
     requires { one < 256 }
-    ensures places { (flags : List Bool) → length flags ≡ 8 → one ≡ mask_l flags → take (16 - count_ones one) result ≡ packed flags (range_with_len 0 16) }
+    ensures places { (flags : List Bool) → length flags ≡ 8 → one ≡ mask_l flags
+        → take (16 - count_ones one) result ≡ packed flags (range_with_len 0 16) }
     ensures within { Each1 (λ place. place < 16) result }
     ensures few { count_ones one ≤ 8 }
     ensures long { length result ≡ 16 }

@@ -1,4 +1,5 @@
-pub use Rattle.utf16_streams.proofs.MarkLemmas
+pub use Rattle.utf16_streams.proofs.BomLemmas
 pub use Rattle.utf16_streams.proofs.DecodesLemmas
-pub use Rattle.utf16_streams.proofs.FaultDecides
+pub use Rattle.utf16_streams.proofs.IllFormedDecides
 pub use Rattle.utf16_streams.proofs.StreamLemmas
+pub use Rattle.utf16_streams.proofs.StreamRules

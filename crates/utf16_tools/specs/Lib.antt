@@ -1,7 +1,7 @@
 pub use Rattle.utf16_streams.specs.Split
 pub use Rattle.utf16_edits.specs.Step
 pub use Rattle.utf16_edits.specs.Edited
-pub use Rattle.utf16_streams.specs.Mark
+pub use Rattle.utf16_streams.specs.Bom
 pub use Rattle.utf16_streams.specs.Watched
 pub use Rattle.utf16_streams.specs.Lossy
 pub use Rattle.utf16_streams.specs.AnyLossy

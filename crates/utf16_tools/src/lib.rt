@@ -1,6 +1,6 @@
-//! Beside the strings, one name for the tools over them: edits as values, decoders of UTF-16 that
-//! comes in pieces, filters from a reader to a writer, and readers and writers whose faults are
-//! counted. All of it stands in `utf16_edits` and `utf16_streams`.
+//! The tools over strings under one name: edits as values, decoders of UTF-16 that comes in chunks,
+//! filters from a reader to a writer, and readers and writers whose I/O errors are counted. All of
+//! it is re-exported from `utf16_edits` and `utf16_streams`.
 #![tactic(auto)]
 
 pub use utf16_edits::{Edit, Reply, apply, run};

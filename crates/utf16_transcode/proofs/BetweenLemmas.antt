@@ -1,5 +1,5 @@
--- UTF-8 that is read as far as between two characters or faults, so that what was written is the
--- text of what was read.
+-- UTF-8 that is read up to a place between two characters or ill-formed sequences, so that what was
+-- written is the text of what was read.
 use Rattle.std.proofs.Common.{◌≡◌, ℕ, ◌+◌, ◌-◌, ◌<◌, List, [], ◌∷◌, ◌++◌, Option, length, take, drop, refl, sym, ap, ap₂, ◌∙◌, subst, arith, append_assoc, take_all, take-add}
 use Rattle.std.proofs.lemmas.List.{append_cancel_right, drop-drop, take_rest}
 use Rattle.std.proofs.lemmas.List.Concat.{flat_map-append}
@@ -8,13 +8,13 @@ use Rattle.std.specs.List.{flat_map}
 use Rattle.std.specs.Option.{unwrap_or}
 use Rattle.std.specs.Str.{IsUtf8, chars}
 use Rattle.std.specs.Str.Lossy.{utf8_lossy}
-use Rattle.utf16_units.proofs.FaultLemmas.{rest_from}
-use Rattle.utf16_transcode.specs.FromUtf8.{IsUtf8Fault, text_of_utf8}
+use Rattle.utf16_units.proofs.IllFormedLemmas.{rest_from}
+use Rattle.utf16_transcode.specs.FromUtf8.{IsIllFormedUtf8, text_of_utf8}
 use Rattle.utf16_decode.specs.Shown.{ShowsWhole}
 use Rattle.utf16_transcode.proofs.CutLemmas.{text-cut}
 use Rattle.utf16_transcode.proofs.LossyLemmas.{text-empty, utf8_lossy-behind}
 
--- the text of any longer beginning is that of the first n bytes, and then that of what follows them
+-- the text of any longer prefix is that of the first n bytes, and then that of what follows them
 abbrev pub Between : List ℕ → ℕ → Type 0
 Between bytes n = (m : ℕ) → text_of_utf8 (take (n + m) bytes) ≡ text_of_utf8 (take n bytes) ++ text_of_utf8 (take m (drop n bytes))
 
@@ -37,10 +37,10 @@ Between-front text read n before valid = join text read n before (λ m.
     ap text_of_utf8 (take-add n m rest) ∙ ap chars (utf8_lossy-behind (take n rest) back front) ∙ chars-append (take n rest) (utf8_lossy back) front
     ∙ ap (λ b. chars b ++ text_of_utf8 back) (sym (utf8_lossy-IsUtf8 (take n rest) front)))
 
-pub Between-mark : (text : List ℕ) (at n : ℕ) (error_len : Option ℕ) (len : ℕ) → Between text (at + n) → IsUtf8Fault (rest_from text at) n error_len
+pub Between-replacement : (text : List ℕ) (at n : ℕ) (error_len : Option ℕ) (len : ℕ) → Between text (at + n) → IsIllFormedUtf8 (rest_from text at) n error_len
     → len ≡ unwrap_or error_len (length (drop (at + n) text)) → 0 < len → Between text (at + n + len)
-Between-mark text at n error_len len before found is some =
-    let fault = subst (λ b. IsUtf8Fault b n error_len) (take_rest text at) found in
+Between-replacement text at n error_len len before found is some =
+    let fault = subst (λ b. IsIllFormedUtf8 b n error_len) (take_rest text at) found in
     let rest = drop n (drop at text) in
     let there : rest ≡ drop (at + n) text = drop-drop n at text in
     let cut = text-cut (drop at text) n error_len len fault (subst (λ b. len ≡ unwrap_or error_len (length b)) (sym there) is) some in

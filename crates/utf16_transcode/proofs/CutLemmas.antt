@@ -1,4 +1,5 @@
--- UTF-8 that is cut off behind a fault: the fault is as long there, and its text is U+FFFD.
+-- UTF-8 that is truncated after an ill-formed sequence: the sequence has the same length there, and
+-- its text is U+FFFD.
 use Rattle.std.proofs.Common.{◌≡◌, ℕ, zero, suc, ◌+◌, ◌<◌, ◌≤◌, List, [], ◌∷◌, Option, length, take, drop, refl, sym, ap, ◌∙◌, subst, ⊎_elim, arith, length-take, take_all, take-take}
 use Rattle.std.specs.Prelude.{min, slice_index, if◌then◌else◌}
 use Rattle.std.proofs.lemmas.Bool.{cases_lt}
@@ -8,10 +9,10 @@ use Rattle.std.specs.Int.{is_in_range}
 use Rattle.std.specs.Option.{unwrap_or}
 use Rattle.std.specs.Str.{IsUtf8, IsValidUpTo}
 use Rattle.std.specs.Str.Lossy.{second_byte_max, second_byte_min, utf8_error_len, utf8_invalid_len}
-use Rattle.utf16_transcode.specs.FromUtf8.{IsUtf8Fault, text_of_utf8}
+use Rattle.utf16_transcode.specs.FromUtf8.{IsIllFormedUtf8, text_of_utf8}
 use Rattle.utf16_transcode.proofs.LossyLemmas.{text-fault}
 
--- what the first three bytes tell of a fault's length
+-- the length of an ill-formed sequence, by its first three bytes
 abbrev told : List ℕ → ℕ
 told bytes =
     let first = slice_index bytes 0 in
@@ -31,11 +32,12 @@ told-take (suc (suc zero)) (x ∷ y ∷ more) = grind arith
 told-take (suc (suc (suc k))) (x ∷ y ∷ []) = refl
 told-take (suc (suc (suc k))) (x ∷ y ∷ z ∷ more) = refl
 
--- a fault is as long in any beginning that has all of it, and else it takes all of that
+-- an ill-formed sequence has the same length in any prefix that has all of it, and is all of a
+-- shorter prefix
 invalid_len-take : (k : ℕ) (bytes : List ℕ) → utf8_invalid_len (take k bytes) ≡ min k (utf8_invalid_len bytes)
 invalid_len-take k bytes = omega (arith, invalid_len-told (take k bytes), invalid_len-told bytes, length-take k bytes, told-take k bytes)
 
--- the longest valid beginning, of a beginning that has more
+-- the longest valid prefix of a longer prefix
 valid-take : (bytes : List ℕ) (n k : ℕ) → n < k → IsValidUpTo bytes n → IsValidUpTo (take k bytes) n
 valid-take bytes n k more valid = record {
   short = let short = valid.short in omega (arith, length-take k bytes);
@@ -46,7 +48,7 @@ valid-take bytes n k more valid = record {
       (cases_lt m k);
 }
 
-pub text-cut : (bytes : List ℕ) (n : ℕ) (error_len : Option ℕ) (len : ℕ) → IsUtf8Fault bytes n error_len
+pub text-cut : (bytes : List ℕ) (n : ℕ) (error_len : Option ℕ) (len : ℕ) → IsIllFormedUtf8 bytes n error_len
     → len ≡ unwrap_or error_len (length (drop n bytes)) → 0 < len
     → (m : ℕ) → text_of_utf8 (take (len + m) (drop n bytes)) ≡ 0xFFFD ∷ text_of_utf8 (take m (drop len (drop n bytes)))
 text-cut bytes n error_len len fault is some m =

@@ -1,4 +1,4 @@
--- From UTF-8 to UTF-16: texts behind one another, characters, and where a fault is.
+-- From UTF-8 to UTF-16: texts one after another, characters, and the place of an error.
 use Rattle.std.proofs.Common.{◌≡◌, ℕ, ◌+◌, ◌-◌, ◌*◌, ◌<◌, ◌≤◌, Bool, true, false, List, [], ◌∷◌, ◌++◌, Option, drop_at, length, take, drop, encode_utf8_all, refl, sym, ap, ap₂, ◌∙◌, subst, ⊎_elim, arith, append-nil, append_assoc, length-append, length-drop, length-take, take_all, take_at, take-add, take-append-drop, take-take, le-ltb}
 use Rattle.std.specs.Prelude.{◌==◌, min}
 use borrow.Author.Tests.{ne_eqb}
@@ -11,20 +11,20 @@ use Rattle.std.specs.Str.{IsUtf8, IsValidUpTo, StartsWithNoChar, all_scalars, ch
 use Rattle.std.specs.Str.Lossy.{utf8_error_len}
 use Rattle.utf16_units.specs.Encoding.{char_bytes, encode}
 use Rattle.utf16_units.proofs.EncodingLemmas.{All-from_all_scalars, all_scalars-from_All, encode-append, encode-nil, encode-one}
-use Rattle.utf16_units.proofs.FaultLemmas.{rest_from}
-use Rattle.utf16_transcode.specs.FromUtf8.{IsUtf16Of, IsUtf8Fault, IsUtf8FaultAt}
+use Rattle.utf16_units.proofs.IllFormedLemmas.{rest_from}
+use Rattle.utf16_transcode.specs.FromUtf8.{TranscodesToUtf16, IsIllFormedUtf8, IsIllFormedUtf8At}
 use Rattle.utf16_decode.specs.Wrote.{Gives, Joins}
 
 pub room_grows : (m n : ℕ) → m ≤ n → 2 * m + 16 ≤ 2 * n + 16
 room_grows m n le = omega arith
 
-pub utf16_joins : (big : Bool) → Joins (IsUtf16Of big)
+pub utf16_joins : (big : Bool) → Joins (TranscodesToUtf16 big)
 utf16_joins big front back into more first second = (
   IsUtf8-append front back first.0 second.0,
   ap₂ (λ x y. x ++ y) first.1 second.1 ∙ sym (encode-append big (chars front) (chars back)) ∙ ap (encode big) (sym (chars-append front back first.0)),
 )
 
-pub utf16_empty : (big : Bool) → IsUtf16Of big [] []
+pub utf16_empty : (big : Bool) → TranscodesToUtf16 big [] []
 utf16_empty big = (IsUtf8-nil, sym (ap (encode big) chars-nil ∙ encode-nil big))
 
 -- the UTF-8 of a character spells it
@@ -39,7 +39,7 @@ char_gives big c scalar = (IsUtf8-encode c scalar, sym (ap (encode big) (chars-c
 pub char_few : (c : ℕ) → IsScalar c → length (encode_utf8 c) ≤ 4
 char_few c scalar = omega (arith, length-encode c, (len_utf8_bounds c).1)
 
--- what stands behind a text is a text where both are
+-- if UTF-8 begins with UTF-8, the rest is UTF-8 too
 pub IsUtf8-behind : (front back : List ℕ) → IsUtf8 front → IsUtf8 (front ++ back) → IsUtf8 back
 IsUtf8-behind front back first all =
     let n = length front in
@@ -54,7 +54,7 @@ text_begins bytes u some = of u.0 u.1.0 u.1.1 where
   of [] scalars e = absurd (omega (arith, ap length e))
   of (c ∷ cs) scalars e = (c, encode_utf8_all cs, All-head IsScalar c cs (All-from_all_scalars (c ∷ cs) scalars), sym e)
 
--- what stands behind a text is a text where both are
+-- if a prefix is UTF-8, and so is a longer one, the bytes between their ends are UTF-8
 text_behind : (bytes : List ℕ) (read m : ℕ) → read ≤ m → read ≤ length bytes → IsUtf8 (take read bytes) → IsUtf8 (take m bytes)
     → IsUtf8 (take (m - read) (drop read bytes))
 text_behind bytes read m le within front all =
@@ -62,7 +62,7 @@ text_behind bytes read m le within front all =
     let split : take m bytes ≡ take read bytes ++ take (m - read) (drop read bytes) = ap (λ k. take k bytes) (sym same) ∙ take-add read (m - read) bytes in
     IsUtf8-behind (take read bytes) (take (m - read) (drop read bytes)) front (subst IsUtf8 split all)
 
--- a fault behind a text is where the longest valid beginning ends
+-- an ill-formed sequence after a text begins where the longest valid prefix ends
 valid_to : (bytes : List ℕ) (read : ℕ) → read < length bytes → IsUtf8 (take read bytes) → StartsWithNoChar (drop read bytes) → IsValidUpTo bytes read
 valid_to bytes read within front none = record {
   short = within;
@@ -80,11 +80,11 @@ valid_to bytes read within front none = record {
       ∙ append_assoc (encode_utf8 begins.0) begins.1 (drop k (drop read bytes)));
 }
 
-pub faults_there : (text : List ℕ) (read : ℕ) (len : Option ℕ) → read < length text → IsUtf8 (take read text) → IsUtf8FaultAt (drop read text) len
-    → IsUtf8Fault text read len
+pub faults_there : (text : List ℕ) (read : ℕ) (len : Option ℕ) → read < length text → IsUtf8 (take read text) → IsIllFormedUtf8At (drop read text) len
+    → IsIllFormedUtf8 text read len
 faults_there text read len within front here = (valid_to text read within front here.0, here.1)
 
--- ---- a fault is told by four bytes
+-- ---- four bytes suffice to find the length of an ill-formed sequence
 
 four_tell : (rest : List ℕ) → utf8_error_len (take 4 rest) ≡ utf8_error_len rest
 unfolding utf8_error_len
@@ -115,12 +115,12 @@ no_char rest m is none c more scalar e =
     none.longest k (omega arith)
     (subst IsUtf8 (sym (take-take k m rest le ∙ ap (take k) e ∙ take_at (encode_utf8 c) more k refl)) (IsUtf8-encode c scalar))
 
--- what is valid, and a valid beginning of what is left behind it
+-- a valid part, and a valid prefix of what follows it
 pub valid_more : (text : List ℕ) (valid n : ℕ) → IsUtf8 (take valid text) → IsUtf8 (take n (rest_from text valid)) → IsUtf8 (take (valid + n) text)
 valid_more text valid n first second =
     subst IsUtf8 (sym (take-add valid n text)) (IsUtf8-append (take valid text) (take n (drop valid text)) first (subst (λ r. IsUtf8 (take n r)) (take_rest text valid) second))
 
--- the same of a beginning of what is tested at once
+-- the same for a prefix of the part that is validated at once
 pub valid_part : (text : List ℕ) (valid len n : ℕ) → IsUtf8 (take valid text) → n ≤ length (take len (rest_from text valid))
     → IsUtf8 (take n (take len (rest_from text valid))) → IsUtf8 (take (valid + n) text)
 valid_part text valid len n first within second =

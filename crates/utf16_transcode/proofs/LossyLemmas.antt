@@ -1,5 +1,5 @@
--- The text of any bytes, with U+FFFD where they are no UTF-8: behind a valid beginning, and at a
--- fault.
+-- The lossy text of any bytes, with U+FFFD where they are not UTF-8: after a valid prefix, and at
+-- an ill-formed sequence.
 use Rattle.std.proofs.Common.{◌≡◌, ℕ, zero, suc, ◌+◌, ◌*◌, ◌<◌, ◌≤◌, Bool, true, false, cond, List, [], ◌∷◌, ◌++◌, Option, length, take, drop, refl, sym, ap, ap₂, ◌∙◌, subst, ⊎_elim, arith, append-nil, append_assoc, drop_at, length-append, take_at, take-append-drop}
 use Rattle.std.proofs.lemmas.Bool.{cases_lt, cond-true}
 use Rattle.std.proofs.lemmas.List.{append_cancel_left, drop-drop}
@@ -10,11 +10,11 @@ use Rattle.std.specs.Str.Lossy.{after_first_chunk, replacement_bytes, utf8_inval
 use Rattle.utf16_from_utf8.proofs.SizeLemmas.{size-le}
 use Rattle.utf16_units.specs.Encoding.{size}
 use Rattle.utf16_units.proofs.EncodingLemmas.{size-append, size-cons}
-use Rattle.utf16_units.proofs.FaultLemmas.{take-past}
+use Rattle.utf16_units.proofs.IllFormedLemmas.{take-past}
 use Rattle.utf16_transcode.proofs.FromUtf8.{IsUtf8-behind}
-use Rattle.utf16_transcode.specs.FromUtf8.{IsUtf8Fault, text_of_utf8}
+use Rattle.utf16_transcode.specs.FromUtf8.{IsIllFormedUtf8, text_of_utf8}
 
--- two tests that pass together
+-- two tests are equal if each passes where the other does
 same_test : (a b : Bool) → (a ≡ true → b ≡ true) → (b ≡ true → a ≡ true) → a ≡ b
 same_test true b there back = sym (there refl)
 same_test false true there back = back refl
@@ -28,7 +28,7 @@ is_utf8-behind front back first = same_test _ _
 drop-past : (front rest : List ℕ) (n : ℕ) → drop (length front + n) (front ++ rest) ≡ drop n rest
 drop-past front rest n = sym (drop-drop n (length front) (front ++ rest)) ∙ ap (drop n) (drop_at front rest (length front) refl)
 
--- ---- the longest valid beginning
+-- ---- the longest valid prefix
 
 whole_up_to : (bytes : List ℕ) (n : ℕ) → IsUtf8 (take n bytes) → valid_len_up_to bytes n ≡ n
 whole_up_to bytes zero text = refl
@@ -70,14 +70,14 @@ module _ (front back : List ℕ) (first : IsUtf8 front) where
       ∙ ap (λ k. drop k all) (omega arith)
       ∙ drop-past front back (n + more)
 
--- ---- the text with marks
+-- ---- the lossy text
 
 lossy-whole : (bytes : List ℕ) → utf8_valid_len bytes ≡ length bytes → utf8_lossy bytes ≡ bytes
 lossy-whole bytes whole =
     utf8_lossy_last_chunk bytes bytes [] [] (sym (append-nil bytes)) (sym whole) refl refl
     ∙ ap (λ t. bytes ++ t) (utf8_lossy_empty [] refl) ∙ append-nil bytes
 
--- UTF-8 in front stays as it is
+-- UTF-8 before any bytes stays as it is
 pub utf8_lossy-behind : (front back : List ℕ) → IsUtf8 front → utf8_lossy (front ++ back) ≡ front ++ utf8_lossy back
 utf8_lossy-behind front back first =
     let n = utf8_valid_len back in
@@ -94,7 +94,7 @@ utf8_lossy-behind front back first =
     lossy-whole (front ++ back) (omega arith) ∙ ap (λ t. front ++ t) (sym (lossy-whole back (omega arith))))
     (cases_lt n (length back))
 
--- the text of a valid beginning, and then that of what stands behind it
+-- the text of a valid prefix, and then that of what follows it
 pub text-behind : (bytes : List ℕ) (n : ℕ) → IsUtf8 (take n bytes) → text_of_utf8 bytes ≡ chars (take n bytes) ++ text_of_utf8 (drop n bytes)
 text-behind bytes n first =
     ap text_of_utf8 (sym (take-append-drop n bytes)) ∙ ap chars (utf8_lossy-behind (take n bytes) (drop n bytes) first)
@@ -110,9 +110,9 @@ unfolding chars
 replaced [] = refl
 replaced (b ∷ bytes) = refl
 
--- where the longest valid beginning ends there is U+FFFD, and then the text of what stands behind
--- the fault
-pub text-fault : (bytes : List ℕ) (n : ℕ) (error_len : Option ℕ) → IsUtf8Fault bytes n error_len
+-- after the longest valid prefix comes U+FFFD, and then the text of what follows the ill-formed
+-- sequence
+pub text-fault : (bytes : List ℕ) (n : ℕ) (error_len : Option ℕ) → IsIllFormedUtf8 bytes n error_len
     → text_of_utf8 (drop n bytes) ≡ 0xFFFD ∷ text_of_utf8 (drop (unwrap_or error_len (length (drop n bytes))) (drop n bytes))
 text-fault bytes n error_len fault =
     let front = take n bytes in
@@ -129,7 +129,7 @@ text-fault bytes n error_len fault =
     ap chars (append_cancel_left front (utf8_lossy rest) (replacement_bytes ++ utf8_lossy (drop len rest)) (sym split ∙ whole))
     ∙ replaced (utf8_lossy (drop len rest))
 
--- ---- how long a fault is
+-- ---- the length of an ill-formed sequence
 
 -- the first chunk of the bytes, and what is left
 pub text-chunk : (bytes valid invalid rest : List ℕ) → IsUtf8 valid → bytes ≡ valid ++ (invalid ++ rest) → length valid ≡ utf8_valid_len bytes
@@ -144,17 +144,17 @@ pub size-chunk : (bytes valid invalid rest : List ℕ) → IsUtf8 valid → byte
     → size (text_of_utf8 bytes) ≡ size (chars valid) + 2 + size (text_of_utf8 rest)
 size-chunk bytes valid invalid rest text split front fault some =
     let all = ap size (text-chunk bytes valid invalid rest text split front fault some) ∙ size-append (chars valid) (0xFFFD ∷ text_of_utf8 rest) in
-    let mark = size-cons 0xFFFD (text_of_utf8 rest) in
-    omega (arith, all, mark)
+    let replacement = size-cons 0xFFFD (text_of_utf8 rest) in
+    omega (arith, all, replacement)
 
--- the last chunk, where no fault is left
+-- the last chunk, after which nothing is ill-formed
 pub size-last : (bytes valid invalid rest : List ℕ) → bytes ≡ valid ++ (invalid ++ rest) → length valid ≡ utf8_valid_len bytes
     → length invalid ≡ 0 → length rest ≡ 0 → size (text_of_utf8 bytes) ≡ size (chars valid)
 size-last bytes valid invalid rest split front none left =
     ap (λ t. size (chars t)) (utf8_lossy_last_chunk bytes valid invalid rest split front none left
     ∙ ap (λ t. valid ++ t) (utf8_lossy_empty rest left) ∙ append-nil valid)
 
--- two bytes at most for each
+-- two bytes at most for each byte
 pub chunk-most : (bytes valid invalid rest : List ℕ) → IsUtf8 valid → bytes ≡ valid ++ (invalid ++ rest)
     → size (chars valid) + 2 * length invalid + 2 * length rest ≤ 2 * length bytes
 chunk-most bytes valid invalid rest text split =

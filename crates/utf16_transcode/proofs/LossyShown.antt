@@ -1,5 +1,4 @@
--- UTF-8 written in UTF-16 with U+FFFD: the text that was written, then the mark of what stands
--- behind it.
+-- UTF-8 written in UTF-16, lossy: the text that was written, then U+FFFD for what follows it.
 use Rattle.std.proofs.Common.{◌≡◌, ◌⊎◌, ℕ, ◌+◌, ◌-◌, ◌<◌, ◌≤◌, Bool, true, false, cond, List, [], ◌∷◌, ◌++◌, Option, None, Some, length, take, drop, refl, sym, ap, ap₂, ◌∙◌, subst, ⊎_elim, arith, append_assoc, length-drop}
 use Rattle.std.specs.Prelude.{nat_lt, ◌==◌, slice_index, if◌then◌else◌}
 use borrow.Rule.Slice.PartMut.{put_mid}
@@ -15,12 +14,12 @@ use Rattle.std.specs.Str.{chars}
 use Rattle.std.specs.Str.Lossy.{error_len_after_one, error_len_after_two, error_len_of_some, second_byte_max, second_byte_min, utf8_error_len, utf8_lossy}
 use Rattle.utf16_units.specs.Encoding.{char_bytes, encode}
 use Rattle.utf16_units.specs.Unit.{unit_bytes}
-use Rattle.utf16_units.proofs.FaultLemmas.{rest_from}
+use Rattle.utf16_units.proofs.IllFormedLemmas.{rest_from}
 use Rattle.utf16_units.proofs.CharLemmas.{one_unit_bytes}
 use Rattle.utf16_units.proofs.UnitLemmas.{length-unit_bytes}
-use Rattle.utf16_transcode.specs.FromUtf8.{IsUtf16Of, IsUtf8Fault, StopsEncoding, text_of_utf8}
+use Rattle.utf16_transcode.specs.FromUtf8.{TranscodesToUtf16, IsIllFormedUtf8, StopsEncoding, text_of_utf8}
 use Rattle.utf16_decode.specs.Shown.{ShowsWhole}
-use Rattle.utf16_decode.specs.Stops.{StopsMarkingWhole, TextDoesNotFit}
+use Rattle.utf16_decode.specs.Stops.{StopsLossyWhole, TextDoesNotFit}
 use Rattle.utf16_decode.specs.Wrote.{Wrote}
 use Rattle.utf16_decode.specs.declared.progress.Stop.{Stop}
 use Rattle.utf16_decode.specs.declared.progress.Stop.TheVariants.{Done, NoRoom}
@@ -40,18 +39,18 @@ flat_encode big text more = flat_map-append (char_bytes big) text more
 mark_bytes : (big : Bool) → char_bytes big 0xFFFD ≡ unit_bytes big 0xFFFD
 mark_bytes big = one_unit_bytes big 0xFFFD (omega arith)
 
--- a character in front of any bytes
+-- a character before any bytes
 char-first : (c : ℕ) (more : List ℕ) → IsScalar c → text_of_utf8 (encode_utf8 c ++ more) ≡ c ∷ text_of_utf8 more
 char-first c more scalar = ap chars (utf8_lossy-behind (encode_utf8 c) more (IsUtf8-encode c scalar)) ∙ chars-append (encode_utf8 c) (utf8_lossy more) (IsUtf8-encode c scalar)
     ∙ ap (λ t. t ++ text_of_utf8 more) (chars-char c scalar)
 
--- ---- how long a fault is
+-- ---- the length of an ill-formed sequence
 
 by_test : (P : Option ℕ → Type 0) (b : Bool) (x y : Option ℕ) → P x → (b ≡ false → P y) → P (cond b x y)
 by_test P true x y p q = p
 by_test P false x y p q = q refl
 
--- a fault has a byte, and no more than are left
+-- an ill-formed sequence has a byte, and no more than are left
 pub fault_bounds : (bytes : List ℕ) → 0 < length bytes
     → (0 < unwrap_or (utf8_error_len bytes) (length bytes)) × (unwrap_or (utf8_error_len bytes) (length bytes) ≤ length bytes)
 unfolding utf8_error_len
@@ -74,9 +73,9 @@ fault_bounds bytes some =
     by_test P (n == 0) None (error_len_of_some bytes) none
     (λ _. by_test P (is_in_range 0xC2 0xF4 first) (error_len_after_one bytes) (Some 1) two (λ _. one))
 
--- a text was written behind what was written before
+-- a text was appended to what was written before
 module _ (big : Bool) (text old part : List ℕ) (read at n w : ℕ) (before : ShowsWhole text_of_utf8 (char_bytes big) text old read at)
-    (front : Wrote (IsUtf16Of big) (rest_from text read) part n w) (long : length part ≡ length old - at) where
+    (front : Wrote (TranscodesToUtf16 big) (rest_from text read) part n w) (long : length part ≡ length old - at) where
   abbrev rest : List ℕ
   rest = drop read text
 
@@ -86,7 +85,7 @@ module _ (big : Bool) (text old part : List ℕ) (read at n w : ℕ) (before : S
   from : rest_from text read ≡ rest
   from = take_rest text read
 
-  -- of what is left
+  -- what is left
   pub left : drop n (rest_from text read) ≡ drop (read + n) text
   left = ap (drop n) from ∙ drop-drop n read text
 
@@ -104,7 +103,7 @@ module _ (big : Bool) (text old part : List ℕ) (read at n w : ℕ) (before : S
       let fits = front.room in
       let size = ap length from ∙ length-drop read text in
       let all = new_long in
-      let gives = subst (λ r. IsUtf16Of big (take n r) (take w part)) from front.gives in
+      let gives = subst (λ r. TranscodesToUtf16 big (take n r) (take w part)) from front.gives in
       record {
         within = omega arith;
         room = omega arith;
@@ -129,19 +128,19 @@ module _ (big : Bool) (text old part : List ℕ) (read at n w : ℕ) (before : S
     too_long = subst (λ k. k < length (char_bytes big full.char)) left_over full.too_long;
   }
 
-  -- why it stopped there, if not at a fault
+  -- why it stopped there, if not at an ill-formed sequence
   pub stops-whole : (stop : Stop) → (stop ≡ Done) ⊎ (stop ≡ NoRoom) → StopsEncoding big (rest_from text read) n (length part - w) stop
-      → StopsMarkingWhole text_of_utf8 (char_bytes big) (drop (read + n) text) (length new - (at + w)) stop
+      → StopsLossyWhole text_of_utf8 (char_bytes big) (drop (read + n) text) (length new - (at + w)) stop
   stops-whole stop is here =
       let Here = StopsEncoding big (rest_from text read) n (length part - w) in
-      let There = StopsMarkingWhole text_of_utf8 (char_bytes big) (drop (read + n) text) (length new - (at + w)) in
+      let There = StopsLossyWhole text_of_utf8 (char_bytes big) (drop (read + n) text) (length new - (at + w)) in
       ⊎_elim
       (λ (done : stop ≡ Done). subst There (sym done) (stops-all (subst Here done here)))
       (λ (full : stop ≡ NoRoom). subst There (sym full) (stops-full (subst Here full here)))
       is
 
-  -- a fault behind it
-  module _ (error_len : Option ℕ) (fault : IsUtf8Fault (rest_from text read) n error_len) (len : ℕ)
+  -- an ill-formed sequence after it
+  module _ (error_len : Option ℕ) (fault : IsIllFormedUtf8 (rest_from text read) n error_len) (len : ℕ)
       (is : len ≡ unwrap_or error_len (length (drop (read + n) text))) where
     begins : text_of_utf8 (drop (read + n) text) ≡ 0xFFFD ∷ text_of_utf8 (drop (read + n + len) text)
     begins =
@@ -158,17 +157,17 @@ module _ (big : Bool) (text old part : List ℕ) (read at n w : ℕ) (before : S
         let bounds = fault_bounds (drop (read + n) text) (omega arith) in
         (omega (arith, same, bounds.0), omega (arith, same, bounds.1))
 
-    pub mark-full : length new - (at + w) < 2 → TextDoesNotFit (char_bytes big) (text_of_utf8 (drop (read + n) text)) (length new - (at + w))
-    mark-full few = record {
+    pub replacement-full : length new - (at + w) < 2 → TextDoesNotFit (char_bytes big) (text_of_utf8 (drop (read + n) text)) (length new - (at + w))
+    replacement-full few = record {
       char = 0xFFFD;
       more = text_of_utf8 (drop (read + n + len) text);
       begins = begins;
       too_long = omega (arith, ap length (mark_bytes big), length-unit_bytes big 0xFFFD);
     }
 
-    pub ShowsWhole-mark : (next : List ℕ) (last : ℕ) → last ≤ length next → take last next ≡ take (at + w) new ++ unit_bytes big 0xFFFD
+    pub ShowsWhole-replacement : (next : List ℕ) (last : ℕ) → last ≤ length next → take last next ≡ take (at + w) new ++ unit_bytes big 0xFFFD
         → ShowsWhole text_of_utf8 (char_bytes big) text next (read + n + len) last
-    ShowsWhole-mark next last room bytes = record {
+    ShowsWhole-replacement next last room bytes = record {
       within = fault-within.1;
       room = room;
       shown =

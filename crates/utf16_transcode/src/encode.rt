@@ -1,35 +1,45 @@
-//! UTF-8 in UTF-16 with U+FFFD for each fault.
+//! UTF-8 to UTF-16, lossy: with U+FFFD for each ill-formed sequence.
 
 ghost use Rattle.std.specs.Prelude.{◌≡◌, ◌-◌, ◌*◌, ◌≤◌, length, take, drop};
 ghost use Rattle.std.specs.List.{flat_map};
 ghost use Rattle.utf16_units.specs.Encoding.{char_bytes, size};
 ghost use Rattle.utf16_transcode.specs.FromUtf8.{text_of_utf8};
 ghost use Rattle.utf16_decode.specs.Shown.{ShowsWhole};
-ghost use Rattle.utf16_decode.specs.Stops.{StopsMarkingWhole};
+ghost use Rattle.utf16_decode.specs.Stops.{StopsLossyWhole};
 
 use crate::utf16::from_utf8;
 use utf16_decode::{Progress, Stop, put};
 use utf16_from_utf8::utf16_len;
 use utf16_units::Utf16Order;
 
-// U+FFFD, and how many bytes of UTF-16 it takes.
-const MARK: u16 = 0xFFFD;
+// U+FFFD, the replacement character, and its length in bytes of UTF-16.
+const REPLACEMENT: u16 = 0xFFFD;
 
-const MARK_LEN: usize = 2;
+const REPLACEMENT_LEN: usize = 2;
 
-/// Writes UTF-8 in UTF-16 to the front of a buffer, as far as whole characters fit, with U+FFFD
-/// where the bytes are no UTF-8: one for each maximal subpart of an ill-formed sequence, as
-/// `String::from_utf8_lossy` has it, and one for a character that is cut off at the end. Any bytes
-/// are allowed. It stops at the end of the input, or with `NoRoom` where the buffer has fewer bytes
-/// left than the next character takes, U+FFFD too: the call may go on behind `read` with another
-/// buffer. What stands behind the written bytes may have been written over. In time linear in what
-/// is read.
-pub fn encode_whole<E: Utf16Order>(text: &[u8], to: &mut [u8]) -> Progress
-    ensures shown { ShowsWhole text_of_utf8 (char_bytes E.BIG) text.now to.new result.read result.written }
-    ensures stop { StopsMarkingWhole text_of_utf8 (char_bytes E.BIG) (drop result.read text.now) (length to.new - result.written) result.stop }
-    ensures between { take result.written to.new ≡ flat_map (char_bytes E.BIG) (text_of_utf8 (take result.read text.now)) }
+/// Writes the whole text of UTF-8 in UTF-16 to the start of a buffer, as far as whole characters
+/// fit, with U+FFFD for each ill-formed sequence: one for each maximal subpart, and one for an
+/// incomplete character at the end. Any bytes are allowed. It stops at the end of the input, or
+/// with `NoRoom` if the buffer has fewer bytes left than the next character or U+FFFD takes: call
+/// again with the input after `read` and another buffer. Bytes of the buffer after the written ones
+/// may have been overwritten.
+///
+/// # Complexity
+///
+/// Linear time in the number of bytes read.
+///
+/// # Source
+///
+/// `String::from_utf8_lossy` replaces the same sequences.
+pub fn from_utf8_lossy<E: Utf16Order>(text: &[u8], to: &mut [u8]) -> Progress
+    ensures shown { ShowsWhole text_of_utf8 (char_bytes E.BIG) text.now to.new result.read
+        result.written }
+    ensures stop { StopsLossyWhole text_of_utf8 (char_bytes E.BIG) (drop result.read text.now)
+        (length to.new - result.written) result.stop }
+    ensures between { take result.written to.new
+        ≡ flat_map (char_bytes E.BIG) (text_of_utf8 (take result.read text.now)) }
 {
-    let mark = E::write_unit(MARK);
+    let replacement = E::write_unit(REPLACEMENT);
     let mut read = 0;
     let mut written = 0;
     loop {
@@ -37,8 +47,8 @@ pub fn encode_whole<E: Utf16Order>(text: &[u8], to: &mut [u8]) -> Progress
         read += front.read;
         written += front.written;
         let len = match front.stop {
-            Stop::Fault(len) => len as usize,
-            Stop::CutOff => text.len() - read,
+            Stop::IllFormed(len) => len as usize,
+            Stop::Incomplete => text.len() - read,
             Stop::Done | Stop::NoRoom => {
                 return Progress {
                     read,
@@ -47,7 +57,7 @@ pub fn encode_whole<E: Utf16Order>(text: &[u8], to: &mut [u8]) -> Progress
                 };
             }
         };
-        if to.len() - written < MARK_LEN {
+        if to.len() - written < REPLACEMENT_LEN {
             return Progress {
                 read,
                 written,
@@ -55,13 +65,17 @@ pub fn encode_whole<E: Utf16Order>(text: &[u8], to: &mut [u8]) -> Progress
             };
         }
         read += len;
-        written = put(&mark, to, written);
+        written = put(&replacement, to, written);
     }
 }
 
-/// How many bytes of UTF-16 `encode_whole` makes of all the bytes, in either order: two at most for
-/// each byte. Any bytes are allowed. Two passes.
-pub fn utf16_marked_size(text: &[u8]) -> usize
+/// Returns the length in bytes of the output of `from_utf8_lossy` for the whole input, in either
+/// byte order: at most two for each byte of input. Any bytes are allowed.
+///
+/// # Complexity
+///
+/// Two passes.
+pub fn from_utf8_lossy_len(text: &[u8]) -> usize
     ensures size { result ≡ size (text_of_utf8 text.now) }
     ensures most { result ≤ 2 * length text.now }
 {
@@ -69,7 +83,7 @@ pub fn utf16_marked_size(text: &[u8]) -> usize
     for chunk in text.utf8_chunks() {
         size += utf16_len(chunk.valid());
         if !chunk.invalid().is_empty() {
-            size += MARK_LEN;
+            size += REPLACEMENT_LEN;
         }
     }
     size

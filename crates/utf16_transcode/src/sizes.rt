@@ -1,4 +1,4 @@
-//! How many bytes a text takes in the other encoding.
+//! The length of a text in the other encoding, in bytes.
 
 ghost use Rattle.std.specs.Prelude.{◌≡◌, encode_utf8_all, length, take};
 ghost use Rattle.std.specs.Str.{chars};
@@ -6,14 +6,18 @@ ghost use Rattle.std.specs.Str.Lossy.{utf8_valid_len};
 ghost use Rattle.utf16_units.specs.Encoding.{size};
 ghost use Rattle.utf16_units.specs.Split.{lossy_text};
 
-use utf16_decode::MARK;
+use utf16_decode::REPLACEMENT;
 use utf16_from_utf8::utf16_len;
 use utf16_to_utf8::utf8_len;
 use utf16_units::{Utf16Order, validate_raw_utf16};
 
-/// How many bytes of UTF-8 `decode_whole` makes of all the bytes. Any bytes are allowed. Two
-/// passes.
-pub fn utf8_size<E: Utf16Order>(raw: &[u8]) -> usize
+/// Returns the length in bytes of the output of `to_utf8_lossy` for the whole input. Any bytes are
+/// allowed.
+///
+/// # Complexity
+///
+/// Two passes.
+pub fn to_utf8_lossy_len<E: Utf16Order>(raw: &[u8]) -> usize
     ensures { result ≡ length (encode_utf8_all (lossy_text E.BIG raw.now)) }
 {
     let mut rest = raw;
@@ -24,7 +28,7 @@ pub fn utf8_size<E: Utf16Order>(raw: &[u8]) -> usize
             Err(error) => error,
         };
         let (front, behind) = rest.split_at(error.valid_up_to());
-        size += utf8_len::<E>(front) + MARK.len();
+        size += utf8_len::<E>(front) + REPLACEMENT.len();
         match error.error_len() {
             Some(len) => rest = &behind[len..],
             None => return size,
@@ -32,9 +36,13 @@ pub fn utf8_size<E: Utf16Order>(raw: &[u8]) -> usize
     }
 }
 
-/// How many bytes of UTF-16 the longest valid beginning of UTF-8 takes, in either order: all of the
-/// bytes, where they are UTF-8. Any bytes are allowed. Two passes.
-pub fn utf16_size(text: &[u8]) -> usize
+/// Returns the length in bytes of UTF-16, in either byte order, of the longest valid prefix of
+/// UTF-8: of all of the bytes if they are UTF-8. Any bytes are allowed.
+///
+/// # Complexity
+///
+/// Two passes.
+pub fn from_utf8_len(text: &[u8]) -> usize
     ensures { result ≡ size (chars (take (utf8_valid_len text.now) text.now)) }
 {
     match str::from_utf8(text) {

@@ -1,10 +1,10 @@
-//! UTF-8 in UTF-16, up to the first fault.
+//! UTF-8 to UTF-16, up to the first ill-formed sequence.
 
 ghost use Rattle.std.specs.Prelude.{◌+◌, ◌-◌, ◌*◌, ◌<◌, ◌≤◌, IfErr, IfOk, length, take};
 ghost use Rattle.std.specs.Char.{encode_utf8};
 ghost use Rattle.std.specs.Str.{IsUtf8, chars};
 ghost use Rattle.utf16_units.specs.Encoding.{char_bytes, encode};
-ghost use Rattle.utf16_transcode.specs.FromUtf8.{IsUtf16Of, IsUtf8Fault, IsUtf8FaultAt, StopsEncoding};
+ghost use Rattle.utf16_transcode.specs.FromUtf8.{TranscodesToUtf16, IsIllFormedUtf8, IsIllFormedUtf8At, StopsEncoding};
 ghost use Rattle.utf16_decode.specs.Wrote.{Wrote};
 ghost use Rattle.utf16_decode.specs.Stops.{BeginsWith};
 
@@ -13,24 +13,29 @@ use utf16_decode::{Direction, Progress, transcode};
 use utf16_from_utf8::write_units;
 use utf16_units::Utf16Order;
 
-// How many bytes are tested first where few stand before them, and how many times as many behind
-// each part that is valid: the test of 64 bytes or more goes to their end before it looks for the
-// fault, that of fewer stops at it.
+// The number of bytes that are validated first if few valid bytes precede them, and the factor by
+// which it grows after each valid part. Validation of 64 bytes or more goes to their end before it
+// looks for the error; that of fewer stops at the error.
 const FIRST: usize = 63;
 
 const GROWTH: usize = 8;
 
-/// Writes UTF-8 in UTF-16 to the front of a buffer, up to the first fault or as far as whole
-/// characters fit. Any bytes are allowed. What stands behind the written bytes may have been
-/// written over. The time grows with what is read alone.
+/// Writes UTF-8 in UTF-16 to the start of a buffer, up to the first ill-formed sequence or as far
+/// as whole characters fit. Any bytes are allowed. Bytes of the buffer after the written ones may
+/// have been overwritten.
+///
+/// # Complexity
+///
+/// Linear time in the number of bytes read.
 pub fn from_utf8<E: Utf16Order>(text: &[u8], to: &mut [u8]) -> Progress
-    ensures wrote { Wrote (IsUtf16Of E.BIG) text.now to.new result.read result.written }
-    ensures stop { StopsEncoding E.BIG text.now result.read (length to.new - result.written) result.stop }
+    ensures wrote { Wrote (TranscodesToUtf16 E.BIG) text.now to.new result.read result.written }
+    ensures stop { StopsEncoding E.BIG text.now result.read (length to.new - result.written)
+        result.stop }
 {
     transcode::<FromUtf8<E>>(text, to)
 }
 
-// From UTF-8 to UTF-16 in the order `E`.
+// From UTF-8 to UTF-16 in byte order `E`.
 struct FromUtf8<E: Utf16Order>(PhantomData<E>);
 
 impl<E: Utf16Order> Direction for FromUtf8<E> {
@@ -42,9 +47,9 @@ impl<E: Utf16Order> Direction for FromUtf8<E> {
 
     ghost other = { λ text. encode E.BIG (chars text) };
 
-    ghost IsFaultAt = { IsUtf8FaultAt };
+    ghost IsIllFormedAt = { IsIllFormedUtf8At };
 
-    ghost IsFault = { IsUtf8Fault };
+    ghost IsIllFormed = { IsIllFormedUtf8 };
 
     ghost room_for = { λ n. 2 * n + 16 };
 
@@ -72,7 +77,7 @@ impl<E: Utf16Order> Direction for FromUtf8<E> {
     }
 }
 
-// The length of the longest valid beginning. As many valid bytes as `before` says stand before it.
+// Returns the length of the longest valid prefix. `before` valid bytes precede it.
 fn valid_len(text: &[u8], before: usize) -> usize
     ensures within { result ≤ length text.now }
     ensures text { IsUtf8 (take result text.now) }
@@ -95,7 +100,7 @@ fn valid_len(text: &[u8], before: usize) -> usize
     valid
 }
 
-// The same, where all is tested at once.
+// Returns the same, and validates all at once.
 fn tested_len(text: &[u8]) -> usize
     ensures within { result ≤ length text.now }
     ensures text { IsUtf8 (take result text.now) }
@@ -106,8 +111,8 @@ fn tested_len(text: &[u8]) -> usize
     }
 }
 
-// How many bytes at the front to test at once: at most so many, and of more than four the last
-// character is left for the next part, since it may be cut off.
+// Returns how many bytes to validate at once: at most `part`; if that is more than four, without
+// the last character, which may be incomplete and is left for the next part.
 fn part_len(rest: &[u8], part: usize) -> usize
     requires some { 0 < length rest.now }
     requires part { 0 < part }
@@ -124,12 +129,12 @@ fn part_len(rest: &[u8], part: usize) -> usize
     if rest[len - 1] < 0xC0 { len } else { len - 1 }
 }
 
-// How many bytes the character at the front has, or the `error_len` of what stands there. Four
-// bytes tell it.
+// Returns the length in bytes of the first character, or the `error_len` of what is there instead.
+// Four bytes suffice for it.
 fn first_len(rest: &[u8]) -> Result<usize, Option<u8>>
     requires { 0 < length rest.now }
     ensures char { IfOk result (BeginsWith encode_utf8 rest.now) }
-    ensures fault { IfErr result (IsUtf8FaultAt rest.now) }
+    ensures fault { IfErr result (IsIllFormedUtf8At rest.now) }
 {
     let window = &rest[..rest.len().min(4)];
     match str::from_utf8(window) {
@@ -147,7 +152,7 @@ fn first_len(rest: &[u8]) -> Result<usize, Option<u8>>
     }
 }
 
-// How many bytes the first character of a text has.
+// Returns the length in bytes of the first character of a text.
 fn first_of(text: &str) -> usize
     requires { 0 < length text.now }
     ensures { BeginsWith encode_utf8 text.now result }

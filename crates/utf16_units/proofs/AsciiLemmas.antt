@@ -1,5 +1,5 @@
--- ASCII by units: a character is ASCII exactly where its units are, and a unit where neither of its
--- bytes is above that of U+007F.
+-- ASCII by units: a character is ASCII exactly if its units are, and a unit exactly if neither of
+-- its bytes is above that of U+007F.
 use Rattle.std.proofs.Common.{◌≡◌, ◌↔◌, ℕ, zero, suc, ◌+◌, ◌-◌, ◌*◌, ◌/◌, ◌%◌, ◌^◌, ◌<◌, ◌≤◌, Bool, true, false, cond, eqb, ltb, List, [], ◌∷◌, ◌++◌, length, map, take, drop, slice_index, All, IsTrue, refl, sym, ap, ◌∙◌, subst, ⊎_elim, arith, flat_map, w8}
 use Rattle.std.proofs.lemmas.Bool.{cases_lt, eq-eqb, false≢true, eqb-true, le-ltb, ltb-false}
 use Rattle.std.proofs.lemmas.List.Elements.{All-append, All-cons, All-head, All-nil, All-tail}
@@ -9,7 +9,7 @@ use Rattle.std.specs.Char.{IsScalar}
 use Rattle.std.specs.Char.Escape.{encode_utf16}
 use lib.Lanes.{mask_l, top, zip2}
 use Rattle.utf16_units.specs.Unit.{unit_bytes, unit_of}
-use Rattle.utf16_units.specs.Encoding.{IsText, text_of, units_of}
+use Rattle.utf16_units.specs.Encoding.{IsUtf16, text_of, units_of}
 use Rattle.utf16_units.proofs.EncodingLemmas.{scalars-text_of}
 use Rattle.utf16_units.proofs.UnitsUpTo.{units_of-all, units_of-next, units_of-one, units_of-split, units_of-text}
 
@@ -27,7 +27,7 @@ clear false false m = (λ e. (refl, refl, omega arith), λ h. omega (arith, h.2)
 clear true b m = (λ e. absurd (omega arith), λ h. absurd (false≢true (sym h.0)))
 clear false true m = (λ e. absurd (omega arith), λ h. absurd (false≢true (sym h.1)))
 
--- no byte is above the one of U+007F in its place exactly where all units are ASCII
+-- no byte is above the byte of U+007F at its position exactly if all units are ASCII
 below_limits : (big : Bool) (n : ℕ) (block : List ℕ) → length block ≡ n + n
     → (mask_l (zip2 ltb (alternate (slice_index (unit_bytes big 0x7F) 0) (slice_index (unit_bytes big 0x7F) 1) n) block) ≡ 0) ↔ All is_ascii (units_of big block)
 unfolding units_of
@@ -67,7 +67,7 @@ ascii_block big block last long is =
     ap (λ l. mask_l (zip2 ltb (alternate (slice_index l 0) (slice_index l 1) 32) block)) is in
     (λ e. none.0 (sym same ∙ sym bits ∙ eqb-true _ _ e), λ all. eq-eqb _ _ (bits ∙ same ∙ none.1 all))
 
--- ---- the units up to a place
+-- ---- the units up to an offset
 
 pub record AsciiTo (big : Bool) (bytes : List ℕ) (at : ℕ) : Type 0 where
   pub within : at ≤ length bytes
@@ -96,7 +96,7 @@ ascii_right : (xs ys : List ℕ) → All is_ascii (xs ++ ys) → All is_ascii ys
 ascii_right [] ys all = all
 ascii_right (x ∷ xs) ys all = ascii_right xs ys (All-tail is_ascii x (xs ++ ys) all)
 
--- where all units are ASCII, so are the next ones
+-- if all units are ASCII, so are those of the next n bytes
 pub ascii_next : (big : Bool) (bytes : List ℕ) (at n : ℕ) → AsciiTo big bytes at → n % 2 ≡ 0 → at + n ≤ length bytes
     → All is_ascii (units_of big bytes) → All is_ascii (units_of big (take n (drop at bytes)))
 ascii_next big bytes at n a even long all =
@@ -137,5 +137,5 @@ ascii_text (c ∷ text) scalars =
       λ all. here.1 (All-head is_ascii c text all, rest.1 (All-tail is_ascii c text all)),
     )
 
-pub ascii_bytes : (big : Bool) (bytes : List ℕ) → IsText big bytes → All is_ascii (units_of big bytes) ↔ All is_ascii (text_of big bytes)
+pub ascii_bytes : (big : Bool) (bytes : List ℕ) → IsUtf16 big bytes → All is_ascii (units_of big bytes) ↔ All is_ascii (text_of big bytes)
 ascii_bytes big bytes t = subst (λ units. All is_ascii units ↔ All is_ascii (text_of big bytes)) (sym (units_of-text big bytes t)) (ascii_text (text_of big bytes) (scalars-text_of big bytes t))

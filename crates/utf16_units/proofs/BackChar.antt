@@ -7,7 +7,7 @@ use Rattle.std.proofs.str.Utf16.{one_unit, two_units}
 use Rattle.std.specs.Char.{IsScalar}
 use Rattle.std.specs.Char.Utf16.{surrogate_pair_char}
 use Rattle.utf16_units.specs.Unit.{IsLeading, IsTrailing, unit_bytes, unit_of}
-use Rattle.utf16_units.specs.Encoding.{char_bytes, char_size, encode, Encodes, IsText, size, text_of}
+use Rattle.utf16_units.specs.Encoding.{char_bytes, char_size, encode, Encodes, IsUtf16, size, text_of}
 use Rattle.utf16_units.specs.Boundary.{IsBoundary}
 use Rattle.utf16_units.proofs.UnitLemmas.{length-unit_bytes}
 use Rattle.utf16_units.proofs.CharLemmas.{char_size_four, char_size_two, length-char_bytes, no_surrogate}
@@ -21,7 +21,7 @@ unfolding size
 size-even text = omega arith
 
 -- well-formed bytes are whole units
-pub length-even : (big : Bool) (bytes : List ℕ) → IsText big bytes → length bytes % 2 ≡ 0
+pub length-even : (big : Bool) (bytes : List ℕ) → IsUtf16 big bytes → length bytes % 2 ≡ 0
 length-even big bytes t =
     let long = length-text big bytes t in
     let even = size-even (text_of big bytes) in
@@ -47,7 +47,7 @@ pub record HasLast (big : Bool) (bytes : List ℕ) : Type 0 where
   pub scalar : IsScalar char
   pub spelled : bytes ≡ encode big text ++ char_bytes big char
 
-pub last_of : (big : Bool) (bytes : List ℕ) → IsText big bytes → 0 < length bytes → HasLast big bytes
+pub last_of : (big : Bool) (bytes : List ℕ) → IsUtf16 big bytes → 0 < length bytes → HasLast big bytes
 last_of big bytes t some =
     let e = t.encodes in
     let nonempty : t.text ≢ [] = λ none.
@@ -63,11 +63,11 @@ last_of big bytes t some =
       spelled = sym e.spelled ∙ ap (encode big) (sym split.2) ∙ encode-append big split.0 (split.1 ∷ []) ∙ ap (λ t. encode big split.0 ++ t) (encode-one big split.1);
     }
 
--- what stands before the last n bytes is well formed, and the characters are its and then c
+-- the bytes before the last n are well formed, and the characters are theirs and then c
 pub record EndsAt (big : Bool) (bytes : List ℕ) (c n : ℕ) : Type 0 where
   pub scalar : IsScalar c
   pub within : n ≤ length bytes
-  pub front : IsText big (take (length bytes - n) bytes)
+  pub front : IsUtf16 big (take (length bytes - n) bytes)
   pub text : text_of big bytes ≡ text_of big (take (length bytes - n) bytes) ++ c ∷ []
 
 ends_last : (big : Bool) (bytes : List ℕ) (h : HasLast big bytes) → EndsAt big bytes h.char (char_size h.char)
@@ -78,12 +78,12 @@ ends_last big bytes h =
     ap length h.spelled ∙ length-append front (char_bytes big h.char) ∙ ap (λ k. length front + k) (length-char_bytes big h.char) in
     let start : length front ≡ length bytes - n = omega arith in
     let cut : take (length bytes - n) bytes ≡ front = ap (take (length bytes - n)) h.spelled ∙ take_at front (char_bytes big h.char) (length bytes - n) start in
-    let whole : IsText big front = record { text = h.text; encodes = record { scalars = h.scalars; spelled = refl } } in
+    let whole : IsUtf16 big front = record { text = h.text; encodes = record { scalars = h.scalars; spelled = refl } } in
     let char : text_of big (char_bytes big h.char) ≡ h.char ∷ [] = char_text big h.char h.scalar in
     record {
       scalar = h.scalar;
       within = omega arith;
-      front = subst (IsText big) (sym cut) whole;
+      front = subst (IsUtf16 big) (sym cut) whole;
       text = ap (text_of big) h.spelled ∙ text_of-append big front (char_bytes big h.char) whole
           ∙ ap₂ (λ x y. x ++ y) (ap (text_of big) (sym cut)) char;
     }
@@ -139,8 +139,8 @@ module _ (big : Bool) (bytes : List ℕ) (h : HasLast big bytes) where
     below : h.char < 0x11_0000
     below = ⊎_elim (λ (low : h.char < 0xD800). omega arith) (λ (high : (0xE000 ≤ h.char) × (h.char < 0x11_0000)). high.1) (no_surrogate h.char h.scalar)
 
-module _ (big : Bool) (bytes : List ℕ) (t : IsText big bytes) (some : 0 < length bytes) where
-  -- a last unit that is no trailing surrogate is the last character
+module _ (big : Bool) (bytes : List ℕ) (t : IsUtf16 big bytes) (some : 0 < length bytes) where
+  -- a last unit that is not a trailing surrogate is the last character
   pub ends_one : ¬ (IsTrailing (unit_before big bytes (length bytes))) → EndsAt big bytes (unit_before big bytes (length bytes)) 2
   ends_one trailing =
       let h = last_of big bytes t some in
@@ -153,7 +153,7 @@ module _ (big : Bool) (bytes : List ℕ) (t : IsText big bytes) (some : 0 < leng
       absurd (trailing (omega arith, omega arith)))
       (cases_lt h.char 0x1_0000)
 
-  -- a trailing surrogate at the end and the unit before it are the last character's
+  -- a trailing surrogate at the end and the unit before it are those of the last character
   pub ends_two : IsTrailing (unit_before big bytes (length bytes)) → IsLeading (unit_before big bytes (length bytes - 2))
       × EndsAt big bytes (surrogate_pair_char (unit_before big bytes (length bytes - 2)) (unit_before big bytes (length bytes))) 4
   ends_two trailing =
@@ -174,7 +174,7 @@ module _ (big : Bool) (bytes : List ℕ) (t : IsText big bytes) (some : 0 < leng
 
 -- ---- boundaries by the unit at an offset
 
--- at a boundary before the end stands no trailing surrogate, and the offset is even
+-- at a boundary before the end is no trailing surrogate, and the offset is even
 pub IsBoundary-unit : (big : Bool) (text : List ℕ) (i : ℕ) → All IsScalar text → IsBoundary text i → i < size text
     → (i % 2 ≡ 0) × ¬ (IsTrailing (first_unit big (drop i (encode big text))))
 IsBoundary-unit big text i scalars b before = at_back b.back refl where
@@ -193,7 +193,7 @@ IsBoundary-unit big text i scalars b before = at_back b.back refl where
       let at = b.offset in
       (omega arith, λ trailing. first_unit-char big c (encode big back) scalar (subst (λ t. IsTrailing (first_unit big t)) rest trailing))
 
-module _ (big : Bool) (bytes : List ℕ) (i : ℕ) (t : IsText big bytes) where
+module _ (big : Bool) (bytes : List ℕ) (i : ℕ) (t : IsUtf16 big bytes) where
   encoded : Encodes big (text_of big bytes) bytes
   encoded = Encodes-text_of big bytes t
 
@@ -206,7 +206,7 @@ module _ (big : Bool) (bytes : List ℕ) (i : ℕ) (t : IsText big bytes) where
       IsBoundary-at_unit big (text_of big bytes) i encoded.scalars even (omega arith)
       (λ trailing. class (subst (λ b. IsTrailing (first_unit big (drop i b))) encoded.spelled trailing))
 
-  -- every boundary is the end, or an even offset at which no trailing surrogate stands
+  -- every boundary is the end, or an even offset at which there is no trailing surrogate
   pub boundary_is : IsBoundary (text_of big bytes) i
       → (i ≡ length bytes) ⊎ ((i < length bytes) × (i % 2 ≡ 0) × ¬ (IsTrailing (first_unit big (drop i bytes))))
   boundary_is b =

@@ -8,7 +8,7 @@ use Rattle.utf16_units.specs.Lanes.{swapped}
 use Rattle.utf16_units.specs.Unit.{unit_bytes, unit_of}
 use Rattle.utf16_units.proofs.UnitLemmas.{unit_bytes-unit_of}
 
--- lanes shifted by eight bits up and down, and joined
+-- lanes shifted left and right by eight bits, and joined
 pub swapped-lanes : (n : ℕ) (units : List ℕ) → length units ≡ n
     → zip2 (λ (a b : ℕ). (a + b) % 2 ^ 16) (zip2 (λ (u bits : ℕ). u * 2 ^ bits % 2 ^ 16) units (replicate n 8)) (zip2 (λ (u bits : ℕ). u / 2 ^ bits) units (replicate n 8)) ≡ map swapped units
 swapped-lanes n units long =
@@ -73,9 +73,9 @@ pub bytes-written : (big : Bool) (n : ℕ) (units : List ℕ) → length units �
 bytes-written true n units long fit = little-bytes n (map swapped units) (length-map units swapped ∙ long) (swapped-fit units) ∙ swapped-bytes units fit
 bytes-written false n units long fit = little-bytes n units long fit
 
--- ---- there and back
+-- ---- round trip
 
--- whole units spell the bytes that they were read from
+-- whole units encode to the bytes that they were read from
 pub bytes-units_of : (big : Bool) (n : ℕ) (bytes : List ℕ) → length bytes ≡ n + n → Each1 (Fits w8) bytes → flat_map (unit_bytes big) (units_of big bytes) ≡ bytes
 unfolding units_of
 bytes-units_of big zero [] long fit = refl
@@ -85,7 +85,7 @@ bytes-units_of big (suc n) (x ∷ []) long fit = absurd (omega arith)
 bytes-units_of big (suc n) (x ∷ y ∷ bytes) long fit =
     ap₂ (λ xs ys. xs ++ ys) (unit_bytes-unit_of big x y fit.0.fits fit.1.0.fits) (bytes-units_of big n bytes (omega arith) fit.1.1)
 
--- ---- a block that zeros fill up
+-- ---- a block padded with zeros
 
 zeros-units : (big : Bool) (k : ℕ) → units_of big (replicate (k + k) 0) ≡ replicate k 0
 unfolding units_of
@@ -104,7 +104,7 @@ units_of-zeros big k [] even = zeros-units big k
 units_of-zeros big k (x ∷ []) even = absurd (omega arith)
 units_of-zeros big k (x ∷ y ∷ bytes) even = ap (λ us. unit_of big x y ∷ us) (units_of-zeros big k bytes (omega arith))
 
--- the units of less than a block of n units, filled up
+-- the units of less than a block of n units, padded
 pub units_of-filled : (big : Bool) (n : ℕ) (bytes : List ℕ) → length bytes ≤ n + n → length bytes % 2 ≡ 0
     → units_of big (bytes ++ drop (length bytes) (replicate (n + n) 0)) ≡ units_of big bytes ++ replicate (n - length bytes / 2) 0
 units_of-filled big n bytes few even =

@@ -18,7 +18,7 @@ behind c text i fits b =
     let rest = b.offset in
     record { front = c ∷ b.front; back = b.back; split = ap (λ t. c ∷ t) b.split; offset = omega arith }
 
--- the prefix of a boundary has no character, or the first one and then a prefix of what follows
+-- the prefix before a boundary has no character, or the first one and then a prefix of the rest
 first : (c : ℕ) (text : List ℕ) (i : ℕ) (front back : List ℕ) → front ++ back ≡ c ∷ text → size front ≡ i
     → (i ≡ 0) ⊎ ((char_size c ≤ i) × IsBoundary text (i - char_size c))
 first c text i [] back split offset = inl (sym offset ∙ size-nil)

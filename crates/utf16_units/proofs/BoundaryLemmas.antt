@@ -1,4 +1,4 @@
--- Boundaries, the parts between them, and where a unit's class shows one.
+-- Boundaries, the substrings between them, and how the class of a unit shows a boundary.
 use Rattle.std.proofs.Common.{◌≡◌, ℕ, zero, suc, ◌+◌, ◌-◌, ◌/◌, ◌%◌, ◌<◌, ◌≤◌, Bool, List, [], ◌∷◌, ◌++◌, length, take, drop, All, refl, sym, ap, ap₂, ◌∙◌, subst, ⊎_elim, arith, append_assoc, append-nil, drop_at, take_at, flat_map, le-leb, cond}
 use Rattle.std.proofs.lemmas.Bool.{cases_eq, cases_lt, lt-leb}
 use Rattle.std.proofs.lemmas.List.Elements.{All-head, All-tail}
@@ -42,7 +42,7 @@ unfolding text_from
 text_from-zero [] = refl
 text_from-zero (c ∷ text) = text_from-none c text 0 (char_size-pos c)
 
--- at the size of a prefix stand that prefix and the rest
+-- at the size of a prefix, the text splits into that prefix and the rest
 pub text_to-at : (front back : List ℕ) (i : ℕ) → size front ≡ i → text_to (front ++ back) i ≡ front
 text_to-at [] back i e = ap (text_to back) (sym e ∙ size-nil) ∙ text_to-zero back
 text_to-at (c ∷ front) back i e =
@@ -56,7 +56,7 @@ text_from-at (c ∷ front) back i e =
     let whole = size-cons c front in
     text_from-whole c (front ++ back) i (omega arith) ∙ text_from-at front back (i - char_size c) (omega arith)
 
--- the two parts joined are the text
+-- the two substrings concatenated are the text
 pub text_to-text_from : (text : List ℕ) (i : ℕ) → text_to text i ++ text_from text i ≡ text
 unfolding text_to text_from
 text_to-text_from [] i = refl
@@ -67,7 +67,7 @@ text_to-text_from (c ∷ text) i = ⊎_elim
     ∙ ap (λ t. c ∷ t) (text_to-text_from text (i - char_size c)))
     (cases_lt i (char_size c))
 
--- at a boundary the part before it has that size
+-- the size of the substring before a boundary is the boundary's offset
 pub size-text_to : (text : List ℕ) (i : ℕ) → IsBoundary text i → size (text_to text i) ≡ i
 size-text_to text i b = ap size (ap (λ t. text_to t i) (sym b.split) ∙ text_to-at b.front b.back i b.offset) ∙ b.offset
 
@@ -89,7 +89,7 @@ drop-past (x ∷ xs) ys (suc n) le =
     let same : n - length xs ≡ suc n - suc (length xs) = omega arith in
     drop-past xs ys n (omega arith) ∙ ap (λ k. drop k ys) same
 
--- the second unit of a pair is a trailing surrogate
+-- the second unit of a surrogate pair is a trailing surrogate
 pair_trailing : (big : Bool) (c : ℕ) (bytes : List ℕ) → IsScalar c → 0x1_0000 ≤ c → IsTrailing (first_unit big (drop 2 (char_bytes big c ++ bytes)))
 pair_trailing big c bytes scalar two =
     let lead = 0xD800 + (c - 0x1_0000) / 0x400 in
@@ -105,7 +105,7 @@ pair_trailing big c bytes scalar two =
     let class : IsTrailing trail = (omega arith, omega arith) in
     subst IsTrailing (sym unit) class
 
--- an even offset at which no trailing surrogate stands is a boundary
+-- an even offset at which there is no trailing surrogate is a boundary
 pub IsBoundary-at_unit : (big : Bool) (text : List ℕ) (i : ℕ) → All IsScalar text → i % 2 ≡ 0 → i < size text
     → ¬ (IsTrailing (first_unit big (drop i (encode big text)))) → IsBoundary text i
 IsBoundary-at_unit big [] i scalars even within class =
@@ -137,7 +137,7 @@ IsBoundary-at_unit big (c ∷ text) i scalars even within class =
     (λ trailing. class (subst (λ t. IsTrailing (first_unit big t)) (sym moved) trailing))))
     (cases_lt i (char_size c))
 
--- ---- bytes cut at a boundary
+-- ---- bytes split at a boundary
 
 pub text_to-front : (text : List ℕ) (i : ℕ) → (b : IsBoundary text i) → text_to text i ≡ b.front
 text_to-front text i b = ap (λ t. text_to t i) (sym b.split) ∙ text_to-at b.front b.back i b.offset
@@ -154,7 +154,7 @@ IsBoundary-within text i b =
 pub IsBoundary-end : (text : List ℕ) → IsBoundary text (size text)
 IsBoundary-end text = record { front = text; back = []; split = append-nil text; offset = refl }
 
--- the bytes before a boundary encode the characters before it, and the bytes behind it those behind
+-- the bytes before a boundary encode the characters before it, and the bytes after it those after
 -- it
 module _ (big : Bool) (text bytes : List ℕ) (i : ℕ) (e : Encodes big text bytes) (b : IsBoundary text i) where
   scalars : All IsScalar (text_to text i ++ text_from text i)
@@ -197,7 +197,7 @@ longer_prefix (x ∷ front) back (y ∷ other) rest e le =
     let same : size other - size front ≡ size (y ∷ other) - size (x ∷ front) = omega arith in
     subst (IsBoundary back) same (longer_prefix front back other rest tail (omega arith))
 
--- a boundary is one of what follows an earlier boundary
+-- a boundary is also one of the rest after an earlier boundary
 pub IsBoundary-rest : (text : List ℕ) (i j : ℕ) → i ≤ j → IsBoundary text i → IsBoundary text j → IsBoundary (text_from text i) (j - i)
 IsBoundary-rest text i j le a b =
     let start = a.offset in
@@ -206,7 +206,7 @@ IsBoundary-rest text i j le a b =
     subst (λ t. IsBoundary t (j - i)) (sym (text_from-back text i a))
     (subst (IsBoundary a.back) cut (longer_prefix a.front a.back b.front b.back (a.split ∙ sym b.split) (omega arith)))
 
--- between a boundary and the end stands all from the boundary on
+-- the substring from a boundary to the end is the rest from that boundary on
 pub text_between-end : (text : List ℕ) (i : ℕ) → IsBoundary text i → text_between text i (size text) ≡ text_from text i
 text_between-end text i b =
     let from = text_from-back text i b in

@@ -11,14 +11,14 @@ use Rattle.utf16_units.specs.Encoding.{char_bytes, char_size}
 use Rattle.utf16_units.specs.Unit.{unit_bytes}
 use Rattle.utf16_units.proofs.UnitLemmas.{length-units_bytes}
 
--- a character is no surrogate
+-- a character is not a surrogate
 pub no_surrogate : (c : ℕ) → IsScalar c → (c < 0xD800) ⊎ ((0xE000 ≤ c) × (c < 0x11_0000))
 no_surrogate c scalar = scalar_cases c scalar
 
 lone_char : (c : ℕ) → IsScalar c → lone_unit_char c ≡ Some c
 lone_char c scalar = ⊎_elim (λ low. lone_unit_char_low c low) (λ high. lone_unit_char_high c high.0) (no_surrogate c scalar)
 
--- the units of a character and then others spell that character and then theirs
+-- the units of a character followed by others decode to that character and then theirs
 pub utf16_chars-char : (c : ℕ) (units : List ℕ) → IsScalar c → utf16_chars (encode_utf16 c ++ units) ≡ Some c ∷ utf16_chars units
 utf16_chars-char c units scalar =
     let cases = no_surrogate c scalar in
@@ -38,7 +38,7 @@ utf16_chars-char c units scalar =
     ∙ ap (λ d. Some d ∷ utf16_chars units) same)
     (cases_lt c 0x1_0000)
 
--- a character has two bytes, or four from U+10000 on
+-- a character below U+10000 has two bytes, and any other four
 pub char_size_two : (c : ℕ) → c < 0x1_0000 → char_size c ≡ 2
 char_size_two c one = ap (λ us. 2 * length us) (one_unit c one)
 

@@ -1,64 +1,63 @@
--- Which bytes with a fault are the beginning of a text.
+-- Which ill-formed bytes are the prefix of a text.
 use Rattle.std.proofs.Common.{◌≡◌, ◌↔◌, ℕ, zero, suc, ◌+◌, ◌-◌, ◌/◌, ◌%◌, ◌<◌, ◌≤◌, Bool, true, false, List, [], ◌∷◌, ◌++◌, length, take, drop, slice_index, None, Some, All, refl, sym, ap, ◌∙◌, subst, ⊎_elim, arith, append_assoc, append-nil, length-append, length-drop, take-append-drop, take_at, take-add}
 use Rattle.std.proofs.lemmas.Bool.{cases_lt}
 use Rattle.std.proofs.lemmas.List.{take-append-le}
 use Rattle.std.proofs.lemmas.List.Elements.{All-head, All-tail, All-drop}
 use Rattle.utf16_units.specs.Unit.{IsLeading, IsTrailing, unit_of}
-use Rattle.utf16_units.specs.Encoding.{char_bytes, char_size, encode, IsText}
-use Rattle.utf16_units.specs.Fault.{BeginsWithChar, IsCutOff, IsFault, IsFront}
-use Rattle.utf16_units.specs.Continued.{IsBeginning, IsDeadEnd, IsTrailingHigh}
+use Rattle.utf16_units.specs.Encoding.{char_bytes, char_size, encode, IsUtf16}
+use Rattle.utf16_units.specs.IllFormed.{BeginsWithChar, IsIncomplete, IsIllFormed, IsUtf16ValidUpTo}
+use Rattle.utf16_units.specs.Continued.{IsUtf16Prefix, IsDeadEnd, IsTrailingHigh}
 use Rattle.utf16_units.proofs.CharLemmas.{char_size_four, char_size_two, length-char_bytes, no_surrogate}
-use Rattle.utf16_units.proofs.EncodingLemmas.{IsText-append, IsText-char, IsText-rest}
-use Rattle.utf16_units.proofs.FaultLemmas.{IsFront-unique}
+use Rattle.utf16_units.proofs.EncodingLemmas.{IsUtf16-append, IsUtf16-char, IsUtf16-rest}
+use Rattle.utf16_units.proofs.IllFormedLemmas.{IsUtf16ValidUpTo-unique}
 use Rattle.utf16_units.proofs.FirstChar.{AreBytes, first_unit, one_unit_first, pair_first}
 use Rattle.utf16_units.proofs.FrontChar.{HasFirst, first_of, one_not_leading, one_spelled, two_below, two_leading, two_spelled}
 
--- what stands behind the longest valid beginning does not begin with a text
-nothing_more : (big : Bool) (bytes : List ℕ) (n k : ℕ) → IsFront big bytes n → 0 < k → k ≤ length (drop n bytes) → ¬ (IsText big (take k (drop n bytes)))
+-- what follows the longest valid prefix does not start with a text
+nothing_more : (big : Bool) (bytes : List ℕ) (n k : ℕ) → IsUtf16ValidUpTo big bytes n → 0 < k → k ≤ length (drop n bytes) → ¬ (IsUtf16 big (take k (drop n bytes)))
 nothing_more big bytes n k front some within t =
     let long = length-drop n bytes in
     let fits = front.within in
     let longer : n + k ≤ n = front.longest (n + k) (omega arith)
-    (subst (IsText big) (sym (take-add n k bytes)) (IsText-append big (take n bytes) (take k (drop n bytes)) front.valid t)) in
+    (subst (IsUtf16 big) (sym (take-add n k bytes)) (IsUtf16-append big (take n bytes) (take k (drop n bytes)) front.valid t)) in
     omega arith
 
--- where bytes are the beginning of a text, what stands behind their longest valid beginning is one
--- too
-rest_continues : (big : Bool) (bytes : List ℕ) (n : ℕ) → IsFront big bytes n → (b : IsBeginning big bytes) → IsText big (drop n bytes ++ b.more)
+-- if bytes are the prefix of a text, what follows their longest valid prefix is one too
+rest_continues : (big : Bool) (bytes : List ℕ) (n : ℕ) → IsUtf16ValidUpTo big bytes n → (b : IsUtf16Prefix big bytes) → IsUtf16 big (drop n bytes ++ b.more)
 rest_continues big bytes n front b =
-    IsText-rest big (take n bytes) (drop n bytes ++ b.more) front.valid
-    (subst (IsText big) (ap (λ t. t ++ b.more) (sym (take-append-drop n bytes)) ∙ append_assoc (take n bytes) (drop n bytes) b.more) b.text)
+    IsUtf16-rest big (take n bytes) (drop n bytes ++ b.more) front.valid
+    (subst (IsUtf16 big) (ap (λ t. t ++ b.more) (sym (take-append-drop n bytes)) ∙ append_assoc (take n bytes) (drop n bytes) b.more) b.text)
 
-rest_begins : (big : Bool) (bytes : List ℕ) (n : ℕ) (more : List ℕ) → IsFront big bytes n → IsText big (drop n bytes ++ more) → IsBeginning big bytes
+rest_begins : (big : Bool) (bytes : List ℕ) (n : ℕ) (more : List ℕ) → IsUtf16ValidUpTo big bytes n → IsUtf16 big (drop n bytes ++ more) → IsUtf16Prefix big bytes
 rest_begins big bytes n more front t = record {
   more = more;
-  text = subst (IsText big) (sym (ap (λ s. s ++ more) (sym (take-append-drop n bytes)) ∙ append_assoc (take n bytes) (drop n bytes) more))
-      (IsText-append big (take n bytes) (drop n bytes ++ more) front.valid t);
+  text = subst (IsUtf16 big) (sym (ap (λ s. s ++ more) (sym (take-append-drop n bytes)) ∙ append_assoc (take n bytes) (drop n bytes) more))
+      (IsUtf16-append big (take n bytes) (drop n bytes ++ more) front.valid t);
 }
 
 -- a first character whose bytes are all there is a text
-first_is_text : (big : Bool) (bytes more : List ℕ) (h : HasFirst big (bytes ++ more)) → char_size h.char ≤ length bytes → IsText big (take (char_size h.char) bytes)
-first_is_text big bytes more h within =
+first_is_utf16 : (big : Bool) (bytes more : List ℕ) (h : HasFirst big (bytes ++ more)) → char_size h.char ≤ length bytes → IsUtf16 big (take (char_size h.char) bytes)
+first_is_utf16 big bytes more h within =
     let s = char_size h.char in
     let same : take s bytes ≡ char_bytes big h.char =
     sym (take-append-le s bytes more within) ∙ ap (take s) h.spelled
     ∙ take_at (char_bytes big h.char) (encode big h.text) s (length-char_bytes big h.char) in
-    subst (IsText big) (sym same) (IsText-char big h.char h.scalar)
+    subst (IsUtf16 big) (sym same) (IsUtf16-char big h.char h.scalar)
 
--- a fault of length 2 is never continued
-no_more_after_two : (big : Bool) (bytes rest : List ℕ) (n : ℕ) → IsFront big bytes n → drop n bytes ≡ rest → ¬ (IsText big bytes) → ¬ (IsCutOff big rest) → ¬ (IsBeginning big bytes)
+-- an error of length 2 is never continued
+no_more_after_two : (big : Bool) (bytes rest : List ℕ) (n : ℕ) → IsUtf16ValidUpTo big bytes n → drop n bytes ≡ rest → ¬ (IsUtf16 big bytes) → ¬ (IsIncomplete big rest) → ¬ (IsUtf16Prefix big bytes)
 no_more_after_two big bytes [] n front at refused whole b =
     let all : take n bytes ≡ bytes = sym (append-nil (take n bytes)) ∙ ap (λ t. take n bytes ++ t) (sym at) ∙ take-append-drop n bytes in
-    refused (subst (IsText big) all front.valid)
+    refused (subst (IsUtf16 big) all front.valid)
 no_more_after_two big bytes (x ∷ []) n front at refused whole b = absurd (whole tt)
 no_more_after_two big bytes (x ∷ y ∷ after) n front at refused whole b =
     let rest = x ∷ y ∷ after in
-    let goes_on : IsText big (rest ++ b.more) = subst (λ t. IsText big (t ++ b.more)) at (rest_continues big bytes n front b) in
+    let goes_on : IsUtf16 big (rest ++ b.more) = subst (λ t. IsUtf16 big (t ++ b.more)) at (rest_continues big bytes n front b) in
     let long = length-append rest b.more in
     let h = first_of big (rest ++ b.more) goes_on (omega arith) in
     let impossible : char_size h.char ≤ length rest → 0 < char_size h.char → ⊥ = λ within some.
     nothing_more big bytes n (char_size h.char) front some (subst (λ t. char_size h.char ≤ length t) (sym at) within)
-    (subst (λ t. IsText big (take (char_size h.char) t)) (sym at) (first_is_text big rest b.more h within)) in
+    (subst (λ t. IsUtf16 big (take (char_size h.char) t)) (sym at) (first_is_utf16 big rest b.more h within)) in
     ⊎_elim
     (λ (one : h.char < 0x1_0000).
     let two = char_size_two h.char one in
@@ -73,10 +72,10 @@ no_more_after_two big bytes (x ∷ y ∷ after) n front at refused whole b =
     impossible (omega arith) (omega arith))
     (cases_lt h.char 0x1_0000)
 
-pub two_never : (big : Bool) (bytes : List ℕ) → IsFault big bytes (Some 2) → ¬ (IsBeginning big bytes)
+pub two_never : (big : Bool) (bytes : List ℕ) → IsIllFormed big bytes (Some 2) → ¬ (IsUtf16Prefix big bytes)
 two_never big bytes f b = no_more_after_two big bytes (drop f.valid_up_to bytes) f.valid_up_to f.front refl f.refused f.at_front.1 b
 
--- ---- what continues bytes with a fault of no length
+-- ---- what continues bytes with an error of no length
 
 AreBytes-nil : AreBytes []
 AreBytes-nil k = omega arith
@@ -85,24 +84,24 @@ AreBytes-cons : (x : ℕ) (xs : List ℕ) → x < 256 → AreBytes xs → AreByt
 AreBytes-cons x xs byte are zero = byte
 AreBytes-cons x xs byte are (suc k) = are k
 
-IsText-begins : (big : Bool) (bytes : List ℕ) (n : ℕ) → BeginsWithChar big bytes n → IsText big (take n bytes)
-IsText-begins big bytes n b = subst (IsText big) (sym b.spelled) (IsText-char big b.char b.scalar)
+IsUtf16-begins : (big : Bool) (bytes : List ℕ) (n : ℕ) → BeginsWithChar big bytes n → IsUtf16 big (take n bytes)
+IsUtf16-begins big bytes n b = subst (IsUtf16 big) (sym b.spelled) (IsUtf16-char big b.char b.scalar)
 
--- two bytes of a unit that is no surrogate are a text, and so are four of a pair
-pub two_bytes_text : (big : Bool) (x y : ℕ) → x < 256 → y < 256 → ¬ (IsLeading (unit_of big x y)) → ¬ (IsTrailing (unit_of big x y)) → IsText big (x ∷ y ∷ [])
+-- two bytes of a unit that is not a surrogate are a text, and so are four of a surrogate pair
+pub two_bytes_text : (big : Bool) (x y : ℕ) → x < 256 → y < 256 → ¬ (IsLeading (unit_of big x y)) → ¬ (IsTrailing (unit_of big x y)) → IsUtf16 big (x ∷ y ∷ [])
 two_bytes_text big x y bx by leading trailing =
     let bytes = x ∷ y ∷ [] in
-    IsText-begins big bytes 2 (one_unit_first big bytes (AreBytes-cons x (y ∷ []) bx (AreBytes-cons y [] by AreBytes-nil)) (omega arith) leading trailing)
+    IsUtf16-begins big bytes 2 (one_unit_first big bytes (AreBytes-cons x (y ∷ []) bx (AreBytes-cons y [] by AreBytes-nil)) (omega arith) leading trailing)
 
-pub four_bytes_text : (big : Bool) (x y z w : ℕ) → x < 256 → y < 256 → z < 256 → w < 256 → IsLeading (unit_of big x y) → IsTrailing (unit_of big z w) → IsText big (x ∷ y ∷ z ∷ w ∷ [])
+pub four_bytes_text : (big : Bool) (x y z w : ℕ) → x < 256 → y < 256 → z < 256 → w < 256 → IsLeading (unit_of big x y) → IsTrailing (unit_of big z w) → IsUtf16 big (x ∷ y ∷ z ∷ w ∷ [])
 four_bytes_text big x y z w bx by bz bw leading trailing =
     let bytes = x ∷ y ∷ z ∷ w ∷ [] in
-    IsText-begins big bytes 4 (pair_first big bytes
+    IsUtf16-begins big bytes 4 (pair_first big bytes
     (AreBytes-cons x (y ∷ z ∷ w ∷ []) bx (AreBytes-cons y (z ∷ w ∷ []) by (AreBytes-cons z (w ∷ []) bz (AreBytes-cons w [] bw AreBytes-nil))))
     (omega arith) leading trailing)
 
--- some bytes make what is left of a character that was cut off a text, unless it is a dead end
-completed : (big : Bool) (rest : List ℕ) → All (λ b. b < 256) rest → IsCutOff big rest → ¬ (IsDeadEnd big rest) → (more : List ℕ) × IsText big (rest ++ more)
+-- some bytes complete a truncated character to a text, unless it is a dead end
+completed : (big : Bool) (rest : List ℕ) → All (λ b. b < 256) rest → IsIncomplete big rest → ¬ (IsDeadEnd big rest) → (more : List ℕ) × IsUtf16 big (rest ++ more)
 completed big [] bytes cut alive = absurd cut
 completed false (x ∷ []) bytes cut alive =
     let bx : x < 256 = All-head (λ b. b < 256) x [] bytes in
@@ -156,7 +155,7 @@ head_of bytes = slice_index bytes 0
 third_of : List ℕ → ℕ
 third_of bytes = slice_index bytes 2
 
--- in big endian no text begins with the high byte of a trailing surrogate
+-- in big endian no text starts with the high byte of a trailing surrogate
 first_byte : (bytes : List ℕ) → HasFirst true bytes → ¬ (IsTrailingHigh (head_of bytes))
 unfolding head_of
 first_byte bytes h high =
@@ -171,7 +170,7 @@ first_byte bytes h high =
     omega (arith, high.0, high.1))
     (cases_lt h.char 0x1_0000)
 
--- and behind a leading surrogate stands the high byte of a trailing one
+-- and a leading surrogate is followed by the high byte of a trailing one
 third_byte : (bytes : List ℕ) → HasFirst true bytes → IsLeading (first_unit true bytes) → IsTrailingHigh (third_of bytes)
 unfolding third_of
 third_byte bytes h leading = ⊎_elim
@@ -181,18 +180,18 @@ third_byte bytes h leading = ⊎_elim
     (omega arith, omega arith))
     (cases_lt h.char 0x1_0000)
 
-dead_end : (big : Bool) (rest more : List ℕ) → IsDeadEnd big rest → ¬ (IsText big (rest ++ more))
+dead_end : (big : Bool) (rest more : List ℕ) → IsDeadEnd big rest → ¬ (IsUtf16 big (rest ++ more))
 unfolding head_of third_of
 dead_end true (x ∷ []) more dead t = first_byte (x ∷ more) (first_of true (x ∷ more) t (omega arith)) dead
 dead_end true (x ∷ y ∷ z ∷ []) more dead t =
     dead.1 (third_byte (x ∷ y ∷ z ∷ more) (first_of true (x ∷ y ∷ z ∷ more) t (omega arith)) dead.0)
 dead_end big rest more dead t = absurd dead
 
-pub none_where : (big : Bool) (bytes : List ℕ) (n : ℕ) → All (λ b. b < 256) bytes → IsFault big bytes None → IsFront big bytes n
-    → (IsBeginning big bytes ↔ ¬ (IsDeadEnd big (drop n bytes)))
+pub none_where : (big : Bool) (bytes : List ℕ) (n : ℕ) → All (λ b. b < 256) bytes → IsIllFormed big bytes None → IsUtf16ValidUpTo big bytes n
+    → (IsUtf16Prefix big bytes ↔ ¬ (IsDeadEnd big (drop n bytes)))
 none_where big bytes n are f front =
-    let same : f.valid_up_to ≡ n = IsFront-unique big bytes f.valid_up_to n f.front front in
-    let cut : IsCutOff big (drop n bytes) = subst (λ k. IsCutOff big (drop k bytes)) same f.at_front in (
+    let same : f.valid_up_to ≡ n = IsUtf16ValidUpTo-unique big bytes f.valid_up_to n f.front front in
+    let cut : IsIncomplete big (drop n bytes) = subst (λ k. IsIncomplete big (drop k bytes)) same f.at_front in (
       λ b dead. dead_end big (drop n bytes) b.more dead (rest_continues big bytes n front b),
       λ alive.
           let found = completed big (drop n bytes) (All-drop (λ b. b < 256) n bytes are) cut alive in

@@ -12,7 +12,7 @@ use lib.Count.{ones}
 use lib.Lanes.{mask_l}
 use mir.Val.{bool_byte}
 use Rattle.utf16_units.specs.Unit.{IsTrailing, unit_of}
-use Rattle.utf16_units.specs.Encoding.{IsText, size, text_of, units_of}
+use Rattle.utf16_units.specs.Encoding.{IsUtf16, size, text_of, units_of}
 use Rattle.utf16_units.proofs.CharLemmas.{no_surrogate}
 use Rattle.utf16_units.proofs.EncodingLemmas.{length-text, scalars-text_of}
 use Rattle.utf16_units.proofs.PairLemmas.{is_of}
@@ -24,7 +24,7 @@ is_low unit t = and_from _ _ (le-leb 0xDC00 unit t.0) (lt-ltb unit 0xE000 (omega
 not_low : (unit : ℕ) → ¬ (IsTrailing unit) → is_low_surrogate unit ≡ false
 not_low unit other = false_from_ne_true (is_low_surrogate unit) (λ e. other (is_of 55 unit e))
 
--- the trailing units up to a place between units are counted
+-- the trailing units up to an offset between units are counted
 pub record CountedTo (big : Bool) (bytes : List ℕ) (at trailing : ℕ) : Type 0 where
   pub within : at ≤ length bytes
   pub even : at % 2 ≡ 0
@@ -42,7 +42,7 @@ CountedTo-next big bytes at n trailing more c even long is =
     ∙ sum_by-append (λ u. cond (is_low_surrogate u) 1 0) (units_of big (take at bytes)) (units_of big (take n (drop at bytes))) in
     record { within = long; even = omega arith; counted = omega (arith, both, c.counted, is) }
 
--- they are few, so the count does not overflow
+-- they are at most half as many as the bytes, so the count does not overflow
 pub CountedTo-few : (big : Bool) (bytes : List ℕ) (at trailing : ℕ) → CountedTo big bytes at trailing → 2 * trailing ≤ at
 CountedTo-few big bytes at trailing c =
     omega (arith, c.counted, count_by-le-length is_low_surrogate (units_of big (take at bytes)), length-units_of big (take at bytes), length-take-le at bytes c.within)
@@ -51,7 +51,7 @@ pub CountedTo-all : (big : Bool) (bytes : List ℕ) (at trailing : ℕ) → Coun
     → trailing ≡ count_by is_low_surrogate (units_of big bytes)
 CountedTo-all big bytes at trailing c few = c.counted ∙ sym (ap (count_by is_low_surrogate) (units_of-all big bytes at c.even c.within few))
 
--- a block by its bits, and a unit by its test
+-- a block counted by its bits, and a unit by its test
 pub CountedTo-block : (big : Bool) (bytes : List ℕ) (at trailing bits : ℕ) → CountedTo big bytes at trailing → at + 64 ≤ length bytes
     → bits ≡ mask_l (map is_low_surrogate (units_of big (take 64 (drop at bytes)))) → CountedTo big bytes (at + 64) (trailing + ones bits)
 CountedTo-block big bytes at trailing bits c long is =
@@ -74,7 +74,7 @@ CountedTo-unit big bytes at trailing b c long iff =
 
 -- ---- the characters
 
--- of a character's units all but one are trailing
+-- all but one of a character's units are trailing
 counted_char : (c : ℕ) → IsScalar c → 1 + count_by is_low_surrogate (encode_utf16 c) ≡ length (encode_utf16 c)
 counted_char c scalar = ⊎_elim
     (λ (one : c < 0x1_0000).
@@ -103,7 +103,7 @@ counted_text (c ∷ text) scalars =
 
 -- well-formed bytes have a unit for each two bytes, and a character for each unit that is not
 -- trailing
-pub counted_bytes : (big : Bool) (bytes : List ℕ) → IsText big bytes → 2 * (length (text_of big bytes) + count_by is_low_surrogate (units_of big bytes)) ≡ length bytes
+pub counted_bytes : (big : Bool) (bytes : List ℕ) → IsUtf16 big bytes → 2 * (length (text_of big bytes) + count_by is_low_surrogate (units_of big bytes)) ≡ length bytes
 unfolding size
 counted_bytes big bytes t =
     omega (arith, counted_text (text_of big bytes) (scalars-text_of big bytes t), length-text big bytes t, ap (count_by is_low_surrogate) (units_of-text big bytes t))

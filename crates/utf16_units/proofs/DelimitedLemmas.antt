@@ -1,4 +1,4 @@
--- A text cut at a delimiter, text after text, and the list of texts that it begins with.
+-- A text split at a delimiter, text after text, and the list of texts that it begins with.
 use Rattle.std.proofs.Common.{◌≡◌, ◌≢◌, ℕ, ◌+◌, ◌<◌, ◌≤◌, List, [], ◌∷◌, ◌++◌, All, true, false, eqb, get_or, length, map, take, arith, refl, ap, ap₂, subst, sym, ◌∙◌, append_assoc, append-nil, inl, inr}
 use Rattle.std.proofs.lemmas.Bool.{ne_eqb}
 use Rattle.std.proofs.lemmas.Bool.Decides.{eqb_tells}
@@ -18,14 +18,14 @@ same e = elim (eqb_tells e e) [ inl is ↦ is.0 | inr other ↦ absurd (other.1 
 tested : (e : ℕ) (text : List ℕ) → Lacks e text → All (λ c. eqb c e ≡ false) text
 tested e text lacks = All-weaker (λ c. c ≢ e) (λ c. eqb c e ≡ false) (λ c. ne_eqb c e) text lacks
 
--- a text cut at each delimiter: the part in front of the first one, and then those behind; or the
--- whole, where there is none
+-- a text split at each delimiter: the part before the first one, and then those after it; or the
+-- whole text, if there is none
 pub parts-first : (e : ℕ) (text front back : List ℕ) → text ≡ front ++ e ∷ back → Lacks e front
     → slice_split (λ c. eqb c e) text ≡ front ∷ slice_split (λ c. eqb c e) back
 parts-first e text front back is lacks =
     ap (slice_split (λ c. eqb c e)) is ∙ slice_split_at (λ c. eqb c e) front e back (tested e front lacks) (same e)
 
--- a text has one part in front of the first such character, and one behind it
+-- the part before the first delimiter is unique, and so is the rest after it
 pub one_split : (e : ℕ) (front back other rest : List ℕ) → Lacks e front → Lacks e other → front ++ e ∷ back ≡ other ++ e ∷ rest
     → (front ≡ other) × (back ≡ rest)
 one_split e [] back [] rest lacks lack same_text = (refl, cc)
@@ -39,20 +39,20 @@ one_split e (c ∷ front) back (d ∷ other) rest lacks lack same_text =
 pub parts-last : (e : ℕ) (text : List ℕ) → Lacks e text → slice_split (λ c. eqb c e) text ≡ text ∷ []
 parts-last e text lacks = slice_split_none (λ c. eqb c e) text (tested e text lacks)
 
--- the text in front of the first delimiter, where it is not empty, and then those behind
+-- the text before the first delimiter, if it is not empty, and then those after it
 pub listed-first : (e : ℕ) (text front back : List ℕ) → text ≡ front ++ e ∷ back → Lacks e front → front ≢ [] → listed e text ≡ front ∷ listed e back
 unfolding listed before_empty
 listed-first e text [] back is lacks some = absurd (some refl)
 listed-first e text (c ∷ front) back is lacks some =
     ap before_empty (parts-first e text (c ∷ front) back is lacks)
 
--- a text that lacks the delimiter is one text
+-- a text without the delimiter is one text
 pub listed-last : (e : ℕ) (text : List ℕ) → Lacks e text → text ≢ [] → listed e text ≡ text ∷ []
 unfolding listed before_empty
 listed-last e [] lacks some = absurd (some refl)
 listed-last e (c ∷ text) lacks some = ap before_empty (parts-last e (c ∷ text) lacks)
 
--- no text, where none is in front of the first delimiter
+-- no texts, if the part before the first delimiter is empty
 pub listed-none : (e : ℕ) (text front back : List ℕ) → text ≡ front ++ e ∷ back → front ≡ [] → listed e text ≡ []
 unfolding listed before_empty
 listed-none e text front back is none =
@@ -62,14 +62,14 @@ pub listed-nil : (e : ℕ) → listed e [] ≡ []
 unfolding listed before_empty
 listed-nil e = refl
 
--- the front of a text up to its size is the text, and nothing is behind
+-- the prefix of a text of its whole size is the text, and nothing follows
 pub text_to-whole : (text : List ℕ) → text_to text (size text) ≡ text
 text_to-whole text = ap (λ t. text_to t (size text)) (sym (append-nil text)) ∙ text_to-at text [] (size text) refl
 
 pub text_from-whole : (text : List ℕ) → text_from text (size text) ≡ []
 text_from-whole text = ap (λ t. text_from t (size text)) (sym (append-nil text)) ∙ text_from-at text [] (size text) refl
 
--- what is read of a list are its texts
+-- reading a list gives its texts
 pub listed-closed : (e : ℕ) (texts : List (List ℕ)) → All (IsEntry e) texts → listed e (closed e texts) ≡ texts
 listed-closed e [] entries = listed-none e (e ∷ []) [] [] refl refl
 listed-closed e (text ∷ texts) entries =
@@ -78,7 +78,8 @@ listed-closed e (text ∷ texts) entries =
     listed-first e (closed e (text ∷ texts)) text (closed e texts) is first.1 first.0
     ∙ ap (λ ts. text ∷ ts) (listed-closed e texts (All-tail (IsEntry e) text texts entries))
 
--- the texts before the first empty one can stand in a list, and what is ended begins with it
+-- the list of the texts before the first empty one is a prefix of all the texts, delimited, and one
+-- more delimiter
 begun : (e : ℕ) (parts : List (List ℕ)) → (behind : List ℕ) × (closed e (before_empty parts) ++ behind ≡ ended e parts ++ e ∷ [])
 unfolding before_empty
 begun e [] = ([], refl)
@@ -96,7 +97,7 @@ fit e ([] ∷ parts) lack = All-nil (IsEntry e)
 fit e ((c ∷ part) ∷ parts) lack =
     All-cons (IsEntry e) (c ∷ part) (before_empty parts) (λ nil. absurd cc, All-head (Lacks e) (c ∷ part) parts lack) (fit e parts (All-tail (Lacks e) (c ∷ part) parts lack))
 
--- what is read of a text is what it begins with, as a list
+-- the texts read from a text are those that it begins with, as a list
 pub list_begun : (e : ℕ) (text : List ℕ) → IsListBegun e text (listed e text)
 unfolding listed
 list_begun e text =
@@ -108,10 +109,10 @@ list_begun e text =
       begins = begins.1 ∙ ap (λ t. t ++ e ∷ []) (parts_ended e text) ∙ append_assoc text (e ∷ []) (e ∷ []);
     }
 
--- a reader takes the texts one after another, as the parts in front of delimiters, and the last
+-- a reader takes the texts one after another, as the parts before delimiters, and the last
 pub ruleset delimited = (listed-first, listed-last, listed-none, listed-nil, listed-closed, list_begun, text_to-whole, text_from-whole)
 
--- ---- texts looked at one after another
+-- ---- texts examined one after another
 
 module _ {X : Type 0} (P : List ℕ → Type 0) (text : X → List ℕ) (items : List X) (i : ℕ) where
   pub All-next : (item : X) → i < length items → item ≡ get_or items i item → All P (take i (map text items)) → P (text item)

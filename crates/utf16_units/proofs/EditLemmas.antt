@@ -4,21 +4,21 @@ use Rattle.std.specs.List.{remove_range, splice}
 use Rattle.std.specs.Char.{IsScalar}
 use Rattle.utf16_units.specs.Boundary.{IsBoundary, text_from, text_to}
 use Rattle.utf16_units.specs.Edit.{char_at, insert_at, overwrite_at, push_text, remove_at}
-use Rattle.utf16_units.specs.Encoding.{char_bytes, char_size, Encodes, is_text, size, text_of}
+use Rattle.utf16_units.specs.Encoding.{char_bytes, char_size, Encodes, is_utf16, size, text_of}
 use Rattle.utf16_units.proofs.BoundaryLemmas.{Encodes-from, Encodes-to, IsBoundary-within, size-text_to, text_from-at, text_to-front, text_to-text_from}
 use Rattle.utf16_units.proofs.CharLemmas.{length-char_bytes}
 use Rattle.std.proofs.lemmas.Bool.{cases_lt}
 use Rattle.std.proofs.lemmas.List.{take_all}
 use Rattle.std.proofs.lemmas.List.Elements.{All-cons, All-nil}
-use Rattle.utf16_units.proofs.EncodingLemmas.{Encodes-append, Encodes-text_of, IsText-from_Encodes, IsText-from_is_text, encode-one, is_text-from_IsText, length-text, size-append, size-cons, size-nil}
+use Rattle.utf16_units.proofs.EncodingLemmas.{Encodes-append, Encodes-text_of, IsUtf16-from_Encodes, IsUtf16-from_is_utf16, encode-one, is_utf16-from_IsUtf16, length-text, size-append, size-cons, size-nil}
 
--- bytes that pass the test of `is_text` encode the text that they spell
-pub Encodes-checked : (big : Bool) (bytes : List ℕ) → is_text big bytes ≡ true → Encodes big (text_of big bytes) bytes
-Encodes-checked big bytes checked = Encodes-text_of big bytes (IsText-from_is_text big bytes checked)
+-- bytes for which `is_utf16` is true encode the text that they decode to
+pub Encodes-checked : (big : Bool) (bytes : List ℕ) → is_utf16 big bytes ≡ true → Encodes big (text_of big bytes) bytes
+Encodes-checked big bytes checked = Encodes-text_of big bytes (IsUtf16-from_is_utf16 big bytes checked)
 
--- bytes that encode a text pass the test of `is_text`
-pub checked-Encodes : (big : Bool) (text bytes : List ℕ) → Encodes big text bytes → is_text big bytes ≡ true
-checked-Encodes big text bytes e = is_text-from_IsText big bytes (IsText-from_Encodes big text bytes e)
+-- for bytes that encode a text `is_utf16` is true
+pub checked-Encodes : (big : Bool) (text bytes : List ℕ) → Encodes big text bytes → is_utf16 big bytes ≡ true
+checked-Encodes big text bytes e = is_utf16-from_IsUtf16 big bytes (IsUtf16-from_Encodes big text bytes e)
 
 pub Encodes-inserted : (big : Bool) (text bytes : List ℕ) (i : ℕ) (other more : List ℕ) → Encodes big text bytes → IsBoundary text i → Encodes big other more
     → Encodes big (insert_at text i other) (splice bytes i i more)
@@ -34,7 +34,7 @@ Encodes-overwritten big text bytes i other more e b behind o =
     (Encodes-to big text bytes i e b)
     (Encodes-append big other (text_from text (i + size other)) more (drop (i + size other) bytes) o (Encodes-from big text bytes (i + size other) e behind))
 
--- the character at a boundary, which is the first from there on, taken out
+-- the character at a boundary, which is the first from there on, removed
 module _ (text : List ℕ) (i c : ℕ) (rest : List ℕ) (b : IsBoundary text i) (first : text_from text i ≡ c ∷ rest) where
   pub char_at-first : char_at text i ≡ Some c
   char_at-first = ap (λ t. slice_get t 0) first
@@ -48,7 +48,7 @@ module _ (text : List ℕ) (i c : ℕ) (rest : List ℕ) (b : IsBoundary text i)
   joined : (text_to text i ++ c ∷ []) ++ rest ≡ text
   joined = append_assoc (text_to text i) (c ∷ []) rest ∙ split
 
-  -- it ends at a boundary too
+  -- its end is a boundary too
   pub behind-first : IsBoundary text (i + char_size c)
   behind-first = record { front = text_to text i ++ c ∷ []; back = rest; split = joined; offset = before }
 
@@ -60,7 +60,7 @@ module _ (text : List ℕ) (i c : ℕ) (rest : List ℕ) (b : IsBoundary text i)
       (Encodes-to big text bytes i e b)
       (subst (λ t. Encodes big t (drop (i + char_size c) bytes)) left (Encodes-from big text bytes (i + char_size c) e behind-first))
 
--- a character's bytes, where they were written at the front of others
+-- a character's bytes, written at the start of others
 pub take-written : (big : Bool) (c n : ℕ) (buf rest : List ℕ) → n ≡ char_size c → buf ≡ char_bytes big c ++ rest → take n buf ≡ char_bytes big c
 take-written big c n buf rest len written = ap (take n) written ∙ take_at (char_bytes big c) rest n (length-char_bytes big c ∙ sym len)
 
@@ -71,14 +71,14 @@ pub Encodes-written : (big : Bool) (c n : ℕ) (buf rest : List ℕ) → IsScala
 Encodes-written big c n buf rest scalar len written =
     subst (Encodes big (c ∷ [])) (sym (take-written big c n buf rest len written)) (Encodes-char big c scalar)
 
-pub Encodes-pushed : (big : Bool) (bytes other more : List ℕ) → is_text big bytes ≡ true → Encodes big other more
+pub Encodes-pushed : (big : Bool) (bytes other more : List ℕ) → is_utf16 big bytes ≡ true → Encodes big other more
     → Encodes big (push_text (text_of big bytes) other) (bytes ++ more)
 Encodes-pushed big bytes other more checked o = Encodes-append big (text_of big bytes) other bytes more (Encodes-checked big bytes checked) o
 
--- a boundary is no further than the bytes
-pub boundary-within : (big : Bool) (bytes : List ℕ) (i : ℕ) → is_text big bytes ≡ true → IsBoundary (text_of big bytes) i → i ≤ length bytes
+-- a boundary is at most the number of bytes
+pub boundary-within : (big : Bool) (bytes : List ℕ) (i : ℕ) → is_utf16 big bytes ≡ true → IsBoundary (text_of big bytes) i → i ≤ length bytes
 boundary-within big bytes i checked b =
-    omega (arith, length-text big bytes (IsText-from_is_text big bytes checked), IsBoundary-within (text_of big bytes) i b)
+    omega (arith, length-text big bytes (IsUtf16-from_is_utf16 big bytes checked), IsBoundary-within (text_of big bytes) i b)
 
 -- the bytes of a prefix
 pub Encodes-prefix : (big : Bool) (text bytes front back : List ℕ) (n : ℕ) → Encodes big text bytes → text ≡ front ++ back → n ≡ size front → Encodes big front (take n bytes)
@@ -86,13 +86,13 @@ Encodes-prefix big text bytes front back n e split at =
     let b : IsBoundary text n = record { front = front; back = back; split = sym split; offset = sym at } in
     subst (λ t. Encodes big t (take n bytes)) (text_to-front text n b) (Encodes-to big text bytes n e b)
 
--- a cut at a boundary below the length, or past all bytes
-pub cut-checked : (big : Bool) (bytes : List ℕ) (n : ℕ) → is_text big bytes ≡ true → (n < size (text_of big bytes) → IsBoundary (text_of big bytes) n)
-    → is_text big (take n bytes) ≡ true
+-- truncation at a boundary below the length, or at or past the end
+pub cut-checked : (big : Bool) (bytes : List ℕ) (n : ℕ) → is_utf16 big bytes ≡ true → (n < size (text_of big bytes) → IsBoundary (text_of big bytes) n)
+    → is_utf16 big (take n bytes) ≡ true
 cut-checked big bytes n checked cut =
-    let long = length-text big bytes (IsText-from_is_text big bytes checked) in
+    let long = length-text big bytes (IsUtf16-from_is_utf16 big bytes checked) in
     ⊎_elim
     (λ (before : n < size (text_of big bytes)).
     checked-Encodes big (text_to (text_of big bytes) n) (take n bytes) (Encodes-to big (text_of big bytes) bytes n (Encodes-checked big bytes checked) (cut before)))
-    (λ (past : size (text_of big bytes) ≤ n). subst (λ b. is_text big b ≡ true) (sym (take_all n bytes (omega arith))) checked)
+    (λ (past : size (text_of big bytes) ≤ n). subst (λ b. is_utf16 big b ≡ true) (sym (take_all n bytes (omega arith))) checked)
     (cases_lt n (size (text_of big bytes)))

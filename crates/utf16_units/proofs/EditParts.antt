@@ -1,4 +1,4 @@
--- What stands where in a text, after an edit at a boundary.
+-- The substrings of a text after an edit at a boundary.
 use Rattle.std.proofs.Common.{◌≡◌, ℕ, ◌+◌, ◌-◌, List, ◌++◌, refl, sym, ap, ◌∙◌, arith, append_assoc}
 use Rattle.utf16_units.specs.Boundary.{IsBoundary, text_between, text_from, text_to}
 use Rattle.utf16_units.specs.Edit.{insert_at, overwrite_at}
@@ -7,7 +7,7 @@ use Rattle.utf16_units.proofs.BoundaryLemmas.{size-text_to, text_from-at, text_t
 use Rattle.utf16_units.proofs.EncodingLemmas.{size-append}
 use Rattle.utf16_units.proofs.PartLemmas.{cut_at}
 
--- the front of a text, and anything behind it
+-- the prefix of a text, followed by anything
 module _ (text back : List ℕ) (i : ℕ) (at : IsBoundary text i) where
   pub kept-start : IsBoundary (text_to text i ++ back) i
   kept-start = record { front = text_to text i; back = back; split = refl; offset = size-text_to text i at }
@@ -18,7 +18,7 @@ module _ (text back : List ℕ) (i : ℕ) (at : IsBoundary text i) where
   pub kept-back : text_from (text_to text i ++ back) i ≡ back
   kept-back = text_from-at (text_to text i) back i (size-text_to text i at)
 
--- the front of a text, a part, and anything behind it
+-- the prefix of a text, a part, and anything after it
 module _ (text part back : List ℕ) (i : ℕ) (at : IsBoundary text i) where
   whole : (text_to text i ++ part) ++ back ≡ text_to text i ++ (part ++ back)
   whole = append_assoc (text_to text i) part back
@@ -40,7 +40,7 @@ module _ (text part back : List ℕ) (i : ℕ) (at : IsBoundary text i) where
   pub size-put : size (text_to text i ++ (part ++ back)) ≡ i + size part + size back
   size-put = ap size (sym whole) ∙ size-append (text_to text i ++ part) back ∙ ap (λ n. n + size back) long
 
--- how long a text is with another put in, and with another put over as many of its bytes
+-- the size of a text with another inserted, and with another over as many of its bytes
 pub size-insert_at : (text other : List ℕ) (i : ℕ) → IsBoundary text i → size (insert_at text i other) ≡ size text + size other
 size-insert_at text other i at = omega (arith, size-put text other (text_from text i) i at, (cut_at text i at).back_size)
 

@@ -11,11 +11,11 @@ use Rattle.std.specs.Char.Escape.{encode_utf16}
 use Rattle.std.specs.Char.Utf16.{utf16_chars}
 use Rattle.std.specs.Option.{unwrap_or}
 use Rattle.std.specs.Str.{all_scalars}
-use Rattle.utf16_units.specs.Encoding.{char_bytes, char_size, encode, size, Encodes, IsText, units_of, text_of, is_text}
+use Rattle.utf16_units.specs.Encoding.{char_bytes, char_size, encode, size, Encodes, IsUtf16, units_of, text_of, is_utf16}
 use Rattle.utf16_units.proofs.UnitLemmas.{units_of-units}
 use Rattle.utf16_units.proofs.CharLemmas.{utf16_chars-char, length-char_bytes}
 
--- what holds of all of a list holds of all of its parts
+-- what holds of all elements of a list holds of all elements of its parts
 pub All-back : (P : ℕ → Type 0) (xs ys : List ℕ) → All P (xs ++ ys) → All P ys
 All-back P [] ys all = all
 All-back P (x ∷ xs) ys all = All-back P xs ys (All-tail P x (xs ++ ys) all)
@@ -38,7 +38,7 @@ pub encode-cons : (big : Bool) (c : ℕ) (text : List ℕ) → encode big (c ∷
 unfolding encode
 encode-cons big c text = refl
 
--- the encoding of two texts joined is their encodings joined
+-- the encoding of two texts concatenated is the concatenation of their encodings
 pub encode-append : (big : Bool) (xs ys : List ℕ) → encode big (xs ++ ys) ≡ encode big xs ++ encode big ys
 unfolding encode
 encode-append big xs ys = flat_map-append (char_bytes big) xs ys
@@ -67,13 +67,13 @@ length-encode big (c ∷ text) =
     ap length (encode-cons big c text) ∙ length-append (char_bytes big c) (encode big text)
     ∙ ap₂ (λ m n. m + n) (length-char_bytes big c) (length-encode big text) ∙ sym (size-cons c text)
 
--- the bytes of a character and then others spell that character and then theirs
+-- the bytes of a character followed by others decode to that character and then theirs
 pub text_of-char : (big : Bool) (c : ℕ) (bytes : List ℕ) → IsScalar c → text_of big (char_bytes big c ++ bytes) ≡ c ∷ text_of big bytes
 unfolding text_of
 text_of-char big c bytes scalar =
     ap (map (λ o. unwrap_or o 0xFFFD)) (ap utf16_chars (units_of-units big (encode_utf16 c) bytes) ∙ utf16_chars-char c (units_of big bytes) scalar)
 
--- the bytes of a text and then others spell that text and then theirs
+-- the bytes of a text followed by others decode to that text and then theirs
 pub text_of-encode_then : (big : Bool) (text bytes : List ℕ) → All IsScalar text → text_of big (encode big text ++ bytes) ≡ text ++ text_of big bytes
 text_of-encode_then big [] bytes scalars = ap (λ t. text_of big (t ++ bytes)) (encode-nil big)
 text_of-encode_then big (c ∷ text) bytes scalars =
@@ -92,7 +92,7 @@ text_of-encode big text scalars =
     ap (text_of big) (sym (append-nil (encode big text)))
     ∙ text_of-encode_then big text [] scalars ∙ ap (λ t. text ++ t) (text_of-nil big) ∙ append-nil text
 
--- `all_scalars` and `All IsScalar` say the same
+-- `all_scalars` computes `All IsScalar`
 pub all_scalars-from_All : (text : List ℕ) → All IsScalar text → all_scalars text ≡ true
 all_scalars-from_All [] scalars = refl
 all_scalars-from_All (c ∷ text) scalars =
@@ -104,29 +104,29 @@ All-from_all_scalars (c ∷ text) scalars =
     let parts = and_parts (scalar c) (all_scalars text) scalars in
     All-cons IsScalar c text parts.0 (All-from_all_scalars text parts.1)
 
--- a text that bytes encode is the text that they spell
+-- a text that bytes encode is the text that they decode to
 pub text_of-Encodes : (big : Bool) (text bytes : List ℕ) → Encodes big text bytes → text_of big bytes ≡ text
 text_of-Encodes big text bytes e = ap (text_of big) (sym e.spelled) ∙ text_of-encode big text e.scalars
 
--- bytes are the encoding of one text at most
+-- bytes are the encoding of at most one text
 pub Encodes-unique : (big : Bool) (text other bytes : List ℕ) → Encodes big text bytes → Encodes big other bytes → text ≡ other
 Encodes-unique big text other bytes e o = sym (text_of-Encodes big text bytes e) ∙ text_of-Encodes big other bytes o
 
--- well-formed bytes encode the text that they spell
-pub Encodes-text_of : (big : Bool) (bytes : List ℕ) → IsText big bytes → Encodes big (text_of big bytes) bytes
+-- well-formed bytes encode the text that they decode to
+pub Encodes-text_of : (big : Bool) (bytes : List ℕ) → IsUtf16 big bytes → Encodes big (text_of big bytes) bytes
 Encodes-text_of big bytes t = subst (λ text. Encodes big text bytes) (sym (text_of-Encodes big t.text bytes t.encodes)) t.encodes
 
--- encoding undoes decoding, where the bytes are well formed
-pub encode-text_of : (big : Bool) (bytes : List ℕ) → IsText big bytes → encode big (text_of big bytes) ≡ bytes
+-- encoding undoes decoding, if the bytes are well formed
+pub encode-text_of : (big : Bool) (bytes : List ℕ) → IsUtf16 big bytes → encode big (text_of big bytes) ≡ bytes
 encode-text_of big bytes t = (Encodes-text_of big bytes t).spelled
 
-pub scalars-text_of : (big : Bool) (bytes : List ℕ) → IsText big bytes → All IsScalar (text_of big bytes)
+pub scalars-text_of : (big : Bool) (bytes : List ℕ) → IsUtf16 big bytes → All IsScalar (text_of big bytes)
 scalars-text_of big bytes t = (Encodes-text_of big bytes t).scalars
 
--- `is_text` is the test of `IsText`
-pub IsText-from_is_text : (big : Bool) (bytes : List ℕ) → is_text big bytes ≡ true → IsText big bytes
-unfolding is_text
-IsText-from_is_text big bytes passes =
+-- `is_utf16` computes `IsUtf16`
+pub IsUtf16-from_is_utf16 : (big : Bool) (bytes : List ℕ) → is_utf16 big bytes ≡ true → IsUtf16 big bytes
+unfolding is_utf16
+IsUtf16-from_is_utf16 big bytes passes =
     let text = text_of big bytes in
     let parts = and_parts (all_scalars text) (bytes_eq (encode big text) bytes) passes in
     record {
@@ -137,43 +137,43 @@ IsText-from_is_text big bytes passes =
       };
     }
 
-pub is_text-from_IsText : (big : Bool) (bytes : List ℕ) → IsText big bytes → is_text big bytes ≡ true
-unfolding is_text
-is_text-from_IsText big bytes t =
+pub is_utf16-from_IsUtf16 : (big : Bool) (bytes : List ℕ) → IsUtf16 big bytes → is_utf16 big bytes ≡ true
+unfolding is_utf16
+is_utf16-from_IsUtf16 big bytes t =
     let e = Encodes-text_of big bytes t in
     let text = text_of big bytes in
     ap₂ (λ x y. x && y) (all_scalars-from_All text e.scalars) ((bytes_eq-Decides (encode big text) bytes).1 e.spelled)
 
-pub IsText-encode : (big : Bool) (text : List ℕ) → All IsScalar text → IsText big (encode big text)
-IsText-encode big text scalars = record { text = text; encodes = record { scalars = scalars; spelled = refl } }
+pub IsUtf16-encode : (big : Bool) (text : List ℕ) → All IsScalar text → IsUtf16 big (encode big text)
+IsUtf16-encode big text scalars = record { text = text; encodes = record { scalars = scalars; spelled = refl } }
 
-pub IsText-nil : (big : Bool) → IsText big []
-IsText-nil big = record { text = []; encodes = record { scalars = All-nil IsScalar; spelled = encode-nil big } }
+pub IsUtf16-nil : (big : Bool) → IsUtf16 big []
+IsUtf16-nil big = record { text = []; encodes = record { scalars = All-nil IsScalar; spelled = encode-nil big } }
 
-pub IsText-char : (big : Bool) (c : ℕ) → IsScalar c → IsText big (char_bytes big c)
-IsText-char big c scalar = record {
+pub IsUtf16-char : (big : Bool) (c : ℕ) → IsScalar c → IsUtf16 big (char_bytes big c)
+IsUtf16-char big c scalar = record {
   text = c ∷ [];
   encodes = record { scalars = All-cons IsScalar c [] scalar (All-nil IsScalar); spelled = encode-one big c };
 }
 
--- well-formed bytes joined are well formed, and spell the texts joined
+-- well-formed bytes concatenated are well formed, and decode to the texts concatenated
 pub Encodes-append : (big : Bool) (xs ys front back : List ℕ) → Encodes big xs front → Encodes big ys back → Encodes big (xs ++ ys) (front ++ back)
 Encodes-append big xs ys front back f b = record {
   scalars = All-append IsScalar xs ys f.scalars b.scalars;
   spelled = encode-append big xs ys ∙ ap₂ (λ x y. x ++ y) f.spelled b.spelled;
 }
 
-pub IsText-append : (big : Bool) (front back : List ℕ) → IsText big front → IsText big back → IsText big (front ++ back)
-IsText-append big front back f b = record { text = f.text ++ b.text; encodes = Encodes-append big f.text b.text front back f.encodes b.encodes }
+pub IsUtf16-append : (big : Bool) (front back : List ℕ) → IsUtf16 big front → IsUtf16 big back → IsUtf16 big (front ++ back)
+IsUtf16-append big front back f b = record { text = f.text ++ b.text; encodes = Encodes-append big f.text b.text front back f.encodes b.encodes }
 
-pub text_of-append : (big : Bool) (front back : List ℕ) → IsText big front → text_of big (front ++ back) ≡ text_of big front ++ text_of big back
+pub text_of-append : (big : Bool) (front back : List ℕ) → IsUtf16 big front → text_of big (front ++ back) ≡ text_of big front ++ text_of big back
 text_of-append big front back f =
     ap (λ t. text_of big (t ++ back)) (sym (encode-text_of big front f))
     ∙ text_of-encode_then big (text_of big front) back (scalars-text_of big front f)
 
--- what follows well-formed bytes in well-formed bytes is well formed
-pub IsText-rest : (big : Bool) (front back : List ℕ) → IsText big front → IsText big (front ++ back) → IsText big back
-IsText-rest big front back f whole =
+-- if bytes and a prefix of them are well formed, so is the rest
+pub IsUtf16-rest : (big : Bool) (front back : List ℕ) → IsUtf16 big front → IsUtf16 big (front ++ back) → IsUtf16 big back
+IsUtf16-rest big front back f whole =
     let split = text_of-append big front back f in
     let xs = text_of big front in
     let ys = text_of big back in
@@ -190,17 +190,17 @@ IsText-rest big front back f whole =
     }
 
 -- well-formed bytes are as long as the size of their text
-pub length-text : (big : Bool) (bytes : List ℕ) → IsText big bytes → length bytes ≡ size (text_of big bytes)
+pub length-text : (big : Bool) (bytes : List ℕ) → IsUtf16 big bytes → length bytes ≡ size (text_of big bytes)
 length-text big bytes t = ap length (sym (encode-text_of big bytes t)) ∙ length-encode big (text_of big bytes)
 
--- well-formed bytes are empty exactly where their text is
-pub nil-from_text : (big : Bool) (bytes : List ℕ) → IsText big bytes → text_of big bytes ≡ [] → bytes ≡ []
+-- well-formed bytes are empty exactly if their text is
+pub nil-from_text : (big : Bool) (bytes : List ℕ) → IsUtf16 big bytes → text_of big bytes ≡ [] → bytes ≡ []
 nil-from_text big bytes t none = sym (encode-text_of big bytes t) ∙ ap (encode big) none ∙ encode-nil big
 
-pub IsText-from_Encodes : (big : Bool) (text bytes : List ℕ) → Encodes big text bytes → IsText big bytes
-IsText-from_Encodes big text bytes e = record { text = text; encodes = e }
+pub IsUtf16-from_Encodes : (big : Bool) (text bytes : List ℕ) → Encodes big text bytes → IsUtf16 big bytes
+IsUtf16-from_Encodes big text bytes e = record { text = text; encodes = e }
 
--- the bytes of a character spell it
+-- the bytes of a character decode to it
 pub char_text : (big : Bool) (c : ℕ) → IsScalar c → text_of big (char_bytes big c) ≡ c ∷ []
 char_text big c scalar =
     ap (text_of big) (sym (append-nil (char_bytes big c))) ∙ text_of-char big c [] scalar ∙ ap (λ t. c ∷ t) (text_of-nil big)

@@ -1,4 +1,4 @@
--- What the first units of bytes say of the character at their front.
+-- The first character of bytes, by their first units.
 use Rattle.std.proofs.Common.{◌≡◌, ℕ, zero, suc, ◌+◌, ◌-◌, ◌*◌, ◌/◌, ◌<◌, ◌≤◌, Bool, true, false, List, [], ◌∷◌, ◌++◌, All, length, slice_index, refl, sym, ap, ap₂, ◌∙◌, ⊎_elim, arith, flat_map, le-ltb, le-leb, lt-ltb}
 use Rattle.std.proofs.lemmas.Bool.{cases_lt}
 use Rattle.std.proofs.lemmas.List.Elements.{All-head, All-tail}
@@ -7,7 +7,7 @@ use Rattle.std.proofs.str.Utf16.{one_unit, pair_units}
 use Rattle.std.specs.Char.{IsScalar}
 use Rattle.std.specs.Char.Escape.{encode_utf16}
 use Rattle.utf16_units.specs.Unit.{IsLeading, IsTrailing, unit_bytes, unit_of}
-use Rattle.utf16_units.specs.Fault.{BeginsWithChar}
+use Rattle.utf16_units.specs.IllFormed.{BeginsWithChar}
 use Rattle.utf16_units.proofs.UnitLemmas.{unit_bytes-unit_of}
 
 -- each of the numbers is a byte
@@ -19,7 +19,7 @@ AreBytes-from_All [] are k = omega arith
 AreBytes-from_All (b ∷ bytes) are zero = All-head (λ b. b < 256) b bytes are
 AreBytes-from_All (b ∷ bytes) are (suc k) = AreBytes-from_All bytes (All-tail (λ b. b < 256) b bytes are) k
 
--- the unit at the front
+-- the first unit
 abbrev pub first_unit : Bool → List ℕ → ℕ
 first_unit big bytes = unit_of big (slice_index bytes 0) (slice_index bytes 1)
 

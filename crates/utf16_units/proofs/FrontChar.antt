@@ -1,4 +1,4 @@
--- The first character of well-formed bytes, by the units at their front.
+-- The first character of well-formed bytes, by their first units.
 use Rattle.std.proofs.Common.{◌≡◌, ℕ, ◌+◌, ◌-◌, ◌/◌, ◌%◌, ◌<◌, ◌≤◌, Bool, true, false, List, [], ◌∷◌, ◌++◌, length, drop, All, refl, sym, ap, ◌∙◌, subst, ⊎_elim, arith, append_assoc, append-nil, length-append, drop_at, flat_map}
 use Rattle.std.proofs.lemmas.Bool.{cases_lt}
 use Rattle.std.proofs.lemmas.List.Elements.{All-head, All-tail}
@@ -6,7 +6,7 @@ use Rattle.std.proofs.str.Utf16.{one_unit, two_units}
 use Rattle.std.specs.Char.{IsScalar}
 use Rattle.std.specs.Char.Utf16.{surrogate_pair_char}
 use Rattle.utf16_units.specs.Unit.{IsLeading, IsTrailing, unit_bytes}
-use Rattle.utf16_units.specs.Encoding.{char_bytes, char_size, encode, Encodes, IsText, text_of}
+use Rattle.utf16_units.specs.Encoding.{char_bytes, char_size, encode, Encodes, IsUtf16, text_of}
 use Rattle.utf16_units.proofs.CharLemmas.{char_size_four, char_size_two, length-char_bytes, no_surrogate}
 use Rattle.utf16_units.proofs.EncodingLemmas.{encode-cons, encode-nil, text_of-char}
 use Rattle.utf16_units.proofs.FirstChar.{first_unit, second_unit}
@@ -20,7 +20,7 @@ pub record HasFirst (big : Bool) (bytes : List ℕ) : Type 0 where
   pub spelled : bytes ≡ char_bytes big char ++ encode big text
 
 -- well-formed bytes that are not empty have a first character
-pub first_of : (big : Bool) (bytes : List ℕ) → IsText big bytes → 0 < length bytes → HasFirst big bytes
+pub first_of : (big : Bool) (bytes : List ℕ) → IsUtf16 big bytes → 0 < length bytes → HasFirst big bytes
 first_of big bytes t some = of_text t.text t.encodes where
   of_text : (text : List ℕ) → Encodes big text bytes → HasFirst big bytes
   of_text [] e =
@@ -34,12 +34,11 @@ first_of big bytes t some = of_text t.text t.encodes where
     spelled = sym e.spelled ∙ encode-cons big c text;
   }
 
--- the rest behind the first character is well formed, and the characters are that one and the
--- rest's
+-- the bytes after the first character are well formed, and the characters are that one and theirs
 pub record SplitsAt (big : Bool) (bytes : List ℕ) (c n : ℕ) : Type 0 where
   pub scalar : IsScalar c
   pub within : n ≤ length bytes
-  pub rest : IsText big (drop n bytes)
+  pub rest : IsUtf16 big (drop n bytes)
   pub text : text_of big bytes ≡ c ∷ text_of big (drop n bytes)
 
 splits_first : (big : Bool) (bytes : List ℕ) (f : HasFirst big bytes) → SplitsAt big bytes f.char (char_size f.char)
@@ -53,7 +52,7 @@ splits_first big bytes f =
     record {
       scalar = f.scalar;
       within = omega arith;
-      rest = subst (IsText big) (sym cut) (record { text = f.text; encodes = record { scalars = f.scalars; spelled = refl } });
+      rest = subst (IsUtf16 big) (sym cut) (record { text = f.text; encodes = record { scalars = f.scalars; spelled = refl } });
       text = ap (text_of big) f.spelled ∙ text_of-char big f.char rest f.scalar ∙ ap (λ t. f.char ∷ text_of big t) (sym cut);
     }
 
@@ -129,14 +128,14 @@ module _ (big : Bool) (bytes : List ℕ) (f : HasFirst big bytes) (two : 0x1_000
       subst (λ c. SplitsAt big bytes c 4) (sym pair_is)
       (subst (SplitsAt big bytes f.char) (char_size_four f.char two) (splits_first big bytes f))
 
-module _ (big : Bool) (bytes : List ℕ) (t : IsText big bytes) (some : 0 < length bytes) where
-  -- a unit that is no leading surrogate is the first character
+module _ (big : Bool) (bytes : List ℕ) (t : IsUtf16 big bytes) (some : 0 < length bytes) where
+  -- a unit that is not a leading surrogate is the first character
   pub splits_one : ¬ (IsLeading (first_unit big bytes)) → SplitsAt big bytes (first_unit big bytes) 2
   splits_one leading =
       let f = first_of big bytes t some in
       ⊎_elim (λ one. one_splits big bytes f one) (λ two. absurd (leading (two_leading big bytes f two))) (cases_lt f.char 0x1_0000)
 
-  -- a leading surrogate and the next unit are the first character's
+  -- a leading surrogate and the next unit are those of the first character
   pub splits_two : IsLeading (first_unit big bytes)
       → IsTrailing (second_unit big bytes) × SplitsAt big bytes (surrogate_pair_char (first_unit big bytes) (second_unit big bytes)) 4
   splits_two leading =
@@ -146,7 +145,7 @@ module _ (big : Bool) (bytes : List ℕ) (t : IsText big bytes) (some : 0 < leng
       (λ two. (two_trailing big bytes f two, two_splits big bytes f two))
       (cases_lt f.char 0x1_0000)
 
-  -- well-formed bytes that are not empty are two at least
+  -- well-formed bytes that are not empty are at least two
   pub two_bytes : 2 ≤ length bytes
   two_bytes =
       let f = first_of big bytes t some in

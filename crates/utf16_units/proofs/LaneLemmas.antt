@@ -17,7 +17,7 @@ abbrev pub positions : ℕ → ℕ → List ℕ
 positions i zero = []
 positions i (suc n) = i ∷ positions (suc (suc i)) n
 
--- where the high byte of the first unit stands
+-- the index of the high byte of the first unit
 abbrev pub high_at : Bool → ℕ
 high_at big = cond big 0 1
 
@@ -56,7 +56,7 @@ class_bits-mask_l highs n mask class long few =
 abbrev pub in_class : ℕ → ℕ → Bool
 in_class m unit = leb (1024 * m) unit && ltb unit (1024 * m + 1024)
 
--- a test of two numbers that are equal exactly at the units of a class
+-- a comparison of two numbers that are equal exactly for the units of a class
 pub class_by : (m unit x y : ℕ) → (x ≡ y → (1024 * m ≤ unit) × (unit < 1024 * m + 1024)) → (1024 * m ≤ unit → unit < 1024 * m + 1024 → x ≡ y) → eqb x y ≡ in_class m unit
 class_by m unit x y within same = ⊎_elim
     (λ (yes : eqb x y ≡ true).
@@ -78,7 +78,7 @@ classes_of_highs : (m : ℕ) (units : List ℕ) → m < 64 → Each1 (Fits w8) (
 classes_of_highs m [] few fit = refl
 classes_of_highs m (unit ∷ units) few fit = ap₂ (λ b bs. b ∷ bs) (class_of_high m unit fit.0.fits few) (classes_of_highs m units few fit.1)
 
--- the bits of a class, of the units that have these high bytes
+-- the bits of a class, for the units that have these high bytes
 pub class_bits-units : (m : ℕ) (units highs : List ℕ) → m < 64 → Each1 (Fits w8) highs → map high_byte units ≡ highs
     → mask_l (map (λ high. eqb (bit_and high 0xFC) (4 * m)) highs) ≡ mask_l (map (in_class m) units)
 class_bits-units m units highs few fit e =
@@ -112,7 +112,7 @@ mask_l-injective (x ∷ xs) (y ∷ ys) long e =
     let parts = same_bit x y (mask_l xs) (mask_l ys) e in
     ap₂ (λ b bs. b ∷ bs) parts.0 (mask_l-injective xs ys (omega arith) parts.1)
 
--- a number below twice a power of two, by its last bits and the one above them
+-- a number below twice a power of two, by its low bits and the one above them
 halves : (e k : ℕ) → e < 2 ^ k + 2 ^ k → e % 2 ^ k + cond (leb (2 ^ k) e) (2 ^ k) 0 ≡ e
 halves e k below = ⊎_elim
     (λ (low : e < 2 ^ k). ap₂ (λ r b. r + cond b (2 ^ k) 0) (mod-eq_of_lt low) (lt-leb (2 ^ k) e low) ∙ omega arith)
@@ -121,7 +121,7 @@ halves e k below = ⊎_elim
     ap₂ (λ r b. r + cond b (2 ^ k) 0) (ap (λ n. n % 2 ^ k) split ∙ mod_low 1 k (e - 2 ^ k) (omega arith)) (le-leb (2 ^ k) e high) ∙ omega arith)
     (cases_lt e (2 ^ k))
 
--- the last bits of a number below a power of two, with the bit above them or without it
+-- the low bits of a number below a power of two, with the bit above them or without it
 low_part : (after : Bool) (k m : ℕ) → m < 2 ^ k → (m + cond after (2 ^ k) 0) % 2 ^ k ≡ m
 low_part true k m below =
     let swapped : m + 2 ^ k ≡ 1 * 2 ^ k + m = omega arith in
@@ -154,7 +154,7 @@ module _ (highs : List ℕ) (n leading : ℕ) (long : length highs ≡ n)
       let most : 2 ^ n ≤ 2 ^ 32 = pow-le-pow_right {n = 2} (omega arith) few in
       omega (arith, leading-below, byte-cond before, bit-below before)
 
-  -- where the trailing units are the leading ones one place on, the surrogates are paired, and the
+  -- if the trailing units are the leading ones shifted by one, the surrogates are paired, and the
   -- bit above says whether the last unit is leading
   pub paired_by_bits : (before : Bool) (units : List ℕ) → n ≤ 32 → map high_byte units ≡ highs
       → mask_l (map is_low_surrogate units) ≡ (2 * leading + bool_byte before) % (1 * 2 ^ n % 2 ^ 64)
@@ -172,7 +172,7 @@ module _ (highs : List ℕ) (n leading : ℕ) (long : length highs ≡ n)
       ∙ halves expected n (omega (arith, leading-below, byte-cond before, bit-below before))
       ∙ omega (arith, bits units have, byte-cond before))
 
-  -- where the surrogates are paired, the trailing units are the leading ones one place on
+  -- if the surrogates are paired, the trailing units are the leading ones shifted by one
   pub bits_by_paired : (before after : Bool) (units : List ℕ) → n ≤ 32 → map high_byte units ≡ highs → Paired before units after
       → mask_l (map is_low_surrogate units) ≡ (2 * leading + bool_byte before) % (1 * 2 ^ n % 2 ^ 64)
   bits_by_paired before after units few have p =

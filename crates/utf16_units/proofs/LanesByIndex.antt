@@ -1,4 +1,4 @@
--- What the operations on n lanes of a width leave, by index.
+-- What the operations on n lanes of a width compute, by index.
 use Rattle.std.proofs.Common.{◌≡◌, ℕ, zero, suc, ◌+◌, ◌-◌, ◌^◌, ◌<◌, ◌++◌, ◌∷◌, [], List, Bool, true, false, cond, ltb, ltb-true, length, get_or, slice_index, replicate, map, eqb, bit_and, refl, sym, ap, ◌∙◌, arith, drop, get_or-drop, length-append}
 use Rattle.std.proofs.lemmas.Bool.{and_parts}
 use Rattle.std.proofs.lemmas.Simd.{get_or-chunk, get_or-replicate, get_or-sel_l, get_or-zip2, length-chunk, length-replicate, length-sel_l, length-zip2, pick_l-range_with_len, tops_compared}
@@ -43,7 +43,7 @@ lanes_chosen_masked n w v m x a b p q r =
     let chosen = lanes_chosen n w eqb (zip2 bit_and v (replicate n m)) x a b masked.len q r in
     record { len = chosen.len; lanes = λ i h. chosen.lanes i h ∙ ap (λ y. cond (eqb y x) (slice_index a i) (slice_index b i)) (masked.lanes i h) }
 
--- the lane before each of n + 1, the first behind the last one of another vector
+-- the lane before each of n + 1; before the first, the last one of another vector
 pub lanes_behind : (n : ℕ) (previous v : List ℕ) → length previous ≡ n + 1 → length v ≡ n + 1
     → HasLanes (n + 1) (pick_l 0 (previous ++ v) (range_with_len n (n + 1))) (λ i. slice_index (slice_index previous n ∷ v) i)
 lanes_behind n previous v p q =

@@ -8,18 +8,18 @@ use Rattle.std.specs.List.{concat}
 use Rattle.std.specs.Char.Escape.{encode_utf16}
 use Rattle.utf16_units.specs.Unit.{IsTrailing, unit_bytes}
 use Rattle.utf16_units.specs.Encoding.{Encodes, char_bytes, encode, size, text_of}
-use Rattle.utf16_units.specs.Boundary.{IsBoundary, StandsIn, text_between, text_from, text_to}
+use Rattle.utf16_units.specs.Boundary.{IsBoundary, OccursIn, text_between, text_from, text_to}
 use Rattle.utf16_units.specs.Edit.{insert_at}
-use Rattle.utf16_units.specs.Laws.{BoundaryCuts, CutAnywhere, EncodedText, FoundAligned, FoundExactly, InsertThenRemove, ItemsStay, JoinedText, MoreBehind, NoneContinues, RecipeIsSplit, ResumesIsSplit, ShownWithin, SplitExists, SplitExtends, SplitThenPush, SplitUnique, StandsAt, SwappedOrders, TextIsShown, TwoNeverContinues, UniqueText, Utf8Back, swap_bytes}
+use Rattle.utf16_units.specs.Laws.{BoundaryCuts, CutAnywhere, EncodedText, FoundAligned, FoundExactly, InsertThenRemove, ItemsStay, JoinedText, MoreAfter, NoneContinues, RecipeIsSplit, ResumesIsSplit, ShownWithin, SplitExists, SplitExtends, SplitThenPush, SplitUnique, OccursAt, SwappedOrders, TextIsShown, TwoNeverContinues, UniqueText, Utf8Back, swap_bytes}
 use Rattle.utf16_units.proofs.PartLemmas.{IsBoundary-append, IsBoundary-even, cut_at, text_between-append, text_between-behind, text_between-whole}
 use Rattle.utf16_units.proofs.BoundaryLemmas.{Encodes-between, IsBoundary-at_unit, IsBoundary-end, IsBoundary-start, char_size-pos, size-text_to, text_from-at, text_to-at, text_to-text_from}
 use Rattle.utf16_units.proofs.ContinuedLemmas.{none_where, two_never}
 use Rattle.utf16_units.proofs.FirstChar.{AreBytes-from_All, first_unit}
 use Rattle.utf16_units.proofs.FrontChar.{first_unit-char}
-use Rattle.utf16_units.proofs.EncodingLemmas.{All-after, IsText-from_Encodes, all_scalars-from_All, encode-append, encode-cons, encode-nil, length-encode, size-append, size-cons, text_of-Encodes, text_of-encode, text_of-encode_then}
+use Rattle.utf16_units.proofs.EncodingLemmas.{All-after, IsUtf16-from_Encodes, all_scalars-from_All, encode-append, encode-cons, encode-nil, length-encode, size-append, size-cons, text_of-Encodes, text_of-encode, text_of-encode_then}
 use Rattle.utf16_units.specs.Recipe.{Recipe, Resumes}
-use Rattle.utf16_units.specs.Split.{mark, marked, split_items, split_tail}
-use Rattle.utf16_units.proofs.RecipeLemmas.{marked-good, recipe_of_split, split_of_recipe, split_text}
+use Rattle.utf16_units.specs.Split.{lossy_char, lossy_chars, split_items, split_tail}
+use Rattle.utf16_units.proofs.RecipeLemmas.{lossy_chars-good, recipe_of_split, split_of_recipe, split_text}
 use Rattle.utf16_units.proofs.ResumesLemmas.{resumes_of_split, split_of_resumes}
 use Rattle.utf16_units.proofs.ShownLemmas.{split_within}
 use Rattle.utf16_units.proofs.SplitLemmas.{Split-computed}
@@ -61,7 +61,7 @@ recipe_is_split big bytes text kept all =
           (same.shown, same.tail)),
       (λ same.
           subst (λ t. Recipe big bytes t kept) (sym same.0)
-          (subst (Recipe big bytes (marked (split_items big bytes))) (sym same.1) (split_of_recipe big bytes are))),
+          (subst (Recipe big bytes (lossy_chars (split_items big bytes))) (sym same.1) (split_of_recipe big bytes are))),
     )
 
 pub resumes_is_split : ResumesIsSplit
@@ -71,20 +71,20 @@ resumes_is_split big pieces text kept all = (
       (same.shown, same.tail)),
   (λ same.
       subst (λ t. Resumes big [] pieces t kept) (sym same.0)
-      (subst (Resumes big [] pieces (marked (split_items big (concat pieces)))) (sym same.1) (resumes_of_split big pieces all))),
+      (subst (Resumes big [] pieces (lossy_chars (split_items big (concat pieces)))) (sym same.1) (resumes_of_split big pieces all))),
 )
 
 pub text_is_shown : TextIsShown
 text_is_shown big text bytes e =
     let split = split_text big text bytes e in
-    (ap marked split.0 ∙ marked-good text, split.1)
+    (ap lossy_chars split.0 ∙ lossy_chars-good text, split.1)
 
 pub items_stay : ItemsStay
 items_stay = split_items-front
 
 pub cut_anywhere : CutAnywhere
 cut_anywhere big front back =
-    ap marked (split_items-append big front back) ∙ map-append mark (split_items big front) (split_items big (split_tail big front ++ back))
+    ap lossy_chars (split_items-append big front back) ∙ map-append lossy_char (split_items big front) (split_items big (split_tail big front ++ back))
 
 pub shown_within : ShownWithin
 shown_within big bytes all = split_within big bytes (split_items big bytes) (split_tail big bytes) (split_exists big bytes all)
@@ -103,7 +103,7 @@ insert_then_remove text i c b =
       ap₂ (λ x y. x ++ drop 1 y) before after ∙ text_to-text_from text i,
     )
 
--- ---- the two orders
+-- ---- the two byte orders
 
 swap_bytes-unit : (big : Bool) (unit : ℕ) (bytes : List ℕ) → swap_bytes (unit_bytes big unit ++ bytes) ≡ unit_bytes (not big) unit ++ swap_bytes bytes
 unfolding swap_bytes
@@ -130,7 +130,7 @@ swapped_orders big (c ∷ text) =
 
 -- ---- a match at an even offset
 
--- no text begins with a trailing surrogate, whatever bytes follow it
+-- no text starts with a trailing surrogate, whatever bytes follow it
 text_begins : (big : Bool) (text bytes : List ℕ) → All IsScalar text → text ≢ [] → ¬ (IsTrailing (first_unit big (encode big text ++ bytes)))
 text_begins big [] bytes scalars some trailing = absurd (some refl)
 text_begins big (c ∷ text) bytes scalars some trailing =
@@ -142,7 +142,7 @@ size-some [] some = absurd (some refl)
 size-some (c ∷ text) some = omega (arith, size-cons c text, char_size-pos c)
 
 module _ (big : Bool) (text found : List ℕ) (i : ℕ) (scalars : All IsScalar text) (founds : All IsScalar found) (some : found ≢ [])
-    (even : i % 2 ≡ 0) (stands : StandsAt (encode big text) i (encode big found)) where
+    (even : i % 2 ≡ 0) (stands : OccursAt (encode big text) i (encode big found)) where
   tail : List ℕ
   tail = drop (length (encode big found)) (drop i (encode big text))
 
@@ -168,7 +168,7 @@ module _ (big : Bool) (text found : List ℕ) (i : ℕ) (scalars : All IsScalar 
   back : List ℕ
   back = start.back
 
-  -- what stands from i on is the text that was found, and then a text
+  -- the text from i on is the one that was found, followed by a text
   back_is : back ≡ found ++ text_of big tail
   unfolding back
   back_is =
@@ -202,13 +202,13 @@ found_aligned big text found i scalars founds some even stands = (
   between big text found i scalars founds some even stands,
 )
 
--- ---- boundaries, and what stands behind a text
+-- ---- boundaries, and what is appended to a text
 
 pub boundary_cuts : BoundaryCuts
 boundary_cuts text = record { start = IsBoundary-start text; end = IsBoundary-end text; whole = text_between-whole text; cuts = cut_at text }
 
-pub more_behind : MoreBehind
-more_behind text more = record {
+pub more_after : MoreAfter
+more_after text more = record {
   boundary = IsBoundary-append text more;
   part = text_between-append text more;
   front = text_to-at text more (size text) refl;
@@ -218,23 +218,23 @@ more_behind text more = record {
 
 pub encoded_text : EncodedText
 encoded_text big text bytes e = record {
-  well_formed = IsText-from_Encodes big text bytes e;
+  well_formed = IsUtf16-from_Encodes big text bytes e;
   spells = text_of-Encodes big text bytes e;
   long = ap length (sym e.spelled) ∙ length-encode big text;
 }
 
--- ---- where a text stands in another, by its bytes
+-- ---- where a text occurs in another, by its bytes
 
 module _ (big : Bool) (text part bytes part_bytes : List ℕ) (i : ℕ) (e : Encodes big text bytes) (p : Encodes big part part_bytes) where
-  found_in : part ≢ [] → i % 2 ≡ 0 → StandsAt bytes i part_bytes → StandsIn text i part
+  found_in : part ≢ [] → i % 2 ≡ 0 → OccursAt bytes i part_bytes → OccursIn text i part
   found_in some even stands =
-      let stands_encoded : StandsAt (encode big text) i (encode big part) =
-      subst (λ bs. StandsAt bs i (encode big part)) (sym e.spelled) (subst (StandsAt bytes i) (sym p.spelled) stands) in
+      let stands_encoded : OccursAt (encode big text) i (encode big part) =
+      subst (λ bs. OccursAt bs i (encode big part)) (sym e.spelled) (subst (OccursAt bytes i) (sym p.spelled) stands) in
       let found = found_aligned big text part i e.scalars p.scalars some even stands_encoded in
       record { start = found.0; end = found.1; between = found.2 }
 
   -- the bytes between the two boundaries are those of the part
-  pub at_boundaries : StandsIn text i part → StandsAt bytes i part_bytes
+  pub at_boundaries : OccursIn text i part → OccursAt bytes i part_bytes
   at_boundaries s =
       let between = Encodes-between big text bytes i (i + size part) e (omega arith) s.start s.end in
       let long : length part_bytes ≡ i + size part - i = omega (arith, ap length (sym p.spelled) ∙ length-encode big part) in

@@ -1,4 +1,4 @@
--- Numbers kept in the order of their texts.
+-- Numbers kept sorted by their texts.
 use Rattle.std.proofs.Common.{◌≡◌, ◌≢◌, ℕ, ◌+◌, ◌<◌, ◌≤◌, inl, inr, List, [], ◌∷◌, ◌++◌, All, Some, Less, Greater, get_or, length, nat_cmp, slice_get, refl, ap, sym, ◌∙◌, subst, subst₂, arith, zero-add}
 use Rattle.std.proofs.lemmas.Bool.{cases_lt}
 use Rattle.std.proofs.lemmas.List.{get_or_append_left, get_or_default, get_or_push, length_push}
@@ -10,14 +10,14 @@ use Rattle.std.proofs.lemmas.Option.{get_or_from_slice_get}
 use Rattle.std.specs.Cmp.Lexicographic.{slice_cmp}
 use Rattle.std.specs.List.{AllWithin, Contains, insert, range_with_len}
 use Rattle.utf16_units.specs.Encoding.{size}
-use Rattle.utf16_units.specs.Numbered.{AreDistinct, IsOrder, IsPlace, IsPlaceWithin, IsTable, text_at}
-use Rattle.utf16_units.specs.Order.{IsBefore}
+use Rattle.utf16_units.specs.Numbered.{AreDistinct, IsSortOrder, IsPlace, IsPlaceWithin, IsTable, text_at}
+use Rattle.utf16_units.specs.TextOrder.{IsBefore}
 use Rattle.utf16_units.specs.Parts.{parts_of}
-use Rattle.utf16_units.proofs.OrderLemmas.{answers_Greater, answers_Less, before_follows, before_total}
+use Rattle.utf16_units.proofs.TextOrderLemmas.{answers_Greater, answers_Less, before_follows, before_total}
 use Rattle.utf16_units.proofs.PartsLemmas.{ends_none, ends_push, length-parts, parts_none, parts_push}
 use Rattle.utf16_units.proofs.PutBetween.{all_pairs_insert, range_more}
 
-module _ (texts : List (List ℕ)) (order : List ℕ) (is : IsOrder texts order) where
+module _ (texts : List (List ℕ)) (order : List ℕ) (is : IsSortOrder texts order) where
   long : length order ≡ length texts
   long = length_permutation _ order is.numbers ∙ length-range_with_len 0 (length texts)
 
@@ -30,7 +30,7 @@ module _ (texts : List (List ℕ)) (order : List ℕ) (is : IsOrder texts order)
   number_within : (place : ℕ) → place < length order → get_or order place 0 < length texts
   number_within place within = All-get_or (λ n. n < length texts) order place 0 within numbers
 
-  -- what is known of the text in the middle is known of all in front of it, or of all behind it
+  -- what holds of the text in the middle holds of all before it, or of all after it
   smaller_to : (text other : List ℕ) (mid : ℕ) → mid < length order → slice_get texts (get_or order mid 0) ≡ Some other → IsBefore other text
       → AllWithin (λ number. IsBefore (text_at texts number) text) order 0 (mid + 1)
   smaller_to text other mid within got first k d _ below =
@@ -49,7 +49,7 @@ module _ (texts : List (List ℕ)) (order : List ℕ) (is : IsOrder texts order)
         | inr ge ↦ let here : mid ≡ k = omega arith in subst (IsBefore text) (sym there ∙ ap (λ i. text_at texts (get_or order i d)) here) first
       ]
 
-  -- a text with a place is none of the texts
+  -- a text that has a place is not among the texts
   pub is_new : (text : List ℕ) (place : ℕ) → IsPlace texts order text place → All (λ other. other ≢ text) texts
   is_new text place at =
       let all = range_with_len 0 (length texts) in
@@ -67,8 +67,8 @@ module _ (texts : List (List ℕ)) (order : List ℕ) (is : IsOrder texts order)
   distinct_push text place at distinct =
       all_pairs_push (λ x y. x ≢ y) texts text distinct (λ k d within. All-get_or (λ other. other ≢ text) texts k d within (is_new text place at))
 
-  -- with one text more, its number goes to that place
-  pub order_insert : (text : List ℕ) (place : ℕ) → IsPlace texts order text place → IsOrder (texts ++ text ∷ []) (insert order place (length texts))
+  -- after one more text, inserting its number at that place keeps the order
+  pub order_insert : (text : List ℕ) (place : ℕ) → IsPlace texts order text place → IsSortOrder (texts ++ text ∷ []) (insert order place (length texts))
   order_insert text place at =
       let n = length texts in
       let more = texts ++ text ∷ [] in
@@ -86,8 +86,8 @@ module _ (texts : List (List ℕ)) (order : List ℕ) (is : IsOrder texts order)
             (λ k d from below. subst₂ IsBefore (sym last) (sym (same k d below)) (at.larger k d from below));
       }
 
--- halving: at first the place can be any, each comparison leaves one side, and where nothing is
--- left the place is found
+-- binary search: at first the place can be any, each comparison leaves one side, and when nothing
+-- is left the place is found
 pub place_start : (texts : List (List ℕ)) (order text : List ℕ) → IsPlaceWithin texts order text 0 (length order)
 place_start texts order text = record {
   ordered = omega arith;
@@ -96,7 +96,7 @@ place_start texts order text = record {
   larger = λ k d from below. absurd (omega arith);
 }
 
-pub place_behind : (texts : List (List ℕ)) (order text : List ℕ) (low high mid : ℕ) (other : List ℕ) → IsOrder texts order → IsPlaceWithin texts order text low high
+pub place_behind : (texts : List (List ℕ)) (order text : List ℕ) (low high mid : ℕ) (other : List ℕ) → IsSortOrder texts order → IsPlaceWithin texts order text low high
     → mid < high → slice_get texts (get_or order mid 0) ≡ Some other → Less ≡ slice_cmp nat_cmp other text → IsPlaceWithin texts order text (mid + 1) high
 place_behind texts order text low high mid other is at below got less = record {
   ordered = omega arith;
@@ -105,7 +105,7 @@ place_behind texts order text low high mid other is at below got less = record {
   larger = at.larger;
 }
 
-pub place_before : (texts : List (List ℕ)) (order text : List ℕ) (low high mid : ℕ) (other : List ℕ) → IsOrder texts order → IsPlaceWithin texts order text low high
+pub place_before : (texts : List (List ℕ)) (order text : List ℕ) (low high mid : ℕ) (other : List ℕ) → IsSortOrder texts order → IsPlaceWithin texts order text low high
     → low ≤ mid → mid < high → slice_get texts (get_or order mid 0) ≡ Some other → Greater ≡ slice_cmp nat_cmp other text → IsPlaceWithin texts order text low mid
 place_before texts order text low high mid other is at from below got greater = record {
   ordered = from;
@@ -117,8 +117,8 @@ place_before texts order text low high mid other is at from below got greater = 
 pub place_found : (texts : List (List ℕ)) (order text : List ℕ) (low high : ℕ) → IsPlaceWithin texts order text low high → high ≤ low → IsPlace texts order text low
 place_found texts order text low high at none = let same : high ≡ low = omega arith in subst (IsPlaceWithin texts order text low) same at
 
--- the numbers in order are those of parts
-pub number_of_part : (text ends order : List ℕ) (place : ℕ) → IsOrder (parts_of text ends) order → place < length order → get_or order place 0 < length ends
+-- the sorted numbers are those of parts
+pub number_of_part : (text ends order : List ℕ) (place : ℕ) → IsSortOrder (parts_of text ends) order → place < length order → get_or order place 0 < length ends
 number_of_part text ends order place is within = omega (arith, length-parts text 0 ends, number_within (parts_of text ends) order is place within)
 
 pub table_none : IsTable [] [] []
@@ -138,5 +138,5 @@ table_insert text more ends order place table at =
       ends = ends_push text more ends table.ends;
       count = length-parts (text ++ more) 0 _;
       distinct = subst AreDistinct (sym all) (distinct_push parts order table.order more place at table.distinct);
-      order = subst₂ IsOrder (sym all) (ap (insert order place) (length-parts text 0 ends)) (order_insert parts order table.order more place at);
+      order = subst₂ IsSortOrder (sym all) (ap (insert order place) (length-parts text 0 ends)) (order_insert parts order table.order more place at);
     }

@@ -1,5 +1,5 @@
--- Units whose surrogates are paired are those of a text, and of a leading unit behind it where the
--- last one is leading.
+-- Units whose surrogates are paired are those of a text, followed by a leading unit if the last one
+-- is leading.
 use Rattle.std.proofs.Common.{◌≡◌, ℕ, ◌+◌, ◌-◌, ◌*◌, ◌%◌, ◌<◌, ◌≤◌, Bool, true, false, cond, leb, ltb, List, [], ◌∷◌, ◌++◌, length, map, take, drop, slice_index, refl, sym, ap, ◌∙◌, subst, arith, append_assoc, Fits, w8, length-append, length-drop, length-take-le}
 use Rattle.std.proofs.lemmas.Bool.{and_from, and_parts, false≢true, false_from_ne_true, leb-true, le-leb, lt-ltb, ltb-true}
 use Rattle.std.proofs.lemmas.List.{append_cancel_left, drop-drop, map-append, take-take}
@@ -7,15 +7,15 @@ use Rattle.std.proofs.lemmas.Simd.{chunk-fits}
 use lib.Lanes.{Each1}
 use Rattle.std.specs.Char.Utf16.{is_high_surrogate, is_low_surrogate}
 use Rattle.utf16_units.specs.Unit.{IsLeading, unit_of}
-use Rattle.utf16_units.specs.Encoding.{IsText, units_of}
+use Rattle.utf16_units.specs.Encoding.{IsUtf16, units_of}
 use Rattle.utf16_units.specs.Lanes.{Paired, PairedTo, PassedTo, StopsAt}
 use Rattle.utf16_units.proofs.ContinuedLemmas.{four_bytes_text, two_bytes_text}
-use Rattle.utf16_units.proofs.EncodingLemmas.{IsText-append, IsText-nil}
-use Rattle.utf16_units.proofs.FaultLemmas.{take-past}
+use Rattle.utf16_units.proofs.EncodingLemmas.{IsUtf16-append, IsUtf16-nil}
+use Rattle.utf16_units.proofs.IllFormedLemmas.{take-past}
 use Rattle.utf16_units.proofs.LaneLemmas.{in_class}
 use Rattle.utf16_units.proofs.UnitsUpTo.{units_of-next}
 
--- pairs in one block and then in the next
+-- paired units in one block and then in the next
 pub Paired-append : (before between after : Bool) (front back : List ℕ) → Paired before front between → Paired between back after → Paired before (front ++ back) after
 Paired-append before between after front back f b =
     ap (λ bits. bits ++ after ∷ []) (map-append is_low_surrogate front back)
@@ -67,22 +67,22 @@ abbrev head_bit : List Bool → Bool
 head_bit [] = false
 head_bit (b ∷ bits) = b
 
--- a beginning of the bytes that is a text: all of them, or all but a unit at the end
+-- a prefix of the bytes that is a text: all of them, or all but a unit at the end
 pub record TextBefore (big : Bool) (bytes : List ℕ) (after : Bool) : Type 0 where
   pub size : ℕ
   pub all : size + 2 * cond after 1 0 ≡ length bytes
-  pub text : IsText big (take size bytes)
+  pub text : IsUtf16 big (take size bytes)
 
-TextBefore-behind : (big after : Bool) (front bytes : List ℕ) → IsText big front → TextBefore big bytes after → TextBefore big (front ++ bytes) after
+TextBefore-behind : (big after : Bool) (front bytes : List ℕ) → IsUtf16 big front → TextBefore big bytes after → TextBefore big (front ++ bytes) after
 TextBefore-behind big after front bytes t h =
     let all = h.all in
     record {
       size = length front + h.size;
       all = omega (arith, length-append front bytes);
-      text = subst (IsText big) (sym (take-past front bytes h.size)) (IsText-append big front (take h.size bytes) t h.text);
+      text = subst (IsUtf16 big) (sym (take-past front bytes h.size)) (IsUtf16-append big front (take h.size bytes) t h.text);
     }
 
--- the same of bytes behind a leading unit, or with none before them
+-- the same of bytes after a leading unit, or with none before them
 abbrev Before : Bool → Bool → List ℕ → Bool → Type 0
 Before big false bytes after = TextBefore big bytes after
 Before big true bytes after = (x y : ℕ) → x < 256 → y < 256 → IsLeading (unit_of big x y) → TextBefore big (x ∷ y ∷ bytes) after
@@ -93,14 +93,14 @@ at_first big after x y bytes bx by low true high h = h x y bx by (is_of 54 (unit
 at_first big after x y bytes bx by low false high h =
     TextBefore-behind big after (x ∷ y ∷ []) bytes (two_bytes_text big x y bx by (is_not_of 54 (unit_of big x y) high) (is_not_of 55 (unit_of big x y) low)) h
 
--- paired units are those of a text, and of a leading unit behind it where the last one is leading
+-- paired units are those of a text, followed by a leading unit if the last one is leading
 text_before : (big before after : Bool) (bytes : List ℕ) → Each1 (Fits w8) bytes → length bytes % 2 ≡ 0 → Paired before (units_of big bytes) after
     → Before big before bytes after
 unfolding units_of
 text_before big before after (x ∷ []) fit even p = absurd (omega arith)
 text_before big false true [] fit even p = absurd (false≢true (sym (ap head_bit p)))
-text_before big false false [] fit even p = record { size = 0; all = refl; text = IsText-nil big }
-text_before big true true [] fit even p = λ x y bx by lead. record { size = 0; all = refl; text = IsText-nil big }
+text_before big false false [] fit even p = record { size = 0; all = refl; text = IsUtf16-nil big }
+text_before big true true [] fit even p = λ x y bx by lead. record { size = 0; all = refl; text = IsUtf16-nil big }
 text_before big true false [] fit even p = absurd (false≢true (ap head_bit p))
 text_before big false after (x ∷ y ∷ bytes) fit even p =
     let high = is_high_surrogate (unit_of big x y) in
@@ -121,14 +121,14 @@ module _ (big : Bool) (bytes : List ℕ) (at : ℕ) (fits : (k : ℕ) → Fits w
       let even = p.even in
       text_before big false after (take at bytes) (chunk-fits w8 0 at bytes fits) (omega (arith, length-take-le at bytes p.within)) p.paired
 
-  text_to : (after : Bool) (n : ℕ) → PairedTo big bytes at after → n + 2 * cond after 1 0 ≡ at → IsText big (take n bytes)
+  text_to : (after : Bool) (n : ℕ) → PairedTo big bytes at after → n + 2 * cond after 1 0 ≡ at → IsUtf16 big (take n bytes)
   text_to after n p e =
       let h = before after p in
       let size : h.size ≡ n = omega (arith, h.all, length-take-le at bytes p.within) in
-      subst (IsText big) (take-take h.size at bytes (omega arith) ∙ ap (λ m. take m bytes) size) h.text
+      subst (IsUtf16 big) (take-take h.size at bytes (omega arith) ∙ ap (λ m. take m bytes) size) h.text
 
-  -- where the last unit is not leading the bytes are a text, and where it is those before it are
-  pub PairedTo-text : (after : Bool) → after ≡ false → PairedTo big bytes at after → IsText big (take at bytes)
+  -- if the last unit is not leading the bytes are a text, and if it is, those before it are
+  pub PairedTo-text : (after : Bool) → after ≡ false → PairedTo big bytes at after → IsUtf16 big (take at bytes)
   PairedTo-text after e p = text_to false at (subst (PairedTo big bytes at) e p) (omega arith)
 
   pub PairedTo-some : (after : Bool) → after ≡ true → PairedTo big bytes at after → 2 ≤ at
@@ -136,12 +136,12 @@ module _ (big : Bool) (bytes : List ℕ) (at : ℕ) (fits : (k : ℕ) → Fits w
       let h = before true (subst (PairedTo big bytes at) e p) in
       omega (arith, h.all, length-take-le at bytes p.within)
 
-  pub PairedTo-text_before : (after : Bool) → after ≡ true → PairedTo big bytes at after → IsText big (take (at - 2) bytes)
+  pub PairedTo-text_before : (after : Bool) → after ≡ true → PairedTo big bytes at after → IsUtf16 big (take (at - 2) bytes)
   PairedTo-text_before after e p = text_to true (at - 2) (subst (PairedTo big bytes at) e p) (omega (arith, PairedTo-some after e p))
 
 -- ---- where blocks stop
 
--- whether the last unit is leading has one answer
+-- whether the last unit is leading is determined
 PairedTo-same : (big : Bool) (bytes : List ℕ) (at : ℕ) (a b : Bool) → PairedTo big bytes at a → PairedTo big bytes at b → a ≡ b
 PairedTo-same big bytes at a b p q =
     ap head_bit (append_cancel_left (map is_low_surrogate (units_of big (take at bytes))) (a ∷ []) (b ∷ []) (p.paired ∙ sym q.paired))
@@ -155,7 +155,7 @@ halves_paired big bytes before between after long first second =
 
 module _ (big : Bool) (bytes : List ℕ) (whole at : ℕ) (before after : Bool) (p : PairedTo big bytes whole before) (far : StopsAt 64 big bytes whole before)
     (q : PairedTo big bytes at after) (stop : StopsAt 32 big bytes whole before → at ≡ whole) (pass : ¬ StopsAt 32 big bytes whole before → at ≡ whole + 32) where
-  -- behind a place at which blocks of 64 bytes stop, at most one half block passes
+  -- after an offset at which blocks of 64 bytes stop, at most one half block passes
   half_stops : StopsAt 32 big bytes at after
   half_stops long last block =
       let moves : ¬ StopsAt 32 big bytes whole before = λ s.

@@ -1,5 +1,5 @@
--- Boundaries and parts of a text: of one alone, of one with more behind it, and where a part was
--- found in one.
+-- Boundaries and substrings of a text: of one alone, of one with more appended, and where a part
+-- was found in one.
 use Rattle.std.proofs.Common.{◌≡◌, ℕ, ◌+◌, ◌-◌, ◌%◌, ◌≤◌, List, [], ◌++◌, refl, sym, ap, ap₂, ◌∙◌, arith, append_assoc, append-nil}
 use Rattle.utf16_units.specs.Boundary.{CutAt, IsBoundary, text_between, text_from, text_to}
 use Rattle.utf16_units.specs.Encoding.{size}
@@ -7,7 +7,7 @@ use Rattle.utf16_units.proofs.BackChar.{size-even}
 use Rattle.utf16_units.proofs.BoundaryLemmas.{IsBoundary-rest, IsBoundary-start, IsBoundary-within, size-text_to, text_between-end, text_from-at, text_from-back, text_to-at, text_to-front, text_to-text_from}
 use Rattle.utf16_units.proofs.EncodingLemmas.{size-append, size-nil}
 
--- from the start up to a boundary stands what is before it
+-- the substring from the start to an offset is the prefix before it
 pub text_between-start : (text : List ℕ) (i : ℕ) → text_between text 0 i ≡ text_to text i
 text_between-start text i = ap₂ text_to (text_from-at [] text 0 size-nil) (omega arith)
 
@@ -31,7 +31,7 @@ cut_at text i b =
       back_between = text_between-end text i b;
     }
 
--- ---- with more behind
+-- ---- with more appended
 
 pub IsBoundary-append : (text more : List ℕ) (i : ℕ) → IsBoundary text i → IsBoundary (text ++ more) i
 IsBoundary-append text more i b = record {
@@ -59,7 +59,7 @@ text_between-append text more i j le a b =
     ap (λ t. text_to t (j - i)) (text_from-append text more i a)
     ∙ text_to-append (text_from text i) more (j - i) (IsBoundary-rest text i j le a b)
 
--- what was put behind is the part there
+-- what was appended is the substring after the text
 pub text_between-behind : (text more : List ℕ) → text_between (text ++ more) (size text) (size text + size more) ≡ more
 text_between-behind text more =
     let cut : size more ≡ size text + size more - size text = omega arith in

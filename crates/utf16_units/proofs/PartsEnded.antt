@@ -1,5 +1,5 @@
--- A text split at each of one character: with that character behind each part it is the text and
--- the character, which no part has.
+-- A text split at each occurrence of a character: with that character after each part they are the
+-- text followed by the character, which occurs in no part.
 use Rattle.std.proofs.Common.{◌≡◌, ◌≢◌, ℕ, List, [], ◌∷◌, ◌++◌, All, eqb, refl, ap, ap₂, sym, ◌∙◌, subst, inl, inr}
 use Rattle.std.proofs.lemmas.Bool.Decides.{eqb_tells}
 use Rattle.std.proofs.lemmas.List.Elements.{All-cons, All-head, All-nil, All-tail}

@@ -1,4 +1,4 @@
--- The parts of a text that is cut at ascending ends.
+-- The parts of a text that is split at ascending ends.
 use Rattle.std.proofs.Common.{◌≡◌, ℕ, zero, suc, ◌<◌, ◌≤◌, List, [], ◌∷◌, ◌++◌, None, Some, slice_get, get_or, length, refl, ap, ap₂, sym, ◌∙◌, subst, arith}
 use Rattle.std.proofs.lemmas.Option.{slice_get-get_or, slice_get_past}
 use Rattle.utf16_units.specs.Boundary.{IsBoundary, text_between}
@@ -51,7 +51,7 @@ pub ends_none : AreEnds [] []
 unfolding AreEndsFrom
 ends_none = record { ascend = sym size-nil }
 
--- with one part more, put behind the text
+-- with one more part, appended to the text
 ends_more : (text more : List ℕ) (start : ℕ) (ends : List ℕ) → AreEndsFrom text start ends → AreEndsFrom (text ++ more) start (ends ++ size (text ++ more) ∷ [])
 unfolding AreEndsFrom
 ends_more text more start [] are = (omega (arith, are, size-append text more), IsBoundary-end (text ++ more), refl)

@@ -1,5 +1,5 @@
--- Pieces of a text: of two even offsets next to each other one is a boundary, and how much room a
--- piece takes in UTF-8.
+-- Chunks of a text: one of two adjacent even offsets is a boundary, and the length of a chunk in
+-- UTF-8.
 use Rattle.std.proofs.Common.{◌≡◌, ℕ, ◌+◌, ◌-◌, ◌%◌, ◌<◌, ◌≤◌, ◌⊎◌, List, [], ◌∷◌, ◌++◌, inl, inr, refl, sym, ap, ◌∙◌, subst, ⊎_elim, arith, append_assoc, encode_utf8_all, length, length-append, ◌*◌}
 use Rattle.std.proofs.lemmas.Bool.{cases_lt}
 use Rattle.std.specs.Char.{encode_utf8}
@@ -40,12 +40,12 @@ near_boundary (c ∷ text) i even from to = ⊎_elim
     (cases_lt i (char_size c + 2)))
     (cases_lt i (char_size c))
 
--- the UTF-8 of two texts joined
+-- the UTF-8 of two texts concatenated
 pub utf8-append : (xs ys : List ℕ) → encode_utf8_all (xs ++ ys) ≡ encode_utf8_all xs ++ encode_utf8_all ys
 utf8-append [] ys = refl
 utf8-append (c ∷ xs) ys = ap (λ bs. encode_utf8 c ++ bs) (utf8-append xs ys) ∙ sym (append_assoc (encode_utf8 c) (encode_utf8_all xs) (encode_utf8_all ys))
 
--- a text takes no more than half as much again in UTF-8 as in UTF-16
+-- a text takes at most one and a half times as many bytes in UTF-8 as in UTF-16
 pub encodes-le-size : (text : List ℕ) → 2 * length (encode_utf8_all text) ≤ 3 * size text
 encodes-le-size [] = omega (arith, size-nil)
 encodes-le-size (c ∷ text) =

@@ -1,4 +1,4 @@
--- The order of texts, told by the ranks of their units.
+-- The ordering of texts by the ranks of their units.
 use Rattle.std.proofs.Common.{◌≡◌, ℕ, ◌+◌, ◌-◌, ◌/◌, ◌%◌, ◌<◌, ◌≤◌, ◌⊎◌, Bool, List, [], ◌∷◌, ◌++◌, All, Ordering, Less, Equal, Greater, nat_cmp, refl, sym, ap, ap₂, ◌∙◌, subst₂, ⊎_elim, inl, inr, arith, flat_map}
 use Rattle.std.proofs.lemmas.Bool.{cases_lt}
 use Rattle.std.proofs.lemmas.Bool.Decides.{nat_tests}
@@ -10,12 +10,12 @@ use Rattle.std.specs.Cmp.{nat_cmp_is, ranks}
 use Rattle.std.specs.Cmp.Lexicographic.{slice_cmp}
 use Rattle.std.specs.Ordering.{MatchOrdering, ordering_then}
 use Rattle.utf16_units.specs.Compared.{ranked_cmp, unit_rank, units_cmp}
-use Rattle.utf16_units.specs.Encoding.{IsText, text_of}
+use Rattle.utf16_units.specs.Encoding.{IsUtf16, text_of}
 use Rattle.utf16_units.proofs.CharLemmas.{no_surrogate}
 use Rattle.utf16_units.proofs.EncodingLemmas.{scalars-text_of}
 use Rattle.utf16_units.proofs.UnitsUpTo.{units_of-text}
 
--- two pairs of numbers in the same order
+-- two pairs of numbers with the same ordering
 same_cmp : (a b x y : ℕ) → (a < b → x < y) → (a ≡ b → x ≡ y) → (b < a → y < x) → nat_cmp x y ≡ nat_cmp a b
 same_cmp a b x y less equal greater = sym (nat_cmp_is x y (nat_cmp a b) (moved (nat_cmp a b) (ranks a b))) where
   moved : (o : Ordering) → MatchOrdering o (a < b) (a ≡ b) (b < a) → MatchOrdering o (x < y) (x ≡ y) (y < x)
@@ -23,7 +23,7 @@ same_cmp a b x y less equal greater = sym (nat_cmp_is x y (nat_cmp a b) (moved (
   moved Equal h = equal h
   moved Greater h = greater h
 
--- ---- the ranks: units that are no surrogates in their order, and above them the surrogates
+-- ---- the ranks: units that are not surrogates in their order, and above them the surrogates
 
 low_rank : (unit : ℕ) → unit < 0xD800 → unit_rank unit ≡ unit
 low_rank unit low = grind (arith, nat_tests)
@@ -148,8 +148,8 @@ ranked_text (c ∷ text) (d ∷ other) scalars others =
     ranked_char c d (All-head IsScalar c text scalars) (All-head IsScalar d other others) (flat_map encode_utf16 text) (flat_map encode_utf16 other)
     ∙ ap (ordering_then (nat_cmp c d)) (ranked_text text other (All-tail IsScalar c text scalars) (All-tail IsScalar d other others))
 
--- the units of well-formed bytes decide as their texts do
-pub ranked_bytes : (big : Bool) (bytes other : List ℕ) → IsText big bytes → IsText big other
+-- the units of well-formed bytes compare as their texts do
+pub ranked_bytes : (big : Bool) (bytes other : List ℕ) → IsUtf16 big bytes → IsUtf16 big other
     → units_cmp big bytes other ≡ slice_cmp nat_cmp (text_of big bytes) (text_of big other)
 ranked_bytes big bytes other t o =
     ap₂ ranked_cmp (units_of-text big bytes t) (units_of-text big other o)

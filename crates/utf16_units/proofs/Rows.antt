@@ -1,11 +1,11 @@
--- The definitions computed at known characters and at known faults: each row is checked by
+-- The definitions computed at known characters and known ill-formed bytes: each row is checked by
 -- evaluation alone.
 use Rattle.std.specs.Prelude.{◌≡◌, ◌==◌, ℕ, Bool, true, false, not, ◌&&◌, List, [], ◌∷◌, Option, None, Some, refl, length, encode_utf8_all, bytes_eq}
 use Rattle.std.specs.List.{list_all}
 use Rattle.std.specs.Char.{encode_utf8}
 use Rattle.std.specs.Char.Utf16.{utf16_chars}
-use Rattle.utf16_units.specs.Encoding.{encode, is_text, size, text_of, units_of}
-use Rattle.utf16_units.specs.Fault.{fault, front, front_within, is_cut_off}
+use Rattle.utf16_units.specs.Encoding.{encode, is_utf16, size, text_of, units_of}
+use Rattle.utf16_units.specs.IllFormed.{ill_formed_len, valid_len, valid_len_within, is_incomplete}
 
 record Character : Type 0 where
   char : ℕ
@@ -13,12 +13,12 @@ record Character : Type 0 where
   big : List ℕ
   utf8 : List ℕ
 
--- the character has these bytes in each order and in UTF-8, and they spell it
+-- the character has these bytes in each byte order and in UTF-8, and they decode to it
 abbrev is_encoded : Character → Bool
 is_encoded row =
     bytes_eq (encode false (row.char ∷ [])) row.little && bytes_eq (encode true (row.char ∷ [])) row.big
     && bytes_eq (encode_utf8_all (row.char ∷ [])) row.utf8 && (size (row.char ∷ []) == length row.little)
-    && is_text false row.little && is_text true row.big
+    && is_utf16 false row.little && is_utf16 true row.big
     && bytes_eq (text_of false row.little) (row.char ∷ []) && bytes_eq (text_of true row.big) (row.char ∷ [])
 
 abbrev character : ℕ → List ℕ → List ℕ → List ℕ → Character
@@ -44,7 +44,7 @@ characters =
     ∷ []
 
 characters_encoded : list_all is_encoded characters ≡ true
-unfolding encode encode_utf8 is_text size text_of units_of utf16_chars
+unfolding encode encode_utf8 is_utf16 size text_of units_of utf16_chars
 characters_encoded = refl
 
 record Faulty : Type 0 where
@@ -59,9 +59,9 @@ same_error_len None (Some m) = false
 same_error_len (Some n) None = false
 same_error_len (Some n) (Some m) = n == m
 
--- the bytes are not well formed, and have this longest valid beginning and this fault
+-- the bytes are ill-formed, and have this longest valid prefix and this error length
 abbrev is_refused : Faulty → Bool
-is_refused row = not (is_text row.order row.bytes) && (front row.order row.bytes == row.valid_up_to) && same_error_len (fault row.order row.bytes) row.error_len
+is_refused row = not (is_utf16 row.order row.bytes) && (valid_len row.order row.bytes == row.valid_up_to) && same_error_len (ill_formed_len row.order row.bytes) row.error_len
 
 abbrev faulty : Bool → List ℕ → ℕ → Option ℕ → Faulty
 faulty order bytes valid_up_to error_len = record { order = order; bytes = bytes; valid_up_to = valid_up_to; error_len = error_len }
@@ -85,5 +85,5 @@ faults =
     ∷ []
 
 faults_refused : list_all is_refused faults ≡ true
-unfolding encode fault front front_within is_cut_off is_text text_of units_of utf16_chars
+unfolding encode ill_formed_len valid_len valid_len_within is_incomplete is_utf16 text_of units_of utf16_chars
 faults_refused = refl

@@ -1,4 +1,4 @@
--- Bytes compared by blocks and by units, behind a common beginning.
+-- Bytes compared by blocks and by units, after a common prefix.
 use Rattle.std.proofs.Common.{◌≡◌, ◌≢◌, ℕ, zero, suc, ◌+◌, ◌*◌, ◌/◌, ◌%◌, ◌^◌, ◌<◌, ◌≤◌, ◌⊎◌, Bool, true, false, cond, not, eqb, List, [], ◌∷◌, ◌++◌, Ordering, Less, Equal, Greater, length, map, take, drop, slice_index, nat_cmp, refl, sym, ap, ap₂, ◌∙◌, subst, ⊎_elim, arith, length-drop, take-add}
 use Rattle.std.proofs.lemmas.Bool.{cases_Bool, cases_lt, eqb-true}
 use Rattle.std.proofs.lemmas.Bool.Decides.{nat_tests}
@@ -11,7 +11,7 @@ use mir.Syntax.{w8}
 use Rattle.utf16_units.specs.Compared.{SameTo, ranked_cmp, unit_rank, units_cmp}
 use Rattle.utf16_units.specs.Encoding.{units_of}
 use Rattle.utf16_units.specs.Unit.{unit_of}
-use Rattle.utf16_units.proofs.OrderLemmas.{common_cmp}
+use Rattle.utf16_units.proofs.TextOrderLemmas.{common_cmp}
 use Rattle.utf16_units.proofs.UnitsUpTo.{units_of-one, units_of-short, units_of-split}
 
 -- ---- the lanes of a block that differ
@@ -23,7 +23,7 @@ not-false : (b : Bool) → not b ≡ false → b ≡ true
 not-false true e = refl
 not-false false e = sym e
 
--- the lowest bit that is set stands below all others, or behind a bit that is not
+-- the lowest set bit is bit 0, or else one above that of the other bits
 lowest_of : (b : Bool) (m k : ℕ) → count_trailing_zeros (suc k) (cond b 1 0 + 2 * m) ≡ cond b 0 (suc (count_trailing_zeros k m))
 unfolding count_trailing_zeros
 lowest_of true m k = let odd : (1 + 2 * m) % 2 ≡ 1 = omega arith in ap (λ d. under d (count_trailing_zeros k ((1 + 2 * m) / 2))) odd
@@ -48,7 +48,7 @@ same_lanes (suc k) (suc n) (x ∷ xs) (y ∷ ys) long within below =
     ap₂ (λ z zs. z ∷ zs) (eqb-true x y (not-false (eqb x y) is)) (same_lanes k n xs ys (omega arith) (omega arith) (omega arith)))
     (cases_Bool (differ x y))
 
--- the front of a front
+-- the prefix of a prefix
 take_take : (n m : ℕ) (xs : List ℕ) → n ≤ m → take n (take m xs) ≡ take n xs
 take_take zero m xs le = refl
 take_take (suc n) zero xs le = absurd (omega arith)
@@ -71,7 +71,7 @@ module _ (bytes other : List ℕ) (at N : ℕ) (s : SameTo bytes other at) (lane
       ap (λ ms. mask_l ms % 2 ^ 64) (tops_compared w8 differ xs ys)
       ∙ mask_l-mod (zip2 differ xs ys) 64 (omega (arith, length-zip2 differ xs ys (one ∙ sym two)))
 
-  -- so many bytes of the block are the same as stand below its lowest bit
+  -- as many bytes of the block are the same as there are bits below its lowest set bit
   pub SameTo-block : (n : ℕ) → n % 2 ≡ 0 → n ≤ N → n ≤ count_trailing_zeros 64 differing → SameTo bytes other (at + n)
   SameTo-block n even le below =
       let one = length-chunk at N bytes room in
@@ -99,7 +99,7 @@ ranks_decide u v us vs one two other = by_answer (nat_cmp (unit_rank u) (unit_ra
   by_answer Equal m = absurd (other (rank_injective u v one two m))
   by_answer Greater m = refl
 
--- the unit at a place, and those behind it
+-- the unit at an offset, and those after it
 units_from : (big : Bool) (bytes : List ℕ) (at : ℕ) → at + 2 ≤ length bytes
     → units_of big (drop at bytes) ≡ unit_of big (slice_index bytes at) (slice_index bytes (at + 1)) ∷ units_of big (drop 2 (drop at bytes))
 units_from big bytes at room =
@@ -110,7 +110,7 @@ none_from : (big : Bool) (bytes : List ℕ) (at : ℕ) → length bytes < at + 2
 none_from big bytes at few = units_of-short big (drop at bytes) (omega (arith, length-drop at bytes))
 
 module _ (big : Bool) (bytes other : List ℕ) (at : ℕ) (s : SameTo bytes other at) where
-  -- what stands from the place on decides
+  -- the bytes from the offset on decide
   units_cmp-from : units_cmp big bytes other ≡ ranked_cmp (units_of big (drop at bytes)) (units_of big (drop at other))
   units_cmp-from =
       let front = units_of big (take at bytes) in
@@ -128,7 +128,7 @@ module _ (big : Bool) (bytes other : List ℕ) (at : ℕ) (s : SameTo bytes othe
         (units_from big other at other_room ∙ ap (λ w. w ∷ units_of big (drop 2 (drop at other))) (sym v-is))
         ∙ ranks_decide u v (units_of big (drop 2 (drop at bytes))) (units_of big (drop 2 (drop at other))) one two apart)
 
-  -- where one has ended, the counts decide
+  -- if one has ended, the lengths decide
   pub decided_at_end : length bytes % 2 ≡ 0 → length other % 2 ≡ 0 → (length bytes < at + 2) ⊎ (length other < at + 2)
       → nat_cmp (length bytes) (length other) ≡ units_cmp big bytes other
   decided_at_end even other_even ended =

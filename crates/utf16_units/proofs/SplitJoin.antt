@@ -1,24 +1,24 @@
--- The split of a stream by its pieces: what is left of one piece is put before the next.
+-- The split of a stream by its chunks: the tail of one chunk comes before the next.
 use Rattle.std.proofs.Common.{◌≡◌, ℕ, ◌≤◌, Bool, true, false, List, [], ◌∷◌, ◌++◌, length, take, map, take_at, refl, sym, ap, ap₂, ◌∙◌, subst, ⊎_elim, arith, length-append}
 use Rattle.std.proofs.lemmas.Bool.{cases_Bool}
 use Rattle.utf16_units.specs.Unit.{IsLeading, IsTrailing, unit_of}
 use Rattle.utf16_units.specs.Encoding.{Encodes}
-use Rattle.utf16_units.specs.Fault.{is_cut_off}
+use Rattle.utf16_units.specs.IllFormed.{is_incomplete}
 use Rattle.utf16_units.specs.Split.{Item, good, lone_lead, lone_trail, put_leading, put_unit, split_items, split_tail}
-use Rattle.utf16_units.proofs.Computed.{IsCutOff-from_is_cut_off}
+use Rattle.utf16_units.proofs.Computed.{IsIncomplete-from_is_incomplete}
 use Rattle.utf16_units.proofs.SplitLemmas.{Class, class_of, leading, trailing, neither, cut_items, cut_tail, not_cut, not_cut_long, put_unit-leading, put_unit-neither, put_unit-trailing, whole_items, whole_tail}
 use Rattle.utf16_units.proofs.SplitUnique.{computed-encode}
 
--- ---- items behind items
+-- ---- items after items
 
--- the items do not begin with a trailing unit that has no partner
+-- the items do not start with an unpaired trailing unit
 abbrev pub BeginsNoTrail : List Item → Type 0
 BeginsNoTrail [] = Unit {0}
 BeginsNoTrail (good c ∷ items) = Unit {0}
 BeginsNoTrail (lone_trail unit ∷ items) = ⊥
 BeginsNoTrail (lone_lead unit ∷ items) = Unit {0}
 
--- a leading unit before such items stays without a partner
+-- a leading unit before such items stays unpaired
 pub put_leading-no_trail : (lead : ℕ) (items : List Item) → BeginsNoTrail items → put_leading lead items ≡ lone_lead lead ∷ items
 unfolding put_leading
 put_leading-no_trail lead [] begins = refl
@@ -40,17 +40,17 @@ BeginsNoTrail-put_unit unit items not_trailing = by_class (class_of unit) where
   by_class (trailing t) = absurd (not_trailing t)
   by_class (neither l t) = subst BeginsNoTrail (sym (put_unit-neither unit items l t)) tt
 
--- bytes that begin with no trailing unit have such items
+-- bytes that do not start with a trailing unit have such items
 pub BeginsNoTrail-split_items : (big : Bool) (first second : ℕ) (bytes : List ℕ) → ¬ (IsTrailing (unit_of big first second))
     → BeginsNoTrail (split_items big (first ∷ second ∷ bytes))
 BeginsNoTrail-split_items big first second bytes not_trailing = ⊎_elim
-    (λ (cut : is_cut_off big (first ∷ second ∷ bytes) ≡ true). subst BeginsNoTrail (sym (cut_items big first second bytes cut)) tt)
-    (λ (whole : is_cut_off big (first ∷ second ∷ bytes) ≡ false).
+    (λ (cut : is_incomplete big (first ∷ second ∷ bytes) ≡ true). subst BeginsNoTrail (sym (cut_items big first second bytes cut)) tt)
+    (λ (whole : is_incomplete big (first ∷ second ∷ bytes) ≡ false).
     subst BeginsNoTrail (sym (whole_items big first second bytes whole))
     (BeginsNoTrail-put_unit (unit_of big first second) (split_items big bytes) not_trailing))
-    (cases_Bool (is_cut_off big (first ∷ second ∷ bytes)))
+    (cases_Bool (is_incomplete big (first ∷ second ∷ bytes)))
 
--- a leading unit put before items, and more items behind
+-- a leading unit before items, and more items after them
 put_leading-some : (lead : ℕ) (item : Item) (items more : List Item) → put_leading lead (item ∷ (items ++ more)) ≡ put_leading lead (item ∷ items) ++ more
 unfolding put_leading
 put_leading-some lead (good c) items more = refl
@@ -61,7 +61,7 @@ put_leading-append : (lead : ℕ) (items more : List Item) → (items ≡ [] →
 put_leading-append lead [] more begins = put_leading-no_trail lead more (begins refl) ∙ ap (λ t. t ++ more) (sym (put_leading-no_trail lead [] tt))
 put_leading-append lead (item ∷ items) more begins = put_leading-some lead item items more
 
--- a unit put before items, and more items behind
+-- a unit before items, and more items after them
 put_unit-append : (unit : ℕ) (items more : List Item) → (IsLeading unit → items ≡ [] → BeginsNoTrail more)
     → put_unit unit (items ++ more) ≡ put_unit unit items ++ more
 put_unit-append unit items more begins = by_class (class_of unit) where
@@ -72,9 +72,9 @@ put_unit-append unit items more begins = by_class (class_of unit) where
   by_class (trailing t) = put_unit-trailing unit (items ++ more) t ∙ ap (λ i. i ++ more) (sym (put_unit-trailing unit items t))
   by_class (neither l t) = put_unit-neither unit (items ++ more) l t ∙ ap (λ i. i ++ more) (sym (put_unit-neither unit items l t))
 
--- ---- one piece and then the next
+-- ---- one chunk and then the next
 
--- a unit put before items leaves some
+-- a unit before items leaves some
 pub some_put_unit : (unit : ℕ) (items : List Item) → ¬ (put_unit unit items ≡ [])
 unfolding put_leading
 some_put_unit unit items none = by_class (class_of unit) where
@@ -93,23 +93,23 @@ some_put_unit unit items none = by_class (class_of unit) where
       let e : good unit ∷ items ≡ [] = sym (put_unit-neither unit items l t) ∙ none in
       absurd (cc)
 
--- two bytes or more that have no item are cut off: they begin with a leading unit, and with them
--- more bytes do too
+-- two bytes or more that have no item are truncated: they start with a leading unit, and followed
+-- by more bytes they do too
 more_begins : (big : Bool) (bytes back : List ℕ) → 2 ≤ length bytes → split_items big bytes ≡ [] → BeginsNoTrail (split_items big (split_tail big bytes ++ back))
 more_begins big [] back long none = absurd (omega arith)
 more_begins big (last ∷ []) back long none = absurd (omega arith)
 more_begins big (first ∷ second ∷ bytes) back long none = ⊎_elim
-    (λ (cut : is_cut_off big (first ∷ second ∷ bytes) ≡ true).
-    let lead = (IsCutOff-from_is_cut_off big (first ∷ second ∷ bytes) cut).0 in
+    (λ (cut : is_incomplete big (first ∷ second ∷ bytes) ≡ true).
+    let lead = (IsIncomplete-from_is_incomplete big (first ∷ second ∷ bytes) cut).0 in
     subst (λ t. BeginsNoTrail (split_items big (t ++ back))) (sym (cut_tail big first second bytes cut))
     (BeginsNoTrail-split_items big first second (bytes ++ back) (λ t. omega arith)))
-    (λ (whole : is_cut_off big (first ∷ second ∷ bytes) ≡ false).
+    (λ (whole : is_incomplete big (first ∷ second ∷ bytes) ≡ false).
     absurd (some_put_unit (unit_of big first second) (split_items big bytes) (sym (whole_items big first second bytes whole) ∙ none)))
-    (cases_Bool (is_cut_off big (first ∷ second ∷ bytes)))
+    (cases_Bool (is_incomplete big (first ∷ second ∷ bytes)))
 
--- a unit that is not cut off is not with more bytes behind
-whole_then : (big : Bool) (first second : ℕ) (bytes back : List ℕ) → is_cut_off big (first ∷ second ∷ bytes) ≡ false
-    → is_cut_off big (first ∷ second ∷ (bytes ++ back)) ≡ false
+-- a unit that is not truncated is not truncated with more bytes after it either
+whole_then : (big : Bool) (first second : ℕ) (bytes back : List ℕ) → is_incomplete big (first ∷ second ∷ bytes) ≡ false
+    → is_incomplete big (first ∷ second ∷ (bytes ++ back)) ≡ false
 whole_then big first second bytes back whole =
     not_cut big first second (bytes ++ back)
     (λ l.
@@ -127,40 +127,39 @@ module _ (big : Bool) (first second : ℕ) (bytes back : List ℕ) where
       let unit = unit_of big first second in
       let more = split_items big (split_tail big bytes ++ back) in
       ⊎_elim
-      (λ (cut : is_cut_off big piece ≡ true).
+      (λ (cut : is_incomplete big piece ≡ true).
       ap₂ (λ i t. i ++ split_items big (t ++ back)) (sym (cut_items big first second bytes cut)) (sym (cut_tail big first second bytes cut)))
-      (λ (whole : is_cut_off big piece ≡ false).
+      (λ (whole : is_incomplete big piece ≡ false).
       whole_items big first second (bytes ++ back) (whole_then big first second bytes back whole)
       ∙ ap (put_unit unit) behind
       ∙ put_unit-append unit (split_items big bytes) more (λ l none. more_begins big bytes back (not_cut_long big first second bytes whole l) none)
       ∙ ap₂ (λ i t. i ++ split_items big (t ++ back)) (sym (whole_items big first second bytes whole)) (sym (whole_tail big first second bytes whole)))
-      (cases_Bool (is_cut_off big piece))
+      (cases_Bool (is_incomplete big piece))
 
   two_more_tail : split_tail big (bytes ++ back) ≡ split_tail big (split_tail big bytes ++ back)
       → split_tail big (piece ++ back) ≡ split_tail big (split_tail big piece ++ back)
   two_more_tail behind = ⊎_elim
-      (λ (cut : is_cut_off big piece ≡ true). ap (λ t. split_tail big (t ++ back)) (sym (cut_tail big first second bytes cut)))
-      (λ (whole : is_cut_off big piece ≡ false).
+      (λ (cut : is_incomplete big piece ≡ true). ap (λ t. split_tail big (t ++ back)) (sym (cut_tail big first second bytes cut)))
+      (λ (whole : is_incomplete big piece ≡ false).
       whole_tail big first second (bytes ++ back) (whole_then big first second bytes back whole) ∙ behind
       ∙ ap (λ t. split_tail big (t ++ back)) (sym (whole_tail big first second bytes whole)))
-      (cases_Bool (is_cut_off big piece))
+      (cases_Bool (is_incomplete big piece))
 
--- the items of two pieces are those of the first, and then those of what it leaves before the
--- second
+-- the items of two chunks are those of the first, and then those of its tail followed by the second
 pub split_items-append : (big : Bool) (front back : List ℕ) → split_items big (front ++ back) ≡ split_items big front ++ split_items big (split_tail big front ++ back)
 unfolding split_items split_tail
 split_items-append big [] back = refl
 split_items-append big (last ∷ []) back = refl
 split_items-append big (first ∷ second ∷ bytes) back = two_more big first second bytes back (split_items-append big bytes back)
 
--- and the tail is that of what the first leaves before the second
+-- and the tail is that of the first chunk's tail followed by the second
 pub split_tail-append : (big : Bool) (front back : List ℕ) → split_tail big (front ++ back) ≡ split_tail big (split_tail big front ++ back)
 unfolding split_tail
 split_tail-append big [] back = refl
 split_tail-append big (last ∷ []) back = refl
 split_tail-append big (first ∷ second ∷ bytes) back = two_more_tail big first second bytes back (split_tail-append big bytes back)
 
--- the items of a beginning are a beginning of the items of the whole
+-- the items of a prefix are a prefix of the items of the whole
 pub split_items-front : (big : Bool) (front back : List ℕ) → take (length (split_items big front)) (split_items big (front ++ back)) ≡ split_items big front
 split_items-front big front back =
     ap (take (length (split_items big front))) (split_items-append big front back)

@@ -7,13 +7,13 @@ use Rattle.std.specs.Char.{IsScalar}
 use Rattle.std.specs.Char.Utf16.{surrogate_pair_char}
 use Rattle.utf16_units.specs.Unit.{IsLeading, IsTrailing, unit_bytes, unit_of}
 use Rattle.utf16_units.specs.Encoding.{char_bytes}
-use Rattle.utf16_units.specs.Fault.{is_cut_off}
+use Rattle.utf16_units.specs.IllFormed.{is_incomplete}
 use Rattle.utf16_units.proofs.CharLemmas.{one_unit_bytes}
 use Rattle.utf16_units.specs.Split.{BeginsUnpaired, IsItem, IsTail, Item, Split, good, item_bytes, items_bytes, lone_lead, lone_trail, put_leading, put_unit, split_items, split_tail}
 use Rattle.utf16_units.proofs.UnitLemmas.{unit_bytes-unit_of}
 use Rattle.utf16_units.proofs.FirstChar.{AreBytes, first_unit, high_scalar, scalar_unit, unit_below}
 use Rattle.utf16_units.proofs.FrontChar.{first_unit-bytes, first_unit-char}
-use Rattle.utf16_units.proofs.Computed.{IsCutOff-from_is_cut_off, is_cut_off-from_IsCutOff}
+use Rattle.utf16_units.proofs.Computed.{IsIncomplete-from_is_incomplete, is_incomplete-from_IsIncomplete}
 
 -- ---- the class of a unit
 
@@ -73,15 +73,15 @@ put_unit-neither unit items l t = ⊎_elim
     (⊎_elim inr inl (cases_lt unit 0xE000)))
     (cases_lt unit 0xD800)
 
--- ---- an item more, and one less
+-- ---- one more item, and one less
 
--- what has to follow an item: behind a lone leading unit, a unit that is not trailing
+-- what has to follow an item: after an unpaired leading unit, a unit that is not trailing
 abbrev pub Follows : Bool → Item → List ℕ → Type 0
 Follows big (good c) bytes = Unit {0}
 Follows big (lone_trail unit) bytes = Unit {0}
 Follows big (lone_lead unit) bytes = BeginsUnpaired big bytes
 
--- an item put before a split
+-- an item before a split
 pub Split-cons : (big : Bool) (item : Item) (bytes : List ℕ) (items : List Item) (tail : List ℕ)
     → IsItem item → Follows big item bytes → Split big bytes items tail → Split big (item_bytes big item ++ bytes) (item ∷ items) tail
 Split-cons big item bytes items tail is follows s = record {
@@ -111,36 +111,36 @@ Split-tail big bytes item items tail s = record {
 -- ---- the computing form, unit by unit
 
 module _ (big : Bool) (first second : ℕ) (bytes : List ℕ) where
-  pub cut_items : is_cut_off big (first ∷ second ∷ bytes) ≡ true → split_items big (first ∷ second ∷ bytes) ≡ []
+  pub cut_items : is_incomplete big (first ∷ second ∷ bytes) ≡ true → split_items big (first ∷ second ∷ bytes) ≡ []
   unfolding split_items
   cut_items e = ap (λ t. cond t [] (put_unit (unit_of big first second) (split_items big bytes))) e
 
-  pub cut_tail : is_cut_off big (first ∷ second ∷ bytes) ≡ true → split_tail big (first ∷ second ∷ bytes) ≡ first ∷ second ∷ bytes
+  pub cut_tail : is_incomplete big (first ∷ second ∷ bytes) ≡ true → split_tail big (first ∷ second ∷ bytes) ≡ first ∷ second ∷ bytes
   unfolding split_tail
   cut_tail e = ap (λ t. cond t (first ∷ second ∷ bytes) (split_tail big bytes)) e
 
-  pub whole_items : is_cut_off big (first ∷ second ∷ bytes) ≡ false
+  pub whole_items : is_incomplete big (first ∷ second ∷ bytes) ≡ false
       → split_items big (first ∷ second ∷ bytes) ≡ put_unit (unit_of big first second) (split_items big bytes)
   unfolding split_items
   whole_items e = ap (λ t. cond t [] (put_unit (unit_of big first second) (split_items big bytes))) e
 
-  pub whole_tail : is_cut_off big (first ∷ second ∷ bytes) ≡ false → split_tail big (first ∷ second ∷ bytes) ≡ split_tail big bytes
+  pub whole_tail : is_incomplete big (first ∷ second ∷ bytes) ≡ false → split_tail big (first ∷ second ∷ bytes) ≡ split_tail big bytes
   unfolding split_tail
   whole_tail e = ap (λ t. cond t (first ∷ second ∷ bytes) (split_tail big bytes)) e
 
-  pub not_cut : (IsLeading (unit_of big first second) → 2 ≤ length bytes) → is_cut_off big (first ∷ second ∷ bytes) ≡ false
+  pub not_cut : (IsLeading (unit_of big first second) → 2 ≤ length bytes) → is_incomplete big (first ∷ second ∷ bytes) ≡ false
   not_cut long = ⊎_elim
-      (λ (yes : is_cut_off big (first ∷ second ∷ bytes) ≡ true).
-      let cut = IsCutOff-from_is_cut_off big (first ∷ second ∷ bytes) yes in
+      (λ (yes : is_incomplete big (first ∷ second ∷ bytes) ≡ true).
+      let cut = IsIncomplete-from_is_incomplete big (first ∷ second ∷ bytes) yes in
       let two = long cut.0 in
       let one = cut.1 in
       absurd (omega arith))
-      (λ (no : is_cut_off big (first ∷ second ∷ bytes) ≡ false). no)
-      (cases_Bool (is_cut_off big (first ∷ second ∷ bytes)))
+      (λ (no : is_incomplete big (first ∷ second ∷ bytes) ≡ false). no)
+      (cases_Bool (is_incomplete big (first ∷ second ∷ bytes)))
 
-  pub not_cut_long : is_cut_off big (first ∷ second ∷ bytes) ≡ false → IsLeading (unit_of big first second) → 2 ≤ length bytes
+  pub not_cut_long : is_incomplete big (first ∷ second ∷ bytes) ≡ false → IsLeading (unit_of big first second) → 2 ≤ length bytes
   not_cut_long e l = ⊎_elim
-      (λ (short : length bytes < 2). absurd (true≢false (sym (is_cut_off-from_IsCutOff big (first ∷ second ∷ bytes) (l, omega arith)) ∙ e)))
+      (λ (short : length bytes < 2). absurd (true≢false (sym (is_incomplete-from_IsIncomplete big (first ∷ second ∷ bytes) (l, omega arith)) ∙ e)))
       (λ (two : 2 ≤ length bytes). two)
       (cases_lt (length bytes) 2)
 
@@ -170,7 +170,7 @@ module _ (lead trail : ℕ) (l : IsLeading lead) (t : IsTrailing trail) where
       ∙ append_assoc (unit_bytes big lead) (unit_bytes big trail ++ []) rest
       ∙ ap (λ us. unit_bytes big lead ++ (us ++ rest)) (append-nil (unit_bytes big trail))
 
--- a leading unit put before a split of two bytes or more
+-- a leading unit before a split of two bytes or more
 Split-put_leading : (big : Bool) (lead : ℕ) (bytes : List ℕ) (items : List Item) (tail : List ℕ)
     → IsLeading lead → 2 ≤ length bytes → Split big bytes items tail → Split big (unit_bytes big lead ++ bytes) (put_leading lead items) tail
 unfolding put_leading
@@ -197,7 +197,7 @@ Split-put_leading big lead bytes (lone_lead next ∷ items) tail l long s =
     let unit : first_unit big bytes ≡ next = ap (first_unit big) (sym spelled) ∙ first_unit-bytes big next (items_bytes big items ++ tail) in
     Split-cons big (lone_lead lead) bytes (lone_lead next ∷ items) tail l (BeginsUnpaired-first big bytes long (λ t. omega arith)) s
 
--- a unit put before a split
+-- a unit before a split
 Split-put_unit : (big : Bool) (unit : ℕ) (bytes : List ℕ) (items : List Item) (tail : List ℕ) → unit < 0x1_0000
     → (IsLeading unit → 2 ≤ length bytes) → Split big bytes items tail → Split big (unit_bytes big unit ++ bytes) (put_unit unit items) tail
 Split-put_unit big unit bytes items tail below long s = by_class (class_of unit) where
@@ -229,15 +229,15 @@ module _ (big : Bool) (first second : ℕ) (bytes : List ℕ) (first_byte : firs
   two_more =
       let unit = unit_of big first second in
       ⊎_elim
-      (λ (cut : is_cut_off big all ≡ true).
+      (λ (cut : is_incomplete big all ≡ true).
       subst (λ i. Split big all i (split_tail big all)) (sym (cut_items big first second bytes cut))
-      (subst (Split big all []) (sym (cut_tail big first second bytes cut)) (Split-nil big all (IsCutOff-from_is_cut_off big all cut))))
-      (λ (whole : is_cut_off big all ≡ false).
+      (subst (Split big all []) (sym (cut_tail big first second bytes cut)) (Split-nil big all (IsIncomplete-from_is_incomplete big all cut))))
+      (λ (whole : is_incomplete big all ≡ false).
       subst (λ i. Split big all i (split_tail big all)) (sym (whole_items big first second bytes whole))
       (subst (Split big all (put_unit unit (split_items big bytes))) (sym (whole_tail big first second bytes whole))
       (subst (λ b. Split big (b ++ bytes) (put_unit unit (split_items big bytes)) (split_tail big bytes)) (unit_bytes-unit_of big first second first_byte second_byte)
       (Split-put_unit big unit bytes (split_items big bytes) (split_tail big bytes) (unit_below big first second first_byte second_byte) (not_cut_long big first second bytes whole) s))))
-      (cases_Bool (is_cut_off big all))
+      (cases_Bool (is_incomplete big all))
 
 -- the computed split is a split
 pub Split-computed : (big : Bool) (bytes : List ℕ) → AreBytes bytes → Split big bytes (split_items big bytes) (split_tail big bytes)

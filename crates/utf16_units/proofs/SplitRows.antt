@@ -1,10 +1,10 @@
--- The split computed at known faults: each row is checked by evaluation alone.
+-- The split computed of known ill-formed bytes: each row is checked by evaluation alone.
 use Rattle.std.specs.Prelude.{◌≡◌, ℕ, Bool, true, false, List, [], ◌∷◌, refl, bytes_eq}
 use Rattle.std.specs.List.{flat_map, list_all}
-use Rattle.utf16_units.specs.Fault.{is_cut_off}
-use Rattle.utf16_units.specs.Split.{Item, good, lone_trail, lone_lead, full, put_leading, put_unit, split_items, split_tail}
+use Rattle.utf16_units.specs.IllFormed.{is_incomplete}
+use Rattle.utf16_units.specs.Split.{Item, good, lone_trail, lone_lead, whole_lossy_chars, put_leading, put_unit, split_items, split_tail}
 
--- bytes in an order, the items and the tail of their split, and the text that it is shown by
+-- bytes in a byte order, the items and the tail of their split, and its lossy text
 record Shown : Type 0 where
   order : Bool
   bytes : List ℕ
@@ -26,7 +26,7 @@ abbrev is_shown : Shown → Bool
 is_shown row =
     let items = split_items row.order row.bytes in
     let tail = split_tail row.order row.bytes in
-    both (bytes_eq (flat_map item_numbers items) (flat_map item_numbers row.items)) (both (bytes_eq tail row.tail) (bytes_eq (full items tail) row.text))
+    both (bytes_eq (flat_map item_numbers items) (flat_map item_numbers row.items)) (both (bytes_eq tail row.tail) (bytes_eq (whole_lossy_chars items tail) row.text))
 
 abbrev shown : Bool → List ℕ → List Item → List ℕ → List ℕ → Shown
 shown order bytes items tail text = record { order = order; bytes = bytes; items = items; tail = tail; text = text }
@@ -52,5 +52,5 @@ rows =
     ∷ []
 
 rows_shown : list_all is_shown rows ≡ true
-unfolding is_cut_off put_leading put_unit split_items split_tail
+unfolding is_incomplete put_leading put_unit split_items split_tail
 rows_shown = refl

@@ -6,21 +6,21 @@ use Rattle.std.specs.Char.{IsScalar}
 use Rattle.std.specs.Char.Utf16.{surrogate_pair_char}
 use Rattle.utf16_units.specs.Unit.{IsLeading, IsTrailing, unit_bytes, unit_of}
 use Rattle.utf16_units.specs.Encoding.{char_bytes, encode}
-use Rattle.utf16_units.specs.Fault.{is_cut_off}
-use Rattle.utf16_units.specs.Split.{BeginsUnpaired, IsItem, IsTail, Item, Split, good, item_bytes, items_bytes, lone_lead, lone_trail, marked, put_leading, put_unit, split_items, split_tail}
+use Rattle.utf16_units.specs.IllFormed.{is_incomplete}
+use Rattle.utf16_units.specs.Split.{BeginsUnpaired, IsItem, IsTail, Item, Split, good, item_bytes, items_bytes, lone_lead, lone_trail, lossy_chars, put_leading, put_unit, split_items, split_tail}
 use Rattle.utf16_units.proofs.UnitLemmas.{length-unit_bytes}
 use Rattle.utf16_units.proofs.CharLemmas.{no_surrogate, one_unit_bytes}
 use Rattle.utf16_units.proofs.EncodingLemmas.{encode-cons, encode-nil}
 use Rattle.utf16_units.proofs.FirstChar.{first_unit}
 use Rattle.utf16_units.proofs.FrontChar.{first_unit-bytes}
-use Rattle.utf16_units.proofs.Computed.{IsCutOff-from_is_cut_off, is_cut_off-from_IsCutOff}
+use Rattle.utf16_units.proofs.Computed.{IsIncomplete-from_is_incomplete, is_incomplete-from_IsIncomplete}
 use Rattle.utf16_units.proofs.SplitLemmas.{Follows, Split-cons, Split-nil, Split-tail, cut_items, cut_tail, not_cut, pair_bytes, put_unit-leading, put_unit-neither, put_unit-trailing, whole_items, whole_tail}
 
 -- the items and the tail are those that are computed
 abbrev IsComputed : Bool → List ℕ → List Item → List ℕ → Type 0
 IsComputed big bytes items tail = (items ≡ split_items big bytes) × (tail ≡ split_tail big bytes)
 
--- a unit put before them
+-- a unit before them
 unit_computed : (big : Bool) (unit : ℕ) (bytes : List ℕ) (items : List Item) (tail : List ℕ) → (IsLeading unit → 2 ≤ length bytes)
     → IsComputed big bytes items tail → IsComputed big (unit_bytes big unit ++ bytes) (put_unit unit items) tail
 unit_computed true unit bytes items tail long computed =
@@ -42,7 +42,7 @@ unfolding split_items split_tail
 tail_computed big [] ends = (refl, refl)
 tail_computed big (last ∷ []) ends = (refl, refl)
 tail_computed big (first ∷ second ∷ after) ends =
-    let cut = is_cut_off-from_IsCutOff big (first ∷ second ∷ after) ends in
+    let cut = is_incomplete-from_IsIncomplete big (first ∷ second ∷ after) ends in
     (sym (cut_items big first second after cut), sym (cut_tail big first second after cut))
 
 length-BeginsUnpaired : (big : Bool) (bytes : List ℕ) → BeginsUnpaired big bytes → 2 ≤ length bytes
@@ -55,7 +55,7 @@ first-BeginsUnpaired big [] follows = absurd follows
 first-BeginsUnpaired big (last ∷ []) follows = absurd follows
 first-BeginsUnpaired big (first ∷ second ∷ after) follows = follows
 
--- a leading unit before items that begin with no trailing unit stays without a partner
+-- a leading unit before items that do not start with a trailing unit stays unpaired
 put_leading-lone : (big : Bool) (lead : ℕ) (items : List Item) (tail : List ℕ) → All IsItem items → BeginsUnpaired big (items_bytes big items ++ tail)
     → put_leading lead items ≡ lone_lead lead ∷ items
 unfolding put_leading
@@ -69,7 +69,7 @@ put_leading-lone big lead (lone_trail trail ∷ items) tail made follows =
     absurd (first-BeginsUnpaired big ((unit_bytes big trail ++ items_bytes big items) ++ tail) follows (subst IsTrailing (sym unit) t))
 put_leading-lone big lead (lone_lead next ∷ items) tail made follows = refl
 
--- a character put before them
+-- a character before them
 good_computed : (big : Bool) (c : ℕ) (bytes : List ℕ) (items : List Item) (tail : List ℕ) → IsScalar c
     → IsComputed big bytes items tail → IsComputed big (char_bytes big c ++ bytes) (good c ∷ items) tail
 unfolding put_leading
@@ -100,7 +100,7 @@ good_computed big c bytes items tail scalar computed =
     (sym (pair_bytes lead trail l t big bytes) ∙ ap (λ d. char_bytes big d ++ bytes) same) whole))
     (cases_lt c 0x1_0000)
 
--- an item put before them
+-- an item before them
 item_computed : (big : Bool) (item : Item) (items : List Item) (tail : List ℕ) → All IsItem items
     → IsItem item → Follows big item (items_bytes big items ++ tail) → IsComputed big (items_bytes big items ++ tail) items tail
     → IsComputed big (item_bytes big item ++ (items_bytes big items ++ tail)) (item ∷ items) tail
@@ -115,7 +115,7 @@ item_computed big (lone_lead unit) items tail made is follows computed =
     (put_unit-leading unit items is ∙ put_leading-lone big unit items tail made follows)
     (unit_computed big unit bytes items tail (λ lead. length-BeginsUnpaired big bytes follows) computed)
 
--- what follows the first item of a split is as it has to be
+-- what follows the first item of a split is as required
 Follows-first : (big : Bool) (bytes : List ℕ) (item : Item) (items : List Item) (tail : List ℕ)
     → Split big bytes (item ∷ items) tail → Follows big item (items_bytes big items ++ tail)
 Follows-first big bytes (good c) items tail s = tt
@@ -142,11 +142,11 @@ unfolding split_tail
 IsTail-split_tail big [] = tt
 IsTail-split_tail big (last ∷ []) = tt
 IsTail-split_tail big (first ∷ second ∷ bytes) = ⊎_elim
-    (λ (cut : is_cut_off big (first ∷ second ∷ bytes) ≡ true).
-    subst (IsTail big) (sym (cut_tail big first second bytes cut)) (IsCutOff-from_is_cut_off big (first ∷ second ∷ bytes) cut))
-    (λ (whole : is_cut_off big (first ∷ second ∷ bytes) ≡ false).
+    (λ (cut : is_incomplete big (first ∷ second ∷ bytes) ≡ true).
+    subst (IsTail big) (sym (cut_tail big first second bytes cut)) (IsIncomplete-from_is_incomplete big (first ∷ second ∷ bytes) cut))
+    (λ (whole : is_incomplete big (first ∷ second ∷ bytes) ≡ false).
     subst (IsTail big) (sym (whole_tail big first second bytes whole)) (IsTail-split_tail big bytes))
-    (cases_Bool (is_cut_off big (first ∷ second ∷ bytes)))
+    (cases_Bool (is_incomplete big (first ∷ second ∷ bytes)))
 
 -- a tail has at most three bytes
 pub length-IsTail : (big : Bool) (tail : List ℕ) → IsTail big tail → length tail ≤ 3
@@ -159,7 +159,7 @@ length-IsTail big (first ∷ second ∷ after) ends =
 pub length-split_tail : (big : Bool) (bytes : List ℕ) → length (split_tail big bytes) ≤ 3
 length-split_tail big bytes = length-IsTail big (split_tail big bytes) (IsTail-split_tail big bytes)
 
--- a text put before a split
+-- a text before a split
 pub Split-text : (big : Bool) (text bytes : List ℕ) (items : List Item) (tail : List ℕ) → All IsScalar text
     → Split big bytes items tail → Split big (encode big text ++ bytes) (map good text ++ items) tail
 Split-text big [] bytes items tail scalars s = subst (λ b. Split big (b ++ bytes) items tail) (sym (encode-nil big)) s
@@ -182,7 +182,7 @@ computed-encode big text scalars =
     let only = Split-unique big (encode big text) (map good text) [] (Split-encode big text scalars) in
     (sym only.0, sym only.1)
 
--- characters are shown by themselves
-pub marked-good : (text : List ℕ) → marked (map good text) ≡ text
-marked-good [] = refl
-marked-good (c ∷ text) = ap (λ t. c ∷ t) (marked-good text)
+-- the text of characters is these characters
+pub lossy_chars-good : (text : List ℕ) → lossy_chars (map good text) ≡ text
+lossy_chars-good [] = refl
+lossy_chars-good (c ∷ text) = ap (λ t. c ∷ t) (lossy_chars-good text)

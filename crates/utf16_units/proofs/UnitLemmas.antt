@@ -3,7 +3,7 @@ use Rattle.std.proofs.Common.{◌≡◌, ℕ, ◌*◌, ◌<◌, Bool, true, fals
 use Rattle.utf16_units.specs.Unit.{unit_bytes, unit_of}
 use Rattle.utf16_units.specs.Encoding.{units_of}
 
--- the bytes of a unit and then others spell that unit and then theirs
+-- the bytes of a unit followed by others decode to that unit and then theirs
 pub units_of-unit : (big : Bool) (unit : ℕ) (bytes : List ℕ) → units_of big (unit_bytes big unit ++ bytes) ≡ unit ∷ units_of big bytes
 unfolding units_of
 units_of-unit true unit bytes = ap (λ u. u ∷ units_of true bytes) (omega arith)

@@ -1,19 +1,19 @@
--- The units of bytes up to a place between units, and from there on.
+-- The units of bytes up to an offset between units, and from there on.
 use Rattle.std.proofs.Common.{◌≡◌, ℕ, suc, ◌+◌, ◌*◌, ◌%◌, ◌<◌, ◌≤◌, Bool, List, [], ◌∷◌, ◌++◌, length, take, drop, slice_index, refl, sym, ap, ◌∙◌, arith, append-nil, drop-cons, drop-drop, flat_map, length-drop, length-take-le, take-add, take-append-drop}
 use Rattle.std.specs.Char.Escape.{encode_utf16}
 use Rattle.utf16_units.specs.Unit.{unit_of}
-use Rattle.utf16_units.specs.Encoding.{encode, IsText, text_of, units_of}
+use Rattle.utf16_units.specs.Encoding.{encode, IsUtf16, text_of, units_of}
 use Rattle.utf16_units.proofs.EncodingLemmas.{encode-cons, encode-nil, encode-text_of}
 use Rattle.utf16_units.proofs.UnitLemmas.{units_of-units}
 
--- the units of bytes joined at an even place
+-- the units of bytes concatenated at an even offset
 units_of-append : (big : Bool) (front back : List ℕ) → length front % 2 ≡ 0 → units_of big (front ++ back) ≡ units_of big front ++ units_of big back
 unfolding units_of
 units_of-append big [] back even = refl
 units_of-append big (x ∷ []) back even = absurd (omega arith)
 units_of-append big (x ∷ y ∷ front) back even = ap (λ us. unit_of big x y ∷ us) (units_of-append big front back (omega arith))
 
--- the units up to a place, and those of the next n bytes
+-- the units up to an offset, and those of the next n bytes
 pub units_of-next : (big : Bool) (bytes : List ℕ) (at n : ℕ) → at % 2 ≡ 0 → at ≤ length bytes
     → units_of big (take (at + n) bytes) ≡ units_of big (take at bytes) ++ units_of big (take n (drop at bytes))
 units_of-next big bytes at n even within =
@@ -40,14 +40,14 @@ units_of-split big bytes at even within =
     ap (units_of big) (sym (take-append-drop at bytes))
     ∙ units_of-append big (take at bytes) (drop at bytes) (omega (arith, length-take-le at bytes within))
 
--- the units of the next n bytes, and of those behind them
+-- the units of the next n bytes, and of those after them
 pub units_of-behind : (big : Bool) (bytes : List ℕ) (at n : ℕ) → n % 2 ≡ 0 → at + n ≤ length bytes
     → units_of big (drop at bytes) ≡ units_of big (take n (drop at bytes)) ++ units_of big (drop (at + n) bytes)
 units_of-behind big bytes at n even room =
     units_of-split big (drop at bytes) n even (omega (arith, length-drop at bytes, room))
     ∙ ap (λ bs. units_of big (take n (drop at bytes)) ++ units_of big bs) (drop-drop n at bytes)
 
--- where less than a unit is left, those up to there are all
+-- if less than a unit is left, those up to there are all
 pub units_of-all : (big : Bool) (bytes : List ℕ) (at : ℕ) → at % 2 ≡ 0 → at ≤ length bytes → length bytes < at + 2 → units_of big bytes ≡ units_of big (take at bytes)
 units_of-all big bytes at even within few =
     units_of-split big bytes at even within
@@ -69,5 +69,5 @@ units_of-encode big (c ∷ text) =
     ∙ units_of-units big (encode_utf16 c) (encode big text)
     ∙ ap (λ us. encode_utf16 c ++ us) (units_of-encode big text)
 
-pub units_of-text : (big : Bool) (bytes : List ℕ) → IsText big bytes → units_of big bytes ≡ flat_map encode_utf16 (text_of big bytes)
+pub units_of-text : (big : Bool) (bytes : List ℕ) → IsUtf16 big bytes → units_of big bytes ≡ flat_map encode_utf16 (text_of big bytes)
 units_of-text big bytes t = ap (units_of big) (sym (encode-text_of big bytes t)) ∙ units_of-encode big (text_of big bytes)

@@ -1,24 +1,24 @@
--- What the comparison of texts goes by, unit for unit: no public clause speaks of it.
+-- What the comparison of texts computes, unit by unit. No public clause uses it.
 use Rattle.std.specs.Prelude.{◌≡◌, ℕ, ◌+◌, ◌-◌, ◌%◌, ◌≤◌, Bool, List, length, take, nat_lt, if◌then◌else◌}
 use Rattle.std.specs.Cmp.Lexicographic.{slice_cmp}
 use Rattle.std.specs.Ordering.{nat_cmp, on}
 use Rattle.std.specs.declared.cmp.Ordering.{Ordering}
 use Rattle.utf16_units.specs.Encoding.{units_of}
 
--- where a unit stands among all units when surrogates stand above the others (Unicode, section
--- 5.17: fix-up of UTF-16 for code point order)
+-- the rank of a unit among all units if surrogates come after the others (Unicode, section 5.17:
+-- fix-up of UTF-16 for code point order)
 abbrev pub unit_rank : ℕ → ℕ
 unit_rank unit = if nat_lt unit 0xD800 then unit else (if nat_lt unit 0xE000 then unit + 0x2000 else unit - 0x800)
 
--- lists of units by their ranks: the first units that differ decide, and else the counts do
+-- compares lists of units by their ranks: the first units that differ decide, else the lengths
 abbrev pub ranked_cmp : List ℕ → List ℕ → Ordering
 ranked_cmp = slice_cmp (on unit_rank nat_cmp)
 
--- the same of the units that bytes spell
+-- compares the units of two lists of bytes
 abbrev pub units_cmp : Bool → List ℕ → List ℕ → Ordering
 units_cmp big bytes other = ranked_cmp (units_of big bytes) (units_of big other)
 
--- the first n bytes of the two are the same, and are whole units
+-- the first n bytes of both are the same, and are whole units
 pub record SameTo (bytes other : List ℕ) (n : ℕ) : Type 0 where
   pub within : n ≤ length bytes
   pub other_within : n ≤ length other

@@ -1,20 +1,20 @@
--- Texts that end with a delimiter, one behind another, and what a reader gets of any text so.
+-- Texts that each end with a delimiter, concatenated, and the list that a reader gets of any text.
 use Rattle.std.specs.Prelude.{◌≡◌, ◌≢◌, ◌==◌, ℕ, List, [], ◌∷◌, ◌++◌, All}
 use Rattle.std.specs.List.{flat_map, slice_split}
 
--- a text has no such character
+-- a text does not contain the delimiter
 abbrev pub Lacks : ℕ → List ℕ → Type 0
 Lacks delimiter text = All (λ c. c ≢ delimiter) text
 
--- a text can stand in a list: it is not empty, and it lacks the delimiter
+-- a text may be in a list: it is not empty, and does not contain the delimiter
 abbrev pub IsEntry : ℕ → List ℕ → Type 0
 IsEntry delimiter text = (text ≢ []) × Lacks delimiter text
 
--- texts, each with the delimiter behind it
+-- texts, each followed by the delimiter
 abbrev pub ended : ℕ → List (List ℕ) → List ℕ
 ended delimiter texts = flat_map (λ text. text ++ delimiter ∷ []) texts
 
--- the list of texts: one delimiter more ends it
+-- the list of texts: one more delimiter ends it
 abbrev pub closed : ℕ → List (List ℕ) → List ℕ
 closed delimiter texts = ended delimiter texts ++ delimiter ∷ []
 
@@ -24,14 +24,13 @@ before_empty [] = []
 before_empty ([] ∷ texts) = []
 before_empty ((c ∷ text) ∷ texts) = (c ∷ text) ∷ before_empty texts
 
--- what a reader gets of any text: it is cut at each delimiter, and ends at the first empty text, or
--- where the text ends
+-- what a reader gets of any text: it is split at each delimiter, and ends at the first empty text,
+-- or at the end of the text
 unfoldable pub listed : ℕ → List ℕ → List (List ℕ)
 listed delimiter text = before_empty (slice_split (λ c. c == delimiter) text)
 
--- the texts are those that a list begins with, where the last delimiter, or the last two, may be
--- missing: each can stand in a list, and with two delimiters put last the text begins with their
--- list
+-- the texts are those that a list begins with, whose last one or two delimiters may be missing:
+-- each may be in a list, and with two delimiters appended the text begins with the list of them
 pub record IsListBegun (delimiter : ℕ) (text : List ℕ) (texts : List (List ℕ)) : Type 0 where
   pub entries : All (IsEntry delimiter) texts
   pub behind : List ℕ

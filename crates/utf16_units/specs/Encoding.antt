@@ -17,11 +17,11 @@ char_bytes big c = flat_map (unit_bytes big) (encode_utf16 c)
 unfoldable pub encode : Bool → List ℕ → List ℕ
 encode big text = flat_map (char_bytes big) text
 
--- how many bytes a character takes: two for each unit
+-- the number of bytes of a character: two for each unit
 abbrev pub char_size : ℕ → ℕ
 char_size c = 2 * length (encode_utf16 c)
 
--- how many bytes a text takes, in either order: two for each unit
+-- the number of bytes of a text, in either byte order: two for each unit
 unfoldable pub size : List ℕ → ℕ
 size text = 2 * length (flat_map encode_utf16 text)
 
@@ -31,19 +31,18 @@ pub record Encodes (big : Bool) (text bytes : List ℕ) : Type 0 where
   pub scalars : All IsScalar text
   pub spelled : encode big text ≡ bytes
 
--- the bytes are well formed: some text is encoded so (Unicode, section 3.9: well-formed UTF-16)
-pub record IsText (big : Bool) (bytes : List ℕ) : Type 0 where
+-- the bytes are well formed: they encode some text (Unicode, section 3.9: well-formed UTF-16)
+pub record IsUtf16 (big : Bool) (bytes : List ℕ) : Type 0 where
   pub text : List ℕ
   pub encodes : Encodes big text bytes
 
--- the units that bytes spell, two bytes each; a last odd byte is in none
+-- the units of bytes, two bytes each; a last odd byte is in none
 unfoldable pub units_of : Bool → List ℕ → List ℕ
 units_of big [] = []
 units_of big (last ∷ []) = []
 units_of big (first ∷ second ∷ bytes) = unit_of big first second ∷ units_of big bytes
 
--- the text that bytes encode, computed; where they encode none, a surrogate with no partner gives
--- U+FFFD
+-- the text that bytes encode, computed; if they are ill-formed, an unpaired surrogate gives U+FFFD
 unfoldable pub text_of : Bool → List ℕ → List ℕ
 text_of big bytes = utf16_lossy_chars (units_of big bytes)
 
@@ -51,6 +50,6 @@ text_of big bytes = utf16_lossy_chars (units_of big bytes)
 abbrev pub utf8_of : Bool → List ℕ → List ℕ
 utf8_of big bytes = encode_utf8_all (text_of big bytes)
 
--- whether bytes are well formed, computed: they are the encoding of the text that they spell
-unfoldable pub is_text : Bool → List ℕ → Bool
-is_text big bytes = all_scalars (text_of big bytes) && bytes_eq (encode big (text_of big bytes)) bytes
+-- whether bytes are well formed, computed: they are the encoding of the text computed from them
+unfoldable pub is_utf16 : Bool → List ℕ → Bool
+is_utf16 big bytes = all_scalars (text_of big bytes) && bytes_eq (encode big (text_of big bytes)) bytes

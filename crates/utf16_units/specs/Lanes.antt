@@ -1,4 +1,5 @@
--- Blocks of code units: lanes by index, what lanes see of a unit, and how surrogates are paired.
+-- Blocks of code units: SIMD lanes by index, what they hold of a unit, and how surrogates are
+-- paired.
 use Rattle.std.specs.Prelude.{◌≡◌, ℕ, ◌+◌, ◌*◌, ◌/◌, ◌%◌, ◌^◌, ◌<◌, ◌≤◌, Bool, false, cond, List, [], ◌∷◌, ◌++◌, length, drop, map, slice_index, take}
 use Rattle.std.specs.Char.Utf16.{is_high_surrogate, is_low_surrogate}
 use Rattle.utf16_units.specs.Encoding.{units_of}
@@ -8,7 +9,7 @@ pub record HasLanes (n : ℕ) (v : List ℕ) (lane : ℕ → ℕ) : Type 0 where
   pub len : length v ≡ n
   pub lanes : (i : ℕ) → i < n → slice_index v i ≡ lane i
 
--- a unit with its two bytes the other way round, as lanes of sixteen bits compute it
+-- a unit with its two bytes swapped, as lanes of sixteen bits compute it
 abbrev pub swapped : ℕ → ℕ
 swapped unit = (unit * 2 ^ 8 % 2 ^ 16 + unit / 2 ^ 8) % 2 ^ 16
 
@@ -16,14 +17,14 @@ swapped unit = (unit * 2 ^ 8 % 2 ^ 16 + unit / 2 ^ 8) % 2 ^ 16
 abbrev pub high_byte : ℕ → ℕ
 high_byte unit = unit / 256
 
--- each unit is a trailing surrogate exactly where the one before it is a leading one (Unicode,
--- section 3.8: surrogate pair): `before` says whether the unit before the first is leading, `after`
--- whether the last one is
+-- each unit is a trailing surrogate exactly if the one before it is a leading one (Unicode, section
+-- 3.8: surrogate pair): `before` says whether the unit before the first is leading, `after` whether
+-- the last one is
 abbrev pub Paired : Bool → List ℕ → Bool → Type 0
 Paired before units after = map is_low_surrogate units ++ after ∷ [] ≡ before ∷ map is_high_surrogate units
 
 -- the surrogates are not paired: a trailing unit has no leading one before it, or a leading one
--- that is not the last has no trailing one behind it
+-- that is not the last has no trailing one after it
 abbrev pub Unpaired : Bool → List ℕ → Type 0
 Unpaired before units = (after : Bool) → ¬ Paired before units after
 
@@ -39,8 +40,8 @@ pub record PairedTo (big : Bool) (bytes : List ℕ) (at : ℕ) (after : Bool) : 
 abbrev pub StopsAt : ℕ → Bool → List ℕ → ℕ → Bool → Type 0
 StopsAt size big bytes at before = at + size ≤ length bytes → Unpaired before (units_of big (take size (drop at bytes)))
 
--- blocks of 32 bytes pass the bytes up to `size`: they stop at the place `at`, and a leading unit
--- that ends there is left out
+-- blocks of 32 bytes pass the bytes up to `size`: they stop at `at`, and a leading unit that ends
+-- there is left out
 pub record PassedTo (big : Bool) (bytes : List ℕ) (size : ℕ) : Type 0 where
   pub at : ℕ
   pub leading : Bool

@@ -1,6 +1,6 @@
 pub mod Unit
 pub mod Encoding
-pub mod Fault
+pub mod IllFormed
 pub mod Utf16Error
 pub mod Boundary
 pub mod Edit
@@ -10,7 +10,7 @@ pub mod Laws
 pub mod Split
 pub mod Recipe
 pub mod Lanes
-pub mod Order
+pub mod TextOrder
 pub mod Compared
 pub mod Parts
 pub mod Numbered

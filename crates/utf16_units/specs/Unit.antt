@@ -1,5 +1,5 @@
 -- Code units of UTF-16: the two classes of surrogates, and the two bytes of a unit in each byte
--- order. `big` says which order: `true` is big endian, `false` little endian.
+-- order. `big` gives the byte order: `true` is big endian, `false` little endian.
 use Rattle.std.specs.Prelude.{ℕ, ◌+◌, ◌*◌, ◌/◌, ◌%◌, ◌≤◌, Bool, true, false, List, [], ◌∷◌}
 
 -- a leading (high) surrogate (Unicode, section 3.8: high-surrogate code unit)

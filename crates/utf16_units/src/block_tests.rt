@@ -1,5 +1,5 @@
-//! The block functions of the validator, of `count_chars` and of `is_ascii`, each on known blocks,
-//! and the loop over units.
+//! Tests of the block functions of the validator, of `count_chars` and of `is_ascii`, each on known
+//! blocks, and of the loop over code units.
 
 ghost use Rattle.std.specs.Prelude.{IsTrue};
 
@@ -9,14 +9,14 @@ use crate::{BE, LE, Utf16Error, Utf16Order, validate_raw_utf16};
 use std::process::Abort;
 use std::simd::prelude::*;
 
-// What is claimed is so.
+// Asserts that `is` is true.
 fn holds(rt: &impl Abort, is: bool)
     ensures { IsTrue is }
 {
     assert!(rt; is);
 }
 
-// A unit put at a place, where there is room for it.
+// Writes a code unit at an offset, if there is space for it.
 fn put<E: Utf16Order>(raw: &mut [u8], at: usize, unit: u16) {
     if at < raw.len() && raw.len() - at >= 2 {
         let two = E::write_unit(unit);
@@ -25,14 +25,14 @@ fn put<E: Utf16Order>(raw: &mut [u8], at: usize, unit: u16) {
     }
 }
 
-// The letter "a" as often as there is room.
+// Writes the letter "a" as often as there is space.
 fn put_letters<E: Utf16Order>(raw: &mut [u8]) {
     for i in 0..raw.len() / 2 {
         put::<E>(raw, 2 * i, 0x61);
     }
 }
 
-// A block of letters with two other units.
+// A block of letters with two other code units.
 fn block<E: Utf16Order>(first: u16, second: u16) -> [u8; 64] {
     let mut raw = [0; 64];
     put_letters::<E>(&mut raw);
@@ -41,7 +41,7 @@ fn block<E: Utf16Order>(first: u16, second: u16) -> [u8; 64] {
     raw
 }
 
-// The whole block, and its first half.
+// The result for the whole block, and for its first half.
 fn is_paired<E: Utf16Order>(raw: &[u8; 64]) -> [Option<bool>; 2] {
     let whole = high_bytes32::<E>(u8x64::from_array(*raw));
     let half = high_bytes16::<E>(u8x32::from_slice(raw));
@@ -54,7 +54,7 @@ fn counts<E: Utf16Order>(raw: [u8; 64]) -> (u32, bool) {
     (bits.count_ones(), is_ascii_block::<E>(block))
 }
 
-// A block that is a text, one that is not, and one of ASCII.
+// A block that is well formed, one that is ill-formed, and one of ASCII.
 fn blocks_are<E: Utf16Order>(rt: &impl Abort) {
     let (text, fault) = (block::<E>(0xD800, 0xDC00), block::<E>(0xDC00, 0xD800));
     holds(rt, is_paired::<E>(&text) == [Some(false); 2]);
@@ -69,12 +69,12 @@ fn blocks_in_both_orders(rt: HostRuntime) {
     blocks_are::<BE>(&rt);
 }
 
-// The test unit by unit, from the first one on.
+// Validates unit by unit, starting at the first one.
 fn by_units<E: Utf16Order>(raw: &[u8]) -> Result<(), Utf16Error> {
     validate_units::<E>(raw, 0)
 }
 
-// What the error says, where there is one.
+// The fields of the error, if there is one.
 fn fields(found: Result<(), Utf16Error>) -> Option<(usize, Option<usize>)> {
     match found {
         Ok(()) => None,
@@ -82,7 +82,7 @@ fn fields(found: Result<(), Utf16Error>) -> Option<(usize, Option<usize>)> {
     }
 }
 
-// The order; how many letters; the bytes behind them; how many letters follow; what the error says.
+// Big endian; number of letters; the bytes after them; number of letters after those; error fields.
 type Row = (
     bool,
     usize,
@@ -155,7 +155,7 @@ const SHORT: [Row; 14] = [
     (true, 0, &[0x00, 0x41, 0xD8, 0x00], 0, Some((2, None))),
 ];
 
-// Asks both of the first bytes of a buffer of letters, with these bytes behind the first letters.
+// Validates with both functions a buffer of letters that has `bytes` after the first `letters`.
 fn row_is<E: Utf16Order>(
     rt: &impl Abort,
     letters: usize,

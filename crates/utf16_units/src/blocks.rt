@@ -1,4 +1,4 @@
-//! Blocks of bytes read as code units, and a block of code units written as bytes.
+//! Blocks of bytes read as code units with SIMD, and blocks of code units written as bytes.
 
 ghost use Rattle.std.specs.Prelude.{◌≡◌, if◌then◌else◌, length, map};
 ghost use Rattle.std.specs.List.{flat_map};
@@ -9,7 +9,7 @@ ghost use Rattle.utf16_units.specs.Unit.{unit_bytes};
 use crate::Utf16Order;
 use std::simd::prelude::*;
 
-/// The sixteen code units of a block of bytes.
+/// Returns the sixteen code units of a block of 32 bytes.
 #[inline(always)]
 pub fn units16<E: Utf16Order>(block: u8x32) -> u16x16
     ensures len { length result ≡ 16 }
@@ -18,7 +18,7 @@ pub fn units16<E: Utf16Order>(block: u8x32) -> u16x16
     in_order::<E, 16>(u16x16::from_le_bytes(block))
 }
 
-/// The thirty-two code units of a block of bytes.
+/// Returns the thirty-two code units of a block of 64 bytes.
 #[inline(always)]
 pub fn units32<E: Utf16Order>(block: u8x64) -> u16x32
     ensures len { length result ≡ 32 }
@@ -27,7 +27,7 @@ pub fn units32<E: Utf16Order>(block: u8x64) -> u16x32
     in_order::<E, 32>(u16x32::from_le_bytes(block))
 }
 
-/// The bytes of sixteen code units.
+/// Returns the 32 bytes of sixteen code units.
 #[inline(always)]
 pub fn bytes16<E: Utf16Order>(units: u16x16) -> u8x32
     ensures len { length result ≡ 32 }
@@ -36,7 +36,7 @@ pub fn bytes16<E: Utf16Order>(units: u16x16) -> u8x32
     in_order::<E, 16>(units).to_le_bytes()
 }
 
-// The code units of the order `E` from those that a little-endian machine reads, and back.
+// Converts code units read in little endian to those of the byte order `E`, or back.
 #[inline(always)]
 fn in_order<E: Utf16Order, const N: usize>(units: Simd<u16, N>) -> Simd<u16, N>
     ensures { result ≡ if E.BIG then map swapped units.entry else units.entry }
@@ -44,7 +44,7 @@ fn in_order<E: Utf16Order, const N: usize>(units: Simd<u16, N>) -> Simd<u16, N>
     if E::BIG { swapped(units) } else { units }
 }
 
-// The two bytes of each code unit the other way round.
+// The code units with their two bytes swapped.
 #[inline(always)]
 fn swapped<const N: usize>(units: Simd<u16, N>) -> Simd<u16, N>
     ensures { result ≡ map swapped units.entry }

@@ -5,22 +5,26 @@ ghost use Rattle.utf16_units.specs.Encoding.{char_bytes, char_size};
 
 use crate::Utf16Order;
 
-/// What UTF-16 adds to a character.
+/// Extension of `char` for UTF-16.
 pub trait Utf16CharExt {
-    /// The character as a number.
+    /// The code point, a number.
     ghost code: { Self → ℕ };
 
-    /// How many bytes the character takes in UTF-16, 2 or 4.
+    /// Returns the number of bytes that the character takes in UTF-16, 2 or 4.
     fn encoded_utf16_len(self) -> usize
         ensures { result ≡ char_size (code self) };
 
-    /// Writes the character's bytes at the front of `buf` and answers how many they are. Later
-    /// bytes stay. The caller proves that the buffer has room for them; `encoded_utf16_len` tells
-    /// how much they need.
+    /// Writes the character in UTF-16 to the start of `buf` and returns the number of bytes
+    /// written. Later bytes are unchanged.
+    ///
+    /// # Precondition
+    ///
+    /// `buf` has at least as many bytes as `encoded_utf16_len` returns.
     fn encode_utf16_into<E: Utf16Order>(self, buf: &mut [u8]) -> usize
         requires { char_size (code self) ≤ length buf.old }
         ensures len { result ≡ char_size (code self) }
-        ensures bytes { buf.new ≡ char_bytes E.BIG (code self) ++ drop (char_size (code self)) buf.old };
+        ensures bytes { buf.new ≡ char_bytes E.BIG (code self) ++ drop (char_size (code self))
+            buf.old };
 }
 
 impl Utf16CharExt for char {

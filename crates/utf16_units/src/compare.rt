@@ -1,34 +1,42 @@
-//! How two texts stand to each other in the order of their scalar values, told by their bytes.
+//! Comparison of two texts by scalar values, computed on their bytes.
 
 ghost use Rattle.std.specs.Prelude.{◌≡◌, ◌↔◌, ◌%◌, ◌<◌, ◌≤◌};
 ghost use Rattle.std.specs.Cmp.Lexicographic.{slice_cmp};
 ghost use Rattle.std.specs.Ordering.{nat_cmp};
 ghost use Rattle.std.specs.declared.cmp.Ordering.TheVariants.{Equal, Greater, Less};
 ghost use Rattle.utf16_units.specs.Compared.{SameTo, unit_rank, units_cmp};
-ghost use Rattle.utf16_units.specs.Encoding.{IsText, text_of};
-ghost use Rattle.utf16_units.specs.Order.{IsBefore};
+ghost use Rattle.utf16_units.specs.Encoding.{IsUtf16, text_of};
+ghost use Rattle.utf16_units.specs.TextOrder.{IsBefore};
 
 use crate::Utf16Order;
 use std::cmp::Ordering;
 use std::simd::prelude::*;
 
-/// Which of two texts is before the other by scalar values, of bytes that the caller proves to be
-/// well formed in the order `E`. It reads both up to the first unit that differs, equal beginnings
-/// by blocks.
+/// Compares two texts by scalar values.
+///
+/// # Precondition
+///
+/// Both are well-formed UTF-16 in the byte order `E` (check with `validate_raw_utf16`).
+///
+/// # Complexity
+///
+/// Reads both up to the first code unit that differs, their common prefix in blocks.
 pub fn compare<E: Utf16Order>(first: &[u8], second: &[u8]) -> Ordering
-    requires first { IsText E.BIG first.now }
-    requires second { IsText E.BIG second.now }
+    requires first { IsUtf16 E.BIG first.now }
+    requires second { IsUtf16 E.BIG second.now }
     ensures less { result ≡ Less ↔ IsBefore (text_of E.BIG first.now) (text_of E.BIG second.now) }
     ensures equal { result ≡ Equal ↔ (text_of E.BIG first.now ≡ text_of E.BIG second.now) }
-    ensures greater { result ≡ Greater ↔ IsBefore (text_of E.BIG second.now) (text_of E.BIG first.now) }
-    ensures computed { result ≡ slice_cmp nat_cmp (text_of E.BIG first.now) (text_of E.BIG second.now) }
+    ensures greater { result ≡ Greater
+        ↔ IsBefore (text_of E.BIG second.now) (text_of E.BIG first.now) }
+    ensures computed { result ≡ slice_cmp nat_cmp (text_of E.BIG first.now)
+        (text_of E.BIG second.now) }
 {
     let far = same_blocks::<64>(first, second, 0);
     let near = same_blocks::<16>(first, second, far);
     compare_units::<E>(first, second, near)
 }
 
-// How far two begin with the same bytes, in whole units, as blocks of `N` bytes show it.
+// The length of a common prefix, in bytes and whole code units, found by blocks of `N` bytes.
 #[inline]
 fn same_blocks<const N: usize>(first: &[u8], second: &[u8], from: usize) -> usize
     requires lanes { (0 < N) × (N ≤ 64) × (N % 2 ≡ 0) }
@@ -48,11 +56,11 @@ fn same_blocks<const N: usize>(first: &[u8], second: &[u8], from: usize) -> usiz
     at
 }
 
-// The first unit that differs decides, from a place on up to which the bytes are the same.
+// Compares by the first code unit that differs; the bytes before `from` are the same.
 #[inline]
 fn compare_units<E: Utf16Order>(first: &[u8], second: &[u8], from: usize) -> Ordering
-    requires first { IsText E.BIG first.now }
-    requires second { IsText E.BIG second.now }
+    requires first { IsUtf16 E.BIG first.now }
+    requires second { IsUtf16 E.BIG second.now }
     requires before { SameTo first.now second.now from }
     ensures { result ≡ units_cmp E.BIG first.now second.now }
 {
@@ -68,7 +76,7 @@ fn compare_units<E: Utf16Order>(first: &[u8], second: &[u8], from: usize) -> Ord
     first.len().cmp(&second.len())
 }
 
-// A unit's rank among all units, where surrogates stand above the others.
+// The rank of a code unit among all, with surrogates above the others.
 #[inline]
 fn rank(unit: u16) -> u16
     ensures { result ≡ unit_rank unit }

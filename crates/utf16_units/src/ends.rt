@@ -1,20 +1,24 @@
 //! The character at either end of a text's bytes.
 
 ghost use Rattle.std.specs.Prelude.{◌≡◌, ◌<◌, ◌≤◌, ◌-◌, [], ◌∷◌, ◌++◌, length, take, drop};
-ghost use Rattle.utf16_units.specs.Encoding.{IsText, char_size, text_of};
+ghost use Rattle.utf16_units.specs.Encoding.{IsUtf16, char_size, text_of};
 
 use crate::{Utf16Order, decode_surrogates, is_leading_surrogate, is_trailing_surrogate};
 
-/// The first character of a text that is not empty, and how many bytes it takes. The caller proves
-/// that the bytes are well formed.
+/// Returns the first character, and how many bytes it takes.
+///
+/// # Precondition
+///
+/// `raw` is not empty, and is well-formed UTF-16 in the byte order `E` (check with
+/// `validate_raw_utf16`).
 #[inline]
 pub fn first_char<E: Utf16Order>(raw: &[u8]) -> (char, usize)
-    requires text { IsText E.BIG raw.now }
+    requires text { IsUtf16 E.BIG raw.now }
     requires some { 0 < length raw.now }
     ensures size { result.1 ≡ char_size result.0 }
     ensures within { result.1 ≤ length raw.now }
     ensures text { text_of E.BIG raw.now ≡ result.0 ∷ text_of E.BIG (drop result.1 raw.now) }
-    ensures rest { IsText E.BIG (drop result.1 raw.now) }
+    ensures rest { IsUtf16 E.BIG (drop result.1 raw.now) }
 {
     let unit = E::read_unit([raw[0], raw[1]]);
     if !is_leading_surrogate(unit) {
@@ -24,16 +28,21 @@ pub fn first_char<E: Utf16Order>(raw: &[u8]) -> (char, usize)
     (decode_surrogates(unit, trailing), 4)
 }
 
-/// The last character of a text that is not empty, and how many bytes it takes. The caller proves
-/// that the bytes are well formed.
+/// Returns the last character, and how many bytes it takes.
+///
+/// # Precondition
+///
+/// `raw` is not empty, and is well-formed UTF-16 in the byte order `E` (check with
+/// `validate_raw_utf16`).
 #[inline]
 pub fn last_char<E: Utf16Order>(raw: &[u8]) -> (char, usize)
-    requires text { IsText E.BIG raw.now }
+    requires text { IsUtf16 E.BIG raw.now }
     requires some { 0 < length raw.now }
     ensures size { result.1 ≡ char_size result.0 }
     ensures within { result.1 ≤ length raw.now }
-    ensures text { text_of E.BIG raw.now ≡ text_of E.BIG (take (length raw.now - result.1) raw.now) ++ result.0 ∷ [] }
-    ensures rest { IsText E.BIG (take (length raw.now - result.1) raw.now) }
+    ensures text { text_of E.BIG raw.now ≡ text_of E.BIG (take (length raw.now - result.1) raw.now)
+        ++ result.0 ∷ [] }
+    ensures rest { IsUtf16 E.BIG (take (length raw.now - result.1) raw.now) }
 {
     let end = raw.len();
     let unit = E::read_unit([raw[end - 2], raw[end - 1]]);

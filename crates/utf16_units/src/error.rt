@@ -1,4 +1,4 @@
-//! The error of bytes that are not well-formed UTF-16.
+//! The error for ill-formed UTF-16.
 
 ghost use Rattle.std.specs.Prelude.{◌≡◌, Some, codes};
 ghost use Rattle.std.specs.Option.{ForSome};
@@ -6,7 +6,8 @@ ghost use Rattle.std.specs.Option.{ForSome};
 use std::error::Error;
 use std::fmt;
 
-/// Why bytes are not well-formed UTF-16: how far they are, and whether more bytes could help.
+/// The error for ill-formed UTF-16: the length of the longest valid prefix, and whether more bytes
+/// could make the input well formed.
 #[derive(Clone, Copy, Debug, PartialEq, Eq)]
 pub struct Utf16Error {
     pub(crate) valid_up_to: usize,
@@ -17,7 +18,7 @@ pub struct Utf16Error {
 impl Utf16Error {
     ghost use Rattle.utf16_units.specs.Utf16Error.{error_len, valid_up_to};
 
-    /// The length in bytes of the longest beginning that is well formed.
+    /// Returns the length in bytes of the longest prefix that is well-formed UTF-16.
     #[inline]
     pub fn valid_up_to(&self) -> usize
         ensures { result ≡ valid_up_to self.now }
@@ -25,9 +26,11 @@ impl Utf16Error {
         self.valid_up_to
     }
 
-    /// `Some(2)` where a surrogate has no partner: decoding can resume two bytes behind
-    /// `valid_up_to`. `None` where the bytes end inside a character: the last 1 to 3 bytes may be
-    /// its beginning.
+    /// Returns the length in bytes of the ill-formed sequence after the valid prefix: `Some(2)` for
+    /// an unpaired surrogate, `None` if the input is incomplete.
+    ///
+    /// After `Some(2)`, decoding can resume two bytes after `valid_up_to`. With `None`, the bytes
+    /// end inside a character: the last 1 to 3 bytes may be the start of one.
     #[inline]
     pub fn error_len(&self) -> Option<usize>
         ensures { result ≡ error_len self.now }
@@ -37,7 +40,7 @@ impl Utf16Error {
 }
 
 impl fmt::Display for Utf16Error {
-    // The same words in both byte orders.
+    // The same message in both byte orders.
     ghost output = { λ _. Some (codes "Invalid UTF-16LE data in byte slice") };
 
     // Width, fill and precision are ignored.

@@ -1,4 +1,4 @@
-//! Code units by lanes: the surrogates of a block as bits, whether they are paired, and whether a
+//! Blocks of code units with SIMD: the surrogates as bits, whether they are paired, and whether a
 //! block is ASCII.
 
 ghost use Rattle.std.specs.Prelude.{◌≡◌, ◌↔◌, ◌<◌, ◌≤◌, ◌==◌, ℕ, All, List, IfNone, IfSome, IsTrue, bit_and, map};
@@ -10,7 +10,7 @@ ghost use Rattle.utf16_units.specs.Lanes.{Paired, Unpaired, high_byte};
 use crate::Utf16Order;
 use std::simd::prelude::*;
 
-// The high bytes of thirty-two units.
+// The high bytes of thirty-two code units.
 #[inline(always)]
 pub(crate) fn high_bytes32<E: Utf16Order>(block: u8x64) -> u8x32
     ensures { result ≡ map high_byte (units_of E.BIG block) }
@@ -28,7 +28,7 @@ pub(crate) fn high_bytes32<E: Utf16Order>(block: u8x64) -> u8x32
     }
 }
 
-// The high bytes of sixteen units.
+// The high bytes of sixteen code units.
 #[inline(always)]
 pub(crate) fn high_bytes16<E: Utf16Order>(block: u8x32) -> u8x16
     ensures { result ≡ map high_byte (units_of E.BIG block) }
@@ -40,7 +40,7 @@ pub(crate) fn high_bytes16<E: Utf16Order>(block: u8x32) -> u8x16
     }
 }
 
-// A bit for each unit whose high byte has these upper six bits.
+// A bit for each code unit whose high byte has the upper six bits of `class`.
 #[inline(always)]
 fn class_bits<const N: usize>(highs: Simd<u8, N>, class: u8) -> u64
     requires { N ≤ 64 }
@@ -55,7 +55,8 @@ fn class_bits<const N: usize>(highs: Simd<u8, N>, class: u8) -> u64
 #[inline(always)]
 fn leading_bits<const N: usize>(highs: Simd<u8, N>) -> u64
     requires { N ≤ 64 }
-    ensures { (units : List ℕ) → map high_byte units ≡ highs.entry → result ≡ mask_l (map is_high_surrogate units) }
+    ensures { (units : List ℕ) → map high_byte units ≡ highs.entry
+        → result ≡ mask_l (map is_high_surrogate units) }
 {
     class_bits(highs, 0xD8)
 }
@@ -64,18 +65,21 @@ fn leading_bits<const N: usize>(highs: Simd<u8, N>) -> u64
 #[inline(always)]
 pub(crate) fn trailing_bits<const N: usize>(highs: Simd<u8, N>) -> u64
     requires { N ≤ 64 }
-    ensures { (units : List ℕ) → map high_byte units ≡ highs.entry → result ≡ mask_l (map is_low_surrogate units) }
+    ensures { (units : List ℕ) → map high_byte units ≡ highs.entry
+        → result ≡ mask_l (map is_low_surrogate units) }
 {
     class_bits(highs, 0xDC)
 }
 
-// Whether the last unit is leading, where the surrogates are paired: each unit is trailing exactly
-// where the one before it is leading, and of the unit before the first `before` says it.
+// `Some` if the surrogates are paired: a unit is trailing exactly if the one before it is leading.
+// `before` says whether the unit before the block is leading, the result whether the last unit is.
 #[inline(always)]
 pub(crate) fn paired<const N: usize>(highs: Simd<u8, N>, before: bool) -> Option<bool>
     requires { N ≤ 32 }
-    ensures some { IfSome result (λ after. (units : List ℕ) → map high_byte units ≡ highs.entry → Paired before units after) }
-    ensures none { IfNone result ((units : List ℕ) → map high_byte units ≡ highs.entry → Unpaired before units) }
+    ensures some { IfSome result (λ after. (units : List ℕ) → map high_byte units ≡ highs.entry
+        → Paired before units after) }
+    ensures none { IfNone result ((units : List ℕ) → map high_byte units ≡ highs.entry
+        → Unpaired before units) }
 {
     let expected = 2 * leading_bits(highs) + before as u64;
     if trailing_bits(highs) == expected % (1 << N) {
@@ -85,7 +89,7 @@ pub(crate) fn paired<const N: usize>(highs: Simd<u8, N>, before: bool) -> Option
     }
 }
 
-// Whether thirty-two units are ASCII: no byte is above that of U+007F in its place.
+// Whether thirty-two code units are ASCII: no byte is above the byte of U+007F at its position.
 #[inline(always)]
 pub(crate) fn is_ascii_block<E: Utf16Order>(block: u8x64) -> bool
     ensures { IsTrue result ↔ All (λ unit. unit < 0x80) (units_of E.BIG block) }

@@ -1,22 +1,23 @@
-//! UTF-16 units and bytes: byte orders, surrogates, one character, the validator and its error.
+//! UTF-16 code units and bytes: byte orders, surrogates, one character, the validator and its
+//! error.
 #![tactic(auto)]
 
 #[cfg(test)]
 mod block_tests;
 pub mod blocks;
+mod byte_order;
 mod char;
 pub mod compare;
 pub mod ends;
 mod error;
 mod lanes;
 pub mod laws;
-mod order;
 pub mod text;
 mod unit;
 mod validate;
 
+pub use crate::byte_order::{BE, BigEndian, LE, LittleEndian, Utf16Order};
 pub use crate::char::Utf16CharExt;
 pub use crate::error::Utf16Error;
-pub use crate::order::{BE, BigEndian, LE, LittleEndian, Utf16Order};
 pub use crate::unit::{decode_surrogates, is_leading_surrogate, is_trailing_surrogate};
 pub use crate::validate::{first_char_len, validate_raw_utf16};

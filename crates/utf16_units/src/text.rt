@@ -1,19 +1,25 @@
-//! What strings ask about the text of their bytes: how many characters it has, and whether all are
-//! ASCII.
+//! Queries about the text of bytes: how many characters it has, and whether all are ASCII.
 
 ghost use Rattle.std.specs.Prelude.{◌≡◌, ◌↔◌, ◌<◌, All, IsTrue, count_by, length};
 ghost use Rattle.std.specs.Char.Utf16.{is_low_surrogate};
-ghost use Rattle.utf16_units.specs.Encoding.{IsText, text_of, units_of};
+ghost use Rattle.utf16_units.specs.Encoding.{IsUtf16, text_of, units_of};
 
 use crate::ends::first_char;
 use crate::lanes::{high_bytes32, is_ascii_block, trailing_bits};
 use crate::{Utf16Order, is_trailing_surrogate};
 use std::simd::prelude::*;
 
-/// How many characters the bytes encode, which the caller proves to be well formed. One pass: each
-/// character has one unit that is no trailing surrogate.
+/// Returns the number of characters that `raw` encodes.
+///
+/// # Precondition
+///
+/// `raw` is well-formed UTF-16 in the byte order `E` (check with `validate_raw_utf16`).
+///
+/// # Complexity
+///
+/// One pass: each character has one code unit that is not a trailing surrogate.
 pub fn count_chars<E: Utf16Order>(raw: &[u8]) -> usize
-    requires { IsText E.BIG raw.now }
+    requires { IsUtf16 E.BIG raw.now }
     ensures { result ≡ length (text_of E.BIG raw.now) }
 {
     if raw.len() < 64 {
@@ -23,11 +29,11 @@ pub fn count_chars<E: Utf16Order>(raw: &[u8]) -> usize
     }
 }
 
-// How many characters a short text has, one after another. A call stays a call: so this loop is
-// compiled by itself.
+// The number of characters of a short text, counted one by one. Not inlined, so that the loop is
+// optimized on its own.
 #[inline(never)]
 fn count_few<E: Utf16Order>(raw: &[u8]) -> usize
-    requires { IsText E.BIG raw.now }
+    requires { IsUtf16 E.BIG raw.now }
     ensures { result ≡ length (text_of E.BIG raw.now) }
 {
     let mut count = 0;
@@ -40,7 +46,12 @@ fn count_few<E: Utf16Order>(raw: &[u8]) -> usize
     count
 }
 
-/// How many units are trailing surrogates, of any bytes. A last odd byte is in no unit. One pass.
+/// Returns the number of code units that are trailing surrogates, in any bytes. A last odd byte
+/// belongs to no code unit.
+///
+/// # Complexity
+///
+/// One pass.
 pub fn trailing_units<E: Utf16Order>(raw: &[u8]) -> usize
     ensures { result ≡ count_by is_low_surrogate (units_of E.BIG raw.now) }
 {
@@ -58,17 +69,28 @@ pub fn trailing_units<E: Utf16Order>(raw: &[u8]) -> usize
     trailing
 }
 
-/// Whether each character is ASCII, of bytes that the caller proves to be well formed. One pass, up
-/// to the first block that has another character.
+/// Returns `true` if every character is ASCII.
+///
+/// # Precondition
+///
+/// `raw` is well-formed UTF-16 in the byte order `E` (check with `validate_raw_utf16`).
+///
+/// # Complexity
+///
+/// One pass, up to the first block that has a non-ASCII character.
 pub fn is_ascii<E: Utf16Order>(raw: &[u8]) -> bool
-    requires { IsText E.BIG raw.now }
+    requires { IsUtf16 E.BIG raw.now }
     ensures { IsTrue result ↔ All (λ c. c < 0x80) (text_of E.BIG raw.now) }
 {
     has_ascii_units::<E>(raw)
 }
 
-/// Whether each unit is ASCII, of any bytes. A last odd byte is in no unit. One pass, up to the
-/// first block that has another unit.
+/// Returns `true` if every code unit is ASCII, in any bytes. A last odd byte belongs to no code
+/// unit.
+///
+/// # Complexity
+///
+/// One pass, up to the first block that has a non-ASCII code unit.
 pub fn has_ascii_units<E: Utf16Order>(raw: &[u8]) -> bool
     ensures { IsTrue result ↔ All (λ unit. unit < 0x80) (units_of E.BIG raw.now) }
 {

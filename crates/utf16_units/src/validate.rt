@@ -1,8 +1,8 @@
-//! The test whether bytes are well-formed UTF-16.
+//! Validation of UTF-16.
 
 ghost use Rattle.std.specs.Prelude.{◌≡◌, ◌↔◌, ◌+◌, ◌<◌, ◌≤◌, length, take, IsOk, IfOk, IfErr};
-ghost use Rattle.utf16_units.specs.Encoding.{IsText};
-ghost use Rattle.utf16_units.specs.Fault.{BeginsWithChar, IsFaultAt};
+ghost use Rattle.utf16_units.specs.Encoding.{IsUtf16};
+ghost use Rattle.utf16_units.specs.IllFormed.{BeginsWithChar, IsIllFormedAt};
 ghost use Rattle.utf16_units.specs.Lanes.{PairedTo, PassedTo, StopsAt};
 ghost use Rattle.utf16_units.specs.Utf16Error.{IsErrorOf};
 
@@ -10,10 +10,18 @@ use crate::lanes::{high_bytes16, high_bytes32, paired};
 use crate::{Utf16Error, Utf16Order, is_trailing_surrogate};
 use std::simd::prelude::*;
 
-/// Tests in one pass whether `raw` is well-formed UTF-16 in the order `E`. The error says how many
-/// bytes from the front are, and what stands there: see [`Utf16Error`].
+/// Tests whether `raw` is well-formed UTF-16 in the byte order `E`.
+///
+/// # Errors
+///
+/// [`Utf16Error`], if `raw` is ill-formed: the length of the longest valid prefix and what follows
+/// it.
+///
+/// # Complexity
+///
+/// One pass.
 pub fn validate_raw_utf16<E: Utf16Order>(raw: &[u8]) -> Result<(), Utf16Error>
-    ensures text { IsOk result ↔ IsText E.BIG raw.now }
+    ensures text { IsOk result ↔ IsUtf16 E.BIG raw.now }
     ensures error { IfErr result (IsErrorOf E.BIG raw.now) }
 {
     if raw.len() < 32 {
@@ -22,10 +30,10 @@ pub fn validate_raw_utf16<E: Utf16Order>(raw: &[u8]) -> Result<(), Utf16Error>
     validate_units::<E>(raw, passed_blocks::<E>(raw))
 }
 
-// How many bytes from the front are well formed, as far as whole blocks show it.
+// The length of a well-formed prefix, as far as whole blocks reach.
 fn passed_blocks<E: Utf16Order>(raw: &[u8]) -> usize
     ensures within { result ≤ length raw.now }
-    ensures text { IsText E.BIG (take result raw.now) }
+    ensures text { IsUtf16 E.BIG (take result raw.now) }
     ensures passed { PassedTo E.BIG raw.now result }
 {
     let (whole, leading) = paired_blocks::<E>(raw);
@@ -33,7 +41,8 @@ fn passed_blocks<E: Utf16Order>(raw: &[u8]) -> usize
     if leading { at - 2 } else { at }
 }
 
-// How far blocks of 64 bytes pass, and whether the last unit there is leading.
+// The length of the prefix of blocks of 64 bytes whose surrogates are paired, and whether its last
+// unit is leading.
 fn paired_blocks<E: Utf16Order>(raw: &[u8]) -> (usize, bool)
     ensures paired { PairedTo E.BIG raw.now result.0 result.1 }
     ensures stops { StopsAt 64 E.BIG raw.now result.0 result.1 }
@@ -51,7 +60,7 @@ fn paired_blocks<E: Utf16Order>(raw: &[u8]) -> (usize, bool)
     (at, leading)
 }
 
-// The same with one block of 32 bytes behind them, where it passes.
+// The same with one more block of 32 bytes, if its surrogates are paired.
 fn paired_half_block<E: Utf16Order>(raw: &[u8], at: usize, leading: bool) -> (usize, bool)
     requires { PairedTo E.BIG raw.now at leading }
     ensures paired { PairedTo E.BIG raw.now result.0 result.1 }
@@ -68,13 +77,13 @@ fn paired_half_block<E: Utf16Order>(raw: &[u8], at: usize, leading: bool) -> (us
     }
 }
 
-// The same test unit by unit, from a place on that well-formed bytes end at. A copy at each call:
-// that of short fields starts at 0, and costs them what it would without blocks.
+// The same validation unit by unit, starting at the end of a well-formed prefix. Inlined at each
+// call: that for short fields starts at 0, and costs them what it would without blocks.
 #[inline(always)]
 pub(crate) fn validate_units<E: Utf16Order>(raw: &[u8], from: usize) -> Result<(), Utf16Error>
     requires within { from ≤ length raw.now }
-    requires before { IsText E.BIG (take from raw.now) }
-    ensures text { IsOk result ↔ IsText E.BIG raw.now }
+    requires before { IsUtf16 E.BIG (take from raw.now) }
+    ensures text { IsOk result ↔ IsUtf16 E.BIG raw.now }
     ensures error { IfErr result (IsErrorOf E.BIG raw.now) }
 {
     let mut valid_up_to = from;
@@ -92,14 +101,21 @@ pub(crate) fn validate_units<E: Utf16Order>(raw: &[u8], from: usize) -> Result<(
     Ok(())
 }
 
-/// How many bytes the character at the front takes, 2 or 4, or the `error_len` of what stands
-/// there. The caller proves that there is a byte.
+/// Returns the number of bytes of the character at the start of `rest`, 2 or 4.
+///
+/// # Errors
+///
+/// The [`Utf16Error::error_len`] of what is at the start of `rest`, if it is not a character.
+///
+/// # Precondition
+///
+/// `rest` is not empty.
 #[inline]
 pub fn first_char_len<E: Utf16Order>(rest: &[u8]) -> Result<usize, Option<u8>>
     requires { 0 < length rest.now }
     ensures char { IfOk result (BeginsWithChar E.BIG rest.now) }
     ensures some { IfOk result (λ n. 0 < n) }
-    ensures fault { IfErr result (IsFaultAt E.BIG rest.now) }
+    ensures fault { IfErr result (IsIllFormedAt E.BIG rest.now) }
 {
     if rest.len() < 2 {
         return Err(None);

@@ -1,4 +1,4 @@
--- What is kept by a predicate whose answers and states are known: for callers of `retain` and
+-- What a predicate keeps whose results and states are known: for callers of `retain` and
 -- `retain_by`.
 use Rattle.std.proofs.Common.{◌≡◌, ℕ, Bool, true, false, List, [], ◌∷◌, length, inr, refl, sym, ap, ◌∙◌, arith}
 use Rattle.std.specs.Fn.{Mut, Takes}
@@ -7,8 +7,8 @@ use Rattle.std.specs.List.Retain.{ReturnsInTurn}
 use Rattle.std.specs.Prelude.{if◌then◌else◌}
 use Rattle.utf16string.specs.Retain.{Answers, IsAskable, MayBeAsked, Retains, RetainsTo}
 
--- where I gives that the predicate may be called on the first character, and each call keeps it for
--- the rest
+-- for an invariant I under which the predicate may be called on the first character, and which each
+-- call preserves for the rest
 module _ {F : Type 0} (calls : Mut F (ℕ × Unit {0}) Bool) (I : F → List ℕ → Type 0)
     (asks : (f : F) (c : ℕ) (text : List ℕ) → I f (c ∷ text) → Takes calls f (c, tt))
     (keeps : (f : F) (c : ℕ) (text : List ℕ) (answer : Bool) (u : F) → I f (c ∷ text) → Answers calls f c answer u → I u text) where
@@ -19,14 +19,14 @@ module _ {F : Type 0} (calls : Mut F (ℕ × Unit {0}) Bool) (I : F → List ℕ
   pub IsAskable-by : (f : F) (text : List ℕ) → I f text → IsAskable calls f text
   IsAskable-by f text i = inr (MayBeAsked-by f text i)
 
--- `says` is what is answered where s is known, and `next` what is then known
+-- `says` is the result of a call in a known state s, and `next` the state after it
 module _ {S : Type 0} (says : S → ℕ → Bool) (next : S → ℕ → S) where
-  -- what is kept
+  -- the characters that are kept
   unfoldable pub told : S → List ℕ → List ℕ
   told s [] = []
   told s (c ∷ text) = if says s c then c ∷ told (next s c) text else told (next s c) text
 
-  -- what is known at last
+  -- the state after the last call
   unfoldable pub told-last : S → List ℕ → S
   told-last s [] = s
   told-last s (c ∷ text) = told-last (next s c) text

@@ -1,20 +1,20 @@
--- The character at a boundary, read by a view of all from there on.
+-- The character at a boundary, read from a view of the text starting there.
 use Rattle.std.proofs.Common.{◌≡◌, ℕ, ◌<◌, ◌≤◌, Bool, true, List, [], length, Option, Some, None, IsSome, refl, sym, ap, ◌∙◌, subst, arith}
 use Rattle.std.specs.Iterator.{YieldsFirst}
 use Rattle.utf16_units.specs.Boundary.{IsBoundary, text_between, text_from, text_to}
-use Rattle.utf16_units.specs.Encoding.{is_text, size, text_of}
+use Rattle.utf16_units.specs.Encoding.{is_utf16, size, text_of}
 use Rattle.utf16_units.proofs.BoundaryLemmas.{IsBoundary-end, size-text_to, text_between-end, text_to-text_from}
-use Rattle.utf16_units.proofs.EncodingLemmas.{IsText-from_is_text, length-text, size-append, size-nil}
+use Rattle.utf16_units.proofs.EncodingLemmas.{IsUtf16-from_is_utf16, length-text, size-append, size-nil}
 
-module _ (big : Bool) (bytes : List ℕ) (i : ℕ) (checked : is_text big bytes ≡ true) (within : i < size (text_of big bytes)) (b : IsBoundary (text_of big bytes) i) where
+module _ (big : Bool) (bytes : List ℕ) (i : ℕ) (checked : is_utf16 big bytes ≡ true) (within : i < size (text_of big bytes)) (b : IsBoundary (text_of big bytes) i) where
   long : length bytes ≡ size (text_of big bytes)
-  long = length-text big bytes (IsText-from_is_text big bytes checked)
+  long = length-text big bytes (IsUtf16-from_is_utf16 big bytes checked)
 
-  -- from the boundary to the end is a window
+  -- from the boundary to the end is a valid range
   pub to_end : (i ≤ length bytes) × IsBoundary (text_of big bytes) i × IsBoundary (text_of big bytes) (length bytes)
   to_end = (omega (arith, long), b, subst (IsBoundary (text_of big bytes)) (sym long) (IsBoundary-end (text_of big bytes)))
 
-  -- what stands in it
+  -- the text in that range
   pub part : text_between (text_of big bytes) i (length bytes) ≡ text_from (text_of big bytes) i
   part = ap (text_between (text_of big bytes) i) long ∙ text_between-end (text_of big bytes) i b
 

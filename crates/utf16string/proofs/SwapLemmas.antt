@@ -1,4 +1,4 @@
--- Bytes swapped two by two, a few at a time.
+-- Bytes swapped in pairs, a few at a time.
 use Rattle.std.proofs.Common.{◌≡◌, ℕ, zero, suc, ◌+◌, ◌≤◌, Bool, true, false, not, List, [], ◌∷◌, ◌++◌, length, take, drop, get_or, slice_index, refl, sym, ap, ap₂, ◌∙◌, arith, append_assoc, drop-drop, length-drop, take-append-drop, ◌-◌, ◌<◌}
 use Rattle.std.proofs.lemmas.List.{drop_more}
 use Rattle.std.proofs.lemmas.Simd.{chunk-drop, length-chunk, put_chunk_is}
@@ -11,11 +11,11 @@ use Rattle.utf16_units.specs.Encoding.{Encodes}
 use Rattle.utf16_units.specs.Laws.{swap_bytes}
 use Rattle.utf16_units.proofs.LawProofs.{swapped_orders}
 
--- the bytes of a text swapped are those of the text in the other order
+-- the swapped bytes of a text are those of the text in the other byte order
 pub Encodes-swapped : (big : Bool) (text bytes : List ℕ) → Encodes big text bytes → Encodes (not big) text (swap_bytes bytes)
 Encodes-swapped big text bytes e = record { scalars = e.scalars; spelled = swapped_orders big text ∙ ap swap_bytes e.spelled }
 
--- what stands in front of an even offset and what stands behind it are swapped each by itself
+-- the bytes before an even offset and the bytes after it are swapped independently
 pub swap_bytes-append : (n : ℕ) (bytes more : List ℕ) → length bytes ≡ n + n → swap_bytes (bytes ++ more) ≡ swap_bytes bytes ++ swap_bytes more
 unfolding swap_bytes
 swap_bytes-append zero [] more long = refl
@@ -24,7 +24,7 @@ swap_bytes-append (suc n) [] more long = absurd (omega arith)
 swap_bytes-append (suc n) (x ∷ []) more long = absurd (omega arith)
 swap_bytes-append (suc n) (x ∷ y ∷ bytes) more long = ap (λ t. y ∷ x ∷ t) (swap_bytes-append n bytes more (omega arith))
 
--- the second of each two positions before the first, from i on
+-- from i on, the second position of each pair before the first
 abbrev pub swapped_positions : ℕ → ℕ → List ℕ
 swapped_positions i zero = []
 swapped_positions i (suc n) = suc i ∷ i ∷ swapped_positions (suc (suc i)) n
@@ -60,7 +60,7 @@ swapped_two raw at room =
     drop_more raw at 0 (omega arith) ∙ ap (λ t. slice_index raw at ∷ t) (drop_more raw (at + 1) 0 (omega arith)) in
     ap (λ t. swap_bytes (take 2 t)) cut ∙ swap_bytes-two (slice_index raw at) (slice_index raw (at + 1))
 
--- what stands behind bytes that are stored stays
+-- storing bytes does not change the bytes after them
 pub drop-put_chunk : (at n : ℕ) (raw bytes : List ℕ) → n ≡ length bytes → at + n ≤ length raw → drop (at + n) (put_chunk at raw bytes) ≡ drop (at + n) raw
 drop-put_chunk at n raw bytes long room =
     let front = length-take-le at raw (omega arith) in
@@ -72,7 +72,8 @@ drop-put_chunk at n raw bytes long room =
     ∙ ap (λ k. drop k (drop at raw)) (sym long)
     ∙ drop-drop n at raw
 
--- up to an offset the bytes are swapped, and what is swapped and what is left to swap are all of it
+-- the bytes up to an offset are swapped; with the remaining bytes swapped too, they are all bytes
+-- swapped
 abbrev pub SwappedTo : List ℕ → List ℕ → ℕ → Type 0
 SwappedTo old now at = (at ≤ length now) × (take at now ++ swap_bytes (drop at now) ≡ swap_bytes old)
 
@@ -95,12 +96,12 @@ swap_bytes-few [] few = refl
 swap_bytes-few (x ∷ []) few = refl
 swap_bytes-few (x ∷ y ∷ bytes) few = absurd (omega arith)
 
--- where less than a unit is left, all are
+-- if less than a code unit remains, all code units are swapped
 pub SwappedTo-all : (old now : List ℕ) (at : ℕ) → SwappedTo old now at → length now - at < 2 → now ≡ swap_bytes old
 SwappedTo-all old now at so few =
     sym (ap (λ t. take at now ++ t) (swap_bytes-few (drop at now) (omega (arith, length-drop at now, few))) ∙ take-append-drop at now) ∙ so.1
 
--- an order that is not the other one is the opposite
+-- of two byte orders that are not equal, one is the opposite of the other
 pub opposite_order : (x y : Bool) → not (beq x y) ≡ true → not x ≡ y
 opposite_order true true e = absurd (false≢true e)
 opposite_order true false e = refl

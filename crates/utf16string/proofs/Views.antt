@@ -1,17 +1,17 @@
--- What the type of a view says of its text, where no call says it.
+-- What the type of a view implies about its text, for goals where no call gives it.
 use Rattle.std.proofs.Common.{List, [], ◌∷◌, All, map}
 use Rattle.std.proofs.lemmas.List.Elements.{All-cons, All-nil}
 use Rattle.std.specs.Char.{IsScalar}
-use Rattle.utf16_units.specs.declared.order.Utf16Order.{Ghosts}
+use Rattle.utf16_units.specs.declared.byte_order.Utf16Order.{Ghosts}
 use Rattle.utf16_units.specs.Encoding.{Encodes}
-use Rattle.utf16_units.proofs.EncodingLemmas.{Encodes-text_of, IsText-from_is_text}
+use Rattle.utf16_units.proofs.EncodingLemmas.{Encodes-text_of, IsUtf16-from_is_utf16}
 use Rattle.utf16_str.specs.WStr.{wstr_bytes, wstr_text}
 use Rattle.utf16_str.specs.declared.wstr.WStr.{WStr}
 
 module _ {E : Type 0} {order : Ghosts E} where
   -- the bytes of a view encode its text
   pub view_encodes : (s : WStr E order) → Encodes order.BIG (wstr_text s) (wstr_bytes s)
-  view_encodes s = Encodes-text_of order.BIG (wstr_bytes s) (IsText-from_is_text order.BIG (wstr_bytes s) s.well_formed)
+  view_encodes s = Encodes-text_of order.BIG (wstr_bytes s) (IsUtf16-from_is_utf16 order.BIG (wstr_bytes s) s.well_formed)
 
   -- the texts of views are lists of scalar values
   pub scalar_texts : (views : List (WStr E order)) → All (All IsScalar) (map wstr_text views)

@@ -1,13 +1,13 @@
 pub use Rattle.utf16_units.specs.Unit
 pub use Rattle.utf16_units.specs.Encoding
-pub use Rattle.utf16_units.specs.Fault
+pub use Rattle.utf16_units.specs.IllFormed
 pub use Rattle.utf16_units.specs.Utf16Error
 pub use Rattle.utf16_units.specs.Boundary
 pub use Rattle.utf16_units.specs.Delimited
 pub use Rattle.utf16_units.specs.Parts
 pub use Rattle.utf16_units.specs.Numbered
 pub use Rattle.utf16_units.specs.Edit
-pub use Rattle.utf16_units.specs.Order
+pub use Rattle.utf16_units.specs.TextOrder
 pub use Rattle.utf16_str.specs.Common
 pub use Rattle.utf16_str.specs.Offsets
 pub use Rattle.utf16_str.specs.Window

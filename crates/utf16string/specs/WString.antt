@@ -1,8 +1,8 @@
--- What a clause sees of a `WString`.
+-- What contracts can say of a `WString`: its vector, bytes, text and capacity.
 use Rattle.std.specs.Prelude.{◌≡◌, ℕ, List}
 use Rattle.std.specs.Prelude.{Vec}
 use Rattle.std.specs.Vec.{vec_capacity, vec_items}
-use Rattle.utf16_units.specs.declared.order.Utf16Order.{Ghosts}
+use Rattle.utf16_units.specs.declared.byte_order.Utf16Order.{Ghosts}
 use Rattle.utf16_units.specs.Edit.{push_text}
 use Rattle.utf16_units.specs.Encoding.{text_of}
 use Rattle.utf16string.specs.declared.wstring.WString.{WString}
@@ -24,10 +24,10 @@ module _ {E Z : Type 0} {order : Ghosts E} where
   abbrev pub wstring_capacity : WString E Z order → ℕ
   wstring_capacity s = vec_capacity (wstring_vec s)
 
-  -- the string holds what it held, in as much room
+  -- the string has the same bytes and the same capacity
   abbrev pub IsUnchanged : WString E Z order → WString E Z order → Type 0
   IsUnchanged old new = (wstring_bytes new ≡ wstring_bytes old) × (wstring_capacity new ≡ wstring_capacity old)
 
-  -- `new` holds the text of `old` and then these characters
+  -- `new` has the text of `old` and then these characters
   abbrev pub Extends : WString E Z order → List ℕ → WString E Z order → Type 0
   Extends old text new = wstring_text new ≡ push_text (wstring_text old) text

@@ -1,11 +1,11 @@
 //! UTF-16 strings in either byte order: `WStr` and `WString` are to UTF-16 bytes what `str` and
 //! `String` are to UTF-8.
 //!
-//! The owned string stands here. All of `utf16_str` and the byte orders are re-exported, so that a
-//! user names this crate alone.
+//! This crate holds the owned string. It re-exports all of `utf16_str` and the byte orders, so that
+//! a user names this crate alone.
 #![tactic(auto)]
 
-mod reorder;
+mod swap_byte_order;
 mod wstring;
 
 pub use crate::wstring::WString;

@@ -1,11 +1,11 @@
 //! An owned UTF-16 string.
 
+mod byte_order;
+mod cmp;
 mod copies;
 mod cuts;
 mod extends;
 mod inserts;
-mod order;
-mod orders;
 mod overwrites;
 mod retains;
 mod room;
@@ -20,7 +20,7 @@ ghost use Rattle.std.specs.Iterator.{YieldsFirst, YieldsLast};
 ghost use Rattle.std.specs.Iterator.Runs.{YieldsInOrder, YieldsInReverse};
 ghost use Rattle.std.proofs.Common.{rules};
 ghost use Rattle.utf16_units.specs.Boundary.{IsBoundary};
-ghost use Rattle.utf16_units.specs.Encoding.{Encodes, IsText, is_text, size};
+ghost use Rattle.utf16_units.specs.Encoding.{Encodes, IsUtf16, is_utf16, size};
 ghost use Rattle.utf16_units.specs.Utf16Error.{IsErrorOf};
 ghost use Rattle.utf16_str.specs.Offsets.{IsCharAt, char_offsets};
 ghost use Rattle.utf16_str.specs.WStr.{wstr_bytes, wstr_text};
@@ -33,20 +33,24 @@ use std::marker::PhantomData;
 use utf16_str::{SliceIndex, WStr, WStrCharIndices, WStrChars};
 use utf16_units::{BigEndian, LittleEndian, Utf16Error, Utf16Order, validate_raw_utf16};
 
-/// An owned UTF-16 string in the byte order `E`, in memory of the allocator `A`. It always holds
-/// well-formed text. Lengths, offsets and capacities count bytes. A size past what a vector can
-/// hold is refused as a request for memory is.
+/// An owned UTF-16 string in the byte order `E`, in memory of the allocator `A`. It is always well
+/// formed. Lengths, offsets and capacities count bytes. A capacity larger than a vector can have is
+/// an allocation failure.
 #[derive(Drop)]
 pub struct WString<E: Utf16Order, A: Allocator = Global> {
     raw: Vec<u8, A>,
     order: PhantomData<E>,
-    ghost well_formed: { is_text E.BIG raw.items ≡ true },
+    ghost well_formed: { is_utf16 E.BIG raw.items ≡ true },
 }
 
 impl<E: Utf16Order, A: Allocator> WString<E, A> {
     ghost use Rattle.utf16string.specs.WString.{wstring_bytes, wstring_capacity, wstring_text, wstring_vec};
 
-    /// An empty string. It takes no memory and keeps the allocator for later.
+    /// Returns an empty string, which keeps the allocator for later.
+    ///
+    /// # Complexity
+    ///
+    /// Allocates nothing.
     #[inline]
     pub fn new(alloc: A) -> Self
         ensures text { wstring_text result ≡ [] }
@@ -56,24 +60,36 @@ impl<E: Utf16Order, A: Allocator> WString<E, A> {
         Self::from_utf16_unchecked(Vec::new(alloc))
     }
 
-    /// An empty string with room for `capacity` bytes. The only error is a refused request for
-    /// memory; for no room nothing is asked.
+    /// Returns an empty string with a capacity of at least `capacity` bytes.
+    ///
+    /// # Errors
+    ///
+    /// If allocation fails. It does not fail, and allocates nothing, if `capacity` is 0.
     #[inline]
     pub fn with_capacity(alloc: A, capacity: usize) -> Result<Self, AllocError>
         ensures text { IfOk result (λ s. wstring_text s ≡ []) }
         ensures bytes { IfOk result (λ s. wstring_bytes s ≡ []) }
         ensures capacity { IfOk result (λ s. capacity ≤ wstring_capacity s) }
         ensures nothing { capacity ≡ 0 → IsOk result }
+        ensures empty { capacity ≡ 0 → IfOk result (λ s. wstring_capacity s ≡ 0) }
     {
         let buf = Vec::with_capacity(alloc, capacity)?;
         Ok(Self::from_utf16_unchecked(buf))
     }
 
-    /// Takes a vector as text, where its bytes are well formed in the order `E`. One pass over the
-    /// bytes, no copy. Where they are not, the vector is dropped.
+    /// Converts a vector of bytes to a string if the bytes are well formed in byte order `E`.
+    ///
+    /// # Errors
+    ///
+    /// If the bytes are ill-formed; the error gives the length of the longest valid prefix and what
+    /// follows it. The vector is dropped then.
+    ///
+    /// # Complexity
+    ///
+    /// One pass over the bytes, no copy.
     #[inline]
     pub fn from_utf16(buf: Vec<u8, A>) -> Result<Self, Utf16Error>
-        ensures text { IsOk result ↔ IsText E.BIG buf.items }
+        ensures text { IsOk result ↔ IsUtf16 E.BIG buf.items }
         ensures vec { IfOk result (λ s. wstring_vec s ≡ buf) }
         ensures encoding { IfOk result (λ s. Encodes E.BIG (wstring_text s) buf.items) }
         ensures error { IfErr result (IsErrorOf E.BIG buf.items) }
@@ -82,11 +98,14 @@ impl<E: Utf16Order, A: Allocator> WString<E, A> {
         Ok(Self::from_utf16_unchecked(buf))
     }
 
-    /// Takes a vector as text without a test. The caller proves that its bytes are well formed in
-    /// the order `E`; `WStr::from_utf16` tests it.
+    /// Converts a vector of bytes to a string without validation.
+    ///
+    /// # Precondition
+    ///
+    /// The bytes are well formed in byte order `E` (check with `WStr::from_utf16`).
     #[inline]
     pub fn from_utf16_unchecked(buf: Vec<u8, A>) -> Self
-        requires { IsText E.BIG buf.items }
+        requires { IsUtf16 E.BIG buf.items }
         ensures vec { wstring_vec result ≡ buf }
         ensures encoding { Encodes E.BIG (wstring_text result) buf.items }
     {
@@ -96,7 +115,7 @@ impl<E: Utf16Order, A: Allocator> WString<E, A> {
         }
     }
 
-    /// The bytes, the encoding of the text, in the string's own vector.
+    /// Returns the bytes, which encode the text, in the string's own vector.
     #[inline]
     pub fn into_bytes(self) -> Vec<u8, A>
         ensures vec { result ≡ wstring_vec self }
@@ -105,7 +124,7 @@ impl<E: Utf16Order, A: Allocator> WString<E, A> {
         self.raw
     }
 
-    /// The whole text as a view.
+    /// Returns a view of the whole text.
     #[inline]
     pub fn as_wstr(&self) -> WStr<'_, E>
         ensures bytes { wstr_bytes result ≡ wstring_bytes self.now }
@@ -114,7 +133,8 @@ impl<E: Utf16Order, A: Allocator> WString<E, A> {
         WStr::from_utf16_unchecked(&self.raw)
     }
 
-    /// How many bytes fit without another request for memory, those held among them.
+    /// Returns the capacity: how many bytes the string can hold without allocation, those of the
+    /// text included.
     #[inline]
     pub fn capacity(&self) -> usize
         ensures room { result ≡ wstring_capacity self.now }
@@ -123,7 +143,7 @@ impl<E: Utf16Order, A: Allocator> WString<E, A> {
         self.raw.capacity()
     }
 
-    /// How many bytes the text takes. It is a character boundary.
+    /// Returns the length of the text in bytes, which is a character boundary.
     #[inline]
     pub fn len(&self) -> usize
         ensures bytes { result ≡ length (wstring_bytes self.now) }
@@ -133,7 +153,7 @@ impl<E: Utf16Order, A: Allocator> WString<E, A> {
         self.as_wstr().len()
     }
 
-    /// Whether the text has no character.
+    /// Returns whether the text is empty.
     #[inline]
     pub fn is_empty(&self) -> bool
         ensures { IsTrue result ↔ (wstring_text self.now ≡ []) }
@@ -141,7 +161,7 @@ impl<E: Utf16Order, A: Allocator> WString<E, A> {
         self.as_wstr().is_empty()
     }
 
-    /// The bytes, the encoding of the text.
+    /// Returns the bytes, which encode the text.
     #[inline]
     pub fn as_bytes(&self) -> &[u8]
         ensures bytes { result.now ≡ wstring_bytes self.now }
@@ -150,8 +170,8 @@ impl<E: Utf16Order, A: Allocator> WString<E, A> {
         self.as_wstr().as_bytes()
     }
 
-    /// Whether a byte offset is a character boundary: the start, the end, or where one character
-    /// ends and the next begins. Any offset may be asked about.
+    /// Returns whether a byte offset is a character boundary: the start, the end, or between two
+    /// characters. Any offset is allowed.
     #[inline]
     pub fn is_char_boundary(&self, index: usize) -> bool
         ensures { IsTrue result ↔ IsBoundary (wstring_text self.now) index }
@@ -159,39 +179,50 @@ impl<E: Utf16Order, A: Allocator> WString<E, A> {
         self.as_wstr().is_char_boundary(index)
     }
 
-    /// The part of a range, or `None` where its window is reversed, or an end is no character
-    /// boundary.
+    /// Returns the substring at a range of byte offsets, or `None` if its start is after its end,
+    /// or an end is not a character boundary.
     #[inline]
     pub fn get<I: SliceIndex<E>>(&self, index: I) -> Option<WStr<'_, E>>
         ensures some { IsSome result ↔ IsRangeOf E.BIG (wstring_bytes self.now) (I.window index) }
-        ensures part { IfSome result (λ part. wstr_text part ≡ range_text E.BIG (wstring_bytes self.now) (I.window index)) }
-        ensures bytes { IfSome result (λ part. wstr_bytes part ≡ range_bytes (wstring_bytes self.now) (I.window index)) }
+        ensures part { IfSome result (λ part.
+            wstr_text part ≡ range_text E.BIG (wstring_bytes self.now) (I.window index)) }
+        ensures bytes { IfSome result (λ part.
+            wstr_bytes part ≡ range_bytes (wstring_bytes self.now) (I.window index)) }
     {
         self.as_wstr().get(index)
     }
 
-    /// The part of a range. The caller proves that there is one; `get` tests it.
+    /// Returns the substring at a range of byte offsets.
+    ///
+    /// # Precondition
+    ///
+    /// The start is at most the end, and both are character boundaries (check with `get`).
     #[inline]
     pub fn get_unchecked<I: SliceIndex<E>>(&self, index: I) -> WStr<'_, E>
         requires { IsRangeOf E.BIG (wstring_bytes self.now) (I.window index) }
-        ensures text { wstr_text result ≡ range_text E.BIG (wstring_bytes self.now) (I.window index) }
+        ensures text { wstr_text result ≡ range_text E.BIG (wstring_bytes self.now)
+            (I.window index) }
         ensures bytes { wstr_bytes result ≡ range_bytes (wstring_bytes self.now) (I.window index) }
     {
         self.as_wstr().get_unchecked(index)
     }
 
-    /// The part of a range: write it for `s[a..b]`. The caller proves that there is one; `get`
-    /// tests it.
+    /// Returns the substring at a range of byte offsets; replaces `s[a..b]`.
+    ///
+    /// # Precondition
+    ///
+    /// The start is at most the end, and both are character boundaries (check with `get`).
     #[inline]
     pub fn index<I: SliceIndex<E>>(&self, index: I) -> WStr<'_, E>
         requires { IsRangeOf E.BIG (wstring_bytes self.now) (I.window index) }
-        ensures text { wstr_text result ≡ range_text E.BIG (wstring_bytes self.now) (I.window index) }
+        ensures text { wstr_text result ≡ range_text E.BIG (wstring_bytes self.now)
+            (I.window index) }
         ensures bytes { wstr_bytes result ≡ range_bytes (wstring_bytes self.now) (I.window index) }
     {
         self.as_wstr().index(index)
     }
 
-    /// The characters, in order. The clauses are those of `WStr::chars`.
+    /// Returns an iterator over the characters, in order. The clauses are those of `WStr::chars`.
     #[inline]
     pub fn chars(&self) -> WStrChars<'_, E>
         ensures text { result ≡ wstring_text self.now }
@@ -202,20 +233,21 @@ impl<E: Utf16Order, A: Allocator> WString<E, A> {
         self.as_wstr().chars()
     }
 
-    /// The characters, in order, each beside its byte offset. The clauses are those of
-    /// `WStr::char_indices`.
+    /// Returns an iterator over the characters, in order, each with its byte offset. The clauses
+    /// are those of `WStr::char_indices`.
     #[inline]
     pub fn char_indices(&self) -> WStrCharIndices<'_, E>
         ensures text { result ≡ char_offsets 0 (wstring_text self.now) }
         ensures offsets { All (IsCharAt (wstring_text self.now)) result }
         ensures bound { length result < 2 ^ 64 }
         ensures runs { YieldsInOrder (YieldsFirst (λ (rest : List (ℕ × ℕ)). rest)) (λ rest. rest) }
-        ensures runs_back { YieldsInReverse (YieldsLast (λ (rest : List (ℕ × ℕ)). rest)) (λ rest. rest) }
+        ensures runs_back { YieldsInReverse (YieldsLast (λ (rest : List (ℕ × ℕ)). rest))
+            (λ rest. rest) }
     {
         self.as_wstr().char_indices()
     }
 
-    /// Whether every character is ASCII, below U+0080.
+    /// Returns whether all characters are ASCII, below U+0080.
     #[inline]
     pub fn is_ascii(&self) -> bool
         ensures { IsTrue result ↔ All (λ c. c < 0x80) (wstring_text self.now) }
@@ -223,11 +255,20 @@ impl<E: Utf16Order, A: Allocator> WString<E, A> {
         self.as_wstr().is_ascii()
     }
 
-    /// The same characters in UTF-8. The only error is a refused request for memory; for the empty
-    /// text nothing is asked.
+    /// Returns a new `String` with the same characters, in UTF-8.
+    ///
+    /// # Errors
+    ///
+    /// If allocation fails. It does not fail for the empty text.
+    ///
+    /// # Complexity
+    ///
+    /// Allocates once, for as many bytes as the characters take or for eight, and not at all for
+    /// the empty text.
     #[inline]
     pub fn to_utf8<B: Allocator>(&self, alloc: B) -> Result<String<B>, AllocError>
-        ensures text { IfOk result (λ s. string_bytes s ≡ encode_utf8_all (wstring_text self.now)) }
+        ensures text { IfOk result (λ s.
+            string_bytes s ≡ encode_utf8_all (wstring_text self.now)) }
         ensures nothing { wstring_text self.now ≡ [] → IsOk result }
     {
         self.as_wstr().to_utf8(alloc)
@@ -237,10 +278,10 @@ impl<E: Utf16Order, A: Allocator> WString<E, A> {
 impl<A: Allocator> WString<LittleEndian, A> {
     ghost use Rattle.utf16string.specs.WString.{wstring_text, wstring_vec};
 
-    /// `from_utf16` in little endian.
+    /// Converts a vector of little-endian bytes, as `from_utf16`.
     #[inline]
     pub fn from_utf16le(buf: Vec<u8, A>) -> Result<Self, Utf16Error>
-        ensures text { IsOk result ↔ IsText false buf.items }
+        ensures text { IsOk result ↔ IsUtf16 false buf.items }
         ensures vec { IfOk result (λ s. wstring_vec s ≡ buf) }
         ensures encoding { IfOk result (λ s. Encodes false (wstring_text s) buf.items) }
         ensures error { IfErr result (IsErrorOf false buf.items) }
@@ -248,10 +289,10 @@ impl<A: Allocator> WString<LittleEndian, A> {
         WString::<LittleEndian, A>::from_utf16(buf)
     }
 
-    /// `from_utf16_unchecked` in little endian.
+    /// Converts a vector of little-endian bytes without validation, as `from_utf16_unchecked`.
     #[inline]
     pub fn from_utf16le_unchecked(buf: Vec<u8, A>) -> Self
-        requires { IsText false buf.items }
+        requires { IsUtf16 false buf.items }
         ensures vec { wstring_vec result ≡ buf }
         ensures encoding { Encodes false (wstring_text result) buf.items }
     {
@@ -262,10 +303,10 @@ impl<A: Allocator> WString<LittleEndian, A> {
 impl<A: Allocator> WString<BigEndian, A> {
     ghost use Rattle.utf16string.specs.WString.{wstring_text, wstring_vec};
 
-    /// `from_utf16` in big endian.
+    /// Converts a vector of big-endian bytes, as `from_utf16`.
     #[inline]
     pub fn from_utf16be(buf: Vec<u8, A>) -> Result<Self, Utf16Error>
-        ensures text { IsOk result ↔ IsText true buf.items }
+        ensures text { IsOk result ↔ IsUtf16 true buf.items }
         ensures vec { IfOk result (λ s. wstring_vec s ≡ buf) }
         ensures encoding { IfOk result (λ s. Encodes true (wstring_text s) buf.items) }
         ensures error { IfErr result (IsErrorOf true buf.items) }
@@ -273,10 +314,10 @@ impl<A: Allocator> WString<BigEndian, A> {
         WString::<BigEndian, A>::from_utf16(buf)
     }
 
-    /// `from_utf16_unchecked` in big endian.
+    /// Converts a vector of big-endian bytes without validation, as `from_utf16_unchecked`.
     #[inline]
     pub fn from_utf16be_unchecked(buf: Vec<u8, A>) -> Self
-        requires { IsText true buf.items }
+        requires { IsUtf16 true buf.items }
         ensures vec { wstring_vec result ≡ buf }
         ensures encoding { Encodes true (wstring_text result) buf.items }
     {
@@ -314,7 +355,8 @@ impl<E: Utf16Order, A: Allocator> PartialEq for WString<E, A> {
 
     #[inline]
     fn eq(&self, other: &Self) -> bool
-        ensures bytes { result ≡ pointwise nat_eq (wstring_bytes self.now) (wstring_bytes other.now) }
+        ensures bytes { result ≡ pointwise nat_eq (wstring_bytes self.now)
+            (wstring_bytes other.now) }
         ensures texts { IsTrue result ↔ (wstring_text self.now ≡ wstring_text other.now) }
     {
         self.as_wstr() == other.as_wstr()

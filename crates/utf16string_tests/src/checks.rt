@@ -1,4 +1,4 @@
-//! What the tests of this crate share: assertions, and strings made.
+//! Assertions that the tests of this crate share, and strings made.
 
 ghost use Rattle.std.specs.Prelude.{IsTrue};
 
@@ -6,25 +6,25 @@ use std::fmt::Debug;
 use std::process::Abort;
 use utf16string::{Utf16Order, WString};
 
-/// What is found is what is wanted.
+/// Asserts that the value found is the expected one.
 pub fn equal<T: PartialEq + Debug + Drop>(rt: &impl Abort, found: T, wanted: T) {
     assert_eq!(rt; found, wanted);
 }
 
-/// What is claimed is so.
+/// Asserts that a claim holds.
 pub fn holds(rt: &impl Abort, is: bool)
     ensures { IsTrue is }
 {
     assert!(rt; is);
 }
 
-/// A string of these bytes, which are text, with no room left.
+/// Returns a string of these bytes, which are text, with no spare capacity.
 pub fn string<E: Utf16Order>(rt: &(impl Abort + AllocGlobal), raw: &[u8]) -> WString<E> {
     let bytes = raw.to_vec(rt.alloc()).expect(rt, "memory");
     WString::from_utf16(bytes).expect(rt, "text")
 }
 
-/// A string of this text, with no room left.
+/// Returns a string of this text, with no spare capacity.
 pub fn encoded<E: Utf16Order>(rt: &(impl Abort + AllocGlobal), text: &str) -> WString<E> {
     WString::from_str(rt.alloc(), text).expect(rt, "memory")
 }

@@ -1,20 +1,20 @@
-//! The allocator that refuses what it is told to, and counts. A mistake that no clause would show:
-//! it grants what it was told to refuse, or counts wrong, and then no case shows a refusal.
+//! The allocator that fails as it is set, and counts. A bug that no clause excludes: it allocates
+//! where it should fail, or counts wrong, and then no case tests a failure.
 
 use crate::checks::{equal, holds};
 use std::alloc::Global;
 use std::process::Abort;
 use std::test::Fail;
-use utf16_testing::refusing::Refusing;
+use utf16_test_support::refusing::Refusing;
 
-// What came since the heap was told what to refuse, and what is not given back.
+// Checks the counts since it was set which allocations fail, and the blocks that are not freed.
 fn counted(rt: &impl Abort, heap: &Refusing<Global>, requests: u64, refusals: u64, live: u64) {
     equal(rt, heap.requests(), requests);
     equal(rt, heap.refusals(), refusals);
     equal(rt, heap.live_blocks(), live);
 }
 
-// A block is asked for and given back: whether it was given.
+// Allocates a block and frees it; returns whether allocation succeeded.
 fn is_given(heap: &Refusing<Global>) -> bool {
     Box::new(heap, 7).is_ok()
 }
@@ -33,7 +33,7 @@ fn requests_are_refused_as_told(rt: HostRuntime) {
     counted(&rt, &heap, 1, 0, 0);
 }
 
-// A block that grows or shrinks stays one, and to grow or to shrink it is a request.
+// A block that grows or shrinks stays one, and to grow or to shrink it is an allocation.
 #[test]
 fn growing_and_shrinking_are_requests(rt: HostRuntime) -> Result<(), Fail> {
     let heap = Refusing::new(rt.alloc());

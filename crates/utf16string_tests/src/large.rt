@@ -1,14 +1,14 @@
-//! Each growing call on a text of 1 MiB: it succeeds, and gives what it gives on a short one. A
-//! mistake that no clause would show: a long text is refused memory that is there.
+//! Each growing call on a text of 1 MiB: it succeeds, and has the result that it has on a short
+//! one. A bug that no clause excludes: allocation fails for a long text though there is memory.
 
 use crate::checks::{encoded, equal, holds, string};
 use std::process::Abort;
-use utf16_testing::texts::{MIXED, MIXED_BE, MIXED_UTF8};
+use utf16_test_support::texts::{MIXED, MIXED_BE, MIXED_UTF8};
 use utf16string::{BE, LE, Utf16Order, WStr, WString};
 
 const MIB: usize = 0x10_0000;
 
-// 1 MiB of these eight bytes, over and over.
+// Returns 1 MiB of these eight bytes, over and over.
 fn mib_of(rt: &(impl Abort + AllocGlobal), eight: [u8; 8]) -> Vec<u8> {
     let mut bytes = Vec::with_capacity(rt.alloc(), MIB).expect(rt, "memory");
     for _ in 0..MIB / 8 {
@@ -17,7 +17,7 @@ fn mib_of(rt: &(impl Abort + AllocGlobal), eight: [u8; 8]) -> Vec<u8> {
     bytes
 }
 
-// The string's bytes are these parts, one after the other.
+// Checks that the string's bytes are these parts, one after the other.
 fn parts_are<E: Utf16Order>(rt: &impl Abort, text: &WString<E>, parts: &[&[u8]]) {
     let mut rest = text.as_bytes();
     for part in parts {
@@ -26,7 +26,7 @@ fn parts_are<E: Utf16Order>(rt: &impl Abort, text: &WString<E>, parts: &[&[u8]])
     assert!(rt; rest.is_empty());
 }
 
-// A text is put last and leaves these parts.
+// Appends a text, and checks that it leaves these parts.
 fn push_leaves<E: Utf16Order>(
     rt: &(impl Abort + AllocGlobal),
     text: &mut WString<E>,
@@ -38,7 +38,7 @@ fn push_leaves<E: Utf16Order>(
     parts_are(rt, text, parts);
 }
 
-// A text is put in at a boundary and leaves these parts.
+// Inserts a text at a boundary, and checks that it leaves these parts.
 fn insert_leaves<E: Utf16Order>(
     rt: &(impl Abort + AllocGlobal),
     text: &mut WString<E>,

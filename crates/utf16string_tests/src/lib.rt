@@ -1,5 +1,5 @@
-//! Tests of texts of more than a million bytes, and of the allocator that refuses what it is told
-//! to.
+//! Tests of texts of more than a million bytes, of strings whose allocations fail, and of the
+//! allocator that fails as it is set.
 #![tactic(auto)]
 
 #[cfg(test)]
@@ -8,3 +8,5 @@ mod checks;
 mod heap;
 #[cfg(test)]
 mod large;
+#[cfg(test)]
+mod room;

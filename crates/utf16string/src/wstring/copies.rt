@@ -10,15 +10,23 @@ use utf16_str::WStr;
 use utf16_units::Utf16Order;
 
 impl<E: Utf16Order, A: Allocator> WString<E, A> {
-    ghost use Rattle.utf16string.specs.WString.{wstring_bytes, wstring_text};
+    ghost use Rattle.utf16string.specs.WString.{wstring_bytes, wstring_capacity, wstring_text};
 
-    /// A string with the text of a view, in memory of the allocator. The only error is a refused
-    /// request for memory. One request for as many bytes as the text takes, for the empty text
-    /// none; one copy of the bytes.
+    /// Returns a new string with the text of a view, in memory of the given allocator.
+    ///
+    /// # Errors
+    ///
+    /// If allocation fails. It does not fail for the empty text.
+    ///
+    /// # Complexity
+    ///
+    /// Copies the bytes once. Allocates once, as many bytes as the text has, and not at all for the
+    /// empty text.
     pub fn from_wstr(alloc: A, text: WStr<E>) -> Result<Self, AllocError>
         ensures text { IfOk result (λ s. wstring_text s ≡ wstr_text text.entry) }
         ensures bytes { IfOk result (λ s. wstring_bytes s ≡ wstr_bytes text.entry) }
         ensures nothing { wstr_text text.entry ≡ [] → IsOk result }
+        ensures empty { wstr_text text.entry ≡ [] → IfOk result (λ s. wstring_capacity s ≡ 0) }
     {
         if text.is_empty() {
             return Ok(Self::new(alloc));
@@ -29,15 +37,25 @@ impl<E: Utf16Order, A: Allocator> WString<E, A> {
 }
 
 impl<E: Utf16Order, A: Allocator + Clone> WString<E, A> {
-    ghost use Rattle.utf16string.specs.WString.{wstring_bytes, wstring_text, wstring_vec};
+    ghost use Rattle.utf16string.specs.WString.{wstring_bytes, wstring_capacity, wstring_text, wstring_vec};
 
-    /// A string of its own with the same text, in memory of the string's allocator, cloned. The
-    /// only error is a refused request for memory, or an allocator that refuses to be cloned. One
-    /// request for as many bytes as the text takes, for the empty text none; one copy of the bytes.
+    /// Returns a new string with the same text, in memory of a clone of the string's allocator.
+    ///
+    /// # Errors
+    ///
+    /// If allocation fails, or the allocator cannot be cloned.
+    ///
+    /// # Complexity
+    ///
+    /// Copies the bytes once. Allocates once, as many bytes as the text has, and not at all for the
+    /// empty text.
     pub fn clone(&self) -> Result<Self, AllocError>
         ensures text { IfOk result (λ copy. wstring_text copy ≡ wstring_text self.now) }
         ensures bytes { IfOk result (λ copy. wstring_bytes copy ≡ wstring_bytes self.now) }
-        ensures nothing { wstring_text self.now ≡ [] → A.is_infallible (vec_allocator (wstring_vec self.now)) → IsOk result }
+        ensures nothing { wstring_text self.now ≡ []
+            → A.is_infallible (vec_allocator (wstring_vec self.now)) → IsOk result }
+        ensures empty { wstring_text self.now ≡ []
+            → IfOk result (λ copy. wstring_capacity copy ≡ 0) }
     {
         let alloc = self.raw.allocator().clone()?;
         Self::from_wstr(alloc, self.as_wstr())
@@ -49,7 +67,8 @@ impl<E: Utf16Order, A: Allocator + Clone> Clone for WString<E, A> {
 
     ghost is_clone = { λ s copy. wstring_text copy ≡ wstring_text s };
 
-    ghost is_infallible = { λ s. (wstring_text s ≡ []) × A.is_infallible (vec_allocator (wstring_vec s)) };
+    ghost is_infallible = { λ s. (wstring_text s ≡ [])
+        × A.is_infallible (vec_allocator (wstring_vec s)) };
 
     fn clone(&self) -> Result<Self, AllocError> {
         WString::clone(self)

@@ -1,4 +1,4 @@
-//! Characters and texts taken out of a string.
+//! Characters and texts removed from a string.
 
 ghost use Rattle.std.specs.Prelude.{◌≡◌, ◌≢◌, ◌↔◌, ◌+◌, ◌<◌, ◌≤◌, [], Some, IsOk, IsSome, IfOk, OnErr, OnOk};
 ghost use Rattle.std.specs.List.{remove_range};
@@ -15,11 +15,13 @@ use utf16_units::{Utf16CharExt, Utf16Order};
 impl<E: Utf16Order, A: Allocator> WString<E, A> {
     ghost use Rattle.utf16string.specs.WString.{IsUnchanged, wstring_capacity, wstring_text, wstring_vec};
 
-    /// Takes off the last character, or answers `None` where there is none. The capacity stays.
+    /// Removes the last character and returns it, or `None` if the text is empty. The capacity
+    /// stays.
     #[inline]
     pub fn pop(&mut self) -> Option<char>
         ensures some { IsSome result ↔ (wstring_text self.old ≢ []) }
-        ensures text { push_text (wstring_text self.new) (option_to_list result) ≡ wstring_text self.old }
+        ensures text { push_text (wstring_text self.new) (option_to_list result)
+            ≡ wstring_text self.old }
         ensures capacity { wstring_capacity self.new ≡ wstring_capacity self.old }
     {
         let last = self.chars().next_back()?;
@@ -28,9 +30,16 @@ impl<E: Utf16Order, A: Allocator> WString<E, A> {
         Some(last)
     }
 
-    /// Takes out the character at a byte offset. The caller proves that the offset is a character
-    /// boundary below the length; `is_char_boundary` and `len` test it. What stands behind is moved
-    /// in one block. The capacity stays.
+    /// Removes the character at a byte offset and returns it. The capacity stays.
+    ///
+    /// # Precondition
+    ///
+    /// The offset is a character boundary (check with `is_char_boundary`) below the length in bytes
+    /// (check with `len`).
+    ///
+    /// # Complexity
+    ///
+    /// Moves the bytes after the character in one block.
     pub fn remove(&mut self, idx: usize) -> char
         requires boundary { IsBoundary (wstring_text self.old) idx }
         requires within { idx < size (wstring_text self.old) }
@@ -43,20 +52,26 @@ impl<E: Utf16Order, A: Allocator> WString<E, A> {
         removed
     }
 
-    /// Cuts the text at a byte offset. The caller proves that an offset below the length is a
-    /// character boundary; `is_char_boundary` tests it. At or past the length, at an odd number
-    /// too, nothing changes. The capacity stays.
+    /// Shortens the text to `new_len` bytes. Does nothing if `new_len` is at or past the length,
+    /// even if it is odd. The capacity stays.
+    ///
+    /// # Precondition
+    ///
+    /// A `new_len` below the length is a character boundary (check with `is_char_boundary`).
     #[inline]
     pub fn truncate(&mut self, new_len: usize)
-        requires { new_len < size (wstring_text self.old) → IsBoundary (wstring_text self.old) new_len }
-        ensures cut { new_len < size (wstring_text self.old) → wstring_text self.new ≡ text_to (wstring_text self.old) new_len }
-        ensures past { size (wstring_text self.old) ≤ new_len → wstring_text self.new ≡ wstring_text self.old }
+        requires { new_len < size (wstring_text self.old)
+            → IsBoundary (wstring_text self.old) new_len }
+        ensures cut { new_len < size (wstring_text self.old)
+            → wstring_text self.new ≡ text_to (wstring_text self.old) new_len }
+        ensures past { size (wstring_text self.old) ≤ new_len
+            → wstring_text self.new ≡ wstring_text self.old }
         ensures capacity { wstring_capacity self.new ≡ wstring_capacity self.old }
     {
         self.raw.truncate(new_len);
     }
 
-    /// Takes off all characters. The capacity stays.
+    /// Removes all characters. The capacity stays.
     #[inline]
     pub fn clear(&mut self)
         ensures text { wstring_text self.new ≡ [] }
@@ -65,26 +80,44 @@ impl<E: Utf16Order, A: Allocator> WString<E, A> {
         self.raw.clear();
     }
 
-    /// Splits the text at a byte offset: the string keeps the front and its capacity, and the back
-    /// is answered. The caller proves that the offset is a character boundary; `is_char_boundary`
-    /// tests it. The only error is a refused request for memory; it leaves the string as it was. An
-    /// empty back asks for nothing. One copy of the back's bytes.
+    /// Splits the text at a byte offset: keeps the prefix, with the capacity, and returns the rest.
+    ///
+    /// # Errors
+    ///
+    /// If allocation fails. The string is unchanged then.
+    ///
+    /// # Precondition
+    ///
+    /// The offset is a character boundary (check with `is_char_boundary`).
+    ///
+    /// # Complexity
+    ///
+    /// Copies the bytes of the rest once. Allocates nothing if the rest is empty.
     pub fn split_off(&mut self, at: usize) -> Result<WString<E, A>, AllocError>
     where
         A: Clone,
         requires { IsBoundary (wstring_text self.old) at }
-        ensures front { OnOk result (wstring_text self.new ≡ split_front (wstring_text self.old) at) }
-        ensures back { IfOk result (λ back. wstring_text back ≡ split_back (wstring_text self.old) at) }
+        ensures front { OnOk result (wstring_text self.new
+            ≡ split_front (wstring_text self.old) at) }
+        ensures back { IfOk result (λ back.
+            wstring_text back ≡ split_back (wstring_text self.old) at) }
         ensures refused { OnErr result (IsUnchanged self.old self.new) }
-        ensures nothing { at ≡ size (wstring_text self.old) → A.is_infallible (vec_allocator (wstring_vec self.old)) → IsOk result }
+        ensures nothing { at ≡ size (wstring_text self.old)
+            → A.is_infallible (vec_allocator (wstring_vec self.old)) → IsOk result }
+        ensures empty { at ≡ size (wstring_text self.old)
+            → IfOk result (λ back. wstring_capacity back ≡ 0) }
         ensures capacity { wstring_capacity self.new ≡ wstring_capacity self.old }
     {
+        if at == self.len() {
+            let alloc = self.raw.allocator().clone()?;
+            return Ok(WString::new(alloc));
+        }
         let back = self.raw.split_off(at)?;
         Ok(WString::from_utf16_unchecked(back))
     }
 }
 
-// Takes out the bytes from one index up to another.
+// Removes the bytes of a range of indices.
 #[inline]
 fn remove_bytes<A: Allocator>(raw: &mut Vec<u8, A>, start: usize, end: usize)
     requires order { start ≤ end }

@@ -1,6 +1,6 @@
-//! Characters and texts put into a string.
+//! Characters and texts appended to a string and inserted into it.
 
-ghost use Rattle.std.specs.Prelude.{◌≡◌, ◌+◌, ◌≤◌, [], ◌∷◌, ◌++◌, length, IsOk, OnErr, OnOk};
+ghost use Rattle.std.specs.Prelude.{◌≡◌, ◌+◌, ◌≤◌, ◌⊎◌, List, ℕ, [], ◌∷◌, ◌++◌, length, take, IsOk, OnErr, OnOk};
 ghost use Rattle.std.specs.List.{splice};
 ghost use Rattle.std.specs.Vec.{VecUnchanged, vec_capacity, vec_len};
 ghost use Rattle.utf16_units.specs.Boundary.{IsBoundary};
@@ -8,6 +8,7 @@ ghost use Rattle.utf16_units.specs.Edit.{insert_at, push_text};
 ghost use Rattle.utf16_units.specs.Encoding.{char_bytes, char_size};
 ghost use Rattle.utf16_str.specs.WStr.{wstr_bytes, wstr_text};
 
+use super::room::make_room;
 use crate::WString;
 use std::alloc::{AllocError, Allocator};
 use utf16_str::WStr;
@@ -16,85 +17,161 @@ use utf16_units::{Utf16CharExt, Utf16Order};
 impl<E: Utf16Order, A: Allocator> WString<E, A> {
     ghost use Rattle.utf16string.specs.WString.{IsUnchanged, wstring_bytes, wstring_capacity, wstring_text};
 
-    /// Puts a character last. The only error is a refused request for memory; it leaves the string
-    /// as it was. Amortized constant time; where the character fits, nothing is asked for.
+    /// Appends a character.
+    ///
+    /// # Errors
+    ///
+    /// If allocation fails. The string is unchanged then.
+    ///
+    /// # Complexity
+    ///
+    /// Amortized constant time, by the growth of `Vec`. Where the character fits, it allocates
+    /// nothing and the capacity stays.
     #[inline]
     pub fn push(&mut self, ch: char) -> Result<(), AllocError>
-        ensures text { OnOk result (wstring_text self.new ≡ push_text (wstring_text self.old) (ch ∷ [])) }
-        ensures len { OnOk result (length (wstring_bytes self.new) ≡ length (wstring_bytes self.old) + char_size ch) }
+        ensures text { OnOk result (wstring_text self.new
+            ≡ push_text (wstring_text self.old) (ch ∷ [])) }
+        ensures len { OnOk result (length (wstring_bytes self.new)
+            ≡ length (wstring_bytes self.old) + char_size ch) }
         ensures refused { OnErr result (IsUnchanged self.old self.new) }
-        ensures room { length (wstring_bytes self.old) + char_size ch ≤ wstring_capacity self.old → IsOk result }
+        ensures room { length (wstring_bytes self.old) + char_size ch ≤ wstring_capacity self.old
+            → IsOk result }
+        ensures stays { length (wstring_bytes self.old) + char_size ch ≤ wstring_capacity self.old
+            → wstring_capacity self.new ≡ wstring_capacity self.old }
         ensures grows { wstring_capacity self.old ≤ wstring_capacity self.new }
     {
         push_char::<E, A>(&mut self.raw, ch)
     }
 
-    /// Puts a text last. The only error is a refused request for memory; it leaves the string as it
-    /// was. One copy of the text's bytes; where they fit, nothing is asked for.
+    /// Appends a text.
+    ///
+    /// # Errors
+    ///
+    /// If allocation fails. The string is unchanged then.
+    ///
+    /// # Complexity
+    ///
+    /// Copies the bytes of the text once. Allocates only if they do not fit in the capacity.
     #[inline]
     pub fn push_wstr(&mut self, string: WStr<E>) -> Result<(), AllocError>
-        ensures text { OnOk result (wstring_text self.new ≡ push_text (wstring_text self.old) (wstr_text string.entry)) }
-        ensures len { OnOk result (length (wstring_bytes self.new) ≡ length (wstring_bytes self.old) + length (wstr_bytes string.entry)) }
+        ensures text { OnOk result (wstring_text self.new
+            ≡ push_text (wstring_text self.old) (wstr_text string.entry)) }
+        ensures len { OnOk result (length (wstring_bytes self.new)
+            ≡ length (wstring_bytes self.old) + length (wstr_bytes string.entry)) }
         ensures refused { OnErr result (IsUnchanged self.old self.new) }
-        ensures room { length (wstring_bytes self.old) + length (wstr_bytes string.entry) ≤ wstring_capacity self.old → IsOk result }
+        ensures room { length (wstring_bytes self.old) + length (wstr_bytes string.entry)
+            ≤ wstring_capacity self.old → IsOk result }
         ensures grows { wstring_capacity self.old ≤ wstring_capacity self.new }
     {
         append(&mut self.raw, string.as_bytes())
     }
 
-    /// Puts a character in at a byte offset. The caller proves that it is a character boundary;
-    /// `is_char_boundary` tests it. The only error is a refused request for memory; it leaves the
-    /// string as it was. What stands behind is moved in one block.
+    /// Inserts a character at a byte offset.
+    ///
+    /// # Errors
+    ///
+    /// If allocation fails. The string is unchanged then.
+    ///
+    /// # Precondition
+    ///
+    /// The offset is a character boundary (check with `is_char_boundary`).
+    ///
+    /// # Complexity
+    ///
+    /// Moves the bytes after the offset in one block. Where the character fits, the capacity stays.
     pub fn insert(&mut self, idx: usize, ch: char) -> Result<(), AllocError>
         requires { IsBoundary (wstring_text self.old) idx }
-        ensures text { OnOk result (wstring_text self.new ≡ insert_at (wstring_text self.old) idx (ch ∷ [])) }
-        ensures len { OnOk result (length (wstring_bytes self.new) ≡ length (wstring_bytes self.old) + char_size ch) }
+        ensures text { OnOk result (wstring_text self.new
+            ≡ insert_at (wstring_text self.old) idx (ch ∷ [])) }
+        ensures len { OnOk result (length (wstring_bytes self.new)
+            ≡ length (wstring_bytes self.old) + char_size ch) }
         ensures refused { OnErr result (IsUnchanged self.old self.new) }
-        ensures room { length (wstring_bytes self.old) + char_size ch ≤ wstring_capacity self.old → IsOk result }
+        ensures room { length (wstring_bytes self.old) + char_size ch ≤ wstring_capacity self.old
+            → IsOk result }
+        ensures stays { length (wstring_bytes self.old) + char_size ch ≤ wstring_capacity self.old
+            → wstring_capacity self.new ≡ wstring_capacity self.old }
         ensures grows { wstring_capacity self.old ≤ wstring_capacity self.new }
     {
-        let mut units = [0; 4];
-        let len = ch.encode_utf16_into::<E>(&mut units);
-        self.insert_wstr(idx, WStr::from_utf16_unchecked(&units[..len]))
+        insert_char::<E, A>(&mut self.raw, idx, ch)
     }
 
-    /// Puts a text in at a byte offset. The caller proves that it is a character boundary;
-    /// `is_char_boundary` tests it. The only error is a refused request for memory; it leaves the
-    /// string as it was. What stands behind is moved in one block.
+    /// Inserts a text at a byte offset.
+    ///
+    /// # Errors
+    ///
+    /// If allocation fails. The string is unchanged then.
+    ///
+    /// # Precondition
+    ///
+    /// The offset is a character boundary (check with `is_char_boundary`).
+    ///
+    /// # Complexity
+    ///
+    /// Moves the bytes after the offset in one block.
     pub fn insert_wstr(&mut self, idx: usize, string: WStr<E>) -> Result<(), AllocError>
         requires { IsBoundary (wstring_text self.old) idx }
-        ensures text { OnOk result (wstring_text self.new ≡ insert_at (wstring_text self.old) idx (wstr_text string.entry)) }
-        ensures len { OnOk result (length (wstring_bytes self.new) ≡ length (wstring_bytes self.old) + length (wstr_bytes string.entry)) }
+        ensures text { OnOk result (wstring_text self.new
+            ≡ insert_at (wstring_text self.old) idx (wstr_text string.entry)) }
+        ensures len { OnOk result (length (wstring_bytes self.new)
+            ≡ length (wstring_bytes self.old) + length (wstr_bytes string.entry)) }
         ensures refused { OnErr result (IsUnchanged self.old self.new) }
-        ensures room { length (wstring_bytes self.old) + length (wstr_bytes string.entry) ≤ wstring_capacity self.old → IsOk result }
+        ensures room { length (wstring_bytes self.old) + length (wstr_bytes string.entry)
+            ≤ wstring_capacity self.old → IsOk result }
         ensures grows { wstring_capacity self.old ≤ wstring_capacity self.new }
     {
         insert_bytes(&mut self.raw, idx, string.as_bytes())
     }
 }
 
-// Puts a character's bytes last. The two sizes are told apart, so that each copy is of a size known
-// beforehand.
+// Appends the bytes of a character.
 #[inline]
 fn push_char<E: Utf16Order, A: Allocator>(raw: &mut Vec<u8, A>, ch: char) -> Result<(), AllocError>
     ensures items { OnOk result (raw.new.items ≡ raw.old.items ++ char_bytes E.BIG ch) }
-    ensures refused { OnErr result (VecUnchanged raw.old raw.new × (vec_capacity raw.new ≡ vec_capacity raw.old)) }
+    ensures refused { OnErr result (VecUnchanged raw.old raw.new
+        × (vec_capacity raw.new ≡ vec_capacity raw.old)) }
     ensures room { vec_len raw.old + char_size ch ≤ vec_capacity raw.old → IsOk result }
+    ensures stays { vec_len raw.old + char_size ch ≤ vec_capacity raw.old
+        → vec_capacity raw.new ≡ vec_capacity raw.old }
     ensures grows { vec_capacity raw.old ≤ vec_capacity raw.new }
 {
     let mut units = [0; 4];
-    if ch.encode_utf16_into::<E>(&mut units) == 2 {
-        append(raw, &units[..2])
-    } else {
-        append(raw, &units)
-    }
+    let len = ch.encode_utf16_into::<E>(&mut units);
+    push_units(raw, units, len)
 }
 
-// Puts bytes last. Room for them is asked for first: where it is refused, nothing has changed.
+// Appends the first two or all four bytes, one by one: so the capacity stays where they fit.
+#[inline]
+fn push_units<A: Allocator>(
+    raw: &mut Vec<u8, A>,
+    units: [u8; 4],
+    len: usize,
+) -> Result<(), AllocError>
+    requires { (len ≡ 2) ⊎ (len ≡ 4) }
+    ensures items { OnOk result (raw.new.items ≡ raw.old.items ++ take len units) }
+    ensures refused { OnErr result (VecUnchanged raw.old raw.new
+        × (vec_capacity raw.new ≡ vec_capacity raw.old)) }
+    ensures room { vec_len raw.old + len ≤ vec_capacity raw.old → IsOk result }
+    ensures stays { vec_len raw.old + len ≤ vec_capacity raw.old
+        → vec_capacity raw.new ≡ vec_capacity raw.old }
+    ensures grows { vec_capacity raw.old ≤ vec_capacity raw.new }
+{
+    make_room(raw, len)?;
+    let [first, second, third, last] = units;
+    raw.push_reserved(first);
+    raw.push_reserved(second);
+    if len == 4 {
+        raw.push_reserved(third);
+        raw.push_reserved(last);
+    }
+    Ok(())
+}
+
+// Appends bytes. Reserves capacity for them first: if that fails, nothing has changed.
 #[inline]
 fn append<A: Allocator>(raw: &mut Vec<u8, A>, bytes: &[u8]) -> Result<(), AllocError>
     ensures items { OnOk result (raw.new.items ≡ raw.old.items ++ bytes.now) }
-    ensures refused { OnErr result (VecUnchanged raw.old raw.new × (vec_capacity raw.new ≡ vec_capacity raw.old)) }
+    ensures refused { OnErr result (VecUnchanged raw.old raw.new
+        × (vec_capacity raw.new ≡ vec_capacity raw.old)) }
     ensures room { vec_len raw.old + length bytes.now ≤ vec_capacity raw.old → IsOk result }
     ensures grows { vec_capacity raw.old ≤ vec_capacity raw.new }
 {
@@ -102,9 +179,32 @@ fn append<A: Allocator>(raw: &mut Vec<u8, A>, bytes: &[u8]) -> Result<(), AllocE
     raw.extend_from_slice(bytes)
 }
 
-// Puts bytes in at an index. Room for them is asked for first: where it is refused, nothing has
-// changed. The bytes are written twice: a vector grows only by bytes that are put last, and then
-// they go where they belong.
+// Inserts the bytes of a character at an index. If allocation fails, nothing has changed.
+fn insert_char<E: Utf16Order, A: Allocator>(
+    raw: &mut Vec<u8, A>,
+    index: usize,
+    ch: char,
+) -> Result<(), AllocError>
+    requires { index ≤ vec_len raw.old }
+    ensures items { OnOk result (raw.new.items
+        ≡ splice raw.old.items index index (char_bytes E.BIG ch)) }
+    ensures refused { OnErr result (VecUnchanged raw.old raw.new
+        × (vec_capacity raw.new ≡ vec_capacity raw.old)) }
+    ensures room { vec_len raw.old + char_size ch ≤ vec_capacity raw.old → IsOk result }
+    ensures stays { vec_len raw.old + char_size ch ≤ vec_capacity raw.old
+        → vec_capacity raw.new ≡ vec_capacity raw.old }
+    ensures grows { vec_capacity raw.old ≤ vec_capacity raw.new }
+{
+    let mut units = [0; 4];
+    let len = ch.encode_utf16_into::<E>(&mut units);
+    push_units(raw, units, len)?;
+    move_in(raw, index, &units[..len]);
+    Ok(())
+}
+
+// Inserts bytes at an index. Reserves capacity for them first: if that fails, nothing has changed.
+// The bytes are written twice: a vector grows only by appending, so they are appended first and
+// then written to their place.
 #[inline]
 fn insert_bytes<A: Allocator>(
     raw: &mut Vec<u8, A>,
@@ -113,13 +213,25 @@ fn insert_bytes<A: Allocator>(
 ) -> Result<(), AllocError>
     requires { index ≤ vec_len raw.old }
     ensures items { OnOk result (raw.new.items ≡ splice raw.old.items index index bytes.now) }
-    ensures refused { OnErr result (VecUnchanged raw.old raw.new × (vec_capacity raw.new ≡ vec_capacity raw.old)) }
+    ensures refused { OnErr result (VecUnchanged raw.old raw.new
+        × (vec_capacity raw.new ≡ vec_capacity raw.old)) }
     ensures room { vec_len raw.old + length bytes.now ≤ vec_capacity raw.old → IsOk result }
     ensures grows { vec_capacity raw.old ≤ vec_capacity raw.new }
 {
-    let len = raw.len();
     append(raw, bytes)?;
+    move_in(raw, index, bytes);
+    Ok(())
+}
+
+// Moves bytes that were appended to an index.
+#[inline]
+fn move_in<A: Allocator>(raw: &mut Vec<u8, A>, index: usize, bytes: &[u8])
+    requires { index + length bytes.now ≤ vec_len raw.old }
+    ensures items { (text : List ℕ) → raw.old.items ≡ text ++ bytes.now
+        → raw.new.items ≡ splice text index index bytes.now }
+    ensures capacity { vec_capacity raw.new ≡ vec_capacity raw.old }
+{
+    let len = raw.len() - bytes.len();
     raw.copy_within(index..len, index + bytes.len());
     raw[index..index + bytes.len()].copy_from_slice(bytes);
-    Ok(())
 }

@@ -4,7 +4,7 @@ ghost use Rattle.std.specs.Prelude.{◌≡◌, ◌↔◌, ◌+◌, length, IsTru
 ghost use Rattle.std.specs.List.{splice};
 ghost use Rattle.utf16_units.specs.Boundary.{IsBoundary};
 ghost use Rattle.utf16_units.specs.Edit.{overwrite_at};
-ghost use Rattle.utf16_units.specs.Encoding.{IsText, size, text_of};
+ghost use Rattle.utf16_units.specs.Encoding.{IsUtf16, size, text_of};
 ghost use Rattle.utf16_str.specs.WStr.{wstr_bytes, wstr_text};
 
 use crate::WString;
@@ -15,36 +15,46 @@ use utf16_units::Utf16Order;
 impl<E: Utf16Order, A: Allocator> WString<E, A> {
     ghost use Rattle.utf16string.specs.WString.{wstring_bytes, wstring_capacity, wstring_text};
 
-    /// Whether a text can be written over as many bytes from a byte offset on: the offset and the
-    /// one behind those bytes are both character boundaries. Any offset may be asked about.
+    /// Returns whether a text can be written over as many bytes starting at byte offset `idx`:
+    /// whether `idx` and the offset after those bytes are both character boundaries. Any offset is
+    /// allowed.
     #[inline]
     pub fn fits(&self, idx: usize, text: WStr<E>) -> bool
-        ensures { IsTrue result ↔ (IsBoundary (wstring_text self.now) idx × IsBoundary (wstring_text self.now) (idx + size (wstr_text text.entry))) }
+        ensures { IsTrue result ↔ (IsBoundary (wstring_text self.now) idx
+            × IsBoundary (wstring_text self.now) (idx + size (wstr_text text.entry))) }
     {
         self.as_wstr().fits(idx, text)
     }
 
-    /// Writes a text over as many bytes from a byte offset on. The caller proves that both ends are
-    /// character boundaries; `fits` tests it. All other bytes stay, and so does the capacity.
+    /// Writes a text over as many bytes starting at byte offset `idx`. All other bytes and the
+    /// capacity stay.
+    ///
+    /// # Precondition
+    ///
+    /// Both ends of those bytes are character boundaries (check with `fits`).
     #[inline]
     pub fn overwrite(&mut self, idx: usize, text: WStr<E>)
         requires start { IsBoundary (wstring_text self.old) idx }
         requires end { IsBoundary (wstring_text self.old) (idx + size (wstr_text text)) }
-        ensures text { wstring_text self.new ≡ overwrite_at (wstring_text self.old) idx (wstr_text text.entry) }
-        ensures bytes { wstring_bytes self.new ≡ splice (wstring_bytes self.old) idx (idx + length (wstr_bytes text.entry)) (wstr_bytes text.entry) }
+        ensures text { wstring_text self.new ≡ overwrite_at (wstring_text self.old) idx
+            (wstr_text text.entry) }
+        ensures bytes { wstring_bytes self.new
+            ≡ splice (wstring_bytes self.old) idx (idx + length (wstr_bytes text.entry))
+            (wstr_bytes text.entry) }
         ensures capacity { wstring_capacity self.new ≡ wstring_capacity self.old }
     {
         overwrite_text(self.raw.as_mut_slice(), idx, text);
     }
 }
 
-// Writes a text over as many bytes from an offset on, in bytes that are text.
+// Writes a text over as many bytes starting at an offset, in the bytes of a text.
 #[inline]
 fn overwrite_text<E: Utf16Order>(raw: &mut [u8], idx: usize, text: WStr<E>)
-    requires text { IsText E.BIG raw.old }
+    requires text { IsUtf16 E.BIG raw.old }
     requires start { IsBoundary (text_of E.BIG raw.old) idx }
     requires end { IsBoundary (text_of E.BIG raw.old) (idx + size (wstr_text text)) }
-    ensures { raw.new ≡ splice raw.old idx (idx + length (wstr_bytes text.entry)) (wstr_bytes text.entry) }
+    ensures { raw.new ≡ splice raw.old idx (idx + length (wstr_bytes text.entry))
+        (wstr_bytes text.entry) }
 {
     WStrMut::from_utf16_unchecked(raw).overwrite(idx, text);
 }

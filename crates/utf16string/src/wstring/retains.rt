@@ -1,25 +1,31 @@
-//! Characters kept by a predicate.
+//! The characters of a string that a predicate keeps.
 
 ghost use Rattle.std.specs.Prelude.{◌≡◌};
 ghost use Rattle.utf16_retain.specs.Retain.{IsAskable, Retains, RetainsTo};
 
 use crate::WString;
 use std::alloc::Allocator;
-use utf16_retain::move_kept;
+use utf16_retain::retain_in_place;
 use utf16_units::Utf16Order;
 
 impl<E: Utf16Order, A: Allocator> WString<E, A> {
     ghost use Rattle.utf16string.specs.WString.{wstring_capacity, wstring_text};
 
-    /// Keeps the characters of which the predicate answers `true`, in order. The predicate is asked
-    /// once about each character, from the front to the back, and its state runs through. In place,
-    /// in time linear in the length: it takes no memory and the capacity stays; nothing is moved
-    /// before the first character that goes.
+    /// Keeps the characters for which the predicate returns `true`, in order, and removes the
+    /// others. The predicate is called once for each character, from first to last, and keeps its
+    /// state from call to call.
     ///
-    /// The caller proves that the predicate may be asked about each character in turn. A closure
-    /// that may be called on anything meets this with nothing written. For another one, as a
-    /// counter that must not overflow, the lemma `IsAskable-by` of `proofs/Predicates.antt` takes a
-    /// fact that each call keeps.
+    /// # Precondition
+    ///
+    /// The predicate may be called on each character in turn. For a closure that may be called on
+    /// anything, this is proved automatically. For another one, such as a counter that must not
+    /// overflow, the lemma `IsAskable-by` of `proofs/Predicates.antt` takes a fact that each call
+    /// preserves.
+    ///
+    /// # Complexity
+    ///
+    /// Linear time, in place. Moves nothing before the first character that is removed. Allocates
+    /// nothing, and the capacity stays.
     #[inline]
     pub fn retain<F: FnMut(char) -> bool>(&mut self, f: F)
         requires { IsAskable F.FnMut f (wstring_text self.old) }
@@ -30,14 +36,15 @@ impl<E: Utf16Order, A: Allocator> WString<E, A> {
         self.retain_by(&mut f);
     }
 
-    /// As `retain`, by a predicate that stays the caller's: what it has noted down can be looked at
-    /// afterwards.
+    /// Does what `retain` does, by a predicate that stays the caller's, so that its state can be
+    /// read afterwards.
     pub fn retain_by<F: FnMut(char) -> bool>(&mut self, f: &mut F)
         requires { IsAskable F.FnMut f.old (wstring_text self.old) }
-        ensures text { RetainsTo F.FnMut f.old (wstring_text self.old) (wstring_text self.new) f.new }
+        ensures text { RetainsTo F.FnMut f.old (wstring_text self.old) (wstring_text self.new)
+            f.new }
         ensures capacity { wstring_capacity self.new ≡ wstring_capacity self.old }
     {
-        let kept = move_kept::<E, F>(self.raw.as_mut_slice(), f);
+        let kept = retain_in_place::<E, F>(self.raw.as_mut_slice(), f);
         self.raw.truncate(kept);
     }
 }

@@ -1,6 +1,7 @@
-//! Room in a string for more bytes.
+//! The capacity of a string.
 
 ghost use Rattle.std.specs.Prelude.{◌≡◌, ◌↔◌, ◌+◌, ◌≤◌, [], length, IsOk, OnErr, OnOk};
+ghost use Rattle.std.specs.Vec.{VecUnchanged, vec_capacity, vec_len};
 
 use crate::WString;
 use std::alloc::{AllocError, Allocator};
@@ -9,30 +10,43 @@ use utf16_units::Utf16Order;
 impl<E: Utf16Order, A: Allocator> WString<E, A> {
     ghost use Rattle.utf16string.specs.WString.{IsUnchanged, wstring_bytes, wstring_capacity};
 
-    /// Makes room for `additional` more bytes, or for more than that. The only error is a refused
-    /// request for memory; it leaves the string as it was. Where there is room already, the
-    /// capacity stays and nothing is asked for.
+    /// Reserves capacity for at least `additional` more bytes.
+    ///
+    /// # Errors
+    ///
+    /// If allocation fails. The string is unchanged then.
+    ///
+    /// # Complexity
+    ///
+    /// Allocates nothing, and leaves the capacity as it is, if it suffices already.
     #[inline]
     pub fn reserve(&mut self, additional: usize) -> Result<(), AllocError>
         ensures bytes { wstring_bytes self.new ≡ wstring_bytes self.old }
-        ensures capacity { OnOk result (length (wstring_bytes self.new) + additional ≤ wstring_capacity self.new) }
+        ensures capacity { OnOk result (length (wstring_bytes self.new) + additional
+            ≤ wstring_capacity self.new) }
         ensures refused { OnErr result (IsUnchanged self.old self.new) }
-        ensures room { length (wstring_bytes self.old) + additional ≤ wstring_capacity self.old → IsOk result }
-        ensures stays { length (wstring_bytes self.old) + additional ≤ wstring_capacity self.old → wstring_capacity self.new ≡ wstring_capacity self.old }
+        ensures room { length (wstring_bytes self.old) + additional ≤ wstring_capacity self.old
+            → IsOk result }
+        ensures stays { length (wstring_bytes self.old) + additional ≤ wstring_capacity self.old
+            → wstring_capacity self.new ≡ wstring_capacity self.old }
         ensures grows { wstring_capacity self.old ≤ wstring_capacity self.new }
     {
-        if self.raw.capacity() - self.raw.len() >= additional {
-            return Ok(());
-        }
-        self.raw.reserve(additional)
+        make_room(&mut self.raw, additional)
     }
 
-    /// Gives back the room that the text does not take. The only error is a refused request for the
-    /// smaller block; the text stays as it was. Where there is no such room, or no text, nothing is
-    /// asked for.
+    /// Shrinks the capacity to the length of the text in bytes.
+    ///
+    /// # Errors
+    ///
+    /// If the allocation of the smaller block fails. The text is unchanged then.
+    ///
+    /// # Complexity
+    ///
+    /// Allocates nothing if the capacity is the length already, or the text is empty.
     pub fn shrink_to_fit(&mut self) -> Result<(), AllocError>
         ensures bytes { wstring_bytes self.new ≡ wstring_bytes self.old }
-        ensures fits { IsOk result ↔ (wstring_capacity self.new ≡ length (wstring_bytes self.new)) }
+        ensures fits { IsOk result ↔ (wstring_capacity self.new
+            ≡ length (wstring_bytes self.new)) }
         ensures shrinks { wstring_capacity self.new ≤ wstring_capacity self.old }
         ensures empty { wstring_bytes self.old ≡ [] → IsOk result }
     {
@@ -42,4 +56,25 @@ impl<E: Utf16Order, A: Allocator> WString<E, A> {
         }
         Ok(())
     }
+}
+
+// Reserves capacity for more bytes. Where it suffices already, it stays.
+#[inline]
+pub(super) fn make_room<A: Allocator>(
+    raw: &mut Vec<u8, A>,
+    additional: usize,
+) -> Result<(), AllocError>
+    ensures items { raw.new.items ≡ raw.old.items }
+    ensures enough { OnOk result (vec_len raw.new + additional ≤ vec_capacity raw.new) }
+    ensures refused { OnErr result (VecUnchanged raw.old raw.new
+        × (vec_capacity raw.new ≡ vec_capacity raw.old)) }
+    ensures room { vec_len raw.old + additional ≤ vec_capacity raw.old → IsOk result }
+    ensures stays { vec_len raw.old + additional ≤ vec_capacity raw.old
+        → vec_capacity raw.new ≡ vec_capacity raw.old }
+    ensures grows { vec_capacity raw.old ≤ vec_capacity raw.new }
+{
+    if raw.capacity() - raw.len() >= additional {
+        return Ok(());
+    }
+    raw.reserve(additional)
 }

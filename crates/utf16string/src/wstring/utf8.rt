@@ -1,4 +1,4 @@
-//! Strings made from UTF-8, and texts in UTF-8 put last.
+//! Strings made from UTF-8, and UTF-8 appended to a string.
 
 ghost use Rattle.std.specs.Prelude.{◌≡◌, ◌+◌, ◌≤◌, [], length, IfOk, IsOk, OnErr, OnOk};
 ghost use Rattle.std.specs.Str.{chars};
@@ -13,11 +13,20 @@ use utf16_units::Utf16Order;
 impl<E: Utf16Order, A: Allocator> WString<E, A> {
     ghost use Rattle.utf16string.specs.WString.{IsUnchanged, wstring_bytes, wstring_capacity, wstring_text};
 
-    /// The same characters in UTF-16. The only error is a refused request for memory. Room is asked
-    /// for once, for the empty text not at all; two passes over the text.
+    /// Returns a new string with the characters of a UTF-8 string.
+    ///
+    /// # Errors
+    ///
+    /// If allocation fails. It does not fail for the empty text.
+    ///
+    /// # Complexity
+    ///
+    /// Two passes over the text. Allocates once, for as many bytes as the string takes, and not at
+    /// all for the empty text.
     pub fn from_str(alloc: A, s: &str) -> Result<Self, AllocError>
         ensures text { IfOk result (λ t. wstring_text t ≡ chars s.now) }
         ensures nothing { s.now ≡ [] → IsOk result }
+        ensures empty { s.now ≡ [] → IfOk result (λ t. wstring_capacity t ≡ 0) }
     {
         if s.is_empty() {
             return Ok(Self::new(alloc));
@@ -27,14 +36,24 @@ impl<E: Utf16Order, A: Allocator> WString<E, A> {
         Ok(Self::from_utf16_unchecked(raw))
     }
 
-    /// Puts a text in UTF-8 last. The only error is a refused request for memory; it leaves the
-    /// string as it was. Room is asked for once, and where the text fits, not at all; two passes
-    /// over the text.
+    /// Appends the characters of a UTF-8 string.
+    ///
+    /// # Errors
+    ///
+    /// If allocation fails. The string is unchanged then.
+    ///
+    /// # Complexity
+    ///
+    /// Two passes over the text. Allocates at most once, and not at all if the text fits in the
+    /// capacity.
     pub fn push_str(&mut self, string: &str) -> Result<(), AllocError>
-        ensures text { OnOk result (wstring_text self.new ≡ push_text (wstring_text self.old) (chars string.now)) }
-        ensures len { OnOk result (length (wstring_bytes self.new) ≡ length (wstring_bytes self.old) + size (chars string.now)) }
+        ensures text { OnOk result (wstring_text self.new
+            ≡ push_text (wstring_text self.old) (chars string.now)) }
+        ensures len { OnOk result (length (wstring_bytes self.new)
+            ≡ length (wstring_bytes self.old) + size (chars string.now)) }
         ensures refused { OnErr result (IsUnchanged self.old self.new) }
-        ensures room { length (wstring_bytes self.old) + size (chars string.now) ≤ wstring_capacity self.old → IsOk result }
+        ensures room { length (wstring_bytes self.old) + size (chars string.now)
+            ≤ wstring_capacity self.old → IsOk result }
         ensures grows { wstring_capacity self.old ≤ wstring_capacity self.new }
     {
         append_utf16::<E, A>(&mut self.raw, string)

@@ -1,23 +1,32 @@
-//! UTF-16 in either byte order, to and from UTF-8, by `libutf16_c.a`: safe calls over slices and vectors.
+//! UTF-16 in either byte order, to and from UTF-8, by `libdethrux.a`: safe calls over slices and
+//! vectors.
+
+/// The byte order of UTF-16.
+#[repr(u32)]
+#[derive(Clone, Copy, Debug, PartialEq, Eq)]
+pub enum ByteOrder {
+    LittleEndian = 0,
+    BigEndian = 1,
+}
 
 /// Why a call stopped.
 #[derive(Clone, Copy, Debug, PartialEq, Eq)]
 pub enum Status {
     /// All of the input was read.
     Done,
-    /// A fault of so many bytes stands behind what was read.
-    Fault(usize),
+    /// An ill-formed sequence of so many bytes follows what was read.
+    IllFormed(usize),
     /// The input ends inside a character.
-    CutOff,
+    Incomplete,
     /// The next character does not fit.
-    NoRoom,
+    NoSpace,
 }
 
 #[repr(C)]
-struct Validity {
+struct RawValidity {
     valid_up_to: usize,
     status: u32,
-    fault_len: u32,
+    error_len: u32,
 }
 
 #[repr(C)]
@@ -25,39 +34,48 @@ struct RawProgress {
     read: usize,
     written: usize,
     status: u32,
-    fault_len: u32,
+    error_len: u32,
 }
 
 #[repr(C)]
-struct RawOrder {
-    mark_len: usize,
-    order: u32,
+struct RawBom {
+    len: usize,
+    byte_order: u32,
+    status: u32,
 }
 
-/// The bytes that a stream holds. All zero holds none.
+/// The bytes of a stream that are not decoded yet. All zero begins a stream.
 #[repr(C)]
 #[derive(Default)]
 struct State {
-    held: [u8; 3],
-    len: u8,
+    pending: [u8; 3],
+    pending_len: u8,
 }
 
-#[link(name = "utf16_c", kind = "static")]
+#[link(name = "dethrux", kind = "static")]
 unsafe extern "C" {
-    fn utf16_validate(big: bool, raw: *const u8, len: usize) -> Validity;
-    fn utf16_count(big: bool, raw: *const u8, len: usize) -> usize;
-    fn utf16_is_ascii(big: bool, raw: *const u8, len: usize) -> bool;
-    fn utf16_to_utf8_len(big: bool, raw: *const u8, len: usize) -> usize;
-    fn utf16_from_utf8_len(text: *const u8, len: usize) -> usize;
-    fn utf16_from_utf8_marked_len(text: *const u8, len: usize) -> usize;
-    fn utf16_to_utf8(big: bool, raw: *const u8, len: usize, to: *mut u8, room: usize) -> RawProgress;
-    fn utf16_to_utf8_marked(big: bool, raw: *const u8, len: usize, to: *mut u8, room: usize) -> RawProgress;
-    fn utf16_from_utf8(big: bool, text: *const u8, len: usize, to: *mut u8, room: usize) -> RawProgress;
-    fn utf16_from_utf8_marked(big: bool, text: *const u8, len: usize, to: *mut u8, room: usize) -> RawProgress;
-    fn utf16_to_utf8_stream(big: bool, raw: *const u8, len: usize, to: *mut u8, room: usize) -> RawProgress;
-    fn utf16_stream_feed(big: bool, stream: &mut State, piece: *const u8, len: usize, to: *mut u8, room: usize) -> RawProgress;
-    fn utf16_stream_finish(stream: &mut State, to: *mut u8, room: usize) -> RawProgress;
-    fn utf16_byte_order(raw: *const u8, len: usize) -> RawOrder;
+    fn dethrux_version() -> u32;
+    fn dethrux_validate(order: ByteOrder, utf16: *const u8, len: usize) -> RawValidity;
+    fn dethrux_count_chars(order: ByteOrder, utf16: *const u8, len: usize) -> usize;
+    fn dethrux_is_ascii(order: ByteOrder, utf16: *const u8, len: usize) -> bool;
+    fn dethrux_to_utf8_lossy_len(order: ByteOrder, utf16: *const u8, len: usize) -> usize;
+    fn dethrux_from_utf8_len(utf8: *const u8, len: usize) -> usize;
+    fn dethrux_from_utf8_lossy_len(utf8: *const u8, len: usize) -> usize;
+    fn dethrux_to_utf8(order: ByteOrder, utf16: *const u8, len: usize, to: *mut u8, capacity: usize) -> RawProgress;
+    fn dethrux_to_utf8_lossy(order: ByteOrder, utf16: *const u8, len: usize, to: *mut u8, capacity: usize) -> RawProgress;
+    fn dethrux_to_utf8_partial(order: ByteOrder, utf16: *const u8, len: usize, to: *mut u8, capacity: usize) -> RawProgress;
+    fn dethrux_from_utf8(order: ByteOrder, utf8: *const u8, len: usize, to: *mut u8, capacity: usize) -> RawProgress;
+    fn dethrux_from_utf8_lossy(order: ByteOrder, utf8: *const u8, len: usize, to: *mut u8, capacity: usize) -> RawProgress;
+    fn dethrux_decoder_feed(
+        decoder: &mut State,
+        order: ByteOrder,
+        chunk: *const u8,
+        len: usize,
+        to: *mut u8,
+        capacity: usize,
+    ) -> RawProgress;
+    fn dethrux_decoder_finish(decoder: &mut State, to: *mut u8, capacity: usize) -> RawProgress;
+    fn dethrux_detect_bom(bytes: *const u8, len: usize) -> RawBom;
 }
 
 /// How far a call came.
@@ -68,126 +86,135 @@ pub struct Progress {
     pub status: Status,
 }
 
-fn status(status: u32, fault_len: u32) -> Status {
+fn status(status: u32, error_len: u32) -> Status {
     match status {
         0 => Status::Done,
-        1 => Status::Fault(fault_len as usize),
-        2 => Status::CutOff,
-        _ => Status::NoRoom,
+        1 => Status::IllFormed(error_len as usize),
+        2 => Status::Incomplete,
+        _ => Status::NoSpace,
     }
 }
 
 impl From<RawProgress> for Progress {
     fn from(raw: RawProgress) -> Self {
-        Progress { read: raw.read, written: raw.written, status: status(raw.status, raw.fault_len) }
+        Progress { read: raw.read, written: raw.written, status: status(raw.status, raw.error_len) }
     }
 }
 
-/// The longest well-formed beginning, and what stands behind it.
-pub fn validate(big: bool, raw: &[u8]) -> (usize, Status) {
-    let found = unsafe { utf16_validate(big, raw.as_ptr(), raw.len()) };
-    (found.valid_up_to, status(found.status, found.fault_len))
+/// Returns the version of the library as a number: 1,000,000 times the major, plus 1,000 times the
+/// minor, plus the patch version.
+pub fn version() -> u32 {
+    unsafe { dethrux_version() }
 }
 
-/// How many characters the bytes have.
-pub fn count(big: bool, raw: &[u8]) -> usize {
-    unsafe { utf16_count(big, raw.as_ptr(), raw.len()) }
+/// Returns the length of the longest well-formed prefix, and what follows it.
+pub fn validate(order: ByteOrder, utf16: &[u8]) -> (usize, Status) {
+    let found = unsafe { dethrux_validate(order, utf16.as_ptr(), utf16.len()) };
+    (found.valid_up_to, status(found.status, found.error_len))
 }
 
-/// Whether the bytes are UTF-16 and every character is ASCII.
-pub fn is_ascii(big: bool, raw: &[u8]) -> bool {
-    unsafe { utf16_is_ascii(big, raw.as_ptr(), raw.len()) }
+/// Returns the number of characters.
+pub fn count_chars(order: ByteOrder, utf16: &[u8]) -> usize {
+    unsafe { dethrux_count_chars(order, utf16.as_ptr(), utf16.len()) }
 }
 
-/// How many bytes of UTF-8 the bytes take, with U+FFFD for what is no text.
-pub fn to_utf8_len(big: bool, raw: &[u8]) -> usize {
-    unsafe { utf16_to_utf8_len(big, raw.as_ptr(), raw.len()) }
+/// Returns whether the bytes are UTF-16 and every character is ASCII.
+pub fn is_ascii(order: ByteOrder, utf16: &[u8]) -> bool {
+    unsafe { dethrux_is_ascii(order, utf16.as_ptr(), utf16.len()) }
 }
 
-/// How many bytes of UTF-16 the bytes take, up to the first fault.
-pub fn from_utf8_len(text: &[u8]) -> usize {
-    unsafe { utf16_from_utf8_len(text.as_ptr(), text.len()) }
+/// Returns the length in bytes of the UTF-8, with U+FFFD for what is ill formed.
+pub fn to_utf8_lossy_len(order: ByteOrder, utf16: &[u8]) -> usize {
+    unsafe { dethrux_to_utf8_lossy_len(order, utf16.as_ptr(), utf16.len()) }
 }
 
-/// How many bytes of UTF-16 the bytes take, with U+FFFD for what is no text.
-pub fn from_utf8_marked_len(text: &[u8]) -> usize {
-    unsafe { utf16_from_utf8_marked_len(text.as_ptr(), text.len()) }
+/// Returns the length in bytes of the UTF-16 of the longest well-formed prefix.
+pub fn from_utf8_len(utf8: &[u8]) -> usize {
+    unsafe { dethrux_from_utf8_len(utf8.as_ptr(), utf8.len()) }
 }
 
-/// The UTF-8 up to the first fault.
-pub fn to_utf8(big: bool, raw: &[u8], to: &mut [u8]) -> Progress {
-    unsafe { utf16_to_utf8(big, raw.as_ptr(), raw.len(), to.as_mut_ptr(), to.len()) }.into()
+/// Returns the length in bytes of the UTF-16, with U+FFFD for what is ill formed.
+pub fn from_utf8_lossy_len(utf8: &[u8]) -> usize {
+    unsafe { dethrux_from_utf8_lossy_len(utf8.as_ptr(), utf8.len()) }
 }
 
-/// The UTF-8 with U+FFFD for what is no text.
-pub fn to_utf8_marked(big: bool, raw: &[u8], to: &mut [u8]) -> Progress {
-    unsafe { utf16_to_utf8_marked(big, raw.as_ptr(), raw.len(), to.as_mut_ptr(), to.len()) }.into()
+/// Converts UTF-16 to UTF-8, up to the first ill-formed sequence.
+pub fn to_utf8(order: ByteOrder, utf16: &[u8], to: &mut [u8]) -> Progress {
+    unsafe { dethrux_to_utf8(order, utf16.as_ptr(), utf16.len(), to.as_mut_ptr(), to.len()) }.into()
 }
 
-/// The UTF-16 up to the first fault.
-pub fn from_utf8(big: bool, text: &[u8], to: &mut [u8]) -> Progress {
-    unsafe { utf16_from_utf8(big, text.as_ptr(), text.len(), to.as_mut_ptr(), to.len()) }.into()
+/// Converts UTF-16 to UTF-8, with U+FFFD for what is ill formed.
+pub fn to_utf8_lossy(order: ByteOrder, utf16: &[u8], to: &mut [u8]) -> Progress {
+    unsafe { dethrux_to_utf8_lossy(order, utf16.as_ptr(), utf16.len(), to.as_mut_ptr(), to.len()) }.into()
 }
 
-/// The UTF-16 with U+FFFD for what is no text.
-pub fn from_utf8_marked(big: bool, text: &[u8], to: &mut [u8]) -> Progress {
-    unsafe { utf16_from_utf8_marked(big, text.as_ptr(), text.len(), to.as_mut_ptr(), to.len()) }.into()
+/// Converts UTF-8 to UTF-16, up to the first ill-formed sequence.
+pub fn from_utf8(order: ByteOrder, utf8: &[u8], to: &mut [u8]) -> Progress {
+    unsafe { dethrux_from_utf8(order, utf8.as_ptr(), utf8.len(), to.as_mut_ptr(), to.len()) }.into()
 }
 
-/// As `to_utf8_marked`, of a stream's next bytes: what more bytes could change is not read.
-pub fn to_utf8_stream(big: bool, raw: &[u8], to: &mut [u8]) -> Progress {
-    unsafe { utf16_to_utf8_stream(big, raw.as_ptr(), raw.len(), to.as_mut_ptr(), to.len()) }.into()
+/// Converts UTF-8 to UTF-16, with U+FFFD for what is ill formed.
+pub fn from_utf8_lossy(order: ByteOrder, utf8: &[u8], to: &mut [u8]) -> Progress {
+    unsafe { dethrux_from_utf8_lossy(order, utf8.as_ptr(), utf8.len(), to.as_mut_ptr(), to.len()) }.into()
 }
 
-/// The text of bytes in either order, with U+FFFD for what is no text.
-pub fn to_string(big: bool, raw: &[u8]) -> String {
-    let mut utf8 = vec![0; to_utf8_len(big, raw)];
-    to_utf8_marked(big, raw, &mut utf8);
+/// Converts the next chunk of a stream like `to_utf8_lossy`, but does not read an incomplete
+/// character at the end.
+pub fn to_utf8_partial(order: ByteOrder, utf16: &[u8], to: &mut [u8]) -> Progress {
+    unsafe { dethrux_to_utf8_partial(order, utf16.as_ptr(), utf16.len(), to.as_mut_ptr(), to.len()) }.into()
+}
+
+/// Returns the text, with U+FFFD for what is ill formed.
+pub fn to_string(order: ByteOrder, utf16: &[u8]) -> String {
+    let mut utf8 = vec![0; to_utf8_lossy_len(order, utf16)];
+    to_utf8_lossy(order, utf16, &mut utf8);
     String::from_utf8(utf8).expect("UTF-8")
 }
 
-/// Which order a byte order mark tells, where two bytes have come, and how many bytes it takes: `true` is big endian.
-pub fn byte_order(raw: &[u8]) -> Option<(bool, usize)> {
-    let found = unsafe { utf16_byte_order(raw.as_ptr(), raw.len()) };
-    (found.order < 2).then_some((found.order == 1, found.mark_len))
+/// Returns the byte order and the length of the BOM, or `None` if fewer than two bytes have come.
+pub fn detect_bom(raw: &[u8]) -> Option<(ByteOrder, usize)> {
+    let found = unsafe { dethrux_detect_bom(raw.as_ptr(), raw.len()) };
+    let order = if found.byte_order == 0 { ByteOrder::LittleEndian } else { ByteOrder::BigEndian };
+    (found.status < 2).then_some((order, found.len))
 }
 
-/// A decoder of UTF-16 that comes in pieces, cut anywhere.
-pub struct Stream {
-    big: bool,
+/// Decodes UTF-16 in chunks, cut anywhere.
+pub struct Decoder {
+    order: ByteOrder,
     state: State,
 }
 
-impl Stream {
-    /// A stream that was given nothing yet.
-    pub fn new(big: bool) -> Self {
-        Stream { big, state: State::default() }
+impl Decoder {
+    /// Returns a decoder at the start of a stream.
+    pub fn new(order: ByteOrder) -> Self {
+        Decoder { order, state: State::default() }
     }
 
-    /// The bytes that were given and are not decided, at most three.
-    pub fn held(&self) -> &[u8] {
-        &self.state.held[..self.state.len as usize]
+    /// Returns the bytes that are not decoded yet, at most three.
+    pub fn pending(&self) -> &[u8] {
+        &self.state.pending[..self.state.pending_len as usize]
     }
 
-    /// Puts the text of what is decided now behind another; at most three bytes are held.
-    pub fn feed(&mut self, piece: &[u8], text: &mut String) {
-        let (mut room, mut rest) = ([0; 1024], piece);
+    /// Decodes the next chunk and appends its text; at most three bytes are pending then.
+    pub fn feed(&mut self, chunk: &[u8], text: &mut String) {
+        let (mut buffer, mut rest) = ([0; 1024], chunk);
         loop {
-            let (to, len) = (room.as_mut_ptr(), room.len());
+            let (to, len) = (buffer.as_mut_ptr(), buffer.len());
             let found: Progress =
-                unsafe { utf16_stream_feed(self.big, &mut self.state, rest.as_ptr(), rest.len(), to, len) }.into();
-            text.push_str(std::str::from_utf8(&room[..found.written]).expect("UTF-8"));
+                unsafe { dethrux_decoder_feed(&mut self.state, self.order, rest.as_ptr(), rest.len(), to, len) }.into();
+            text.push_str(std::str::from_utf8(&buffer[..found.written]).expect("UTF-8"));
             rest = &rest[found.read..];
-            if found.status != Status::NoRoom {
+            if found.status != Status::NoSpace {
                 break;
             }
         }
     }
 
-    /// Puts U+FFFD behind a text where bytes are held.
+    /// Ends the stream: appends U+FFFD if bytes are pending.
     pub fn finish(&mut self, text: &mut String) {
-        let mut room = [0; 4];
-        let found: Progress = unsafe { utf16_stream_finish(&mut self.state, room.as_mut_ptr(), room.len()) }.into();
-        text.push_str(std::str::from_utf8(&room[..found.written]).expect("UTF-8"));
+        let mut buffer = [0; 3];
+        let found: Progress =
+            unsafe { dethrux_decoder_finish(&mut self.state, buffer.as_mut_ptr(), buffer.len()) }.into();
+        text.push_str(std::str::from_utf8(&buffer[..found.written]).expect("UTF-8"));
     }
 }

@@ -22,7 +22,7 @@ returns-in-Err-clause-stop g c =
     let within = here.within in
     let left = c.if-read-input.false in
     let d = g.D.Direction in
-    stops_there d.from d.into d.IsValid d.IsFaultAt d.IsFault c.laws.ensures.faults _ _ _ (search rules) here.gives.0 c.in-Err.stop c.in-Err.ensures.stop
+    stops_there d.from d.into d.IsValid d.IsIllFormedAt d.IsIllFormed c.laws.ensures.faults _ _ _ (search rules) here.gives.0 c.in-Err.stop c.in-Err.ensures.stop
 
 pub returns-then-read-input-clause-wrote : goal.returns-then-read-input-clause-wrote
 returns-then-read-input-clause-wrote g c = Wrote-then c.laws.ensures.joins _ _ _ _ _ _ _ c.loop-read.invariant c.put_piece-len.ensures

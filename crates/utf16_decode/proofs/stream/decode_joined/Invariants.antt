@@ -2,9 +2,9 @@ use Rattle.std.proofs.Common.{◌-◌, ◌++◌, length}
 use Rattle.utf16_decode.specs.Wrote.{DecodesTo}
 use Rattle.utf16_decode.proofs.stream.decode_joined.Given as goal
 
--- what was read so far is decided and written
+-- what was read so far is decoded and written
 abbrev pub invariant-loop-read : goal.invariant-loop-read
-invariant-loop-read g l = DecodesTo g.E.Utf16Order.BIG (l.held ++ l.piece) l.to l.read l.written
+invariant-loop-read g l = DecodesTo g.E.Utf16Order.BIG (l.pending ++ l.piece) l.to l.read l.written
 
 abbrev pub decreases-loop-read : goal.decreases-loop-read
-decreases-loop-read g l = length l.held - l.read
+decreases-loop-read g l = length l.pending - l.read

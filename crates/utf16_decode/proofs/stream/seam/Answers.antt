@@ -6,21 +6,21 @@ use Rattle.utf16_decode.proofs.stream.seam.Goals as goal
 
 pub returns-clause-bytes : goal.returns-clause-bytes
 returns-clause-bytes c =
-    let held = c.args.held.now in
+    let pending = c.args.pending.now in
     let piece = c.args.piece.now in
-    let zeros : List ℕ = drop (length held) (0 ∷ 0 ∷ 0 ∷ 0 ∷ []) in
+    let zeros : List ℕ = drop (length pending) (0 ∷ 0 ∷ 0 ∷ 0 ∷ []) in
     let first = c.copy_from_slice.new.self in
     let second = c.copy_from_slice-2.new.self in
-    let front : first ≡ held = search rules in
+    let front : first ≡ pending = search rules in
     let behind : second ≡ take c.min.result piece = search rules in
-    let same : length first ≡ length held = search rules in
+    let same : length first ≡ length pending = search rules in
     let long : length (first ++ zeros) ≡ length first + length zeros = length-append first zeros in
-    let ends : length held + length (take c.min.result piece) ≡ length held + length second = search rules in
-    let begins : length held ≤ length (first ++ zeros) = omega arith in
-    let enough : (length piece ≤ c.min.result) ⊎ (4 - length held ≤ c.min.result) = ⊎_elim
-    (λ (few : length piece < 4 - length held). inl (omega (arith, few, c.min.ensures)))
-    (λ (many : 4 - length held ≤ length piece). inr (omega (arith, many, c.min.ensures)))
-    (cases_lt (length piece) (4 - length held)) in
-    take-put_mid (length held) (length held + length (take c.min.result piece) - length held) (first ++ zeros) second _ ends begins
-    ∙ ap₂ (λ f b. f ++ b) (take_at first zeros (length held) same ∙ front) behind
-    ∙ seam_bytes held piece c.min.result (omega (arith, c.requires)) (omega (arith, c.min.ensures)) enough
+    let ends : length pending + length (take c.min.result piece) ≡ length pending + length second = search rules in
+    let begins : length pending ≤ length (first ++ zeros) = omega arith in
+    let enough : (length piece ≤ c.min.result) ⊎ (4 - length pending ≤ c.min.result) = ⊎_elim
+    (λ (few : length piece < 4 - length pending). inl (omega (arith, few, c.min.ensures)))
+    (λ (many : 4 - length pending ≤ length piece). inr (omega (arith, many, c.min.ensures)))
+    (cases_lt (length piece) (4 - length pending)) in
+    take-put_mid (length pending) (length pending + length (take c.min.result piece) - length pending) (first ++ zeros) second _ ends begins
+    ∙ ap₂ (λ f b. f ++ b) (take_at first zeros (length pending) same ∙ front) behind
+    ∙ seam_bytes pending piece c.min.result (omega (arith, c.requires)) (omega (arith, c.min.ensures)) enough

@@ -3,7 +3,7 @@ use Rattle.utf16_units.specs.Encoding.{units_of}
 use Rattle.utf16_decode.proofs.WellFormedLemmas.{spelled}
 use Rattle.utf16_decode.proofs.well_formed.write_units.Given as goal
 
--- what was written and what the units left are to be are all
+-- what was written, and what the remaining units are to become, are all
 abbrev pub invariant-loop-at : goal.invariant-loop-at
 invariant-loop-at g l = record {
   within : l.at ≤ length l.raw;

@@ -1,6 +1,6 @@
 use Rattle.std.proofs.Common.{◌++◌, ◌∙◌, ap, arith, drop, length-take-le, subst, sym, take}
 use Rattle.utf16_units.specs.Encoding.{Encodes}
-use Rattle.utf16_units.specs.Split.{marked, split_items}
+use Rattle.utf16_units.specs.Split.{lossy_chars, split_items}
 use Rattle.utf16_units.proofs.FirstChar.{AreBytes}
 use Rattle.utf16_decode.proofs.WellFormedSplit.{encodes_marked, even_end, written_is}
 use Rattle.utf16_decode.proofs.well_formed.write_well_formed.Goals as goal
@@ -23,8 +23,8 @@ returns-clause-encoding g c =
     let bytes = c.args.raw.now in
     let len = c.decided_len-len.result in
     let are : AreBytes bytes = λ k. omega (arith, c.type_inv.raw k) in
-    subst (λ bs. Encodes g.E.Utf16Order.BIG (marked (split_items g.E.Utf16Order.BIG bytes)) (take len bs)) (sym (returns-clause-written g c))
+    subst (λ bs. Encodes g.E.Utf16Order.BIG (lossy_chars (split_items g.E.Utf16Order.BIG bytes)) (take len bs)) (sym (returns-clause-written g c))
     (encodes_marked g.E.Utf16Order.BIG bytes len c.decided_len-len.ensures are (drop len c.args.to.now))
 
 pub returns-clause-text : goal.returns-clause-text
-returns-clause-text g c = record { text = marked (split_items g.E.Utf16Order.BIG c.args.raw.now); encodes = returns-clause-encoding g c }
+returns-clause-text g c = record { text = lossy_chars (split_items g.E.Utf16Order.BIG c.args.raw.now); encodes = returns-clause-encoding g c }

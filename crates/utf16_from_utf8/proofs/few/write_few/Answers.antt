@@ -8,7 +8,7 @@ use Rattle.utf16_units.proofs.EncodingLemmas.{encode-nil, size-nil}
 use Rattle.utf16_from_utf8.proofs.FewLemmas.{IsBeginningOf, beginning-more, size-beginning, size-push, written-more}
 use Rattle.utf16_from_utf8.proofs.few.write_few.Goals as goal
 
--- what was written stands in the buffer
+-- what was written is within the buffer
 within : (s given buf old : List ℕ) (len : ℕ) → IsBeginningOf given (chars s) → len ≡ size given → length buf ≡ length old → size (chars s) ≤ length old → len ≤ length buf
 within s given buf old len begins counted same room = omega (arith, size-beginning given (chars s) begins)
 

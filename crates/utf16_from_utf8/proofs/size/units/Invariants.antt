@@ -2,7 +2,7 @@ use Rattle.std.proofs.Common.{◌≡◌, ◌+◌, ◌-◌, ◌≤◌, drop, leng
 use Rattle.utf16_from_utf8.specs.Sizes.{units_begun}
 use Rattle.utf16_from_utf8.proofs.size.units.Given as goal
 
--- what was counted and what the rest begins are all
+-- what was counted, and what begins in the rest, are all
 abbrev pub invariant-loop-at : goal.invariant-loop-at
 invariant-loop-at l = (l.at ≤ length l.bytes) × (l.units + units_begun (drop l.at l.bytes) ≡ units_begun l.bytes)
 

@@ -1,7 +1,7 @@
 use Rattle.std.proofs.Common.{◌≡◌, ◌≤◌, ◌++◌, [], take, true≢false, refl, sym, ap, ◌∙◌, arith, rules}
 use Rattle.std.proofs.lemmas.List.{length-take-le}
 use Rattle.std.proofs.KnownBytes.{Keeps-refl}
-use Rattle.utf16_streams.specs.Mark.{items_in}
+use Rattle.utf16_streams.specs.Bom.{items_in}
 use Rattle.utf16_decode.proofs.DecodesLemmas.{shown}
 use Rattle.utf16_streams.proofs.FilterLemmas.{Filtering-end, Filtering-end_fault, Filtering-fault, Filtering-more, Filtering-refused, Filtering-some, Filtering-start}
 use Rattle.utf16_streams.proofs.filters.filter_by.Goals as goal
@@ -40,7 +40,7 @@ returns-in_default-write_all-clause-bytes g c =
     let piece = take c.in-Ok.count c.read.new.buf in
     let long = length-take-le c.in-Ok.count c.read.new.buf c.in-Ok.ensures.bound in
     let few : c.in-Ok.count ≤ 4096 = search rules in
-    let text = c.in-Ok-feed_into.ensures.text ∙ ap (λ t. t ++ shown (items_in (g.D.Decoder.order c.loop.decoder) (g.D.Decoder.held c.loop.decoder ++ piece))) c.clear.ensures.bytes in
+    let text = c.in-Ok-feed_into.ensures.text ∙ ap (λ t. t ++ shown (items_in (g.D.Decoder.order c.loop.decoder) (g.D.Decoder.pending c.loop.decoder ++ piece))) c.clear.ensures.bytes in
     Filtering-fault _ _ _ _ _ _ _ _ c.loop.invariant.0 piece _ c.in-Ok.ensures.bytes.0 (omega arith) (omega arith) _ _
     (c.as_bytes.ensures.value ∙ text) c.in_default-write_all.ensures.fault
 
@@ -49,9 +49,9 @@ loop-preserved g c =
     let piece = take c.in-Ok.count c.read.new.buf in
     let long = length-take-le c.in-Ok.count c.read.new.buf c.in-Ok.ensures.bound in
     let few : c.in-Ok.count ≤ 4096 = search rules in
-    let text = c.in-Ok-feed_into.ensures.text ∙ ap (λ t. t ++ shown (items_in (g.D.Decoder.order c.loop.decoder) (g.D.Decoder.held c.loop.decoder ++ piece))) c.clear.ensures.bytes in (
+    let text = c.in-Ok-feed_into.ensures.text ∙ ap (λ t. t ++ shown (items_in (g.D.Decoder.order c.loop.decoder) (g.D.Decoder.pending c.loop.decoder ++ piece))) c.clear.ensures.bytes in (
       Filtering-more _ _ _ _ _ _ _ _ c.loop.invariant.0 piece _ c.in-Ok.ensures.bytes.0 (omega arith) (omega arith) _ _
-          (c.as_bytes.ensures.value ∙ text) _ _ c.in-Ok-feed_into.ensures.order c.in-Ok-feed_into.ensures.held c.in-Ok-write_all.ensures.done,
+          (c.as_bytes.ensures.value ∙ text) _ _ c.in-Ok-feed_into.ensures.order c.in-Ok-feed_into.ensures.pending c.in-Ok-write_all.ensures.done,
       c.in-Ok.ensures.faults ∙ c.loop.invariant.1,
       c.in-Ok-write_all.ensures.faults ∙ c.loop.invariant.2,
     )

@@ -3,7 +3,7 @@ use Rattle.std.specs.Io.KnownBytes.{Appends}
 use Rattle.utf16_streams.specs.Watched.{watched_faults, watched_inner}
 use Rattle.utf16_streams.proofs.filters.write_all.Given as goal
 
--- the front of the bytes was written, and no fault was counted
+-- a prefix of the bytes was written, and no I/O error was counted
 abbrev pub invariant-loop-written : goal.invariant-loop-written
 invariant-loop-written g l =
     (l.written ≤ length l.bytes)

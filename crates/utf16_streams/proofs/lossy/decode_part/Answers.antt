@@ -3,7 +3,7 @@ use Rattle.std.specs.Str.{IsUtf8}
 use Rattle.std.specs.String.{string_capacity, string_len}
 use Rattle.utf16_units.specs.Split.{split_items, split_tail}
 use Rattle.utf16_decode.proofs.DecodesLemmas.{shown, split_tail-again}
-use Rattle.utf16_decode.specs.Stream.{StopsFeeding, stream_held}
+use Rattle.utf16_decode.specs.Stream.{StopsFeeding, stream_pending}
 use Rattle.utf16_decode.specs.declared.progress.Stop.TheVariants.{Done}
 use Rattle.utf16_streams.proofs.PartLemmas.{Decodes-part, fed_text, part_none}
 use Rattle.utf16_streams.proofs.lossy.decode_part.Given.{Over}
@@ -11,14 +11,14 @@ use Rattle.utf16_streams.proofs.lossy.decode_part.Goals as goal
 use Rattle.utf16_streams.proofs.lossy.decode_part.Goals.{After-feed-written}
 
 module _ (g : Over) (c : After-feed-written g) where
-  abbrev held : List ℕ
-  held = stream_held c.args.stream
+  abbrev pending : List ℕ
+  pending = stream_pending c.args.stream
 
   abbrev part : List ℕ
   part = c.cut.result.0.now
 
-  decided : shown (split_items g.E.Utf16Order.BIG (c.held.result.now ++ part)) ≡ shown (split_items g.E.Utf16Order.BIG (held ++ part))
-  decided = ap (λ h. shown (split_items g.E.Utf16Order.BIG (h ++ part))) c.held.ensures.bytes
+  decided : shown (split_items g.E.Utf16Order.BIG (c.pending.result.now ++ part)) ≡ shown (split_items g.E.Utf16Order.BIG (pending ++ part))
+  decided = ap (λ h. shown (split_items g.E.Utf16Order.BIG (h ++ part))) c.pending.ensures.bytes
 
   long : length c.feed-written.new.to ≡ length c.args.buffer.now
   long = search rules
@@ -26,11 +26,11 @@ module _ (g : Over) (c : After-feed-written g) where
   done : c.feed-written.result.stop ≡ Done
   done = c.feed-written.ensures.whole.1 (omega (arith, ap length decided, long, c.cut.ensures.room))
 
-  took : StopsFeeding g.E.Utf16Order.BIG held part (stream_held c.feed-written.new.self) c.feed-written.result.read
+  took : StopsFeeding g.E.Utf16Order.BIG pending part (stream_pending c.feed-written.new.self) c.feed-written.result.read
       (length c.feed-written.new.to - c.feed-written.result.written) Done
   took = subst (StopsFeeding _ _ _ _ _ _) done c.feed-written.ensures.stop
 
-  text : take c.feed-written.result.written c.feed-written.new.to ≡ shown (split_items g.E.Utf16Order.BIG (held ++ part))
+  text : take c.feed-written.result.written c.feed-written.new.to ≡ shown (split_items g.E.Utf16Order.BIG (pending ++ part))
   text = fed_text _ _ _ _ _ _ _ (length c.feed-written.new.to - c.feed-written.result.written) c.feed-written.ensures.feeds took
 
 pub from_utf8_unchecked-requires : goal.from_utf8_unchecked-requires

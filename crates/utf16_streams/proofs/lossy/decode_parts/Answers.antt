@@ -1,7 +1,7 @@
 use Rattle.std.proofs.Common.{◌≡◌, ◌++◌, [], sym, ap, ◌∙◌, append-nil, rules, true≢false}
 use Rattle.std.proofs.lemmas.List.{nil_from_length}
 use Rattle.utf16_units.specs.Split.{split_items}
-use Rattle.utf16_decode.specs.Stream.{stream_held}
+use Rattle.utf16_decode.specs.Stream.{stream_pending}
 use Rattle.utf16_decode.proofs.DecodesLemmas.{Decodes-empty, Decodes-end, Decodes-none, Decodes-then, undecided_items}
 use Rattle.utf16_streams.proofs.lossy.decode_parts.Goals as goal
 
@@ -17,7 +17,7 @@ loop-rest-preserved g c = (Decodes-then _ _ _ _ _ _ _ c.loop-rest.invariant.0 c.
 
 pub returns-clause-text : goal.returns-clause-text
 returns-clause-text g c =
-    let held = stream_held c.loop-rest.stream in
+    let pending = stream_pending c.loop-rest.stream in
     let empty : c.loop-rest.rest.now ≡ [] = nil_from_length c.loop-rest.rest.now (search rules) in
-    let all : held ++ c.loop-rest.rest.now ≡ held = ap (λ r. held ++ r) empty ∙ append-nil held in
+    let all : pending ++ c.loop-rest.rest.now ≡ pending = ap (λ r. pending ++ r) empty ∙ append-nil pending in
     Decodes-end _ _ _ _ _ c.loop-rest.invariant.0 (ap (split_items g.E.Utf16Order.BIG) all ∙ undecided_items _ _ c.loop-rest.invariant.1)

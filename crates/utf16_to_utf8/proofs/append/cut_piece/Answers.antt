@@ -2,7 +2,7 @@ use Rattle.std.proofs.Common.{◌++◌, ◌∙◌, ap, ap₂, arith, drop, sym, 
 use Rattle.utf16_units.specs.Boundary.{text_from, text_to}
 use Rattle.utf16_units.specs.Encoding.{Encodes, text_of}
 use Rattle.utf16_units.proofs.BoundaryLemmas.{Encodes-from, Encodes-to, IsBoundary-within, text_to-text_from}
-use Rattle.utf16_units.proofs.EncodingLemmas.{Encodes-text_of, IsText-from_Encodes, length-text, text_of-Encodes}
+use Rattle.utf16_units.proofs.EncodingLemmas.{Encodes-text_of, IsUtf16-from_Encodes, length-text, text_of-Encodes}
 use Rattle.utf16_to_utf8.proofs.append.cut_piece.Given.{Over}
 use Rattle.utf16_to_utf8.proofs.append.cut_piece.Goals as goal
 use Rattle.utf16_to_utf8.proofs.append.cut_piece.Goals.{After-piece_end}
@@ -19,10 +19,10 @@ split_at-requires g c =
     omega (arith, IsBoundary-within text c.piece_end.result c.piece_end.ensures.boundary, length-text _ _ c.requires)
 
 pub returns-clause-front : goal.returns-clause-front
-returns-clause-front g c = rw c.split_at.ensures.front (IsText-from_Encodes _ _ _ (to g (goal.at.returns-clause-front g c).After-piece_end))
+returns-clause-front g c = rw c.split_at.ensures.front (IsUtf16-from_Encodes _ _ _ (to g (goal.at.returns-clause-front g c).After-piece_end))
 
 pub returns-clause-back : goal.returns-clause-back
-returns-clause-back g c = rw c.split_at.ensures.back (IsText-from_Encodes _ _ _ (from g (goal.at.returns-clause-back g c).After-piece_end))
+returns-clause-back g c = rw c.split_at.ensures.back (IsUtf16-from_Encodes _ _ _ (from g (goal.at.returns-clause-back g c).After-piece_end))
 
 pub returns-clause-joined : goal.returns-clause-joined
 returns-clause-joined g c =

@@ -6,7 +6,7 @@ use Rattle.utf16_to_utf8.proofs.write.put_rest.Given.{Over}
 use Rattle.utf16_to_utf8.proofs.write.put_rest.Goals as goal
 use Rattle.utf16_to_utf8.proofs.write.put_rest.Goals.{After-put_block-end}
 
--- the zeros that filled the block up were written last
+-- the zeros that padded the block were written last
 zeros-last : (g : Over) (c : After-put_block-end g)
     → (let k = 32 - length c.args.raw.now / 2 in (k ≤ c.put_block-end.result)
     × (take (c.put_block-end.result - k) c.put_block-end.new.out ≡ take c.args.at c.args.out.now ++ units_utf8 (slice_index c.args.previous 7) (units_of g.E.Utf16Order.BIG c.args.raw.now)))

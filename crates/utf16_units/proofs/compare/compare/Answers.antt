@@ -1,5 +1,5 @@
 use Rattle.std.proofs.Common.{◌∙◌}
-use Rattle.utf16_units.proofs.OrderLemmas.{answers_Equal, answers_Greater, answers_Less}
+use Rattle.utf16_units.proofs.TextOrderLemmas.{answers_Equal, answers_Greater, answers_Less}
 use Rattle.utf16_units.proofs.RankLemmas.{ranked_bytes}
 use Rattle.utf16_units.proofs.compare.compare.Goals as goal
 

@@ -1,4 +1,4 @@
-use Rattle.utf16_units.proofs.OrderLemmas.{before_total}
+use Rattle.utf16_units.proofs.TextOrderLemmas.{before_total}
 use Rattle.utf16_units.proofs.laws.before_total.Goals as goal
 
 pub returns : goal.returns

@@ -1,5 +1,5 @@
-use Rattle.utf16_units.proofs.EncodingLemmas.{IsText-nil}
+use Rattle.utf16_units.proofs.EncodingLemmas.{IsUtf16-nil}
 use Rattle.utf16_units.proofs.validate.validate_raw_utf16.Goals as goal
 
 pub validate_units-requires-clause-before : goal.validate_units-requires-clause-before
-validate_units-requires-clause-before g c = IsText-nil g.E.Utf16Order.BIG
+validate_units-requires-clause-before g c = IsUtf16-nil g.E.Utf16Order.BIG

@@ -1,12 +1,12 @@
 use Rattle.std.proofs.Common.{arith}
 use Rattle.std.proofs.lemmas.Grind.{common_steps}
-use Rattle.utf16_units.proofs.FaultLemmas.{IsText-step, faults}
+use Rattle.utf16_units.proofs.IllFormedLemmas.{IsUtf16-step, faults}
 use Rattle.utf16_units.proofs.validate.validate_units.Goals as goal
 
 pub loop-valid_up_to-preserved : goal.loop-valid_up_to-preserved
 loop-valid_up_to-preserved g c =
     let kept = c.loop-valid_up_to.invariant in
-    IsText-step g.E.Utf16Order.BIG c.args.raw.now c.loop-valid_up_to.valid_up_to c.in-Ok.len kept.0 kept.1 c.in-Ok.ensures.char
+    IsUtf16-step g.E.Utf16Order.BIG c.args.raw.now c.loop-valid_up_to.valid_up_to c.in-Ok.len kept.0 kept.1 c.in-Ok.ensures.char
 
 pub returns-in-Err-clause-text : goal.returns-in-Err-clause-text
 returns-in-Err-clause-text g c =

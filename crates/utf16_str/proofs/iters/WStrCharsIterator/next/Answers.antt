@@ -1,6 +1,6 @@
 use Rattle.std.proofs.Common.{◌∷◌, ◌∙◌, ap, subst, sym}
 use Rattle.std.proofs.lemmas.List.{take_rest}
-use Rattle.utf16_units.specs.Encoding.{IsText, text_of}
+use Rattle.utf16_units.specs.Encoding.{IsUtf16, text_of}
 use Rattle.utf16_str.proofs.OffsetLemmas.{none-left, progress-first}
 use Rattle.utf16_str.proofs.iters.WStrCharsIterator.next.Goals as goal
 
@@ -9,7 +9,7 @@ returns-then-is_empty-clause-steps g c =
     none-left g.E.Utf16Order.BIG c.as_bytes-raw.result.now _ _ c.is_empty.result c.self.view_is c.as_bytes-raw.ensures.bytes c.is_empty.ensures c.if-is_empty.true
 
 pub from_utf16_unchecked-self-inside-requires : goal.from_utf16_unchecked-self-inside-requires
-from_utf16_unchecked-self-inside-requires g c = subst (IsText g.E.Utf16Order.BIG) (sym (take_rest c.as_bytes-raw.result.now c.first_char-first.result.1)) c.first_char-first.ensures.rest
+from_utf16_unchecked-self-inside-requires g c = subst (IsUtf16 g.E.Utf16Order.BIG) (sym (take_rest c.as_bytes-raw.result.now c.first_char-first.result.1)) c.first_char-first.ensures.rest
 
 pub returns-clause-steps : goal.returns-clause-steps
 returns-clause-steps g c =

@@ -3,7 +3,7 @@ use Rattle.std.proofs.lemmas.List.Elements.{All-head, All-tail}
 use Rattle.std.specs.Char.{IsScalar}
 use Rattle.std.specs.Prelude.{chars}
 use Rattle.std.specs.Str.Iter.{chars_rest}
-use Rattle.utf16_units.proofs.EncodingLemmas.{IsText-from_is_text, scalars-text_of}
+use Rattle.utf16_units.proofs.EncodingLemmas.{IsUtf16-from_is_utf16, scalars-text_of}
 use Rattle.utf16_str.specs.WStr.{wstr_text}
 use Rattle.utf16_str.proofs.StrLemmas.{char_ahead, none_ahead, none_test}
 use Rattle.utf16_str.proofs.wstr.WStr.eq_str.Goals as goal
@@ -14,7 +14,7 @@ loop-c-init g c =
     let whole : text ≡ c.into_iter-c-iterator.result = cc (c.chars-c-items.ensures.text, c.into_iter-c-iterator.ensures.into_iter_gives) in
     let theirs : chars_rest c.chars-theirs.result ≡ c.args.s.now = c.chars-theirs.ensures.rest in
     record {
-      scalars = subst (All IsScalar) whole (scalars-text_of _ _ (IsText-from_is_text _ _ c.args.self.now.well_formed));
+      scalars = subst (All IsScalar) whole (scalars-text_of _ _ (IsUtf16-from_is_utf16 _ _ c.args.self.now.well_formed));
       same = (λ h. sym whole ∙ h ∙ ap chars (sym theirs), λ h. whole ∙ h ∙ ap chars theirs);
     }
 

@@ -1,6 +1,6 @@
 use Rattle.std.proofs.Common.{◌+◌, ◌∙◌, ap, arith, rules, subst, sym}
 use Rattle.utf16_units.proofs.BoundaryLemmas.{IsBoundary-within}
-use Rattle.utf16_units.proofs.EncodingLemmas.{IsText-from_is_text, length-text}
+use Rattle.utf16_units.proofs.EncodingLemmas.{IsUtf16-from_is_utf16, length-text}
 use Rattle.utf16_units.specs.Boundary.{IsBoundary}
 use Rattle.utf16_str.specs.WStr.{wstr_text}
 use Rattle.utf16_str.proofs.wstr.WStr.fits.Goals as goal
@@ -8,7 +8,7 @@ use Rattle.utf16_str.proofs.wstr.WStr.fits.Goals as goal
 pub returns-in_default : goal.returns-in_default
 returns-in_default g c = (
   (λ never. search rules),
-  λ both. absurd (c.in_default.ensures (omega (arith, IsBoundary-within (wstr_text c.args.self) _ both.1, length-text _ _ (IsText-from_is_text _ _ c.args.self.well_formed), c.len.ensures.size, c.ranges.self.0))),
+  λ both. absurd (c.in_default.ensures (omega (arith, IsBoundary-within (wstr_text c.args.self) _ both.1, length-text _ _ (IsUtf16-from_is_utf16 _ _ c.args.self.well_formed), c.len.ensures.size, c.ranges.self.0))),
 )
 
 pub returns-then-is_char_boundary : goal.returns-then-is_char_boundary

@@ -2,7 +2,7 @@ use Rattle.std.proofs.Common.{◌-◌, ◌∙◌, ap, arith, length, take, drop}
 use Rattle.utf16_units.specs.Boundary.{text_between}
 use Rattle.utf16_units.specs.Encoding.{Encodes, text_of}
 use Rattle.utf16_units.proofs.BoundaryLemmas.{Encodes-between, IsBoundary-within}
-use Rattle.utf16_units.proofs.EncodingLemmas.{IsText-from_Encodes, IsText-from_is_text, length-text, text_of-Encodes}
+use Rattle.utf16_units.proofs.EncodingLemmas.{IsUtf16-from_Encodes, IsUtf16-from_is_utf16, length-text, text_of-Encodes}
 use Rattle.utf16_str.specs.WStr.{wstr_bytes, wstr_text}
 use Rattle.utf16_str.proofs.wstr.WStr.part_unchecked.Given.{Over}
 use Rattle.utf16_str.proofs.wstr.WStr.part_unchecked.Goals as goal
@@ -16,12 +16,12 @@ part g c =
 
 pub slice_bounds-from_utf16_unchecked-end : goal.slice_bounds-from_utf16_unchecked-end
 slice_bounds-from_utf16_unchecked-end g c =
-    let long = length-text g.E.Utf16Order.BIG (wstr_bytes c.args.self) (IsText-from_is_text _ _ c.args.self.well_formed) in
+    let long = length-text g.E.Utf16Order.BIG (wstr_bytes c.args.self) (IsUtf16-from_is_utf16 _ _ c.args.self.well_formed) in
     let same = ap length c.as_bytes.ensures.bytes in
     omega (arith, long, same, IsBoundary-within (wstr_text c.args.self) c.args.end c.requires.2)
 
 pub from_utf16_unchecked-requires : goal.from_utf16_unchecked-requires
-from_utf16_unchecked-requires g c = IsText-from_Encodes _ _ _ (part g (goal.at.from_utf16_unchecked-requires g c).After-as_bytes)
+from_utf16_unchecked-requires g c = IsUtf16-from_Encodes _ _ _ (part g (goal.at.from_utf16_unchecked-requires g c).After-as_bytes)
 
 pub returns-clause-text : goal.returns-clause-text
 returns-clause-text g c =

@@ -2,7 +2,7 @@ use Rattle.std.proofs.Common.{◌∙◌, ◌++◌, ap, ap₂, arith, drop, lengt
 use Rattle.utf16_units.specs.Boundary.{text_from, text_to}
 use Rattle.utf16_units.specs.Encoding.{Encodes, text_of}
 use Rattle.utf16_units.proofs.BoundaryLemmas.{Encodes-from, Encodes-to, IsBoundary-within, text_to-text_from}
-use Rattle.utf16_units.proofs.EncodingLemmas.{IsText-from_Encodes, length-encode, text_of-Encodes}
+use Rattle.utf16_units.proofs.EncodingLemmas.{IsUtf16-from_Encodes, length-encode, text_of-Encodes}
 use Rattle.utf16_str.specs.WStr.{wstr_text}
 use Rattle.utf16_str.proofs.wstr.WStr.split_at.Given.{Over}
 use Rattle.utf16_str.proofs.wstr.WStr.split_at.Goals as goal
@@ -22,11 +22,11 @@ split_at-requires g c =
 
 pub from_utf16_unchecked-requires : goal.from_utf16_unchecked-requires
 from_utf16_unchecked-requires g c =
-    rw c.split_at.ensures.front (IsText-from_Encodes _ _ _ (to g (goal.at.from_utf16_unchecked-requires g c).After-as_bytes))
+    rw c.split_at.ensures.front (IsUtf16-from_Encodes _ _ _ (to g (goal.at.from_utf16_unchecked-requires g c).After-as_bytes))
 
 pub from_utf16_unchecked-requires-2 : goal.from_utf16_unchecked-requires-2
 from_utf16_unchecked-requires-2 g c =
-    rw c.split_at.ensures.back (IsText-from_Encodes _ _ _ (from g (goal.at.from_utf16_unchecked-requires-2 g c).After-as_bytes))
+    rw c.split_at.ensures.back (IsUtf16-from_Encodes _ _ _ (from g (goal.at.from_utf16_unchecked-requires-2 g c).After-as_bytes))
 
 pub returns-clause-front : goal.returns-clause-front
 returns-clause-front g c =

@@ -3,7 +3,7 @@ use Rattle.utf16_units.specs.Boundary.{text_from}
 use Rattle.utf16_units.specs.Delimited.{Lacks}
 use Rattle.utf16_units.specs.Encoding.{char_size, size}
 use Rattle.utf16_units.proofs.BoundaryLemmas.{IsBoundary-within}
-use Rattle.utf16_units.proofs.EncodingLemmas.{IsText-from_is_text, length-text}
+use Rattle.utf16_units.proofs.EncodingLemmas.{IsUtf16-from_is_utf16, length-text}
 use Rattle.utf16_str.specs.WStr.{wstr_bytes, wstr_text}
 use Rattle.utf16_str.proofs.CharSearch.{IsFirstAt, IsPassed, passed-all, passed-found}
 use Rattle.utf16_str.proofs.wstr.WStr.split_once.Given.{Over}
@@ -19,7 +19,7 @@ offset g c = ap size c.split_at.ensures.front ∙ (first g c).offset
 pub overflow_add-at : goal.overflow_add-at
 overflow_add-at g c =
     let within = IsBoundary-within (wstr_text c.args.self) _ (first g (goal.at.overflow_add-at g c).After-split_at).end in
-    omega (arith, within, length-text _ _ (IsText-from_is_text _ _ c.args.self.well_formed), c.encoded_utf16_len.ensures, ap char_size c.if-c-delimiter.true, c.ranges.self.0)
+    omega (arith, within, length-text _ _ (IsUtf16-from_is_utf16 _ _ c.args.self.well_formed), c.encoded_utf16_len.ensures, ap char_size c.if-c-delimiter.true, c.ranges.self.0)
 
 pub returns-then-c-delimiter-clause-first : goal.returns-then-c-delimiter-clause-first
 returns-then-c-delimiter-clause-first g c =

@@ -1,6 +1,6 @@
 use Rattle.std.proofs.Common.{nat_eq, ap₂, ◌∙◌}
 use Rattle.std.specs.List.{starts_with}
-use Rattle.utf16_units.proofs.EncodingLemmas.{IsText-from_is_text}
+use Rattle.utf16_units.proofs.EncodingLemmas.{IsUtf16-from_is_utf16}
 use Rattle.utf16_str.specs.WStr.{wstr_bytes}
 use Rattle.utf16_str.proofs.AffixLemmas.{begins_with}
 use Rattle.utf16_str.proofs.wstr.WStr.starts_with.Goals as goal
@@ -10,5 +10,5 @@ returns g c =
     let big = g.E.Utf16Order.BIG in
     let bytes = wstr_bytes c.args.self.now in
     let part = wstr_bytes c.args.prefix in
-    begins_with big bytes part (IsText-from_is_text big bytes c.args.self.now.well_formed) (IsText-from_is_text big part c.args.prefix.well_formed) c.starts_with.result
+    begins_with big bytes part (IsUtf16-from_is_utf16 big bytes c.args.self.now.well_formed) (IsUtf16-from_is_utf16 big part c.args.prefix.well_formed) c.starts_with.result
     (c.starts_with.ensures.value ∙ ap₂ (starts_with nat_eq) c.as_bytes.ensures.bytes c.as_bytes-2.ensures.bytes)

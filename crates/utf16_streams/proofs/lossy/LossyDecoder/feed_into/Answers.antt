@@ -7,11 +7,11 @@ use Rattle.utf16_streams.proofs.lossy.LossyDecoder.feed_into.Goals as goal
 
 pub returns-in_err-make_room-clause-nothing : goal.returns-in_err-make_room-clause-nothing
 returns-in_err-make_room-clause-nothing g c none = ⊎_elim
-    (λ (few : length c.held.result.now + length c.args.piece.now < 4). absurd (true≢false (sym (c.in_err-make_room.ensures.nothing few))))
-    (λ (many : 4 ≤ length c.held.result.now + length c.args.piece.now).
+    (λ (few : length c.pending.result.now + length c.args.piece.now < 4). absurd (true≢false (sym (c.in_err-make_room.ensures.nothing few))))
+    (λ (many : 4 ≤ length c.pending.result.now + length c.args.piece.now).
     let long = length-append (lossy_pending c.args.self.now) c.args.piece.now in
-    absurd (four_decide _ (lossy_pending c.args.self.now ++ c.args.piece.now) (omega (arith, ap length c.held.ensures.bytes, long)) none))
-    (cases_lt (length c.held.result.now + length c.args.piece.now) 4)
+    absurd (four_decide _ (lossy_pending c.args.self.now ++ c.args.piece.now) (omega (arith, ap length c.pending.ensures.bytes, long)) none))
+    (cases_lt (length c.pending.result.now + length c.args.piece.now) 4)
 
 pub invariant_of-self : goal.invariant_of-self
 invariant_of-self g c = record {

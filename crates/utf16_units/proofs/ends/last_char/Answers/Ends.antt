@@ -1,4 +1,4 @@
--- What a text ends with, by the last unit that was read: a character of one unit, or one of two.
+-- The last character of a text, by the last unit that was read: of one unit, or of two.
 use Rattle.std.proofs.Common.{◌-◌, ◌∙◌, sym, length, rules}
 use Rattle.std.specs.Char.Utf16.{surrogate_pair_char}
 use Rattle.utf16_units.specs.Unit.{IsLeading}

@@ -1,11 +1,11 @@
 use Rattle.std.proofs.Common.{◌≡◌, ◌∙◌, ap, rules, subst, sym, true}
-use Rattle.utf16_units.specs.Encoding.{is_text, text_of}
-use Rattle.utf16_units.proofs.EncodingLemmas.{IsText-nil, is_text-from_IsText, text_of-nil}
+use Rattle.utf16_units.specs.Encoding.{is_utf16, text_of}
+use Rattle.utf16_units.proofs.EncodingLemmas.{IsUtf16-nil, is_utf16-from_IsUtf16, text_of-nil}
 use Rattle.utf16string.proofs.wstring.WString.clear.Goals as goal
 
 pub invariant_of-self : goal.invariant_of-self
 invariant_of-self g c = record {
-  well_formed = subst (λ bytes. is_text g.E.Utf16Order.BIG bytes ≡ true) (sym c.clear.ensures.items) (is_text-from_IsText _ _ (IsText-nil _));
+  well_formed = subst (λ bytes. is_utf16 g.E.Utf16Order.BIG bytes ≡ true) (sym c.clear.ensures.items) (is_utf16-from_IsUtf16 _ _ (IsUtf16-nil _));
 }
 
 pub returns-clause-text : goal.returns-clause-text

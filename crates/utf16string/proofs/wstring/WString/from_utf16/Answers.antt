@@ -1,11 +1,11 @@
 use Rattle.std.proofs.Common.{refl, subst, sym}
 use Rattle.std.proofs.lemmas.Result.{err_from_is_err_and}
-use Rattle.utf16_units.specs.Encoding.{IsText}
+use Rattle.utf16_units.specs.Encoding.{IsUtf16}
 use Rattle.utf16_units.specs.Utf16Error.{IsErrorOf}
 use Rattle.utf16string.proofs.wstring.WString.from_utf16.Goals as goal
 
 pub from_utf16_unchecked-requires : goal.from_utf16_unchecked-requires
-from_utf16_unchecked-requires g c = subst (IsText g.E.Utf16Order.BIG) c.deref.ensures.value (c.in_ok-validate_raw_utf16.ensures.text.0 refl)
+from_utf16_unchecked-requires g c = subst (IsUtf16 g.E.Utf16Order.BIG) c.deref.ensures.value (c.in_ok-validate_raw_utf16.ensures.text.0 refl)
 
 pub returns-in_err-validate_raw_utf16-clause-text : goal.returns-in_err-validate_raw_utf16-clause-text
 returns-in_err-validate_raw_utf16-clause-text g c =

@@ -1,8 +1,8 @@
-use Rattle.utf16_units.proofs.EncodingLemmas.{Encodes-text_of, is_text-from_IsText}
+use Rattle.utf16_units.proofs.EncodingLemmas.{Encodes-text_of, is_utf16-from_IsUtf16}
 use Rattle.utf16string.proofs.wstring.WString.from_utf16_unchecked.Goals as goal
 
 pub invariant_of-result : goal.invariant_of-result
-invariant_of-result g c = record { well_formed = is_text-from_IsText _ _ c.requires }
+invariant_of-result g c = record { well_formed = is_utf16-from_IsUtf16 _ _ c.requires }
 
 pub returns-clause-encoding : goal.returns-clause-encoding
 returns-clause-encoding g c = Encodes-text_of _ _ c.requires

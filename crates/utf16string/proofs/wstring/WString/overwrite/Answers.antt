@@ -1,9 +1,9 @@
 use Rattle.std.proofs.Common.{◌≡◌, ◌∙◌, ◌+◌, ap, length, subst, sym}
 use Rattle.std.specs.List.{refill, splice}
 use Rattle.utf16_units.specs.Edit.{overwrite_at}
-use Rattle.utf16_units.specs.Encoding.{Encodes, IsText}
+use Rattle.utf16_units.specs.Encoding.{Encodes, IsUtf16}
 use Rattle.utf16_units.proofs.EditLemmas.{Encodes-checked, checked-Encodes}
-use Rattle.utf16_units.proofs.EncodingLemmas.{IsText-from_is_text, text_of-Encodes}
+use Rattle.utf16_units.proofs.EncodingLemmas.{IsUtf16-from_is_utf16, text_of-Encodes}
 use Rattle.utf16_str.specs.WStr.{wstr_text}
 use Rattle.utf16_str.proofs.Overwritten.{Encodes-over}
 use Rattle.utf16string.specs.WString.{wstring_bytes, wstring_text}
@@ -26,7 +26,7 @@ module _ (g : Over) (c : After-overwrite_text g) where
 
 pub overwrite_text-requires-clause-text : goal.overwrite_text-requires-clause-text
 overwrite_text-requires-clause-text g c =
-    subst (IsText g.E.Utf16Order.BIG) (sym c.as_mut_slice.ensures.value) (IsText-from_is_text _ _ c.args.self.now.well_formed)
+    subst (IsUtf16 g.E.Utf16Order.BIG) (sym c.as_mut_slice.ensures.value) (IsUtf16-from_is_utf16 _ _ c.args.self.now.well_formed)
 
 pub invariant_of-self : goal.invariant_of-self
 invariant_of-self g c = record { well_formed = checked-Encodes _ _ _ (held g (goal.at.invariant_of-self g c).After-overwrite_text) }

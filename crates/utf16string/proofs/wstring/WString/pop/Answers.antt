@@ -1,5 +1,5 @@
 use Rattle.std.proofs.Common.{◌≡◌, ◌-◌, ◌∙◌, [], ◌∷◌, ◌++◌, ◌≤◌, ap, arith, subst, sym, take, true}
-use Rattle.utf16_units.specs.Encoding.{Encodes, is_text, size, text_of}
+use Rattle.utf16_units.specs.Encoding.{Encodes, is_utf16, size, text_of}
 use Rattle.utf16_units.proofs.EditLemmas.{Encodes-checked, Encodes-prefix, checked-Encodes}
 use Rattle.utf16_units.proofs.EncodingLemmas.{size-append, size-cons, size-nil, text_of-Encodes}
 use Rattle.utf16string.specs.WString.{wstring_bytes, wstring_text}
@@ -32,7 +32,7 @@ overflow_sub-front g c = fits g c
 pub invariant_of-self : goal.invariant_of-self
 invariant_of-self g c =
     let at = (goal.at.invariant_of-self g c).After-encoded_utf16_len in
-    record { well_formed = subst (λ bytes. is_text g.E.Utf16Order.BIG bytes ≡ true) (sym c.truncate.ensures.items) (checked-Encodes _ _ _ (cut g at)) }
+    record { well_formed = subst (λ bytes. is_utf16 g.E.Utf16Order.BIG bytes ≡ true) (sym c.truncate.ensures.items) (checked-Encodes _ _ _ (cut g at)) }
 
 pub returns-clause-text : goal.returns-clause-text
 returns-clause-text g c =

@@ -3,7 +3,7 @@ use Rattle.std.specs.Iterator.{YieldsFirst}
 use Rattle.std.specs.List.{remove_range}
 use Rattle.utf16_units.specs.Boundary.{text_from}
 use Rattle.utf16_units.specs.Edit.{remove_at}
-use Rattle.utf16_units.specs.Encoding.{Encodes, is_text, text_of}
+use Rattle.utf16_units.specs.Encoding.{Encodes, is_utf16, text_of}
 use Rattle.utf16_units.proofs.EditLemmas.{Encodes-checked, Encodes-removed, behind-first, boundary-within, char_at-first, checked-Encodes}
 use Rattle.utf16_units.proofs.EncodingLemmas.{text_of-Encodes}
 use Rattle.utf16string.specs.WString.{wstring_bytes, wstring_text}
@@ -46,7 +46,7 @@ remove_bytes-requires-clause-within g c = behind g c
 pub invariant_of-self : goal.invariant_of-self
 invariant_of-self g c = record {
   well_formed =
-      subst (λ bytes. is_text g.E.Utf16Order.BIG bytes ≡ true) (sym c.remove_bytes.ensures.items)
+      subst (λ bytes. is_utf16 g.E.Utf16Order.BIG bytes ≡ true) (sym c.remove_bytes.ensures.items)
       (checked-Encodes _ _ _ (removed g (goal.at.invariant_of-self g c).After-encoded_utf16_len));
 }
 

@@ -1,9 +1,9 @@
-use Rattle.std.proofs.Common.{◌∙◌, ap, arith, drop, rules, subst, sym, take}
+use Rattle.std.proofs.Common.{◌≡◌, ◌∙◌, [], ap, append-nil, arith, drop, rules, subst, sym, take}
 use Rattle.utf16_units.specs.Boundary.{text_from, text_to}
-use Rattle.utf16_units.specs.Encoding.{Encodes, IsText, text_of}
-use Rattle.utf16_units.proofs.BoundaryLemmas.{Encodes-from, Encodes-to}
+use Rattle.utf16_units.specs.Encoding.{Encodes, IsUtf16, text_of}
+use Rattle.utf16_units.proofs.BoundaryLemmas.{Encodes-from, Encodes-to, text_from-at, text_to-at}
 use Rattle.utf16_units.proofs.EditLemmas.{Encodes-checked, boundary-within}
-use Rattle.utf16_units.proofs.EncodingLemmas.{IsText-from_Encodes, IsText-from_is_text, length-text, text_of-Encodes}
+use Rattle.utf16_units.proofs.EncodingLemmas.{IsUtf16-from_Encodes, IsUtf16-from_is_utf16, length-text, text_of-Encodes}
 use Rattle.utf16string.specs.WString.{wstring_bytes, wstring_text}
 use Rattle.utf16string.proofs.Edited.{still_text}
 use Rattle.utf16string.proofs.wstring.WString.split_off.Given.{Over}
@@ -29,7 +29,7 @@ invariant_of-self g c =
 
 pub from_utf16_unchecked-requires : goal.from_utf16_unchecked-requires
 from_utf16_unchecked-requires g c =
-    subst (IsText g.E.Utf16Order.BIG) (sym c.in_ok-back.ensures.tail) (IsText-from_Encodes _ _ _ (taken g (goal.at.from_utf16_unchecked-requires g c).Start))
+    subst (IsUtf16 g.E.Utf16Order.BIG) (sym c.in_ok-back.ensures.tail) (IsUtf16-from_Encodes _ _ _ (taken g (goal.at.from_utf16_unchecked-requires g c).Start))
 
 pub returns-clause-front : goal.returns-clause-front
 returns-clause-front g c = ap (text_of g.E.Utf16Order.BIG) c.in_ok-back.ensures.items ∙ text_of-Encodes _ _ _ (kept g (goal.at.returns-clause-front g c).Start)
@@ -43,6 +43,16 @@ returns-clause-back g c =
 pub returns-in_err-back-clause-nothing : goal.returns-in_err-back-clause-nothing
 returns-in_err-back-clause-nothing g c at_end infallible =
     let vec = c.args.self.now.raw in
-    let long = length-text _ _ (IsText-from_is_text _ _ c.args.self.now.well_formed) in
+    let long = length-text _ _ (IsUtf16-from_is_utf16 _ _ c.args.self.now.well_formed) in
     let never = c.in_err-back.ensures.succeeds (omega (arith, vec.ok.0)) infallible in
     search rules
+
+pub returns-then-at-len-clause-front : goal.returns-then-at-len-clause-front
+returns-then-at-len-clause-front g c =
+    let text = wstring_text c.args.self.now in
+    sym (subst (λ t. text_to t c.args.at ≡ text) (append-nil text) (text_to-at text [] c.args.at (sym (c.if-at-len.true ∙ c.len.ensures.size))))
+
+pub returns-then-at-len-clause-back : goal.returns-then-at-len-clause-back
+returns-then-at-len-clause-back g c =
+    let text = wstring_text c.args.self.now in
+    c.new.ensures.text ∙ sym (subst (λ t. text_from t c.args.at ≡ []) (append-nil text) (text_from-at text [] c.args.at (sym (c.if-at-len.true ∙ c.len.ensures.size))))

@@ -1,0 +1,46 @@
+-- What the numbers mean that C passes and gets.
+use Rattle.std.specs.Prelude.{◌≡◌, ◌≢◌, ℕ, ◌+◌, ◌*◌, ◌≤◌, ◌==◌, Bool, List, None, Some, Option, Result, Ok, Err, length, if◌then◌else◌}
+use Rattle.utf16_units.specs.Encoding.{IsUtf16}
+use Rattle.utf16_units.specs.IllFormed.{IsIllFormed, IsUtf16ValidUpTo}
+use Rattle.utf16_units.specs.Utf16Error.{error_len, valid_up_to}
+use Rattle.utf16_units.specs.declared.error.Utf16Error.{Utf16Error}
+use Rattle.utf16_decode.specs.declared.progress.Stop.{Stop}
+use Rattle.utf16_decode.specs.declared.progress.Stop.TheVariants.{Incomplete, Done, IllFormed, NoRoom}
+
+-- the byte order is big endian; every other number is little endian
+abbrev pub is_big : ℕ → Bool
+is_big byte_order = byte_order == 1
+
+-- why a call stopped, by its status and the length of the ill-formed sequence
+abbrev pub stop_of : ℕ → ℕ → Stop
+stop_of status error_len =
+    if status == 0 then Done else (if status == 1 then IllFormed error_len else (if status == 2 then Incomplete else NoRoom))
+
+-- the status is one of the four, and only an ill-formed sequence has a length
+abbrev pub AreNumbers : ℕ → ℕ → Type 0
+AreNumbers status error_len = (status ≤ 3) × (status ≢ 1 → error_len ≡ 0)
+
+-- the validator's result as such a reason, and as a length
+abbrev pub error_stop : Option ℕ → Stop
+error_stop (Some len) = IllFormed len
+error_stop None = Incomplete
+
+abbrev pub validity_stop : Result (Unit {0}) Utf16Error → Stop
+validity_stop (Ok done) = Done
+validity_stop (Err e) = error_stop (error_len e)
+
+abbrev pub validity_up_to : ℕ → Result (Unit {0}) Utf16Error → ℕ
+validity_up_to len (Ok done) = len
+validity_up_to len (Err e) = valid_up_to e
+
+-- the longest well-formed prefix ends at `valid_up_to`: at the end of a text, or where the reason
+-- says what follows
+abbrev pub IsValidity : Bool → List ℕ → ℕ → Stop → Type 0
+IsValidity big utf16 valid_up_to Done = (valid_up_to ≡ length utf16) × IsUtf16 big utf16
+IsValidity big utf16 valid_up_to (IllFormed len) = IsUtf16ValidUpTo big utf16 valid_up_to × IsIllFormed big utf16 (Some len)
+IsValidity big utf16 valid_up_to Incomplete = IsUtf16ValidUpTo big utf16 valid_up_to × IsIllFormed big utf16 None
+IsValidity big utf16 valid_up_to NoRoom = ⊥
+
+-- a version as one number, by which versions are compared
+abbrev pub version_number : ℕ → ℕ → ℕ → ℕ
+version_number major minor patch = major * 1000000 + minor * 1000 + patch

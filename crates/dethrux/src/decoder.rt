@@ -1,0 +1,68 @@
+//! A decoder for C, whose state is in memory of the caller's.
+
+ghost use Rattle.std.specs.Prelude.{◌≡◌, ◌≢◌, ◌↔◌, ◌+◌, ◌-◌, ◌<◌, ◌≤◌, [], ◌++◌, drop, length, take, encode_utf8_all};
+ghost use Rattle.utf16_units.specs.Split.{decided_text, whole_lossy_chars};
+ghost use Rattle.utf16_decode.specs.Stream.{Feeds, StopsFeeding, stream_pending};
+ghost use Rattle.utf16_decode.specs.declared.progress.Stop.TheVariants.{Done, NoRoom};
+ghost use Rattle.dethrux.specs.Numbers.{AreNumbers, is_big, stop_of};
+
+use crate::byte_order::is_big_endian;
+use crate::results::{Conversion, conversion_of};
+use utf16_transcode::Stream;
+use utf16_units::{BE, LE};
+
+/// Decodes the next chunk of a stream and writes its text in UTF-8, as far as whole characters fit,
+/// with U+FFFD for each unpaired surrogate. `read` counts bytes of the chunk: all of them, or the
+/// next character does not fit. Any bytes are allowed in the state, and at most three are pending
+/// then. In time linear in what is read.
+#[unsafe(no_mangle)]
+pub extern "C" fn dethrux_decoder_feed(
+    decoder: &mut Stream,
+    byte_order: u32,
+    chunk: &[u8],
+    to: &mut [u8],
+) -> Conversion
+    ensures feeds { Feeds (is_big byte_order) (stream_pending decoder.old) chunk.now
+        (stream_pending decoder.new) to.new result.read result.written }
+    ensures stop { StopsFeeding (is_big byte_order) (stream_pending decoder.old) chunk.now
+        (stream_pending decoder.new) result.read (length to.new - result.written)
+        (stop_of result.status result.error_len) }
+    ensures whole { (stop_of result.status result.error_len ≡ Done)
+        ↔ (length (encode_utf8_all
+        (decided_text (is_big byte_order) (stream_pending decoder.old ++ chunk.now)))
+        ≤ length to.new) }
+    ensures filled { stop_of result.status result.error_len ≡ NoRoom
+        → length to.new < result.written + 4 }
+    ensures few { decoder.new.len ≤ 3 }
+    ensures numbers { AreNumbers result.status result.error_len }
+{
+    conversion_of(if is_big_endian(byte_order) {
+        decoder.feed::<BE>(chunk, to)
+    } else {
+        decoder.feed::<LE>(chunk, to)
+    })
+}
+
+/// Ends a stream: writes U+FFFD in UTF-8 if bytes are pending, and else nothing. The bytes after it
+/// stay as they were. If U+FFFD does not fit, nothing changes.
+#[unsafe(no_mangle)]
+pub extern "C" fn dethrux_decoder_finish(decoder: &mut Stream, to: &mut [u8]) -> Conversion
+    ensures read { result.read ≡ 0 }
+    ensures done { (stop_of result.status result.error_len ≡ Done)
+        ↔ (length (encode_utf8_all (whole_lossy_chars [] (stream_pending decoder.old)))
+        ≤ length to.new) }
+    ensures text { stop_of result.status result.error_len ≡ Done
+        → take result.written to.new
+        ≡ encode_utf8_all (whole_lossy_chars [] (stream_pending decoder.old)) }
+    ensures room { result.written ≤ length to.new }
+    ensures rest { drop result.written to.new ≡ drop result.written to.old }
+    ensures pending { stop_of result.status result.error_len ≡ Done
+        → stream_pending decoder.new ≡ [] }
+    ensures refused { stop_of result.status result.error_len ≢ Done
+        → (stop_of result.status result.error_len ≡ NoRoom) × (result.written ≡ 0) }
+    ensures kept { stop_of result.status result.error_len ≢ Done → (decoder.new ≡ decoder.old)
+        × (to.new ≡ to.old) }
+    ensures numbers { AreNumbers result.status result.error_len }
+{
+    conversion_of(decoder.finish(to))
+}

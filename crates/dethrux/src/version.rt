@@ -1,0 +1,19 @@
+//! The version of the library, which the header gives too.
+
+ghost use Rattle.std.specs.Prelude.{◌≡◌};
+ghost use Rattle.dethrux.specs.Numbers.{version_number};
+
+const MAJOR: u32 = 0;
+
+const MINOR: u32 = 1;
+
+const PATCH: u32 = 0;
+
+/// Returns the version as a number, as `DETHRUX_VERSION` of the header: 1,000,000 times the major,
+/// plus 1,000 times the minor, plus the patch version.
+#[unsafe(no_mangle)]
+pub extern "C" fn dethrux_version() -> u32
+    ensures { result ≡ version_number 0 1 0 }
+{
+    MAJOR * 1_000_000 + MINOR * 1_000 + PATCH
+}

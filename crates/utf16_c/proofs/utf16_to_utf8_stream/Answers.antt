@@ -1,8 +1,0 @@
-use Rattle.std.proofs.Common.{rules}
-use Rattle.utf16_c.proofs.utf16_to_utf8_stream.Goals as goal
-
-pub returns-clause-decodes : goal.returns-clause-decodes
-returns-clause-decodes c = search rules
-
-pub returns-clause-stop : goal.returns-clause-stop
-returns-clause-stop c = search rules

@@ -1,8 +1,0 @@
-use Rattle.std.proofs.Common.{All, map, take}
-use Rattle.utf16_examples.specs.MultiText.{IsEntry}
-use Rattle.utf16string.specs.WStr.{wstr_text}
-use Rattle.utf16_examples.proofs.multi_text.check.Given as goal
-
--- the texts so far can stand in a table
-abbrev pub invariant-loop-i : goal.invariant-loop-i
-invariant-loop-i g l = All IsEntry (take l.i (map wstr_text l.texts))

@@ -1,0 +1,79 @@
+-- A stream whose BOM gives its byte order, from the bytes that have come to more of them.
+use Rattle.std.proofs.Common.{◌≡◌, ℕ, Bool, true, false, List, [], ◌∷◌, ◌++◌, Option, None, Some, refl, ap, ◌∙◌, if◌then◌else◌}
+use Rattle.std.specs.Option.{MatchOption, option_to_list}
+use Rattle.utf16_units.specs.Split.{split_items, split_tail}
+use Rattle.utf16_units.proofs.SplitJoin.{split_items-append, split_tail-append}
+use Rattle.utf16_streams.specs.Bom.{after_bom, is_big, has_bom, items_in, byte_order_after, tail_in}
+
+-- one byte, or none, as a slice of it
+pub first_slice : (first : Option ℕ) (bytes : List ℕ) → MatchOption first (bytes ≡ []) (λ byte. bytes ≡ byte ∷ []) → bytes ≡ option_to_list first
+first_slice None bytes is = is
+first_slice (Some byte) bytes is = is
+
+-- one byte decodes to nothing
+pub first_waits : (big : Bool) (first : Option ℕ) → split_tail big (option_to_list first) ≡ option_to_list first
+unfolding split_tail
+first_waits big None = refl
+first_waits big (Some byte) = refl
+
+pub first_items : (first : Option ℕ) → items_in None (option_to_list first) ≡ []
+unfolding split_items
+first_items None = refl
+first_items (Some byte) = refl
+
+pub first_tail : (first : Option ℕ) → tail_in None (option_to_list first) ≡ option_to_list first
+unfolding split_tail
+first_tail None = refl
+first_tail (Some byte) = refl
+
+-- before the first byte
+pub items_in-nil : (order : Option Bool) → items_in order [] ≡ []
+unfolding split_items
+items_in-nil None = refl
+items_in-nil (Some big) = refl
+
+pub tail_in-nil : (order : Option Bool) → tail_in order [] ≡ []
+unfolding split_tail
+tail_in-nil None = refl
+tail_in-nil (Some big) = refl
+
+pub byte_order_after-nil : (order : Option Bool) → byte_order_after order [] ≡ order
+byte_order_after-nil None = refl
+byte_order_after-nil (Some big) = refl
+
+-- more bytes after the first two do not change the BOM
+behind_more : (lossy_chars : Bool) (bytes piece all : List ℕ) → (if lossy_chars then bytes ++ piece else (all ++ piece)) ≡ (if lossy_chars then bytes else all) ++ piece
+behind_more true bytes piece all = refl
+behind_more false bytes piece all = refl
+
+text_more : (first second : ℕ) (bytes piece : List ℕ) → after_bom (first ∷ second ∷ bytes ++ piece) ≡ after_bom (first ∷ second ∷ bytes) ++ piece
+text_more first second bytes piece = behind_more (has_bom (first ∷ second ∷ bytes)) bytes piece (first ∷ second ∷ bytes)
+
+-- one more chunk: the items of the tail and the chunk, in the order that holds then, are appended
+pub items_in-append : (order : Option Bool) (front piece : List ℕ)
+    → items_in order (front ++ piece) ≡ items_in order front ++ items_in (byte_order_after order front) (tail_in order front ++ piece)
+unfolding split_items split_tail
+items_in-append (Some big) front piece = split_items-append big front piece
+items_in-append None [] piece = refl
+items_in-append None (first ∷ []) piece = refl
+items_in-append None (first ∷ second ∷ bytes) piece =
+    ap (split_items (is_big (first ∷ second ∷ bytes))) (text_more first second bytes piece)
+    ∙ split_items-append (is_big (first ∷ second ∷ bytes)) (after_bom (first ∷ second ∷ bytes)) piece
+
+pub tail_in-append : (order : Option Bool) (front piece : List ℕ)
+    → tail_in order (front ++ piece) ≡ tail_in (byte_order_after order front) (tail_in order front ++ piece)
+unfolding split_items split_tail
+tail_in-append (Some big) front piece = split_tail-append big front piece
+tail_in-append None [] piece = refl
+tail_in-append None (first ∷ []) piece = refl
+tail_in-append None (first ∷ second ∷ bytes) piece =
+    ap (split_tail (is_big (first ∷ second ∷ bytes))) (text_more first second bytes piece)
+    ∙ split_tail-append (is_big (first ∷ second ∷ bytes)) (after_bom (first ∷ second ∷ bytes)) piece
+
+pub byte_order_after-append : (order : Option Bool) (front piece : List ℕ)
+    → byte_order_after order (front ++ piece) ≡ byte_order_after (byte_order_after order front) (tail_in order front ++ piece)
+unfolding split_tail
+byte_order_after-append (Some big) front piece = refl
+byte_order_after-append None [] piece = refl
+byte_order_after-append None (first ∷ []) piece = refl
+byte_order_after-append None (first ∷ second ∷ bytes) piece = refl

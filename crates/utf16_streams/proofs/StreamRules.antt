@@ -1,0 +1,133 @@
+-- Rules for a reader of a stream chunk by chunk: the characters that bytes decide, and the text so
+-- far with the pending bytes.
+use Rattle.std.proofs.Common.{◌≡◌, ◌≢◌, ◌++◌, ℕ, ◌+◌, ◌<◌, ◌≤◌, Bool, true, false, List, [], ◌∷◌, Option, None, Some, Result, Ok, Err, All, drop, if◌then◌else◌, get_or, flat_map, length, take, take_all, chars, encode_utf8_all, refl, sym, ap, ◌∙◌, subst}
+use Rattle.std.proofs.lemmas.List.{map-append}
+use Rattle.std.proofs.lemmas.List.Elements.{All-append, All-cons, All-drop, All-head, All-nil, All-tail}
+use Rattle.std.proofs.lemmas.Result.{IfOk-weaker}
+use Rattle.std.specs.Prelude.{IfOk, OnOk}
+use Rattle.std.specs.Char.{IsScalar}
+use Rattle.utf16_units.specs.Split.{IsItem, Item, whole_lossy_chars, good, lone_lead, lone_trail, lossy_char, lossy_chars, split_items, split_tail}
+use Rattle.utf16_units.proofs.FirstChar.{AreBytes-from_All}
+use Rattle.utf16_units.proofs.LawProofs.{utf8_back}
+use Rattle.utf16_units.proofs.SplitJoin.{split_items-append, split_tail-append}
+use Rattle.utf16_units.proofs.SplitLemmas.{Split-computed}
+use Rattle.utf16_streams.specs.Bom.{big_in, has_bom, items_in, text_in}
+use Rattle.utf16_decode.proofs.StreamLemmas.{joined-more}
+
+abbrev pub IsByte : ℕ → Type 0
+IsByte b = b < 256
+
+-- the bytes of a stream by its chunks: of one more chunk, and of all
+module _ {X : Type 0} (of : X → List ℕ) (pieces : List X) (i : ℕ) where
+  pub bytes-more : (piece : X) → i < length pieces → piece ≡ get_or pieces i piece
+      → All IsByte (flat_map of (take i pieces)) → All IsByte (of piece) → All IsByte (flat_map of (take (i + 1) pieces))
+  bytes-more piece within is so_far are = subst (All IsByte) (sym (joined-more of pieces i piece within is)) (All-append IsByte _ _ so_far are)
+
+  pub bytes-all : length pieces ≤ i → All IsByte (flat_map of (take i pieces)) → All IsByte (flat_map of pieces)
+  bytes-all past so_far = subst (λ p. All IsByte (flat_map of p)) (take_all i pieces past) so_far
+
+-- ---- the characters of what a call gives
+
+mark_scalar : (item : Item) → IsItem item → IsScalar (lossy_char item)
+mark_scalar (good c) is = is
+mark_scalar (lone_trail unit) is = refl
+mark_scalar (lone_lead unit) is = refl
+
+marks_scalar : (items : List Item) → All IsItem items → All IsScalar (lossy_chars items)
+marks_scalar [] made = All-nil IsScalar
+marks_scalar (item ∷ items) made =
+    All-cons IsScalar (lossy_char item) (lossy_chars items) (mark_scalar item (All-head IsItem item items made)) (marks_scalar items (All-tail IsItem item items made))
+
+-- the characters of items, and those of the whole text, are scalar values
+full_scalar : (items : List Item) (tail : List ℕ) → All IsScalar (lossy_chars items) → All IsScalar (whole_lossy_chars items tail)
+full_scalar items [] scalars = scalars
+full_scalar items (first ∷ after) scalars =
+    All-append IsScalar (lossy_chars items) (0xFFFD ∷ []) scalars (All-cons IsScalar 0xFFFD [] refl (All-nil IsScalar))
+
+module _ (big : Bool) (bytes : List ℕ) (are : All IsByte bytes) where
+  pub scalars_lossy : All IsScalar (lossy_chars (split_items big bytes))
+  scalars_lossy = marks_scalar (split_items big bytes) (Split-computed big bytes (AreBytes-from_All bytes are)).made
+
+  pub scalars_full : All IsScalar (whole_lossy_chars (split_items big bytes) (split_tail big bytes))
+  scalars_full = full_scalar (split_items big bytes) (split_tail big bytes) scalars_lossy
+
+  -- so the characters of their UTF-8 are these
+  pub chars_marked : (utf8 : List ℕ) → utf8 ≡ encode_utf8_all (lossy_chars (split_items big bytes)) → chars utf8 ≡ lossy_chars (split_items big bytes)
+  chars_marked utf8 is = ap chars is ∙ utf8_back (lossy_chars (split_items big bytes)) scalars_lossy
+
+  pub chars_full : (utf8 : List ℕ) → utf8 ≡ encode_utf8_all (whole_lossy_chars (split_items big bytes) (split_tail big bytes)) → chars utf8 ≡ whole_lossy_chars (split_items big bytes) (split_tail big bytes)
+  chars_full utf8 is = ap chars is ∙ utf8_back (whole_lossy_chars (split_items big bytes) (split_tail big bytes)) scalars_full
+
+-- the same of bytes that are read in a byte order that a BOM may give
+behind_are : (lossy_chars : Bool) (bytes : List ℕ) → All IsByte bytes → All IsByte (if lossy_chars then drop 2 bytes else bytes)
+behind_are true bytes are = All-drop IsByte 2 bytes are
+behind_are false bytes are = are
+
+text_are : (order : Option Bool) (bytes : List ℕ) → All IsByte bytes → All IsByte (text_in order bytes)
+text_are (Some big) bytes are = are
+text_are None bytes are = behind_are (has_bom bytes) bytes are
+
+-- and so of what a call returns
+module _ {T X : Type 0} (big : Bool) (bytes : List ℕ) (r : Result T X) (utf8 : T → List ℕ) where
+  pub chars_of : All IsByte bytes → IfOk r (λ s. utf8 s ≡ encode_utf8_all (lossy_chars (split_items big bytes)))
+      → IfOk r (λ s. chars (utf8 s) ≡ lossy_chars (split_items big bytes))
+  chars_of are text = IfOk-weaker r (λ s. utf8 s ≡ encode_utf8_all (lossy_chars (split_items big bytes))) (λ s. chars (utf8 s) ≡ lossy_chars (split_items big bytes))
+      (λ s. chars_marked big bytes are (utf8 s)) text
+
+pub chars_of_any : {T X : Type 0} (order : Option Bool) (bytes : List ℕ) (r : Result T X) (utf8 : T → List ℕ) → All IsByte bytes
+    → IfOk r (λ s. utf8 s ≡ encode_utf8_all (lossy_chars (items_in order bytes))) → IfOk r (λ s. chars (utf8 s) ≡ lossy_chars (items_in order bytes))
+chars_of_any order bytes r utf8 are text = chars_of (big_in order bytes) (text_in order bytes) r utf8 (text_are order bytes are) text
+
+pub chars_of_whole : {T X : Type 0} (big : Bool) (bytes : List ℕ) (r : Result T X) (utf8 : T → List ℕ) → OnOk r (All IsByte bytes)
+    → IfOk r (λ s. utf8 s ≡ encode_utf8_all (whole_lossy_chars (split_items big bytes) (split_tail big bytes)))
+    → IfOk r (λ s. chars (utf8 s) ≡ whole_lossy_chars (split_items big bytes) (split_tail big bytes))
+chars_of_whole big bytes (Ok s) utf8 are text = chars_full big bytes are (utf8 s) text
+chars_of_whole big bytes (Err e) utf8 are text = tt
+
+-- ---- a loop over the chunks of a stream
+
+-- bytes that were read: a fact of the text that they decide, and which of them are pending
+pub record Reads (big : Bool) (bytes kept : List ℕ) (Of : List ℕ → Type 0) : Type 0 where
+  pub text : Of (lossy_chars (split_items big bytes))
+  pub tail : kept ≡ split_tail big bytes
+
+-- before the first byte
+pub Reads-start : (big : Bool) (kept : List ℕ) (Of : List ℕ → Type 0) → kept ≡ [] → Of [] → Reads big [] kept Of
+unfolding split_items split_tail
+Reads-start big kept Of none text = record { text = text; tail = none }
+
+module _ (big : Bool) (bytes kept : List ℕ) (Of : List ℕ → Type 0) (so_far : Reads big bytes kept Of) where
+  -- one more chunk: the pending bytes and the chunk decide what follows, and leave what is pending
+  module _ (Next : List ℕ → Type 0) (piece left : List ℕ) (step : (text : List ℕ) → Of text → Next (text ++ lossy_chars (split_items big (kept ++ piece)))) (after : left ≡ split_tail big (kept ++ piece)) where
+    joined : lossy_chars (split_items big (bytes ++ piece)) ≡ lossy_chars (split_items big bytes) ++ lossy_chars (split_items big (kept ++ piece))
+    joined =
+        ap lossy_chars (split_items-append big bytes piece) ∙ map-append lossy_char (split_items big bytes) (split_items big (split_tail big bytes ++ piece))
+        ∙ ap (λ k. lossy_chars (split_items big bytes) ++ lossy_chars (split_items big (k ++ piece))) (sym so_far.tail)
+
+    pub Reads-piece : Reads big (bytes ++ piece) left Next
+    Reads-piece = record {
+      text = subst Next (sym joined) (step (lossy_chars (split_items big bytes)) so_far.text);
+      tail = after ∙ ap (λ k. split_tail big (k ++ piece)) so_far.tail ∙ sym (split_tail-append big bytes piece);
+    }
+
+  -- the end of the stream: the text is whole where nothing is pending, and else one U+FFFD ends it
+  pub Reads-none : kept ≡ [] → Of (whole_lossy_chars (split_items big bytes) (split_tail big bytes))
+  Reads-none none = subst (λ t. Of (whole_lossy_chars (split_items big bytes) t)) (sym none ∙ so_far.tail) so_far.text
+
+  pub Reads-some : (Next : List ℕ → Type 0) → kept ≢ [] → ((text : List ℕ) → Of text → Next (text ++ 0xFFFD ∷ [])) → Next (whole_lossy_chars (split_items big bytes) (split_tail big bytes))
+  Reads-some Next some step = by_tail (split_tail big bytes) (λ none. some (so_far.tail ∙ none)) where
+    by_tail : (tail : List ℕ) → tail ≢ [] → Next (whole_lossy_chars (split_items big bytes) tail)
+    by_tail [] left = absurd (left refl)
+    by_tail (first ∷ after) left = step (lossy_chars (split_items big bytes)) so_far.text
+
+-- the same of a list of chunks, of which so many were read
+module _ {X : Type 0} (of : X → List ℕ) (pieces : List X) (i : ℕ) (big : Bool) (kept : List ℕ) (Of : List ℕ → Type 0) (so_far : Reads big (flat_map of (take i pieces)) kept Of) where
+  pub Reads-more : (piece : X) (given left : List ℕ) (Next : List ℕ → Type 0) → i < length pieces → piece ≡ get_or pieces i piece → given ≡ of piece
+      → ((text : List ℕ) → Of text → Next (text ++ lossy_chars (split_items big (kept ++ given)))) → left ≡ split_tail big (kept ++ given)
+      → Reads big (flat_map of (take (i + 1) pieces)) left Next
+  Reads-more piece given left Next within is same step after =
+      subst (λ b. Reads big b left Next) (ap (λ p. flat_map of (take i pieces) ++ p) same ∙ sym (joined-more of pieces i piece within is))
+      (Reads-piece big (flat_map of (take i pieces)) kept Of so_far Next given left step after)
+
+  pub Reads-all : length pieces ≤ i → Reads big (flat_map of pieces) kept Of
+  Reads-all past = subst (λ p. Reads big (flat_map of p) kept Of) (take_all i pieces past) so_far

@@ -1,5 +1,0 @@
-use Rattle.std.proofs.Common.{rules}
-use Rattle.utf16string.proofs.wstring.WString.reserve.Goals as goal
-
-pub returns-clause-capacity : goal.returns-clause-capacity
-returns-clause-capacity g c = search rules

@@ -1,0 +1,33 @@
+//! A string converted to the other byte order.
+
+ghost use Rattle.std.specs.Prelude.{◌≡◌};
+ghost use Rattle.std.specs.Vec.{vec_allocator};
+ghost use Rattle.utf16_units.specs.Encoding.{Encodes};
+
+use crate::WString;
+use crate::swap_byte_order::swap_byte_order;
+use std::alloc::Allocator;
+use utf16_units::Utf16Order;
+
+impl<E: Utf16Order, A: Allocator> WString<E, A> {
+    ghost use Rattle.utf16string.specs.WString.{wstring_bytes, wstring_capacity, wstring_text, wstring_vec};
+
+    /// Converts the string to byte order `F`: returns the same text in the string's own memory. For
+    /// a copy in the other byte order, call `from_wstr` first.
+    ///
+    /// # Complexity
+    ///
+    /// If the byte order changes, swaps the two bytes of each code unit in one pass; otherwise the
+    /// bytes stay. Allocates nothing, and the capacity stays.
+    pub fn into_byte_order<F: Utf16Order>(self) -> WString<F, A>
+        ensures text { wstring_text result ≡ wstring_text self }
+        ensures encoding { Encodes F.BIG (wstring_text self) (wstring_bytes result) }
+        ensures same { E.BIG ≡ F.BIG → wstring_bytes result ≡ wstring_bytes self }
+        ensures capacity { wstring_capacity result ≡ wstring_capacity self }
+        ensures allocator { vec_allocator (wstring_vec result) ≡ vec_allocator (wstring_vec self) }
+    {
+        let mut raw = self.raw;
+        swap_byte_order::<E, F>(raw.as_mut_slice());
+        WString::<F, A>::from_utf16_unchecked(raw)
+    }
+}

@@ -1,0 +1,215 @@
+/* Dethrux: UTF-16 in either byte order, to and from UTF-8, between buffers of the caller's. No call
+ * allocates, keeps a pointer or prints anything. C99 and C++11. Link with libdethrux.a alone.
+ *
+ * Proved for all inputs of up to PTRDIFF_MAX bytes: each result is as described, and no call reads
+ * or writes outside the buffers that it is given. No proof sees the caller, so this is trusted: a
+ * pointer with a length of n points to n bytes that may be read during the call (for `to`, with a
+ * capacity of n, written); `decoder` points to a decoder; and `to` and the decoder overlap no other
+ * buffer of the call. A pointer need not be aligned. A null pointer is allowed where the length or
+ * the capacity is 0 (tested, not proved).
+ *
+ * Threads: the calls share no state, so any call may run in any thread at any time. Only one thread
+ * at a time may use a decoder, or a buffer that a call writes to.
+ *
+ * Lengths, offsets and capacities count bytes. Only dethrux_detect_bom looks for a byte order mark
+ * (BOM); to every other call it is the character U+FEFF. */
+#ifndef DETHRUX_H
+#define DETHRUX_H
+
+#include <stdbool.h>
+#include <stddef.h>
+#include <stdint.h>
+
+/* The version of this header; dethrux_version() returns that of the library. */
+#define DETHRUX_VERSION_MAJOR 0
+#define DETHRUX_VERSION_MINOR 1
+#define DETHRUX_VERSION_PATCH 0
+#define DETHRUX_VERSION \
+    (DETHRUX_VERSION_MAJOR * 1000000 + DETHRUX_VERSION_MINOR * 1000 + DETHRUX_VERSION_PATCH)
+
+/* Capacities that suffice for every input of `len` bytes, and that some input needs: for
+ * dethrux_to_utf8_lossy, for the conversions from UTF-8, for dethrux_decoder_feed, and for
+ * dethrux_decoder_finish. No formula wraps for a `len` of at most PTRDIFF_MAX. */
+#define DETHRUX_UTF8_MAX(len) (((size_t)(len) + 1) / 2 * 3)
+#define DETHRUX_UTF16_MAX(len) ((size_t)(len) * 2)
+#define DETHRUX_FEED_MAX(len) (((size_t)(len) + 3) / 2 * 3)
+#define DETHRUX_FINISH_MAX 3
+
+/* The most bytes that dethrux_to_utf8_partial leaves unread with DETHRUX_INCOMPLETE, and that a
+ * decoder keeps. */
+#define DETHRUX_PENDING_MAX 3
+
+#if (defined(__cplusplus) && __cplusplus >= 201703L) \
+    || (!defined(__cplusplus) && defined(__STDC_VERSION__) && __STDC_VERSION__ >= 202311L)
+#define DETHRUX_NODISCARD [[nodiscard]]
+#elif defined(__GNUC__)
+#define DETHRUX_NODISCARD __attribute__((warn_unused_result))
+#else
+#define DETHRUX_NODISCARD
+#endif
+
+/* An enum has four bytes: by its type where the language can say so, else tested below. */
+#if defined(__cplusplus) || (defined(__STDC_VERSION__) && __STDC_VERSION__ >= 202311L)
+#define DETHRUX_ENUM(name) enum name : uint32_t
+#else
+#define DETHRUX_ENUM(name) enum name
+#endif
+
+#ifdef __cplusplus
+extern "C" {
+#endif
+
+/* The byte order of UTF-16. Every other value is read as DETHRUX_LITTLE_ENDIAN. */
+typedef DETHRUX_ENUM(dethrux_byte_order) {
+    DETHRUX_LITTLE_ENDIAN = 0,
+    DETHRUX_BIG_ENDIAN = 1
+} dethrux_byte_order;
+
+/* Why a call stopped. No other values are returned. */
+typedef DETHRUX_ENUM(dethrux_status) {
+    DETHRUX_DONE = 0,       /* all of the input was read */
+    DETHRUX_ILL_FORMED = 1, /* ill-formed bytes follow: resume `error_len` bytes after `read` */
+    DETHRUX_INCOMPLETE = 2, /* the input ends inside a character */
+    DETHRUX_NO_SPACE = 3    /* the next character does not fit: call again with the rest */
+} dethrux_status;
+
+/* Whether a stream begins with a BOM. No other values are returned. */
+typedef DETHRUX_ENUM(dethrux_bom_status) {
+    DETHRUX_BOM_ABSENT = 0,
+    DETHRUX_BOM_PRESENT = 1,
+    DETHRUX_BOM_UNDECIDED = 2 /* fewer than two bytes have come */
+} dethrux_bom_status;
+
+#undef DETHRUX_ENUM
+typedef char dethrux_enum_has_four_bytes[sizeof(dethrux_byte_order) == 4 ? 1 : -1];
+
+/* How far a call came: it read `read` bytes of the input and wrote `written` bytes to the start of
+ * `to`. Both end between characters. The bytes of `to` after `written` have no meaning and may have
+ * been overwritten. `error_len` is the length of the ill-formed sequence with DETHRUX_ILL_FORMED,
+ * and 0 with any other status. */
+typedef struct dethrux_progress {
+    size_t read;
+    size_t written;
+    dethrux_status status;
+    uint32_t error_len;
+} dethrux_progress;
+
+/* The length of the longest well-formed prefix, and what follows it. */
+typedef struct dethrux_validity {
+    size_t valid_up_to;
+    dethrux_status status;
+    uint32_t error_len;
+} dethrux_validity;
+
+/* The length of the BOM, 2, or 0 if there is none, and the byte order of the stream. */
+typedef struct dethrux_bom {
+    size_t len;
+    dethrux_byte_order byte_order;
+    dethrux_bom_status status;
+} dethrux_bom;
+
+/* The state of a decoder: the bytes of a stream that are not decoded yet. All zero, as in
+ * dethrux_decoder decoder = DETHRUX_DECODER_INIT, it begins a stream. Any values are allowed: a
+ * `pending_len` above 3 is read as 3, and no dethrux_decoder_feed leaves one. */
+typedef struct dethrux_decoder {
+    uint8_t pending[DETHRUX_PENDING_MAX];
+    uint8_t pending_len;
+} dethrux_decoder;
+
+#define DETHRUX_DECODER_INIT {{0, 0, 0}, 0}
+
+/* Returns the version of the library as a number, DETHRUX_VERSION of its header. */
+DETHRUX_NODISCARD uint32_t dethrux_version(void);
+
+/* Returns the length of the longest well-formed prefix, and what follows it: DETHRUX_DONE if the
+ * bytes are UTF-16; DETHRUX_ILL_FORMED if an unpaired surrogate follows, of 2 bytes;
+ * DETHRUX_INCOMPLETE if the bytes end inside a character, in their last 1 to 3 bytes. */
+DETHRUX_NODISCARD dethrux_validity dethrux_validate(
+    dethrux_byte_order byte_order, const uint8_t *utf16, size_t len);
+
+/* Returns the number of characters (scalar values). For ill-formed input: the number of complete
+ * code units that are not trailing surrogates. */
+DETHRUX_NODISCARD size_t dethrux_count_chars(
+    dethrux_byte_order byte_order, const uint8_t *utf16, size_t len);
+
+/* Returns whether the bytes are UTF-16 whose characters are all ASCII, below U+0080. */
+DETHRUX_NODISCARD bool dethrux_is_ascii(
+    dethrux_byte_order byte_order, const uint8_t *utf16, size_t len);
+
+/* Returns the length of what dethrux_to_utf8_lossy writes for the whole input: at most
+ * DETHRUX_UTF8_MAX(len), and at most len / 2 * 3 for UTF-16. */
+DETHRUX_NODISCARD size_t dethrux_to_utf8_lossy_len(
+    dethrux_byte_order byte_order, const uint8_t *utf16, size_t len);
+
+/* Returns the length of what dethrux_from_utf8 writes for the longest well-formed prefix, in either
+ * byte order: at most DETHRUX_UTF16_MAX(len). */
+DETHRUX_NODISCARD size_t dethrux_from_utf8_len(const uint8_t *utf8, size_t len);
+
+/* Returns the length of what dethrux_from_utf8_lossy writes for the whole input, in either byte
+ * order: at most DETHRUX_UTF16_MAX(len). */
+DETHRUX_NODISCARD size_t dethrux_from_utf8_lossy_len(const uint8_t *utf8, size_t len);
+
+/* Converts UTF-16 to UTF-8, up to the first ill-formed sequence, an unpaired surrogate of 2 bytes:
+ * DETHRUX_DONE, DETHRUX_ILL_FORMED, DETHRUX_INCOMPLETE or DETHRUX_NO_SPACE. A capacity of
+ * len / 2 * 3 suffices, and so DETHRUX_UTF8_MAX(len). */
+DETHRUX_NODISCARD dethrux_progress dethrux_to_utf8(
+    dethrux_byte_order byte_order, const uint8_t *utf16, size_t len, uint8_t *to, size_t capacity);
+
+/* Converts UTF-16 to UTF-8 and replaces each unpaired surrogate, and an incomplete character at the
+ * end, by the replacement character U+FFFD: DETHRUX_DONE or DETHRUX_NO_SPACE. A capacity of
+ * DETHRUX_UTF8_MAX(len) suffices. */
+DETHRUX_NODISCARD dethrux_progress dethrux_to_utf8_lossy(
+    dethrux_byte_order byte_order, const uint8_t *utf16, size_t len, uint8_t *to, size_t capacity);
+
+/* Converts the next chunk of a stream like dethrux_to_utf8_lossy, but does not read an incomplete
+ * character at the end: DETHRUX_DONE, DETHRUX_INCOMPLETE or DETHRUX_NO_SPACE. The stream may be cut
+ * anywhere; no state is kept. With DETHRUX_INCOMPLETE at most DETHRUX_PENDING_MAX bytes follow
+ * `read`: put them before the next chunk, and at the end of the stream pass them to
+ * dethrux_to_utf8_lossy. With DETHRUX_NO_SPACE call again with the rest; with a capacity of 4 or
+ * more, something was written. A capacity of len / 2 * 3 suffices. However the stream is cut, the
+ * same bytes are written in all. */
+DETHRUX_NODISCARD dethrux_progress dethrux_to_utf8_partial(
+    dethrux_byte_order byte_order, const uint8_t *utf16, size_t len, uint8_t *to, size_t capacity);
+
+/* Converts UTF-8 to UTF-16, up to the first ill-formed sequence, of 1 to 3 bytes: DETHRUX_DONE,
+ * DETHRUX_ILL_FORMED, DETHRUX_INCOMPLETE or DETHRUX_NO_SPACE. A capacity of DETHRUX_UTF16_MAX(len)
+ * suffices. */
+DETHRUX_NODISCARD dethrux_progress dethrux_from_utf8(
+    dethrux_byte_order byte_order, const uint8_t *utf8, size_t len, uint8_t *to, size_t capacity);
+
+/* Converts UTF-8 to UTF-16 and replaces each maximal subpart of an ill-formed subsequence, as the
+ * Unicode Standard recommends and Rust's from_utf8_lossy does, and an incomplete character at the
+ * end, by U+FFFD: DETHRUX_DONE or DETHRUX_NO_SPACE. A capacity of DETHRUX_UTF16_MAX(len) suffices.
+ * `read` never ends inside a character or an ill-formed sequence, so with DETHRUX_NO_SPACE a call
+ * with the rest continues correctly. */
+DETHRUX_NODISCARD dethrux_progress dethrux_from_utf8_lossy(
+    dethrux_byte_order byte_order, const uint8_t *utf8, size_t len, uint8_t *to, size_t capacity);
+
+/* Decodes the next chunk of a stream, cut anywhere, to UTF-8, with each unpaired surrogate replaced
+ * by U+FFFD, and keeps an incomplete character at the end in *decoder: DETHRUX_DONE or
+ * DETHRUX_NO_SPACE. `read` counts bytes of the chunk. With DETHRUX_DONE all of it was read. With
+ * DETHRUX_NO_SPACE the next character does not fit: call again with the rest; fewer than 4 bytes of
+ * `to` were left, so with a capacity of 4 or more something was written. A capacity of
+ * DETHRUX_FEED_MAX(len) suffices. Pass one byte order for a whole stream. */
+DETHRUX_NODISCARD dethrux_progress dethrux_decoder_feed(
+    dethrux_decoder *decoder, dethrux_byte_order byte_order, const uint8_t *chunk, size_t len,
+    uint8_t *to, size_t capacity);
+
+/* Ends a stream whose last chunk was read: writes U+FFFD, of 3 bytes, if bytes are not decoded yet,
+ * else nothing, and the decoder begins a new stream: DETHRUX_DONE. With DETHRUX_NO_SPACE nothing
+ * changed. `read` is 0. A capacity of DETHRUX_FINISH_MAX suffices. Here the bytes of `to` after
+ * `written` stay as they were. */
+DETHRUX_NODISCARD dethrux_progress dethrux_decoder_finish(
+    dethrux_decoder *decoder, uint8_t *to, size_t capacity);
+
+/* Returns the BOM at the start of a stream (FF FE: little endian, FE FF: big endian) and the byte
+ * order: big endian without a BOM, as the Unicode Standard has it. The BOM is no part of the text:
+ * decode what follows its `len` bytes. With DETHRUX_BOM_UNDECIDED call again with two bytes or
+ * more, unless the stream ends. */
+DETHRUX_NODISCARD dethrux_bom dethrux_detect_bom(const uint8_t *bytes, size_t len);
+
+#ifdef __cplusplus
+}
+#endif
+
+#endif
