@@ -15,7 +15,7 @@ const UNDECIDED: u32 = 2;
 /// without one. It is undecided if fewer than two bytes have come.
 #[unsafe(no_mangle)]
 pub extern "C" fn dethrux_detect_bom(bytes: &[u8]) -> Bom
-    ensures undecided { (result.status ≡ 2) ↔ (length bytes.now < 2) }
+    ensures incomplete { (result.status ≡ 2) ↔ (length bytes.now < 2) }
     ensures present { (result.status ≡ 1)
         ↔ ((take 2 bytes.now ≡ 0xFF ∷ 0xFE ∷ []) ⊎ (take 2 bytes.now ≡ 0xFE ∷ 0xFF ∷ [])) }
     ensures status { result.status ≤ 2 }

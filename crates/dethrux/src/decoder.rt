@@ -27,7 +27,7 @@ pub extern "C" fn dethrux_decoder_feed(
     ensures stop { StopsFeeding (is_big byte_order) (stream_pending decoder.old) chunk.now
         (stream_pending decoder.new) result.read (length to.new - result.written)
         (stop_of result.status result.error_len) }
-    ensures whole { (stop_of result.status result.error_len ≡ Done)
+    ensures done { (stop_of result.status result.error_len ≡ Done)
         ↔ (length (encode_utf8_all
         (decided_text (is_big byte_order) (stream_pending decoder.old ++ chunk.now)))
         ≤ length to.new) }
@@ -54,13 +54,13 @@ pub extern "C" fn dethrux_decoder_finish(decoder: &mut Stream, to: &mut [u8]) ->
     ensures text { stop_of result.status result.error_len ≡ Done
         → take result.written to.new
         ≡ encode_utf8_all (whole_lossy_chars [] (stream_pending decoder.old)) }
-    ensures room { result.written ≤ length to.new }
+    ensures within { result.written ≤ length to.new }
     ensures rest { drop result.written to.new ≡ drop result.written to.old }
     ensures pending { stop_of result.status result.error_len ≡ Done
         → stream_pending decoder.new ≡ [] }
-    ensures refused { stop_of result.status result.error_len ≢ Done
+    ensures no_room { stop_of result.status result.error_len ≢ Done
         → (stop_of result.status result.error_len ≡ NoRoom) × (result.written ≡ 0) }
-    ensures kept { stop_of result.status result.error_len ≢ Done → (decoder.new ≡ decoder.old)
+    ensures unchanged { stop_of result.status result.error_len ≢ Done → (decoder.new ≡ decoder.old)
         × (to.new ≡ to.old) }
     ensures numbers { AreNumbers result.status result.error_len }
 {

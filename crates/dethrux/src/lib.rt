@@ -57,7 +57,7 @@ pub extern "C" fn dethrux_validate(byte_order: u32, utf16: &[u8]) -> Validity
 pub extern "C" fn dethrux_count_chars(byte_order: u32, utf16: &[u8]) -> usize
     ensures units { result ≡ length utf16.now / 2 - count_by is_low_surrogate
         (units_of (is_big byte_order) utf16.now) }
-    ensures text { IsUtf16 (is_big byte_order) utf16.now
+    ensures count { IsUtf16 (is_big byte_order) utf16.now
         → result ≡ length (text_of (is_big byte_order) utf16.now) }
 {
     if is_big_endian(byte_order) {
@@ -71,9 +71,9 @@ pub extern "C" fn dethrux_count_chars(byte_order: u32, utf16: &[u8]) -> usize
 /// U+0080. One pass, up to the first block with another unit.
 #[unsafe(no_mangle)]
 pub extern "C" fn dethrux_is_ascii(byte_order: u32, utf16: &[u8]) -> bool
-    ensures units { IsTrue result ↔ ((length utf16.now % 2 ≡ 0)
+    ensures are_units { IsTrue result ↔ ((length utf16.now % 2 ≡ 0)
         × All (λ unit. unit < 0x80) (units_of (is_big byte_order) utf16.now)) }
-    ensures text { IsUtf16 (is_big byte_order) utf16.now
+    ensures ascii { IsUtf16 (is_big byte_order) utf16.now
         → (IsTrue result ↔ All (λ c. c < 0x80) (text_of (is_big byte_order) utf16.now)) }
 {
     if is_big_endian(byte_order) {

@@ -33,7 +33,7 @@ pub fn program<E: Env + AllocGlobal, R: Read, W: Write, T: Write>(
 ) -> ExitCode
     requires reader { watched_faults reader.old < 2 ^ 64 - 1 }
     requires writer { watched_faults writer.old < 2 ^ 64 - 1 }
-    ensures done { exit_status result ≡ 0 → (order : Option Bool) × Filters order
+    ensures filtered { exit_status result ≡ 0 → (order : Option Bool) × Filters order
         (R.remaining (watched_inner reader.old)) (R.remaining (watched_inner reader.new))
         (W.contents (watched_inner writer.old)) (W.contents (watched_inner writer.new)) }
     ensures quiet { exit_status result ≡ 0

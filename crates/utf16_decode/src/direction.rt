@@ -58,7 +58,7 @@ pub trait Direction {
     fn first_len(rest: &[u8]) -> Result<usize, Option<u8>>
         requires { 0 < length rest.now }
         ensures char { IfOk result (BeginsWith from rest.now) }
-        ensures fault { IfErr result (IsIllFormedAt rest.now) };
+        ensures ill_formed { IfErr result (IsIllFormedAt rest.now) };
 
     /// Returns how many bytes of input surely fit in `room` bytes, whatever they are.
     ///
@@ -76,8 +76,8 @@ pub trait Direction {
     ///
     /// The text is valid, and the buffer has the space that `room_for` gives.
     fn write(text: &[u8], to: &mut [u8]) -> usize
-        requires text { IsValid text.now }
-        requires room { room_for (length text.now) ≤ length to.old }
+        requires well_formed { IsValid text.now }
+        requires space { room_for (length text.now) ≤ length to.old }
         ensures bytes { take result to.new ≡ other text.now }
         ensures len { result ≡ length (other text.now) };
 
@@ -85,13 +85,13 @@ pub trait Direction {
     /// space, and a few fit in the buffer on the stack; two texts together are a text, and so is
     /// each character; an ill-formed sequence after a text is one of the whole input.
     fn laws()
-        ensures grows { (m n : ℕ) → m ≤ n → room_for m ≤ room_for n }
-        ensures fits { room_for 128 ≤ 320 }
-        ensures empty { Gives IsValid other [] [] }
+        ensures monotone { (m n : ℕ) → m ≤ n → room_for m ≤ room_for n }
+        ensures small { room_for 128 ≤ 320 }
+        ensures of_nothing { Gives IsValid other [] [] }
         ensures joins { Joins (Gives IsValid other) }
-        ensures chars { (c : ℕ) → IsScalar c → Gives IsValid other (from c) (into c) }
+        ensures each_char { (c : ℕ) → IsScalar c → Gives IsValid other (from c) (into c) }
         ensures few { (c : ℕ) → IsScalar c → length (from c) ≤ 4 }
-        ensures faults { (input : List ℕ) (read : ℕ) (len : Option ℕ) → read < length input
+        ensures ill_formed { (input : List ℕ) (read : ℕ) (len : Option ℕ) → read < length input
             → IsValid (take read input) → IsIllFormedAt (drop read input) len
             → IsIllFormed input read len };
 }
@@ -169,14 +169,14 @@ fn put_few<D: Direction>(rest: &[u8], to: &mut [u8], at: usize) -> (usize, usize
 
 // Writes the first character at `at`, or returns why it cannot.
 fn put_char<D: Direction>(rest: &[u8], to: &mut [u8], at: usize) -> Result<(usize, usize), Stop>
-    requires some { 0 < length rest.now }
-    requires place { at ≤ length to.old }
+    requires not_empty { 0 < length rest.now }
+    requires within { at ≤ length to.old }
     ensures wrote { IfOk result (λ r.
         Puts (Gives D.IsValid D.other) rest.now to.old to.new at r.0 r.1) }
-    ensures some { IfOk result (λ r. 0 < r.0) }
+    ensures advances { IfOk result (λ r. 0 < r.0) }
     ensures stop { IfErr result (StopsAt D.from D.into D.IsIllFormedAt rest.now
         (length to.new - at)) }
-    ensures kept { IfErr result (λ _. to.new ≡ to.old) }
+    ensures unchanged { IfErr result (λ _. to.new ≡ to.old) }
 {
     D::laws();
     let len = match D::first_len(rest) {
@@ -192,13 +192,13 @@ fn put_char<D: Direction>(rest: &[u8], to: &mut [u8], at: usize) -> Result<(usiz
 
 // Writes a few bytes of text at `at` if they fit, and returns where the written bytes end.
 fn put_text<D: Direction>(text: &[u8], to: &mut [u8], at: usize) -> Option<usize>
-    requires text { D.IsValid text.now }
+    requires well_formed { D.IsValid text.now }
     requires few { length text.now ≤ FEW }
-    requires place { at ≤ length to.old }
-    ensures room { IfSome result (λ end. end ≤ length to.new) }
+    requires within { at ≤ length to.old }
+    ensures within { IfSome result (λ end. end ≤ length to.new) }
     ensures bytes { IfSome result (λ end. take end to.new ≡ take at to.old ++ D.other text.now) }
-    ensures full { result ≡ None → length to.new - at < length (D.other text.now) }
-    ensures kept { result ≡ None → to.new ≡ to.old }
+    ensures none { result ≡ None → length to.new - at < length (D.other text.now) }
+    ensures unchanged { result ≡ None → to.new ≡ to.old }
 {
     D::laws();
     let mut buf = [0; FEW_ROOM];

@@ -77,7 +77,7 @@ pub fn to_utf8_partial<E: Utf16Order>(raw: &[u8], to: &mut [u8]) -> Progress
 fn put_copied<E: Utf16Order>(raw: &[u8], to: &mut [u8]) -> (usize, usize)
     requires { COPIED_ROOM ≤ length to.old }
     ensures decodes { DecodesTo E.BIG raw.now to.new result.0 result.1 }
-    ensures some { split_items E.BIG raw.now ≢ [] → 0 < result.0 }
+    ensures advances { split_items E.BIG raw.now ≢ [] → 0 < result.0 }
 {
     let mut copy = [0; COPIED];
     let most = ((to.len() - SLACK) / 3 * 2).min(COPIED).min(raw.len());

@@ -38,7 +38,7 @@ pub struct Progress {
 #[inline(always)]
 pub fn put(bytes: &[u8], to: &mut [u8], at: usize) -> usize
     requires { at + length bytes.now ≤ length to.old }
-    ensures end { result ≡ at + length bytes.now }
+    ensures written_to { result ≡ at + length bytes.now }
     ensures bytes { take result to.new ≡ take at to.old ++ bytes.now }
     ensures rest { drop result to.new ≡ drop result to.old }
 {

@@ -74,7 +74,7 @@ impl Stream {
             to.new result.read result.written }
         ensures stop { StopsFeeding E.BIG (stream_pending self.old) piece.now
             (stream_pending self.new) result.read (length to.new - result.written) result.stop }
-        ensures whole { (result.stop ≡ Done)
+        ensures done { (result.stop ≡ Done)
             ↔ (length (encode_utf8_all (decided_text E.BIG (stream_pending self.old ++ piece.now)))
             ≤ length to.new) }
         ensures filled { result.stop ≡ NoRoom → length to.new < result.written + 4 }
@@ -96,11 +96,11 @@ impl Stream {
         ensures text { result.stop ≡ Done
             → take result.written to.new
             ≡ encode_utf8_all (whole_lossy_chars [] (stream_pending self.old)) }
-        ensures room { result.written ≤ length to.new }
+        ensures within { result.written ≤ length to.new }
         ensures rest { drop result.written to.new ≡ drop result.written to.old }
         ensures pending { result.stop ≡ Done → stream_pending self.new ≡ [] }
-        ensures refused { result.stop ≢ Done → (result.stop ≡ NoRoom) × (result.written ≡ 0) }
-        ensures kept { result.stop ≢ Done → (self.new ≡ self.old) × (to.new ≡ to.old) }
+        ensures no_room { result.stop ≢ Done → (result.stop ≡ NoRoom) × (result.written ≡ 0) }
+        ensures unchanged { result.stop ≢ Done → (self.new ≡ self.old) × (to.new ≡ to.old) }
     {
         if self.pending().is_empty() {
             return Progress {
@@ -133,7 +133,7 @@ fn feed_after<E: Utf16Order>(pending: &[u8], piece: &[u8], to: &mut [u8]) -> (Pr
         result.0.read result.0.written }
     ensures stop { StopsFeeding E.BIG pending.now piece.now (stream_pending result.1) result.0.read
         (length to.new - result.0.written) result.0.stop }
-    ensures whole { (result.0.stop ≡ Done)
+    ensures done { (result.0.stop ≡ Done)
         ↔ (length (encode_utf8_all (decided_text E.BIG (pending.now ++ piece.now)))
         ≤ length to.new) }
     ensures filled { result.0.stop ≡ NoRoom → length to.new < result.0.written + 4 }
@@ -193,7 +193,7 @@ fn decode_joined<E: Utf16Order>(pending: &[u8], piece: &[u8], to: &mut [u8]) -> 
 // Returns what follows offset `at` in the pending bytes and the chunk: the part of each.
 fn rest_of<'a>(pending: &'a [u8], piece: &'a [u8], at: usize) -> (&'a [u8], &'a [u8])
     requires { at ≤ length pending.now + length piece.now }
-    ensures pending { result.0.now ≡ drop at pending.now }
+    ensures left { result.0.now ≡ drop at pending.now }
     ensures piece { result.1.now ≡ drop (at - length pending.now) piece.now }
 {
     (
@@ -206,7 +206,7 @@ fn rest_of<'a>(pending: &'a [u8], piece: &'a [u8], at: usize) -> (&'a [u8], &'a 
 // fewer, and their number.
 fn seam(pending: &[u8], piece: &[u8]) -> ([u8; 4], usize)
     requires { length pending.now ≤ 3 }
-    ensures within { result.1 ≤ 4 }
+    ensures few { result.1 ≤ 4 }
     ensures bytes { take result.1 result.0 ≡ take 4 (pending.now ++ piece.now) }
 {
     let front = &piece[..piece.len().min(4 - pending.len())];

@@ -27,11 +27,11 @@ use utf16_units::{Utf16Order, is_leading_surrogate};
 ///
 /// One pass, with SIMD.
 pub fn write_well_formed<E: Utf16Order>(raw: &[u8], to: &mut [u8]) -> usize
-    requires room { length raw.now ≤ length to.old }
+    requires space { length raw.now ≤ length to.old }
     ensures len { result + length (split_tail E.BIG raw.now) ≡ length raw.now }
-    ensures written { to.new ≡ encode E.BIG (lossy_chars (split_items E.BIG raw.now))
+    ensures bytes { to.new ≡ encode E.BIG (lossy_chars (split_items E.BIG raw.now))
         ++ drop result to.old }
-    ensures text { IsUtf16 E.BIG (take result to.new) }
+    ensures well_formed { IsUtf16 E.BIG (take result to.new) }
     ensures encoding { Encodes E.BIG (lossy_chars (split_items E.BIG raw.now))
         (take result to.new) }
 {
@@ -55,7 +55,7 @@ fn decided_len<E: Utf16Order>(raw: &[u8]) -> usize
 // Writes complete code units, in blocks of sixteen.
 fn write_units<E: Utf16Order>(raw: &[u8], to: &mut [u8])
     requires even { length raw.now % 2 ≡ 0 }
-    requires room { length to.old ≡ length raw.now }
+    requires same_len { length to.old ≡ length raw.now }
     ensures { to.new ≡ flat_map (unit_bytes E.BIG)
         (well_formed_units 0 (units_of E.BIG raw.now) 0) }
 {
@@ -76,7 +76,7 @@ fn write_units<E: Utf16Order>(raw: &[u8], to: &mut [u8])
 fn write_rest<E: Utf16Order>(before: u16, raw: &[u8], to: &mut [u8])
     requires few { length raw.now ≤ 32 }
     requires even { length raw.now % 2 ≡ 0 }
-    requires room { length to.old ≡ length raw.now }
+    requires same_len { length to.old ≡ length raw.now }
     ensures { to.new ≡ flat_map (unit_bytes E.BIG)
         (well_formed_units before (units_of E.BIG raw.now) 0) }
 {

@@ -70,12 +70,12 @@ pub fn apply<E: Utf16Order, A: Allocator + Clone>(
     edit: Edit<E, A>,
 ) -> Reply<E, A>
     ensures step { Step (wstring_text string.old) edit result (wstring_text string.new) }
-    ensures kept { (result ≡ Reply.BadOffset) ⊎ (result ≡ Reply.NoMemory)
+    ensures unchanged { (result ≡ Reply.BadOffset) ⊎ (result ≡ Reply.NoMemory)
         → IsUnchanged string.old string.new }
-    ensures room { wstring_capacity string.old ≤ wstring_capacity string.new }
+    ensures grows { wstring_capacity string.old ≤ wstring_capacity string.new }
     ensures stays { AsksForMemory edit
         ⊎ (wstring_capacity string.new ≡ wstring_capacity string.old) }
-    ensures fits { HasRoomFor string.old edit → ¬ (result ≡ Reply.NoMemory) }
+    ensures succeeds { HasRoomFor string.old edit → ¬ (result ≡ Reply.NoMemory) }
 {
     if !is_possible(string, &edit) {
         return Reply::BadOffset;
@@ -123,7 +123,7 @@ pub fn run<E: Utf16Order, A: Allocator + Clone, B: Allocator, C: Allocator>(
 ) -> Result<Vec<Reply<E, A>, B>, AllocError>
     ensures run { IfOk result (λ replies.
         Run (wstring_text string.old) edits.items replies.items (wstring_text string.new)) }
-    ensures refused { OnErr result (IsUnchanged string.old string.new) }
+    ensures err { OnErr result (IsUnchanged string.old string.new) }
     ensures nothing { edits.items ≡ [] → IsOk result }
     ensures served { EachFits (wstring_capacity string.old) (wstring_text string.old) edits.items
         → IfOk result (λ replies. All (λ reply. ¬ (reply ≡ Reply.NoMemory)) replies.items) }
@@ -142,8 +142,8 @@ fn answer_each<E: Utf16Order, A: Allocator + Clone, B: Allocator, C: Allocator>(
     edits: Vec<Edit<E, A>, C>,
     replies: &mut Vec<Reply<E, A>, B>,
 )
-    requires empty { replies.old.items ≡ [] }
-    requires room { vec_len edits ≤ vec_capacity replies.old }
+    requires no_replies { replies.old.items ≡ [] }
+    requires fits { vec_len edits ≤ vec_capacity replies.old }
     ensures run { Run (wstring_text string.old) edits.items replies.new.items
         (wstring_text string.new) }
     ensures served { EachFits (wstring_capacity string.old) (wstring_text string.old) edits.items
@@ -177,7 +177,7 @@ fn is_possible<E: Utf16Order, A: Allocator>(string: &WString<E, A>, edit: &Edit<
 // Keeps the characters that are in a set.
 fn keep<E: Utf16Order, A: Allocator>(string: &mut WString<E, A>, set: &[char])
     ensures text { wstring_text string.new ≡ filter (is_in set.now) (wstring_text string.old) }
-    ensures room { wstring_capacity string.new ≡ wstring_capacity string.old }
+    ensures capacity { wstring_capacity string.new ≡ wstring_capacity string.old }
 {
     string.retain(|c| set.contains(&c));
 }
@@ -190,8 +190,8 @@ fn split_off<E: Utf16Order, A: Allocator + Clone>(
     requires { IsBoundary (wstring_text string.old) at }
     ensures step { Step (wstring_text string.old) (Edit.SplitOff at) result
         (wstring_text string.new) }
-    ensures kept { result ≡ Reply.NoMemory → IsUnchanged string.old string.new }
-    ensures room { wstring_capacity string.old ≤ wstring_capacity string.new }
+    ensures unchanged { result ≡ Reply.NoMemory → IsUnchanged string.old string.new }
+    ensures grows { wstring_capacity string.old ≤ wstring_capacity string.new }
     ensures possible { ¬ (result ≡ Reply.BadOffset) }
 {
     match string.split_off(at) {

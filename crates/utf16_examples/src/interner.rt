@@ -47,8 +47,8 @@ impl<E: Utf16Order, A: Allocator> Interner<E, A> {
     pub fn new(alloc: A) -> Result<Self, AllocError>
     where
         A: Clone,
-        ensures empty { IfOk result (λ table. table ≡ []) }
-        ensures nothing { A.is_infallible alloc → IsOk result }
+        ensures no_names { IfOk result (λ table. table ≡ []) }
+        ensures infallible { A.is_infallible alloc → IsOk result }
     {
         let ends = Vec::new(alloc.clone()?);
         let order = Vec::new(alloc.clone()?);
@@ -115,7 +115,7 @@ impl<E: Utf16Order, A: Allocator> Interner<E, A> {
     ///
     /// Constant time, since the sorted numbers are stored. Allocates nothing.
     pub fn sorted(&self) -> &[usize]
-        ensures order { IsSortOrder self.now result.now }
+        ensures sorted { IsSortOrder self.now result.now }
     {
         &self.order
     }
@@ -135,7 +135,7 @@ impl<E: Utf16Order, A: Allocator> Interner<E, A> {
         ensures interned { IfOk result (λ number.
             IsInterned self.old (wstr_text name.entry) number self.new) }
         ensures known { Contains self.old (wstr_text name.entry) → IsOk result }
-        ensures refused { OnErr result (self.new ≡ self.old) }
+        ensures err { OnErr result (self.new ≡ self.old) }
     {
         put_in(&mut self.text, &mut self.ends, &mut self.order, name)
     }
@@ -197,7 +197,7 @@ fn put_in<E: Utf16Order, A: Allocator>(
         (parts_of (wstring_text text.new) ends.new.items)) }
     ensures known { Contains (parts_of (wstring_text text.old) ends.old.items)
         (wstr_text name.entry) → IsOk result }
-    ensures refused { OnErr result (parts_of (wstring_text text.new) ends.new.items
+    ensures err { OnErr result (parts_of (wstring_text text.new) ends.new.items
         ≡ parts_of (wstring_text text.old) ends.old.items) }
 {
     match place_of(text, ends, order, name) {
@@ -219,7 +219,7 @@ fn place_of<E: Utf16Order, A: Allocator>(
     name: WStr<E>,
 ) -> Result<usize, usize>
     requires ends { AreEnds (wstring_text text.now) ends.now }
-    requires order { IsSortOrder (parts_of (wstring_text text.now) ends.now) order.now }
+    requires sorted { IsSortOrder (parts_of (wstring_text text.now) ends.now) order.now }
     ensures found { IfOk result (λ number.
         slice_get (parts_of (wstring_text text.now) ends.now) number
         ≡ Some (wstr_text name.entry)) }
@@ -256,9 +256,9 @@ fn insert<E: Utf16Order, A: Allocator>(
         ++ wstr_text name.entry) }
     ensures ends { OnOk result (ends.new.items ≡ ends.old.items ++ size (wstring_text text.new)
         ∷ []) }
-    ensures order { OnOk result (order.new.items
+    ensures sorted { OnOk result (order.new.items
         ≡ insert_at_index order.old.items place (length ends.old.items)) }
-    ensures refused { OnErr result ((wstring_text text.new ≡ wstring_text text.old)
+    ensures err { OnErr result ((wstring_text text.new ≡ wstring_text text.old)
         × (ends.new.items ≡ ends.old.items) × (order.new.items ≡ order.old.items)) }
 {
     let number = ends.len();

@@ -113,7 +113,7 @@ pub fn write<E: Utf16Order, A: Allocator>(
     ensures entries { IfOk result (λ _. All IsEntry (map wstr_text texts.now)) }
     ensures read_back { IfOk result (λ table. texts_in (wstring_text table)
         ≡ map wstr_text texts.now) }
-    ensures refused { IfErr result (IsRefusal (map wstr_text texts.now)) }
+    ensures error { IfErr result (IsRefusal (map wstr_text texts.now)) }
 {
     check(texts)?;
     Ok(joined(alloc, texts)?)
@@ -122,7 +122,7 @@ pub fn write<E: Utf16Order, A: Allocator>(
 // Tests that no text is empty or contains a NUL; the error is for the first that is or does.
 fn check<E: Utf16Order>(texts: &[WStr<E>]) -> Result<(), WriteError>
     ensures entries { OnOk result (All IsEntry (map wstr_text texts.now)) }
-    ensures refused { IfErr result (IsRefusal (map wstr_text texts.now)) }
+    ensures error { IfErr result (IsRefusal (map wstr_text texts.now)) }
 {
     for (i, text) in texts.iter().enumerate() {
         if text.is_empty() {

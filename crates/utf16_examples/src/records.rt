@@ -74,7 +74,7 @@ impl<T: Drop> From<AllocFailed<T>> for ReadError {
 pub fn next_field<E: Utf16Order>(bytes: &[u8]) -> Result<(WStr<'_, E>, &[u8]), FieldErrorKind>
     ensures field { IfOk result (λ read. bytes.now ≡ field_bytes E.BIG (wstr_text read.0)
         ++ read.1.now) }
-    ensures fault { IfErr result (IsFieldErrorKind E.BIG bytes.now) }
+    ensures error { IfErr result (IsFieldErrorKind E.BIG bytes.now) }
 {
     if bytes.len() < 2 {
         return Err(FieldErrorKind::NoCount);
@@ -106,7 +106,7 @@ impl<'a, E: Utf16Order> Fields<'a, E> {
 
     /// Returns an iterator over the fields of a buffer.
     pub fn new(buffer: &'a [u8]) -> Self
-        ensures rest { fields_rest result ≡ buffer.now }
+        ensures buffer { fields_rest result ≡ buffer.now }
         ensures offset { fields_offset result ≡ 0 }
     {
         Fields {
@@ -157,9 +157,9 @@ impl<'a, E: Utf16Order> Iterator for Fields<'a, E> {
 // Returns the error for a malformed field at an offset of a buffer; `rest` is the buffer from there
 // on.
 fn error_at<E: Utf16Order>(offset: usize, rest: &[u8], fault: FieldErrorKind) -> FieldError
-    requires within { offset + length rest.now < 2 ^ 64 }
-    requires some { 0 < length rest.now }
-    requires fault { IsFieldErrorKind E.BIG rest.now fault }
+    requires bound { offset + length rest.now < 2 ^ 64 }
+    requires not_empty { 0 < length rest.now }
+    requires error { IsFieldErrorKind E.BIG rest.now fault }
     ensures { IsFieldError E.BIG offset rest.now result }
 {
     let behind = match fault {

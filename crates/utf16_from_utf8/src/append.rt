@@ -33,8 +33,8 @@ pub fn extend_utf16<E: Utf16Order, A: Allocator>(
 ) -> Result<(), AllocError>
     requires { vec_len raw.old + size (chars s.now) ≤ vec_capacity raw.old }
     ensures items { raw.new.items ≡ raw.old.items ++ encode E.BIG (chars s.now) }
-    ensures fits { IsOk result }
-    ensures capacity { vec_capacity raw.old ≤ vec_capacity raw.new }
+    ensures ok { IsOk result }
+    ensures grows { vec_capacity raw.old ≤ vec_capacity raw.new }
 {
     if s.len() < FEW {
         extend_few::<E, A>(raw, s)
@@ -59,9 +59,9 @@ pub fn append_utf16<E: Utf16Order, A: Allocator>(
     s: &str,
 ) -> Result<(), AllocError>
     ensures items { OnOk result (raw.new.items ≡ raw.old.items ++ encode E.BIG (chars s.now)) }
-    ensures refused { OnErr result (VecUnchanged raw.old raw.new
+    ensures err { OnErr result (VecUnchanged raw.old raw.new
         × (vec_capacity raw.new ≡ vec_capacity raw.old)) }
-    ensures room { vec_len raw.old + size (chars s.now) ≤ vec_capacity raw.old → IsOk result }
+    ensures succeeds { vec_len raw.old + size (chars s.now) ≤ vec_capacity raw.old → IsOk result }
     ensures grows { vec_capacity raw.old ≤ vec_capacity raw.new }
 {
     raw.reserve(utf16_len(s))?;
@@ -75,10 +75,10 @@ fn extend_short<E: Utf16Order, A: Allocator>(
     s: &str,
 ) -> Result<(), AllocError>
     requires short { length s.now ≤ SHORT }
-    requires room { vec_len raw.old + size (chars s.now) ≤ vec_capacity raw.old }
+    requires fits { vec_len raw.old + size (chars s.now) ≤ vec_capacity raw.old }
     ensures items { raw.new.items ≡ raw.old.items ++ encode E.BIG (chars s.now) }
-    ensures fits { IsOk result }
-    ensures capacity { vec_capacity raw.old ≤ vec_capacity raw.new }
+    ensures ok { IsOk result }
+    ensures grows { vec_capacity raw.old ≤ vec_capacity raw.new }
 {
     extend_piece::<E, A>(raw, [0; 2], s.as_bytes(), &mut [0; 2 * SHORT + 16])
 }
@@ -87,10 +87,10 @@ fn extend_short<E: Utf16Order, A: Allocator>(
 // its buffer.
 #[inline(never)]
 fn extend_long<E: Utf16Order, A: Allocator>(raw: &mut Vec<u8, A>, s: &str) -> Result<(), AllocError>
-    requires room { vec_len raw.old + size (chars s.now) ≤ vec_capacity raw.old }
+    requires fits { vec_len raw.old + size (chars s.now) ≤ vec_capacity raw.old }
     ensures items { raw.new.items ≡ raw.old.items ++ encode E.BIG (chars s.now) }
-    ensures fits { IsOk result }
-    ensures capacity { vec_capacity raw.old ≤ vec_capacity raw.new }
+    ensures ok { IsOk result }
+    ensures grows { vec_capacity raw.old ≤ vec_capacity raw.new }
 {
     extend_pieces::<E, A>(raw, s.as_bytes(), &mut [0; 2 * PIECE + 16])
 }
@@ -101,12 +101,12 @@ fn extend_pieces<E: Utf16Order, A: Allocator>(
     bytes: &[u8],
     buf: &mut [u8],
 ) -> Result<(), AllocError>
-    requires room { vec_len raw.old + length (added_bytes E.BIG 0 0 bytes.now)
+    requires fits { vec_len raw.old + length (added_bytes E.BIG 0 0 bytes.now)
         ≤ vec_capacity raw.old }
-    requires buf { length buf.old ≡ 2 * PIECE + 16 }
+    requires space { length buf.old ≡ 2 * PIECE + 16 }
     ensures items { raw.new.items ≡ raw.old.items ++ added_bytes E.BIG 0 0 bytes.now }
-    ensures fits { IsOk result }
-    ensures capacity { vec_capacity raw.old ≤ vec_capacity raw.new }
+    ensures ok { IsOk result }
+    ensures grows { vec_capacity raw.old ≤ vec_capacity raw.new }
 {
     let mut before = [0; 2];
     let mut at = 0;
@@ -125,14 +125,14 @@ fn extend_piece<E: Utf16Order, A: Allocator>(
     piece: &[u8],
     buf: &mut [u8],
 ) -> Result<(), AllocError>
-    requires room { vec_len raw.old + length
+    requires fits { vec_len raw.old + length
         (added_bytes E.BIG (slice_index before 0) (slice_index before 1) piece.now)
         ≤ vec_capacity raw.old }
-    requires buf { 2 * length piece.now + 16 ≤ length buf.old }
+    requires space { 2 * length piece.now + 16 ≤ length buf.old }
     ensures items { raw.new.items ≡ raw.old.items ++ added_bytes E.BIG (slice_index before 0)
         (slice_index before 1) piece.now }
-    ensures fits { IsOk result }
-    ensures capacity { vec_capacity raw.old ≤ vec_capacity raw.new }
+    ensures ok { IsOk result }
+    ensures grows { vec_capacity raw.old ≤ vec_capacity raw.new }
 {
     let end = write_units::<E>(before, piece, buf);
     raw.extend_from_slice(&buf[..end])

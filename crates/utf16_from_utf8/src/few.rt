@@ -27,7 +27,7 @@ pub(crate) fn few_len(s: &str) -> usize
 fn write_few<E: Utf16Order>(s: &str, buf: &mut [u8]) -> usize
     requires { size (chars s.now) ≤ length buf.old }
     ensures bytes { take result buf.new ≡ encode E.BIG (chars s.now) }
-    ensures end { result ≡ size (chars s.now) }
+    ensures written_to { result ≡ size (chars s.now) }
 {
     let mut len = 0;
     for c in s.chars() {
@@ -42,10 +42,10 @@ pub(crate) fn extend_few<E: Utf16Order, A: Allocator>(
     s: &str,
 ) -> Result<(), AllocError>
     requires few { length s.now < FEW }
-    requires room { vec_len raw.old + size (chars s.now) ≤ vec_capacity raw.old }
+    requires fits { vec_len raw.old + size (chars s.now) ≤ vec_capacity raw.old }
     ensures items { raw.new.items ≡ raw.old.items ++ encode E.BIG (chars s.now) }
-    ensures fits { IsOk result }
-    ensures capacity { vec_capacity raw.old ≤ vec_capacity raw.new }
+    ensures ok { IsOk result }
+    ensures grows { vec_capacity raw.old ≤ vec_capacity raw.new }
 {
     let mut buf = [0; 2 * FEW];
     let end = write_few::<E>(s, &mut buf);

@@ -70,7 +70,7 @@ pub(crate) fn behind(v: u8x16, before: u8) -> u8x16
 #[inline(always)]
 pub(crate) fn set_bits(v: u8x16) -> u64
     ensures bits { (i : ℕ) → i < 16 → result / 2 ^ i % 2 ≡ if slice_index v i == 0 then 0 else 1 }
-    ensures few { result < 2 ^ 16 }
+    ensures bound { result < 2 ^ 16 }
 {
     v.simd_ne(u8x16::splat(0)).to_bitmask()
 }

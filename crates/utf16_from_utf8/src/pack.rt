@@ -10,10 +10,10 @@ use std::simd::prelude::*;
 // sixteen bytes starting at `at`.
 #[inline(always)]
 fn put_eight(out: &mut [u8], at: usize, pairs: u8x16, bits: usize) -> usize
-    requires bits { bits < 256 }
-    requires room { at + 16 ≤ length out.old }
+    requires bound { bits < 256 }
+    requires space { at + 16 ≤ length out.old }
     ensures pairs { take result out.new ≡ take at out.old ++ kept_pairs bits pairs }
-    ensures end { result ≤ at + 16 }
+    ensures written_to { result ≤ at + 16 }
 {
     pairs
         .swizzle_dyn(positions(bits))
@@ -24,10 +24,10 @@ fn put_eight(out: &mut [u8], at: usize, pairs: u8x16, bits: usize) -> usize
 // Stores those of all sixteen pairs whose bit is set, starting at `at`, and returns their end.
 #[inline(always)]
 pub(crate) fn put_kept(out: &mut [u8], at: usize, first: u8x16, second: u8x16, bits: u64) -> usize
-    requires bits { bits < 2 ^ 16 }
-    requires room { at + 32 ≤ length out.old }
+    requires bound { bits < 2 ^ 16 }
+    requires space { at + 32 ≤ length out.old }
     ensures pairs { take result out.new ≡ take at out.old ++ kept_pairs bits (first ++ second) }
-    ensures end { result ≤ at + 32 }
+    ensures written_to { result ≤ at + 32 }
 {
     let middle = put_eight(out, at, first, (bits % 256) as usize);
     put_eight(out, middle, second, (bits / 256) as usize)

@@ -87,7 +87,7 @@ pub(crate) fn highs(b2: u8x16, b1: u8x16, b0: u8x16) -> u8x16
 pub(crate) fn ended_bits(b1: u8x16, b0: u8x16) -> u64
     ensures bits { (i : ℕ) → i < 16
         → result / 2 ^ i % 2 ≡ if ends_unit (slice_index b1 i) (slice_index b0 i) then 1 else 0 }
-    ensures few { result < 2 ^ 16 }
+    ensures bound { result < 2 ^ 16 }
 {
     set_bits(where_below(
         b0,

@@ -36,7 +36,7 @@ pub fn write_units<E: Utf16Order>(before: [u8; 2], piece: &[u8], out: &mut [u8])
         (slice_index before 1) piece.now }
     ensures text { slice_index before 0 ≡ 0 → slice_index before 1 ≡ 0 → IsUtf8 piece.now
         → take result out.new ≡ encode E.BIG (chars piece.now) }
-    ensures end { result ≤ 2 * length piece.now }
+    ensures written_to { result ≤ 2 * length piece.now }
     ensures rest { drop (2 * length piece.now + 16) out.new
         ≡ drop (2 * length piece.now + 16) out.old }
 {
@@ -49,7 +49,7 @@ fn put_units<E: Utf16Order>(before: [u8; 2], piece: &[u8], out: &mut [u8]) -> us
     requires { 2 * length piece.now + 16 ≤ length out.old }
     ensures bytes { take result out.new ≡ added_bytes E.BIG (slice_index before 0)
         (slice_index before 1) piece.now }
-    ensures end { result ≤ 2 * length piece.now }
+    ensures written_to { result ≤ 2 * length piece.now }
 {
     let [mut b2, mut b1] = before;
     let mut at = 0;
@@ -85,11 +85,11 @@ fn put_next<E: Utf16Order>(
     b1: u8,
     block: u8x16,
 ) -> (usize, usize)
-    requires room { at + 40 ≤ length out.old }
+    requires space { at + 40 ≤ length out.old }
     ensures bytes { take result.1 out.new ≡ take at out.old
         ++ added_bytes E.BIG b2 b1 (take result.0 block) }
     ensures used { (2 ≤ result.0) × (result.0 ≤ 16) }
-    ensures end { result.1 ≤ at + 2 * result.0 }
+    ensures written_to { result.1 ≤ at + 2 * result.0 }
 {
     if is_ascii(block) && b1 < 0xE0 {
         return (16, put_ascii::<E>(out, at, block));
@@ -104,8 +104,8 @@ fn put_next<E: Utf16Order>(
 #[inline(always)]
 fn paired<E: Utf16Order>(highs: u8x16, lows: u8x16) -> (u8x16, u8x16)
     ensures pairs { result.0 ++ result.1 ≡ pairs_of E.BIG highs lows }
-    ensures first { length result.0 ≡ 16 }
-    ensures second { length result.1 ≡ 16 }
+    ensures first_len { length result.0 ≡ 16 }
+    ensures second_len { length result.1 ≡ 16 }
 {
     if E::BIG {
         highs.interleave(lows)
@@ -117,11 +117,11 @@ fn paired<E: Utf16Order>(highs: u8x16, lows: u8x16) -> (u8x16, u8x16)
 // Writes sixteen characters of one byte.
 #[inline(always)]
 fn put_ascii<E: Utf16Order>(out: &mut [u8], at: usize, block: u8x16) -> usize
-    requires room { at + 32 ≤ length out.old }
+    requires space { at + 32 ≤ length out.old }
     requires ascii { (i : ℕ) → i < 16 → slice_index block i < 0x80 }
     ensures bytes { (b2 b1 : ℕ) → b1 < 0xE0
         → take result out.new ≡ take at out.old ++ added_bytes E.BIG b2 b1 block }
-    ensures end { result ≡ at + 32 }
+    ensures written_to { result ≡ at + 32 }
 {
     let (first, second) = paired::<E>(each(0), block);
     first.copy_to_slice(&mut out[at..]);
@@ -132,11 +132,11 @@ fn put_ascii<E: Utf16Order>(out: &mut [u8], at: usize, block: u8x16) -> usize
 // Writes five characters of three bytes.
 #[inline(always)]
 fn put_threes<E: Utf16Order>(out: &mut [u8], at: usize, block: u8x16) -> usize
-    requires room { at + 16 ≤ length out.old }
+    requires space { at + 16 ≤ length out.old }
     requires threes { zip2 bit_and block UPPER ≡ THREES }
     ensures bytes { (b2 b1 : ℕ) → take result out.new ≡ take at out.old
         ++ added_bytes E.BIG b2 b1 (take 15 block) }
-    ensures end { result ≡ at + 10 }
+    ensures written_to { result ≡ at + 10 }
 {
     let b2 = block.swizzle([0, 3, 6, 9, 12, 0, 0, 0, 0, 0, 0, 0, 0, 0, 0, 0]);
     let b1 = block.swizzle([1, 4, 7, 10, 13, 0, 0, 0, 0, 0, 0, 0, 0, 0, 0, 0]);
@@ -155,10 +155,10 @@ fn put_block<E: Utf16Order>(
     before1: u8,
     block: u8x16,
 ) -> usize
-    requires room { at + 32 ≤ length out.old }
+    requires space { at + 32 ≤ length out.old }
     ensures bytes { take result out.new ≡ take at out.old ++ added_bytes E.BIG before2 before1
         block }
-    ensures end { result ≤ at + 32 }
+    ensures written_to { result ≤ at + 32 }
 {
     let b1 = behind(block, before1);
     let b2 = behind(b1, before2);
@@ -177,10 +177,10 @@ fn put_rest<E: Utf16Order>(
     rest: &[u8],
 ) -> usize
     requires few { length rest.now ≤ 16 }
-    requires room { at + 32 ≤ length out.old }
+    requires space { at + 32 ≤ length out.old }
     ensures bytes { take result out.new ≡ take at out.old ++ added_bytes E.BIG before2 before1
         rest.now }
-    ensures end { result ≤ at + 2 * length rest.now }
+    ensures written_to { result ≤ at + 2 * length rest.now }
 {
     let mut block = [0xFF; 16];
     block[..rest.len()].copy_from_slice(rest);
@@ -190,9 +190,9 @@ fn put_rest<E: Utf16Order>(
 // Writes the UTF-16 that one byte adds after two others.
 #[inline(always)]
 fn put_byte<E: Utf16Order>(out: &mut [u8], at: usize, b2: u8, b1: u8, b0: u8) -> usize
-    requires room { at + 2 ≤ length out.old }
+    requires space { at + 2 ≤ length out.old }
     ensures bytes { take result out.new ≡ take at out.old ++ added_bytes E.BIG b2 b1 (b0 ∷ []) }
-    ensures end { result ≤ at + 2 }
+    ensures written_to { result ≤ at + 2 }
 {
     if b0 >= 0xC0 || b1 >= 0xE0 {
         return at;

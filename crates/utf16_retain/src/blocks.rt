@@ -27,7 +27,7 @@ pub(crate) const BLOCK: usize = 32;
 pub(crate) fn plain_units<E: Utf16Order>(raw: &[u8]) -> ([u16; UNITS], usize)
     requires { BLOCK ≤ length raw.now }
     ensures few { result.1 ≤ UNITS }
-    ensures units { All (λ unit. unit < 0x1_0000) result.0 }
+    ensures are_units { All (λ unit. unit < 0x1_0000) result.0 }
     ensures spelled { (n : ℕ) → n ≤ result.1
         → Encodes E.BIG (take n result.0) (take (2 * n) raw.now) }
 {
@@ -63,12 +63,12 @@ pub(crate) fn keep_block<E: Utf16Order, F: FnMut(char) -> bool, const N: usize>(
 ) -> usize
     requires down { to ≤ start }
     requires within { start + 2 * N ≤ length bytes.old }
-    requires units { All (λ unit. unit < 0x1_0000) units.now }
+    requires are_units { All (λ unit. unit < 0x1_0000) units.now }
     requires here { Encodes E.BIG units.now (take (2 * N) (drop start bytes.old)) }
     requires askable { MayBeAsked F.FnMut keep.old units.now }
-    ensures kept { (left : List ℕ) × RetainsTo F.FnMut keep.old units.now left keep.new
+    ensures retained { (left : List ℕ) × RetainsTo F.FnMut keep.old units.now left keep.new
         × (take result bytes.new ≡ take to bytes.old ++ encode E.BIG left) }
-    ensures behind { drop (start + 2 * N) bytes.new ≡ drop (start + 2 * N) bytes.old }
+    ensures rest { drop (start + 2 * N) bytes.new ≡ drop (start + 2 * N) bytes.old }
     ensures down { result ≤ start + 2 * N }
 {
     let (answers, many) = ask_each(keep, units);
@@ -111,9 +111,9 @@ pub(crate) fn keep_each<E: Utf16Order, F: FnMut(char) -> bool>(
     requires within { start + 2 * length units.now ≤ length bytes.old }
     requires scalars { All IsScalar units.now }
     requires askable { MayBeAsked F.FnMut keep.old units.now }
-    ensures kept { (left : List ℕ) × RetainsTo F.FnMut keep.old units.now left keep.new
+    ensures retained { (left : List ℕ) × RetainsTo F.FnMut keep.old units.now left keep.new
         × (take result bytes.new ≡ take to bytes.old ++ encode E.BIG left) }
-    ensures behind { drop (start + 2 * length units.now) bytes.new
+    ensures rest { drop (start + 2 * length units.now) bytes.new
         ≡ drop (start + 2 * length units.now) bytes.old }
     ensures down { result ≤ start + 2 * length units.now }
 {
@@ -140,12 +140,12 @@ fn move_block<E: Utf16Order, const N: usize>(
 ) -> usize
     requires down { to ≤ start }
     requires within { start + 2 * N ≤ length bytes.old }
-    requires units { All (λ unit. unit < 0x1_0000) units.now }
+    requires are_units { All (λ unit. unit < 0x1_0000) units.now }
     requires here { Encodes E.BIG units.now (take (2 * N) (drop start bytes.old)) }
     requires many { many ≡ length (items_where_true answers.now units.now) }
     ensures moved { take result bytes.new ≡ take to bytes.old
         ++ encode E.BIG (items_where_true answers.now units.now) }
-    ensures behind { drop (start + 2 * N) bytes.new ≡ drop (start + 2 * N) bytes.old }
+    ensures rest { drop (start + 2 * N) bytes.new ≡ drop (start + 2 * N) bytes.old }
     ensures down { result ≤ start + 2 * N }
 {
     if many == N {
@@ -165,7 +165,7 @@ fn move_all<const N: usize>(bytes: &mut [u8], to: usize, start: usize)
     requires within { start + 2 * N ≤ length bytes.old }
     ensures moved { take (to + 2 * N) bytes.new ≡ take to bytes.old
         ++ take (2 * N) (drop start bytes.old) }
-    ensures behind { drop (start + 2 * N) bytes.new ≡ drop (start + 2 * N) bytes.old }
+    ensures rest { drop (start + 2 * N) bytes.new ≡ drop (start + 2 * N) bytes.old }
 {
     if to < start {
         bytes.copy_within(start..start + 2 * N, to);
@@ -183,9 +183,9 @@ fn write_some<E: Utf16Order, const N: usize>(
 ) -> usize
     requires down { to ≤ start }
     requires within { start + 2 * N ≤ length bytes.old }
-    ensures written { take result bytes.new ≡ take to bytes.old ++ flat_map (unit_bytes E.BIG)
+    ensures bytes { take result bytes.new ≡ take to bytes.old ++ flat_map (unit_bytes E.BIG)
         (items_where_true answers.now units.now) }
-    ensures behind { drop (start + 2 * N) bytes.new ≡ drop (start + 2 * N) bytes.old }
+    ensures rest { drop (start + 2 * N) bytes.new ≡ drop (start + 2 * N) bytes.old }
     ensures down { result ≤ start + 2 * N }
 {
     let mut end = to;
@@ -202,8 +202,8 @@ fn write_some<E: Utf16Order, const N: usize>(
 #[inline]
 fn write_unit<E: Utf16Order>(bytes: &mut [u8], at: usize, unit: u16)
     requires { at + 2 ≤ length bytes.old }
-    ensures written { take (at + 2) bytes.new ≡ take at bytes.old ++ unit_bytes E.BIG unit }
-    ensures behind { drop (at + 2) bytes.new ≡ drop (at + 2) bytes.old }
+    ensures bytes { take (at + 2) bytes.new ≡ take at bytes.old ++ unit_bytes E.BIG unit }
+    ensures rest { drop (at + 2) bytes.new ≡ drop (at + 2) bytes.old }
 {
     let two = E::write_unit(unit);
     bytes[at] = two[0];

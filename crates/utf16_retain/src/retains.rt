@@ -27,9 +27,9 @@ pub fn retain_in_place<E: Utf16Order, F: FnMut(char) -> bool>(
     bytes: &mut [u8],
     keep: &mut F,
 ) -> usize
-    requires text { IsUtf16 E.BIG bytes.old }
+    requires well_formed { IsUtf16 E.BIG bytes.old }
     requires askable { MayBeAsked F.FnMut keep.old (text_of E.BIG bytes.old) }
-    ensures kept { IsUtf16 E.BIG (take result bytes.new) }
+    ensures well_formed { IsUtf16 E.BIG (take result bytes.new) }
     ensures text { RetainsTo F.FnMut keep.old (text_of E.BIG bytes.old)
         (text_of E.BIG (take result bytes.new)) keep.new }
     ensures within { result ≤ length bytes.old }
@@ -76,7 +76,7 @@ pub fn retain_in_place<E: Utf16Order, F: FnMut(char) -> bool>(
 #[inline]
 fn single_at<E: Utf16Order>(bytes: &[u8], at: usize) -> Option<char>
     requires within { at < length bytes.now }
-    requires text { IsUtf16 E.BIG (drop at bytes.now) }
+    requires well_formed { IsUtf16 E.BIG (drop at bytes.now) }
     ensures char { IfSome result (λ c. Encodes E.BIG (c ∷ []) (take 2 (drop at bytes.now))) }
     ensures within { at + 2 ≤ length bytes.now }
 {
@@ -92,7 +92,7 @@ fn single_at<E: Utf16Order>(bytes: &[u8], at: usize) -> Option<char>
 #[inline]
 fn char_from<E: Utf16Order>(bytes: &[u8], at: usize) -> (char, usize)
     requires within { at < length bytes.now }
-    requires text { IsUtf16 E.BIG (drop at bytes.now) }
+    requires well_formed { IsUtf16 E.BIG (drop at bytes.now) }
     ensures char { Encodes E.BIG (result.0 ∷ []) (take result.1 (drop at bytes.now)) }
     ensures size { result.1 ≡ char_size result.0 }
     ensures within { at + result.1 ≤ length bytes.now }
@@ -112,13 +112,13 @@ fn keep_one<E: Utf16Order, F: FnMut(char) -> bool>(
     size: usize,
 ) -> usize
     requires down { to ≤ start }
-    requires size { (size ≡ 2) ⊎ (size ≡ 4) }
+    requires char_len { (size ≡ 2) ⊎ (size ≡ 4) }
     requires within { start + size ≤ length bytes.old }
     requires here { Encodes E.BIG (c ∷ []) (take size (drop start bytes.old)) }
     requires askable { MayBeAsked F.FnMut keep.old (c ∷ []) }
-    ensures kept { (left : List ℕ) × RetainsTo F.FnMut keep.old (c ∷ []) left keep.new
+    ensures retained { (left : List ℕ) × RetainsTo F.FnMut keep.old (c ∷ []) left keep.new
         × (take result bytes.new ≡ take to bytes.old ++ encode E.BIG left) }
-    ensures behind { drop (start + size) bytes.new ≡ drop (start + size) bytes.old }
+    ensures rest { drop (start + size) bytes.new ≡ drop (start + size) bytes.old }
     ensures down { result ≤ start + size }
 {
     if ask(keep, c) {
@@ -142,11 +142,11 @@ fn ask<F: FnMut(char) -> bool>(keep: &mut F, c: char) -> bool
 #[inline]
 fn move_down(bytes: &mut [u8], to: usize, start: usize, size: usize)
     requires down { to ≤ start }
-    requires size { (size ≡ 2) ⊎ (size ≡ 4) }
+    requires char_len { (size ≡ 2) ⊎ (size ≡ 4) }
     requires within { start + size ≤ length bytes.old }
     ensures moved { take (to + size) bytes.new ≡ take to bytes.old
         ++ take size (drop start bytes.old) }
-    ensures behind { drop (start + size) bytes.new ≡ drop (start + size) bytes.old }
+    ensures rest { drop (start + size) bytes.new ≡ drop (start + size) bytes.old }
 {
     if to < start {
         move_unit(bytes, to, start);
@@ -162,7 +162,7 @@ fn move_unit(bytes: &mut [u8], to: usize, start: usize)
     requires down { to ≤ start }
     requires within { start + 2 ≤ length bytes.old }
     ensures moved { take (to + 2) bytes.new ≡ take to bytes.old ++ take 2 (drop start bytes.old) }
-    ensures behind { drop (start + 2) bytes.new ≡ drop (start + 2) bytes.old }
+    ensures rest { drop (start + 2) bytes.new ≡ drop (start + 2) bytes.old }
 {
     let two = [bytes[start], bytes[start + 1]];
     bytes[to] = two[0];

@@ -41,10 +41,10 @@ impl<'a, E: Utf16Order> WStr<'a, E> {
     pub fn push_utf8<A: Allocator>(self, to: &mut String<A>) -> Result<(), AllocError>
         ensures text { OnOk result (string_bytes to.new ≡ string_bytes to.old
             ++ encode_utf8_all (wstr_text self.entry)) }
-        ensures refused { OnErr result ((string_bytes to.new ≡ string_bytes to.old)
+        ensures err { OnErr result ((string_bytes to.new ≡ string_bytes to.old)
             × (string_capacity to.new ≡ string_capacity to.old)) }
         ensures grows { string_capacity to.old ≤ string_capacity to.new }
-        ensures room { string_len to.old + length (encode_utf8_all (wstr_text self.entry))
+        ensures succeeds { string_len to.old + length (encode_utf8_all (wstr_text self.entry))
             ≤ string_capacity to.old → IsOk result }
         ensures nothing { wstr_text self.entry ≡ [] → IsOk result }
     {

@@ -64,7 +64,7 @@ impl<'a, E: Utf16Order> WStr<'a, E> {
     /// One pass over the bytes. Copies nothing.
     #[inline]
     pub fn from_utf16(raw: &'a [u8]) -> Result<Self, Utf16Error>
-        ensures text { IsOk result ↔ IsUtf16 E.BIG raw.now }
+        ensures ok { IsOk result ↔ IsUtf16 E.BIG raw.now }
         ensures bytes { IfOk result (λ s. wstr_bytes s ≡ raw.now) }
         ensures encoding { IfOk result (λ s. Encodes E.BIG (wstr_text s) raw.now) }
         ensures error { IfErr result (IsErrorOf E.BIG raw.now) }
@@ -95,7 +95,7 @@ impl<'a, E: Utf16Order> WStr<'a, E> {
     pub fn len(&self) -> usize
         ensures bytes { result ≡ length (wstr_bytes self.now) }
         ensures size { result ≡ size (wstr_text self.now) }
-        ensures end { IsBoundary (wstr_text self.now) result }
+        ensures boundary { IsBoundary (wstr_text self.now) result }
     {
         self.as_bytes().len()
     }
@@ -339,7 +339,7 @@ impl<'a> WStr<'a, LittleEndian> {
     /// [`Utf16Error`], if `raw` is ill-formed.
     #[inline]
     pub fn from_utf16le(raw: &'a [u8]) -> Result<Self, Utf16Error>
-        ensures text { IsOk result ↔ IsUtf16 false raw.now }
+        ensures ok { IsOk result ↔ IsUtf16 false raw.now }
         ensures bytes { IfOk result (λ s. wstr_bytes s ≡ raw.now) }
         ensures encoding { IfOk result (λ s. Encodes false (wstr_text s) raw.now) }
         ensures error { IfErr result (IsErrorOf false raw.now) }
@@ -372,7 +372,7 @@ impl<'a> WStr<'a, BigEndian> {
     /// [`Utf16Error`], if `raw` is ill-formed.
     #[inline]
     pub fn from_utf16be(raw: &'a [u8]) -> Result<Self, Utf16Error>
-        ensures text { IsOk result ↔ IsUtf16 true raw.now }
+        ensures ok { IsOk result ↔ IsUtf16 true raw.now }
         ensures bytes { IfOk result (λ s. wstr_bytes s ≡ raw.now) }
         ensures encoding { IfOk result (λ s. Encodes true (wstr_text s) raw.now) }
         ensures error { IfErr result (IsErrorOf true raw.now) }

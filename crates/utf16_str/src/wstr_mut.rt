@@ -44,7 +44,7 @@ impl<'a, E: Utf16Order> WStrMut<'a, E> {
     /// One pass over the bytes. Copies nothing.
     #[inline]
     pub fn from_utf16(raw: &'a mut [u8]) -> Result<Self, Utf16Error>
-        ensures text { IsOk result ↔ IsUtf16 E.BIG raw.old }
+        ensures ok { IsOk result ↔ IsUtf16 E.BIG raw.old }
         ensures same_reference { IfOk result (λ s. (wstr_mut_lent s).ghost_name
             ≡ raw.entry.ghost_name) }
         ensures bytes { IfOk result (λ s. wstr_mut_bytes s ≡ raw.old) }
@@ -98,7 +98,7 @@ impl<'a, E: Utf16Order> WStrMut<'a, E> {
         ensures* lent { sem 𝓛 (LendsBoth (Array u8 0) (Array u8 0) (Array u8 0) raw.entry result
             (◌++◌)) }
         ensures joined { raw.old ≡ result.0.now ++ result.1.now }
-        ensures text { IsUtf16 E.BIG result.0.now }
+        ensures well_formed { IsUtf16 E.BIG result.0.now }
         ensures longest { IsUtf16ValidUpTo E.BIG raw.old (length result.0.now) }
         ensures whole { (result.1.now ≡ []) ↔ IsUtf16 E.BIG raw.old }
     {
@@ -173,7 +173,7 @@ impl<'a> WStrMut<'a, LittleEndian> {
     /// [`Utf16Error`], if `raw` is ill-formed. The bytes are unchanged.
     #[inline]
     pub fn from_utf16le(raw: &'a mut [u8]) -> Result<Self, Utf16Error>
-        ensures text { IsOk result ↔ IsUtf16 false raw.old }
+        ensures ok { IsOk result ↔ IsUtf16 false raw.old }
         ensures same_reference { IfOk result (λ s. (wstr_mut_lent s).ghost_name
             ≡ raw.entry.ghost_name) }
         ensures bytes { IfOk result (λ s. wstr_mut_bytes s ≡ raw.old) }
@@ -210,7 +210,7 @@ impl<'a> WStrMut<'a, BigEndian> {
     /// [`Utf16Error`], if `raw` is ill-formed. The bytes are unchanged.
     #[inline]
     pub fn from_utf16be(raw: &'a mut [u8]) -> Result<Self, Utf16Error>
-        ensures text { IsOk result ↔ IsUtf16 true raw.old }
+        ensures ok { IsOk result ↔ IsUtf16 true raw.old }
         ensures same_reference { IfOk result (λ s. (wstr_mut_lent s).ghost_name
             ≡ raw.entry.ghost_name) }
         ensures bytes { IfOk result (λ s. wstr_mut_bytes s ≡ raw.old) }
@@ -242,7 +242,7 @@ impl<'a> WStrMut<'a, BigEndian> {
 fn overwrite_bytes(raw: &mut [u8], index: usize, bytes: &[u8])
     requires { index + length bytes.now ≤ length raw.old }
     ensures bytes { raw.new ≡ splice raw.old index (index + length bytes.now) bytes.now }
-    ensures len { length raw.new ≡ length raw.old }
+    ensures same_len { length raw.new ≡ length raw.old }
 {
     raw[index..index + bytes.len()].copy_from_slice(bytes);
 }
@@ -252,7 +252,7 @@ fn overwrite_bytes(raw: &mut [u8], index: usize, bytes: &[u8])
 fn tested<'a, E: Utf16Order>(raw: &'a mut [u8]) -> (Result<(), Utf16Error>, &'a mut [u8])
     ensures same_reference { result.1.ghost_name ≡ raw.entry.ghost_name }
     ensures bytes { result.1.now ≡ raw.old }
-    ensures text { IsOk result.0 ↔ IsUtf16 E.BIG raw.old }
+    ensures ok { IsOk result.0 ↔ IsUtf16 E.BIG raw.old }
     ensures error { IfErr result.0 (IsErrorOf E.BIG raw.old) }
 {
     let tested = validate_raw_utf16::<E>(raw);

@@ -37,7 +37,7 @@ impl AnyLossy {
     #[inline]
     pub fn new() -> Self
         ensures pending { any_pending result ≡ [] }
-        ensures order { any_byte_order result ≡ None }
+        ensures byte_order { any_byte_order result ≡ None }
     {
         AnyLossy {
             state: State::Undecided(None),
@@ -89,9 +89,9 @@ impl AnyLossy {
             (any_pending self.old ++ piece.now))) }
         ensures pending { OnOk result (any_pending self.new
             ≡ tail_in (any_byte_order self.old) (any_pending self.old ++ piece.now)) }
-        ensures order { OnOk result (any_byte_order self.new
+        ensures byte_order { OnOk result (any_byte_order self.new
             ≡ byte_order_after (any_byte_order self.old) (any_pending self.old ++ piece.now)) }
-        ensures refused { OnErr result ((any_pending self.new ≡ any_pending self.old)
+        ensures err { OnErr result ((any_pending self.new ≡ any_pending self.old)
             × (any_byte_order self.new ≡ any_byte_order self.old)) }
         ensures nothing { lossy_chars (items_in (any_byte_order self.old)
             (any_pending self.old ++ piece.now)) ≡ [] → IsOk result }
@@ -158,7 +158,7 @@ fn begin<A: Allocator>(
         ++ encode_utf8_all (lossy_chars (items_in None (option_to_list first ++ piece.now)))) }
     ensures pending { IfOk result (λ state.
         state_pending state ≡ tail_in None (option_to_list first ++ piece.now)) }
-    ensures order { IfOk result (λ state.
+    ensures byte_order { IfOk result (λ state.
         state_byte_order state ≡ byte_order_after None (option_to_list first ++ piece.now)) }
     ensures nothing { items_in None (option_to_list first ++ piece.now) ≡ [] → IsOk result }
 {

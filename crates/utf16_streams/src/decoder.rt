@@ -55,9 +55,9 @@ pub trait Decoder: Drop {
             (lossy_chars (items_in (order self.old) (pending self.old ++ piece.now)))) }
         ensures pending { OnOk result (pending self.new
             ≡ tail_in (order self.old) (pending self.old ++ piece.now)) }
-        ensures order { OnOk result (order self.new
+        ensures byte_order { OnOk result (order self.new
             ≡ byte_order_after (order self.old) (pending self.old ++ piece.now)) }
-        ensures refused { OnErr result ((pending self.new ≡ pending self.old)
+        ensures err { OnErr result ((pending self.new ≡ pending self.old)
             × (order self.new ≡ order self.old)) }
         ensures nothing { items_in (order self.old) (pending self.old ++ piece.now) ≡ []
             → IsOk result };
@@ -84,9 +84,9 @@ pub fn feed<D: Decoder, A: Allocator>(
         (lossy_chars (items_in (D.order decoder.old) (D.pending decoder.old ++ piece.now)))) }
     ensures pending { OnOk result (D.pending decoder.new
         ≡ tail_in (D.order decoder.old) (D.pending decoder.old ++ piece.now)) }
-    ensures order { OnOk result (D.order decoder.new
+    ensures byte_order { OnOk result (D.order decoder.new
         ≡ byte_order_after (D.order decoder.old) (D.pending decoder.old ++ piece.now)) }
-    ensures refused { OnErr result ((D.pending decoder.new ≡ D.pending decoder.old)
+    ensures err { OnErr result ((D.pending decoder.new ≡ D.pending decoder.old)
         × (D.order decoder.new ≡ D.order decoder.old)) }
     ensures nothing { items_in (D.order decoder.old) (D.pending decoder.old ++ piece.now) ≡ []
         → IsOk result }

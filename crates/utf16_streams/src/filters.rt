@@ -53,7 +53,7 @@ pub fn filter<E: Utf16Order, R: Read, W: Write, A: Allocator>(
 ) -> Result<(), FilterFault>
     requires reader { watched_faults reader.old < 2 ^ 64 - 1 }
     requires writer { watched_faults writer.old < 2 ^ 64 - 1 }
-    ensures bytes { FiltersAs E.BIG (R.remaining (watched_inner reader.old))
+    ensures transfers { FiltersAs E.BIG (R.remaining (watched_inner reader.old))
         (R.remaining (watched_inner reader.new)) (W.contents (watched_inner writer.old))
         (W.contents (watched_inner writer.new)) result }
     ensures reads { watched_faults reader.new ≡ watched_faults reader.old + read_faults result }
@@ -80,7 +80,7 @@ pub fn filter_auto<R: Read, W: Write, A: Allocator>(
 ) -> Result<(), FilterFault>
     requires reader { watched_faults reader.old < 2 ^ 64 - 1 }
     requires writer { watched_faults writer.old < 2 ^ 64 - 1 }
-    ensures bytes { FiltersAuto (R.remaining (watched_inner reader.old))
+    ensures transfers { FiltersAuto (R.remaining (watched_inner reader.old))
         (R.remaining (watched_inner reader.new)) (W.contents (watched_inner writer.old))
         (W.contents (watched_inner writer.new)) result }
     ensures reads { watched_faults reader.new ≡ watched_faults reader.old + read_faults result }
@@ -99,7 +99,7 @@ fn filter_by<D: Decoder, R: Read, W: Write, A: Allocator>(
     requires fresh { D.pending decoder ≡ [] }
     requires reader { watched_faults reader.old < 2 ^ 64 - 1 }
     requires writer { watched_faults writer.old < 2 ^ 64 - 1 }
-    ensures bytes { FiltersIn (D.order decoder) (R.remaining (watched_inner reader.old))
+    ensures transfers { FiltersIn (D.order decoder) (R.remaining (watched_inner reader.old))
         (R.remaining (watched_inner reader.new)) (W.contents (watched_inner writer.old))
         (W.contents (watched_inner writer.new)) result }
     ensures reads { watched_faults reader.new ≡ watched_faults reader.old + read_faults result }
@@ -133,9 +133,9 @@ fn filter_by<D: Decoder, R: Read, W: Write, A: Allocator>(
 // Writes U+FFFD if bytes are pending, and flushes once.
 fn end<D: Decoder, W: Write>(decoder: D, writer: &mut Watched<W>) -> Result<(), DeviceFault>
     requires { watched_faults writer.old < 2 ^ 64 - 1 }
-    ensures done { OnOk result (Appends (W.contents (watched_inner writer.old))
+    ensures appended { OnOk result (Appends (W.contents (watched_inner writer.old))
         (W.contents (watched_inner writer.new)) (tail_utf8 (D.pending decoder))) }
-    ensures fault { OnErr result (AppendsPrefix (W.contents (watched_inner writer.old))
+    ensures err { OnErr result (AppendsPrefix (W.contents (watched_inner writer.old))
         (W.contents (watched_inner writer.new)) (tail_utf8 (D.pending decoder))) }
     ensures faults { CountsFaults writer.old writer.new result }
 {
@@ -148,9 +148,9 @@ fn end<D: Decoder, W: Write>(decoder: D, writer: &mut Watched<W>) -> Result<(), 
 // Writes all of the bytes.
 fn write_all<W: Write>(writer: &mut Watched<W>, bytes: &[u8]) -> Result<(), DeviceFault>
     requires { watched_faults writer.old < 2 ^ 64 - 1 }
-    ensures done { OnOk result (Appends (W.contents (watched_inner writer.old))
+    ensures appended { OnOk result (Appends (W.contents (watched_inner writer.old))
         (W.contents (watched_inner writer.new)) bytes.now) }
-    ensures fault { OnErr result (AppendsPrefix (W.contents (watched_inner writer.old))
+    ensures err { OnErr result (AppendsPrefix (W.contents (watched_inner writer.old))
         (W.contents (watched_inner writer.new)) bytes.now) }
     ensures faults { CountsFaults writer.old writer.new result }
 {

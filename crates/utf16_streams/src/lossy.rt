@@ -76,7 +76,7 @@ impl<E: Utf16Order> Lossy<E> {
             chars (string_bytes s) ≡ decided_text E.BIG (lossy_pending self.old ++ piece.now)) }
         ensures pending { OnOk result (lossy_pending self.new
             ≡ split_tail E.BIG (lossy_pending self.old ++ piece.now)) }
-        ensures refused { OnErr result (lossy_pending self.new ≡ lossy_pending self.old) }
+        ensures err { OnErr result (lossy_pending self.new ≡ lossy_pending self.old) }
         ensures nothing { decided_text E.BIG (lossy_pending self.old ++ piece.now) ≡ []
             → IsOk result }
         ensures are_bytes { All (λ b. b < 256) (lossy_pending self.old ++ piece.now) }
@@ -222,7 +222,7 @@ fn decode_parts<E: Utf16Order, A: Allocator>(
     to: &mut String<A>,
 ) -> Result<Stream, AllocError>
     requires undecided { split_tail E.BIG (stream_pending stream) ≡ stream_pending stream }
-    requires room { LEAST_ROOM ≤ length buffer.old }
+    requires space { LEAST_ROOM ≤ length buffer.old }
     ensures text { OnOk result (string_bytes to.new ≡ string_bytes to.old
         ++ encode_utf8_all (decided_text E.BIG (stream_pending stream ++ piece.now))) }
     ensures tail { IfOk result (λ fed.
@@ -245,14 +245,14 @@ fn decode_part<'a, E: Utf16Order, A: Allocator>(
     buffer: &mut [u8],
     to: &mut String<A>,
 ) -> Result<(Stream, &'a [u8]), AllocError>
-    requires some { 0 < length piece.now }
-    requires room { LEAST_ROOM ≤ length buffer.old }
-    ensures step { IfOk result (λ left.
+    requires not_empty { 0 < length piece.now }
+    requires space { LEAST_ROOM ≤ length buffer.old }
+    ensures decoded { IfOk result (λ left.
         Decodes E.BIG (stream_pending stream ++ piece.now) (stream_pending left.0 ++ left.1.now)
         (string_bytes to.old) (string_bytes to.new)) }
     ensures undecided { IfOk result (λ left. split_tail E.BIG (stream_pending left.0)
         ≡ stream_pending left.0) }
-    ensures less { IfOk result (λ left. length left.1.now < length piece.now) }
+    ensures shorter { IfOk result (λ left. length left.1.now < length piece.now) }
     ensures nothing { split_items E.BIG (stream_pending stream ++ piece.now) ≡ [] → IsOk result }
 {
     let mut stream = stream;
@@ -267,11 +267,11 @@ fn decode_part<'a, E: Utf16Order, A: Allocator>(
 // together, so that no code unit is split before the end of the chunk.
 fn cut<'a, E: Utf16Order>(pending: &[u8], piece: &'a [u8], room: usize) -> (&'a [u8], &'a [u8])
     requires few { length pending.now ≤ 3 }
-    requires room { LEAST_ROOM ≤ room }
+    requires space { LEAST_ROOM ≤ room }
     ensures joined { piece.now ≡ result.0.now ++ result.1.now }
-    ensures some { 0 < length piece.now → 0 < length result.0.now }
+    ensures advances { 0 < length piece.now → 0 < length result.0.now }
     ensures utf8 { IsUtf8 (encode_utf8_all (decided_text E.BIG (pending.now ++ result.0.now))) }
-    ensures room { length (encode_utf8_all (decided_text E.BIG (pending.now ++ result.0.now)))
+    ensures within { length (encode_utf8_all (decided_text E.BIG (pending.now ++ result.0.now)))
         ≤ room }
 {
     let most = (room - SLACK) / 3 * 2;

@@ -66,8 +66,8 @@ impl<R: Read> Watched<R> {
     /// The error count is not `u64::MAX` (check with `faults`).
     pub fn read(&mut self, buf: &mut [u8]) -> Result<usize, DeviceFault>
         requires { watched_faults self.old < 2 ^ 64 - 1 }
-        ensures bound { IfOk result (λ n. n ≤ length buf.new) }
-        ensures bytes { ReadConsumes (R.remaining (watched_inner self.old))
+        ensures within { IfOk result (λ n. n ≤ length buf.new) }
+        ensures transfers { ReadConsumes (R.remaining (watched_inner self.old))
             (R.remaining (watched_inner self.new)) result buf.new }
         ensures faults { CountsFaults self.old self.new result }
     {
@@ -92,9 +92,9 @@ impl<W: Write> Watched<W> {
     /// The error count is not `u64::MAX` (check with `faults`).
     pub fn write(&mut self, buf: &[u8]) -> Result<usize, DeviceFault>
         requires { watched_faults self.old < 2 ^ 64 - 1 }
-        ensures bound { IfOk result (λ n. n ≤ length buf.now) }
-        ensures some { 0 < length buf.now → IfOk result (λ n. 0 < n) }
-        ensures bytes { WriteAppends (W.contents (watched_inner self.old))
+        ensures within { IfOk result (λ n. n ≤ length buf.now) }
+        ensures advances { 0 < length buf.now → IfOk result (λ n. 0 < n) }
+        ensures transfers { WriteAppends (W.contents (watched_inner self.old))
             (W.contents (watched_inner self.new)) result buf.now }
         ensures faults { CountsFaults self.old self.new result }
     {
@@ -116,7 +116,7 @@ impl<W: Write> Watched<W> {
     /// The error count is not `u64::MAX` (check with `faults`).
     pub fn flush(&mut self) -> Result<(), DeviceFault>
         requires { watched_faults self.old < 2 ^ 64 - 1 }
-        ensures bytes { Keeps (W.contents (watched_inner self.old))
+        ensures transfers { Keeps (W.contents (watched_inner self.old))
             (W.contents (watched_inner self.new)) }
         ensures faults { CountsFaults self.old self.new result }
     {

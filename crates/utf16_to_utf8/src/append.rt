@@ -47,10 +47,10 @@ pub fn append_utf8<E: Utf16Order, A: Allocator>(
     requires { IsUtf16 E.BIG raw.now }
     ensures text { OnOk result (string_bytes to.new ≡ string_bytes to.old
         ++ utf8_of E.BIG raw.now) }
-    ensures refused { OnErr result ((string_bytes to.new ≡ string_bytes to.old)
+    ensures err { OnErr result ((string_bytes to.new ≡ string_bytes to.old)
         × (string_capacity to.new ≡ string_capacity to.old)) }
     ensures grows { string_capacity to.old ≤ string_capacity to.new }
-    ensures room { string_len to.old + length (utf8_of E.BIG raw.now) ≤ string_capacity to.old
+    ensures succeeds { string_len to.old + length (utf8_of E.BIG raw.now) ≤ string_capacity to.old
         → IsOk result }
 {
     make_room::<E, A>(raw, to)?;
@@ -65,10 +65,10 @@ pub fn append_utf8<E: Utf16Order, A: Allocator>(
 
 // Appends the characters one by one to a string with enough capacity.
 fn put_few<E: Utf16Order, A: Allocator>(raw: &[u8], to: &mut String<A>) -> Result<(), AllocError>
-    requires text { IsUtf16 E.BIG raw.now }
-    requires room { string_len to.old + length (utf8_of E.BIG raw.now) ≤ string_capacity to.old }
+    requires well_formed { IsUtf16 E.BIG raw.now }
+    requires fits { string_len to.old + length (utf8_of E.BIG raw.now) ≤ string_capacity to.old }
     ensures ok { IsOk result }
-    ensures put { IsPut (text_of E.BIG raw.now) (string_bytes to.old) (string_bytes to.new)
+    ensures appended { IsPut (text_of E.BIG raw.now) (string_bytes to.old) (string_bytes to.new)
         (string_capacity to.old) (string_capacity to.new) }
 {
     let mut rest = raw;
@@ -82,10 +82,10 @@ fn put_few<E: Utf16Order, A: Allocator>(raw: &[u8], to: &mut String<A>) -> Resul
 
 // The same chunk by chunk.
 fn put_pieces<E: Utf16Order, A: Allocator>(raw: &[u8], to: &mut String<A>) -> Result<(), AllocError>
-    requires text { IsUtf16 E.BIG raw.now }
-    requires room { string_len to.old + length (utf8_of E.BIG raw.now) ≤ string_capacity to.old }
+    requires well_formed { IsUtf16 E.BIG raw.now }
+    requires fits { string_len to.old + length (utf8_of E.BIG raw.now) ≤ string_capacity to.old }
     ensures ok { IsOk result }
-    ensures put { IsPut (text_of E.BIG raw.now) (string_bytes to.old) (string_bytes to.new)
+    ensures appended { IsPut (text_of E.BIG raw.now) (string_bytes to.old) (string_bytes to.new)
         (string_capacity to.old) (string_capacity to.new) }
 {
     let mut buf = [0; ROOM];
@@ -105,11 +105,11 @@ fn put_piece<E: Utf16Order, A: Allocator>(
     buf: &mut [u8],
     to: &mut String<A>,
 ) -> Result<(), AllocError>
-    requires text { IsUtf16 E.BIG raw.now }
-    requires buf { length raw.now / 2 * 3 + SLACK ≤ length buf.old }
-    requires room { string_len to.old + length (utf8_of E.BIG raw.now) ≤ string_capacity to.old }
+    requires well_formed { IsUtf16 E.BIG raw.now }
+    requires space { length raw.now / 2 * 3 + SLACK ≤ length buf.old }
+    requires fits { string_len to.old + length (utf8_of E.BIG raw.now) ≤ string_capacity to.old }
     ensures ok { IsOk result }
-    ensures put { IsPut (text_of E.BIG raw.now) (string_bytes to.old) (string_bytes to.new)
+    ensures appended { IsPut (text_of E.BIG raw.now) (string_bytes to.old) (string_bytes to.new)
         (string_capacity to.old) (string_capacity to.new) }
 {
     let len = write_utf8::<E>(raw, buf);
@@ -120,12 +120,12 @@ fn put_piece<E: Utf16Order, A: Allocator>(
 #[inline]
 fn cut_piece<E: Utf16Order>(raw: &[u8]) -> (&[u8], &[u8])
     requires { IsUtf16 E.BIG raw.now }
-    ensures front { IsUtf16 E.BIG result.0.now }
-    ensures back { IsUtf16 E.BIG result.1.now }
+    ensures first_well_formed { IsUtf16 E.BIG result.0.now }
+    ensures second_well_formed { IsUtf16 E.BIG result.1.now }
     ensures joined { text_of E.BIG raw.now ≡ text_of E.BIG result.0.now
         ++ text_of E.BIG result.1.now }
     ensures few { length result.0.now ≤ PIECE }
-    ensures less { 0 < length raw.now → length result.1.now < length raw.now }
+    ensures shorter { 0 < length raw.now → length result.1.now < length raw.now }
 {
     raw.split_at(piece_end::<E>(raw))
 }
@@ -136,7 +136,7 @@ fn piece_end<E: Utf16Order>(raw: &[u8]) -> usize
     requires { IsUtf16 E.BIG raw.now }
     ensures boundary { IsBoundary (text_of E.BIG raw.now) result }
     ensures few { result ≤ PIECE }
-    ensures some { 0 < length raw.now → 0 < result }
+    ensures advances { 0 < length raw.now → 0 < result }
 {
     if raw.len() <= PIECE {
         raw.len()
@@ -153,11 +153,11 @@ fn piece_end<E: Utf16Order>(raw: &[u8]) -> usize
 fn make_room<E: Utf16Order, A: Allocator>(raw: &[u8], to: &mut String<A>) -> Result<(), AllocError>
     requires { IsUtf16 E.BIG raw.now }
     ensures bytes { string_bytes to.new ≡ string_bytes to.old }
-    ensures room { OnOk result (string_len to.new + length (utf8_of E.BIG raw.now)
+    ensures reserved { OnOk result (string_len to.new + length (utf8_of E.BIG raw.now)
         ≤ string_capacity to.new) }
-    ensures refused { OnErr result (string_capacity to.new ≡ string_capacity to.old) }
+    ensures err { OnErr result (string_capacity to.new ≡ string_capacity to.old) }
     ensures grows { string_capacity to.old ≤ string_capacity to.new }
-    ensures enough { string_len to.old + length (utf8_of E.BIG raw.now) ≤ string_capacity to.old
+    ensures succeeds { string_len to.old + length (utf8_of E.BIG raw.now) ≤ string_capacity to.old
         → IsOk result }
 {
     if raw.len() / 2 * 3 <= to.capacity() - to.len() {

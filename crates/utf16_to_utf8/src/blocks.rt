@@ -81,7 +81,7 @@ pub(crate) fn put_block(out: &mut [u8], at: usize, previous: u16x8, units: u16x3
     requires { at + 104 ≤ length out.old }
     ensures bytes { take result out.new ≡ take at out.old ++ units_utf8 (slice_index previous 7)
         units }
-    ensures end { result ≤ at + 96 }
+    ensures written_to { result ≤ at + 96 }
 {
     if is_ascii(units) {
         put_ascii(out, at, units);
@@ -93,7 +93,7 @@ pub(crate) fn put_block(out: &mut [u8], at: usize, previous: u16x8, units: u16x3
 // Writes the low byte of each unit of a block.
 #[inline(always)]
 fn put_ascii(out: &mut [u8], at: usize, units: u16x32)
-    requires room { at + 32 ≤ length out.old }
+    requires space { at + 32 ≤ length out.old }
     requires ascii { All (λ unit. unit < 0x80) units }
     ensures { take (at + 32) out.new ≡ take at out.old ++ units }
 {
@@ -103,8 +103,8 @@ fn put_ascii(out: &mut [u8], at: usize, units: u16x32)
 // The units of a block in groups of eight.
 #[inline(always)]
 pub(crate) fn eights(units: u16x32) -> (u16x8, u16x8, u16x8, u16x8)
-    ensures first { result.0 ≡ chunk 0 8 units }
-    ensures second { result.1 ≡ chunk 8 8 units }
+    ensures low { result.0 ≡ chunk 0 8 units }
+    ensures high { result.1 ≡ chunk 8 8 units }
     ensures third { result.2 ≡ chunk 16 8 units }
     ensures fourth { result.3 ≡ chunk 24 8 units }
 {
@@ -119,11 +119,11 @@ pub(crate) fn eights(units: u16x32) -> (u16x8, u16x8, u16x8, u16x8)
 // Writes the UTF-8 that a block of a kind adds, group by group.
 #[inline(always)]
 fn put_groups(out: &mut [u8], at: usize, previous: u16x8, units: u16x32, kind: Kind) -> usize
-    requires room { at + 104 ≤ length out.old }
+    requires space { at + 104 ≤ length out.old }
     requires kind { AreOfKind kind units }
     ensures bytes { take result out.new ≡ take at out.old ++ units_utf8 (slice_index previous 7)
         units }
-    ensures end { result ≤ at + 96 }
+    ensures written_to { result ≤ at + 96 }
 {
     let (first, second, third, fourth) = eights(units);
     let one = put_group(out, at, previous, first, kind);
@@ -134,11 +134,11 @@ fn put_groups(out: &mut [u8], at: usize, previous: u16x8, units: u16x32, kind: K
 
 #[inline(always)]
 fn put_group(out: &mut [u8], at: usize, previous: u16x8, units: u16x8, kind: Kind) -> usize
-    requires room { at + 32 ≤ length out.old }
+    requires space { at + 32 ≤ length out.old }
     requires kind { AreOfKind kind units }
     ensures bytes { take result out.new ≡ take at out.old ++ units_utf8 (slice_index previous 7)
         units }
-    ensures end { result ≤ at + 24 }
+    ensures written_to { result ≤ at + 24 }
 {
     match kind {
         Kind::Letters => put_narrow(out, at, previous, units, false),

@@ -23,11 +23,11 @@ fn lane_bytes(lanes: u16x8) -> u8x16
 // Writes sixteen bytes, two per unit, without the second byte of units with a bit in `one`.
 #[inline(always)]
 fn put_eight(out: &mut [u8], at: usize, pairs: u8x16, one: usize) -> usize
-    requires room { at + 16 ≤ length out.old }
-    requires one { one < 256 }
+    requires space { at + 16 ≤ length out.old }
+    requires bound { one < 256 }
     ensures bytes { (flags : List Bool) → length flags ≡ 8 → one ≡ mask_l flags
         → take result out.new ≡ take at out.old ++ packed flags pairs }
-    ensures end { result ≤ at + 16 }
+    ensures written_to { result ≤ at + 16 }
 {
     let standing = pairs.swizzle_dyn(places(one));
     standing.copy_to_slice(&mut out[at..]);
@@ -52,13 +52,13 @@ pub(crate) fn put_narrow(
     units: u16x8,
     surrogates: bool,
 ) -> usize
-    requires room { at + 24 ≤ length out.old }
+    requires space { at + 24 ≤ length out.old }
     requires none { surrogates ≡ false → (i : ℕ) → i < 8
         → is_surrogate (slice_index units i) ≡ false }
     requires narrow { (i : ℕ) → i < 8 → added_len (slice_index units i) ≤ 2 }
     ensures bytes { take result out.new ≡ take at out.old ++ units_utf8 (slice_index previous 7)
         units }
-    ensures end { result ≤ at + 16 }
+    ensures written_to { result ≤ at + 16 }
 {
     let pairs = lane_bytes(narrow(behind(previous, units), units, surrogates));
     put_eight(out, at, pairs, ascii_bits(units))
@@ -87,11 +87,11 @@ fn last_threes(fronts: u8x16, thirds: u8x16) -> u8x8
 // Writes the UTF-8 of eight units that add three bytes each.
 #[inline(always)]
 pub(crate) fn put_wide(out: &mut [u8], at: usize, units: u16x8) -> usize
-    requires room { at + 24 ≤ length out.old }
+    requires space { at + 24 ≤ length out.old }
     requires wide { (i : ℕ) → i < 8 → added_len (slice_index units i) ≡ 3 }
     ensures bytes { (before : ℕ) → take result out.new ≡ take at out.old
         ++ units_utf8 before units }
-    ensures end { result ≡ at + 24 }
+    ensures written_to { result ≡ at + 24 }
 {
     let fronts = lane_bytes(wide(units));
     let thirds = lane_bytes(thirds(units));
@@ -106,7 +106,7 @@ pub(crate) fn put_any(out: &mut [u8], at: usize, previous: u16x8, units: u16x8) 
     requires { at + 32 ≤ length out.old }
     ensures bytes { take result out.new ≡ take at out.old ++ units_utf8 (slice_index previous 7)
         units }
-    ensures end { result ≤ at + 24 }
+    ensures written_to { result ≤ at + 24 }
 {
     let words = words(fronts(behind(previous, units), units), thirds(units)).to_array();
     let lens = added_lens(units).to_array();
@@ -130,11 +130,11 @@ fn words(fronts: u16x8, thirds: u16x8) -> u32x8
 // Writes a word of four bytes, of which the first `len` count.
 #[inline(always)]
 fn put_word(out: &mut [u8], at: usize, word: u32, len: u16) -> usize
-    requires room { at + 4 ≤ length out.old }
-    requires len { len ≤ 3 }
+    requires space { at + 4 ≤ length out.old }
+    requires few { len ≤ 3 }
     ensures bytes { take result out.new ≡ take at out.old
         ++ take len (word % 256 ∷ word / 256 % 256 ∷ word / 65536 % 256 ∷ []) }
-    ensures end { result ≡ at + len }
+    ensures written_to { result ≡ at + len }
 {
     u8x4::from_array(word.to_le_bytes()).copy_to_slice(&mut out[at..]);
     at + len as usize

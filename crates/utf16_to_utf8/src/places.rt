@@ -14,7 +14,7 @@ pub(crate) fn places(one: usize) -> u8x16
     requires { one < 256 }
     ensures places { (flags : List Bool) → length flags ≡ 8 → one ≡ mask_l flags
         → take (16 - count_ones one) result ≡ packed flags (range_with_len 0 16) }
-    ensures within { Each1 (λ place. place < 16) result }
+    ensures below { Each1 (λ place. place < 16) result }
     ensures few { count_ones one ≤ 8 }
     ensures long { length result ≡ 16 }
 {

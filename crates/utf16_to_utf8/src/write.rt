@@ -26,8 +26,8 @@ pub const SLACK: usize = 128;
 ///
 /// One pass, by blocks of thirty-two code units.
 pub fn write_utf8<E: Utf16Order>(raw: &[u8], to: &mut [u8]) -> usize
-    requires text { IsUtf16 E.BIG raw.now }
-    requires room { length raw.now / 2 * 3 + SLACK ≤ length to.old }
+    requires well_formed { IsUtf16 E.BIG raw.now }
+    requires space { length raw.now / 2 * 3 + SLACK ≤ length to.old }
     ensures utf8 { take result to.new ≡ utf8_of E.BIG raw.now }
     ensures len { result ≡ length (utf8_of E.BIG raw.now) }
     ensures rest { drop (length raw.now / 2 * 3 + SLACK) to.new
@@ -40,9 +40,9 @@ pub fn write_utf8<E: Utf16Order>(raw: &[u8], to: &mut [u8]) -> usize
 // Writes the UTF-8 that the units add.
 fn write_units<E: Utf16Order>(raw: &[u8], out: &mut [u8]) -> usize
     requires even { length raw.now % 2 ≡ 0 }
-    requires room { length raw.now / 2 * 3 + SLACK ≤ length out.old }
+    requires space { length raw.now / 2 * 3 + SLACK ≤ length out.old }
     ensures bytes { take result out.new ≡ units_utf8 0 (units_of E.BIG raw.now) }
-    ensures end { result ≤ length out.old }
+    ensures written_to { result ≤ length out.old }
 {
     let mut at = 0;
     let mut end = 0;
@@ -64,10 +64,10 @@ fn write_units<E: Utf16Order>(raw: &[u8], out: &mut [u8]) -> usize
 fn put_rest<E: Utf16Order>(raw: &[u8], out: &mut [u8], at: usize, previous: u16x8) -> usize
     requires few { length raw.now ≤ 64 }
     requires even { length raw.now % 2 ≡ 0 }
-    requires room { at + 104 ≤ length out.old }
+    requires space { at + 104 ≤ length out.old }
     ensures bytes { take result out.new ≡ take at out.old ++ units_utf8 (slice_index previous 7)
         (units_of E.BIG raw.now) }
-    ensures end { result ≤ at + 96 }
+    ensures written_to { result ≤ at + 96 }
 {
     let end = put_block(out, at, previous, filled_units::<E>(raw));
     end - (32 - raw.len() / 2)

@@ -16,7 +16,7 @@ use utf16_units::text::{has_ascii_units, trailing_units};
 pub fn count_chars<E: Utf16Order>(raw: &[u8]) -> usize
     ensures units { result ≡ length raw.now / 2 - count_by is_low_surrogate
         (units_of E.BIG raw.now) }
-    ensures text { IsUtf16 E.BIG raw.now → result ≡ length (text_of E.BIG raw.now) }
+    ensures count { IsUtf16 E.BIG raw.now → result ≡ length (text_of E.BIG raw.now) }
 {
     raw.len() / 2 - trailing_units::<E>(raw)
 }
@@ -28,9 +28,9 @@ pub fn count_chars<E: Utf16Order>(raw: &[u8]) -> usize
 ///
 /// One pass, up to the first block that has another code unit.
 pub fn is_ascii<E: Utf16Order>(raw: &[u8]) -> bool
-    ensures units { IsTrue result ↔ ((length raw.now % 2 ≡ 0)
+    ensures are_units { IsTrue result ↔ ((length raw.now % 2 ≡ 0)
         × All (λ unit. unit < 0x80) (units_of E.BIG raw.now)) }
-    ensures text { IsUtf16 E.BIG raw.now
+    ensures ascii { IsUtf16 E.BIG raw.now
         → (IsTrue result ↔ All (λ c. c < 0x80) (text_of E.BIG raw.now)) }
 {
     raw.len() % 2 == 0 && has_ascii_units::<E>(raw)

@@ -80,7 +80,7 @@ impl<E: Utf16Order> Direction for FromUtf8<E> {
 // Returns the length of the longest valid prefix. `before` valid bytes precede it.
 fn valid_len(text: &[u8], before: usize) -> usize
     ensures within { result ≤ length text.now }
-    ensures text { IsUtf8 (take result text.now) }
+    ensures well_formed { IsUtf8 (take result text.now) }
 {
     if text.len() <= FIRST {
         return tested_len(text);
@@ -103,7 +103,7 @@ fn valid_len(text: &[u8], before: usize) -> usize
 // Returns the same, and validates all at once.
 fn tested_len(text: &[u8]) -> usize
     ensures within { result ≤ length text.now }
-    ensures text { IsUtf8 (take result text.now) }
+    ensures well_formed { IsUtf8 (take result text.now) }
 {
     match simdutf8::compat::from_utf8(text) {
         Ok(_) => text.len(),
@@ -114,8 +114,8 @@ fn tested_len(text: &[u8]) -> usize
 // Returns how many bytes to validate at once: at most `part`; if that is more than four, without
 // the last character, which may be incomplete and is left for the next part.
 fn part_len(rest: &[u8], part: usize) -> usize
-    requires some { 0 < length rest.now }
-    requires part { 0 < part }
+    requires not_empty { 0 < length rest.now }
+    requires not_zero { 0 < part }
     ensures { (0 < result) × (result ≤ length rest.now) }
 {
     let most = part.min(rest.len());
@@ -134,7 +134,7 @@ fn part_len(rest: &[u8], part: usize) -> usize
 fn first_len(rest: &[u8]) -> Result<usize, Option<u8>>
     requires { 0 < length rest.now }
     ensures char { IfOk result (BeginsWith encode_utf8 rest.now) }
-    ensures fault { IfErr result (IsIllFormedUtf8At rest.now) }
+    ensures ill_formed { IfErr result (IsIllFormedUtf8At rest.now) }
 {
     let window = &rest[..rest.len().min(4)];
     match str::from_utf8(window) {

@@ -22,8 +22,8 @@ use std::simd::prelude::*;
 ///
 /// Reads both up to the first code unit that differs, their common prefix in blocks.
 pub fn compare<E: Utf16Order>(first: &[u8], second: &[u8]) -> Ordering
-    requires first { IsUtf16 E.BIG first.now }
-    requires second { IsUtf16 E.BIG second.now }
+    requires first_well_formed { IsUtf16 E.BIG first.now }
+    requires second_well_formed { IsUtf16 E.BIG second.now }
     ensures less { result ≡ Less ↔ IsBefore (text_of E.BIG first.now) (text_of E.BIG second.now) }
     ensures equal { result ≡ Equal ↔ (text_of E.BIG first.now ≡ text_of E.BIG second.now) }
     ensures greater { result ≡ Greater
@@ -40,7 +40,7 @@ pub fn compare<E: Utf16Order>(first: &[u8], second: &[u8]) -> Ordering
 #[inline]
 fn same_blocks<const N: usize>(first: &[u8], second: &[u8], from: usize) -> usize
     requires lanes { (0 < N) × (N ≤ 64) × (N % 2 ≡ 0) }
-    requires before { SameTo first.now second.now from }
+    requires same_before { SameTo first.now second.now from }
     ensures { SameTo first.now second.now result }
 {
     let mut at = from;
@@ -59,9 +59,9 @@ fn same_blocks<const N: usize>(first: &[u8], second: &[u8], from: usize) -> usiz
 // Compares by the first code unit that differs; the bytes before `from` are the same.
 #[inline]
 fn compare_units<E: Utf16Order>(first: &[u8], second: &[u8], from: usize) -> Ordering
-    requires first { IsUtf16 E.BIG first.now }
-    requires second { IsUtf16 E.BIG second.now }
-    requires before { SameTo first.now second.now from }
+    requires first_well_formed { IsUtf16 E.BIG first.now }
+    requires second_well_formed { IsUtf16 E.BIG second.now }
+    requires same_before { SameTo first.now second.now from }
     ensures { result ≡ units_cmp E.BIG first.now second.now }
 {
     let mut at = from;

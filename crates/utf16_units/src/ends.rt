@@ -13,12 +13,12 @@ use crate::{Utf16Order, decode_surrogates, is_leading_surrogate, is_trailing_sur
 /// `validate_raw_utf16`).
 #[inline]
 pub fn first_char<E: Utf16Order>(raw: &[u8]) -> (char, usize)
-    requires text { IsUtf16 E.BIG raw.now }
-    requires some { 0 < length raw.now }
+    requires well_formed { IsUtf16 E.BIG raw.now }
+    requires not_empty { 0 < length raw.now }
     ensures size { result.1 ≡ char_size result.0 }
     ensures within { result.1 ≤ length raw.now }
-    ensures text { text_of E.BIG raw.now ≡ result.0 ∷ text_of E.BIG (drop result.1 raw.now) }
-    ensures rest { IsUtf16 E.BIG (drop result.1 raw.now) }
+    ensures joined { text_of E.BIG raw.now ≡ result.0 ∷ text_of E.BIG (drop result.1 raw.now) }
+    ensures well_formed { IsUtf16 E.BIG (drop result.1 raw.now) }
 {
     let unit = E::read_unit([raw[0], raw[1]]);
     if !is_leading_surrogate(unit) {
@@ -36,13 +36,13 @@ pub fn first_char<E: Utf16Order>(raw: &[u8]) -> (char, usize)
 /// `validate_raw_utf16`).
 #[inline]
 pub fn last_char<E: Utf16Order>(raw: &[u8]) -> (char, usize)
-    requires text { IsUtf16 E.BIG raw.now }
-    requires some { 0 < length raw.now }
+    requires well_formed { IsUtf16 E.BIG raw.now }
+    requires not_empty { 0 < length raw.now }
     ensures size { result.1 ≡ char_size result.0 }
     ensures within { result.1 ≤ length raw.now }
-    ensures text { text_of E.BIG raw.now ≡ text_of E.BIG (take (length raw.now - result.1) raw.now)
+    ensures joined { text_of E.BIG raw.now ≡ text_of E.BIG (take (length raw.now - result.1) raw.now)
         ++ result.0 ∷ [] }
-    ensures rest { IsUtf16 E.BIG (take (length raw.now - result.1) raw.now) }
+    ensures well_formed { IsUtf16 E.BIG (take (length raw.now - result.1) raw.now) }
 {
     let end = raw.len();
     let unit = E::read_unit([raw[end - 2], raw[end - 1]]);

@@ -21,7 +21,7 @@ use std::simd::prelude::*;
 ///
 /// One pass.
 pub fn validate_raw_utf16<E: Utf16Order>(raw: &[u8]) -> Result<(), Utf16Error>
-    ensures text { IsOk result ↔ IsUtf16 E.BIG raw.now }
+    ensures ok { IsOk result ↔ IsUtf16 E.BIG raw.now }
     ensures error { IfErr result (IsErrorOf E.BIG raw.now) }
 {
     if raw.len() < 32 {
@@ -33,7 +33,7 @@ pub fn validate_raw_utf16<E: Utf16Order>(raw: &[u8]) -> Result<(), Utf16Error>
 // The length of a well-formed prefix, as far as whole blocks reach.
 fn passed_blocks<E: Utf16Order>(raw: &[u8]) -> usize
     ensures within { result ≤ length raw.now }
-    ensures text { IsUtf16 E.BIG (take result raw.now) }
+    ensures well_formed { IsUtf16 E.BIG (take result raw.now) }
     ensures passed { PassedTo E.BIG raw.now result }
 {
     let (whole, leading) = paired_blocks::<E>(raw);
@@ -82,8 +82,8 @@ fn paired_half_block<E: Utf16Order>(raw: &[u8], at: usize, leading: bool) -> (us
 #[inline(always)]
 pub(crate) fn validate_units<E: Utf16Order>(raw: &[u8], from: usize) -> Result<(), Utf16Error>
     requires within { from ≤ length raw.now }
-    requires before { IsUtf16 E.BIG (take from raw.now) }
-    ensures text { IsOk result ↔ IsUtf16 E.BIG raw.now }
+    requires well_formed_before { IsUtf16 E.BIG (take from raw.now) }
+    ensures ok { IsOk result ↔ IsUtf16 E.BIG raw.now }
     ensures error { IfErr result (IsErrorOf E.BIG raw.now) }
 {
     let mut valid_up_to = from;
@@ -114,8 +114,8 @@ pub(crate) fn validate_units<E: Utf16Order>(raw: &[u8], from: usize) -> Result<(
 pub fn first_char_len<E: Utf16Order>(rest: &[u8]) -> Result<usize, Option<u8>>
     requires { 0 < length rest.now }
     ensures char { IfOk result (BeginsWithChar E.BIG rest.now) }
-    ensures some { IfOk result (λ n. 0 < n) }
-    ensures fault { IfErr result (IsIllFormedAt E.BIG rest.now) }
+    ensures advances { IfOk result (λ n. 0 < n) }
+    ensures ill_formed { IfErr result (IsIllFormedAt E.BIG rest.now) }
 {
     if rest.len() < 2 {
         return Err(None);

@@ -19,11 +19,11 @@ pub fn insert_checked<E: Utf16Order, A: Allocator>(
     idx: usize,
     part: WStr<E>,
 ) -> Result<bool, AllocError>
-    ensures fits { IfOk result (λ put. IsTrue put ↔ IsBoundary (wstring_text text.old) idx) }
+    ensures edited { IfOk result (λ put. IsTrue put ↔ IsBoundary (wstring_text text.old) idx) }
     ensures put { result ≡ Ok true
         → wstring_text text.new ≡ insert_at (wstring_text text.old) idx (wstr_text part.entry) }
-    ensures kept { result ≡ Ok false → wstring_text text.new ≡ wstring_text text.old }
-    ensures refused { OnErr result (wstring_text text.new ≡ wstring_text text.old) }
+    ensures unchanged { result ≡ Ok false → wstring_text text.new ≡ wstring_text text.old }
+    ensures err { OnErr result (wstring_text text.new ≡ wstring_text text.old) }
 {
     if !text.is_char_boundary(idx) {
         return Ok(false);
@@ -58,7 +58,7 @@ pub fn remove_checked<E: Utf16Order, A: Allocator>(
     ensures char { IfSome result (λ c. char_at (wstring_text text.old) idx ≡ Some c) }
     ensures cut { IfSome result (λ _.
         wstring_text text.new ≡ remove_at (wstring_text text.old) idx) }
-    ensures kept { IsNone result → wstring_text text.new ≡ wstring_text text.old }
+    ensures unchanged { IsNone result → wstring_text text.new ≡ wstring_text text.old }
 {
     if idx < text.len() && text.is_char_boundary(idx) {
         Some(text.remove(idx))
@@ -70,11 +70,11 @@ pub fn remove_checked<E: Utf16Order, A: Allocator>(
 /// Keeps the prefix up to an offset if that is a character boundary or past the text; returns
 /// whether it is.
 pub fn truncate_checked<E: Utf16Order, A: Allocator>(text: &mut WString<E, A>, len: usize) -> bool
-    ensures fits { IsTrue result ↔ ((size (wstring_text text.old) ≤ len)
+    ensures edited { IsTrue result ↔ ((size (wstring_text text.old) ≤ len)
         ⊎ IsBoundary (wstring_text text.old) len) }
     ensures cut { IsTrue result → len < size (wstring_text text.old)
         → wstring_text text.new ≡ text_to (wstring_text text.old) len }
-    ensures kept { result ≡ false → wstring_text text.new ≡ wstring_text text.old }
+    ensures unchanged { result ≡ false → wstring_text text.new ≡ wstring_text text.old }
 {
     let cuts = text.len() <= len || text.is_char_boundary(len);
     if cuts {
@@ -93,9 +93,9 @@ pub fn split<E: Utf16Order, A: Allocator + Clone>(
         IfSome back (λ _. wstring_text text.new ≡ split_front (wstring_text text.old) at)) }
     ensures back { IfOk result (λ back.
         IfSome back (λ back. wstring_text back ≡ split_back (wstring_text text.old) at)) }
-    ensures kept { IfOk result (λ back. IsNone back
+    ensures unchanged { IfOk result (λ back. IsNone back
         → wstring_text text.new ≡ wstring_text text.old) }
-    ensures refused { OnErr result (wstring_text text.new ≡ wstring_text text.old) }
+    ensures err { OnErr result (wstring_text text.new ≡ wstring_text text.old) }
 {
     if !text.is_char_boundary(at) {
         return Ok(None);
@@ -112,15 +112,15 @@ pub fn overwrite_in_place<E: Utf16Order>(
     idx: usize,
     part: WStr<E>,
 ) -> Result<bool, Utf16Error>
-    ensures text { IsOk result ↔ IsUtf16 E.BIG buf.old }
-    ensures fits { IfOk result (λ put. IsTrue put
+    ensures ok { IsOk result ↔ IsUtf16 E.BIG buf.old }
+    ensures edited { IfOk result (λ put. IsTrue put
         ↔ (IsBoundary (text_of E.BIG buf.old) idx
         × IsBoundary (text_of E.BIG buf.old) (idx + size (wstr_text part.entry)))) }
     ensures over { result ≡ Ok true
         → buf.new ≡ splice buf.old idx (idx + length (wstr_bytes part.entry))
         (wstr_bytes part.entry) }
-    ensures kept { result ≡ Ok false → buf.new ≡ buf.old }
-    ensures refused { OnErr result (buf.new ≡ buf.old) }
+    ensures unchanged { result ≡ Ok false → buf.new ≡ buf.old }
+    ensures err { OnErr result (buf.new ≡ buf.old) }
 {
     WStr::<E>::from_utf16(buf)?;
     let mut view = WStrMut::<E>::from_utf16_unchecked(buf);
@@ -134,13 +134,13 @@ pub fn overwrite_in_place<E: Utf16Order>(
 /// Writes a text over a part of the longest valid prefix of the caller's bytes if it fits there;
 /// returns whether it does. What follows the prefix stays, and if nothing is written all bytes do.
 pub fn overwrite_valid_prefix<E: Utf16Order>(buf: &mut [u8], idx: usize, part: WStr<E>) -> bool
-    ensures fits { (n : ℕ) → IsUtf16ValidUpTo E.BIG buf.old n
+    ensures edited { (n : ℕ) → IsUtf16ValidUpTo E.BIG buf.old n
         → (IsTrue result
         ↔ (IsBoundary (text_of E.BIG (take n buf.old)) idx
         × IsBoundary (text_of E.BIG (take n buf.old)) (idx + size (wstr_text part.entry)))) }
     ensures over { IsTrue result → buf.new
         ≡ splice buf.old idx (idx + length (wstr_bytes part.entry)) (wstr_bytes part.entry) }
-    ensures kept { result ≡ false → buf.new ≡ buf.old }
+    ensures unchanged { result ≡ false → buf.new ≡ buf.old }
 {
     let (front, _rest) = WStrMut::<E>::split_valid(buf);
     let mut view = WStrMut::<E>::from_utf16_unchecked(front);
@@ -157,13 +157,13 @@ pub fn overwrite_and_return<'a, E: Utf16Order>(
     idx: usize,
     part: WStr<E>,
 ) -> Result<&'a mut [u8], Utf16Error>
-    ensures text { IsOk result ↔ IsUtf16 E.BIG buf.old }
+    ensures ok { IsOk result ↔ IsUtf16 E.BIG buf.old }
     ensures same_reference { IfOk result (λ left. left.ghost_name ≡ buf.entry.ghost_name) }
     ensures over { IfOk result (λ left. IsBoundary (text_of E.BIG buf.old) idx
         → IsBoundary (text_of E.BIG buf.old) (idx + size (wstr_text part.entry))
         → left.now ≡ splice buf.old idx (idx + length (wstr_bytes part.entry))
         (wstr_bytes part.entry)) }
-    ensures kept { IfOk result (λ left.
+    ensures unchanged { IfOk result (λ left.
         ¬ (IsBoundary (text_of E.BIG buf.old) idx
         × IsBoundary (text_of E.BIG buf.old) (idx + size (wstr_text part.entry)))
         → left.now ≡ buf.old) }

@@ -22,7 +22,7 @@ pub fn first_chars<E: Utf16Order, A: Allocator>(string: &mut WString<E, A>, n: u
     let mut left = n;
     string.retain(
         move |_| -> bool
-            ensures within { result ≡ nat_lt 0 left.entry }
+            ensures counts { result ≡ nat_lt 0 left.entry }
             ensures counted { left.exit ≡ left.entry - 1 }
         {
             let within = left > 0;

@@ -13,10 +13,10 @@ pub fn keep_and_push<E: Utf16Order, A: Allocator + Clone>(
     text: &mut WString<E, A>,
     ch: char,
 ) -> Result<WString<E, A>, AllocError>
-    ensures kept { IfOk result (λ kept. wstring_text kept ≡ wstring_text text.old) }
+    ensures copy { IfOk result (λ kept. wstring_text kept ≡ wstring_text text.old) }
     ensures pushed { OnOk result (wstring_text text.new
         ≡ push_text (wstring_text text.old) (ch ∷ [])) }
-    ensures refused { OnErr result (wstring_text text.new ≡ wstring_text text.old) }
+    ensures err { OnErr result (wstring_text text.new ≡ wstring_text text.old) }
 {
     let kept = text.clone()?;
     text.push(ch)?;

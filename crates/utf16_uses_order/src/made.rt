@@ -41,7 +41,7 @@ pub fn push_any<E: Utf16Order, F: Utf16Order, A: Allocator>(
 ) -> Result<(), AllocError>
     ensures text { OnOk result (wstring_text string.new
         ≡ push_text (wstring_text string.old) (wstr_text text.entry)) }
-    ensures refused { OnErr result ((front rest : List ℕ) × (wstr_text text.entry ≡ front ++ rest)
+    ensures err { OnErr result ((front rest : List ℕ) × (wstr_text text.entry ≡ front ++ rest)
         × (wstring_text string.new ≡ push_text (wstring_text string.old) front)) }
 {
     string.extend(text.chars())

@@ -44,17 +44,17 @@ pub fn searched<E: Utf16Order>(sorted: &[WString<E>], wanted: &WString<E>) -> Re
 
 /// Returns the greater of two strings, by `IsBefore`.
 pub fn later<E: Utf16Order>(first: WString<E>, second: WString<E>) -> WString<E>
-    ensures before { IsBefore (wstring_text first) (wstring_text second) → result ≡ second }
-    ensures behind { IsBefore (wstring_text second) (wstring_text first) → result ≡ first }
+    ensures less { IsBefore (wstring_text first) (wstring_text second) → result ≡ second }
+    ensures greater { IsBefore (wstring_text second) (wstring_text first) → result ≡ first }
 {
     max_of(first, second)
 }
 
 /// Returns the lesser of two views, by `IsBefore`.
 pub fn earlier<'a, E: Utf16Order>(first: WStr<'a, E>, second: WStr<'a, E>) -> WStr<'a, E>
-    ensures before { IsBefore (wstr_text first.entry) (wstr_text second.entry)
+    ensures less { IsBefore (wstr_text first.entry) (wstr_text second.entry)
         → result ≡ first.entry }
-    ensures behind { IsBefore (wstr_text second.entry) (wstr_text first.entry)
+    ensures greater { IsBefore (wstr_text second.entry) (wstr_text first.entry)
         → result ≡ second.entry }
 {
     min_of(first, second)
@@ -62,10 +62,10 @@ pub fn earlier<'a, E: Utf16Order>(first: WStr<'a, E>, second: WStr<'a, E>) -> WS
 
 /// Sorts strings: no text is less than that of the string before it.
 pub fn sort<E: Utf16Order>(strings: &mut Vec<WString<E>>) -> Result<(), AllocError>
-    ensures same { IsPermutation strings.old.items strings.new.items }
+    ensures permutation { IsPermutation strings.old.items strings.new.items }
     ensures sorted { OnOk result (IsSorted
         (λ x y. slice_cmp nat_cmp (wstring_text x) (wstring_text y)) strings.new.items) }
-    ensures refused { OnErr result (strings.new.items ≡ strings.old.items) }
+    ensures err { OnErr result (strings.new.items ≡ strings.old.items) }
 {
     strings.sort()
 }

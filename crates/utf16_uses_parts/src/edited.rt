@@ -30,9 +30,9 @@ pub fn insert_at_key<E: Utf16Order, A: Allocator>(
     ensures size { IfOk result (λ end.
         IfSome end (λ _. size (wstring_text text.new)
         ≡ size (wstring_text text.old) + size (wstr_text part.entry))) }
-    ensures kept { IfOk result (λ end. IsNone end
+    ensures unchanged { IfOk result (λ end. IsNone end
         → wstring_text text.new ≡ wstring_text text.old) }
-    ensures refused { OnErr result (wstring_text text.new ≡ wstring_text text.old) }
+    ensures err { OnErr result (wstring_text text.new ≡ wstring_text text.old) }
 {
     if !text.is_char_boundary(at) {
         return Ok(None);
@@ -49,7 +49,7 @@ pub fn overwrite_at_key<E: Utf16Order, A: Allocator>(
     at: usize,
     part: WStr<E>,
 ) -> bool
-    ensures fits { IsTrue result ↔ (IsBoundary (wstring_text text.old) at
+    ensures edited { IsTrue result ↔ (IsBoundary (wstring_text text.old) at
         × IsBoundary (wstring_text text.old) (at + size (wstr_text part.entry))) }
     ensures there { IsTrue result → text_between (wstring_text text.new) at
         (at + size (wstr_text part.entry)) ≡ wstr_text part.entry }
@@ -59,7 +59,7 @@ pub fn overwrite_at_key<E: Utf16Order, A: Allocator>(
         (at + size (wstr_text part.entry))
         ≡ text_from (wstring_text text.old) (at + size (wstr_text part.entry)) }
     ensures size { IsTrue result → size (wstring_text text.new) ≡ size (wstring_text text.old) }
-    ensures kept { result ≡ false → wstring_text text.new ≡ wstring_text text.old }
+    ensures unchanged { result ≡ false → wstring_text text.new ≡ wstring_text text.old }
 {
     let fits = text.fits(at, part);
     if fits {
@@ -75,9 +75,9 @@ pub fn cut_and_mend<E: Utf16Order, A: Allocator + Clone>(
     text: &mut WString<E, A>,
     at: usize,
 ) -> Result<bool, AllocError>
-    ensures fits { IfOk result (λ done. IsTrue done ↔ IsBoundary (wstring_text text.old) at) }
-    ensures same { OnOk result (wstring_text text.new ≡ wstring_text text.old) }
-    ensures front { OnErr result (wstring_text text.new ≡ wstring_text text.old
+    ensures edited { IfOk result (λ done. IsTrue done ↔ IsBoundary (wstring_text text.old) at) }
+    ensures unchanged { OnOk result (wstring_text text.new ≡ wstring_text text.old) }
+    ensures err { OnErr result (wstring_text text.new ≡ wstring_text text.old
         ⊎ wstring_text text.new ≡ text_to (wstring_text text.old) at) }
 {
     if !text.is_char_boundary(at) {

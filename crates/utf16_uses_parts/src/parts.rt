@@ -77,16 +77,16 @@ pub fn put<E: Utf16Order, A: Allocator>(
 ) -> Result<(usize, usize), AllocError>
     ensures text { OnOk result (wstring_text table.new ≡ wstring_text table.old
         ++ wstr_text name.entry) }
-    ensures refused { OnErr result (wstring_text table.new ≡ wstring_text table.old) }
+    ensures err { OnErr result (wstring_text table.new ≡ wstring_text table.old) }
     ensures start { IfOk result (λ at. IsBoundary (wstring_text table.new) at.0) }
     ensures end { IfOk result (λ at. IsBoundary (wstring_text table.new) at.1) }
-    ensures order { IfOk result (λ at. at.0 ≤ at.1) }
+    ensures ordered { IfOk result (λ at. at.0 ≤ at.1) }
     ensures there { IfOk result (λ at. text_between (wstring_text table.new) at.0 at.1
         ≡ wstr_text name.entry) }
-    ensures kept { OnOk result ((i j : ℕ) → i ≤ j → IsBoundary (wstring_text table.old) i
+    ensures boundaries_before { OnOk result ((i j : ℕ) → i ≤ j → IsBoundary (wstring_text table.old) i
         → IsBoundary (wstring_text table.old) j → text_between (wstring_text table.new) i j
         ≡ text_between (wstring_text table.old) i j) }
-    ensures stays { OnOk result ((i : ℕ) → IsBoundary (wstring_text table.old) i
+    ensures boundaries_after { OnOk result ((i : ℕ) → IsBoundary (wstring_text table.old) i
         → IsBoundary (wstring_text table.new) i) }
 {
     let start = table.len();
@@ -136,7 +136,7 @@ pub fn split_in_two<'a, E: Utf16Order>(
 pub fn after_first<'a, E: Utf16Order>(text: WStr<'a, E>) -> Option<WStr<'a, E>>
     ensures none { IfNone result (char_offsets 0 (wstr_text text.entry) ≡ []) }
     ensures some { IfSome result (λ _. char_offsets 0 (wstr_text text.entry) ≢ []) }
-    ensures rest { IfSome result (λ rest.
+    ensures tail_text { IfSome result (λ rest.
         wstr_text rest ≡ map (λ at. at.1) (drop 1 (char_offsets 0 (wstr_text text.entry)))) }
 {
     let mut chars = text.char_indices();

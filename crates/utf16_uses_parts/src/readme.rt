@@ -10,7 +10,7 @@ use utf16string::{LE, Utf16Error, WStr, WString};
 
 /// Returns the name in a field, in little endian.
 pub fn name_of(field: &[u8]) -> Result<WStr<'_, LE>, Utf16Error>
-    ensures text { IsOk result ↔ IsUtf16 false field.now }
+    ensures ok { IsOk result ↔ IsUtf16 false field.now }
     ensures name { IfOk result (λ name. Encodes false (wstr_text name) field.now) }
     ensures error { IfErr result (IsErrorOf false field.now) }
 {

@@ -51,10 +51,10 @@ pub fn feed_in_two_by_bom<A: Allocator, B: Allocator>(
     ensures pending { OnOk result (any_pending decoder.new
         ≡ tail_in (any_byte_order decoder.old)
         (any_pending decoder.old ++ (first.now ++ second.now))) }
-    ensures order { OnOk result (any_byte_order decoder.new
+    ensures byte_order { OnOk result (any_byte_order decoder.new
         ≡ byte_order_after (any_byte_order decoder.old)
         (any_pending decoder.old ++ (first.now ++ second.now))) }
-    ensures refused { OnErr result (((any_pending decoder.new ≡ any_pending decoder.old)
+    ensures err { OnErr result (((any_pending decoder.new ≡ any_pending decoder.old)
         × (any_byte_order decoder.new ≡ any_byte_order decoder.old))
         ⊎ Leaves (any_byte_order decoder.old) (any_pending decoder.old ++ first.now)
         (any_byte_order decoder.new) (any_pending decoder.new)

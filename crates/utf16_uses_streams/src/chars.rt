@@ -22,7 +22,7 @@ pub fn count_decided<E: Utf16Order, A: Allocator>(
         n ≡ length (decided_text E.BIG (lossy_pending decoder.old ++ piece.now))) }
     ensures pending { OnOk result (lossy_pending decoder.new
         ≡ split_tail E.BIG (lossy_pending decoder.old ++ piece.now)) }
-    ensures refused { OnErr result (lossy_pending decoder.new ≡ lossy_pending decoder.old) }
+    ensures err { OnErr result (lossy_pending decoder.new ≡ lossy_pending decoder.old) }
     ensures are_bytes { All (λ b. b < 256) (lossy_pending decoder.old ++ piece.now) }
 {
     let text = decoder.feed(alloc, piece)?;

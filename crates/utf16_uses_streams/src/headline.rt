@@ -25,7 +25,7 @@ use utf16string::{Utf16Order, WStr, WString};
 /// has that list, and there is no other.
 pub fn take_as_text<E: Utf16Order>(bytes: &[u8]) -> Option<WStr<E>>
     ensures taken { IsSome result ↔ ((text : List ℕ) × Encodes E.BIG text bytes.now) }
-    ensures one { IfSome result (λ s. Encodes E.BIG (wstr_text s) bytes.now
+    ensures encoding { IfSome result (λ s. Encodes E.BIG (wstr_text s) bytes.now
         × ((other : List ℕ) → Encodes E.BIG other bytes.now → other ≡ wstr_text s)) }
 {
     unique_text();
@@ -43,7 +43,7 @@ pub fn every_list_of_edits<E: Utf16Order, A: Allocator + Clone, B: Allocator, C:
     ensures edited { IfOk result.0 (λ replies. (last : List ℕ)
         × Run (wstring_text string) edits.items replies.items last
         × Encodes E.BIG last result.1.items) }
-    ensures refused { OnErr result.0 (result.1.items ≡ wstring_bytes string) }
+    ensures err { OnErr result.0 (result.1.items ≡ wstring_bytes string) }
 {
     let mut string = string;
     let replies = run(alloc, &mut string, edits);
@@ -54,7 +54,7 @@ pub fn every_list_of_edits<E: Utf16Order, A: Allocator + Clone, B: Allocator, C:
 /// the error, the length of the longest valid prefix and the `error_len` of what follows it, and
 /// `None` exactly if the bytes are well formed.
 pub fn error_after_valid_prefix<E: Utf16Order>(bytes: &[u8]) -> Option<(usize, Option<usize>)>
-    ensures refused { IsSome result ↔ ¬ (IsUtf16 E.BIG bytes.now) }
+    ensures some { IsSome result ↔ ¬ (IsUtf16 E.BIG bytes.now) }
     ensures lossy_chars { IfSome result (λ fields. IsUtf16ValidUpTo E.BIG bytes.now fields.0
         × IsIllFormed E.BIG bytes.now fields.1) }
 {
@@ -127,8 +127,8 @@ pub fn resume<'a, E: Utf16Order, A: Allocator>(
 ) -> Result<&'a [u8], AllocError>
     ensures text { OnOk result (string_bytes to.new ≡ string_bytes to.old
         ++ encode_utf8_all (decided_text E.BIG bytes.now)) }
-    ensures kept { IfOk result (λ kept. kept.now ≡ split_tail E.BIG bytes.now) }
-    ensures bytes { All (λ b. b < 256) bytes.now }
+    ensures tail { IfOk result (λ kept. kept.now ≡ split_tail E.BIG bytes.now) }
+    ensures are_bytes { All (λ b. b < 256) bytes.now }
 {
     let mut rest = bytes;
     loop {
@@ -159,7 +159,7 @@ fn resume_pieces<E: Utf16Order, A: Allocator, B: Allocator, C: Allocator>(
 ) -> Result<String<A>, AllocError>
     ensures text { IfOk result (λ text. string_bytes text ≡ encode_utf8_all
         (lossy_text E.BIG (flat_map vec_items pieces.now))) }
-    ensures bytes { OnOk result (All (λ b. b < 256) (flat_map vec_items pieces.now)) }
+    ensures are_bytes { OnOk result (All (λ b. b < 256) (flat_map vec_items pieces.now)) }
 {
     let mut text = String::new(text_alloc);
     let mut rest = Vec::new(rest_alloc);

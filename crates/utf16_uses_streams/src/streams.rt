@@ -43,7 +43,7 @@ pub fn feed_in_two<E: Utf16Order, A: Allocator, B: Allocator>(
         (decided_text E.BIG (lossy_pending decoder.old ++ (first.now ++ second.now)))) }
     ensures pending { OnOk result (lossy_pending decoder.new
         ≡ split_tail E.BIG (lossy_pending decoder.old ++ (first.now ++ second.now))) }
-    ensures refused { OnErr result ((lossy_pending decoder.new ≡ lossy_pending decoder.old)
+    ensures err { OnErr result ((lossy_pending decoder.new ≡ lossy_pending decoder.old)
         ⊎ (lossy_pending decoder.new ≡ split_tail E.BIG (lossy_pending decoder.old ++ first.now))
         ⊎ (lossy_pending decoder.new
         ≡ split_tail E.BIG (lossy_pending decoder.old ++ (first.now ++ second.now)))) }
@@ -93,7 +93,7 @@ pub fn pass_through<E: Utf16Order, A: Allocator>(
 ) -> Result<(String<A>, bool), AllocError>
     ensures text { IfOk result (λ answer.
         string_bytes answer.0 ≡ encode_utf8_all (wstr_text text.entry)) }
-    ensures whole { IfOk result (λ answer. IsTrue answer.1) }
+    ensures valid { IfOk result (λ answer. IsTrue answer.1) }
 {
     text_is_shown();
     let mut decoder = Lossy::<E>::new();
@@ -113,7 +113,7 @@ pub fn early_and_whole<E: Utf16Order, A: Allocator, B: Allocator>(
         string_bytes shown.0 ≡ encode_utf8_all (decided_text E.BIG (take at whole.now))) }
     ensures whole { IfOk result (λ shown.
         string_bytes shown.1 ≡ encode_utf8_all (decided_text E.BIG whole.now)) }
-    ensures stays { IfOk result (λ shown.
+    ensures prefix { IfOk result (λ shown.
         StartsWith (string_bytes shown.1) (string_bytes shown.0)) }
 {
     items_stay();
@@ -126,7 +126,7 @@ pub fn early_and_whole<E: Utf16Order, A: Allocator, B: Allocator>(
 /// most (3n + 6)/2 for n bytes.
 pub fn room_for(bytes: &[u8]) -> usize
     ensures most { 2 * result ≤ 3 * length bytes.now + 6 }
-    ensures enough { (big : Bool) → length (encode_utf8_all (lossy_text big bytes.now)) ≤ result }
+    ensures suffices { (big : Bool) → length (encode_utf8_all (lossy_text big bytes.now)) ≤ result }
 {
     shown_within();
     (bytes.len() / 2).saturating_mul(3).saturating_add(3)

@@ -51,7 +51,7 @@ fn swap_block(raw: &mut [u8], at: usize)
     requires { at + BLOCK ≤ length raw.old }
     ensures swapped { take (at + BLOCK) raw.new ≡ take at raw.old
         ++ swap_bytes (take BLOCK (drop at raw.old)) }
-    ensures behind { drop (at + BLOCK) raw.new ≡ drop (at + BLOCK) raw.old }
+    ensures rest { drop (at + BLOCK) raw.new ≡ drop (at + BLOCK) raw.old }
 {
     let block = u8x64::from_slice(&raw[at..]);
     swapped(block).copy_to_slice(&mut raw[at..]);
@@ -75,7 +75,7 @@ fn swap_two(raw: &mut [u8], at: usize)
     requires { at + 2 ≤ length raw.old }
     ensures swapped { take (at + 2) raw.new ≡ take at raw.old
         ++ (slice_index raw.old (at + 1) ∷ slice_index raw.old at ∷ []) }
-    ensures behind { drop (at + 2) raw.new ≡ drop (at + 2) raw.old }
+    ensures rest { drop (at + 2) raw.new ≡ drop (at + 2) raw.old }
 {
     let first = raw[at];
     raw[at] = raw[at + 1];

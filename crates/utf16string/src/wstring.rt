@@ -69,7 +69,7 @@ impl<E: Utf16Order, A: Allocator> WString<E, A> {
     pub fn with_capacity(alloc: A, capacity: usize) -> Result<Self, AllocError>
         ensures text { IfOk result (λ s. wstring_text s ≡ []) }
         ensures bytes { IfOk result (λ s. wstring_bytes s ≡ []) }
-        ensures capacity { IfOk result (λ s. capacity ≤ wstring_capacity s) }
+        ensures reserved { IfOk result (λ s. capacity ≤ wstring_capacity s) }
         ensures nothing { capacity ≡ 0 → IsOk result }
         ensures empty { capacity ≡ 0 → IfOk result (λ s. wstring_capacity s ≡ 0) }
     {
@@ -89,7 +89,7 @@ impl<E: Utf16Order, A: Allocator> WString<E, A> {
     /// One pass over the bytes, no copy.
     #[inline]
     pub fn from_utf16(buf: Vec<u8, A>) -> Result<Self, Utf16Error>
-        ensures text { IsOk result ↔ IsUtf16 E.BIG buf.items }
+        ensures ok { IsOk result ↔ IsUtf16 E.BIG buf.items }
         ensures vec { IfOk result (λ s. wstring_vec s ≡ buf) }
         ensures encoding { IfOk result (λ s. Encodes E.BIG (wstring_text s) buf.items) }
         ensures error { IfErr result (IsErrorOf E.BIG buf.items) }
@@ -137,7 +137,7 @@ impl<E: Utf16Order, A: Allocator> WString<E, A> {
     /// text included.
     #[inline]
     pub fn capacity(&self) -> usize
-        ensures room { result ≡ wstring_capacity self.now }
+        ensures capacity { result ≡ wstring_capacity self.now }
         ensures held { length (wstring_bytes self.now) ≤ result }
     {
         self.raw.capacity()
@@ -148,7 +148,7 @@ impl<E: Utf16Order, A: Allocator> WString<E, A> {
     pub fn len(&self) -> usize
         ensures bytes { result ≡ length (wstring_bytes self.now) }
         ensures size { result ≡ size (wstring_text self.now) }
-        ensures end { IsBoundary (wstring_text self.now) result }
+        ensures boundary { IsBoundary (wstring_text self.now) result }
     {
         self.as_wstr().len()
     }
@@ -281,7 +281,7 @@ impl<A: Allocator> WString<LittleEndian, A> {
     /// Converts a vector of little-endian bytes, as `from_utf16`.
     #[inline]
     pub fn from_utf16le(buf: Vec<u8, A>) -> Result<Self, Utf16Error>
-        ensures text { IsOk result ↔ IsUtf16 false buf.items }
+        ensures ok { IsOk result ↔ IsUtf16 false buf.items }
         ensures vec { IfOk result (λ s. wstring_vec s ≡ buf) }
         ensures encoding { IfOk result (λ s. Encodes false (wstring_text s) buf.items) }
         ensures error { IfErr result (IsErrorOf false buf.items) }
@@ -306,7 +306,7 @@ impl<A: Allocator> WString<BigEndian, A> {
     /// Converts a vector of big-endian bytes, as `from_utf16`.
     #[inline]
     pub fn from_utf16be(buf: Vec<u8, A>) -> Result<Self, Utf16Error>
-        ensures text { IsOk result ↔ IsUtf16 true buf.items }
+        ensures ok { IsOk result ↔ IsUtf16 true buf.items }
         ensures vec { IfOk result (λ s. wstring_vec s ≡ buf) }
         ensures encoding { IfOk result (λ s. Encodes true (wstring_text s) buf.items) }
         ensures error { IfErr result (IsErrorOf true buf.items) }

@@ -4,5 +4,5 @@ use Rattle.dethrux.proofs.dethrux_count_chars.Goals as goal
 pub returns-then-is_big_endian-clause-units : goal.returns-then-is_big_endian-clause-units
 returns-then-is_big_endian-clause-units c = search rules
 
-pub returns-then-is_big_endian-clause-text : goal.returns-then-is_big_endian-clause-text
-returns-then-is_big_endian-clause-text g c = search rules
+pub returns-then-is_big_endian-clause-count : goal.returns-then-is_big_endian-clause-count
+returns-then-is_big_endian-clause-count g c = search rules

@@ -52,7 +52,7 @@ impl<E: Utf16Order, A: Allocator + Clone> WString<E, A> {
     pub fn clone(&self) -> Result<Self, AllocError>
         ensures text { IfOk result (λ copy. wstring_text copy ≡ wstring_text self.now) }
         ensures bytes { IfOk result (λ copy. wstring_bytes copy ≡ wstring_bytes self.now) }
-        ensures nothing { wstring_text self.now ≡ []
+        ensures infallible { wstring_text self.now ≡ []
             → A.is_infallible (vec_allocator (wstring_vec self.now)) → IsOk result }
         ensures empty { wstring_text self.now ≡ []
             → IfOk result (λ copy. wstring_capacity copy ≡ 0) }

@@ -101,8 +101,8 @@ impl<E: Utf16Order, A: Allocator> WString<E, A> {
             ≡ split_front (wstring_text self.old) at) }
         ensures back { IfOk result (λ back.
             wstring_text back ≡ split_back (wstring_text self.old) at) }
-        ensures refused { OnErr result (IsUnchanged self.old self.new) }
-        ensures nothing { at ≡ size (wstring_text self.old)
+        ensures err { OnErr result (IsUnchanged self.old self.new) }
+        ensures infallible { at ≡ size (wstring_text self.old)
             → A.is_infallible (vec_allocator (wstring_vec self.old)) → IsOk result }
         ensures empty { at ≡ size (wstring_text self.old)
             → IfOk result (λ back. wstring_capacity back ≡ 0) }
@@ -120,7 +120,7 @@ impl<E: Utf16Order, A: Allocator> WString<E, A> {
 // Removes the bytes of a range of indices.
 #[inline]
 fn remove_bytes<A: Allocator>(raw: &mut Vec<u8, A>, start: usize, end: usize)
-    requires order { start ≤ end }
+    requires ordered { start ≤ end }
     requires within { end ≤ vec_len raw.old }
     ensures items { raw.new.items ≡ remove_range raw.old.items start end }
     ensures capacity { vec_capacity raw.new ≡ vec_capacity raw.old }

@@ -30,7 +30,7 @@ impl<E: Utf16Order, A: Allocator> WString<E, A> {
             self.old self.new result }
         ensures runs { OnOk result ((it : U.IntoIter) × U.into_iter_gives iter it
             × WholeRun U.IntoIter.next_gives it (λ p. Extends self.old p.items self.new)) }
-        ensures full { OnErr result ((it : U.IntoIter) × (front : List ℕ) × (c : ℕ)
+        ensures err { OnErr result ((it : U.IntoIter) × (front : List ℕ) × (c : ℕ)
             × (rest : U.IntoIter) × U.into_iter_gives iter it
             × YieldsThen U.IntoIter.next_gives it front (Some c) rest
             × Extends self.old front self.new
@@ -59,7 +59,7 @@ impl<E: Utf16Order, A: Allocator> Extend<char> for WString<E, A> {
             self.old self.new result }
         ensures runs { OnOk result ((it : U.IntoIter) × U.into_iter_gives iter it
             × WholeRun U.IntoIter.next_gives it (λ p. Extends self.old p.items self.new)) }
-        ensures full { OnErr result ((it : U.IntoIter) × (front : List ℕ) × (c : ℕ)
+        ensures err { OnErr result ((it : U.IntoIter) × (front : List ℕ) × (c : ℕ)
             × (rest : U.IntoIter) × U.into_iter_gives iter it
             × YieldsThen U.IntoIter.next_gives it front (Some c) rest
             × Extends self.old front self.new
@@ -91,7 +91,7 @@ impl<E: Utf16Order, A: Allocator> FromIterator<char> for WString<E, A> {
         ensures ran { IfOk result (λ s. (it : U.IntoIter) × (text : List ℕ)
             × U.into_iter_gives iter it × Drains U.IntoIter.next_gives it text
             × (wstring_text s ≡ text)) }
-        ensures full { OnErr result ((it : U.IntoIter) × (front : List ℕ) × (c : ℕ)
+        ensures err { OnErr result ((it : U.IntoIter) × (front : List ℕ) × (c : ℕ)
             × (rest : U.IntoIter) × U.into_iter_gives iter it
             × YieldsThen U.IntoIter.next_gives it front (Some c) rest) }
         ensures empty { IfOk result (λ s. wstring_bytes s ≡ [] → wstring_capacity s ≡ 0) }

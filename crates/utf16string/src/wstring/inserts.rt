@@ -33,8 +33,8 @@ impl<E: Utf16Order, A: Allocator> WString<E, A> {
             ≡ push_text (wstring_text self.old) (ch ∷ [])) }
         ensures len { OnOk result (length (wstring_bytes self.new)
             ≡ length (wstring_bytes self.old) + char_size ch) }
-        ensures refused { OnErr result (IsUnchanged self.old self.new) }
-        ensures room { length (wstring_bytes self.old) + char_size ch ≤ wstring_capacity self.old
+        ensures err { OnErr result (IsUnchanged self.old self.new) }
+        ensures succeeds { length (wstring_bytes self.old) + char_size ch ≤ wstring_capacity self.old
             → IsOk result }
         ensures stays { length (wstring_bytes self.old) + char_size ch ≤ wstring_capacity self.old
             → wstring_capacity self.new ≡ wstring_capacity self.old }
@@ -58,8 +58,8 @@ impl<E: Utf16Order, A: Allocator> WString<E, A> {
             ≡ push_text (wstring_text self.old) (wstr_text string.entry)) }
         ensures len { OnOk result (length (wstring_bytes self.new)
             ≡ length (wstring_bytes self.old) + length (wstr_bytes string.entry)) }
-        ensures refused { OnErr result (IsUnchanged self.old self.new) }
-        ensures room { length (wstring_bytes self.old) + length (wstr_bytes string.entry)
+        ensures err { OnErr result (IsUnchanged self.old self.new) }
+        ensures succeeds { length (wstring_bytes self.old) + length (wstr_bytes string.entry)
             ≤ wstring_capacity self.old → IsOk result }
         ensures grows { wstring_capacity self.old ≤ wstring_capacity self.new }
     {
@@ -85,8 +85,8 @@ impl<E: Utf16Order, A: Allocator> WString<E, A> {
             ≡ insert_at (wstring_text self.old) idx (ch ∷ [])) }
         ensures len { OnOk result (length (wstring_bytes self.new)
             ≡ length (wstring_bytes self.old) + char_size ch) }
-        ensures refused { OnErr result (IsUnchanged self.old self.new) }
-        ensures room { length (wstring_bytes self.old) + char_size ch ≤ wstring_capacity self.old
+        ensures err { OnErr result (IsUnchanged self.old self.new) }
+        ensures succeeds { length (wstring_bytes self.old) + char_size ch ≤ wstring_capacity self.old
             → IsOk result }
         ensures stays { length (wstring_bytes self.old) + char_size ch ≤ wstring_capacity self.old
             → wstring_capacity self.new ≡ wstring_capacity self.old }
@@ -114,8 +114,8 @@ impl<E: Utf16Order, A: Allocator> WString<E, A> {
             ≡ insert_at (wstring_text self.old) idx (wstr_text string.entry)) }
         ensures len { OnOk result (length (wstring_bytes self.new)
             ≡ length (wstring_bytes self.old) + length (wstr_bytes string.entry)) }
-        ensures refused { OnErr result (IsUnchanged self.old self.new) }
-        ensures room { length (wstring_bytes self.old) + length (wstr_bytes string.entry)
+        ensures err { OnErr result (IsUnchanged self.old self.new) }
+        ensures succeeds { length (wstring_bytes self.old) + length (wstr_bytes string.entry)
             ≤ wstring_capacity self.old → IsOk result }
         ensures grows { wstring_capacity self.old ≤ wstring_capacity self.new }
     {
@@ -127,9 +127,9 @@ impl<E: Utf16Order, A: Allocator> WString<E, A> {
 #[inline]
 fn push_char<E: Utf16Order, A: Allocator>(raw: &mut Vec<u8, A>, ch: char) -> Result<(), AllocError>
     ensures items { OnOk result (raw.new.items ≡ raw.old.items ++ char_bytes E.BIG ch) }
-    ensures refused { OnErr result (VecUnchanged raw.old raw.new
+    ensures err { OnErr result (VecUnchanged raw.old raw.new
         × (vec_capacity raw.new ≡ vec_capacity raw.old)) }
-    ensures room { vec_len raw.old + char_size ch ≤ vec_capacity raw.old → IsOk result }
+    ensures succeeds { vec_len raw.old + char_size ch ≤ vec_capacity raw.old → IsOk result }
     ensures stays { vec_len raw.old + char_size ch ≤ vec_capacity raw.old
         → vec_capacity raw.new ≡ vec_capacity raw.old }
     ensures grows { vec_capacity raw.old ≤ vec_capacity raw.new }
@@ -148,9 +148,9 @@ fn push_units<A: Allocator>(
 ) -> Result<(), AllocError>
     requires { (len ≡ 2) ⊎ (len ≡ 4) }
     ensures items { OnOk result (raw.new.items ≡ raw.old.items ++ take len units) }
-    ensures refused { OnErr result (VecUnchanged raw.old raw.new
+    ensures err { OnErr result (VecUnchanged raw.old raw.new
         × (vec_capacity raw.new ≡ vec_capacity raw.old)) }
-    ensures room { vec_len raw.old + len ≤ vec_capacity raw.old → IsOk result }
+    ensures succeeds { vec_len raw.old + len ≤ vec_capacity raw.old → IsOk result }
     ensures stays { vec_len raw.old + len ≤ vec_capacity raw.old
         → vec_capacity raw.new ≡ vec_capacity raw.old }
     ensures grows { vec_capacity raw.old ≤ vec_capacity raw.new }
@@ -170,9 +170,9 @@ fn push_units<A: Allocator>(
 #[inline]
 fn append<A: Allocator>(raw: &mut Vec<u8, A>, bytes: &[u8]) -> Result<(), AllocError>
     ensures items { OnOk result (raw.new.items ≡ raw.old.items ++ bytes.now) }
-    ensures refused { OnErr result (VecUnchanged raw.old raw.new
+    ensures err { OnErr result (VecUnchanged raw.old raw.new
         × (vec_capacity raw.new ≡ vec_capacity raw.old)) }
-    ensures room { vec_len raw.old + length bytes.now ≤ vec_capacity raw.old → IsOk result }
+    ensures succeeds { vec_len raw.old + length bytes.now ≤ vec_capacity raw.old → IsOk result }
     ensures grows { vec_capacity raw.old ≤ vec_capacity raw.new }
 {
     raw.reserve(bytes.len())?;
@@ -188,9 +188,9 @@ fn insert_char<E: Utf16Order, A: Allocator>(
     requires { index ≤ vec_len raw.old }
     ensures items { OnOk result (raw.new.items
         ≡ splice raw.old.items index index (char_bytes E.BIG ch)) }
-    ensures refused { OnErr result (VecUnchanged raw.old raw.new
+    ensures err { OnErr result (VecUnchanged raw.old raw.new
         × (vec_capacity raw.new ≡ vec_capacity raw.old)) }
-    ensures room { vec_len raw.old + char_size ch ≤ vec_capacity raw.old → IsOk result }
+    ensures succeeds { vec_len raw.old + char_size ch ≤ vec_capacity raw.old → IsOk result }
     ensures stays { vec_len raw.old + char_size ch ≤ vec_capacity raw.old
         → vec_capacity raw.new ≡ vec_capacity raw.old }
     ensures grows { vec_capacity raw.old ≤ vec_capacity raw.new }
@@ -213,9 +213,9 @@ fn insert_bytes<A: Allocator>(
 ) -> Result<(), AllocError>
     requires { index ≤ vec_len raw.old }
     ensures items { OnOk result (raw.new.items ≡ splice raw.old.items index index bytes.now) }
-    ensures refused { OnErr result (VecUnchanged raw.old raw.new
+    ensures err { OnErr result (VecUnchanged raw.old raw.new
         × (vec_capacity raw.new ≡ vec_capacity raw.old)) }
-    ensures room { vec_len raw.old + length bytes.now ≤ vec_capacity raw.old → IsOk result }
+    ensures succeeds { vec_len raw.old + length bytes.now ≤ vec_capacity raw.old → IsOk result }
     ensures grows { vec_capacity raw.old ≤ vec_capacity raw.new }
 {
     append(raw, bytes)?;

@@ -50,7 +50,7 @@ impl<E: Utf16Order, A: Allocator> WString<E, A> {
 // Writes a text over as many bytes starting at an offset, in the bytes of a text.
 #[inline]
 fn overwrite_text<E: Utf16Order>(raw: &mut [u8], idx: usize, text: WStr<E>)
-    requires text { IsUtf16 E.BIG raw.old }
+    requires well_formed { IsUtf16 E.BIG raw.old }
     requires start { IsBoundary (text_of E.BIG raw.old) idx }
     requires end { IsBoundary (text_of E.BIG raw.old) (idx + size (wstr_text text)) }
     ensures { raw.new ≡ splice raw.old idx (idx + length (wstr_bytes text.entry))

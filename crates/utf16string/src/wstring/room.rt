@@ -22,10 +22,10 @@ impl<E: Utf16Order, A: Allocator> WString<E, A> {
     #[inline]
     pub fn reserve(&mut self, additional: usize) -> Result<(), AllocError>
         ensures bytes { wstring_bytes self.new ≡ wstring_bytes self.old }
-        ensures capacity { OnOk result (length (wstring_bytes self.new) + additional
+        ensures reserved { OnOk result (length (wstring_bytes self.new) + additional
             ≤ wstring_capacity self.new) }
-        ensures refused { OnErr result (IsUnchanged self.old self.new) }
-        ensures room { length (wstring_bytes self.old) + additional ≤ wstring_capacity self.old
+        ensures err { OnErr result (IsUnchanged self.old self.new) }
+        ensures succeeds { length (wstring_bytes self.old) + additional ≤ wstring_capacity self.old
             → IsOk result }
         ensures stays { length (wstring_bytes self.old) + additional ≤ wstring_capacity self.old
             → wstring_capacity self.new ≡ wstring_capacity self.old }
@@ -45,10 +45,10 @@ impl<E: Utf16Order, A: Allocator> WString<E, A> {
     /// Allocates nothing if the capacity is the length already, or the text is empty.
     pub fn shrink_to_fit(&mut self) -> Result<(), AllocError>
         ensures bytes { wstring_bytes self.new ≡ wstring_bytes self.old }
-        ensures fits { IsOk result ↔ (wstring_capacity self.new
+        ensures ok { IsOk result ↔ (wstring_capacity self.new
             ≡ length (wstring_bytes self.new)) }
         ensures shrinks { wstring_capacity self.new ≤ wstring_capacity self.old }
-        ensures empty { wstring_bytes self.old ≡ [] → IsOk result }
+        ensures nothing { wstring_bytes self.old ≡ [] → IsOk result }
     {
         self.raw.shrink_to_fit();
         if self.raw.capacity() > self.raw.len() {
@@ -65,10 +65,10 @@ pub(super) fn make_room<A: Allocator>(
     additional: usize,
 ) -> Result<(), AllocError>
     ensures items { raw.new.items ≡ raw.old.items }
-    ensures enough { OnOk result (vec_len raw.new + additional ≤ vec_capacity raw.new) }
-    ensures refused { OnErr result (VecUnchanged raw.old raw.new
+    ensures reserved { OnOk result (vec_len raw.new + additional ≤ vec_capacity raw.new) }
+    ensures err { OnErr result (VecUnchanged raw.old raw.new
         × (vec_capacity raw.new ≡ vec_capacity raw.old)) }
-    ensures room { vec_len raw.old + additional ≤ vec_capacity raw.old → IsOk result }
+    ensures succeeds { vec_len raw.old + additional ≤ vec_capacity raw.old → IsOk result }
     ensures stays { vec_len raw.old + additional ≤ vec_capacity raw.old
         → vec_capacity raw.new ≡ vec_capacity raw.old }
     ensures grows { vec_capacity raw.old ≤ vec_capacity raw.new }

@@ -51,8 +51,8 @@ impl<E: Utf16Order, A: Allocator> WString<E, A> {
             ≡ push_text (wstring_text self.old) (chars string.now)) }
         ensures len { OnOk result (length (wstring_bytes self.new)
             ≡ length (wstring_bytes self.old) + size (chars string.now)) }
-        ensures refused { OnErr result (IsUnchanged self.old self.new) }
-        ensures room { length (wstring_bytes self.old) + size (chars string.now)
+        ensures err { OnErr result (IsUnchanged self.old self.new) }
+        ensures succeeds { length (wstring_bytes self.old) + size (chars string.now)
             ≤ wstring_capacity self.old → IsOk result }
         ensures grows { wstring_capacity self.old ≤ wstring_capacity self.new }
     {

@@ -7,5 +7,5 @@ returns-clause-feeds c = search rules
 pub returns-clause-stop : goal.returns-clause-stop
 returns-clause-stop c = search rules
 
-pub returns-clause-whole : goal.returns-clause-whole
-returns-clause-whole c = search rules
+pub returns-clause-done : goal.returns-clause-done
+returns-clause-done c = search rules

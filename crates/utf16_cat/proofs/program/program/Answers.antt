@@ -2,8 +2,8 @@ use Rattle.std.proofs.Common.{None, Some, false, true, ⊎_elim, inl, inr, arith
 use Rattle.utf16_cat.proofs.EndsLemmas.{ExitsAs-le, ExitsAs-one, ExitsAs-zero}
 use Rattle.utf16_cat.proofs.program.program.Goals as goal
 
-pub returns-in-Ok-clause-done : goal.returns-in-Ok-clause-done
-returns-in-Ok-clause-done g c zero =
+pub returns-in-Ok-clause-filtered : goal.returns-in-Ok-clause-filtered
+returns-in-Ok-clause-filtered g c zero =
     let on = c.program_on.ensures in
     ⊎_elim (λ le. ExitsAs-zero (Some false) _ _ _ _ _ (on.le le) zero)
     (⊎_elim (λ be. ExitsAs-zero (Some true) _ _ _ _ _ (on.be be) zero)
@@ -38,5 +38,5 @@ returns-in-Ok-clause-cases g c =
     (λ other. omega (arith, other.0))))
     on.other
 
-pub returns-in-Err-clause-done : goal.returns-in-Err-clause-done
-returns-in-Err-clause-done g c = search rules
+pub returns-in-Err-clause-filtered : goal.returns-in-Err-clause-filtered
+returns-in-Err-clause-filtered g c = search rules

@@ -3,7 +3,7 @@ use Rattle.utf16_decode.proofs.WroteLemmas.{Puts-none, Puts-put, enough}
 use Rattle.utf16_decode.proofs.direction.put_piece.Goals as goal
 
 pub returns-then-len-eq0 : goal.returns-then-len-eq0
-returns-then-len-eq0 g c = Puts-none c.laws.ensures.empty c.args.rest.now _ _ c.args.at c.requires refl
+returns-then-len-eq0 g c = Puts-none c.laws.ensures.of_nothing c.args.rest.now _ _ c.args.at c.requires refl
 
 pub returns : goal.returns
 returns g c =

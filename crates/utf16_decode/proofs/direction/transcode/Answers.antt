@@ -4,7 +4,7 @@ use Rattle.utf16_decode.proofs.WroteLemmas.{Wrote-none, Wrote-then, stops_there}
 use Rattle.utf16_decode.proofs.direction.transcode.Goals as goal
 
 pub loop-read-init : goal.loop-read-init
-loop-read-init g c = Wrote-none c.laws.ensures.empty _ _
+loop-read-init g c = Wrote-none c.laws.ensures.of_nothing _ _
 
 pub loop-read-preserved : goal.loop-read-preserved
 loop-read-preserved g c =
@@ -13,7 +13,7 @@ loop-read-preserved g c =
 
 pub returns-in-Err-clause-wrote : goal.returns-in-Err-clause-wrote
 returns-in-Err-clause-wrote g c =
-    subst (λ to. Wrote (Gives g.D.Direction.IsValid g.D.Direction.other) c.args.input.now to (c.loop-read.read + c.put_piece-len.result.0) c.put_piece-len.result.1) (sym c.in-Err.ensures.kept)
+    subst (λ to. Wrote (Gives g.D.Direction.IsValid g.D.Direction.other) c.args.input.now to (c.loop-read.read + c.put_piece-len.result.0) c.put_piece-len.result.1) (sym c.in-Err.ensures.unchanged)
     (Wrote-then c.laws.ensures.joins _ _ _ _ _ _ _ c.loop-read.invariant c.put_piece-len.ensures)
 
 pub returns-in-Err-clause-stop : goal.returns-in-Err-clause-stop
@@ -22,7 +22,7 @@ returns-in-Err-clause-stop g c =
     let within = here.within in
     let left = c.if-read-input.false in
     let d = g.D.Direction in
-    stops_there d.from d.into d.IsValid d.IsIllFormedAt d.IsIllFormed c.laws.ensures.faults _ _ _ (search rules) here.gives.0 c.in-Err.stop c.in-Err.ensures.stop
+    stops_there d.from d.into d.IsValid d.IsIllFormedAt d.IsIllFormed c.laws.ensures.ill_formed _ _ _ (search rules) here.gives.0 c.in-Err.stop c.in-Err.ensures.stop
 
 pub returns-then-read-input-clause-wrote : goal.returns-then-read-input-clause-wrote
 returns-then-read-input-clause-wrote g c = Wrote-then c.laws.ensures.joins _ _ _ _ _ _ _ c.loop-read.invariant c.put_piece-len.ensures

@@ -10,15 +10,15 @@ returns-clause-decodes g c =
     let raw = c.args.raw.now in
     let m = c.min-most.result in
     let ends = c.write_well_formed-len.ensures.len in
-    let text = Encodes-unique _ _ _ _ (Encodes-text_of _ _ c.write_well_formed-len.ensures.text) c.write_well_formed-len.ensures.encoding in
+    let text = Encodes-unique _ _ _ _ (Encodes-text_of _ _ c.write_well_formed-len.ensures.well_formed) c.write_well_formed-len.ensures.encoding in
     record {
       within = omega (arith, ends, length-take-le m raw (omega arith));
       room = enough _ _ _ c.write_utf8.ensures.utf8 c.write_utf8.ensures.len;
       decodes = Decodes-decided _ raw _ m _ refl ends _ _ (c.write_utf8.ensures.utf8 ∙ ap encode_utf8_all text);
     }
 
-pub returns-clause-some : goal.returns-clause-some
-returns-clause-some g c some =
+pub returns-clause-advances : goal.returns-clause-advances
+returns-clause-advances g c some =
     let raw = c.args.raw.now in
     let m = c.min-most.result in
     let front = length-take-le m raw (omega arith) in

@@ -11,7 +11,7 @@ returns-in-NoRoom g c =
     let front = c.decode_joined-front.ensures.decodes in
     let full = subst (StopsLossy _ _ _) c.in-NoRoom.is c.decode_joined-front.ensures.stop in
     let read = ap (λ r. length c.args.piece.now - length r) c.rest_of.ensures.piece in
-    let left = c.of.ensures.pending ∙ c.rest_of.ensures.pending in
+    let left = c.of.ensures.pending ∙ c.rest_of.ensures.left in
     record {
       feeds = Feeds-full _ _ _ _ _ _ front full _ read _ left;
       stop = stops_full _ _ _ _ _ _ front full _ read _ left;
@@ -28,7 +28,7 @@ module _ (g : Over) (c : After-seam-len g) where
   undecided = rest_undecided _ _ _ c.decode_joined-front.result.stop c.in_default.not-NoRoom c.decode_joined-front.ensures.stop
 
   both : c.rest_of.result.0.now ++ c.rest_of.result.1.now ≡ rest
-  both = ap₂ (λ h p. h ++ p) c.rest_of.ensures.pending c.rest_of.ensures.piece ∙ join_drop c.args.pending.now c.args.piece.now c.decode_joined-front.result.read
+  both = ap₂ (λ h p. h ++ p) c.rest_of.ensures.left c.rest_of.ensures.piece ∙ join_drop c.args.pending.now c.args.piece.now c.decode_joined-front.result.read
 
   few : length (c.rest_of.result.0.now ++ c.rest_of.result.1.now) ≤ 3
   few = subst (λ b. length b ≤ 3) (sym both) (few_left _ c.args.pending.now c.args.piece.now _ _ _ c.decode_joined-front.ensures.decodes undecided)

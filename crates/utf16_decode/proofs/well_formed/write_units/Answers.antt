@@ -16,7 +16,7 @@ loop-at-preserved g c =
     let more = units_of big (drop (at + 32) bytes) in
     let before = c.loop-at.before in
     let behind = c.read_unit-behind.ensures ∙ first-units_of-drop big bytes (at + 32) (at + 33) (omega (arith, c.requires.even, c.loop-at.invariant.even)) (omega arith) in
-    let wrote = take_more_put_chunk at c.loop-at.to c.bytes16.result (at + 32) (omega (arith, c.bytes16.ensures.len)) (omega (arith, c.requires.room, c.loop-at.auto.to))
+    let wrote = take_more_put_chunk at c.loop-at.to c.bytes16.result (at + 32) (omega (arith, c.bytes16.ensures.len)) (omega (arith, c.requires.same_len, c.loop-at.auto.to))
     ∙ ap (λ bs. done ++ bs) (c.bytes16.ensures.bytes ∙ ap (flat_map (unit_bytes big)) c.well_formed-in-loop-at.ensures.units) in
     record {
       within = omega arith;

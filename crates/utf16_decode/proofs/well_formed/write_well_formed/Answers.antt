@@ -11,8 +11,8 @@ write_units-requires-clause-even g c =
     let even = even_end g.E.Utf16Order.BIG c.args.raw.now len c.decided_len-len.ensures in
     omega (arith, even, length-take-le len c.args.raw.now (omega (arith, c.decided_len-len.ensures)))
 
-pub returns-clause-written : goal.returns-clause-written
-returns-clause-written g c =
+pub returns-clause-bytes : goal.returns-clause-bytes
+returns-clause-bytes g c =
     let bytes = c.args.raw.now in
     let len = c.decided_len-len.result in
     let are : AreBytes bytes = λ k. omega (arith, c.type_inv.raw k) in
@@ -23,8 +23,8 @@ returns-clause-encoding g c =
     let bytes = c.args.raw.now in
     let len = c.decided_len-len.result in
     let are : AreBytes bytes = λ k. omega (arith, c.type_inv.raw k) in
-    subst (λ bs. Encodes g.E.Utf16Order.BIG (lossy_chars (split_items g.E.Utf16Order.BIG bytes)) (take len bs)) (sym (returns-clause-written g c))
+    subst (λ bs. Encodes g.E.Utf16Order.BIG (lossy_chars (split_items g.E.Utf16Order.BIG bytes)) (take len bs)) (sym (returns-clause-bytes g c))
     (encodes_marked g.E.Utf16Order.BIG bytes len c.decided_len-len.ensures are (drop len c.args.to.now))
 
-pub returns-clause-text : goal.returns-clause-text
-returns-clause-text g c = record { text = lossy_chars (split_items g.E.Utf16Order.BIG c.args.raw.now); encodes = returns-clause-encoding g c }
+pub returns-clause-well_formed : goal.returns-clause-well_formed
+returns-clause-well_formed g c = record { text = lossy_chars (split_items g.E.Utf16Order.BIG c.args.raw.now); encodes = returns-clause-encoding g c }

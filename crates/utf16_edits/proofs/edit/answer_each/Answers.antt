@@ -15,8 +15,8 @@ loop-edit-preserved g c =
     let pushed : c.push.new.self.items ≡ c.loop-edit.replies.items ++ c.apply-reply.result ∷ [] = search rules in
     let room = wstring_capacity c.args.string.now in
     let mid = wstring_text c.loop-edit.string in
-    let grown : room ≤ wstring_capacity c.apply-reply.new.string = omega (arith, c.loop-edit.invariant.3, c.apply-reply.ensures.room) in
-    let granted = λ (fits : Fits room mid c.in-Some.edit). c.apply-reply.ensures.fits (room_for room c.loop-edit.string c.in-Some.edit c.loop-edit.invariant.3 fits) in (
+    let grown : room ≤ wstring_capacity c.apply-reply.new.string = omega (arith, c.loop-edit.invariant.3, c.apply-reply.ensures.grows) in
+    let granted = λ (fits : Fits room mid c.in-Some.edit). c.apply-reply.ensures.succeeds (room_for room c.loop-edit.string c.in-Some.edit c.loop-edit.invariant.3 fits) in (
       subst (λ replies. Run (wstring_text c.args.string.now) (c.loop-edit.yielded ++ c.in-Some.edit ∷ []) replies (wstring_text c.apply-reply.new.string)) (sym pushed)
           (Run-push _ _ _ _ _ _ _ c.loop-edit.invariant.0 c.apply-reply.ensures.step),
       search rules,

@@ -14,14 +14,14 @@ returns-in-Truncate-clause-step g c = Step-cut _ _ _ _ c.in-Truncate.is (c.if-no
 pub returns-in-Clear-clause-stays : goal.returns-in-Clear-clause-stays
 returns-in-Clear-clause-stays g c = inr c.clear.ensures.capacity
 
-pub returns-in-PushText-clause-fits : goal.returns-in-PushText-clause-fits
-returns-in-PushText-clause-fits g c room = search rules
+pub returns-in-PushText-clause-succeeds : goal.returns-in-PushText-clause-succeeds
+returns-in-PushText-clause-succeeds g c room = search rules
 
-pub returns-then-not-is_possible-clause-kept : goal.returns-then-not-is_possible-clause-kept
-returns-then-not-is_possible-clause-kept g c e = (refl, refl)
+pub returns-then-not-is_possible-clause-unchanged : goal.returns-then-not-is_possible-clause-unchanged
+returns-then-not-is_possible-clause-unchanged g c e = (refl, refl)
 
 pub returns-then-not-is_possible-clause-stays : goal.returns-then-not-is_possible-clause-stays
 returns-then-not-is_possible-clause-stays g c = inr refl
 
-pub returns-then-not-is_possible-clause-fits : goal.returns-then-not-is_possible-clause-fits
-returns-then-not-is_possible-clause-fits g c room missing = absurd cc
+pub returns-then-not-is_possible-clause-succeeds : goal.returns-then-not-is_possible-clause-succeeds
+returns-then-not-is_possible-clause-succeeds g c room missing = absurd cc

@@ -5,8 +5,8 @@ use Rattle.utf16_from_utf8.specs.Added.{added_bytes}
 use Rattle.utf16_from_utf8.proofs.AppendLemmas.{added_bytes-text}
 use Rattle.utf16_from_utf8.proofs.append.extend_long.Goals as goal
 
-pub extend_pieces-requires-clause-room : goal.extend_pieces-requires-clause-room
-extend_pieces-requires-clause-room g c =
+pub extend_pieces-requires-clause-fits : goal.extend_pieces-requires-clause-fits
+extend_pieces-requires-clause-fits g c =
     let big = g.E.Utf16Order.BIG in
     let is = ap (added_bytes big 0 0) c.as_bytes.ensures.value ∙ added_bytes-text big c.args.s.now c.utf8.s in
     omega (arith, ap length is, length-encode big (chars c.args.s.now), c.requires)

@@ -5,11 +5,11 @@ use Rattle.utf16_from_utf8.specs.Added.{added_bytes}
 use Rattle.utf16_from_utf8.proofs.AppendLemmas.{added_bytes-text}
 use Rattle.utf16_from_utf8.proofs.append.extend_short.Goals as goal
 
-pub extend_piece-requires-clause-room : goal.extend_piece-requires-clause-room
-extend_piece-requires-clause-room g c =
+pub extend_piece-requires-clause-fits : goal.extend_piece-requires-clause-fits
+extend_piece-requires-clause-fits g c =
     let big = g.E.Utf16Order.BIG in
     let is = ap (added_bytes big 0 0) c.as_bytes.ensures.value ∙ added_bytes-text big c.args.s.now c.utf8.s in
-    omega (arith, ap length is, length-encode big (chars c.args.s.now), c.requires.room)
+    omega (arith, ap length is, length-encode big (chars c.args.s.now), c.requires.fits)
 
 pub returns-clause-items : goal.returns-clause-items
 returns-clause-items g c =

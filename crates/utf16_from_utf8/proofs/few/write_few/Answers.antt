@@ -37,8 +37,8 @@ returns-clause-bytes g c =
     let end = YieldsList-end (YieldsList-from_chars c.args.s.now c.utf8.s cc) c.loop-c.yielded _ c.loop-c.yielded_by _ _ c.in-None.is c.next.ensures.steps in
     c.loop-c.invariant.written ∙ ap (encode g.E.Utf16Order.BIG) (sym (map-id c.loop-c.yielded) ∙ end.0)
 
-pub returns-clause-end : goal.returns-clause-end
-returns-clause-end g c =
+pub returns-clause-written_to : goal.returns-clause-written_to
+returns-clause-written_to g c =
     let end = YieldsList-end (YieldsList-from_chars c.args.s.now c.utf8.s cc) c.loop-c.yielded _ c.loop-c.yielded_by _ _ c.in-None.is c.next.ensures.steps in
     c.loop-c.invariant.counted ∙ ap size (sym (map-id c.loop-c.yielded) ∙ end.0)
 

@@ -12,8 +12,8 @@ returns-clause-pairs c =
     let is = c.positions.ensures in
     let v = swz_l w8 16 c.args.pairs 0 c.positions.result in
     let long = length-swz_l w8 16 c.args.pairs 0 c.positions.result in
-    stored_front c.args.at _ c.args.out.now v (omega (arith, long, is.len, is.few)) (omega (arith, long, is.len, c.requires.room))
+    stored_front c.args.at _ c.args.out.now v (omega (arith, long, is.len, is.few)) (omega (arith, long, is.len, c.requires.space))
     ∙ ap (λ t. take c.args.at c.args.out.now ++ t) (packed c.args.pairs c.positions.result c.args.bits c.fits-pairs.0 is)
 
-pub returns-clause-end : goal.returns-clause-end
-returns-clause-end c = omega (arith, c.positions.ensures.few)
+pub returns-clause-written_to : goal.returns-clause-written_to
+returns-clause-written_to c = omega (arith, c.positions.ensures.few)

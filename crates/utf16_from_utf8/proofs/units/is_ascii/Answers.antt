@@ -12,6 +12,6 @@ returns c = (
       omega (arith, fits, sym (c.masked.ensures.lanes i below) ∙ lane, and_pow (slice_index c.args.block i) 7)),
   (λ ascii.
       ap (λ bits. nat_eq bits 0)
-      (none_set c.masked.result c.set_bits.result c.set_bits.ensures.few c.set_bits.ensures.bits
+      (none_set c.masked.result c.set_bits.result c.set_bits.ensures.bound c.set_bits.ensures.bits
       (λ i below. c.masked.ensures.lanes i below ∙ omega (arith, and_pow (slice_index c.args.block i) 7, ascii i below)))),
 )

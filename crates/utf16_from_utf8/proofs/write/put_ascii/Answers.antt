@@ -5,7 +5,7 @@ use Rattle.utf16_from_utf8.proofs.write.put_ascii.Goals as goal
 pub returns-clause-bytes : goal.returns-clause-bytes
 returns-clause-bytes g c b2 b1 behind =
     let long = c.fits-block.0 in
-    both_stored c.args.at c.paired.result.0 c.paired.result.1 c.args.out.now c.paired.ensures.first c.paired.ensures.second c.requires.room
+    both_stored c.args.at c.paired.result.0 c.paired.result.1 c.args.out.now c.paired.ensures.first_len c.paired.ensures.second_len c.requires.space
     ∙ ap (λ t. take c.args.at c.args.out.now ++ t)
     (c.paired.ensures.pairs
     ∙ ascii-added g.E.Utf16Order.BIG b2 b1 c.each.result c.args.block (c.each.ensures.len ∙ sym long) behind

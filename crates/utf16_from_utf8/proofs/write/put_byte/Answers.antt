@@ -15,6 +15,6 @@ returns-then-b0-ge192-clause-bytes g c =
 pub returns-clause-bytes : goal.returns-clause-bytes
 returns-clause-bytes g c =
     let big = g.E.Utf16Order.BIG in
-    two_stored big c.args.at _ c.unit.result c.args.out.now (omega (arith, c.requires.room)) c.write_unit-two.ensures
+    two_stored big c.args.at _ c.unit.result c.args.out.now (omega (arith, c.requires.space)) c.write_unit-two.ensures
     ∙ ap (λ t. take c.args.at c.args.out.now ++ t)
     (ap (unit_bytes big) c.unit.ensures ∙ sym (added_bytes-one big c.args.b2 c.args.b1 c.args.b0 ∙ byte-adds-one big c.args.b2 c.args.b1 c.args.b0 c.if-b0-ge192.false c.if-b1-ge224.false))

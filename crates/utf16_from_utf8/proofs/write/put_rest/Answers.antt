@@ -14,13 +14,13 @@ returns-clause-bytes g c =
     ∙ ap (λ more. front ++ added_bytes big c.args.before2 c.args.before1 (rest ++ more)) (drop-replicate (length rest) 16 0xFF)
     ∙ ap (λ bytes. front ++ bytes) (added-filled big c.args.before2 c.args.before1 rest (16 - length rest))
 
-pub returns-clause-end : goal.returns-clause-end
-returns-clause-end g c =
+pub returns-clause-written_to : goal.returns-clause-written_to
+returns-clause-written_to g c =
     let big = g.E.Utf16Order.BIG in
     let rest = c.args.rest.now in
     let front = take c.args.at c.args.out.now in
     let added = added_bytes big c.args.before2 c.args.before1 rest in
     let whole = ap length (returns-clause-bytes g c) ∙ length-append front added in
     let short = added-short big c.args.before2 c.args.before1 rest in
-    let end = length-take-le c.put_block.result c.put_block.new.out (omega (arith, c.put_block.ensures.end, c.requires.room, c.put_block.auto.out)) in
-    omega (arith, whole, short, end, length-take-le c.args.at c.args.out.now (omega (arith, c.requires.room)))
+    let end = length-take-le c.put_block.result c.put_block.new.out (omega (arith, c.put_block.ensures.written_to, c.requires.space, c.put_block.auto.out)) in
+    omega (arith, whole, short, end, length-take-le c.args.at c.args.out.now (omega (arith, c.requires.space)))

@@ -7,8 +7,8 @@ use Rattle.utf16_from_utf8.proofs.write.put_threes.Goals as goal
 pub returns-clause-bytes : goal.returns-clause-bytes
 returns-clause-bytes g c b2 b1 =
     let first = c.paired.result.0 in
-    let long = c.paired.ensures.first in
-    stored_front c.args.at 10 c.args.out.now first (omega (arith, long)) (omega (arith, long, c.requires.room))
+    let long = c.paired.ensures.first_len in
+    stored_front c.args.at 10 c.args.out.now first (omega (arith, long)) (omega (arith, long, c.requires.space))
     ∙ ap (λ t. take c.args.at c.args.out.now ++ t)
     (sym (take-append-le 10 first c.paired.result.1 (omega (arith, long)))
     ∙ ap (take 10) c.paired.ensures.pairs

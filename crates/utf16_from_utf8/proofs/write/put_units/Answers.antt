@@ -13,7 +13,7 @@ loop-at-preserved g c =
     let n = next.result.0 in
     let used = next.ensures.used in (
       omega (arith, used),
-      omega (arith, next.ensures.end, c.loop-at.invariant.1),
+      omega (arith, next.ensures.written_to, c.loop-at.invariant.1),
       added-step big (take c.loop-at.end c.loop-at.out) (take next.result.1 next.new.out) _ piece at n c.loop-at.b2 c.loop-at.b1 used.0 (omega (arith, used))
           (next.ensures.bytes ∙ ap (λ t. take c.loop-at.end c.loop-at.out ++ added_bytes big c.loop-at.b2 c.loop-at.b1 t) (take-take n 16 (drop at piece) used.1))
           c.loop-at.invariant.2,
@@ -23,7 +23,7 @@ pub loop-at-2-preserved : goal.loop-at-2-preserved
 loop-at-2-preserved g c =
     let put = c.put_byte-end in (
       omega arith,
-      omega (arith, put.ensures.end, c.loop-at-2.invariant.1),
+      omega (arith, put.ensures.written_to, c.loop-at-2.invariant.1),
       added-step-one g.E.Utf16Order.BIG (take c.loop-at-2.end c.loop-at-2.out) (take put.result put.new.out) _ c.args.piece.now c.loop-at-2.at c.loop-at-2.b2 c.loop-at-2.b1 (omega arith)
           put.ensures.bytes c.loop-at-2.invariant.2,
     )

@@ -25,10 +25,10 @@ loop-unit-preserved g c =
     let may = (subst (MayBeAsked g.F.FnMut c.loop-unit.keep) (drop_more c.args.units.now i 0 room) at.may).1 _ _ asked in
     elim c.if-keep.branch [
       | then-keep w ↦ rw (w.bytes-is, w.end-is) (record {
-        kept = Keeping-keep g.F.FnMut _ _ _ _ _ _ _ _ _ at.kept room (c.type_inv.units i).fits (called g.F.FnMut asked w.if-keep.true) _ w.write_unit.ensures.written;
+        kept = Keeping-keep g.F.FnMut _ _ _ _ _ _ _ _ _ at.kept room (c.type_inv.units i).fits (called g.F.FnMut asked w.if-keep.true) _ w.write_unit.ensures.bytes;
         may = may;
         order = omega (arith, at.order);
-        behind = drop-later (c.loop-unit.end + 2) (c.args.start + 2 * length c.args.units.now) _ _ (omega (arith, at.order)) w.write_unit.ensures.behind ∙ at.behind;
+        behind = drop-later (c.loop-unit.end + 2) (c.args.start + 2 * length c.args.units.now) _ _ (omega (arith, at.order)) w.write_unit.ensures.rest ∙ at.behind;
       })
       | else-keep w ↦ rw (w.bytes-is, w.end-is) (record {
         kept = Keeping-drop g.F.FnMut _ _ _ _ _ _ _ _ _ at.kept room (called g.F.FnMut asked w.if-keep.false);
@@ -38,8 +38,8 @@ loop-unit-preserved g c =
       })
     ]
 
-pub returns-clause-kept : goal.returns-clause-kept
-returns-clause-kept g c =
+pub returns-clause-retained : goal.returns-clause-retained
+returns-clause-retained g c =
     let at = c.loop-unit.invariant.kept in
     let all = take_all c.loop-unit.unit-index c.args.units.now (omega arith) in
     (at.left, subst (λ l. RetainsTo g.F.FnMut c.args.keep.now l at.left c.loop-unit.keep) all at.asked, at.written)

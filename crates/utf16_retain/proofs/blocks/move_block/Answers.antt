@@ -21,5 +21,5 @@ returns-then-many-eq0-clause-moved g c =
 
 pub returns-clause-moved : goal.returns-clause-moved
 returns-clause-moved g c =
-    c.write_some.ensures.written
-    ∙ ap (λ l. take c.args.to c.args.bytes.now ++ l) (sym (encode-kept g.E.Utf16Order.BIG c.args.answers.now c.args.units.now c.requires.units))
+    c.write_some.ensures.bytes
+    ∙ ap (λ l. take c.args.to c.args.bytes.now ++ l) (sym (encode-kept g.E.Utf16Order.BIG c.args.answers.now c.args.units.now c.requires.are_units))

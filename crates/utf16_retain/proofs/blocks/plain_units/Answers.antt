@@ -8,8 +8,8 @@ use Rattle.utf16_units.proofs.BlockUnits.{bytes-units_of}
 use Rattle.utf16_retain.proofs.PlainUnits.{IsUnit, encode-units, units-take}
 use Rattle.utf16_retain.proofs.blocks.plain_units.Goals as goal
 
-pub returns-clause-units : goal.returns-clause-units
-returns-clause-units g c = All-from_get_or IsUnit c.units16-units.result 0 (λ i lt. let h = c.units16-units.type_inv in search rules)
+pub returns-clause-are_units : goal.returns-clause-are_units
+returns-clause-are_units g c = All-from_get_or IsUnit c.units16-units.result 0 (λ i lt. let h = c.units16-units.type_inv in search rules)
 
 pub returns-clause-spelled : goal.returns-clause-spelled
 returns-clause-spelled g c n le =

@@ -12,8 +12,8 @@ loop-i-preserved g c =
         order = omega (arith, at.order);
         written =
             written-more big _ c.args.answers.now c.args.units.now c.loop-i.i true (omega arith) (omega arith) w.if-answers-i.true _ _ at.written
-            (w.write_unit.ensures.written ∙ ap (λ l. take c.loop-i.end c.loop-i.bytes ++ l) (sym (append-nil _)));
-        behind = drop-later (c.loop-i.end + 2) (c.args.start + 2 * g.row.N) _ _ (omega (arith, at.order)) w.write_unit.ensures.behind ∙ at.behind;
+            (w.write_unit.ensures.bytes ∙ ap (λ l. take c.loop-i.end c.loop-i.bytes ++ l) (sym (append-nil _)));
+        behind = drop-later (c.loop-i.end + 2) (c.args.start + 2 * g.row.N) _ _ (omega (arith, at.order)) w.write_unit.ensures.rest ∙ at.behind;
       })
       | else-answers-i w ↦ rw (w.bytes-is, w.end-is) (record {
         order = omega (arith, at.order);

@@ -11,5 +11,5 @@ returns-clause-char g c =
     let first = c.first_char in
     let bytes = drop c.args.at c.args.bytes.now in
     let all = take_all (length c.args.bytes.now - c.args.at) bytes (omega (arith, length-drop c.args.at c.args.bytes.now)) in
-    let text = sym (ap (text_of big) all) ∙ first.ensures.text in
-    rw first.ensures.size (first-bytes big first.result.0 _ bytes (subst (λ t. Encodes big t bytes) text (Encodes-text_of big bytes c.requires.text)))
+    let text = sym (ap (text_of big) all) ∙ first.ensures.joined in
+    rw first.ensures.size (first-bytes big first.result.0 _ bytes (subst (λ t. Encodes big t bytes) text (Encodes-text_of big bytes c.requires.well_formed)))

@@ -26,8 +26,8 @@ returns-then-size-eq4-clause-moved c =
     let second = c.move_unit-then-size-eq4.ensures in
     rw c.if-size-eq4.true (moved _ _ _ c.args.to c.args.start first.moved first.behind second.moved second.behind)
 
-pub returns-then-size-eq4-clause-behind : goal.returns-then-size-eq4-clause-behind
-returns-then-size-eq4-clause-behind c =
+pub returns-then-size-eq4-clause-rest : goal.returns-then-size-eq4-clause-rest
+returns-then-size-eq4-clause-rest c =
     let first = c.move_unit.ensures in
     let second = c.move_unit-then-size-eq4.ensures in
     rw c.if-size-eq4.true (left _ _ _ c.args.to c.args.start first.moved first.behind second.moved second.behind)

@@ -14,7 +14,7 @@ use Rattle.utf16_retain.proofs.retains.single_at.Goals as goal
 pub bounds-bytes-at-2 : goal.bounds-bytes-at-2
 bounds-bytes-at-2 g c =
     let rest = length-drop c.args.at c.args.bytes.now in
-    omega (arith, rest, two_bytes g.E.Utf16Order.BIG (drop c.args.at c.args.bytes.now) c.requires.text (omega (arith, rest)))
+    omega (arith, rest, two_bytes g.E.Utf16Order.BIG (drop c.args.at c.args.bytes.now) c.requires.well_formed (omega (arith, rest)))
 
 -- the unit read is the first from the index on, and its character
 one : (g : Over) (c : Else-is_leading_surrogate g) → SplitsAt g.E.Utf16Order.BIG (drop c.args.at c.args.bytes.now) c.read_unit-unit.result 2
@@ -26,7 +26,7 @@ one g c =
     c.read_unit-unit.ensures
     ∙ ap₂ (unit_of big) (ap (λ i. get_or bytes i 0) here ∙ sym (get_or-drop c.args.at bytes 0 0)) (sym (get_or-drop c.args.at bytes 1 0)) in
     subst (λ u. SplitsAt big (drop c.args.at bytes) u 2) (sym first)
-    (splits_one big (drop c.args.at bytes) c.requires.text (omega (arith, length-drop c.args.at bytes)) (subst (λ u. IsLeading u → ⊥) first (search rules)))
+    (splits_one big (drop c.args.at bytes) c.requires.well_formed (omega (arith, length-drop c.args.at bytes)) (subst (λ u. IsLeading u → ⊥) first (search rules)))
 
 pub from_u32_unchecked-requires : goal.from_u32_unchecked-requires
 from_u32_unchecked-requires g c = (one g c).scalar
@@ -39,12 +39,12 @@ returns-else-is_leading_surrogate-clause-char g c =
     let split = one g (goal.at.returns-else-is_leading_surrogate-clause-char g c).Else-is_leading_surrogate in
     let two = char_size_two u (search rules) in
     rw c.from_u32_unchecked.ensures
-    (subst (λ n. Encodes big (u ∷ []) (take n bytes)) two (first-bytes big u _ bytes (subst (λ t. Encodes big t bytes) split.text (Encodes-text_of big bytes c.requires.text))))
+    (subst (λ n. Encodes big (u ∷ []) (take n bytes)) two (first-bytes big u _ bytes (subst (λ t. Encodes big t bytes) split.text (Encodes-text_of big bytes c.requires.well_formed))))
 
 within : (g : Over) (c : After-is_leading_surrogate g) → c.args.at + 2 ≤ length c.args.bytes.now
 within g c =
     let rest = length-drop c.args.at c.args.bytes.now in
-    omega (arith, rest, two_bytes g.E.Utf16Order.BIG (drop c.args.at c.args.bytes.now) c.requires.text (omega (arith, rest)))
+    omega (arith, rest, two_bytes g.E.Utf16Order.BIG (drop c.args.at c.args.bytes.now) c.requires.well_formed (omega (arith, rest)))
 
 pub returns-then-is_leading_surrogate-clause-within : goal.returns-then-is_leading_surrogate-clause-within
 returns-then-is_leading_surrogate-clause-within g c = within g (goal.at.returns-then-is_leading_surrogate-clause-within g c).After-is_leading_surrogate

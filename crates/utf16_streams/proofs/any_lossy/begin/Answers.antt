@@ -34,5 +34,5 @@ first_order : (first : Option ℕ) → byte_order_after None (option_to_list fir
 first_order None = refl
 first_order (Some byte) = refl
 
-pub returns-in-Err-clause-order : goal.returns-in-Err-clause-order
-returns-in-Err-clause-order g c = sym (ap (byte_order_after None) c.in-Err.ensures.fewer ∙ first_order c.in-Err.only)
+pub returns-in-Err-clause-byte_order : goal.returns-in-Err-clause-byte_order
+returns-in-Err-clause-byte_order g c = sym (ap (byte_order_after None) c.in-Err.ensures.fewer ∙ first_order c.in-Err.only)

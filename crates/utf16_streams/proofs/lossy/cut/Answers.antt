@@ -12,8 +12,8 @@ are g c =
 pub returns-clause-utf8 : goal.returns-clause-utf8
 returns-clause-utf8 g c = shown_utf8 _ _ (are g c)
 
-pub returns-clause-room : goal.returns-clause-room
-returns-clause-room g c =
+pub returns-clause-within : goal.returns-clause-within
+returns-clause-within g c =
     let both = length-append c.args.pending.now c.split_at.result.0.now in
     let within : c.min.result ≤ length c.args.piece.now = search rules in
     let part = ap length c.split_at.ensures.front ∙ length-take-le c.min.result c.args.piece.now within in

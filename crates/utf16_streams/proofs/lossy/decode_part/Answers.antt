@@ -24,7 +24,7 @@ module _ (g : Over) (c : After-feed-written g) where
   long = search rules
 
   done : c.feed-written.result.stop ≡ Done
-  done = c.feed-written.ensures.whole.1 (omega (arith, ap length decided, long, c.cut.ensures.room))
+  done = c.feed-written.ensures.done.1 (omega (arith, ap length decided, long, c.cut.ensures.within))
 
   took : StopsFeeding g.E.Utf16Order.BIG pending part (stream_pending c.feed-written.new.self) c.feed-written.result.read
       (length c.feed-written.new.to - c.feed-written.result.written) Done
@@ -47,9 +47,9 @@ returns-in_err-push_str-clause-nothing g c none =
     let fits : string_len c.args.to.now ≤ string_capacity c.args.to.now = search rules in
     absurd (omega arith)
 
-pub returns-clause-step : goal.returns-clause-step
-returns-clause-step g c =
-    let before = (goal.at.returns-clause-step g c).After-feed-written in
+pub returns-clause-decoded : goal.returns-clause-decoded
+returns-clause-decoded g c =
+    let before = (goal.at.returns-clause-decoded g c).After-feed-written in
     Decodes-part _ _ _ _ _ c.cut.ensures.joined _ _ _ (took g before).1
     (c.in_ok-push_str.ensures.bytes ∙ ap (λ t. string_bytes c.args.to.now ++ t) (c.from_utf8_unchecked.ensures ∙ text g before))
 

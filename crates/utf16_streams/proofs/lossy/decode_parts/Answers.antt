@@ -13,7 +13,7 @@ returns-in_err-stream-clause-nothing g c none =
     absurd (true≢false (sym (c.in_err-stream.ensures.nothing (Decodes-empty _ _ _ _ _ c.loop-rest.invariant.0 none))))
 
 pub loop-rest-preserved : goal.loop-rest-preserved
-loop-rest-preserved g c = (Decodes-then _ _ _ _ _ _ _ c.loop-rest.invariant.0 c.in_ok-stream.ensures.step, c.in_ok-stream.ensures.undecided)
+loop-rest-preserved g c = (Decodes-then _ _ _ _ _ _ _ c.loop-rest.invariant.0 c.in_ok-stream.ensures.decoded, c.in_ok-stream.ensures.undecided)
 
 pub returns-clause-text : goal.returns-clause-text
 returns-clause-text g c =

@@ -18,11 +18,11 @@ split_at-requires g c =
     let text = text_of g.E.Utf16Order.BIG c.args.raw.now in
     omega (arith, IsBoundary-within text c.piece_end.result c.piece_end.ensures.boundary, length-text _ _ c.requires)
 
-pub returns-clause-front : goal.returns-clause-front
-returns-clause-front g c = rw c.split_at.ensures.front (IsUtf16-from_Encodes _ _ _ (to g (goal.at.returns-clause-front g c).After-piece_end))
+pub returns-clause-first_well_formed : goal.returns-clause-first_well_formed
+returns-clause-first_well_formed g c = rw c.split_at.ensures.front (IsUtf16-from_Encodes _ _ _ (to g (goal.at.returns-clause-first_well_formed g c).After-piece_end))
 
-pub returns-clause-back : goal.returns-clause-back
-returns-clause-back g c = rw c.split_at.ensures.back (IsUtf16-from_Encodes _ _ _ (from g (goal.at.returns-clause-back g c).After-piece_end))
+pub returns-clause-second_well_formed : goal.returns-clause-second_well_formed
+returns-clause-second_well_formed g c = rw c.split_at.ensures.back (IsUtf16-from_Encodes _ _ _ (from g (goal.at.returns-clause-second_well_formed g c).After-piece_end))
 
 pub returns-clause-joined : goal.returns-clause-joined
 returns-clause-joined g c =

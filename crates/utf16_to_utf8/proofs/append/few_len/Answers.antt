@@ -11,7 +11,7 @@ overflow_add-len g c =
     let big = g.E.Utf16Order.BIG in
     let raw = c.args.raw.now in
     let behind = text_of big (drop c.first_char-c.result.1 c.loop-rest.rest.now) in
-    let ahead = ap (λ t. length (encode_utf8_all t)) c.first_char-c.ensures.text ∙ length-append (encode_utf8 c.first_char-c.result.0) (encode_utf8_all behind) in
+    let ahead = ap (λ t. length (encode_utf8_all t)) c.first_char-c.ensures.joined ∙ length-append (encode_utf8 c.first_char-c.result.0) (encode_utf8_all behind) in
     omega (arith, ahead, length-text big raw c.requires, encodes-le-size (text_of big raw), c.loop-rest.invariant.counted, c.len_utf8-len.ensures.len)
 
 pub returns : goal.returns

@@ -4,8 +4,8 @@ use Rattle.utf16_units.specs.Encoding.{text_of}
 use Rattle.utf16_units.proofs.EncodingLemmas.{text_of-nil}
 use Rattle.utf16_to_utf8.proofs.append.put_few.Goals as goal
 
-pub returns-clause-put : goal.returns-clause-put
-returns-clause-put g c =
+pub returns-clause-appended : goal.returns-clause-appended
+returns-clause-appended g c =
     let big = g.E.Utf16Order.BIG in
     let rest = c.loop-rest.rest.now in
     let done = string_bytes c.loop-rest.to in

@@ -5,8 +5,8 @@ use Rattle.utf16_units.proofs.EncodingLemmas.{text_of-nil}
 use Rattle.utf16_units.proofs.PieceLemmas.{utf8-append}
 use Rattle.utf16_to_utf8.proofs.append.put_pieces.Goals as goal
 
-pub returns-clause-put : goal.returns-clause-put
-returns-clause-put g c =
+pub returns-clause-appended : goal.returns-clause-appended
+returns-clause-appended g c =
     let big = g.E.Utf16Order.BIG in
     let rest = c.loop-rest.rest.now in
     let done = string_bytes c.loop-rest.to in
@@ -16,8 +16,8 @@ returns-clause-put g c =
       grows = c.loop-rest.invariant.grows;
     }
 
-pub put_piece-requires-clause-room : goal.put_piece-requires-clause-room
-put_piece-requires-clause-room g c =
+pub put_piece-requires-clause-fits : goal.put_piece-requires-clause-fits
+put_piece-requires-clause-fits g c =
     let front = text_of g.E.Utf16Order.BIG c.cut_piece.result.0.now in
     let back = text_of g.E.Utf16Order.BIG c.cut_piece.result.1.now in
     let both = ap encode_utf8_all c.cut_piece.ensures.joined ∙ utf8-append front back in
@@ -29,9 +29,9 @@ loop-rest-preserved g c =
     let back = text_of g.E.Utf16Order.BIG c.cut_piece.result.1.now in
     let both = ap encode_utf8_all c.cut_piece.ensures.joined ∙ utf8-append front back in
     let done = string_bytes c.loop-rest.to in
-    let put = c.put_piece.ensures.put in
+    let put = c.put_piece.ensures.appended in
     record {
-      text = c.cut_piece.ensures.back;
+      text = c.cut_piece.ensures.second_well_formed;
       written = ap (λ bs. bs ++ encode_utf8_all back) put.bytes
           ∙ append_assoc done (encode_utf8_all front) (encode_utf8_all back)
           ∙ ap (λ bs. done ++ bs) (sym both) ∙ c.loop-rest.invariant.written;

@@ -10,4 +10,4 @@ returns c =
     let out = c.args.out.now in
     let bytes = map (λ (n : ℕ). n) c.args.units in
     let long = length-map c.args.units (λ (n : ℕ). n) in
-    take_more_put_chunk at out bytes (at + 32) (omega (arith, long, c.fits-units.0)) c.requires.room ∙ ap (λ bs. take at out ++ bs) (same_lanes c.args.units)
+    take_more_put_chunk at out bytes (at + 32) (omega (arith, long, c.fits-units.0)) c.requires.space ∙ ap (λ bs. take at out ++ bs) (same_lanes c.args.units)

@@ -7,10 +7,10 @@ use Rattle.utf16_to_utf8.proofs.BlockLemmas.{four_eights, kind_of-eight, wrote_u
 use Rattle.utf16_to_utf8.proofs.blocks.put_groups.Goals as goal
 
 pub put_group-one-requires-clause-kind : goal.put_group-one-requires-clause-kind
-put_group-one-requires-clause-kind c = kind_of-eight (IsOfKind c.args.kind) c.args.units _ 0 c.fits-units.0 (omega arith) c.eights.ensures.first c.requires.kind
+put_group-one-requires-clause-kind c = kind_of-eight (IsOfKind c.args.kind) c.args.units _ 0 c.fits-units.0 (omega arith) c.eights.ensures.low c.requires.kind
 
 pub put_group-two-requires-clause-kind : goal.put_group-two-requires-clause-kind
-put_group-two-requires-clause-kind c = kind_of-eight (IsOfKind c.args.kind) c.args.units _ 8 c.fits-units.0 (omega arith) c.eights.ensures.second c.requires.kind
+put_group-two-requires-clause-kind c = kind_of-eight (IsOfKind c.args.kind) c.args.units _ 8 c.fits-units.0 (omega arith) c.eights.ensures.high c.requires.kind
 
 pub put_group-three-requires-clause-kind : goal.put_group-three-requires-clause-kind
 put_group-three-requires-clause-kind c = kind_of-eight (IsOfKind c.args.kind) c.args.units _ 16 c.fits-units.0 (omega arith) c.eights.ensures.third c.requires.kind
@@ -31,10 +31,10 @@ returns-clause-bytes c =
     let three = take c.put_group-three.result c.put_group-three.new.out in
     let start = take c.args.at c.args.out.now in
     let parts = four_eights units c.fits-units.0 in
-    let same = ap₂ (λ a b. a ++ b) c.eights.ensures.first (ap₂ (λ a b. a ++ b) c.eights.ensures.second (ap₂ (λ a b. a ++ b) c.eights.ensures.third c.eights.ensures.fourth)) in
+    let same = ap₂ (λ a b. a ++ b) c.eights.ensures.low (ap₂ (λ a b. a ++ b) c.eights.ensures.high (ap₂ (λ a b. a ++ b) c.eights.ensures.third c.eights.ensures.fourth)) in
     let whole = ap (λ us. start ++ units_utf8 before us) (same ∙ sym parts) in
     let eight : (a : ℕ) → a + 8 ≤ 32 → length (chunk a 8 units) ≡ 8 = λ a room. length-chunk a 8 units (omega (arith, room, c.fits-units.0)) in
-    let second_left = wrote_units 7 start one _ first (second ++ (third ++ fourth)) before (ap length c.eights.ensures.first ∙ eight 0 (omega arith)) c.put_group-one.ensures.bytes whole in
-    let third_left = wrote_units 7 one two _ second (third ++ fourth) _ (ap length c.eights.ensures.second ∙ eight 8 (omega arith)) c.put_group-two.ensures.bytes second_left in
+    let second_left = wrote_units 7 start one _ first (second ++ (third ++ fourth)) before (ap length c.eights.ensures.low ∙ eight 0 (omega arith)) c.put_group-one.ensures.bytes whole in
+    let third_left = wrote_units 7 one two _ second (third ++ fourth) _ (ap length c.eights.ensures.high ∙ eight 8 (omega arith)) c.put_group-two.ensures.bytes second_left in
     c.put_group.ensures.bytes
     ∙ wrote_units 7 two three _ third fourth _ (ap length c.eights.ensures.third ∙ eight 16 (omega arith)) c.put_group-three.ensures.bytes third_left

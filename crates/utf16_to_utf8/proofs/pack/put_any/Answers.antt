@@ -23,7 +23,7 @@ loop-i-preserved c =
     let split : drop i units ≡ unit ∷ drop (i + 1) units = drop-cons units i 0 within ∙ ap (λ n. unit ∷ drop n units) next in
     let wrote = word-utf8 last unit _ _ _ _ fits.fits (subst (λ n. n < 0x1_0000) (sym front_is) (front-fits last unit fits.fits)) front_is (c.thirds.ensures.lanes i lt) (c.words.ensures i lt) (c.added_lens.ensures.lanes i lt) in
     record {
-      short = omega (arith, c.loop-i.invariant.short, c.put_word-end.ensures.end, c.added_lens.ensures.lanes i lt, added_len-le unit);
+      short = omega (arith, c.loop-i.invariant.short, c.put_word-end.ensures.written_to, c.added_lens.ensures.lanes i lt, added_len-le unit);
       written = subst (λ n. take c.put_word-end.result c.put_word-end.new.out ++ units_utf8 (slice_index (before ∷ units) n) (drop (i + 1) units) ≡ take c.args.at c.args.out.now ++ units_utf8 before units) next
           (wrote_unit done _ _ (drop (i + 1) units) last unit (c.put_word-end.ensures.bytes ∙ ap (λ bs. done ++ bs) wrote)
           (ap (λ us. done ++ units_utf8 last us) (sym split) ∙ c.loop-i.invariant.written));

@@ -4,7 +4,7 @@ use Rattle.utf16_to_utf8.proofs.StoreLemmas.{picked-packed, stored-front, swz-pi
 use Rattle.utf16_to_utf8.proofs.pack.put_eight.Goals as goal
 
 pub swizzle-standing : goal.swizzle-standing
-swizzle-standing c = SwzOk-from_below w8 16 1 16 0 c.places.result refl (omega (arith, c.places.ensures.long)) c.places.ensures.within
+swizzle-standing c = SwzOk-from_below w8 16 1 16 0 c.places.result refl (omega (arith, c.places.ensures.long)) c.places.ensures.below
 
 pub returns-clause-bytes : goal.returns-clause-bytes
 returns-clause-bytes c flags eight is =
@@ -13,7 +13,7 @@ returns-clause-bytes c flags eight is =
     let n = 16 - count_ones c.args.one in
     let standing = swz_l w8 16 c.args.pairs 0 places in
     let whole = length-swz_l w8 16 c.args.pairs 0 places in
-    stored-front c.args.at n c.args.out.now standing (omega (arith, whole, long)) (omega (arith, whole, long, c.requires.room))
+    stored-front c.args.at n c.args.out.now standing (omega (arith, whole, long)) (omega (arith, whole, long, c.requires.space))
     ∙ ap (λ bs. take c.args.at c.args.out.now ++ bs)
-    (ap (take n) (swz-picked c.args.pairs 0 places (omega (arith, long)) c.places.ensures.within)
+    (ap (take n) (swz-picked c.args.pairs 0 places (omega (arith, long)) c.places.ensures.below)
     ∙ picked-packed flags c.args.pairs places n c.fits-pairs.0 (c.places.ensures.places flags eight is))

@@ -18,8 +18,8 @@ returns-clause-bytes c before =
     let whole = pick_l 0 (fronts ++ thirds) (threes 0 8) in
     let long : length first ≡ 16 = ap length c.first_threes.ensures in
     let long' : length last ≡ 8 = ap length c.last_threes.ensures in
-    take_more_put_chunk (at + 16) (put_chunk at out first) last (at + 24) (omega (arith, long')) (omega (arith, length-put_chunk at out first, c.requires.room))
-    ∙ ap (λ bs. bs ++ last) (take_more_put_chunk at out first (at + 16) (omega (arith, long)) (omega (arith, c.requires.room)))
+    take_more_put_chunk (at + 16) (put_chunk at out first) last (at + 24) (omega (arith, long')) (omega (arith, length-put_chunk at out first, c.requires.space))
+    ∙ ap (λ bs. bs ++ last) (take_more_put_chunk at out first (at + 16) (omega (arith, long)) (omega (arith, c.requires.space)))
     ∙ append_assoc (take at out) first last
     ∙ ap (λ bs. take at out ++ bs) (ap₂ (λ xs ys. xs ++ ys) c.first_threes.ensures c.last_threes.ensures ∙ take-append-drop 16 whole
     ∙ ap (λ n. pick_l 0 (fronts ++ thirds) (threes 0 n)) (sym c.fits-units.0)

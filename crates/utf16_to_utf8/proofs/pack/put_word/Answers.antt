@@ -7,6 +7,6 @@ pub returns-clause-bytes : goal.returns-clause-bytes
 returns-clause-bytes c =
     let w = c.args.word in
     let long = ap length c.to_le_bytes.ensures in
-    stored-front c.args.at c.args.len c.args.out.now c.to_le_bytes.result (omega (arith, long, c.requires.len)) (omega (arith, long, c.requires.room))
+    stored-front c.args.at c.args.len c.args.out.now c.to_le_bytes.result (omega (arith, long, c.requires.few)) (omega (arith, long, c.requires.space))
     ∙ ap (λ bs. take c.args.at c.args.out.now ++ take c.args.len bs) c.to_le_bytes.ensures
-    ∙ ap (λ bs. take c.args.at c.args.out.now ++ bs) (take-append-le c.args.len (w % 256 ∷ w / 256 % 256 ∷ w / 65536 % 256 ∷ []) (w / 16777216 % 256 ∷ []) c.requires.len)
+    ∙ ap (λ bs. take c.args.at c.args.out.now ++ bs) (take-append-le c.args.len (w % 256 ∷ w / 256 % 256 ∷ w / 65536 % 256 ∷ []) (w / 16777216 % 256 ∷ []) c.requires.few)

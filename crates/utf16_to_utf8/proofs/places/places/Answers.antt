@@ -10,8 +10,8 @@ pub returns-clause-places : goal.returns-clause-places
 returns-clause-places c flags eight is =
     subst (λ one. take (16 - count_ones one) (get_or PLACES one []) ≡ packed flags (range_with_len 0 16)) (sym is) (row flags eight)
 
-pub returns-clause-within : goal.returns-clause-within
-returns-clause-within c = (row-good c.args.one c.requires).1
+pub returns-clause-below : goal.returns-clause-below
+returns-clause-below c = (row-good c.args.one c.requires).1
 
 pub returns-clause-long : goal.returns-clause-long
 returns-clause-long c = (row-good c.args.one c.requires).0

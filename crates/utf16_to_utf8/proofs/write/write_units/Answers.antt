@@ -21,7 +21,7 @@ loop-at-preserved g c =
     record {
       within = omega arith;
       even = omega (arith, c.loop-at.invariant.even);
-      short = omega (arith, c.loop-at.invariant.short, c.put_block-end.ensures.end);
+      short = omega (arith, c.loop-at.invariant.short, c.put_block-end.ensures.written_to);
       written = ap (λ u. take c.put_block-end.result c.put_block-end.new.out ++ units_utf8 u (units_of big (drop (at + 64) bytes))) last
           ∙ wrote_units 31 done _ _ units (units_of big (drop (at + 64) bytes)) before c.units32-units.ensures.len c.put_block-end.ensures.bytes
           (ap (λ us. done ++ units_utf8 before (us ++ units_of big (drop (at + 64) bytes))) c.units32-units.ensures.units

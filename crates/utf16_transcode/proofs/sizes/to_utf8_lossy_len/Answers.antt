@@ -11,7 +11,7 @@ use Rattle.utf16_transcode.proofs.sizes.to_utf8_lossy_len.Goals.{After-utf8_len,
 
 all : (g : Over) (c : After-utf8_len g) → c.loop-error.size + c.utf8_len.result ≡ length (encode_utf8_all (lossy_text g.E.Utf16Order.BIG c.args.raw.now))
 all g c =
-    let text = text_size _ _ (c.in-Ok.ensures.text.0 refl) in
+    let text = text_size _ _ (c.in-Ok.ensures.ok.0 refl) in
     ap (λ n. c.loop-error.size + n) (c.utf8_len.ensures ∙ ap (λ t. length (encode_utf8_all t)) (sym text)) ∙ c.loop-error.invariant.0
 
 pub overflow_add-result : goal.overflow_add-result

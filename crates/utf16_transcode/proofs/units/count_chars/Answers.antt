@@ -10,5 +10,5 @@ pub overflow_sub-result : goal.overflow_sub-result
 overflow_sub-result g c =
     omega (arith, c.trailing_units.ensures, length-units_of g.E.Utf16Order.BIG c.args.raw.now, count_by-le-length is_low_surrogate (units_of g.E.Utf16Order.BIG c.args.raw.now))
 
-pub returns-clause-text : goal.returns-clause-text
-returns-clause-text g c text = omega (arith, c.trailing_units.ensures, counted_bytes g.E.Utf16Order.BIG c.args.raw.now text)
+pub returns-clause-count : goal.returns-clause-count
+returns-clause-count g c text = omega (arith, c.trailing_units.ensures, counted_bytes g.E.Utf16Order.BIG c.args.raw.now text)

@@ -4,7 +4,7 @@ use Rattle.utf16_units.proofs.RankLemmas.{ranked_bytes}
 use Rattle.utf16_units.proofs.compare.compare.Goals as goal
 
 pub returns-clause-computed : goal.returns-clause-computed
-returns-clause-computed g c = c.compare_units.ensures ∙ ranked_bytes g.E.Utf16Order.BIG c.args.first.now c.args.second.now c.requires.first c.requires.second
+returns-clause-computed g c = c.compare_units.ensures ∙ ranked_bytes g.E.Utf16Order.BIG c.args.first.now c.args.second.now c.requires.first_well_formed c.requires.second_well_formed
 
 pub returns-clause-less : goal.returns-clause-less
 returns-clause-less g c = answers_Less _ _ c.compare_units.result (returns-clause-computed g c)

@@ -17,4 +17,4 @@ returns g c =
     elim c.loop-at-test.branch [ then-loop-at-test+else-second-at-ge2 w ↦ inr (omega arith) | else-loop-at-test w ↦ inl (omega arith) ] in
     c.cmp-2.ensures
     ∙ decided_at_end g.E.Utf16Order.BIG c.args.first.now c.args.second.now c.loop-at.at c.loop-at.invariant
-    (length-even g.E.Utf16Order.BIG c.args.first.now c.requires.first) (length-even g.E.Utf16Order.BIG c.args.second.now c.requires.second) ended
+    (length-even g.E.Utf16Order.BIG c.args.first.now c.requires.first_well_formed) (length-even g.E.Utf16Order.BIG c.args.second.now c.requires.second_well_formed) ended

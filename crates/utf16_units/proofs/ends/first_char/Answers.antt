@@ -8,10 +8,10 @@ use Rattle.utf16_units.proofs.ends.first_char.Goals as goal
 use Rattle.utf16_units.proofs.ends.first_char.Goals.{Then-not-is_leading_surrogate, Else-not-is_leading_surrogate}
 
 pub bounds-raw-1 : goal.bounds-raw-1
-bounds-raw-1 g c = omega (arith, two_bytes g.E.Utf16Order.BIG c.args.raw.now c.requires.text c.requires.some)
+bounds-raw-1 g c = omega (arith, two_bytes g.E.Utf16Order.BIG c.args.raw.now c.requires.well_formed c.requires.not_empty)
 
 one : (g : Over) (c : Then-not-is_leading_surrogate g) → SplitsAt g.E.Utf16Order.BIG c.args.raw.now c.read_unit-unit.result 2
-one g c = rw c.read_unit-unit.ensures (splits_one g.E.Utf16Order.BIG c.args.raw.now c.requires.text c.requires.some (search rules))
+one g c = rw c.read_unit-unit.ensures (splits_one g.E.Utf16Order.BIG c.args.raw.now c.requires.well_formed c.requires.not_empty (search rules))
 
 pub from_u32_unchecked-requires : goal.from_u32_unchecked-requires
 from_u32_unchecked-requires g c = (one g c).scalar
@@ -21,20 +21,20 @@ pub returns-then-not-is_leading_surrogate-clause-within :
 returns-then-not-is_leading_surrogate-clause-within g c =
     (one g (goal.at.returns-then-not-is_leading_surrogate-clause-within g c).Then-not-is_leading_surrogate).within
 
-pub returns-then-not-is_leading_surrogate-clause-text :
-    goal.returns-then-not-is_leading_surrogate-clause-text
-returns-then-not-is_leading_surrogate-clause-text g c =
-    rw c.from_u32_unchecked.ensures (one g (goal.at.returns-then-not-is_leading_surrogate-clause-text g c).Then-not-is_leading_surrogate).text
+pub returns-then-not-is_leading_surrogate-clause-joined :
+    goal.returns-then-not-is_leading_surrogate-clause-joined
+returns-then-not-is_leading_surrogate-clause-joined g c =
+    rw c.from_u32_unchecked.ensures (one g (goal.at.returns-then-not-is_leading_surrogate-clause-joined g c).Then-not-is_leading_surrogate).text
 
-pub returns-then-not-is_leading_surrogate-clause-rest :
-    goal.returns-then-not-is_leading_surrogate-clause-rest
-returns-then-not-is_leading_surrogate-clause-rest g c =
-    (one g (goal.at.returns-then-not-is_leading_surrogate-clause-rest g c).Then-not-is_leading_surrogate).rest
+pub returns-then-not-is_leading_surrogate-clause-well_formed :
+    goal.returns-then-not-is_leading_surrogate-clause-well_formed
+returns-then-not-is_leading_surrogate-clause-well_formed g c =
+    (one g (goal.at.returns-then-not-is_leading_surrogate-clause-well_formed g c).Then-not-is_leading_surrogate).rest
 
 two : (g : Over) (c : Else-not-is_leading_surrogate g)
     → IsTrailing (second_unit g.E.Utf16Order.BIG c.args.raw.now)
     × SplitsAt g.E.Utf16Order.BIG c.args.raw.now (surrogate_pair_char c.read_unit-unit.result (second_unit g.E.Utf16Order.BIG c.args.raw.now)) 4
-two g c = rw c.read_unit-unit.ensures (splits_two g.E.Utf16Order.BIG c.args.raw.now c.requires.text c.requires.some (search rules))
+two g c = rw c.read_unit-unit.ensures (splits_two g.E.Utf16Order.BIG c.args.raw.now c.requires.well_formed c.requires.not_empty (search rules))
 
 pub bounds-raw-2 : goal.bounds-raw-2
 bounds-raw-2 g c = omega (arith, (two g (goal.at.bounds-raw-2 g c).Else-not-is_leading_surrogate).1.within)
@@ -49,9 +49,9 @@ decode_surrogates-requires-clause-trailing g c =
 pub returns-clause-within : goal.returns-clause-within
 returns-clause-within g c = (two g (goal.at.returns-clause-within g c).Else-not-is_leading_surrogate).1.within
 
-pub returns-clause-text : goal.returns-clause-text
-returns-clause-text g c =
-    rw (c.decode_surrogates.ensures.code, c.read_unit-trailing.ensures) (two g (goal.at.returns-clause-text g c).Else-not-is_leading_surrogate).1.text
+pub returns-clause-joined : goal.returns-clause-joined
+returns-clause-joined g c =
+    rw (c.decode_surrogates.ensures.code, c.read_unit-trailing.ensures) (two g (goal.at.returns-clause-joined g c).Else-not-is_leading_surrogate).1.text
 
-pub returns-clause-rest : goal.returns-clause-rest
-returns-clause-rest g c = (two g (goal.at.returns-clause-rest g c).Else-not-is_leading_surrogate).1.rest
+pub returns-clause-well_formed : goal.returns-clause-well_formed
+returns-clause-well_formed g c = (two g (goal.at.returns-clause-well_formed g c).Else-not-is_leading_surrogate).1.rest

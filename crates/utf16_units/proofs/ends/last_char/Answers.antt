@@ -7,7 +7,7 @@ use Rattle.utf16_units.proofs.ends.last_char.Goals as goal
 mod Ends
 
 pub overflow_sub-end : goal.overflow_sub-end
-overflow_sub-end g c = two_bytes g.E.Utf16Order.BIG c.args.raw.now c.requires.text c.requires.some
+overflow_sub-end g c = two_bytes g.E.Utf16Order.BIG c.args.raw.now c.requires.well_formed c.requires.not_empty
 
 pub from_u32_unchecked-requires : goal.from_u32_unchecked-requires
 from_u32_unchecked-requires g c = (one g c).scalar
@@ -16,13 +16,13 @@ pub returns-then-not-is_trailing_surrogate-clause-within : goal.returns-then-not
 returns-then-not-is_trailing_surrogate-clause-within g c =
     (one g (goal.at.returns-then-not-is_trailing_surrogate-clause-within g c).Then-not-is_trailing_surrogate).within
 
-pub returns-then-not-is_trailing_surrogate-clause-text : goal.returns-then-not-is_trailing_surrogate-clause-text
-returns-then-not-is_trailing_surrogate-clause-text g c =
-    rw c.from_u32_unchecked.ensures (one g (goal.at.returns-then-not-is_trailing_surrogate-clause-text g c).Then-not-is_trailing_surrogate).text
+pub returns-then-not-is_trailing_surrogate-clause-joined : goal.returns-then-not-is_trailing_surrogate-clause-joined
+returns-then-not-is_trailing_surrogate-clause-joined g c =
+    rw c.from_u32_unchecked.ensures (one g (goal.at.returns-then-not-is_trailing_surrogate-clause-joined g c).Then-not-is_trailing_surrogate).text
 
-pub returns-then-not-is_trailing_surrogate-clause-rest : goal.returns-then-not-is_trailing_surrogate-clause-rest
-returns-then-not-is_trailing_surrogate-clause-rest g c =
-    (one g (goal.at.returns-then-not-is_trailing_surrogate-clause-rest g c).Then-not-is_trailing_surrogate).front
+pub returns-then-not-is_trailing_surrogate-clause-well_formed : goal.returns-then-not-is_trailing_surrogate-clause-well_formed
+returns-then-not-is_trailing_surrogate-clause-well_formed g c =
+    (one g (goal.at.returns-then-not-is_trailing_surrogate-clause-well_formed g c).Then-not-is_trailing_surrogate).front
 
 pub overflow_sub-end-3 : goal.overflow_sub-end-3
 overflow_sub-end-3 g c = (two g (goal.at.overflow_sub-end-3 g c).Else-not-is_trailing_surrogate).1.within
@@ -39,11 +39,11 @@ decode_surrogates-requires-clause-leading g c =
 pub returns-clause-within : goal.returns-clause-within
 returns-clause-within g c = (two g (goal.at.returns-clause-within g c).Else-not-is_trailing_surrogate).1.within
 
-pub returns-clause-text : goal.returns-clause-text
-returns-clause-text g c =
-    let found = two g (goal.at.returns-clause-text g c).Else-not-is_trailing_surrogate in
+pub returns-clause-joined : goal.returns-clause-joined
+returns-clause-joined g c =
+    let found = two g (goal.at.returns-clause-joined g c).Else-not-is_trailing_surrogate in
     let unit = unit_before-two g.E.Utf16Order.BIG c.args.raw.now (length c.args.raw.now) found.1.within ∙ sym c.read_unit-leading.ensures in
     rw (c.decode_surrogates.ensures.code, ← unit) found.1.text
 
-pub returns-clause-rest : goal.returns-clause-rest
-returns-clause-rest g c = (two g (goal.at.returns-clause-rest g c).Else-not-is_trailing_surrogate).1.front
+pub returns-clause-well_formed : goal.returns-clause-well_formed
+returns-clause-well_formed g c = (two g (goal.at.returns-clause-well_formed g c).Else-not-is_trailing_surrogate).1.front

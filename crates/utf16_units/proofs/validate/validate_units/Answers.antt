@@ -8,17 +8,17 @@ loop-valid_up_to-preserved g c =
     let kept = c.loop-valid_up_to.invariant in
     IsUtf16-step g.E.Utf16Order.BIG c.args.raw.now c.loop-valid_up_to.valid_up_to c.in-Ok.len kept.0 kept.1 c.in-Ok.ensures.char
 
-pub returns-in-Err-clause-text : goal.returns-in-Err-clause-text
-returns-in-Err-clause-text g c =
+pub returns-in-Err-clause-ok : goal.returns-in-Err-clause-ok
+returns-in-Err-clause-ok g c =
     let found = faults g.E.Utf16Order.BIG c.args.raw.now c.loop-valid_up_to.valid_up_to c.in-Err.error_len
-    c.loop-valid_up_to-test.true c.loop-valid_up_to.invariant.1 c.in-Err.ensures.fault in
+    c.loop-valid_up_to-test.true c.loop-valid_up_to.invariant.1 c.in-Err.ensures.ill_formed in
     (λ ok. cc, λ text. absurd (found.1.refused text))
 
 pub returns-in-Err-clause-error : goal.returns-in-Err-clause-error
 returns-in-Err-clause-error g c =
     let found = faults g.E.Utf16Order.BIG c.args.raw.now c.loop-valid_up_to.valid_up_to c.in-Err.error_len
-    c.loop-valid_up_to-test.true c.loop-valid_up_to.invariant.1 c.in-Err.ensures.fault in
+    c.loop-valid_up_to-test.true c.loop-valid_up_to.invariant.1 c.in-Err.ensures.ill_formed in
     record { front = found.0; fault = found.1 }
 
-pub returns-clause-text : goal.returns-clause-text
-returns-clause-text g c = grind (arith, common_steps)
+pub returns-clause-ok : goal.returns-clause-ok
+returns-clause-ok g c = grind (arith, common_steps)

@@ -29,22 +29,22 @@ returns-clause-text g c =
     let front = pending ++ c.args.first.now in
     let second = c.args.second.now in
     let both : string_bytes c.push_str.new.self ≡ string_bytes c.in_ok-text.text ++ string_bytes c.in_ok-more.more = search rules in
-    let more = c.in_ok-more.ensures.text ∙ ap₂ (λ o p. shown (items_in o (p ++ second))) c.in_ok-text.ensures.order c.in_ok-text.ensures.pending in
+    let more = c.in_ok-more.ensures.text ∙ ap₂ (λ o p. shown (items_in o (p ++ second))) c.in_ok-text.ensures.byte_order c.in_ok-text.ensures.pending in
     both ∙ ap₂ (λ t m. t ++ m) c.in_ok-text.ensures.text more
     ∙ sym (ap shown (items_in-append order front second) ∙ shown-append (items_in order front) (items_in (byte_order_after order front) (tail_in order front ++ second)))
     ∙ ap (λ b. shown (items_in order b)) (append_assoc pending c.args.first.now second)
 
 pub returns-clause-pending : goal.returns-clause-pending
 returns-clause-pending g c =
-    (leaves_both _ _ _ _ _ _ _ _ (c.in_ok-text.ensures.order, c.in_ok-text.ensures.pending) (c.in_ok-more.ensures.order, c.in_ok-more.ensures.pending)).1
+    (leaves_both _ _ _ _ _ _ _ _ (c.in_ok-text.ensures.byte_order, c.in_ok-text.ensures.pending) (c.in_ok-more.ensures.byte_order, c.in_ok-more.ensures.pending)).1
 
-pub returns-clause-order : goal.returns-clause-order
-returns-clause-order g c =
-    (leaves_both _ _ _ _ _ _ _ _ (c.in_ok-text.ensures.order, c.in_ok-text.ensures.pending) (c.in_ok-more.ensures.order, c.in_ok-more.ensures.pending)).0
+pub returns-clause-byte_order : goal.returns-clause-byte_order
+returns-clause-byte_order g c =
+    (leaves_both _ _ _ _ _ _ _ _ (c.in_ok-text.ensures.byte_order, c.in_ok-text.ensures.pending) (c.in_ok-more.ensures.byte_order, c.in_ok-more.ensures.pending)).0
 
-pub returns-in_err-more-clause-refused : goal.returns-in_err-more-clause-refused
-returns-in_err-more-clause-refused g c = search rules
+pub returns-in_err-more-clause-err : goal.returns-in_err-more-clause-err
+returns-in_err-more-clause-err g c = search rules
 
-pub returns-in_err-push_str-clause-refused : goal.returns-in_err-push_str-clause-refused
-returns-in_err-push_str-clause-refused g c = third _ _ _ c.from_residual-in_err-push_str.result
-    (leaves_both _ _ _ _ _ _ _ _ (c.in_ok-text.ensures.order, c.in_ok-text.ensures.pending) (c.in_ok-more.ensures.order, c.in_ok-more.ensures.pending))
+pub returns-in_err-push_str-clause-err : goal.returns-in_err-push_str-clause-err
+returns-in_err-push_str-clause-err g c = third _ _ _ c.from_residual-in_err-push_str.result
+    (leaves_both _ _ _ _ _ _ _ _ (c.in_ok-text.ensures.byte_order, c.in_ok-text.ensures.pending) (c.in_ok-more.ensures.byte_order, c.in_ok-more.ensures.pending))

@@ -20,7 +20,7 @@ returns-clause-edited g c =
     some_text c.run-replies.result (λ replies last. Run (wstring_text c.args.string) c.args.edits.items (vec_items replies) last)
     (λ last. Encodes g.E.Utf16Order.BIG last c.into_bytes.result.items) (wstring_text c.run-replies.new.string) c.into_bytes.ensures.encoding c.run-replies.ensures.run
 
-pub returns-clause-refused : goal.returns-clause-refused
-returns-clause-refused g c =
+pub returns-clause-err : goal.returns-clause-err
+returns-clause-err g c =
     kept c.run-replies.result (IsUnchanged c.args.string c.run-replies.new.string) (c.into_bytes.result.items ≡ wstring_bytes c.args.string)
-    (λ same. ap vec_items c.into_bytes.ensures.vec ∙ same.0) c.run-replies.ensures.refused
+    (λ same. ap vec_items c.into_bytes.ensures.vec ∙ same.0) c.run-replies.ensures.err

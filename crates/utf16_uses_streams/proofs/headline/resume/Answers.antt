@@ -17,14 +17,14 @@ pub returns-in-Ok-clause-text : goal.returns-in-Ok-clause-text
 returns-in-Ok-clause-text g c =
     Decodes-last _ _ _ _ _ _ c.loop-text.invariant.0 (text_shown _ _ _ _ _ c.in-Ok.ensures.encoding c.in_ok-push_utf8-in-Ok.ensures.text)
 
-pub returns-in-Ok-clause-kept : goal.returns-in-Ok-clause-kept
-returns-in-Ok-clause-kept g c = sym (c.loop-text.invariant.0.tail ∙ (split_text _ _ _ c.in-Ok.ensures.encoding).1)
+pub returns-in-Ok-clause-tail : goal.returns-in-Ok-clause-tail
+returns-in-Ok-clause-tail g c = sym (c.loop-text.invariant.0.tail ∙ (split_text _ _ _ c.in-Ok.ensures.encoding).1)
 
-pub returns-in-Ok-clause-bytes : goal.returns-in-Ok-clause-bytes
-returns-in-Ok-clause-bytes g c = All-from_get_or (λ b. b < 256) c.args.bytes.now 0 (λ k l. omega (arith, c.type_inv.bytes k))
+pub returns-in-Ok-clause-are_bytes : goal.returns-in-Ok-clause-are_bytes
+returns-in-Ok-clause-are_bytes g c = All-from_get_or (λ b. b < 256) c.args.bytes.now 0 (λ k l. omega (arith, c.type_inv.bytes k))
 
-pub returns-in-None-clause-bytes : goal.returns-in-None-clause-bytes
-returns-in-None-clause-bytes g c = All-from_get_or (λ b. b < 256) c.args.bytes.now 0 (λ k l. omega (arith, c.type_inv.bytes k))
+pub returns-in-None-clause-are_bytes : goal.returns-in-None-clause-are_bytes
+returns-in-None-clause-are_bytes g c = All-from_get_or (λ b. b < 256) c.args.bytes.now 0 (λ k l. omega (arith, c.type_inv.bytes k))
 
 pub returns-in-None-clause-text : goal.returns-in-None-clause-text
 returns-in-None-clause-text g c =
@@ -32,8 +32,8 @@ returns-in-None-clause-text g c =
     Decodes-last _ _ _ _ _ _ c.loop-text.invariant.0
     (cut_off_decides _ _ _ c.in-Err.ensures.error _ c.valid_up_to.ensures (sym c.error_len.ensures ∙ c.in-None.is) _ _ (c.in_ok-push_utf8.ensures.text ∙ text))
 
-pub returns-in-None-clause-kept : goal.returns-in-None-clause-kept
-returns-in-None-clause-kept g c =
+pub returns-in-None-clause-tail : goal.returns-in-None-clause-tail
+returns-in-None-clause-tail g c =
     c.split_at.ensures.back ∙ cut_off_leaves _ _ _ c.in-Err.ensures.error _ c.valid_up_to.ensures (sym c.error_len.ensures ∙ c.in-None.is)
     ∙ sym c.loop-text.invariant.0.tail
 

@@ -21,5 +21,5 @@ returns-clause-pending g c =
     ∙ sym (c.split_extends.ensures big (pending ++ c.args.first.now) c.args.second.now).1
     ∙ ap (split_tail big) (append_assoc pending c.args.first.now c.args.second.now)
 
-pub returns-in_err-more-clause-refused : goal.returns-in_err-more-clause-refused
-returns-in_err-more-clause-refused g c = search rules
+pub returns-in_err-more-clause-err : goal.returns-in_err-more-clause-err
+returns-in_err-more-clause-err g c = search rules

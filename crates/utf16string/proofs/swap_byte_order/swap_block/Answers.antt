@@ -11,8 +11,8 @@ returns-clause-swapped c =
     let long = ap length c.swapped.ensures ∙ length-swap_bytes 32 (take 64 (drop at raw)) here ∙ here in
     take_more_put_chunk at raw c.swapped.result (at + 64) (omega (arith, long)) c.requires ∙ ap (λ bytes. take at raw ++ bytes) c.swapped.ensures
 
-pub returns-clause-behind : goal.returns-clause-behind
-returns-clause-behind c =
+pub returns-clause-rest : goal.returns-clause-rest
+returns-clause-rest c =
     let raw = c.args.raw.now in
     let at = c.args.at in
     let here = length-chunk at 64 raw c.requires in

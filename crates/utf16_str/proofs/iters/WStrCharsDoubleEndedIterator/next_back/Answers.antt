@@ -8,11 +8,11 @@ returns-then-is_empty-clause-steps g c =
     none-left g.E.Utf16Order.BIG c.as_bytes-raw.result.now _ _ c.is_empty.result c.self.view_is c.as_bytes-raw.ensures.bytes c.is_empty.ensures c.if-is_empty.true
 
 pub from_utf16_unchecked-self-inside-requires : goal.from_utf16_unchecked-self-inside-requires
-from_utf16_unchecked-self-inside-requires g c = c.last_char-last.ensures.rest
+from_utf16_unchecked-self-inside-requires g c = c.last_char-last.ensures.well_formed
 
 pub returns-clause-steps : goal.returns-clause-steps
 returns-clause-steps g c =
-    sym c.self.view_is ∙ ap (text_of g.E.Utf16Order.BIG) (sym c.as_bytes-raw.ensures.bytes) ∙ c.last_char-last.ensures.text
+    sym c.self.view_is ∙ ap (text_of g.E.Utf16Order.BIG) (sym c.as_bytes-raw.ensures.bytes) ∙ c.last_char-last.ensures.joined
     ∙ ap (λ left. text_of g.E.Utf16Order.BIG left ++ c.last_char-last.result.0 ∷ []) (sym c.from_utf16_unchecked-self-inside.ensures.bytes)
 
 pub returns-clause-goes : goal.returns-clause-goes

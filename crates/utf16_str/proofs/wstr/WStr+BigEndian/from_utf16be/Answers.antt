@@ -1,7 +1,7 @@
 use Rattle.utf16_str.proofs.wstr.WStr+BigEndian.from_utf16be.Goals as goal
 
-pub returns-clause-text : goal.returns-clause-text
-returns-clause-text c = c.from_utf16.ensures.text
+pub returns-clause-ok : goal.returns-clause-ok
+returns-clause-ok c = c.from_utf16.ensures.ok
 
 pub returns-clause-error : goal.returns-clause-error
 returns-clause-error c = c.from_utf16.ensures.error

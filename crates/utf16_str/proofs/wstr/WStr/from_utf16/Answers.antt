@@ -6,9 +6,9 @@ use Rattle.utf16_str.proofs.wstr.WStr.from_utf16.Goals as goal
 pub from_utf16_unchecked-requires : goal.from_utf16_unchecked-requires
 from_utf16_unchecked-requires g c = search rules
 
-pub returns-in_err-validate_raw_utf16-clause-text : goal.returns-in_err-validate_raw_utf16-clause-text
-returns-in_err-validate_raw_utf16-clause-text g c =
-    rw (err_from_is_err_and c.from_residual.result c.from_residual.ensures.1).1 c.in_err-validate_raw_utf16.ensures.text
+pub returns-in_err-validate_raw_utf16-clause-ok : goal.returns-in_err-validate_raw_utf16-clause-ok
+returns-in_err-validate_raw_utf16-clause-ok g c =
+    rw (err_from_is_err_and c.from_residual.result c.from_residual.ensures.1).1 c.in_err-validate_raw_utf16.ensures.ok
 
 pub returns-in_err-validate_raw_utf16-clause-error : goal.returns-in_err-validate_raw_utf16-clause-error
 returns-in_err-validate_raw_utf16-clause-error g c =

@@ -14,6 +14,6 @@ long g c = ap length (sym c.as_bytes.ensures.encoding.spelled) ∙ length-encode
 pub returns-clause-size : goal.returns-clause-size
 returns-clause-size g c = long g (goal.at.returns-clause-size g c).After-as_bytes
 
-pub returns-clause-end : goal.returns-clause-end
-returns-clause-end g c =
-    subst (IsBoundary (wstr_text c.args.self.now)) (sym (long g (goal.at.returns-clause-end g c).After-as_bytes)) (IsBoundary-end (wstr_text c.args.self.now))
+pub returns-clause-boundary : goal.returns-clause-boundary
+returns-clause-boundary g c =
+    subst (IsBoundary (wstr_text c.args.self.now)) (sym (long g (goal.at.returns-clause-boundary g c).After-as_bytes)) (IsBoundary-end (wstr_text c.args.self.now))

@@ -8,4 +8,4 @@ pub returns-clause-text : goal.returns-clause-text
 returns-clause-text g c = rw c.as_bytes.ensures.bytes at c.append_utf8.ensures.text
 
 pub returns-clause-refused : goal.returns-clause-refused
-returns-clause-refused g c = c.append_utf8.ensures.refused
+returns-clause-refused g c = c.append_utf8.ensures.err

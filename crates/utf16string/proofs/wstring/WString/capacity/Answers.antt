@@ -1,5 +1,5 @@
 use Rattle.std.proofs.Common.{rules}
 use Rattle.utf16string.proofs.wstring.WString.capacity.Goals as goal
 
-pub returns-clause-room : goal.returns-clause-room
-returns-clause-room g c = search rules
+pub returns-clause-capacity : goal.returns-clause-capacity
+returns-clause-capacity g c = search rules

@@ -11,7 +11,7 @@ insert_char-requires g c =
 pub invariant_of-self : goal.invariant_of-self
 invariant_of-self g c =
     let inserted = Encodes-inserted _ _ _ _ _ _ (Encodes-checked _ _ c.args.self.now.well_formed) c.requires (Encodes-char _ c.args.ch c.ranges.ch.0) in
-    record { well_formed = still_text _ _ _ _ _ c.args.self.now.well_formed inserted (λ left. left.0.0) c.insert_char.result c.insert_char.ensures.items c.insert_char.ensures.refused }
+    record { well_formed = still_text _ _ _ _ _ c.args.self.now.well_formed inserted (λ left. left.0.0) c.insert_char.result c.insert_char.ensures.items c.insert_char.ensures.err }
 
 pub returns-clause-text : goal.returns-clause-text
 returns-clause-text g c =

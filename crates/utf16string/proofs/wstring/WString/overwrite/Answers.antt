@@ -24,8 +24,8 @@ module _ (g : Over) (c : After-overwrite_text g) where
       (sym (written_back (wstring_bytes c.args.self.now) c.overwrite_text.new.raw c.args.self.now.raw.len c.args.self.now.raw.ok.0 (c.overwrite_text.auto.raw ∙ ap length lent)))
       over
 
-pub overwrite_text-requires-clause-text : goal.overwrite_text-requires-clause-text
-overwrite_text-requires-clause-text g c =
+pub overwrite_text-requires-clause-well_formed : goal.overwrite_text-requires-clause-well_formed
+overwrite_text-requires-clause-well_formed g c =
     subst (IsUtf16 g.E.Utf16Order.BIG) (sym c.as_mut_slice.ensures.value) (IsUtf16-from_is_utf16 _ _ c.args.self.now.well_formed)
 
 pub invariant_of-self : goal.invariant_of-self

@@ -13,7 +13,7 @@ invariant_of-self g c =
     let text = chars c.args.string.now in
     let spelled : Encodes big text (encode big text) = record { scalars = All-from_all_scalars _ (scalars-chars c.args.string.now c.utf8.string); spelled = refl } in
     let pushed = Encodes-pushed _ _ _ _ c.args.self.now.well_formed spelled in
-    record { well_formed = still_text _ _ _ _ _ c.args.self.now.well_formed pushed (λ left. left.0.0) c.append_utf16.result c.append_utf16.ensures.items c.append_utf16.ensures.refused }
+    record { well_formed = still_text _ _ _ _ _ c.args.self.now.well_formed pushed (λ left. left.0.0) c.append_utf16.result c.append_utf16.ensures.items c.append_utf16.ensures.err }
 
 pub returns-clause-text : goal.returns-clause-text
 returns-clause-text g c =

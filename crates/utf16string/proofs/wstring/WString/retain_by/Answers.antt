@@ -15,8 +15,8 @@ left g c =
     ∙ ap (take c.retain_in_place-kept.result)
     (written_back _ _ _ c.args.self.now.raw.ok.0 (c.retain_in_place-kept.auto.bytes ∙ ap length c.as_mut_slice.ensures.value))
 
-pub retain_in_place-kept-requires-clause-text : goal.retain_in_place-kept-requires-clause-text
-retain_in_place-kept-requires-clause-text g c =
+pub retain_in_place-kept-requires-clause-well_formed : goal.retain_in_place-kept-requires-clause-well_formed
+retain_in_place-kept-requires-clause-well_formed g c =
     subst (IsUtf16 g.E.Utf16Order.BIG) (sym c.as_mut_slice.ensures.value) (IsUtf16-from_is_utf16 _ _ c.args.self.now.well_formed)
 
 pub retain_in_place-kept-requires-clause-askable : goal.retain_in_place-kept-requires-clause-askable
@@ -27,7 +27,7 @@ pub invariant_of-self : goal.invariant_of-self
 invariant_of-self g c = record {
   well_formed =
       subst (λ bytes. is_utf16 g.E.Utf16Order.BIG bytes ≡ true) (sym (left g (goal.at.invariant_of-self g c).After-truncate))
-      (is_utf16-from_IsUtf16 _ _ c.retain_in_place-kept.ensures.kept);
+      (is_utf16-from_IsUtf16 _ _ c.retain_in_place-kept.ensures.well_formed);
 }
 
 pub returns-clause-text : goal.returns-clause-text

@@ -40,8 +40,8 @@ returns-clause-back g c =
     ∙ ap (text_of g.E.Utf16Order.BIG) c.in_ok-back.ensures.tail
     ∙ text_of-Encodes _ _ _ (taken g (goal.at.returns-clause-back g c).Start)
 
-pub returns-in_err-back-clause-nothing : goal.returns-in_err-back-clause-nothing
-returns-in_err-back-clause-nothing g c at_end infallible =
+pub returns-in_err-back-clause-infallible : goal.returns-in_err-back-clause-infallible
+returns-in_err-back-clause-infallible g c at_end infallible =
     let vec = c.args.self.now.raw in
     let long = length-text _ _ (IsUtf16-from_is_utf16 _ _ c.args.self.now.well_formed) in
     let never = c.in_err-back.ensures.succeeds (omega (arith, vec.ok.0)) infallible in

@@ -11,5 +11,5 @@ returns-clause-text g c =
     ap (λ v. text_of g.E.Utf16Order.BIG v.items) c.from_utf16_unchecked.ensures.vec
     ∙ ap (text_of g.E.Utf16Order.BIG) c.in_ok-buf.ensures.items ∙ text_of-nil _
 
-pub returns-clause-capacity : goal.returns-clause-capacity
-returns-clause-capacity g c = search rules
+pub returns-clause-reserved : goal.returns-clause-reserved
+returns-clause-reserved g c = search rules
