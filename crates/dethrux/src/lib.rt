@@ -129,7 +129,7 @@ pub extern "C" fn dethrux_to_utf8_lossy(byte_order: u32, utf16: &[u8], to: &mut 
         (stop_of result.status result.error_len) }
     ensures between { stop_of result.status result.error_len ≡ NoRoom
         → DecodesTo (is_big byte_order) utf16.now to.new result.read result.written }
-    ensures enough { (length utf16.now + 1) / 2 * 3 ≤ length to.new
+    ensures succeeds { (length utf16.now + 1) / 2 * 3 ≤ length to.new
         → stop_of result.status result.error_len ≡ Done }
     ensures numbers { AreNumbers result.status result.error_len }
 {

@@ -7,7 +7,7 @@ use utf16_case_lines::{Answer, Trouble, Values};
 use utf16_streams::{AnyLossy, Lossy, Utf16Order, decode_pieces};
 
 // The longest stream, in bytes, that is cut in every way, and the longest one that is cut at all.
-const FEW: usize = 12;
+const CUT_EVERY_WAY: usize = 12;
 
 const MOST: usize = 64;
 
@@ -97,7 +97,7 @@ fn cuttings(alloc: Global, len: usize) -> Result<Vec<u64>, Trouble> {
     if len > MOST {
         return Err(Trouble::Condition);
     }
-    if len <= FEW {
+    if len <= CUT_EVERY_WAY {
         for cuts in 0..bit(len.saturating_sub(1)) {
             cuttings.push(cuts).map_err(|_| Trouble::Memory)?;
         }

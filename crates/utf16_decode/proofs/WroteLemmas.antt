@@ -6,7 +6,7 @@ use Rattle.std.proofs.lemmas.List.{take-append-le, take_rest}
 use Rattle.std.specs.Char.{IsScalar}
 use Rattle.utf16_units.proofs.IllFormedLemmas.{rest_from, take-past}
 use Rattle.utf16_decode.specs.Wrote.{Gives, Joins, Puts, Wrote}
-use Rattle.utf16_decode.specs.Stops.{BeginsWith, NextDoesNotFit, Stops, StopsAt}
+use Rattle.utf16_decode.specs.Stops.{BeginsWith, NextDoesNotFit, Stops, StopsHere}
 use Rattle.utf16_decode.specs.declared.progress.Stop.{Stop}
 use Rattle.utf16_decode.specs.declared.progress.Stop.TheVariants.{Incomplete, Done, IllFormed, NoRoom}
 
@@ -83,7 +83,7 @@ module _ (from into : ℕ → List ℕ) (IsValid : List ℕ → Type 0) (other :
 module _ (from into : ℕ → List ℕ) (IsValid : List ℕ → Type 0) (IsIllFormedAt : List ℕ → Option ℕ → Type 0) (IsIllFormed : List ℕ → ℕ → Option ℕ → Type 0)
     (faults : (input : List ℕ) (read : ℕ) (len : Option ℕ) → read < length input → IsValid (take read input) → IsIllFormedAt (drop read input) len → IsIllFormed input read len)
     (input : List ℕ) (read left : ℕ) (within : read < length input) (text : IsValid (take read input)) where
-  pub stops_there : (stop : Stop) → StopsAt from into IsIllFormedAt (rest_from input read) left stop → Stops from into IsIllFormed input read left stop
+  pub stops_there : (stop : Stop) → StopsHere from into IsIllFormedAt (rest_from input read) left stop → Stops from into IsIllFormed input read left stop
   stops_there Done here = absurd here
   stops_there (IllFormed len) here = faults input read (Some len) within text (subst (λ r. IsIllFormedAt r (Some len)) (take_rest input read) here)
   stops_there Incomplete here = faults input read None within text (subst (λ r. IsIllFormedAt r None) (take_rest input read) here)

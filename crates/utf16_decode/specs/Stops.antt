@@ -26,11 +26,11 @@ module _ (from into : ℕ → List ℕ) (IsIllFormedOf : List ℕ → ℕ → Op
 
 -- the same, stated of the rest
 module _ (from into : ℕ → List ℕ) (IsIllFormedHere : List ℕ → Option ℕ → Type 0) where
-  abbrev pub StopsAt : List ℕ → ℕ → Stop → Type 0
-  StopsAt rest left Done = ⊥
-  StopsAt rest left (IllFormed len) = IsIllFormedHere rest (Some len)
-  StopsAt rest left Incomplete = IsIllFormedHere rest None
-  StopsAt rest left NoRoom = NextDoesNotFit from into rest left
+  abbrev pub StopsHere : List ℕ → ℕ → Stop → Type 0
+  StopsHere rest left Done = ⊥
+  StopsHere rest left (IllFormed len) = IsIllFormedHere rest (Some len)
+  StopsHere rest left Incomplete = IsIllFormedHere rest None
+  StopsHere rest left NoRoom = NextDoesNotFit from into rest left
 
 -- the longest well-formed prefix of bytes that are not UTF-16, and Rust's `error_len` of what
 -- follows it

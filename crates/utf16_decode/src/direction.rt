@@ -3,20 +3,20 @@
 
 ghost use Rattle.std.specs.Prelude.{◌≡◌, ◌≤◌, ◌<◌, ◌+◌, ◌-◌, ◌++◌, ℕ, List, Option, [], IfErr, IfOk, IfSome, None, length, take, drop};
 ghost use Rattle.std.specs.Char.{IsScalar};
-ghost use Rattle.utf16_decode.specs.Stops.{BeginsWith, Stops, StopsAt};
+ghost use Rattle.utf16_decode.specs.Stops.{BeginsWith, Stops, StopsHere};
 ghost use Rattle.utf16_decode.specs.Wrote.{Gives, Joins, Puts, Wrote};
 
 use crate::progress::{Progress, Stop, put};
 
 // The most bytes that are validated and then written at once, so that they are still in the cache
 // when they are written.
-const PIECE: usize = 8192;
+const TESTED_LEN: usize = 8192;
 
 // The most bytes that are written through a buffer on the stack, and the length of that buffer:
 // what `write` needs for them in both directions.
-const FEW: usize = 128;
+const BUFFERED_LEN: usize = 128;
 
-const FEW_ROOM: usize = 320;
+const BUFFER_LEN: usize = 320;
 
 // With at least this much space left, chunks are written directly to their place.
 const MUCH: usize = 512;
@@ -145,7 +145,7 @@ fn put_piece<D: Direction>(rest: &[u8], before: usize, to: &mut [u8], at: usize)
     if room < MUCH {
         return put_few::<D>(rest, to, at);
     }
-    let most = D::most(room).min(PIECE).min(rest.len());
+    let most = D::most(room).min(TESTED_LEN).min(rest.len());
     let len = D::valid_len(&rest[..most], before);
     if len == 0 {
         return (0, at);
@@ -160,7 +160,7 @@ fn put_few<D: Direction>(rest: &[u8], to: &mut [u8], at: usize) -> (usize, usize
     ensures { Puts (Gives D.IsValid D.other) rest.now to.old to.new at result.0 result.1 }
 {
     D::laws();
-    let len = D::valid_len(&rest[..rest.len().min(FEW)], 0);
+    let len = D::valid_len(&rest[..rest.len().min(BUFFERED_LEN)], 0);
     match put_text::<D>(&rest[..len], to, at) {
         Some(end) => (len, end),
         None => (0, at),
@@ -174,7 +174,7 @@ fn put_char<D: Direction>(rest: &[u8], to: &mut [u8], at: usize) -> Result<(usiz
     ensures wrote { IfOk result (λ r.
         Puts (Gives D.IsValid D.other) rest.now to.old to.new at r.0 r.1) }
     ensures advances { IfOk result (λ r. 0 < r.0) }
-    ensures stop { IfErr result (StopsAt D.from D.into D.IsIllFormedAt rest.now
+    ensures stop { IfErr result (StopsHere D.from D.into D.IsIllFormedAt rest.now
         (length to.new - at)) }
     ensures unchanged { IfErr result (λ _. to.new ≡ to.old) }
 {
@@ -193,7 +193,7 @@ fn put_char<D: Direction>(rest: &[u8], to: &mut [u8], at: usize) -> Result<(usiz
 // Writes a few bytes of text at `at` if they fit, and returns where the written bytes end.
 fn put_text<D: Direction>(text: &[u8], to: &mut [u8], at: usize) -> Option<usize>
     requires well_formed { D.IsValid text.now }
-    requires few { length text.now ≤ FEW }
+    requires few { length text.now ≤ BUFFERED_LEN }
     requires within { at ≤ length to.old }
     ensures within { IfSome result (λ end. end ≤ length to.new) }
     ensures bytes { IfSome result (λ end. take end to.new ≡ take at to.old ++ D.other text.now) }
@@ -201,7 +201,7 @@ fn put_text<D: Direction>(text: &[u8], to: &mut [u8], at: usize) -> Option<usize
     ensures unchanged { result ≡ None → to.new ≡ to.old }
 {
     D::laws();
-    let mut buf = [0; FEW_ROOM];
+    let mut buf = [0; BUFFER_LEN];
     let len = D::write(text, &mut buf);
     if to.len() - at < len {
         return None;

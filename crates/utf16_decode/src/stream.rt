@@ -149,7 +149,7 @@ fn feed_after<E: Utf16Order>(pending: &[u8], piece: &[u8], to: &mut [u8]) -> (Pr
         };
         return (full, Stream::of(pending));
     }
-    let (tail, len) = seam(pending, rest);
+    let (tail, len) = joined_start(pending, rest);
     let done = Progress {
         read: piece.len(),
         written: front.written,
@@ -170,8 +170,8 @@ fn decode_joined<E: Utf16Order>(pending: &[u8], piece: &[u8], to: &mut [u8]) -> 
     let mut read = 0;
     let mut written = 0;
     while read < pending.len() {
-        let (seam, len) = seam(&pending[read..], piece);
-        let met = to_utf8_partial::<E>(&seam[..len], &mut to[written..]);
+        let (joined, len) = joined_start(&pending[read..], piece);
+        let met = to_utf8_partial::<E>(&joined[..len], &mut to[written..]);
         read += met.read;
         written += met.written;
         if met.read == 0 || met.stop == Stop::NoRoom {
@@ -204,15 +204,15 @@ fn rest_of<'a>(pending: &'a [u8], piece: &'a [u8], at: usize) -> (&'a [u8], &'a 
 
 // Returns the first four bytes of the pending bytes and the chunk, or all of them if they are
 // fewer, and their number.
-fn seam(pending: &[u8], piece: &[u8]) -> ([u8; 4], usize)
+fn joined_start(pending: &[u8], piece: &[u8]) -> ([u8; 4], usize)
     requires { length pending.now ≤ 3 }
     ensures few { result.1 ≤ 4 }
     ensures bytes { take result.1 result.0 ≡ take 4 (pending.now ++ piece.now) }
 {
     let front = &piece[..piece.len().min(4 - pending.len())];
     let len = pending.len() + front.len();
-    let mut seam = [0; 4];
-    seam[..pending.len()].copy_from_slice(pending);
-    seam[pending.len()..len].copy_from_slice(front);
-    (seam, len)
+    let mut joined = [0; 4];
+    joined[..pending.len()].copy_from_slice(pending);
+    joined[pending.len()..len].copy_from_slice(front);
+    (joined, len)
 }

@@ -15,7 +15,7 @@ use Rattle.utf16string.specs.Edit.{char_at, push_text}
 use Rattle.utf16string.specs.Encoding.{size}
 use Rattle.utf16string.specs.WString.{wstring_text}
 use Rattle.utf16_edits.specs.Edited.{all_answered, all_edited, answered, bad_offset, changed, char, done, edited, is_possible, no_memory, nothing, rest, said, taken, told}
-use Rattle.utf16_edits.specs.Step.{AsksForMemory, IsDone, IsPossible, Run, Step}
+use Rattle.utf16_edits.specs.Step.{MayAllocate, IsDone, IsPossible, Run, Step}
 use Rattle.utf16_edits.specs.declared.edit.Edit.{Edit}
 use Rattle.utf16_edits.specs.declared.edit.Edit.TheVariants.{Clear, Insert, InsertText, Overwrite, Pop, Push, PushText, Remove, Retain, SplitOff, Truncate}
 use Rattle.utf16_edits.specs.declared.edit.Reply.{Reply}
@@ -161,7 +161,7 @@ module _ {E Z : Type 0} {order : Ghosts E} where
   told-granted text edit = λ e. absurd cc
 
   Step-granted : (old : List ℕ) (edit : Edit E Z order) (reply : Reply E Z order) (new : List ℕ) → Step old edit reply new
-      → ¬ (AsksForMemory edit) → ¬ (reply ≡ NoMemory)
+      → ¬ (MayAllocate edit) → ¬ (reply ≡ NoMemory)
   Step-granted old edit reply new (inl p) free missing = told-granted old edit (sym (told-done old edit reply new p.1).0 ∙ ap said missing)
   Step-granted old edit reply new (inr (inl p)) free missing = free p.1
   Step-granted old edit reply new (inr (inr p)) free missing =
@@ -170,14 +170,14 @@ module _ {E Z : Type 0} {order : Ghosts E} where
 
   -- of edits that do not allocate none has the reply that allocation failed
   pub Run-granted : (old : List ℕ) (edits : List (Edit E Z order)) (replies : List (Reply E Z order)) (new : List ℕ) → Run old edits replies new
-      → All (λ edit. ¬ (AsksForMemory edit)) edits → All (λ reply. ¬ (reply ≡ NoMemory)) replies
+      → All (λ edit. ¬ (MayAllocate edit)) edits → All (λ reply. ¬ (reply ≡ NoMemory)) replies
   Run-granted old [] [] new run free = All-nil (λ reply. ¬ (reply ≡ NoMemory))
   Run-granted old [] (reply ∷ replies) new run free = absurd run
   Run-granted old (edit ∷ edits) [] new run free = absurd run
   Run-granted old (edit ∷ edits) (reply ∷ replies) new run free =
       All-cons (λ reply. ¬ (reply ≡ NoMemory)) reply replies
-      (Step-granted old edit reply run.0 run.1 (All-head (λ edit. ¬ (AsksForMemory edit)) edit edits free))
-      (Run-granted run.0 edits replies new run.2 (All-tail (λ edit. ¬ (AsksForMemory edit)) edit edits free))
+      (Step-granted old edit reply run.0 run.1 (All-head (λ edit. ¬ (MayAllocate edit)) edit edits free))
+      (Run-granted run.0 edits replies new run.2 (All-tail (λ edit. ¬ (MayAllocate edit)) edit edits free))
 
   popped : (old : List ℕ) (reply : Reply E Z order) (new : List ℕ) → said reply ≡ taken (last_or None old) → new ≡ take (length old - 1) old → IsDone old Pop reply new
   popped [] reply new s n = inl (refl, said-nothing reply s, n)

@@ -2,7 +2,7 @@
 use Rattle.std.proofs.Common.{◌≡◌, ◌⊎◌, ℕ, List, [], ◌∷◌, ◌++◌, All, Some, refl, subst, ⊎_elim, ◌∙◌}
 use Rattle.std.proofs.lemmas.List.Elements.{All-pop}
 use Rattle.utf16_units.specs.declared.byte_order.Utf16Order.{Ghosts}
-use Rattle.utf16_edits.specs.Step.{AsksForMemory, Run, Step}
+use Rattle.utf16_edits.specs.Step.{MayAllocate, Run, Step}
 use Rattle.utf16_edits.specs.declared.edit.Edit.{Edit}
 use Rattle.utf16_edits.specs.declared.edit.Reply.{Reply}
 
@@ -15,8 +15,8 @@ module _ {E Z : Type 0} {order : Ghosts E} where
   Run-push old mid new (e ∷ edits) (r ∷ replies) edit reply run step = (run.0, run.1, Run-push run.0 mid new edits replies edit reply run.2 step)
 
   -- the capacity after edits that do not allocate
-  pub room-push : (old mid new : ℕ) (edits : List (Edit E Z order)) (edit : Edit E Z order) → (All (λ edit. ¬ (AsksForMemory edit)) edits → mid ≡ old)
-      → AsksForMemory edit ⊎ (new ≡ mid) → All (λ edit. ¬ (AsksForMemory edit)) (edits ++ edit ∷ []) → new ≡ old
+  pub room-push : (old mid new : ℕ) (edits : List (Edit E Z order)) (edit : Edit E Z order) → (All (λ edit. ¬ (MayAllocate edit)) edits → mid ≡ old)
+      → MayAllocate edit ⊎ (new ≡ mid) → All (λ edit. ¬ (MayAllocate edit)) (edits ++ edit ∷ []) → new ≡ old
   room-push old mid new edits edit kept stays free =
-      let before = All-pop (λ edit. ¬ (AsksForMemory edit)) (edits ++ edit ∷ []) edits (Some edit) refl free in
-      ⊎_elim (λ (asks : AsksForMemory edit). absurd (before.1 asks)) (λ (same : new ≡ mid). same ∙ kept before.0) stays
+      let before = All-pop (λ edit. ¬ (MayAllocate edit)) (edits ++ edit ∷ []) edits (Some edit) refl free in
+      ⊎_elim (λ (asks : MayAllocate edit). absurd (before.1 asks)) (λ (same : new ≡ mid). same ∙ kept before.0) stays

@@ -7,7 +7,7 @@ use Rattle.utf16string.specs.declared.wstring.WString.{WString}
 use Rattle.utf16string.specs.Encoding.{size}
 use Rattle.utf16string.specs.WString.{wstring_bytes, wstring_capacity, wstring_text}
 use Rattle.utf16_edits.specs.Edited.{EachFits, Fits, edited, no_memory, said}
-use Rattle.utf16_edits.specs.Step.{HasRoomFor, Step}
+use Rattle.utf16_edits.specs.Step.{HasCapacityFor, Step}
 use Rattle.utf16_edits.specs.declared.edit.Edit.{Edit}
 use Rattle.utf16_edits.specs.declared.edit.Edit.TheVariants.{Clear, Insert, InsertText, Overwrite, Pop, Push, PushText, Remove, Retain, SplitOff, Truncate}
 use Rattle.utf16_edits.specs.declared.edit.Reply.{Reply}
@@ -19,7 +19,7 @@ module _ {E Z : Type 0} {order : Ghosts E} where
   length-string s = length-text order.BIG (wstring_bytes s) (IsUtf16-from_is_utf16 order.BIG (wstring_bytes s) s.well_formed)
 
   -- a string of at least that capacity suffices for an edit that fits
-  pub room_for : (room : ℕ) (s : WString E Z order) (edit : Edit E Z order) → room ≤ wstring_capacity s → Fits room (wstring_text s) edit → HasRoomFor s edit
+  pub room_for : (room : ℕ) (s : WString E Z order) (edit : Edit E Z order) → room ≤ wstring_capacity s → Fits room (wstring_text s) edit → HasCapacityFor s edit
   room_for room s (Push c) grown fits = let len = length-string s in omega arith
   room_for room s (PushText t) grown fits = let len = length-string s in let more = length-string t in omega arith
   room_for room s Pop grown fits = tt

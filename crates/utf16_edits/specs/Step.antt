@@ -48,40 +48,40 @@ module _ {E Z : Type 0} {order : Ghosts E} where
   IsDone old Clear reply new = (reply ≡ Done) × (new ≡ [])
 
   -- the edit may allocate, which may fail
-  abbrev pub AsksForMemory : Edit E Z order → Type 0
-  AsksForMemory (Push c) = ⊤
-  AsksForMemory (PushText t) = ⊤
-  AsksForMemory Pop = ⊥
-  AsksForMemory (Insert i c) = ⊤
-  AsksForMemory (InsertText i t) = ⊤
-  AsksForMemory (Remove i) = ⊥
-  AsksForMemory (Retain set) = ⊥
-  AsksForMemory (Truncate n) = ⊥
-  AsksForMemory (SplitOff i) = ⊤
-  AsksForMemory (Overwrite i t) = ⊥
-  AsksForMemory Clear = ⊥
+  abbrev pub MayAllocate : Edit E Z order → Type 0
+  MayAllocate (Push c) = ⊤
+  MayAllocate (PushText t) = ⊤
+  MayAllocate Pop = ⊥
+  MayAllocate (Insert i c) = ⊤
+  MayAllocate (InsertText i t) = ⊤
+  MayAllocate (Remove i) = ⊥
+  MayAllocate (Retain set) = ⊥
+  MayAllocate (Truncate n) = ⊥
+  MayAllocate (SplitOff i) = ⊤
+  MayAllocate (Overwrite i t) = ⊥
+  MayAllocate Clear = ⊥
 
   -- the string has the capacity that the edit needs; a part that is split off needs an allocation
   -- of its own
-  abbrev pub HasRoomFor : WString E Z order → Edit E Z order → Type 0
-  HasRoomFor string (Push c) = length (wstring_bytes string) + char_size c ≤ wstring_capacity string
-  HasRoomFor string (PushText t) = length (wstring_bytes string) + length (wstring_bytes t) ≤ wstring_capacity string
-  HasRoomFor string Pop = ⊤
-  HasRoomFor string (Insert i c) = length (wstring_bytes string) + char_size c ≤ wstring_capacity string
-  HasRoomFor string (InsertText i t) = length (wstring_bytes string) + length (wstring_bytes t) ≤ wstring_capacity string
-  HasRoomFor string (Remove i) = ⊤
-  HasRoomFor string (Retain set) = ⊤
-  HasRoomFor string (Truncate n) = ⊤
-  HasRoomFor string (SplitOff i) = ⊥
-  HasRoomFor string (Overwrite i t) = ⊤
-  HasRoomFor string Clear = ⊤
+  abbrev pub HasCapacityFor : WString E Z order → Edit E Z order → Type 0
+  HasCapacityFor string (Push c) = length (wstring_bytes string) + char_size c ≤ wstring_capacity string
+  HasCapacityFor string (PushText t) = length (wstring_bytes string) + length (wstring_bytes t) ≤ wstring_capacity string
+  HasCapacityFor string Pop = ⊤
+  HasCapacityFor string (Insert i c) = length (wstring_bytes string) + char_size c ≤ wstring_capacity string
+  HasCapacityFor string (InsertText i t) = length (wstring_bytes string) + length (wstring_bytes t) ≤ wstring_capacity string
+  HasCapacityFor string (Remove i) = ⊤
+  HasCapacityFor string (Retain set) = ⊤
+  HasCapacityFor string (Truncate n) = ⊤
+  HasCapacityFor string (SplitOff i) = ⊥
+  HasCapacityFor string (Overwrite i t) = ⊤
+  HasCapacityFor string Clear = ⊤
 
   -- one edit: it is made if it is possible, unless it may allocate and that fails; otherwise the
   -- text is unchanged
   abbrev pub Step : List ℕ → Edit E Z order → Reply E Z order → List ℕ → Type 0
   Step old edit reply new =
       (IsPossible old edit × IsDone old edit reply new)
-      ⊎ ((IsPossible old edit × AsksForMemory edit × (reply ≡ NoMemory) × (new ≡ old)) ⊎ (¬ (IsPossible old edit) × (reply ≡ BadOffset) × (new ≡ old)))
+      ⊎ ((IsPossible old edit × MayAllocate edit × (reply ≡ NoMemory) × (new ≡ old)) ⊎ (¬ (IsPossible old edit) × (reply ≡ BadOffset) × (new ≡ old)))
 
   -- a list of edits: a reply for each, and each a step from the text that the one before left
   abbrev pub Run : List ℕ → List (Edit E Z order) → List (Reply E Z order) → List ℕ → Type 0

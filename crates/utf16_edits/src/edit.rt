@@ -2,7 +2,7 @@
 
 ghost use Rattle.std.specs.Prelude.{◌≡◌, ◌⊎◌, ◌≤◌, ◌↔◌, All, IfOk, IfSome, IsOk, IsTrue, None, OnErr, [], filter, if◌then◌else◌, is_ok, vec_capacity, vec_len};
 ghost use Rattle.utf16_edits.specs.Edited.{EachFits};
-ghost use Rattle.utf16_edits.specs.Step.{AsksForMemory, HasRoomFor, IsPossible, Run, Step, is_in};
+ghost use Rattle.utf16_edits.specs.Step.{MayAllocate, HasCapacityFor, IsPossible, Run, Step, is_in};
 ghost use Rattle.utf16string.specs.Boundary.{IsBoundary};
 ghost use Rattle.utf16string.specs.WString.{IsUnchanged, wstring_capacity, wstring_text};
 
@@ -73,9 +73,9 @@ pub fn apply<E: Utf16Order, A: Allocator + Clone>(
     ensures unchanged { (result ≡ Reply.BadOffset) ⊎ (result ≡ Reply.NoMemory)
         → IsUnchanged string.old string.new }
     ensures grows { wstring_capacity string.old ≤ wstring_capacity string.new }
-    ensures stays { AsksForMemory edit
+    ensures stays { MayAllocate edit
         ⊎ (wstring_capacity string.new ≡ wstring_capacity string.old) }
-    ensures succeeds { HasRoomFor string.old edit → ¬ (result ≡ Reply.NoMemory) }
+    ensures succeeds { HasCapacityFor string.old edit → ¬ (result ≡ Reply.NoMemory) }
 {
     if !is_possible(string, &edit) {
         return Reply::BadOffset;
@@ -127,17 +127,17 @@ pub fn run<E: Utf16Order, A: Allocator + Clone, B: Allocator, C: Allocator>(
     ensures nothing { edits.items ≡ [] → IsOk result }
     ensures served { EachFits (wstring_capacity string.old) (wstring_text string.old) edits.items
         → IfOk result (λ replies. All (λ reply. ¬ (reply ≡ Reply.NoMemory)) replies.items) }
-    ensures stays { All (λ edit. ¬ (AsksForMemory edit)) edits.items
+    ensures stays { All (λ edit. ¬ (MayAllocate edit)) edits.items
         → wstring_capacity string.new ≡ wstring_capacity string.old }
 {
     let mut replies = Vec::with_capacity(alloc, edits.len())?;
-    answer_each(string, edits, &mut replies);
+    apply_each(string, edits, &mut replies);
     Ok(replies)
 }
 
 // Applies a list of edits in order, and appends a reply for each to `replies`, whose capacity
 // suffices: so only an edit can fail to allocate.
-fn answer_each<E: Utf16Order, A: Allocator + Clone, B: Allocator, C: Allocator>(
+fn apply_each<E: Utf16Order, A: Allocator + Clone, B: Allocator, C: Allocator>(
     string: &mut WString<E, A>,
     edits: Vec<Edit<E, A>, C>,
     replies: &mut Vec<Reply<E, A>, B>,
@@ -148,7 +148,7 @@ fn answer_each<E: Utf16Order, A: Allocator + Clone, B: Allocator, C: Allocator>(
         (wstring_text string.new) }
     ensures served { EachFits (wstring_capacity string.old) (wstring_text string.old) edits.items
         → All (λ reply. ¬ (reply ≡ Reply.NoMemory)) replies.new.items }
-    ensures stays { All (λ edit. ¬ (AsksForMemory edit)) edits.items
+    ensures stays { All (λ edit. ¬ (MayAllocate edit)) edits.items
         → wstring_capacity string.new ≡ wstring_capacity string.old }
 {
     for edit in edits {

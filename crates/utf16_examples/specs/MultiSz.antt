@@ -11,8 +11,8 @@ abbrev pub HasNoNul : List ℕ → Type 0
 HasNoNul text = Lacks 0 text
 
 -- a text can be in a table: it is not empty, and it has no NUL
-abbrev pub IsEntry : List ℕ → Type 0
-IsEntry text = (text ≢ []) × HasNoNul text
+abbrev pub IsMultiSzEntry : List ℕ → Type 0
+IsMultiSzEntry text = (text ≢ []) × HasNoNul text
 
 -- the table of texts: a NUL after each, and one more ends it
 abbrev pub multi_sz_of : List (List ℕ) → List ℕ
@@ -30,7 +30,7 @@ IsReading text texts = IsListBegun 0 text texts
 
 -- why texts make no table: the text of that number is empty, or has a NUL, and all before it can be
 -- in one; or all can, and allocation failed
-abbrev pub IsRefusal : List (List ℕ) → WriteError → Type 0
-IsRefusal texts (Empty i) = (slice_get texts i ≡ Some []) × All IsEntry (take i texts)
-IsRefusal texts (HasNul i) = (text : List ℕ) × (slice_get texts i ≡ Some text) × Contains text 0 × All IsEntry (take i texts)
-IsRefusal texts NoMemory = All IsEntry texts
+abbrev pub IsWriteError : List (List ℕ) → WriteError → Type 0
+IsWriteError texts (Empty i) = (slice_get texts i ≡ Some []) × All IsMultiSzEntry (take i texts)
+IsWriteError texts (HasNul i) = (text : List ℕ) × (slice_get texts i ≡ Some text) × Contains text 0 × All IsMultiSzEntry (take i texts)
+IsWriteError texts NoMemory = All IsMultiSzEntry texts

@@ -54,7 +54,7 @@ pub record IsFieldError (big : Bool) (at : ℕ) (rest : List ℕ) (e : FieldErro
   pub fault : IsFieldErrorKind big rest e.fault
 
 -- the buffer is fields with some texts, and the error is for what follows them
-pub record StopsAt (big : Bool) (buffer : List ℕ) (e : FieldError) : Type 0 where
+pub record FieldsStopAt (big : Bool) (buffer : List ℕ) (e : FieldError) : Type 0 where
   pub texts : List (List ℕ)
   pub rest : List ℕ
   pub fields : HoldsFields big texts rest buffer
@@ -65,4 +65,4 @@ pub record StopsAt (big : Bool) (buffer : List ℕ) (e : FieldError) : Type 0 wh
 -- malformed
 abbrev pub IsReadError : Bool → List ℕ → ReadError → Type 0
 IsReadError big buffer Memory = (texts : List (List ℕ)) × (rest : List ℕ) × (texts ≢ []) × HoldsFields big texts rest buffer
-IsReadError big buffer (Field e) = StopsAt big buffer e
+IsReadError big buffer (Field e) = FieldsStopAt big buffer e

@@ -5,7 +5,7 @@ ghost use Rattle.std.specs.Prelude.{◌≡◌, ◌∷◌, [], ℕ, List, All, If
 ghost use Rattle.std.specs.Bool.{OnFalse, OnTrue};
 ghost use Rattle.std.specs.List.{Contains};
 ghost use Rattle.std.specs.Iterator.{YieldsFirstBy, item_count};
-ghost use Rattle.utf16_examples.specs.MultiSz.{IsEntry, IsReading, HasNoNul, IsRefusal, multi_sz_of, texts_in};
+ghost use Rattle.utf16_examples.specs.MultiSz.{IsMultiSzEntry, IsReading, HasNoNul, IsWriteError, multi_sz_of, texts_in};
 ghost use Rattle.utf16string.specs.WStr.{wstr_text};
 ghost use Rattle.utf16string.specs.WString.{wstring_text};
 
@@ -110,10 +110,10 @@ pub fn write<E: Utf16Order, A: Allocator>(
 ) -> Result<WString<E, A>, WriteError>
     ensures table { IfOk result (λ table.
         wstring_text table ≡ multi_sz_of (map wstr_text texts.now)) }
-    ensures entries { IfOk result (λ _. All IsEntry (map wstr_text texts.now)) }
+    ensures entries { IfOk result (λ _. All IsMultiSzEntry (map wstr_text texts.now)) }
     ensures read_back { IfOk result (λ table. texts_in (wstring_text table)
         ≡ map wstr_text texts.now) }
-    ensures error { IfErr result (IsRefusal (map wstr_text texts.now)) }
+    ensures error { IfErr result (IsWriteError (map wstr_text texts.now)) }
 {
     check(texts)?;
     Ok(joined(alloc, texts)?)
@@ -121,8 +121,8 @@ pub fn write<E: Utf16Order, A: Allocator>(
 
 // Tests that no text is empty or contains a NUL; the error is for the first that is or does.
 fn check<E: Utf16Order>(texts: &[WStr<E>]) -> Result<(), WriteError>
-    ensures entries { OnOk result (All IsEntry (map wstr_text texts.now)) }
-    ensures error { IfErr result (IsRefusal (map wstr_text texts.now)) }
+    ensures entries { OnOk result (All IsMultiSzEntry (map wstr_text texts.now)) }
+    ensures error { IfErr result (IsWriteError (map wstr_text texts.now)) }
 {
     for (i, text) in texts.iter().enumerate() {
         if text.is_empty() {

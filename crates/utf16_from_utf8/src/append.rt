@@ -6,7 +6,7 @@ ghost use Rattle.std.specs.Vec.{VecUnchanged, vec_capacity, vec_len};
 ghost use Rattle.utf16_units.specs.Encoding.{encode, size};
 ghost use Rattle.utf16_from_utf8.specs.Added.{added_bytes};
 
-use crate::few::{FEW, extend_few};
+use crate::few::{TINY_TEXT, extend_few};
 use crate::size::utf16_len;
 use crate::write::write_units;
 use std::alloc::{AllocError, Allocator};
@@ -14,9 +14,9 @@ use utf16_units::Utf16Order;
 
 // The number of bytes converted at once, of a short text and of a long one. Their UTF-16 is first
 // written to a buffer on the stack.
-const SHORT: usize = 64;
+const SHORT_STEP: usize = 64;
 
-const PIECE: usize = 2048;
+const LONG_STEP: usize = 2048;
 
 /// Appends a text in UTF-16 to `raw`. It does not fail, because the capacity suffices.
 ///
@@ -36,9 +36,9 @@ pub fn extend_utf16<E: Utf16Order, A: Allocator>(
     ensures ok { IsOk result }
     ensures grows { vec_capacity raw.old ≤ vec_capacity raw.new }
 {
-    if s.len() < FEW {
+    if s.len() < TINY_TEXT {
         extend_few::<E, A>(raw, s)
-    } else if s.len() <= SHORT {
+    } else if s.len() <= SHORT_STEP {
         extend_short::<E, A>(raw, s)
     } else {
         extend_long::<E, A>(raw, s)
@@ -74,13 +74,13 @@ fn extend_short<E: Utf16Order, A: Allocator>(
     raw: &mut Vec<u8, A>,
     s: &str,
 ) -> Result<(), AllocError>
-    requires short { length s.now ≤ SHORT }
+    requires short { length s.now ≤ SHORT_STEP }
     requires fits { vec_len raw.old + size (chars s.now) ≤ vec_capacity raw.old }
     ensures items { raw.new.items ≡ raw.old.items ++ encode E.BIG (chars s.now) }
     ensures ok { IsOk result }
     ensures grows { vec_capacity raw.old ≤ vec_capacity raw.new }
 {
-    extend_piece::<E, A>(raw, [0; 2], s.as_bytes(), &mut [0; 2 * SHORT + 16])
+    extend_piece::<E, A>(raw, [0; 2], s.as_bytes(), &mut [0; 2 * SHORT_STEP + 16])
 }
 
 // Appends a text that is converted chunk by chunk. A function of its own, so that no other pays for
@@ -92,7 +92,7 @@ fn extend_long<E: Utf16Order, A: Allocator>(raw: &mut Vec<u8, A>, s: &str) -> Re
     ensures ok { IsOk result }
     ensures grows { vec_capacity raw.old ≤ vec_capacity raw.new }
 {
-    extend_pieces::<E, A>(raw, s.as_bytes(), &mut [0; 2 * PIECE + 16])
+    extend_pieces::<E, A>(raw, s.as_bytes(), &mut [0; 2 * LONG_STEP + 16])
 }
 
 // Appends the UTF-16 that bytes add, chunk by chunk.
@@ -103,16 +103,16 @@ fn extend_pieces<E: Utf16Order, A: Allocator>(
 ) -> Result<(), AllocError>
     requires fits { vec_len raw.old + length (added_bytes E.BIG 0 0 bytes.now)
         ≤ vec_capacity raw.old }
-    requires space { length buf.old ≡ 2 * PIECE + 16 }
+    requires space { length buf.old ≡ 2 * LONG_STEP + 16 }
     ensures items { raw.new.items ≡ raw.old.items ++ added_bytes E.BIG 0 0 bytes.now }
     ensures ok { IsOk result }
     ensures grows { vec_capacity raw.old ≤ vec_capacity raw.new }
 {
     let mut before = [0; 2];
     let mut at = 0;
-    while bytes.len() - at > PIECE {
-        extend_piece::<E, A>(raw, before, &bytes[at..at + PIECE], buf)?;
-        at += PIECE;
+    while bytes.len() - at > LONG_STEP {
+        extend_piece::<E, A>(raw, before, &bytes[at..at + LONG_STEP], buf)?;
+        at += LONG_STEP;
         before = [bytes[at - 2], bytes[at - 1]];
     }
     extend_piece::<E, A>(raw, before, &bytes[at..], buf)

@@ -9,7 +9,7 @@ use std::alloc::{AllocError, Allocator};
 use utf16_units::{Utf16CharExt, Utf16Order};
 
 // Texts of fewer bytes than this, two SIMD blocks, are converted character by character.
-pub(crate) const FEW: usize = 32;
+pub(crate) const TINY_TEXT: usize = 32;
 
 // The length of the text in UTF-16, in bytes.
 pub(crate) fn few_len(s: &str) -> usize
@@ -41,13 +41,13 @@ pub(crate) fn extend_few<E: Utf16Order, A: Allocator>(
     raw: &mut Vec<u8, A>,
     s: &str,
 ) -> Result<(), AllocError>
-    requires few { length s.now < FEW }
+    requires few { length s.now < TINY_TEXT }
     requires fits { vec_len raw.old + size (chars s.now) ≤ vec_capacity raw.old }
     ensures items { raw.new.items ≡ raw.old.items ++ encode E.BIG (chars s.now) }
     ensures ok { IsOk result }
     ensures grows { vec_capacity raw.old ≤ vec_capacity raw.new }
 {
-    let mut buf = [0; 2 * FEW];
+    let mut buf = [0; 2 * TINY_TEXT];
     let end = write_few::<E>(s, &mut buf);
     raw.extend_from_slice(&buf[..end])
 }

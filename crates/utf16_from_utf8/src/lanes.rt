@@ -55,7 +55,7 @@ pub(crate) fn where_below(v: u8x16, limit: u8, a: u8x16, b: u8x16) -> u8x16
 
 // The byte before each one; before the first, `before`.
 #[inline(always)]
-pub(crate) fn behind(v: u8x16, before: u8) -> u8x16
+pub(crate) fn previous_lanes(v: u8x16, before: u8) -> u8x16
     ensures { HasLanes 16 result (λ i. slice_index (before ∷ v) i) }
 {
     u8x16::splat(before).shuffle(

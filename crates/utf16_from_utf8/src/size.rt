@@ -5,7 +5,7 @@ ghost use Rattle.std.specs.Str.{chars};
 ghost use Rattle.utf16_units.specs.Encoding.{size};
 ghost use Rattle.utf16_from_utf8.specs.Sizes.{units_begun};
 
-use crate::few::{FEW, few_len};
+use crate::few::{TINY_TEXT, few_len};
 use std::simd::prelude::*;
 
 /// Returns the length of a text in UTF-16, in bytes.
@@ -16,7 +16,7 @@ use std::simd::prelude::*;
 pub fn utf16_len(s: &str) -> usize
     ensures { result ≡ size (chars s.now) }
 {
-    if s.len() < FEW {
+    if s.len() < TINY_TEXT {
         return few_len(s);
     }
     2 * units(s.as_bytes())

@@ -8,7 +8,7 @@ ghost use Rattle.utf16_units.specs.Encoding.{encode};
 ghost use Rattle.utf16_from_utf8.specs.Added.{added_bytes, unit_after};
 ghost use Rattle.utf16_from_utf8.specs.Lanes.{pairs_of};
 
-use crate::lanes::{behind, each};
+use crate::lanes::{each, previous_lanes};
 use crate::pack::put_kept;
 use crate::units::{
     THREES, UPPER, are_threes, ended_bits, highs, is_ascii, lows, short_lows, three_highs,
@@ -160,8 +160,8 @@ fn put_block<E: Utf16Order>(
         block }
     ensures written_to { result ≤ at + 32 }
 {
-    let b1 = behind(block, before1);
-    let b2 = behind(b1, before2);
+    let b1 = previous_lanes(block, before1);
+    let b2 = previous_lanes(b1, before2);
     let (first, second) = paired::<E>(highs(b2, b1, block), lows(b2, b1, block));
     put_kept(out, at, first, second, ended_bits(b1, block))
 }

@@ -19,13 +19,13 @@ pub(crate) const UNITS: usize = 16;
 pub(crate) const HALF: usize = 8;
 
 /// The number of bytes of a block.
-pub(crate) const BLOCK: usize = 32;
+pub(crate) const BLOCK_BYTES: usize = 32;
 
 // The units of the block at the start, and how many of them precede the first surrogate: each of
 // these is a character.
 #[inline]
 pub(crate) fn plain_units<E: Utf16Order>(raw: &[u8]) -> ([u16; UNITS], usize)
-    requires { BLOCK ≤ length raw.now }
+    requires { BLOCK_BYTES ≤ length raw.now }
     ensures few { result.1 ≤ UNITS }
     ensures are_units { All (λ unit. unit < 0x1_0000) result.0 }
     ensures spelled { (n : ℕ) → n ≤ result.1

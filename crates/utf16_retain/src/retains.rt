@@ -4,7 +4,7 @@ ghost use Rattle.std.specs.Prelude.{◌≡◌, ◌⊎◌, ◌+◌, ◌<◌, ◌�
 ghost use Rattle.utf16_units.specs.Encoding.{Encodes, IsUtf16, char_size, encode, text_of};
 ghost use Rattle.utf16_retain.specs.Retain.{MayBeAsked, RetainsTo};
 
-use crate::blocks::{BLOCK, HALF, UNITS, keep_block, keep_each, plain_units};
+use crate::blocks::{BLOCK_BYTES, HALF, UNITS, keep_block, keep_each, plain_units};
 use utf16_units::ends::first_char;
 use utf16_units::{Utf16Order, is_leading_surrogate};
 
@@ -46,17 +46,17 @@ pub fn retain_in_place<E: Utf16Order, F: FnMut(char) -> bool>(
             read += size;
             continue;
         };
-        if bytes.len() - read >= BLOCK {
+        if bytes.len() - read >= BLOCK_BYTES {
             let (units, plain) = plain_units::<E>(&bytes[read..]);
             if plain == UNITS {
                 kept = keep_block::<E, F, UNITS>(bytes, keep, kept, read, &units);
-                read += BLOCK;
+                read += BLOCK_BYTES;
                 continue;
             }
             if plain >= HALF {
                 let half = units.first_chunk::<HALF>().unwrap();
                 kept = keep_block::<E, F, HALF>(bytes, keep, kept, read, half);
-                read += BLOCK / 2;
+                read += BLOCK_BYTES / 2;
                 continue;
             }
             if plain > 0 {

@@ -26,7 +26,7 @@ use Rattle.std.specs.Borrow.{Array}
 use Rattle.std.specs.Prelude.{OnOk, OnErr}
 use Rattle.utf16_units.specs.declared.error.Utf16Error.{Utf16Error}
 use Rattle.utf16_units.specs.declared.byte_order.Utf16Order.{Ghosts}
-use Rattle.utf16_str.specs.WStrMut.{RestsIfRefused, wstr_mut_lent}
+use Rattle.utf16_str.specs.WStrMut.{UnchangedOnErr, wstr_mut_lent}
 use Rattle.utf16_str.specs.declared.wstr_mut.WStrMut.{WStrMut}
 use Rattle.utf16_str.specs.contracts.wstr_mut.WStrMut as view
 
@@ -38,7 +38,7 @@ module _ (Y : RattleType) (o : Ghosts Y.Denot) where
   Answer = Result (WStrMut Y.Denot o) Utf16Error
 
   abbrev pub Unchanged : MutBor (List ℕ) → Answer → Fml
-  Unchanged r x = RestsIfRefused r x
+  Unchanged r x = UnchangedOnErr r x
 
   abbrev pub View : Lft → RattleType
   View κ = view.the_row (record { mir = named 0; lft = κ }) (param 0 Y) o

@@ -21,5 +21,5 @@ module _ {E : Type 0} {order : Ghosts E} where
 
   -- bytes that are lent for a view: after an error they end as they were, and otherwise as the view
   -- leaves them
-  abbrev pub RestsIfRefused : MutBor (List ℕ) → Result (WStrMut E order) Utf16Error → Fml
-  RestsIfRefused lent answer = RestsIfErr (Array u8 0) lent (λ s. (wstr_mut_lent s).ghost_name) answer (λ bytes. bytes ≡ lent.now)
+  abbrev pub UnchangedOnErr : MutBor (List ℕ) → Result (WStrMut E order) Utf16Error → Fml
+  UnchangedOnErr lent answer = RestsIfErr (Array u8 0) lent (λ s. (wstr_mut_lent s).ghost_name) answer (λ bytes. bytes ≡ lent.now)

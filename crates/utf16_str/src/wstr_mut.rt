@@ -27,7 +27,7 @@ pub struct WStrMut<'a, E: Utf16Order> {
 }
 
 impl<'a, E: Utf16Order> WStrMut<'a, E> {
-    ghost use Rattle.utf16_str.specs.WStrMut.{RestsIfRefused, wstr_mut_bytes, wstr_mut_lent, wstr_mut_text};
+    ghost use Rattle.utf16_str.specs.WStrMut.{UnchangedOnErr, wstr_mut_bytes, wstr_mut_lent, wstr_mut_text};
 
     /// Returns a mutable view of `raw`, if it is well-formed UTF-16 in the byte order `E`.
     ///
@@ -50,7 +50,7 @@ impl<'a, E: Utf16Order> WStrMut<'a, E> {
         ensures bytes { IfOk result (λ s. wstr_mut_bytes s ≡ raw.old) }
         ensures encoding { IfOk result (λ s. Encodes E.BIG (wstr_mut_text s) raw.old) }
         ensures error { IfErr result (IsErrorOf E.BIG raw.old) }
-        ensures* refused { sem 𝓛 (RestsIfRefused raw.entry result) }
+        ensures* err { sem 𝓛 (UnchangedOnErr raw.entry result) }
     {
         match tested::<E>(raw) {
             (Ok(()), raw) => Ok(WStrMut {
@@ -163,7 +163,7 @@ impl<'a, E: Utf16Order> WStrMut<'a, E> {
 }
 
 impl<'a> WStrMut<'a, LittleEndian> {
-    ghost use Rattle.utf16_str.specs.WStrMut.{RestsIfRefused, wstr_mut_bytes, wstr_mut_lent, wstr_mut_text};
+    ghost use Rattle.utf16_str.specs.WStrMut.{UnchangedOnErr, wstr_mut_bytes, wstr_mut_lent, wstr_mut_text};
 
     /// Returns a mutable view of `raw`, if it is well-formed UTF-16LE: `from_utf16` in little
     /// endian.
@@ -179,7 +179,7 @@ impl<'a> WStrMut<'a, LittleEndian> {
         ensures bytes { IfOk result (λ s. wstr_mut_bytes s ≡ raw.old) }
         ensures encoding { IfOk result (λ s. Encodes false (wstr_mut_text s) raw.old) }
         ensures error { IfErr result (IsErrorOf false raw.old) }
-        ensures* refused { sem 𝓛 (RestsIfRefused raw.entry result) }
+        ensures* err { sem 𝓛 (UnchangedOnErr raw.entry result) }
     {
         WStrMut::<LittleEndian>::from_utf16(raw)
     }
@@ -201,7 +201,7 @@ impl<'a> WStrMut<'a, LittleEndian> {
 }
 
 impl<'a> WStrMut<'a, BigEndian> {
-    ghost use Rattle.utf16_str.specs.WStrMut.{RestsIfRefused, wstr_mut_bytes, wstr_mut_lent, wstr_mut_text};
+    ghost use Rattle.utf16_str.specs.WStrMut.{UnchangedOnErr, wstr_mut_bytes, wstr_mut_lent, wstr_mut_text};
 
     /// Returns a mutable view of `raw`, if it is well-formed UTF-16BE: `from_utf16` in big endian.
     ///
@@ -216,7 +216,7 @@ impl<'a> WStrMut<'a, BigEndian> {
         ensures bytes { IfOk result (λ s. wstr_mut_bytes s ≡ raw.old) }
         ensures encoding { IfOk result (λ s. Encodes true (wstr_mut_text s) raw.old) }
         ensures error { IfErr result (IsErrorOf true raw.old) }
-        ensures* refused { sem 𝓛 (RestsIfRefused raw.entry result) }
+        ensures* err { sem 𝓛 (UnchangedOnErr raw.entry result) }
     {
         WStrMut::<BigEndian>::from_utf16(raw)
     }

@@ -7,7 +7,7 @@ ghost use Rattle.utf16_streams.specs.AnyLossy.{any_byte_order, any_pending, stat
 ghost use Rattle.utf16_streams.specs.Lossy.{lossy_pending};
 ghost use Rattle.utf16_streams.specs.Bom.{big_in, items_in, byte_order_after, tail_in};
 
-use crate::decoder::{Decoder, LEAST_ROOM, are_bytes, feed};
+use crate::decoder::{Decoder, LEAST_BUFFER, are_bytes, feed};
 use crate::lossy::Lossy;
 use std::alloc::{AllocError, Allocator};
 use utf16_units::{BE, LE, Utf16Order};
@@ -153,7 +153,7 @@ fn begin<A: Allocator>(
     buffer: &mut [u8],
     to: &mut String<A>,
 ) -> Result<State, AllocError>
-    requires { LEAST_ROOM ≤ length buffer.old }
+    requires { LEAST_BUFFER ≤ length buffer.old }
     ensures text { OnOk result (string_bytes to.new ≡ string_bytes to.old
         ++ encode_utf8_all (lossy_chars (items_in None (option_to_list first ++ piece.now)))) }
     ensures pending { IfOk result (λ state.
@@ -196,7 +196,7 @@ fn fed<E: Utf16Order, A: Allocator>(
     buffer: &mut [u8],
     to: &mut String<A>,
 ) -> Result<Lossy<E>, AllocError>
-    requires { LEAST_ROOM ≤ length buffer.old }
+    requires { LEAST_BUFFER ≤ length buffer.old }
     ensures text { OnOk result (string_bytes to.new ≡ string_bytes to.old
         ++ encode_utf8_all
         (lossy_chars (items_in (Some E.BIG) (lossy_pending decoder ++ piece.now)))) }

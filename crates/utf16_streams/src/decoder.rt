@@ -8,20 +8,20 @@ use std::alloc::{AllocError, Allocator};
 
 // The least length, in bytes, of the buffer that decoded text is written to: it has capacity for
 // the text of the pending bytes and one code unit.
-pub const LEAST_ROOM: usize = 646;
+pub const LEAST_BUFFER: usize = 646;
 
 // As long as the buffer has this many bytes left after what was written, `Stream::feed` writes with
 // SIMD.
-pub const SLACK: usize = 640;
+pub const FEED_SLACK: usize = 640;
 
 /// The length, in bytes, of the buffer that decoded text is written to: it has capacity for the
-/// text of 4,096 bytes, three bytes for each code unit, and `SLACK` more.
-pub const ROOM: usize = 6784;
+/// text of 4,096 bytes, three bytes for each code unit, and `FEED_SLACK` more.
+pub const BUFFER_LEN: usize = 6784;
 
-// A chunk of at most `FEW` bytes is decoded through a smaller buffer.
-const FEW: usize = 512;
+// A chunk of at most `SHORT_CHUNK` bytes is decoded through a smaller buffer.
+const SHORT_CHUNK: usize = 512;
 
-const FEW_ROOM: usize = 1408;
+const SHORT_BUFFER: usize = 1408;
 
 /// A decoder of a stream that comes in chunks, in a given byte order or in the one that the BOM
 /// gives.
@@ -42,14 +42,14 @@ pub trait Decoder: Drop {
     ///
     /// # Precondition
     ///
-    /// The buffer has at least `LEAST_ROOM` bytes.
+    /// The buffer has at least `LEAST_BUFFER` bytes.
     fn feed_into<A: Allocator>(
         &mut self,
         piece: &[u8],
         buffer: &mut [u8],
         to: &mut String<A>,
     ) -> Result<(), AllocError>
-        requires { LEAST_ROOM ≤ length buffer.old }
+        requires { LEAST_BUFFER ≤ length buffer.old }
         ensures text { OnOk result (string_bytes to.new ≡ string_bytes to.old
             ++ encode_utf8_all
             (lossy_chars (items_in (order self.old) (pending self.old ++ piece.now)))) }
@@ -92,10 +92,10 @@ pub fn feed<D: Decoder, A: Allocator>(
         → IsOk result }
 {
     let mut text = String::new(alloc);
-    if piece.len() <= FEW {
-        decoder.feed_into(piece, &mut [0; FEW_ROOM], &mut text)?;
+    if piece.len() <= SHORT_CHUNK {
+        decoder.feed_into(piece, &mut [0; SHORT_BUFFER], &mut text)?;
     } else {
-        decoder.feed_into(piece, &mut [0; ROOM], &mut text)?;
+        decoder.feed_into(piece, &mut [0; BUFFER_LEN], &mut text)?;
     }
     Ok(text)
 }

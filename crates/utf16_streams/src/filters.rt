@@ -6,7 +6,7 @@ ghost use Rattle.utf16_streams.specs.Filter.{AppendsPrefix, FiltersAs, FiltersIn
 ghost use Rattle.utf16_streams.specs.Watched.{CountsFaults, watched_faults, watched_inner};
 
 use crate::any_lossy::AnyLossy;
-use crate::decoder::{Decoder, ROOM};
+use crate::decoder::{BUFFER_LEN, Decoder};
 use crate::lossy::Lossy;
 use crate::watched::{DeviceFault, Watched};
 use std::alloc::Allocator;
@@ -14,7 +14,7 @@ use std::io::{Read, Write};
 use utf16_units::Utf16Order;
 
 /// The most bytes that are read at a time.
-const BLOCK: usize = 4096;
+const READ_LEN: usize = 4096;
 
 /// Why a filter stopped before the end of its input.
 #[derive(Clone, Copy, Debug, PartialEq, Eq)]
@@ -107,8 +107,8 @@ fn filter_by<D: Decoder, R: Read, W: Write, A: Allocator>(
 {
     let mut decoder = decoder;
     let mut text = String::new(alloc);
-    let mut block = [0; BLOCK];
-    let mut buffer = [0; ROOM];
+    let mut block = [0; READ_LEN];
+    let mut buffer = [0; BUFFER_LEN];
     for _ in 0..u64::MAX {
         let Ok(count) = reader.read(&mut block) else {
             return Err(FilterFault::Read);

@@ -10,7 +10,7 @@ ghost use Rattle.utf16_units.specs.Split.{decided_text, IsTail, lossy_text, spli
 ghost use Rattle.utf16_decode.specs.Decodes.{Decodes};
 ghost use Rattle.utf16_decode.specs.Stream.{stream_pending};
 
-use crate::decoder::{Decoder, LEAST_ROOM, ROOM, SLACK, are_bytes, feed};
+use crate::decoder::{BUFFER_LEN, Decoder, FEED_SLACK, LEAST_BUFFER, are_bytes, feed};
 use std::alloc::{AllocError, Allocator};
 use std::marker::PhantomData;
 use utf16_decode::Stream;
@@ -133,7 +133,7 @@ impl<E: Utf16Order> Decoder for Lossy<E> {
         buffer: &mut [u8],
         to: &mut String<A>,
     ) -> Result<(), AllocError> {
-        make_room(self.stream.pending().len(), piece.len(), to)?;
+        reserve_text(self.stream.pending().len(), piece.len(), to)?;
         self.stream = decode_parts::<E, A>(self.stream, piece, buffer, to)?;
         Ok(())
     }
@@ -175,7 +175,7 @@ fn decode_each<E: Utf16Order, A: Allocator, B: Allocator>(
 {
     let mut text = String::new(alloc);
     let mut decoder = Lossy::<E>::new();
-    let mut buffer = [0; ROOM];
+    let mut buffer = [0; BUFFER_LEN];
     for piece in pieces {
         are_bytes(piece);
         decoder.feed_into(piece, &mut buffer, &mut text)?;
@@ -191,7 +191,7 @@ fn decode_each<E: Utf16Order, A: Allocator, B: Allocator>(
 // three bytes of UTF-8. An empty text without capacity gets exactly that; one with capacity grows
 // as `String` does. Fewer than four bytes may decode to nothing, and decode to one character at
 // most, for which capacity is reserved when it is appended.
-fn make_room<A: Allocator>(
+fn reserve_text<A: Allocator>(
     pending: usize,
     piece: usize,
     to: &mut String<A>,
@@ -222,7 +222,7 @@ fn decode_parts<E: Utf16Order, A: Allocator>(
     to: &mut String<A>,
 ) -> Result<Stream, AllocError>
     requires undecided { split_tail E.BIG (stream_pending stream) ≡ stream_pending stream }
-    requires space { LEAST_ROOM ≤ length buffer.old }
+    requires space { LEAST_BUFFER ≤ length buffer.old }
     ensures text { OnOk result (string_bytes to.new ≡ string_bytes to.old
         ++ encode_utf8_all (decided_text E.BIG (stream_pending stream ++ piece.now))) }
     ensures tail { IfOk result (λ fed.
@@ -246,7 +246,7 @@ fn decode_part<'a, E: Utf16Order, A: Allocator>(
     to: &mut String<A>,
 ) -> Result<(Stream, &'a [u8]), AllocError>
     requires not_empty { 0 < length piece.now }
-    requires space { LEAST_ROOM ≤ length buffer.old }
+    requires space { LEAST_BUFFER ≤ length buffer.old }
     ensures decoded { IfOk result (λ left.
         Decodes E.BIG (stream_pending stream ++ piece.now) (stream_pending left.0 ++ left.1.now)
         (string_bytes to.old) (string_bytes to.new)) }
@@ -256,7 +256,7 @@ fn decode_part<'a, E: Utf16Order, A: Allocator>(
     ensures nothing { split_items E.BIG (stream_pending stream ++ piece.now) ≡ [] → IsOk result }
 {
     let mut stream = stream;
-    let (part, rest) = cut::<E>(stream.pending(), piece, buffer.len());
+    let (part, rest) = part_that_fits::<E>(stream.pending(), piece, buffer.len());
     let written = stream.feed::<E>(part, buffer).written;
     to.push_str(unsafe { str::from_utf8_unchecked(&buffer[..written]) })?;
     Ok((stream, rest))
@@ -265,15 +265,19 @@ fn decode_part<'a, E: Utf16Order, A: Allocator>(
 // Splits a chunk: the part to decode at once after the pending bytes, whose text fits in a buffer
 // of `room` bytes, and the rest. The pending bytes and the part have an even number of bytes
 // together, so that no code unit is split before the end of the chunk.
-fn cut<'a, E: Utf16Order>(pending: &[u8], piece: &'a [u8], room: usize) -> (&'a [u8], &'a [u8])
+fn part_that_fits<'a, E: Utf16Order>(
+    pending: &[u8],
+    piece: &'a [u8],
+    room: usize,
+) -> (&'a [u8], &'a [u8])
     requires few { length pending.now ≤ 3 }
-    requires space { LEAST_ROOM ≤ room }
+    requires space { LEAST_BUFFER ≤ room }
     ensures joined { piece.now ≡ result.0.now ++ result.1.now }
     ensures advances { 0 < length piece.now → 0 < length result.0.now }
     ensures utf8 { IsUtf8 (encode_utf8_all (decided_text E.BIG (pending.now ++ result.0.now))) }
     ensures within { length (encode_utf8_all (decided_text E.BIG (pending.now ++ result.0.now)))
         ≤ room }
 {
-    let most = (room - SLACK) / 3 * 2;
+    let most = (room - FEED_SLACK) / 3 * 2;
     piece.split_at(piece.len().min(most - pending.len()))
 }

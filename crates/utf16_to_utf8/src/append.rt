@@ -13,17 +13,17 @@ use utf16_units::ends::first_char;
 use utf16_units::{Utf16Order, is_trailing_surrogate};
 
 // Texts of fewer bytes are appended character by character.
-const FEW: usize = 32;
+const TINY_TEXT: usize = 32;
 
 // Texts of at most this many bytes are written at once, to a buffer as long as `write_utf8` needs.
-const SHORT: usize = 128;
+const SHORT_TEXT: usize = 128;
 
-const SHORT_ROOM: usize = 320;
+const SHORT_BUFFER: usize = 320;
 
 // The length in bytes of a chunk, and of the buffer that `write_utf8` needs for it.
-const PIECE: usize = 1024;
+const CHUNK: usize = 1024;
 
-const ROOM: usize = 1664;
+const CHUNK_BUFFER: usize = 1664;
 
 /// Appends a text, in UTF-8, to a `String`.
 ///
@@ -53,12 +53,12 @@ pub fn append_utf8<E: Utf16Order, A: Allocator>(
     ensures succeeds { string_len to.old + length (utf8_of E.BIG raw.now) ≤ string_capacity to.old
         → IsOk result }
 {
-    make_room::<E, A>(raw, to)?;
-    if raw.len() < FEW {
+    reserve_utf8::<E, A>(raw, to)?;
+    if raw.len() < TINY_TEXT {
         return put_few::<E, A>(raw, to);
     }
-    if raw.len() <= SHORT {
-        return put_piece::<E, A>(raw, &mut [0; SHORT_ROOM], to);
+    if raw.len() <= SHORT_TEXT {
+        return put_piece::<E, A>(raw, &mut [0; SHORT_BUFFER], to);
     }
     put_pieces::<E, A>(raw, to)
 }
@@ -88,7 +88,7 @@ fn put_pieces<E: Utf16Order, A: Allocator>(raw: &[u8], to: &mut String<A>) -> Re
     ensures appended { IsPut (text_of E.BIG raw.now) (string_bytes to.old) (string_bytes to.new)
         (string_capacity to.old) (string_capacity to.new) }
 {
-    let mut buf = [0; ROOM];
+    let mut buf = [0; CHUNK_BUFFER];
     let mut rest = raw;
     while !rest.is_empty() {
         let (piece, behind) = cut_piece::<E>(rest);
@@ -124,7 +124,7 @@ fn cut_piece<E: Utf16Order>(raw: &[u8]) -> (&[u8], &[u8])
     ensures second_well_formed { IsUtf16 E.BIG result.1.now }
     ensures joined { text_of E.BIG raw.now ≡ text_of E.BIG result.0.now
         ++ text_of E.BIG result.1.now }
-    ensures few { length result.0.now ≤ PIECE }
+    ensures few { length result.0.now ≤ CHUNK }
     ensures shorter { 0 < length raw.now → length result.1.now < length raw.now }
 {
     raw.split_at(piece_end::<E>(raw))
@@ -135,22 +135,25 @@ fn cut_piece<E: Utf16Order>(raw: &[u8]) -> (&[u8], &[u8])
 fn piece_end<E: Utf16Order>(raw: &[u8]) -> usize
     requires { IsUtf16 E.BIG raw.now }
     ensures boundary { IsBoundary (text_of E.BIG raw.now) result }
-    ensures few { result ≤ PIECE }
+    ensures few { result ≤ CHUNK }
     ensures advances { 0 < length raw.now → 0 < result }
 {
-    if raw.len() <= PIECE {
+    if raw.len() <= CHUNK {
         raw.len()
-    } else if is_trailing_surrogate(E::read_unit([raw[PIECE], raw[PIECE + 1]])) {
-        PIECE - 2
+    } else if is_trailing_surrogate(E::read_unit([raw[CHUNK], raw[CHUNK + 1]])) {
+        CHUNK - 2
     } else {
-        PIECE
+        CHUNK
     }
 }
 
 // Reserves capacity for the text in UTF-8. Its length is computed only if there is no spare
 // capacity of three bytes per code unit.
 #[inline]
-fn make_room<E: Utf16Order, A: Allocator>(raw: &[u8], to: &mut String<A>) -> Result<(), AllocError>
+fn reserve_utf8<E: Utf16Order, A: Allocator>(
+    raw: &[u8],
+    to: &mut String<A>,
+) -> Result<(), AllocError>
     requires { IsUtf16 E.BIG raw.now }
     ensures bytes { string_bytes to.new ≡ string_bytes to.old }
     ensures reserved { OnOk result (string_len to.new + length (utf8_of E.BIG raw.now)
@@ -172,7 +175,7 @@ fn len_in_utf8<E: Utf16Order>(raw: &[u8]) -> usize
     requires { IsUtf16 E.BIG raw.now }
     ensures { result ≡ length (utf8_of E.BIG raw.now) }
 {
-    if raw.len() < FEW {
+    if raw.len() < TINY_TEXT {
         few_len::<E>(raw)
     } else {
         utf8_len::<E>(raw)

@@ -65,7 +65,7 @@ pub(crate) fn where_surrogate(v: u16x8, a: u16x8, b: u16x8) -> u16x8
 
 // The lane before each one; before the first, the last lane of `previous`.
 #[inline(always)]
-pub(crate) fn behind(previous: u16x8, v: u16x8) -> u16x8
+pub(crate) fn previous_lanes(previous: u16x8, v: u16x8) -> u16x8
     ensures { HasLanes 8 result (λ i. slice_index (slice_index previous 7 ∷ v) i) }
 {
     previous.shuffle(v, [7, 8, 9, 10, 11, 12, 13, 14])

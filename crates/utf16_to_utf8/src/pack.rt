@@ -7,7 +7,7 @@ ghost use Rattle.utf16_to_utf8.specs.Pack.{HasBytes, packed, threes};
 ghost use Rattle.utf16_to_utf8.specs.Utf8.{units_utf8};
 
 use crate::groups::{added_lens, fronts, narrow, thirds, wide};
-use crate::lanes::behind;
+use crate::lanes::previous_lanes;
 use crate::places::places;
 use std::simd::prelude::*;
 
@@ -60,7 +60,7 @@ pub(crate) fn put_narrow(
         units }
     ensures written_to { result ≤ at + 16 }
 {
-    let pairs = lane_bytes(narrow(behind(previous, units), units, surrogates));
+    let pairs = lane_bytes(narrow(previous_lanes(previous, units), units, surrogates));
     put_eight(out, at, pairs, ascii_bits(units))
 }
 
@@ -108,7 +108,11 @@ pub(crate) fn put_any(out: &mut [u8], at: usize, previous: u16x8, units: u16x8) 
         units }
     ensures written_to { result ≤ at + 24 }
 {
-    let words = words(fronts(behind(previous, units), units), thirds(units)).to_array();
+    let words = words(
+        fronts(previous_lanes(previous, units), units),
+        thirds(units),
+    )
+    .to_array();
     let lens = added_lens(units).to_array();
     let mut end = at;
     for i in 0..8usize {

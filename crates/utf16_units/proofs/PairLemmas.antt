@@ -8,7 +8,7 @@ use lib.Lanes.{Each1}
 use Rattle.std.specs.Char.Utf16.{is_high_surrogate, is_low_surrogate}
 use Rattle.utf16_units.specs.Unit.{IsLeading, unit_of}
 use Rattle.utf16_units.specs.Encoding.{IsUtf16, units_of}
-use Rattle.utf16_units.specs.Lanes.{Paired, PairedTo, PassedTo, StopsAt}
+use Rattle.utf16_units.specs.Lanes.{Paired, PairedTo, PassedTo, BlocksStopAt}
 use Rattle.utf16_units.proofs.ContinuedLemmas.{four_bytes_text, two_bytes_text}
 use Rattle.utf16_units.proofs.EncodingLemmas.{IsUtf16-append, IsUtf16-nil}
 use Rattle.utf16_units.proofs.IllFormedLemmas.{take-past}
@@ -153,15 +153,15 @@ halves_paired big bytes before between after long first second =
     subst (λ units. Paired before units after) (sym (units_of-next big bytes 32 32 refl long))
     (Paired-append before between after (units_of big (take 32 bytes)) (units_of big (take 32 (drop 32 bytes))) first second)
 
-module _ (big : Bool) (bytes : List ℕ) (whole at : ℕ) (before after : Bool) (p : PairedTo big bytes whole before) (far : StopsAt 64 big bytes whole before)
-    (q : PairedTo big bytes at after) (stop : StopsAt 32 big bytes whole before → at ≡ whole) (pass : ¬ StopsAt 32 big bytes whole before → at ≡ whole + 32) where
+module _ (big : Bool) (bytes : List ℕ) (whole at : ℕ) (before after : Bool) (p : PairedTo big bytes whole before) (far : BlocksStopAt 64 big bytes whole before)
+    (q : PairedTo big bytes at after) (stop : BlocksStopAt 32 big bytes whole before → at ≡ whole) (pass : ¬ BlocksStopAt 32 big bytes whole before → at ≡ whole + 32) where
   -- after an offset at which blocks of 64 bytes stop, at most one half block passes
-  half_stops : StopsAt 32 big bytes at after
+  half_stops : BlocksStopAt 32 big bytes at after
   half_stops long last block =
-      let moves : ¬ StopsAt 32 big bytes whole before = λ s.
+      let moves : ¬ BlocksStopAt 32 big bytes whole before = λ s.
       let same = PairedTo-same big bytes whole before after p (subst (λ k. PairedTo big bytes k after) (stop s) q) in
-      let here : StopsAt 32 big bytes whole after = subst (λ b. StopsAt 32 big bytes whole b) same s in
-      subst (λ k. StopsAt 32 big bytes k after) (sym (stop s)) here long last block in
+      let here : BlocksStopAt 32 big bytes whole after = subst (λ b. BlocksStopAt 32 big bytes whole b) same s in
+      subst (λ k. BlocksStopAt 32 big bytes k after) (sym (stop s)) here long last block in
       let on : at ≡ whole + 32 = pass moves in
       moves (λ room between first.
       let next = PairedTo-next big bytes whole 32 before between p refl room first in

@@ -37,8 +37,8 @@ pub record PairedTo (big : Bool) (bytes : List ℕ) (at : ℕ) (after : Bool) : 
 
 -- blocks of `size` bytes stop at `at`: fewer bytes are left, or the surrogates of the next block
 -- are not paired
-abbrev pub StopsAt : ℕ → Bool → List ℕ → ℕ → Bool → Type 0
-StopsAt size big bytes at before = at + size ≤ length bytes → Unpaired before (units_of big (take size (drop at bytes)))
+abbrev pub BlocksStopAt : ℕ → Bool → List ℕ → ℕ → Bool → Type 0
+BlocksStopAt size big bytes at before = at + size ≤ length bytes → Unpaired before (units_of big (take size (drop at bytes)))
 
 -- blocks of 32 bytes pass the bytes up to `size`: they stop at `at`, and a leading unit that ends
 -- there is left out
@@ -46,5 +46,5 @@ pub record PassedTo (big : Bool) (bytes : List ℕ) (size : ℕ) : Type 0 where
   pub at : ℕ
   pub leading : Bool
   pub paired : PairedTo big bytes at leading
-  pub stops : StopsAt 32 big bytes at leading
+  pub stops : BlocksStopAt 32 big bytes at leading
   pub back : size + cond leading 2 0 ≡ at

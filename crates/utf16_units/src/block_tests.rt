@@ -132,7 +132,7 @@ const SEAMS: [Row; 4] = [
     (false, 32, &[0x00, 0xDC], 31, Some((64, Some(2)))),
 ];
 
-const SHORT: [Row; 14] = [
+const SHORT_ROWS: [Row; 14] = [
     (false, 0, &[0x00, 0xDC], 0, Some((0, Some(2)))),
     (false, 0, &[0x00, 0xD8], 0, Some((0, None))),
     (false, 0, &[0x00, 0xD8, 0x00], 0, Some((0, None))),
@@ -187,5 +187,5 @@ fn rows_are(rt: &impl Abort, rows: &[Row]) {
 fn rows_by_lanes_and_by_units(rt: HostRuntime) {
     rows_are(&rt, &LONG);
     rows_are(&rt, &SEAMS);
-    rows_are(&rt, &SHORT);
+    rows_are(&rt, &SHORT_ROWS);
 }

@@ -3,7 +3,7 @@
 ghost use Rattle.std.specs.Prelude.{◌≡◌, ◌↔◌, ◌+◌, ◌<◌, ◌≤◌, length, take, IsOk, IfOk, IfErr};
 ghost use Rattle.utf16_units.specs.Encoding.{IsUtf16};
 ghost use Rattle.utf16_units.specs.IllFormed.{BeginsWithChar, IsIllFormedAt};
-ghost use Rattle.utf16_units.specs.Lanes.{PairedTo, PassedTo, StopsAt};
+ghost use Rattle.utf16_units.specs.Lanes.{PairedTo, PassedTo, BlocksStopAt};
 ghost use Rattle.utf16_units.specs.Utf16Error.{IsErrorOf};
 
 use crate::lanes::{high_bytes16, high_bytes32, paired};
@@ -45,7 +45,7 @@ fn passed_blocks<E: Utf16Order>(raw: &[u8]) -> usize
 // unit is leading.
 fn paired_blocks<E: Utf16Order>(raw: &[u8]) -> (usize, bool)
     ensures paired { PairedTo E.BIG raw.now result.0 result.1 }
-    ensures stops { StopsAt 64 E.BIG raw.now result.0 result.1 }
+    ensures stops { BlocksStopAt 64 E.BIG raw.now result.0 result.1 }
 {
     let mut at = 0;
     let mut leading = false;
@@ -64,8 +64,8 @@ fn paired_blocks<E: Utf16Order>(raw: &[u8]) -> (usize, bool)
 fn paired_half_block<E: Utf16Order>(raw: &[u8], at: usize, leading: bool) -> (usize, bool)
     requires { PairedTo E.BIG raw.now at leading }
     ensures paired { PairedTo E.BIG raw.now result.0 result.1 }
-    ensures stops { StopsAt 32 E.BIG raw.now at leading → result.0 ≡ at }
-    ensures passes { ¬ StopsAt 32 E.BIG raw.now at leading → result.0 ≡ at + 32 }
+    ensures stops { BlocksStopAt 32 E.BIG raw.now at leading → result.0 ≡ at }
+    ensures passes { ¬ BlocksStopAt 32 E.BIG raw.now at leading → result.0 ≡ at + 32 }
 {
     if raw.len() - at < 32 {
         return (at, leading);

@@ -8,7 +8,7 @@ use std::simd::prelude::*;
 use utf16_units::Utf16Order;
 
 // The number of bytes that are swapped at once.
-const BLOCK: usize = 64;
+const SWAP_BLOCK: usize = 64;
 
 /// Rewrites the bytes of a text in byte order `E` as those of the same text in byte order `F`, in
 /// place.
@@ -35,9 +35,9 @@ fn swap_all(raw: &mut [u8])
     ensures { raw.new ≡ swap_bytes raw.old }
 {
     let mut at = 0;
-    while raw.len() - at >= BLOCK {
+    while raw.len() - at >= SWAP_BLOCK {
         swap_block(raw, at);
-        at += BLOCK;
+        at += SWAP_BLOCK;
     }
     while raw.len() - at >= 2 {
         swap_two(raw, at);
@@ -48,10 +48,10 @@ fn swap_all(raw: &mut [u8])
 // Swaps the two bytes of each of thirty-two code units, starting at `at`.
 #[inline]
 fn swap_block(raw: &mut [u8], at: usize)
-    requires { at + BLOCK ≤ length raw.old }
-    ensures swapped { take (at + BLOCK) raw.new ≡ take at raw.old
-        ++ swap_bytes (take BLOCK (drop at raw.old)) }
-    ensures rest { drop (at + BLOCK) raw.new ≡ drop (at + BLOCK) raw.old }
+    requires { at + SWAP_BLOCK ≤ length raw.old }
+    ensures swapped { take (at + SWAP_BLOCK) raw.new ≡ take at raw.old
+        ++ swap_bytes (take SWAP_BLOCK (drop at raw.old)) }
+    ensures rest { drop (at + SWAP_BLOCK) raw.new ≡ drop (at + SWAP_BLOCK) raw.old }
 {
     let block = u8x64::from_slice(&raw[at..]);
     swapped(block).copy_to_slice(&mut raw[at..]);

@@ -1,6 +1,7 @@
 //! An owned UTF-16 string.
 
 mod byte_order;
+mod capacity;
 mod cmp;
 mod copies;
 mod cuts;
@@ -8,7 +9,6 @@ mod extends;
 mod inserts;
 mod overwrites;
 mod retains;
-mod room;
 mod utf8;
 
 ghost use Rattle.std.specs.Prelude.{◌≡◌, ◌↔◌, ℕ, [], length, IsTrue, IsOk, IfOk, IfErr, IsSome, IfSome, Some, All, ◌<◌, ◌≤◌, ◌^◌, List, chars, nat_eq, encode_utf8_all, string_bytes, true, false};

@@ -10,8 +10,8 @@ use Rattle.dethrux.proofs.dethrux_to_utf8_lossy.Goals as goal
 pub returns-clause-stop : goal.returns-clause-stop
 returns-clause-stop c = search rules
 
-pub returns-clause-enough : goal.returns-clause-enough
-returns-clause-enough c enough =
+pub returns-clause-succeeds : goal.returns-clause-succeeds
+returns-clause-succeeds c enough =
     let text = lossy_text (is_big c.args.byte_order) in
     let to = c.if-is_big_endian.to in
     let r = c.conversion_of.result in

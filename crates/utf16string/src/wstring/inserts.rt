@@ -8,7 +8,7 @@ ghost use Rattle.utf16_units.specs.Edit.{insert_at, push_text};
 ghost use Rattle.utf16_units.specs.Encoding.{char_bytes, char_size};
 ghost use Rattle.utf16_str.specs.WStr.{wstr_bytes, wstr_text};
 
-use super::room::make_room;
+use super::capacity::reserve_bytes;
 use crate::WString;
 use std::alloc::{AllocError, Allocator};
 use utf16_str::WStr;
@@ -155,7 +155,7 @@ fn push_units<A: Allocator>(
         → vec_capacity raw.new ≡ vec_capacity raw.old }
     ensures grows { vec_capacity raw.old ≤ vec_capacity raw.new }
 {
-    make_room(raw, len)?;
+    reserve_bytes(raw, len)?;
     let [first, second, third, last] = units;
     raw.push_reserved(first);
     raw.push_reserved(second);

@@ -4,7 +4,7 @@ use Rattle.utf16_decode.specs.Stops.{StopsLossy}
 use Rattle.utf16_decode.proofs.StreamSteps.{Feeds-done, Feeds-full, few_left, filled, holds_tail, is_whole, join_drop, not_whole, rest_undecided, stops_full}
 use Rattle.utf16_decode.proofs.stream.feed_after.Given.{Over}
 use Rattle.utf16_decode.proofs.stream.feed_after.Goals as goal
-use Rattle.utf16_decode.proofs.stream.feed_after.Goals.{After-seam-len}
+use Rattle.utf16_decode.proofs.stream.feed_after.Goals.{After-joined_start-len}
 
 pub returns-in-NoRoom : goal.returns-in-NoRoom
 returns-in-NoRoom g c =
@@ -20,7 +20,7 @@ returns-in-NoRoom g c =
       few = c.of.ensures.few;
     }
 
-module _ (g : Over) (c : After-seam-len g) where
+module _ (g : Over) (c : After-joined_start-len g) where
   abbrev rest : List ℕ
   rest = drop c.decode_joined-front.result.read (c.args.pending.now ++ c.args.piece.now)
 
@@ -33,17 +33,17 @@ module _ (g : Over) (c : After-seam-len g) where
   few : length (c.rest_of.result.0.now ++ c.rest_of.result.1.now) ≤ 3
   few = subst (λ b. length b ≤ 3) (sym both) (few_left _ c.args.pending.now c.args.piece.now _ _ _ c.decode_joined-front.ensures.decodes undecided)
 
-  tail : take c.seam-len.result.1 c.seam-len.result.0 ≡ c.rest_of.result.0.now ++ c.rest_of.result.1.now
-  tail = c.seam-len.ensures.bytes ∙ take_all 4 _ (omega (arith, few))
+  tail : take c.joined_start-len.result.1 c.joined_start-len.result.0 ≡ c.rest_of.result.0.now ++ c.rest_of.result.1.now
+  tail = c.joined_start-len.ensures.bytes ∙ take_all 4 _ (omega (arith, few))
 
 pub of-requires-2 : goal.of-requires-2
 of-requires-2 g c =
-    let before = (goal.at.of-requires-2 g c).After-seam-len in
+    let before = (goal.at.of-requires-2 g c).After-joined_start-len in
     subst (λ b. length b ≤ 3) (sym (tail g before)) (few g before)
 
 pub returns : goal.returns
 returns g c =
-    let before = (goal.at.returns g c).After-seam-len in
+    let before = (goal.at.returns g c).After-joined_start-len in
     let front = c.decode_joined-front.ensures.decodes in
     let pending = c.of-2.ensures.pending ∙ tail g before ∙ both g before in
     record {

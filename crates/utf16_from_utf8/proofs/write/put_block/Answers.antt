@@ -5,8 +5,8 @@ use Rattle.utf16_from_utf8.proofs.write.put_block.Goals as goal
 
 pub returns-clause-bytes : goal.returns-clause-bytes
 returns-clause-bytes g c =
-    let lanes = block-lanes c.args.before2 c.args.before1 c.args.block c.behind-b1.result c.behind-b2.result c.highs.result c.lows.result c.ended_bits.result
-    c.fits-block.0 c.fits-block.1 c.behind-b1.ensures c.behind-b2.ensures c.highs.ensures c.lows.ensures c.ended_bits.ensures.bits in
+    let lanes = block-lanes c.args.before2 c.args.before1 c.args.block c.previous_lanes-b1.result c.previous_lanes-b2.result c.highs.result c.lows.result c.ended_bits.result
+    c.fits-block.0 c.fits-block.1 c.previous_lanes-b1.ensures c.previous_lanes-b2.ensures c.highs.ensures c.lows.ensures c.ended_bits.ensures.bits in
     let new = take c.put_kept.result c.put_kept.new.out in
     let pairs : new ≡ take c.args.at c.args.out.now ++ kept_pairs c.ended_bits.result (c.paired.result.0 ++ c.paired.result.1) = c.put_kept.ensures.pairs in
     pairs

@@ -15,7 +15,7 @@ module _ (g : Over) (c : After-feed-written g) where
   pending = stream_pending c.args.stream
 
   abbrev part : List ℕ
-  part = c.cut.result.0.now
+  part = c.part_that_fits.result.0.now
 
   decided : shown (split_items g.E.Utf16Order.BIG (c.pending.result.now ++ part)) ≡ shown (split_items g.E.Utf16Order.BIG (pending ++ part))
   decided = ap (λ h. shown (split_items g.E.Utf16Order.BIG (h ++ part))) c.pending.ensures.bytes
@@ -24,7 +24,7 @@ module _ (g : Over) (c : After-feed-written g) where
   long = search rules
 
   done : c.feed-written.result.stop ≡ Done
-  done = c.feed-written.ensures.done.1 (omega (arith, ap length decided, long, c.cut.ensures.within))
+  done = c.feed-written.ensures.done.1 (omega (arith, ap length decided, long, c.part_that_fits.ensures.within))
 
   took : StopsFeeding g.E.Utf16Order.BIG pending part (stream_pending c.feed-written.new.self) c.feed-written.result.read
       (length c.feed-written.new.to - c.feed-written.result.written) Done
@@ -36,12 +36,12 @@ module _ (g : Over) (c : After-feed-written g) where
 pub from_utf8_unchecked-requires : goal.from_utf8_unchecked-requires
 from_utf8_unchecked-requires g c =
     let before = (goal.at.from_utf8_unchecked-requires g c).After-feed-written in
-    subst IsUtf8 (decided g before ∙ sym (text g before)) c.cut.ensures.utf8
+    subst IsUtf8 (decided g before ∙ sym (text g before)) c.part_that_fits.ensures.utf8
 
 pub returns-in_err-push_str-clause-nothing : goal.returns-in_err-push_str-clause-nothing
 returns-in_err-push_str-clause-nothing g c none =
     let before = (goal.at.returns-in_err-push_str-clause-nothing g c).After-feed-written in
-    let empty = part_none _ _ _ _ _ c.cut.ensures.joined none in
+    let empty = part_none _ _ _ _ _ c.part_that_fits.ensures.joined none in
     let zero : length c.from_utf8_unchecked.result.now ≡ 0 = ap length (c.from_utf8_unchecked.ensures ∙ text g before ∙ ap shown empty) in
     let full : string_capacity c.args.to.now < string_len c.args.to.now + length c.from_utf8_unchecked.result.now = search rules in
     let fits : string_len c.args.to.now ≤ string_capacity c.args.to.now = search rules in
@@ -50,7 +50,7 @@ returns-in_err-push_str-clause-nothing g c none =
 pub returns-clause-decoded : goal.returns-clause-decoded
 returns-clause-decoded g c =
     let before = (goal.at.returns-clause-decoded g c).After-feed-written in
-    Decodes-part _ _ _ _ _ c.cut.ensures.joined _ _ _ (took g before).1
+    Decodes-part _ _ _ _ _ c.part_that_fits.ensures.joined _ _ _ (took g before).1
     (c.in_ok-push_str.ensures.bytes ∙ ap (λ t. string_bytes c.args.to.now ++ t) (c.from_utf8_unchecked.ensures ∙ text g before))
 
 pub returns-clause-undecided : goal.returns-clause-undecided

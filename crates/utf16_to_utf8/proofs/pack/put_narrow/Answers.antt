@@ -20,7 +20,7 @@ returns-clause-bytes c =
     let lt8 : i < 8 = omega (arith, lt, c.fits-units.0) in
     let unit = slice_index units i in
     let last = slice_index (before ∷ units) i in
-    let lane = c.narrow.ensures.lanes i lt8 ∙ ap (λ p. narrow p unit) (c.behind.ensures.lanes i lt8) in
+    let lane = c.narrow.ensures.lanes i lt8 ∙ ap (λ p. narrow p unit) (c.previous_lanes.ensures.lanes i lt8) in
     let fits = Each1-get_or (Fits w16) units i 0 lt c.fits-units.1 in
     let bytes = c.lane_bytes-pairs.ensures.bytes i lt8 in
     ap₂ (one_or_two (ltb unit 0x80)) (bytes.0 ∙ ap (λ n. n % 256) lane) (bytes.1 ∙ ap (λ n. n / 256 % 256) lane)

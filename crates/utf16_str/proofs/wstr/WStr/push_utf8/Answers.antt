@@ -7,5 +7,5 @@ append_utf8-requires g c = IsUtf16-from_Encodes _ _ _ c.as_bytes.ensures.encodin
 pub returns-clause-text : goal.returns-clause-text
 returns-clause-text g c = rw c.as_bytes.ensures.bytes at c.append_utf8.ensures.text
 
-pub returns-clause-refused : goal.returns-clause-refused
-returns-clause-refused g c = c.append_utf8.ensures.err
+pub returns-clause-err : goal.returns-clause-err
+returns-clause-err g c = c.append_utf8.ensures.err

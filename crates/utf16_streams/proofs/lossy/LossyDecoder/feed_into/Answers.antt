@@ -5,9 +5,9 @@ use Rattle.utf16_units.specs.Split.{split_tail}
 use Rattle.utf16_streams.specs.Lossy.{lossy_pending}
 use Rattle.utf16_streams.proofs.lossy.LossyDecoder.feed_into.Goals as goal
 
-pub returns-in_err-make_room-clause-nothing : goal.returns-in_err-make_room-clause-nothing
-returns-in_err-make_room-clause-nothing g c none = ⊎_elim
-    (λ (few : length c.pending.result.now + length c.args.piece.now < 4). absurd (true≢false (sym (c.in_err-make_room.ensures.nothing few))))
+pub returns-in_err-reserve_text-clause-nothing : goal.returns-in_err-reserve_text-clause-nothing
+returns-in_err-reserve_text-clause-nothing g c none = ⊎_elim
+    (λ (few : length c.pending.result.now + length c.args.piece.now < 4). absurd (true≢false (sym (c.in_err-reserve_text.ensures.nothing few))))
     (λ (many : 4 ≤ length c.pending.result.now + length c.args.piece.now).
     let long = length-append (lossy_pending c.args.self.now) c.args.piece.now in
     absurd (four_decide _ (lossy_pending c.args.self.now ++ c.args.piece.now) (omega (arith, ap length c.pending.ensures.bytes, long)) none))

@@ -31,7 +31,7 @@ impl<E: Utf16Order, A: Allocator> WString<E, A> {
             → wstring_capacity self.new ≡ wstring_capacity self.old }
         ensures grows { wstring_capacity self.old ≤ wstring_capacity self.new }
     {
-        make_room(&mut self.raw, additional)
+        reserve_bytes(&mut self.raw, additional)
     }
 
     /// Shrinks the capacity to the length of the text in bytes.
@@ -60,7 +60,7 @@ impl<E: Utf16Order, A: Allocator> WString<E, A> {
 
 // Reserves capacity for more bytes. Where it suffices already, it stays.
 #[inline]
-pub(super) fn make_room<A: Allocator>(
+pub(super) fn reserve_bytes<A: Allocator>(
     raw: &mut Vec<u8, A>,
     additional: usize,
 ) -> Result<(), AllocError>

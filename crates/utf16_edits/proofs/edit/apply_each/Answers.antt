@@ -5,10 +5,10 @@ use Rattle.utf16string.specs.WString.{wstring_capacity, wstring_text}
 use Rattle.utf16_edits.proofs.Runs.{Run-push, room-push}
 use Rattle.utf16_edits.proofs.Served.{AreServed, room_for, served-more}
 use Rattle.utf16_edits.specs.Edited.{EachFits, Fits}
-use Rattle.utf16_edits.specs.Step.{AsksForMemory, Run}
-use Rattle.utf16_edits.proofs.edit.answer_each.Given.{Over}
-use Rattle.utf16_edits.proofs.edit.answer_each.Goals as goal
-use Rattle.utf16_edits.proofs.edit.answer_each.Goals.{In-None}
+use Rattle.utf16_edits.specs.Step.{MayAllocate, Run}
+use Rattle.utf16_edits.proofs.edit.apply_each.Given.{Over}
+use Rattle.utf16_edits.proofs.edit.apply_each.Goals as goal
+use Rattle.utf16_edits.proofs.edit.apply_each.Goals.{In-None}
 
 pub loop-edit-preserved : goal.loop-edit-preserved
 loop-edit-preserved g c =
@@ -45,4 +45,4 @@ returns-clause-served g c fits =
 pub returns-clause-stays : goal.returns-clause-stays
 returns-clause-stays g c free =
     let yielded = all g (goal.at.returns-clause-stays g c).In-None in
-    c.loop-edit.invariant.2 (subst (All (λ edit. ¬ (AsksForMemory edit))) (sym yielded) free)
+    c.loop-edit.invariant.2 (subst (All (λ edit. ¬ (MayAllocate edit))) (sym yielded) free)

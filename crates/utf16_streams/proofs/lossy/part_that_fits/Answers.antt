@@ -1,8 +1,8 @@
 use Rattle.std.proofs.Common.{◌≤◌, ◌++◌, length, length-append, length-take-le, ap, sym, ◌∙◌, subst, arith, rules}
 use Rattle.utf16_units.proofs.FirstChar.{AreBytes}
 use Rattle.utf16_streams.proofs.PartLemmas.{AreBytes-append, AreBytes-take, shown_most, shown_utf8}
-use Rattle.utf16_streams.proofs.lossy.cut.Given.{Over}
-use Rattle.utf16_streams.proofs.lossy.cut.Goals as goal
+use Rattle.utf16_streams.proofs.lossy.part_that_fits.Given.{Over}
+use Rattle.utf16_streams.proofs.lossy.part_that_fits.Goals as goal
 
 are : (g : Over) (c : goal.After-split_at g) → AreBytes (c.args.pending.now ++ c.split_at.result.0.now)
 are g c =
