@@ -259,7 +259,7 @@ static bool wanted(char **words, size_t count, dethrux_byte_order order, text *a
     return true;
 }
 
-static const char *const stops[] = {"end", "fault", "cut", "room"};
+static const char *const stops[] = {"end", "ill_formed", "incomplete", "no_space"};
 
 static void add_progress(text *answer, dethrux_progress found) {
     add_number(answer, found.read);
@@ -659,11 +659,11 @@ static void add_decoded(dethrux_byte_order order, const uint8_t *raw, size_t len
     free(utf8.bytes);
 }
 
-static void ask_every_cutting(dethrux_byte_order order, const text *raw, text *answer) {
+static void ask_every_chunking(dethrux_byte_order order, const text *raw, text *answer) {
     add_decoded(order, raw->bytes, raw->len, answer);
 }
 
-static void ask_every_marked_cutting(dethrux_byte_order order, const text *raw, text *answer) {
+static void ask_every_any_chunking(dethrux_byte_order order, const text *raw, text *answer) {
     dethrux_bom bom = dethrux_detect_bom(raw->bytes, raw->len);
     (void)order;
     if (bom.len > raw->len || (bom.status == DETHRUX_BOM_UNDECIDED) != (raw->len < 2)) {
@@ -784,8 +784,8 @@ static struct {
     {"from_utf8_lossy_len", NULL, ask_utf16_marked_size, 0},
     {"validate_raw_utf16", NULL, ask_validate, 0},
     {"WStr::from_utf16", NULL, ask_from_utf16, 0},
-    {"every_cutting", NULL, ask_every_cutting, 0},
-    {"AnyLossy::every_cutting", NULL, ask_every_marked_cutting, 0},
+    {"every_chunking", NULL, ask_every_chunking, 0},
+    {"AnyLossy::every_chunking", NULL, ask_every_any_chunking, 0},
 };
 
 enum { CALLS = sizeof calls / sizeof *calls };

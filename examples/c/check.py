@@ -13,7 +13,7 @@ ORDERS = {
     "be": [dethrux.BIG_ENDIAN],
     "both": [dethrux.LITTLE_ENDIAN, dethrux.BIG_ENDIAN],
 }
-STOPS = {dethrux.DONE: ["end"], dethrux.INCOMPLETE: ["cut"], dethrux.NO_SPACE: ["room"]}
+STOPS = {dethrux.DONE: ["end"], dethrux.INCOMPLETE: ["incomplete"], dethrux.NO_SPACE: ["no_space"]}
 
 
 class Text(bytes):
@@ -59,10 +59,10 @@ def is_wanted(found, word, order):
 
 
 def stop(status, error_len):
-    return STOPS.get(status) or ["fault", error_len]
+    return STOPS.get(status) or ["ill_formed", error_len]
 
 
-def cuttings(raw):
+def chunkings(raw):
     singly = [raw[at : at + 1] for at in range(len(raw))]
     return [singly, *([raw[:at], raw[at:]] for at in range(len(raw) + 1))]
 
@@ -76,7 +76,7 @@ def cut_anywhere(order, raw):
     """The text of a stream, and any other that a chunking has."""
     text = fed(order, [raw])
     rooms = (4, 5, 4096) if len(raw) <= 64 else ()
-    return [text, *({fed(order, parts, room) for parts in cuttings(raw) for room in rooms} - {text})]
+    return [text, *({fed(order, parts, room) for parts in chunkings(raw) for room in rooms} - {text})]
 
 
 # The calls: each takes a byte order and the values, and returns the words of the result.
@@ -98,7 +98,7 @@ def validate(order, raw, *whole):
     return ["error", valid_up_to, "none" if status == dethrux.INCOMPLETE else error_len]
 
 
-def every_marked_cutting(order, raw):
+def every_any_chunking(order, raw):
     raw = spelled(raw, order)
     found, bom_len, _status = dethrux.detect_bom(raw)
     return cut_anywhere(found, raw[bom_len:])
@@ -124,8 +124,8 @@ CALLS = {
     "from_utf8_lossy_len": lambda order, text: [dethrux.from_utf8_lossy_len(spelled(text, order))],
     "validate_raw_utf16": lambda order, raw: validate(order, raw, "done"),
     "WStr::from_utf16": validate,
-    "every_cutting": lambda order, raw: cut_anywhere(order, spelled(raw, order)),
-    "AnyLossy::every_cutting": every_marked_cutting,
+    "every_chunking": lambda order, raw: cut_anywhere(order, spelled(raw, order)),
+    "AnyLossy::every_chunking": every_any_chunking,
     "Lossy::feed": lossy_feed,
     "decode_pieces": lambda order, *words: [fed(order, pieces(words, order))],
 }

@@ -32,11 +32,11 @@ fn add_progress(answer: &mut Answer, progress: Progress) {
     match progress.stop {
         Stop::Done => answer.word("end"),
         Stop::IllFormed(len) => {
-            answer.word("fault");
+            answer.word("ill_formed");
             answer.number(len as usize);
         }
-        Stop::Incomplete => answer.word("cut"),
-        Stop::NoRoom => answer.word("room"),
+        Stop::Incomplete => answer.word("incomplete"),
+        Stop::NoRoom => answer.word("no_space"),
     }
 }
 

@@ -37,8 +37,8 @@ fn about<E: Utf16Order>(bytes: &[u8], name: &str, answer: &mut Answer) {
     }
 }
 
-// Adds the length of the first character, or `fault` and the length of an ill-formed sequence, or
-// `cut`.
+// Adds the length of the first character, or `ill_formed` and its length, or
+// `incomplete`.
 fn front<E: Utf16Order>(bytes: &[u8], answer: &mut Answer) -> Result<(), Trouble> {
     if bytes.is_empty() {
         return Err(Trouble::Condition);
@@ -46,10 +46,10 @@ fn front<E: Utf16Order>(bytes: &[u8], answer: &mut Answer) -> Result<(), Trouble
     match first_char_len::<E>(bytes) {
         Ok(len) => answer.number(len),
         Err(Some(len)) => {
-            answer.word("fault");
+            answer.word("ill_formed");
             answer.number(len as usize);
         }
-        Err(None) => answer.word("cut"),
+        Err(None) => answer.word("incomplete"),
     }
     Ok(())
 }

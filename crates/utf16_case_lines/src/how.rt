@@ -84,7 +84,7 @@ pub struct How {
 
 impl How {
     /// Reads a word: `le`, `be` or `both`, and each condition after a `;`: `refuse=2`,
-    /// `refuse=2..`, `room=8`, `counted`, `capacity`, `reads=1,2`, `writes=1,2`, `read=fails@3`,
+    /// `refuse=2..`, `with_capacity=8`, `counted`, `capacity`, `reads=1,2`, `writes=1,2`, `read=fails@3`,
     /// `write=nothing@1`.
     pub fn read(alloc: Global, word: &str) -> Result<Self, Trouble> {
         let mut parts = word.split(';');
@@ -115,7 +115,7 @@ impl How {
         match part.split_once('=') {
             None => self.add_word(part),
             Some(("refuse", value)) => self.refuse_as(value),
-            Some(("room", value)) => self.make_room(value),
+            Some(("with_capacity", value)) => self.make_room(value),
             Some((name, value)) => self.add_device(alloc, name, value),
         }
     }

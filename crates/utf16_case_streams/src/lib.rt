@@ -1,7 +1,7 @@
 //! The calls of `utf16_streams`, as cases name them.
 #![tactic(auto)]
 
-mod cuttings;
+mod chunkings;
 mod devices;
 mod fed;
 mod filtered;
@@ -24,8 +24,8 @@ pub fn call<E: Utf16Order>(
 ) -> Result<(), Trouble> {
     match name {
         "decode_pieces" => pieces::decode_pieces::<E>(alloc, how, values, answer),
-        "every_cutting" => cuttings::every_cutting::<E>(alloc, values, answer),
-        "AnyLossy::every_cutting" => cuttings::every_marked_cutting(alloc, values, answer),
+        "every_chunking" => chunkings::every_chunking::<E>(alloc, values, answer),
+        "AnyLossy::every_chunking" => chunkings::every_any_chunking(alloc, values, answer),
         "Lossy::feed" => fed::feed::<E, Lossy<E>>(alloc, how, values, answer),
         "AnyLossy::feed" => fed::feed::<E, AnyLossy>(alloc, how, values, answer),
         _ => on_devices::<E>(alloc, name, how, values, answer),

@@ -78,7 +78,7 @@ fn insert_wstr<E: Utf16Order>(
 fn reserve<E: Utf16Order>(run: &mut Run, string: &mut WString<E, Heap>) -> Result<(), AllocError> {
     let additional = run.number();
     string.reserve(additional)?;
-    run.answer.word("room");
+    run.answer.word("capacity");
     run.answer
         .truth(additional <= string.capacity() - string.len());
     Ok(())

@@ -61,7 +61,7 @@ fn with_capacity<E: Utf16Order>(run: &mut Run) {
     run.begin();
     let found = WString::<E, Heap>::with_capacity(run.heap, capacity);
     if let Ok(string) = &found {
-        run.answer.word("room");
+        run.answer.word("capacity");
         run.answer.truth(capacity <= string.capacity());
     }
     made(run, found);

@@ -8,7 +8,7 @@ ghost use Rattle.utf16_streams.specs.Filter.{Filters, FiltersIn};
 ghost use Rattle.utf16_streams.specs.Watched.{watched_faults, watched_inner};
 ghost use Rattle.utf16_streams.specs.declared.filters.FilterFault.{FilterFault};
 ghost use Rattle.utf16_cat.specs.Outcome.{ExitsAs};
-ghost use Rattle.utf16_cat.specs.Status.{status_of};
+ghost use Rattle.utf16_cat.specs.Status.{CountsErrors, status_of};
 
 use crate::outcome::{Outcome, report};
 use crate::run::run;
@@ -47,6 +47,9 @@ pub fn program<E: Env + AllocGlobal, R: Read, W: Write, T: Write>(
     ensures usage { exit_status result ≡ 2 → (reader.new ≡ reader.old)
         × (writer.new ≡ writer.old) }
     ensures cases { exit_status result ≤ 2 }
+    ensures faults { CountsErrors (exit_status result)
+        (watched_faults reader.old) (watched_faults reader.new)
+        (watched_faults writer.old) (watched_faults writer.new) }
 {
     match words(env) {
         Ok(words) => program_on(env.alloc(), &words, reader, writer, errors),
@@ -87,6 +90,9 @@ pub fn program_on<R: Read, W: Write, T: Write, A: Allocator>(
         ⊎ ((exit_status result ≡ 2) × (reader.new ≡ reader.old) × (writer.new ≡ writer.old)) }
     ensures quiet { exit_status result ≡ 0
         → Keeps (T.contents errors.old) (T.contents errors.new) }
+    ensures faults { CountsErrors (exit_status result)
+        (watched_faults reader.old) (watched_faults reader.new)
+        (watched_faults writer.old) (watched_faults writer.new) }
 {
     ended(run(alloc, words, reader, writer), errors)
 }

@@ -21,9 +21,9 @@ use Rattle.utf16_decode.specs.declared.progress.Stop.TheVariants.{Incomplete, Do
 use Rattle.utf16_decode.proofs.WroteLemmas.{put_end-long, take-end}
 
 -- the first four bytes of pending bytes and a chunk
-pub seam_bytes : (pending piece : List ℕ) (n : ℕ) → length pending ≤ 4 → n ≤ 4 - length pending → (length piece ≤ n) ⊎ (4 - length pending ≤ n)
+pub start_bytes : (pending piece : List ℕ) (n : ℕ) → length pending ≤ 4 → n ≤ 4 - length pending → (length piece ≤ n) ⊎ (4 - length pending ≤ n)
     → pending ++ take n piece ≡ take 4 (pending ++ piece)
-seam_bytes pending piece n few within enough =
+start_bytes pending piece n few within enough =
     let same : length pending + (4 - length pending) ≡ 4 = omega (arith, few) in
     ap (λ t. pending ++ t) front ∙ sym (take-past pending piece (4 - length pending)) ∙ ap (λ k. take k (pending ++ piece)) same where
       front : take n piece ≡ take (4 - length pending) piece
@@ -115,24 +115,24 @@ module _ (pending piece window : List ℕ) (read : ℕ) (within : read ≤ lengt
   abbrev pub after_seam : List ℕ
   after_seam = drop 4 (drop read (pending ++ piece))
 
-  seam_is : window ≡ take 4 (drop read (pending ++ piece))
-  seam_is = is ∙ ap (λ h. take 4 (h ++ piece)) (take_rest pending read) ∙ ap (take 4) (sym (drop-append-le read pending piece within))
+  start_is : window ≡ take 4 (drop read (pending ++ piece))
+  start_is = is ∙ ap (λ h. take 4 (h ++ piece)) (take_rest pending read) ∙ ap (take 4) (sym (drop-append-le read pending piece within))
 
-  pub seam_joined : window ++ after_seam ≡ drop read (pending ++ piece)
-  seam_joined = ap (λ w. w ++ after_seam) seam_is ∙ take-append-drop 4 (drop read (pending ++ piece))
+  pub start_joined : window ++ after_seam ≡ drop read (pending ++ piece)
+  start_joined = ap (λ w. w ++ after_seam) start_is ∙ take-append-drop 4 (drop read (pending ++ piece))
 
   few_after : length window ≤ 3 → after_seam ≡ []
   few_after few =
-      let short = ap length seam_is ∙ length-take 4 (drop read (pending ++ piece)) in
+      let short = ap length start_is ∙ length-take 4 (drop read (pending ++ piece)) in
       drop_all 4 (drop read (pending ++ piece)) (omega (arith, short, few))
 
   -- if none of them is decoded, they are the last ones, or there is no space
-  pub seam_stops : (big : Bool) (n room : ℕ) (stop : Stop) → n ≡ 0 → StopsLossy big (drop n window) room stop → (stop ≡ NoRoom) ⊎ (after_seam ≡ [])
-  seam_stops big n room Done zero here = inr (few_after (omega (arith, zero, ap length here, length-drop n window)))
-  seam_stops big n room (IllFormed len) zero here = absurd here
-  seam_stops big n room Incomplete zero here =
+  pub start_stops : (big : Bool) (n room : ℕ) (stop : Stop) → n ≡ 0 → StopsLossy big (drop n window) room stop → (stop ≡ NoRoom) ⊎ (after_seam ≡ [])
+  start_stops big n room Done zero here = inr (few_after (omega (arith, zero, ap length here, length-drop n window)))
+  start_stops big n room (IllFormed len) zero here = absurd here
+  start_stops big n room Incomplete zero here =
       inr (few_after (omega (arith, zero, ap length here.1, length-split_tail big (drop n window), length-drop n window)))
-  seam_stops big n room NoRoom zero here = inl refl
+  start_stops big n room NoRoom zero here = inl refl
 
 -- after the pending bytes, the rest of the chunk is all that is left
 pub piece_joined : (pending piece : List ℕ) (read : ℕ) → length pending ≤ read → rest_from piece (read - length pending) ++ [] ≡ drop read (pending ++ piece)

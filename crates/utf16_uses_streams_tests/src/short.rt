@@ -87,7 +87,7 @@ fn fed<E: Utf16Order>(
     equal(rt, whole.as_str(), text.as_str());
 }
 
-fn at_every_cutting<E: Utf16Order>(rt: &(impl Abort + AllocGlobal), bytes: &[u8]) {
+fn at_every_chunking<E: Utf16Order>(rt: &(impl Abort + AllocGlobal), bytes: &[u8]) {
     let mut wanted = String::new(rt.alloc());
     let tail = decode(E::BIG, bytes, &mut wanted).expect(rt, "memory");
     let kept = bytes
@@ -107,8 +107,8 @@ fn all_short_strings_of_telling_bytes(rt: HostRuntime) {
     for (len, numbers) in [(0, 1), (1, 8), (2, 64), (3, 512), (4, 4096)] {
         for number in 0..numbers {
             let bytes = telling(&rt, len, number);
-            at_every_cutting::<LE>(&rt, &bytes);
-            at_every_cutting::<BE>(&rt, &bytes);
+            at_every_chunking::<LE>(&rt, &bytes);
+            at_every_chunking::<BE>(&rt, &bytes);
         }
     }
 }

@@ -80,9 +80,9 @@ fn is_wanted(found: &Word, word: &str, order: ByteOrder) -> bool {
 fn stop(status: Status) -> Vec<Word> {
     match status {
         Status::Done => vec![Plain("end")],
-        Status::Incomplete => vec![Plain("cut")],
-        Status::NoSpace => vec![Plain("room")],
-        Status::IllFormed(len) => vec![Plain("fault"), Number(len)],
+        Status::Incomplete => vec![Plain("incomplete")],
+        Status::NoSpace => vec![Plain("no_space")],
+        Status::IllFormed(len) => vec![Plain("ill_formed"), Number(len)],
     }
 }
 
@@ -154,7 +154,7 @@ fn cut_anywhere(order: ByteOrder, raw: &[u8]) -> Vec<Word> {
     [vec![Text(text)], others].concat()
 }
 
-fn every_marked_cutting(raw: &[u8]) -> Vec<Word> {
+fn every_any_chunking(raw: &[u8]) -> Vec<Word> {
     let (order, bom_len) = detect_bom(raw).unwrap_or((BigEndian, 0));
     cut_anywhere(order, &raw[bom_len..])
 }
@@ -200,15 +200,15 @@ fn ask(name: &str, order: ByteOrder, raw: &[u8]) -> Option<Vec<Word>> {
         "from_utf8_lossy_len" => vec![Number(from_utf8_lossy_len(raw))],
         "validate_raw_utf16" => validity(order, raw, Plain("done")),
         "WStr::from_utf16" => validity(order, raw, Bytes(raw.to_vec())),
-        "every_cutting" => cut_anywhere(order, raw),
-        "AnyLossy::every_cutting" => every_marked_cutting(raw),
+        "every_chunking" => cut_anywhere(order, raw),
+        "AnyLossy::every_chunking" => every_any_chunking(raw),
         _ => return None,
     })
 }
 
 const CALLS: [&str; 17] = [
     "to_utf8", "to_utf8_partial", "to_utf8_lossy", "from_utf8", "from_utf8_lossy", "every_room", "count_chars", "is_ascii", "to_utf8_lossy_len", "from_utf8_len",
-    "from_utf8_lossy_len", "validate_raw_utf16", "WStr::from_utf16", "every_cutting", "AnyLossy::every_cutting", "Lossy::feed",
+    "from_utf8_lossy_len", "validate_raw_utf16", "WStr::from_utf16", "every_chunking", "AnyLossy::every_chunking", "Lossy::feed",
     "decode_pieces",
 ];
 

@@ -1,4 +1,6 @@
-use Rattle.std.proofs.Common.{None, Some, false, true, ⊎_elim, inl, inr, arith, rules}
+use Rattle.std.proofs.Common.{◌∙◌, None, Some, ap, false, true, ⊎_elim, inl, inr, arith, rules}
+use Rattle.utf16_cat.specs.Status.{status_of}
+use Rattle.utf16_cat.specs.declared.outcome.Outcome.TheVariants.{Memory, Usage}
 use Rattle.utf16_cat.proofs.EndsLemmas.{ExitsAs-le, ExitsAs-one, ExitsAs-zero}
 use Rattle.utf16_cat.proofs.program.program.Goals as goal
 
@@ -38,5 +40,14 @@ returns-in-Ok-clause-cases g c =
     (λ other. omega (arith, other.0))))
     on.other
 
+pub returns-in-Ok-clause-faults : goal.returns-in-Ok-clause-faults
+returns-in-Ok-clause-faults g c = c.program_on.ensures.faults
+
 pub returns-in-Err-clause-filtered : goal.returns-in-Err-clause-filtered
 returns-in-Err-clause-filtered g c = search rules
+
+pub returns-in-Err-clause-faults : goal.returns-in-Err-clause-faults
+returns-in-Err-clause-faults g c = ⊎_elim
+    (λ memory. (Memory, c.ended.ensures.status ∙ ap status_of memory, omega arith, omega arith))
+    (λ usage. (Usage, c.ended.ensures.status ∙ ap status_of usage, omega arith, omega arith))
+    c.in-Err.ensures

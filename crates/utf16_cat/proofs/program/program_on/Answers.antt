@@ -8,3 +8,6 @@ returns-clause-be g c be = (c.run.result, c.ended.ensures.status, c.run.ensures.
 
 pub returns-clause-auto : goal.returns-clause-auto
 returns-clause-auto g c auto = (c.run.result, c.ended.ensures.status, c.run.ensures.auto auto)
+
+pub returns-clause-faults : goal.returns-clause-faults
+returns-clause-faults g c = (c.run.result, c.ended.ensures.status, c.run.ensures.reads, c.run.ensures.writes)

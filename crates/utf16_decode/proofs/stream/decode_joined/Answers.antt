@@ -1,13 +1,13 @@
 use Rattle.std.proofs.Common.{◌≡◌, ◌⊎◌, ◌≤◌, inl, inr, [], ◌++◌, length, drop, refl, rules}
 use Rattle.utf16_decode.specs.declared.progress.Stop.TheVariants.{NoRoom}
-use Rattle.utf16_decode.proofs.StreamSteps.{DecodesTo-window, piece_joined, seam_joined, seam_stops, stops_window}
+use Rattle.utf16_decode.proofs.StreamSteps.{DecodesTo-window, piece_joined, start_joined, start_stops, stops_window}
 use Rattle.utf16_decode.proofs.stream.decode_joined.Goals as goal
 use Rattle.utf16_decode.proofs.stream.decode_joined.Goals.{then-met-eq0-via-else-met-eq0+then-eq, then-met-eq0-via-then-met-eq0}
 
 pub returns-then-met-eq0-clause-decodes : goal.returns-then-met-eq0-clause-decodes
 returns-then-met-eq0-clause-decodes g c =
     let within : c.loop-read.read ≤ length c.args.pending.now = search rules in
-    DecodesTo-window _ _ _ _ _ _ _ _ _ _ c.loop-read.invariant (seam_joined _ _ _ _ within c.joined_start-len.ensures.bytes) c.to_utf8_partial-met.ensures.decodes (search rules)
+    DecodesTo-window _ _ _ _ _ _ _ _ _ _ c.loop-read.invariant (start_joined _ _ _ _ within c.joined_start-len.ensures.bytes) c.to_utf8_partial-met.ensures.decodes (search rules)
 
 pub returns-then-met-eq0-clause-stop : goal.returns-then-met-eq0-clause-stop
 returns-then-met-eq0-clause-stop g c =
@@ -16,16 +16,16 @@ returns-then-met-eq0-clause-stop g c =
     elim c.then-met-eq0.branch [
       | then-met-eq0-via-then-met-eq0 w ↦
           let none : c.to_utf8_partial-met.result.read ≡ 0 = search rules in
-          seam_stops _ _ _ _ within c.joined_start-len.ensures.bytes _ _ _ _ none c.to_utf8_partial-met.ensures.stop
+          start_stops _ _ _ _ within c.joined_start-len.ensures.bytes _ _ _ _ none c.to_utf8_partial-met.ensures.stop
       | then-met-eq0-via-else-met-eq0+then-eq w ↦ inl (search rules)
     ] in
-    stops_window _ _ _ _ _ _ _ _ _ _ c.loop-read.invariant (seam_joined _ _ _ _ within c.joined_start-len.ensures.bytes) c.to_utf8_partial-met.ensures.decodes (search rules)
+    stops_window _ _ _ _ _ _ _ _ _ _ c.loop-read.invariant (start_joined _ _ _ _ within c.joined_start-len.ensures.bytes) c.to_utf8_partial-met.ensures.decodes (search rules)
     _ why c.to_utf8_partial-met.ensures.stop
 
 pub loop-read-preserved : goal.loop-read-preserved
 loop-read-preserved g c =
     let within : c.loop-read.read ≤ length c.args.pending.now = search rules in
-    DecodesTo-window _ _ _ _ _ _ _ _ _ _ c.loop-read.invariant (seam_joined _ _ _ _ within c.joined_start-len.ensures.bytes) c.to_utf8_partial-met.ensures.decodes (search rules)
+    DecodesTo-window _ _ _ _ _ _ _ _ _ _ c.loop-read.invariant (start_joined _ _ _ _ within c.joined_start-len.ensures.bytes) c.to_utf8_partial-met.ensures.decodes (search rules)
 
 pub returns-clause-decodes : goal.returns-clause-decodes
 returns-clause-decodes g c =

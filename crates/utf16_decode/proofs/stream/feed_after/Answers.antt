@@ -15,7 +15,7 @@ returns-in-NoRoom g c =
     record {
       feeds = Feeds-full _ _ _ _ _ _ front full _ read _ left;
       stop = stops_full _ _ _ _ _ _ front full _ read _ left;
-      whole = (λ done. absurd (cc), λ whole. absurd (not_whole _ _ _ _ _ _ front full _ read whole));
+      done = (λ done. absurd (cc), λ whole. absurd (not_whole _ _ _ _ _ _ front full _ read whole));
       filled = λ full_up. filled _ _ _ _ _ _ front full _ read;
       few = c.of.ensures.few;
     }
@@ -49,7 +49,7 @@ returns g c =
     record {
       feeds = Feeds-done _ _ _ _ _ _ front (undecided g before) _ pending;
       stop = (refl, holds_tail _ c.args.pending.now c.args.piece.now _ _ _ front (undecided g before) _ pending);
-      whole = (λ done. is_whole _ c.args.pending.now c.args.piece.now _ _ _ front (undecided g before), λ fits. refl);
+      done = (λ done. is_whole _ c.args.pending.now c.args.piece.now _ _ _ front (undecided g before), λ fits. refl);
       filled = λ full_up. absurd (cc);
       few = c.of-2.ensures.few;
     }

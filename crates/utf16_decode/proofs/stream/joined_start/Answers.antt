@@ -1,7 +1,7 @@
 use Rattle.std.proofs.Common.{◌≡◌, ◌+◌, ◌-◌, ◌<◌, ◌≤◌, ◌⊎◌, inl, inr, ℕ, List, [], ◌∷◌, ◌++◌, drop, take, length, ap₂, ◌∙◌, arith, length-append, rules, take_at, ⊎_elim}
 use Rattle.std.proofs.lemmas.Bool.{cases_lt}
 use Rattle.std.proofs.lemmas.Slice.{take-put_mid}
-use Rattle.utf16_decode.proofs.StreamSteps.{seam_bytes}
+use Rattle.utf16_decode.proofs.StreamSteps.{start_bytes}
 use Rattle.utf16_decode.proofs.stream.joined_start.Goals as goal
 
 pub returns-clause-bytes : goal.returns-clause-bytes
@@ -23,4 +23,4 @@ returns-clause-bytes c =
     (cases_lt (length piece) (4 - length pending)) in
     take-put_mid (length pending) (length pending + length (take c.min.result piece) - length pending) (first ++ zeros) second _ ends begins
     ∙ ap₂ (λ f b. f ++ b) (take_at first zeros (length pending) same ∙ front) behind
-    ∙ seam_bytes pending piece c.min.result (omega (arith, c.requires)) (omega (arith, c.min.ensures)) enough
+    ∙ start_bytes pending piece c.min.result (omega (arith, c.requires)) (omega (arith, c.min.ensures)) enough

@@ -24,13 +24,13 @@ pub returns-then-size-eq4-clause-moved : goal.returns-then-size-eq4-clause-moved
 returns-then-size-eq4-clause-moved c =
     let first = c.move_unit.ensures in
     let second = c.move_unit-then-size-eq4.ensures in
-    rw c.if-size-eq4.true (moved _ _ _ c.args.to c.args.start first.moved first.behind second.moved second.behind)
+    rw c.if-size-eq4.true (moved _ _ _ c.args.to c.args.start first.moved first.rest second.moved second.rest)
 
 pub returns-then-size-eq4-clause-rest : goal.returns-then-size-eq4-clause-rest
 returns-then-size-eq4-clause-rest c =
     let first = c.move_unit.ensures in
     let second = c.move_unit-then-size-eq4.ensures in
-    rw c.if-size-eq4.true (left _ _ _ c.args.to c.args.start first.moved first.behind second.moved second.behind)
+    rw c.if-size-eq4.true (left _ _ _ c.args.to c.args.start first.moved first.rest second.moved second.rest)
 
 pub returns-else-to-start-clause-moved : goal.returns-else-to-start-clause-moved
 returns-else-to-start-clause-moved c =

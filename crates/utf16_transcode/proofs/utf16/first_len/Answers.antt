@@ -11,7 +11,7 @@ fault c =
     let m = c.min.result in
     let zero = sym c.valid_up_to-len.ensures ∙ c.if-len-eq0.true in (
       no_char rest m c.min.ensures (subst (IsValidUpTo (take m rest)) zero c.in-Err.ensures.cases.1),
-      c.error_len.ensures ∙ c.in-Err.ensures.ill_formed ∙ ap (λ k. utf8_error_len (drop k (take m rest))) zero ∙ window_tells rest m c.min.ensures,
+      c.error_len.ensures ∙ c.in-Err.ensures.fault ∙ ap (λ k. utf8_error_len (drop k (take m rest))) zero ∙ window_tells rest m c.min.ensures,
     )
 
 pub returns-in-Some-clause-ill_formed : goal.returns-in-Some-clause-ill_formed

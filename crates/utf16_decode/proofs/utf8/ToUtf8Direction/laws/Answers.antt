@@ -4,11 +4,11 @@ use Rattle.utf16_decode.proofs.utf8.ToUtf8Direction.laws.Goals as goal
 
 pub returns : goal.returns
 returns g c = record {
-  grows = room_grows;
-  fits = omega arith;
-  empty = utf8_empty g.E.Utf16Order.BIG;
+  monotone = room_grows;
+  small = omega arith;
+  of_nothing = utf8_empty g.E.Utf16Order.BIG;
   joins = utf8_joins g.E.Utf16Order.BIG;
-  chars = char_gives g.E.Utf16Order.BIG;
+  each_char = char_gives g.E.Utf16Order.BIG;
   few = char_few g.E.Utf16Order.BIG;
-  faults = faults_there g.E.Utf16Order.BIG;
+  ill_formed = faults_there g.E.Utf16Order.BIG;
 }

@@ -4,11 +4,11 @@ use Rattle.utf16_transcode.proofs.utf16.FromUtf8Direction.laws.Goals as goal
 
 pub returns : goal.returns
 returns g c = record {
-  grows = room_grows;
-  fits = omega arith;
-  empty = utf16_empty g.E.Utf16Order.BIG;
+  monotone = room_grows;
+  small = omega arith;
+  of_nothing = utf16_empty g.E.Utf16Order.BIG;
   joins = utf16_joins g.E.Utf16Order.BIG;
-  chars = char_gives g.E.Utf16Order.BIG;
+  each_char = char_gives g.E.Utf16Order.BIG;
   few = char_few;
-  faults = faults_there;
+  ill_formed = faults_there;
 }

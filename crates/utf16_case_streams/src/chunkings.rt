@@ -46,7 +46,7 @@ impl<D: Decoder> Way for OneByOne<D> {
 
 /// Adds the text of the bytes in one chunk, and after it any other text that a chunking gives, by
 /// `decode_pieces` or by `Lossy`.
-pub fn every_cutting<E: Utf16Order>(
+pub fn every_chunking<E: Utf16Order>(
     alloc: Global,
     values: &mut Values,
     answer: &mut Answer,
@@ -59,7 +59,7 @@ pub fn every_cutting<E: Utf16Order>(
 }
 
 /// Does the same by `AnyLossy`.
-pub fn every_marked_cutting(
+pub fn every_any_chunking(
     alloc: Global,
     values: &mut Values,
     answer: &mut Answer,
@@ -77,7 +77,7 @@ fn add_other<W: Way>(
     whole: &str,
     answer: &mut Answer,
 ) -> Result<(), Trouble> {
-    for cuts in cuttings(alloc, bytes.len())? {
+    for cuts in chunkings(alloc, bytes.len())? {
         for with_empty in [false, true] {
             let text = W::text(alloc, &cut(alloc, bytes, cuts, with_empty)?)?;
             if text.as_str() != whole {
@@ -92,26 +92,26 @@ fn add_other<W: Way>(
 // Returns the chunkings of `len` bytes: all of them if there are few bytes; otherwise those into
 // two and three chunks and the one into single bytes. In each a bit is set for each byte after
 // which the stream is cut, the lowest bit for the first byte.
-fn cuttings(alloc: Global, len: usize) -> Result<Vec<u64>, Trouble> {
-    let mut cuttings = Vec::new(alloc);
+fn chunkings(alloc: Global, len: usize) -> Result<Vec<u64>, Trouble> {
+    let mut chunkings = Vec::new(alloc);
     if len > MOST {
         return Err(Trouble::Condition);
     }
     if len <= CUT_EVERY_WAY {
         for cuts in 0..bit(len.saturating_sub(1)) {
-            cuttings.push(cuts).map_err(|_| Trouble::Memory)?;
+            chunkings.push(cuts).map_err(|_| Trouble::Memory)?;
         }
-        return Ok(cuttings);
+        return Ok(chunkings);
     }
-    cuttings.push(u64::MAX).map_err(|_| Trouble::Memory)?;
+    chunkings.push(u64::MAX).map_err(|_| Trouble::Memory)?;
     for second in 0..len {
         for first in 0..=second {
-            cuttings
+            chunkings
                 .push(bit(first) | bit(second))
                 .map_err(|_| Trouble::Memory)?;
         }
     }
-    Ok(cuttings)
+    Ok(chunkings)
 }
 
 // Returns the bit of that number, which is less than 64.

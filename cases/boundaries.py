@@ -1,4 +1,4 @@
-"""Writes cases/seams.txt, by Python's codecs: characters and ill-formed sequences at each offset
+"""Writes cases/boundaries.txt, by Python's codecs: characters and ill-formed sequences at each offset
 of a block, and texts of each length."""
 
 import codecs
@@ -90,7 +90,7 @@ def well_formed(name, units, before, after):
 
 
 def main():
-    print("# Written by cases/seams.py, by Python's codecs: characters and ill-formed sequences at each offset")
+    print("# Written by cases/boundaries.py, by Python's codecs: characters and ill-formed sequences at each offset")
     print("# of a block, and texts of each length, so that each SIMD lane of each conversion is used once.")
     for c in map(chr, CHARACTERS):
         name = f"place.U+{ord(c):04X}"
