@@ -1,7 +1,7 @@
 -- What the walks of `allocate` and `deallocate` share. Assumes `Logic`.
 --     Heap, args, self     the allocator's type, the type arguments of both functions, and their
 --                          first parameter, a `&` to it
---     inner_at, plan_at, live_blocks_at    where its fields lie. The plan takes 32 bytes
+--     inner_at, plan_at, live_blocks_at    where its fields lie. The plan takes 40 bytes
 --     Self, Plans, Blocks  what that `&` owns, and a `&` to the plan and to the count
 --     starts               a proof's step, the first of both: what the bound says of a lifetime,
 --                          and the `&` as a `&` to each field
@@ -27,7 +27,7 @@ module _ (Z : Al) where
   plan_at p = (p.0, p.1 + up 8 (up (align (α Z)) 0 + size (α Z)))
 
   abbrev pub live_blocks_at : ℕ × ℕ → ℕ × ℕ
-  live_blocks_at p = (p.0, p.1 + up 8 (up 8 (up (align (α Z)) 0 + size (α Z)) + 32))
+  live_blocks_at p = (p.0, p.1 + up 8 (up 8 (up (align (α Z)) 0 + size (α Z)) + 40))
 
   module _ (κ ρ : Lft) (r : Bor Heap.Denot) where
     abbrev pub Self : Fml

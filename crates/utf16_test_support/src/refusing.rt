@@ -1,5 +1,5 @@
 //! An allocator for tests, which calls an inner one, makes the allocations fail that a test names,
-//! and counts the blocks that are allocated and not freed.
+//! adds up the sizes of all, and counts the blocks that are allocated and not freed.
 
 use std::alloc::{AllocError, Allocator};
 use std::cell::Cell;
@@ -17,6 +17,7 @@ enum Refused {
 struct Plan {
     refused: Refused,
     requests: u64,
+    requested_bytes: u64,
     refusals: u64,
 }
 
@@ -25,6 +26,7 @@ impl Plan {
         Plan {
             refused,
             requests: 0,
+            requested_bytes: 0,
             refusals: 0,
         }
     }
@@ -50,19 +52,19 @@ impl<B: Allocator> Refusing<B> {
         }
     }
 
-    /// From now on the `k`-th allocation fails, where 0 is the next, and no other. Both counts
+    /// From now on the `k`-th allocation fails, where 0 is the next, and no other. The counts
     /// start anew.
     pub fn refuse_one(&self, k: u64) {
         self.plan.set(Plan::new(Refused::One(k)));
     }
 
-    /// From now on the `k`-th allocation fails, where 0 is the next, and all after it. Both counts
+    /// From now on the `k`-th allocation fails, where 0 is the next, and all after it. The counts
     /// start anew.
     pub fn refuse_from(&self, k: u64) {
         self.plan.set(Plan::new(Refused::From(k)));
     }
 
-    /// From now on no allocation fails. Both counts start anew.
+    /// From now on no allocation fails. The counts start anew.
     pub fn refuse_none(&self) {
         self.plan.set(Plan::new(Refused::None));
     }
@@ -70,6 +72,12 @@ impl<B: Allocator> Refusing<B> {
     /// Returns the number of allocations since the counts started, those that failed included.
     pub fn requests(&self) -> u64 {
         self.plan.get().requests
+    }
+
+    /// Returns the sum of the sizes, in bytes, of the allocations since the counts started, those
+    /// that failed included. A block that grows or shrinks is requested at its new size.
+    pub fn requested_bytes(&self) -> u64 {
+        self.plan.get().requested_bytes
     }
 
     /// Returns the number of allocations that failed since the counts started.
@@ -94,8 +102,8 @@ impl<B: Allocator> Drop for Refusing<B> {
     }
 }
 
-// Returns whether the current allocation fails, and counts it.
-fn refuses(plan: &Cell<Plan>) -> bool {
+// Returns whether the current allocation, of so many bytes, fails, and counts it.
+fn refuses(plan: &Cell<Plan>, size: usize) -> bool {
     let before = plan.get();
     let is_refused = match before.refused {
         Refused::None => false,
@@ -105,6 +113,7 @@ fn refuses(plan: &Cell<Plan>) -> bool {
     plan.set(Plan {
         refused: before.refused,
         requests: before.requests.saturating_add(1),
+        requested_bytes: before.requested_bytes.saturating_add(size as u64),
         refusals: before.refusals.saturating_add(is_refused as u64),
     });
     is_refused
@@ -124,7 +133,7 @@ unsafe impl<B: Allocator> Allocator for Refusing<B> {
     ghost dealloc_token = { λ heap ty ptr. B.dealloc_token heap.inner ty ptr };
 
     fn allocate(&self, size: usize, align: usize) -> Result<*mut u8, AllocError> {
-        if refuses(&self.plan) {
+        if refuses(&self.plan, size) {
             return Err(AllocError);
         }
         let answer = self.inner.allocate(size, align);

@@ -51,6 +51,24 @@ fn growing_and_shrinking_are_requests(rt: HostRuntime) -> Result<(), Fail> {
     Ok(())
 }
 
+// Also of a failed allocation, and of a block that grows.
+#[test]
+fn sizes_of_requests_add_up(rt: HostRuntime) -> Result<(), Fail> {
+    let heap = Refusing::new(rt.alloc());
+    equal(&rt, heap.requested_bytes(), 0);
+    let mut bytes = Vec::<u8, _>::with_capacity(&heap, 5)?;
+    equal(&rt, heap.requested_bytes(), 5);
+    bytes.reserve(20)?;
+    let _number = Box::new(&heap, 7_u64)?;
+    equal(&rt, heap.requested_bytes(), 5 + 20 + 8);
+    heap.refuse_one(0);
+    holds(&rt, bytes.reserve(100).is_err());
+    equal(&rt, (heap.requested_bytes(), heap.refusals()), (100, 1));
+    heap.refuse_none();
+    equal(&rt, heap.requested_bytes(), 0);
+    Ok(())
+}
+
 #[test]
 fn a_block_counts_until_it_is_given_back(rt: HostRuntime) -> Result<(), Fail> {
     let heap = Refusing::new(rt.alloc());

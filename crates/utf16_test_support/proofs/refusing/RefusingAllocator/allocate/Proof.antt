@@ -1,7 +1,7 @@
 -- It returns `Err` if `refuses` says so, and otherwise what the inner allocator returns, and counts
 -- a block. Assumes `Logic`.
 use Rattle.utf16_test_support.proofs.Steps.{◌≡◌, true, false, [], ◌∷◌, Ok, Err, refl, sym, subst, ap, T, w64, after, front, arm_body, Al, token, Answer, answer_val, Answer-typed, Answer-Ok, Answer-err, Takes, at_takes, Answered, Takes-goes, Takes-gives, answers, proved, block_if_ok, ftrue, flft, ◌⊑◌, ⊑_trans, fact, tables, bool, u64, unit, usize, yes, layout, uint_vals, uint_Tells, owns, block_ptr, shr_vals, plain, types_at, heard, nothing, only, calls_at, calls_at_last, framed, Stays, stay_dropped, walk_of, ends_at, Goes-dropped, inst_fn, Val, vint, has_ty, WT, size, align, capped, Wp, after_seq, at_return, alloc_all, pass_all, free_all, look_at, get, get_tag, through, sets, lands_as, lands_last, env, Sq, Post, ‵, raw, ◌⊛◌, later, prop, any_q, at_ret, ◌$◌, ◌∵◌, !, qed, move, drop, use0, use1, use2, split, join, fjoin, feq_l, suffices, await, done, vrt, agg, whole, stop, fld, lit, addr, of_opd, no_more, and_then, first, branches, skips, switches_on, exec, returns, returns_within, enter}
-use Rattle.utf16_test_support.proofs.AtCell.{asks_cell}
+use Rattle.utf16_test_support.proofs.AtCell.{asks_cell, asks_sized}
 use Rattle.utf16_test_support.proofs.Walks.{args, self, inner_at, plan_at, live_blocks_at, starts}
 use Rattle.utf16_test_support.specs.contracts.refusing.Plan as PL
 use Rattle.utf16_test_support.proofs.refusing.refuses.Met as refuses
@@ -39,8 +39,8 @@ allocate_spec 𝓤 𝓛 𝓜 𝓡 wired Y L g d d' met _ =
     enter ! _ _ _ _ _ $ alloc_all ! (λ l. pass_all ! refl ((tt, tt), ((tt, record { fits = are.1.0.1 }), ((tt, record { fits = are.1.1.0.1 }), tt))) $
     let E = env here.locals l in
     sets ! (addr ! (through ! refl (fld ! refl (stop !)))) refl (tt, tt) $
-    asks_cell PL.the_row bool ! κ q (plan_at Z r.ref_ptr) r.now.plan
-    (calls_at ! (framed 𝓤 𝓛.H 𝓜 𝓣) _ (refuses.met 𝓤 𝓛 𝓜 𝓡 (code.calls-utf16_test_support::refusing::refuses 𝓡.env wired)) _ (and_then ! (get ! refl) (no_more !))) (λ _. tt) (λ u t. feq_l ! (λ et. lands_as ! (ap only et) refl (tt, tt) $
+    asks_sized PL.the_row bool ! κ q (plan_at Z r.ref_ptr) r.now.plan n are.1.0.1
+    (calls_at ! (framed 𝓤 𝓛.H 𝓜 𝓣) _ (refuses.met 𝓤 𝓛 𝓜 𝓡 (code.calls-utf16_test_support::refusing::refuses 𝓡.env wired)) _ (and_then ! (get ! refl) (and_then ! (get ! refl) (no_more !)))) (λ _. tt) (λ u t. feq_l ! (λ et. lands_as ! (ap only et) refl (tt, tt) $
     first ! $ branches ! (get ! refl)
     (λ refused. move ! (1 ∷ 2 ∷ []) $ drop ! $ drop ! $
     sets ! (agg ! (no_more !)) refl (tt, tt) $ sets ! (agg ! (and_then ! (lit ! tt) (and_then ! (get ! refl) (no_more !)))) refl (Answer-typed false 0 0) $
