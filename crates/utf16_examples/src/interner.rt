@@ -130,7 +130,9 @@ impl<E: Utf16Order, A: Allocator> Interner<E, A> {
     /// # Complexity
     ///
     /// For a known name as `find`. For a new one the numbers of larger names are moved in one
-    /// block.
+    /// block. Allocates at most three times: for the text of all names, and twice for a number of
+    /// each. A block grows to twice its size, or to what it must hold if that is more, but to no
+    /// less than eight bytes of text or four numbers.
     pub fn intern(&mut self, name: WStr<E>) -> Result<usize, AllocError>
         ensures interned { IfOk result (λ number.
             IsInterned self.old (wstr_text name.entry) number self.new) }

@@ -18,7 +18,8 @@ impl<'a, E: Utf16Order> WStr<'a, E> {
     ///
     /// # Complexity
     ///
-    /// Two passes over the text. Allocates once, and not at all for the empty text.
+    /// Two passes over the text. Allocates once, for as many bytes as the characters take or for
+    /// eight, and not at all for the empty text.
     pub fn to_utf8<A: Allocator>(&self, alloc: A) -> Result<String<A>, AllocError>
         ensures text { IfOk result (λ s. string_bytes s ≡ encode_utf8_all (wstr_text self.now)) }
         ensures nothing { wstr_text self.now ≡ [] → IsOk result }

@@ -77,7 +77,8 @@ impl AnyLossy {
     ///
     /// # Complexity
     ///
-    /// Allocates once for the longest possible result: three bytes for each code unit.
+    /// Allocates once for the longest possible result: three bytes for each code unit that is no
+    /// BOM, or eight for a single one. Allocates nothing if the result is empty.
     pub fn feed<A: Allocator>(&mut self, alloc: A, piece: &[u8]) -> Result<String<A>, AllocError>
         ensures text { IfOk result (λ s.
             string_bytes s ≡ encode_utf8_all
