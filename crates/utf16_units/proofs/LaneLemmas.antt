@@ -184,3 +184,11 @@ module _ (highs : List ℕ) (n leading : ℕ) (long : length highs ≡ n)
       sym (ap mask_l p) ∙ mask_l-last lows after ∙ ap (λ k. mask_l lows + cond after (2 ^ k) 0) low_count in
       let whole : mask_l lows + cond after (2 ^ n) 0 ≡ 2 * leading + bool_byte before = sym last ∙ omega (arith, bits units have, byte-cond before) in
       sym (low_part after n (mask_l lows) below) ∙ ap (λ m. m % 2 ^ n) whole ∙ ap (λ p. (2 * leading + bool_byte before) % p) (sym power)
+
+-- units of which none is a surrogate are paired
+pub plain_paired : (units : List ℕ) → mask_l (map is_high_surrogate units) ≡ 0 → mask_l (map is_low_surrogate units) ≡ 0 → Paired false units false
+plain_paired units high low =
+    let lows = map is_low_surrogate units in
+    mask_l-injective (lows ++ false ∷ []) (false ∷ map is_high_surrogate units)
+    (omega (arith, length-append lows (false ∷ []), length-map units is_low_surrogate, length-map units is_high_surrogate))
+    (mask_l-last lows false ∙ omega (arith, low, high))

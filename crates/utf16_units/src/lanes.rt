@@ -1,7 +1,7 @@
 //! Blocks of code units with SIMD: the surrogates as bits, whether they are paired, and whether a
 //! block is ASCII.
 
-ghost use Rattle.std.specs.Prelude.{◌≡◌, ◌↔◌, ◌<◌, ◌≤◌, ◌==◌, ℕ, All, List, IfNone, IfSome, IsTrue, bit_and, map};
+ghost use Rattle.std.specs.Prelude.{◌≡◌, ◌↔◌, ◌<◌, ◌≤◌, ◌==◌, ℕ, All, List, false, IfNone, IfSome, IsTrue, bit_and, map};
 ghost use Rattle.std.specs.Char.Utf16.{is_high_surrogate, is_low_surrogate};
 ghost use Rattle.std.specs.Simd.Lanes.{mask_l};
 ghost use Rattle.utf16_units.specs.Encoding.{units_of};
@@ -87,6 +87,16 @@ pub(crate) fn paired<const N: usize>(highs: Simd<u8, N>, before: bool) -> Option
     } else {
         None
     }
+}
+
+// Whether no code unit of the block is a surrogate.
+#[inline(always)]
+pub(crate) fn has_no_surrogate<const N: usize>(highs: Simd<u8, N>) -> bool
+    requires { N ≤ 32 }
+    ensures { IsTrue result → (units : List ℕ) → map high_byte units ≡ highs.entry
+        → Paired false units false }
+{
+    leading_bits(highs) == 0 && trailing_bits(highs) == 0
 }
 
 // Whether thirty-two code units are ASCII: no byte is above the byte of U+007F at its position.

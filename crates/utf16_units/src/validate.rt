@@ -1,12 +1,12 @@
 //! Validation of UTF-16.
 
-ghost use Rattle.std.specs.Prelude.{◌≡◌, ◌↔◌, ◌+◌, ◌<◌, ◌≤◌, length, take, IsOk, IfOk, IfErr};
+ghost use Rattle.std.specs.Prelude.{◌≡◌, ◌↔◌, ◌+◌, ◌<◌, ◌≤◌, false, length, take, IsOk, IfOk, IfErr};
 ghost use Rattle.utf16_units.specs.Encoding.{IsUtf16};
 ghost use Rattle.utf16_units.specs.IllFormed.{BeginsWithChar, IsIllFormedAt};
 ghost use Rattle.utf16_units.specs.Lanes.{PairedTo, PassedTo, BlocksStopAt};
 ghost use Rattle.utf16_units.specs.Utf16Error.{IsErrorOf};
 
-use crate::lanes::{high_bytes16, high_bytes32, paired};
+use crate::lanes::{has_no_surrogate, high_bytes16, high_bytes32, paired};
 use crate::{Utf16Error, Utf16Order, is_trailing_surrogate};
 use std::simd::prelude::*;
 
@@ -42,22 +42,42 @@ fn passed_blocks<E: Utf16Order>(raw: &[u8]) -> usize
 }
 
 // The length of the prefix of blocks of 64 bytes whose surrogates are paired, and whether its last
-// unit is leading.
+// unit is leading. After a block without a surrogate it looks for no pairs until there is one.
 fn paired_blocks<E: Utf16Order>(raw: &[u8]) -> (usize, bool)
     ensures paired { PairedTo E.BIG raw.now result.0 result.1 }
     ensures stops { BlocksStopAt 64 E.BIG raw.now result.0 result.1 }
 {
-    let mut at = 0;
+    let mut at = plain_blocks::<E>(raw, 0);
     let mut leading = false;
     while raw.len() - at >= 64 {
-        let block = u8x64::from_slice(&raw[at..]);
-        let Some(last) = paired(high_bytes32::<E>(block), leading) else {
+        let highs = high_bytes32::<E>(u8x64::from_slice(&raw[at..]));
+        let Some(last) = paired(highs, leading) else {
             break;
         };
         leading = last;
         at += 64;
+        if !leading && has_no_surrogate(highs) {
+            at = plain_blocks::<E>(raw, at);
+        }
     }
     (at, leading)
+}
+
+// The end of the blocks of 64 bytes from `from` on that have no surrogate.
+#[inline(always)]
+fn plain_blocks<E: Utf16Order>(raw: &[u8], from: usize) -> usize
+    requires { PairedTo E.BIG raw.now from false }
+    ensures paired { PairedTo E.BIG raw.now result false }
+    ensures after { from ≤ result }
+{
+    let mut at = from;
+    while raw.len() - at >= 64 {
+        if !has_no_surrogate(high_bytes32::<E>(u8x64::from_slice(&raw[at..]))) {
+            break;
+        }
+        at += 64;
+    }
+    at
 }
 
 // The same with one more block of 32 bytes, if its surrogates are paired.

@@ -1,11 +1,21 @@
-use Rattle.std.proofs.Common.{arith, refl, sym}
+use Rattle.std.proofs.Common.{arith, refl, subst, sym}
+use Rattle.utf16_units.specs.Lanes.{PairedTo}
 use Rattle.utf16_units.proofs.PairLemmas.{PairedTo-next, PairedTo-none}
 use Rattle.utf16_units.proofs.validate.paired_blocks.Goals as goal
 
+pub plain_blocks-at-requires : goal.plain_blocks-at-requires
+plain_blocks-at-requires g c = PairedTo-none g.E.Utf16Order.BIG c.args.raw.now
+
+pub plain_blocks-at-requires-then-has_no_surrogate : goal.plain_blocks-at-requires-then-has_no_surrogate
+plain_blocks-at-requires-then-has_no_surrogate g c =
+    subst (PairedTo g.E.Utf16Order.BIG c.args.raw.now _) c.if-not-leading.true
+    (PairedTo-next g.E.Utf16Order.BIG c.args.raw.now c.loop-at.at 64 c.loop-at.leading c.in-Some.last c.loop-at.invariant refl (omega arith)
+    (c.in-Some.ensures.some _ (sym c.high_bytes32-highs.ensures)))
+
 pub loop-at-init : goal.loop-at-init
-loop-at-init g c = PairedTo-none g.E.Utf16Order.BIG c.args.raw.now
+loop-at-init g c = c.plain_blocks-at.ensures.paired
 
 pub loop-at-preserved : goal.loop-at-preserved
 loop-at-preserved g c =
     PairedTo-next g.E.Utf16Order.BIG c.args.raw.now c.loop-at.at 64 c.loop-at.leading c.in-Some.last c.loop-at.invariant refl (omega arith)
-    (c.in-Some.ensures.some _ (sym c.high_bytes32.ensures))
+    (c.in-Some.ensures.some _ (sym c.high_bytes32-highs.ensures))
