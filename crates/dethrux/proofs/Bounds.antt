@@ -104,6 +104,6 @@ whole_is_done text into input to read written (IllFormed len) shows stops fits =
 whole_is_done text into input to read written Incomplete shows stops fits = absurd stops
 whole_is_done text into input to read written NoRoom shows stops fits =
     let all = ap length shows.shown ∙ length-append (take written to) (flat_map into (text (drop read input))) in
-    let first = length-take-le written to shows.room in
+    let first = length-take-le written to shows.fits in
     let rest = ap (λ t. length (flat_map into t)) stops.begins ∙ length-append (into stops.char) (flat_map into stops.more) in
     absurd (omega (arith, stops.too_long))

@@ -67,22 +67,22 @@ module _ (big : Bool) (raw old part : List ℕ) (read at n w : ℕ) (before : De
   rest_long = ap length (take_rest raw read) ∙ length-drop read raw
 
   pub new_long : length new ≡ length old
-  new_long = put_end-long at old part before.room long
+  new_long = put_end-long at old part before.fits long
 
   bytes : take (at + w) new ≡ take at old ++ take w part
-  bytes = take-end at w old part before.room long front.room
+  bytes = take-end at w old part before.fits long front.fits
 
   pub DecodesTo-text : DecodesTo big raw new (read + n) (at + w)
   DecodesTo-text =
       let within = before.within in
-      let room = before.room in
+      let room = before.fits in
       let few = front.within in
-      let fits = front.room in
+      let fits = front.fits in
       let size = rest_long in
       let all = new_long in
       record {
         within = omega arith;
-        room = omega arith;
+        fits = omega arith;
         decodes =
             Decodes-then big raw (drop read raw) (drop (read + n) raw) [] (take at old) (take (at + w) new) before.decodes
             (subst (λ t. Decodes big (drop read raw) (drop (read + n) raw) (take at old) t) (sym bytes)
@@ -134,7 +134,7 @@ module _ (big : Bool) (raw old part : List ℕ) (read at n w : ℕ) (before : De
     some_left : 0 < length (drop n rest)
     some_left = ⊎_elim
         (λ (some : n < length rest). omega (arith, length-drop n rest))
-        (λ (all : length rest ≤ n). absurd (fault.refused (subst (IsUtf16 big) (take_all n rest all) ends.valid)))
+        (λ (all : length rest ≤ n). absurd (fault.ill_formed (subst (IsUtf16 big) (take_all n rest all) ends.valid)))
         (cases_lt n (length rest))
 
     not_cut_off : ¬ (IsIncomplete big (drop n rest))
@@ -183,7 +183,7 @@ module _ (big : Bool) (raw old part : List ℕ) (read at n w : ℕ) (before : De
         let len_is = fault.at_front.0 in
         record {
           within = omega arith;
-          room = room;
+          fits = room;
           decodes = Decodes-then big raw (drop (read + n) raw) (drop (read + n + len) raw) [] (take (at + w) new) (take last next) DecodesTo-text.decodes (record {
             taken = lone ∷ [];
             items = items_here;
@@ -234,7 +234,7 @@ pub ShowsWhole-tail : (big : Bool) (raw to next : List ℕ) (read written last :
 unfolding encode_utf8
 ShowsWhole-tail big raw to next read written last d some same room bytes = record {
   within = omega arith;
-  room = room;
+  fits = room;
   shown =
       whole_text big raw (drop read raw) (take written to) d.decodes
       ∙ ap (λ t. take written to ++ encode_utf8_all t) (tail_text big (drop read raw) some same)
@@ -292,7 +292,7 @@ module _ (big : Bool) (rest : List ℕ) (e : Utf16Error) (is : IsErrorOf big res
       ∙ omega arith where
         some_left : drop n rest ≢ []
         some_left none =
-            is.fault.refused (subst (IsUtf16 big) (sym (append-nil (take n rest)) ∙ ap (λ t. take n rest ++ t) (sym none) ∙ take-append-drop n rest)
+            is.fault.ill_formed (subst (IsUtf16 big) (sym (append-nil (take n rest)) ∙ ap (λ t. take n rest ++ t) (sym none) ∙ take-append-drop n rest)
             (subst (λ k. IsUtf16 big (take k rest)) (sym at) is.front.valid))
 
         left : (tail : List ℕ) → tail ≢ [] → tail_char tail ≡ 0xFFFD ∷ []

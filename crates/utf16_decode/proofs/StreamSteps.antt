@@ -64,7 +64,7 @@ module _ (big : Bool) (raw old part window behind : List ℕ) (read at n w : ℕ
   new = put_mid at (length old - at) old part
 
   new_long : length new ≡ length old
-  new_long = put_end-long at old part before.room long
+  new_long = put_end-long at old part before.fits long
 
   left : drop n window ++ behind ≡ drop (read + n) raw
   left = sym (drop-append-le n window behind front.within) ∙ ap (drop n) joined ∙ drop-drop n read raw
@@ -72,17 +72,17 @@ module _ (big : Bool) (raw old part window behind : List ℕ) (read at n w : ℕ
   pub DecodesTo-window : DecodesTo big raw new (read + n) (at + w)
   DecodesTo-window =
       let within = before.within in
-      let room = before.room in
+      let room = before.fits in
       let few = front.within in
-      let fits = front.room in
+      let fits = front.fits in
       let all = new_long in
       let size = sym (length-append window behind) ∙ ap length joined ∙ length-drop read raw in
       record {
         within = omega arith;
-        room = omega arith;
+        fits = omega arith;
         decodes =
             Decodes-then big raw (drop read raw) (drop (read + n) raw) [] (take at old) (take (at + w) new) before.decodes
-            (subst (λ t. Decodes big (drop read raw) (drop (read + n) raw) (take at old) t) (sym (take-end at w old part before.room long front.room))
+            (subst (λ t. Decodes big (drop read raw) (drop (read + n) raw) (take at old) t) (sym (take-end at w old part before.fits long front.fits))
             (subst (λ r. Decodes big (drop read raw) r (take at old) (take at old ++ take w part)) left
             (subst (λ b. Decodes big b (drop n window ++ behind) (take at old) (take at old ++ take w part)) joined
             (Decodes-more big window (drop n window) behind (take at old) (take w part) front.decodes))));
@@ -168,7 +168,7 @@ module _ (big : Bool) (pending piece to : List ℕ) (at written : ℕ) (front : 
   shown_long : length (shown (split_items big all)) ≡ written + length (shown (split_items big rest))
   shown_long =
       ap length shown_all ∙ length-append (take written to) (shown (split_items big rest))
-      ∙ ap (λ n. n + length (shown (split_items big rest))) (length-take-le written to front.room)
+      ∙ ap (λ n. n + length (shown (split_items big rest))) (length-take-le written to front.fits)
 
   -- there is no space for the next character
   module _ (full : TextDoesNotFit encode_utf8 (lossy_chars (split_items big rest)) (length to - written)) (read : ℕ)
@@ -186,7 +186,7 @@ module _ (big : Bool) (pending piece to : List ℕ) (at written : ℕ) (front : 
           let fits = within in
           record {
             within = omega (arith, is);
-            room = front.room;
+            fits = front.fits;
             decodes = subst (λ r. Decodes big all r [] (take written to)) (sym rest_is) front.decodes;
           }
 
@@ -216,7 +216,7 @@ module _ (big : Bool) (pending piece to : List ℕ) (at written : ℕ) (front : 
     pub Feeds-done : (left : List ℕ) → left ≡ rest → Feeds big pending piece left to (length piece) written
     Feeds-done left is = record {
       within = omega arith;
-      room = front.room;
+      fits = front.fits;
       decodes =
           subst (λ r. Decodes big all r [] (take written to))
           (sym is ∙ sym (append-nil left) ∙ ap (λ b. left ++ b) (sym (drop_all (length piece) piece (omega arith)))) front.decodes;
@@ -228,7 +228,7 @@ module _ (big : Bool) (pending piece to : List ℕ) (at written : ℕ) (front : 
     pub is_whole : length (shown (split_items big all)) ≤ length to
     is_whole =
         let none = ap (λ i. length (shown i)) (undecided_items big rest undecided) in
-        omega (arith, shown_long, none, front.room)
+        omega (arith, shown_long, none, front.fits)
 
 -- at the end of a stream with pending bytes comes U+FFFD
 module _ (pending slice : List ℕ) (is : slice ≡ pending) (some : 0 < length slice) where

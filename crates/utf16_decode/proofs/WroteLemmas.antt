@@ -20,7 +20,7 @@ Wrote-then {Gives} joins input old new read at len last before piece =
     let few = piece.within in
     record {
       within = omega arith;
-      room = piece.room;
+      fits = piece.fits;
       gives =
           subst (λ i. Gives i (take last new)) (ap (λ r. take read input ++ take len r) rest ∙ sym (take-add read len input))
           (subst (Gives (take read input ++ take len (rest_from input read))) (sym piece.bytes)
@@ -29,14 +29,14 @@ Wrote-then {Gives} joins input old new read at len last before piece =
 
 -- nothing was read
 pub Wrote-none : {Gives : List ℕ → List ℕ → Type 0} → Gives [] [] → (input to : List ℕ) → Wrote Gives input to 0 0
-Wrote-none empty input to = record { within = omega arith; room = omega arith; gives = empty }
+Wrote-none empty input to = record { within = omega arith; fits = omega arith; gives = empty }
 
 -- nothing was written
 pub Puts-none : {Gives : List ℕ → List ℕ → Type 0} → Gives [] [] → (rest old new : List ℕ) (at : ℕ) → at ≤ length old → new ≡ old
     → Puts Gives rest old new at 0 at
 Puts-none empty rest old new at within kept = record {
   within = omega arith;
-  room = omega (arith, ap length kept);
+  fits = omega (arith, ap length kept);
   added = [];
   gives = empty;
   bytes = ap (take at) kept ∙ sym (append-nil (take at old));
@@ -112,7 +112,7 @@ Puts-put rest old part added at len n within long few gives is room =
     let front = length-take-le at old within in
     record {
       within = few;
-      room = omega arith;
+      fits = omega arith;
       added = added;
       gives = gives;
       bytes = take-end at n old part within long room ∙ ap (λ t. take at old ++ t) is;

@@ -7,5 +7,5 @@ use Rattle.std.specs.List.{flat_map}
 -- whole text; those of the rest's whole text follow it
 pub record ShowsWhole (text : List ℕ → List ℕ) (into : ℕ → List ℕ) (input to : List ℕ) (read written : ℕ) : Type 0 where
   pub within : read ≤ length input
-  pub room : written ≤ length to
+  pub fits : written ≤ length to
   pub shown : flat_map into (text input) ≡ take written to ++ flat_map into (text (drop read input))

@@ -17,7 +17,7 @@ stream_pending stream = take stream.len stream.bytes
 -- left of the chunk
 pub record Feeds (big : Bool) (pending piece left to : List ℕ) (read written : ℕ) : Type 0 where
   pub within : read ≤ length piece
-  pub room : written ≤ length to
+  pub fits : written ≤ length to
   pub decodes : Decodes big (pending ++ piece) (left ++ drop read piece) [] (take written to)
 
 -- why it stopped: all was taken and the tail of the split is pending; or the next character does

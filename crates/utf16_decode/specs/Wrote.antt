@@ -18,14 +18,14 @@ TranscodesToUtf8 big raw utf8 = IsUtf16 big raw × (utf8 ≡ encode_utf8_all (te
 -- the first bytes of the input were read, and their output is at the start of the buffer
 pub record Wrote (Gives : List ℕ → List ℕ → Type 0) (input to : List ℕ) (read written : ℕ) : Type 0 where
   pub within : read ≤ length input
-  pub room : written ≤ length to
+  pub fits : written ≤ length to
   pub gives : Gives (take read input) (take written to)
 
 -- some bytes of the rest were read, and their output was written at an offset of the buffer; it
 -- ends at `last`
 pub record Puts (Gives : List ℕ → List ℕ → Type 0) (rest old new : List ℕ) (at len last : ℕ) : Type 0 where
   pub within : len ≤ length rest
-  pub room : last ≤ length new
+  pub fits : last ≤ length new
   pub added : List ℕ
   pub gives : Gives (take len rest) added
   pub bytes : take last new ≡ take at old ++ added
@@ -33,5 +33,5 @@ pub record Puts (Gives : List ℕ → List ℕ → Type 0) (rest old new : List 
 -- the first bytes of UTF-16 were decoded, and their text is at the start of the buffer in UTF-8
 pub record DecodesTo (big : Bool) (raw to : List ℕ) (read written : ℕ) : Type 0 where
   pub within : read ≤ length raw
-  pub room : written ≤ length to
+  pub fits : written ≤ length to
   pub decodes : Decodes big raw (drop read raw) [] (take written to)

@@ -29,7 +29,7 @@ use Rattle.utf16_decode.proofs.WroteLemmas.{put_end-long, take-end}
 
 -- nothing was read
 pub ShowsWhole-none : (text : List ℕ → List ℕ) (into : ℕ → List ℕ) (input to : List ℕ) → ShowsWhole text into input to 0 0
-ShowsWhole-none text into input to = record { within = omega arith; room = omega arith; shown = refl }
+ShowsWhole-none text into input to = record { within = omega arith; fits = omega arith; shown = refl }
 
 flat_encode : (big : Bool) (text more : List ℕ) → flat_map (char_bytes big) (text ++ more) ≡ encode big text ++ flat_map (char_bytes big) more
 unfolding encode
@@ -90,7 +90,7 @@ module _ (big : Bool) (text old part : List ℕ) (read at n w : ℕ) (before : S
   left = ap (drop n) from ∙ drop-drop n read text
 
   pub new_long : length new ≡ length old
-  new_long = let room = before.room in put_end-long at old part room long
+  new_long = let room = before.fits in put_end-long at old part room long
 
   left_over : length part - w ≡ length new - (at + w)
   left_over = let all = new_long in omega (arith, long)
@@ -98,22 +98,22 @@ module _ (big : Bool) (text old part : List ℕ) (read at n w : ℕ) (before : S
   pub ShowsWhole-text : ShowsWhole text_of_utf8 (char_bytes big) text new (read + n) (at + w)
   ShowsWhole-text =
       let within = before.within in
-      let room = before.room in
+      let room = before.fits in
       let few = front.within in
-      let fits = front.room in
+      let fits = front.fits in
       let size = ap length from ∙ length-drop read text in
       let all = new_long in
       let gives = subst (λ r. TranscodesToUtf16 big (take n r) (take w part)) from front.gives in
       record {
         within = omega arith;
-        room = omega arith;
+        fits = omega arith;
         shown =
             before.shown
             ∙ ap (λ t. take at old ++ flat_map (char_bytes big) t) (text-behind rest n gives.0)
             ∙ ap (λ t. take at old ++ t) (flat_encode big (chars (take n rest)) (text_of_utf8 (drop n rest)))
             ∙ ap₂ (λ b r. take at old ++ (b ++ flat_map (char_bytes big) (text_of_utf8 r))) (sym gives.1) (drop-drop n read text)
             ∙ sym (append_assoc (take at old) (take w part) (flat_map (char_bytes big) (text_of_utf8 (drop (read + n) text))))
-            ∙ ap (λ t. t ++ flat_map (char_bytes big) (text_of_utf8 (drop (read + n) text))) (sym (take-end at w old part before.room long front.room));
+            ∙ ap (λ t. t ++ flat_map (char_bytes big) (text_of_utf8 (drop (read + n) text))) (sym (take-end at w old part before.fits long front.fits));
       }
 
   stops-all : StopsEncoding big (rest_from text read) n (length part - w) Done → drop (read + n) text ≡ []
@@ -169,7 +169,7 @@ module _ (big : Bool) (text old part : List ℕ) (read at n w : ℕ) (before : S
         → ShowsWhole text_of_utf8 (char_bytes big) text next (read + n + len) last
     ShowsWhole-replacement next last room bytes = record {
       within = fault-within.1;
-      room = room;
+      fits = room;
       shown =
           let more = flat_map (char_bytes big) (text_of_utf8 (drop (read + n + len) text)) in
           ShowsWhole-text.shown

@@ -95,7 +95,7 @@ IsErrorLen-unique big rest (Some n) (Some m) h k = ap Some (h.0 ∙ sym k.0)
 pub IsIllFormed-computed : (big : Bool) (bytes : List ℕ) → ¬ (IsUtf16 big bytes) → IsIllFormed big bytes (ill_formed_len big bytes)
 unfolding ill_formed_len error_len_of
 IsIllFormed-computed big bytes refused = record {
-  refused = refused;
+  ill_formed = refused;
   valid_up_to = valid_len big bytes;
   front = IsUtf16ValidUpTo-valid_len big bytes;
   at_front = IsErrorLen-computed big (drop (valid_len big bytes) bytes);
@@ -104,7 +104,7 @@ IsIllFormed-computed big bytes refused = record {
 -- and the only one. No proof cites this: it relates the computed `fault` to its relation
 pub ill_formed_len-unique : (big : Bool) (bytes : List ℕ) (error_len : Option ℕ) → IsIllFormed big bytes error_len → error_len ≡ ill_formed_len big bytes
 ill_formed_len-unique big bytes error_len f =
-    let other = IsIllFormed-computed big bytes f.refused in
+    let other = IsIllFormed-computed big bytes f.ill_formed in
     let same : f.valid_up_to ≡ other.valid_up_to = IsUtf16ValidUpTo-unique big bytes f.valid_up_to other.valid_up_to f.front other.front in
     IsErrorLen-unique big (drop other.valid_up_to bytes) error_len (ill_formed_len big bytes)
     (subst (λ n. IsErrorLen big (drop n bytes) error_len) same f.at_front) other.at_front

@@ -73,7 +73,7 @@ no_more_after_two big bytes (x ∷ y ∷ after) n front at refused whole b =
     (cases_lt h.char 0x1_0000)
 
 pub two_never : (big : Bool) (bytes : List ℕ) → IsIllFormed big bytes (Some 2) → ¬ (IsUtf16Prefix big bytes)
-two_never big bytes f b = no_more_after_two big bytes (drop f.valid_up_to bytes) f.valid_up_to f.front refl f.refused f.at_front.1 b
+two_never big bytes f b = no_more_after_two big bytes (drop f.valid_up_to bytes) f.valid_up_to f.front refl f.ill_formed f.at_front.1 b
 
 -- ---- what continues bytes with an error of no length
 

@@ -87,4 +87,4 @@ module _ (big : Bool) (bytes : List ℕ) (at : ℕ) (error_len : Option ℕ) (wi
 
   -- an ill-formed sequence after well-formed bytes is at the end of the longest valid prefix
   pub faults : IsUtf16ValidUpTo big bytes at × IsIllFormed big bytes error_len
-  faults = (ends, record { refused = not_IsUtf16-front big bytes at ends within; valid_up_to = at; front = ends; at_front = here.1 })
+  faults = (ends, record { ill_formed = not_IsUtf16-front big bytes at ends within; valid_up_to = at; front = ends; at_front = here.1 })

@@ -128,7 +128,7 @@ module _ (big : Bool) (bytes : List ℕ) (n : ℕ) (error_len : Option ℕ) (fau
       (λ (some : n < length bytes).
       let long = length-drop n bytes in
       omega arith)
-      (λ (all : length bytes ≤ n). absurd (fault.refused (subst (IsUtf16 big) (take_all n bytes all) front.valid)))
+      (λ (all : length bytes ≤ n). absurd (fault.ill_formed (subst (IsUtf16 big) (take_all n bytes all) front.valid)))
       (cases_lt n (length bytes))
 
 module _ (big : Bool) (bytes : List ℕ) (n : ℕ) (fault : IsIllFormed big bytes None) (front : IsUtf16ValidUpTo big bytes n) where

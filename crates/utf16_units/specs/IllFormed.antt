@@ -26,7 +26,7 @@ IsErrorLen big rest (Some n) = (n ≡ 2) × ¬ (IsIncomplete big rest)
 
 -- the error of ill-formed bytes: what follows their longest valid prefix
 pub record IsIllFormed (big : Bool) (bytes : List ℕ) (error_len : Option ℕ) : Type 0 where
-  pub refused : ¬ (IsUtf16 big bytes)
+  pub ill_formed : ¬ (IsUtf16 big bytes)
   pub valid_up_to : ℕ
   pub front : IsUtf16ValidUpTo big bytes valid_up_to
   pub at_front : IsErrorLen big (drop valid_up_to bytes) error_len

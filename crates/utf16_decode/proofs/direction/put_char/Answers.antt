@@ -18,7 +18,7 @@ returns-in-Some-clause-wrote g c =
     let first = c.in-Ok.ensures.char in
     record {
       within = first.within;
-      room = c.in-Some.ensures.within;
+      fits = c.in-Some.ensures.within;
       added = _;
       gives = (first_text d.from d.into d.IsValid d.other c.laws.ensures.each_char c.args.rest.now c.in-Ok.len first, refl);
       bytes = c.in-Some.ensures.bytes;

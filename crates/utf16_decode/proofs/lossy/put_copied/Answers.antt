@@ -13,7 +13,7 @@ returns-clause-decodes g c =
     let text = Encodes-unique _ _ _ _ (Encodes-text_of _ _ c.write_well_formed-len.ensures.well_formed) c.write_well_formed-len.ensures.encoding in
     record {
       within = omega (arith, ends, length-take-le m raw (omega arith));
-      room = enough _ _ _ c.write_utf8.ensures.utf8 c.write_utf8.ensures.len;
+      fits = enough _ _ _ c.write_utf8.ensures.utf8 c.write_utf8.ensures.len;
       decodes = Decodes-decided _ raw _ m _ refl ends _ _ (c.write_utf8.ensures.utf8 ∙ ap encode_utf8_all text);
     }
 

@@ -12,7 +12,7 @@ pub returns-in-Err-clause-ok : goal.returns-in-Err-clause-ok
 returns-in-Err-clause-ok g c =
     let found = faults g.E.Utf16Order.BIG c.args.raw.now c.loop-valid_up_to.valid_up_to c.in-Err.error_len
     c.loop-valid_up_to-test.true c.loop-valid_up_to.invariant.1 c.in-Err.ensures.ill_formed in
-    (λ ok. cc, λ text. absurd (found.1.refused text))
+    (λ ok. cc, λ text. absurd (found.1.ill_formed text))
 
 pub returns-in-Err-clause-error : goal.returns-in-Err-clause-error
 returns-in-Err-clause-error g c =
