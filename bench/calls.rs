@@ -1,9 +1,11 @@
 //! Times the library's calls and those of other decoders on the texts of a folder: a line for each
-//! call, text, byte order and decoder, with GB/s of UTF-16, for short fields with nanoseconds per
+//! call, text, byte order and decoder, with GB/s of UTF-16, for short texts with nanoseconds per
 //! call. First all results are compared.
 mod plain;
+#[cfg(simdutf)]
+mod simdutf;
 
-use encoding_rs::{UTF_16BE, UTF_16LE, mem};
+use encoding_rs::{DecoderResult, Encoding, UTF_8, UTF_16BE, UTF_16LE, mem};
 use std::cell::RefCell;
 use std::ffi::CStr;
 use std::hint::black_box;
@@ -12,7 +14,7 @@ use std::time::Instant;
 const ROUNDS: usize = 15;
 const CLASSES: [&str; 4] = ["ascii", "latin_cyrillic", "cjk", "emoji"];
 
-// The last argument is a buffer, to which a text that the call makes is written where it fits.
+// The last argument is a buffer, long enough, to which a text that the call makes is written.
 type Call = fn(bool, &[u8], &mut [u8]) -> usize;
 
 // The results of `dethrux.h`.
@@ -49,70 +51,55 @@ unsafe extern "C" {
 
 thread_local!(static SWAPPED: RefCell<Vec<u16>> = const { RefCell::new(Vec::new()) });
 
+fn aligned(raw: &[u8]) -> &[u16] {
+    unsafe { raw.align_to().1 }
+}
+
 // The units, for decoders that read them in the machine's byte order alone: those in big endian are
 // swapped first.
 fn units<T>(big: bool, raw: &[u8], read: impl FnOnce(&[u16]) -> T) -> T {
-    let units = unsafe { raw.align_to::<u16>().1 };
     if !big {
-        return read(units);
+        return read(aligned(raw));
     }
     SWAPPED.with_borrow_mut(|swapped| {
         swapped.clear();
-        swapped.extend(units.iter().map(|unit| unit.swap_bytes()));
+        swapped.extend(aligned(raw).iter().map(|unit| unit.swap_bytes()));
         read(swapped)
     })
 }
 
-fn icu<T>(big: bool, raw: &[u8], call: impl FnOnce(*const u16, usize) -> T) -> T {
-    units(big, raw, |units| call(units.as_ptr(), units.len()))
-}
-
-// Makes a text in a buffer that is long enough: three bytes of UTF-8 per unit, one unit per byte of
-// UTF-8.
-fn made<T>(room: usize, make: impl FnOnce(*mut T, usize) -> usize) -> Vec<T> {
-    let mut made = Vec::with_capacity(room + 1);
-    let len = make(made.as_mut_ptr(), made.capacity());
-    unsafe { made.set_len(len) };
-    made
-}
-
-fn made_units(big: bool, text: &[u8], to: &mut [u8], make: impl FnOnce(*mut u16, usize) -> usize) -> usize {
-    let mut units = made(text.len(), make);
+// Makes units in the machine's byte order, for big endian swapped after it; returns how many bytes.
+fn made_units(big: bool, to: &mut [u8], make: impl FnOnce(&mut [u16]) -> usize) -> usize {
+    let units = unsafe { to.align_to_mut().1 };
+    let len = make(units);
     if big {
-        units.iter_mut().for_each(|unit| *unit = unit.swap_bytes());
+        units[..len].iter_mut().for_each(|unit| *unit = unit.swap_bytes());
     }
-    keep(unsafe { units.align_to().1 }, to)
+    2 * len
 }
 
-fn keep(made: &[u8], to: &mut [u8]) -> usize {
-    if made.len() <= to.len() {
-        to[..made.len()].copy_from_slice(made);
-    }
-    black_box(made).len()
-}
-
-fn by_iconv(from_name: &CStr, to_name: &CStr, from: &[u8], mut to: *mut u8, room: usize) -> usize {
-    let (mut at, mut left, mut free) = (from.as_ptr(), from.len(), room);
+fn by_iconv(from_name: &CStr, to_name: &CStr, from: &[u8], to: &mut [u8]) -> usize {
+    let (mut at, mut left, mut end, mut room) = (from.as_ptr(), from.len(), to.as_mut_ptr(), to.len());
     unsafe {
         let state = iconv_open(to_name.as_ptr(), from_name.as_ptr());
-        assert_eq!(iconv(state, &mut at, &mut left, &mut to, &mut free), 0);
+        assert_eq!(iconv(state, &mut at, &mut left, &mut end, &mut room), 0);
         iconv_close(state);
     }
-    room - free
+    to.len() - room
 }
 
 fn name(big: bool) -> &'static CStr {
     if big { c"UTF-16BE" } else { c"UTF-16LE" }
 }
 
-macro_rules! plain {
-    ($call:ident, $big:expr, $of:expr) => {
-        if $big { plain::$call::<true>($of) } else { plain::$call::<false>($of) }
-    };
+fn encoding(big: bool) -> &'static Encoding {
+    if big { UTF_16BE } else { UTF_16LE }
 }
 
-fn str_of(text: &[u8]) -> &str {
-    unsafe { std::str::from_utf8_unchecked(text) }
+macro_rules! plain {
+    ($call:ident, $big:expr, $($of:expr),+) => {
+        if $big { plain::$call::<true>($($of),+) } else { plain::$call::<false>($($of),+) }
+    };
 }
 
 // As long as the result says: done or at an ill-formed sequence of two bytes, or the bytes end
@@ -120,6 +107,12 @@ fn str_of(text: &[u8]) -> &str {
 fn valid_up_to(answer: Validity) -> usize {
     assert_eq!(answer.error_len, if answer.status == 1 { 2 } else { 0 });
     answer.valid_up_to
+}
+
+// The decoder read all of its input.
+fn decoded((answer, read, written): (DecoderResult, usize, usize), len: usize) -> usize {
+    assert!(answer == DecoderResult::InputEmpty && read == len);
+    written
 }
 
 // All of the input was read, and none of it is ill formed.
@@ -138,20 +131,28 @@ fn icu_units(units: &[u16]) -> usize {
 
 // `unit loop` is the library's own loop over units, which follows the blocks; `plain loop` has the
 // Rust crate's structure.
-const VALIDATE: [(&str, Call); 5] = [
+const VALIDATE: &[(&str, Call)] = &[
     ("here", |big, raw, _| here_valid_up_to(big, raw)),
     ("unit loop", |big, raw, _| valid_up_to(unsafe { loop_validate(big.into(), raw.as_ptr(), raw.len()) })),
     ("plain loop", |big, raw, _| plain!(valid_up_to, big, raw)),
     ("encoding_rs mem", |big, raw, _| 2 * units(big, raw, mem::utf16_valid_up_to)),
     ("ICU", |big, raw, _| 2 * units(big, raw, icu_units)),
+    #[cfg(simdutf)]
+    ("simdutf westmere", |big, raw, _| 2 * simdutf::westmere::valid_up_to(big, aligned(raw))),
+    #[cfg(simdutf)]
+    ("simdutf haswell", |big, raw, _| 2 * simdutf::haswell::valid_up_to(big, aligned(raw))),
 ];
 
 // The number of ill-formed sequences in random bytes, each found after the one before.
-const FAULTS: [(&str, Call); 4] = [
+const FAULTS: &[(&str, Call)] = &[
     ("here", |big, raw, _| faults(raw, 2, |rest| here_valid_up_to(big, rest))),
     ("plain loop", |big, raw, _| faults(raw, 2, |rest| plain!(valid_up_to, big, rest))),
     ("encoding_rs mem", |big, raw, _| units(big, raw, |units| faults(units, 1, mem::utf16_valid_up_to))),
     ("ICU", |big, raw, _| units(big, raw, |units| faults(units, 1, icu_units))),
+    #[cfg(simdutf)]
+    ("simdutf westmere", |big, raw, _| faults(aligned(raw), 1, |rest| simdutf::westmere::valid_up_to(big, rest))),
+    #[cfg(simdutf)]
+    ("simdutf haswell", |big, raw, _| faults(aligned(raw), 1, |rest| simdutf::haswell::valid_up_to(big, rest))),
 ];
 
 fn faults<T>(mut rest: &[T], unit: usize, valid_up_to: impl Fn(&[T]) -> usize) -> usize {
@@ -165,55 +166,73 @@ fn faults<T>(mut rest: &[T], unit: usize, valid_up_to: impl Fn(&[T]) -> usize) -
     }
 }
 
-const COUNT: [(&str, Call); 3] = [
+const COUNT: &[(&str, Call)] = &[
     ("here", |big, raw, _| unsafe { dethrux_count_chars(big.into(), raw.as_ptr(), raw.len()) }),
     ("plain loop", |big, raw, _| plain!(count, big, raw)),
-    ("ICU", |big, raw, _| icu(big, raw, |at, len| unsafe { icu_count(at, len) })),
+    ("ICU", |big, raw, _| units(big, raw, |units| unsafe { icu_count(units.as_ptr(), units.len()) })),
+    #[cfg(simdutf)]
+    ("simdutf westmere", |big, raw, _| simdutf::westmere::count(big, aligned(raw))),
+    #[cfg(simdutf)]
+    ("simdutf haswell", |big, raw, _| simdutf::haswell::count(big, aligned(raw))),
 ];
 
 // A read of all bytes, as a measure of the memory's speed.
-const READ: [(&str, Call); 1] =
-    [("plain loop", |_, raw, _| unsafe { raw.align_to::<u64>().1 }.iter().fold(0, |all, word| all ^ word) as usize)];
+const READ: &[(&str, Call)] =
+    &[("plain loop", |_, raw, _| unsafe { raw.align_to::<u64>().1 }.iter().fold(0, |all, word| all ^ word).min(1) as usize)];
 
-const IS_ASCII: [(&str, Call); 3] = [
+const IS_ASCII: &[(&str, Call)] = &[
     ("here", |big, raw, _| unsafe { dethrux_is_ascii(big.into(), raw.as_ptr(), raw.len()) }.into()),
     ("plain loop", |big, raw, _| plain!(is_ascii, big, raw).into()),
     ("encoding_rs mem", |big, raw, _| units(big, raw, mem::is_basic_latin).into()),
 ];
 
 // Of `encoding_rs` the decoder of bytes, and the call on units in the byte order of the machine.
-const TO_UTF8: [(&str, Call); 6] = [
+const TO_UTF8: &[(&str, Call)] = &[
     ("here", |big, raw, to| {
-        let write = |at, room| done(unsafe { dethrux_to_utf8(big.into(), raw.as_ptr(), raw.len(), at, room) }, raw.len());
-        keep(&made(raw.len() / 2 * 3, write), to)
+        done(unsafe { dethrux_to_utf8(big.into(), raw.as_ptr(), raw.len(), to.as_mut_ptr(), to.len()) }, raw.len())
     }),
-    ("plain loop", |big, raw, to| keep(plain!(to_utf8, big, raw).as_bytes(), to)),
-    ("encoding_rs", |big, raw, to| keep(if big { UTF_16BE } else { UTF_16LE }.decode_without_bom_handling(raw).0.as_bytes(), to)),
-    ("encoding_rs mem", |big, raw, to| {
-        let convert = |units: &[u16], at, room| mem::convert_utf16_to_utf8(units, unsafe { std::slice::from_raw_parts_mut(at, room) });
-        keep(&units(big, raw, |units| made(3 * units.len(), |at, room| convert(units, at, room))), to)
+    ("plain loop", |big, raw, to| plain!(to_utf8, big, raw, to)),
+    ("encoding_rs", |big, raw, to| {
+        let mut decoder = encoding(big).new_decoder_without_bom_handling();
+        decoded(decoder.decode_to_utf8_without_replacement(raw, to, true), raw.len())
     }),
-    ("ICU", |big, raw, to| keep(&icu(big, raw, |of, len| made(3 * len, |at, room| unsafe { icu_to_utf8(of, len, at, room) })), to)),
-    ("iconv", |big, raw, to| keep(&made(raw.len() / 2 * 3, |at, room| by_iconv(name(big), c"UTF-8", raw, at, room)), to)),
+    ("encoding_rs mem", |big, raw, to| units(big, raw, |units| mem::convert_utf16_to_utf8(units, to))),
+    ("ICU", |big, raw, to| {
+        units(big, raw, |units| unsafe { icu_to_utf8(units.as_ptr(), units.len(), to.as_mut_ptr(), to.len()) })
+    }),
+    ("iconv", |big, raw, to| by_iconv(name(big), c"UTF-8", raw, to)),
+    #[cfg(simdutf)]
+    ("simdutf westmere", |big, raw, to| simdutf::westmere::to_utf8(big, aligned(raw), to)),
+    #[cfg(simdutf)]
+    ("simdutf haswell", |big, raw, to| simdutf::haswell::to_utf8(big, aligned(raw), to)),
 ];
 
-const FROM_STR: [(&str, Call); 5] = [
+const FROM_UTF8: &[(&str, Call)] = &[
     ("here", |big, text, to| {
-        let write = |at, room| done(unsafe { dethrux_from_utf8(big.into(), text.as_ptr(), text.len(), at, room) }, text.len());
-        keep(&made(2 * text.len(), write), to)
+        done(unsafe { dethrux_from_utf8(big.into(), text.as_ptr(), text.len(), to.as_mut_ptr(), to.len()) }, text.len())
     }),
-    ("plain loop", |big, text, to| keep(&plain!(from_str, big, str_of(text)), to)),
+    ("plain loop", |big, text, to| plain!(from_utf8, big, text, to)),
+    ("encoding_rs", |big, text, to| {
+        let mut decoder = UTF_8.new_decoder_without_bom_handling();
+        made_units(big, to, |to| decoded(decoder.decode_to_utf16_without_replacement(text, to, true), text.len()))
+    }),
     ("encoding_rs mem", |big, text, to| {
-        let room = |at, room| unsafe { std::slice::from_raw_parts_mut(at, room) };
-        made_units(big, text, to, |at, len| mem::convert_str_to_utf16(str_of(text), room(at, len)))
+        let text = unsafe { std::str::from_utf8_unchecked(text) };
+        made_units(big, to, |to| mem::convert_str_to_utf16(text, to))
     }),
-    ("ICU", |big, text, to| made_units(big, text, to, |at, room| unsafe { icu_from_utf8(text.as_ptr(), text.len(), at, room) })),
-    ("iconv", |big, text, to| keep(&made(2 * text.len(), |at, room| by_iconv(c"UTF-8", name(big), text, at, room)), to)),
+    ("ICU", |big, text, to| {
+        made_units(big, to, |to| unsafe { icu_from_utf8(text.as_ptr(), text.len(), to.as_mut_ptr(), to.len()) })
+    }),
+    ("iconv", |big, text, to| by_iconv(c"UTF-8", name(big), text, to)),
+    #[cfg(simdutf)]
+    ("simdutf westmere", |big, text, to| 2 * simdutf::westmere::from_utf8(big, text, to)),
+    #[cfg(simdutf)]
+    ("simdutf haswell", |big, text, to| 2 * simdutf::haswell::from_utf8(big, text, to)),
 ];
 
 struct Case {
     name: String,
-    run: Box<dyn Fn() -> usize>,
+    run: Box<dyn FnMut() -> usize>,
     // What one run counts for: billions of bytes of UTF-16, or calls.
     size: f64,
     times: usize,
@@ -222,57 +241,79 @@ struct Case {
 
 impl Case {
     // The seconds of one run.
-    fn time(&self) -> f64 {
+    fn time(&mut self) -> f64 {
         let start = Instant::now();
         (0..self.times).for_each(|_| _ = black_box((self.run)()));
         start.elapsed().as_secs_f64() / self.times as f64
     }
 }
 
-// A case for each decoder; their results and the texts that they make are equal. Each field of some
-// bytes is one call.
+// A case for each decoder that this machine can run; their results and the texts that they make are
+// equal. Each field of some bytes is one call.
 fn cases(call: &str, text: &str, big: bool, raw: &'static [u8], size: f64, field: usize, decoders: &[(&str, Call)]) -> Vec<Case> {
     let mut wanted = None;
     let case = |(decoder, f): &(&str, Call)| {
         let name = format!("{call}\t{text}\t{}\t{decoder}", if big { "be" } else { "le" });
-        let (f, mut made) = (*f, vec![0; 4 * raw.len()]);
-        let run = move || black_box(raw).chunks_exact(field).map(|field| f(big, field, &mut [])).sum();
-        let answer: (usize, usize, Vec<u8>) = (run(), f(big, raw, &mut made), made);
+        let (f, mut to, mut answer) = (*f, vec![0; 4 * field + 64], Vec::new());
+        for field in raw.chunks_exact(field) {
+            let len = f(big, field, &mut to);
+            answer.push((len, to[..len].to_vec()));
+        }
         assert!(*wanted.get_or_insert_with(|| answer.clone()) == answer, "{name}: not the answer of {}", decoders[0].0);
+        let run = move || black_box(raw).chunks_exact(field).map(|field| f(big, field, &mut to)).sum();
         Case { name, run: Box::new(run), size, times: 1, best: f64::MAX }
     };
-    decoders.iter().map(case).collect()
+    decoders.iter().filter(|(decoder, _)| *decoder != "simdutf haswell" || is_x86_feature_detected!("avx2")).map(case).collect()
 }
 
 fn main() {
+    #[cfg(simdutf)]
+    simdutf::choose();
     let folder = std::env::args().nth(1).unwrap();
+    // Those that make a state for each call, which takes longer than a short text, are left out.
+    let stateless = |all: &[(&'static str, Call)]| -> Vec<_> {
+        all.iter().filter(|(decoder, _)| !["encoding_rs", "iconv"].contains(decoder)).copied().collect()
+    };
     let mut all = Vec::new();
     for big in [false, true] {
         let read = |class: &str| std::fs::read(format!("{folder}/{class}.{}.small", if big { "be" } else { "le" })).unwrap().leak();
         for class in CLASSES {
             let raw = read(class);
-            let utf8 = plain!(to_utf8, big, raw).leak().as_bytes();
+            let utf8 = |raw: &[u8]| -> &'static [u8] {
+                let utf8 = vec![0; 3 * raw.len()].leak();
+                let len = plain!(to_utf8, big, raw, &mut *utf8);
+                &utf8[..len]
+            };
             let mut add = |call, of: &'static [u8], decoders: &[(&str, Call)]| {
                 all.extend(cases(call, class, big, of, raw.len() as f64 / 1e9, of.len(), decoders));
             };
-            add("validate", raw, &VALIDATE);
-            add("count", raw, &COUNT);
-            add("to_utf8", raw, &TO_UTF8);
-            add("from_str", utf8, &FROM_STR);
+            let of = utf8(raw);
+            add("validate", raw, VALIDATE);
+            add("count", raw, COUNT);
+            add("to_utf8", raw, TO_UTF8);
+            add("from_utf8", of, FROM_UTF8);
             if class == "ascii" {
-                add("is_ascii", raw, &IS_ASCII);
-                add("read", raw, &READ);
+                add("is_ascii", raw, IS_ASCII);
+                add("read", raw, READ);
             } else {
                 // Compared alone: the first character decides it.
-                cases("is_ascii", class, big, raw, 1.0, raw.len(), &IS_ASCII);
+                cases("is_ascii", class, big, raw, 1.0, raw.len(), IS_ASCII);
+            }
+            // Short texts, of classes whose characters all have one length.
+            let sizes: &[usize] = if ["ascii", "cjk"].contains(&class) { &[2, 4, 8, 16, 24, 32, 40, 62, 64] } else { &[] };
+            for size in sizes {
+                let (text, raw) = (format!("{class}, {size} bytes"), &raw[..16384]);
+                let (of, count) = (utf8(raw), (raw.len() / size) as f64);
+                let mut add = |call, of: &'static [u8], decoders: &[(&str, Call)]| {
+                    all.extend(cases(call, &text, big, of, count, size * of.len() / raw.len(), decoders));
+                };
+                add("short validate", raw, VALIDATE);
+                add("short to_utf8", raw, &stateless(TO_UTF8));
+                add("short from_utf8", of, &stateless(FROM_UTF8));
             }
         }
         let random = read("random");
-        all.extend(cases("validate", "random", big, random, random.len() as f64 / 1e9, random.len(), &FAULTS));
-        for field in [2, 4, 8, 16, 24, 40, 62] {
-            let count = (16384 / field) as f64;
-            all.extend(cases("short", &format!("{field} bytes"), big, &read("ascii")[..16384], count, field, &VALIDATE));
-        }
+        all.extend(cases("validate", "random", big, random, random.len() as f64 / 1e9, random.len(), FAULTS));
     }
     for case in &mut all {
         case.times = (2e-3 / case.time()).ceil() as usize;

@@ -12,11 +12,13 @@ unsafe extern "C" {
     fn wait4(process: i32, status: &mut i32, options: i32, used: &mut [i64; 18]) -> i32;
 }
 
-// Runs a program from one stream to another; returns the seconds, and the peak of memory where it
-// succeeds.
+// Runs a program, a variable of its environment before it or none, from one stream to another;
+// returns the seconds, and the peak of memory where it succeeds.
 fn run(words: &str, from: Stdio, to: Stdio) -> (f64, Option<i64>) {
-    let mut words = words.split(' ');
+    let mut words = words.split(' ').peekable();
+    let variable = words.next_if(|word| word.contains('='));
     let mut command = Command::new(words.next().unwrap());
+    command.envs(variable.and_then(|it| it.split_once('=')));
     command.args(words).stdin(from).stdout(to).stderr(Stdio::null());
     let (mut status, mut used, start) = (0, [0; 18], Instant::now());
     let process = command.spawn().unwrap();
@@ -35,17 +37,26 @@ fn main() {
         println!("memory\t{class}\tle\there\t{}", memory.map_or("refused".into(), |kib| format!("{:.1}", kib as f64 / 1024.0)));
     }
     let mut cases = Vec::new();
+    // The kernels of simdutf that this machine can run, where `run.sh` has built the program.
+    let kernels: &[(&str, &str)] = match std::fs::exists(format!("{folder}/simdutf_cat")).unwrap() {
+        true if is_x86_feature_detected!("avx2") => &[("simdutf westmere", "westmere"), ("simdutf haswell", "haswell")],
+        true => &[("simdutf westmere", "westmere")],
+        false => &[],
+    };
     for order in ["le", "be"] {
         for class in ["ascii", "latin_cyrillic", "cjk", "emoji", "random"] {
             let file = format!("{folder}/{class}.{order}");
             let name = format!("UTF-16{}", order.to_uppercase());
-            let programs = [
+            let mut programs = vec![
                 ("encoding_rs", format!("{folder}/cat {order}")),
                 ("here", format!("{here} {order}")),
                 ("uconv", format!("uconv -f {name} -t UTF-8 --from-callback substitute")),
                 ("iconv", format!("iconv -c -f {name} -t UTF-8")),
                 ("copy", format!("{folder}/cat copy")),
             ];
+            for &(name, kernel) in kernels {
+                programs.push((name, format!("SIMDUTF_FORCE_IMPLEMENTATION={kernel} {folder}/simdutf_cat {order}")));
+            }
             for (program, words) in programs {
                 let made = format!("{folder}/{program}.made");
                 let (_, ended) = run(&words, File::open(&file).unwrap().into(), File::create(&made).unwrap().into());

@@ -1,28 +1,64 @@
 # Makes tables in Markdown of lines of call, text, byte order, decoder and value, and of those in
 # little endian a chart in the file `chart`. A value is followed by how many times as fast `here`
-# is.
+# is. The first table has the rows where another is faster.
 BEGIN { FS = "\t" }
 
 { value[$1, $2, $3, $4] = $5; known[$1, $2, $3] = 1 }
 $1 == "memory" { memory = memory "\n| " $2 " | " $5 " |" }
 $1 == "differs" { differs = differs $2 ", " $3 ": " $4 " writes another text than encoding_rs.\n\n" }
 
-function cell(call, text, order, decoder,    other, own) {
-    if (!((call, text, order, decoder) in value)) return "–"
+# How many times as fast `here` is; short texts have times, the others rates.
+function factor(call, text, order, decoder,    other, own) {
     other = value[call, text, order, decoder]
     own = value[call, text, order, "here"]
-    if (decoder == "here" || own == "") return sprintf("%.2f", other)
-    return sprintf("%.2f (%.2f)", other, call == "short" ? other / own : own / other)
+    return sprintf("%.2f", call ~ /^short / ? other / own : own / other)
+}
+
+function cell(call, text, order, decoder) {
+    if (!((call, text, order, decoder) in value)) return "–"
+    if (decoder == "here" || !((call, text, order, "here") in value)) return sprintf("%.2f", value[call, text, order, decoder])
+    return sprintf("%.2f (%s)", value[call, text, order, decoder], factor(call, text, order, decoder))
+}
+
+# The rows of a table, in `call`, `text` and `order`, and its decoders that were measured.
+function rows_of(calls, texts, list,    all, d, last) {
+    split(calls, call, ","); split(texts, text, ";"); split("le,be", order, ",")
+    split(list, all, ","); split("", decoders)
+    for (d = 1; d in all; d++) if (is_measured(all[d])) decoders[++last] = all[d]
+}
+
+function is_measured(decoder,    c, t, o) {
+    for (c = 1; c in call; c++) for (t = 1; t in text; t++) for (o = 1; o in order; o++)
+        if ((call[c], text[t], order[o], decoder) in value) return 1
+    return 0
+}
+
+# Adds to `behind` the rows where another is faster. A copy decodes nothing, and the unit loop is
+# the library's own.
+function compare(calls, texts, list,    c, t, o, d, others, times) {
+    rows_of(calls, texts, list)
+    for (c = 1; c in call; c++) for (t = 1; t in text; t++) for (o = 1; o in order; o++) {
+        if (!((call[c], text[t], order[o], "here") in value)) continue
+        compared++
+        others = ""
+        for (d = 1; d in decoders; d++) {
+            if (decoders[d] == "copy" || decoders[d] == "unit loop" || !((call[c], text[t], order[o], decoders[d]) in value)) continue
+            times = factor(call[c], text[t], order[o], decoders[d])
+            if (times + 0 < 1) others = others ", " decoders[d] " (" times ")"
+        }
+        if (others == "") continue
+        slower++
+        behind = behind "| `" call[c] "` | " text[t] " | " order[o] " | " substr(others, 3) " |\n"
+    }
 }
 
 function table(calls, texts, list,    c, t, o, d, row) {
-    d = split(list, decoders, ",")
+    rows_of(calls, texts, list)
     row = "| Call | Text | Order |"
     for (d = 1; d in decoders; d++) row = row " " decoders[d] " |"
     print row
     gsub(/[^|]+/, "---", row)
     print row
-    split(calls, call, ","); split(texts, text, ","); split("le,be", order, ",")
     for (c = 1; c in call; c++) for (t = 1; t in text; t++) for (o = 1; o in order; o++) {
         if (!((call[c], text[t], order[o]) in known)) continue
         row = "| `" call[c] "` | " text[t] " | " order[o] " |"
@@ -32,46 +68,71 @@ function table(calls, texts, list,    c, t, o, d, row) {
     print ""
 }
 
-# The bars of a call from y on; returns where the next call may begin.
-function panel(call, x, y,    t, d, most, width) {
+# What a bar of the chart shows: where a decoder has no such call, its other one.
+function bar(call, text, decoder) {
+    if ((call, text, "le", decoder) in value) return value[call, text, "le", decoder] + 0
+    if (decoder == "encoding_rs") return value[call, text, "le", "encoding_rs mem"] + 0
+    if (decoder == "ICU") return value[call, text, "le", "uconv"] + 0
+    return 0
+}
+
+# Adds to `drawn` the bars of a call, a group for each text; the chart is as high as the highest.
+function panel(call, x,    t, d, y, most, width) {
     for (t = 1; t in text; t++) for (d = 1; d in decoders; d++)
-        if (value[call, text[t], "le", decoders[d]] + 0 > most) most = value[call, text[t], "le", decoders[d]]
-    printf "<text x='%d' y='%d' class='h'>%s</text>\n", x, y, call > chart
+        if (bar(call, text[t], decoders[d]) > most) most = bar(call, text[t], decoders[d])
+    drawn = drawn sprintf("<text x='%d' y='50' class='h'>%s</text>\n", x, call)
+    y = 50
     for (t = 1; t in text; t++) {
         if (!((call, text[t], "le") in known)) continue
-        printf "<text x='%d' y='%d'>%s</text>\n", x, y + 16, text[t] > chart
+        drawn = drawn sprintf("<text x='%d' y='%d'>%s</text>\n", x, y + 16, text[t])
         for (d = 1; d in decoders; d++) {
-            if (value[call, text[t], "le", decoders[d]] == "") continue
-            width = 180 * value[call, text[t], "le", decoders[d]] / most
-            printf "<rect x='%d' y='%d' width='%.1f' height='8' fill='%s'/>", x + 75, y + 9, width, colour[d] > chart
-            printf "<text x='%.1f' y='%d'>%.2f</text>\n", x + 78 + width, y + 16, value[call, text[t], "le", decoders[d]] > chart
+            if (!bar(call, text[t], decoders[d])) continue
+            width = 125 * bar(call, text[t], decoders[d]) / most
+            drawn = drawn sprintf("<rect x='%d' y='%d' width='%.1f' height='8' fill='%s'/>", x + 65, y + 9, width, colour[decoders[d]])
+            drawn = drawn sprintf("<text x='%.1f' y='%d'>%.2f</text>\n", x + 68 + width, y + 16, bar(call, text[t], decoders[d]))
             y += 9
         }
-        y += 6
+        y += 8
     }
-    return y + 30
+    if (y > height) height = y
+}
+
+function chart_of(calls, texts, list,    c, d, x, name, names) {
+    rows_of(calls, texts, list)
+    colour["here"] = "#c0392b"; colour["simdutf haswell"] = "#6c3483"; colour["simdutf westmere"] = "#bb8fce"
+    colour["encoding_rs"] = "#2d5f9a"; colour["ICU"] = "#3c8d4f"; colour["iconv"] = "#c9a227"
+    names["simdutf haswell"] = "simdutf, 256 bits"; names["simdutf westmere"] = "simdutf, 128 bits"
+    x = 240
+    for (d = 1; d in decoders; d++) {
+        name = decoders[d] in names ? names[decoders[d]] : decoders[d]
+        drawn = drawn sprintf("<rect x='%d' y='11' width='9' height='9' fill='%s'/>", x, colour[decoders[d]])
+        drawn = drawn sprintf("<text x='%d' y='19' font-size='10'>%s</text>\n", x + 13, name)
+        x += 30 + 6 * length(name)
+    }
+    for (c = 1; c in call; c++) panel(call[c], 240 * c - 230)
+    printf "<svg xmlns='http://www.w3.org/2000/svg' viewBox='0 0 960 %d' font-family='sans-serif' font-size='8'>\n", height + 10 > chart
+    printf "<style>.h{font-size:12px;font-weight:bold}</style><rect width='960' height='%d' fill='#fff'/>\n", height + 10 > chart
+    print "<text x='10' y='20' class='h'>GB/s of UTF-16, little endian</text>" > chart
+    printf "%s</svg>\n", drawn > chart
 }
 
 END {
-    classes = "ascii,latin_cyrillic,cjk,emoji,random"
-    table("validate,count,is_ascii,read,to_utf8,from_str", classes, "here,unit loop,plain loop,encoding_rs,encoding_rs mem,ICU,iconv")
-    table("utf16_cat", classes, "here,encoding_rs,iconv,uconv,copy")
-    table("short", "2 bytes,4 bytes,8 bytes,16 bytes,24 bytes,40 bytes,62 bytes", "here,unit loop,plain loop,encoding_rs mem,ICU")
+    classes = "ascii;latin_cyrillic;cjk;emoji;random"
+    split("ascii,cjk", class, ","); split("2,4,8,16,24,32,40,62,64", size, ",")
+    for (c = 1; c in class; c++) for (s = 1; s in size; s++) short = short (short == "" ? "" : ";") class[c] ", " size[s] " bytes"
+    calls = "validate,count,is_ascii,read,to_utf8,from_utf8"
+    by_call = "here,unit loop,plain loop,encoding_rs,encoding_rs mem,ICU,iconv,simdutf westmere,simdutf haswell"
+    by_program = "here,encoding_rs,iconv,uconv,simdutf westmere,simdutf haswell,copy"
+    short_calls = "short validate,short to_utf8,short from_utf8"
+    compare(calls, classes, by_call)
+    compare("utf16_cat", classes, by_program)
+    compare(short_calls, short, by_call)
+    printf "Another is faster in %d of %d rows; how many times as fast *here* is, in brackets:\n\n", slower, compared
+    print "| Call | Text | Order | Faster |\n|---|---|---|---|"
+    print behind
+    table(calls, classes, by_call)
+    table("utf16_cat", classes, by_program)
+    table(short_calls, short, by_call)
     print differs "| From a pipe | Peak, MiB |\n|---|---|" memory
-    split(classes, text, ",")
-    split("here,unit loop,plain loop,encoding_rs,encoding_rs mem,ICU,iconv,uconv,copy", decoders, ",")
-    split("#c0392b,#e59866,#888,#2d5f9a,#7fa8d9,#3c8d4f,#c9a227,#8e6fb0,#ccc", colour, ",")
-    print "<svg xmlns='http://www.w3.org/2000/svg' viewBox='0 0 960 545' font-family='sans-serif' font-size='8'>" > chart
-    print "<style>.h{font-size:12px;font-weight:bold}</style><rect width='960' height='545' fill='#fff'/>" > chart
-    print "<text x='10' y='20' class='h'>GB/s of UTF-16, little endian</text>" > chart
-    x = 240
-    for (d = 1; d in decoders; d++) {
-        printf "<rect x='%d' y='11' width='9' height='9' fill='%s'/>", x, colour[d] > chart
-        printf "<text x='%d' y='19' font-size='10'>%s</text>\n", x + 13, decoders[d] > chart
-        x += 30 + 6 * length(decoders[d])
-    }
-    panel("is_ascii", 10, panel("count", 10, panel("validate", 10, 50)))
-    panel("from_str", 335, panel("to_utf8", 335, 50))
-    panel("utf16_cat", 660, 50)
-    print "</svg>" > chart
+    chart_of("validate,to_utf8,from_utf8,utf16_cat", classes, "here,simdutf haswell,simdutf westmere,encoding_rs,ICU,iconv")
 }

@@ -1,7 +1,9 @@
 #!/bin/sh
 # Builds what is compared, makes the texts, runs all of it, and leaves in bench/out the tables
-# (table.md) and the chart (chart.svg).
+# (table.md) and the chart (chart.svg). Where SIMDUTF names a folder with simdutf.cpp and simdutf.h,
+# simdutf's kernels are compared too: westmere and, where the machine has AVX2, haswell.
 set -eu
+[ -z "${SIMDUTF:-}" ] || SIMDUTF=$(cd "$SIMDUTF" && pwd)
 cd "$(dirname "$0")"
 missing=0
 need() { # what has to succeed, and what is missing where it does not
@@ -18,6 +20,10 @@ need 'echo "#include <unicode/ustring.h>" | gcc -E -' "ICU's headers (Debian: li
 registry=/usr/share/cargo/registry
 need "ls $registry/encoding_rs-*/src/lib.rs" 'the Rust crate encoding_rs (Debian: librust-encoding-rs-dev)'
 need "ls $registry/cfg-if-*/src/lib.rs" 'the Rust crate cfg-if (Debian: librust-cfg-if-dev)'
+if [ -n "${SIMDUTF:-}" ]; then
+    need '[ -f "$SIMDUTF/simdutf.cpp" ] && [ -f "$SIMDUTF/simdutf.h" ]' "simdutf's single-file sources in $SIMDUTF"
+    need 'command -v g++' 'g++ (Debian: g++)'
+fi
 [ "$missing" = 0 ] || exit 1
 
 kit=$(dirname "$(rt doc)")
@@ -37,24 +43,36 @@ objcopy --redefine-sym dethrux_validate=loop_validate --keep-global-symbol=loop_
 # speed of a loop where one does.
 level=x86-64-v2
 rust() {
-    rustc -C opt-level=3 -C target-cpu=$level -C llvm-args=-x86-branches-within-32B-boundaries --out-dir out -L out "$@"
+    rustc --check-cfg 'cfg(simdutf)' -C opt-level=3 -C target-cpu=$level -C llvm-args=-x86-branches-within-32B-boundaries --out-dir out -L out "$@"
 }
 crate() { rust --edition 2018 --crate-type rlib --cap-lints allow --crate-name "$@"; }
 crate cfg_if $registry/cfg-if-*/src/lib.rs
 crate encoding_rs $registry/encoding_rs-*/src/lib.rs --cfg 'feature="alloc"' --extern cfg_if=out/libcfg_if.rlib
 gcc -O3 -march=$level -Wa,-mbranches-within-32B-boundaries -c icu.c -o out/icu.o
+# Each object has all of simdutf. It takes its kernel at its first call, by an environment variable.
+rm -f out/simdutf*
+simdutf=''
+if [ -n "${SIMDUTF:-}" ]; then
+    cxx() { g++ -O3 -march=$level -Wa,-mbranches-within-32B-boundaries -I "$SIMDUTF" "$@"; }
+    for kernel in westmere haswell; do
+        cxx -Dsimdutf=simdutf_$kernel -DKERNEL=$kernel -c simdutf_calls.cc -o out/simdutf_$kernel.o
+        simdutf="$simdutf out/simdutf_$kernel.o"
+    done
+    cxx -static simdutf_cat.cc "$SIMDUTF/simdutf.cpp" -o out/simdutf_cat
+    simdutf="$simdutf -lstdc++"
+fi
 rust --edition 2024 texts.rs
 rust --edition 2024 programs.rs
 rust --edition 2024 cat.rs --extern encoding_rs=out/libencoding_rs.rlib
-rust --edition 2024 calls.rs --extern encoding_rs=out/libencoding_rs.rlib -l icuuc \
-    -C link-args="out/icu.o ../crates/dethrux/out/libdethrux.a out/libdethrux_loop.a $kit/c/liblibc_c.a"
+rust --edition 2024 calls.rs ${simdutf:+--cfg simdutf} --extern encoding_rs=out/libencoding_rs.rlib -l icuuc \
+    -C link-args="out/icu.o $simdutf ../crates/dethrux/out/libdethrux.a out/libdethrux_loop.a $kit/c/liblibc_c.a"
 
 for order in le be; do
     for class in ascii latin_cyrillic cjk emoji random; do
         size=67108864
         [ $class != random ] || size=16777216
         out/texts $class $order $size > out/$class.$order
-        out/texts $class $order 1048576 > out/$class.$order.small
+        out/texts $class $order 65536 > out/$class.$order.small
     done
 done
 out/calls out > out/lines.tsv

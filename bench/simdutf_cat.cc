@@ -1,0 +1,60 @@
+// What `utf16_cat` is compared with: `simdutf_cat le` and `simdutf_cat be` decode standard input by
+// simdutf in chunks of 4 KiB, with U+FFFD for each ill-formed sequence, and write the text of each
+// chunk. The status is 1 where a read or a write fails.
+#include <cstring>
+#include <unistd.h>
+#include "simdutf.h"
+
+static const size_t PIECE = 4096;
+
+// The bytes of the input that are not decoded yet, from the start on, and the text of a chunk.
+static char16_t input[PIECE / 2 + 2];
+static char text[3 * (PIECE / 2 + 2)];
+
+static bool is_leading(char16_t unit, bool big) {
+    return ((big ? unit << 8 | unit >> 8 : unit) & 0xFC00) == 0xD800;
+}
+
+static size_t replacement(char *to) {
+    memcpy(to, "\xEF\xBF\xBD", 3);
+    return 3;
+}
+
+static bool write_all(size_t len) {
+    for (size_t at = 0; at < len;) {
+        ssize_t written = write(1, text + at, len - at);
+        if (written <= 0) return false;
+        at += written;
+    }
+    return true;
+}
+
+int main(int count, char **words) {
+    bool big = count == 2 && strcmp(words[1], "be") == 0;
+    for (size_t kept = 0;;) {
+        ssize_t read_len = read(0, (char *)input + kept, PIECE);
+        if (read_len < 0) return 1;
+        // At the end of the input no more than one character is left, and it is not complete.
+        if (read_len == 0) return !write_all(kept ? replacement(text) : 0);
+        size_t bytes = kept + read_len, units = bytes / 2, at = 0, written = 0;
+        while (at < units) {
+            const char16_t *from = input + at;
+            simdutf::result answer = big ? simdutf::convert_utf16be_to_utf8_with_errors(from, units - at, text + written)
+                                         : simdutf::convert_utf16le_to_utf8_with_errors(from, units - at, text + written);
+            if (!answer.error) {
+                at = units, written += answer.count;
+                break;
+            }
+            // The text before the unpaired surrogate, whose length is not given, and a replacement.
+            written += big ? simdutf::convert_valid_utf16be_to_utf8(from, answer.count, text + written)
+                           : simdutf::convert_valid_utf16le_to_utf8(from, answer.count, text + written);
+            at += answer.count;
+            if (at + 1 == units && is_leading(input[at], big)) break;
+            written += replacement(text + written);
+            at += 1;
+        }
+        if (!write_all(written)) return 1;
+        kept = bytes - 2 * at;
+        memmove(input, input + at, kept);
+    }
+}
