@@ -1,10 +1,10 @@
-//! Assertions that the tests of this crate share, and views of bytes.
+//! Assertions that the tests of this crate share, and views and strings of bytes.
 
 ghost use Rattle.std.specs.Prelude.{IsTrue};
 
 use std::fmt::Debug;
 use std::process::Abort;
-use utf16string::{Utf16Order, WStr};
+use utf16string::{Utf16Order, WStr, WString};
 
 /// Asserts that the value found is the expected one.
 pub fn equal<T: PartialEq + Debug + Drop>(rt: &impl Abort, found: T, wanted: T) {
@@ -21,4 +21,10 @@ pub fn holds(rt: &impl Abort, is: bool)
 /// Returns a view of these bytes, which are text.
 pub fn view<'a, E: Utf16Order>(rt: &impl Abort, raw: &'a [u8]) -> WStr<'a, E> {
     WStr::from_utf16(raw).expect(rt, "text")
+}
+
+/// Returns a string of these bytes, which are text, with no spare capacity.
+pub fn string<E: Utf16Order>(rt: &(impl Abort + AllocGlobal), raw: &[u8]) -> WString<E> {
+    let bytes = raw.to_vec(rt.alloc()).expect(rt, "memory");
+    WString::from_utf16(bytes).expect(rt, "text")
 }

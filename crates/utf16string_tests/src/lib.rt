@@ -1,5 +1,5 @@
-//! Tests of texts of more than a million bytes, of strings whose allocations fail, of how much
-//! memory is requested, of what `Debug` writes, and of the allocator that fails as it is set.
+//! Tests of texts of more than a million bytes, of strings whose allocations fail, and of the
+//! allocator that fails as it is set.
 #![tactic(auto)]
 
 #[cfg(test)]
@@ -9,8 +9,4 @@ mod heap;
 #[cfg(test)]
 mod large;
 #[cfg(test)]
-mod requests;
-#[cfg(test)]
 mod room;
-#[cfg(test)]
-mod shown;
