@@ -124,7 +124,6 @@ number_of_part text ends order place is within = omega (arith, length-parts text
 pub table_none : IsTable [] [] []
 table_none = record {
   ends = ends_none;
-  count = length-parts [] 0 [];
   distinct = rw (parts_none []) (λ i j d before within. absurd (omega arith));
   order = rw (parts_none []) (record { numbers = IsPermutation-refl []; ascends = λ i j d before within. absurd (omega arith) });
 }
@@ -136,7 +135,6 @@ table_insert text more ends order place table at =
     let all = parts_push text more ends table.ends in
     record {
       ends = ends_push text more ends table.ends;
-      count = length-parts (text ++ more) 0 _;
       distinct = subst AreDistinct (sym all) (distinct_push parts order table.order more place at table.distinct);
       order = subst₂ IsSortOrder (sym all) (ap (insert order place) (length-parts text 0 ends)) (order_insert parts order table.order more place at);
     }

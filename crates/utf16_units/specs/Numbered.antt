@@ -34,6 +34,5 @@ IsPlace texts order text place = IsPlaceWithin texts order text place place
 -- which occurs in it once
 pub record IsTable (text offsets numbers : List ℕ) : Type 0 where
   pub ends : AreEnds text offsets
-  pub count : length (parts_of text offsets) ≡ length offsets
   pub distinct : AreDistinct (parts_of text offsets)
   pub order : IsSortOrder (parts_of text offsets) numbers
