@@ -2,7 +2,6 @@ pub mod Counts
 pub mod Json
 pub mod MultiSz
 pub mod Interner
-pub mod Prefixes
 pub mod Records
 pub mod Registry
 pub mod Fields

@@ -5,6 +5,7 @@ pub mod Overwritten
 pub mod StrLemmas
 mod AffixLemmas
 mod CommonLemmas
+pub mod PrefixRules
 mod Lent
 mod LentSteps
 mod LentValues
