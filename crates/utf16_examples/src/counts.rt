@@ -1,6 +1,6 @@
 //! Characters and line feeds of a stream of UTF-16 that comes in chunks.
 
-ghost use Rattle.std.specs.Prelude.{◌≡◌, ◌==◌, ◌++◌, [], ◌∷◌, ℕ, List, IfOk, chars, count_by, length};
+ghost use Rattle.std.specs.Prelude.{◌≡◌, ◌==◌, ◌+◌, ◌-◌, ◌^◌, IfOk, chars, count_by, length, min};
 ghost use Rattle.std.specs.List.{flat_map};
 ghost use Rattle.std.specs.Vec.{vec_items};
 ghost use Rattle.utf16_tools.specs.Split.{lossy_text};
@@ -20,22 +20,14 @@ pub struct Counts {
 
 impl Counts {
     // Counts a part that follows the text.
-    #[tactic(auto, using(crate::proofs::CountLemmas::counting))]
     fn add(&mut self, part: &str)
-        ensures { (text : List ℕ) → AreCounts text self.old
-            → AreCounts (text ++ chars part.now) self.new }
+        ensures chars { self.new.chars ≡ min (self.old.chars + length (chars part.now))
+            (2 ^ 64 - 1) }
+        ensures line_feeds { self.new.line_feeds
+            ≡ min (self.old.line_feeds + count_by (λ c. c == 10) (chars part.now)) (2 ^ 64 - 1) }
     {
         self.chars = self.chars.saturating_add(count(part));
         self.line_feeds = self.line_feeds.saturating_add(count_line_feeds(part));
-    }
-
-    // Counts a U+FFFD that follows the text.
-    #[tactic(auto, using(crate::proofs::CountLemmas::counting))]
-    fn add_replacement(&mut self)
-        ensures { (text : List ℕ) → AreCounts text self.old
-            → AreCounts (text ++ 0xFFFD ∷ []) self.new }
-    {
-        self.chars = self.chars.saturating_add(1);
     }
 }
 
@@ -45,6 +37,7 @@ impl Counts {
 /// # Errors
 ///
 /// If an allocation fails.
+#[tactic(auto, using(utf16_tools::proofs::StreamRules::streams))]
 pub fn count_pieces<E: Utf16Order, A: Allocator + Clone, B: Allocator>(
     alloc: A,
     pieces: &[Vec<u8, B>],
@@ -63,7 +56,7 @@ pub fn count_pieces<E: Utf16Order, A: Allocator + Clone, B: Allocator>(
     let Some(_mark) = decoder.finish() else {
         return Ok(counts);
     };
-    counts.add_replacement();
+    counts.chars = counts.chars.saturating_add(1);
     Ok(counts)
 }
 

@@ -1,17 +1,22 @@
 -- Rules for a reader of a stream chunk by chunk: the characters that bytes decide, and the text so
 -- far with the pending bytes.
-use Rattle.std.proofs.Common.{◌≡◌, ◌≢◌, ◌++◌, ℕ, ◌+◌, ◌<◌, ◌≤◌, Bool, true, false, List, [], ◌∷◌, Option, None, Some, Result, Ok, Err, All, drop, if◌then◌else◌, get_or, flat_map, length, take, take_all, chars, encode_utf8_all, refl, sym, ap, ◌∙◌, subst}
+use Rattle.std.proofs.Common.{◌≡◌, ◌≢◌, ◌++◌, ℕ, ◌+◌, ◌<◌, ◌≤◌, Bool, true, false, List, [], ◌∷◌, Option, None, Some, Result, Ok, Err, All, drop, if◌then◌else◌, get_or, flat_map, length, take, take_all, append-nil, length-append, chars, encode_utf8_all, refl, sym, ap, ◌∙◌, subst}
+use Rattle.std.proofs.lemmas.Grind.{flat_map-append, take_at_read}
 use Rattle.std.proofs.lemmas.List.{map-append}
 use Rattle.std.proofs.lemmas.List.Elements.{All-append, All-cons, All-drop, All-head, All-nil, All-tail}
+use Rattle.std.proofs.lemmas.List.Sums.{sum_by-append}
 use Rattle.std.proofs.lemmas.Result.{IfOk-weaker}
-use Rattle.std.specs.Prelude.{IfOk, OnOk}
+use Rattle.std.specs.Prelude.{IfOk, OnOk, Vec, vec_items}
 use Rattle.std.specs.Char.{IsScalar}
+use Rattle.utf16_units.specs.declared.byte_order.Utf16Order.{Ghosts}
 use Rattle.utf16_units.specs.Split.{IsItem, Item, whole_lossy_chars, good, lone_lead, lone_trail, lossy_char, lossy_chars, split_items, split_tail}
 use Rattle.utf16_units.proofs.FirstChar.{AreBytes-from_All}
 use Rattle.utf16_units.proofs.LawProofs.{utf8_back}
 use Rattle.utf16_units.proofs.SplitJoin.{split_items-append, split_tail-append}
 use Rattle.utf16_units.proofs.SplitLemmas.{Split-computed}
+use Rattle.utf16_streams.specs.declared.lossy.Lossy.{Lossy}
 use Rattle.utf16_streams.specs.Bom.{big_in, has_bom, items_in, text_in}
+use Rattle.utf16_streams.specs.Lossy.{lossy_pending}
 use Rattle.utf16_decode.proofs.StreamLemmas.{joined-more}
 
 abbrev pub IsByte : ℕ → Type 0
@@ -131,3 +136,19 @@ module _ {X : Type 0} (of : X → List ℕ) (pieces : List X) (i : ℕ) (big : B
 
   pub Reads-all : length pieces ≤ i → Reads big (flat_map of pieces) kept Of
   Reads-all past = subst (λ p. Reads big (flat_map of p) kept Of) (take_all i pieces past) so_far
+
+-- and of those of which a `Lossy` was given so many
+module _ {E Z : Type 0} {order : Ghosts E} where
+  abbrev pub ReadsPieces : List (Vec ℕ Z) → ℕ → Lossy E order → (List ℕ → Type 0) → Type 0
+  ReadsPieces pieces i decoder Of = Reads order.BIG (flat_map vec_items (take i pieces)) (lossy_pending decoder) Of
+
+pub items_none : (big : Bool) → split_items big [] ≡ []
+unfolding split_items
+items_none big = refl
+
+pub tail_none : (big : Bool) → split_tail big [] ≡ []
+unfolding split_tail
+tail_none big = refl
+
+-- such a loop, where the fact is equations on lengths, sums and counts of the text
+pub ruleset streams = (items_none, tail_none, split_items-append, split_tail-append, take_all, take_at_read, flat_map-append, append-nil, map-append, length-append, sum_by-append)

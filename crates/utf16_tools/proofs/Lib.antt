@@ -2,4 +2,4 @@ pub use Rattle.utf16_streams.proofs.BomLemmas
 pub use Rattle.utf16_streams.proofs.DecodesLemmas
 pub use Rattle.utf16_streams.proofs.IllFormedDecides
 pub use Rattle.utf16_streams.proofs.StreamLemmas
-pub use Rattle.utf16_streams.proofs.StreamRules
+pub mod StreamRules
