@@ -2,6 +2,7 @@
 use Rattle.std.proofs.Common.{◌≡◌, ℕ, zero, suc, ◌+◌, ◌-◌, ◌*◌, ◌/◌, ◌%◌, ◌^◌, ◌<◌, ◌≤◌, ◌&&◌, Bool, true, false, cond, eqb, leb, ltb, List, [], ◌∷◌, ◌++◌, map, length, get_or, replicate, bit_and, refl, sym, ap, ap₂, ◌∙◌, subst, ⊎_elim, arith, Fits, w8, length-append}
 use Rattle.std.proofs.lemmas.Bool.{and_parts, cases_Bool, cases_lt, eqb-false, eqb-true, false_from_ne_true, le-leb, leb-true, lt-leb, lt-ltb, ltb-true}
 use Rattle.std.proofs.lemmas.List.{length-map}
+use Rattle.std.proofs.lemmas.List.Elements.{All-cons, All-nil}
 use Rattle.std.proofs.lemmas.Nat.{mod_low, one_shl}
 use Rattle.std.proofs.lemmas.Nat.Bits.{and_high}
 use Rattle.std.proofs.lemmas.Simd.{bitmask_splat, map-map, mask_l-lt, zip2_splat}
@@ -10,7 +11,7 @@ use Rattle.std.specs.Char.Utf16.{is_high_surrogate, is_low_surrogate}
 use lib.Lanes.{Each1, mask_l, pick_l, top, zip2}
 use mir.Val.{bool_byte}
 use Rattle.utf16_units.specs.Encoding.{units_of}
-use Rattle.utf16_units.specs.Lanes.{Paired, high_byte}
+use Rattle.utf16_units.specs.Lanes.{HasNoSurrogate, IsNoSurrogate, Paired, high_byte}
 
 -- every second position, from i on
 abbrev pub positions : ℕ → ℕ → List ℕ
@@ -185,10 +186,10 @@ module _ (highs : List ℕ) (n leading : ℕ) (long : length highs ≡ n)
       let whole : mask_l lows + cond after (2 ^ n) 0 ≡ 2 * leading + bool_byte before = sym last ∙ omega (arith, bits units have, byte-cond before) in
       sym (low_part after n (mask_l lows) below) ∙ ap (λ m. m % 2 ^ n) whole ∙ ap (λ p. (2 * leading + bool_byte before) % p) (sym power)
 
--- units of which none is a surrogate are paired
-pub plain_paired : (units : List ℕ) → mask_l (map is_high_surrogate units) ≡ 0 → mask_l (map is_low_surrogate units) ≡ 0 → Paired false units false
-plain_paired units high low =
-    let lows = map is_low_surrogate units in
-    mask_l-injective (lows ++ false ∷ []) (false ∷ map is_high_surrogate units)
-    (omega (arith, length-append lows (false ∷ []), length-map units is_low_surrogate, length-map units is_high_surrogate))
-    (mask_l-last lows false ∙ omega (arith, low, high))
+-- no bit of the two classes: no unit is a surrogate
+pub no_surrogate_by_bits : (units : List ℕ) → mask_l (map is_high_surrogate units) ≡ 0 → mask_l (map is_low_surrogate units) ≡ 0 → HasNoSurrogate units
+no_surrogate_by_bits [] high low = All-nil IsNoSurrogate
+no_surrogate_by_bits (unit ∷ units) high low =
+    let h = same_bit (is_high_surrogate unit) false _ 0 high in
+    let l = same_bit (is_low_surrogate unit) false _ 0 low in
+    All-cons IsNoSurrogate unit units (h.0, l.0) (no_surrogate_by_bits units h.1 l.1)

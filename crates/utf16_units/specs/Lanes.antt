@@ -1,6 +1,6 @@
 -- Blocks of code units: SIMD lanes by index, what they hold of a unit, and how surrogates are
 -- paired.
-use Rattle.std.specs.Prelude.{◌≡◌, ℕ, ◌+◌, ◌*◌, ◌/◌, ◌%◌, ◌^◌, ◌<◌, ◌≤◌, Bool, false, cond, List, [], ◌∷◌, ◌++◌, length, drop, map, slice_index, take}
+use Rattle.std.specs.Prelude.{◌≡◌, ℕ, All, ◌+◌, ◌*◌, ◌/◌, ◌%◌, ◌^◌, ◌<◌, ◌≤◌, Bool, false, cond, List, [], ◌∷◌, ◌++◌, length, drop, map, slice_index, take}
 use Rattle.std.specs.Char.Utf16.{is_high_surrogate, is_low_surrogate}
 use Rattle.utf16_units.specs.Encoding.{units_of}
 
@@ -22,6 +22,14 @@ high_byte unit = unit / 256
 -- the last one is
 abbrev pub Paired : Bool → List ℕ → Bool → Type 0
 Paired before units after = map is_low_surrogate units ++ after ∷ [] ≡ before ∷ map is_high_surrogate units
+
+-- the unit is no surrogate
+abbrev pub IsNoSurrogate : ℕ → Type 0
+IsNoSurrogate unit = (is_high_surrogate unit ≡ false) × (is_low_surrogate unit ≡ false)
+
+-- no unit is a surrogate
+abbrev pub HasNoSurrogate : List ℕ → Type 0
+HasNoSurrogate units = All IsNoSurrogate units
 
 -- the surrogates are not paired: a trailing unit has no leading one before it, or a leading one
 -- that is not the last has no trailing one after it

@@ -1,11 +1,11 @@
 //! Blocks of code units with SIMD: the surrogates as bits, whether they are paired, and whether a
 //! block is ASCII.
 
-ghost use Rattle.std.specs.Prelude.{◌≡◌, ◌↔◌, ◌<◌, ◌≤◌, ◌==◌, ℕ, All, List, false, IfNone, IfSome, IsTrue, bit_and, map};
+ghost use Rattle.std.specs.Prelude.{◌≡◌, ◌↔◌, ◌<◌, ◌≤◌, ◌==◌, ℕ, All, List, IfNone, IfSome, IsTrue, bit_and, map};
 ghost use Rattle.std.specs.Char.Utf16.{is_high_surrogate, is_low_surrogate};
 ghost use Rattle.std.specs.Simd.Lanes.{mask_l};
 ghost use Rattle.utf16_units.specs.Encoding.{units_of};
-ghost use Rattle.utf16_units.specs.Lanes.{Paired, Unpaired, high_byte};
+ghost use Rattle.utf16_units.specs.Lanes.{HasNoSurrogate, Paired, Unpaired, high_byte};
 
 use crate::Utf16Order;
 use std::simd::prelude::*;
@@ -37,6 +37,30 @@ pub(crate) fn high_bytes16<E: Utf16Order>(block: u8x32) -> u8x16
         block.swizzle([0, 2, 4, 6, 8, 10, 12, 14, 16, 18, 20, 22, 24, 26, 28, 30])
     } else {
         block.swizzle([1, 3, 5, 7, 9, 11, 13, 15, 17, 19, 21, 23, 25, 27, 29, 31])
+    }
+}
+
+// The high bytes of eight code units.
+#[inline(always)]
+pub(crate) fn high_bytes8<E: Utf16Order>(block: u8x16) -> u8x8
+    ensures { result ≡ map high_byte (units_of E.BIG block) }
+{
+    if E::BIG {
+        block.swizzle([0, 2, 4, 6, 8, 10, 12, 14])
+    } else {
+        block.swizzle([1, 3, 5, 7, 9, 11, 13, 15])
+    }
+}
+
+// The high bytes of four code units.
+#[inline(always)]
+pub(crate) fn high_bytes4<E: Utf16Order>(block: u8x8) -> u8x4
+    ensures { result ≡ map high_byte (units_of E.BIG block) }
+{
+    if E::BIG {
+        block.swizzle([0, 2, 4, 6])
+    } else {
+        block.swizzle([1, 3, 5, 7])
     }
 }
 
@@ -92,9 +116,9 @@ pub(crate) fn paired<const N: usize>(highs: Simd<u8, N>, before: bool) -> Option
 // Whether no code unit of the block is a surrogate.
 #[inline(always)]
 pub(crate) fn has_no_surrogate<const N: usize>(highs: Simd<u8, N>) -> bool
-    requires { N ≤ 32 }
+    requires { N ≤ 64 }
     ensures { IsTrue result → (units : List ℕ) → map high_byte units ≡ highs.entry
-        → Paired false units false }
+        → HasNoSurrogate units }
 {
     leading_bits(highs) == 0 && trailing_bits(highs) == 0
 }

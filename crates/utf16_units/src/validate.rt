@@ -1,12 +1,14 @@
 //! Validation of UTF-16.
 
-ghost use Rattle.std.specs.Prelude.{◌≡◌, ◌↔◌, ◌+◌, ◌<◌, ◌≤◌, false, length, take, IsOk, IfOk, IfErr};
+ghost use Rattle.std.specs.Prelude.{◌≡◌, ◌↔◌, ◌+◌, ◌<◌, ◌≤◌, false, length, take, IsOk, IfOk, IfErr, IsTrue};
 ghost use Rattle.utf16_units.specs.Encoding.{IsUtf16};
 ghost use Rattle.utf16_units.specs.IllFormed.{BeginsWithChar, IsIllFormedAt};
 ghost use Rattle.utf16_units.specs.Lanes.{PairedTo, PassedTo, BlocksStopAt};
 ghost use Rattle.utf16_units.specs.Utf16Error.{IsErrorOf};
 
-use crate::lanes::{has_no_surrogate, high_bytes16, high_bytes32, paired};
+use crate::lanes::{
+    has_no_surrogate, high_bytes4, high_bytes8, high_bytes16, high_bytes32, paired,
+};
 use crate::{Utf16Error, Utf16Order, is_trailing_surrogate};
 use std::simd::prelude::*;
 
@@ -25,9 +27,33 @@ pub fn validate_raw_utf16<E: Utf16Order>(raw: &[u8]) -> Result<(), Utf16Error>
     ensures error { IfErr result (IsErrorOf E.BIG raw.now) }
 {
     if raw.len() < 32 {
+        if has_no_surrogate_short::<E>(raw) {
+            return Ok(());
+        }
         return validate_units::<E>(raw, 0);
     }
     validate_units::<E>(raw, passed_blocks::<E>(raw))
+}
+
+// Whether fewer than 32 bytes are whole code units of which none is a surrogate; `false` if they
+// are fewer than 8. It reads the first and the last bytes of a text, which overlap.
+#[inline(always)]
+fn has_no_surrogate_short<E: Utf16Order>(raw: &[u8]) -> bool
+    requires { length raw.now < 32 }
+    ensures { IsTrue result → IsUtf16 E.BIG raw.now }
+{
+    let len = raw.len();
+    if len % 2 != 0 {
+        false
+    } else if len >= 16 {
+        has_no_surrogate(high_bytes8::<E>(u8x16::from_slice(raw)))
+            && has_no_surrogate(high_bytes8::<E>(u8x16::from_slice(&raw[len - 16..])))
+    } else if len >= 8 {
+        has_no_surrogate(high_bytes4::<E>(u8x8::from_slice(raw)))
+            && has_no_surrogate(high_bytes4::<E>(u8x8::from_slice(&raw[len - 8..])))
+    } else {
+        false
+    }
 }
 
 // The length of a well-formed prefix, as far as whole blocks reach.
