@@ -4,7 +4,6 @@ ghost use Rattle.std.specs.Prelude.{◌≡◌, ◌↔◌, ⊤, [], true, false, 
 ghost use Rattle.std.specs.Cmp.{on_equiv, on_per, on_total, partial_equiv_from_equiv, po};
 ghost use Rattle.std.specs.Cmp.Lexicographic.{nat_list_cmp_total, nat_list_eq_equiv, pointwise, slice_cmp};
 ghost use Rattle.std.specs.Cmp.Rules.{hashing};
-ghost use Rattle.std.specs.Hash as fed;
 ghost use Rattle.std.specs.Iterator.{YieldsFirst, YieldsLast};
 ghost use Rattle.std.specs.Iterator.Runs.{YieldsInOrder, YieldsInReverse};
 ghost use Rattle.std.specs.Ordering.{nat_cmp};
@@ -317,15 +316,17 @@ impl<'a, E: Utf16Order> Ord for WStr<'a, E> {
 }
 
 impl<'a, E: Utf16Order> Hash for WStr<'a, E> {
+    ghost use Rattle.utf16_str.specs.Hash.{hash_writes};
     ghost use Rattle.utf16_str.specs.WStr.{wstr_bytes};
 
-    ghost hash_input = { λ s. fed.slice fed.u8 (wstr_bytes s) };
+    ghost hash_input = { λ s. hash_writes (wstr_bytes s) };
 
     ghost respects_eq = { Prim.search (hashing, rules) };
 
     #[inline]
     fn hash<H: Hasher>(&self, state: &mut H) {
-        self.as_bytes().hash(state);
+        state.write_usize(self.len());
+        state.write(self.as_bytes());
     }
 }
 

@@ -15,7 +15,6 @@ ghost use Rattle.std.specs.Prelude.{◌≡◌, ◌↔◌, ℕ, [], length, IsTru
 ghost use Rattle.std.specs.Cmp.{on_equiv, on_per, partial_equiv_from_equiv};
 ghost use Rattle.std.specs.Cmp.Lexicographic.{nat_list_eq_equiv, pointwise};
 ghost use Rattle.std.specs.Cmp.Rules.{hashing};
-ghost use Rattle.std.specs.Hash as fed;
 ghost use Rattle.std.specs.Iterator.{YieldsFirst, YieldsLast};
 ghost use Rattle.std.specs.Iterator.Runs.{YieldsInOrder, YieldsInReverse};
 ghost use Rattle.std.proofs.Common.{rules};
@@ -370,9 +369,10 @@ impl<E: Utf16Order, A: Allocator> Eq for WString<E, A> {
 }
 
 impl<E: Utf16Order, A: Allocator> Hash for WString<E, A> {
+    ghost use Rattle.utf16_str.specs.Hash.{hash_writes};
     ghost use Rattle.utf16string.specs.WString.{wstring_bytes};
 
-    ghost hash_input = { λ s. fed.slice fed.u8 (wstring_bytes s) };
+    ghost hash_input = { λ s. hash_writes (wstring_bytes s) };
 
     ghost respects_eq = { Prim.search (hashing, rules) };
 
