@@ -10,6 +10,7 @@ pub mod laws;
 mod lens;
 mod pack;
 mod places;
+mod short;
 mod write;
 
 pub use crate::append::append_utf8;
