@@ -5,12 +5,16 @@ ghost use Rattle.utf16_units.specs.Encoding.{IsUtf16, units_of, utf8_of};
 ghost use Rattle.utf16_to_utf8.specs.Utf8.{units_utf8};
 
 use crate::blocks::{eights, filled_units, put_block};
+use crate::short::put_each;
 use std::simd::prelude::*;
 use utf16_units::Utf16Order;
 use utf16_units::blocks::units32;
 
 /// The number of bytes that `write_utf8` needs beyond three per code unit.
 pub const SLACK: usize = 128;
+
+// Texts of fewer bytes are written unit by unit.
+const BY_BLOCKS: usize = 32;
 
 /// Writes UTF-16 in UTF-8 to the start of `to`, and returns the number of bytes written.
 ///
@@ -44,6 +48,9 @@ fn write_units<E: Utf16Order>(raw: &[u8], out: &mut [u8]) -> usize
     ensures bytes { take result out.new ≡ units_utf8 0 (units_of E.BIG raw.now) }
     ensures written_to { result ≤ length out.old }
 {
+    if raw.len() < BY_BLOCKS {
+        return put_each::<E>(raw, out, 0, 0);
+    }
     let mut at = 0;
     let mut end = 0;
     let mut previous = u16x8::splat(0);
