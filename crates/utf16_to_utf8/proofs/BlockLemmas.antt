@@ -1,12 +1,11 @@
 -- The units of a block, and what the bits of its classes mean.
-use Rattle.std.proofs.Common.{◌≡◌, ℕ, zero, suc, ◌+◌, ◌*◌, ◌/◌, ◌%◌, ◌^◌, ◌<◌, ◌≤◌, ◌⊎◌, Bool, true, false, not, cond, eqb, ltb, inl, inr, List, [], ◌∷◌, ◌++◌, All, length, map, slice_index, drop, replicate, bit_and, refl, sym, ap, ap₂, ◌∙◌, subst, ⊎_elim, arith, Fits, w16, eqb-true, eq-eqb, lt-ltb, le-ltb, append-nil, append_assoc, length-drop, take_all}
+use Rattle.std.proofs.Common.{◌≡◌, ℕ, zero, suc, ◌+◌, ◌*◌, ◌/◌, ◌%◌, ◌^◌, ◌<◌, ◌≤◌, ◌⊎◌, Bool, true, false, cond, eqb, ltb, inl, inr, List, [], ◌∷◌, ◌++◌, All, length, map, slice_index, drop, replicate, bit_and, refl, sym, ap, ap₂, ◌∙◌, subst, ⊎_elim, arith, w16, eqb-true, eq-eqb, lt-ltb, le-ltb, append-nil, append_assoc, length-drop, take_all}
 use Rattle.std.proofs.lemmas.Bool.{cases_lt, false_from_ne_true, true≢false}
 use Rattle.std.proofs.lemmas.List.{length-map}
-use Rattle.std.proofs.lemmas.List.Elements.{All-cons, All-head, All-nil, All-tail}
+use Rattle.std.proofs.lemmas.List.Elements.{All-head, All-tail}
 use Rattle.std.proofs.lemmas.Nat.Bits.{and_high}
 use Rattle.std.proofs.lemmas.Simd.{bitmask_splat, chunk-drop, get_or-chunk, length-chunk, length-zip2, map-map, mask_l-lt, zip2_splat}
-use Rattle.std.proofs.Math.Nat.{two-pow-succ}
-use lib.Lanes.{Each1, chunk, mask_l, top, zip2}
+use lib.Lanes.{chunk, mask_l, top, zip2}
 use Rattle.utf16_to_utf8.specs.Lanes.{added_len, is_surrogate}
 use Rattle.utf16_to_utf8.specs.Utf8.{unit_utf8, units_utf8}
 use Rattle.utf16_to_utf8.proofs.ListLemmas.{units-cons, units-nil}
@@ -25,29 +24,6 @@ class-mask units mask class long =
 
 pub bits-below : (p : ℕ → Bool) (units : List ℕ) → length units ≡ 32 → mask_l (map p units) < 0x1_0000_0000
 bits-below p units long = subst (λ n. mask_l (map p units) < 2 ^ n) (length-map units p ∙ long) (mask_l-lt (map p units))
-
-module _ (p q : ℕ → Bool) where
-  pub none_by_bits : (units : List ℕ) → mask_l (map p units) ≡ 0 → (i : ℕ) → i < length units → p (slice_index units i) ≡ false
-  none_by_bits [] e i lt = absurd (omega arith)
-  none_by_bits (u ∷ units) e zero lt = (first (p u) e).0
-    where
-      first : (b : Bool) → cond b 1 0 + 2 * mask_l (map p units) ≡ 0 → (b ≡ false) × (mask_l (map p units) ≡ 0)
-      first true e = absurd (omega arith)
-      first false e = (refl, omega arith)
-  none_by_bits (u ∷ units) e (suc i) lt = none_by_bits units (omega arith) i (omega arith)
-
-  one_of : (a b : Bool) (m n k : ℕ) → cond a 1 0 + 2 * m + (cond b 1 0 + 2 * n) + 1 ≡ 2 * k → ((a ≡ true) ⊎ (b ≡ true)) × (m + n + 1 ≡ k)
-  one_of true true m n k e = absurd (omega arith)
-  one_of true false m n k e = (inl refl, omega arith)
-  one_of false true m n k e = (inr refl, omega arith)
-  one_of false false m n k e = absurd (omega arith)
-
-  pub each_by_bits : (units : List ℕ) → mask_l (map p units) + mask_l (map q units) + 1 ≡ 2 ^ length units
-      → (i : ℕ) → i < length units → (p (slice_index units i) ≡ true) ⊎ (q (slice_index units i) ≡ true)
-  each_by_bits [] e i lt = absurd (omega arith)
-  each_by_bits (u ∷ units) e zero lt = (one_of (p u) (q u) (mask_l (map p units)) (mask_l (map q units)) (2 ^ length units) (e ∙ omega (arith, two-pow-succ (length units)))).0
-  each_by_bits (u ∷ units) e (suc i) lt =
-      each_by_bits units (one_of (p u) (q u) (mask_l (map p units)) (mask_l (map q units)) (2 ^ length units) (e ∙ omega (arith, two-pow-succ (length units)))).1 i (omega arith)
 
 -- ---- how many bytes a unit adds, by its upper five bits
 
@@ -99,28 +75,6 @@ ascii-units before [] are = units-nil before
 ascii-units before (u ∷ units) are =
     units-cons before u units
     ∙ ap₂ (λ xs ys. xs ++ ys) (unit-one before u (All-head (λ v. v < 0x80) u units are)) (ascii-units u units (All-tail (λ v. v < 0x80) u units are))
-
-pub ascii_by_bits : (units : List ℕ) → Each1 (Fits w16) units → mask_l (map (λ u. not (eqb (bit_and u 0xFF80) 0)) units) ≡ 0 → All (λ u. u < 0x80) units
-ascii_by_bits [] fit e = All-nil (λ u. u < 0x80)
-ascii_by_bits (u ∷ units) fit e =
-    let high : bit_and u 0xFF80 ≡ u / 128 % 512 * 128 = and_high u 9 7 in
-    let parts = clear (eqb (bit_and u 0xFF80) 0) (mask_l (map (λ v. not (eqb (bit_and v 0xFF80) 0)) units)) e in
-    let none = eqb-true _ _ parts.0 in
-    let below = fit.0.fits in
-    All-cons (λ v. v < 0x80) u units (omega (arith, high, none, below)) (ascii_by_bits units fit.1 parts.1)
-  where
-    clear : (b : Bool) (n : ℕ) → cond (not b) 1 0 + 2 * n ≡ 0 → (b ≡ true) × (n ≡ 0)
-    clear true n e = (refl, omega arith)
-    clear false n e = absurd (omega arith)
-
-pub ascii-mask : (units : List ℕ) → length units ≡ 32
-    → mask_l (map (top 15) (zip2 (λ a b. cond (not (eqb a b)) 65535 0) (zip2 bit_and units (replicate 32 0xFF80)) (replicate 32 0))) % 2 ^ 64
-    ≡ mask_l (map (λ u. not (eqb (bit_and u 0xFF80) 0)) units)
-ascii-mask units long =
-    let masked = zip2 bit_and units (replicate 32 0xFF80) in
-    bitmask_splat w16 (λ (a b : ℕ). not (eqb a b)) masked 32 0 (length-zip2 bit_and units (replicate 32 0xFF80) long ∙ long) (omega arith)
-    ∙ ap (λ us. mask_l (map (λ x. not (eqb x 0)) us)) (zip2_splat bit_and units 32 0xFF80 long)
-    ∙ ap mask_l (map-map (λ x. not (eqb x 0)) (λ u. bit_and u 0xFF80) units)
 
 -- ---- eight of a block
 

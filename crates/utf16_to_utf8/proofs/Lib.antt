@@ -6,3 +6,5 @@ mod PlaceLemmas
 mod BlockLemmas
 mod TextLemmas
 mod LenLemmas
+mod WriterLemmas
+mod BoundLemmas

@@ -39,3 +39,7 @@ front before unit = if nat_lt unit 0x800 then narrow before unit else (if is_sur
 
 abbrev pub added_len : ℕ → ℕ
 added_len unit = if nat_lt unit 0x80 then 1 else (if nat_lt unit 0x800 then 2 else (if is_surrogate unit then 2 else 3))
+
+-- below 0x800 exactly if the unit adds at most two bytes
+abbrev pub folded : ℕ → ℕ
+folded unit = let raised = plus unit 0x2800 in if nat_lt unit raised then unit else raised

@@ -3,3 +3,4 @@ pub mod Lanes
 pub mod Pack
 pub mod Block
 pub mod Append
+pub mod Cursor

@@ -1,20 +1,24 @@
 //! A block of thirty-two code units: its kind, and the UTF-8 that it adds.
 
-ghost use Rattle.std.specs.Prelude.{◌≡◌, ◌+◌, ◌-◌, ◌/◌, ◌%◌, ◌<◌, ◌≤◌, ◌++◌, ◌==◌, All, IsTrue, bit_and, length, map, replicate, slice_index, take};
+ghost use Rattle.std.specs.Prelude.{◌≡◌, ◌+◌, ◌-◌, ◌/◌, ◌%◌, ◌<◌, ◌≤◌, ◌++◌, ◌==◌, ℕ, All, IsTrue, bit_and, length, map, replicate, slice_index, take};
 ghost use Rattle.std.specs.Simd.Lanes.{chunk, mask_l};
 ghost use Rattle.utf16_units.specs.Encoding.{units_of};
+ghost use Rattle.utf16_units.specs.Lanes.{HasLanes};
 ghost use Rattle.utf16_to_utf8.specs.Block.{AreOfKind};
+ghost use Rattle.utf16_to_utf8.specs.Lanes.{folded};
 ghost use Rattle.utf16_to_utf8.specs.Utf8.{units_utf8};
+ghost use Rattle.utf16_to_utf8.specs.declared.blocks.Kind.TheVariants.{Ascii};
 
 use crate::pack::{put_any, put_narrow, put_wide};
 use std::simd::prelude::*;
 use utf16_units::Utf16Order;
 use utf16_units::blocks::units32;
 
-// What the units of a block have in common: all are below U+0800; some are surrogates and the
-// others below U+0800; each adds three bytes; or none of these.
+// What the units of a block have in common: all are ASCII; all are below U+0800; some are surrogates
+// and the others below U+0800; each adds three bytes; or none of these.
 #[derive(Clone, Copy)]
 pub(crate) enum Kind {
+    Ascii,
     Letters,
     Pairs,
     Wide,
@@ -39,10 +43,73 @@ pub(crate) fn filled_units<E: Utf16Order>(raw: &[u8]) -> u16x32
 pub(crate) fn is_ascii(units: u16x32) -> bool
     ensures { IsTrue result → All (λ unit. unit < 0x80) units }
 {
-    (units & u16x32::splat(0xFF80))
-        .simd_ne(u16x32::splat(0))
-        .to_bitmask()
-        == 0
+    are_below(units, 0x80)
+}
+
+// Whether all units are below a limit.
+#[inline(always)]
+fn are_below(units: u16x32, limit: u16) -> bool
+    ensures { IsTrue result → All (λ unit. unit < limit) units }
+{
+    greatest(units).simd_lt(u16x8::splat(limit)).to_bitmask() == 0xFF
+}
+
+// The greatest of the units at the same place in each group of eight.
+#[inline(always)]
+fn greatest(units: u16x32) -> u16x8
+    ensures len { length result ≡ 8 }
+    ensures bound { (limit : ℕ) → All (λ unit. unit < limit) result
+        → All (λ unit. unit < limit) units }
+{
+    let (first, second, third, fourth) = eights(units);
+    greater(greater(first, second), greater(third, fourth))
+}
+
+// The greater of the lanes at the same place.
+#[inline(always)]
+fn greater(a: u16x8, b: u16x8) -> u16x8
+    ensures len { length result ≡ 8 }
+    ensures bound { (limit : ℕ) → All (λ unit. unit < limit) result
+        → All (λ unit. unit < limit) a × All (λ unit. unit < limit) b }
+{
+    a.simd_max(b)
+}
+
+// Whether no unit is below a limit.
+#[inline(always)]
+fn are_from(units: u16x32, limit: u16) -> bool
+    ensures { IsTrue result → All (λ unit. limit ≤ unit) units }
+{
+    least(units).simd_lt(u16x8::splat(limit)).to_bitmask() == 0
+}
+
+// The least of the units at the same place in each group of eight.
+#[inline(always)]
+fn least(units: u16x32) -> u16x8
+    ensures len { length result ≡ 8 }
+    ensures bound { (limit : ℕ) → All (λ unit. limit ≤ unit) result
+        → All (λ unit. limit ≤ unit) units }
+{
+    let (first, second, third, fourth) = eights(units);
+    lesser(lesser(first, second), lesser(third, fourth))
+}
+
+// The lesser of the lanes at the same place.
+#[inline(always)]
+fn lesser(a: u16x8, b: u16x8) -> u16x8
+    ensures len { length result ≡ 8 }
+    ensures bound { (limit : ℕ) → All (λ unit. limit ≤ unit) result
+        → All (λ unit. limit ≤ unit) a × All (λ unit. limit ≤ unit) b }
+{
+    a.simd_min(b)
+}
+
+// Units folded so that those below U+0800 and the surrogates, and these alone, are below 0x800.
+#[inline(always)]
+fn folded(units: u16x32) -> u16x32
+    ensures { HasLanes 32 result (λ i. folded (slice_index units i)) }
+{
+    units.simd_min(units + u16x32::splat(0x2800))
 }
 
 // A bit for each unit that has the upper five bits of `class`.
@@ -57,47 +124,71 @@ pub(crate) fn class_bits(units: u16x32, class: u16) -> u64
 }
 
 #[inline(always)]
-fn kind_of(units: u16x32) -> Kind
+pub(crate) fn kind_of(units: u16x32) -> Kind
     ensures { AreOfKind result units }
 {
-    let surrogates = class_bits(units, 0xD800);
-    let others = class_bits(units, 0) + surrogates;
-    if others == 0xFFFF_FFFF {
-        if surrogates == 0 {
-            Kind::Letters
-        } else {
-            Kind::Pairs
-        }
-    } else if others == 0 {
+    if are_of(units, Kind::Ascii) {
+        Kind::Ascii
+    } else if are_of(units, Kind::Letters) {
+        Kind::Letters
+    } else if are_of(units, Kind::Wide) {
         Kind::Wide
+    } else if are_of(units, Kind::Pairs) {
+        Kind::Pairs
     } else {
         Kind::Mixed
     }
 }
 
-// Writes the UTF-8 that a block adds.
+// Whether the units of a block are of a kind.
 #[inline(always)]
-pub(crate) fn put_block(out: &mut [u8], at: usize, previous: u16x8, units: u16x32) -> usize
-    requires { at + 104 ≤ length out.old }
+pub(crate) fn are_of(units: u16x32, kind: Kind) -> bool
+    ensures { IsTrue result → AreOfKind kind units }
+{
+    match kind {
+        Kind::Ascii => is_ascii(units),
+        Kind::Letters => are_below(units, 0x800),
+        Kind::Wide => are_from(folded(units), 0x800),
+        Kind::Pairs => are_below(folded(units), 0x800),
+        Kind::Mixed => true,
+    }
+}
+
+// Writes the UTF-8 that a block of a kind adds.
+#[inline(always)]
+pub(crate) fn put_block(
+    out: &mut [u8],
+    at: usize,
+    previous: u16x8,
+    units: u16x32,
+    kind: Kind,
+) -> usize
+    requires space { at + 104 ≤ length out.old }
+    requires kind { AreOfKind kind units }
     ensures bytes { take result out.new ≡ take at out.old ++ units_utf8 (slice_index previous 7)
         units }
     ensures written_to { result ≤ at + 96 }
 {
-    if is_ascii(units) {
-        put_ascii(out, at, units);
-        return at + 32;
+    match kind {
+        Kind::Ascii => put_ascii(out, at, units),
+        Kind::Letters => put_groups(out, at, previous, units, Kind::Letters),
+        Kind::Wide => put_groups(out, at, previous, units, Kind::Wide),
+        Kind::Pairs => put_groups(out, at, previous, units, Kind::Pairs),
+        Kind::Mixed => put_groups(out, at, previous, units, Kind::Mixed),
     }
-    put_groups(out, at, previous, units, kind_of(units))
 }
 
 // Writes the low byte of each unit of a block.
 #[inline(always)]
-fn put_ascii(out: &mut [u8], at: usize, units: u16x32)
+fn put_ascii(out: &mut [u8], at: usize, units: u16x32) -> usize
     requires space { at + 32 ≤ length out.old }
-    requires ascii { All (λ unit. unit < 0x80) units }
-    ensures { take (at + 32) out.new ≡ take at out.old ++ units }
+    requires ascii { AreOfKind Ascii units }
+    ensures bytes { (before : ℕ) → take result out.new ≡ take at out.old
+        ++ units_utf8 before units }
+    ensures written_to { result ≡ at + 32 }
 {
     units.cast::<u8>().copy_to_slice(&mut out[at..]);
+    at + 32
 }
 
 // The units of a block in groups of eight.
@@ -141,6 +232,7 @@ fn put_group(out: &mut [u8], at: usize, previous: u16x8, units: u16x8, kind: Kin
     ensures written_to { result ≤ at + 24 }
 {
     match kind {
+        Kind::Ascii => put_narrow(out, at, previous, units, false),
         Kind::Letters => put_narrow(out, at, previous, units, false),
         Kind::Pairs => put_narrow(out, at, previous, units, true),
         Kind::Wide => put_wide(out, at, units),

@@ -10,6 +10,7 @@ pub mod laws;
 mod lens;
 mod pack;
 mod places;
+mod runs;
 mod short;
 mod write;
 

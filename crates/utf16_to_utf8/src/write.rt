@@ -4,17 +4,17 @@ ghost use Rattle.std.specs.Prelude.{◌≡◌, ◌+◌, ◌*◌, ◌/◌, ◌%�
 ghost use Rattle.utf16_units.specs.Encoding.{IsUtf16, units_of, utf8_of};
 ghost use Rattle.utf16_to_utf8.specs.Utf8.{units_utf8};
 
-use crate::blocks::{eights, filled_units, put_block};
+use crate::blocks::{filled_units, kind_of, put_block};
+use crate::runs::{Cursor, put_next};
 use crate::short::put_each;
 use std::simd::prelude::*;
 use utf16_units::Utf16Order;
-use utf16_units::blocks::units32;
 
 /// The number of bytes that `write_utf8` needs beyond three per code unit.
 pub const SLACK: usize = 128;
 
 // Texts of fewer bytes are written unit by unit.
-const BY_BLOCKS: usize = 32;
+const BY_BLOCKS: usize = 24;
 
 /// Writes UTF-16 in UTF-8 to the start of `to`, and returns the number of bytes written.
 ///
@@ -51,19 +51,18 @@ fn write_units<E: Utf16Order>(raw: &[u8], out: &mut [u8]) -> usize
     if raw.len() < BY_BLOCKS {
         return put_each::<E>(raw, out, 0, 0);
     }
-    let mut at = 0;
-    let mut end = 0;
-    let mut previous = u16x8::splat(0);
-    while raw.len() - at >= 64 {
-        let units = units32::<E>(u8x64::from_slice(&raw[at..]));
-        end = put_block(out, end, previous, units);
-        previous = eights(units).3;
-        at += 64;
+    let mut cursor = Cursor {
+        at: 0,
+        end: 0,
+        previous: u16x8::splat(0),
+    };
+    while raw.len() - cursor.at >= 64 {
+        cursor = put_next::<E>(raw, out, cursor);
     }
-    if at == raw.len() {
-        return end;
+    if cursor.at == raw.len() {
+        return cursor.end;
     }
-    put_rest::<E>(&raw[at..], out, end, previous)
+    put_rest::<E>(&raw[cursor.at..], out, cursor.end, cursor.previous)
 }
 
 // Writes the UTF-8 of at most a block of units, padded with zeros, each of which adds one byte.
@@ -76,6 +75,7 @@ fn put_rest<E: Utf16Order>(raw: &[u8], out: &mut [u8], at: usize, previous: u16x
         (units_of E.BIG raw.now) }
     ensures written_to { result ≤ at + 96 }
 {
-    let end = put_block(out, at, previous, filled_units::<E>(raw));
+    let units = filled_units::<E>(raw);
+    let end = put_block(out, at, previous, units, kind_of(units));
     end - (32 - raw.len() / 2)
 }

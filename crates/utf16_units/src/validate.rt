@@ -82,7 +82,7 @@ fn paired_blocks<E: Utf16Order>(raw: &[u8]) -> (usize, bool)
         };
         leading = last;
         at += 64;
-        if !leading && has_no_surrogate(highs) {
+        if has_no_surrogate(highs) && !leading {
             at = plain_blocks::<E>(raw, at);
         }
     }

@@ -15,7 +15,7 @@ zeros-last g c =
     let units = units_of g.E.Utf16Order.BIG c.args.raw.now in
     let k = 32 - length c.args.raw.now / 2 in
     let front = take c.args.at c.args.out.now in
-    let wrote = c.put_block-end.ensures.bytes ∙ ap (λ us. front ++ units_utf8 before us) c.filled_units.ensures.units ∙ ap (λ bs. front ++ bs) (units-zeros before k units) ∙ sym (append_assoc front (units_utf8 before units) (replicate k 0)) in
+    let wrote = c.put_block-end.ensures.bytes ∙ ap (λ us. front ++ units_utf8 before us) c.filled_units-units.ensures.units ∙ ap (λ bs. front ++ bs) (units-zeros before k units) ∙ sym (append_assoc front (units_utf8 before units) (replicate k 0)) in
     less-zeros _ (front ++ units_utf8 before units) c.put_block-end.result k (omega (arith, c.put_block-end.ensures.written_to, c.requires.space, c.put_block-end.auto.out)) wrote
 
 pub overflow_sub-result-2 : goal.overflow_sub-result-2

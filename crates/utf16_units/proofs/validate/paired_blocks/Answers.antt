@@ -6,8 +6,8 @@ use Rattle.utf16_units.proofs.validate.paired_blocks.Goals as goal
 pub plain_blocks-at-requires : goal.plain_blocks-at-requires
 plain_blocks-at-requires g c = PairedTo-none g.E.Utf16Order.BIG c.args.raw.now
 
-pub plain_blocks-at-requires-then-has_no_surrogate : goal.plain_blocks-at-requires-then-has_no_surrogate
-plain_blocks-at-requires-then-has_no_surrogate g c =
+pub plain_blocks-at-requires-then-not-leading : goal.plain_blocks-at-requires-then-not-leading
+plain_blocks-at-requires-then-not-leading g c =
     subst (PairedTo g.E.Utf16Order.BIG c.args.raw.now _) c.if-not-leading.true
     (PairedTo-next g.E.Utf16Order.BIG c.args.raw.now c.loop-at.at 64 c.loop-at.leading c.in-Some.last c.loop-at.invariant refl (omega arith)
     (c.in-Some.ensures.some _ (sym c.high_bytes32-highs.ensures)))

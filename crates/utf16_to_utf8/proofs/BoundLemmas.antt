@@ -1,0 +1,115 @@
+-- Bounds on the units of a block, by the greatest and the least of its lanes.
+use Rattle.std.proofs.Common.{◌≡◌, ℕ, ◌+◌, ◌-◌, ◌*◌, ◌^◌, ◌<◌, ◌≤◌, ◌⊎◌, Bool, true, false, cond, ltb, ltb-true, ltb-false, ⊎_elim, inl, inr, List, [], ◌∷◌, ◌++◌, All, length, map, get_or, slice_index, refl, sym, ap, ap₂, ◌∙◌, subst, arith}
+use Rattle.std.proofs.lemmas.Bool.{cases_lt}
+use Rattle.std.proofs.lemmas.List.Elements.{All-append, All-cons, All-from_get_or, All-get_or, All-nil}
+use Rattle.std.proofs.lemmas.Simd.{get_or-sel_l, get_or-zip2, length-sel_l, length-zip2, tops_compared}
+use Rattle.std.proofs.Math.Nat.{two-pow-succ}
+use lib.Lanes.{chunk, mask_l, sel_l, top, zip2}
+use mir.Syntax.{Width}
+use mir.Val.{bits, hbits}
+use Rattle.utf16_units.specs.Lanes.{HasLanes}
+use Rattle.utf16_to_utf8.specs.Lanes.{added_len, folded, is_surrogate, plus}
+use Rattle.utf16_to_utf8.proofs.AddedLemmas.{surrogate-is, surrogate-no}
+use Rattle.utf16_to_utf8.proofs.BlockLemmas.{four_eights, low-is, low-no, narrow-kind, wide-kind}
+
+-- a choice by the comparison of the lanes of two vectors
+pub lanes_of_choice : (n : ℕ) (w : Width) (t : ℕ → ℕ → Bool) (x y a b : List ℕ) → length x ≡ n → length y ≡ n → length a ≡ n → length b ≡ n
+    → HasLanes n (sel_l (map (top (hbits w)) (zip2 (λ p q. cond (t p q) (2 ^ bits w - 1) 0) x y)) a b) (λ i. cond (t (slice_index x i) (slice_index y i)) (slice_index a i) (slice_index b i))
+lanes_of_choice n w t x y a b px py pa pb =
+    let tests = zip2 t x y in
+    let long : length tests ≡ n = length-zip2 t x y (px ∙ sym py) ∙ px in
+    let is = ap (λ flags. sel_l flags a b) (tops_compared w t x y) in
+    record {
+      len = ap length is ∙ length-sel_l tests a b (omega arith) (omega arith) ∙ long;
+      lanes = λ i h. ap (λ l. get_or l i 0) is ∙ get_or-sel_l tests a b i 0 (omega arith) (omega arith) (omega arith)
+          ∙ ap (λ flag. cond flag (slice_index a i) (slice_index b i)) (get_or-zip2 t x y i 0 0 false (omega (arith, px)) (omega (arith, py)));
+    }
+
+-- where no bit is set, no element passes
+pub none_by_bits : (p : ℕ → Bool) (P : ℕ → Type 0) → ((x : ℕ) → p x ≡ false → P x) → (xs : List ℕ) → mask_l (map p xs) ≡ 0 → All P xs
+none_by_bits p P failed [] e = All-nil P
+none_by_bits p P failed (x ∷ xs) e =
+    let parts = first (p x) (mask_l (map p xs)) e in
+    All-cons P x xs (failed x parts.0) (none_by_bits p P failed xs parts.1)
+  where
+    first : (b : Bool) (m : ℕ) → cond b 1 0 + 2 * m ≡ 0 → (b ≡ false) × (m ≡ 0)
+    first true m e = absurd (omega arith)
+    first false m e = (refl, omega arith)
+
+-- where each bit is set, each element passes
+pub all_by_bits : (p : ℕ → Bool) (P : ℕ → Type 0) → ((x : ℕ) → p x ≡ true → P x) → (xs : List ℕ) → mask_l (map p xs) + 1 ≡ 2 ^ length xs → All P xs
+all_by_bits p P passed [] e = All-nil P
+all_by_bits p P passed (x ∷ xs) e =
+    let parts = first (p x) (mask_l (map p xs)) (2 ^ length xs) (e ∙ omega (arith, two-pow-succ (length xs))) in
+    All-cons P x xs (passed x parts.0) (all_by_bits p P passed xs parts.1)
+  where
+    first : (b : Bool) (m k : ℕ) → cond b 1 0 + 2 * m + 1 ≡ 2 * k → (b ≡ true) × (m + 1 ≡ k)
+    first true m k e = (refl, omega arith)
+    first false m k e = absurd (omega arith)
+
+-- ---- all lanes of the greater or of the lesser ones
+
+module _ (P : ℕ → Type 0) (a b m : List ℕ) where
+  both_by : length a ≡ length m → length b ≡ length m
+      → ((i : ℕ) → i < length m → P (slice_index m i) → P (slice_index a i) × P (slice_index b i)) → All P m → All P a × All P b
+  both_by pa pb bound all = (
+    All-from_get_or P a 0 (λ i lt. (bound i (omega (arith, lt, pa)) (All-get_or P m i 0 (omega (arith, lt, pa)) all)).0),
+    All-from_get_or P b 0 (λ i lt. (bound i (omega (arith, lt, pb)) (All-get_or P m i 0 (omega (arith, lt, pb)) all)).1),
+  )
+
+module _ (x y m limit : ℕ) where
+  choice-above : m ≡ cond (ltb x y) y x → m < limit → (x < limit) × (y < limit)
+  choice-above is below = go (ltb x y) refl
+    where
+      go : (b : Bool) → ltb x y ≡ b → (x < limit) × (y < limit)
+      go true e = let is' = is ∙ ap (λ b. cond b y x) e in (omega (arith, is', below, ltb-true x y e), omega (arith, is', below))
+      go false e = let is' = is ∙ ap (λ b. cond b y x) e in (omega (arith, is', below), omega (arith, is', below, ltb-false x y e))
+
+  choice-below : m ≡ cond (ltb x y) x y → limit ≤ m → (limit ≤ x) × (limit ≤ y)
+  choice-below is above = go (ltb x y) refl
+    where
+      go : (b : Bool) → ltb x y ≡ b → (limit ≤ x) × (limit ≤ y)
+      go true e = let is' = is ∙ ap (λ b. cond b x y) e in (omega (arith, is', above), omega (arith, is', above, ltb-true x y e))
+      go false e = let is' = is ∙ ap (λ b. cond b x y) e in (omega (arith, is', above, ltb-false x y e), omega (arith, is', above))
+
+  choice-one : m ≡ cond (ltb x y) x y → m < limit → (x < limit) ⊎ (y < limit)
+  choice-one is below = go (ltb x y) refl
+    where
+      go : (b : Bool) → ltb x y ≡ b → (x < limit) ⊎ (y < limit)
+      go true e = let is' = is ∙ ap (λ b. cond b x y) e in inl (omega (arith, is', below))
+      go false e = let is' = is ∙ ap (λ b. cond b x y) e in inr (omega (arith, is', below))
+
+pub below_greater : (limit : ℕ) (a b m : List ℕ) → length a ≡ 8 → length b ≡ 8 → HasLanes 8 m (λ i. cond (ltb (slice_index a i) (slice_index b i)) (slice_index b i) (slice_index a i))
+    → All (λ u. u < limit) m → All (λ u. u < limit) a × All (λ u. u < limit) b
+below_greater limit a b m pa pb lanes = both_by (λ u. u < limit) a b m (pa ∙ sym lanes.len) (pb ∙ sym lanes.len) (λ i lt below.
+    choice-above _ _ _ limit (lanes.lanes i (omega (arith, lt, lanes.len))) below)
+
+pub from_lesser : (limit : ℕ) (a b m : List ℕ) → length a ≡ 8 → length b ≡ 8 → HasLanes 8 m (λ i. cond (ltb (slice_index a i) (slice_index b i)) (slice_index a i) (slice_index b i))
+    → All (λ u. limit ≤ u) m → All (λ u. limit ≤ u) a × All (λ u. limit ≤ u) b
+from_lesser limit a b m pa pb lanes = both_by (λ u. limit ≤ u) a b m (pa ∙ sym lanes.len) (pb ∙ sym lanes.len) (λ i lt above.
+    choice-below _ _ _ limit (lanes.lanes i (omega (arith, lt, lanes.len))) above)
+
+pub all_four : (P : ℕ → Type 0) (units a b c d : List ℕ) → length units ≡ 32 → a ≡ chunk 0 8 units → b ≡ chunk 8 8 units → c ≡ chunk 16 8 units → d ≡ chunk 24 8 units
+    → All P a × All P b → All P c × All P d → All P units
+all_four P units a b c d long pa pb pc pd low high =
+    subst (All P) (ap₂ (λ x y. x ++ y) pa (ap₂ (λ x y. x ++ y) pb (ap₂ (λ x y. x ++ y) pc pd)) ∙ sym (four_eights units long))
+    (All-append P a _ low.0 (All-append P b _ low.1 (All-append P c d high.0 high.1)))
+
+-- ---- the kinds of units
+
+pub low-letter : (u : ℕ) → u < 0x1_0000 → u < 0x800 → (is_surrogate u ≡ false) × (added_len u ≤ 2)
+low-letter u below low = (surrogate-no u below (inl (omega (arith, low))), narrow-kind u below (inl (low-is u low)))
+
+pub folded-few : (u : ℕ) → u < 0x1_0000 → folded u < 0x800 → added_len u ≤ 2
+folded-few u below few = ⊎_elim
+    (λ (low : u < 0x800). narrow-kind u below (inl (low-is u low)))
+    (λ (high : plus u 0x2800 < 0x800). narrow-kind u below (inr (surrogate-is u below (omega (arith, high)) (omega (arith, high, below)))))
+    (choice-one u (plus u 0x2800) (folded u) 0x800 refl few)
+
+pub folded-wide : (u : ℕ) → u < 0x1_0000 → 0x800 ≤ folded u → added_len u ≡ 3
+folded-wide u below many =
+    let both = choice-below u (plus u 0x2800) (folded u) 0x800 refl many in
+    wide-kind u below (low-no u below both.0) (surrogate-no u below (⊎_elim
+    (λ (a : u < 0xD800). inl a)
+    (λ (b : 0xD800 ≤ u). inr (omega (arith, b, both.1)))
+    (cases_lt u 0xD800)))

@@ -1,0 +1,10 @@
+use Rattle.std.proofs.Common.{slice_index, refl, ap, ◌∙◌, arith}
+use Rattle.std.proofs.lemmas.Simd.{get_or-chunk}
+use Rattle.utf16_to_utf8.proofs.WriterLemmas.{reached-next}
+use Rattle.utf16_to_utf8.proofs.runs.put_units.Goals as goal
+
+pub returns-clause-reached : goal.returns-clause-reached
+returns-clause-reached g c =
+    let units = c.args.units in
+    let last = ap (λ us. slice_index us 7) c.eights.ensures.fourth ∙ get_or-chunk 24 8 units 7 0 (omega arith) in
+    reached-next g.E.Utf16Order.BIG c.args.raw.now c.args.out.now _ units c.args.from _ c.requires.reached c.requires.more c.fits-units.0 c.requires.next refl c.put_block-end.ensures.written_to last c.put_block-end.ensures.bytes

@@ -1,0 +1,95 @@
+//! Writes the blocks of a text, with a loop of its own for blocks of the same kind that follow each
+//! other.
+
+ghost use Rattle.std.specs.Prelude.{◌≡◌, ◌+◌, ◌*◌, ◌/◌, ◌<◌, ◌≤◌, drop, length, take};
+ghost use Rattle.utf16_units.specs.Encoding.{units_of};
+ghost use Rattle.utf16_to_utf8.specs.Block.{AreOfKind};
+ghost use Rattle.utf16_to_utf8.specs.Cursor.{Reached};
+
+use crate::blocks::{Kind, are_of, eights, kind_of, put_block};
+use crate::write::SLACK;
+use std::simd::prelude::*;
+use utf16_units::Utf16Order;
+use utf16_units::blocks::units32;
+
+// How far a text was written: the number of bytes read and the number of bytes written, and the
+// eight units before the next.
+#[derive(Clone, Copy)]
+pub(crate) struct Cursor {
+    pub(crate) at: usize,
+    pub(crate) end: usize,
+    pub(crate) previous: u16x8,
+}
+
+// The units of the next block.
+#[inline(always)]
+fn next_units<E: Utf16Order>(raw: &[u8], at: usize) -> u16x32
+    requires { at + 64 ≤ length raw.now }
+    ensures len { length result ≡ 32 }
+    ensures units { result ≡ units_of E.BIG (take 64 (drop at raw.now)) }
+{
+    units32::<E>(u8x64::from_slice(&raw[at..]))
+}
+
+// Writes the next block, and if it is ASCII or wide also the blocks of its kind that follow it.
+#[inline(always)]
+pub(crate) fn put_next<E: Utf16Order>(raw: &[u8], out: &mut [u8], from: Cursor) -> Cursor
+    requires space { length raw.now / 2 * 3 + SLACK ≤ length out.old }
+    requires more { from.at + 64 ≤ length raw.now }
+    requires reached { Reached E.BIG raw.now out.old from }
+    ensures reached { Reached E.BIG raw.now out.new result }
+    ensures advances { from.at < result.at }
+{
+    let units = next_units::<E>(raw, from.at);
+    let kind = kind_of(units);
+    let next = put_units::<E>(raw, out, from, units, kind);
+    match kind {
+        Kind::Ascii => put_run::<E>(raw, out, next, Kind::Ascii),
+        Kind::Wide => put_run::<E>(raw, out, next, Kind::Wide),
+        Kind::Letters | Kind::Pairs | Kind::Mixed => next,
+    }
+}
+
+// Writes the blocks of a kind from the cursor on.
+#[inline(always)]
+fn put_run<E: Utf16Order>(raw: &[u8], out: &mut [u8], from: Cursor, kind: Kind) -> Cursor
+    requires space { length raw.now / 2 * 3 + SLACK ≤ length out.old }
+    requires reached { Reached E.BIG raw.now out.old from }
+    ensures reached { Reached E.BIG raw.now out.new result }
+    ensures advances { from.at ≤ result.at }
+{
+    let mut cursor = from;
+    while raw.len() - cursor.at >= 64 {
+        let units = next_units::<E>(raw, cursor.at);
+        if !are_of(units, kind) {
+            break;
+        }
+        cursor = put_units::<E>(raw, out, cursor, units, kind);
+    }
+    cursor
+}
+
+// Writes the next block, which is of a kind.
+#[inline(always)]
+fn put_units<E: Utf16Order>(
+    raw: &[u8],
+    out: &mut [u8],
+    from: Cursor,
+    units: u16x32,
+    kind: Kind,
+) -> Cursor
+    requires space { length raw.now / 2 * 3 + SLACK ≤ length out.old }
+    requires more { from.at + 64 ≤ length raw.now }
+    requires next { units ≡ units_of E.BIG (take 64 (drop from.at raw.now)) }
+    requires kind { AreOfKind kind units }
+    requires reached { Reached E.BIG raw.now out.old from }
+    ensures reached { Reached E.BIG raw.now out.new result }
+    ensures at { result.at ≡ from.at + 64 }
+{
+    let end = put_block(out, from.end, from.previous, units, kind);
+    Cursor {
+        at: from.at + 64,
+        end,
+        previous: eights(units).3,
+    }
+}
