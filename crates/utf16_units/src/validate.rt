@@ -67,8 +67,11 @@ fn passed_blocks<E: Utf16Order>(raw: &[u8]) -> usize
     if leading { at - 2 } else { at }
 }
 
+// At each multiple of so many bytes, blocks without a surrogate are tried again.
+const PLAIN_EVERY: usize = 512;
+
 // The length of the prefix of blocks of 64 bytes whose surrogates are paired, and whether its last
-// unit is leading. After a block without a surrogate it looks for no pairs until there is one.
+// unit is leading. Blocks without a surrogate are passed by a loop that looks for no pairs.
 fn paired_blocks<E: Utf16Order>(raw: &[u8]) -> (usize, bool)
     ensures paired { PairedTo E.BIG raw.now result.0 result.1 }
     ensures stops { BlocksStopAt 64 E.BIG raw.now result.0 result.1 }
@@ -82,7 +85,7 @@ fn paired_blocks<E: Utf16Order>(raw: &[u8]) -> (usize, bool)
         };
         leading = last;
         at += 64;
-        if has_no_surrogate(highs) && !leading {
+        if at % PLAIN_EVERY == 0 && has_no_surrogate(highs) && !leading {
             at = plain_blocks::<E>(raw, at);
         }
     }
