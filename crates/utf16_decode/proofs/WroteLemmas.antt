@@ -1,11 +1,11 @@
 -- Chunks that were read and written, one after another.
-use Rattle.std.proofs.Common.{◌≡◌, ℕ, ◌+◌, ◌-◌, ◌<◌, ◌≤◌, List, [], ◌++◌, Option, None, Some, length, take, drop, sym, ap, ◌∙◌, subst, ⊎_elim, arith, append-nil, length-append, length-drop, length-take-le, take_all, take-add, take-append-drop}
+use Rattle.std.proofs.Common.{◌≡◌, ℕ, ◌+◌, ◌-◌, ◌<◌, ◌≤◌, List, [], ◌++◌, Option, None, Some, length, take, drop, sym, ap, ◌∙◌, subst, ⊎_elim, arith, append-nil, append_assoc, length-append, length-drop, length-take-le, take_all, take-add, take-append-drop}
 use borrow.Rule.Slice.PartMut.{put_mid}
 use Rattle.std.proofs.lemmas.Bool.{cases_lt}
 use Rattle.std.proofs.lemmas.List.{take-append-le, take_rest}
 use Rattle.std.specs.Char.{IsScalar}
 use Rattle.utf16_units.proofs.IllFormedLemmas.{rest_from, take-past}
-use Rattle.utf16_decode.specs.Wrote.{Gives, Joins, Puts, Wrote}
+use Rattle.utf16_decode.specs.Wrote.{Joins, Puts, Wrote}
 use Rattle.utf16_decode.specs.Stops.{BeginsWith, NextDoesNotFit, Stops, StopsHere}
 use Rattle.utf16_decode.specs.declared.progress.Stop.{Stop}
 use Rattle.utf16_decode.specs.declared.progress.Stop.TheVariants.{Incomplete, Done, IllFormed, NoRoom}
@@ -42,6 +42,24 @@ Puts-none empty rest old new at within kept = record {
   bytes = ap (take at) kept ∙ sym (append-nil (take at old));
 }
 
+-- one more chunk after others
+pub Puts-then : {Gives : List ℕ → List ℕ → Type 0} → Joins Gives → (rest old mid new : List ℕ) (at read end len last : ℕ) → Puts Gives rest old mid at read end
+    → Puts Gives (rest_from rest read) mid new end len last → Puts Gives rest old new at (read + len) last
+Puts-then {Gives} joins rest old mid new at read end len last before piece =
+    let behind : rest_from rest read ≡ drop read rest = take_rest rest read in
+    let long = ap length behind ∙ length-drop read rest in
+    let within = before.within in
+    let few = piece.within in
+    record {
+      within = omega arith;
+      fits = piece.fits;
+      added = before.added ++ piece.added;
+      gives =
+          subst (λ i. Gives i (before.added ++ piece.added)) (ap (λ r. take read rest ++ take len r) behind ∙ sym (take-add read len rest))
+          (joins (take read rest) (take len (rest_from rest read)) before.added piece.added before.gives piece.gives);
+      bytes = piece.bytes ∙ ap (λ b. b ++ piece.added) before.bytes ∙ append_assoc (take at old) before.added piece.added;
+    }
+
 -- a buffer whose end was overwritten has the same length
 pub put_end-long : (at : ℕ) (old part : List ℕ) → at ≤ length old → length part ≡ length old - at → length (put_mid at (length old - at) old part) ≡ length old
 put_end-long at old part within long =
@@ -62,21 +80,17 @@ take-end at n old part within long few =
     ∙ ap (λ t. take at old ++ t) (take-append-le n part after few)
 
 -- a character at the start of the rest
-module _ (from into : ℕ → List ℕ) (IsValid : List ℕ → Type 0) (other : List ℕ → List ℕ) (chars : (c : ℕ) → IsScalar c → Gives IsValid other (from c) (into c))
-    (rest : List ℕ) (n : ℕ) (first : BeginsWith from rest n) where
-  pub first_text : IsValid (take n rest)
-  first_text = subst IsValid (sym first.spelled) (chars first.char first.scalar).0
+module _ (from into : ℕ → List ℕ) (rest : List ℕ) (c n : ℕ) (first : BeginsWith from rest c n) where
+  pub first_gives : (Given : List ℕ → List ℕ → Type 0) → ((c : ℕ) → IsScalar c → Given (from c) (into c)) → Given (take n rest) (into c)
+  first_gives Given chars = subst (λ b. Given b (into c)) (sym first.spelled) (chars c first.scalar)
 
-  pub first_few : (few : (c : ℕ) → IsScalar c → length (from c) ≤ 4) → length (take n rest) ≤ 4
-  first_few few = omega (arith, ap length first.spelled, few first.char first.scalar)
-
-  pub first_does_not_fit : (left : ℕ) → left < length (other (take n rest)) → NextDoesNotFit from into rest left
+  pub first_does_not_fit : (left : ℕ) → left < length (into c) → NextDoesNotFit from into rest left
   first_does_not_fit left long = record {
-    char = first.char;
+    char = c;
     more = drop n rest;
     scalar = first.scalar;
     begins = sym (take-append-drop n rest) ∙ ap (λ t. t ++ drop n rest) first.spelled;
-    too_long = omega (arith, long, ap (λ b. length (other b)) first.spelled, ap length (chars first.char first.scalar).1);
+    too_long = long;
   }
 
 -- why a call stopped, stated of the whole input

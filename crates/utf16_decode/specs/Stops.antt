@@ -63,9 +63,8 @@ StopsLossyWhole text into rest left (IllFormed len) = ⊥
 StopsLossyWhole text into rest left Incomplete = ⊥
 StopsLossyWhole text into rest left NoRoom = TextDoesNotFit into (text rest) left
 
--- the first n bytes are those of one character
-pub record BeginsWith (from : ℕ → List ℕ) (bytes : List ℕ) (n : ℕ) : Type 0 where
-  pub char : ℕ
+-- the first n bytes are those of a character
+pub record BeginsWith (from : ℕ → List ℕ) (bytes : List ℕ) (char n : ℕ) : Type 0 where
   pub scalar : IsScalar char
   pub within : n ≤ length bytes
   pub some : 0 < n

@@ -21,6 +21,9 @@ const BUFFER_LEN: usize = 320;
 // With at least this much space left, chunks are written directly to their place.
 const MUCH: usize = 512;
 
+// Fewer bytes than these are written character by character.
+const BY_CHARS: usize = 16;
+
 /// One of the two directions: how the bytes of one encoding are validated, and how a text is
 /// written in the other.
 pub trait Direction {
@@ -49,18 +52,37 @@ pub trait Direction {
         ensures within { result ≤ length bytes.now }
         ensures valid { IsValid (take result bytes.now) };
 
-    /// Returns the length in bytes of the first character, or the `error_len` of what is there
+    /// Returns the first character and its length in bytes, or the `error_len` of what is there
     /// instead.
     ///
     /// # Precondition
     ///
     /// There is at least one byte.
-    fn first_len(rest: &[u8]) -> Result<usize, Option<u8>>
+    fn first_char(rest: &[u8]) -> Result<(char, usize), Option<u8>>
         requires { 0 < length rest.now }
-        ensures char { IfOk result (BeginsWith from rest.now) }
+        ensures char { IfOk result (λ first. BeginsWith from rest.now first.0 first.1) }
         ensures ill_formed { IfErr result (IsIllFormedAt rest.now) };
 
-    /// Returns how many bytes of input surely fit in `room` bytes, whatever they are.
+    /// Writes a character in the second encoding at `at`, and returns where it ends; `None` if it
+    /// does not fit. The bytes after it may be overwritten.
+    ///
+    /// # Precondition
+    ///
+    /// `at` is at most the length of the buffer.
+    fn put_char(c: char, to: &mut [u8], at: usize) -> Option<usize>
+        requires { at ≤ length to.old }
+        ensures within { IfSome result (λ end. end ≤ length to.new) }
+        ensures bytes { IfSome result (λ end. take end to.new ≡ take at to.old ++ into c) }
+        ensures none { result ≡ None → length to.new - at < length (into c) }
+        ensures unchanged { result ≡ None → to.new ≡ to.old };
+
+    /// Returns how many bytes of input surely fit in `room` bytes in the second encoding, whatever
+    /// they are.
+    fn surely_fit(room: usize) -> usize
+        ensures { (text : List ℕ) → IsValid text → length text ≤ result
+            → length (other text) ≤ room };
+
+    /// Returns how many bytes of input `write` surely takes if the buffer has `room` bytes.
     ///
     /// # Precondition
     ///
@@ -90,7 +112,6 @@ pub trait Direction {
         ensures of_nothing { Gives IsValid other [] [] }
         ensures joins { Joins (Gives IsValid other) }
         ensures each_char { (c : ℕ) → IsScalar c → Gives IsValid other (from c) (into c) }
-        ensures few { (c : ℕ) → IsScalar c → length (from c) ≤ 4 }
         ensures ill_formed { (input : List ℕ) (read : ℕ) (len : Option ℕ) → read < length input
             → IsValid (take read input) → IsIllFormedAt (drop read input) len
             → IsIllFormed input read len };
@@ -154,20 +175,56 @@ fn put_piece<D: Direction>(rest: &[u8], before: usize, to: &mut [u8], at: usize)
     (len, at + written)
 }
 
-// Does the same for a few bytes, if they fit.
+// Does the same for a few bytes that surely fit; character by character if those are very few.
 fn put_few<D: Direction>(rest: &[u8], to: &mut [u8], at: usize) -> (usize, usize)
     requires { at ≤ length to.old }
     ensures { Puts (Gives D.IsValid D.other) rest.now to.old to.new at result.0 result.1 }
 {
     D::laws();
-    let len = D::valid_len(&rest[..rest.len().min(BUFFERED_LEN)], 0);
-    match put_text::<D>(&rest[..len], to, at) {
-        Some(end) => (len, end),
-        None => (0, at),
+    let most = D::surely_fit(to.len() - at)
+        .min(BUFFERED_LEN)
+        .min(rest.len());
+    if most < BY_CHARS {
+        return put_chars::<D>(rest, to, at);
     }
+    let len = D::valid_len(&rest[..most], 0);
+    (len, put_text::<D>(&rest[..len], to, at))
+}
+
+// Writes a few bytes of text at `at`, and returns where the written bytes end.
+fn put_text<D: Direction>(text: &[u8], to: &mut [u8], at: usize) -> usize
+    requires well_formed { D.IsValid text.now }
+    requires few { length text.now ≤ BUFFERED_LEN }
+    requires fits { at + length (D.other text.now) ≤ length to.old }
+    ensures within { result ≤ length to.new }
+    ensures bytes { take result to.new ≡ take at to.old ++ D.other text.now }
+{
+    D::laws();
+    let mut buf = [0; BUFFER_LEN];
+    let len = D::write(text, &mut buf);
+    put(&buf[..len], to, at)
+}
+
+// Writes the valid characters at the start of the bytes one by one, as far as they fit.
+fn put_chars<D: Direction>(rest: &[u8], to: &mut [u8], at: usize) -> (usize, usize)
+    requires { at ≤ length to.old }
+    ensures { Puts (Gives D.IsValid D.other) rest.now to.old to.new at result.0 result.1 }
+{
+    D::laws();
+    let mut read = 0;
+    let mut written = at;
+    while read < rest.len() {
+        let Ok((len, end)) = put_char::<D>(&rest[read..], to, written) else {
+            break;
+        };
+        read += len;
+        written = end;
+    }
+    (read, written)
 }
 
 // Writes the first character at `at`, or returns why it cannot.
+#[inline(always)]
 fn put_char<D: Direction>(rest: &[u8], to: &mut [u8], at: usize) -> Result<(usize, usize), Stop>
     requires not_empty { 0 < length rest.now }
     requires within { at ≤ length to.old }
@@ -179,32 +236,13 @@ fn put_char<D: Direction>(rest: &[u8], to: &mut [u8], at: usize) -> Result<(usiz
     ensures unchanged { IfErr result (λ _. to.new ≡ to.old) }
 {
     D::laws();
-    let len = match D::first_len(rest) {
-        Ok(len) => len,
+    let (c, len) = match D::first_char(rest) {
+        Ok(first) => first,
         Err(Some(len)) => return Err(Stop::IllFormed(len)),
         Err(None) => return Err(Stop::Incomplete),
     };
-    match put_text::<D>(&rest[..len], to, at) {
+    match D::put_char(c, to, at) {
         Some(end) => Ok((len, end)),
         None => Err(Stop::NoRoom),
     }
-}
-
-// Writes a few bytes of text at `at` if they fit, and returns where the written bytes end.
-fn put_text<D: Direction>(text: &[u8], to: &mut [u8], at: usize) -> Option<usize>
-    requires well_formed { D.IsValid text.now }
-    requires few { length text.now ≤ BUFFERED_LEN }
-    requires within { at ≤ length to.old }
-    ensures within { IfSome result (λ end. end ≤ length to.new) }
-    ensures bytes { IfSome result (λ end. take end to.new ≡ take at to.old ++ D.other text.now) }
-    ensures none { result ≡ None → length to.new - at < length (D.other text.now) }
-    ensures unchanged { result ≡ None → to.new ≡ to.old }
-{
-    D::laws();
-    let mut buf = [0; BUFFER_LEN];
-    let len = D::write(text, &mut buf);
-    if to.len() - at < len {
-        return None;
-    }
-    Some(put(&buf[..len], to, at))
 }

@@ -8,9 +8,10 @@ ghost use Rattle.utf16_decode.specs.Wrote.{TranscodesToUtf8, Wrote};
 ghost use Rattle.utf16_decode.specs.Stops.{IsIllFormedUtf16, StopsDecoding};
 
 use crate::direction::{Direction, transcode};
-use crate::progress::Progress;
+use crate::progress::{Progress, put};
 use std::marker::PhantomData;
 use utf16_to_utf8::{SLACK, write_utf8};
+use utf16_units::ends::first_char;
 use utf16_units::{Utf16Order, first_char_len, validate_raw_utf16};
 
 /// Writes UTF-16 in UTF-8 to the start of a buffer, up to the first ill-formed sequence or as far
@@ -58,8 +59,28 @@ impl<E: Utf16Order> Direction for ToUtf8<E> {
     }
 
     #[inline(always)]
-    fn first_len(rest: &[u8]) -> Result<usize, Option<u8>> {
-        first_char_len::<E>(rest)
+    fn first_char(rest: &[u8]) -> Result<(char, usize), Option<u8>> {
+        let len = first_char_len::<E>(rest)?;
+        Ok(first_char::<E>(&rest[..len]))
+    }
+
+    #[inline(always)]
+    fn put_char(c: char, to: &mut [u8], at: usize) -> Option<usize> {
+        if c.is_ascii() && at < to.len() {
+            to[at] = c as u8;
+            return Some(at + 1);
+        }
+        let mut buf = [0; 4];
+        let bytes = c.encode_utf8(&mut buf).as_bytes();
+        if to.len() - at < bytes.len() {
+            return None;
+        }
+        Some(put(bytes, to, at))
+    }
+
+    #[inline(always)]
+    fn surely_fit(room: usize) -> usize {
+        room / 3 * 2
     }
 
     #[inline(always)]

@@ -36,9 +36,6 @@ chars-char c scalar =
 pub char_gives : (big : Bool) (c : ℕ) → IsScalar c → Gives IsUtf8 (λ text. encode big (chars text)) (encode_utf8 c) (char_bytes big c)
 char_gives big c scalar = (IsUtf8-encode c scalar, sym (ap (encode big) (chars-char c scalar) ∙ encode-one big c))
 
-pub char_few : (c : ℕ) → IsScalar c → length (encode_utf8 c) ≤ 4
-char_few c scalar = omega (arith, length-encode c, (len_utf8_bounds c).1)
-
 -- if UTF-8 begins with UTF-8, the rest is UTF-8 too
 pub IsUtf8-behind : (front back : List ℕ) → IsUtf8 front → IsUtf8 (front ++ back) → IsUtf8 back
 IsUtf8-behind front back first all =

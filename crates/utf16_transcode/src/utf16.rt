@@ -11,7 +11,7 @@ ghost use Rattle.utf16_decode.specs.Stops.{BeginsWith};
 use std::marker::PhantomData;
 use utf16_decode::{Direction, Progress, transcode};
 use utf16_from_utf8::write_units;
-use utf16_units::Utf16Order;
+use utf16_units::{Utf16CharExt, Utf16Order};
 
 // The number of bytes that are validated first if few valid bytes precede them, and the factor by
 // which it grows after each valid part. Validation of 64 bytes or more goes to their end before it
@@ -62,8 +62,21 @@ impl<E: Utf16Order> Direction for FromUtf8<E> {
     }
 
     #[inline(always)]
-    fn first_len(rest: &[u8]) -> Result<usize, Option<u8>> {
-        first_len(rest)
+    fn first_char(rest: &[u8]) -> Result<(char, usize), Option<u8>> {
+        first_char(rest)
+    }
+
+    #[inline(always)]
+    fn put_char(c: char, to: &mut [u8], at: usize) -> Option<usize> {
+        if to.len() - at < c.encoded_utf16_len() {
+            return None;
+        }
+        Some(at + c.encode_utf16_into::<E>(&mut to[at..]))
+    }
+
+    #[inline(always)]
+    fn surely_fit(room: usize) -> usize {
+        room / 2
     }
 
     #[inline(always)]
@@ -129,11 +142,36 @@ fn part_len(rest: &[u8], part: usize) -> usize
     if rest[len - 1] < 0xC0 { len } else { len - 1 }
 }
 
-// Returns the length in bytes of the first character, or the `error_len` of what is there instead.
-// Four bytes suffice for it.
-fn first_len(rest: &[u8]) -> Result<usize, Option<u8>>
+// Returns the first character and its length in bytes, or the `error_len` of what is there instead.
+#[inline]
+fn first_char(rest: &[u8]) -> Result<(char, usize), Option<u8>>
     requires { 0 < length rest.now }
-    ensures char { IfOk result (BeginsWith encode_utf8 rest.now) }
+    ensures char { IfOk result (λ first. BeginsWith encode_utf8 rest.now first.0 first.1) }
+    ensures ill_formed { IfErr result (IsIllFormedUtf8At rest.now) }
+{
+    let lead = rest[0];
+    if lead < 0x80 {
+        return Ok((lead as char, 1));
+    }
+    let len = if lead < 0xE0 {
+        2
+    } else if lead < 0xF0 {
+        3
+    } else {
+        4
+    };
+    if rest.len() >= len
+        && let Ok(text) = str::from_utf8(&rest[..len])
+    {
+        return Ok(first_of(text));
+    }
+    first_of_four(rest)
+}
+
+// Returns the same. Four bytes suffice for it.
+fn first_of_four(rest: &[u8]) -> Result<(char, usize), Option<u8>>
+    requires { 0 < length rest.now }
+    ensures char { IfOk result (λ first. BeginsWith encode_utf8 rest.now first.0 first.1) }
     ensures ill_formed { IfErr result (IsIllFormedUtf8At rest.now) }
 {
     let window = &rest[..rest.len().min(4)];
@@ -152,14 +190,14 @@ fn first_len(rest: &[u8]) -> Result<usize, Option<u8>>
     }
 }
 
-// Returns the length in bytes of the first character of a text.
-fn first_of(text: &str) -> usize
+// Returns the first character of a text and its length in bytes.
+fn first_of(text: &str) -> (char, usize)
     requires { 0 < length text.now }
-    ensures { BeginsWith encode_utf8 text.now result }
+    ensures { BeginsWith encode_utf8 text.now result.0 result.1 }
 {
     let mut chars = text.chars();
     match chars.next() {
-        Some(c) => c.len_utf8(),
-        None => 0,
+        Some(c) => (c, c.len_utf8()),
+        None => ('\0', 0),
     }
 }

@@ -1,5 +1,5 @@
 use Rattle.std.proofs.Common.{arith}
-use Rattle.utf16_decode.proofs.ToUtf8.{char_few, char_gives, faults_there, room_grows, utf8_empty, utf8_joins}
+use Rattle.utf16_decode.proofs.ToUtf8.{char_gives, faults_there, room_grows, utf8_empty, utf8_joins}
 use Rattle.utf16_decode.proofs.utf8.ToUtf8Direction.laws.Goals as goal
 
 pub returns : goal.returns
@@ -9,6 +9,5 @@ returns g c = record {
   of_nothing = utf8_empty g.E.Utf16Order.BIG;
   joins = utf8_joins g.E.Utf16Order.BIG;
   each_char = char_gives g.E.Utf16Order.BIG;
-  few = char_few g.E.Utf16Order.BIG;
   ill_formed = faults_there g.E.Utf16Order.BIG;
 }

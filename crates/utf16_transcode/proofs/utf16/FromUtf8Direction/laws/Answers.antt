@@ -1,5 +1,5 @@
 use Rattle.std.proofs.Common.{arith}
-use Rattle.utf16_transcode.proofs.FromUtf8.{char_few, char_gives, faults_there, room_grows, utf16_empty, utf16_joins}
+use Rattle.utf16_transcode.proofs.FromUtf8.{char_gives, faults_there, room_grows, utf16_empty, utf16_joins}
 use Rattle.utf16_transcode.proofs.utf16.FromUtf8Direction.laws.Goals as goal
 
 pub returns : goal.returns
@@ -9,6 +9,5 @@ returns g c = record {
   of_nothing = utf16_empty g.E.Utf16Order.BIG;
   joins = utf16_joins g.E.Utf16Order.BIG;
   each_char = char_gives g.E.Utf16Order.BIG;
-  few = char_few;
   ill_formed = faults_there;
 }

@@ -2,8 +2,8 @@ use Rattle.std.proofs.Common.{◌≡◌, drop, take, sym, ap, ◌∙◌, subst}
 use Rattle.std.specs.Str.{IsValidUpTo, StartsWithNoChar}
 use Rattle.std.specs.Str.Lossy.{utf8_error_len}
 use Rattle.utf16_transcode.proofs.FromUtf8.{no_char, window_tells}
-use Rattle.utf16_transcode.proofs.utf16.first_len.Goals as goal
-use Rattle.utf16_transcode.proofs.utf16.first_len.Goals.{After-error_len}
+use Rattle.utf16_transcode.proofs.utf16.first_of_four.Goals as goal
+use Rattle.utf16_transcode.proofs.utf16.first_of_four.Goals.{After-error_len}
 
 fault : (c : After-error_len) → StartsWithNoChar c.args.rest.now × (c.error_len.result ≡ utf8_error_len c.args.rest.now)
 fault c =
