@@ -32,7 +32,8 @@ mkdir -p out
 # The validator with its loop over units, which follows its blocks, for every length: the same code
 # and proof, in an archive of its own under another name.
 rm -rf out/loop && mkdir out/loop && cp -r ../HANDLES ../crates.txt ../crates out/loop
-sed -i 's/if raw.len() < 32 {/if raw.len() < usize::MAX {/' out/loop/crates/utf16_units/src/validate.rt
+sed -i -e 's/if raw.len() < 32 {/if raw.len() < usize::MAX {/' \
+    -e '/if has_no_surrogate_short::<E>(raw) {/,/^        }/d' out/loop/crates/utf16_units/src/validate.rt
 ! cmp -s ../crates/utf16_units/src/validate.rt out/loop/crates/utf16_units/src/validate.rt
 (cd out/loop/crates/dethrux && rt lib > ../../../rt.log 2>&1) || { cat out/rt.log >&2; exit 1; }
 objcopy --redefine-sym dethrux_validate=loop_validate --keep-global-symbol=loop_validate \
