@@ -1,8 +1,10 @@
 //! UTF-8 to UTF-16, up to the first ill-formed sequence.
 
-ghost use Rattle.std.specs.Prelude.{◌+◌, ◌-◌, ◌*◌, ◌<◌, ◌≤◌, IfErr, IfOk, length, take};
+ghost use Rattle.std.specs.Prelude.{◌≡◌, ◌&&◌, ◌+◌, ◌-◌, ◌*◌, ◌<◌, ◌≤◌, IfErr, IfOk, length, take};
 ghost use Rattle.std.specs.Char.{encode_utf8};
+ghost use Rattle.std.specs.Int.{is_in_range};
 ghost use Rattle.std.specs.Str.{IsUtf8, chars};
+ghost use Rattle.std.specs.Str.Lossy.{second_byte_max, second_byte_min};
 ghost use Rattle.utf16_units.specs.Encoding.{char_bytes, encode};
 ghost use Rattle.utf16_transcode.specs.FromUtf8.{TranscodesToUtf16, IsIllFormedUtf8, IsIllFormedUtf8At, StopsEncoding};
 ghost use Rattle.utf16_decode.specs.Wrote.{Wrote};
@@ -95,6 +97,9 @@ fn valid_len(text: &[u8], before: usize) -> usize
     ensures within { result ≤ length text.now }
     ensures well_formed { IsUtf8 (take result text.now) }
 {
+    if text.len() >= 2 && text[0] >= 0x80 && !can_begin(text[0], text[1]) {
+        return 0;
+    }
     if text.len() <= FIRST {
         return tested_len(text);
     }
@@ -142,6 +147,22 @@ fn part_len(rest: &[u8], part: usize) -> usize
     if rest[len - 1] < 0xC0 { len } else { len - 1 }
 }
 
+// Whether a character of two bytes or more can begin with these two (Unicode Standard, table 3-7).
+#[inline(always)]
+fn can_begin(lead: u8, second: u8) -> bool
+    ensures { result ≡ (is_in_range 0xC2 0xF4 lead
+        && is_in_range (second_byte_min lead) (second_byte_max lead) second) }
+{
+    let (least, most) = match lead {
+        0xE0 => (0xA0, 0xBF),
+        0xED => (0x80, 0x9F),
+        0xF0 => (0x90, 0xBF),
+        0xF4 => (0x80, 0x8F),
+        _ => (0x80, 0xBF),
+    };
+    (0xC2..=0xF4).contains(&lead) && (least..=most).contains(&second)
+}
+
 // Returns the first character and its length in bytes, or the `error_len` of what is there instead.
 #[inline]
 fn first_char(rest: &[u8]) -> Result<(char, usize), Option<u8>>
@@ -161,6 +182,7 @@ fn first_char(rest: &[u8]) -> Result<(char, usize), Option<u8>>
         4
     };
     if rest.len() >= len
+        && can_begin(lead, rest[1])
         && let Ok(text) = str::from_utf8(&rest[..len])
     {
         return Ok(first_of(text));

@@ -1,0 +1,188 @@
+// Times the calls of the C library on the bytes that cost most, in buffers of each capacity, and
+// ICU's converters on the same: see README.md.
+#define _POSIX_C_SOURCE 200809L
+#include <stdio.h>
+#include <string.h>
+#include <time.h>
+#include <unicode/ucnv.h>
+#include "dethrux.h"
+
+enum { INPUT = 1 << 15, ROUNDS = 9, MAX_CAPACITY = 1 << 16 };
+
+static const size_t capacities[] = {16, 32, 64, 128, 256, 1024, 4096, MAX_CAPACITY};
+enum { CAPACITIES = sizeof capacities / sizeof *capacities };
+
+// A text: what it is made of, and an ill-formed sequence that begins each `every` bytes.
+struct text {
+    const char *name;
+    const char *good, *fault;
+    size_t every;
+};
+
+#define FAULTS(form, good, bad) {form, good, bad, 1}, {form, good, bad, 8}, {form, good, bad, 16}, \
+    {form, good, bad, 64}, {form, good, bad, 256}, {form, good, bad, 1000}, {form, good, bad, 5000}, \
+    {form, good, bad, 10000}
+
+// Little endian, each code unit as two bytes in hex.
+static const struct text utf16[] = {
+    {"ASCII", "6100", "", INPUT},
+    {"Cyrillic", "3004", "", INPUT},
+    {"CJK", "004e", "", INPUT},
+    {"emoji", "3dd800de", "", INPUT},
+    {"1 to 4 bytes", "610030043dd800de004e", "", INPUT},
+    FAULTS("trailing surrogate in ASCII", "6100", "00dc"),
+    FAULTS("leading surrogate in ASCII", "6100", "00d8"),
+    FAULTS("trailing surrogate in CJK", "004e", "00dc"),
+    FAULTS("leading surrogate in emoji", "3dd800de", "00d8"),
+};
+
+static const struct text utf8[] = {
+    {"ASCII", "61", "", INPUT},
+    {"Cyrillic", "d0b0", "", INPUT},
+    {"CJK", "e4b880", "", INPUT},
+    {"emoji", "f09f9880", "", INPUT},
+    {"1 to 4 bytes", "61d0b0f09f9880e4b880", "", INPUT},
+    FAULTS("byte FF in ASCII", "61", "ff"),
+    FAULTS("continuation byte in CJK", "e4b880", "80"),
+    FAULTS("overlong form in ASCII", "61", "c080"),
+    FAULTS("surrogate in CJK", "e4b880", "eda080"),
+    FAULTS("two of three bytes in Cyrillic", "d0b0", "e4b8"),
+    FAULTS("three of four bytes in emoji", "f09f9880", "f09f98"),
+};
+
+static uint8_t input[INPUT + 8], output[MAX_CAPACITY];
+static UChar units[MAX_CAPACITY];
+
+static size_t put(uint8_t *to, const char *hex) {
+    size_t len = strlen(hex) / 2;
+    for (size_t i = 0; i < len; i++) {
+        unsigned byte;
+        sscanf(hex + 2 * i, "%2x", &byte);
+        to[i] = byte;
+    }
+    return len;
+}
+
+// Writes a text, and returns its length.
+static size_t make(const struct text *it) {
+    size_t at = 0, next = it->every == INPUT ? INPUT : 0;
+    while (at < INPUT - 16) {
+        if (at >= next) {
+            at += put(input + at, it->fault);
+            next = at + it->every;
+        } else {
+            at += put(input + at, it->good);
+        }
+    }
+    return at;
+}
+
+static double seconds(void) {
+    struct timespec now;
+    clock_gettime(CLOCK_PROCESS_CPUTIME_ID, &now);
+    return now.tv_sec + now.tv_nsec * 1e-9;
+}
+
+typedef dethrux_progress convert(
+    dethrux_byte_order, const uint8_t *, size_t, uint8_t *, size_t);
+
+// Converts all, a buffer at a time, goes on after each ill-formed sequence, and returns the number
+// of calls.
+static size_t whole(convert *call, size_t len, size_t capacity) {
+    size_t at = 0, calls = 0;
+    for (;;) {
+        dethrux_progress it = call(DETHRUX_LITTLE_ENDIAN, input + at, len - at, output, capacity);
+        at += it.read;
+        calls++;
+        if (it.status == DETHRUX_ILL_FORMED) at += it.error_len;
+        else if (it.status != DETHRUX_NO_SPACE) return calls;
+    }
+}
+
+// The same through a decoder with a state, in chunks of 1,000 bytes.
+static size_t streamed(size_t len, size_t capacity) {
+    dethrux_decoder decoder = DETHRUX_DECODER_INIT;
+    size_t at = 0, calls = 0;
+    while (at < len) {
+        size_t chunk = len - at < 1000 ? len - at : 1000;
+        dethrux_progress it = dethrux_decoder_feed(
+            &decoder, DETHRUX_LITTLE_ENDIAN, input + at, chunk, output, capacity);
+        at += it.read;
+        calls++;
+    }
+    return calls;
+}
+
+// ICU: the same, lossy, from units to UTF-8 and back. Its converters keep what does not fit.
+static UConverter *icu;
+
+static size_t icu_to_utf8(size_t len, size_t capacity) {
+    const UChar *source = (const UChar *)input, *end = source + len / 2;
+    size_t calls = 0;
+    ucnv_reset(icu);
+    for (;;) {
+        UErrorCode error = U_ZERO_ERROR;
+        char *target = (char *)output;
+        ucnv_fromUnicode(icu, &target, target + capacity, &source, end, NULL, 1, &error);
+        calls++;
+        if (error != U_BUFFER_OVERFLOW_ERROR) return calls;
+    }
+}
+
+static size_t icu_from_utf8(size_t len, size_t capacity) {
+    const char *source = (const char *)input, *end = source + len;
+    size_t calls = 0;
+    ucnv_reset(icu);
+    for (;;) {
+        UErrorCode error = U_ZERO_ERROR;
+        UChar *target = units;
+        ucnv_toUnicode(icu, &target, target + capacity / 2, &source, end, NULL, 1, &error);
+        calls++;
+        if (error != U_BUFFER_OVERFLOW_ERROR) return calls;
+    }
+}
+
+enum { STRICT, LOSSY, STREAMED, ICU, CALLS };
+
+static size_t run(int from, int call, size_t len, size_t capacity) {
+    switch (call) {
+    case STRICT: return whole(from ? dethrux_from_utf8 : dethrux_to_utf8, len, capacity);
+    case LOSSY: return whole(from ? dethrux_from_utf8_lossy : dethrux_to_utf8_lossy, len, capacity);
+    case STREAMED: return streamed(len, capacity);
+    default: return from ? icu_from_utf8(len, capacity) : icu_to_utf8(len, capacity);
+    }
+}
+
+// A line for each direction, call, text and capacity: nanoseconds for each byte of input, and the
+// calls that were made.
+int main(void) {
+    static const char *const names[] = {"strict", "lossy", "streamed", "ICU"};
+    UErrorCode error = U_ZERO_ERROR;
+    icu = ucnv_open("UTF-8", &error);
+    if (U_FAILURE(error)) return 1;
+    for (int from = 0; from < 2; from++) {
+        const struct text *texts = from ? utf8 : utf16;
+        size_t count = from ? sizeof utf8 / sizeof *utf8 : sizeof utf16 / sizeof *utf16;
+        for (size_t t = 0; t < count; t++) {
+            size_t len = make(&texts[t]);
+            double best[CALLS][CAPACITIES];
+            size_t calls[CALLS][CAPACITIES];
+            for (int round = 0; round < ROUNDS; round++)
+                for (int call = 0; call < CALLS; call++)
+                    for (size_t c = 0; c < CAPACITIES; c++) {
+                        if (from && call == STREAMED) continue;
+                        double start = seconds();
+                        calls[call][c] = run(from, call, len, capacities[c]);
+                        double took = seconds() - start;
+                        if (!round || took < best[call][c]) best[call][c] = took;
+                    }
+            for (int call = 0; call < CALLS; call++)
+                for (size_t c = 0; c < CAPACITIES; c++)
+                    if (!(from && call == STREAMED))
+                        printf("%s\t%s\t%s\t%zu\t%zu\t%.3f\t%.1f\n", from ? "from_utf8" : "to_utf8",
+                            names[call], texts[t].name, texts[t].every == INPUT ? 0 : texts[t].every,
+                            capacities[c], best[call][c] * 1e9 / len,
+                            (best[call][c] - best[call][CAPACITIES - 1]) * 1e9 / calls[call][c]);
+        }
+    }
+}

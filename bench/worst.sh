@@ -1,0 +1,41 @@
+#!/bin/sh
+# Times the calls of the C library on the bytes that cost most, in buffers of each capacity, and
+# ICU's converters on the same, in one run. It prints for each call and capacity the most
+# nanoseconds for a byte of input over all texts and the text that costs them, beside ICU's most;
+# then the most that a call into a small buffer costs above one into a large buffer, for each text.
+# The tables stay in bench/out/worst.md.
+set -eu
+top=$(cd "$(dirname "$0")/.." && pwd)
+mkdir -p "$top/bench/out"
+cd "$top/bench"
+kit=$(dirname "$(rt doc)")
+(cd ../crates/dethrux && rt lib > ../../bench/out/rt.log 2>&1) || { cat out/rt.log >&2; exit 1; }
+gcc -O2 -Wa,-mbranches-within-32B-boundaries -I ../include worst.c -o out/worst \
+    ../crates/dethrux/out/libdethrux.a "$kit/c/liblibc_c.a" -licuuc
+out/worst > out/worst.tsv
+awk -F '\t' '
+{
+    text = $3 ($4 > 1 ? ", one in " $4 " bytes" : $4 ? ", no other" : "")
+    call = $1 " " $2
+    if (!(call in calls)) { calls[call] = 1; order[++n] = call }
+    if (!($5 in capacities)) { capacities[$5] = 1; capacity[++c] = $5 }
+    if ($6 > most[call, $5]) { most[call, $5] = $6; at[call, $5] = text }
+    if ($2 != "ICU" && !($4) && $7 > above[call, $3]) { above[call, $3] = $7; where[call, $3] = $5 }
+    if ($2 != "ICU" && !($4) && !((call, $3) in seen)) { seen[call, $3] = 1; pair[++p] = call SUBSEP $3 }
+}
+END {
+    print "| Call | Capacity | ns a byte, at most | Text | ICU, ns a byte, at most |\n|---|---|---|---|---|"
+    for (i = 1; i <= n; i++) {
+        if (order[i] ~ /ICU/) continue
+        split(order[i], word, " ")
+        for (k = 1; k <= c; k++)
+            printf "| `%s`, %s | %s | %.1f | %s | %.1f |\n", word[1], word[2], capacity[k], most[order[i], capacity[k]], at[order[i], capacity[k]], most[word[1] " ICU", capacity[k]]
+    }
+    print "\n| Call | Text | ns a call above that into a large buffer, at most | Capacity |\n|---|---|---|---|"
+    for (i = 1; i <= p; i++) {
+        split(pair[i], word, SUBSEP)
+        split(word[1], name, " ")
+        printf "| `%s`, %s | %s | %.0f | %s |\n", name[1], name[2], word[2], above[pair[i]], where[pair[i]]
+    }
+}' out/worst.tsv > out/worst.md
+cat out/worst.md
