@@ -14,9 +14,9 @@ const TESTED_LEN: usize = 8192;
 
 // The most bytes that are written through a buffer on the stack, and the length of that buffer:
 // what `write` needs for them in both directions.
-const BUFFERED_LEN: usize = 128;
+const BUFFERED_LEN: usize = 256;
 
-const BUFFER_LEN: usize = 320;
+const BUFFER_LEN: usize = 528;
 
 // With at least this much space left, chunks are written directly to their place.
 const MUCH: usize = 512;
@@ -76,11 +76,12 @@ pub trait Direction {
         ensures none { result ≡ None → length to.new - at < length (into c) }
         ensures unchanged { result ≡ None → to.new ≡ to.old };
 
-    /// Returns how many bytes of input surely fit in `room` bytes in the second encoding, whatever
-    /// they are.
-    fn surely_fit(room: usize) -> usize
-        ensures { (text : List ℕ) → IsValid text → length text ≤ result
-            → length (other text) ≤ room };
+    /// Returns how many of the bytes surely fit in `room` bytes in the second encoding, as far as
+    /// they are valid.
+    fn surely_fit(rest: &[u8], room: usize) -> usize
+        ensures within { result ≤ length rest.now }
+        ensures fits { (n : ℕ) → n ≤ result → IsValid (take n rest.now)
+            → length (other (take n rest.now)) ≤ room };
 
     /// Returns how many bytes of input `write` surely takes if the buffer has `room` bytes.
     ///
@@ -108,7 +109,7 @@ pub trait Direction {
     /// each character; an ill-formed sequence after a text is one of the whole input.
     fn laws()
         ensures monotone { (m n : ℕ) → m ≤ n → room_for m ≤ room_for n }
-        ensures small { room_for 128 ≤ 320 }
+        ensures small { room_for 256 ≤ 528 }
         ensures of_nothing { Gives IsValid other [] [] }
         ensures joins { Joins (Gives IsValid other) }
         ensures each_char { (c : ℕ) → IsScalar c → Gives IsValid other (from c) (into c) }
@@ -181,9 +182,7 @@ fn put_few<D: Direction>(rest: &[u8], to: &mut [u8], at: usize) -> (usize, usize
     ensures { Puts (Gives D.IsValid D.other) rest.now to.old to.new at result.0 result.1 }
 {
     D::laws();
-    let most = D::surely_fit(to.len() - at)
-        .min(BUFFERED_LEN)
-        .min(rest.len());
+    let most = D::surely_fit(&rest[..rest.len().min(BUFFERED_LEN)], to.len() - at);
     if most < BY_CHARS {
         return put_chars::<D>(rest, to, at);
     }

@@ -12,6 +12,7 @@ use crate::progress::{Progress, put};
 use std::marker::PhantomData;
 use utf16_to_utf8::{SLACK, write_utf8};
 use utf16_units::ends::first_char;
+use utf16_units::text::has_ascii_units;
 use utf16_units::{Utf16Order, first_char_len, validate_raw_utf16};
 
 /// Writes UTF-16 in UTF-8 to the start of a buffer, up to the first ill-formed sequence or as far
@@ -79,8 +80,13 @@ impl<E: Utf16Order> Direction for ToUtf8<E> {
     }
 
     #[inline(always)]
-    fn surely_fit(room: usize) -> usize {
-        room / 3 * 2
+    fn surely_fit(rest: &[u8], room: usize) -> usize {
+        let ascii = rest.len().min(room.saturating_mul(2));
+        if has_ascii_units::<E>(&rest[..ascii]) {
+            ascii
+        } else {
+            rest.len().min(room / 3 * 2)
+        }
     }
 
     #[inline(always)]

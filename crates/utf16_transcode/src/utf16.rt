@@ -77,8 +77,8 @@ impl<E: Utf16Order> Direction for FromUtf8<E> {
     }
 
     #[inline(always)]
-    fn surely_fit(room: usize) -> usize {
-        room / 2
+    fn surely_fit(rest: &[u8], room: usize) -> usize {
+        rest.len().min(room / 2)
     }
 
     #[inline(always)]
