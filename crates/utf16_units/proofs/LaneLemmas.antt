@@ -186,10 +186,24 @@ module _ (highs : List ℕ) (n leading : ℕ) (long : length highs ≡ n)
       let whole : mask_l lows + cond after (2 ^ n) 0 ≡ 2 * leading + bool_byte before = sym last ∙ omega (arith, bits units have, byte-cond before) in
       sym (low_part after n (mask_l lows) below) ∙ ap (λ m. m % 2 ^ n) whole ∙ ap (λ p. (2 * leading + bool_byte before) % p) (sym power)
 
--- no bit of the two classes: no unit is a surrogate
-pub no_surrogate_by_bits : (units : List ℕ) → mask_l (map is_high_surrogate units) ≡ 0 → mask_l (map is_low_surrogate units) ≡ 0 → HasNoSurrogate units
-no_surrogate_by_bits [] high low = All-nil IsNoSurrogate
-no_surrogate_by_bits (unit ∷ units) high low =
-    let h = same_bit (is_high_surrogate unit) false _ 0 high in
-    let l = same_bit (is_low_surrogate unit) false _ 0 low in
-    All-cons IsNoSurrogate unit units (h.0, l.0) (no_surrogate_by_bits units h.1 l.1)
+-- the upper five bits of a surrogate's high byte are its own
+no_surrogate_here : (unit : ℕ) → eqb (bit_and (high_byte unit) 0xF8) 0xD8 ≡ false → IsNoSurrogate unit
+no_surrogate_here unit other =
+    let upper : bit_and (unit / 256) 0xF8 ≡ unit / 256 / 8 % 32 * 8 = and_high (unit / 256) 5 3 in
+    let outside : (m : ℕ) → 54 ≤ m → m < 56 → in_class m unit ≡ false = λ m from to.
+    false_from_ne_true (in_class m unit) (λ yes.
+    let parts = and_parts (leb (1024 * m) unit) (ltb unit (1024 * m + 1024)) yes in
+    let least = leb-true _ _ parts.0 in
+    let most = ltb-true _ _ parts.1 in
+    eqb-false (bit_and (high_byte unit) 0xF8) 0xD8 other (omega arith)) in
+    (outside 54 (omega arith) (omega arith), outside 55 (omega arith) (omega arith))
+
+plain_units : (units : List ℕ) → mask_l (map (λ high. eqb (bit_and high 0xF8) 0xD8) (map high_byte units)) ≡ 0 → HasNoSurrogate units
+plain_units [] none = All-nil IsNoSurrogate
+plain_units (unit ∷ units) none =
+    let here = same_bit (eqb (bit_and (high_byte unit) 0xF8) 0xD8) false _ 0 none in
+    All-cons IsNoSurrogate unit units (no_surrogate_here unit here.0) (plain_units units here.1)
+
+-- none of the high bytes has these bits: no unit is a surrogate
+pub no_surrogate_by_bits : (units highs : List ℕ) → map high_byte units ≡ highs → mask_l (map (λ high. eqb (bit_and high 0xF8) 0xD8) highs) ≡ 0 → HasNoSurrogate units
+no_surrogate_by_bits units highs same none = plain_units units (ap (λ hs. mask_l (map (λ high. eqb (bit_and high 0xF8) 0xD8) hs)) same ∙ none)

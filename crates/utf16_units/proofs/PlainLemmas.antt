@@ -5,7 +5,7 @@ use Rattle.std.proofs.lemmas.List.Elements.{All-append, All-cons, All-head, All-
 use Rattle.std.specs.Char.Utf16.{is_high_surrogate, is_low_surrogate}
 use Rattle.utf16_units.specs.Encoding.{IsUtf16, units_of}
 use Rattle.utf16_units.specs.Lanes.{HasNoSurrogate, IsNoSurrogate, Paired, PairedTo}
-use Rattle.utf16_units.proofs.PairLemmas.{PairedTo-text}
+use Rattle.utf16_units.proofs.PairLemmas.{PairedTo-next, PairedTo-text}
 use Rattle.utf16_units.proofs.UnitsUpTo.{units_of-split}
 
 pub no_surrogate-paired : (units : List ℕ) → HasNoSurrogate units → Paired false units false
@@ -15,6 +15,11 @@ no_surrogate-paired (unit ∷ units) all =
     ap (λ bit. bit ∷ map is_low_surrogate units ++ false ∷ []) here.1
     ∙ ap (λ bits. false ∷ bits) (no_surrogate-paired units (All-tail IsNoSurrogate unit units all))
     ∙ ap (λ bit. false ∷ bit ∷ map is_high_surrogate units) (sym here.0)
+
+-- one more block of which no unit is a surrogate
+pub PairedTo-plain : (big : Bool) (bytes : List ℕ) (at : ℕ) → PairedTo big bytes at false → at + 64 ≤ length bytes
+    → HasNoSurrogate (units_of big (take 64 (drop at bytes))) → PairedTo big bytes (at + 64) false
+PairedTo-plain big bytes at before long plain = PairedTo-next big bytes at 64 false false before refl long (no_surrogate-paired _ plain)
 
 no_surrogate-front : (front back : List ℕ) → HasNoSurrogate (front ++ back) → HasNoSurrogate front
 no_surrogate-front [] back all = All-nil IsNoSurrogate

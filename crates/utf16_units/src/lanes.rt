@@ -64,25 +64,25 @@ pub(crate) fn high_bytes4<E: Utf16Order>(block: u8x8) -> u8x4
     }
 }
 
-// A bit for each code unit whose high byte has the upper six bits of `class`.
+// A bit for each code unit whose high byte has the bits of `class` in those of `mask`.
 #[inline(always)]
-fn class_bits<const N: usize>(highs: Simd<u8, N>, class: u8) -> u64
+fn class_bits<const N: usize>(highs: Simd<u8, N>, mask: u8, class: u8) -> u64
     requires { N ≤ 64 }
-    ensures { result ≡ mask_l (map (λ high. bit_and high 0xFC == class) highs.entry) }
+    ensures { result ≡ mask_l (map (λ high. bit_and high mask == class) highs.entry) }
 {
-    (highs & Simd::splat(0xFC))
+    (highs & Simd::splat(mask))
         .simd_eq(Simd::splat(class))
         .to_bitmask()
 }
 
 // A bit for each leading surrogate.
 #[inline(always)]
-fn leading_bits<const N: usize>(highs: Simd<u8, N>) -> u64
+pub(crate) fn leading_bits<const N: usize>(highs: Simd<u8, N>) -> u64
     requires { N ≤ 64 }
     ensures { (units : List ℕ) → map high_byte units ≡ highs.entry
         → result ≡ mask_l (map is_high_surrogate units) }
 {
-    class_bits(highs, 0xD8)
+    class_bits(highs, 0xFC, 0xD8)
 }
 
 // A bit for each trailing surrogate.
@@ -92,7 +92,7 @@ pub(crate) fn trailing_bits<const N: usize>(highs: Simd<u8, N>) -> u64
     ensures { (units : List ℕ) → map high_byte units ≡ highs.entry
         → result ≡ mask_l (map is_low_surrogate units) }
 {
-    class_bits(highs, 0xDC)
+    class_bits(highs, 0xFC, 0xDC)
 }
 
 // `Some` if the surrogates are paired: a unit is trailing exactly if the one before it is leading.
@@ -120,7 +120,7 @@ pub(crate) fn has_no_surrogate<const N: usize>(highs: Simd<u8, N>) -> bool
     ensures { IsTrue result → (units : List ℕ) → map high_byte units ≡ highs.entry
         → HasNoSurrogate units }
 {
-    leading_bits(highs) == 0 && trailing_bits(highs) == 0
+    class_bits(highs, 0xF8, 0xD8) == 0
 }
 
 // Whether thirty-two code units are ASCII: no byte is above the byte of U+007F at its position.

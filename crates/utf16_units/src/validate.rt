@@ -1,13 +1,13 @@
 //! Validation of UTF-16.
 
 ghost use Rattle.std.specs.Prelude.{◌≡◌, ◌↔◌, ◌+◌, ◌<◌, ◌≤◌, false, length, take, IsOk, IfOk, IfErr, IsTrue};
-ghost use Rattle.utf16_units.specs.Encoding.{IsUtf16};
+ghost use Rattle.utf16_units.specs.Encoding.{IsUtf16, units_of};
 ghost use Rattle.utf16_units.specs.IllFormed.{BeginsWithChar, IsIllFormedAt};
-ghost use Rattle.utf16_units.specs.Lanes.{PairedTo, PassedTo, BlocksStopAt};
+ghost use Rattle.utf16_units.specs.Lanes.{HasNoSurrogate, PairedTo, PassedTo, BlocksStopAt};
 ghost use Rattle.utf16_units.specs.Utf16Error.{IsErrorOf};
 
 use crate::lanes::{
-    has_no_surrogate, high_bytes4, high_bytes8, high_bytes16, high_bytes32, paired,
+    has_no_surrogate, high_bytes4, high_bytes8, high_bytes16, high_bytes32, leading_bits, paired,
 };
 use crate::{Utf16Error, Utf16Order, is_trailing_surrogate};
 use std::simd::prelude::*;
@@ -70,13 +70,16 @@ fn passed_blocks<E: Utf16Order>(raw: &[u8]) -> usize
 // At each multiple of so many bytes, blocks without a surrogate are tried again.
 const PLAIN_EVERY: usize = 512;
 
+// In a text of this length or more, blocks without a surrogate are first passed two at a time.
+const LONG: usize = 1024;
+
 // The length of the prefix of blocks of 64 bytes whose surrogates are paired, and whether its last
 // unit is leading. Blocks without a surrogate are passed by a loop that looks for no pairs.
 fn paired_blocks<E: Utf16Order>(raw: &[u8]) -> (usize, bool)
     ensures paired { PairedTo E.BIG raw.now result.0 result.1 }
     ensures stops { BlocksStopAt 64 E.BIG raw.now result.0 result.1 }
 {
-    let mut at = plain_blocks::<E>(raw, 0);
+    let mut at = plain_blocks::<E>(raw, plain_front::<E>(raw));
     let mut leading = false;
     while raw.len() - at >= 64 {
         let highs = high_bytes32::<E>(u8x64::from_slice(&raw[at..]));
@@ -85,11 +88,45 @@ fn paired_blocks<E: Utf16Order>(raw: &[u8]) -> (usize, bool)
         };
         leading = last;
         at += 64;
-        if at % PLAIN_EVERY == 0 && has_no_surrogate(highs) && !leading {
+        if at % PLAIN_EVERY == 0 && leading_bits(highs) == 0 && !leading {
             at = plain_blocks::<E>(raw, at);
         }
     }
     (at, leading)
+}
+
+// The end of the pairs of blocks at the front of a long text that have no surrogate.
+#[inline(always)]
+fn plain_front<E: Utf16Order>(raw: &[u8]) -> usize
+    ensures { PairedTo E.BIG raw.now result false }
+{
+    if raw.len() < LONG {
+        return 0;
+    }
+    plain_pairs::<E>(raw)
+}
+
+// The end of the pairs of blocks of 64 bytes at the front that have no surrogate.
+#[inline(never)]
+fn plain_pairs<E: Utf16Order>(raw: &[u8]) -> usize
+    ensures { PairedTo E.BIG raw.now result false }
+{
+    let mut at = 0;
+    while raw.len() - at >= 128
+        && is_plain::<E>(u8x64::from_slice(&raw[at..]))
+            & is_plain::<E>(u8x64::from_slice(&raw[at + 64..]))
+    {
+        at += 128;
+    }
+    at
+}
+
+// Whether no code unit of a block is a surrogate.
+#[inline(always)]
+fn is_plain<E: Utf16Order>(block: u8x64) -> bool
+    ensures { IsTrue result → HasNoSurrogate (units_of E.BIG block) }
+{
+    has_no_surrogate(high_bytes32::<E>(block))
 }
 
 // The end of the blocks of 64 bytes from `from` on that have no surrogate.
@@ -101,7 +138,7 @@ fn plain_blocks<E: Utf16Order>(raw: &[u8], from: usize) -> usize
 {
     let mut at = from;
     while raw.len() - at >= 64 {
-        if !has_no_surrogate(high_bytes32::<E>(u8x64::from_slice(&raw[at..]))) {
+        if !is_plain::<E>(u8x64::from_slice(&raw[at..])) {
             break;
         }
         at += 64;

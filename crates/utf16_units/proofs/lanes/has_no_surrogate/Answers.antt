@@ -1,7 +1,7 @@
-use Rattle.std.proofs.Common.{sym, ◌∙◌, rules}
+use Rattle.std.proofs.Common.{sym, ◌∙◌}
+use Rattle.std.proofs.lemmas.Bool.{eqb-true}
 use Rattle.utf16_units.proofs.LaneLemmas.{no_surrogate_by_bits}
 use Rattle.utf16_units.proofs.lanes.has_no_surrogate.Goals as goal
 
-pub returns-then-leading_bits-eq0 : goal.returns-then-leading_bits-eq0
-returns-then-leading_bits-eq0 g c pass units e =
-    no_surrogate_by_bits units (sym (c.leading_bits.ensures units e) ∙ c.if-leading_bits-eq0.true) (sym (c.trailing_bits.ensures units e) ∙ search rules)
+pub returns : goal.returns
+returns g c pass units e = no_surrogate_by_bits units c.args.highs e (sym c.class_bits.ensures ∙ eqb-true _ _ pass)

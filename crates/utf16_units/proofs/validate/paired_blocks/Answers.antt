@@ -1,10 +1,7 @@
 use Rattle.std.proofs.Common.{arith, refl, subst, sym}
 use Rattle.utf16_units.specs.Lanes.{PairedTo}
-use Rattle.utf16_units.proofs.PairLemmas.{PairedTo-next, PairedTo-none}
+use Rattle.utf16_units.proofs.PairLemmas.{PairedTo-next}
 use Rattle.utf16_units.proofs.validate.paired_blocks.Goals as goal
-
-pub plain_blocks-at-requires : goal.plain_blocks-at-requires
-plain_blocks-at-requires g c = PairedTo-none g.E.Utf16Order.BIG c.args.raw.now
 
 pub plain_blocks-at-requires-then-not-leading : goal.plain_blocks-at-requires-then-not-leading
 plain_blocks-at-requires-then-not-leading g c =
