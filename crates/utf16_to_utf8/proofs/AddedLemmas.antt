@@ -3,7 +3,8 @@ use Rattle.std.proofs.Common.{◌≡◌, ℕ, ◌+◌, ◌-◌, ◌*◌, ◌/◌
 use Rattle.std.proofs.lemmas.Bool.{cases_lt, false_from_ne_true}
 use Rattle.std.proofs.lemmas.Nat.{and_mask}
 use Rattle.std.proofs.lemmas.Nat.Bits.{and_high}
-use Rattle.utf16_to_utf8.specs.Lanes.{added_len, front, is_surrogate, narrow, plus, surrogate_bits, third, two_bytes, up, wide}
+use Rattle.utf16_to_utf8.specs.Lanes.{absence, added_len, front, is_surrogate, narrow, plus, surrogate_bits, third, two_bytes, up, wide}
+use Rattle.utf16_to_utf8.specs.Pack.{kept_bytes}
 use Rattle.utf16_to_utf8.specs.Utf8.{continuation, unit_utf8}
 use Rattle.utf16_to_utf8.proofs.UnitLemmas.{unit-leading, unit-one, unit-three, unit-trailing, unit-two}
 
@@ -186,25 +187,16 @@ added_len-le u = go (ltb u 0x80) (ltb u 0x800) (is_surrogate u)
     go false false true = omega arith
     go false false false = omega arith
 
--- a word of both
-pub word-utf8 : (p u f t w n : ℕ) → u < 0x1_0000 → f < 0x1_0000 → f ≡ front p u → t ≡ third u → w ≡ f + 65536 * t → n ≡ added_len u
-    → take n ((w % 256) ∷ (w / 256 % 256) ∷ (w / 65536 % 256) ∷ []) ≡ unit_utf8 p u
-word-utf8 p u f t w n below fits is is' e len =
-    ap (λ m. take m ((w % 256) ∷ (w / 256 % 256) ∷ (w / 65536 % 256) ∷ [])) len
-    ∙ ap₂ (λ x y. take (added_len u) (x ∷ y ∷ (w / 65536 % 256) ∷ [])) (omega (arith, e, fits)) (omega (arith, e, fits))
-    ∙ ap (λ z. take (added_len u) ((f % 256) ∷ (f / 256 % 256) ∷ z ∷ [])) (omega (arith, e, fits))
-    ∙ ap₂ (λ x y. take (added_len u) ((x % 256) ∷ (x / 256 % 256) ∷ (y % 256) ∷ [])) is is'
-    ∙ any-utf8 p u below
-
-chosen-fits : (flag : Bool) (x y n : ℕ) → x < n → y < n → cond flag x y < n
-chosen-fits true x y n a b = a
-chosen-fits false x y n a b = b
-
-pub front-fits : (p u : ℕ) → u < 0x1_0000 → front p u < 0x1_0000
-front-fits p u below =
-    let two : (m b : ℕ) → two_bytes m b < 0x1_0000 = λ m b. omega arith in
-    let few : narrow p u < 0x1_0000 = chosen-fits (ltb u 0x80) u _ 0x1_0000 below (two _ _) in
-    chosen-fits (ltb u 0x800) (narrow p u) _ 0x1_0000 few (chosen-fits (is_surrogate u) (narrow p u) (wide u) 0x1_0000 few (two _ _))
+-- a word of both, without the bytes that the unit does not add
+pub kept-utf8 : (p u : ℕ) → u < 0x1_0000 → kept_bytes (ltb 127 (absence u % 256)) (ltb 127 (absence u / 256 % 256)) (front p u % 256) (front p u / 256 % 256) (third u % 256) ≡ unit_utf8 p u
+kept-utf8 p u below = go (ltb u 0x80) (ltb u 0x800) (is_surrogate u) (front p u % 256) (front p u / 256 % 256) (third u % 256) ∙ any-utf8 p u below
+  where
+    go : (a b c : Bool) (x y z : ℕ) → let lane : ℕ = cond a 0xFFFF (cond b 0xFF00 (cond c 0xFF00 0)) in
+        kept_bytes (ltb 127 (lane % 256)) (ltb 127 (lane / 256 % 256)) x y z ≡ take (cond a 1 (cond b 2 (cond c 2 3))) (x ∷ y ∷ z ∷ [])
+    go true b c x y z = refl
+    go false true c x y z = refl
+    go false false true x y z = refl
+    go false false false x y z = refl
 
 pub length-unit : (p u : ℕ) → u < 0x1_0000 → length (unit_utf8 p u) ≡ added_len u
 length-unit p u below = go (class u)

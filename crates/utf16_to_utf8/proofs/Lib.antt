@@ -3,6 +3,7 @@ mod AddedLemmas
 mod ListLemmas
 mod StoreLemmas
 mod PlaceLemmas
+mod WordLemmas
 mod BlockLemmas
 mod TextLemmas
 mod LenLemmas

@@ -11,11 +11,11 @@ use Rattle.utf16_to_utf8.specs.declared.places.TheConstants.{PLACES}
 use Rattle.utf16_to_utf8.specs.Pack.{packed}
 
 -- a test of all lists of n flags
-abbrev all_flags : ℕ → (List Bool → Bool) → Bool
+abbrev pub all_flags : ℕ → (List Bool → Bool) → Bool
 all_flags zero test = test []
 all_flags (suc n) test = all_flags n (λ flags. test (true ∷ flags)) && all_flags n (λ flags. test (false ∷ flags))
 
-all_flags-each : (n : ℕ) (test : List Bool → Bool) → all_flags n test ≡ true → (flags : List Bool) → length flags ≡ n → test flags ≡ true
+pub all_flags-each : (n : ℕ) (test : List Bool → Bool) → all_flags n test ≡ true → (flags : List Bool) → length flags ≡ n → test flags ≡ true
 all_flags-each zero test all [] long = all
 all_flags-each zero test all (flag ∷ flags) long = absurd (omega arith)
 all_flags-each (suc n) test all [] long = absurd (omega arith)
@@ -31,14 +31,14 @@ unfolding ones
 row flags long = (bytes_eq-Decides _ _).0 (all_flags-each 8 is_row refl flags long)
 
 -- whether all rows are sixteen indices in a vector
-abbrev all_good : List (List ℕ) → Bool
+abbrev pub all_good : List (List ℕ) → Bool
 all_good [] = true
 all_good (places ∷ rows) = (eqb (length places) 16 && all_below 16 places) && all_good rows
 
-abbrev Good : List ℕ → Type 0
+abbrev pub Good : List ℕ → Type 0
 Good places = (length places ≡ 16) × Each1 (λ place. place < 16) places
 
-each-good : (rows : List (List ℕ)) (k : ℕ) → k < length rows → all_good rows ≡ true → Good (get_or rows k [])
+pub each-good : (rows : List (List ℕ)) (k : ℕ) → k < length rows → all_good rows ≡ true → Good (get_or rows k [])
 each-good [] k below all = absurd (omega arith)
 each-good (places ∷ rows) zero below all =
     let first = and_parts (eqb (length places) 16 && all_below 16 places) (all_good rows) all in

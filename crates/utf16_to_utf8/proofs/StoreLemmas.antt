@@ -30,7 +30,7 @@ swz-picked bytes i (place ∷ places) long within =
     (ap (λ (b : Bool). cond b 0 (get_or bytes (16 * (i / 16) + place) 0)) small ∙ ap (λ p. get_or bytes p 0) inside)
     (swz-picked bytes (suc i) places (omega arith) within.1)
 
-packed-map : (f : ℕ → ℕ) (flags : List Bool) (xs : List ℕ) → map f (packed flags xs) ≡ packed flags (map f xs)
+pub packed-map : (f : ℕ → ℕ) (flags : List Bool) (xs : List ℕ) → map f (packed flags xs) ≡ packed flags (map f xs)
 packed-map f [] xs = refl
 packed-map f (flag ∷ flags) [] = refl
 packed-map f (flag ∷ flags) (x ∷ []) = refl
@@ -42,10 +42,10 @@ take-map f zero xs = refl
 take-map f (suc n) [] = refl
 take-map f (suc n) (x ∷ xs) = ap (λ t. f x ∷ t) (take-map f n xs)
 
--- those of sixteen bytes that the flags keep
-pub picked-packed : (flags : List Bool) (bytes places : List ℕ) (n : ℕ) → length bytes ≡ 16 → take n places ≡ packed flags (range_with_len 0 16)
-    → take n (map (λ place. get_or bytes place 0) places) ≡ packed flags bytes
-picked-packed flags bytes places n long is =
+-- those of sixteen bytes that a rule keeps by their places
+pub picked-by : (keep : List ℕ → List ℕ) → ((f : ℕ → ℕ) (xs : List ℕ) → map f (keep xs) ≡ keep (map f xs)) → (bytes places : List ℕ) (n : ℕ) → length bytes ≡ 16
+    → take n places ≡ keep (range_with_len 0 16) → take n (map (λ place. get_or bytes place 0) places) ≡ keep bytes
+picked-by keep keep-map bytes places n long is =
     let get = λ (place : ℕ). get_or bytes place 0 in
-    take-map get n places ∙ ap (map get) is ∙ packed-map get flags (range_with_len 0 16)
-    ∙ ap (packed flags) (pick_l-range_with_len 0 bytes 0 16 (omega (arith, long)) ∙ take_all 16 bytes (omega (arith, long)))
+    take-map get n places ∙ ap (map get) is ∙ keep-map get (range_with_len 0 16)
+    ∙ ap keep (pick_l-range_with_len 0 bytes 0 16 (omega (arith, long)) ∙ take_all 16 bytes (omega (arith, long)))

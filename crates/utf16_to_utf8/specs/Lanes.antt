@@ -40,6 +40,11 @@ front before unit = if nat_lt unit 0x800 then narrow before unit else (if is_sur
 abbrev pub added_len : ℕ → ℕ
 added_len unit = if nat_lt unit 0x80 then 1 else (if nat_lt unit 0x800 then 2 else (if is_surrogate unit then 2 else 3))
 
+-- which bytes a unit does not add: the low half of a lane for the second byte, the high half for the
+-- third
+abbrev pub absence : ℕ → ℕ
+absence unit = if nat_lt unit 0x80 then 0xFFFF else (if nat_lt unit 0x800 then 0xFF00 else (if is_surrogate unit then 0xFF00 else 0))
+
 -- below 0x800 exactly if the unit adds at most two bytes
 abbrev pub folded : ℕ → ℕ
 folded unit = let raised = plus unit 0x2800 in if nat_lt unit raised then unit else raised

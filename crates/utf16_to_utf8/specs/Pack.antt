@@ -17,3 +17,23 @@ HasBytes bytes lanes = (i : ℕ) → i < 8 → (slice_index bytes (2 * i) ≡ sl
 abbrev pub threes : ℕ → ℕ → List ℕ
 threes i zero = []
 threes i (suc n) = (2 * i) ∷ (2 * i + 1) ∷ (16 + 2 * i) ∷ threes (i + 1) n
+
+-- the indices of the four bytes of n words, from lane i on: two among sixteen bytes, the others
+-- sixteen bytes later
+abbrev pub fours : ℕ → ℕ → List ℕ
+fours i zero = []
+fours i (suc n) = (2 * i) ∷ (2 * i + 1) ∷ (16 + 2 * i) ∷ (17 + 2 * i) ∷ fours (i + 1) n
+
+-- the first three bytes of a word, without the second and without the third if so flagged
+abbrev pub kept_bytes : Bool → Bool → ℕ → ℕ → ℕ → List ℕ
+kept_bytes second third x y z = x ∷ cond second [] (y ∷ []) ++ cond third [] (z ∷ [])
+
+-- of words of four bytes, those that two flags for each word keep
+abbrev pub packed_words : List Bool → List ℕ → List ℕ
+packed_words [] bytes = []
+packed_words (second ∷ []) bytes = []
+packed_words (second ∷ third ∷ flags) [] = []
+packed_words (second ∷ third ∷ flags) (x ∷ []) = []
+packed_words (second ∷ third ∷ flags) (x ∷ y ∷ []) = []
+packed_words (second ∷ third ∷ flags) (x ∷ y ∷ z ∷ []) = []
+packed_words (second ∷ third ∷ flags) (x ∷ y ∷ z ∷ w ∷ bytes) = kept_bytes second third x y z ++ packed_words flags bytes

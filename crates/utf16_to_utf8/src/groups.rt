@@ -1,9 +1,9 @@
-//! The UTF-8 that eight units add, with SIMD: their first two bytes, their third, and their
-//! lengths.
+//! The UTF-8 that eight units add, with SIMD: their first two bytes, their third, and which of
+//! these they do not add.
 
 ghost use Rattle.std.specs.Prelude.{◌≡◌, ◌<◌, ℕ, false, slice_index};
 ghost use Rattle.utf16_units.specs.Lanes.{HasLanes};
-ghost use Rattle.utf16_to_utf8.specs.Lanes.{added_len, front, narrow, surrogate_bits, third, two_bytes, wide};
+ghost use Rattle.utf16_to_utf8.specs.Lanes.{absence, front, narrow, surrogate_bits, third, two_bytes, wide};
 
 use crate::lanes::{down, each, masked, raised, sum, where_below, where_surrogate};
 use std::simd::prelude::*;
@@ -66,12 +66,13 @@ pub(crate) fn thirds(units: u16x8) -> u16x8
     sum(masked(units, 0x3F), each(0x80))
 }
 
-// The number of bytes that each unit adds.
+// Which bytes a unit does not add: the low half is set if it adds no second byte, the high half if it
+// adds no third.
 #[inline(always)]
-pub(crate) fn added_lens(units: u16x8) -> u16x8
-    ensures { HasLanes 8 result (λ i. added_len (slice_index units i)) }
+pub(crate) fn absences(units: u16x8) -> u16x8
+    ensures { HasLanes 8 result (λ i. absence (slice_index units i)) }
 {
-    let above = where_surrogate(units, each(2), each(3));
-    let short = where_below(units, 0x800, each(2), above);
-    where_below(units, 0x80, each(1), short)
+    let above = where_surrogate(units, each(0xFF00), each(0));
+    let short = where_below(units, 0x800, each(0xFF00), above);
+    where_below(units, 0x80, each(0xFFFF), short)
 }

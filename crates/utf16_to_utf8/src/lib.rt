@@ -12,6 +12,7 @@ mod pack;
 mod places;
 mod runs;
 mod short;
+mod word_places;
 mod write;
 
 pub use crate::append::append_utf8;

@@ -3,12 +3,13 @@
 ghost use Rattle.std.specs.Prelude.{◌≡◌, ◌+◌, ◌*◌, ◌/◌, ◌%◌, ◌<◌, ◌≤◌, ◌++◌, [], ◌∷◌, ℕ, Bool, List, drop, false, length, map, nat_lt, slice_index, take};
 ghost use Rattle.std.specs.Simd.Lanes.{mask_l, pick_l};
 ghost use Rattle.utf16_to_utf8.specs.Lanes.{added_len, is_surrogate};
-ghost use Rattle.utf16_to_utf8.specs.Pack.{HasBytes, packed, threes};
+ghost use Rattle.utf16_to_utf8.specs.Pack.{HasBytes, fours, packed, packed_words, threes};
 ghost use Rattle.utf16_to_utf8.specs.Utf8.{units_utf8};
 
-use crate::groups::{added_lens, fronts, narrow, thirds, wide};
+use crate::groups::{absences, fronts, narrow, thirds, wide};
 use crate::lanes::previous_lanes;
 use crate::places::places;
+use crate::word_places::word_places;
 use std::simd::prelude::*;
 
 // The bytes of the lanes, low byte first.
@@ -100,7 +101,54 @@ pub(crate) fn put_wide(out: &mut [u8], at: usize, units: u16x8) -> usize
     at + 24
 }
 
-// Writes the UTF-8 of any eight units, each by a store of four bytes, which the next one overlaps.
+// The bytes of four words: of each of the first four lanes the two front bytes, and the third lane's
+// two.
+#[inline(always)]
+fn low_words(fronts: u8x16, thirds: u8x16) -> u8x16
+    ensures { result ≡ pick_l 0 (fronts ++ thirds) (fours 0 4) }
+{
+    fronts.shuffle(
+        thirds,
+        [0, 1, 16, 17, 2, 3, 18, 19, 4, 5, 20, 21, 6, 7, 22, 23],
+    )
+}
+
+// The same of the last four lanes.
+#[inline(always)]
+fn high_words(fronts: u8x16, thirds: u8x16) -> u8x16
+    ensures { result ≡ pick_l 0 (fronts ++ thirds) (fours 4 4) }
+{
+    fronts.shuffle(
+        thirds,
+        [8, 9, 24, 25, 10, 11, 26, 27, 12, 13, 28, 29, 14, 15, 30, 31],
+    )
+}
+
+// A bit for each byte with the upper bit set.
+#[inline(always)]
+fn upper_bits(bytes: u8x16) -> usize
+    ensures bits { result ≡ mask_l (map (λ byte. nat_lt 0x7F byte) bytes) }
+    ensures below { result < 65536 }
+{
+    bytes.simd_gt(u8x16::splat(0x7F)).to_bitmask() as usize
+}
+
+// Writes the first three bytes of four words of four, but for those that `absent` leaves out: its
+// two bits for each word are for the second byte and for the third.
+#[inline(always)]
+fn put_words(out: &mut [u8], at: usize, words: u8x16, absent: usize) -> usize
+    requires space { at + 16 ≤ length out.old }
+    requires bound { absent < 256 }
+    ensures bytes { (flags : List Bool) → length flags ≡ 8 → absent ≡ mask_l flags
+        → take result out.new ≡ take at out.old ++ packed_words flags words }
+    ensures written_to { result ≤ at + 12 }
+{
+    let standing = words.swizzle_dyn(word_places(absent));
+    standing.copy_to_slice(&mut out[at..]);
+    at + (12 - absent.count_ones() as usize)
+}
+
+// Writes the UTF-8 of any eight units.
 #[inline(always)]
 pub(crate) fn put_any(out: &mut [u8], at: usize, previous: u16x8, units: u16x8) -> usize
     requires { at + 32 ≤ length out.old }
@@ -108,38 +156,9 @@ pub(crate) fn put_any(out: &mut [u8], at: usize, previous: u16x8, units: u16x8) 
         units }
     ensures written_to { result ≤ at + 24 }
 {
-    let words = words(
-        fronts(previous_lanes(previous, units), units),
-        thirds(units),
-    )
-    .to_array();
-    let lens = added_lens(units).to_array();
-    let mut end = at;
-    for i in 0..8usize {
-        end = put_word(out, end, words[i], lens[i]);
-    }
-    end
-}
-
-// The first two bytes and the third of each lane in one word.
-#[inline(always)]
-fn words(fronts: u16x8, thirds: u16x8) -> u32x8
-    requires { (i : ℕ) → i < 8 → slice_index thirds i < 256 }
-    ensures { (i : ℕ) → i < 8 → slice_index result i ≡ slice_index fronts i + 65536 * slice_index
-        thirds i }
-{
-    fronts.cast::<u32>() + (thirds.cast::<u32>() << u32x8::splat(16))
-}
-
-// Writes a word of four bytes, of which the first `len` count.
-#[inline(always)]
-fn put_word(out: &mut [u8], at: usize, word: u32, len: u16) -> usize
-    requires space { at + 4 ≤ length out.old }
-    requires few { len ≤ 3 }
-    ensures bytes { take result out.new ≡ take at out.old
-        ++ take len (word % 256 ∷ word / 256 % 256 ∷ word / 65536 % 256 ∷ []) }
-    ensures written_to { result ≡ at + len }
-{
-    u8x4::from_array(word.to_le_bytes()).copy_to_slice(&mut out[at..]);
-    at + len as usize
+    let fronts = lane_bytes(fronts(previous_lanes(previous, units), units));
+    let thirds = lane_bytes(thirds(units));
+    let absent = upper_bits(lane_bytes(absences(units)));
+    let end = put_words(out, at, low_words(fronts, thirds), absent % 256);
+    put_words(out, end, high_words(fronts, thirds), absent / 256)
 }

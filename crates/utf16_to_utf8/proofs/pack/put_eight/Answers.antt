@@ -1,6 +1,7 @@
 use Rattle.std.proofs.Common.{◌-◌, ◌++◌, count_ones, take, ap, ◌∙◌, arith, refl, w8}
 use Rattle.std.proofs.lemmas.Simd.{SwzOk-from_below, length-swz_l, swz_l}
-use Rattle.utf16_to_utf8.proofs.StoreLemmas.{picked-packed, stored-front, swz-picked}
+use Rattle.utf16_to_utf8.specs.Pack.{packed}
+use Rattle.utf16_to_utf8.proofs.StoreLemmas.{packed-map, picked-by, stored-front, swz-picked}
 use Rattle.utf16_to_utf8.proofs.pack.put_eight.Goals as goal
 
 pub swizzle-standing : goal.swizzle-standing
@@ -16,4 +17,4 @@ returns-clause-bytes c flags eight is =
     stored-front c.args.at n c.args.out.now standing (omega (arith, whole, long)) (omega (arith, whole, long, c.requires.space))
     ∙ ap (λ bs. take c.args.at c.args.out.now ++ bs)
     (ap (take n) (swz-picked c.args.pairs 0 places (omega (arith, long)) c.places.ensures.below)
-    ∙ picked-packed flags c.args.pairs places n c.fits-pairs.0 (c.places.ensures.places flags eight is))
+    ∙ picked-by (packed flags) (λ f. packed-map f flags) c.args.pairs places n c.fits-pairs.0 (c.places.ensures.places flags eight is))

@@ -1,0 +1,113 @@
+-- The bytes of words of four bytes, and the table of their source indices.
+use Rattle.std.proofs.Common.{◌≡◌, ℕ, zero, suc, ◌+◌, ◌-◌, ◌*◌, ◌/◌, ◌%◌, ◌^◌, ◌<◌, Bool, true, false, List, [], ◌∷◌, ◌++◌, count_ones, length, slice_index, get_or, take, drop, map, refl, sym, ap, ap₂, ◌∙◌, subst, arith, append_assoc, length-take-le, ltb, add-mul}
+use Rattle.std.proofs.lemmas.List.{get_or-map}
+use Rattle.std.proofs.lemmas.Simd.{mask_l-lt}
+use Rattle.std.proofs.lemmas.Slice.Eq.{bytes_eq-Decides}
+use Rattle.std.specs.List.{range_with_len}
+use Rattle.std.specs.Str.{bytes_eq}
+use Rattle.std.proofs.Math.Nat.{two-pow-succ}
+use lib.Count.{ones}
+use lib.Lanes.{mask_l, pick_l}
+use Rattle.utf16_to_utf8.specs.declared.word_places.TheConstants.{WORD_PLACES}
+use Rattle.utf16_to_utf8.specs.Pack.{fours, kept_bytes, packed_words}
+use Rattle.utf16_to_utf8.specs.Utf8.{unit_utf8, units_utf8}
+use Rattle.utf16_to_utf8.proofs.ListLemmas.{three_from, units-cons, units-nil}
+use Rattle.utf16_to_utf8.proofs.PlaceLemmas.{Good, all_flags-each, each-good}
+
+-- ---- the table, row by row
+
+abbrev is_row : List Bool → Bool
+is_row flags = bytes_eq (take (12 - count_ones (mask_l flags)) (get_or WORD_PLACES (mask_l flags) [])) (packed_words flags (range_with_len 0 16))
+
+pub word_row : (flags : List Bool) → length flags ≡ 8 → take (12 - count_ones (mask_l flags)) (get_or WORD_PLACES (mask_l flags) []) ≡ packed_words flags (range_with_len 0 16)
+unfolding ones
+word_row flags long = (bytes_eq-Decides _ _).0 (all_flags-each 8 is_row refl flags long)
+
+pub word_row-good : (k : ℕ) → k < 256 → Good (get_or WORD_PLACES k [])
+word_row-good k below = each-good WORD_PLACES k below refl
+
+-- ---- the bytes that are kept
+
+kept-map : (f : ℕ → ℕ) (second third : Bool) (x y z : ℕ) → map f (kept_bytes second third x y z) ≡ kept_bytes second third (f x) (f y) (f z)
+kept-map f true true x y z = refl
+kept-map f true false x y z = refl
+kept-map f false true x y z = refl
+kept-map f false false x y z = refl
+
+map-append : (f : ℕ → ℕ) (xs ys : List ℕ) → map f (xs ++ ys) ≡ map f xs ++ map f ys
+map-append f [] ys = refl
+map-append f (x ∷ xs) ys = ap (λ t. f x ∷ t) (map-append f xs ys)
+
+pub packed_words-map : (f : ℕ → ℕ) (flags : List Bool) (xs : List ℕ) → map f (packed_words flags xs) ≡ packed_words flags (map f xs)
+packed_words-map f [] xs = refl
+packed_words-map f (a ∷ []) xs = refl
+packed_words-map f (a ∷ b ∷ flags) [] = refl
+packed_words-map f (a ∷ b ∷ flags) (x ∷ []) = refl
+packed_words-map f (a ∷ b ∷ flags) (x ∷ y ∷ []) = refl
+packed_words-map f (a ∷ b ∷ flags) (x ∷ y ∷ z ∷ []) = refl
+packed_words-map f (a ∷ b ∷ flags) (x ∷ y ∷ z ∷ w ∷ xs) =
+    map-append f (kept_bytes a b x y z) (packed_words flags xs) ∙ ap₂ (λ s t. s ++ t) (kept-map f a b x y z) (packed_words-map f flags xs)
+
+pub packed_words-append : (flags more : List Bool) (bytes rest : List ℕ) → length flags % 2 ≡ 0 → length bytes ≡ 2 * length flags
+    → packed_words flags bytes ++ packed_words more rest ≡ packed_words (flags ++ more) (bytes ++ rest)
+packed_words-append [] more [] rest even long = refl
+packed_words-append [] more (x ∷ bytes) rest even long = absurd (omega arith)
+packed_words-append (a ∷ []) more bytes rest even long = absurd (omega arith)
+packed_words-append (a ∷ b ∷ flags) more [] rest even long = absurd (omega arith)
+packed_words-append (a ∷ b ∷ flags) more (x ∷ []) rest even long = absurd (omega arith)
+packed_words-append (a ∷ b ∷ flags) more (x ∷ y ∷ []) rest even long = absurd (omega arith)
+packed_words-append (a ∷ b ∷ flags) more (x ∷ y ∷ z ∷ []) rest even long = absurd (omega arith)
+packed_words-append (a ∷ b ∷ flags) more (x ∷ y ∷ z ∷ w ∷ bytes) rest even long =
+    append_assoc (kept_bytes a b x y z) (packed_words flags bytes) (packed_words more rest)
+    ∙ ap (λ t. kept_bytes a b x y z ++ t) (packed_words-append flags more bytes rest (omega arith) (omega arith))
+
+-- the bits of the first n flags and of the others
+pub mask-parts : (n : ℕ) (flags : List Bool) → mask_l flags ≡ mask_l (take n flags) + 2 ^ n * mask_l (drop n flags)
+mask-parts zero flags = omega arith
+mask-parts (suc n) [] = omega arith
+mask-parts (suc n) (flag ∷ flags) =
+    let rest = mask_l (drop n flags) in
+    let twice = ap (λ k. k * rest) (two-pow-succ n) ∙ add-mul (2 ^ n) (2 ^ n) rest in
+    omega (arith, mask-parts n flags, twice)
+
+-- those of sixteen flags
+pub mask-halves : (flags : List Bool) (bits : ℕ) → length flags ≡ 16 → bits ≡ mask_l flags → (bits % 256 ≡ mask_l (take 8 flags)) × (bits / 256 ≡ mask_l (drop 8 flags))
+mask-halves flags bits long is =
+    let low : length (take 8 flags) ≡ 8 = length-take-le 8 flags (omega (arith, long)) in
+    let below = subst (λ n. mask_l (take 8 flags) < 2 ^ n) low (mask_l-lt (take 8 flags)) in
+    let parts = is ∙ mask-parts 8 flags in
+    (omega (arith, below, parts), omega (arith, below, parts))
+
+-- ---- the UTF-8 of units, of which a word holds each
+
+abbrev kept_at : List ℕ → Bool → Bool → ℕ → List ℕ
+kept_at bytes second third i = kept_bytes second third (slice_index bytes (2 * i)) (slice_index bytes (2 * i + 1)) (slice_index bytes (16 + 2 * i))
+
+pub fours-units : (before : ℕ) (flags : List Bool) (units bytes : List ℕ) (at : ℕ) → length flags ≡ 2 * length units
+    → ((i : ℕ) → i < length units → kept_at bytes (get_or flags (2 * i) false) (get_or flags (2 * i + 1) false) (at + i) ≡ unit_utf8 (slice_index (before ∷ units) i) (slice_index units i))
+    → packed_words flags (pick_l 0 bytes (fours at (length units))) ≡ units_utf8 before units
+fours-units before [] [] bytes at long are = sym (units-nil before)
+fours-units before [] (u ∷ units) bytes at long are = absurd (omega arith)
+fours-units before (a ∷ flags) [] bytes at long are = absurd (omega arith)
+fours-units before (a ∷ []) (u ∷ units) bytes at long are = absurd (omega arith)
+fours-units before (a ∷ b ∷ flags) (u ∷ units) bytes at long are =
+    let here : at + 0 ≡ at = omega arith in
+    ap₂ (λ xs ys. xs ++ ys) (ap (kept_at bytes a b) (sym here) ∙ are 0 (omega arith))
+    (fours-units u flags units bytes (at + 1) (omega arith) (λ i lt.
+    let next : at + 1 + i ≡ at + suc i = omega arith in
+    let even : suc (suc (2 * i)) ≡ 2 * suc i = omega arith in
+    let odd : suc (suc (2 * i + 1)) ≡ 2 * suc i + 1 = omega arith in
+    ap (kept_at bytes (get_or flags (2 * i) false) (get_or flags (2 * i + 1) false)) next
+    ∙ ap₂ (λ m n. kept_at bytes (get_or (a ∷ b ∷ flags) m false) (get_or (a ∷ b ∷ flags) n false) (at + suc i)) even odd ∙ are (suc i) (omega arith)))
+    ∙ sym (units-cons before u units)
+
+-- the bytes of a word by those of its lanes
+pub kept-by : (fronts thirds absent : List ℕ) (i x y z a b : ℕ) → length fronts ≡ 16 → length absent ≡ 16 → i < 8
+    → slice_index fronts (2 * i) ≡ x → slice_index fronts (2 * i + 1) ≡ y → slice_index thirds (2 * i) ≡ z → slice_index absent (2 * i) ≡ a → slice_index absent (2 * i + 1) ≡ b
+    → kept_at (fronts ++ thirds) (get_or (map (λ byte. ltb 127 byte) absent) (2 * i) false) (get_or (map (λ byte. ltb 127 byte) absent) (2 * i + 1) false) (0 + i)
+    ≡ kept_bytes (ltb 127 a) (ltb 127 b) x y z
+kept-by fronts thirds absent i x y z a b long eight lt px py pz pa pb =
+    let far = λ (byte : ℕ). ltb 127 byte in
+    let flag = λ (j n : ℕ) (room : j < length absent) (e : slice_index absent j ≡ n). get_or-map far absent j 0 false room ∙ ap far e in
+    ap₂ (λ m n. kept_at (fronts ++ thirds) m n (0 + i)) (flag (2 * i) a (omega (arith, eight)) pa) (flag (2 * i + 1) b (omega (arith, eight)) pb)
+    ∙ ap (λ (bytes : List ℕ). kept_bytes (ltb 127 a) (ltb 127 b) (slice_index bytes 0) (slice_index bytes 1) (slice_index bytes 2)) (three_from fronts thirds i x y z long lt px py pz)
