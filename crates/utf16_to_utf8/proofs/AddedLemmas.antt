@@ -1,9 +1,9 @@
 -- What eight lanes compute of a unit is what the unit adds.
-use Rattle.std.proofs.Common.{◌≡◌, ℕ, ◌+◌, ◌-◌, ◌*◌, ◌/◌, ◌%◌, ◌<◌, ◌≤◌, ◌⊎◌, Bool, true, false, cond, ltb, List, [], ◌∷◌, length, take, bit_and, refl, sym, ap, ap₂, ◌∙◌, ⊎_elim, arith, inl, inr, eq-eqb, eqb-true, lt-ltb, le-ltb}
+use Rattle.std.proofs.Common.{◌≡◌, ℕ, ◌+◌, ◌-◌, ◌*◌, ◌/◌, ◌%◌, ◌^◌, ◌<◌, ◌≤◌, ◌⊎◌, Bool, true, false, cond, ltb, List, [], ◌∷◌, length, take, bit_and, refl, sym, ap, ap₂, ◌∙◌, ⊎_elim, arith, inl, inr, eq-eqb, eqb-true, lt-ltb, le-ltb}
 use Rattle.std.proofs.lemmas.Bool.{cases_lt, false_from_ne_true}
 use Rattle.std.proofs.lemmas.Nat.{and_mask}
 use Rattle.std.proofs.lemmas.Nat.Bits.{and_high}
-use Rattle.utf16_to_utf8.specs.Lanes.{absence, added_len, front, is_surrogate, narrow, plus, surrogate_bits, third, two_bytes, up, wide}
+use Rattle.utf16_to_utf8.specs.Lanes.{absence, added_len, front, front_bits, is_surrogate, narrow, plus, surrogate_bits, third, two_bytes, up, wide}
 use Rattle.utf16_to_utf8.specs.Pack.{kept_bytes}
 use Rattle.utf16_to_utf8.specs.Utf8.{continuation, unit_utf8}
 use Rattle.utf16_to_utf8.proofs.UnitLemmas.{unit-leading, unit-one, unit-three, unit-trailing, unit-two}
@@ -151,31 +151,45 @@ any-two p u below above two is =
     ∙ sym (ap (λ flag. one_or_two flag (narrow p u % 256) (narrow p u / 256 % 256)) (le-ltb u 0x80 above))
     ∙ narrow-utf8 p u below (omega (arith, two))
 
+-- the first two bytes of any unit, by class
+front-by : (p u : ℕ) (surrogate low : Bool) → 0x80 ≤ u → is_surrogate u ≡ surrogate → ltb u 0x800 ≡ low
+    → front p u ≡ two_bytes 0x8000 (cond surrogate (surrogate_bits p u) (cond low (plus u 0x3000) (plus (u / 2 ^ 6) 0x3800)))
+front-by p u surrogate low above s l =
+    ap (λ one. cond one u (two_bytes 0x8000 (front_bits p u))) (le-ltb u 0x80 above)
+    ∙ ap₂ (λ a b. two_bytes 0x8000 (cond a (surrogate_bits p u) (cond b (plus u 0x3000) (plus (u / 2 ^ 6) 0x3800)))) s l
+
+front-two : (p u : ℕ) → u < 0x1_0000 → Between 0x80 0x800 u → front p u ≡ narrow p u
+front-two p u below b = front-by p u false true b.0 (surrogate-no u below (inl (omega (arith, b.1)))) (lt-ltb u 0x800 b.1) ∙ sym (two_bits p u b)
+
+front-surrogate : (p u : ℕ) → u < 0x1_0000 → Between 0xD800 0xE000 u → front p u ≡ narrow p u
+front-surrogate p u below b =
+    front-by p u true (ltb u 0x800) (omega (arith, b.0)) (surrogate-is u below b.0 b.1) refl ∙ sym (surrogate_two p u b)
+
+front-three : (p u : ℕ) → u < 0x1_0000 → 0x800 ≤ u → (u < 0xD800) ⊎ (0xE000 ≤ u) → front p u ≡ wide u
+front-three p u below a s =
+    front-by p u false false (omega (arith, a)) (surrogate-no u below s) (le-ltb u 0x800 a)
+    ∙ two_bytes-is 0 (plus (u / 64) 0x3800) (omega (arith, below)) ∙ omega (arith, below) ∙ sym (wide-is u below)
+
 any-surrogate : (p u : ℕ) → u < 0x1_0000 → Between 0xD800 0xE000 u → any_bytes p u ≡ unit_utf8 p u
 any-surrogate p u below b =
-    let above : 0x800 ≤ u = omega (arith, b.0) in
-    any-two p u below (omega (arith, b.0)) (added_len-surrogate u b)
-    (ap₂ (λ low s. cond low (narrow p u) (cond s (narrow p u) (wide u))) (le-ltb u 0x800 above) (surrogate-is u below b.0 b.1))
+    any-two p u below (omega (arith, b.0)) (added_len-surrogate u b) (front-surrogate p u below b)
 
 pub any-utf8 : (p u : ℕ) → u < 0x1_0000 → any_bytes p u ≡ unit_utf8 p u
 any-utf8 p u below = go (class u)
   where
     go : Class u → any_bytes p u ≡ unit_utf8 p u
     go (inl a) =
-        let low : u < 0x800 = omega (arith, a) in
         ap₂ (λ n f. take n ((f % 256) ∷ (f / 256 % 256) ∷ (third u % 256) ∷ []))
         (ap (λ b. cond b 1 (cond (ltb u 0x800) 2 (cond (is_surrogate u) 2 3))) (lt-ltb u 0x80 a))
-        (ap (λ b. cond b (narrow p u) (cond (is_surrogate u) (narrow p u) (wide u))) (lt-ltb u 0x800 low) ∙ narrow-one p u a)
+        (ap (λ b. cond b u (two_bytes 0x8000 (front_bits p u))) (lt-ltb u 0x80 a))
         ∙ ap (λ x. x ∷ []) (omega (arith, a)) ∙ sym (unit-one p u a)
     go (inr (inl b)) =
-        any-two p u below b.0 (rw (le-ltb u 0x80 b.0, lt-ltb u 0x800 b.1) refl)
-        (ap (λ low. cond low (narrow p u) (cond (is_surrogate u) (narrow p u) (wide u))) (lt-ltb u 0x800 b.1))
+        any-two p u below b.0 (rw (le-ltb u 0x80 b.0, lt-ltb u 0x800 b.1) refl) (front-two p u below b)
     go (inr (inr (inl b))) = any-surrogate p u below (b.0, omega (arith, b.1))
     go (inr (inr (inr (inl b)))) = any-surrogate p u below (omega (arith, b.0), b.1)
     go (inr (inr (inr (inr b)))) =
         let three = added_len-three u below b.0 b.1 in
-        ap₂ (λ n f. take n ((f % 256) ∷ (f / 256 % 256) ∷ (third u % 256) ∷ [])) three
-        (ap₂ (λ low s. cond low (narrow p u) (cond s (narrow p u) (wide u))) (le-ltb u 0x800 b.0) (surrogate-no u below b.1))
+        ap₂ (λ n f. take n ((f % 256) ∷ (f / 256 % 256) ∷ (third u % 256) ∷ [])) three (front-three p u below b.0 b.1)
         ∙ wide-utf8 p u below three
 
 pub added_len-le : (u : ℕ) → added_len u ≤ 3

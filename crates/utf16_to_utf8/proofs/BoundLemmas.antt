@@ -113,3 +113,6 @@ folded-wide u below many =
     (λ (a : u < 0xD800). inl a)
     (λ (b : 0xD800 ≤ u). inr (omega (arith, b, both.1)))
     (cases_lt u 0xD800)))
+
+pub raised-basic : (u : ℕ) → u < 0x1_0000 → 0x800 ≤ plus u 0x2800 → is_surrogate u ≡ false
+raised-basic u below many = surrogate-no u below (⊎_elim (λ (a : u < 0xD800). inl a) (λ (b : 0xD800 ≤ u). inr (omega (arith, b, many))) (cases_lt u 0xD800))

@@ -1,7 +1,7 @@
 -- The kinds of blocks of code units.
 use Rattle.std.specs.Prelude.{◌≡◌, ℕ, ◌<◌, ◌≤◌, List, false, length, slice_index}
 use Rattle.utf16_to_utf8.specs.declared.blocks.Kind.{Kind}
-use Rattle.utf16_to_utf8.specs.declared.blocks.Kind.TheVariants.{Ascii, Letters, Mixed, Pairs, Wide}
+use Rattle.utf16_to_utf8.specs.declared.blocks.Kind.TheVariants.{Ascii, Basic, Letters, Mixed, Pairs, Wide}
 use Rattle.utf16_to_utf8.specs.Lanes.{added_len, is_surrogate}
 
 -- a unit is of a kind
@@ -10,6 +10,7 @@ IsOfKind Ascii unit = unit < 0x80
 IsOfKind Letters unit = (is_surrogate unit ≡ false) × (added_len unit ≤ 2)
 IsOfKind Pairs unit = added_len unit ≤ 2
 IsOfKind Wide unit = added_len unit ≡ 3
+IsOfKind Basic unit = is_surrogate unit ≡ false
 IsOfKind Mixed unit = Unit {0}
 
 abbrev pub AreOfKind : Kind → List ℕ → Type 0

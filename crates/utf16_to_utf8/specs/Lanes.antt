@@ -33,9 +33,14 @@ wide unit = two_bytes 0x80E0 (unit / 2 ^ 6)
 abbrev pub third : ℕ → ℕ
 third unit = plus (bit_and unit 0x3F) 0x80
 
+-- the payload bits of the first two bytes that any unit from U+0080 on adds, with the tag bits of the
+-- first above them
+abbrev pub front_bits : ℕ → ℕ → ℕ
+front_bits before unit = if is_surrogate unit then surrogate_bits before unit else (if nat_lt unit 0x800 then plus unit 0x3000 else plus (unit / 2 ^ 6) 0x3800)
+
 -- the first two bytes that any unit adds, and how many bytes it adds
 abbrev pub front : ℕ → ℕ → ℕ
-front before unit = if nat_lt unit 0x800 then narrow before unit else (if is_surrogate unit then narrow before unit else wide unit)
+front before unit = if nat_lt unit 0x80 then unit else two_bytes 0x8000 (front_bits before unit)
 
 abbrev pub added_len : ℕ → ℕ
 added_len unit = if nat_lt unit 0x80 then 1 else (if nat_lt unit 0x800 then 2 else (if is_surrogate unit then 2 else 3))

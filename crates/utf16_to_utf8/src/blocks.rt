@@ -5,23 +5,24 @@ ghost use Rattle.std.specs.Simd.Lanes.{chunk, mask_l};
 ghost use Rattle.utf16_units.specs.Encoding.{units_of};
 ghost use Rattle.utf16_units.specs.Lanes.{HasLanes};
 ghost use Rattle.utf16_to_utf8.specs.Block.{AreOfKind};
-ghost use Rattle.utf16_to_utf8.specs.Lanes.{folded};
+ghost use Rattle.utf16_to_utf8.specs.Lanes.{folded, plus};
 ghost use Rattle.utf16_to_utf8.specs.Utf8.{units_utf8};
 ghost use Rattle.utf16_to_utf8.specs.declared.blocks.Kind.TheVariants.{Ascii};
 
-use crate::pack::{put_any, put_narrow, put_wide};
+use crate::writers::{BasicWriter, LettersWriter, MixedWriter, PairsWriter, WideWriter, Writer};
 use std::simd::prelude::*;
 use utf16_units::Utf16Order;
 use utf16_units::blocks::units32;
 
 // What the units of a block have in common: all are ASCII; all are below U+0800; some are surrogates
-// and the others below U+0800; each adds three bytes; or none of these.
+// and the others below U+0800; each adds three bytes; none is a surrogate; or nothing.
 #[derive(Clone, Copy)]
 pub(crate) enum Kind {
     Ascii,
     Letters,
     Pairs,
     Wide,
+    Basic,
     Mixed,
 }
 
@@ -104,12 +105,20 @@ fn lesser(a: u16x8, b: u16x8) -> u16x8
     a.simd_min(b)
 }
 
+// Units raised so that the surrogates, and these alone, are below 0x800.
+#[inline(always)]
+fn raised(units: u16x32) -> u16x32
+    ensures { HasLanes 32 result (λ i. plus (slice_index units i) 0x2800) }
+{
+    units + u16x32::splat(0x2800)
+}
+
 // Units folded so that those below U+0800 and the surrogates, and these alone, are below 0x800.
 #[inline(always)]
 fn folded(units: u16x32) -> u16x32
     ensures { HasLanes 32 result (λ i. folded (slice_index units i)) }
 {
-    units.simd_min(units + u16x32::splat(0x2800))
+    units.simd_min(raised(units))
 }
 
 // A bit for each unit that has the upper five bits of `class`.
@@ -133,6 +142,8 @@ pub(crate) fn kind_of(units: u16x32) -> Kind
         Kind::Letters
     } else if are_of(units, Kind::Wide) {
         Kind::Wide
+    } else if are_of(units, Kind::Basic) {
+        Kind::Basic
     } else if are_of(units, Kind::Pairs) {
         Kind::Pairs
     } else {
@@ -150,6 +161,7 @@ pub(crate) fn are_of(units: u16x32, kind: Kind) -> bool
         Kind::Letters => are_below(units, 0x800),
         Kind::Wide => are_from(folded(units), 0x800),
         Kind::Pairs => are_below(folded(units), 0x800),
+        Kind::Basic => are_from(raised(units), 0x800),
         Kind::Mixed => true,
     }
 }
@@ -171,10 +183,11 @@ pub(crate) fn put_block(
 {
     match kind {
         Kind::Ascii => put_ascii(out, at, units),
-        Kind::Letters => put_groups(out, at, previous, units, Kind::Letters),
-        Kind::Wide => put_groups(out, at, previous, units, Kind::Wide),
-        Kind::Pairs => put_groups(out, at, previous, units, Kind::Pairs),
-        Kind::Mixed => put_groups(out, at, previous, units, Kind::Mixed),
+        Kind::Letters => put_groups::<LettersWriter>(out, at, previous, units),
+        Kind::Pairs => put_groups::<PairsWriter>(out, at, previous, units),
+        Kind::Wide => put_groups::<WideWriter>(out, at, previous, units),
+        Kind::Basic => put_groups::<BasicWriter>(out, at, previous, units),
+        Kind::Mixed => put_groups::<MixedWriter>(out, at, previous, units),
     }
 }
 
@@ -207,35 +220,18 @@ pub(crate) fn eights(units: u16x32) -> (u16x8, u16x8, u16x8, u16x8)
     )
 }
 
-// Writes the UTF-8 that a block of a kind adds, group by group.
-#[inline(always)]
-fn put_groups(out: &mut [u8], at: usize, previous: u16x8, units: u16x32, kind: Kind) -> usize
+// Writes the UTF-8 that a block adds, group by group.
+#[inline]
+fn put_groups<W: Writer>(out: &mut [u8], at: usize, previous: u16x8, units: u16x32) -> usize
     requires space { at + 104 ≤ length out.old }
-    requires kind { AreOfKind kind units }
+    requires kind { AreOfKind W.KIND units }
     ensures bytes { take result out.new ≡ take at out.old ++ units_utf8 (slice_index previous 7)
         units }
     ensures written_to { result ≤ at + 96 }
 {
     let (first, second, third, fourth) = eights(units);
-    let one = put_group(out, at, previous, first, kind);
-    let two = put_group(out, one, first, second, kind);
-    let three = put_group(out, two, second, third, kind);
-    put_group(out, three, third, fourth, kind)
-}
-
-#[inline(always)]
-fn put_group(out: &mut [u8], at: usize, previous: u16x8, units: u16x8, kind: Kind) -> usize
-    requires space { at + 32 ≤ length out.old }
-    requires kind { AreOfKind kind units }
-    ensures bytes { take result out.new ≡ take at out.old ++ units_utf8 (slice_index previous 7)
-        units }
-    ensures written_to { result ≤ at + 24 }
-{
-    match kind {
-        Kind::Ascii => put_narrow(out, at, previous, units, false),
-        Kind::Letters => put_narrow(out, at, previous, units, false),
-        Kind::Pairs => put_narrow(out, at, previous, units, true),
-        Kind::Wide => put_wide(out, at, units),
-        Kind::Mixed => put_any(out, at, previous, units),
-    }
+    let one = W::put_group(out, at, previous, first);
+    let two = W::put_group(out, one, first, second);
+    let three = W::put_group(out, two, second, third);
+    W::put_group(out, three, third, fourth)
 }

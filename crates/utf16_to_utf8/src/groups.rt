@@ -1,9 +1,9 @@
 //! The UTF-8 that eight units add, with SIMD: their first two bytes, their third, and which of
 //! these they do not add.
 
-ghost use Rattle.std.specs.Prelude.{◌≡◌, ◌<◌, ℕ, false, slice_index};
+ghost use Rattle.std.specs.Prelude.{◌≡◌, ◌<◌, ℕ, false, if◌then◌else◌, slice_index};
 ghost use Rattle.utf16_units.specs.Lanes.{HasLanes};
-ghost use Rattle.utf16_to_utf8.specs.Lanes.{absence, front, narrow, surrogate_bits, third, two_bytes, wide};
+ghost use Rattle.utf16_to_utf8.specs.Lanes.{absence, front, front_bits, is_surrogate, narrow, surrogate_bits, third, two_bytes, wide};
 
 use crate::lanes::{down, each, masked, raised, sum, where_below, where_surrogate};
 use std::simd::prelude::*;
@@ -48,14 +48,29 @@ pub(crate) fn wide(units: u16x8) -> u16x8
     two_bytes(each(0x80E0), down(units, 6))
 }
 
+// The payload bits of the first two bytes of units from U+0080 on, with the tag bits of the first.
+#[inline(always)]
+fn front_bits(behind: u16x8, units: u16x8, surrogates: bool) -> u16x8
+    requires { surrogates ≡ false → (i : ℕ) → i < 8 → is_surrogate (slice_index units i) ≡ false }
+    ensures { HasLanes 8 result (λ i. front_bits (slice_index behind i) (slice_index units i)) }
+{
+    let letters = sum(units, each(0x3000));
+    let others = sum(down(units, 6), each(0x3800));
+    let bits = where_below(units, 0x800, letters, others);
+    if !surrogates {
+        return bits;
+    }
+    where_surrogate(units, surrogate_bits(behind, units), bits)
+}
+
 // The first two bytes of any units.
 #[inline(always)]
-pub(crate) fn fronts(behind: u16x8, units: u16x8) -> u16x8
+pub(crate) fn fronts(behind: u16x8, units: u16x8, surrogates: bool) -> u16x8
+    requires { surrogates ≡ false → (i : ℕ) → i < 8 → is_surrogate (slice_index units i) ≡ false }
     ensures { HasLanes 8 result (λ i. front (slice_index behind i) (slice_index units i)) }
 {
-    let narrow = narrow(behind, units, true);
-    let above = where_surrogate(units, narrow, wide(units));
-    where_below(units, 0x800, narrow, above)
+    let bits = front_bits(behind, units, surrogates);
+    where_below(units, 0x80, units, two_bytes(each(0x8000), bits))
 }
 
 // The third bytes of units that add three.
@@ -69,10 +84,23 @@ pub(crate) fn thirds(units: u16x8) -> u16x8
 // Which bytes a unit does not add: the low half is set if it adds no second byte, the high half if it
 // adds no third.
 #[inline(always)]
-pub(crate) fn absences(units: u16x8) -> u16x8
+pub(crate) fn absences(units: u16x8, surrogates: bool) -> u16x8
+    requires { surrogates ≡ false → (i : ℕ) → i < 8 → is_surrogate (slice_index units i) ≡ false }
     ensures { HasLanes 8 result (λ i. absence (slice_index units i)) }
 {
-    let above = where_surrogate(units, each(0xFF00), each(0));
+    let above = absences_above(units, surrogates);
     let short = where_below(units, 0x800, each(0xFF00), above);
     where_below(units, 0x80, each(0xFFFF), short)
+}
+
+// The same of units from U+0800 on.
+#[inline(always)]
+fn absences_above(units: u16x8, surrogates: bool) -> u16x8
+    requires { surrogates ≡ false → (i : ℕ) → i < 8 → is_surrogate (slice_index units i) ≡ false }
+    ensures { HasLanes 8 result (λ i. if is_surrogate (slice_index units i) then 0xFF00 else 0) }
+{
+    if !surrogates {
+        return each(0);
+    }
+    where_surrogate(units, each(0xFF00), each(0))
 }

@@ -14,6 +14,7 @@ mod runs;
 mod short;
 mod word_places;
 mod write;
+mod writers;
 
 pub use crate::append::append_utf8;
 pub use crate::lens::utf8_len;

@@ -150,15 +150,24 @@ fn put_words(out: &mut [u8], at: usize, words: u8x16, absent: usize) -> usize
 
 // Writes the UTF-8 of any eight units.
 #[inline(always)]
-pub(crate) fn put_any(out: &mut [u8], at: usize, previous: u16x8, units: u16x8) -> usize
-    requires { at + 32 ≤ length out.old }
+pub(crate) fn put_any(
+    out: &mut [u8],
+    at: usize,
+    previous: u16x8,
+    units: u16x8,
+    surrogates: bool,
+) -> usize
+    requires space { at + 32 ≤ length out.old }
+    requires none { surrogates ≡ false → (i : ℕ) → i < 8
+        → is_surrogate (slice_index units i) ≡ false }
     ensures bytes { take result out.new ≡ take at out.old ++ units_utf8 (slice_index previous 7)
         units }
     ensures written_to { result ≤ at + 24 }
 {
-    let fronts = lane_bytes(fronts(previous_lanes(previous, units), units));
+    let behind = previous_lanes(previous, units);
+    let fronts = lane_bytes(fronts(behind, units, surrogates));
     let thirds = lane_bytes(thirds(units));
-    let absent = upper_bits(lane_bytes(absences(units)));
+    let absent = upper_bits(lane_bytes(absences(units, surrogates)));
     let end = put_words(out, at, low_words(fronts, thirds), absent % 256);
     put_words(out, end, high_words(fronts, thirds), absent / 256)
 }

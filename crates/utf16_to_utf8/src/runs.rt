@@ -46,7 +46,7 @@ pub(crate) fn put_next<E: Utf16Order>(raw: &[u8], out: &mut [u8], from: Cursor) 
     match kind {
         Kind::Ascii => put_run::<E>(raw, out, next, Kind::Ascii),
         Kind::Wide => put_run::<E>(raw, out, next, Kind::Wide),
-        Kind::Letters | Kind::Pairs | Kind::Mixed => next,
+        Kind::Letters | Kind::Pairs | Kind::Basic | Kind::Mixed => next,
     }
 }
 

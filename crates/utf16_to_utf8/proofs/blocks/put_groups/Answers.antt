@@ -7,19 +7,19 @@ use Rattle.utf16_to_utf8.proofs.BlockLemmas.{four_eights, kind_of-eight, wrote_u
 use Rattle.utf16_to_utf8.proofs.blocks.put_groups.Goals as goal
 
 pub put_group-one-requires-clause-kind : goal.put_group-one-requires-clause-kind
-put_group-one-requires-clause-kind c = kind_of-eight (IsOfKind c.args.kind) c.args.units _ 0 c.fits-units.0 (omega arith) c.eights.ensures.low c.requires.kind
+put_group-one-requires-clause-kind g c = kind_of-eight (IsOfKind g.W.Writer.KIND) c.args.units _ 0 c.fits-units.0 (omega arith) c.eights.ensures.low c.requires.kind
 
 pub put_group-two-requires-clause-kind : goal.put_group-two-requires-clause-kind
-put_group-two-requires-clause-kind c = kind_of-eight (IsOfKind c.args.kind) c.args.units _ 8 c.fits-units.0 (omega arith) c.eights.ensures.high c.requires.kind
+put_group-two-requires-clause-kind g c = kind_of-eight (IsOfKind g.W.Writer.KIND) c.args.units _ 8 c.fits-units.0 (omega arith) c.eights.ensures.high c.requires.kind
 
 pub put_group-three-requires-clause-kind : goal.put_group-three-requires-clause-kind
-put_group-three-requires-clause-kind c = kind_of-eight (IsOfKind c.args.kind) c.args.units _ 16 c.fits-units.0 (omega arith) c.eights.ensures.third c.requires.kind
+put_group-three-requires-clause-kind g c = kind_of-eight (IsOfKind g.W.Writer.KIND) c.args.units _ 16 c.fits-units.0 (omega arith) c.eights.ensures.third c.requires.kind
 
 pub put_group-requires-clause-kind : goal.put_group-requires-clause-kind
-put_group-requires-clause-kind c = kind_of-eight (IsOfKind c.args.kind) c.args.units _ 24 c.fits-units.0 (omega arith) c.eights.ensures.fourth c.requires.kind
+put_group-requires-clause-kind g c = kind_of-eight (IsOfKind g.W.Writer.KIND) c.args.units _ 24 c.fits-units.0 (omega arith) c.eights.ensures.fourth c.requires.kind
 
 pub returns-clause-bytes : goal.returns-clause-bytes
-returns-clause-bytes c =
+returns-clause-bytes g c =
     let units = c.args.units in
     let before = slice_index c.args.previous 7 in
     let first = c.eights.result.0 in
