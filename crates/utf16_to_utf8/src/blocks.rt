@@ -47,12 +47,29 @@ pub(crate) fn is_ascii(units: u16x32) -> bool
     are_below(units, 0x80)
 }
 
+// Whether all units of two blocks are ASCII.
+#[inline(always)]
+pub(crate) fn are_both_ascii(first: u16x32, second: u16x32) -> bool
+    ensures first { IsTrue result → AreOfKind Ascii first }
+    ensures second { IsTrue result → AreOfKind Ascii second }
+{
+    lanes_below(greater(greatest(first), greatest(second)), 0x80)
+}
+
 // Whether all units are below a limit.
 #[inline(always)]
 fn are_below(units: u16x32, limit: u16) -> bool
     ensures { IsTrue result → All (λ unit. unit < limit) units }
 {
-    greatest(units).simd_lt(u16x8::splat(limit)).to_bitmask() == 0xFF
+    lanes_below(greatest(units), limit)
+}
+
+// Whether eight lanes are below a limit.
+#[inline(always)]
+fn lanes_below(lanes: u16x8, limit: u16) -> bool
+    ensures { IsTrue result → All (λ lane. lane < limit) lanes }
+{
+    lanes.simd_lt(u16x8::splat(limit)).to_bitmask() == 0xFF
 }
 
 // The greatest of the units at the same place in each group of eight.

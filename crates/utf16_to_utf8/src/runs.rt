@@ -6,7 +6,7 @@ ghost use Rattle.utf16_units.specs.Encoding.{units_of};
 ghost use Rattle.utf16_to_utf8.specs.Block.{AreOfKind};
 ghost use Rattle.utf16_to_utf8.specs.Cursor.{Reached};
 
-use crate::blocks::{Kind, are_of, eights, kind_of, put_block};
+use crate::blocks::{Kind, are_both_ascii, are_of, eights, kind_of, put_block};
 use crate::write::SLACK;
 use std::simd::prelude::*;
 use utf16_units::Utf16Order;
@@ -31,7 +31,8 @@ fn next_units<E: Utf16Order>(raw: &[u8], at: usize) -> u16x32
     units32::<E>(u8x64::from_slice(&raw[at..]))
 }
 
-// Writes the next block, and if it is ASCII or wide also the blocks of its kind that follow it.
+// Writes the next block, and if it is ASCII, wide or of pairs also the blocks of its kind that follow
+// it.
 #[inline(always)]
 pub(crate) fn put_next<E: Utf16Order>(raw: &[u8], out: &mut [u8], from: Cursor) -> Cursor
     requires space { length raw.now / 2 * 3 + SLACK ≤ length out.old }
@@ -44,10 +45,32 @@ pub(crate) fn put_next<E: Utf16Order>(raw: &[u8], out: &mut [u8], from: Cursor) 
     let kind = kind_of(units);
     let next = put_units::<E>(raw, out, from, units, kind);
     match kind {
-        Kind::Ascii => put_run::<E>(raw, out, next, Kind::Ascii),
+        Kind::Ascii => put_ascii_run::<E>(raw, out, next),
         Kind::Wide => put_run::<E>(raw, out, next, Kind::Wide),
-        Kind::Letters | Kind::Pairs | Kind::Basic | Kind::Mixed => next,
+        Kind::Pairs => put_run::<E>(raw, out, next, Kind::Pairs),
+        Kind::Letters | Kind::Basic | Kind::Mixed => next,
     }
+}
+
+// Writes the ASCII blocks from the cursor on, two at a time.
+#[inline(always)]
+fn put_ascii_run<E: Utf16Order>(raw: &[u8], out: &mut [u8], from: Cursor) -> Cursor
+    requires space { length raw.now / 2 * 3 + SLACK ≤ length out.old }
+    requires reached { Reached E.BIG raw.now out.old from }
+    ensures reached { Reached E.BIG raw.now out.new result }
+    ensures advances { from.at ≤ result.at }
+{
+    let mut cursor = from;
+    while raw.len() - cursor.at >= 128 {
+        let first = next_units::<E>(raw, cursor.at);
+        let second = next_units::<E>(raw, cursor.at + 64);
+        if !are_both_ascii(first, second) {
+            break;
+        }
+        let next = put_units::<E>(raw, out, cursor, first, Kind::Ascii);
+        cursor = put_units::<E>(raw, out, next, second, Kind::Ascii);
+    }
+    cursor
 }
 
 // Writes the blocks of a kind from the cursor on.
