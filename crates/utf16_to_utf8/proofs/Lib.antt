@@ -4,6 +4,7 @@ mod ListLemmas
 mod StoreLemmas
 mod PlaceLemmas
 mod WordLemmas
+mod PaddedLemmas
 mod BlockLemmas
 mod TextLemmas
 mod LenLemmas

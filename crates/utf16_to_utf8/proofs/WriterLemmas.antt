@@ -1,5 +1,5 @@
 -- A step of the writer of a text: a block was written.
-use Rattle.std.proofs.Common.{◌≡◌, ℕ, ◌+◌, ◌≤◌, ◌++◌, Bool, List, length, take, drop, slice_index, refl, sym, ap, ◌∙◌, arith}
+use Rattle.std.proofs.Common.{◌≡◌, ℕ, ◌+◌, ◌*◌, ◌≤◌, ◌++◌, Bool, List, length, take, drop, slice_index, sym, ap, ◌∙◌, arith}
 use Rattle.utf16_units.specs.Encoding.{units_of}
 use Rattle.utf16_units.proofs.UnitsUpTo.{units_of-behind}
 use Rattle.utf16_to_utf8.specs.Cursor.{Reached}
@@ -7,19 +7,19 @@ use Rattle.utf16_to_utf8.specs.Utf8.{units_utf8}
 use Rattle.utf16_to_utf8.specs.declared.runs.Cursor.{Cursor}
 use Rattle.utf16_to_utf8.proofs.BlockLemmas.{wrote_units}
 
--- the next 32 units were written
-pub reached-next : (big : Bool) (raw out new units : List ℕ) (from to : Cursor) → Reached big raw out from
-    → from.at + 64 ≤ length raw → length units ≡ 32 → units ≡ units_of big (take 64 (drop from.at raw))
-    → to.at ≡ from.at + 64 → to.end ≤ from.end + 96 → slice_index to.previous 7 ≡ slice_index units 31
+-- the next n + 1 units were written
+pub reached-next : (n : ℕ) (big : Bool) (raw out new units : List ℕ) (from to : Cursor) → Reached big raw out from
+    → from.at + 2 * (n + 1) ≤ length raw → length units ≡ n + 1 → units ≡ units_of big (take (2 * (n + 1)) (drop from.at raw))
+    → to.at ≡ from.at + 2 * (n + 1) → to.end ≤ from.end + 3 * (n + 1) → slice_index to.previous 7 ≡ slice_index units n
     → take to.end new ≡ take from.end out ++ units_utf8 (slice_index from.previous 7) units → Reached big raw new to
-reached-next big raw out new units from to reached more long next at end last wrote =
+reached-next n big raw out new units from to reached more long next at end last wrote =
     let done = take from.end out in
     let before = slice_index from.previous 7 in
-    let left = units_of big (drop (from.at + 64) raw) in
+    let left = units_of big (drop (from.at + 2 * (n + 1)) raw) in
     record {
       within = omega (arith, at, more);
       even = omega (arith, at, reached.even);
       short = omega (arith, at, end, reached.short);
-      written = rw (at, last) (wrote_units 31 done _ _ units left before long wrote
-          (ap (λ us. done ++ units_utf8 before (us ++ left)) next ∙ ap (λ us. done ++ units_utf8 before us) (sym (units_of-behind big raw from.at 64 refl more)) ∙ reached.written));
+      written = rw (at, last) (wrote_units n done _ _ units left before long wrote
+          (ap (λ us. done ++ units_utf8 before (us ++ left)) next ∙ ap (λ us. done ++ units_utf8 before us) (sym (units_of-behind big raw from.at (2 * (n + 1)) (omega arith) more)) ∙ reached.written));
     }

@@ -66,7 +66,7 @@ fn are_below(units: u16x32, limit: u16) -> bool
 
 // Whether eight lanes are below a limit.
 #[inline(always)]
-fn lanes_below(lanes: u16x8, limit: u16) -> bool
+pub(crate) fn lanes_below(lanes: u16x8, limit: u16) -> bool
     ensures { IsTrue result → All (λ lane. lane < limit) lanes }
 {
     lanes.simd_lt(u16x8::splat(limit)).to_bitmask() == 0xFF

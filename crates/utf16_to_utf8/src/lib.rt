@@ -4,11 +4,13 @@
 
 mod append;
 mod blocks;
+mod few;
 mod groups;
 mod lanes;
 pub mod laws;
 mod lens;
 mod pack;
+mod padded;
 mod places;
 mod runs;
 mod short;

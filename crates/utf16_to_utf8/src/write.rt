@@ -3,8 +3,9 @@
 ghost use Rattle.std.specs.Prelude.{◌≡◌, ◌+◌, ◌*◌, ◌/◌, ◌%◌, ◌<◌, ◌≤◌, ◌++◌, drop, length, slice_index, take};
 ghost use Rattle.utf16_units.specs.Encoding.{IsUtf16, units_of, utf8_of};
 ghost use Rattle.utf16_to_utf8.specs.Utf8.{units_utf8};
+ghost use Rattle.utf16_to_utf8.specs.Cursor.{Reached};
 
-use crate::blocks::{filled_units, kind_of, put_block};
+use crate::few::{put_last_units, put_next_eight};
 use crate::runs::{Cursor, put_next};
 use crate::short::put_each;
 use std::simd::prelude::*;
@@ -12,9 +13,6 @@ use utf16_units::Utf16Order;
 
 /// The number of bytes that `write_utf8` needs beyond three per code unit.
 pub const SLACK: usize = 128;
-
-// Texts of fewer bytes are written unit by unit.
-const BY_BLOCKS: usize = 24;
 
 /// Writes UTF-16 in UTF-8 to the start of `to`, and returns the number of bytes written.
 ///
@@ -48,7 +46,7 @@ fn write_units<E: Utf16Order>(raw: &[u8], out: &mut [u8]) -> usize
     ensures bytes { take result out.new ≡ units_utf8 0 (units_of E.BIG raw.now) }
     ensures written_to { result ≤ length out.old }
 {
-    if raw.len() < BY_BLOCKS {
+    if raw.len() < 16 {
         return put_each::<E>(raw, out, 0, 0);
     }
     let mut cursor = Cursor {
@@ -59,23 +57,25 @@ fn write_units<E: Utf16Order>(raw: &[u8], out: &mut [u8]) -> usize
     while raw.len() - cursor.at >= 64 {
         cursor = put_next::<E>(raw, out, cursor);
     }
+    put_rest::<E>(raw, out, cursor)
+}
+
+// Writes the units behind the last block, eight at a time.
+#[inline(always)]
+fn put_rest<E: Utf16Order>(raw: &[u8], out: &mut [u8], from: Cursor) -> usize
+    requires even { length raw.now % 2 ≡ 0 }
+    requires many { 16 ≤ length raw.now }
+    requires space { length raw.now / 2 * 3 + SLACK ≤ length out.old }
+    requires reached { Reached E.BIG raw.now out.old from }
+    ensures bytes { take result out.new ≡ units_utf8 0 (units_of E.BIG raw.now) }
+    ensures written_to { result ≤ length out.old }
+{
+    let mut cursor = from;
+    while raw.len() - cursor.at >= 16 {
+        cursor = put_next_eight::<E>(raw, out, cursor);
+    }
     if cursor.at == raw.len() {
         return cursor.end;
     }
-    put_rest::<E>(&raw[cursor.at..], out, cursor.end, cursor.previous)
-}
-
-// Writes the UTF-8 of at most a block of units, padded with zeros, each of which adds one byte.
-#[inline(always)]
-fn put_rest<E: Utf16Order>(raw: &[u8], out: &mut [u8], at: usize, previous: u16x8) -> usize
-    requires few { length raw.now ≤ 64 }
-    requires even { length raw.now % 2 ≡ 0 }
-    requires space { at + 104 ≤ length out.old }
-    ensures bytes { take result out.new ≡ take at out.old ++ units_utf8 (slice_index previous 7)
-        (units_of E.BIG raw.now) }
-    ensures written_to { result ≤ at + 96 }
-{
-    let units = filled_units::<E>(raw);
-    let end = put_block(out, at, previous, units, kind_of(units));
-    end - (32 - raw.len() / 2)
+    put_last_units::<E>(raw, out, cursor)
 }

@@ -7,4 +7,4 @@ pub returns-clause-reached : goal.returns-clause-reached
 returns-clause-reached g c =
     let units = c.args.units in
     let last = ap (λ us. slice_index us 7) c.eights.ensures.fourth ∙ get_or-chunk 24 8 units 7 0 (omega arith) in
-    reached-next g.E.Utf16Order.BIG c.args.raw.now c.args.out.now _ units c.args.from _ c.requires.reached c.requires.more c.fits-units.0 c.requires.next refl c.put_block-end.ensures.written_to last c.put_block-end.ensures.bytes
+    reached-next 31 g.E.Utf16Order.BIG c.args.raw.now c.args.out.now _ units c.args.from _ c.requires.reached c.requires.more c.fits-units.0 c.requires.next refl c.put_block-end.ensures.written_to last c.put_block-end.ensures.bytes

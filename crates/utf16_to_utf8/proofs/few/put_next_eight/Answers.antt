@@ -1,0 +1,8 @@
+use Rattle.std.proofs.Common.{refl}
+use Rattle.utf16_to_utf8.proofs.WriterLemmas.{reached-next}
+use Rattle.utf16_to_utf8.proofs.few.put_next_eight.Goals as goal
+
+pub returns-clause-reached : goal.returns-clause-reached
+returns-clause-reached g c =
+    let units = c.units8-units.result in
+    reached-next 7 g.E.Utf16Order.BIG c.args.raw.now c.args.out.now _ units c.args.from _ c.requires.reached c.requires.more c.units8-units.ensures.len c.units8-units.ensures.units refl c.put_eight_units-end.ensures.written_to refl c.put_eight_units-end.ensures.bytes

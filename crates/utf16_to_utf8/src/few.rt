@@ -1,0 +1,102 @@
+//! Writes eight units at once, in short texts and behind the last block of a text.
+
+ghost use Rattle.std.specs.Prelude.{◌≡◌, ◌+◌, ◌-◌, ◌*◌, ◌/◌, ◌%◌, ◌≤◌, ◌++◌, ℕ, drop, length, replicate, slice_index, take};
+ghost use Rattle.utf16_units.specs.Encoding.{units_of};
+ghost use Rattle.utf16_to_utf8.specs.Block.{AreOfKind};
+ghost use Rattle.utf16_to_utf8.specs.Cursor.{Reached};
+ghost use Rattle.utf16_to_utf8.specs.Utf8.{units_utf8};
+ghost use Rattle.utf16_to_utf8.specs.declared.blocks.Kind.TheVariants.{Ascii};
+
+use crate::blocks::lanes_below;
+use crate::pack::{put_any, put_narrow};
+use crate::padded::{moved_front, units8};
+use crate::runs::Cursor;
+use crate::write::SLACK;
+use std::simd::prelude::*;
+use utf16_units::Utf16Order;
+
+// Writes the low byte of each of eight units.
+#[inline(always)]
+fn put_ascii_eight(out: &mut [u8], at: usize, units: u16x8) -> usize
+    requires space { at + 8 ≤ length out.old }
+    requires ascii { AreOfKind Ascii units }
+    ensures bytes { (before : ℕ) → take result out.new ≡ take at out.old
+        ++ units_utf8 before units }
+    ensures written_to { result ≡ at + 8 }
+{
+    units.cast::<u8>().copy_to_slice(&mut out[at..]);
+    at + 8
+}
+
+// Writes the UTF-8 of eight units.
+#[inline(always)]
+fn put_eight_units(out: &mut [u8], at: usize, previous: u16x8, units: u16x8) -> usize
+    requires space { at + 32 ≤ length out.old }
+    ensures bytes { take result out.new ≡ take at out.old ++ units_utf8 (slice_index previous 7)
+        units }
+    ensures written_to { result ≤ at + 24 }
+{
+    if lanes_below(units, 0x80) {
+        put_ascii_eight(out, at, units)
+    } else if lanes_below(units, 0x800) {
+        put_narrow(out, at, previous, units, false)
+    } else {
+        put_any(out, at, previous, units, true)
+    }
+}
+
+// Writes the next eight units.
+#[inline(always)]
+pub(crate) fn put_next_eight<E: Utf16Order>(raw: &[u8], out: &mut [u8], from: Cursor) -> Cursor
+    requires space { length raw.now / 2 * 3 + SLACK ≤ length out.old }
+    requires more { from.at + 16 ≤ length raw.now }
+    requires reached { Reached E.BIG raw.now out.old from }
+    ensures reached { Reached E.BIG raw.now out.new result }
+    ensures at { result.at ≡ from.at + 16 }
+{
+    let units = units8::<E>(u8x16::from_slice(&raw[from.at..]));
+    let end = put_eight_units(out, from.end, from.previous, units);
+    Cursor {
+        at: from.at + 16,
+        end,
+        previous: units,
+    }
+}
+
+// Writes the UTF-8 of at most eight units, whose bytes are padded with zeros: each of these adds one
+// byte.
+#[inline(always)]
+fn put_padded<E: Utf16Order>(
+    padded: u8x16,
+    len: usize,
+    out: &mut [u8],
+    at: usize,
+    previous: u16x8,
+) -> usize
+    requires few { len ≤ 16 }
+    requires even { len % 2 ≡ 0 }
+    requires zeros { drop len padded ≡ replicate (16 - len) 0 }
+    requires space { at + 32 ≤ length out.old }
+    ensures bytes { take result out.new ≡ take at out.old ++ units_utf8 (slice_index previous 7)
+        (units_of E.BIG (take len padded)) }
+    ensures written_to { result ≤ at + 24 }
+{
+    let end = put_eight_units(out, at, previous, units8::<E>(padded));
+    end - (8 - len / 2)
+}
+
+// Writes the last units of a text, which are fewer than eight.
+#[inline(always)]
+pub(crate) fn put_last_units<E: Utf16Order>(raw: &[u8], out: &mut [u8], from: Cursor) -> usize
+    requires even { length raw.now % 2 ≡ 0 }
+    requires many { 16 ≤ length raw.now }
+    requires few { length raw.now ≤ from.at + 16 }
+    requires space { length raw.now / 2 * 3 + SLACK ≤ length out.old }
+    requires reached { Reached E.BIG raw.now out.old from }
+    ensures bytes { take result out.new ≡ units_utf8 0 (units_of E.BIG raw.now) }
+    ensures written_to { result ≤ length out.old }
+{
+    let len = raw.len() - from.at;
+    let last = u8x16::from_slice(&raw[raw.len() - 16..]);
+    put_padded::<E>(moved_front(last, len), len, out, from.end, from.previous)
+}

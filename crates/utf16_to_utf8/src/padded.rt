@@ -1,0 +1,84 @@
+//! At most sixteen bytes of a text, padded with zeros, and their units.
+
+ghost use Rattle.std.specs.Prelude.{◌≡◌, ◌-◌, ◌≤◌, ◌++◌, drop, length, replicate, take};
+ghost use Rattle.std.specs.List.{range_with_len};
+ghost use Rattle.utf16_units.specs.Encoding.{units_of};
+
+use std::simd::prelude::*;
+use utf16_units::Utf16Order;
+
+// The eight units of sixteen bytes.
+#[inline(always)]
+pub(crate) fn units8<E: Utf16Order>(bytes: u8x16) -> u16x8
+    ensures len { length result ≡ 8 }
+    ensures units { result ≡ units_of E.BIG bytes }
+{
+    let units = u16x8::from_le_bytes(bytes);
+    if E::BIG {
+        return (units << u16x8::splat(8)) + (units >> u16x8::splat(8));
+    }
+    units
+}
+
+// The last bytes of sixteen, moved to the front, and zeros behind them.
+#[inline(always)]
+pub(crate) fn moved_front(bytes: u8x16, len: usize) -> u8x16
+    requires { len ≤ 16 }
+    ensures front { take len result ≡ drop (16 - len) bytes }
+    ensures zeros { drop len result ≡ replicate (16 - len) 0 }
+{
+    bytes.swizzle_dyn(last_places(len))
+}
+
+// The places of the last bytes of sixteen, and for zeros the place 128.
+#[inline(always)]
+fn last_places(len: usize) -> u8x16
+    requires { len ≤ 16 }
+    ensures { result ≡ range_with_len (16 - len) len ++ replicate (16 - len) 128 }
+{
+    u8x16::from_array(LAST_PLACES[len])
+}
+
+static LAST_PLACES: [[u8; 16]; 17] = [
+    [
+        128, 128, 128, 128, 128, 128, 128, 128, 128, 128, 128, 128, 128, 128, 128, 128,
+    ],
+    [
+        15, 128, 128, 128, 128, 128, 128, 128, 128, 128, 128, 128, 128, 128, 128, 128,
+    ],
+    [
+        14, 15, 128, 128, 128, 128, 128, 128, 128, 128, 128, 128, 128, 128, 128, 128,
+    ],
+    [
+        13, 14, 15, 128, 128, 128, 128, 128, 128, 128, 128, 128, 128, 128, 128, 128,
+    ],
+    [
+        12, 13, 14, 15, 128, 128, 128, 128, 128, 128, 128, 128, 128, 128, 128, 128,
+    ],
+    [
+        11, 12, 13, 14, 15, 128, 128, 128, 128, 128, 128, 128, 128, 128, 128, 128,
+    ],
+    [
+        10, 11, 12, 13, 14, 15, 128, 128, 128, 128, 128, 128, 128, 128, 128, 128,
+    ],
+    [
+        9, 10, 11, 12, 13, 14, 15, 128, 128, 128, 128, 128, 128, 128, 128, 128,
+    ],
+    [
+        8, 9, 10, 11, 12, 13, 14, 15, 128, 128, 128, 128, 128, 128, 128, 128,
+    ],
+    [
+        7, 8, 9, 10, 11, 12, 13, 14, 15, 128, 128, 128, 128, 128, 128, 128,
+    ],
+    [
+        6, 7, 8, 9, 10, 11, 12, 13, 14, 15, 128, 128, 128, 128, 128, 128,
+    ],
+    [
+        5, 6, 7, 8, 9, 10, 11, 12, 13, 14, 15, 128, 128, 128, 128, 128,
+    ],
+    [4, 5, 6, 7, 8, 9, 10, 11, 12, 13, 14, 15, 128, 128, 128, 128],
+    [3, 4, 5, 6, 7, 8, 9, 10, 11, 12, 13, 14, 15, 128, 128, 128],
+    [2, 3, 4, 5, 6, 7, 8, 9, 10, 11, 12, 13, 14, 15, 128, 128],
+    [1, 2, 3, 4, 5, 6, 7, 8, 9, 10, 11, 12, 13, 14, 15, 128],
+    [0, 1, 2, 3, 4, 5, 6, 7, 8, 9, 10, 11, 12, 13, 14, 15],
+];
