@@ -98,7 +98,15 @@ fn greater(a: u16x8, b: u16x8) -> u16x8
 fn are_from(units: u16x32, limit: u16) -> bool
     ensures { IsTrue result → All (λ unit. limit ≤ unit) units }
 {
-    least(units).simd_lt(u16x8::splat(limit)).to_bitmask() == 0
+    lanes_from(least(units), limit)
+}
+
+// Whether none of eight lanes is below a limit.
+#[inline(always)]
+pub(crate) fn lanes_from(lanes: u16x8, limit: u16) -> bool
+    ensures { IsTrue result → All (λ lane. limit ≤ lane) lanes }
+{
+    lanes.simd_lt(u16x8::splat(limit)).to_bitmask() == 0
 }
 
 // The least of the units at the same place in each group of eight.
@@ -114,7 +122,7 @@ fn least(units: u16x32) -> u16x8
 
 // The lesser of the lanes at the same place.
 #[inline(always)]
-fn lesser(a: u16x8, b: u16x8) -> u16x8
+pub(crate) fn lesser(a: u16x8, b: u16x8) -> u16x8
     ensures len { length result ≡ 8 }
     ensures bound { (limit : ℕ) → All (λ unit. limit ≤ unit) result
         → All (λ unit. limit ≤ unit) a × All (λ unit. limit ≤ unit) b }

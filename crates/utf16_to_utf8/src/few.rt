@@ -1,14 +1,15 @@
 //! Writes eight units at once, in short texts and behind the last block of a text.
 
-ghost use Rattle.std.specs.Prelude.{◌≡◌, ◌+◌, ◌-◌, ◌*◌, ◌/◌, ◌%◌, ◌≤◌, ◌++◌, ℕ, drop, length, replicate, slice_index, take};
+ghost use Rattle.std.specs.Prelude.{◌≡◌, ◌+◌, ◌-◌, ◌*◌, ◌/◌, ◌%◌, ◌≤◌, ◌++◌, ℕ, IsTrue, drop, length, replicate, slice_index, take};
 ghost use Rattle.utf16_units.specs.Encoding.{units_of};
 ghost use Rattle.utf16_to_utf8.specs.Block.{AreOfKind};
 ghost use Rattle.utf16_to_utf8.specs.Cursor.{Reached};
 ghost use Rattle.utf16_to_utf8.specs.Utf8.{units_utf8};
-ghost use Rattle.utf16_to_utf8.specs.declared.blocks.Kind.TheVariants.{Ascii};
+ghost use Rattle.utf16_to_utf8.specs.declared.blocks.Kind.TheVariants.{Ascii, Wide};
 
-use crate::blocks::lanes_below;
-use crate::pack::{put_any, put_narrow};
+use crate::blocks::{lanes_below, lanes_from, lesser};
+use crate::lanes::{each, sum};
+use crate::pack::{put_any, put_narrow, put_wide};
 use crate::padded::{moved_front, units8};
 use crate::runs::Cursor;
 use crate::write::SLACK;
@@ -28,6 +29,14 @@ fn put_ascii_eight(out: &mut [u8], at: usize, units: u16x8) -> usize
     at + 8
 }
 
+// Whether each of eight units adds three bytes.
+#[inline(always)]
+fn are_wide(units: u16x8) -> bool
+    ensures { IsTrue result → AreOfKind Wide units }
+{
+    lanes_from(lesser(units, sum(units, each(0x2800))), 0x800)
+}
+
 // Writes the UTF-8 of eight units.
 #[inline(always)]
 fn put_eight_units(out: &mut [u8], at: usize, previous: u16x8, units: u16x8) -> usize
@@ -40,6 +49,8 @@ fn put_eight_units(out: &mut [u8], at: usize, previous: u16x8, units: u16x8) -> 
         put_ascii_eight(out, at, units)
     } else if lanes_below(units, 0x800) {
         put_narrow(out, at, previous, units, false)
+    } else if are_wide(units) {
+        put_wide(out, at, units)
     } else {
         put_any(out, at, previous, units, true)
     }

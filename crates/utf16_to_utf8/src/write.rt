@@ -49,6 +49,18 @@ fn write_units<E: Utf16Order>(raw: &[u8], out: &mut [u8]) -> usize
     if raw.len() < 16 {
         return put_each::<E>(raw, out, 0, 0);
     }
+    write_many::<E>(raw, out)
+}
+
+// The same of eight units and more.
+#[inline(never)]
+fn write_many<E: Utf16Order>(raw: &[u8], out: &mut [u8]) -> usize
+    requires even { length raw.now % 2 ≡ 0 }
+    requires many { 16 ≤ length raw.now }
+    requires space { length raw.now / 2 * 3 + SLACK ≤ length out.old }
+    ensures bytes { take result out.new ≡ units_utf8 0 (units_of E.BIG raw.now) }
+    ensures written_to { result ≤ length out.old }
+{
     let mut cursor = Cursor {
         at: 0,
         end: 0,
