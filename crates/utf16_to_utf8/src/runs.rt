@@ -45,7 +45,10 @@ pub(crate) fn put_next<E: Utf16Order>(raw: &[u8], out: &mut [u8], from: Cursor) 
     let kind = kind_of(units);
     let next = put_units::<E>(raw, out, from, units, kind);
     match kind {
-        Kind::Ascii => put_ascii_run::<E>(raw, out, next),
+        Kind::Ascii => {
+            let pairs = put_ascii_run::<E>(raw, out, next);
+            put_run::<E>(raw, out, pairs, Kind::Ascii)
+        }
         Kind::Wide => put_run::<E>(raw, out, next, Kind::Wide),
         Kind::Pairs => put_run::<E>(raw, out, next, Kind::Pairs),
         Kind::Letters | Kind::Basic | Kind::Mixed => next,
