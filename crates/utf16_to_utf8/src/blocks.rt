@@ -122,7 +122,7 @@ fn least(units: u16x32) -> u16x8
 
 // The lesser of the lanes at the same place.
 #[inline(always)]
-pub(crate) fn lesser(a: u16x8, b: u16x8) -> u16x8
+fn lesser(a: u16x8, b: u16x8) -> u16x8
     ensures len { length result ≡ 8 }
     ensures bound { (limit : ℕ) → All (λ unit. limit ≤ unit) result
         → All (λ unit. limit ≤ unit) a × All (λ unit. limit ≤ unit) b }

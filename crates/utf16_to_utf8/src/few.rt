@@ -1,14 +1,16 @@
 //! Writes eight units at once, in short texts and behind the last block of a text.
 
-ghost use Rattle.std.specs.Prelude.{◌≡◌, ◌+◌, ◌-◌, ◌*◌, ◌/◌, ◌%◌, ◌≤◌, ◌++◌, ℕ, IsTrue, drop, length, replicate, slice_index, take};
+ghost use Rattle.std.specs.Prelude.{◌≡◌, ◌+◌, ◌-◌, ◌*◌, ◌/◌, ◌%◌, ◌≤◌, ◌++◌, ℕ, drop, length, replicate, slice_index, take};
 ghost use Rattle.utf16_units.specs.Encoding.{units_of};
 ghost use Rattle.utf16_to_utf8.specs.Block.{AreOfKind};
 ghost use Rattle.utf16_to_utf8.specs.Cursor.{Reached};
+ghost use Rattle.utf16_to_utf8.specs.Lanes.{folded};
+ghost use Rattle.utf16_units.specs.Lanes.{HasLanes};
 ghost use Rattle.utf16_to_utf8.specs.Utf8.{units_utf8};
-ghost use Rattle.utf16_to_utf8.specs.declared.blocks.Kind.TheVariants.{Ascii, Wide};
+ghost use Rattle.utf16_to_utf8.specs.declared.blocks.Kind.TheVariants.{Ascii};
 
-use crate::blocks::{lanes_below, lanes_from, lesser};
-use crate::lanes::{each, sum};
+use crate::blocks::{lanes_below, lanes_from};
+use crate::lanes::{each, smaller, sum};
 use crate::pack::{put_any, put_narrow, put_wide};
 use crate::padded::{moved_front, units8};
 use crate::runs::Cursor;
@@ -29,12 +31,12 @@ fn put_ascii_eight(out: &mut [u8], at: usize, units: u16x8) -> usize
     at + 8
 }
 
-// Whether each of eight units adds three bytes.
+// Units folded so that those below U+0800 and the surrogates, and these alone, are below 0x800.
 #[inline(always)]
-fn are_wide(units: u16x8) -> bool
-    ensures { IsTrue result → AreOfKind Wide units }
+fn folded_eight(units: u16x8) -> u16x8
+    ensures { HasLanes 8 result (λ i. folded (slice_index units i)) }
 {
-    lanes_from(lesser(units, sum(units, each(0x2800))), 0x800)
+    smaller(units, sum(units, each(0x2800)))
 }
 
 // Writes the UTF-8 of eight units.
@@ -45,12 +47,15 @@ fn put_eight_units(out: &mut [u8], at: usize, previous: u16x8, units: u16x8) -> 
         units }
     ensures written_to { result ≤ at + 24 }
 {
+    let folded = folded_eight(units);
     if lanes_below(units, 0x80) {
         put_ascii_eight(out, at, units)
     } else if lanes_below(units, 0x800) {
         put_narrow(out, at, previous, units, false)
-    } else if are_wide(units) {
+    } else if lanes_from(folded, 0x800) {
         put_wide(out, at, units)
+    } else if lanes_below(folded, 0x800) {
+        put_narrow(out, at, previous, units, true)
     } else {
         put_any(out, at, previous, units, true)
     }

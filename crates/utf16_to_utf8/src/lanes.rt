@@ -43,6 +43,15 @@ pub(crate) fn raised(v: u16x8, bits: u16) -> u16x8
     v << u16x8::splat(bits)
 }
 
+// The smaller of the lanes at the same place.
+#[inline(always)]
+pub(crate) fn smaller(a: u16x8, b: u16x8) -> u16x8
+    ensures { HasLanes 8 result (λ i. if nat_lt (slice_index a i) (slice_index b i)
+        then slice_index a i else slice_index b i) }
+{
+    a.simd_min(b)
+}
+
 // Selects the lane of `a` if that of `v` is below `limit`, else the lane of `b`.
 #[inline(always)]
 pub(crate) fn where_below(v: u16x8, limit: u16, a: u16x8, b: u16x8) -> u16x8
