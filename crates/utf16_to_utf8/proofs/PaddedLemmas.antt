@@ -1,14 +1,15 @@
 -- Bytes moved to the front of a vector, and zeros behind them.
-use Rattle.std.proofs.Common.{◌≡◌, ℕ, zero, suc, ◌+◌, ◌-◌, ◌<◌, ◌≤◌, ◌&&◌, ◌||◌, Bool, true, ltb, List, [], ◌∷◌, ◌++◌, length, get_or, take, drop, replicate, refl, sym, ap, ap₂, ◌∙◌, subst, ⊎_elim, arith, w8, take_all, length-drop}
+use Rattle.std.proofs.Common.{◌≡◌, ℕ, zero, suc, ◌+◌, ◌-◌, ◌<◌, ◌≤◌, ◌&&◌, ◌||◌, Bool, true, ltb, List, [], ◌∷◌, ◌++◌, length, get_or, take, drop, replicate, refl, sym, ap, ap₂, ◌∙◌, subst, ⊎_elim, arith, w8, take_all, append_assoc, drop-drop, length-append, length-drop, length-take-le, take-append-drop}
 use Rattle.std.proofs.lemmas.Bool.{and_parts, cases_lt}
-use Rattle.std.proofs.lemmas.List.{drop-append-le, drop_all, take-append-le}
+use Rattle.std.proofs.lemmas.List.{drop-append-le, drop_all, length-replicate, take-append-le, take-replicate}
+use Rattle.std.proofs.Math.Seq.{drop-append-add, take-append-add}
 use Rattle.std.proofs.lemmas.List.FromFn.{get_or-range_with_len, length-range_with_len}
 use Rattle.std.proofs.lemmas.Simd.{Each1-from_get_or, pick_l-range_with_len, swz_l}
 use Rattle.std.proofs.lemmas.Slice.Eq.{bytes_eq-Decides}
 use Rattle.std.specs.List.{range_with_len}
 use Rattle.std.specs.Str.{bytes_eq}
 use lib.Dec.{T}
-use lib.Lanes.{Each1}
+use lib.Lanes.{Each1, pick_l}
 use mir.Val.{zeroes}
 use Rattle.utf16_to_utf8.specs.declared.padded.TheConstants.{LAST_PLACES}
 use Rattle.utf16_to_utf8.proofs.StoreLemmas.{swz-picked}
@@ -17,6 +18,11 @@ use Rattle.utf16_to_utf8.proofs.StoreLemmas.{swz-picked}
 
 abbrev pub moved : ℕ → List ℕ
 moved len = range_with_len (16 - len) len ++ replicate (16 - len) 128
+
+pub moved-long : (len : ℕ) → len ≤ 16 → length (moved len) ≡ 16
+moved-long len few =
+    let k = 16 - len in
+    omega (arith, few, length-append (range_with_len k len) (replicate k 128), length-range_with_len k len, length-replicate {A = ℕ} k 128)
 
 -- a test of all numbers below n
 abbrev all_upto : ℕ → (ℕ → Bool) → Bool
@@ -78,3 +84,34 @@ front-of front zeros len long = (
   take-append-le len front zeros (omega (arith, long)) ∙ take_all len front (omega (arith, long)),
   drop-append-le len front zeros (omega (arith, long)) ∙ ap (λ xs. xs ++ zeros) (drop_all len front (omega (arith, long))),
 )
+
+-- the first eight of two vectors of sixteen
+pub first-eights : (both moved : List ℕ) → length both ≡ 16 → length moved ≡ 16
+    → pick_l 0 (both ++ moved) (0 ∷ 1 ∷ 2 ∷ 3 ∷ 4 ∷ 5 ∷ 6 ∷ 7 ∷ 16 ∷ 17 ∷ 18 ∷ 19 ∷ 20 ∷ 21 ∷ 22 ∷ 23 ∷ []) ≡ take 8 both ++ take 8 moved
+first-eights both moved long long' =
+    let all = both ++ moved in
+    let room = length-append both moved in
+    ap₂ (λ xs ys. xs ++ ys) (pick_l-range_with_len 0 all 0 8 (omega (arith, room, long))) (pick_l-range_with_len 0 all 16 8 (omega (arith, room, long, long')))
+    ∙ ap₂ (λ xs ys. xs ++ ys) (take-append-le 8 both moved (omega (arith, long))) (ap (take 8) (front-of both moved 16 long).1)
+
+-- eight to sixteen bytes by their first eight and, moved to the front, their last
+pub few-joined : (raw both moved : List ℕ) → 8 ≤ length raw → length raw ≤ 16 → both ≡ take 8 raw ++ take 8 (drop (length raw - 8) raw)
+    → take (length raw - 8) moved ≡ drop (16 - (length raw - 8)) both → drop (length raw - 8) moved ≡ replicate (16 - (length raw - 8)) 0
+    → take 8 both ++ take 8 moved ≡ raw ++ replicate (16 - length raw) 0
+few-joined raw both moved some few is front zeros =
+    let n = length raw in
+    let m = n - 8 in
+    let k = 16 - n in
+    let first = take 8 raw in
+    let last = drop m raw in
+    let long : length first ≡ 8 = length-take-le 8 raw some in
+    let whole = is ∙ ap (λ xs. first ++ xs) (take_all 8 last (omega (arith, length-drop m raw, some))) in
+    let far : 16 - m ≡ length first + k = omega (arith, long, some, few) in
+    let here : m + k ≡ 8 = omega (arith, some, few) in
+    let rest = ap₂ drop far whole ∙ drop-append-add first last k ∙ drop-drop k m raw ∙ ap (λ i. drop i raw) here in
+    let back = drop 8 raw in
+    let behind : 8 ≡ length back + k = omega (arith, length-drop 8 raw, some, few) in
+    let moved_is = sym (take-append-drop m moved) ∙ ap₂ (λ xs ys. xs ++ ys) (front ∙ rest) zeros in
+    ap₂ (λ xs ys. xs ++ ys) (ap (take 8) is ∙ (front-of first (take 8 last) 8 long).0)
+    (ap₂ take behind moved_is ∙ take-append-add back (replicate (16 - m) 0) k ∙ ap (λ zs. back ++ zs) (take-replicate k (16 - m) 0 (omega (arith, some, few))))
+    ∙ sym (append_assoc first back (replicate k 0)) ∙ ap (λ xs. xs ++ replicate k 0) (take-append-drop 8 raw)

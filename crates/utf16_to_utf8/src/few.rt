@@ -82,7 +82,7 @@ pub(crate) fn put_next_eight<E: Utf16Order>(raw: &[u8], out: &mut [u8], from: Cu
 // Writes the UTF-8 of at most eight units, whose bytes are padded with zeros: each of these adds one
 // byte.
 #[inline(always)]
-fn put_padded<E: Utf16Order>(
+pub(crate) fn put_padded<E: Utf16Order>(
     padded: u8x16,
     len: usize,
     out: &mut [u8],

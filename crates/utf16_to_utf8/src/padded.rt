@@ -24,6 +24,7 @@ pub(crate) fn units8<E: Utf16Order>(bytes: u8x16) -> u16x8
 #[inline(always)]
 pub(crate) fn moved_front(bytes: u8x16, len: usize) -> u8x16
     requires { len ≤ 16 }
+    ensures len { length result ≡ 16 }
     ensures front { take len result ≡ drop (16 - len) bytes }
     ensures zeros { drop len result ≡ replicate (16 - len) 0 }
 {
@@ -37,6 +38,23 @@ fn last_places(len: usize) -> u8x16
     ensures { result ≡ range_with_len (16 - len) len ++ replicate (16 - len) 128 }
 {
     u8x16::from_array(LAST_PLACES[len])
+}
+
+// The bytes of a text of eight to sixteen bytes, and zeros behind them.
+#[inline(always)]
+pub(crate) fn few_bytes(raw: &[u8]) -> u8x16
+    requires some { 8 ≤ length raw.now }
+    requires few { length raw.now ≤ 16 }
+    ensures { result ≡ raw.now ++ replicate (16 - length raw.now) 0 }
+{
+    let first = u8x8::from_slice(raw);
+    let last = u8x8::from_slice(&raw[raw.len() - 8..]);
+    let both = first.shuffle(last, [0, 1, 2, 3, 4, 5, 6, 7, 8, 9, 10, 11, 12, 13, 14, 15]);
+    let moved = moved_front(both, raw.len() - 8);
+    both.shuffle(
+        moved,
+        [0, 1, 2, 3, 4, 5, 6, 7, 16, 17, 18, 19, 20, 21, 22, 23],
+    )
 }
 
 static LAST_PLACES: [[u8; 16]; 17] = [

@@ -5,7 +5,8 @@ ghost use Rattle.utf16_units.specs.Encoding.{IsUtf16, units_of, utf8_of};
 ghost use Rattle.utf16_to_utf8.specs.Utf8.{units_utf8};
 ghost use Rattle.utf16_to_utf8.specs.Cursor.{Reached};
 
-use crate::few::{put_last_units, put_next_eight};
+use crate::few::{put_last_units, put_next_eight, put_padded};
+use crate::padded::few_bytes;
 use crate::runs::{Cursor, put_next};
 use crate::short::put_each;
 use std::simd::prelude::*;
@@ -46,8 +47,11 @@ fn write_units<E: Utf16Order>(raw: &[u8], out: &mut [u8]) -> usize
     ensures bytes { take result out.new ≡ units_utf8 0 (units_of E.BIG raw.now) }
     ensures written_to { result ≤ length out.old }
 {
-    if raw.len() < 16 {
+    if raw.len() < 8 {
         return put_each::<E>(raw, out, 0, 0);
+    }
+    if raw.len() < 16 {
+        return put_padded::<E>(few_bytes(raw), raw.len(), out, 0, u16x8::splat(0));
     }
     write_many::<E>(raw, out)
 }

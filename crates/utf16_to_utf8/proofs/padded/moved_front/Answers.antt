@@ -1,17 +1,16 @@
-use Rattle.std.proofs.Common.{◌≡◌, ℕ, List, ◌≤◌, ◌-◌, length, take, drop, length-drop, length-append, replicate, refl, sym, ap, subst, ◌∙◌, arith, w8}
-use Rattle.std.proofs.lemmas.List.{length-replicate}
-use Rattle.std.proofs.lemmas.List.FromFn.{length-range_with_len}
-use Rattle.std.proofs.lemmas.Simd.{SwzOk, SwzOk-from_Each1, swz_l}
-use Rattle.std.specs.List.{range_with_len}
-use Rattle.utf16_to_utf8.proofs.PaddedLemmas.{front-of, moved, moved-stand, swz-moved}
+use Rattle.std.proofs.Common.{◌≡◌, ℕ, List, ◌≤◌, ◌-◌, length, take, drop, length-drop, replicate, refl, sym, ap, subst, ◌∙◌, arith, w8}
+use Rattle.std.proofs.lemmas.Simd.{SwzOk, SwzOk-from_Each1, length-swz_l, swz_l}
+use Rattle.utf16_to_utf8.proofs.PaddedLemmas.{front-of, moved, moved-long, moved-stand, swz-moved}
 use Rattle.utf16_to_utf8.proofs.padded.moved_front.Goals as goal
 
 pub swizzle : goal.swizzle
 swizzle c =
     let len = c.args.len in
-    let long = length-append (range_with_len (16 - len) len) (replicate (16 - len) 128) in
     subst (SwzOk w8 16 16 0) (sym c.last_places.ensures)
-    (SwzOk-from_Each1 w8 16 1 16 0 (moved len) refl (omega (arith, long, length-range_with_len (16 - len) len, length-replicate {A = ℕ} (16 - len) 128, c.requires)) (moved-stand len c.requires))
+    (SwzOk-from_Each1 w8 16 1 16 0 (moved len) refl (omega (arith, moved-long len c.requires)) (moved-stand len c.requires))
+
+pub returns-clause-len : goal.returns-clause-len
+returns-clause-len c = length-swz_l w8 16 c.args.bytes 0 c.last_places.result ∙ ap length c.last_places.ensures ∙ moved-long c.args.len c.requires
 
 moved-bytes : (bytes places : List ℕ) (len : ℕ) → length bytes ≡ 16 → len ≤ 16 → places ≡ moved len
     → (let result = swz_l w8 16 bytes 0 places in (take len result ≡ drop (16 - len) bytes) × (drop len result ≡ replicate (16 - len) 0))
