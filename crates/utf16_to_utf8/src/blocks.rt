@@ -39,14 +39,6 @@ pub(crate) fn filled_units<E: Utf16Order>(raw: &[u8]) -> u16x32
     units32::<E>(u8x64::from_array(block))
 }
 
-// Whether all units are ASCII.
-#[inline(always)]
-pub(crate) fn is_ascii(units: u16x32) -> bool
-    ensures { IsTrue result → All (λ unit. unit < 0x80) units }
-{
-    are_below(units, 0x80)
-}
-
 // Whether all units of two blocks are ASCII.
 #[inline(always)]
 pub(crate) fn are_both_ascii(first: u16x32, second: u16x32) -> bool
@@ -58,7 +50,7 @@ pub(crate) fn are_both_ascii(first: u16x32, second: u16x32) -> bool
 
 // Whether all units are below a limit.
 #[inline(always)]
-fn are_below(units: u16x32, limit: u16) -> bool
+pub(crate) fn are_below(units: u16x32, limit: u16) -> bool
     ensures { IsTrue result → All (λ unit. unit < limit) units }
 {
     lanes_below(greatest(units), limit)
@@ -182,7 +174,7 @@ pub(crate) fn are_of(units: u16x32, kind: Kind) -> bool
     ensures { IsTrue result → AreOfKind kind units }
 {
     match kind {
-        Kind::Ascii => is_ascii(units),
+        Kind::Ascii => are_below(units, 0x80),
         Kind::Letters => are_below(units, 0x800),
         Kind::Wide => are_from(folded(units), 0x800),
         Kind::Pairs => are_below(folded(units), 0x800),

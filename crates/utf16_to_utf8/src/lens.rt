@@ -5,7 +5,7 @@ ghost use Rattle.std.specs.Simd.Lanes.{mask_l};
 ghost use Rattle.utf16_units.specs.Encoding.{IsUtf16, units_of, utf8_of};
 ghost use Rattle.utf16_to_utf8.specs.Lanes.{added_len};
 
-use crate::blocks::{class_bits, filled_units, is_ascii};
+use crate::blocks::{are_below, class_bits, filled_units};
 use std::simd::prelude::*;
 use utf16_units::Utf16Order;
 use utf16_units::blocks::units32;
@@ -57,7 +57,7 @@ fn rest_len<E: Utf16Order>(raw: &[u8]) -> usize
 fn block_len(units: u16x32) -> usize
     ensures { result ≡ sum_by added_len units }
 {
-    if is_ascii(units) {
+    if are_below(units, 0x80) {
         return 32;
     }
     let low = class_bits(units, 0).count_ones() as usize;

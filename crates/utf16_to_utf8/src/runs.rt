@@ -45,19 +45,36 @@ pub(crate) fn put_next<E: Utf16Order>(raw: &[u8], out: &mut [u8], from: Cursor) 
     let kind = kind_of(units);
     let next = put_units::<E>(raw, out, from, units, kind);
     match kind {
-        Kind::Ascii => {
-            let pairs = put_ascii_run::<E>(raw, out, next);
-            put_run::<E>(raw, out, pairs, Kind::Ascii)
-        }
+        Kind::Ascii => put_ascii_run::<E>(raw, out, next),
         Kind::Wide => put_run::<E>(raw, out, next, Kind::Wide),
         Kind::Pairs => put_run::<E>(raw, out, next, Kind::Pairs),
         Kind::Letters | Kind::Basic | Kind::Mixed => next,
     }
 }
 
-// Writes the ASCII blocks from the cursor on, two at a time.
+// Writes the ASCII blocks from the cursor on: the first alone, and those after it two at a time.
 #[inline(always)]
 fn put_ascii_run<E: Utf16Order>(raw: &[u8], out: &mut [u8], from: Cursor) -> Cursor
+    requires space { length raw.now / 2 * 3 + SLACK ≤ length out.old }
+    requires reached { Reached E.BIG raw.now out.old from }
+    ensures reached { Reached E.BIG raw.now out.new result }
+    ensures advances { from.at ≤ result.at }
+{
+    let mut cursor = from;
+    while raw.len() - cursor.at >= 64 {
+        let units = next_units::<E>(raw, cursor.at);
+        if !are_of(units, Kind::Ascii) {
+            break;
+        }
+        let next = put_units::<E>(raw, out, cursor, units, Kind::Ascii);
+        cursor = put_ascii_pairs::<E>(raw, out, next);
+    }
+    cursor
+}
+
+// Writes the ASCII blocks from the cursor on, two at a time.
+#[inline(always)]
+fn put_ascii_pairs<E: Utf16Order>(raw: &[u8], out: &mut [u8], from: Cursor) -> Cursor
     requires space { length raw.now / 2 * 3 + SLACK ≤ length out.old }
     requires reached { Reached E.BIG raw.now out.old from }
     ensures reached { Reached E.BIG raw.now out.new result }

@@ -5,8 +5,8 @@ use Rattle.utf16_to_utf8.proofs.BlockLemmas.{is_low}
 use Rattle.utf16_to_utf8.proofs.LenLemmas.{added-ascii, added-counted}
 use Rattle.utf16_to_utf8.proofs.lens.block_len.Goals as goal
 
-pub returns-then-is_ascii : goal.returns-then-is_ascii
-returns-then-is_ascii c = sym (added-ascii c.args.units (c.is_ascii.ensures c.if-is_ascii.true) ∙ c.fits-units.0)
+pub returns-then-are_below : goal.returns-then-are_below
+returns-then-are_below c = sym (added-ascii c.args.units (c.are_below.ensures c.if-are_below.true) ∙ c.fits-units.0)
 
 pub overflow_sub-result-3 : goal.overflow_sub-result-3
 overflow_sub-result-3 c =
