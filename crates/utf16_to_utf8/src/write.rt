@@ -73,6 +73,9 @@ fn write_many<E: Utf16Order>(raw: &[u8], out: &mut [u8]) -> usize
     while raw.len() - cursor.at >= 64 {
         cursor = put_next::<E>(raw, out, cursor);
     }
+    if cursor.at == raw.len() {
+        return cursor.end;
+    }
     put_rest::<E>(raw, out, cursor)
 }
 
