@@ -14,8 +14,8 @@ use std::simd::prelude::*;
 use utf16_units::Utf16Order;
 use utf16_units::blocks::units32;
 
-// What the units of a block have in common: all are ASCII; all are below U+0800; some are surrogates
-// and the others below U+0800; each adds three bytes; none is a surrogate; or nothing.
+// What the units of a block have in common: all are ASCII; all are below U+0800; some are
+// surrogates and the others below U+0800; each adds three bytes; none is a surrogate; or nothing.
 #[derive(Clone, Copy)]
 pub(crate) enum Kind {
     Ascii,

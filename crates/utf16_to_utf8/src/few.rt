@@ -79,8 +79,8 @@ pub(crate) fn put_next_eight<E: Utf16Order>(raw: &[u8], out: &mut [u8], from: Cu
     }
 }
 
-// Writes the UTF-8 of at most eight units, whose bytes are padded with zeros: each of these adds one
-// byte.
+// Writes the UTF-8 of at most eight units, whose bytes are padded with zeros: each zero unit adds a
+// byte, which is taken back.
 #[inline(always)]
 pub(crate) fn put_padded<E: Utf16Order>(
     padded: u8x16,

@@ -81,8 +81,8 @@ pub(crate) fn thirds(units: u16x8) -> u16x8
     sum(masked(units, 0x3F), each(0x80))
 }
 
-// Which bytes a unit does not add: the low half is set if it adds no second byte, the high half if it
-// adds no third.
+// Which bytes a unit does not add: the low half is set if it adds no second byte, the high half if
+// it adds no third.
 #[inline(always)]
 pub(crate) fn absences(units: u16x8, surrogates: bool) -> u16x8
     requires { surrogates ≡ false → (i : ℕ) → i < 8 → is_surrogate (slice_index units i) ≡ false }

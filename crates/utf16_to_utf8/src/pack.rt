@@ -101,8 +101,8 @@ pub(crate) fn put_wide(out: &mut [u8], at: usize, units: u16x8) -> usize
     at + 24
 }
 
-// The bytes of four words: of each of the first four lanes the two front bytes, and the third lane's
-// two.
+// The bytes of four words: of each of the first four lanes the two bytes of `fronts` and the two of
+// `thirds`.
 #[inline(always)]
 fn low_words(fronts: u8x16, thirds: u8x16) -> u8x16
     ensures { result ≡ pick_l 0 (fronts ++ thirds) (fours 0 4) }

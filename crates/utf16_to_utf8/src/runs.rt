@@ -31,8 +31,8 @@ fn next_units<E: Utf16Order>(raw: &[u8], at: usize) -> u16x32
     units32::<E>(u8x64::from_slice(&raw[at..]))
 }
 
-// Writes the next block, and if it is ASCII, wide or of pairs also the blocks of its kind that follow
-// it.
+// Writes the next block, and if it is ASCII, wide or of pairs also the blocks of its kind that
+// follow it.
 #[inline(always)]
 pub(crate) fn put_next<E: Utf16Order>(raw: &[u8], out: &mut [u8], from: Cursor) -> Cursor
     requires space { length raw.now / 2 * 3 + SLACK ≤ length out.old }
