@@ -5,5 +5,6 @@ pub mod FewLemmas
 pub mod LaneByteLemmas
 pub mod LaneLemmas
 pub mod PackLemmas
+pub mod RunLemmas
 pub mod SizeLemmas
 pub mod TextLemmas

@@ -1,4 +1,5 @@
 pub mod Added
+pub mod Cursor
 pub mod LaneBytes
 pub mod Lanes
 pub mod Sizes

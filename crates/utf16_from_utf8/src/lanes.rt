@@ -53,6 +53,15 @@ pub(crate) fn where_below(v: u8x16, limit: u8, a: u8x16, b: u8x16) -> u8x16
     v.simd_lt(u8x16::splat(limit)).select(a, b)
 }
 
+// The greater of the lanes at the same place.
+#[inline(always)]
+pub(crate) fn greater(a: u8x16, b: u8x16) -> u8x16
+    ensures { HasLanes 16 result (λ i. if nat_lt (slice_index a i) (slice_index b i)
+        then slice_index b i else slice_index a i) }
+{
+    a.simd_max(b)
+}
+
 // The byte before each one; before the first, `before`.
 #[inline(always)]
 pub(crate) fn previous_lanes(v: u8x16, before: u8) -> u8x16

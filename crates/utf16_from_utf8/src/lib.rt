@@ -2,11 +2,14 @@
 #![tactic(auto)]
 
 mod append;
+mod blocks;
+mod bytes;
 mod few;
 mod lanes;
 pub mod laws;
 mod pack;
 mod positions;
+mod runs;
 mod size;
 mod units;
 mod write;

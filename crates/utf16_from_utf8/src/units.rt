@@ -1,13 +1,13 @@
 //! The two bytes of the code unit that ends at each of sixteen bytes of UTF-8, and where a unit
 //! ends.
 
-ghost use Rattle.std.specs.Prelude.{◌≡◌, ◌<◌, ◌↔◌, ℕ, bit_and, if◌then◌else◌, slice_index, ◌/◌, ◌%◌, ◌^◌, IsTrue};
+ghost use Rattle.std.specs.Prelude.{◌≡◌, ◌+◌, ◌<◌, ◌≤◌, ◌↔◌, length, ℕ, bit_and, if◌then◌else◌, slice_index, ◌/◌, ◌%◌, ◌^◌, IsTrue};
 ghost use Rattle.std.specs.Simd.Lanes.{zip2};
 ghost use Rattle.utf16_from_utf8.specs.Added.{ends_unit};
 ghost use Rattle.utf16_from_utf8.specs.LaneBytes.{high_lane, lead_high, lead_part, low_lane, middle, short_low, three_high, trail_high};
 ghost use Rattle.utf16_units.specs.Lanes.{HasLanes};
 
-use crate::lanes::{down, each, masked, set_bits, sum, up, where_below};
+use crate::lanes::{down, each, greater, masked, set_bits, sum, up, where_below};
 use std::simd::prelude::*;
 
 // The low bytes, except of leading surrogates and of characters of one byte.
@@ -103,6 +103,33 @@ pub(crate) fn is_ascii(block: u8x16) -> bool
     ensures { IsTrue result ↔ ((i : ℕ) → i < 16 → slice_index block i < 0x80) }
 {
     set_bits(masked(block, 0x80)) == 0
+}
+
+// Whether all bytes of a block are below a limit.
+#[inline(always)]
+pub(crate) fn are_below(block: u8x16, limit: u8) -> bool
+    ensures { IsTrue result → (i : ℕ) → i < 16 → slice_index block i < limit }
+{
+    set_bits(where_below(block, limit, each(0), each(0xFF))) == 0
+}
+
+// The greatest bytes of the next sixty-four: of those at the same place in each group of sixteen.
+#[inline(always)]
+pub(crate) fn greatest(piece: &[u8], at: usize) -> u8x16
+    requires { at + 64 ≤ length piece.now }
+    ensures { (limit : ℕ) → ((i : ℕ) → i < 16 → slice_index result i < limit)
+        → (i : ℕ) → i < 64 → slice_index piece.now (at + i) < limit }
+{
+    greater(
+        greater(
+            u8x16::from_slice(&piece[at..]),
+            u8x16::from_slice(&piece[at + 16..]),
+        ),
+        greater(
+            u8x16::from_slice(&piece[at + 32..]),
+            u8x16::from_slice(&piece[at + 48..]),
+        ),
+    )
 }
 
 // The upper bits of each byte in five characters of three bytes, and the mask of these bits.

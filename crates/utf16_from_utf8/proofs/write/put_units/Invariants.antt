@@ -1,18 +1,22 @@
-use Rattle.std.proofs.Common.{◌≡◌, ◌-◌, ◌*◌, ◌≤◌, ◌++◌, drop, length, slice_index, take}
+use Rattle.std.proofs.Common.{◌≡◌, ◌-◌, length, slice_index}
 use Rattle.utf16_from_utf8.specs.Added.{added_bytes}
+use Rattle.utf16_from_utf8.specs.Cursor.{IsWithin, whole}
 use Rattle.utf16_from_utf8.proofs.write.put_units.Given as goal
 
--- what was written and what the rest adds are all
-abbrev pub invariant-loop-at : goal.invariant-loop-at
-invariant-loop-at g l = (l.at ≤ length l.piece) × (l.end ≤ 2 * l.at)
-    × (take l.end l.out ++ added_bytes g.E.Utf16Order.BIG l.b2 l.b1 (drop l.at l.piece) ≡ added_bytes g.E.Utf16Order.BIG (slice_index l.fn.before 0) (slice_index l.fn.before 1) l.piece)
+abbrev pub invariant-loop-cursor : goal.invariant-loop-cursor
+invariant-loop-cursor g l = record {
+  whole : whole g.E.Utf16Order.BIG l.piece l.out l.cursor ≡ added_bytes g.E.Utf16Order.BIG (slice_index l.fn.before 0) (slice_index l.fn.before 1) l.piece;
+  within : IsWithin l.piece l.cursor;
+}
 
-abbrev pub decreases-loop-at : goal.decreases-loop-at
-decreases-loop-at g l = length l.piece - l.at
+abbrev pub decreases-loop-cursor : goal.decreases-loop-cursor
+decreases-loop-cursor g l = length l.piece - l.cursor.at
 
-abbrev pub invariant-loop-at-2 : goal.invariant-loop-at-2
-invariant-loop-at-2 g l = (l.at ≤ length l.piece) × (l.end ≤ 2 * l.at)
-    × (take l.end l.out ++ added_bytes g.E.Utf16Order.BIG l.b2 l.b1 (drop l.at l.piece) ≡ added_bytes g.E.Utf16Order.BIG (slice_index l.fn.before 0) (slice_index l.fn.before 1) l.piece)
+abbrev pub invariant-loop-cursor-2 : goal.invariant-loop-cursor-2
+invariant-loop-cursor-2 g l = record {
+  whole : whole g.E.Utf16Order.BIG l.piece l.out l.cursor ≡ added_bytes g.E.Utf16Order.BIG (slice_index l.fn.before 0) (slice_index l.fn.before 1) l.piece;
+  within : IsWithin l.piece l.cursor;
+}
 
-abbrev pub decreases-loop-at-2 : goal.decreases-loop-at-2
-decreases-loop-at-2 g l = length l.piece - l.at
+abbrev pub decreases-loop-cursor-2 : goal.decreases-loop-cursor-2
+decreases-loop-cursor-2 g l = length l.piece - l.cursor.at

@@ -1,6 +1,6 @@
 use Rattle.std.proofs.Common.{sym}
 use Rattle.utf16_from_utf8.proofs.AddedLemmas.{unit-leading, unit-one, unit-three, unit-trailing, unit-two}
-use Rattle.utf16_from_utf8.proofs.write.unit.Goals as goal
+use Rattle.utf16_from_utf8.proofs.bytes.unit.Goals as goal
 
 pub returns-then-b0-lt128 : goal.returns-then-b0-lt128
 returns-then-b0-lt128 c = sym (unit-one c.args.b2 c.args.b1 c.args.b0 c.if-b0-lt128.true)

@@ -1,7 +1,7 @@
 use Rattle.std.proofs.Common.{◌++◌, take, sym, ap, ◌∙◌, ⊎_elim, arith, append-nil}
 use Rattle.utf16_units.specs.Unit.{unit_bytes}
 use Rattle.utf16_from_utf8.proofs.BlockLemmas.{added_bytes-one, byte-adds-behind, byte-adds-first, byte-adds-one, two_stored}
-use Rattle.utf16_from_utf8.proofs.write.put_byte.Goals as goal
+use Rattle.utf16_from_utf8.proofs.bytes.put_byte.Goals as goal
 
 pub returns-then-b0-ge192-clause-bytes : goal.returns-then-b0-ge192-clause-bytes
 returns-then-b0-ge192-clause-bytes g c =

@@ -1,7 +1,7 @@
 use Rattle.std.proofs.Common.{◌≡◌, ◌++◌, take, ap, ◌∙◌}
 use Rattle.utf16_from_utf8.specs.Lanes.{kept_pairs}
 use Rattle.utf16_from_utf8.proofs.BlockLemmas.{block-lanes, kept-added}
-use Rattle.utf16_from_utf8.proofs.write.put_block.Goals as goal
+use Rattle.utf16_from_utf8.proofs.blocks.put_block.Goals as goal
 
 pub returns-clause-bytes : goal.returns-clause-bytes
 returns-clause-bytes g c =

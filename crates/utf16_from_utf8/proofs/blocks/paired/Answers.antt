@@ -1,7 +1,7 @@
 use Rattle.std.proofs.Common.{ap, ◌∙◌, true, false}
 use Rattle.utf16_from_utf8.specs.Lanes.{pairs_of}
 use Rattle.utf16_from_utf8.proofs.LaneLemmas.{interleaved}
-use Rattle.utf16_from_utf8.proofs.write.paired.Goals as goal
+use Rattle.utf16_from_utf8.proofs.blocks.paired.Goals as goal
 
 pub returns-then-BIG-clause-pairs : goal.returns-then-BIG-clause-pairs
 returns-then-BIG-clause-pairs g c =

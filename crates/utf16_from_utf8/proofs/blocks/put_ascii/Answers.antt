@@ -1,6 +1,6 @@
 use Rattle.std.proofs.Common.{◌++◌, take, sym, ap, ◌∙◌, arith}
 use Rattle.utf16_from_utf8.proofs.BlockLemmas.{ascii-added, both_stored}
-use Rattle.utf16_from_utf8.proofs.write.put_ascii.Goals as goal
+use Rattle.utf16_from_utf8.proofs.blocks.put_ascii.Goals as goal
 
 pub returns-clause-bytes : goal.returns-clause-bytes
 returns-clause-bytes g c b2 b1 behind =

@@ -2,7 +2,7 @@ use Rattle.std.proofs.Common.{◌++◌, take, sym, ap, ◌∙◌, arith}
 use Rattle.std.proofs.lemmas.List.{take-append-le}
 use Rattle.utf16_from_utf8.proofs.BlockLemmas.{threes-added}
 use Rattle.utf16_from_utf8.proofs.PackLemmas.{stored_front}
-use Rattle.utf16_from_utf8.proofs.write.put_threes.Goals as goal
+use Rattle.utf16_from_utf8.proofs.blocks.put_threes.Goals as goal
 
 pub returns-clause-bytes : goal.returns-clause-bytes
 returns-clause-bytes g c b2 b1 =

@@ -1,0 +1,160 @@
+//! Writes blocks of a chunk, with a loop of its own for ASCII.
+
+ghost use Rattle.std.specs.Prelude.{◌≡◌, ◌+◌, ◌-◌, ◌*◌, ◌<◌, ◌≤◌, ◌++◌, IsTrue, ℕ, length, slice_index, take};
+ghost use Rattle.utf16_from_utf8.specs.Added.{added_bytes};
+ghost use Rattle.utf16_from_utf8.specs.Cursor.{IsWithin, whole};
+
+use crate::blocks::{put_ascii, put_block, put_threes};
+use crate::units::{are_below, are_threes, greatest, is_ascii};
+use std::simd::prelude::*;
+use utf16_units::Utf16Order;
+
+// How far a chunk was written: the number of bytes read and the number of bytes written, and the two
+// bytes before the next.
+#[derive(Clone, Copy)]
+pub(crate) struct Cursor {
+    pub(crate) at: usize,
+    pub(crate) end: usize,
+    pub(crate) b2: u8,
+    pub(crate) b1: u8,
+}
+
+// Writes at least the next sixteen bytes, and if they are ASCII all blocks of ASCII that follow.
+#[inline(always)]
+pub(crate) fn put_next<E: Utf16Order>(piece: &[u8], out: &mut [u8], from: Cursor) -> Cursor
+    requires space { 2 * length piece.now + 16 ≤ length out.old }
+    requires more { from.at + 64 ≤ length piece.now }
+    requires within { IsWithin piece.now from }
+    ensures whole { whole E.BIG piece.now out.new result ≡ whole E.BIG piece.now out.old from }
+    ensures within { IsWithin piece.now result }
+    ensures advances { from.at < result.at }
+{
+    if from.b1 < 0xE0 && are_ascii(piece, from.at) {
+        let next = put_ascii_blocks::<E>(piece, out, from);
+        return put_ascii_run::<E>(piece, out, next);
+    }
+    put_short::<E>(piece, out, from)
+}
+
+// Whether the next sixty-four bytes are ASCII.
+#[inline(always)]
+fn are_ascii(piece: &[u8], at: usize) -> bool
+    requires { at + 64 ≤ length piece.now }
+    ensures { IsTrue result → (i : ℕ) → i < 64 → slice_index piece.now (at + i) < 0x80 }
+{
+    are_below(greatest(piece, at), 0x80)
+}
+
+// Writes blocks of sixty-four characters of one byte.
+#[inline(always)]
+fn put_ascii_run<E: Utf16Order>(piece: &[u8], out: &mut [u8], from: Cursor) -> Cursor
+    requires space { 2 * length piece.now + 16 ≤ length out.old }
+    requires within { IsWithin piece.now from }
+    requires before { from.b1 < 0x80 }
+    ensures whole { whole E.BIG piece.now out.new result ≡ whole E.BIG piece.now out.old from }
+    ensures within { IsWithin piece.now result }
+    ensures advances { from.at ≤ result.at }
+{
+    let mut cursor = from;
+    while piece.len() - cursor.at >= 64 {
+        if !are_ascii(piece, cursor.at) {
+            break;
+        }
+        cursor = put_ascii_blocks::<E>(piece, out, cursor);
+    }
+    cursor
+}
+
+// Writes sixty-four characters of one byte.
+#[inline(always)]
+fn put_ascii_blocks<E: Utf16Order>(piece: &[u8], out: &mut [u8], from: Cursor) -> Cursor
+    requires space { 2 * length piece.now + 16 ≤ length out.old }
+    requires more { from.at + 64 ≤ length piece.now }
+    requires within { IsWithin piece.now from }
+    requires before { from.b1 < 0xE0 }
+    requires ascii { (i : ℕ) → i < 64 → slice_index piece.now (from.at + i) < 0x80 }
+    ensures whole { whole E.BIG piece.now out.new result ≡ whole E.BIG piece.now out.old from }
+    ensures within { IsWithin piece.now result }
+    ensures at { result.at ≡ from.at + 64 }
+    ensures before { result.b1 < 0x80 }
+{
+    let first = put_ascii_block::<E>(piece, out, from);
+    let second = put_ascii_block::<E>(piece, out, first);
+    let third = put_ascii_block::<E>(piece, out, second);
+    put_ascii_block::<E>(piece, out, third)
+}
+
+// Writes sixteen characters of one byte.
+#[inline(always)]
+fn put_ascii_block<E: Utf16Order>(piece: &[u8], out: &mut [u8], from: Cursor) -> Cursor
+    requires space { 2 * length piece.now + 16 ≤ length out.old }
+    requires more { from.at + 16 ≤ length piece.now }
+    requires within { IsWithin piece.now from }
+    requires before { from.b1 < 0xE0 }
+    requires ascii { (i : ℕ) → i < 16 → slice_index piece.now (from.at + i) < 0x80 }
+    ensures whole { whole E.BIG piece.now out.new result ≡ whole E.BIG piece.now out.old from }
+    ensures within { IsWithin piece.now result }
+    ensures at { result.at ≡ from.at + 16 }
+    ensures before { result.b1 < 0x80 }
+{
+    let end = put_ascii::<E>(out, from.end, u8x16::from_slice(&piece[from.at..]));
+    after(piece, from.at + 16, end)
+}
+
+// The cursor after some bytes.
+#[inline(always)]
+fn after(piece: &[u8], at: usize, end: usize) -> Cursor
+    requires some { 2 ≤ at }
+    requires within { at ≤ length piece.now }
+    ensures at { result.at ≡ at }
+    ensures end { result.end ≡ end }
+    ensures b2 { result.b2 ≡ slice_index piece.now (at - 2) }
+    ensures b1 { result.b1 ≡ slice_index piece.now (at - 1) }
+{
+    Cursor {
+        at,
+        end,
+        b2: piece[at - 2],
+        b1: piece[at - 1],
+    }
+}
+
+// Writes the first bytes of the next block of sixteen.
+#[inline(always)]
+pub(crate) fn put_short<E: Utf16Order>(piece: &[u8], out: &mut [u8], from: Cursor) -> Cursor
+    requires space { 2 * length piece.now + 16 ≤ length out.old }
+    requires more { from.at + 16 ≤ length piece.now }
+    requires within { IsWithin piece.now from }
+    ensures whole { whole E.BIG piece.now out.new result ≡ whole E.BIG piece.now out.old from }
+    ensures within { IsWithin piece.now result }
+    ensures advances { from.at < result.at }
+{
+    let block = u8x16::from_slice(&piece[from.at..]);
+    let (used, end) = put_first::<E>(out, from.end, from.b2, from.b1, block);
+    after(piece, from.at + used, end)
+}
+
+// Writes the UTF-16 that the first of sixteen bytes add after the bytes `b2` and `b1`. Returns how
+// many of them that are, and the end of what was written.
+#[inline(always)]
+fn put_first<E: Utf16Order>(
+    out: &mut [u8],
+    at: usize,
+    b2: u8,
+    b1: u8,
+    block: u8x16,
+) -> (usize, usize)
+    requires space { at + 40 ≤ length out.old }
+    ensures bytes { take result.1 out.new ≡ take at out.old
+        ++ added_bytes E.BIG b2 b1 (take result.0 block) }
+    ensures used { (2 ≤ result.0) × (result.0 ≤ 16) }
+    ensures written_to { result.1 ≤ at + 2 * result.0 }
+{
+    if is_ascii(block) && b1 < 0xE0 {
+        return (16, put_ascii::<E>(out, at, block));
+    }
+    if are_threes(block) {
+        return (15, put_threes::<E>(out, at, block));
+    }
+    (16, put_block::<E>(out, at, b2, b1, block))
+}
