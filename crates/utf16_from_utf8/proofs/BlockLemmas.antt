@@ -115,7 +115,7 @@ two-behind b2 b1 block v is (suc i) below = is i (omega arith)
 
 -- ---- five characters of three bytes
 
-three-added : (big : Bool) (b2 b1 x y z : ℕ) (more : List ℕ) → x < 256 → y < 256 → z < 256 → bit_and x 0xF0 ≡ 0xE0 → bit_and y 0xC0 ≡ 0x80 → bit_and z 0xC0 ≡ 0x80
+pub three-added : (big : Bool) (b2 b1 x y z : ℕ) (more : List ℕ) → x < 256 → y < 256 → z < 256 → bit_and x 0xF0 ≡ 0xE0 → bit_and y 0xC0 ≡ 0x80 → bit_and z 0xC0 ≡ 0x80
     → added_bytes big b2 b1 (x ∷ y ∷ z ∷ more) ≡ pair_bytes big (three_high x y) (short_low y z) ++ added_bytes big y z more
 three-added big b2 b1 x y z more p q r e f g =
     let one : bit_and x 0xF0 ≡ x / 16 % 16 * 16 = and_high x 4 4 in

@@ -3,3 +3,4 @@ pub mod Cursor
 pub mod LaneBytes
 pub mod Lanes
 pub mod Sizes
+pub mod Threes

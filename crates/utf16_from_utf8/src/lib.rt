@@ -11,6 +11,7 @@ mod pack;
 mod positions;
 mod runs;
 mod size;
+mod threes;
 mod units;
 mod write;
 

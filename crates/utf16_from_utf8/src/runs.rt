@@ -1,10 +1,13 @@
-//! Writes blocks of a chunk, with a loop of its own for ASCII.
+//! Writes blocks of a chunk, with loops of their own for ASCII and for characters of
+//! three bytes.
 
-ghost use Rattle.std.specs.Prelude.{◌≡◌, ◌+◌, ◌-◌, ◌*◌, ◌<◌, ◌≤◌, ◌++◌, IsTrue, ℕ, length, slice_index, take};
+ghost use Rattle.std.specs.Prelude.{◌≡◌, ◌+◌, ◌-◌, ◌*◌, ◌<◌, ◌≤◌, ◌++◌, IsTrue, ℕ, drop, length, slice_index, take};
 ghost use Rattle.utf16_from_utf8.specs.Added.{added_bytes};
 ghost use Rattle.utf16_from_utf8.specs.Cursor.{IsWithin, whole};
+ghost use Rattle.utf16_from_utf8.specs.Threes.{IsThree, woven};
 
 use crate::blocks::{put_ascii, put_block, put_threes};
+use crate::threes::{are_sixteen, in_threes, put_sixteen};
 use crate::units::{are_below, are_threes, greatest, is_ascii};
 use std::simd::prelude::*;
 use utf16_units::Utf16Order;
@@ -33,7 +36,56 @@ pub(crate) fn put_next<E: Utf16Order>(piece: &[u8], out: &mut [u8], from: Cursor
         let next = put_ascii_blocks::<E>(piece, out, from);
         return put_ascii_run::<E>(piece, out, next);
     }
+    let (firsts, seconds, thirds) = in_threes(piece, from.at);
+    if are_sixteen(firsts, seconds, thirds) {
+        let next = put_threes_block::<E>(piece, out, from, firsts, seconds, thirds);
+        return put_threes_run::<E>(piece, out, next);
+    }
     put_short::<E>(piece, out, from)
+}
+
+// Writes the next forty-eight bytes, sixteen characters of three bytes.
+#[inline(always)]
+fn put_threes_block<E: Utf16Order>(
+    piece: &[u8],
+    out: &mut [u8],
+    from: Cursor,
+    firsts: u8x16,
+    seconds: u8x16,
+    thirds: u8x16,
+) -> Cursor
+    requires space { 2 * length piece.now + 16 ≤ length out.old }
+    requires more { from.at + 48 ≤ length piece.now }
+    requires within { IsWithin piece.now from }
+    requires next { take 48 (drop from.at piece.now) ≡ woven firsts seconds thirds }
+    requires threes { (i : ℕ) → i < 16
+        → IsThree (slice_index firsts i) (slice_index seconds i) (slice_index thirds i) }
+    ensures whole { whole E.BIG piece.now out.new result ≡ whole E.BIG piece.now out.old from }
+    ensures within { IsWithin piece.now result }
+    ensures at { result.at ≡ from.at + 48 }
+{
+    let end = put_sixteen::<E>(out, from.end, firsts, seconds, thirds);
+    after(piece, from.at + 48, end)
+}
+
+// Writes characters of three bytes, sixteen at a time.
+#[inline(always)]
+fn put_threes_run<E: Utf16Order>(piece: &[u8], out: &mut [u8], from: Cursor) -> Cursor
+    requires space { 2 * length piece.now + 16 ≤ length out.old }
+    requires within { IsWithin piece.now from }
+    ensures whole { whole E.BIG piece.now out.new result ≡ whole E.BIG piece.now out.old from }
+    ensures within { IsWithin piece.now result }
+    ensures advances { from.at ≤ result.at }
+{
+    let mut cursor = from;
+    while piece.len() - cursor.at >= 48 {
+        let (firsts, seconds, thirds) = in_threes(piece, cursor.at);
+        if !are_sixteen(firsts, seconds, thirds) {
+            break;
+        }
+        cursor = put_threes_block::<E>(piece, out, cursor, firsts, seconds, thirds);
+    }
+    cursor
 }
 
 // Whether the next sixty-four bytes are ASCII.

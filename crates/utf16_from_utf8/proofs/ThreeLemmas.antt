@@ -1,0 +1,69 @@
+-- Characters of three bytes, by their first, second and third bytes.
+use Rattle.std.proofs.Common.{◌≡◌, ℕ, zero, suc, ◌+◌, ◌*◌, ◌/◌, ◌%◌, ◌^◌, ◌<◌, ◌≤◌, Bool, cond, ltb, List, [], ◌∷◌, ◌++◌, length, take, drop, slice_index, bit_and, refl, sym, ap, ap₂, ◌∙◌, subst, arith, drop-drop}
+use Rattle.std.proofs.Math.Seq.{take-add}
+use Rattle.std.proofs.lemmas.Nat.Bits.{and_high}
+use Rattle.std.proofs.lemmas.Simd.{length-chunk, pick_l_whole}
+use Rattle.std.specs.List.{range_with_len}
+use lib.Lanes.{chunk, pick_l}
+use Rattle.utf16_from_utf8.specs.Added.{added_bytes}
+use Rattle.utf16_from_utf8.specs.LaneBytes.{short_low, three_high}
+use Rattle.utf16_from_utf8.specs.Lanes.{pair_bytes, pairs_of}
+use Rattle.utf16_from_utf8.specs.Threes.{IsThree, every_third, woven}
+use Rattle.utf16_from_utf8.proofs.AddedLemmas.{added_bytes-nil}
+use Rattle.utf16_from_utf8.proofs.BlockLemmas.{three-added}
+use Rattle.utf16_from_utf8.proofs.LaneLemmas.{sixteen}
+
+-- a plane of three vectors, by the picks that make it
+abbrev Plane : ℕ → List ℕ → List ℕ → List ℕ → List ℕ → List ℕ → List ℕ → Type 0
+Plane from others all order a b c =
+    let rest = pick_l 0 (b ++ c) others in
+    let plane = pick_l 0 (a ++ rest) all in
+    pick_l 0 (plane ++ plane) order ≡ pick_l 0 (a ++ (b ++ c)) (every_third from 16)
+
+-- it is enough to look at vectors that are written out
+pub plane : (from : ℕ) (others all order a b c : List ℕ) → length a ≡ 16 → length b ≡ 16 → length c ≡ 16
+    → ((x y z : List ℕ) → Plane from others all order (pick_l 0 x sixteen) (pick_l 0 y sixteen) (pick_l 0 z sixteen)) → Plane from others all order a b c
+plane from others all order a b c p q r computed =
+    subst (λ x. Plane from others all order x b c) (pick_l_whole 0 a 16 p)
+    (subst (λ y. Plane from others all order (pick_l 0 a sixteen) y c) (pick_l_whole 0 b 16 q)
+    (subst (λ z. Plane from others all order (pick_l 0 a sixteen) (pick_l 0 b sixteen) z) (pick_l_whole 0 c 16 r) (computed a b c)))
+
+-- the planes of forty-eight bytes, woven
+pub planes-woven : (v : List ℕ) → length v ≡ 48 → v ≡ woven (pick_l 0 v (every_third 0 16)) (pick_l 0 v (every_third 1 16)) (pick_l 0 v (every_third 2 16))
+planes-woven v long = sym (pick_l_whole 0 v 48 long)
+
+-- three chunks next to each other
+pub three-chunks : (at : ℕ) (xs : List ℕ) → at + 48 ≤ length xs → take 48 (drop at xs) ≡ chunk at 16 xs ++ (chunk (at + 16) 16 xs ++ chunk (at + 32) 16 xs)
+three-chunks at xs room =
+    take-add 16 32 (drop at xs)
+    ∙ ap (λ t. take 16 (drop at xs) ++ take 32 t) (drop-drop 16 at xs)
+    ∙ ap (λ t. take 16 (drop at xs) ++ t) (take-add 16 16 (drop (at + 16) xs) ∙ ap (λ t. take 16 (drop (at + 16) xs) ++ take 16 t) (drop-drop 16 (at + 16) xs ∙ ap (λ n. drop n xs) (omega arith)))
+
+-- the upper bits, by a sum that is zero
+pub first-by : (x m e s : ℕ) → m ≡ bit_and x 0xF0 → e ≡ 0x20 → s ≡ (m + e) % 2 ^ 8 → s < 1 → bit_and x 0xF0 ≡ 0xE0
+first-by x m e s is twenty plus none = let high : bit_and x 0xF0 ≡ x / 16 % 16 * 16 = and_high x 4 4 in omega (arith, is, twenty, plus, none, high)
+
+pub later-by : (x m e s : ℕ) → m ≡ bit_and x 0xC0 → e ≡ 0x80 → s ≡ (m + e) % 2 ^ 8 → s < 1 → bit_and x 0xC0 ≡ 0x80
+later-by x m e s is eighty plus none = let high : bit_and x 0xC0 ≡ x / 64 % 4 * 64 = and_high x 2 6 in omega (arith, is, eighty, plus, none, high)
+
+-- what they add
+pub woven-added : (big : Bool) (b2 b1 : ℕ) (xs ys zs highs lows : List ℕ) → length ys ≡ length xs → length zs ≡ length xs → length highs ≡ length xs → length lows ≡ length xs
+    → ((i : ℕ) → i < length xs → slice_index xs i < 256) → ((i : ℕ) → i < length xs → slice_index ys i < 256) → ((i : ℕ) → i < length xs → slice_index zs i < 256)
+    → ((i : ℕ) → i < length xs → IsThree (slice_index xs i) (slice_index ys i) (slice_index zs i))
+    → ((i : ℕ) → i < length xs → slice_index highs i ≡ three_high (slice_index xs i) (slice_index ys i))
+    → ((i : ℕ) → i < length xs → slice_index lows i ≡ short_low (slice_index ys i) (slice_index zs i))
+    → pairs_of big highs lows ≡ added_bytes big b2 b1 (woven xs ys zs)
+woven-added big b2 b1 [] ys zs [] lows p q r s fx fy fz are hs ls = sym (added_bytes-nil big b2 b1)
+woven-added big b2 b1 [] ys zs (h ∷ highs) lows p q r s fx fy fz are hs ls = absurd (omega (arith, r))
+woven-added big b2 b1 (x ∷ xs) [] zs highs lows p q r s fx fy fz are hs ls = absurd (omega (arith, p))
+woven-added big b2 b1 (x ∷ xs) (y ∷ ys) [] highs lows p q r s fx fy fz are hs ls = absurd (omega (arith, q))
+woven-added big b2 b1 (x ∷ xs) (y ∷ ys) (z ∷ zs) [] lows p q r s fx fy fz are hs ls = absurd (omega (arith, r))
+woven-added big b2 b1 (x ∷ xs) (y ∷ ys) (z ∷ zs) (h ∷ highs) [] p q r s fx fy fz are hs ls = absurd (omega (arith, s))
+woven-added big b2 b1 (x ∷ xs) (y ∷ ys) (z ∷ zs) (h ∷ highs) (l ∷ lows) p q r s fx fy fz are hs ls =
+    let is = are 0 (omega arith) in
+    ap₂ (λ a b. pair_bytes big a b ++ pairs_of big highs lows) (hs 0 (omega arith)) (ls 0 (omega arith))
+    ∙ ap (λ t. pair_bytes big (three_high x y) (short_low y z) ++ t)
+    (woven-added big y z xs ys zs highs lows (omega (arith, p)) (omega (arith, q)) (omega (arith, r)) (omega (arith, s))
+    (λ i b. fx (suc i) (omega arith)) (λ i b. fy (suc i) (omega arith)) (λ i b. fz (suc i) (omega arith))
+    (λ i b. are (suc i) (omega arith)) (λ i b. hs (suc i) (omega arith)) (λ i b. ls (suc i) (omega arith)))
+    ∙ sym (three-added big b2 b1 x y z (woven xs ys zs) (fx 0 (omega arith)) (fy 0 (omega arith)) (fz 0 (omega arith)) is.first is.second is.third)

@@ -1,0 +1,10 @@
+use Rattle.std.proofs.Common.{[], ◌∷◌, refl}
+use Rattle.utf16_from_utf8.proofs.ThreeLemmas.{plane}
+use Rattle.utf16_from_utf8.proofs.threes.firsts.Goals as goal
+
+pub returns : goal.returns
+returns c =
+    plane 0 (16 ∷ 17 ∷ 2 ∷ 19 ∷ 20 ∷ 5 ∷ 22 ∷ 23 ∷ 8 ∷ 25 ∷ 26 ∷ 11 ∷ 28 ∷ 29 ∷ 14 ∷ 31 ∷ [])
+    (0 ∷ 17 ∷ 18 ∷ 3 ∷ 20 ∷ 21 ∷ 6 ∷ 23 ∷ 24 ∷ 9 ∷ 26 ∷ 27 ∷ 12 ∷ 29 ∷ 30 ∷ 15 ∷ [])
+    (0 ∷ 3 ∷ 6 ∷ 9 ∷ 12 ∷ 15 ∷ 2 ∷ 5 ∷ 8 ∷ 11 ∷ 14 ∷ 1 ∷ 4 ∷ 7 ∷ 10 ∷ 13 ∷ [])
+    c.args.a c.args.b c.args.c c.fits-a.0 c.fits-b.0 c.fits-c.0 (λ x y z. refl)

@@ -1,0 +1,110 @@
+//! Forty-eight bytes as sixteen characters of three bytes: 3 and 16 have no common divisor, so that
+//! the first bytes of the characters have different places in their vectors of sixteen, and so
+//! have the second and the third ones.
+
+ghost use Rattle.std.specs.Prelude.{◌≡◌, ◌+◌, ◌<◌, ◌≤◌, ◌++◌, IsTrue, ℕ, drop, length, slice_index, take};
+ghost use Rattle.std.specs.Simd.Lanes.{pick_l};
+ghost use Rattle.utf16_from_utf8.specs.Added.{added_bytes};
+ghost use Rattle.utf16_from_utf8.specs.Threes.{IsThree, every_third, woven};
+
+use crate::blocks::paired;
+use crate::lanes::{each, greater, masked, sum};
+use crate::units::{are_below, short_lows, three_highs};
+use std::simd::prelude::*;
+use utf16_units::Utf16Order;
+
+// The first, the second and the third bytes of the next forty-eight.
+#[inline(always)]
+pub(crate) fn in_threes(piece: &[u8], at: usize) -> (u8x16, u8x16, u8x16)
+    requires { at + 48 ≤ length piece.now }
+    ensures { take 48 (drop at piece.now) ≡ woven result.0 result.1 result.2 }
+{
+    let a = u8x16::from_slice(&piece[at..]);
+    let b = u8x16::from_slice(&piece[at + 16..]);
+    let c = u8x16::from_slice(&piece[at + 32..]);
+    (firsts(a, b, c), seconds(a, b, c), thirds(a, b, c))
+}
+
+// The first bytes.
+#[inline(always)]
+fn firsts(a: u8x16, b: u8x16, c: u8x16) -> u8x16
+    ensures { result ≡ pick_l 0 (a ++ (b ++ c)) (every_third 0 16) }
+{
+    let others = b.shuffle(
+        c,
+        [16, 17, 2, 19, 20, 5, 22, 23, 8, 25, 26, 11, 28, 29, 14, 31],
+    );
+    let all = a.shuffle(
+        others,
+        [0, 17, 18, 3, 20, 21, 6, 23, 24, 9, 26, 27, 12, 29, 30, 15],
+    );
+    all.swizzle([0, 3, 6, 9, 12, 15, 2, 5, 8, 11, 14, 1, 4, 7, 10, 13])
+}
+
+// The second bytes.
+#[inline(always)]
+fn seconds(a: u8x16, b: u8x16, c: u8x16) -> u8x16
+    ensures { result ≡ pick_l 0 (a ++ (b ++ c)) (every_third 1 16) }
+{
+    let others = b.shuffle(
+        c,
+        [0, 17, 18, 3, 20, 21, 6, 23, 24, 9, 26, 27, 12, 29, 30, 15],
+    );
+    let all = a.shuffle(
+        others,
+        [16, 1, 18, 19, 4, 21, 22, 7, 24, 25, 10, 27, 28, 13, 30, 31],
+    );
+    all.swizzle([1, 4, 7, 10, 13, 0, 3, 6, 9, 12, 15, 2, 5, 8, 11, 14])
+}
+
+// The third bytes.
+#[inline(always)]
+fn thirds(a: u8x16, b: u8x16, c: u8x16) -> u8x16
+    ensures { result ≡ pick_l 0 (a ++ (b ++ c)) (every_third 2 16) }
+{
+    let others = b.shuffle(
+        c,
+        [16, 1, 18, 19, 4, 21, 22, 7, 24, 25, 10, 27, 28, 13, 30, 31],
+    );
+    let all = a.shuffle(
+        others,
+        [16, 17, 2, 19, 20, 5, 22, 23, 8, 25, 26, 11, 28, 29, 14, 31],
+    );
+    all.swizzle([2, 5, 8, 11, 14, 1, 4, 7, 10, 13, 0, 3, 6, 9, 12, 15])
+}
+
+// Whether they are the bytes of sixteen characters.
+#[inline(always)]
+pub(crate) fn are_sixteen(firsts: u8x16, seconds: u8x16, thirds: u8x16) -> bool
+    ensures { IsTrue result → (i : ℕ) → i < 16
+        → IsThree (slice_index firsts i) (slice_index seconds i) (slice_index thirds i) }
+{
+    // These are zero exactly where the upper bits are as wanted.
+    let first = sum(masked(firsts, 0xF0), each(0x20));
+    let second = sum(masked(seconds, 0xC0), each(0x80));
+    let third = sum(masked(thirds, 0xC0), each(0x80));
+    are_below(greater(greater(first, second), third), 1)
+}
+
+// Writes sixteen characters of three bytes.
+#[inline(always)]
+pub(crate) fn put_sixteen<E: Utf16Order>(
+    out: &mut [u8],
+    at: usize,
+    firsts: u8x16,
+    seconds: u8x16,
+    thirds: u8x16,
+) -> usize
+    requires space { at + 32 ≤ length out.old }
+    requires threes { (i : ℕ) → i < 16
+        → IsThree (slice_index firsts i) (slice_index seconds i) (slice_index thirds i) }
+    ensures bytes { (b2 b1 : ℕ) → take result out.new ≡ take at out.old
+        ++ added_bytes E.BIG b2 b1 (woven firsts seconds thirds) }
+    ensures written_to { result ≡ at + 32 }
+{
+    let highs = three_highs(firsts, seconds);
+    let (first, second) = paired::<E>(highs, short_lows(seconds, thirds));
+    first.copy_to_slice(&mut out[at..]);
+    second.copy_to_slice(&mut out[at + 16..]);
+    at + 32
+}
