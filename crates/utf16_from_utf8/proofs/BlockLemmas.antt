@@ -1,7 +1,7 @@
 -- What the lanes of a block hold is what its bytes add.
-use Rattle.std.proofs.Common.{◌≡◌, ℕ, zero, suc, drop-cons, ◌+◌, ◌-◌, ◌*◌, ◌/◌, ◌%◌, ◌^◌, ◌<◌, ◌≤◌, ◌&&◌, ◌==◌, Bool, true, false, cond, ltb, List, [], ◌∷◌, ◌++◌, length, take, drop, get_or, slice_index, set, append_assoc, bit_and, refl, sym, ap, ap₂, ◌∙◌, ⊎_elim, arith, append-nil, flat_map, lt-ltb, le-ltb, Fits, w8, replicate, length-append}
+use Rattle.std.proofs.Common.{◌≡◌, ℕ, zero, suc, drop-cons, ◌+◌, ◌-◌, ◌*◌, ◌/◌, ◌%◌, ◌^◌, ◌<◌, ◌≤◌, ◌&&◌, ◌==◌, Bool, true, false, cond, ltb, List, [], ◌∷◌, ◌++◌, length, take, drop, get_or, slice_index, set, append_assoc, bit_and, refl, sym, ap, ap₂, ◌∙◌, ◌⊎◌, ⊎_elim, inl, inr, length-take-le, arith, append-nil, flat_map, lt-ltb, le-ltb, Fits, w8, replicate, length-append}
 use Rattle.std.proofs.lemmas.Bool.{cases_lt}
-use Rattle.std.proofs.lemmas.List.{drop_all, length-set, take_more_set}
+use Rattle.std.proofs.lemmas.List.{drop_all, get_or-take, length-set, take_all, take_more, take_more_set}
 use Rattle.std.proofs.lemmas.Nat.Bits.{and_high}
 use Rattle.std.proofs.lemmas.Simd.{Each1-get_or, length-chunk, length-put_chunk, chunk-drop, get_or-chunk, pick_l-range_with_len, pick_l_left, pick_l_whole, take_more_put_chunk}
 use Rattle.std.proofs.Math.Nat.{div-div-eq-div-mul, two-pow-succ}
@@ -10,6 +10,7 @@ use lib.Lanes.{Each1, pick_l, put_chunk, zip2}
 use Rattle.utf16_units.specs.Lanes.{HasLanes}
 use Rattle.utf16_units.specs.Unit.{unit_bytes}
 use Rattle.utf16_from_utf8.specs.Added.{added_bytes, ends_unit, unit_after}
+use Rattle.utf16_from_utf8.specs.Kind.{AreBefore, AreUsed}
 use Rattle.utf16_from_utf8.specs.LaneBytes.{high_lane, low_lane, short_low, three_high}
 use Rattle.utf16_from_utf8.specs.Lanes.{kept_pairs, pair_bytes, pairs_of}
 use Rattle.utf16_from_utf8.specs.declared.units.TheConstants.{THREES, UPPER}
@@ -203,28 +204,27 @@ two_stored big at two unit out room is =
 
 -- ---- a block's lanes, from the vectors that they were computed of
 
-pub block-lanes : (before2 before1 : ℕ) (block b1 b2 highs lows : List ℕ) (bits : ℕ) → length block ≡ 16 → Each1 (Fits w8) block
-    → HasLanes 16 b1 (λ i. slice_index (before1 ∷ block) i) → HasLanes 16 b2 (λ i. slice_index (before2 ∷ b1) i)
-    → HasLanes 16 highs (λ i. high_lane (slice_index b2 i) (slice_index b1 i) (slice_index block i))
-    → HasLanes 16 lows (λ i. low_lane (slice_index b2 i) (slice_index b1 i) (slice_index block i))
+pub block-lanes : (before2 before1 : ℕ) (block b1 b2 highs lows : List ℕ) (bits : ℕ) → length block ≡ 16 → Each1 (Fits w8) block → AreBefore before2 before1 block b2 b1
+    → length highs ≡ 16 → ((i : ℕ) → i < 16 → slice_index highs i ≡ high_lane (slice_index b2 i) (slice_index b1 i) (slice_index block i))
+    → length lows ≡ 16 → ((i : ℕ) → i < 16 → slice_index lows i ≡ low_lane (slice_index b2 i) (slice_index b1 i) (slice_index block i))
     → ((i : ℕ) → i < 16 → ◌≡◌ {A = ℕ} (bits / 2 ^ i % 2) (cond (ends_unit (slice_index b1 i) (slice_index block i)) 1 0))
     → AreLanesOf before2 before1 block highs lows bits
-block-lanes before2 before1 block b1 b2 highs lows bits long fits one two h l ended =
+block-lanes before2 before1 block b1 b2 highs lows bits long fits are hlen h llen l ended =
     let second : (i : ℕ) → i < 16 → slice_index b2 i ≡ slice_index (before2 ∷ before1 ∷ block) i =
-    λ i below. two.lanes i below ∙ two-behind before2 before1 block b1 one.lanes i below in
+    λ i below. are.two.lanes i below ∙ two-behind before2 before1 block b1 are.one.lanes i below in
     record {
-      high_len = h.len ∙ sym long;
-      low_len = l.len ∙ sym long;
+      high_len = hlen ∙ sym long;
+      low_len = llen ∙ sym long;
       fits = fits;
       high = λ i below.
           let b : i < 16 = omega (arith, long) in
-          h.lanes i b ∙ ap₂ (λ x y. high_lane x y (slice_index block i)) (second i b) (one.lanes i b);
+          h i b ∙ ap₂ (λ x y. high_lane x y (slice_index block i)) (second i b) (are.one.lanes i b);
       low = λ i below.
           let b : i < 16 = omega (arith, long) in
-          l.lanes i b ∙ ap₂ (λ x y. low_lane x y (slice_index block i)) (second i b) (one.lanes i b);
+          l i b ∙ ap₂ (λ x y. low_lane x y (slice_index block i)) (second i b) (are.one.lanes i b);
       ended = λ i below.
           let b : i < 16 = omega (arith, long) in
-          ended i b ∙ ap (λ x. cond (ends_unit x (slice_index block i)) 1 0) (one.lanes i b);
+          ended i b ∙ ap (λ x. cond (ends_unit x (slice_index block i)) 1 0) (are.one.lanes i b);
     }
 
 -- ---- two vectors stored, and the next step of a loop
@@ -303,3 +303,37 @@ added-short big b2 b1 [] = let none : length (added_bytes big b2 b1 []) ≡ 0 = 
 added-short big b2 b1 (b0 ∷ bytes) =
     let both = ap length (added_bytes-cons big b2 b1 b0 bytes) ∙ length-append (byte_adds big b2 b1 b0) (added_bytes big b1 b0 bytes) in
     omega (arith, both, byte-short big b2 b1 b0, added-short big b1 b0 bytes)
+
+-- ---- a block of which the last bytes are left out, since they add nothing
+
+-- the last byte adds nothing
+silent-one : (big : Bool) (b2 b1 : ℕ) (bytes : List ℕ) (last : ℕ) → (0xC0 ≤ last) ⊎ (0xE0 ≤ last_of b1 bytes)
+    → added_bytes big b2 b1 (bytes ++ last ∷ []) ≡ added_bytes big b2 b1 bytes
+silent-one big b2 b1 bytes last silent =
+    let x = last_but_one b2 b1 bytes in
+    let y = last_of b1 bytes in
+    added_bytes-append big b2 b1 bytes (last ∷ [])
+    ∙ ap (λ t. added_bytes big b2 b1 bytes ++ t) (added_bytes-one big x y last ∙ ⊎_elim (λ first. byte-adds-first big x y last first) (λ behind. byte-adds-behind big x y last behind) silent)
+    ∙ append-nil (added_bytes big b2 b1 bytes)
+
+pub used-added : (big : Bool) (b2 b1 used : ℕ) (block : List ℕ) → length block ≡ 16 → AreUsed used (slice_index block 14) (slice_index block 15)
+    → added_bytes big b2 b1 block ≡ added_bytes big b2 b1 (take used block)
+used-added big b2 b1 used block long are = ⊎_elim
+    (λ (all : used ≡ 16). ap (added_bytes big b2 b1) (sym (take_all used block (omega (arith, all, long)))))
+    (λ some. ⊎_elim
+    (λ (one : (used ≡ 15) × (0xC0 ≤ slice_index block 15)). without-last (inl one.1) ∙ ap (λ n. added_bytes big b2 b1 (take n block)) (sym one.0))
+    (λ (two : (used ≡ 14) × (0xE0 ≤ slice_index block 14)).
+    without-last (inr (omega (arith, two.1, last-is)))
+    ∙ ap (added_bytes big b2 b1) (take_more block 14 0 (omega (arith, long)))
+    ∙ silent-one big b2 b1 (take 14 block) (slice_index block 14) (inl (omega (arith, two.1)))
+    ∙ ap (λ n. added_bytes big b2 b1 (take n block)) (sym two.0))
+    some)
+    are
+  where
+    last-is : last_of b1 (take 15 block) ≡ slice_index block 14
+    last-is = last_of-get b1 14 (take 15 block) (length-take-le 15 block (omega (arith, long))) ∙ get_or-take 15 block 14 0 (omega arith)
+
+    without-last : (0xC0 ≤ slice_index block 15) ⊎ (0xE0 ≤ last_of b1 (take 15 block)) → added_bytes big b2 b1 block ≡ added_bytes big b2 b1 (take 15 block)
+    without-last silent =
+        ap (added_bytes big b2 b1) (sym (take_all 16 block (omega (arith, long))) ∙ take_more block 15 0 (omega (arith, long)))
+        ∙ silent-one big b2 b1 (take 15 block) (slice_index block 15) silent

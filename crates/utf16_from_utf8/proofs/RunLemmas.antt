@@ -1,12 +1,15 @@
 -- The steps of a writer of a chunk.
-use Rattle.std.proofs.Common.{◌≡◌, ℕ, ◌+◌, ◌-◌, ◌*◌, ◌<◌, ◌≤◌, Bool, List, ◌++◌, length, take, drop, slice_index, refl, sym, ap, ap₂, ◌∙◌, ⊎_elim, arith}
+use Rattle.std.proofs.Common.{zero, suc, ◌∷◌, [], subst, ◌≡◌, ℕ, ◌+◌, ◌-◌, ◌*◌, ◌<◌, ◌≤◌, Bool, List, ◌++◌, length, take, drop, length-append, length-take-le, slice_index, refl, sym, ap, ap₂, ◌∙◌, ⊎_elim, arith}
 use Rattle.std.proofs.lemmas.Bool.{cases_lt}
-use Rattle.std.proofs.lemmas.Simd.{get_or-chunk}
+use Rattle.std.proofs.lemmas.List.{take-take}
+use Rattle.std.proofs.lemmas.Simd.{get_or-chunk, length-chunk}
 use lib.Lanes.{chunk}
 use Rattle.utf16_from_utf8.specs.Added.{added_bytes}
 use Rattle.utf16_from_utf8.specs.Cursor.{whole}
+use Rattle.utf16_from_utf8.specs.Kind.{AreBefore, AreOf, AreUsed, IsBehind, IsOf}
+use Rattle.utf16_from_utf8.specs.declared.units.Kind.{Kind}
 use Rattle.utf16_from_utf8.specs.declared.runs.Cursor.{Cursor}
-use Rattle.utf16_from_utf8.proofs.BlockLemmas.{added-step}
+use Rattle.utf16_from_utf8.proofs.BlockLemmas.{added-short, added-step, two-behind, used-added}
 
 -- n more bytes were read, and what they add was written
 pub stepped : (big : Bool) (piece out out' : List ℕ) (from to : Cursor) (n : ℕ) → 2 ≤ n → from.at + n ≤ length piece
@@ -46,3 +49,75 @@ module _ (piece : List ℕ) (at limit : ℕ) where
   below-further n at' is room all i below =
       let place : at + (n + i) ≡ at' + i = omega (arith, is) in
       omega (arith, all (n + i) (omega arith), ap (slice_index piece) place)
+
+-- the bytes before those of a block, read from the chunk
+pub before-in : (piece : List ℕ) (at : ℕ) → 2 ≤ at → at + 16 ≤ length piece
+    → AreBefore (slice_index piece (at - 2)) (slice_index piece (at - 1)) (chunk at 16 piece) (chunk (at - 2) 16 piece) (chunk (at - 1) 16 piece)
+before-in piece at some room = record {
+  one = record {
+    len = length-chunk (at - 1) 16 piece (omega arith);
+    lanes = λ i below. get_or-chunk (at - 1) 16 piece i 0 below ∙ behind i below;
+  };
+  two = record {
+    len = length-chunk (at - 2) 16 piece (omega arith);
+    lanes = λ i below. get_or-chunk (at - 2) 16 piece i 0 below ∙ twice i below;
+  };
+}
+  where
+    behind : (i : ℕ) → i < 16 → slice_index piece (at - 1 + i) ≡ slice_index (slice_index piece (at - 1) ∷ chunk at 16 piece) i
+    behind zero below = ap (slice_index piece) (omega arith)
+    behind (suc i) below = ap (slice_index piece) (omega arith) ∙ sym (get_or-chunk at 16 piece i 0 (omega arith))
+
+    twice : (i : ℕ) → i < 16 → slice_index piece (at - 2 + i) ≡ slice_index (slice_index piece (at - 2) ∷ chunk (at - 1) 16 piece) i
+    twice zero below = ap (slice_index piece) (omega arith)
+    twice (suc i) below = ap (slice_index piece) (omega arith) ∙ sym (get_or-chunk (at - 1) 16 piece i 0 (omega arith))
+
+-- the bytes of a kind, as the bytes before those of a block
+pub are-before : (kind : Kind) (piece : List ℕ) (from : Cursor) (b2 b1 : List ℕ) → AreOf kind 16 piece from → AreBefore from.b2 from.b1 (chunk from.at 16 piece) b2 b1
+    → (i : ℕ) → i < 16 → IsOf kind (slice_index b2 i)
+are-before kind piece from b2 b1 are before i below = subst (IsOf kind) (sym (before.two.lanes i below ∙ two-behind from.b2 from.b1 (chunk from.at 16 piece) b1 before.one.lanes i below)) (each i below)
+  where
+    each : (i : ℕ) → i < 16 → IsOf kind (slice_index (from.b2 ∷ from.b1 ∷ chunk from.at 16 piece) i)
+    each zero below = are.before2
+    each (suc zero) below = are.before1
+    each (suc (suc i)) below = subst (IsOf kind) (sym (get_or-chunk from.at 16 piece i 0 (omega arith))) (are.bytes i (omega arith))
+
+-- bytes of a kind, further on
+pub are-further : (kind : Kind) (piece : List ℕ) (from to : Cursor) (n : ℕ) → AreOf kind 64 piece from → to.at ≡ from.at + n → 2 ≤ n → n + 16 ≤ 64 → IsBehind piece to
+    → AreOf kind 16 piece to
+are-further kind piece from to n are at some room behind = record {
+  before2 = subst (IsOf kind) (ap (slice_index piece) (omega (arith, at)) ∙ sym behind.is_b2) (are.bytes (n - 2) (omega arith));
+  before1 = subst (IsOf kind) (ap (slice_index piece) (omega (arith, at)) ∙ sym behind.is_b1) (are.bytes (n - 1) (omega arith));
+  bytes = λ i below. subst (IsOf kind) (ap (slice_index piece) (omega (arith, at))) (are.bytes (n + i) (omega arith));
+}
+
+-- ---- a block of which not all bytes are used
+
+pub used-bound : (used first second : ℕ) → AreUsed used first second → (14 ≤ used) × (used ≤ 16)
+used-bound used first second are = ⊎_elim
+    (λ (all : used ≡ 16). (omega (arith, all), omega (arith, all)))
+    (λ some. ⊎_elim
+    (λ (one : (used ≡ 15) × (0xC0 ≤ second)). (omega (arith, one.0), omega (arith, one.0)))
+    (λ (two : (used ≡ 14) × (0xE0 ≤ first)). (omega (arith, two.0), omega (arith, two.0)))
+    some)
+    are
+
+module _ (big : Bool) (piece out out' : List ℕ) (from : Cursor) (end used : ℕ) (are : AreUsed used (slice_index piece (from.at + 14)) (slice_index piece (from.at + 15))) (room : from.at + 16 ≤ length piece)
+    (wrote : take end out' ≡ take from.end out ++ added_bytes big from.b2 from.b1 (chunk from.at 16 piece)) where
+  pub written-used : take end out' ≡ take from.end out ++ added_bytes big from.b2 from.b1 (take used (drop from.at piece))
+  written-used =
+      let block = chunk from.at 16 piece in
+      let there = subst (λ x. AreUsed used x (slice_index block 15)) (sym (get_or-chunk from.at 16 piece 14 0 (omega arith)))
+      (subst (λ y. AreUsed used (slice_index piece (from.at + 14)) y) (sym (get_or-chunk from.at 16 piece 15 0 (omega arith))) are) in
+      wrote
+      ∙ ap (λ t. take from.end out ++ t)
+      (used-added big from.b2 from.b1 used block (length-chunk from.at 16 piece room) there
+      ∙ ap (added_bytes big from.b2 from.b1) (take-take used 16 (drop from.at piece) (used-bound used _ _ are).1))
+
+  -- what was written is no longer than two bytes for each that was used
+  pub used-short : from.end ≤ length out → end ≤ length out' → end ≤ from.end + 2 * used
+  used-short old new =
+      let added = added_bytes big from.b2 from.b1 (take used (drop from.at piece)) in
+      let all = ap length written-used ∙ length-append (take from.end out) added in
+      let few = used-bound used _ _ are in
+      omega (arith, all, added-short big from.b2 from.b1 (take used (drop from.at piece)), length-take-le end out' new, length-take-le from.end out old, length-chunk from.at used piece (omega (arith, few, room)))

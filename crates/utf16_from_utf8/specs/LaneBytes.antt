@@ -32,9 +32,9 @@ low_lane b2 b1 b0 =
     if nat_lt b0 0x80 then b0
     else (if nat_lt b2 0xF0 then short_low b1 b0 else (if nat_lt b1 0xC0 then lead_low (lead_part b1 b0) else short_low b1 b0))
 
+-- the high byte where the byte before is no first one
+abbrev pub behind_high : ℕ → ℕ → ℕ → ℕ
+behind_high b2 b1 b0 = if nat_lt b2 0xE0 then trail_high b1 else (if nat_lt b2 0xF0 then three_high b2 b1 else lead_high b2 (lead_part b1 b0))
+
 abbrev pub high_lane : ℕ → ℕ → ℕ → ℕ
-high_lane b2 b1 b0 =
-    if nat_lt b0 0x80 then 0
-    else (if nat_lt b1 0xC0
-    then (if nat_lt b2 0xE0 then trail_high b1 else (if nat_lt b2 0xF0 then three_high b2 b1 else lead_high b2 (lead_part b1 b0)))
-    else middle b1)
+high_lane b2 b1 b0 = if nat_lt b0 0x80 then 0 else (if nat_lt b1 0xC0 then behind_high b2 b1 b0 else middle b1)

@@ -1,5 +1,6 @@
 pub mod Added
 pub mod Cursor
+pub mod Kind
 pub mod LaneBytes
 pub mod Lanes
 pub mod Sizes

@@ -1,13 +1,14 @@
 //! The UTF-16 that a block of sixteen bytes adds.
 
-ghost use Rattle.std.specs.Prelude.{◌≡◌, ◌+◌, ◌*◌, ◌<◌, ◌≤◌, ◌++◌, ℕ, bit_and, length, slice_index, take};
+ghost use Rattle.std.specs.Prelude.{◌≡◌, ◌+◌, ◌-◌, ◌<◌, ◌≤◌, ◌++◌, ℕ, bit_and, drop, length, slice_index, take};
 ghost use Rattle.std.specs.Simd.Lanes.{zip2};
 ghost use Rattle.utf16_from_utf8.specs.Added.{added_bytes};
+ghost use Rattle.utf16_from_utf8.specs.Kind.{AreBefore, IsOf};
 ghost use Rattle.utf16_from_utf8.specs.Lanes.{pairs_of};
 
 use crate::lanes::{each, previous_lanes};
 use crate::pack::put_kept;
-use crate::units::{THREES, UPPER, ended_bits, highs, lows, short_lows, three_highs};
+use crate::units::{Kind, THREES, UPPER, ended_bits, highs, lows, short_lows, three_highs};
 use std::simd::prelude::*;
 use utf16_units::Utf16Order;
 
@@ -57,22 +58,45 @@ pub(crate) fn put_threes<E: Utf16Order>(out: &mut [u8], at: usize, block: u8x16)
     at + 10
 }
 
-// Writes the UTF-16 that sixteen bytes add after two others.
+// The byte before each one of a block, and the one before that.
+#[inline(always)]
+pub(crate) fn before(block: u8x16, before2: u8, before1: u8) -> (u8x16, u8x16)
+    ensures { AreBefore before2 before1 block result.0 result.1 }
+{
+    let b1 = previous_lanes(block, before1);
+    (previous_lanes(b1, before2), b1)
+}
+
+// The same of the block at `at`.
+#[inline(always)]
+pub(crate) fn before_at(piece: &[u8], at: usize) -> (u8x16, u8x16)
+    requires some { 2 ≤ at }
+    requires more { at + 16 ≤ length piece.now }
+    ensures { AreBefore (slice_index piece.now (at - 2)) (slice_index piece.now (at - 1))
+        (take 16 (drop at piece.now)) result.0 result.1 }
+{
+    (
+        u8x16::from_slice(&piece[at - 2..]),
+        u8x16::from_slice(&piece[at - 1..]),
+    )
+}
+
+// Writes the UTF-16 that sixteen bytes add after the two before each. The bytes `b2` are of a kind.
 #[inline(always)]
 pub(crate) fn put_block<E: Utf16Order>(
     out: &mut [u8],
     at: usize,
-    before2: u8,
-    before1: u8,
+    b2: u8x16,
+    b1: u8x16,
     block: u8x16,
+    kind: Kind,
 ) -> usize
     requires space { at + 32 ≤ length out.old }
-    ensures bytes { take result out.new ≡ take at out.old ++ added_bytes E.BIG before2 before1
-        block }
+    requires kind { (i : ℕ) → i < 16 → IsOf kind (slice_index b2 i) }
+    ensures bytes { (before2 before1 : ℕ) → AreBefore before2 before1 block b2 b1
+        → take result out.new ≡ take at out.old ++ added_bytes E.BIG before2 before1 block }
     ensures written_to { result ≤ at + 32 }
 {
-    let b1 = previous_lanes(block, before1);
-    let b2 = previous_lanes(b1, before2);
-    let (first, second) = paired::<E>(highs(b2, b1, block), lows(b2, b1, block));
+    let (first, second) = paired::<E>(highs(b2, b1, block, kind), lows(b2, b1, block, kind));
     put_kept(out, at, first, second, ended_bits(b1, block))
 }

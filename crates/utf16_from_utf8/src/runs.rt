@@ -1,14 +1,15 @@
 //! Writes blocks of a chunk, with loops of their own for ASCII and for characters of
 //! three bytes.
 
-ghost use Rattle.std.specs.Prelude.{◌≡◌, ◌+◌, ◌-◌, ◌*◌, ◌<◌, ◌≤◌, ◌++◌, IsTrue, ℕ, drop, length, slice_index, take};
-ghost use Rattle.utf16_from_utf8.specs.Added.{added_bytes};
+ghost use Rattle.std.specs.Prelude.{◌≡◌, ◌+◌, ◌-◌, ◌*◌, ◌<◌, ◌≤◌, IsTrue, ℕ, bit_and, drop, length, slice_index, take};
+ghost use Rattle.std.specs.Simd.Lanes.{zip2};
 ghost use Rattle.utf16_from_utf8.specs.Cursor.{IsWithin, whole};
+ghost use Rattle.utf16_from_utf8.specs.Kind.{AreBefore, AreOf, AreUsed, IsBehind};
 ghost use Rattle.utf16_from_utf8.specs.Threes.{IsThree, woven};
 
-use crate::blocks::{put_ascii, put_block, put_threes};
+use crate::blocks::{before, before_at, put_ascii, put_block, put_threes};
 use crate::threes::{are_sixteen, in_threes, put_sixteen};
-use crate::units::{are_below, are_threes, greatest, is_ascii};
+use crate::units::{Kind, THREES, UPPER, are_below, are_threes, greatest, is_ascii, used};
 use std::simd::prelude::*;
 use utf16_units::Utf16Order;
 
@@ -32,16 +33,23 @@ pub(crate) fn put_next<E: Utf16Order>(piece: &[u8], out: &mut [u8], from: Cursor
     ensures within { IsWithin piece.now result }
     ensures advances { from.at < result.at }
 {
-    if from.b1 < 0xE0 && are_ascii(piece, from.at) {
+    let greatest = greatest(piece, from.at);
+    if from.b1 < 0xE0 && are_below(greatest, 0x80) {
         let next = put_ascii_blocks::<E>(piece, out, from);
         return put_ascii_run::<E>(piece, out, next);
+    }
+    if from.b2 < 0xE0 && from.b1 < 0xE0 && are_below(greatest, 0xE0) {
+        return put_blocks::<E>(piece, out, from, Kind::Two);
     }
     let (firsts, seconds, thirds) = in_threes(piece, from.at);
     if are_sixteen(firsts, seconds, thirds) {
         let next = put_threes_block::<E>(piece, out, from, firsts, seconds, thirds);
         return put_threes_run::<E>(piece, out, next);
     }
-    put_short::<E>(piece, out, from)
+    if from.b2 < 0xF0 && from.b1 < 0xF0 && are_below(greatest, 0xF0) {
+        return put_blocks::<E>(piece, out, from, Kind::Three);
+    }
+    put_blocks::<E>(piece, out, from, Kind::Four)
 }
 
 // Writes the next forty-eight bytes, sixteen characters of three bytes.
@@ -162,6 +170,7 @@ fn after(piece: &[u8], at: usize, end: usize) -> Cursor
     ensures end { result.end ≡ end }
     ensures b2 { result.b2 ≡ slice_index piece.now (at - 2) }
     ensures b1 { result.b1 ≡ slice_index piece.now (at - 1) }
+    ensures behind { IsBehind piece.now result }
 {
     Cursor {
         at,
@@ -182,31 +191,125 @@ pub(crate) fn put_short<E: Utf16Order>(piece: &[u8], out: &mut [u8], from: Curso
     ensures advances { from.at < result.at }
 {
     let block = u8x16::from_slice(&piece[from.at..]);
-    let (used, end) = put_first::<E>(out, from.end, from.b2, from.b1, block);
-    after(piece, from.at + used, end)
-}
-
-// Writes the UTF-16 that the first of sixteen bytes add after the bytes `b2` and `b1`. Returns how
-// many of them that are, and the end of what was written.
-#[inline(always)]
-fn put_first<E: Utf16Order>(
-    out: &mut [u8],
-    at: usize,
-    b2: u8,
-    b1: u8,
-    block: u8x16,
-) -> (usize, usize)
-    requires space { at + 40 ≤ length out.old }
-    ensures bytes { take result.1 out.new ≡ take at out.old
-        ++ added_bytes E.BIG b2 b1 (take result.0 block) }
-    ensures used { (2 ≤ result.0) × (result.0 ≤ 16) }
-    ensures written_to { result.1 ≤ at + 2 * result.0 }
-{
-    if is_ascii(block) && b1 < 0xE0 {
-        return (16, put_ascii::<E>(out, at, block));
+    if is_ascii(block) && from.b1 < 0xE0 {
+        return put_ascii_block::<E>(piece, out, from);
     }
     if are_threes(block) {
-        return (15, put_threes::<E>(out, at, block));
+        return put_few_threes::<E>(piece, out, from, block);
     }
-    (16, put_block::<E>(out, at, b2, b1, block))
+    let used = used(piece[from.at + 14], piece[from.at + 15]);
+    put_first_block::<E>(piece, out, from, Kind::Four, used)
+}
+
+// Writes five characters of three bytes.
+#[inline(always)]
+fn put_few_threes<E: Utf16Order>(piece: &[u8], out: &mut [u8], from: Cursor, block: u8x16) -> Cursor
+    requires space { 2 * length piece.now + 16 ≤ length out.old }
+    requires more { from.at + 16 ≤ length piece.now }
+    requires within { IsWithin piece.now from }
+    requires next { block ≡ take 16 (drop from.at piece.now) }
+    requires threes { zip2 bit_and block UPPER ≡ THREES }
+    ensures whole { whole E.BIG piece.now out.new result ≡ whole E.BIG piece.now out.old from }
+    ensures within { IsWithin piece.now result }
+    ensures at { result.at ≡ from.at + 15 }
+{
+    let end = put_threes::<E>(out, from.end, block);
+    after(piece, from.at + 15, end)
+}
+
+// Writes the next sixty-four bytes, which are of a kind, but not those at the end that begin a
+// character and add nothing.
+#[inline(always)]
+fn put_blocks<E: Utf16Order>(piece: &[u8], out: &mut [u8], from: Cursor, kind: Kind) -> Cursor
+    requires space { 2 * length piece.now + 16 ≤ length out.old }
+    requires more { from.at + 64 ≤ length piece.now }
+    requires within { IsWithin piece.now from }
+    requires kind { AreOf kind 64 piece.now from }
+    ensures whole { whole E.BIG piece.now out.new result ≡ whole E.BIG piece.now out.old from }
+    ensures within { IsWithin piece.now result }
+    ensures advances { from.at < result.at }
+{
+    let first = put_first_block::<E>(piece, out, from, kind, 16);
+    let second = put_later_block::<E>(piece, out, first, kind, 16);
+    let third = put_later_block::<E>(piece, out, second, kind, 16);
+    let used = used(piece[third.at + 14], piece[third.at + 15]);
+    put_later_block::<E>(piece, out, third, kind, used)
+}
+
+// Writes the next block.
+#[inline(always)]
+fn put_first_block<E: Utf16Order>(
+    piece: &[u8],
+    out: &mut [u8],
+    from: Cursor,
+    kind: Kind,
+    used: usize,
+) -> Cursor
+    requires space { 2 * length piece.now + 16 ≤ length out.old }
+    requires more { from.at + 16 ≤ length piece.now }
+    requires within { IsWithin piece.now from }
+    requires kind { AreOf kind 16 piece.now from }
+    requires used { AreUsed used (slice_index piece.now (from.at + 14))
+        (slice_index piece.now (from.at + 15)) }
+    ensures whole { whole E.BIG piece.now out.new result ≡ whole E.BIG piece.now out.old from }
+    ensures within { IsWithin piece.now result }
+    ensures at { result.at ≡ from.at + used }
+    ensures behind { IsBehind piece.now result }
+{
+    let block = u8x16::from_slice(&piece[from.at..]);
+    let (b2, b1) = before(block, from.b2, from.b1);
+    put_block_after::<E>(piece, out, from, b2, b1, kind, used)
+}
+
+// Writes the next block, and reads the bytes before it.
+#[inline(always)]
+fn put_later_block<E: Utf16Order>(
+    piece: &[u8],
+    out: &mut [u8],
+    from: Cursor,
+    kind: Kind,
+    used: usize,
+) -> Cursor
+    requires space { 2 * length piece.now + 16 ≤ length out.old }
+    requires more { from.at + 16 ≤ length piece.now }
+    requires within { IsWithin piece.now from }
+    requires kind { AreOf kind 16 piece.now from }
+    requires behind { IsBehind piece.now from }
+    requires used { AreUsed used (slice_index piece.now (from.at + 14))
+        (slice_index piece.now (from.at + 15)) }
+    ensures whole { whole E.BIG piece.now out.new result ≡ whole E.BIG piece.now out.old from }
+    ensures within { IsWithin piece.now result }
+    ensures at { result.at ≡ from.at + used }
+    ensures behind { IsBehind piece.now result }
+{
+    let (b2, b1) = before_at(piece, from.at);
+    put_block_after::<E>(piece, out, from, b2, b1, kind, used)
+}
+
+// Writes the next block, after the two bytes before each of its bytes.
+#[inline(always)]
+fn put_block_after<E: Utf16Order>(
+    piece: &[u8],
+    out: &mut [u8],
+    from: Cursor,
+    b2: u8x16,
+    b1: u8x16,
+    kind: Kind,
+    used: usize,
+) -> Cursor
+    requires space { 2 * length piece.now + 16 ≤ length out.old }
+    requires more { from.at + 16 ≤ length piece.now }
+    requires within { IsWithin piece.now from }
+    requires kind { AreOf kind 16 piece.now from }
+    requires before { AreBefore from.b2 from.b1 (take 16 (drop from.at piece.now)) b2 b1 }
+    requires used { AreUsed used (slice_index piece.now (from.at + 14))
+        (slice_index piece.now (from.at + 15)) }
+    ensures whole { whole E.BIG piece.now out.new result ≡ whole E.BIG piece.now out.old from }
+    ensures within { IsWithin piece.now result }
+    ensures at { result.at ≡ from.at + used }
+    ensures behind { IsBehind piece.now result }
+{
+    let block = u8x16::from_slice(&piece[from.at..]);
+    let end = put_block::<E>(out, from.end, b2, b1, block, kind);
+    after(piece, from.at + used, end)
 }

@@ -4,11 +4,20 @@
 ghost use Rattle.std.specs.Prelude.{◌≡◌, ◌+◌, ◌<◌, ◌≤◌, ◌↔◌, length, ℕ, bit_and, if◌then◌else◌, slice_index, ◌/◌, ◌%◌, ◌^◌, IsTrue};
 ghost use Rattle.std.specs.Simd.Lanes.{zip2};
 ghost use Rattle.utf16_from_utf8.specs.Added.{ends_unit};
-ghost use Rattle.utf16_from_utf8.specs.LaneBytes.{high_lane, lead_high, lead_part, low_lane, middle, short_low, three_high, trail_high};
+ghost use Rattle.utf16_from_utf8.specs.Kind.{AreUsed, IsOf};
+ghost use Rattle.utf16_from_utf8.specs.LaneBytes.{behind_high, high_lane, lead_high, lead_part, low_lane, middle, short_low, three_high, trail_high};
 ghost use Rattle.utf16_units.specs.Lanes.{HasLanes};
 
 use crate::lanes::{down, each, greater, masked, set_bits, sum, up, where_below};
 use std::simd::prelude::*;
+
+// Bytes of characters of at most so many bytes.
+#[derive(Clone, Copy)]
+pub(crate) enum Kind {
+    Two,
+    Three,
+    Four,
+}
 
 // The low bytes, except of leading surrogates and of characters of one byte.
 #[inline(always)]
@@ -57,29 +66,51 @@ fn lead_highs(b2: u8x16, parts: u8x16) -> u8x16
     )
 }
 
-// The low bytes.
+// The low bytes. The bytes `b2` are of a kind.
 #[inline(always)]
-pub(crate) fn lows(b2: u8x16, b1: u8x16, b0: u8x16) -> u8x16
-    ensures { HasLanes 16 result
-        (λ i. low_lane (slice_index b2 i) (slice_index b1 i) (slice_index b0 i)) }
+pub(crate) fn lows(b2: u8x16, b1: u8x16, b0: u8x16, kind: Kind) -> u8x16
+    ensures len { length result ≡ 16 }
+    ensures lanes { (i : ℕ) → i < 16 → IsOf kind (slice_index b2 i) → slice_index result i
+        ≡ low_lane (slice_index b2 i) (slice_index b1 i) (slice_index b0 i) }
 {
     let short = short_lows(b1, b0);
-    let lead = sum(lead_parts(b1, b0), each(0xC0));
-    let long = where_below(b2, 0xF0, short, where_below(b1, 0xC0, lead, short));
+    let long = match kind {
+        Kind::Two | Kind::Three => short,
+        Kind::Four => {
+            let lead = sum(lead_parts(b1, b0), each(0xC0));
+            where_below(b2, 0xF0, short, where_below(b1, 0xC0, lead, short))
+        }
+    };
     where_below(b0, 0x80, b0, long)
 }
 
-// The high bytes.
+// The high bytes. The bytes `b2` are of a kind.
 #[inline(always)]
-pub(crate) fn highs(b2: u8x16, b1: u8x16, b0: u8x16) -> u8x16
-    ensures { HasLanes 16 result
-        (λ i. high_lane (slice_index b2 i) (slice_index b1 i) (slice_index b0 i)) }
+pub(crate) fn highs(b2: u8x16, b1: u8x16, b0: u8x16, kind: Kind) -> u8x16
+    ensures len { length result ≡ 16 }
+    ensures lanes { (i : ℕ) → i < 16 → IsOf kind (slice_index b2 i) → slice_index result i
+        ≡ high_lane (slice_index b2 i) (slice_index b1 i) (slice_index b0 i) }
 {
-    let lead = lead_highs(b2, lead_parts(b1, b0));
-    let last = where_below(b2, 0xF0, three_highs(b2, b1), lead);
-    let behind = where_below(b2, 0xE0, trail_highs(b1), last);
-    let long = where_below(b1, 0xC0, behind, middles(b1));
+    let long = where_below(b1, 0xC0, behind_highs(b2, b1, b0, kind), middles(b1));
     where_below(b0, 0x80, each(0), long)
+}
+
+// The high bytes of characters of three and of four bytes. The bytes `b2` are of a kind.
+#[inline(always)]
+fn behind_highs(b2: u8x16, b1: u8x16, b0: u8x16, kind: Kind) -> u8x16
+    ensures len { length result ≡ 16 }
+    ensures lanes { (i : ℕ) → i < 16 → IsOf kind (slice_index b2 i) → slice_index result i
+        ≡ behind_high (slice_index b2 i) (slice_index b1 i) (slice_index b0 i) }
+{
+    match kind {
+        Kind::Two => trail_highs(b1),
+        Kind::Three => where_below(b2, 0xE0, trail_highs(b1), three_highs(b2, b1)),
+        Kind::Four => {
+            let lead = lead_highs(b2, lead_parts(b1, b0));
+            let last = where_below(b2, 0xF0, three_highs(b2, b1), lead);
+            where_below(b2, 0xE0, trail_highs(b1), last)
+        }
+    }
 }
 
 // A bit for each byte at which a unit ends.
@@ -150,4 +181,19 @@ pub(crate) fn are_threes(block: u8x16) -> bool
         .simd_ne(u8x16::from_array(THREES))
         .to_bitmask()
         == 0
+}
+
+// How many of sixteen bytes are used that end in two bytes: without those at the end that begin a
+// character and add nothing.
+#[inline(always)]
+pub(crate) fn used(first: u8, second: u8) -> usize
+    ensures { AreUsed result first second }
+{
+    if first >= 0xE0 {
+        14
+    } else if second >= 0xC0 {
+        15
+    } else {
+        16
+    }
 }

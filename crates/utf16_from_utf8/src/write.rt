@@ -7,9 +7,10 @@ ghost use Rattle.utf16_units.specs.Encoding.{encode};
 ghost use Rattle.utf16_from_utf8.specs.Added.{added_bytes};
 ghost use Rattle.utf16_from_utf8.specs.Cursor.{IsWithin, whole};
 
-use crate::blocks::put_block;
+use crate::blocks::{before, put_block};
 use crate::bytes::put_byte;
 use crate::runs::{Cursor, put_next, put_short};
+use crate::units::Kind;
 use std::simd::prelude::*;
 use utf16_units::Utf16Order;
 
@@ -106,5 +107,7 @@ fn put_rest<E: Utf16Order>(
 {
     let mut block = [0xFF; 16];
     block[..rest.len()].copy_from_slice(rest);
-    put_block::<E>(out, at, before2, before1, u8x16::from_array(block))
+    let block = u8x16::from_array(block);
+    let (b2, b1) = before(block, before2, before1);
+    put_block::<E>(out, at, b2, b1, block, Kind::Four)
 }

@@ -4,11 +4,13 @@ use Rattle.utf16_from_utf8.proofs.BlockLemmas.{block-lanes, kept-added}
 use Rattle.utf16_from_utf8.proofs.blocks.put_block.Goals as goal
 
 pub returns-clause-bytes : goal.returns-clause-bytes
-returns-clause-bytes g c =
-    let lanes = block-lanes c.args.before2 c.args.before1 c.args.block c.previous_lanes-b1.result c.previous_lanes-b2.result c.highs.result c.lows.result c.ended_bits.result
-    c.fits-block.0 c.fits-block.1 c.previous_lanes-b1.ensures c.previous_lanes-b2.ensures c.highs.ensures c.lows.ensures c.ended_bits.ensures.bits in
+returns-clause-bytes g c before2 before1 are =
+    let high = c.highs.ensures in
+    let low = c.lows.ensures in
+    let lanes = block-lanes before2 before1 c.args.block c.args.b1 c.args.b2 c.highs.result c.lows.result c.ended_bits.result c.fits-block.0 c.fits-block.1 are
+    high.len (λ i b. high.lanes i b (c.requires.kind i b)) low.len (λ i b. low.lanes i b (c.requires.kind i b)) c.ended_bits.ensures.bits in
     let new = take c.put_kept.result c.put_kept.new.out in
     let pairs : new ≡ take c.args.at c.args.out.now ++ kept_pairs c.ended_bits.result (c.paired.result.0 ++ c.paired.result.1) = c.put_kept.ensures.pairs in
     pairs
     ∙ ap (λ t. take c.args.at c.args.out.now ++ t)
-    (ap (kept_pairs c.ended_bits.result) c.paired.ensures.pairs ∙ kept-added g.E.Utf16Order.BIG c.args.before2 c.args.before1 c.args.block c.highs.result c.lows.result c.ended_bits.result lanes)
+    (ap (kept_pairs c.ended_bits.result) c.paired.ensures.pairs ∙ kept-added g.E.Utf16Order.BIG before2 before1 c.args.block c.highs.result c.lows.result c.ended_bits.result lanes)

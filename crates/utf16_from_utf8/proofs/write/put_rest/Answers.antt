@@ -9,7 +9,7 @@ returns-clause-bytes g c =
     let big = g.E.Utf16Order.BIG in
     let rest = c.args.rest.now in
     let front = take c.args.at c.args.out.now in
-    c.put_block.ensures.bytes
+    c.put_block.ensures.bytes c.args.before2 c.args.before1 c.before-2.ensures
     ∙ ap (λ bytes. front ++ added_bytes big c.args.before2 c.args.before1 (bytes ++ drop (length rest) (replicate 16 0xFF))) c.copy_from_slice.ensures.after
     ∙ ap (λ more. front ++ added_bytes big c.args.before2 c.args.before1 (rest ++ more)) (drop-replicate (length rest) 16 0xFF)
     ∙ ap (λ bytes. front ++ bytes) (added-filled big c.args.before2 c.args.before1 rest (16 - length rest))
