@@ -83,13 +83,14 @@ are-before kind piece from b2 b1 are before i below = subst (IsOf kind) (sym (be
     each (suc (suc i)) below = subst (IsOf kind) (sym (get_or-chunk from.at 16 piece i 0 (omega arith))) (are.bytes i (omega arith))
 
 -- bytes of a kind, further on
-pub are-further : (kind : Kind) (piece : List ℕ) (from to : Cursor) (n : ℕ) → AreOf kind 64 piece from → to.at ≡ from.at + n → 2 ≤ n → n + 16 ≤ 64 → IsBehind piece to
+pub are-further : (kind kind' : Kind) → kind ≡ kind' → (piece : List ℕ) (from to : Cursor) (n : ℕ) → AreOf kind' 64 piece from → to.at ≡ from.at + n → 2 ≤ n → n + 16 ≤ 64 → IsBehind piece to
     → AreOf kind 16 piece to
-are-further kind piece from to n are at some room behind = record {
-  before2 = subst (IsOf kind) (ap (slice_index piece) (omega (arith, at)) ∙ sym behind.is_b2) (are.bytes (n - 2) (omega arith));
-  before1 = subst (IsOf kind) (ap (slice_index piece) (omega (arith, at)) ∙ sym behind.is_b1) (are.bytes (n - 1) (omega arith));
-  bytes = λ i below. subst (IsOf kind) (ap (slice_index piece) (omega (arith, at))) (are.bytes (n + i) (omega arith));
-}
+are-further kind kind' same piece from to n are' at some room behind =
+    let are = subst (λ k. AreOf k 64 piece from) (sym same) are' in record {
+      before2 = subst (IsOf kind) (ap (slice_index piece) (omega (arith, at)) ∙ sym behind.is_b2) (are.bytes (n - 2) (omega arith));
+      before1 = subst (IsOf kind) (ap (slice_index piece) (omega (arith, at)) ∙ sym behind.is_b1) (are.bytes (n - 1) (omega arith));
+      bytes = λ i below. subst (IsOf kind) (ap (slice_index piece) (omega (arith, at))) (are.bytes (n + i) (omega arith));
+    }
 
 -- ---- a block of which not all bytes are used
 

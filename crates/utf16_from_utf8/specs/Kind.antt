@@ -1,5 +1,5 @@
 -- The kinds of bytes in a block, and the bytes before them.
-use Rattle.std.specs.Prelude.{◌≡◌, ℕ, ◌+◌, ◌-◌, ◌<◌, ◌≤◌, ◌⊎◌, List, ◌∷◌, slice_index}
+use Rattle.std.specs.Prelude.{◌≡◌, ℕ, ◌+◌, ◌-◌, ◌<◌, ◌≤◌, ◌⊎◌, ◌==◌, if◌then◌else◌, List, ◌∷◌, slice_index}
 use Rattle.utf16_units.specs.Lanes.{HasLanes}
 use Rattle.utf16_from_utf8.specs.declared.runs.Cursor.{Cursor}
 use Rattle.utf16_from_utf8.specs.declared.units.Kind.{Kind}
@@ -10,6 +10,9 @@ abbrev pub IsOf : Kind → ℕ → Type 0
 IsOf Two byte = byte < 0xE0
 IsOf Three byte = byte < 0xF0
 IsOf Four byte = Unit {0}
+
+abbrev pub kind_of : ℕ → Kind
+kind_of most = if most == 2 then Two else (if most == 3 then Three else Four)
 
 -- the next n bytes and the two before them are such bytes
 pub record AreOf (kind : Kind) (n : ℕ) (piece : List ℕ) (cursor : Cursor) : Type 0 where

@@ -4,12 +4,12 @@
 ghost use Rattle.std.specs.Prelude.{◌≡◌, ◌+◌, ◌-◌, ◌*◌, ◌<◌, ◌≤◌, IsTrue, ℕ, bit_and, drop, length, slice_index, take};
 ghost use Rattle.std.specs.Simd.Lanes.{zip2};
 ghost use Rattle.utf16_from_utf8.specs.Cursor.{IsWithin, whole};
-ghost use Rattle.utf16_from_utf8.specs.Kind.{AreBefore, AreOf, AreUsed, IsBehind};
+ghost use Rattle.utf16_from_utf8.specs.Kind.{AreBefore, AreOf, AreUsed, IsBehind, kind_of};
 ghost use Rattle.utf16_from_utf8.specs.Threes.{IsThree, woven};
 
 use crate::blocks::{before, before_at, put_ascii, put_block, put_threes};
 use crate::threes::{are_sixteen, in_threes, put_sixteen};
-use crate::units::{Kind, THREES, UPPER, are_below, are_threes, greatest, is_ascii, used};
+use crate::units::{Kind, THREES, UPPER, are_below, are_threes, greatest, is_ascii, kind_of, used};
 use std::simd::prelude::*;
 use utf16_units::Utf16Order;
 
@@ -39,7 +39,7 @@ pub(crate) fn put_next<E: Utf16Order>(piece: &[u8], out: &mut [u8], from: Cursor
         return put_ascii_run::<E>(piece, out, next);
     }
     if from.b2 < 0xE0 && from.b1 < 0xE0 && are_below(greatest, 0xE0) {
-        return put_blocks::<E>(piece, out, from, Kind::Two);
+        return put_blocks::<E, 2>(piece, out, from);
     }
     let (firsts, seconds, thirds) = in_threes(piece, from.at);
     if are_sixteen(firsts, seconds, thirds) {
@@ -47,9 +47,9 @@ pub(crate) fn put_next<E: Utf16Order>(piece: &[u8], out: &mut [u8], from: Cursor
         return put_threes_run::<E>(piece, out, next);
     }
     if from.b2 < 0xF0 && from.b1 < 0xF0 && are_below(greatest, 0xF0) {
-        return put_blocks::<E>(piece, out, from, Kind::Three);
+        return put_blocks::<E, 3>(piece, out, from);
     }
-    put_blocks::<E>(piece, out, from, Kind::Four)
+    put_blocks::<E, 4>(piece, out, from)
 }
 
 // Writes the next forty-eight bytes, sixteen characters of three bytes.
@@ -217,18 +217,24 @@ fn put_few_threes<E: Utf16Order>(piece: &[u8], out: &mut [u8], from: Cursor, blo
     after(piece, from.at + 15, end)
 }
 
-// Writes the next sixty-four bytes, which are of a kind, but not those at the end that begin a
-// character and add nothing.
+// Writes the next sixty-four bytes, of characters of at most so many bytes, but not those at the
+// end that begin a character and add nothing. A function for each number, since one function with
+// an argument is compiled once, with tests of it.
 #[inline(always)]
-fn put_blocks<E: Utf16Order>(piece: &[u8], out: &mut [u8], from: Cursor, kind: Kind) -> Cursor
+fn put_blocks<E: Utf16Order, const MOST: usize>(
+    piece: &[u8],
+    out: &mut [u8],
+    from: Cursor,
+) -> Cursor
     requires space { 2 * length piece.now + 16 ≤ length out.old }
     requires more { from.at + 64 ≤ length piece.now }
     requires within { IsWithin piece.now from }
-    requires kind { AreOf kind 64 piece.now from }
+    requires kind { AreOf (kind_of MOST) 64 piece.now from }
     ensures whole { whole E.BIG piece.now out.new result ≡ whole E.BIG piece.now out.old from }
     ensures within { IsWithin piece.now result }
     ensures advances { from.at < result.at }
 {
+    let kind = kind_of(MOST);
     let first = put_first_block::<E>(piece, out, from, kind, 16);
     let second = put_later_block::<E>(piece, out, first, kind, 16);
     let third = put_later_block::<E>(piece, out, second, kind, 16);

@@ -4,7 +4,7 @@
 ghost use Rattle.std.specs.Prelude.{◌≡◌, ◌+◌, ◌<◌, ◌≤◌, ◌↔◌, length, ℕ, bit_and, if◌then◌else◌, slice_index, ◌/◌, ◌%◌, ◌^◌, IsTrue};
 ghost use Rattle.std.specs.Simd.Lanes.{zip2};
 ghost use Rattle.utf16_from_utf8.specs.Added.{ends_unit};
-ghost use Rattle.utf16_from_utf8.specs.Kind.{AreUsed, IsOf};
+ghost use Rattle.utf16_from_utf8.specs.Kind.{AreUsed, IsOf, kind_of};
 ghost use Rattle.utf16_from_utf8.specs.LaneBytes.{behind_high, high_lane, lead_high, lead_part, low_lane, middle, short_low, three_high, trail_high};
 ghost use Rattle.utf16_units.specs.Lanes.{HasLanes};
 
@@ -17,6 +17,17 @@ pub(crate) enum Kind {
     Two,
     Three,
     Four,
+}
+
+#[inline(always)]
+pub(crate) fn kind_of(most: usize) -> Kind
+    ensures { result ≡ kind_of most }
+{
+    match most {
+        2 => Kind::Two,
+        3 => Kind::Three,
+        _ => Kind::Four,
+    }
 }
 
 // The low bytes, except of leading surrogates and of characters of one byte.
