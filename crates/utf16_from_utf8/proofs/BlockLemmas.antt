@@ -50,7 +50,7 @@ ascii-added big b2 b1 (h ∷ highs) (b0 ∷ block) long behind none ascii =
 
 -- ---- any bytes
 
-kept-first : (big : Bool) (bits high low : ℕ) (pairs : List ℕ)
+pub kept-first : (big : Bool) (bits high low : ℕ) (pairs : List ℕ)
     → kept_pairs bits (pair_bytes big high low ++ pairs) ≡ cond (bits % 2 == 1) (pair_bytes big high low) [] ++ kept_pairs (bits / 2) pairs
 kept-first true bits high low pairs = refl
 kept-first false bits high low pairs = refl
@@ -76,14 +76,14 @@ kept-one big b2 b1 b0 bit high low small is h l = ⊎_elim
 
 -- the lanes and the bits of a block after two bytes
 pub record AreLanesOf (b2 b1 : ℕ) (block highs lows : List ℕ) (bits : ℕ) : Type 0 where
-  high_len : length highs ≡ length block
-  low_len : length lows ≡ length block
-  fits : Each1 (Fits w8) block
-  high : (i : ℕ) → i < length block → slice_index highs i ≡ high_lane (slice_index (b2 ∷ b1 ∷ block) i) (slice_index (b1 ∷ block) i) (slice_index block i)
-  low : (i : ℕ) → i < length block → slice_index lows i ≡ low_lane (slice_index (b2 ∷ b1 ∷ block) i) (slice_index (b1 ∷ block) i) (slice_index block i)
-  ended : (i : ℕ) → i < length block → ◌≡◌ {A = ℕ} (bits / 2 ^ i % 2) (cond (ends_unit (slice_index (b1 ∷ block) i) (slice_index block i)) 1 0)
+  pub high_len : length highs ≡ length block
+  pub low_len : length lows ≡ length block
+  pub fits : Each1 (Fits w8) block
+  pub high : (i : ℕ) → i < length block → slice_index highs i ≡ high_lane (slice_index (b2 ∷ b1 ∷ block) i) (slice_index (b1 ∷ block) i) (slice_index block i)
+  pub low : (i : ℕ) → i < length block → slice_index lows i ≡ low_lane (slice_index (b2 ∷ b1 ∷ block) i) (slice_index (b1 ∷ block) i) (slice_index block i)
+  pub ended : (i : ℕ) → i < length block → ◌≡◌ {A = ℕ} (bits / 2 ^ i % 2) (cond (ends_unit (slice_index (b1 ∷ block) i) (slice_index block i)) 1 0)
 
-twice : (i : ℕ) → 2 * 2 ^ i ≡ 2 ^ suc i
+pub twice : (i : ℕ) → 2 * 2 ^ i ≡ 2 ^ suc i
 twice i = omega (arith, two-pow-succ i)
 
 pub kept-added : (big : Bool) (b2 b1 : ℕ) (block highs lows : List ℕ) (bits : ℕ) → AreLanesOf b2 b1 block highs lows bits

@@ -1,6 +1,7 @@
 pub mod AddedLemmas
 pub mod AppendLemmas
 pub mod BlockLemmas
+pub mod EndLemmas
 pub mod FewLemmas
 pub mod LaneByteLemmas
 pub mod LaneLemmas

@@ -112,7 +112,7 @@ kept_pairs-four bits four more long = subst (λ xs. kept_pairs bits (xs ++ more)
     ∙ sym (assoc_four (pair (bits % 16 % 2) 0) (pair (bits % 16 / 2 % 2) 1) (pair (bits % 16 / 2 / 2 % 2) 2) (pair (bits % 16 / 2 / 2 / 2 % 2) 3) (kept_pairs (bits / 16) more)))
 
 -- the first eight, and those after them
-kept_pairs-eight : (bits : ℕ) (eight more : List ℕ) → length eight ≡ 16 → kept_pairs bits (eight ++ more) ≡ kept_pairs (bits % 256) eight ++ kept_pairs (bits / 256) more
+pub kept_pairs-eight : (bits : ℕ) (eight more : List ℕ) → length eight ≡ 16 → kept_pairs bits (eight ++ more) ≡ kept_pairs (bits % 256) eight ++ kept_pairs (bits / 256) more
 kept_pairs-eight bits eight more long =
     let front = take 8 eight in
     let back = drop 8 eight in

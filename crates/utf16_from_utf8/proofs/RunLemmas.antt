@@ -1,12 +1,12 @@
 -- The steps of a writer of a chunk.
-use Rattle.std.proofs.Common.{zero, suc, ◌∷◌, [], subst, ◌≡◌, ℕ, ◌+◌, ◌-◌, ◌*◌, ◌<◌, ◌≤◌, Bool, List, ◌++◌, length, take, drop, length-append, length-take-le, slice_index, refl, sym, ap, ap₂, ◌∙◌, ⊎_elim, arith}
+use Rattle.std.proofs.Common.{drop-drop, length-drop, zero, suc, ◌∷◌, [], subst, ◌≡◌, ℕ, ◌+◌, ◌-◌, ◌*◌, ◌<◌, ◌≤◌, Bool, List, ◌++◌, length, take, drop, length-append, length-take-le, slice_index, refl, sym, ap, ap₂, ◌∙◌, ⊎_elim, arith}
 use Rattle.std.proofs.lemmas.Bool.{cases_lt}
-use Rattle.std.proofs.lemmas.List.{take-take}
+use Rattle.std.proofs.lemmas.List.{take-take, take_all}
 use Rattle.std.proofs.lemmas.Simd.{get_or-chunk, length-chunk}
 use lib.Lanes.{chunk}
 use Rattle.utf16_from_utf8.specs.Added.{added_bytes}
 use Rattle.utf16_from_utf8.specs.Cursor.{whole}
-use Rattle.utf16_from_utf8.specs.Kind.{AreBefore, AreOf, AreUsed, IsBehind, IsOf}
+use Rattle.utf16_from_utf8.specs.Kind.{AreBefore, AreOf, AreUsed, IsBehind, IsEndOf, IsOf}
 use Rattle.utf16_from_utf8.specs.declared.units.Kind.{Kind}
 use Rattle.utf16_from_utf8.specs.declared.runs.Cursor.{Cursor}
 use Rattle.utf16_from_utf8.proofs.BlockLemmas.{added-short, added-step, two-behind, used-added}
@@ -74,8 +74,11 @@ before-in piece at some room = record {
 
 -- the bytes of a kind, as the bytes before those of a block
 pub are-before : (kind : Kind) (piece : List ℕ) (from : Cursor) (b2 b1 : List ℕ) → AreOf kind 16 piece from → AreBefore from.b2 from.b1 (chunk from.at 16 piece) b2 b1
-    → (i : ℕ) → i < 16 → IsOf kind (slice_index b2 i)
-are-before kind piece from b2 b1 are before i below = subst (IsOf kind) (sym (before.two.lanes i below ∙ two-behind from.b2 from.b1 (chunk from.at 16 piece) b1 before.one.lanes i below)) (each i below)
+    → (i : ℕ) → i < 16 → IsOf kind (slice_index b2 i) × IsOf kind (slice_index (chunk from.at 16 piece) i)
+are-before kind piece from b2 b1 are before i below = (
+  subst (IsOf kind) (sym (before.two.lanes i below ∙ two-behind from.b2 from.b1 (chunk from.at 16 piece) b1 before.one.lanes i below)) (each i below),
+  subst (IsOf kind) (sym (get_or-chunk from.at 16 piece i 0 below)) (are.bytes i below),
+)
   where
     each : (i : ℕ) → i < 16 → IsOf kind (slice_index (from.b2 ∷ from.b1 ∷ chunk from.at 16 piece) i)
     each zero below = are.before2
@@ -91,6 +94,13 @@ are-further kind kind' same piece from to n are' at some room behind =
       before1 = subst (IsOf kind) (ap (slice_index piece) (omega (arith, at)) ∙ sym behind.is_b1) (are.bytes (n - 1) (omega arith));
       bytes = λ i below. subst (IsOf kind) (ap (slice_index piece) (omega (arith, at))) (are.bytes (n + i) (omega arith));
     }
+
+-- what was written is no longer than two bytes for each that was added
+pub added-bound : (big : Bool) (b2 b1 : ℕ) (out out' bytes : List ℕ) (end end' : ℕ) → end ≤ length out → end' ≤ length out' → take end' out' ≡ take end out ++ added_bytes big b2 b1 bytes
+    → end' ≤ end + 2 * length bytes
+added-bound big b2 b1 out out' bytes end end' old new wrote =
+    let added = added_bytes big b2 b1 bytes in
+    omega (arith, ap length wrote ∙ length-append (take end out) added, added-short big b2 b1 bytes, length-take-le end' out' new, length-take-le end out old)
 
 -- ---- a block of which not all bytes are used
 
@@ -118,7 +128,51 @@ module _ (big : Bool) (piece out out' : List ℕ) (from : Cursor) (end used : �
   -- what was written is no longer than two bytes for each that was used
   pub used-short : from.end ≤ length out → end ≤ length out' → end ≤ from.end + 2 * used
   used-short old new =
-      let added = added_bytes big from.b2 from.b1 (take used (drop from.at piece)) in
-      let all = ap length written-used ∙ length-append (take from.end out) added in
       let few = used-bound used _ _ are in
-      omega (arith, all, added-short big from.b2 from.b1 (take used (drop from.at piece)), length-take-le end out' new, length-take-le from.end out old, length-chunk from.at used piece (omega (arith, few, room)))
+      omega (arith, added-bound big from.b2 from.b1 out out' (take used (drop from.at piece)) from.end end old new written-used, length-chunk from.at used piece (omega (arith, few, room)))
+
+-- ---- the last block of a chunk
+
+module _ (piece : List ℕ) (at : ℕ) (some : 2 ≤ at) where
+  behind-index : (n i : ℕ) → 1 ≤ n → i < 16 → slice_index (slice_index piece (n - 1) ∷ chunk n 16 piece) i ≡ slice_index piece (n - 1 + i)
+  behind-index n zero many below = ap (slice_index piece) (omega arith)
+  behind-index n (suc i) many below = get_or-chunk n 16 piece i 0 (omega arith) ∙ ap (slice_index piece) (omega arith)
+
+  twice-index : (i : ℕ) → i < 16 → slice_index (slice_index piece (at - 2) ∷ slice_index piece (at - 1) ∷ chunk at 16 piece) i ≡ slice_index piece (at - 2 + i)
+  twice-index zero below = ap (slice_index piece) (omega arith)
+  twice-index (suc i) below = behind-index at i (omega arith) (omega arith) ∙ ap (slice_index piece) (omega arith)
+
+  module _ (b2 b1 : List ℕ) (before : AreBefore (slice_index piece (at - 2)) (slice_index piece (at - 1)) (chunk at 16 piece) b2 b1) where
+    b2-index : (i : ℕ) → i < 16 → slice_index b2 i ≡ slice_index piece (at - 2 + i)
+    b2-index i below = before.two.lanes i below ∙ two-behind (slice_index piece (at - 2)) (slice_index piece (at - 1)) (chunk at 16 piece) b1 before.one.lanes i below ∙ twice-index i below
+
+    pub end-kind : (kind kind' : Kind) → kind ≡ kind' → at + 16 ≡ length piece → IsEndOf kind' piece → (i : ℕ) → i < 16 → IsOf kind (slice_index b2 i) × IsOf kind (slice_index (chunk at 16 piece) i)
+    end-kind kind kind' same end are i below = (
+      subst (λ k. IsOf k (slice_index b2 i)) (sym same) (subst (IsOf kind') (sym (b2-index i below)) (are (at - 2 + i) (omega (arith, end)) (omega (arith, end)))),
+      subst (λ k. IsOf k (slice_index (chunk at 16 piece) i)) (sym same) (subst (IsOf kind') (sym (get_or-chunk at 16 piece i 0 below)) (are (at + i) (omega (arith, end)) (omega (arith, end)))),
+    )
+
+    pub end-whole : (big : Bool) (from : Cursor) (k : ℕ) → at + 16 ≡ length piece → from.at ≡ at + k → k < 16 → IsBehind piece from
+        → added_bytes big (slice_index b2 k) (slice_index b1 k) (drop k (chunk at 16 piece)) ≡ added_bytes big from.b2 from.b1 (drop from.at piece)
+    end-whole big from k end is few behind =
+        ap₂ (λ x y. added_bytes big x y (drop k (chunk at 16 piece)))
+        (b2-index k few ∙ ap (slice_index piece) (omega (arith, is, behind.some)) ∙ sym behind.is_b2)
+        (before.one.lanes k few ∙ behind-index at k (omega arith) few ∙ ap (slice_index piece) (omega (arith, is)) ∙ sym behind.is_b1)
+        ∙ ap (λ t. added_bytes big from.b2 from.b1 (drop k t)) (take_all 16 (drop at piece) (omega (arith, length-drop at piece, end)))
+        ∙ ap (added_bytes big from.b2 from.b1) (drop-drop k at piece ∙ ap (λ n. drop n piece) (sym is))
+
+pub end-below : (piece : List ℕ) (limit : ℕ) → 18 ≤ length piece → ((i : ℕ) → i < 16 → slice_index (chunk (length piece - 18) 16 piece) i < limit)
+    → ((i : ℕ) → i < 16 → slice_index (chunk (length piece - 18 + 2) 16 piece) i < limit) → (i : ℕ) → length piece ≤ i + 18 → i < length piece → slice_index piece i < limit
+end-below piece limit many first second i from to = ⊎_elim
+    (λ (a : k < 16). subst (λ n. slice_index piece n < limit) here (chunk-below piece at limit at first k (omega arith) (omega arith)))
+    (λ (a : 16 ≤ k). subst (λ n. slice_index piece n < limit) here (chunk-below piece at limit (at + 2) second k (omega arith) (omega arith)))
+    (cases_lt k 16)
+  where
+    at : ℕ
+    at = length piece - 18
+
+    k : ℕ
+    k = i - at
+
+    here : at + k ≡ i
+    here = omega arith

@@ -1,18 +1,19 @@
 -- The kinds of bytes in a block, and the bytes before them.
-use Rattle.std.specs.Prelude.{◌≡◌, ℕ, ◌+◌, ◌-◌, ◌<◌, ◌≤◌, ◌⊎◌, ◌==◌, if◌then◌else◌, List, ◌∷◌, slice_index}
+use Rattle.std.specs.Prelude.{◌≡◌, ℕ, ◌+◌, ◌-◌, ◌<◌, ◌≤◌, ◌⊎◌, ◌==◌, if◌then◌else◌, List, ◌∷◌, length, slice_index}
 use Rattle.utf16_units.specs.Lanes.{HasLanes}
 use Rattle.utf16_from_utf8.specs.declared.runs.Cursor.{Cursor}
 use Rattle.utf16_from_utf8.specs.declared.units.Kind.{Kind}
-use Rattle.utf16_from_utf8.specs.declared.units.Kind.TheVariants.{Four, Three, Two}
+use Rattle.utf16_from_utf8.specs.declared.units.Kind.TheVariants.{Four, One, Three, Two}
 
 -- a byte of characters of at most so many bytes (Unicode, section 3.9: table 3-6)
 abbrev pub IsOf : Kind → ℕ → Type 0
+IsOf One byte = byte < 0x80
 IsOf Two byte = byte < 0xE0
 IsOf Three byte = byte < 0xF0
 IsOf Four byte = Unit {0}
 
 abbrev pub kind_of : ℕ → Kind
-kind_of most = if most == 2 then Two else (if most == 3 then Three else Four)
+kind_of most = if most == 1 then One else (if most == 2 then Two else (if most == 3 then Three else Four))
 
 -- the next n bytes and the two before them are such bytes
 pub record AreOf (kind : Kind) (n : ℕ) (piece : List ℕ) (cursor : Cursor) : Type 0 where
@@ -35,3 +36,7 @@ pub record IsBehind (piece : List ℕ) (cursor : Cursor) : Type 0 where
 -- character and add nothing
 abbrev pub AreUsed : ℕ → ℕ → ℕ → Type 0
 AreUsed used first second = (used ≡ 16) ⊎ ((used ≡ 15) × (0xC0 ≤ second)) ⊎ ((used ≡ 14) × (0xE0 ≤ first))
+
+-- the last eighteen bytes are of a kind
+abbrev pub IsEndOf : Kind → List ℕ → Type 0
+IsEndOf kind piece = (i : ℕ) → length piece ≤ i + 18 → i < length piece → IsOf kind (slice_index piece i)

@@ -1,13 +1,14 @@
 //! The UTF-16 that a block of sixteen bytes adds.
 
-ghost use Rattle.std.specs.Prelude.{◌≡◌, ◌+◌, ◌-◌, ◌<◌, ◌≤◌, ◌++◌, ℕ, bit_and, drop, length, slice_index, take};
+ghost use Rattle.std.specs.Prelude.{◌≡◌, ◌+◌, ◌-◌, ◌<◌, ◌≤◌, ◌*◌, ◌++◌, ℕ, bit_and, drop, if◌then◌else◌, length, nat_lt, slice_index, take};
 ghost use Rattle.std.specs.Simd.Lanes.{zip2};
 ghost use Rattle.utf16_from_utf8.specs.Added.{added_bytes};
 ghost use Rattle.utf16_from_utf8.specs.Kind.{AreBefore, IsOf};
 ghost use Rattle.utf16_from_utf8.specs.Lanes.{pairs_of};
+ghost use Rattle.utf16_units.specs.Lanes.{HasLanes};
 
-use crate::lanes::{each, previous_lanes};
-use crate::pack::put_kept;
+use crate::lanes::{each, greater, previous_lanes};
+use crate::pack::{put_eight, put_kept};
 use crate::units::{Kind, THREES, UPPER, ended_bits, highs, lows, short_lows, three_highs};
 use std::simd::prelude::*;
 use utf16_units::Utf16Order;
@@ -81,7 +82,7 @@ pub(crate) fn before_at(piece: &[u8], at: usize) -> (u8x16, u8x16)
     )
 }
 
-// Writes the UTF-16 that sixteen bytes add after the two before each. The bytes `b2` are of a kind.
+// Writes the UTF-16 that sixteen bytes add after the two before each. The bytes are of a kind.
 #[inline(always)]
 pub(crate) fn put_block<E: Utf16Order>(
     out: &mut [u8],
@@ -92,7 +93,8 @@ pub(crate) fn put_block<E: Utf16Order>(
     kind: Kind,
 ) -> usize
     requires space { at + 32 ≤ length out.old }
-    requires kind { (i : ℕ) → i < 16 → IsOf kind (slice_index b2 i) }
+    requires kind { (i : ℕ) → i < 16 → IsOf kind (slice_index b2 i)
+        × IsOf kind (slice_index block i) }
     ensures bytes { (before2 before1 : ℕ) → AreBefore before2 before1 block b2 b1
         → take result out.new ≡ take at out.old ++ added_bytes E.BIG before2 before1 block }
     ensures written_to { result ≤ at + 32 }
@@ -100,3 +102,47 @@ pub(crate) fn put_block<E: Utf16Order>(
     let (first, second) = paired::<E>(highs(b2, b1, block, kind), lows(b2, b1, block, kind));
     put_kept(out, at, first, second, ended_bits(b1, block))
 }
+
+// Writes the UTF-16 that the last of sixteen bytes add, those at `from` and after it.
+#[inline(always)]
+pub(crate) fn put_end<E: Utf16Order>(
+    out: &mut [u8],
+    at: usize,
+    b2: u8x16,
+    b1: u8x16,
+    block: u8x16,
+    kind: Kind,
+    from: usize,
+) -> usize
+    requires from { from < 16 }
+    requires space { at + 16 + 2 * (16 - from) ≤ length out.old }
+    requires kind { (i : ℕ) → i < 16 → IsOf kind (slice_index b2 i)
+        × IsOf kind (slice_index block i) }
+    ensures bytes { (before2 before1 : ℕ) → AreBefore before2 before1 block b2 b1
+        → take result out.new ≡ take at out.old ++ added_bytes E.BIG (slice_index b2 from)
+        (slice_index b1 from) (drop from block) }
+    ensures written_to { result ≤ at + 16 + 2 * (16 - from) }
+{
+    let (first, second) = paired::<E>(highs(b2, b1, block, kind), lows(b2, b1, block, kind));
+    let bits = ended_bits(b1, without(block, from));
+    if from < 8 {
+        put_kept(out, at, first, second, bits)
+    } else {
+        put_eight(out, at, second, (bits / 256) as usize)
+    }
+}
+
+// A block with the bytes before `from` replaced by some that add nothing.
+#[inline(always)]
+fn without(block: u8x16, from: usize) -> u8x16
+    requires { from < 16 }
+    ensures { HasLanes 16 result (λ i. if nat_lt i from then 0xFF else slice_index block i) }
+{
+    greater(block, u8x16::from_slice(&EDGE[16 - from..]))
+}
+
+// Bytes that leave those of a block as they are, after others that replace them.
+static EDGE: [u8; 32] = [
+    0xFF, 0xFF, 0xFF, 0xFF, 0xFF, 0xFF, 0xFF, 0xFF, 0xFF, 0xFF, 0xFF, 0xFF, 0xFF, 0xFF, 0xFF, 0xFF,
+    0, 0, 0, 0, 0, 0, 0, 0, 0, 0, 0, 0, 0, 0, 0, 0,
+];

@@ -9,7 +9,7 @@ use std::simd::prelude::*;
 // Stores those of eight pairs whose bit is set, starting at `at`, and returns their end. Overwrites
 // sixteen bytes starting at `at`.
 #[inline(always)]
-fn put_eight(out: &mut [u8], at: usize, pairs: u8x16, bits: usize) -> usize
+pub(crate) fn put_eight(out: &mut [u8], at: usize, pairs: u8x16, bits: usize) -> usize
     requires bound { bits < 256 }
     requires space { at + 16 ≤ length out.old }
     ensures pairs { take result out.new ≡ take at out.old ++ kept_pairs bits pairs }

@@ -4,10 +4,10 @@
 ghost use Rattle.std.specs.Prelude.{◌≡◌, ◌+◌, ◌-◌, ◌*◌, ◌<◌, ◌≤◌, IsTrue, ℕ, bit_and, drop, length, slice_index, take};
 ghost use Rattle.std.specs.Simd.Lanes.{zip2};
 ghost use Rattle.utf16_from_utf8.specs.Cursor.{IsWithin, whole};
-ghost use Rattle.utf16_from_utf8.specs.Kind.{AreBefore, AreOf, AreUsed, IsBehind, kind_of};
+ghost use Rattle.utf16_from_utf8.specs.Kind.{AreBefore, AreOf, AreUsed, IsBehind, IsEndOf, kind_of};
 ghost use Rattle.utf16_from_utf8.specs.Threes.{IsThree, woven};
 
-use crate::blocks::{before, before_at, put_ascii, put_block, put_threes};
+use crate::blocks::{before, before_at, put_ascii, put_block, put_end, put_threes};
 use crate::threes::{are_sixteen, in_threes, put_sixteen};
 use crate::units::{Kind, THREES, UPPER, are_below, are_threes, greatest, is_ascii, kind_of, used};
 use std::simd::prelude::*;
@@ -31,6 +31,7 @@ pub(crate) fn put_next<E: Utf16Order>(piece: &[u8], out: &mut [u8], from: Cursor
     requires within { IsWithin piece.now from }
     ensures whole { whole E.BIG piece.now out.new result ≡ whole E.BIG piece.now out.old from }
     ensures within { IsWithin piece.now result }
+    ensures behind { IsBehind piece.now result }
     ensures advances { from.at < result.at }
 {
     let greatest = greatest(piece, from.at);
@@ -70,6 +71,7 @@ fn put_threes_block<E: Utf16Order>(
         → IsThree (slice_index firsts i) (slice_index seconds i) (slice_index thirds i) }
     ensures whole { whole E.BIG piece.now out.new result ≡ whole E.BIG piece.now out.old from }
     ensures within { IsWithin piece.now result }
+    ensures behind { IsBehind piece.now result }
     ensures at { result.at ≡ from.at + 48 }
 {
     let end = put_sixteen::<E>(out, from.end, firsts, seconds, thirds);
@@ -81,8 +83,10 @@ fn put_threes_block<E: Utf16Order>(
 fn put_threes_run<E: Utf16Order>(piece: &[u8], out: &mut [u8], from: Cursor) -> Cursor
     requires space { 2 * length piece.now + 16 ≤ length out.old }
     requires within { IsWithin piece.now from }
+    requires behind { IsBehind piece.now from }
     ensures whole { whole E.BIG piece.now out.new result ≡ whole E.BIG piece.now out.old from }
     ensures within { IsWithin piece.now result }
+    ensures behind { IsBehind piece.now result }
     ensures advances { from.at ≤ result.at }
 {
     let mut cursor = from;
@@ -110,9 +114,11 @@ fn are_ascii(piece: &[u8], at: usize) -> bool
 fn put_ascii_run<E: Utf16Order>(piece: &[u8], out: &mut [u8], from: Cursor) -> Cursor
     requires space { 2 * length piece.now + 16 ≤ length out.old }
     requires within { IsWithin piece.now from }
+    requires behind { IsBehind piece.now from }
     requires before { from.b1 < 0x80 }
     ensures whole { whole E.BIG piece.now out.new result ≡ whole E.BIG piece.now out.old from }
     ensures within { IsWithin piece.now result }
+    ensures behind { IsBehind piece.now result }
     ensures advances { from.at ≤ result.at }
 {
     let mut cursor = from;
@@ -135,6 +141,7 @@ fn put_ascii_blocks<E: Utf16Order>(piece: &[u8], out: &mut [u8], from: Cursor) -
     requires ascii { (i : ℕ) → i < 64 → slice_index piece.now (from.at + i) < 0x80 }
     ensures whole { whole E.BIG piece.now out.new result ≡ whole E.BIG piece.now out.old from }
     ensures within { IsWithin piece.now result }
+    ensures behind { IsBehind piece.now result }
     ensures at { result.at ≡ from.at + 64 }
     ensures before { result.b1 < 0x80 }
 {
@@ -154,6 +161,7 @@ fn put_ascii_block<E: Utf16Order>(piece: &[u8], out: &mut [u8], from: Cursor) ->
     requires ascii { (i : ℕ) → i < 16 → slice_index piece.now (from.at + i) < 0x80 }
     ensures whole { whole E.BIG piece.now out.new result ≡ whole E.BIG piece.now out.old from }
     ensures within { IsWithin piece.now result }
+    ensures behind { IsBehind piece.now result }
     ensures at { result.at ≡ from.at + 16 }
     ensures before { result.b1 < 0x80 }
 {
@@ -188,6 +196,7 @@ pub(crate) fn put_short<E: Utf16Order>(piece: &[u8], out: &mut [u8], from: Curso
     requires within { IsWithin piece.now from }
     ensures whole { whole E.BIG piece.now out.new result ≡ whole E.BIG piece.now out.old from }
     ensures within { IsWithin piece.now result }
+    ensures behind { IsBehind piece.now result }
     ensures advances { from.at < result.at }
 {
     let block = u8x16::from_slice(&piece[from.at..]);
@@ -211,6 +220,7 @@ fn put_few_threes<E: Utf16Order>(piece: &[u8], out: &mut [u8], from: Cursor, blo
     requires threes { zip2 bit_and block UPPER ≡ THREES }
     ensures whole { whole E.BIG piece.now out.new result ≡ whole E.BIG piece.now out.old from }
     ensures within { IsWithin piece.now result }
+    ensures behind { IsBehind piece.now result }
     ensures at { result.at ≡ from.at + 15 }
 {
     let end = put_threes::<E>(out, from.end, block);
@@ -232,6 +242,7 @@ fn put_blocks<E: Utf16Order, const MOST: usize>(
     requires kind { AreOf (kind_of MOST) 64 piece.now from }
     ensures whole { whole E.BIG piece.now out.new result ≡ whole E.BIG piece.now out.old from }
     ensures within { IsWithin piece.now result }
+    ensures behind { IsBehind piece.now result }
     ensures advances { from.at < result.at }
 {
     let kind = kind_of(MOST);
@@ -318,4 +329,28 @@ fn put_block_after<E: Utf16Order>(
     let block = u8x16::from_slice(&piece[from.at..]);
     let end = put_block::<E>(out, from.end, b2, b1, block, kind);
     after(piece, from.at + used, end)
+}
+
+// Writes the last bytes, fewer than sixteen, by the last sixteen of the chunk, which are of a kind.
+#[inline(always)]
+pub(crate) fn put_last<E: Utf16Order, const MOST: usize>(
+    piece: &[u8],
+    out: &mut [u8],
+    from: Cursor,
+) -> usize
+    requires space { 2 * length piece.now + 16 ≤ length out.old }
+    requires many { 18 ≤ length piece.now }
+    requires some { from.at < length piece.now }
+    requires few { length piece.now < from.at + 16 }
+    requires within { IsWithin piece.now from }
+    requires behind { IsBehind piece.now from }
+    requires kind { IsEndOf (kind_of MOST) piece.now }
+    ensures bytes { take result out.new ≡ whole E.BIG piece.now out.old from }
+    ensures written_to { result ≤ 2 * length piece.now }
+{
+    let at = piece.len() - 16;
+    let block = u8x16::from_slice(&piece[at..]);
+    let (b2, b1) = before_at(piece, at);
+    let kind = kind_of(MOST);
+    put_end::<E>(out, from.end, b2, b1, block, kind, from.at - at)
 }

@@ -4,8 +4,9 @@
 ghost use Rattle.std.specs.Prelude.{◌≡◌, ◌+◌, ◌<◌, ◌≤◌, ◌↔◌, length, ℕ, bit_and, if◌then◌else◌, slice_index, ◌/◌, ◌%◌, ◌^◌, IsTrue};
 ghost use Rattle.std.specs.Simd.Lanes.{zip2};
 ghost use Rattle.utf16_from_utf8.specs.Added.{ends_unit};
-ghost use Rattle.utf16_from_utf8.specs.Kind.{AreUsed, IsOf, kind_of};
+ghost use Rattle.utf16_from_utf8.specs.Kind.{AreUsed, IsEndOf, IsOf, kind_of};
 ghost use Rattle.utf16_from_utf8.specs.LaneBytes.{behind_high, high_lane, lead_high, lead_part, low_lane, middle, short_low, three_high, trail_high};
+ghost use Rattle.utf16_from_utf8.specs.declared.units.Kind.TheVariants.{One};
 ghost use Rattle.utf16_units.specs.Lanes.{HasLanes};
 
 use crate::lanes::{down, each, greater, masked, set_bits, sum, up, where_below};
@@ -14,6 +15,7 @@ use std::simd::prelude::*;
 // Bytes of characters of at most so many bytes.
 #[derive(Clone, Copy)]
 pub(crate) enum Kind {
+    One,
     Two,
     Three,
     Four,
@@ -24,6 +26,7 @@ pub(crate) fn kind_of(most: usize) -> Kind
     ensures { result ≡ kind_of most }
 {
     match most {
+        1 => Kind::One,
         2 => Kind::Two,
         3 => Kind::Three,
         _ => Kind::Four,
@@ -77,15 +80,16 @@ fn lead_highs(b2: u8x16, parts: u8x16) -> u8x16
     )
 }
 
-// The low bytes. The bytes `b2` are of a kind.
+// The low bytes. The bytes `b2` and `b0` are of a kind.
 #[inline(always)]
 pub(crate) fn lows(b2: u8x16, b1: u8x16, b0: u8x16, kind: Kind) -> u8x16
     ensures len { length result ≡ 16 }
-    ensures lanes { (i : ℕ) → i < 16 → IsOf kind (slice_index b2 i) → slice_index result i
-        ≡ low_lane (slice_index b2 i) (slice_index b1 i) (slice_index b0 i) }
+    ensures lanes { (i : ℕ) → i < 16 → IsOf kind (slice_index b2 i) → IsOf kind (slice_index b0 i)
+        → slice_index result i ≡ low_lane (slice_index b2 i) (slice_index b1 i) (slice_index b0 i) }
 {
     let short = short_lows(b1, b0);
     let long = match kind {
+        Kind::One => b0,
         Kind::Two | Kind::Three => short,
         Kind::Four => {
             let lead = sum(lead_parts(b1, b0), each(0xC0));
@@ -95,14 +99,19 @@ pub(crate) fn lows(b2: u8x16, b1: u8x16, b0: u8x16, kind: Kind) -> u8x16
     where_below(b0, 0x80, b0, long)
 }
 
-// The high bytes. The bytes `b2` are of a kind.
+// The high bytes. The bytes `b2` and `b0` are of a kind.
 #[inline(always)]
 pub(crate) fn highs(b2: u8x16, b1: u8x16, b0: u8x16, kind: Kind) -> u8x16
     ensures len { length result ≡ 16 }
-    ensures lanes { (i : ℕ) → i < 16 → IsOf kind (slice_index b2 i) → slice_index result i
-        ≡ high_lane (slice_index b2 i) (slice_index b1 i) (slice_index b0 i) }
+    ensures lanes { (i : ℕ) → i < 16 → IsOf kind (slice_index b2 i) → IsOf kind (slice_index b0 i)
+        → slice_index result i ≡ high_lane (slice_index b2 i) (slice_index b1 i) (slice_index b0 i) }
 {
-    let long = where_below(b1, 0xC0, behind_highs(b2, b1, b0, kind), middles(b1));
+    let long = match kind {
+        Kind::One => each(0),
+        Kind::Two | Kind::Three | Kind::Four => {
+            where_below(b1, 0xC0, behind_highs(b2, b1, b0, kind), middles(b1))
+        }
+    };
     where_below(b0, 0x80, each(0), long)
 }
 
@@ -114,7 +123,7 @@ fn behind_highs(b2: u8x16, b1: u8x16, b0: u8x16, kind: Kind) -> u8x16
         ≡ behind_high (slice_index b2 i) (slice_index b1 i) (slice_index b0 i) }
 {
     match kind {
-        Kind::Two => trail_highs(b1),
+        Kind::One | Kind::Two => trail_highs(b1),
         Kind::Three => where_below(b2, 0xE0, trail_highs(b1), three_highs(b2, b1)),
         Kind::Four => {
             let lead = lead_highs(b2, lead_parts(b1, b0));
@@ -207,4 +216,18 @@ pub(crate) fn used(first: u8, second: u8) -> usize
     } else {
         16
     }
+}
+
+// Whether the last eighteen bytes are ASCII.
+#[inline(always)]
+pub(crate) fn ends_in_ascii(piece: &[u8]) -> bool
+    requires { 18 ≤ length piece.now }
+    ensures { IsTrue result → IsEndOf One piece.now }
+{
+    let at = piece.len() - 18;
+    let most = greater(
+        u8x16::from_slice(&piece[at..]),
+        u8x16::from_slice(&piece[at + 2..]),
+    );
+    are_below(most, 0x80)
 }

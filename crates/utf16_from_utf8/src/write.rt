@@ -9,8 +9,8 @@ ghost use Rattle.utf16_from_utf8.specs.Cursor.{IsWithin, whole};
 
 use crate::blocks::{before, put_block};
 use crate::bytes::put_byte;
-use crate::runs::{Cursor, put_next, put_short};
-use crate::units::Kind;
+use crate::runs::{Cursor, put_last, put_next, put_short};
+use crate::units::{Kind, ends_in_ascii};
 use std::simd::prelude::*;
 use utf16_units::Utf16Order;
 
@@ -42,6 +42,9 @@ pub fn write_units<E: Utf16Order>(before: [u8; 2], piece: &[u8], out: &mut [u8])
     put_units::<E>(before, piece, &mut out[..room])
 }
 
+// At most so many bytes at the end are written one by one.
+const BY_BYTES: usize = 4;
+
 // The same, but all bytes after those written may be overwritten.
 fn put_units<E: Utf16Order>(before: [u8; 2], piece: &[u8], out: &mut [u8]) -> usize
     requires { 2 * length piece.now + 16 ≤ length out.old }
@@ -50,6 +53,9 @@ fn put_units<E: Utf16Order>(before: [u8; 2], piece: &[u8], out: &mut [u8]) -> us
     ensures written_to { result ≤ 2 * length piece.now }
 {
     let [b2, b1] = before;
+    if piece.len() >= 8 && piece.len() < 16 {
+        return put_rest::<E>(out, 0, b2, b1, piece);
+    }
     let mut cursor = Cursor {
         at: 0,
         end: 0,
@@ -62,10 +68,14 @@ fn put_units<E: Utf16Order>(before: [u8; 2], piece: &[u8], out: &mut [u8]) -> us
     while piece.len() - cursor.at >= 16 {
         cursor = put_short::<E>(piece, out, cursor);
     }
-    if piece.len() - cursor.at >= 8 {
-        return put_rest::<E>(out, cursor.end, cursor.b2, cursor.b1, &piece[cursor.at..]);
+    let left = piece.len() - cursor.at;
+    if piece.len() < 18 || left <= BY_BYTES {
+        return put_bytes::<E>(piece, out, cursor);
     }
-    put_bytes::<E>(piece, out, cursor)
+    if ends_in_ascii(piece) {
+        return put_last::<E, 1>(piece, out, cursor);
+    }
+    put_last::<E, 4>(piece, out, cursor)
 }
 
 // Writes the UTF-16 that the bytes from the cursor on add, byte by byte.

@@ -1,12 +1,14 @@
-use Rattle.std.proofs.Common.{◌≡◌, ◌-◌, length, slice_index}
+use Rattle.std.proofs.Common.{◌≡◌, ◌-◌, ◌<◌, length, slice_index}
 use Rattle.utf16_from_utf8.specs.Added.{added_bytes}
 use Rattle.utf16_from_utf8.specs.Cursor.{IsWithin, whole}
+use Rattle.utf16_from_utf8.specs.Kind.{IsBehind}
 use Rattle.utf16_from_utf8.proofs.write.put_units.Given as goal
 
 abbrev pub invariant-loop-cursor : goal.invariant-loop-cursor
 invariant-loop-cursor g l = record {
   whole : whole g.E.Utf16Order.BIG l.piece l.out l.cursor ≡ added_bytes g.E.Utf16Order.BIG (slice_index l.fn.before 0) (slice_index l.fn.before 1) l.piece;
   within : IsWithin l.piece l.cursor;
+  behind : 0 < l.cursor.at → IsBehind l.piece l.cursor;
 }
 
 abbrev pub decreases-loop-cursor : goal.decreases-loop-cursor
@@ -16,6 +18,7 @@ abbrev pub invariant-loop-cursor-2 : goal.invariant-loop-cursor-2
 invariant-loop-cursor-2 g l = record {
   whole : whole g.E.Utf16Order.BIG l.piece l.out l.cursor ≡ added_bytes g.E.Utf16Order.BIG (slice_index l.fn.before 0) (slice_index l.fn.before 1) l.piece;
   within : IsWithin l.piece l.cursor;
+  behind : 0 < l.cursor.at → IsBehind l.piece l.cursor;
 }
 
 abbrev pub decreases-loop-cursor-2 : goal.decreases-loop-cursor-2
