@@ -284,7 +284,7 @@ added-filled big b2 b1 (b0 ∷ bytes) k =
     ∙ ap (λ t. byte_adds big b2 b1 b0 ++ t) (added-filled big b1 b0 bytes k)
     ∙ sym (added_bytes-cons big b2 b1 b0 bytes)
 
-unit-two : (big : Bool) (unit : ℕ) → length (unit_bytes big unit) ≡ 2
+pub unit-two : (big : Bool) (unit : ℕ) → length (unit_bytes big unit) ≡ 2
 unit-two true unit = refl
 unit-two false unit = refl
 

@@ -118,6 +118,16 @@ edge j below = ap (λ t. get_or t j 0) parts ∙ ⊎_elim
     parts : EDGE ≡ replicate 16 0xFF ++ replicate 16 0
     parts = refl
 
+-- the greater of a byte and the greatest or the least one
+pub under-greatest : (x : ℕ) → x < 256 → cond (ltb x 0xFF) 0xFF x ≡ 0xFF
+under-greatest x small = ⊎_elim
+    (λ (below : x < 0xFF). ap (λ t. cond t 0xFF x) (lt-ltb x 0xFF below))
+    (λ (from : 0xFF ≤ x). ap (λ t. cond t 0xFF x) (le-ltb x 0xFF from) ∙ omega arith)
+    (cases_lt x 0xFF)
+
+pub over-least : (x : ℕ) → cond (ltb x 0) 0 x ≡ x
+over-least x = ap (λ t. cond t 0 x) (le-ltb x 0 (omega arith))
+
 pub replaced : (k : ℕ) (block v : List ℕ) → k < 16 → length block ≡ 16 → Each1 (Fits w8) block
     → (e : List ℕ) → ((i : ℕ) → i < 16 → slice_index e i ≡ slice_index EDGE (16 - k + i))
     → HasLanes 16 v (λ i. cond (ltb (slice_index block i) (slice_index e i)) (slice_index e i) (slice_index block i))
@@ -131,18 +141,12 @@ replaced k block v few long fits edges from is = record {
       is.lanes i below ∙ ap (λ y. cond (ltb x y) y x) e ∙ ⊎_elim
       (λ (front : i < k).
       let in_front : 16 - k + i < 16 = omega arith in
-      ap (λ t. cond (ltb x (cond t 0xFF 0)) (cond t 0xFF 0) x) (lt-ltb (16 - k + i) 16 in_front) ∙ greatest x small ∙ sym (ap (λ t. cond t 0xFF x) (lt-ltb i k front)))
+      ap (λ t. cond (ltb x (cond t 0xFF 0)) (cond t 0xFF 0) x) (lt-ltb (16 - k + i) 16 in_front) ∙ under-greatest x small ∙ sym (ap (λ t. cond t 0xFF x) (lt-ltb i k front)))
       (λ (back : k ≤ i).
       let in_back : 16 ≤ 16 - k + i = omega arith in
-      ap (λ t. cond (ltb x (cond t 0xFF 0)) (cond t 0xFF 0) x) (le-ltb (16 - k + i) 16 in_back) ∙ ap (λ t. cond t 0 x) (le-ltb x 0 (omega arith)) ∙ sym (ap (λ t. cond t 0xFF x) (le-ltb i k back)))
+      ap (λ t. cond (ltb x (cond t 0xFF 0)) (cond t 0xFF 0) x) (le-ltb (16 - k + i) 16 in_back) ∙ over-least x ∙ sym (ap (λ t. cond t 0xFF x) (le-ltb i k back)))
       (cases_lt i k);
 }
-  where
-    greatest : (x : ℕ) → x < 256 → cond (ltb x 0xFF) 0xFF x ≡ 0xFF
-    greatest x small = ⊎_elim
-        (λ (below : x < 0xFF). ap (λ t. cond t 0xFF x) (lt-ltb x 0xFF below))
-        (λ (from : 0xFF ≤ x). ap (λ t. cond t 0xFF x) (le-ltb x 0xFF from) ∙ omega arith)
-        (cases_lt x 0xFF)
 
 -- a block of a part of an array
 pub part-index : (m n : ℕ) (xs : List ℕ) (i : ℕ) → i < 16 → i < n → slice_index (chunk 0 16 (take n (drop m xs))) i ≡ slice_index xs (m + i)

@@ -7,6 +7,7 @@ pub mod LaneByteLemmas
 pub mod LaneLemmas
 pub mod PackLemmas
 pub mod RunLemmas
+pub mod ShortLemmas
 pub mod SizeLemmas
 pub mod TextLemmas
 pub mod ThreeLemmas

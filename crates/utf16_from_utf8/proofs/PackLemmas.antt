@@ -52,7 +52,7 @@ rows bits below =
 not_zeroed : (k : ℕ) → k < 16 → zeroes 16 w8 k ≡ false
 not_zeroed k below = false_from_ne_true (leb 128 k) (λ e. let big = leb-true 128 k e in omega arith)
 
-swz_l-pick : (xs : List ℕ) (i : ℕ) (ks : List ℕ) → i + length ks ≤ 16 → Each1 (λ k. k < 16) ks → swz_l w8 16 xs i ks ≡ pick_l 0 xs ks
+pub swz_l-pick : (xs : List ℕ) (i : ℕ) (ks : List ℕ) → i + length ks ≤ 16 → Each1 (λ k. k < 16) ks → swz_l w8 16 xs i ks ≡ pick_l 0 xs ks
 swz_l-pick xs i [] room each = refl
 swz_l-pick xs i (k ∷ ks) room each =
     let place : 16 * (i / 16) + k ≡ k = omega arith in

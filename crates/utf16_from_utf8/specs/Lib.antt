@@ -3,5 +3,6 @@ pub mod Cursor
 pub mod Kind
 pub mod LaneBytes
 pub mod Lanes
+pub mod Short
 pub mod Sizes
 pub mod Threes

@@ -10,6 +10,7 @@ pub mod laws;
 mod pack;
 mod positions;
 mod runs;
+mod short;
 mod size;
 mod threes;
 mod units;

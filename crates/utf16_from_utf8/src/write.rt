@@ -7,11 +7,10 @@ ghost use Rattle.utf16_units.specs.Encoding.{encode};
 ghost use Rattle.utf16_from_utf8.specs.Added.{added_bytes};
 ghost use Rattle.utf16_from_utf8.specs.Cursor.{IsWithin, whole};
 
-use crate::blocks::{before, put_block};
 use crate::bytes::put_byte;
 use crate::runs::{Cursor, put_last, put_next, put_short};
-use crate::units::{Kind, ends_in_ascii};
-use std::simd::prelude::*;
+use crate::short::put_few;
+use crate::units::ends_in_ascii;
 use utf16_units::Utf16Order;
 
 /// Writes to the start of `out` the UTF-16 that a chunk of UTF-8 adds, and returns the number of
@@ -42,9 +41,6 @@ pub fn write_units<E: Utf16Order>(before: [u8; 2], piece: &[u8], out: &mut [u8])
     put_units::<E>(before, piece, &mut out[..room])
 }
 
-// At most so many bytes at the end are written one by one.
-const BY_BYTES: usize = 4;
-
 // The same, but all bytes after those written may be overwritten.
 fn put_units<E: Utf16Order>(before: [u8; 2], piece: &[u8], out: &mut [u8]) -> usize
     requires { 2 * length piece.now + 16 ≤ length out.old }
@@ -53,15 +49,35 @@ fn put_units<E: Utf16Order>(before: [u8; 2], piece: &[u8], out: &mut [u8]) -> us
     ensures written_to { result ≤ 2 * length piece.now }
 {
     let [b2, b1] = before;
-    if piece.len() >= 8 && piece.len() < 16 {
-        return put_rest::<E>(out, 0, b2, b1, piece);
-    }
-    let mut cursor = Cursor {
+    let start = Cursor {
         at: 0,
         end: 0,
         b2,
         b1,
     };
+    if piece.len() < 8 {
+        put_bytes::<E>(piece, out, start)
+    } else if piece.len() < 16 {
+        put_few::<E>(out, b2, b1, piece)
+    } else {
+        put_many::<E>(piece, out, start)
+    }
+}
+
+// At most so many bytes at the end are written one by one.
+const BY_BYTES: usize = 4;
+
+// Writes what at least sixteen bytes add. A function of its own, so that short chunks do not pay
+// for its registers.
+#[inline(never)]
+fn put_many<E: Utf16Order>(piece: &[u8], out: &mut [u8], start: Cursor) -> usize
+    requires space { 2 * length piece.now + 16 ≤ length out.old }
+    requires start { start.at ≡ 0 }
+    requires end { start.end ≡ 0 }
+    ensures bytes { take result out.new ≡ added_bytes E.BIG start.b2 start.b1 piece.now }
+    ensures written_to { result ≤ 2 * length piece.now }
+{
+    let mut cursor = start;
     while piece.len() - cursor.at >= 64 {
         cursor = put_next::<E>(piece, out, cursor);
     }
@@ -97,27 +113,4 @@ fn put_bytes<E: Utf16Order>(piece: &[u8], out: &mut [u8], from: Cursor) -> usize
         at += 1;
     }
     end
-}
-
-// Writes the UTF-16 that at most sixteen bytes add after two others, padded to a block with bytes
-// that add nothing.
-#[inline(always)]
-fn put_rest<E: Utf16Order>(
-    out: &mut [u8],
-    at: usize,
-    before2: u8,
-    before1: u8,
-    rest: &[u8],
-) -> usize
-    requires few { length rest.now ≤ 16 }
-    requires space { at + 32 ≤ length out.old }
-    ensures bytes { take result out.new ≡ take at out.old ++ added_bytes E.BIG before2 before1
-        rest.now }
-    ensures written_to { result ≤ at + 2 * length rest.now }
-{
-    let mut block = [0xFF; 16];
-    block[..rest.len()].copy_from_slice(rest);
-    let block = u8x16::from_array(block);
-    let (b2, b1) = before(block, before2, before1);
-    put_block::<E>(out, at, b2, b1, block, Kind::Four)
 }
