@@ -188,7 +188,7 @@ fn after(piece: &[u8], at: usize, end: usize) -> Cursor
     }
 }
 
-// Writes the first bytes of the next block of sixteen.
+// Writes the next sixteen bytes, or the first fifteen of them.
 #[inline(always)]
 pub(crate) fn put_short<E: Utf16Order>(piece: &[u8], out: &mut [u8], from: Cursor) -> Cursor
     requires space { 2 * length piece.now + 16 ≤ length out.old }
@@ -203,11 +203,34 @@ pub(crate) fn put_short<E: Utf16Order>(piece: &[u8], out: &mut [u8], from: Curso
     if is_ascii(block) && from.b1 < 0xE0 {
         return put_ascii_block::<E>(piece, out, from);
     }
+    if from.b2 < 0xE0 && from.b1 < 0xE0 && are_below(block, 0xE0) {
+        return put_one_block::<E, 2>(piece, out, from);
+    }
     if are_threes(block) {
         return put_few_threes::<E>(piece, out, from, block);
     }
-    let used = used(piece[from.at + 14], piece[from.at + 15]);
-    put_first_block::<E>(piece, out, from, Kind::Four, used)
+    put_one_block::<E, 4>(piece, out, from)
+}
+
+// Writes the next sixteen bytes, of characters of at most so many bytes. A function for each number
+// as for `put_blocks`.
+#[inline(always)]
+fn put_one_block<E: Utf16Order, const MOST: usize>(
+    piece: &[u8],
+    out: &mut [u8],
+    from: Cursor,
+) -> Cursor
+    requires space { 2 * length piece.now + 16 ≤ length out.old }
+    requires more { from.at + 16 ≤ length piece.now }
+    requires within { IsWithin piece.now from }
+    requires kind { AreOf (kind_of MOST) 16 piece.now from }
+    ensures whole { whole E.BIG piece.now out.new result ≡ whole E.BIG piece.now out.old from }
+    ensures within { IsWithin piece.now result }
+    ensures behind { IsBehind piece.now result }
+    ensures at { result.at ≡ from.at + 16 }
+{
+    let kind = kind_of(MOST);
+    put_first_block::<E>(piece, out, from, kind, 16)
 }
 
 // Writes five characters of three bytes.

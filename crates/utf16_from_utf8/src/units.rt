@@ -4,9 +4,8 @@
 ghost use Rattle.std.specs.Prelude.{◌≡◌, ◌+◌, ◌<◌, ◌≤◌, ◌↔◌, length, ℕ, bit_and, if◌then◌else◌, slice_index, ◌/◌, ◌%◌, ◌^◌, IsTrue};
 ghost use Rattle.std.specs.Simd.Lanes.{zip2};
 ghost use Rattle.utf16_from_utf8.specs.Added.{ends_unit};
-ghost use Rattle.utf16_from_utf8.specs.Kind.{AreUsed, IsEndOf, IsOf, kind_of};
+ghost use Rattle.utf16_from_utf8.specs.Kind.{AreUsed, IsOf, kind_of};
 ghost use Rattle.utf16_from_utf8.specs.LaneBytes.{behind_high, high_lane, lead_high, lead_part, low_lane, middle, short_low, three_high, trail_high};
-ghost use Rattle.utf16_from_utf8.specs.declared.units.Kind.TheVariants.{One};
 ghost use Rattle.utf16_units.specs.Lanes.{HasLanes};
 
 use crate::lanes::{down, each, greater, masked, set_bits, sum, up, where_below};
@@ -218,16 +217,17 @@ pub(crate) fn used(first: u8, second: u8) -> usize
     }
 }
 
-// Whether the last eighteen bytes are ASCII.
+// The greatest bytes of the last eighteen.
 #[inline(always)]
-pub(crate) fn ends_in_ascii(piece: &[u8]) -> bool
+pub(crate) fn greatest_at_end(piece: &[u8]) -> u8x16
     requires { 18 ≤ length piece.now }
-    ensures { IsTrue result → IsEndOf One piece.now }
+    ensures { (limit : ℕ) → ((i : ℕ) → i < 16 → slice_index result i < limit)
+        → (i : ℕ) → length piece.now ≤ i + 18 → i < length piece.now
+        → slice_index piece.now i < limit }
 {
     let at = piece.len() - 18;
-    let most = greater(
+    greater(
         u8x16::from_slice(&piece[at..]),
         u8x16::from_slice(&piece[at + 2..]),
-    );
-    are_below(most, 0x80)
+    )
 }

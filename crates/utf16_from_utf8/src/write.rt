@@ -10,7 +10,7 @@ ghost use Rattle.utf16_from_utf8.specs.Cursor.{IsWithin, whole};
 use crate::bytes::put_byte;
 use crate::runs::{Cursor, put_last, put_next, put_short};
 use crate::short::put_few;
-use crate::units::ends_in_ascii;
+use crate::units::{are_below, greatest_at_end};
 use utf16_units::Utf16Order;
 
 /// Writes to the start of `out` the UTF-16 that a chunk of UTF-8 adds, and returns the number of
@@ -49,35 +49,32 @@ fn put_units<E: Utf16Order>(before: [u8; 2], piece: &[u8], out: &mut [u8]) -> us
     ensures written_to { result ≤ 2 * length piece.now }
 {
     let [b2, b1] = before;
-    let start = Cursor {
+    if piece.len() < 8 {
+        put_each::<E>(piece, out, b2, b1)
+    } else if piece.len() < 16 {
+        put_few::<E>(out, b2, b1, piece)
+    } else {
+        put_many::<E>(piece, out, b2, b1)
+    }
+}
+
+// At most so many bytes at the end are written one by one.
+const BY_BYTES: usize = 2;
+
+// Writes what at least sixteen bytes add. A function of its own, so that short chunks do not pay
+// for its registers.
+#[inline(never)]
+fn put_many<E: Utf16Order>(piece: &[u8], out: &mut [u8], b2: u8, b1: u8) -> usize
+    requires space { 2 * length piece.now + 16 ≤ length out.old }
+    ensures bytes { take result out.new ≡ added_bytes E.BIG b2 b1 piece.now }
+    ensures written_to { result ≤ 2 * length piece.now }
+{
+    let mut cursor = Cursor {
         at: 0,
         end: 0,
         b2,
         b1,
     };
-    if piece.len() < 8 {
-        put_bytes::<E>(piece, out, start)
-    } else if piece.len() < 16 {
-        put_few::<E>(out, b2, b1, piece)
-    } else {
-        put_many::<E>(piece, out, start)
-    }
-}
-
-// At most so many bytes at the end are written one by one.
-const BY_BYTES: usize = 4;
-
-// Writes what at least sixteen bytes add. A function of its own, so that short chunks do not pay
-// for its registers.
-#[inline(never)]
-fn put_many<E: Utf16Order>(piece: &[u8], out: &mut [u8], start: Cursor) -> usize
-    requires space { 2 * length piece.now + 16 ≤ length out.old }
-    requires start { start.at ≡ 0 }
-    requires end { start.end ≡ 0 }
-    ensures bytes { take result out.new ≡ added_bytes E.BIG start.b2 start.b1 piece.now }
-    ensures written_to { result ≤ 2 * length piece.now }
-{
-    let mut cursor = start;
     while piece.len() - cursor.at >= 64 {
         cursor = put_next::<E>(piece, out, cursor);
     }
@@ -88,13 +85,37 @@ fn put_many<E: Utf16Order>(piece: &[u8], out: &mut [u8], start: Cursor) -> usize
     if piece.len() < 18 || left <= BY_BYTES {
         return put_bytes::<E>(piece, out, cursor);
     }
-    if ends_in_ascii(piece) {
-        return put_last::<E, 1>(piece, out, cursor);
+    let greatest = greatest_at_end(piece);
+    if are_below(greatest, 0x80) {
+        put_last::<E, 1>(piece, out, cursor)
+    } else if are_below(greatest, 0xE0) {
+        put_last::<E, 2>(piece, out, cursor)
+    } else {
+        put_last::<E, 4>(piece, out, cursor)
     }
-    put_last::<E, 4>(piece, out, cursor)
+}
+
+// Writes the UTF-16 that some bytes add after two others, byte by byte.
+#[inline(always)]
+fn put_each<E: Utf16Order>(piece: &[u8], out: &mut [u8], b2: u8, b1: u8) -> usize
+    requires space { 2 * length piece.now + 16 ≤ length out.old }
+    ensures bytes { take result out.new ≡ added_bytes E.BIG b2 b1 piece.now }
+    ensures written_to { result ≤ 2 * length piece.now }
+{
+    put_bytes::<E>(
+        piece,
+        out,
+        Cursor {
+            at: 0,
+            end: 0,
+            b2,
+            b1,
+        },
+    )
 }
 
 // Writes the UTF-16 that the bytes from the cursor on add, byte by byte.
+#[inline(always)]
 fn put_bytes<E: Utf16Order>(piece: &[u8], out: &mut [u8], from: Cursor) -> usize
     requires space { 2 * length piece.now + 16 ≤ length out.old }
     requires within { IsWithin piece.now from }

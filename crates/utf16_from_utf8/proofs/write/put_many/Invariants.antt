@@ -6,7 +6,7 @@ use Rattle.utf16_from_utf8.proofs.write.put_many.Given as goal
 
 abbrev pub invariant-loop-cursor : goal.invariant-loop-cursor
 invariant-loop-cursor g l = record {
-  whole : whole g.E.Utf16Order.BIG l.piece l.out l.cursor ≡ added_bytes g.E.Utf16Order.BIG l.fn.start.b2 l.fn.start.b1 l.piece;
+  whole : whole g.E.Utf16Order.BIG l.piece l.out l.cursor ≡ added_bytes g.E.Utf16Order.BIG l.fn.b2 l.fn.b1 l.piece;
   within : IsWithin l.piece l.cursor;
   behind : 0 < l.cursor.at → IsBehind l.piece l.cursor;
 }
@@ -16,7 +16,7 @@ decreases-loop-cursor g l = length l.piece - l.cursor.at
 
 abbrev pub invariant-loop-cursor-2 : goal.invariant-loop-cursor-2
 invariant-loop-cursor-2 g l = record {
-  whole : whole g.E.Utf16Order.BIG l.piece l.out l.cursor ≡ added_bytes g.E.Utf16Order.BIG l.fn.start.b2 l.fn.start.b1 l.piece;
+  whole : whole g.E.Utf16Order.BIG l.piece l.out l.cursor ≡ added_bytes g.E.Utf16Order.BIG l.fn.b2 l.fn.b1 l.piece;
   within : IsWithin l.piece l.cursor;
   behind : 0 < l.cursor.at → IsBehind l.piece l.cursor;
 }
