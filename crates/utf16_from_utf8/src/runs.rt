@@ -203,11 +203,11 @@ pub(crate) fn put_short<E: Utf16Order>(piece: &[u8], out: &mut [u8], from: Curso
     if is_ascii(block) && from.b1 < 0xE0 {
         return put_ascii_block::<E>(piece, out, from);
     }
-    if from.b2 < 0xE0 && from.b1 < 0xE0 && are_below(block, 0xE0) {
-        return put_one_block::<E, 2>(piece, out, from);
-    }
     if are_threes(block) {
         return put_few_threes::<E>(piece, out, from, block);
+    }
+    if from.b2 < 0xE0 && from.b1 < 0xE0 && are_below(block, 0xE0) {
+        return put_one_block::<E, 2>(piece, out, from);
     }
     put_one_block::<E, 4>(piece, out, from)
 }

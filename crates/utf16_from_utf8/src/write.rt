@@ -59,7 +59,7 @@ fn put_units<E: Utf16Order>(before: [u8; 2], piece: &[u8], out: &mut [u8]) -> us
 }
 
 // At most so many bytes at the end are written one by one.
-const BY_BYTES: usize = 2;
+const BY_BYTES: usize = 3;
 
 // Writes what at least sixteen bytes add. A function of its own, so that short chunks do not pay
 // for its registers.
@@ -90,6 +90,8 @@ fn put_many<E: Utf16Order>(piece: &[u8], out: &mut [u8], b2: u8, b1: u8) -> usiz
         put_last::<E, 1>(piece, out, cursor)
     } else if are_below(greatest, 0xE0) {
         put_last::<E, 2>(piece, out, cursor)
+    } else if are_below(greatest, 0xF0) {
+        put_last::<E, 3>(piece, out, cursor)
     } else {
         put_last::<E, 4>(piece, out, cursor)
     }
