@@ -3,6 +3,7 @@ pub mod AppendLemmas
 pub mod BlockLemmas
 pub mod EndLemmas
 pub mod FewLemmas
+pub mod FourLemmas
 pub mod LaneByteLemmas
 pub mod LaneLemmas
 pub mod PackLemmas

@@ -9,7 +9,9 @@ ghost use Rattle.utf16_units.specs.Lanes.{HasLanes};
 
 use crate::lanes::{each, greater, previous_lanes};
 use crate::pack::{put_eight, put_kept};
-use crate::units::{Kind, THREES, UPPER, ended_bits, highs, lows, short_lows, three_highs};
+use crate::units::{
+    FOURS, Kind, THREES, UPPER, UPPER_OF_FOURS, ended_bits, highs, lows, short_lows, three_highs,
+};
 use std::simd::prelude::*;
 use utf16_units::Utf16Order;
 
@@ -57,6 +59,25 @@ pub(crate) fn put_threes<E: Utf16Order>(out: &mut [u8], at: usize, block: u8x16)
     let (pairs, _) = paired::<E>(three_highs(b2, b1), short_lows(b1, b0));
     pairs.copy_to_slice(&mut out[at..]);
     at + 10
+}
+
+// Writes four characters of four bytes: two units for each, that of its first three bytes and that
+// of its last three.
+#[inline(always)]
+pub(crate) fn put_fours<E: Utf16Order>(out: &mut [u8], at: usize, block: u8x16) -> usize
+    requires space { at + 16 ≤ length out.old }
+    requires fours { zip2 bit_and block UPPER_OF_FOURS ≡ FOURS }
+    ensures bytes { (b2 b1 : ℕ) → take result out.new ≡ take at out.old
+        ++ added_bytes E.BIG b2 b1 block }
+    ensures written_to { result ≡ at + 16 }
+{
+    let b2 = block.swizzle([0, 1, 4, 5, 8, 9, 12, 13, 0, 0, 0, 0, 0, 0, 0, 0]);
+    let b1 = block.swizzle([1, 2, 5, 6, 9, 10, 13, 14, 0, 0, 0, 0, 0, 0, 0, 0]);
+    let b0 = block.swizzle([2, 3, 6, 7, 10, 11, 14, 15, 0, 0, 0, 0, 0, 0, 0, 0]);
+    let highs = highs(b2, b1, b0, Kind::Four);
+    let (pairs, _) = paired::<E>(highs, lows(b2, b1, b0, Kind::Four));
+    pairs.copy_to_slice(&mut out[at..]);
+    at + 16
 }
 
 // The byte before each one of a block, and the one before that.

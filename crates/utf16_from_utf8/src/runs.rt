@@ -7,9 +7,12 @@ ghost use Rattle.utf16_from_utf8.specs.Cursor.{IsWithin, whole};
 ghost use Rattle.utf16_from_utf8.specs.Kind.{AreBefore, AreOf, AreUsed, IsBehind, IsEndOf, kind_of};
 ghost use Rattle.utf16_from_utf8.specs.Threes.{IsThree, woven};
 
-use crate::blocks::{before, before_at, put_ascii, put_block, put_end, put_threes};
+use crate::blocks::{before, before_at, put_ascii, put_block, put_end, put_fours, put_threes};
 use crate::threes::{are_sixteen, in_threes, put_sixteen};
-use crate::units::{Kind, THREES, UPPER, are_below, are_threes, greatest, is_ascii, kind_of, used};
+use crate::units::{
+    FOURS, Kind, THREES, UPPER, UPPER_OF_FOURS, are_below, are_fours, are_threes, greatest,
+    is_ascii, kind_of, used,
+};
 use std::simd::prelude::*;
 use utf16_units::Utf16Order;
 
@@ -50,7 +53,51 @@ pub(crate) fn put_next<E: Utf16Order>(piece: &[u8], out: &mut [u8], from: Cursor
     if from.b2 < 0xF0 && from.b1 < 0xF0 && are_below(greatest, 0xF0) {
         return put_blocks::<E, 3>(piece, out, from);
     }
+    let block = u8x16::from_slice(&piece[from.at..]);
+    if are_fours(block) {
+        let next = put_few_fours::<E>(piece, out, from, block);
+        return put_fours_run::<E>(piece, out, next);
+    }
     put_blocks::<E, 4>(piece, out, from)
+}
+
+// Writes the next sixteen bytes, four characters of four bytes.
+#[inline(always)]
+fn put_few_fours<E: Utf16Order>(piece: &[u8], out: &mut [u8], from: Cursor, block: u8x16) -> Cursor
+    requires space { 2 * length piece.now + 16 ≤ length out.old }
+    requires more { from.at + 16 ≤ length piece.now }
+    requires within { IsWithin piece.now from }
+    requires next { block ≡ take 16 (drop from.at piece.now) }
+    requires fours { zip2 bit_and block UPPER_OF_FOURS ≡ FOURS }
+    ensures whole { whole E.BIG piece.now out.new result ≡ whole E.BIG piece.now out.old from }
+    ensures within { IsWithin piece.now result }
+    ensures behind { IsBehind piece.now result }
+    ensures at { result.at ≡ from.at + 16 }
+{
+    let end = put_fours::<E>(out, from.end, block);
+    after(piece, from.at + 16, end)
+}
+
+// Writes characters of four bytes, four at a time.
+#[inline(always)]
+fn put_fours_run<E: Utf16Order>(piece: &[u8], out: &mut [u8], from: Cursor) -> Cursor
+    requires space { 2 * length piece.now + 16 ≤ length out.old }
+    requires within { IsWithin piece.now from }
+    requires behind { IsBehind piece.now from }
+    ensures whole { whole E.BIG piece.now out.new result ≡ whole E.BIG piece.now out.old from }
+    ensures within { IsWithin piece.now result }
+    ensures behind { IsBehind piece.now result }
+    ensures advances { from.at ≤ result.at }
+{
+    let mut cursor = from;
+    while piece.len() - cursor.at >= 16 {
+        let block = u8x16::from_slice(&piece[cursor.at..]);
+        if !are_fours(block) {
+            break;
+        }
+        cursor = put_few_fours::<E>(piece, out, cursor, block);
+    }
+    cursor
 }
 
 // Writes the next forty-eight bytes, sixteen characters of three bytes.
@@ -205,6 +252,9 @@ pub(crate) fn put_short<E: Utf16Order>(piece: &[u8], out: &mut [u8], from: Curso
     }
     if are_threes(block) {
         return put_few_threes::<E>(piece, out, from, block);
+    }
+    if are_fours(block) {
+        return put_few_fours::<E>(piece, out, from, block);
     }
     if from.b2 < 0xE0 && from.b1 < 0xE0 && are_below(block, 0xE0) {
         return put_one_block::<E, 2>(piece, out, from);

@@ -202,6 +202,26 @@ pub(crate) fn are_threes(block: u8x16) -> bool
         == 0
 }
 
+// The upper bits of each byte in four characters of four bytes, and the mask of these bits.
+pub(crate) const FOURS: [u8; 16] = [
+    0xF0, 0x80, 0x80, 0x80, 0xF0, 0x80, 0x80, 0x80, 0xF0, 0x80, 0x80, 0x80, 0xF0, 0x80, 0x80, 0x80,
+];
+
+pub(crate) const UPPER_OF_FOURS: [u8; 16] = [
+    0xF8, 0xC0, 0xC0, 0xC0, 0xF8, 0xC0, 0xC0, 0xC0, 0xF8, 0xC0, 0xC0, 0xC0, 0xF8, 0xC0, 0xC0, 0xC0,
+];
+
+// Whether the bytes are four characters of four bytes.
+#[inline(always)]
+pub(crate) fn are_fours(block: u8x16) -> bool
+    ensures { IsTrue result → zip2 bit_and block UPPER_OF_FOURS ≡ FOURS }
+{
+    (block & u8x16::from_array(UPPER_OF_FOURS))
+        .simd_ne(u8x16::from_array(FOURS))
+        .to_bitmask()
+        == 0
+}
+
 // How many of sixteen bytes are used that end in two bytes: without those at the end that begin a
 // character and add nothing.
 #[inline(always)]
