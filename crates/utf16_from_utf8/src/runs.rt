@@ -253,14 +253,14 @@ pub(crate) fn put_short<E: Utf16Order>(piece: &[u8], out: &mut [u8], from: Curso
     if are_threes(block) {
         return put_few_threes::<E>(piece, out, from, block);
     }
-    if from.b2 < 0xE0 && from.b1 < 0xE0 && are_below(block, 0xE0) {
-        return put_one_block::<E, 2>(piece, out, from);
-    }
-    if from.b2 < 0xF0 && from.b1 < 0xF0 && are_below(block, 0xF0) {
-        return put_one_block::<E, 3>(piece, out, from);
-    }
     if are_fours(block) {
         return put_few_fours::<E>(piece, out, from, block);
+    }
+    if from.b2 < 0xF0 && from.b1 < 0xF0 && are_below(block, 0xF0) {
+        if from.b2 < 0xE0 && from.b1 < 0xE0 && are_below(block, 0xE0) {
+            return put_one_block::<E, 2>(piece, out, from);
+        }
+        return put_one_block::<E, 3>(piece, out, from);
     }
     put_one_block::<E, 4>(piece, out, from)
 }

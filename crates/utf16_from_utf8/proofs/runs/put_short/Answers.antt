@@ -9,12 +9,12 @@ pub put_one_block-requires-clause-kind : goal.put_one_block-requires-clause-kind
 put_one_block-requires-clause-kind g c = record {
   before2 = c.if-from-lt224-2.true;
   before1 = c.if-from-lt224-3.true;
-  bytes = λ i below. omega (arith, get_or-chunk c.args.from.at 16 c.args.piece.now i 0 below, c.are_below.ensures c.if-are_below.true i below);
+  bytes = λ i below. omega (arith, get_or-chunk c.args.from.at 16 c.args.piece.now i 0 below, c.are_below-then-from-lt224-3.ensures c.if-are_below-2.true i below);
 }
 
-pub put_one_block-requires-then-are_below-2-clause-kind : goal.put_one_block-requires-then-are_below-2-clause-kind
-put_one_block-requires-then-are_below-2-clause-kind g c = record {
+pub put_one_block-requires-then-are_below-clause-kind : goal.put_one_block-requires-then-are_below-clause-kind
+put_one_block-requires-then-are_below-clause-kind g c = record {
   before2 = c.if-from-lt240.true;
   before1 = c.if-from-lt240-2.true;
-  bytes = λ i below. omega (arith, get_or-chunk c.args.from.at 16 c.args.piece.now i 0 below, c.are_below-then-from-lt240-2.ensures c.if-are_below-2.true i below);
+  bytes = λ i below. omega (arith, get_or-chunk c.args.from.at 16 c.args.piece.now i 0 below, c.are_below.ensures c.if-are_below.true i below);
 }
