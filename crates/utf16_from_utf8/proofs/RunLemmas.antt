@@ -1,5 +1,5 @@
 -- The steps of a writer of a chunk.
-use Rattle.std.proofs.Common.{drop-drop, length-drop, zero, suc, ◌∷◌, [], subst, ◌≡◌, ℕ, ◌+◌, ◌-◌, ◌*◌, ◌<◌, ◌≤◌, Bool, List, ◌++◌, length, take, drop, length-append, length-take-le, slice_index, refl, sym, ap, ap₂, ◌∙◌, ⊎_elim, arith}
+use Rattle.std.proofs.Common.{drop-drop, length-drop, zero, suc, ◌∷◌, subst, ◌≡◌, ℕ, ◌+◌, ◌-◌, ◌*◌, ◌<◌, ◌≤◌, Bool, List, ◌++◌, length, take, drop, length-append, length-take-le, slice_index, refl, sym, ap, ap₂, ◌∙◌, ⊎_elim, arith}
 use Rattle.std.proofs.lemmas.Bool.{cases_lt}
 use Rattle.std.proofs.lemmas.List.{take-take, take_all}
 use Rattle.std.proofs.lemmas.Simd.{get_or-chunk, length-chunk}
@@ -8,7 +8,7 @@ use Rattle.utf16_from_utf8.specs.Added.{added_bytes}
 use Rattle.utf16_from_utf8.specs.Cursor.{whole}
 use Rattle.utf16_from_utf8.specs.Kind.{AreBefore, AreOf, AreUsed, IsBehind, IsEndOf, IsOf}
 use Rattle.utf16_from_utf8.specs.declared.units.Kind.{Kind}
-use Rattle.utf16_from_utf8.specs.declared.runs.Cursor.{Cursor}
+use Rattle.utf16_from_utf8.specs.declared.steps.Cursor.{Cursor}
 use Rattle.utf16_from_utf8.proofs.BlockLemmas.{added-short, added-step, two-behind, used-added}
 
 -- n more bytes were read, and what they add was written

@@ -1,20 +1,19 @@
 -- Chunks of eight to fifteen bytes.
-use Rattle.std.proofs.Common.{◌≡◌, ℕ, zero, suc, ◌+◌, ◌-◌, ◌*◌, ◌<◌, ◌≤◌, Bool, true, cond, ltb, List, [], ◌∷◌, ◌++◌, length, take, drop, get_or, slice_index, map, refl, sym, ap, ap₂, ◌∙◌, ⊎_elim, arith, lt-ltb, le-ltb, Fits, w8, replicate, subst, append-nil, flat_map, length-append, length-take-le, take-append-drop}
+use Rattle.std.proofs.Common.{◌≡◌, ℕ, zero, suc, ◌+◌, ◌-◌, ◌*◌, ◌<◌, ◌≤◌, Bool, true, cond, ltb, List, [], ◌∷◌, ◌++◌, length, take, drop, get_or, slice_index, map, refl, sym, ap, ap₂, ◌∙◌, ⊎_elim, arith, lt-ltb, le-ltb, Fits, w8, replicate, subst, length-append, length-take-le, take-append-drop}
 use Rattle.std.proofs.lemmas.Bool.{cases_lt}
 use Rattle.std.proofs.lemmas.List.{length-map, get_or-take, get_or_append_left, get_or-append_right, get_or-map, take-take, take-append-le, take_all}
 use Rattle.std.proofs.lemmas.List.FromFn.{get_or-map-range_with_len}
-use Rattle.std.proofs.lemmas.Simd.{Each1-get_or, get_or-chunk, get_or-replicate, length-chunk, length-replicate, length-swz_l, pick_l_whole, swz_l, SwzOk, SwzOk-from_below}
+use Rattle.std.proofs.lemmas.Simd.{Each1-get_or, get_or-chunk, get_or-replicate, length-chunk, length-replicate, pick_l_whole, swz_l, SwzOk, SwzOk-from_below}
 use Rattle.std.specs.List.{range_with_len}
 use lib.Lanes.{Each1, all_below, chunk, pick_l}
 use Rattle.utf16_units.specs.Lanes.{HasLanes}
 use Rattle.utf16_units.proofs.LanesByIndex.{all_below-each}
-use Rattle.utf16_units.specs.Unit.{unit_bytes}
 use Rattle.utf16_from_utf8.specs.Added.{added_bytes}
 use Rattle.utf16_from_utf8.specs.Short.{IsOrder, place}
 use Rattle.utf16_from_utf8.specs.declared.short.TheConstants.{FILL, ORDER}
 use Rattle.utf16_from_utf8.proofs.AddedLemmas.{byte_adds, added_bytes-append, added_bytes-cons, added_bytes-nil, last_but_one, last_of}
-use Rattle.utf16_from_utf8.proofs.BlockLemmas.{added-filled, byte-adds-one, unit-two}
-use Rattle.utf16_from_utf8.proofs.EndLemmas.{over-least, part-index, under-greatest}
+use Rattle.utf16_from_utf8.proofs.BlockLemmas.{byte-adds-one, unit-two}
+use Rattle.utf16_from_utf8.proofs.EndLemmas.{over-least, under-greatest}
 use Rattle.utf16_from_utf8.proofs.PackLemmas.{swz_l-pick}
 
 -- lists of the same length with the same elements

@@ -1,9 +1,8 @@
 -- Characters of three bytes, by their first, second and third bytes.
-use Rattle.std.proofs.Common.{◌≡◌, ℕ, zero, suc, ◌+◌, ◌*◌, ◌/◌, ◌%◌, ◌^◌, ◌<◌, ◌≤◌, Bool, cond, ltb, List, [], ◌∷◌, ◌++◌, length, take, drop, slice_index, bit_and, refl, sym, ap, ap₂, ◌∙◌, subst, arith, drop-drop}
+use Rattle.std.proofs.Common.{◌≡◌, ℕ, suc, ◌+◌, ◌*◌, ◌/◌, ◌%◌, ◌^◌, ◌<◌, ◌≤◌, Bool, List, [], ◌∷◌, ◌++◌, length, take, drop, slice_index, bit_and, sym, ap, ap₂, ◌∙◌, subst, arith, drop-drop}
 use Rattle.std.proofs.Math.Seq.{take-add}
 use Rattle.std.proofs.lemmas.Nat.Bits.{and_high}
-use Rattle.std.proofs.lemmas.Simd.{length-chunk, pick_l_whole}
-use Rattle.std.specs.List.{range_with_len}
+use Rattle.std.proofs.lemmas.Simd.{pick_l_whole}
 use lib.Lanes.{chunk, pick_l}
 use Rattle.utf16_from_utf8.specs.Added.{added_bytes}
 use Rattle.utf16_from_utf8.specs.LaneBytes.{short_low, three_high}

@@ -1,7 +1,7 @@
 -- How far a writer of a chunk came.
-use Rattle.std.specs.Prelude.{◌≡◌, ℕ, ◌*◌, ◌≤◌, Bool, List, ◌++◌, drop, length, take}
+use Rattle.std.specs.Prelude.{ℕ, ◌*◌, ◌≤◌, Bool, List, ◌++◌, drop, length, take}
 use Rattle.utf16_from_utf8.specs.Added.{added_bytes}
-use Rattle.utf16_from_utf8.specs.declared.runs.Cursor.{Cursor}
+use Rattle.utf16_from_utf8.specs.declared.steps.Cursor.{Cursor}
 
 -- what was written, and what the bytes left will add
 abbrev pub whole : Bool → List ℕ → List ℕ → Cursor → List ℕ

@@ -1,7 +1,7 @@
 -- The kinds of bytes in a block, and the bytes before them.
 use Rattle.std.specs.Prelude.{◌≡◌, ℕ, ◌+◌, ◌-◌, ◌<◌, ◌≤◌, ◌⊎◌, ◌==◌, if◌then◌else◌, List, ◌∷◌, length, slice_index}
 use Rattle.utf16_units.specs.Lanes.{HasLanes}
-use Rattle.utf16_from_utf8.specs.declared.runs.Cursor.{Cursor}
+use Rattle.utf16_from_utf8.specs.declared.steps.Cursor.{Cursor}
 use Rattle.utf16_from_utf8.specs.declared.units.Kind.{Kind}
 use Rattle.utf16_from_utf8.specs.declared.units.Kind.TheVariants.{Four, One, Three, Two}
 

@@ -1,4 +1,4 @@
-//! Conversion of UTF-8 to UTF-16 with SIMD, sixteen bytes at a time.
+//! Conversion of UTF-8 to UTF-16 with SIMD, up to sixty-four bytes at a time.
 #![tactic(auto)]
 
 mod append;
@@ -12,6 +12,7 @@ mod positions;
 mod runs;
 mod short;
 mod size;
+mod steps;
 mod threes;
 mod units;
 mod write;

@@ -8,8 +8,9 @@ ghost use Rattle.utf16_from_utf8.specs.Added.{added_bytes};
 ghost use Rattle.utf16_from_utf8.specs.Cursor.{IsWithin, whole};
 
 use crate::bytes::put_byte;
-use crate::runs::{Cursor, put_last, put_next, put_short};
+use crate::runs::{put_last, put_next, put_short};
 use crate::short::put_few;
+use crate::steps::Cursor;
 use crate::units::{are_below, greatest_at_end};
 use utf16_units::Utf16Order;
 

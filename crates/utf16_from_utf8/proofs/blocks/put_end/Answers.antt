@@ -1,4 +1,4 @@
-use Rattle.std.proofs.Common.{◌++◌, ◌/◌, take, ap, sym, ◌∙◌, arith}
+use Rattle.std.proofs.Common.{◌++◌, take, ap, sym, ◌∙◌, arith}
 use Rattle.utf16_from_utf8.specs.Lanes.{kept_pairs}
 use Rattle.utf16_from_utf8.proofs.EndLemmas.{end-added, end-lanes, only-second}
 use Rattle.utf16_from_utf8.proofs.blocks.put_end.Goals as goal

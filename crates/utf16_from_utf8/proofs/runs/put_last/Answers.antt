@@ -1,6 +1,4 @@
 use Rattle.std.proofs.Common.{◌-◌, ◌++◌, length, drop, take, ap, ◌∙◌, arith, length-drop}
-use Rattle.std.proofs.lemmas.Simd.{length-chunk}
-use lib.Lanes.{chunk}
 use Rattle.utf16_from_utf8.proofs.RunLemmas.{added-bound, end-kind, end-whole}
 use Rattle.utf16_from_utf8.proofs.runs.put_last.Goals as goal
 

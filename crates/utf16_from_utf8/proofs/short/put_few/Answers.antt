@@ -1,4 +1,4 @@
-use Rattle.std.proofs.Common.{◌≡◌, ◌-◌, ◌++◌, length, replicate, take, ap, sym, ◌∙◌, arith}
+use Rattle.std.proofs.Common.{◌-◌, length, take, ap, sym, ◌∙◌, arith}
 use Rattle.utf16_from_utf8.specs.Added.{added_bytes}
 use Rattle.utf16_from_utf8.proofs.BlockLemmas.{added-filled}
 use Rattle.utf16_from_utf8.proofs.RunLemmas.{added-bound}

@@ -1,4 +1,4 @@
-use Rattle.std.proofs.Common.{◌++◌, take, ap, sym, ◌∙◌, arith, Fits, w8, slice_index, ◌<◌}
+use Rattle.std.proofs.Common.{◌++◌, take, ap, sym, ◌∙◌, arith, Fits, w8}
 use Rattle.std.proofs.lemmas.Simd.{Each1-get_or}
 use Rattle.utf16_from_utf8.proofs.BlockLemmas.{both_stored}
 use Rattle.utf16_from_utf8.proofs.ThreeLemmas.{woven-added}

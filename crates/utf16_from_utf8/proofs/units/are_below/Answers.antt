@@ -1,4 +1,4 @@
-use Rattle.std.proofs.Common.{◌∙◌, cond, eqb-true, ltb, ltb-true, false, true, refl, slice_index, ◌≡◌, sym, Bool, ap, arith}
+use Rattle.std.proofs.Common.{◌∙◌, eqb-true, slice_index, sym}
 use Rattle.utf16_from_utf8.proofs.LaneLemmas.{zero_lane, chosen-zero}
 use Rattle.utf16_from_utf8.proofs.units.are_below.Goals as goal
 

@@ -1,4 +1,4 @@
-use Rattle.std.proofs.Common.{◌++◌, take, arith}
+use Rattle.std.proofs.Common.{take, arith}
 use Rattle.utf16_from_utf8.proofs.BlockLemmas.{added-all, added-step-one}
 use Rattle.utf16_from_utf8.proofs.write.put_bytes.Goals as goal
 

@@ -1,7 +1,7 @@
 use Rattle.std.proofs.Common.{◌++◌, take, ap, ◌∙◌, arith}
 use Rattle.utf16_from_utf8.specs.Added.{added_bytes}
 use Rattle.utf16_from_utf8.proofs.RunLemmas.{stepped}
-use Rattle.utf16_from_utf8.proofs.runs.put_few_fours.Goals as goal
+use Rattle.utf16_from_utf8.proofs.steps.put_few_fours.Goals as goal
 
 pub returns-clause-whole : goal.returns-clause-whole
 returns-clause-whole g c =

@@ -1,6 +1,6 @@
-use Rattle.std.proofs.Common.{◌+◌, ap, arith, slice_index}
+use Rattle.std.proofs.Common.{arith}
 use Rattle.utf16_from_utf8.proofs.RunLemmas.{below-further}
-use Rattle.utf16_from_utf8.proofs.runs.put_ascii_blocks.Goals as goal
+use Rattle.utf16_from_utf8.proofs.steps.put_ascii_blocks.Goals as goal
 
 pub put_ascii_block-second-requires-clause-ascii : goal.put_ascii_block-second-requires-clause-ascii
 put_ascii_block-second-requires-clause-ascii g c =

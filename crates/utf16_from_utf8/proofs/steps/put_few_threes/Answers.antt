@@ -2,7 +2,7 @@ use Rattle.std.proofs.Common.{◌++◌, take, drop, ap, ◌∙◌, arith}
 use Rattle.std.proofs.lemmas.List.{take-take}
 use Rattle.utf16_from_utf8.specs.Added.{added_bytes}
 use Rattle.utf16_from_utf8.proofs.RunLemmas.{stepped}
-use Rattle.utf16_from_utf8.proofs.runs.put_few_threes.Goals as goal
+use Rattle.utf16_from_utf8.proofs.steps.put_few_threes.Goals as goal
 
 pub returns-clause-whole : goal.returns-clause-whole
 returns-clause-whole g c =

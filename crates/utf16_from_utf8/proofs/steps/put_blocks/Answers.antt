@@ -1,6 +1,6 @@
 use Rattle.std.proofs.Common.{arith}
 use Rattle.utf16_from_utf8.proofs.RunLemmas.{are-further}
-use Rattle.utf16_from_utf8.proofs.runs.put_blocks.Goals as goal
+use Rattle.utf16_from_utf8.proofs.steps.put_blocks.Goals as goal
 
 pub put_later_block-second-requires-clause-kind : goal.put_later_block-second-requires-clause-kind
 put_later_block-second-requires-clause-kind g c =

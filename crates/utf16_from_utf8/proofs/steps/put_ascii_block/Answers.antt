@@ -1,8 +1,7 @@
-use Rattle.std.proofs.Common.{◌+◌, ◌++◌, take, drop, slice_index, ap, ◌∙◌, arith}
+use Rattle.std.proofs.Common.{take, ap, ◌∙◌, arith}
 use Rattle.std.proofs.lemmas.Simd.{get_or-chunk}
-use Rattle.utf16_from_utf8.specs.Added.{added_bytes}
 use Rattle.utf16_from_utf8.proofs.RunLemmas.{stepped}
-use Rattle.utf16_from_utf8.proofs.runs.put_ascii_block.Goals as goal
+use Rattle.utf16_from_utf8.proofs.steps.put_ascii_block.Goals as goal
 
 pub put_ascii-end-requires-clause-ascii : goal.put_ascii-end-requires-clause-ascii
 put_ascii-end-requires-clause-ascii g c i below = omega (arith, get_or-chunk c.args.from.at 16 c.args.piece.now i 0 below, c.requires.ascii i below)

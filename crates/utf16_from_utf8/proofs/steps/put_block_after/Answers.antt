@@ -1,6 +1,6 @@
 use Rattle.std.proofs.Common.{take, ap, ◌∙◌, arith}
 use Rattle.utf16_from_utf8.proofs.RunLemmas.{are-before, stepped, used-bound, used-short, written-used}
-use Rattle.utf16_from_utf8.proofs.runs.put_block_after.Goals as goal
+use Rattle.utf16_from_utf8.proofs.steps.put_block_after.Goals as goal
 
 pub put_block-end-requires-clause-kind : goal.put_block-end-requires-clause-kind
 put_block-end-requires-clause-kind g c = are-before c.args.kind c.args.piece.now c.args.from c.args.b2 c.args.b1 c.requires.kind c.requires.before
