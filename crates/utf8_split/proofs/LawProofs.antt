@@ -1,0 +1,28 @@
+-- The proofs of the laws, each under its law's name.
+use Rattle.std.proofs.Common.{length, take, take_at, refl, ap, ◌∙◌}
+use Rattle.std.proofs.lemmas.List.{map-append}
+use Rattle.utf8_split.specs.Laws.{CutAnywhere, ItemsStay, SplitExists, SplitExtends, SplitUnique, TextIsShown}
+use Rattle.utf8_split.specs.Split.{lossy_char, lossy_chars, split_items}
+use Rattle.utf8_split.proofs.SplitLemmas.{Split-computed}
+use Rattle.utf8_split.proofs.SplitUnique.{Split-same, split_items-append, split_tail-append}
+use Rattle.utf8_split.proofs.TextLemmas.{shown_encode}
+
+pub split_exists : SplitExists
+split_exists = Split-computed
+
+pub split_unique : SplitUnique
+split_unique = Split-same
+
+pub split_extends : SplitExtends
+split_extends front back = (split_items-append front back, split_tail-append front back)
+
+pub items_stay : ItemsStay
+items_stay front back =
+    let items = split_items front in
+    ap (take (length items)) (split_items-append front back) ∙ take_at items _ (length items) refl
+
+pub cut_anywhere : CutAnywhere
+cut_anywhere front back = ap lossy_chars (split_items-append front back) ∙ map-append lossy_char (split_items front) _
+
+pub text_is_shown : TextIsShown
+text_is_shown = shown_encode

@@ -1,0 +1,34 @@
+-- The laws of the split of UTF-8, each a statement about the definitions alone, for all bytes.
+use Rattle.std.specs.Prelude.{◌≡◌, ℕ, List, [], ◌++◌, All, length, take, encode_utf8_all}
+use Rattle.std.specs.Char.{IsScalar}
+use Rattle.utf8_split.specs.Split.{Item, Split, lossy_chars, split_items, split_tail}
+
+-- any bytes have a split (decomposition), the computed one
+abbrev pub SplitExists : Type 0
+SplitExists = (bytes : List ℕ) → Split bytes (split_items bytes) (split_tail bytes)
+
+-- bytes have no two splits
+abbrev pub SplitUnique : Type 0
+SplitUnique = (bytes : List ℕ) (items others : List Item) (tail other : List ℕ) → Split bytes items tail → Split bytes others other
+    → (items ≡ others) × (tail ≡ other)
+
+-- with more bytes appended, the items stay, and those of the tail and these bytes follow them
+abbrev pub SplitExtends : Type 0
+SplitExtends = (front back : List ℕ)
+    → (split_items (front ++ back) ≡ split_items front ++ split_items (split_tail front ++ back))
+    × (split_tail (front ++ back) ≡ split_tail (split_tail front ++ back))
+
+-- with more bytes appended, the decoded items stay
+abbrev pub ItemsStay : Type 0
+ItemsStay = (front back : List ℕ) → take (length (split_items front)) (split_items (front ++ back)) ≡ split_items front
+
+-- the lossy text of a stream, however it is cut in two: that of the first chunk, and then that of
+-- its tail followed by the second
+abbrev pub CutAnywhere : Type 0
+CutAnywhere = (front back : List ℕ)
+    → lossy_chars (split_items (front ++ back)) ≡ lossy_chars (split_items front) ++ lossy_chars (split_items (split_tail front ++ back))
+
+-- the lossy text of a text's UTF-8 is that text, and nothing is left
+abbrev pub TextIsShown : Type 0
+TextIsShown = (text : List ℕ) → All IsScalar text
+    → (lossy_chars (split_items (encode_utf8_all text)) ≡ text) × (split_tail (encode_utf8_all text) ≡ [])

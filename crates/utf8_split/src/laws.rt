@@ -1,0 +1,40 @@
+//! The laws of streams of UTF-8, each proved as the contract of a function that does nothing.
+//!
+//! The body of a function cites a law by a call of its function, a proof file by the lemma of that
+//! name in the module `Rattle.utf8_split.proofs.LawProofs`. The statements are in
+//! `specs/Laws.antt`: they are about the definitions alone, for all bytes.
+
+ghost use Rattle.utf8_split.specs.Laws.{CutAnywhere, ItemsStay, SplitExists, SplitExtends, SplitUnique, TextIsShown};
+
+/// Any bytes decompose into characters, maximal subparts of ill-formed subsequences and a tail that
+/// more bytes could decide; the computed decomposition, the split, is one.
+pub fn split_exists()
+    ensures { SplitExists }
+{}
+
+/// Bytes decompose in one way only.
+pub fn split_unique()
+    ensures { SplitUnique }
+{}
+
+/// If more bytes follow, the items of the decomposition stay, and the tail followed by these bytes
+/// gives the others: a stream can be decoded in chunks, keeping no more of a chunk than its tail.
+pub fn split_extends()
+    ensures { SplitExtends }
+{}
+
+/// Decoded items never change when more bytes follow.
+pub fn items_stay()
+    ensures { ItemsStay }
+{}
+
+/// A stream cut in two has the text of the whole stream: that of the first chunk, and then that of
+/// its tail followed by the second chunk. So the text does not depend on how a stream is cut.
+pub fn cut_anywhere()
+    ensures { CutAnywhere }
+{}
+
+/// The lossy text of well-formed bytes is the text that they encode, and nothing is left.
+pub fn text_is_shown()
+    ensures { TextIsShown }
+{}
