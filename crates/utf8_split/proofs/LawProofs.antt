@@ -1,11 +1,15 @@
 -- The proofs of the laws, each under its law's name.
-use Rattle.std.proofs.Common.{length, take, take_at, refl, ap, ◌∙◌}
+use Rattle.std.proofs.Common.{length, take, take_at, refl, ap, ◌∙◌, sym, subst, []}
 use Rattle.std.proofs.lemmas.List.{map-append}
-use Rattle.utf8_split.specs.Laws.{CutAnywhere, ItemsStay, SplitExists, SplitExtends, SplitUnique, TextIsShown}
+use Rattle.utf8_split.specs.Laws.{CutAnywhere, ItemsStay, RecipeIsSplit, ResumesIsSplit, SplitExists, SplitExtends, SplitUnique, TextIsShown}
 use Rattle.utf8_split.specs.Split.{lossy_char, lossy_chars, split_items}
 use Rattle.utf8_split.proofs.SplitLemmas.{Split-computed}
 use Rattle.utf8_split.proofs.SplitUnique.{Split-same, split_items-append, split_tail-append}
 use Rattle.utf8_split.proofs.TextLemmas.{shown_encode}
+use Rattle.utf8_split.specs.Recipe.{Recipe, Resumes}
+use Rattle.utf8_split.proofs.RecipeLemmas.{recipe_of_split, split_of_recipe}
+use Rattle.std.specs.List.{concat}
+use Rattle.utf8_split.proofs.ResumesLemmas.{resumes_of_split, split_of_resumes}
 
 pub split_exists : SplitExists
 split_exists = Split-computed
@@ -26,3 +30,21 @@ cut_anywhere front back = ap lossy_chars (split_items-append front back) ∙ map
 
 pub text_is_shown : TextIsShown
 text_is_shown = shown_encode
+
+pub recipe_is_split : RecipeIsSplit
+recipe_is_split bytes text kept = (
+  (λ recipe.
+      let same = recipe_of_split recipe in
+      (same.shown, same.tail)),
+  (λ same. subst (λ t. Recipe bytes t kept) (sym same.0) (subst (Recipe bytes (lossy_chars (split_items bytes))) (sym same.1) (split_of_recipe bytes))),
+)
+
+pub resumes_is_split : ResumesIsSplit
+resumes_is_split pieces text kept = (
+  (λ resumes.
+      let same = split_of_resumes resumes in
+      (same.shown, same.tail)),
+  (λ same.
+      subst (λ t. Resumes [] pieces t kept) (sym same.0)
+      (subst (Resumes [] pieces (lossy_chars (split_items (concat pieces)))) (sym same.1) (resumes_of_split pieces))),
+)

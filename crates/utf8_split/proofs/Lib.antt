@@ -6,3 +6,8 @@ pub mod SplitLemmas
 pub mod SplitUnique
 pub mod TextLemmas
 pub mod LawProofs
+pub mod SplitIllFormed
+pub mod RecipeLemmas
+pub mod ResumesLemmas
+pub mod LossyLemmas
+pub mod ShownLemmas

@@ -1,5 +1,5 @@
 -- The longest valid prefix: it is UTF-8, and no character begins after it.
-use Rattle.std.proofs.Common.{◌≡◌, ℕ, zero, suc, ◌+◌, ◌<◌, ◌≤◌, Bool, true, false, cond, List, ◌++◌, length, take, drop, refl, sym, ap, ◌∙◌, subst, ⊎_elim, arith, length-append, length-drop, take-add, take_at, true≢false}
+use Rattle.std.proofs.Common.{◌≡◌, ℕ, zero, suc, ◌+◌, ◌<◌, ◌≤◌, Bool, true, false, cond, List, ◌++◌, length, take, drop, refl, sym, ap, ◌∙◌, subst, ⊎_elim, arith, length-append, length-drop, take-add, take_all, take_at, true≢false}
 use Rattle.std.proofs.lemmas.Bool.{cases_Bool, cases_lt}
 use Rattle.std.proofs.lemmas.Str.{IsUtf8-append, IsUtf8-encode, IsUtf8-from_is_utf8, IsUtf8-nil, is_utf8-from_IsUtf8, utf8_valid_len_le}
 use Rattle.std.specs.Char.{encode_utf8}
@@ -61,3 +61,21 @@ none_after_valid bytes = none_after bytes (utf8_valid_len bytes) (utf8_valid_len
 
 pub none_at : (bytes : List ℕ) (n : ℕ) → IsValidUpTo bytes n → StartsWithNoChar (drop n bytes)
 none_at bytes n valid = let short = valid.short in none_after bytes n (omega arith) valid.front (λ k past _. valid.longest k past)
+
+-- bytes that are not all valid are valid up to the computed length
+pub IsValidUpTo-computed : (bytes : List ℕ) → utf8_valid_len bytes < length bytes → IsValidUpTo bytes (utf8_valid_len bytes)
+unfolding utf8_valid_len
+IsValidUpTo-computed bytes short = record {
+  short = short;
+  front = front_valid bytes;
+  longest = λ k past text. ⊎_elim
+      (λ (within : k < length bytes). up_to_longest bytes (length bytes) k past (omega arith) text)
+      (λ (all : length bytes ≤ k).
+      up_to_longest bytes (length bytes) (length bytes) short (omega arith)
+      (subst IsUtf8 (take_all k bytes all ∙ sym (take_all (length bytes) bytes (omega arith))) text))
+      (cases_lt k (length bytes));
+}
+
+-- bytes that are valid up to their end are valid
+pub all_valid : (bytes : List ℕ) → length bytes ≤ utf8_valid_len bytes → IsUtf8 bytes
+all_valid bytes all = subst IsUtf8 (take_all (utf8_valid_len bytes) bytes all) (front_valid bytes)

@@ -1,7 +1,9 @@
 -- The laws of the split of UTF-8, each a statement about the definitions alone, for all bytes.
-use Rattle.std.specs.Prelude.{◌≡◌, ℕ, List, [], ◌++◌, All, length, take, encode_utf8_all}
+use Rattle.std.specs.Prelude.{◌≡◌, ℕ, List, [], ◌++◌, All, length, take, encode_utf8_all, ◌↔◌}
 use Rattle.std.specs.Char.{IsScalar}
 use Rattle.utf8_split.specs.Split.{Item, Split, lossy_chars, split_items, split_tail}
+use Rattle.utf8_split.specs.Recipe.{Recipe, Resumes}
+use Rattle.std.specs.List.{concat}
 
 -- any bytes have a split (decomposition), the computed one
 abbrev pub SplitExists : Type 0
@@ -32,3 +34,14 @@ CutAnywhere = (front back : List ℕ)
 abbrev pub TextIsShown : Type 0
 TextIsShown = (text : List ℕ) → All IsScalar text
     → (lossy_chars (split_items (encode_utf8_all text)) ≡ text) × (split_tail (encode_utf8_all text) ≡ [])
+
+-- a reader that resumes by the fields of std's error gets the items' text, with U+FFFD for
+-- ill-formed subparts, and what it keeps is the tail
+abbrev pub RecipeIsSplit : Type 0
+RecipeIsSplit = (bytes text kept : List ℕ) → Recipe bytes text kept ↔ ((text ≡ lossy_chars (split_items bytes)) × (kept ≡ split_tail bytes))
+
+-- a reader that resumes so over the chunks of a stream, however it is cut, gets the items' text of
+-- the chunks joined, with U+FFFD for ill-formed subparts, and what it keeps is the tail
+abbrev pub ResumesIsSplit : Type 0
+ResumesIsSplit = (pieces : List (List ℕ)) (text kept : List ℕ)
+    → Resumes [] pieces text kept ↔ ((text ≡ lossy_chars (split_items (concat pieces))) × (kept ≡ split_tail (concat pieces)))

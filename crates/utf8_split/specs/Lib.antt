@@ -1,2 +1,3 @@
 pub mod Split
 pub mod Laws
+pub mod Recipe

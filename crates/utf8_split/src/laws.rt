@@ -4,7 +4,7 @@
 //! name in the module `Rattle.utf8_split.proofs.LawProofs`. The statements are in
 //! `specs/Laws.antt`: they are about the definitions alone, for all bytes.
 
-ghost use Rattle.utf8_split.specs.Laws.{CutAnywhere, ItemsStay, SplitExists, SplitExtends, SplitUnique, TextIsShown};
+ghost use Rattle.utf8_split.specs.Laws.{CutAnywhere, ItemsStay, RecipeIsSplit, ResumesIsSplit, SplitExists, SplitExtends, SplitUnique, TextIsShown};
 
 /// Any bytes decompose into characters, maximal subparts of ill-formed subsequences and a tail that
 /// more bytes could decide; the computed decomposition, the split, is one.
@@ -37,4 +37,18 @@ pub fn cut_anywhere()
 /// The lossy text of well-formed bytes is the text that they encode, and nothing is left.
 pub fn text_is_shown()
     ensures { TextIsShown }
+{}
+
+/// A reader that resumes decoding by `valid_up_to` and `error_len` of std's `Utf8Error` gets the
+/// text of the decomposition, with one U+FFFD (replacement character) for each ill-formed subpart,
+/// and what it keeps is the tail.
+pub fn recipe_is_split()
+    ensures { RecipeIsSplit }
+{}
+
+/// A reader that resumes so over the chunks of a stream gets the text of the decomposition of the
+/// chunks joined, with one U+FFFD for each ill-formed subpart, and what it keeps at the end is the
+/// tail: however the stream is cut.
+pub fn resumes_is_split()
+    ensures { ResumesIsSplit }
 {}
