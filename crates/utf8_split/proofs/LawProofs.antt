@@ -1,7 +1,7 @@
 -- The proofs of the laws, each under its law's name.
 use Rattle.std.proofs.Common.{length, take, take_at, refl, ap, ◌∙◌, sym, subst, []}
 use Rattle.std.proofs.lemmas.List.{map-append}
-use Rattle.utf8_split.specs.Laws.{CutAnywhere, ItemsStay, RecipeIsSplit, ResumesIsSplit, SplitExists, SplitExtends, SplitUnique, TextIsShown}
+use Rattle.utf8_split.specs.Laws.{CutAnywhere, ItemsStay, RecipeIsSplit, ResumesIsSplit, SplitExists, SplitExtends, SplitUnique, TextIsShown, WholeIsLossy}
 use Rattle.utf8_split.specs.Split.{lossy_char, lossy_chars, split_items}
 use Rattle.utf8_split.proofs.SplitLemmas.{Split-computed}
 use Rattle.utf8_split.proofs.SplitUnique.{Split-same, split_items-append, split_tail-append}
@@ -10,6 +10,7 @@ use Rattle.utf8_split.specs.Recipe.{Recipe, Resumes}
 use Rattle.utf8_split.proofs.RecipeLemmas.{recipe_of_split, split_of_recipe}
 use Rattle.std.specs.List.{concat}
 use Rattle.utf8_split.proofs.ResumesLemmas.{resumes_of_split, split_of_resumes}
+use Rattle.utf8_split.proofs.LossyLemmas.{lossy_text-is}
 
 pub split_exists : SplitExists
 split_exists = Split-computed
@@ -48,3 +49,6 @@ resumes_is_split pieces text kept = (
       subst (λ t. Resumes [] pieces t kept) (sym same.0)
       (subst (Resumes [] pieces (lossy_chars (split_items (concat pieces)))) (sym same.1) (resumes_of_split pieces))),
 )
+
+pub whole_is_lossy : WholeIsLossy
+whole_is_lossy = lossy_text-is

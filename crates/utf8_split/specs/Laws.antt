@@ -1,9 +1,11 @@
 -- The laws of the split of UTF-8, each a statement about the definitions alone, for all bytes.
 use Rattle.std.specs.Prelude.{◌≡◌, ℕ, List, [], ◌++◌, All, length, take, encode_utf8_all, ◌↔◌}
 use Rattle.std.specs.Char.{IsScalar}
-use Rattle.utf8_split.specs.Split.{Item, Split, lossy_chars, split_items, split_tail}
+use Rattle.utf8_split.specs.Split.{Item, Split, lossy_chars, split_items, split_tail, whole_lossy_chars}
 use Rattle.utf8_split.specs.Recipe.{Recipe, Resumes}
 use Rattle.std.specs.List.{concat}
+use Rattle.std.specs.Str.{chars}
+use Rattle.std.specs.Str.Lossy.{utf8_lossy}
 
 -- any bytes have a split (decomposition), the computed one
 abbrev pub SplitExists : Type 0
@@ -45,3 +47,7 @@ RecipeIsSplit = (bytes text kept : List ℕ) → Recipe bytes text kept ↔ ((te
 abbrev pub ResumesIsSplit : Type 0
 ResumesIsSplit = (pieces : List (List ℕ)) (text kept : List ℕ)
     → Resumes [] pieces text kept ↔ ((text ≡ lossy_chars (split_items (concat pieces))) × (kept ≡ split_tail (concat pieces)))
+
+-- the whole lossy text is that of std's `from_utf8_lossy`
+abbrev pub WholeIsLossy : Type 0
+WholeIsLossy = (bytes : List ℕ) → whole_lossy_chars (split_items bytes) (split_tail bytes) ≡ chars (utf8_lossy bytes)

@@ -4,7 +4,7 @@
 //! name in the module `Rattle.utf8_split.proofs.LawProofs`. The statements are in
 //! `specs/Laws.antt`: they are about the definitions alone, for all bytes.
 
-ghost use Rattle.utf8_split.specs.Laws.{CutAnywhere, ItemsStay, RecipeIsSplit, ResumesIsSplit, SplitExists, SplitExtends, SplitUnique, TextIsShown};
+ghost use Rattle.utf8_split.specs.Laws.{CutAnywhere, ItemsStay, RecipeIsSplit, ResumesIsSplit, SplitExists, SplitExtends, SplitUnique, TextIsShown, WholeIsLossy};
 
 /// Any bytes decompose into characters, maximal subparts of ill-formed subsequences and a tail that
 /// more bytes could decide; the computed decomposition, the split, is one.
@@ -51,4 +51,10 @@ pub fn recipe_is_split()
 /// tail: however the stream is cut.
 pub fn resumes_is_split()
     ensures { ResumesIsSplit }
+{}
+
+/// The whole lossy text, with one more U+FFFD for a tail that is left, is that of std's
+/// `from_utf8_lossy`.
+pub fn whole_is_lossy()
+    ensures { WholeIsLossy }
 {}
