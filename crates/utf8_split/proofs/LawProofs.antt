@@ -1,8 +1,8 @@
 -- The proofs of the laws, each under its law's name.
 use Rattle.std.proofs.Common.{length, take, take_at, refl, ap, ◌∙◌, sym, subst, []}
 use Rattle.std.proofs.lemmas.List.{map-append}
-use Rattle.utf8_split.specs.Laws.{CutAnywhere, ItemsStay, RecipeIsSplit, ResumesIsSplit, SplitExists, SplitExtends, SplitUnique, TextIsShown, WholeIsLossy}
-use Rattle.utf8_split.specs.Split.{lossy_char, lossy_chars, split_items}
+use Rattle.utf8_split.specs.Laws.{CutAnywhere, ItemsStay, RecipeIsSplit, ResumesIsSplit, ShownWithin, SplitExists, SplitExtends, SplitUnique, TextIsShown, WholeIsLossy}
+use Rattle.utf8_split.specs.Split.{lossy_char, lossy_chars, split_items, split_tail}
 use Rattle.utf8_split.proofs.SplitLemmas.{Split-computed}
 use Rattle.utf8_split.proofs.SplitUnique.{Split-same, split_items-append, split_tail-append}
 use Rattle.utf8_split.proofs.TextLemmas.{shown_encode}
@@ -11,6 +11,7 @@ use Rattle.utf8_split.proofs.RecipeLemmas.{recipe_of_split, split_of_recipe}
 use Rattle.std.specs.List.{concat}
 use Rattle.utf8_split.proofs.ResumesLemmas.{resumes_of_split, split_of_resumes}
 use Rattle.utf8_split.proofs.LossyLemmas.{lossy_text-is}
+use Rattle.utf8_split.proofs.ShownLemmas.{split_within}
 
 pub split_exists : SplitExists
 split_exists = Split-computed
@@ -52,3 +53,6 @@ resumes_is_split pieces text kept = (
 
 pub whole_is_lossy : WholeIsLossy
 whole_is_lossy = lossy_text-is
+
+pub shown_within : ShownWithin
+shown_within bytes = split_within bytes (split_items bytes) (split_tail bytes) (split_exists bytes)

@@ -83,7 +83,7 @@ length-IsTail tail ends =
 
 -- so do the items of a split, and its whole text
 pub split_within : (bytes : List ℕ) (items : List Item) (tail : List ℕ) → Split bytes items tail
-    → (length items ≤ length bytes) × (length tail ≤ 3) × (size (whole_lossy_chars items tail) ≤ 2 * length bytes)
+    → (length items ≤ length bytes) × (length tail ≤ 3) × (size (lossy_chars items) ≤ 2 * length bytes) × (size (whole_lossy_chars items tail) ≤ 2 * length bytes)
     × (length (encode_utf8_all (whole_lossy_chars items tail)) ≤ 3 * length bytes)
 split_within bytes items tail split =
     let all = sym (length-append (items_bytes items) tail) ∙ ap length split.spelled in
@@ -98,4 +98,4 @@ split_within bytes items tail split =
     let three = within.2 in
     let two_last = last.0 in
     let three_last = last.1 in
-    (omega arith, length-IsTail tail split.ends, omega arith, omega arith)
+    (omega arith, length-IsTail tail split.ends, omega arith, omega arith, omega arith)

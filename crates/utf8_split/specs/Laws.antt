@@ -1,11 +1,12 @@
 -- The laws of the split of UTF-8, each a statement about the definitions alone, for all bytes.
-use Rattle.std.specs.Prelude.{◌≡◌, ℕ, List, [], ◌++◌, All, length, take, encode_utf8_all, ◌↔◌}
+use Rattle.std.specs.Prelude.{◌≡◌, ℕ, List, [], ◌++◌, All, length, take, encode_utf8_all, ◌↔◌, ◌*◌, ◌≤◌}
 use Rattle.std.specs.Char.{IsScalar}
 use Rattle.utf8_split.specs.Split.{Item, Split, lossy_chars, split_items, split_tail, whole_lossy_chars}
 use Rattle.utf8_split.specs.Recipe.{Recipe, Resumes}
 use Rattle.std.specs.List.{concat}
 use Rattle.std.specs.Str.{chars}
 use Rattle.std.specs.Str.Lossy.{utf8_lossy}
+use Rattle.utf16_units.specs.Encoding.{size}
 
 -- any bytes have a split (decomposition), the computed one
 abbrev pub SplitExists : Type 0
@@ -51,3 +52,13 @@ ResumesIsSplit = (pieces : List (List ℕ)) (text kept : List ℕ)
 -- the whole lossy text is that of std's `from_utf8_lossy`
 abbrev pub WholeIsLossy : Type 0
 WholeIsLossy = (bytes : List ℕ) → whole_lossy_chars (split_items bytes) (split_tail bytes) ≡ chars (utf8_lossy bytes)
+
+-- an item has at least one byte, and a tail at most three; every byte gives at most two bytes of
+-- UTF-16, in either byte order, and three of UTF-8, with U+FFFD for the tail too
+abbrev pub ShownWithin : Type 0
+ShownWithin = (bytes : List ℕ)
+    → (length (split_items bytes) ≤ length bytes)
+    × (length (split_tail bytes) ≤ 3)
+    × (size (lossy_chars (split_items bytes)) ≤ 2 * length bytes)
+    × (size (whole_lossy_chars (split_items bytes) (split_tail bytes)) ≤ 2 * length bytes)
+    × (length (encode_utf8_all (whole_lossy_chars (split_items bytes) (split_tail bytes))) ≤ 3 * length bytes)

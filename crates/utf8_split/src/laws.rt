@@ -4,7 +4,7 @@
 //! name in the module `Rattle.utf8_split.proofs.LawProofs`. The statements are in
 //! `specs/Laws.antt`: they are about the definitions alone, for all bytes.
 
-ghost use Rattle.utf8_split.specs.Laws.{CutAnywhere, ItemsStay, RecipeIsSplit, ResumesIsSplit, SplitExists, SplitExtends, SplitUnique, TextIsShown, WholeIsLossy};
+ghost use Rattle.utf8_split.specs.Laws.{CutAnywhere, ItemsStay, RecipeIsSplit, ResumesIsSplit, ShownWithin, SplitExists, SplitExtends, SplitUnique, TextIsShown, WholeIsLossy};
 
 /// Any bytes decompose into characters, maximal subparts of ill-formed subsequences and a tail that
 /// more bytes could decide; the computed decomposition, the split, is one.
@@ -57,4 +57,10 @@ pub fn resumes_is_split()
 /// `from_utf8_lossy`.
 pub fn whole_is_lossy()
     ensures { WholeIsLossy }
+{}
+
+/// n bytes have at most n items, and a tail of at most three bytes; their whole lossy text takes at
+/// most 2 n bytes in UTF-16 and 3 n in UTF-8.
+pub fn shown_within()
+    ensures { ShownWithin }
 {}
