@@ -1,6 +1,7 @@
 pub mod SplitRows
-pub mod BeginLemmas
+pub mod TableLemmas
 pub mod BeginsLemmas
+pub mod PartLemmas
 pub mod ValidLemmas
 pub mod SplitLemmas
 pub mod SplitUnique

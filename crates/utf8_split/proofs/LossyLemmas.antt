@@ -6,7 +6,7 @@ use Rattle.std.specs.Option.{unwrap_or}
 use Rattle.std.specs.Str.{IsUtf8, IsValidUpTo, chars}
 use Rattle.std.specs.Str.Lossy.{after_first_chunk, replacement_bytes, utf8_error_len, utf8_lossy, utf8_valid_len}
 use Rattle.utf8_split.specs.Split.{Item, lossy_chars, lossy_text, split_items, split_tail, whole_lossy_chars}
-use Rattle.utf8_split.proofs.BeginsLemmas.{subpart_at}
+use Rattle.utf8_split.proofs.PartLemmas.{subpart_at}
 use Rattle.utf8_split.proofs.SplitIllFormed.{shown-fault, shown-incomplete, split_tail-fault, split_tail-incomplete}
 use Rattle.utf8_split.proofs.TextLemmas.{shown_text}
 use Rattle.utf8_split.proofs.ValidLemmas.{IsValidUpTo-computed, all_valid, front_valid, none_at}

@@ -7,7 +7,8 @@ use Rattle.std.specs.Str.{IsUtf8, IsValidUpTo, chars}
 use Rattle.std.specs.Str.Lossy.{utf8_error_len, utf8_valid_len}
 use Rattle.utf8_split.specs.Recipe.{Recipe, incomplete, resumed, valid}
 use Rattle.utf8_split.specs.Split.{lossy_chars, split_items, split_tail}
-use Rattle.utf8_split.proofs.BeginsLemmas.{no_bytes, subpart_at}
+use Rattle.utf8_split.proofs.BeginsLemmas.{no_bytes}
+use Rattle.utf8_split.proofs.PartLemmas.{subpart_at}
 use Rattle.utf8_split.proofs.SplitIllFormed.{shown-fault, shown-incomplete, split_tail-fault, split_tail-incomplete}
 use Rattle.utf8_split.proofs.TextLemmas.{shown_text}
 use Rattle.utf8_split.proofs.ValidLemmas.{IsValidUpTo-computed, all_valid, none_at}

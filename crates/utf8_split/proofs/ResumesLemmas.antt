@@ -5,8 +5,8 @@ use Rattle.std.proofs.lemmas.List.{map-append}
 use Rattle.std.specs.List.{concat}
 use Rattle.utf8_split.specs.Recipe.{Resumes, ended, fed}
 use Rattle.utf8_split.specs.Split.{IsTail, lossy_char, lossy_chars, split_items, split_tail}
-use Rattle.utf8_split.proofs.BeginLemmas.{tail_nil}
-use Rattle.utf8_split.proofs.BeginsLemmas.{tail_undecided}
+use Rattle.utf8_split.proofs.TableLemmas.{tail_nil}
+use Rattle.utf8_split.proofs.PartLemmas.{tail_undecided}
 use Rattle.utf8_split.proofs.RecipeLemmas.{IsOfSplit, recipe_of_split, split_of_recipe}
 use Rattle.utf8_split.proofs.SplitIllFormed.{split_undecided}
 use Rattle.utf8_split.proofs.SplitLemmas.{Split-computed}

@@ -8,7 +8,8 @@ use Rattle.utf16_units.specs.Encoding.{char_size, size}
 use Rattle.utf16_units.proofs.CharLemmas.{char_size_four, char_size_two}
 use Rattle.utf16_units.proofs.EncodingLemmas.{size-append, size-cons}
 use Rattle.utf8_split.specs.Split.{AreItems, IsTail, Item, Split, good, ill, item_bytes, items_bytes, lossy_char, lossy_chars, whole_lossy_chars}
-use Rattle.utf8_split.proofs.BeginsLemmas.{some_bytes, subpart_len}
+use Rattle.utf8_split.proofs.BeginsLemmas.{some_bytes}
+use Rattle.utf8_split.proofs.PartLemmas.{subpart_len}
 use Rattle.utf8_split.proofs.LossyLemmas.{tail_text, whole_is}
 
 -- a character takes at most twice as many bytes in UTF-16 as in UTF-8

@@ -4,7 +4,7 @@ use Rattle.std.proofs.lemmas.List.{map-append}
 use Rattle.std.specs.Str.{IsValidUpTo, StartsWithNoChar, chars}
 use Rattle.std.specs.Str.Lossy.{utf8_error_len}
 use Rattle.utf8_split.specs.Split.{Split, good, ill, lossy_char, lossy_chars, split_items, split_tail}
-use Rattle.utf8_split.proofs.BeginsLemmas.{subpart_at, tail_from}
+use Rattle.utf8_split.proofs.PartLemmas.{subpart_at, tail_from}
 use Rattle.utf8_split.proofs.SplitLemmas.{Split-computed, Split-cons, Split-nil}
 use Rattle.utf8_split.proofs.SplitUnique.{Split-unique}
 use Rattle.utf8_split.proofs.TextLemmas.{lossy_chars-good, split_items-text, split_tail-text}

@@ -6,8 +6,9 @@ use Rattle.std.specs.Char.{encode_utf8}
 use Rattle.std.specs.Str.{IsUtf8, StartsWithNoChar, all_scalars, chars}
 use Rattle.std.specs.Str.Lossy.{utf8_error_len, utf8_valid_len}
 use Rattle.utf8_split.specs.Split.{IsItem, IsTail, Item, Split, after_valid, good, ill, item_bytes, items_at, items_bytes, split_items, split_items_within, split_tail, split_tail_within, tail_at}
-use Rattle.utf8_split.proofs.BeginLemmas.{tail_nil}
-use Rattle.utf8_split.proofs.BeginsLemmas.{no_bytes, subpart_at, tail_from}
+use Rattle.utf8_split.proofs.TableLemmas.{tail_nil}
+use Rattle.utf8_split.proofs.BeginsLemmas.{no_bytes}
+use Rattle.utf8_split.proofs.PartLemmas.{subpart_at, tail_from}
 use Rattle.utf8_split.proofs.ValidLemmas.{front_valid, none_after_valid}
 
 -- bytes that are a tail alone

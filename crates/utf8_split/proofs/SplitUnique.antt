@@ -4,7 +4,7 @@ use Rattle.std.proofs.Common.{◌≡◌, ℕ, List, [], ◌∷◌, ◌++◌, Non
 use Rattle.std.proofs.lemmas.Str.{encode_same}
 use Rattle.std.specs.Str.Lossy.{utf8_error_len}
 use Rattle.utf8_split.specs.Split.{IsItem, IsTail, Item, Split, good, ill, item_bytes, items_bytes, split_items, split_tail}
-use Rattle.utf8_split.proofs.BeginsLemmas.{subpart_more, tail_undecided}
+use Rattle.utf8_split.proofs.PartLemmas.{subpart_more, tail_undecided}
 use Rattle.utf8_split.proofs.SplitLemmas.{Split-computed, Split-cons, Split-tail}
 
 -- ---- one split

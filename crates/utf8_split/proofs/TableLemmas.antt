@@ -202,12 +202,20 @@ bad_fourth x y z w rest from to second f bad = record {
 
 -- ---- what bytes begin with
 
+-- an ill-formed subpart that at most one byte after it decides: it begins a character, or is one
+-- byte
+pub record Part (part seen : List ℕ) : Type 0 where
+  pub some : 0 < length part
+  pub few : length part ≤ 3
+  pub soon : length seen ≤ 1
+  pub begins : IsTail part ⊎ (length part ≡ 1)
+  pub then : (more : List ℕ) → IsSubpart part (seen ++ more)
+
 -- a character; an ill-formed subpart, whatever bytes follow; or bytes that more bytes can make a
 -- character
 pub data Begins (bytes : List ℕ) : Type 0 where
   char : (c : ℕ) (rest : List ℕ) → IsScalar c → encode_utf8 c ++ rest ≡ bytes → Begins bytes
-  subpart : (part rest : List ℕ) → part ++ rest ≡ bytes → (0 < length part) × (length part ≤ 3)
-      → ((more : List ℕ) → IsSubpart part (rest ++ more)) → Begins bytes
+  subpart : (part seen rest : List ℕ) → part ++ (seen ++ rest) ≡ bytes → Part part seen → Begins bytes
   tail : IsTail bytes → StartsWithNoChar bytes → utf8_error_len bytes ≡ None → Begins bytes
 
 pub char_first : (front rest : List ℕ) → AreChar front → Begins (front ++ rest)
