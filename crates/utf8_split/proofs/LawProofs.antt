@@ -1,7 +1,7 @@
 -- The proofs of the laws, each under its law's name.
 use Rattle.std.proofs.Common.{length, take, take_at, refl, ap, ◌∙◌, sym, subst, []}
 use Rattle.std.proofs.lemmas.List.{map-append}
-use Rattle.utf8_split.specs.Laws.{CutAnywhere, ItemsStay, RecipeIsSplit, ResumesIsSplit, ShownWithin, SplitExists, SplitExtends, SplitUnique, TextIsShown, WholeIsLossy}
+use Rattle.utf8_split.specs.Laws.{CutAnywhere, ItemsStay, RecipeIsSplit, ResumesIsSplit, ShownWithin, SplitExists, SplitExtends, SplitUnique, SubpartIsMaximal, TailIsUndecided, TextIsShown, WholeIsLossy}
 use Rattle.utf8_split.specs.Split.{lossy_char, lossy_chars, split_items, split_tail}
 use Rattle.utf8_split.proofs.SplitLemmas.{Split-computed}
 use Rattle.utf8_split.proofs.SplitUnique.{Split-same, split_items-append, split_tail-append}
@@ -12,6 +12,8 @@ use Rattle.std.specs.List.{concat}
 use Rattle.utf8_split.proofs.ResumesLemmas.{resumes_of_split, split_of_resumes}
 use Rattle.utf8_split.proofs.LossyLemmas.{lossy_text-is}
 use Rattle.utf8_split.proofs.ShownLemmas.{split_within}
+use Rattle.utf8_split.proofs.PartLemmas.{tail_from, tail_undecided}
+use Rattle.utf8_split.proofs.MaximalLemmas.{error_len_is}
 
 pub split_exists : SplitExists
 split_exists = Split-computed
@@ -56,3 +58,9 @@ whole_is_lossy = lossy_text-is
 
 pub shown_within : ShownWithin
 shown_within bytes = split_within bytes (split_items bytes) (split_tail bytes) (split_exists bytes)
+
+pub tail_is_undecided : TailIsUndecided
+tail_is_undecided bytes = ((λ is. tail_from bytes is.0 is.1), tail_undecided bytes)
+
+pub subpart_is_maximal : SubpartIsMaximal
+subpart_is_maximal = error_len_is

@@ -12,3 +12,4 @@ pub mod RecipeLemmas
 pub mod ResumesLemmas
 pub mod LossyLemmas
 pub mod ShownLemmas
+pub mod MaximalLemmas

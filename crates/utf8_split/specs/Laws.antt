@@ -1,11 +1,11 @@
 -- The laws of the split of UTF-8, each a statement about the definitions alone, for all bytes.
-use Rattle.std.specs.Prelude.{◌≡◌, ℕ, List, [], ◌++◌, All, length, take, encode_utf8_all, ◌↔◌, ◌*◌, ◌≤◌}
+use Rattle.std.specs.Prelude.{◌≡◌, ℕ, List, [], ◌++◌, All, length, take, encode_utf8_all, ◌↔◌, ◌*◌, ◌≤◌, None, Some, ◌⊎◌, ◌<◌}
 use Rattle.std.specs.Char.{IsScalar}
-use Rattle.utf8_split.specs.Split.{Item, Split, lossy_chars, split_items, split_tail, whole_lossy_chars}
+use Rattle.utf8_split.specs.Split.{IsTail, Item, Split, lossy_chars, split_items, split_tail, whole_lossy_chars}
 use Rattle.utf8_split.specs.Recipe.{Recipe, Resumes}
 use Rattle.std.specs.List.{concat}
-use Rattle.std.specs.Str.{chars}
-use Rattle.std.specs.Str.Lossy.{utf8_lossy}
+use Rattle.std.specs.Str.{chars, StartsWithNoChar}
+use Rattle.std.specs.Str.Lossy.{utf8_lossy, utf8_error_len}
 use Rattle.utf16_units.specs.Encoding.{size}
 
 -- any bytes have a split (decomposition), the computed one
@@ -62,3 +62,22 @@ ShownWithin = (bytes : List ℕ)
     × (size (lossy_chars (split_items bytes)) ≤ 2 * length bytes)
     × (size (whole_lossy_chars (split_items bytes) (split_tail bytes)) ≤ 2 * length bytes)
     × (length (encode_utf8_all (whole_lossy_chars (split_items bytes) (split_tail bytes))) ≤ 3 * length bytes)
+
+-- bytes are a tail, which more bytes make those of one character, exactly if no character begins
+-- them and std's error has no length
+abbrev pub TailIsUndecided : Type 0
+TailIsUndecided = (bytes : List ℕ) → (StartsWithNoChar bytes × (utf8_error_len bytes ≡ None)) ↔ IsTail bytes
+
+-- the first bytes, so many, are a maximal subpart of an ill-formed subsequence in the Standard's
+-- words: the longest of these that begin a character, or one byte (Unicode, section 3.9)
+pub record IsMaximal (bytes : List ℕ) (len : ℕ) : Type 0 where
+  pub some : 0 < len
+  pub within : len ≤ length bytes
+  pub begins : IsTail (take len bytes) ⊎ (len ≡ 1)
+  pub longest : (n : ℕ) → len < n → n ≤ length bytes → ¬ (IsTail (take n bytes))
+
+-- where no character begins, the length that std's error has is that of the maximal subpart, unless
+-- all of the bytes are a tail
+abbrev pub SubpartIsMaximal : Type 0
+SubpartIsMaximal = (bytes : List ℕ) (len : ℕ) → StartsWithNoChar bytes
+    → (utf8_error_len bytes ≡ Some len) ↔ (IsMaximal bytes len × (¬ (IsTail bytes)))

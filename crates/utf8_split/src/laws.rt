@@ -4,7 +4,7 @@
 //! name in the module `Rattle.utf8_split.proofs.LawProofs`. The statements are in
 //! `specs/Laws.antt`: they are about the definitions alone, for all bytes.
 
-ghost use Rattle.utf8_split.specs.Laws.{CutAnywhere, ItemsStay, RecipeIsSplit, ResumesIsSplit, ShownWithin, SplitExists, SplitExtends, SplitUnique, TextIsShown, WholeIsLossy};
+ghost use Rattle.utf8_split.specs.Laws.{CutAnywhere, ItemsStay, RecipeIsSplit, ResumesIsSplit, ShownWithin, SplitExists, SplitExtends, SplitUnique, SubpartIsMaximal, TailIsUndecided, TextIsShown, WholeIsLossy};
 
 /// Any bytes decompose into characters, maximal subparts of ill-formed subsequences and a tail that
 /// more bytes could decide; the computed decomposition, the split, is one.
@@ -63,4 +63,16 @@ pub fn whole_is_lossy()
 /// most 2 n bytes in UTF-16 and 3 n in UTF-8.
 pub fn shown_within()
     ensures { ShownWithin }
+{}
+
+/// Bytes are the beginning of one character exactly if no character begins them and `error_len` of
+/// std's `Utf8Error` is `None`.
+pub fn tail_is_undecided()
+    ensures { TailIsUndecided }
+{}
+
+/// Where no character begins, `error_len` of std's `Utf8Error` is the length of the Standard's
+/// maximal subpart of an ill-formed subsequence, unless the bytes end before it is decided.
+pub fn subpart_is_maximal()
+    ensures { SubpartIsMaximal }
 {}
