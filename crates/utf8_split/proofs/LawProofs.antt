@@ -1,7 +1,7 @@
 -- The proofs of the laws, each under its law's name.
 use Rattle.std.proofs.Common.{length, take, take_at, refl, ap, ◌∙◌, sym, subst, []}
 use Rattle.std.proofs.lemmas.List.{map-append}
-use Rattle.utf8_split.specs.Laws.{CutAnywhere, ItemsStay, RecipeIsSplit, ResumesIsSplit, ShownWithin, SplitExists, SplitExtends, SplitUnique, SubpartIsMaximal, TailIsUndecided, TextIsShown, WholeIsLossy}
+use Rattle.utf8_split.specs.Laws.{CutAnywhere, ItemsStay, RecipeIsSplit, ResumesIsSplit, ShownAfter, ShownWithin, SplitExists, SplitExtends, SplitUnique, SubpartIsMaximal, TailInFirst, TailIsUndecided, TextIsShown, WholeIsLossy}
 use Rattle.utf8_split.specs.Split.{lossy_char, lossy_chars, split_items, split_tail}
 use Rattle.utf8_split.proofs.SplitLemmas.{Split-computed}
 use Rattle.utf8_split.proofs.SplitUnique.{Split-same, split_items-append, split_tail-append}
@@ -10,10 +10,11 @@ use Rattle.utf8_split.specs.Recipe.{Recipe, Resumes}
 use Rattle.utf8_split.proofs.RecipeLemmas.{recipe_of_split, split_of_recipe}
 use Rattle.std.specs.List.{concat}
 use Rattle.utf8_split.proofs.ResumesLemmas.{resumes_of_split, split_of_resumes}
-use Rattle.utf8_split.proofs.LossyLemmas.{lossy_text-is}
+use Rattle.utf8_split.proofs.LossyLemmas.{lossy_text-append, lossy_text-is}
 use Rattle.utf8_split.proofs.ShownLemmas.{split_within}
 use Rattle.utf8_split.proofs.PartLemmas.{tail_from, tail_undecided}
 use Rattle.utf8_split.proofs.MaximalLemmas.{error_len_is}
+use Rattle.utf8_split.proofs.AfterLemmas.{tail_first, text_after}
 
 pub split_exists : SplitExists
 split_exists = Split-computed
@@ -30,7 +31,10 @@ items_stay front back =
     ap (take (length items)) (split_items-append front back) ∙ take_at items _ (length items) refl
 
 pub cut_anywhere : CutAnywhere
-cut_anywhere front back = ap lossy_chars (split_items-append front back) ∙ map-append lossy_char (split_items front) _
+cut_anywhere front back = (
+  ap lossy_chars (split_items-append front back) ∙ map-append lossy_char (split_items front) _,
+  lossy_text-append front back,
+)
 
 pub text_is_shown : TextIsShown
 text_is_shown = shown_encode
@@ -64,3 +68,9 @@ tail_is_undecided bytes = ((λ is. tail_from bytes is.0 is.1), tail_undecided by
 
 pub subpart_is_maximal : SubpartIsMaximal
 subpart_is_maximal = error_len_is
+
+pub tail_in_first : TailInFirst
+tail_in_first = tail_first
+
+pub shown_after : ShownAfter
+shown_after tail back ends = text_after tail back ends

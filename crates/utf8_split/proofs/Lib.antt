@@ -13,3 +13,4 @@ pub mod ResumesLemmas
 pub mod LossyLemmas
 pub mod ShownLemmas
 pub mod MaximalLemmas
+pub mod AfterLemmas

@@ -5,11 +5,13 @@ use Rattle.std.proofs.lemmas.Str.{chars-append, chars-nil, utf8_lossy-IsUtf8, ut
 use Rattle.std.specs.Option.{unwrap_or}
 use Rattle.std.specs.Str.{IsUtf8, IsValidUpTo, chars}
 use Rattle.std.specs.Str.Lossy.{after_first_chunk, replacement_bytes, utf8_error_len, utf8_lossy, utf8_valid_len}
-use Rattle.utf8_split.specs.Split.{Item, lossy_chars, lossy_text, split_items, split_tail, whole_lossy_chars}
+use Rattle.utf8_split.specs.Split.{Item, lossy_char, lossy_chars, lossy_text, split_items, split_tail, whole_lossy_chars}
 use Rattle.utf8_split.proofs.PartLemmas.{subpart_at}
 use Rattle.utf8_split.proofs.SplitIllFormed.{shown-fault, shown-incomplete, split_tail-fault, split_tail-incomplete}
 use Rattle.utf8_split.proofs.TextLemmas.{shown_text}
 use Rattle.utf8_split.proofs.ValidLemmas.{IsValidUpTo-computed, all_valid, front_valid, none_at}
+use Rattle.std.proofs.lemmas.List.{map-append}
+use Rattle.utf8_split.proofs.SplitUnique.{split_items-append, split_tail-append}
 
 -- the bytes of U+FFFD spell it
 replaced : (bytes : List ℕ) → chars (replacement_bytes ++ bytes) ≡ 0xFFFD ∷ chars bytes
@@ -99,3 +101,14 @@ lossy_within (suc most) bytes within = ⊎_elim
 -- the whole lossy text is std's
 pub lossy_text-is : (bytes : List ℕ) → lossy_text bytes ≡ chars (utf8_lossy bytes)
 lossy_text-is bytes = lossy_within (length bytes) bytes (omega arith)
+
+-- ---- the whole text of a stream that is cut in two
+
+pub lossy_text-append : (front back : List ℕ) → lossy_text (front ++ back) ≡ lossy_chars (split_items front) ++ lossy_text (split_tail front ++ back)
+lossy_text-append front back =
+    let next = split_tail front ++ back in
+    lossy_is (front ++ back)
+    ∙ ap₂ (λ i t. lossy_chars i ++ tail_text t) (split_items-append front back) (split_tail-append front back)
+    ∙ ap (λ t. t ++ tail_text (split_tail next)) (map-append lossy_char (split_items front) (split_items next))
+    ∙ append_assoc (lossy_chars (split_items front)) (lossy_chars (split_items next)) (tail_text (split_tail next))
+    ∙ ap (λ t. lossy_chars (split_items front) ++ t) (sym (lossy_is next))

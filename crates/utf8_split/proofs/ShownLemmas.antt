@@ -24,7 +24,7 @@ char_size-le c =
     omega (arith, char_size_four c two))
     (cases_lt c 0x1_0000)
 
-replacement_size : char_size 0xFFFD ≡ 2
+pub replacement_size : char_size 0xFFFD ≡ 2
 replacement_size = char_size_two 0xFFFD (omega arith)
 
 replacement_len : length (encode_utf8 0xFFFD) ≡ 3
@@ -42,7 +42,7 @@ item_within (ill part) items tail are =
     let some = (subpart_len part (items_bytes items ++ tail) are.0).0 in
     (omega arith, omega (arith, replacement_size), omega (arith, replacement_len))
 
-items_within : (items : List Item) (tail : List ℕ) → AreItems items tail
+pub items_within : (items : List Item) (tail : List ℕ) → AreItems items tail
     → (length items ≤ length (items_bytes items)) × (size (lossy_chars items) ≤ 2 * length (items_bytes items))
     × (length (encode_utf8_all (lossy_chars items)) ≤ 3 * length (items_bytes items))
 unfolding size
@@ -61,7 +61,7 @@ items_within (item ∷ items) tail are =
     let three_more = rest.2 in
     (omega arith, omega arith, omega arith)
 
-tail_within : (tail : List ℕ) → (size (tail_text tail) ≤ 2 * length tail) × (length (encode_utf8_all (tail_text tail)) ≤ 3 * length tail)
+pub tail_within : (tail : List ℕ) → (size (tail_text tail) ≤ 2 * length tail) × (length (encode_utf8_all (tail_text tail)) ≤ 3 * length tail)
 unfolding size
 tail_within [] = (omega arith, omega arith)
 tail_within (first ∷ after) =

@@ -32,7 +32,7 @@ one_item (ill part) (ill other) rest more is also e =
     )
 
 -- what the first item and the bytes after it are
-first_bytes : (bytes : List ℕ) (item : Item) (items : List Item) (tail : List ℕ) → Split bytes (item ∷ items) tail
+pub first_bytes : (bytes : List ℕ) (item : Item) (items : List Item) (tail : List ℕ) → Split bytes (item ∷ items) tail
     → item_bytes item ++ (items_bytes items ++ tail) ≡ bytes
 first_bytes bytes item items tail s = sym (append_assoc (item_bytes item) (items_bytes items) tail) ∙ s.spelled
 
@@ -84,3 +84,11 @@ module _ (front back : List ℕ) where
 
   pub split_tail-append : split_tail (front ++ back) ≡ split_tail (split_tail front ++ back)
   split_tail-append = sym both_same.1
+
+-- bytes that leave no tail, and then any others
+module _ (front back : List ℕ) (none : split_tail front ≡ []) where
+  pub split_items-past : split_items (front ++ back) ≡ split_items front ++ split_items back
+  split_items-past = split_items-append front back ∙ ap (λ t. split_items front ++ split_items (t ++ back)) none
+
+  pub split_tail-past : split_tail (front ++ back) ≡ split_tail back
+  split_tail-past = split_tail-append front back ∙ ap (λ t. split_tail (t ++ back)) none

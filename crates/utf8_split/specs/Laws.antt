@@ -1,7 +1,7 @@
 -- The laws of the split of UTF-8, each a statement about the definitions alone, for all bytes.
-use Rattle.std.specs.Prelude.{◌≡◌, ℕ, List, [], ◌++◌, All, length, take, encode_utf8_all, ◌↔◌, ◌*◌, ◌≤◌, None, Some, ◌⊎◌, ◌<◌}
+use Rattle.std.specs.Prelude.{◌≡◌, ◌∷◌, ℕ, List, [], ◌++◌, All, length, take, encode_utf8_all, ◌↔◌, ◌*◌, ◌≤◌, None, Some, ◌⊎◌, ◌<◌, ◌+◌}
 use Rattle.std.specs.Char.{IsScalar}
-use Rattle.utf8_split.specs.Split.{IsTail, Item, Split, lossy_chars, split_items, split_tail, whole_lossy_chars}
+use Rattle.utf8_split.specs.Split.{IsTail, Item, Split, decided_text, item_bytes, lossy_chars, lossy_text, split_items, split_tail, whole_lossy_chars}
 use Rattle.utf8_split.specs.Recipe.{Recipe, Resumes}
 use Rattle.std.specs.List.{concat}
 use Rattle.std.specs.Str.{chars, StartsWithNoChar}
@@ -28,10 +28,11 @@ abbrev pub ItemsStay : Type 0
 ItemsStay = (front back : List ℕ) → take (length (split_items front)) (split_items (front ++ back)) ≡ split_items front
 
 -- the lossy text of a stream, however it is cut in two: that of the first chunk, and then that of
--- its tail followed by the second
+-- its tail followed by the second; and so with U+FFFD for a tail that is left at the end
 abbrev pub CutAnywhere : Type 0
 CutAnywhere = (front back : List ℕ)
-    → lossy_chars (split_items (front ++ back)) ≡ lossy_chars (split_items front) ++ lossy_chars (split_items (split_tail front ++ back))
+    → (decided_text (front ++ back) ≡ decided_text front ++ decided_text (split_tail front ++ back))
+    × (lossy_text (front ++ back) ≡ decided_text front ++ lossy_text (split_tail front ++ back))
 
 -- the lossy text of a text's UTF-8 is that text, and nothing is left
 abbrev pub TextIsShown : Type 0
@@ -81,3 +82,14 @@ pub record IsMaximal (bytes : List ℕ) (len : ℕ) : Type 0 where
 abbrev pub SubpartIsMaximal : Type 0
 SubpartIsMaximal = (bytes : List ℕ) (len : ℕ) → StartsWithNoChar bytes
     → (utf8_error_len bytes ≡ Some len) ↔ (IsMaximal bytes len × (¬ (IsTail bytes)))
+
+-- bytes that follow a tail complete it: all of it is in the first item
+abbrev pub TailInFirst : Type 0
+TailInFirst = (tail back : List ℕ) (item : Item) (items : List Item) (last : List ℕ) → IsTail tail → Split (tail ++ back) (item ∷ items) last
+    → length tail ≤ length (item_bytes item)
+
+-- the bytes after a tail give at most two bytes of UTF-16 each, in either byte order, and the tail
+-- two more, with U+FFFD for what is left at the end too
+abbrev pub ShownAfter : Type 0
+ShownAfter = (tail back : List ℕ) → IsTail tail
+    → (size (decided_text (tail ++ back)) ≤ 2 * length back + 2) × (size (lossy_text (tail ++ back)) ≤ 2 * length back + 2)

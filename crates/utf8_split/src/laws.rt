@@ -4,7 +4,7 @@
 //! name in the module `Rattle.utf8_split.proofs.LawProofs`. The statements are in
 //! `specs/Laws.antt`: they are about the definitions alone, for all bytes.
 
-ghost use Rattle.utf8_split.specs.Laws.{CutAnywhere, ItemsStay, RecipeIsSplit, ResumesIsSplit, ShownWithin, SplitExists, SplitExtends, SplitUnique, SubpartIsMaximal, TailIsUndecided, TextIsShown, WholeIsLossy};
+ghost use Rattle.utf8_split.specs.Laws.{CutAnywhere, ItemsStay, RecipeIsSplit, ResumesIsSplit, ShownAfter, ShownWithin, SplitExists, SplitExtends, SplitUnique, SubpartIsMaximal, TailInFirst, TailIsUndecided, TextIsShown, WholeIsLossy};
 
 /// Any bytes decompose into characters, maximal subparts of ill-formed subsequences and a tail that
 /// more bytes could decide; the computed decomposition, the split, is one.
@@ -75,4 +75,16 @@ pub fn tail_is_undecided()
 /// maximal subpart of an ill-formed subsequence, unless the bytes end before it is decided.
 pub fn subpart_is_maximal()
     ensures { SubpartIsMaximal }
+{}
+
+/// A tail that was kept is inside the first item that it and the bytes after it give: nothing of it
+/// is decoded twice, or kept longer.
+pub fn tail_in_first()
+    ensures { TailInFirst }
+{}
+
+/// A chunk of n bytes after a tail that was kept gives at most 2 n + 2 bytes of UTF-16, with U+FFFD
+/// for a tail that is left.
+pub fn shown_after()
+    ensures { ShownAfter }
 {}
