@@ -1,12 +1,12 @@
 -- The laws of the split of UTF-8, each a statement about the definitions alone, for all bytes.
-use Rattle.std.specs.Prelude.{◌≡◌, ◌∷◌, ℕ, List, [], ◌++◌, All, length, take, encode_utf8_all, ◌↔◌, ◌*◌, ◌≤◌, None, Some, ◌⊎◌, ◌<◌, ◌+◌}
+use Rattle.std.specs.Prelude.{◌≡◌, ◌↔◌, ◌⊎◌, ℕ, ◌+◌, ◌*◌, ◌<◌, ◌≤◌, List, [], ◌∷◌, ◌++◌, None, Some, All, length, take, encode_utf8_all}
 use Rattle.std.specs.Char.{IsScalar}
-use Rattle.utf8_split.specs.Split.{IsTail, Item, Split, decided_text, item_bytes, lossy_chars, lossy_text, split_items, split_tail, whole_lossy_chars}
-use Rattle.utf8_split.specs.Recipe.{Recipe, Resumes}
 use Rattle.std.specs.List.{concat}
-use Rattle.std.specs.Str.{chars, StartsWithNoChar}
-use Rattle.std.specs.Str.Lossy.{utf8_lossy, utf8_error_len}
+use Rattle.std.specs.Str.{StartsWithNoChar, chars}
+use Rattle.std.specs.Str.Lossy.{utf8_error_len, utf8_lossy}
 use Rattle.utf16_units.specs.Encoding.{size}
+use Rattle.utf8_split.specs.Recipe.{Recipe, Resumes}
+use Rattle.utf8_split.specs.Split.{IsTail, Item, Split, decided_text, item_bytes, lossy_chars, lossy_text, split_items, split_tail, whole_lossy_chars}
 
 -- any bytes have a split (decomposition), the computed one
 abbrev pub SplitExists : Type 0

@@ -29,7 +29,8 @@ pub fn items_stay()
 {}
 
 /// A stream cut in two has the text of the whole stream: that of the first chunk, and then that of
-/// its tail followed by the second chunk. So the text does not depend on how a stream is cut.
+/// its tail followed by the second chunk, with U+FFFD for a tail that is left at the end too. So
+/// the text does not depend on how a stream is cut.
 pub fn cut_anywhere()
     ensures { CutAnywhere }
 {}
