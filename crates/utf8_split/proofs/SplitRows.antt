@@ -1,6 +1,7 @@
 -- The split computed of known bytes, most of them ill-formed: each row is checked by evaluation
 -- alone.
-use Rattle.std.specs.Prelude.{◌≡◌, ℕ, Bool, true, false, List, [], ◌∷◌, length, refl, bytes_eq}
+use Rattle.std.specs.Prelude.{◌≡◌, ℕ, Bool, true, false, List, [], ◌∷◌, ◌++◌, length, refl, bytes_eq}
+use Rattle.std.proofs.Common.{ap, arith}
 use Rattle.std.specs.Char.{encode_utf8}
 use Rattle.std.specs.List.{flat_map, list_all}
 use Rattle.std.specs.Str.{chars, is_utf8}
@@ -57,3 +58,11 @@ rows =
 rows_shown : list_all is_shown rows ≡ true
 unfolding split_items split_tail chars is_utf8 utf8_error_len utf8_lossy utf8_valid_len encode_utf8
 rows_shown = refl
+
+-- the items of two chunks are not those of each alone: the tail of the first comes before the
+-- second
+seam_counts : ¬ ((front back : List ℕ) → split_items (front ++ back) ≡ split_items front ++ split_items back)
+unfolding split_items split_tail chars is_utf8 utf8_error_len utf8_valid_len encode_utf8
+seam_counts each_alone =
+    let same : 1 ≡ 2 = ap (λ items. length items) (each_alone (0xE4 ∷ []) (0xB8 ∷ 0xAD ∷ [])) in
+    omega (arith, same)
