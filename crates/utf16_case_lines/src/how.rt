@@ -84,8 +84,8 @@ pub struct How {
 
 impl How {
     /// Reads a word: `le`, `be` or `both`, and each condition after a `;`: `refuse=2`,
-    /// `refuse=2..`, `with_capacity=8`, `counted`, `capacity`, `reads=1,2`, `writes=1,2`, `read=fails@3`,
-    /// `write=nothing@1`.
+    /// `refuse=2..`, `with_capacity=8`, `counted`, `capacity`, `reads=1,2`, `writes=1,2`,
+    /// `read=fails@3`, `write=nothing@1`.
     pub fn read(alloc: Global, word: &str) -> Result<Self, Trouble> {
         let mut parts = word.split(';');
         let (little, big) = match parts.next() {

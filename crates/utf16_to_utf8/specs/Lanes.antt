@@ -33,8 +33,8 @@ wide unit = two_bytes 0x80E0 (unit / 2 ^ 6)
 abbrev pub third : ℕ → ℕ
 third unit = plus (bit_and unit 0x3F) 0x80
 
--- the payload bits of the first two bytes that any unit from U+0080 on adds, with the tag bits of the
--- first above them
+-- the payload bits of the first two bytes that any unit from U+0080 on adds, with the tag bits of
+-- the first above them
 abbrev pub front_bits : ℕ → ℕ → ℕ
 front_bits before unit = if is_surrogate unit then surrogate_bits before unit else (if nat_lt unit 0x800 then plus unit 0x3000 else plus (unit / 2 ^ 6) 0x3800)
 
@@ -45,8 +45,8 @@ front before unit = if nat_lt unit 0x80 then unit else two_bytes 0x8000 (front_b
 abbrev pub added_len : ℕ → ℕ
 added_len unit = if nat_lt unit 0x80 then 1 else (if nat_lt unit 0x800 then 2 else (if is_surrogate unit then 2 else 3))
 
--- which bytes a unit does not add: the low half of a lane for the second byte, the high half for the
--- third
+-- which bytes a unit does not add: the low half of a lane for the second byte, the high half for
+-- the third
 abbrev pub absence : ℕ → ℕ
 absence unit = if nat_lt unit 0x80 then 0xFFFF else (if nat_lt unit 0x800 then 0xFF00 else (if is_surrogate unit then 0xFF00 else 0))
 
