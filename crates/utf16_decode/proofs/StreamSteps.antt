@@ -121,7 +121,7 @@ module _ (pending piece window : List ℕ) (read : ℕ) (within : read ≤ lengt
   pub start_joined : window ++ after_seam ≡ drop read (pending ++ piece)
   start_joined = ap (λ w. w ++ after_seam) start_is ∙ take-append-drop 4 (drop read (pending ++ piece))
 
-  few_after : length window ≤ 3 → after_seam ≡ []
+  pub few_after : length window ≤ 3 → after_seam ≡ []
   few_after few =
       let short = ap length start_is ∙ length-take 4 (drop read (pending ++ piece)) in
       drop_all 4 (drop read (pending ++ piece)) (omega (arith, short, few))

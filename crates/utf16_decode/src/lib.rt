@@ -3,6 +3,7 @@
 #![tactic(auto)]
 
 mod direction;
+mod joined;
 mod lossy;
 mod progress;
 mod stream;
@@ -10,6 +11,7 @@ mod utf8;
 mod well_formed;
 
 pub use crate::direction::{Direction, transcode};
+pub use crate::joined::{joined_start, rest_of};
 pub use crate::lossy::{REPLACEMENT, to_utf8_lossy, to_utf8_partial};
 pub use crate::progress::{Progress, Stop, put};
 pub use crate::stream::Stream;

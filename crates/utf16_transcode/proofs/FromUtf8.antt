@@ -60,7 +60,7 @@ text_behind bytes read m le within front all =
     IsUtf8-behind (take read bytes) (take (m - read) (drop read bytes)) front (subst IsUtf8 split all)
 
 -- an ill-formed sequence after a text begins where the longest valid prefix ends
-valid_to : (bytes : List ℕ) (read : ℕ) → read < length bytes → IsUtf8 (take read bytes) → StartsWithNoChar (drop read bytes) → IsValidUpTo bytes read
+pub valid_to : (bytes : List ℕ) (read : ℕ) → read < length bytes → IsUtf8 (take read bytes) → StartsWithNoChar (drop read bytes) → IsValidUpTo bytes read
 valid_to bytes read within front none = record {
   short = within;
   front = front;

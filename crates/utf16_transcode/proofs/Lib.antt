@@ -1,5 +1,6 @@
-pub mod LossyLemmas
-pub mod LossyShown
-pub mod CutLemmas
-pub mod BetweenLemmas
 pub mod FromUtf8
+pub mod LossyLemmas
+pub mod CutLemmas
+pub mod DecodesUtf8
+pub mod DecodedText
+pub mod FeedsUtf8

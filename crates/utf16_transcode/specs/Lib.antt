@@ -1,1 +1,2 @@
 pub mod FromUtf8
+pub mod Utf8Stream

@@ -4,6 +4,7 @@ ghost use Rattle.std.specs.Prelude.{◌≡◌, ◌-◌, ◌*◌, ◌≤◌, leng
 ghost use Rattle.std.specs.List.{flat_map};
 ghost use Rattle.utf16_units.specs.Encoding.{char_bytes, size};
 ghost use Rattle.utf16_transcode.specs.FromUtf8.{text_of_utf8};
+ghost use Rattle.utf16_transcode.specs.Utf8Stream.{DecodesUtf8To, StopsLossyUtf8};
 ghost use Rattle.utf16_decode.specs.Shown.{ShowsWhole};
 ghost use Rattle.utf16_decode.specs.Stops.{StopsLossyWhole};
 
@@ -13,9 +14,48 @@ use utf16_from_utf8::utf16_len;
 use utf16_units::Utf16Order;
 
 // U+FFFD, the replacement character, and its length in bytes of UTF-16.
-const REPLACEMENT: u16 = 0xFFFD;
+pub(crate) const REPLACEMENT: u16 = 0xFFFD;
 
-const REPLACEMENT_LEN: usize = 2;
+pub(crate) const REPLACEMENT_LEN: usize = 2;
+
+/// Writes the text of UTF-8 in UTF-16 to the start of a buffer, as far as whole characters fit: the
+/// characters, and U+FFFD for each ill-formed sequence, one for each maximal subpart. An incomplete
+/// character at the end is not read. Any bytes are allowed. Bytes of the buffer after the written
+/// ones may have been overwritten.
+///
+/// # Complexity
+///
+/// Linear time in the number of bytes read.
+pub fn from_utf8_partial<E: Utf16Order>(text: &[u8], to: &mut [u8]) -> Progress
+    ensures decodes { DecodesUtf8To E.BIG text.now to.new result.read result.written }
+    ensures stop { StopsLossyUtf8 E.BIG (drop result.read text.now)
+        (length to.new - result.written) result.stop }
+{
+    let replacement = E::write_unit(REPLACEMENT);
+    let mut read = 0;
+    let mut written = 0;
+    loop {
+        let front = from_utf8::<E>(&text[read..], &mut to[written..]);
+        read += front.read;
+        written += front.written;
+        let Stop::IllFormed(len) = front.stop else {
+            return Progress {
+                read,
+                written,
+                stop: front.stop,
+            };
+        };
+        if to.len() - written < REPLACEMENT_LEN {
+            return Progress {
+                read,
+                written,
+                stop: Stop::NoRoom,
+            };
+        }
+        read += len as usize;
+        written = put(&replacement, to, written);
+    }
+}
 
 /// Writes the whole text of UTF-8 in UTF-16 to the start of a buffer, as far as whole characters
 /// fit, with U+FFFD for each ill-formed sequence: one for each maximal subpart, and one for an
@@ -39,33 +79,21 @@ pub fn from_utf8_lossy<E: Utf16Order>(text: &[u8], to: &mut [u8]) -> Progress
     ensures between { take result.written to.new
         ≡ flat_map (char_bytes E.BIG) (text_of_utf8 (take result.read text.now)) }
 {
-    let replacement = E::write_unit(REPLACEMENT);
-    let mut read = 0;
-    let mut written = 0;
-    loop {
-        let front = from_utf8::<E>(&text[read..], &mut to[written..]);
-        read += front.read;
-        written += front.written;
-        let len = match front.stop {
-            Stop::IllFormed(len) => len as usize,
-            Stop::Incomplete => text.len() - read,
-            Stop::Done | Stop::NoRoom => {
-                return Progress {
-                    read,
-                    written,
-                    stop: front.stop,
-                };
-            }
+    let front = from_utf8_partial::<E>(text, to);
+    let Stop::Incomplete = front.stop else {
+        return front;
+    };
+    if to.len() - front.written < REPLACEMENT_LEN {
+        return Progress {
+            read: front.read,
+            written: front.written,
+            stop: Stop::NoRoom,
         };
-        if to.len() - written < REPLACEMENT_LEN {
-            return Progress {
-                read,
-                written,
-                stop: Stop::NoRoom,
-            };
-        }
-        read += len;
-        written = put(&replacement, to, written);
+    }
+    Progress {
+        read: text.len(),
+        written: put(&E::write_unit(REPLACEMENT), to, front.written),
+        stop: Stop::Done,
     }
 }
 

@@ -1,14 +1,17 @@
 //! UTF-16 to UTF-8 and back over buffers of the caller's, without allocation: all of
-//! `utf16_decode`, UTF-8 to UTF-16, and the length of each result.
+//! `utf16_decode`, UTF-8 to UTF-16 also as a stream that comes in chunks, and the length of each
+//! result.
 #![tactic(auto)]
 
 mod encode;
 mod sizes;
+mod stream;
 mod units;
 mod utf16;
 
-pub use crate::encode::{from_utf8_lossy, from_utf8_lossy_len};
+pub use crate::encode::{from_utf8_lossy, from_utf8_lossy_len, from_utf8_partial};
 pub use crate::sizes::{from_utf8_len, to_utf8_lossy_len};
+pub use crate::stream::Utf8Stream;
 pub use crate::units::{count_chars, is_ascii};
 pub use crate::utf16::from_utf8;
 pub use utf16_decode::{

@@ -2,7 +2,7 @@ use Rattle.std.proofs.Common.{◌≡◌, ◌+◌, ◌-◌, ◌<◌, ◌≤◌, �
 use Rattle.std.proofs.lemmas.Bool.{cases_lt}
 use Rattle.std.proofs.lemmas.Slice.{take-put_mid}
 use Rattle.utf16_decode.proofs.StreamSteps.{start_bytes}
-use Rattle.utf16_decode.proofs.stream.joined_start.Goals as goal
+use Rattle.utf16_decode.proofs.joined.joined_start.Goals as goal
 
 pub returns-clause-bytes : goal.returns-clause-bytes
 returns-clause-bytes c =

@@ -1,0 +1,38 @@
+//! Pending bytes and a chunk after them, as if they were contiguous.
+
+ghost use Rattle.std.specs.Prelude.{◌≡◌, ◌+◌, ◌-◌, ◌≤◌, ◌++◌, length, take, drop};
+
+/// Returns what follows offset `at` in the pending bytes and the chunk: the part of each.
+///
+/// # Precondition
+///
+/// `at` is at most the number of bytes of both.
+pub fn rest_of<'a>(pending: &'a [u8], piece: &'a [u8], at: usize) -> (&'a [u8], &'a [u8])
+    requires { at ≤ length pending.now + length piece.now }
+    ensures left { result.0.now ≡ drop at pending.now }
+    ensures piece { result.1.now ≡ drop (at - length pending.now) piece.now }
+{
+    (
+        &pending[at.min(pending.len())..],
+        &piece[at.saturating_sub(pending.len())..],
+    )
+}
+
+/// Returns the first four bytes of the pending bytes and the chunk, or all of them if they are
+/// fewer, and their number.
+///
+/// # Precondition
+///
+/// At most three bytes are pending.
+pub fn joined_start(pending: &[u8], piece: &[u8]) -> ([u8; 4], usize)
+    requires { length pending.now ≤ 3 }
+    ensures few { result.1 ≤ 4 }
+    ensures bytes { take result.1 result.0 ≡ take 4 (pending.now ++ piece.now) }
+{
+    let front = &piece[..piece.len().min(4 - pending.len())];
+    let len = pending.len() + front.len();
+    let mut joined = [0; 4];
+    joined[..pending.len()].copy_from_slice(pending);
+    joined[pending.len()..len].copy_from_slice(front);
+    (joined, len)
+}
