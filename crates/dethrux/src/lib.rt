@@ -7,6 +7,7 @@ mod bom;
 mod byte_order;
 mod decoder;
 mod results;
+mod utf8_decoder;
 mod version;
 
 ghost use Rattle.std.specs.Prelude.{◌≡◌, ◌↔◌, ◌<◌, ◌≤◌, ◌+◌, ◌-◌, ◌*◌, ◌/◌, ◌%◌, All, IsTrue, count_by, drop, encode_utf8_all, length, take};

@@ -19,7 +19,7 @@ use Rattle.utf16_decode.specs.declared.progress.Stop.TheVariants.{Incomplete, Do
 use Rattle.utf16_transcode.specs.FromUtf8.{text_of_utf8}
 use Rattle.utf16_transcode.specs.Utf8Stream.{DecodesUtf8, DecodesUtf8To, StopsLossyUtf8}
 use Rattle.utf16_transcode.proofs.CutLemmas.{text-cut}
-use Rattle.utf16_transcode.proofs.DecodesUtf8.{undecided_items}
+use Rattle.utf16_transcode.proofs.DecodesUtf8.{taken_bytes, undecided_items}
 use Rattle.utf16_transcode.proofs.FromUtf8.{chars-char, valid_to}
 use Rattle.utf16_transcode.proofs.LossyLemmas.{text-empty, utf8_lossy-behind}
 
@@ -135,14 +135,10 @@ pub between : (big : Bool) (utf8 to : List ℕ) (read written : ℕ) → Decodes
 between big utf8 to read written d =
     let rest = drop read utf8 in
     let taken = d.decodes.taken in
-    let all = Split-computed utf8 in
-    let spelled : items_bytes taken ++ rest ≡ utf8 =
-    ap (λ b. items_bytes taken ++ b) (sym (Split-computed rest).spelled) ∙ sym (append_assoc (items_bytes taken) (items_bytes (split_items rest)) (split_tail rest))
-    ∙ ap (λ b. b ++ split_tail rest) (sym (flat_map-append item_bytes taken (split_items rest)))
-    ∙ ap₂ (λ i t. items_bytes i ++ t) (sym d.decodes.items) (sym d.decodes.tail) ∙ all.spelled in
     let front : take read utf8 ≡ items_bytes taken =
-    append_cancel_right (take read utf8) (items_bytes taken) rest (take-append-drop read utf8 ∙ sym spelled) in
-    let made = subst (λ i. AreItems i (split_tail utf8)) d.decodes.items all.made in
+    append_cancel_right (take read utf8) (items_bytes taken) rest
+    (take-append-drop read utf8 ∙ sym (taken_bytes utf8 rest taken d.decodes.items d.decodes.tail)) in
+    let made = subst (λ i. AreItems i (split_tail utf8)) d.decodes.items (Split-computed utf8).made in
     written_is big utf8 to read written d
     ∙ ap (flat_map (char_bytes big)) (sym (items_shown taken (split_items rest) (split_tail utf8) made) ∙ ap text_of_utf8 (sym front))
 

@@ -2,13 +2,14 @@
 use Rattle.std.proofs.Common.{◌≡◌, ◌⊎◌, inl, inr, ℕ, ◌+◌, ◌-◌, ◌<◌, ◌≤◌, Bool, List, [], ◌∷◌, ◌++◌, Some, length, map, take, drop, refl, sym, ap, ap₂, ◌∙◌, subst, arith, append_assoc, append-nil, length-append, length-drop, take-append-drop}
 use borrow.Rule.Slice.PartMut.{put_mid}
 use Rattle.std.proofs.lemmas.List.{drop-append-le, drop-drop, drop_all, map-append}
+use Rattle.std.proofs.lemmas.List.Concat.{flat_map-append}
 use Rattle.std.proofs.lemmas.Str.{IsUtf8-encode}
 use Rattle.std.specs.Char.{encode_utf8}
 use Rattle.std.specs.Str.{StartsWithNoChar, chars}
 use Rattle.std.specs.Str.Lossy.{utf8_error_len}
 use Rattle.utf16_units.specs.Encoding.{char_bytes, encode}
 use Rattle.utf16_units.proofs.EncodingLemmas.{encode-append, encode-nil, encode-one}
-use Rattle.utf8_split.specs.Split.{IsTail, Item, good, ill, lossy_char, lossy_chars, split_items, split_tail}
+use Rattle.utf8_split.specs.Split.{IsTail, Item, good, ill, item_bytes, items_bytes, lossy_char, lossy_chars, split_items, split_tail}
 use Rattle.utf8_split.proofs.PartLemmas.{subpart_at}
 use Rattle.utf8_split.proofs.ShownLemmas.{length-IsTail}
 use Rattle.utf8_split.proofs.SplitIllFormed.{split_items-subpart, split_tail-subpart, split_undecided}
@@ -56,6 +57,14 @@ Decodes-more big bytes rest behind old new d = record {
   tail = split_tail-append bytes behind ∙ ap (λ t. split_tail (t ++ behind)) d.tail ∙ sym (split_tail-append rest behind);
   text = ap (λ t. old ++ t) d.text;
 }
+
+-- the bytes are those of the items that were decoded, and then the rest
+pub taken_bytes : (bytes rest : List ℕ) (taken : List Item) → split_items bytes ≡ taken ++ split_items rest → split_tail bytes ≡ split_tail rest
+    → items_bytes taken ++ rest ≡ bytes
+taken_bytes bytes rest taken items tail =
+    ap (λ b. items_bytes taken ++ b) (sym (Split-computed rest).spelled) ∙ sym (append_assoc (items_bytes taken) (items_bytes (split_items rest)) (split_tail rest))
+    ∙ ap (λ b. b ++ split_tail rest) (sym (flat_map-append item_bytes taken (split_items rest)))
+    ∙ ap₂ (λ i t. items_bytes i ++ t) (sym items) (sym tail) ∙ (Split-computed bytes).spelled
 
 -- ---- the tail
 

@@ -1,21 +1,24 @@
 -- UTF-8 that is in two places, and the bytes of it that are pending.
 use Rattle.std.proofs.Common.{◌≡◌, ◌⊎◌, inl, inr, ℕ, ◌+◌, ◌-◌, ◌*◌, ◌<◌, ◌≤◌, Bool, List, [], ◌∷◌, ◌++◌, length, take, drop, refl, sym, ap, ap₂, ◌∙◌, subst, arith, append-nil, length-append, length-drop, length-take-le, ⊎_elim}
 use Rattle.std.proofs.lemmas.Bool.{cases_lt}
-use Rattle.std.proofs.lemmas.List.{drop_all}
+use Rattle.std.proofs.lemmas.List.{append_cancel_right, drop_all}
 use Rattle.utf16_units.specs.Encoding.{char_bytes, encode, size}
 use Rattle.utf16_units.proofs.CharLemmas.{char_size_cases, length-char_bytes}
 use Rattle.utf16_units.proofs.EncodingLemmas.{encode-one, length-encode, size-cons, size-nil}
 use Rattle.utf16_units.proofs.IllFormedLemmas.{rest_from}
-use Rattle.utf8_split.specs.Split.{IsTail, decided_text, lossy_chars, split_items, split_tail, whole_lossy_chars}
+use Rattle.utf8_split.specs.Split.{IsTail, Item, Split, decided_text, item_bytes, items_bytes, lossy_chars, split_items, split_tail, whole_lossy_chars}
+use Rattle.utf8_split.proofs.AfterLemmas.{tail_first}
+use Rattle.utf8_split.proofs.BeginsLemmas.{no_bytes}
 use Rattle.utf8_split.proofs.LawProofs.{shown_after, shown_within}
 use Rattle.utf8_split.proofs.ShownLemmas.{replacement_size}
 use Rattle.utf8_split.proofs.SplitLemmas.{Split-computed}
+use Rattle.utf8_split.proofs.TableLemmas.{tail_nil}
 use Rattle.utf16_decode.proofs.StreamSteps.{few_after, join_drop}
 use Rattle.utf16_decode.specs.Stops.{TextDoesNotFit}
 use Rattle.utf16_decode.specs.declared.progress.Stop.{Stop}
 use Rattle.utf16_decode.specs.declared.progress.Stop.TheVariants.{Incomplete, Done, IllFormed, NoRoom}
 use Rattle.utf16_transcode.specs.Utf8Stream.{DecodesUtf8, DecodesUtf8To, FeedsUtf8, StopsFeedingUtf8, StopsLossyUtf8}
-use Rattle.utf16_transcode.proofs.DecodesUtf8.{length-split_tail, shown, shown-append, undecided_items}
+use Rattle.utf16_transcode.proofs.DecodesUtf8.{length-split_tail, shown, shown-append, taken_bytes, undecided_items}
 
 -- if none of the four bytes at the chunk boundary is decoded, they are the last ones, or there is
 -- no space
@@ -149,3 +152,31 @@ enough_after_tail pending piece room tail fits = omega (arith, (shown_after pend
 -- after any pending bytes, two for each byte of both
 pub enough_after_any : (pending piece : List ℕ) (room : ℕ) → 2 * (length pending + length piece) ≤ room → size (decided_text (pending ++ piece)) ≤ room
 enough_after_any pending piece room fits = omega (arith, (shown_within (pending ++ piece)).2, length-append pending piece, fits)
+
+-- whatever the reason that a call stopped, what it leaves pending of a tail is a tail: all of the
+-- tail is in the first item
+pub leaves_tail : (big : Bool) (pending piece left to : List ℕ) (read written room : ℕ) (stop : Stop) → IsTail pending → FeedsUtf8 big pending piece left to read written
+    → StopsFeedingUtf8 big pending piece left read room stop → IsTail left
+leaves_tail big pending piece left to read written room Done tail feeds here = pending_is_tail left (pending ++ piece) here.1
+leaves_tail big pending piece left to read written room (IllFormed len) tail feeds here = absurd here
+leaves_tail big pending piece left to read written room Incomplete tail feeds here = absurd here
+leaves_tail big pending piece left to read written room NoRoom tail feeds here = ⊎_elim (λ (zero : read ≡ 0). unread zero) (λ (none : left ≡ []). subst IsTail (sym none) tail_nil) here.0 where
+  by_taken : (taken : List Item) → items_bytes taken ++ (left ++ piece) ≡ pending ++ piece → split_items (pending ++ piece) ≡ taken ++ split_items (left ++ piece) → IsTail left
+  by_taken [] bytes items = subst IsTail (sym (append_cancel_right left pending piece bytes)) tail
+  by_taken (item ∷ taken) bytes items =
+      let split = subst (λ i. Split (pending ++ piece) i (split_tail (pending ++ piece))) items (Split-computed (pending ++ piece)) in
+      let first = tail_first pending piece item (taken ++ split_items (left ++ piece)) (split_tail (pending ++ piece)) tail split in
+      let all = ap length bytes in
+      let front = length-append (item_bytes item) (items_bytes taken) in
+      let parts = length-append (items_bytes (item ∷ taken)) (left ++ piece) in
+      let last = length-append left piece in
+      let both = length-append pending piece in
+      subst IsTail (sym (no_bytes left (omega arith))) tail_nil
+
+  unread : read ≡ 0 → IsTail left
+  unread zero =
+      let same : left ++ drop read piece ≡ left ++ piece = ap (λ k. left ++ drop k piece) zero in
+      let taken = feeds.decodes.taken in
+      by_taken taken
+      (ap (λ r. items_bytes taken ++ r) (sym same) ∙ taken_bytes (pending ++ piece) (left ++ drop read piece) taken feeds.decodes.items feeds.decodes.tail)
+      (feeds.decodes.items ∙ ap (λ r. taken ++ split_items r) same)

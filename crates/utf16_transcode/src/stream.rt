@@ -1,8 +1,8 @@
 //! UTF-8 that comes in chunks, cut anywhere, with the pending bytes in a value of the caller's.
 
-ghost use Rattle.std.specs.Prelude.{◌≡◌, ◌≢◌, ◌↔◌, ◌+◌, ◌-◌, ◌<◌, ◌≤◌, [], ◌∷◌, ◌++◌, length, take, drop};
+ghost use Rattle.std.specs.Prelude.{◌≡◌, ◌≢◌, ◌↔◌, ◌+◌, ◌-◌, ◌*◌, ◌<◌, ◌≤◌, [], ◌∷◌, ◌++◌, length, take, drop};
 ghost use Rattle.utf16_units.specs.Encoding.{encode, size};
-ghost use Rattle.utf8_split.specs.Split.{decided_text, whole_lossy_chars};
+ghost use Rattle.utf8_split.specs.Split.{IsTail, decided_text, whole_lossy_chars};
 ghost use Rattle.utf16_transcode.specs.Utf8Stream.{DecodesUtf8To, FeedsUtf8, StopsFeedingUtf8, StopsLossyUtf8, utf8_stream_pending};
 ghost use Rattle.utf16_decode.specs.declared.progress.Stop.TheVariants.{Done, NoRoom};
 
@@ -63,10 +63,10 @@ impl Utf8Stream {
     /// With `Done` all of the chunk was taken, and what more bytes could change is pending. With
     /// `NoRoom` the next character does not fit: call again with the rest of the chunk and more
     /// space. Fewer than four bytes of the buffer are left then, so into a buffer of four bytes or
-    /// more something was written. After a `feed` that returned `Done`, and for a stream at its
-    /// beginning, `2 * piece.len() + 2` bytes of space suffice for `Done`; always twice the number
-    /// of bytes that are pending and in the chunk does. Bytes of the buffer after the written ones
-    /// may have been overwritten.
+    /// more something was written. In a stream whose fields only `new` and `feed` set,
+    /// `2 * piece.len() + 2` bytes of space suffice for `Done`; with any fields, two bytes for each
+    /// byte that is pending or in the chunk. Bytes of the buffer after the written ones may have
+    /// been overwritten.
     ///
     /// # Complexity
     ///
@@ -81,6 +81,12 @@ impl Utf8Stream {
             ↔ (size (decided_text (utf8_stream_pending self.old ++ piece.now)) ≤ length to.new) }
         ensures filled { result.stop ≡ NoRoom → length to.new < result.written + 4 }
         ensures few { self.new.len ≤ 3 }
+        ensures tail { IsTail (utf8_stream_pending self.old)
+            → IsTail (utf8_stream_pending self.new) }
+        ensures succeeds { IsTail (utf8_stream_pending self.old)
+            → 2 * length piece.now + 2 ≤ length to.new → result.stop ≡ Done }
+        ensures succeeds_always { 2 * (length (utf8_stream_pending self.old) + length piece.now) ≤ length to.new
+            → result.stop ≡ Done }
     {
         let (progress, pending) = feed_after::<E>(self.pending(), piece, to);
         *self = pending;
