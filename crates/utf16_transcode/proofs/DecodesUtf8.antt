@@ -22,7 +22,7 @@ use Rattle.utf16_decode.specs.declared.progress.Stop.{Stop}
 use Rattle.utf16_decode.specs.declared.progress.Stop.TheVariants.{Incomplete, Done, IllFormed, NoRoom}
 use Rattle.utf16_decode.proofs.WroteLemmas.{put_end-long, take-end}
 use Rattle.utf16_transcode.specs.FromUtf8.{StopsEncoding, TranscodesToUtf16}
-use Rattle.utf16_transcode.specs.Utf8Stream.{DecodesUtf8, DecodesUtf8To, StopsLossyUtf8}
+use Rattle.utf16_transcode.specs.Utf8Stream.{DecodesUtf8, DecodesUtf8To, FirstItem, StopsLossyUtf8}
 use Rattle.utf16_transcode.proofs.FromUtf8.{chars-char}
 use Rattle.utf8_split.proofs.ValidLemmas.{none_at}
 
@@ -176,15 +176,6 @@ stops_text big utf8 n left NoRoom no_fault here = record {
       ∙ ap lossy_chars (split_items-text (encode_utf8 here.char) here.more text ∙ ap (λ t. map good t ++ split_items here.more) (chars-char here.char here.scalar));
   too_long = here.too_long;
 }
-
--- the first item is a character or U+FFFD, and n bytes long
-pub record FirstItem (bytes : List ℕ) (char n : ℕ) : Type 0 where
-  pub item : Item
-  pub is : lossy_char item ≡ char
-  pub some : 0 < n
-  pub within : n ≤ length bytes
-  pub items : split_items bytes ≡ item ∷ split_items (drop n bytes)
-  pub tail : split_tail bytes ≡ split_tail (drop n bytes)
 
 -- an ill-formed subpart
 pub FirstItem-subpart : (bytes : List ℕ) (len : ℕ) → StartsWithNoChar bytes → utf8_error_len bytes ≡ Some len → FirstItem bytes 0xFFFD len

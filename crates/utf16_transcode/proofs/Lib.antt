@@ -2,5 +2,6 @@ pub mod FromUtf8
 pub mod LossyLemmas
 pub mod CutLemmas
 pub mod DecodesUtf8
+pub mod ItemLemmas
 pub mod DecodedText
 pub mod FeedsUtf8

@@ -1,9 +1,9 @@
 -- A stream of UTF-8 that comes in chunks and is written in UTF-16: what was decoded, why a call
 -- stopped, what is pending between the chunks, and what a chunk adds. `left` and `room` are the
 -- number of bytes of the buffer after those written.
-use Rattle.std.specs.Prelude.{◌≡◌, ◌≢◌, ℕ, ◌≤◌, ◌⊎◌, Bool, List, [], ◌++◌, length, take, drop}
+use Rattle.std.specs.Prelude.{◌≡◌, ◌≢◌, ℕ, ◌<◌, ◌≤◌, ◌⊎◌, Bool, List, [], ◌∷◌, ◌++◌, length, take, drop}
 use Rattle.utf16_units.specs.Encoding.{char_bytes, encode}
-use Rattle.utf8_split.specs.Split.{Item, lossy_chars, split_items, split_tail}
+use Rattle.utf8_split.specs.Split.{Item, lossy_char, lossy_chars, split_items, split_tail}
 use Rattle.utf16_decode.specs.Stops.{TextDoesNotFit}
 use Rattle.utf16_decode.specs.declared.progress.Stop.{Stop}
 use Rattle.utf16_decode.specs.declared.progress.Stop.TheVariants.{Incomplete, Done, IllFormed, NoRoom}
@@ -22,6 +22,16 @@ pub record DecodesUtf8To (big : Bool) (utf8 to : List ℕ) (read written : ℕ) 
   pub within : read ≤ length utf8
   pub fits : written ≤ length to
   pub decodes : DecodesUtf8 big utf8 (drop read utf8) [] (take written to)
+
+-- the first item of the bytes has n bytes, and its character is this one: U+FFFD for an ill-formed
+-- subpart
+pub record FirstItem (bytes : List ℕ) (char n : ℕ) : Type 0 where
+  pub item : Item
+  pub is : lossy_char item ≡ char
+  pub some : 0 < n
+  pub within : n ≤ length bytes
+  pub items : split_items bytes ≡ item ∷ split_items (drop n bytes)
+  pub tail : split_tail bytes ≡ split_tail (drop n bytes)
 
 -- for a lossy call: nothing is left, or more bytes could change what is left, or the next character
 -- does not fit

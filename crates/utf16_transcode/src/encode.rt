@@ -8,6 +8,7 @@ ghost use Rattle.utf16_transcode.specs.Utf8Stream.{DecodesUtf8To, StopsLossyUtf8
 ghost use Rattle.utf16_decode.specs.Shown.{ShowsWhole};
 ghost use Rattle.utf16_decode.specs.Stops.{StopsLossyWhole};
 
+use crate::items::put_items;
 use crate::utf16::from_utf8;
 use utf16_decode::{Progress, Stop, put};
 use utf16_from_utf8::utf16_len;
@@ -54,6 +55,9 @@ pub fn from_utf8_partial<E: Utf16Order>(text: &[u8], to: &mut [u8]) -> Progress
         }
         read += len as usize;
         written = put(&replacement, to, written);
+        let (len, size) = put_items::<E>(&text[read..], &mut to[written..]);
+        read += len;
+        written += size;
     }
 }
 

@@ -4,6 +4,7 @@
 #![tactic(auto)]
 
 mod encode;
+mod items;
 mod sizes;
 mod stream;
 mod units;

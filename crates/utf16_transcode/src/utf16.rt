@@ -1,11 +1,11 @@
 //! UTF-8 to UTF-16, up to the first ill-formed sequence.
 
-ghost use Rattle.std.specs.Prelude.{◌≡◌, ◌&&◌, ◌+◌, ◌-◌, ◌*◌, ◌<◌, ◌≤◌, IfErr, IfOk, length, take};
+ghost use Rattle.std.specs.Prelude.{◌≡◌, ◌&&◌, ◌+◌, ◌-◌, ◌*◌, ◌<◌, ◌≤◌, ◌++◌, IfErr, IfOk, length, take};
 ghost use Rattle.std.specs.Char.{encode_utf8};
 ghost use Rattle.std.specs.Int.{is_in_range};
 ghost use Rattle.std.specs.Str.{IsUtf8, chars};
 ghost use Rattle.std.specs.Str.Lossy.{second_byte_max, second_byte_min};
-ghost use Rattle.utf16_units.specs.Encoding.{char_bytes, encode};
+ghost use Rattle.utf16_units.specs.Encoding.{char_bytes, char_size, encode};
 ghost use Rattle.utf16_transcode.specs.FromUtf8.{TranscodesToUtf16, IsIllFormedUtf8, IsIllFormedUtf8At, StopsEncoding};
 ghost use Rattle.utf16_decode.specs.Wrote.{Wrote};
 ghost use Rattle.utf16_decode.specs.Stops.{BeginsWith};
@@ -73,7 +73,7 @@ impl<E: Utf16Order> Direction for FromUtf8<E> {
         if to.len() - at < c.encoded_utf16_len() {
             return None;
         }
-        Some(at + c.encode_utf16_into::<E>(&mut to[at..]))
+        Some(put_char::<E>(c, to, at))
     }
 
     #[inline(always)]
@@ -90,6 +90,16 @@ impl<E: Utf16Order> Direction for FromUtf8<E> {
     fn write(text: &[u8], to: &mut [u8]) -> usize {
         write_units::<E>([0; 2], text, to)
     }
+}
+
+// Writes a character that fits at `at`, and returns where it ends.
+#[inline(always)]
+pub(crate) fn put_char<E: Utf16Order>(c: char, to: &mut [u8], at: usize) -> usize
+    requires { at + char_size c ≤ length to.old }
+    ensures within { result ≤ length to.new }
+    ensures bytes { take result to.new ≡ take at to.old ++ char_bytes E.BIG c }
+{
+    at + c.encode_utf16_into::<E>(&mut to[at..])
 }
 
 // Returns the length of the longest valid prefix. `before` valid bytes precede it.
@@ -149,7 +159,7 @@ fn part_len(rest: &[u8], part: usize) -> usize
 
 // Whether a character of two bytes or more can begin with these two (Unicode Standard, table 3-7).
 #[inline(always)]
-fn can_begin(lead: u8, second: u8) -> bool
+pub(crate) fn can_begin(lead: u8, second: u8) -> bool
     ensures { result ≡ (is_in_range 0xC2 0xF4 lead
         && is_in_range (second_byte_min lead) (second_byte_max lead) second) }
 {

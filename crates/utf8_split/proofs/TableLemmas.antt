@@ -19,6 +19,14 @@ pub record AreChar (bytes : List ℕ) : Type 0 where
   scalar : IsScalar char
   spelled : encode_utf8 char ≡ bytes
 
+-- so are those of a character that is known
+pub record Spells (char : ℕ) (bytes : List ℕ) : Type 0 where
+  pub scalar : IsScalar char
+  pub spelled : encode_utf8 char ≡ bytes
+
+are_char : (char : ℕ) (bytes : List ℕ) → Spells char bytes → AreChar bytes
+are_char char bytes is = record { char = char; scalar = is.scalar; spelled = is.spelled }
+
 -- a second byte that may follow the first (Unicode, table 3-7)
 abbrev pub IsSecond : ℕ → ℕ → Type 0
 IsSecond x y = is_in_range (second_byte_min x) (second_byte_max x) y ≡ true
@@ -30,15 +38,21 @@ is_false false not_true = refl
 scalar_from : (c : ℕ) → (c < 0xD800) ⊎ ((0xE000 ≤ c) × (c < 0x11_0000)) → IsScalar c
 scalar_from c within = grind (arith, nat_tests)
 
-pub one_byte : (x : ℕ) → x < 0x80 → AreChar (x ∷ [])
-one_byte x low = record { char = x; scalar = scalar_from x (inl (omega arith)); spelled = one x low }
+pub one_spelled : (x : ℕ) → x < 0x80 → Spells x (x ∷ [])
+one_spelled x low = record { scalar = scalar_from x (inl (omega arith)); spelled = one x low }
 
-pub two_bytes : (x y : ℕ) → 0xC2 ≤ x → x < 0xE0 → Follows y → AreChar (x ∷ y ∷ [])
-two_bytes x y from to f =
+pub one_byte : (x : ℕ) → x < 0x80 → AreChar (x ∷ [])
+one_byte x low = are_char x (x ∷ []) (one_spelled x low)
+
+pub two_spelled : (x y : ℕ) → 0xC2 ≤ x → x < 0xE0 → Follows y → Spells ((x - 192) * 64 + (y - 128)) (x ∷ y ∷ [])
+two_spelled x y from to f =
     let c = (x - 192) * 64 + (y - 128) in
     let first : 192 + c / 64 ≡ x = omega arith in
     let second : 128 + c % 64 ≡ y = omega arith in
-    record { char = c; scalar = scalar_from c (inl (omega arith)); spelled = two c (omega arith) (omega arith) ∙ (λ i. first i ∷ second i ∷ []) }
+    record { scalar = scalar_from c (inl (omega arith)); spelled = two c (omega arith) (omega arith) ∙ (λ i. first i ∷ second i ∷ []) }
+
+pub two_bytes : (x y : ℕ) → 0xC2 ≤ x → x < 0xE0 → Follows y → AreChar (x ∷ y ∷ [])
+two_bytes x y from to f = are_char _ (x ∷ y ∷ []) (two_spelled x y from to f)
 
 pub second_follows : (x y : ℕ) → IsSecond x y → Follows y
 second_follows x y second = (grind (arith, nat_tests), grind (arith, nat_tests))
@@ -59,8 +73,9 @@ second_four x y from to second =
     let f = second_follows x y second in
     (grind (arith, nat_tests), grind (arith, nat_tests))
 
-pub three_bytes : (x y z : ℕ) → 0xE0 ≤ x → x < 0xF0 → IsSecond x y → Follows z → AreChar (x ∷ y ∷ z ∷ [])
-three_bytes x y z from to second f =
+pub three_spelled : (x y z : ℕ) → 0xE0 ≤ x → x < 0xF0 → IsSecond x y → Follows z
+    → Spells ((x - 224) * 4096 + (y - 128) * 64 + (z - 128)) (x ∷ y ∷ z ∷ [])
+three_spelled x y z from to second f =
     let s = second_follows x y second in
     let high = second_three x y from to second in
     let c = (x - 224) * 4096 + (y - 128) * 64 + (z - 128) in
@@ -72,10 +87,14 @@ three_bytes x y z from to second f =
     let one : 224 + c / 4096 ≡ x = omega arith in
     let two : 128 + c / 64 % 64 ≡ y = omega arith in
     let last : 128 + c % 64 ≡ z = omega arith in
-    record { char = c; scalar = scalar_from c scalar; spelled = three c (omega arith) (omega arith) ∙ (λ i. one i ∷ two i ∷ last i ∷ []) }
+    record { scalar = scalar_from c scalar; spelled = three c (omega arith) (omega arith) ∙ (λ i. one i ∷ two i ∷ last i ∷ []) }
 
-pub four_bytes : (x y z w : ℕ) → 0xF0 ≤ x → x ≤ 0xF4 → IsSecond x y → Follows z → Follows w → AreChar (x ∷ y ∷ z ∷ w ∷ [])
-four_bytes x y z w from to second f g =
+pub three_bytes : (x y z : ℕ) → 0xE0 ≤ x → x < 0xF0 → IsSecond x y → Follows z → AreChar (x ∷ y ∷ z ∷ [])
+three_bytes x y z from to second f = are_char _ (x ∷ y ∷ z ∷ []) (three_spelled x y z from to second f)
+
+pub four_spelled : (x y z w : ℕ) → 0xF0 ≤ x → x ≤ 0xF4 → IsSecond x y → Follows z → Follows w
+    → Spells ((x - 240) * 262144 + (y - 128) * 4096 + (z - 128) * 64 + (w - 128)) (x ∷ y ∷ z ∷ w ∷ [])
+four_spelled x y z w from to second f g =
     let s = second_follows x y second in
     let high = second_four x y from to second in
     let least = high.0 in
@@ -86,7 +105,10 @@ four_bytes x y z w from to second f g =
     let two : 128 + c / 4096 % 64 ≡ y = omega arith in
     let three : 128 + c / 64 % 64 ≡ z = omega arith in
     let last : 128 + c % 64 ≡ w = omega arith in
-    record { char = c; scalar = scalar_from c (inr (omega arith, omega arith)); spelled = four c (omega arith) ∙ (λ i. one i ∷ two i ∷ three i ∷ last i ∷ []) }
+    record { scalar = scalar_from c (inr (omega arith, omega arith)); spelled = four c (omega arith) ∙ (λ i. one i ∷ two i ∷ three i ∷ last i ∷ []) }
+
+pub four_bytes : (x y z w : ℕ) → 0xF0 ≤ x → x ≤ 0xF4 → IsSecond x y → Follows z → Follows w → AreChar (x ∷ y ∷ z ∷ w ∷ [])
+four_bytes x y z w from to second f g = are_char _ (x ∷ y ∷ z ∷ w ∷ []) (four_spelled x y z w from to second f g)
 
 -- ---- what begins such a character
 

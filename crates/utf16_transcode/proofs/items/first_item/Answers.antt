@@ -1,0 +1,44 @@
+use Rattle.std.proofs.Common.{◌∙◌, [], ◌∷◌, sym, subst}
+use Rattle.utf16_transcode.specs.Utf8Stream.{FirstItem}
+use Rattle.utf16_transcode.proofs.ItemLemmas.{ascii, four, no_fourth, no_start, no_third, three, two}
+use Rattle.utf16_transcode.proofs.items.first_item.Goals as goal
+
+pub returns-then-lead-lt128 : goal.returns-then-lead-lt128
+returns-then-lead-lt128 c = ascii _ _ _ _ c.if-lead-lt128.true
+
+pub returns-else-lead-lt128 : goal.returns-else-lead-lt128
+returns-else-lead-lt128 c = no_start _ _ _ _ c.if-lead-lt128.false (sym c.can_begin.ensures ∙ c.if-not-can_begin.true)
+
+pub returns-then-lead-lt224 : goal.returns-then-lead-lt224
+returns-then-lead-lt224 c =
+    let a = c.args in
+    let begins = sym c.can_begin.ensures ∙ c.if-not-can_begin.false in
+    subst (λ k. FirstItem (a.lead ∷ a.second ∷ a.third ∷ a.fourth ∷ []) k 2) (sym c.from_u32_unchecked.ensures) (two a.lead a.second a.third a.fourth begins c.if-lead-lt224.true)
+
+pub returns-then-not-is_continuation : goal.returns-then-not-is_continuation
+returns-then-not-is_continuation c =
+    let a = c.args in
+    let begins = sym c.can_begin.ensures ∙ c.if-not-can_begin.false in
+    no_third a.lead a.second a.third a.fourth begins c.if-lead-lt224.false (sym c.is_continuation.ensures ∙ c.if-not-is_continuation.true)
+
+pub returns-then-lead-lt240 : goal.returns-then-lead-lt240
+returns-then-lead-lt240 c =
+    let a = c.args in
+    let begins = sym c.can_begin.ensures ∙ c.if-not-can_begin.false in
+    let third = sym c.is_continuation.ensures ∙ c.if-not-is_continuation.false in
+    subst (λ k. FirstItem (a.lead ∷ a.second ∷ a.third ∷ a.fourth ∷ []) k 3) (sym c.from_u32_unchecked-then-lead-lt240.ensures) (three a.lead a.second a.third a.fourth begins c.if-lead-lt224.false third c.if-lead-lt240.true)
+
+pub returns-then-not-is_continuation-2 : goal.returns-then-not-is_continuation-2
+returns-then-not-is_continuation-2 c =
+    let a = c.args in
+    let begins = sym c.can_begin.ensures ∙ c.if-not-can_begin.false in
+    let third = sym c.is_continuation.ensures ∙ c.if-not-is_continuation.false in
+    no_fourth a.lead a.second a.third a.fourth begins c.if-lead-lt224.false third c.if-lead-lt240.false (sym c.is_continuation-2.ensures ∙ c.if-not-is_continuation-2.true)
+
+pub returns : goal.returns
+returns c =
+    let a = c.args in
+    let begins = sym c.can_begin.ensures ∙ c.if-not-can_begin.false in
+    let third = sym c.is_continuation.ensures ∙ c.if-not-is_continuation.false in
+    let fourth = sym c.is_continuation-2.ensures ∙ c.if-not-is_continuation-2.false in
+    subst (λ k. FirstItem (a.lead ∷ a.second ∷ a.third ∷ a.fourth ∷ []) k 4) (sym c.from_u32_unchecked-2.ensures) (four a.lead a.second a.third a.fourth begins c.if-lead-lt224.false third c.if-lead-lt240.false fourth)
