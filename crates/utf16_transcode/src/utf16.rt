@@ -163,6 +163,10 @@ pub(crate) fn can_begin(lead: u8, second: u8) -> bool
     ensures { result ≡ (is_in_range 0xC2 0xF4 lead
         && is_in_range (second_byte_min lead) (second_byte_max lead) second) }
 {
+    // The upper two bits of both bytes, in one test that few other pairs pass.
+    if lead / 0x40 * 4 + second / 0x40 != 0b1110 {
+        return false;
+    }
     let (least, most) = match lead {
         0xE0 => (0xA0, 0xBF),
         0xED => (0x80, 0x9F),
