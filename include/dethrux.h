@@ -28,15 +28,18 @@
     (DETHRUX_VERSION_MAJOR * 1000000 + DETHRUX_VERSION_MINOR * 1000 + DETHRUX_VERSION_PATCH)
 
 /* Capacities that suffice for every input of `len` bytes, and that some input needs: for
- * dethrux_to_utf8_lossy, for the conversions from UTF-8, for dethrux_decoder_feed, and for
- * dethrux_decoder_finish. No formula wraps for a `len` of at most PTRDIFF_MAX. */
+ * dethrux_to_utf8_lossy, for the conversions from UTF-8, for dethrux_decoder_feed, for
+ * dethrux_decoder_finish, for dethrux_utf8_decoder_feed, and for dethrux_utf8_decoder_finish. No
+ * formula wraps for a `len` below PTRDIFF_MAX. */
 #define DETHRUX_UTF8_MAX(len) (((size_t)(len) + 1) / 2 * 3)
 #define DETHRUX_UTF16_MAX(len) ((size_t)(len) * 2)
 #define DETHRUX_FEED_MAX(len) (((size_t)(len) + 3) / 2 * 3)
 #define DETHRUX_FINISH_MAX 3
+#define DETHRUX_UTF8_FEED_MAX(len) ((size_t)(len) * 2 + 2)
+#define DETHRUX_UTF8_FINISH_MAX 2
 
 /* The most bytes that dethrux_to_utf8_partial leaves unread with DETHRUX_INCOMPLETE, and that a
- * decoder keeps. */
+ * decoder of either kind keeps. */
 #define DETHRUX_PENDING_MAX 3
 
 #if (defined(__cplusplus) && __cplusplus >= 201703L) \
@@ -117,6 +120,14 @@ typedef struct dethrux_decoder {
 } dethrux_decoder;
 
 #define DETHRUX_DECODER_INIT {{0, 0, 0}, 0}
+
+/* The same for a stream of UTF-8: DETHRUX_UTF8_DECODER_INIT begins it. */
+typedef struct dethrux_utf8_decoder {
+    uint8_t pending[DETHRUX_PENDING_MAX];
+    uint8_t pending_len;
+} dethrux_utf8_decoder;
+
+#define DETHRUX_UTF8_DECODER_INIT {{0, 0, 0}, 0}
 
 /* Returns the version of the library as a number, DETHRUX_VERSION of its header. */
 DETHRUX_NODISCARD uint32_t dethrux_version(void);
@@ -201,6 +212,26 @@ DETHRUX_NODISCARD dethrux_progress dethrux_decoder_feed(
  * `written` stay as they were. */
 DETHRUX_NODISCARD dethrux_progress dethrux_decoder_finish(
     dethrux_decoder *decoder, uint8_t *to, size_t capacity);
+
+/* Decodes the next chunk of a stream of UTF-8, cut anywhere, to UTF-16, with U+FFFD as in
+ * dethrux_from_utf8_lossy for each ill-formed sequence, and keeps an incomplete character at the
+ * end in *decoder: DETHRUX_DONE or DETHRUX_NO_SPACE. `read` counts bytes of the chunk. With
+ * DETHRUX_DONE all of it was read. With DETHRUX_NO_SPACE the next character does not fit: call
+ * again with the rest; fewer than 4 bytes of `to` were left, so with a capacity of 4 or more
+ * something was written. A capacity of DETHRUX_UTF8_FEED_MAX(len) suffices for a decoder whose
+ * fields only these calls have set, and 2 * (pending_len + len), a `pending_len` above 3 read as 3,
+ * for any. However the stream is cut, the same bytes are written in all. Pass one byte order for a
+ * whole stream. */
+DETHRUX_NODISCARD dethrux_progress dethrux_utf8_decoder_feed(
+    dethrux_utf8_decoder *decoder, dethrux_byte_order byte_order, const uint8_t *chunk, size_t len,
+    uint8_t *to, size_t capacity);
+
+/* Ends a stream whose last chunk was read: writes U+FFFD, of 2 bytes, if bytes are not decoded yet,
+ * else nothing, and the decoder begins a new stream: DETHRUX_DONE. With DETHRUX_NO_SPACE nothing
+ * changed. `read` is 0. A capacity of DETHRUX_UTF8_FINISH_MAX suffices. Here the bytes of `to`
+ * after `written` stay as they were. */
+DETHRUX_NODISCARD dethrux_progress dethrux_utf8_decoder_finish(
+    dethrux_utf8_decoder *decoder, dethrux_byte_order byte_order, uint8_t *to, size_t capacity);
 
 /* Returns the BOM at the start of a stream (FF FE: little endian, FE FF: big endian) and the byte
  * order: big endian without a BOM, as the Unicode Standard has it. The BOM is no part of the text:

@@ -383,16 +383,49 @@ static bool comes_so_far(const conversion *by, dethrux_byte_order order, const t
     return is;
 }
 
+/* A decoder, of UTF-16 or of UTF-8, and its byte order. */
+typedef struct {
+    bool back; /* from UTF-8 */
+    dethrux_byte_order order;
+    dethrux_decoder utf16;
+    dethrux_utf8_decoder utf8;
+} decoder;
+
+static decoder new_decoder(bool back, dethrux_byte_order order) {
+    return (decoder){back, order, DETHRUX_DECODER_INIT, DETHRUX_UTF8_DECODER_INIT};
+}
+
+static dethrux_progress feed(decoder *by, const uint8_t *chunk, size_t len, uint8_t *to, size_t room) {
+    return by->back ? dethrux_utf8_decoder_feed(&by->utf8, by->order, chunk, len, to, room)
+                    : dethrux_decoder_feed(&by->utf16, by->order, chunk, len, to, room);
+}
+
+static dethrux_progress finish(decoder *by, uint8_t *to, size_t room) {
+    return by->back ? dethrux_utf8_decoder_finish(&by->utf8, by->order, to, room) : dethrux_decoder_finish(&by->utf16, to, room);
+}
+
+static size_t finish_max(const decoder *by) {
+    return by->back ? DETHRUX_UTF8_FINISH_MAX : DETHRUX_FINISH_MAX;
+}
+
+static text pending_of(decoder *by) {
+    return by->back ? (text){by->utf8.pending, by->utf8.pending_len, 0} : (text){by->utf16.pending, by->utf16.pending_len, 0};
+}
+
+static bool is_unchanged(const decoder *by, const decoder *before) {
+    return memcmp(&by->utf16, &before->utf16, sizeof by->utf16) == 0 && memcmp(&by->utf8, &before->utf8, sizeof by->utf8) == 0;
+}
+
 /* Feeds a decoder a chunk, again with the rest of it, with a buffer of so many bytes, and appends
  * what was written. */
-static bool feed_all(dethrux_byte_order order, dethrux_decoder *decoder, const uint8_t *piece, size_t len, size_t room, text *all) {
+static bool feed_all(decoder *by, const uint8_t *piece, size_t len, size_t room, text *all) {
     bool is = true;
     dethrux_progress found = {0, 0, DETHRUX_NO_SPACE, 0};
     while (is && found.status == DETHRUX_NO_SPACE) {
         text to = blank(room);
-        found = dethrux_decoder_feed(decoder, order, piece, len, to.bytes, room);
-        is = found.read <= len && found.error_len == 0 && decoder->pending_len <= DETHRUX_PENDING_MAX && found.written <= room && is_blank(&to, room)
-            && (found.status == DETHRUX_NO_SPACE ? found.written > 0 : found.status == DETHRUX_DONE && found.read == len);
+        found = feed(by, piece, len, to.bytes, room);
+        is = found.read <= len && found.error_len == 0 && pending_of(by).len <= DETHRUX_PENDING_MAX && found.written <= room && is_blank(&to, room)
+            && (found.status == DETHRUX_NO_SPACE ? found.written > 0 && found.written + 4 > room : found.status == DETHRUX_DONE && found.read == len);
         append(all, to.bytes, is ? found.written : 0);
         piece += is ? found.read : 0;
         len -= is ? found.read : 0;
@@ -403,35 +436,35 @@ static bool feed_all(dethrux_byte_order order, dethrux_decoder *decoder, const u
 
 /* Ends a stream: without capacity for U+FFFD nothing changes, else it is written if bytes are
  * pending. */
-static bool finish_all(dethrux_decoder *decoder, text *all) {
-    size_t pending = decoder->pending_len;
-    text to = blank(DETHRUX_FINISH_MAX);
+static bool finish_all(decoder *by, text *all) {
+    size_t pending = pending_of(by).len, most = finish_max(by);
+    text to = blank(most);
     bool is = true;
-    for (size_t room = 0; is && room < DETHRUX_FINISH_MAX; room++) {
-        dethrux_decoder before = *decoder;
-        dethrux_progress found = dethrux_decoder_finish(decoder, to.bytes, room);
+    for (size_t room = 0; is && room < most; room++) {
+        decoder before = *by;
+        dethrux_progress found = finish(by, to.bytes, room);
         is = found.status == (pending > 0 ? DETHRUX_NO_SPACE : DETHRUX_DONE) && found.read == 0 && found.written == 0
-            && memcmp(&before, decoder, sizeof before) == 0 && is_blank(&to, 0);
+            && is_unchanged(by, &before) && is_blank(&to, 0);
     }
-    dethrux_progress end = dethrux_decoder_finish(decoder, to.bytes, DETHRUX_FINISH_MAX);
-    is = is && end.status == DETHRUX_DONE && end.read == 0 && end.written == (pending > 0 ? DETHRUX_FINISH_MAX : 0) && end.error_len == 0
-        && decoder->pending_len == 0 && is_blank(&to, DETHRUX_FINISH_MAX);
+    dethrux_progress end = finish(by, to.bytes, most);
+    is = is && end.status == DETHRUX_DONE && end.read == 0 && end.written == (pending > 0 ? most : 0) && end.error_len == 0
+        && pending_of(by).len == 0 && is_blank(&to, most);
     append(all, to.bytes, is ? end.written : 0);
     free(to.bytes);
     return is;
 }
 
 /* Decodes in chunks of so many bytes by a decoder, with buffers of so many. */
-static bool in_pieces(dethrux_byte_order order, const text *from, size_t first, size_t then, size_t room, text *all) {
-    dethrux_decoder decoder = DETHRUX_DECODER_INIT;
+static bool in_pieces(bool back, dethrux_byte_order order, const text *from, size_t first, size_t then, size_t room, text *all) {
+    decoder by = new_decoder(back, order);
     size_t at = 0, len = first < from->len ? first : from->len;
     bool is = true;
     do {
-        is = feed_all(order, &decoder, from->bytes + at, len, room, all);
+        is = feed_all(&by, from->len > 0 ? from->bytes + at : NULL, len, room, all);
         at += len;
         len = then < from->len - at ? then : from->len - at;
     } while (is && at < from->len);
-    return is && finish_all(&decoder, all);
+    return is && finish_all(&by, all);
 }
 
 /* Decodes in chunks by the partial call: the caller puts the unread bytes before the next chunk. */
@@ -468,14 +501,14 @@ static bool by_hand(dethrux_byte_order order, const text *from, size_t piece, si
 
 /* Whether every chunking gives this text: in two, in chunks of one length, with buffers of several
  * sizes. */
-static bool is_cut_anywhere(dethrux_byte_order order, const text *from, const text *utf8) {
+static bool is_cut_anywhere(bool back, dethrux_byte_order order, const text *from, const text *whole) {
     bool is = true;
     for (size_t room = 4; is && room <= 9; room++) {
         for (size_t at = 0; is && at <= from->len + 1; at++) {
             text kept = {0}, pieces = {0}, hand = {0};
-            is = in_pieces(order, from, at, from->len, room, &kept) && same(&kept, utf8)
-                && in_pieces(order, from, at + 1, at + 1, room, &pieces) && same(&pieces, utf8)
-                && by_hand(order, from, at + 1, room, &hand) && same(&hand, utf8);
+            is = in_pieces(back, order, from, at, from->len, room, &kept) && same(&kept, whole)
+                && in_pieces(back, order, from, at + 1, at + 1, room, &pieces) && same(&pieces, whole)
+                && (back || (by_hand(order, from, at + 1, room, &hand) && same(&hand, whole)));
             free(kept.bytes);
             free(pieces.bytes);
             free(hand.bytes);
@@ -530,7 +563,8 @@ static const char *contradicted(const conversion *by, dethrux_byte_order order, 
     if (!comes_so_far(by, order, from, found, to->bytes)) {
         return "rooms";
     }
-    if (by->make == dethrux_to_utf8_lossy && !is_cut_anywhere(order, from, &written)) {
+    bool lossy = by->make == dethrux_to_utf8_lossy || by->make == dethrux_from_utf8_lossy;
+    if (lossy && !is_cut_anywhere(by->back, order, from, &written)) {
         return "pieces";
     }
     if (strict && found.status == DETHRUX_DONE) {
@@ -648,11 +682,11 @@ static void ask_from_utf16(dethrux_byte_order order, const text *raw, text *answ
 static void add_decoded(dethrux_byte_order order, const uint8_t *raw, size_t len, text *answer) {
     text from = {0}, utf8 = {0};
     append(&from, raw, len);
-    if (!in_pieces(order, &from, len, len, 3 * len + 4, &utf8)) {
+    if (!in_pieces(false, order, &from, len, len, 3 * len + 4, &utf8)) {
         add_word(answer, "stream");
     }
     add_text(answer, utf8.bytes, utf8.len);
-    if (len <= SHORT && !is_cut_anywhere(order, &from, &utf8)) {
+    if (len <= SHORT && !is_cut_anywhere(false, order, &from, &utf8)) {
         add_word(answer, "pieces");
     }
     free(from.bytes);
@@ -675,42 +709,42 @@ static void ask_every_any_chunking(dethrux_byte_order order, const text *raw, te
 }
 
 /* Calls over chunks. */
-typedef bool over_pieces(dethrux_byte_order order, dethrux_decoder *decoder, const text *piece, size_t room, text *answer, text *all);
+typedef bool over_pieces(decoder *by, const text *piece, size_t room, text *answer, text *all);
 
-static bool feed_to_buffer(dethrux_byte_order order, dethrux_decoder *decoder, const text *piece, size_t room, text *answer, text *all) {
+static bool feed_to_buffer(decoder *by, const text *piece, size_t room, text *answer, text *all) {
     text to = blank(room);
-    dethrux_progress found = dethrux_decoder_feed(decoder, order, piece->bytes, piece->len, to.bytes, room);
+    dethrux_progress found = feed(by, piece->bytes, piece->len, to.bytes, room);
     (void)all;
     add_progress(answer, found);
-    add_text(answer, to.bytes, found.written);
-    add_bytes(answer, decoder->pending, decoder->pending_len);
+    add_found(answer, !by->back, to.bytes, found.written);
+    add_bytes(answer, pending_of(by).bytes, pending_of(by).len);
     bool is = is_blank(&to, room);
     free(to.bytes);
     return is;
 }
 
-static bool feed_and_show(dethrux_byte_order order, dethrux_decoder *decoder, const text *piece, size_t room, text *answer, text *all) {
+static bool feed_and_show(decoder *by, const text *piece, size_t room, text *answer, text *all) {
     text utf8 = {0};
     (void)all;
-    bool is = feed_all(order, decoder, piece->bytes, piece->len, room + 3 * piece->len + 4, &utf8);
+    bool is = feed_all(by, piece->bytes, piece->len, room + 3 * piece->len + 4, &utf8);
     add_text(answer, utf8.bytes, utf8.len);
-    add_bytes(answer, decoder->pending, decoder->pending_len);
+    add_bytes(answer, pending_of(by).bytes, pending_of(by).len);
     free(utf8.bytes);
     return is;
 }
 
-static bool feed_only(dethrux_byte_order order, dethrux_decoder *decoder, const text *piece, size_t room, text *answer, text *all) {
+static bool feed_only(decoder *by, const text *piece, size_t room, text *answer, text *all) {
     (void)answer;
-    return feed_all(order, decoder, piece->bytes, piece->len, room + 4, all);
+    return feed_all(by, piece->bytes, piece->len, room + 4, all);
 }
 
 /* Feeds a decoder the chunks that a word spells. */
-static bool feed_pieces(dethrux_byte_order order, const char *word, over_pieces *feed, dethrux_decoder *decoder, size_t room, text *answer, text *all) {
+static bool feed_pieces(const char *word, over_pieces *feed_one, decoder *by, size_t room, text *answer, text *all) {
     for (const char *end = word + strlen(word), *at = word; at <= end;) {
         const char *behind = found_or_end(at, end, ',');
         text piece = {0};
-        bool is = spelled(at, behind, order, &piece);
-        if (is && !feed(order, decoder, &piece, room, answer, all)) {
+        bool is = spelled(at, behind, by->order, &piece);
+        if (is && !feed_one(by, &piece, room, answer, all)) {
             add_word(answer, "stream");
         }
         free(piece.bytes);
@@ -722,17 +756,16 @@ static bool feed_pieces(dethrux_byte_order order, const char *word, over_pieces 
     return true;
 }
 
-static bool call_stream_feed(dethrux_byte_order order, char **values, size_t count, text *answer) {
-    dethrux_decoder decoder = DETHRUX_DECODER_INIT;
+static bool feed_to_buffers(decoder by, char **values, size_t count, text *answer) {
     size_t room = count == 2 ? strtoul(values[1], NULL, 10) : 0;
-    if (count != 2 || !feed_pieces(order, values[0], feed_to_buffer, &decoder, room, answer, NULL)) {
+    if (count != 2 || !feed_pieces(values[0], feed_to_buffer, &by, room, answer, NULL)) {
         return false;
     }
     text to = blank(room);
-    dethrux_progress end = dethrux_decoder_finish(&decoder, to.bytes, room);
+    dethrux_progress end = finish(&by, to.bytes, room);
     add_progress(answer, end);
-    add_text(answer, to.bytes, end.written);
-    add_bytes(answer, decoder.pending, decoder.pending_len);
+    add_found(answer, !by.back, to.bytes, end.written);
+    add_bytes(answer, pending_of(&by).bytes, pending_of(&by).len);
     if (!is_blank(&to, end.written)) {
         add_word(answer, "changed");
     }
@@ -740,13 +773,21 @@ static bool call_stream_feed(dethrux_byte_order order, char **values, size_t cou
     return true;
 }
 
+static bool call_stream_feed(dethrux_byte_order order, char **values, size_t count, text *answer) {
+    return feed_to_buffers(new_decoder(false, order), values, count, answer);
+}
+
+static bool call_utf8_stream_feed(dethrux_byte_order order, char **values, size_t count, text *answer) {
+    return feed_to_buffers(new_decoder(true, order), values, count, answer);
+}
+
 static bool call_lossy_feed(dethrux_byte_order order, char **values, size_t count, text *answer) {
-    dethrux_decoder decoder = DETHRUX_DECODER_INIT;
+    decoder by = new_decoder(false, order);
     text end = {0};
-    if (count > 1 || (count == 1 && !feed_pieces(order, values[0], feed_and_show, &decoder, 0, answer, NULL))) {
+    if (count > 1 || (count == 1 && !feed_pieces(values[0], feed_and_show, &by, 0, answer, NULL))) {
         return false;
     }
-    if (!finish_all(&decoder, &end)) {
+    if (!finish_all(&by, &end)) {
         add_word(answer, "finish");
     }
     add_word(answer, end.len > 0 ? "'\\u{FFFD}'" : "none");
@@ -755,10 +796,10 @@ static bool call_lossy_feed(dethrux_byte_order order, char **values, size_t coun
 }
 
 static bool call_decode_pieces(dethrux_byte_order order, char **values, size_t count, text *answer) {
-    dethrux_decoder decoder = DETHRUX_DECODER_INIT;
+    decoder by = new_decoder(false, order);
     text all = {0};
-    bool is = count == 0 || (count == 1 && feed_pieces(order, values[0], feed_only, &decoder, 0, answer, &all));
-    if (!finish_all(&decoder, &all)) {
+    bool is = count == 0 || (count == 1 && feed_pieces(values[0], feed_only, &by, 0, answer, &all));
+    if (!finish_all(&by, &all)) {
         add_word(answer, "finish");
     }
     add_text(answer, all.bytes, all.len);
@@ -775,6 +816,7 @@ static struct {
 } calls[] = {
     {"every_room", call_every_room, NULL, 0},
     {"Stream::feed", call_stream_feed, NULL, 0},
+    {"Utf8Stream::feed", call_utf8_stream_feed, NULL, 0},
     {"Lossy::feed", call_lossy_feed, NULL, 0},
     {"decode_pieces", call_decode_pieces, NULL, 0},
     {"count_chars", NULL, ask_count, 0},
@@ -912,10 +954,13 @@ static bool is_read_as_little(dethrux_byte_order order, const text *utf16, const
         free(to.bytes);
         free(should.bytes);
     }
-    text fed = {0}, should = {0};
-    is = in_pieces(order, utf16, 1, 3, 4, &fed) && in_pieces(little, utf16, 1, 3, 4, &should) && same(&fed, &should) && is;
-    free(fed.bytes);
-    free(should.bytes);
+    for (int back = 0; back < 2; back++) {
+        const text *from = back ? utf8 : utf16;
+        text fed = {0}, should = {0};
+        is = in_pieces(back, order, from, 1, 3, 4, &fed) && in_pieces(back, little, from, 1, 3, 4, &should) && same(&fed, &should) && is;
+        free(fed.bytes);
+        free(should.bytes);
+    }
     return is;
 }
 
@@ -976,13 +1021,13 @@ static bool is_bound_reached(size_t len) {
 
 /* Whether a decoder in a state writes just as many bytes as its capacity, and does not come to the
  * chunk's end with a byte less. */
-static bool feed_needs(dethrux_decoder state, const text *chunk, size_t capacity) {
-    dethrux_decoder decoder = state;
+static bool feed_needs(const decoder *state, const text *chunk, size_t capacity) {
+    decoder by = *state;
     text to = blank(capacity);
-    dethrux_progress found = dethrux_decoder_feed(&decoder, DETHRUX_BIG_ENDIAN, chunk->bytes, chunk->len, to.bytes, capacity);
+    dethrux_progress found = feed(&by, chunk->bytes, chunk->len, to.bytes, capacity);
     bool is = found.status == DETHRUX_DONE && found.written == capacity && is_blank(&to, capacity);
-    decoder = state;
-    found = dethrux_decoder_feed(&decoder, DETHRUX_BIG_ENDIAN, chunk->bytes, chunk->len, to.bytes, capacity - 1);
+    by = *state;
+    found = feed(&by, chunk->bytes, chunk->len, to.bytes, capacity - 1);
     free(to.bytes);
     return is && found.status == DETHRUX_NO_SPACE;
 }
@@ -991,14 +1036,32 @@ static bool feed_needs(dethrux_decoder state, const text *chunk, size_t capacity
  * take three bytes each. */
 static bool is_feed_bound_reached(size_t len) {
     static const uint8_t left[] = {0xD8, 0x00, 0x4E};
-    dethrux_decoder by_call = DETHRUX_DECODER_INIT, by_hand = {{0x4E, 0x00, 0x4E}, DETHRUX_PENDING_MAX};
-    dethrux_progress found = dethrux_decoder_feed(&by_call, DETHRUX_BIG_ENDIAN, left, sizeof left, NULL, 0);
-    bool is = found.status == DETHRUX_DONE && by_call.pending_len == DETHRUX_PENDING_MAX;
+    decoder by_call = new_decoder(false, DETHRUX_BIG_ENDIAN), by_hand = by_call;
+    by_hand.utf16 = (dethrux_decoder){{0x4E, 0x00, 0x4E}, DETHRUX_PENDING_MAX};
+    dethrux_progress found = feed(&by_call, left, sizeof left, NULL, 0);
+    bool is = found.status == DETHRUX_DONE && by_call.utf16.pending_len == DETHRUX_PENDING_MAX;
     text chunk = {0};
     for (size_t i = 0; i < len; i++) {
         append_byte(&chunk, i % 2 == 0 ? 0x00 : 0x4E);
     }
-    is = is && (len == 0 || feed_needs(by_call, &chunk, DETHRUX_FEED_MAX(len))) && feed_needs(by_hand, &chunk, DETHRUX_FEED_MAX(len));
+    is = is && (len == 0 || feed_needs(&by_call, &chunk, DETHRUX_FEED_MAX(len))) && feed_needs(&by_hand, &chunk, DETHRUX_FEED_MAX(len));
+    free(chunk.bytes);
+    return is;
+}
+
+/* The same from UTF-8, with a chunk of ASCII. */
+static bool is_utf8_feed_bound_reached(size_t len) {
+    static const uint8_t left[] = {0xF0, 0x9F, 0x98};
+    decoder by_call = new_decoder(true, DETHRUX_BIG_ENDIAN), by_hand = by_call;
+    by_hand.utf8 = (dethrux_utf8_decoder){{'a', 'b', 'c'}, DETHRUX_PENDING_MAX};
+    dethrux_progress found = feed(&by_call, left, sizeof left, NULL, 0);
+    bool is = found.status == DETHRUX_DONE && by_call.utf8.pending_len == DETHRUX_PENDING_MAX;
+    text chunk = {0};
+    for (size_t i = 0; i < len; i++) {
+        append_byte(&chunk, 'a');
+    }
+    is = is && (len == 0 || feed_needs(&by_call, &chunk, DETHRUX_UTF8_FEED_MAX(len)))
+        && feed_needs(&by_hand, &chunk, 2 * (DETHRUX_PENDING_MAX + len));
     free(chunk.bytes);
     return is;
 }
@@ -1006,16 +1069,18 @@ static bool is_feed_bound_reached(size_t len) {
 /* The most bytes that are left unread, and the most that a character takes, by the partial call and
  * by a decoder. */
 static bool is_pending_bound_reached(void) {
-    static const uint8_t pair[] = {0xD8, 0x3D, 0xDE, 0x00};
+    static const uint8_t pair[] = {0xD8, 0x3D, 0xDE, 0x00}, utf8[] = {0xF0, 0x9F, 0x98, 0x80};
     uint8_t to[4];
-    dethrux_decoder decoder = DETHRUX_DECODER_INIT;
+    decoder by = new_decoder(false, DETHRUX_BIG_ENDIAN), back = new_decoder(true, DETHRUX_BIG_ENDIAN);
     dethrux_progress cut = dethrux_to_utf8_partial(DETHRUX_BIG_ENDIAN, pair, 3, to, 0);
     dethrux_progress three = dethrux_to_utf8_partial(DETHRUX_BIG_ENDIAN, pair, 4, to, 3);
     dethrux_progress four = dethrux_to_utf8_partial(DETHRUX_BIG_ENDIAN, pair, 4, to, 4);
     bool is = cut.read == 0 && cut.status == DETHRUX_INCOMPLETE && three.written == 0 && three.status == DETHRUX_NO_SPACE && four.written == 4
         && four.status == DETHRUX_DONE;
-    three = dethrux_decoder_feed(&decoder, DETHRUX_BIG_ENDIAN, pair, 4, to, 3);
+    three = feed(&by, pair, 4, to, 3);
     is = is && three.written == 0 && three.status == DETHRUX_NO_SPACE;
+    three = feed(&back, utf8, 4, to, 3);
+    is = is && three.written == 0 && three.status == DETHRUX_NO_SPACE && pending_of(&back).len == 0;
     dethrux_validity found = dethrux_validate(DETHRUX_BIG_ENDIAN, pair, 3);
     return is && found.valid_up_to == 0 && found.status == DETHRUX_INCOMPLETE && DETHRUX_PENDING_MAX == 3;
 }
@@ -1024,7 +1089,7 @@ static bool is_pending_bound_reached(void) {
 static bool are_bounds_reached(void) {
     bool is = is_pending_bound_reached();
     for (size_t len = 0; is && len <= 2 * SHORT + 1; len++) {
-        is = is_bound_reached(len) && is_feed_bound_reached(len);
+        is = is_bound_reached(len) && is_feed_bound_reached(len) && is_utf8_feed_bound_reached(len);
     }
     return is;
 }
@@ -1037,18 +1102,18 @@ static bool is_version_same(void) {
 
 /* Feeds a decoder a chunk in little endian: the text that is written, all of the chunk or nothing,
  * and the bytes that are pending then. */
-static bool feeds(dethrux_decoder *decoder, const char *chunk, size_t room, dethrux_status status, const char *written, const char *pending) {
-    text from = {0}, utf8 = {0}, left = {0}, to = blank(room);
-    bool is = bytes_of(chunk, DETHRUX_LITTLE_ENDIAN, &from) && bytes_of(written, DETHRUX_LITTLE_ENDIAN, &utf8)
+static bool feeds(decoder *by, const char *chunk, size_t room, dethrux_status status, const char *written, const char *pending) {
+    text from = {0}, should = {0}, left = {0}, to = blank(room);
+    bool is = bytes_of(chunk, DETHRUX_LITTLE_ENDIAN, &from) && bytes_of(written, DETHRUX_LITTLE_ENDIAN, &should)
         && bytes_of(pending, DETHRUX_LITTLE_ENDIAN, &left);
-    dethrux_progress found = dethrux_decoder_feed(decoder, DETHRUX_LITTLE_ENDIAN, from.bytes, from.len, to.bytes, room);
+    dethrux_progress found = feed(by, from.bytes, from.len, to.bytes, room);
     is = is && found.status == status && found.read == (status == DETHRUX_DONE ? from.len : 0) && found.error_len == 0
         && is_blank(&to, room);
     to.len = found.written;
-    text holds = {decoder->pending, decoder->pending_len, 0};
-    is = is && same(&to, &utf8) && same(&holds, &left);
+    text holds = pending_of(by);
+    is = is && same(&to, &should) && same(&holds, &left);
     free(from.bytes);
-    free(utf8.bytes);
+    free(should.bytes);
     free(left.bytes);
     free(to.bytes);
     return is;
@@ -1056,17 +1121,20 @@ static bool feeds(dethrux_decoder *decoder, const char *chunk, size_t room, deth
 
 /* A state that no call left: three bytes of two characters, and a length above three. */
 static bool is_any_state_fine(void) {
-    dethrux_decoder decoder = {{0x41, 0x00, 0x42}, 200};
-    return feeds(&decoder, "-", 4, DETHRUX_DONE, "41", "42") && feeds(&decoder, "0043", 0, DETHRUX_NO_SPACE, "-", "42")
-        && feeds(&decoder, "0043", 4, DETHRUX_DONE, "42", "43");
+    decoder by = new_decoder(false, DETHRUX_LITTLE_ENDIAN), back = new_decoder(true, DETHRUX_LITTLE_ENDIAN);
+    by.utf16 = (dethrux_decoder){{0x41, 0x00, 0x42}, 200};
+    back.utf8 = (dethrux_utf8_decoder){{0x41, 0xE4, 0xB8}, 200};
+    return feeds(&by, "-", 4, DETHRUX_DONE, "41", "42") && feeds(&by, "0043", 0, DETHRUX_NO_SPACE, "-", "42")
+        && feeds(&by, "0043", 4, DETHRUX_DONE, "42", "43") && feeds(&back, "-", 4, DETHRUX_DONE, "4100", "E4B8")
+        && feeds(&back, "80C3", 1, DETHRUX_NO_SPACE, "-", "E4B8") && feeds(&back, "80C3", 4, DETHRUX_DONE, "004E", "C3");
 }
 
 /* Null pointers with length 0. */
 static bool is_empty_fine(void) {
-    dethrux_decoder decoder = DETHRUX_DECODER_INIT;
     const dethrux_byte_order little = DETHRUX_LITTLE_ENDIAN, big = DETHRUX_BIG_ENDIAN;
-    return dethrux_decoder_feed(&decoder, big, NULL, 0, NULL, 0).status == DETHRUX_DONE
-        && dethrux_decoder_finish(&decoder, NULL, 0).status == DETHRUX_DONE
+    decoder by = new_decoder(false, big), back = new_decoder(true, big);
+    return feed(&by, NULL, 0, NULL, 0).status == DETHRUX_DONE && finish(&by, NULL, 0).status == DETHRUX_DONE
+        && feed(&back, NULL, 0, NULL, 0).status == DETHRUX_DONE && finish(&back, NULL, 0).status == DETHRUX_DONE
         && dethrux_validate(little, NULL, 0).status == DETHRUX_DONE && dethrux_count_chars(little, NULL, 0) == 0
         && dethrux_is_ascii(big, NULL, 0) && dethrux_to_utf8_lossy_len(big, NULL, 0) == 0 && dethrux_from_utf8_len(NULL, 0) == 0
         && dethrux_from_utf8_lossy_len(NULL, 0) == 0 && dethrux_from_utf8_lossy(little, NULL, 0, NULL, 0).status == DETHRUX_DONE

@@ -67,16 +67,17 @@ def chunkings(raw):
     return [singly, *([raw[:at], raw[at:]] for at in range(len(raw) + 1))]
 
 
-def fed(order, parts, room=4096):
-    decoder = dethrux.Decoder(order, room)
-    return Text(b"".join(decoder.feed(piece) for piece in parts) + decoder.finish())
+def fed(order, parts, room=4096, kind=dethrux.Decoder):
+    decoder = kind(order, room)
+    text = b"".join(decoder.feed(piece) for piece in parts) + decoder.finish()
+    return Text(text) if kind is dethrux.Decoder else text
 
 
-def cut_anywhere(order, raw):
+def cut_anywhere(order, raw, kind=dethrux.Decoder):
     """The text of a stream, and any other that a chunking has."""
-    text = fed(order, [raw])
+    text = fed(order, [raw], kind=kind)
     rooms = (4, 5, 4096) if len(raw) <= 64 else ()
-    return [text, *({fed(order, parts, room) for parts in chunkings(raw) for room in rooms} - {text})]
+    return [text, *({fed(order, parts, room, kind) for parts in chunkings(raw) for room in rooms} - {text})]
 
 
 # The calls: each takes a byte order and the values, and returns the words of the result.
@@ -88,6 +89,13 @@ def converted(convert, is_text):
         return [read, len(found), *stop(status, error_len), Text(found) if is_text else found]
 
     return call
+
+
+def from_utf8_lossy(order, source, room):
+    """The call, and what differs from its whole result in any chunking of the input."""
+    words = converted(dethrux.from_utf8_lossy, False)(order, source, room)
+    streams = cut_anywhere(order, spelled(source, order), dethrux.Utf8Decoder) if words[2] == "end" else []
+    return [*words, *(text for text in streams if text != words[-1])]
 
 
 def validate(order, raw, *whole):
@@ -116,7 +124,7 @@ CALLS = {
     "to_utf8_partial": converted(dethrux.to_utf8_partial, True),
     "to_utf8_lossy": converted(dethrux.to_utf8_lossy, True),
     "from_utf8": converted(dethrux.from_utf8, False),
-    "from_utf8_lossy": converted(dethrux.from_utf8_lossy, False),
+    "from_utf8_lossy": from_utf8_lossy,
     "count_chars": lambda order, raw: [dethrux.count_chars(order, spelled(raw, order))],
     "is_ascii": lambda order, raw: [str(dethrux.is_ascii(order, spelled(raw, order))).lower()],
     "to_utf8_lossy_len": lambda order, raw: [dethrux.to_utf8_lossy_len(order, spelled(raw, order))],

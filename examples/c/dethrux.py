@@ -51,6 +51,8 @@ _from_utf8 = _call("from_utf8", Progress, _order, *_input, *_output)
 _from_utf8_lossy = _call("from_utf8_lossy", Progress, _order, *_input, *_output)
 _decoder_feed = _call("decoder_feed", Progress, ctypes.POINTER(State), _order, *_input, *_output)
 _decoder_finish = _call("decoder_finish", Progress, ctypes.POINTER(State), *_output)
+_utf8_decoder_feed = _call("utf8_decoder_feed", Progress, ctypes.POINTER(State), _order, *_input, *_output)
+_utf8_decoder_finish = _call("utf8_decoder_finish", Progress, ctypes.POINTER(State), _order, *_output)
 _detect_bom = _call("detect_bom", Bom, *_input)
 
 
@@ -128,16 +130,32 @@ class Decoder:
         """Returns the UTF-8 of the next chunk; at most three bytes are pending."""
         text, status = b"", NO_SPACE
         while status == NO_SPACE:
-            found = _decoder_feed(ctypes.byref(self._state), self._order, chunk, len(chunk), self._buffer, len(self._buffer))
+            found = self._feed(chunk)
             text += self._buffer.raw[: found.written]
             chunk, status = chunk[found.read :], found.status
         return text
 
     def finish(self):
         """Returns U+FFFD if bytes are pending, and else nothing."""
-        found = _decoder_finish(ctypes.byref(self._state), self._buffer, len(self._buffer))
+        found = self._finish()
         return self._buffer.raw[: found.written]
 
     def pending(self):
         """Returns the bytes that are not decoded yet."""
         return bytes(self._state.pending[: self._state.pending_len])
+
+    def _feed(self, chunk):
+        return _decoder_feed(ctypes.byref(self._state), self._order, chunk, len(chunk), self._buffer, len(self._buffer))
+
+    def _finish(self):
+        return _decoder_finish(ctypes.byref(self._state), self._buffer, len(self._buffer))
+
+
+class Utf8Decoder(Decoder):
+    """The same from UTF-8 to UTF-16."""
+
+    def _feed(self, chunk):
+        return _utf8_decoder_feed(ctypes.byref(self._state), self._order, chunk, len(chunk), self._buffer, len(self._buffer))
+
+    def _finish(self):
+        return _utf8_decoder_finish(ctypes.byref(self._state), self._order, self._buffer, len(self._buffer))

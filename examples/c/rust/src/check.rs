@@ -116,7 +116,22 @@ fn convert(name: &str, order: ByteOrder, from: &[u8], room: &str) -> Option<Vec<
     let mut words = vec![Number(progress.read), Number(progress.written)];
     words.extend(stop(progress.status));
     words.push(found(&to[..progress.written], is_text));
+    if name == "from_utf8_lossy" && progress.status == Status::Done {
+        words.extend(utf8_chunkings(order, from).filter(|other| other != &to[..progress.written]).map(Bytes));
+    }
     Some(words)
+}
+
+/// The UTF-16 of a stream of UTF-8, in each chunking.
+fn utf8_chunkings(order: ByteOrder, utf8: &[u8]) -> impl Iterator<Item = Vec<u8>> + '_ {
+    (1..=utf8.len()).map(move |len| {
+        let (mut decoder, mut utf16) = (Utf8Decoder::new(order), Vec::new());
+        for piece in utf8.chunks(len) {
+            decoder.feed(piece, &mut utf16);
+        }
+        decoder.finish(&mut utf16);
+        utf16
+    })
 }
 
 fn every_room(name: &str, order: ByteOrder, from: &[u8]) -> Option<Vec<Word>> {

@@ -75,6 +75,15 @@ unsafe extern "C" {
         capacity: usize,
     ) -> RawProgress;
     fn dethrux_decoder_finish(decoder: &mut State, to: *mut u8, capacity: usize) -> RawProgress;
+    fn dethrux_utf8_decoder_feed(
+        decoder: &mut State,
+        order: ByteOrder,
+        chunk: *const u8,
+        len: usize,
+        to: *mut u8,
+        capacity: usize,
+    ) -> RawProgress;
+    fn dethrux_utf8_decoder_finish(decoder: &mut State, order: ByteOrder, to: *mut u8, capacity: usize) -> RawProgress;
     fn dethrux_detect_bom(bytes: *const u8, len: usize) -> RawBom;
 }
 
@@ -216,5 +225,48 @@ impl Decoder {
         let found: Progress =
             unsafe { dethrux_decoder_finish(&mut self.state, buffer.as_mut_ptr(), buffer.len()) }.into();
         text.push_str(std::str::from_utf8(&buffer[..found.written]).expect("UTF-8"));
+    }
+}
+
+/// Decodes UTF-8 in chunks, cut anywhere, to UTF-16.
+pub struct Utf8Decoder {
+    order: ByteOrder,
+    state: State,
+}
+
+impl Utf8Decoder {
+    /// Returns a decoder at the start of a stream, which writes in this byte order.
+    pub fn new(order: ByteOrder) -> Self {
+        Utf8Decoder { order, state: State::default() }
+    }
+
+    /// Returns the bytes that are not decoded yet, at most three.
+    pub fn pending(&self) -> &[u8] {
+        &self.state.pending[..self.state.pending_len as usize]
+    }
+
+    /// Decodes the next chunk and appends its UTF-16; at most three bytes are pending then.
+    pub fn feed(&mut self, chunk: &[u8], utf16: &mut Vec<u8>) {
+        let (mut buffer, mut rest) = ([0; 1024], chunk);
+        loop {
+            let (to, len) = (buffer.as_mut_ptr(), buffer.len());
+            let found: Progress =
+                unsafe { dethrux_utf8_decoder_feed(&mut self.state, self.order, rest.as_ptr(), rest.len(), to, len) }
+                    .into();
+            utf16.extend(&buffer[..found.written]);
+            rest = &rest[found.read..];
+            if found.status != Status::NoSpace {
+                break;
+            }
+        }
+    }
+
+    /// Ends the stream: appends U+FFFD if bytes are pending.
+    pub fn finish(&mut self, utf16: &mut Vec<u8>) {
+        let mut buffer = [0; 2];
+        let found: Progress =
+            unsafe { dethrux_utf8_decoder_finish(&mut self.state, self.order, buffer.as_mut_ptr(), buffer.len()) }
+                .into();
+        utf16.extend(&buffer[..found.written]);
     }
 }
