@@ -4,8 +4,8 @@ use crate::buffers::{add_written, buffer, written};
 use std::alloc::Global;
 use utf16_case_lines::{Answer, Trouble, Values};
 use utf16_transcode::{
-    Progress, from_utf8, from_utf8_lossy, from_utf8_lossy_len, to_utf8, to_utf8_lossy,
-    to_utf8_lossy_len, to_utf8_partial,
+    Progress, from_utf8, from_utf8_lossy, from_utf8_lossy_len, from_utf8_partial, to_utf8,
+    to_utf8_lossy, to_utf8_lossy_len, to_utf8_partial,
 };
 use utf16_units::Utf16Order;
 
@@ -16,6 +16,7 @@ pub enum Conversion {
     Decode,
     DecodeWhole,
     FromUtf8,
+    Encode,
     EncodeWhole,
 }
 
@@ -27,6 +28,7 @@ impl Conversion {
             "to_utf8_partial" => Some(Conversion::Decode),
             "to_utf8_lossy" => Some(Conversion::DecodeWhole),
             "from_utf8" => Some(Conversion::FromUtf8),
+            "from_utf8_partial" => Some(Conversion::Encode),
             "from_utf8_lossy" => Some(Conversion::EncodeWhole),
             _ => None,
         }
@@ -34,7 +36,10 @@ impl Conversion {
 
     // Returns whether it writes UTF-8.
     fn writes_utf8(self) -> bool {
-        !matches!(self, Conversion::FromUtf8 | Conversion::EncodeWhole)
+        !matches!(
+            self,
+            Conversion::FromUtf8 | Conversion::Encode | Conversion::EncodeWhole
+        )
     }
 
     // Returns how many bytes it writes at most, with U+FFFD for each ill-formed sequence.
@@ -53,6 +58,7 @@ impl Conversion {
             Conversion::Decode => to_utf8_partial::<E>(from, to),
             Conversion::DecodeWhole => to_utf8_lossy::<E>(from, to),
             Conversion::FromUtf8 => from_utf8::<E>(from, to),
+            Conversion::Encode => from_utf8_partial::<E>(from, to),
             Conversion::EncodeWhole => from_utf8_lossy::<E>(from, to),
         }
     }

@@ -34,6 +34,7 @@ pub fn call<E: Utf16Order>(
         }
         "Stream::pending" => streams::pending(alloc, values, answer),
         "Stream::feed" => streams::feed::<E>(alloc, values, answer),
+        "Utf8Stream::feed" => streams::utf8_feed::<E>(alloc, values, answer),
         "count_chars"
         | "is_ascii"
         | "to_utf8_lossy_len"

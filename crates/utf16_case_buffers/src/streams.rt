@@ -3,7 +3,7 @@
 use crate::buffers::{add_changed, add_written, buffer};
 use std::alloc::Global;
 use utf16_case_lines::{Answer, Trouble, Values};
-use utf16_transcode::Stream;
+use utf16_transcode::{Stream, Utf8Stream};
 use utf16_units::Utf16Order;
 
 /// Adds the pending bytes of a new stream.
@@ -52,6 +52,39 @@ fn finish(alloc: Global, stream: Stream, room: usize, answer: &mut Answer) -> Re
     let mut to = buffer(alloc, room)?;
     let progress = stream.finish(&mut to);
     add_written(answer, &to, progress, true)?;
+    answer.bytes(stream.pending());
+    add_changed(answer, &to, progress.written)
+}
+
+/// Does the same for chunks of UTF-8.
+pub fn utf8_feed<E: Utf16Order>(
+    alloc: Global,
+    values: &mut Values,
+    answer: &mut Answer,
+) -> Result<(), Trouble> {
+    let pieces = values.pieces(alloc, E::BIG)?;
+    let room = values.number()?;
+    let mut stream = Utf8Stream::new();
+    for piece in &pieces {
+        let mut to = buffer(alloc, room)?;
+        let progress = stream.feed::<E>(piece, &mut to);
+        add_written(answer, &to, progress, false)?;
+        answer.bytes(stream.pending());
+    }
+    utf8_finish::<E>(alloc, stream, room, answer)
+}
+
+// Ends a stream of UTF-8.
+fn utf8_finish<E: Utf16Order>(
+    alloc: Global,
+    stream: Utf8Stream,
+    room: usize,
+    answer: &mut Answer,
+) -> Result<(), Trouble> {
+    let mut stream = stream;
+    let mut to = buffer(alloc, room)?;
+    let progress = stream.finish::<E>(&mut to);
+    add_written(answer, &to, progress, false)?;
     answer.bytes(stream.pending());
     add_changed(answer, &to, progress.written)
 }
