@@ -9,7 +9,7 @@ use utf16_units::Utf16Order;
 
 // So many characters in a row, none of them U+FFFD, end the loop over items: others are probably
 // well formed too, and many at once take less time.
-const CALM: usize = 16;
+const RUN: usize = 16;
 
 /// Writes the text of the next bytes of UTF-8 in UTF-16 to the start of a buffer, with U+FFFD for
 /// each ill-formed sequence; returns the number of bytes read and the number of bytes written. It
@@ -20,15 +20,15 @@ pub(crate) fn put_items<E: Utf16Order>(text: &[u8], to: &mut [u8]) -> (usize, us
 {
     let mut read = 0;
     let mut written = 0;
-    let mut calm = 0;
-    while calm < CALM && text.len() - read >= 4 && to.len() - written >= 4 {
+    let mut run = 0;
+    while run < RUN && text.len() - read >= 4 && to.len() - written >= 4 {
         let (c, len) = first_item(text[read], text[read + 1], text[read + 2], text[read + 3]);
         written = put_char::<E>(c, to, written);
         read += len;
-        calm = if c == char::REPLACEMENT_CHARACTER {
+        run = if c == char::REPLACEMENT_CHARACTER {
             0
         } else {
-            calm + 1
+            run + 1
         };
     }
     (read, written)
