@@ -1,5 +1,5 @@
 -- A stream whose BOM gives its byte order, from the bytes that have come to more of them.
-use Rattle.std.proofs.Common.{◌≡◌, ℕ, Bool, true, false, List, [], ◌∷◌, ◌++◌, Option, None, Some, refl, ap, ◌∙◌, if◌then◌else◌}
+use Rattle.std.proofs.Common.{◌≡◌, ℕ, Bool, true, false, List, [], ◌∷◌, ◌++◌, Option, None, Some, append-nil, refl, sym, ap, ◌∙◌, if◌then◌else◌}
 use Rattle.std.specs.Option.{MatchOption, option_to_list}
 use Rattle.utf16_units.specs.Split.{split_items, split_tail}
 use Rattle.utf16_units.proofs.SplitJoin.{split_items-append, split_tail-append}
@@ -77,3 +77,32 @@ byte_order_after-append (Some big) front piece = refl
 byte_order_after-append None [] piece = refl
 byte_order_after-append None (first ∷ []) piece = refl
 byte_order_after-append None (first ∷ second ∷ bytes) piece = refl
+
+-- at most one byte, and nothing after it: it is pending
+first_order : (first : Option ℕ) → byte_order_after None (option_to_list first) ≡ None
+first_order None = refl
+first_order (Some byte) = refl
+
+module _ (first : Option ℕ) (bytes : List ℕ) (is : bytes ≡ option_to_list first) where
+  pub only_items : items_in None bytes ≡ []
+  only_items = ap (items_in None) is ∙ first_items first
+
+  pub only_tail : tail_in None bytes ≡ option_to_list first
+  only_tail = ap (tail_in None) is ∙ first_tail first
+
+  pub only_order : byte_order_after None bytes ≡ None
+  only_order = ap (byte_order_after None) is ∙ first_order first
+
+-- and so where that is said of an order and of pending bytes
+module _ (order : Option Bool) (pending piece : List ℕ) (first : Option ℕ) (undecided : order ≡ None) (only : pending ≡ option_to_list first) (none : piece ≡ []) where
+  bytes : pending ++ piece ≡ option_to_list first
+  bytes = ap (λ p. pending ++ p) none ∙ append-nil pending ∙ only
+
+  pub still_items : items_in order (pending ++ piece) ≡ []
+  still_items = ap (λ o. items_in o (pending ++ piece)) undecided ∙ only_items first (pending ++ piece) bytes
+
+  pub still_tail : pending ≡ tail_in order (pending ++ piece)
+  still_tail = only ∙ sym (only_tail first (pending ++ piece) bytes) ∙ ap (λ o. tail_in o (pending ++ piece)) (sym undecided)
+
+  pub still_order : order ≡ byte_order_after order (pending ++ piece)
+  still_order = undecided ∙ sym (only_order first (pending ++ piece) bytes) ∙ ap (λ o. byte_order_after o (pending ++ piece)) (sym undecided)

@@ -4,6 +4,7 @@ pub use Rattle.utf16_decode.proofs.DecodesLemmas
 pub use Rattle.utf16_decode.proofs.IllFormedDecides
 pub use Rattle.utf16_decode.proofs.StreamLemmas
 pub mod FilterLemmas
+pub mod Utf8Lemmas
 pub mod PiecesLemmas
 pub mod PartLemmas
 pub mod StreamRules

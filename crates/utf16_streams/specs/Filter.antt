@@ -1,7 +1,6 @@
--- What `filter` and `filter_auto` did to the bytes that remain in their reader and to those that
--- their writer holds, if these are known.
-use Rattle.std.specs.Prelude.{◌≢◌, ℕ, ◌+◌, ◌-◌, ◌<◌, ◌≤◌, ◌^◌, Bool, List, [], ◌∷◌, Option, Some, None, Result, Ok, Err, encode_utf8_all, length, take}
-use Rattle.std.specs.Char.{encode_utf8}
+-- What a filter did to the bytes that remain in its reader and to those that its writer holds, if
+-- these are known.
+use Rattle.std.specs.Prelude.{◌≢◌, ℕ, ◌+◌, ◌-◌, ◌<◌, ◌≤◌, ◌^◌, Bool, List, Option, Some, None, Result, Ok, Err, encode_utf8_all, length, take}
 use Rattle.std.specs.Io.{StartsWith}
 use Rattle.std.specs.Io.KnownBytes.{Appends, Consumes, IsAtEnd}
 use Rattle.utf16_units.specs.Split.{whole_lossy_chars, lossy_chars}
@@ -17,11 +16,6 @@ decided_utf8 order bytes = encode_utf8_all (lossy_chars (items_in order bytes))
 abbrev pub whole_utf8 : Option Bool → List ℕ → List ℕ
 whole_utf8 order bytes = encode_utf8_all (whole_lossy_chars (items_in order bytes) (tail_in order bytes))
 
--- the UTF-8 of what a tail adds to the whole text: U+FFFD, or nothing
-abbrev pub tail_utf8 : List ℕ → List ℕ
-tail_utf8 [] = []
-tail_utf8 (first ∷ after) = encode_utf8 0xFFFD
-
 -- a prefix of the bytes was written, possibly none or all of them
 abbrev pub AppendsPrefix : Option (List ℕ) → Option (List ℕ) → List ℕ → Type 0
 AppendsPrefix old new bytes = (n : ℕ) × Appends old new (take n bytes)
@@ -30,36 +24,47 @@ AppendsPrefix old new bytes = (n : ℕ) × Appends old new (take n bytes)
 abbrev pub IsNearEnd : List ℕ → ℕ → Type 0
 IsNearEnd bytes n = (n ≤ length bytes) × (length bytes ≤ n + 4096)
 
--- the order is `Some true` for big endian, `Some false` for little endian, and `None` if the BOM
--- gives it
-module _ (order : Option Bool) (input left old new : Option (List ℕ)) where
-  -- the input was read to its end, and its whole text was written
-  abbrev pub Filters : Type 0
-  Filters = (bytes : List ℕ) × Consumes input left bytes × IsAtEnd left × Appends old new (whole_utf8 order bytes)
+-- `decided` gives the output that is certain once some bytes were read, and `whole` the whole
+-- output if the input ends with them
+module _ (decided whole : List ℕ → List ℕ) (input left old new : Option (List ℕ)) where
+  -- the input was read to its end, and its whole output was written
+  abbrev pub FiltersAll : Type 0
+  FiltersAll = (bytes : List ℕ) × Consumes input left bytes × IsAtEnd left × Appends old new (whole bytes)
 
-  -- at least so many bytes were read, and the text that is certain of them was written
+  -- at least so many bytes were read, and the output that is certain of them was written
   abbrev pub FiltersSome : ℕ → Type 0
-  FiltersSome least = (bytes : List ℕ) × Consumes input left bytes × (least ≤ length bytes) × Appends old new (decided_utf8 order bytes)
+  FiltersSome least = (bytes : List ℕ) × Consumes input left bytes × (least ≤ length bytes) × Appends old new (decided bytes)
 
-  -- some bytes were read; the certain text of all but the last 1 to 4,096 of them was written, and
-  -- with these more text is certain
+  -- some bytes were read; the certain output of all but the last 1 to 4,096 of them was written,
+  -- and with these more output is certain
   abbrev pub FiltersBefore : Type 0
   FiltersBefore = (bytes : List ℕ) × Consumes input left bytes × ((n : ℕ) × (n < length bytes) × IsNearEnd bytes n
-      × (items_in order (take n bytes) ≢ items_in order bytes) × Appends old new (decided_utf8 order (take n bytes)))
+      × (decided (take n bytes) ≢ decided bytes) × Appends old new (decided (take n bytes)))
 
-  -- some bytes were read; a prefix of their whole text was written, and at least the certain text
-  -- of all but the last 4,096 of them
+  -- some bytes were read; a prefix of their whole output was written, and at least the certain
+  -- output of all but the last 4,096 of them
   abbrev pub FiltersPrefix : Type 0
   FiltersPrefix = (bytes : List ℕ) × Consumes input left bytes × ((written : List ℕ) × Appends old new written
-      × StartsWith (whole_utf8 order bytes) written × ((n : ℕ) × IsNearEnd bytes n × StartsWith written (decided_utf8 order (take n bytes))))
+      × StartsWith (whole bytes) written × ((n : ℕ) × IsNearEnd bytes n × StartsWith written (decided (take n bytes))))
 
   -- for each result
-  abbrev pub FiltersIn : Result (Unit {0}) FilterFault → Type 0
-  FiltersIn (Ok done) = Filters
-  FiltersIn (Err Read) = FiltersSome 0
-  FiltersIn (Err Write) = FiltersPrefix
-  FiltersIn (Err Memory) = FiltersBefore
-  FiltersIn (Err Long) = FiltersSome (2 ^ 64 - 1)
+  abbrev pub FiltersBy : Result (Unit {0}) FilterFault → Type 0
+  FiltersBy (Ok done) = FiltersAll
+  FiltersBy (Err Read) = FiltersSome 0
+  FiltersBy (Err Write) = FiltersPrefix
+  FiltersBy (Err Memory) = FiltersBefore
+  FiltersBy (Err Long) = FiltersSome (2 ^ 64 - 1)
+
+-- from UTF-16 to UTF-8; the order is `Some true` for big endian, `Some false` for little endian,
+-- and `None` if the BOM gives it
+module _ (order : Option Bool) where
+  -- the input was read to its end, and its whole text was written
+  abbrev pub Filters : Option (List ℕ) → Option (List ℕ) → Option (List ℕ) → Option (List ℕ) → Type 0
+  Filters = FiltersAll (decided_utf8 order) (whole_utf8 order)
+
+  -- for each result
+  abbrev pub FiltersIn : Option (List ℕ) → Option (List ℕ) → Option (List ℕ) → Option (List ℕ) → Result (Unit {0}) FilterFault → Type 0
+  FiltersIn = FiltersBy (decided_utf8 order) (whole_utf8 order)
 
 -- what `filter` did, in a given byte order
 abbrev pub FiltersAs : Bool → Option (List ℕ) → Option (List ℕ) → Option (List ℕ) → Option (List ℕ) → Result (Unit {0}) FilterFault → Type 0

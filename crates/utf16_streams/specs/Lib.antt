@@ -4,4 +4,5 @@ pub mod Bom
 pub mod Watched
 pub mod Lossy
 pub mod AnyLossy
+pub mod Continues
 pub mod Filter

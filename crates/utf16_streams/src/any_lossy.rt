@@ -1,16 +1,16 @@
 //! A decoder of UTF-16 whose byte order the BOM gives.
 
-ghost use Rattle.std.specs.Prelude.{◌≡◌, ◌≢◌, ◌↔◌, ◌<◌, ◌≤◌, [], ◌++◌, All, None, Some, IfErr, IfOk, IsOk, OnErr, OnOk, chars, encode_utf8_all, length, string_bytes};
+ghost use Rattle.std.specs.Prelude.{◌≡◌, ◌≢◌, ◌↔◌, ◌+◌, ◌*◌, ◌<◌, ◌≤◌, [], ◌++◌, All, None, Some, IfErr, IfOk, IsOk, OnErr, OnOk, chars, encode_utf8_all, length, string_bytes, take};
 ghost use Rattle.std.specs.Option.{option_to_list};
 ghost use Rattle.utf16_units.specs.Split.{IsTail, lossy_chars};
 ghost use Rattle.utf16_streams.specs.AnyLossy.{any_byte_order, any_pending, state_byte_order, state_pending};
-ghost use Rattle.utf16_streams.specs.Lossy.{lossy_pending};
 ghost use Rattle.utf16_streams.specs.Bom.{big_in, items_in, byte_order_after, tail_in};
+ghost use Rattle.utf16_streams.specs.Filter.{decided_utf8};
 
 use crate::decoder::{Decoder, LEAST_BUFFER, are_bytes, feed};
 use crate::lossy::Lossy;
 use std::alloc::{AllocError, Allocator};
-use utf16_units::{BE, LE, Utf16Order};
+use utf16_units::{BE, LE};
 
 /// A decoder of UTF-16 that comes in chunks, cut anywhere, in the byte order that its BOM gives. A
 /// stream that begins with the bytes `FE FF` is big endian, one that begins with `FF FE` is little
@@ -133,44 +133,104 @@ impl Decoder for AnyLossy {
     ) -> Result<(), AllocError> {
         match &mut self.state {
             State::Undecided(first) => {
-                self.state = begin(*first, piece, buffer, to)?;
+                let (mut state, rest) = begin(*first, piece);
+                state.feed_into(rest, buffer, to)?;
+                self.state = state;
                 Ok(())
             }
-            State::Big(decoder) => decoder.feed_into(piece, buffer, to),
-            State::Little(decoder) => decoder.feed_into(piece, buffer, to),
+            decided => decided.feed_into(piece, buffer, to),
+        }
+    }
+
+    fn feed_to(&mut self, piece: &[u8], to: &mut [u8]) -> usize {
+        match &mut self.state {
+            State::Undecided(first) => {
+                let (mut state, rest) = begin(*first, piece);
+                let written = state.feed_to(rest, to);
+                self.state = state;
+                written
+            }
+            decided => decided.feed_to(piece, to),
         }
     }
 
     fn finish(self) -> Option<char> {
         AnyLossy::finish(self)
     }
+
+    fn laws(&self) {
+        let _ = self.pending();
+    }
 }
 
-// Decodes a chunk of a stream of which at most one byte has come. The second byte decides the byte
-// order.
-fn begin<A: Allocator>(
-    first: Option<u8>,
-    piece: &[u8],
-    buffer: &mut [u8],
-    to: &mut String<A>,
-) -> Result<State, AllocError>
-    requires { LEAST_BUFFER ≤ length buffer.old }
-    ensures text { OnOk result (string_bytes to.new ≡ string_bytes to.old
-        ++ encode_utf8_all (lossy_chars (items_in None (option_to_list first ++ piece.now)))) }
-    ensures pending { IfOk result (λ state.
-        state_pending state ≡ tail_in None (option_to_list first ++ piece.now)) }
-    ensures byte_order { IfOk result (λ state.
-        state_byte_order state ≡ byte_order_after None (option_to_list first ++ piece.now)) }
-    ensures nothing { items_in None (option_to_list first ++ piece.now) ≡ [] → IsOk result }
+impl State {
+    // Decodes a chunk, as `Decoder::feed_into` does.
+    fn feed_into<A: Allocator>(
+        &mut self,
+        piece: &[u8],
+        buffer: &mut [u8],
+        to: &mut String<A>,
+    ) -> Result<(), AllocError>
+        requires decided { state_byte_order self.old ≡ None → piece.now ≡ [] }
+        requires space { LEAST_BUFFER ≤ length buffer.old }
+        ensures text { OnOk result (string_bytes to.new ≡ string_bytes to.old
+            ++ decided_utf8 (state_byte_order self.old) (state_pending self.old ++ piece.now)) }
+        ensures pending { OnOk result (state_pending self.new
+            ≡ tail_in (state_byte_order self.old) (state_pending self.old ++ piece.now)) }
+        ensures byte_order { OnOk result (state_byte_order self.new
+            ≡ byte_order_after (state_byte_order self.old) (state_pending self.old ++ piece.now)) }
+        ensures err { OnErr result ((state_pending self.new ≡ state_pending self.old)
+            × (state_byte_order self.new ≡ state_byte_order self.old)) }
+        ensures nothing { items_in (state_byte_order self.old) (state_pending self.old ++ piece.now)
+            ≡ [] → IsOk result }
+    {
+        match self {
+            State::Undecided(_) => Ok(()),
+            State::Big(decoder) => decoder.feed_into(piece, buffer, to),
+            State::Little(decoder) => decoder.feed_into(piece, buffer, to),
+        }
+    }
+
+    // Decodes a chunk, as `Decoder::feed_to` does.
+    fn feed_to(&mut self, piece: &[u8], to: &mut [u8]) -> usize
+        requires decided { state_byte_order self.old ≡ None → piece.now ≡ [] }
+        requires space { 2 * length piece.now + 8 ≤ length to.old }
+        ensures within { result ≤ length to.new }
+        ensures text { take result to.new
+            ≡ decided_utf8 (state_byte_order self.old) (state_pending self.old ++ piece.now) }
+        ensures pending { state_pending self.new
+            ≡ tail_in (state_byte_order self.old) (state_pending self.old ++ piece.now) }
+        ensures byte_order { state_byte_order self.new
+            ≡ byte_order_after (state_byte_order self.old) (state_pending self.old ++ piece.now) }
+    {
+        match self {
+            State::Undecided(_) => 0,
+            State::Big(decoder) => decoder.feed_to(piece, to),
+            State::Little(decoder) => decoder.feed_to(piece, to),
+        }
+    }
+}
+
+// Returns the state after the BOM of a stream of which at most one byte has come, if the BOM is in
+// the chunk, and the rest of the chunk. The second byte decides the byte order.
+fn begin<'a>(first: Option<u8>, piece: &'a [u8]) -> (State, &'a [u8])
+    ensures items { items_in None (option_to_list first ++ piece.now)
+        ≡ items_in (state_byte_order result.0) (state_pending result.0 ++ result.1.now) }
+    ensures tail { tail_in None (option_to_list first ++ piece.now)
+        ≡ tail_in (state_byte_order result.0) (state_pending result.0 ++ result.1.now) }
+    ensures byte_order { byte_order_after None (option_to_list first ++ piece.now)
+        ≡ state_byte_order result.0 }
+    ensures undecided { state_byte_order result.0 ≡ None → result.1.now ≡ [] }
+    ensures shorter { length result.1.now ≤ length piece.now }
 {
     let (beginning, rest) = match first_two(first, piece) {
         Ok(parts) => parts,
-        Err(only) => return Ok(State::Undecided(only)),
+        Err(only) => return (State::Undecided(only), &[]),
     };
     match beginning {
-        [0xFE, 0xFF] => Ok(State::Big(fed(Lossy::new(), rest, buffer, to)?)),
-        [0xFF, 0xFE] => Ok(State::Little(fed(Lossy::new(), rest, buffer, to)?)),
-        _ => Ok(State::Big(fed(Lossy::after(first), piece, buffer, to)?)),
+        [0xFE, 0xFF] => (State::Big(Lossy::new()), rest),
+        [0xFF, 0xFE] => (State::Little(Lossy::new()), rest),
+        _ => (State::Big(Lossy::after(first)), piece),
     }
 }
 
@@ -181,6 +241,7 @@ fn first_two<'a>(first: Option<u8>, piece: &'a [u8]) -> Result<([u8; 2], &'a [u8
         ≡ parts.0 ++ parts.1.now) }
     ensures fewer { IfErr result (λ only. option_to_list first ++ piece.now
         ≡ option_to_list only) }
+    ensures shorter { IfOk result (λ parts. length parts.1.now ≤ length piece.now) }
 {
     match (first, piece) {
         (None, [first, second, rest @ ..]) => Ok(([*first, *second], rest)),
@@ -188,25 +249,4 @@ fn first_two<'a>(first: Option<u8>, piece: &'a [u8]) -> Result<([u8; 2], &'a [u8
         (None, [only]) => Err(Some(*only)),
         (first, []) => Err(first),
     }
-}
-
-// Returns the decoder after it decoded a chunk, whose text is appended to `to`.
-fn fed<E: Utf16Order, A: Allocator>(
-    decoder: Lossy<E>,
-    piece: &[u8],
-    buffer: &mut [u8],
-    to: &mut String<A>,
-) -> Result<Lossy<E>, AllocError>
-    requires { LEAST_BUFFER ≤ length buffer.old }
-    ensures text { OnOk result (string_bytes to.new ≡ string_bytes to.old
-        ++ encode_utf8_all
-        (lossy_chars (items_in (Some E.BIG) (lossy_pending decoder ++ piece.now)))) }
-    ensures pending { IfOk result (λ fed.
-        lossy_pending fed ≡ tail_in (Some E.BIG) (lossy_pending decoder ++ piece.now)) }
-    ensures nothing { items_in (Some E.BIG) (lossy_pending decoder ++ piece.now) ≡ []
-        → IsOk result }
-{
-    let mut decoder = decoder;
-    decoder.feed_into(piece, buffer, to)?;
-    Ok(decoder)
 }

@@ -1,20 +1,31 @@
-//! A filter from UTF-16 to UTF-8.
+//! Filters from a reader to a writer.
 
-ghost use Rattle.std.specs.Prelude.{◌≡◌, ◌+◌, ◌-◌, ◌<◌, ◌^◌, [], OnErr, OnOk};
+ghost use Rattle.std.specs.Prelude.{◌≡◌, ◌+◌, ◌-◌, ◌*◌, ◌<◌, ◌≤◌, ◌^◌, [], IfOk, OnErr, OnOk, length};
 ghost use Rattle.std.specs.Io.KnownBytes.{Appends};
-ghost use Rattle.utf16_streams.specs.Filter.{AppendsPrefix, FiltersAs, FiltersIn, FiltersAuto, tail_utf8, read_faults, write_faults};
+ghost use Rattle.utf16_streams.specs.Filter.{AppendsPrefix, FiltersAs, FiltersAuto, FiltersBy, read_faults, write_faults};
 ghost use Rattle.utf16_streams.specs.Watched.{CountsFaults, watched_faults, watched_inner};
 
 use crate::any_lossy::AnyLossy;
-use crate::decoder::{BUFFER_LEN, Decoder};
+use crate::decoder::ToUtf8;
 use crate::lossy::Lossy;
+use crate::transcoder::Transcoder;
 use crate::watched::{DeviceFault, Watched};
-use std::alloc::Allocator;
+use std::alloc::{AllocError, Allocator};
 use std::io::{Read, Write};
 use utf16_units::Utf16Order;
 
 /// The most bytes that are read at a time.
 const READ_LEN: usize = 4096;
+
+// A chunk of at least this many bytes always adds to the output. A shorter one is transcoded into a
+// buffer on the stack of `SHORT_OUTPUT` bytes.
+const LONG_CHUNK: usize = 8;
+
+const SHORT_OUTPUT: usize = 24;
+
+// The length of the buffer for the output of longer chunks: two bytes for each byte read and eight
+// more, as `Transcoder::feed_to` requires, and `FEED_SLACK` bytes.
+const OUTPUT_LEN: usize = 8840;
 
 /// Why a filter stopped before the end of its input.
 #[derive(Clone, Copy, Debug, PartialEq, Eq)]
@@ -59,7 +70,7 @@ pub fn filter<E: Utf16Order, R: Read, W: Write, A: Allocator>(
     ensures reads { watched_faults reader.new ≡ watched_faults reader.old + read_faults result }
     ensures writes { watched_faults writer.new ≡ watched_faults writer.old + write_faults result }
 {
-    filter_by(alloc, Lossy::<E>::new(), reader, writer)
+    filter_by(alloc, ToUtf8(Lossy::<E>::new()), reader, writer)
 }
 
 /// Decodes a reader in the byte order that its BOM gives and writes the text to a writer in UTF-8,
@@ -86,62 +97,96 @@ pub fn filter_auto<R: Read, W: Write, A: Allocator>(
     ensures reads { watched_faults reader.new ≡ watched_faults reader.old + read_faults result }
     ensures writes { watched_faults writer.new ≡ watched_faults writer.old + write_faults result }
 {
-    filter_by(alloc, AnyLossy::new(), reader, writer)
+    filter_by(alloc, ToUtf8(AnyLossy::new()), reader, writer)
 }
 
-// Decodes a reader by a decoder at the beginning of its stream, and writes the text in UTF-8.
-fn filter_by<D: Decoder, R: Read, W: Write, A: Allocator>(
+/// Transcodes a reader and writes the output to a writer. It reads chunks of up to 4,096 bytes
+/// until a read returns 0, and flushes once at the end.
+///
+/// # Errors
+///
+/// At the first I/O error, if allocation fails, or after 2^64 - 1 reads that returned bytes.
+/// `FilterFault` says what is written then, with the output of the transcoder for the text.
+///
+/// # Precondition
+///
+/// Neither error count is `u64::MAX`.
+///
+/// # Complexity
+///
+/// Allocates once, capacity for the output of one chunk, however long the input is; nothing if no
+/// read returns more than seven bytes.
+pub fn filter_by<T: Transcoder, R: Read, W: Write, A: Allocator>(
     alloc: A,
-    decoder: D,
+    transcoder: T,
     reader: &mut Watched<R>,
     writer: &mut Watched<W>,
 ) -> Result<(), FilterFault>
-    requires fresh { D.pending decoder ≡ [] }
     requires reader { watched_faults reader.old < 2 ^ 64 - 1 }
     requires writer { watched_faults writer.old < 2 ^ 64 - 1 }
-    ensures transfers { FiltersIn (D.order decoder) (R.remaining (watched_inner reader.old))
-        (R.remaining (watched_inner reader.new)) (W.contents (watched_inner writer.old))
-        (W.contents (watched_inner writer.new)) result }
+    ensures transfers { FiltersBy (T.decided transcoder) (T.whole transcoder)
+        (R.remaining (watched_inner reader.old)) (R.remaining (watched_inner reader.new))
+        (W.contents (watched_inner writer.old)) (W.contents (watched_inner writer.new)) result }
     ensures reads { watched_faults reader.new ≡ watched_faults reader.old + read_faults result }
     ensures writes { watched_faults writer.new ≡ watched_faults writer.old + write_faults result }
 {
-    let mut decoder = decoder;
-    let mut text = String::new(alloc);
+    transcoder.laws();
+    let mut transcoder = transcoder;
     let mut block = [0; READ_LEN];
-    let mut buffer = [0; BUFFER_LEN];
+    let mut short = [0; SHORT_OUTPUT];
+    let mut long = Vec::new(alloc);
     for _ in 0..u64::MAX {
         let Ok(count) = reader.read(&mut block) else {
             return Err(FilterFault::Read);
         };
         if count == 0 {
-            let Ok(()) = end(decoder, writer) else {
+            let Ok(()) = end(transcoder, writer) else {
                 return Err(FilterFault::Write);
             };
             return Ok(());
         }
-        text.clear();
-        let Ok(()) = decoder.feed_into(&block[..count], &mut buffer, &mut text) else {
+        transcoder.laws();
+        let Ok(to) = space_for(count, &mut short, &mut long) else {
             return Err(FilterFault::Memory);
         };
-        let Ok(()) = write_all(writer, text.as_bytes()) else {
+        let len = transcoder.feed_to(&block[..count], to);
+        let Ok(()) = write_all(writer, &to[..len]) else {
             return Err(FilterFault::Write);
         };
     }
     Err(FilterFault::Long)
 }
 
-// Writes U+FFFD if bytes are pending, and flushes once.
-fn end<D: Decoder, W: Write>(decoder: D, writer: &mut Watched<W>) -> Result<(), DeviceFault>
+// Returns the buffer for the output of a chunk of `count` bytes: `short`, or `long` if the chunk is
+// too long for it, for which memory is requested the first time.
+fn space_for<'a, A: Allocator>(
+    count: usize,
+    short: &'a mut [u8; SHORT_OUTPUT],
+    long: &'a mut Vec<u8, A>,
+) -> Result<&'a mut [u8], AllocError>
+    requires { count ≤ READ_LEN }
+    ensures space { IfOk result (λ to. 2 * count + 8 ≤ length to.now) }
+    ensures err { OnErr result (8 ≤ count) }
+{
+    if count < LONG_CHUNK {
+        return Ok(short);
+    }
+    long.resize(OUTPUT_LEN, 0)?;
+    Ok(long)
+}
+
+// Writes what the end of the stream adds to the output, and flushes once.
+fn end<T: Transcoder, W: Write>(transcoder: T, writer: &mut Watched<W>) -> Result<(), DeviceFault>
     requires { watched_faults writer.old < 2 ^ 64 - 1 }
     ensures appended { OnOk result (Appends (W.contents (watched_inner writer.old))
-        (W.contents (watched_inner writer.new)) (tail_utf8 (D.pending decoder))) }
+        (W.contents (watched_inner writer.new)) (T.whole transcoder [])) }
     ensures err { OnErr result (AppendsPrefix (W.contents (watched_inner writer.old))
-        (W.contents (watched_inner writer.new)) (tail_utf8 (D.pending decoder))) }
+        (W.contents (watched_inner writer.new)) (T.whole transcoder [])) }
     ensures faults { CountsFaults writer.old writer.new result }
 {
-    if let Some(replacement) = decoder.finish() {
-        write_all(writer, replacement.encode_utf8(&mut [0; 4]).as_bytes())?;
-    }
+    let mut buffer = [0; SHORT_OUTPUT];
+    let len = transcoder.finish_to(&mut buffer);
+    write_all(writer, &buffer[..len])?;
     writer.flush()
 }
 

@@ -7,10 +7,12 @@ mod any_lossy;
 mod decoder;
 mod filters;
 mod lossy;
+mod transcoder;
 mod watched;
 
 pub use any_lossy::AnyLossy;
-pub use filters::{FilterFault, filter, filter_auto};
+pub use filters::{FilterFault, filter, filter_auto, filter_by};
 pub use lossy::{Lossy, decode_pieces};
+pub use transcoder::Transcoder;
 pub use utf16_units::{BE, BigEndian, LE, LittleEndian, Utf16Order};
 pub use watched::{DeviceFault, Watched};

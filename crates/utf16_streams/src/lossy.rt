@@ -138,9 +138,16 @@ impl<E: Utf16Order> Decoder for Lossy<E> {
         Ok(())
     }
 
+    fn feed_to(&mut self, piece: &[u8], to: &mut [u8]) -> usize {
+        are_bytes(self.stream.pending());
+        self.stream.feed::<E>(piece, to).written
+    }
+
     fn finish(self) -> Option<char> {
         Lossy::finish(self)
     }
+
+    fn laws(&self) {}
 }
 
 /// Returns the text of the chunks of a stream, joined: its characters, U+FFFD for each unpaired

@@ -1,0 +1,15 @@
+use Rattle.std.proofs.Common.{sym, ap}
+use Rattle.utf16_decode.proofs.DecodesLemmas.{shown}
+use Rattle.utf16_streams.specs.AnyLossy.{state_byte_order, state_pending}
+use Rattle.utf16_streams.proofs.BomLemmas.{still_items, still_tail}
+use Rattle.utf16_streams.proofs.any_lossy.State.feed_to.Goals as goal
+
+pub returns-in-Undecided-clause-text : goal.returns-in-Undecided-clause-text
+returns-in-Undecided-clause-text c =
+    let undecided = ap state_byte_order c.in-Undecided.is in
+    sym (ap shown (still_items _ _ _ c.in-Undecided.field-0 undecided (ap state_pending c.in-Undecided.is) (c.requires.decided undecided)))
+
+pub returns-in-Undecided-clause-pending : goal.returns-in-Undecided-clause-pending
+returns-in-Undecided-clause-pending c =
+    let undecided = ap state_byte_order c.in-Undecided.is in
+    still_tail _ _ _ c.in-Undecided.field-0 undecided (ap state_pending c.in-Undecided.is) (c.requires.decided undecided)
