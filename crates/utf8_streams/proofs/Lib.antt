@@ -1,0 +1,2 @@
+pub mod EncoderLemmas
+pub mod Utf16Rows

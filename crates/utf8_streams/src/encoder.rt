@@ -1,0 +1,88 @@
+//! A transcoder from UTF-8 to UTF-16.
+
+ghost use Rattle.std.specs.Prelude.{◌≡◌, ◌+◌, ◌≤◌, [], ◌++◌, length, take};
+ghost use Rattle.utf8_split.specs.Split.{split_tail};
+ghost use Rattle.utf16_transcode.specs.Utf8Stream.{utf8_stream_pending};
+ghost use Rattle.utf8_streams.specs.Utf16.{certain, entire, with_bom};
+
+use std::marker::PhantomData;
+use utf16_decode::put;
+use utf16_streams::Transcoder;
+use utf16_transcode::Utf8Stream;
+use utf16_units::Utf16Order;
+
+// U+FEFF, the BOM (byte order mark).
+const BOM: u16 = 0xFEFF;
+
+// A transcoder from UTF-8 to UTF-16 in byte order `E`, with U+FFFD for each maximal subpart of an
+// ill-formed sequence and one for an incomplete end.
+#[derive(Drop)]
+pub struct Encoder<E: Utf16Order> {
+    stream: Utf8Stream,
+    // Whether the output has a BOM first and has not begun.
+    bom_due: bool,
+    order: PhantomData<E>,
+    ghost undecided: { split_tail (utf8_stream_pending stream) ≡ utf8_stream_pending stream },
+}
+
+impl<E: Utf16Order> Encoder<E> {
+    // Returns a transcoder at the beginning of a stream, whose output has a BOM first or not.
+    pub fn new(bom_due: bool) -> Self
+        ensures bom_due { result.bom_due ≡ bom_due }
+        ensures pending { utf8_stream_pending result.stream ≡ [] }
+    {
+        Encoder {
+            stream: Utf8Stream::new(),
+            bom_due,
+            order: PhantomData,
+        }
+    }
+}
+
+impl<E: Utf16Order> Transcoder for Encoder<E> {
+    ghost decided = { λ it bytes.
+        certain it.bom_due E.BIG (utf8_stream_pending it.stream ++ bytes) };
+
+    ghost whole = { λ it bytes.
+        entire it.bom_due E.BIG (utf8_stream_pending it.stream ++ bytes) };
+
+    fn feed_to(&mut self, piece: &[u8], to: &mut [u8]) -> usize {
+        let len = self.stream.feed::<E>(piece, to).written;
+        if !self.bom_due {
+            return len;
+        }
+        if len == 0 {
+            return 0;
+        }
+        self.bom_due = false;
+        put_bom::<E>(to, len)
+    }
+
+    fn finish_to(self, to: &mut [u8]) -> usize {
+        let mut stream = self.stream;
+        let len = stream.finish::<E>(to).written;
+        if self.bom_due {
+            put_bom::<E>(to, len)
+        } else {
+            len
+        }
+    }
+
+    fn laws(&self) {}
+}
+
+// Inserts a BOM before the first `len` bytes of a buffer, unless they begin with one, and returns
+// the length with it.
+fn put_bom<E: Utf16Order>(to: &mut [u8], len: usize) -> usize
+    requires { len + 2 ≤ length to.old }
+    ensures within { result ≤ length to.new }
+    ensures bytes { take result to.new ≡ with_bom E.BIG (take len to.old) }
+{
+    let bom = E::write_unit(BOM);
+    if to[..len].starts_with(&bom) {
+        return len;
+    }
+    to.copy_within(..len, bom.len());
+    put(&bom, to, 0);
+    len + bom.len()
+}
