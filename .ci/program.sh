@@ -62,7 +62,7 @@ with_little_memory() {
     local low=0 high=1048576 limit status
     while [ $((high - low)) -gt 1 ]; do
         limit=$(((low + high) / 2))
-        (ulimit -v $limit; exec "$P" "$1") > part 2> line < hi
+        (ulimit -v $limit; exec "$P" "$1") > part 2> line < front
         status=$?
         case $status in
             0) high=$limit ;;
