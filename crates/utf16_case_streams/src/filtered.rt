@@ -7,6 +7,16 @@ use utf16_case_lines::{Answer, How, Trouble, Values};
 use utf16_streams::{FilterFault, Utf16Order, Watched, filter_auto};
 use utf16_test_support::refusing::Refusing;
 use utf16_test_support::stepped::{Giver, Taker};
+use utf8_streams::{encode_stream, encode_stream_with_bom};
+
+/// The filters.
+#[derive(Clone, Copy, Drop)]
+pub enum Filter {
+    Decode,
+    DecodeAuto,
+    Encode,
+    EncodeWithBom,
+}
 
 /// How a run of a filter ended.
 #[derive(Drop)]
@@ -26,15 +36,18 @@ pub fn run<E: Utf16Order>(
     heap: &Refusing<Global>,
     how: &How,
     bytes: &[u8],
-    is_auto: bool,
+    filter: Filter,
     odd: (usize, usize),
 ) -> Ended {
     let mut reader = Watched::new(Giver::new(bytes, manner(&how.reads, odd.0)));
     let mut writer = Watched::new(Taker::new(alloc, manner(&how.writes, odd.1)));
-    let result = if is_auto {
-        filter_auto(heap, &mut reader, &mut writer)
-    } else {
-        utf16_streams::filter::<E, _, _, _>(heap, &mut reader, &mut writer)
+    let result = match filter {
+        Filter::Decode => utf16_streams::filter::<E, _, _, _>(heap, &mut reader, &mut writer),
+        Filter::DecodeAuto => filter_auto(heap, &mut reader, &mut writer),
+        Filter::Encode => encode_stream::<E, _, _, _>(heap, &mut reader, &mut writer),
+        Filter::EncodeWithBom => {
+            encode_stream_with_bom::<E, _, _, _>(heap, &mut reader, &mut writer)
+        }
     };
     let (read_faults, write_faults) = (reader.faults(), writer.faults());
     let (giver, taker) = (reader.into_inner(), writer.into_inner());
@@ -67,14 +80,17 @@ pub fn filter<E: Utf16Order>(
     how: &How,
     values: &mut Values,
     answer: &mut Answer,
-    is_auto: bool,
+    filter: Filter,
 ) -> Result<(), Trouble> {
     let bytes = values.bytes(alloc, E::BIG)?;
     let heap = heap(alloc, how);
     let odd = (how.reads.odd_at, how.writes.odd_at);
-    let ended = run::<E>(alloc, &heap, how, &bytes, is_auto, odd);
+    let ended = run::<E>(alloc, &heap, how, &bytes, filter, odd);
     add_result(answer, ended.result);
-    answer.text_or_bytes(&ended.taken, true);
+    match filter {
+        Filter::Decode | Filter::DecodeAuto => answer.text_or_bytes(&ended.taken, true),
+        Filter::Encode | Filter::EncodeWithBom => answer.bytes(&ended.taken),
+    }
     if how.counted {
         add_counts(answer, &ended);
     }

@@ -9,6 +9,7 @@ mod memory;
 mod pieces;
 mod sweeps;
 
+use crate::filtered::Filter;
 use std::alloc::Global;
 use utf16_case_lines::{Answer, How, Trouble, Values};
 use utf16_streams::{AnyLossy, Lossy, Utf16Order};
@@ -47,8 +48,12 @@ fn on_devices<E: Utf16Order>(
             devices::flush(alloc, how, answer);
             Ok(())
         }
-        "filter" => filtered::filter::<E>(alloc, how, values, answer, false),
-        "filter_auto" => filtered::filter::<E>(alloc, how, values, answer, true),
+        "filter" => filtered::filter::<E>(alloc, how, values, answer, Filter::Decode),
+        "filter_auto" => filtered::filter::<E>(alloc, how, values, answer, Filter::DecodeAuto),
+        "encode_stream" => filtered::filter::<E>(alloc, how, values, answer, Filter::Encode),
+        "encode_stream_with_bom" => {
+            filtered::filter::<E>(alloc, how, values, answer, Filter::EncodeWithBom)
+        }
         "filter_each_read" => sweeps::each_read::<E>(alloc, how, values, answer),
         "filter_each_write" => sweeps::each_write::<E>(alloc, how, values, answer),
         _ => Err(Trouble::Call),

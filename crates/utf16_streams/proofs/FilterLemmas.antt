@@ -96,7 +96,7 @@ module _ (decided whole : List ℕ → List ℕ) (input left old new : Option (L
         )
 
     -- if memory was refused for bytes that add to the output
-    pub Filtering-refused : 0 < length piece → length piece ≤ 4096 → decided_then piece ≢ [] → FiltersBefore decided whole input after old new
+    pub Filtering-refused : 8 ≤ length piece → length piece ≤ 4096 → decided_then piece ≢ [] → FiltersBefore decided whole input after old new
     Filtering-refused some few adds =
         let no_more : decided (take (length bytes) (bytes ++ piece)) ≡ decided (bytes ++ piece) → decided_then piece ≡ [] = λ same. (
         let joined : decided bytes ≡ decided bytes ++ decided_then piece = ap decided (sym before) ∙ same ∙ so_far.continues.certain piece in

@@ -35,10 +35,10 @@ module _ (decided whole : List ℕ → List ℕ) (input left old new : Option (L
   abbrev pub FiltersSome : ℕ → Type 0
   FiltersSome least = (bytes : List ℕ) × Consumes input left bytes × (least ≤ length bytes) × Appends old new (decided bytes)
 
-  -- some bytes were read; the certain output of all but the last 1 to 4,096 of them was written,
+  -- some bytes were read; the certain output of all but the last 8 to 4,096 of them was written,
   -- and with these more output is certain
   abbrev pub FiltersBefore : Type 0
-  FiltersBefore = (bytes : List ℕ) × Consumes input left bytes × ((n : ℕ) × (n < length bytes) × IsNearEnd bytes n
+  FiltersBefore = (bytes : List ℕ) × Consumes input left bytes × ((n : ℕ) × (n + 8 ≤ length bytes) × IsNearEnd bytes n
       × (decided (take n bytes) ≢ decided bytes) × Appends old new (decided (take n bytes)))
 
   -- some bytes were read; a prefix of their whole output was written, and at least the certain

@@ -27,7 +27,8 @@ const SHORT_OUTPUT: usize = 24;
 // more, as `Transcoder::feed_to` requires, and `FEED_SLACK` bytes.
 const OUTPUT_LEN: usize = 8840;
 
-/// Why a filter stopped before the end of its input.
+/// Why a filter stopped before the end of its input. The text of some bytes is the output that is
+/// certain for them.
 #[derive(Clone, Copy, Debug, PartialEq, Eq)]
 pub enum FilterFault {
     /// A read failed. The text of the bytes read is written, but no U+FFFD for an incomplete end.
@@ -35,7 +36,8 @@ pub enum FilterFault {
     /// A write or the flush failed. A prefix of the text of the bytes read is written.
     Write,
     /// Allocation failed. The text of the bytes read before the last chunk is written. The last
-    /// chunk would have added to it: a chunk that adds no text needs no allocation.
+    /// chunk has at least eight bytes and would have added to it: a shorter one needs no
+    /// allocation.
     Memory,
     /// 2^64 - 1 reads returned bytes. Their text is written, but no U+FFFD for an incomplete end.
     Long,
@@ -56,7 +58,8 @@ pub enum FilterFault {
 ///
 /// # Complexity
 ///
-/// Allocates capacity for the text of one chunk, however long the input is.
+/// Allocates once, capacity for the text of one chunk, however long the input is; nothing if no
+/// read returns more than seven bytes.
 pub fn filter<E: Utf16Order, R: Read, W: Write, A: Allocator>(
     alloc: A,
     reader: &mut Watched<R>,
