@@ -1,7 +1,7 @@
 -- The message of a run's outcome, as bytes.
 use Rattle.std.specs.Prelude.{ℕ, List, [], ◌∷◌, ◌++◌, codes}
-use Rattle.utf16_cat.specs.declared.outcome.Outcome.{Outcome}
-use Rattle.utf16_cat.specs.declared.outcome.Outcome.TheVariants.{Done, Long, Memory, Read, Usage, Write}
+use Rattle.utf16_program.specs.declared.outcome.Outcome.{Outcome}
+use Rattle.utf16_program.specs.declared.outcome.Outcome.TheVariants.{Done, Long, Memory, Read, Usage, Write}
 
 -- the message and a newline; empty if all was decoded
 abbrev pub line_of : Outcome → List ℕ

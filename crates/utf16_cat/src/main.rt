@@ -2,9 +2,9 @@
 //! standard output.
 #![tactic(auto)]
 
-mod outcome;
 mod program;
 mod run;
+mod words;
 
 use crate::program::program;
 use std::process::ExitCode;

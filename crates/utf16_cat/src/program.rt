@@ -1,21 +1,21 @@
 //! The program, over any environment, reader and writers.
 
-ghost use Rattle.std.specs.Prelude.{◌≡◌, ◌⊎◌, ◌-◌, ◌<◌, ◌≤◌, ◌^◌, [], ◌∷◌, Bool, true, false, Err, IfErr, IfOk, None, Ok, Option, Some, codes, drop, map, string_bytes};
+ghost use Rattle.std.specs.Prelude.{◌≡◌, ◌⊎◌, ◌-◌, ◌<◌, ◌≤◌, ◌^◌, [], ◌∷◌, Bool, true, false, Err, None, Ok, Option, Some, codes, map, string_bytes};
 ghost use Rattle.std.specs.Io.KnownBytes.{Keeps};
 ghost use Rattle.std.specs.Process.{exit_status};
-ghost use Rattle.std.specs.Vec.Iter.{into_iter_items};
 ghost use Rattle.utf16_streams.specs.Filter.{Filters, FiltersIn};
 ghost use Rattle.utf16_streams.specs.Watched.{watched_faults, watched_inner};
 ghost use Rattle.utf16_streams.specs.declared.filters.FilterFault.{FilterFault};
 ghost use Rattle.utf16_cat.specs.Outcome.{ExitsAs};
-ghost use Rattle.utf16_cat.specs.Status.{CountsErrors, status_of};
+ghost use Rattle.utf16_program.specs.Status.{CountsErrors};
 
-use crate::outcome::{Outcome, report};
 use crate::run::run;
-use std::alloc::{Allocator, Global};
-use std::env::{self, Args, Env};
-use std::io::{ErrorKind, Read, Write};
+use crate::words::Lines;
+use std::alloc::Allocator;
+use std::env::Env;
+use std::io::{Read, Write};
 use std::process::ExitCode;
+use utf16_program::{ended, words};
 use utf16_streams::Watched;
 
 /// Runs the program on the arguments of the environment, writes the message of its outcome to
@@ -53,7 +53,7 @@ pub fn program<E: Env + AllocGlobal, R: Read, W: Write, T: Write>(
 {
     match words(env) {
         Ok(words) => program_on(env.alloc(), &words, reader, writer, errors),
-        Err(outcome) => ended(outcome, errors),
+        Err(outcome) => ended::<Lines, _>(outcome, errors),
     }
 }
 
@@ -94,42 +94,5 @@ pub fn program_on<R: Read, W: Write, T: Write, A: Allocator>(
         (watched_faults reader.old) (watched_faults reader.new)
         (watched_faults writer.old) (watched_faults writer.new) }
 {
-    ended(run(alloc, words, reader, writer), errors)
-}
-
-// Writes the message of an outcome, and returns the exit status.
-fn ended<T: Write>(outcome: Outcome, errors: &mut T) -> ExitCode
-    ensures status { exit_status result ≡ status_of outcome }
-    ensures quiet { outcome ≡ Outcome.Done
-        → Keeps (T.contents errors.old) (T.contents errors.new) }
-{
-    ExitCode::from(report(&outcome, errors))
-}
-
-/// Returns the arguments, without the name of the program.
-///
-/// # Errors
-///
-/// `Memory` if allocation fails; `Usage` if an argument is not UTF-8, so that it names no byte
-/// order.
-pub fn words<E: Env + AllocGlobal>(env: &E) -> Result<Vec<String>, Outcome>
-    ensures { IfErr result (λ outcome. (outcome ≡ Outcome.Memory) ⊎ (outcome ≡ Outcome.Usage)) }
-{
-    match env::args(env) {
-        Ok(all) => after_name(env.alloc(), all),
-        Err(e) if e.kind() == ErrorKind::OutOfMemory => Err(Outcome::Memory),
-        Err(_) => Err(Outcome::Usage),
-    }
-}
-
-// Returns the arguments after the first, the name of the program. The only error is `Memory`.
-fn after_name(alloc: Global, mut all: Args) -> Result<Vec<String>, Outcome>
-    ensures words { IfOk result (λ words. words.items ≡ drop 1 (into_iter_items all)) }
-    ensures memory { IfErr result (λ outcome. outcome ≡ Outcome.Memory) }
-{
-    let _program = all.next();
-    let Ok(words) = all.collect(alloc) else {
-        return Err(Outcome::Memory);
-    };
-    Ok(words)
+    ended::<Lines, _>(run(alloc, words, reader, writer), errors)
 }

@@ -3,11 +3,12 @@
 ghost use Rattle.std.specs.Prelude.{◌≡◌, ◌⊎◌, ◌+◌, ◌-◌, ◌<◌, ◌^◌, [], ◌∷◌, true, false, None, Some, map, codes, string_bytes};
 ghost use Rattle.utf16_streams.specs.Watched.{watched_faults, watched_inner};
 ghost use Rattle.utf16_cat.specs.Outcome.{EndsAs};
-ghost use Rattle.utf16_cat.specs.Status.{reads_failed, writes_failed};
+ghost use Rattle.utf16_program.specs.Status.{reads_failed, writes_failed};
 
-use crate::outcome::{Choice, Outcome, order, outcome_of};
+use crate::words::{Choice, order};
 use std::alloc::Allocator;
 use std::io::{Read, Write};
+use utf16_program::{Outcome, outcome_of};
 use utf16_streams::{BE, LE, Watched, filter, filter_auto};
 
 /// Decodes a reader to a writer in the byte order that the arguments name, and returns the outcome.

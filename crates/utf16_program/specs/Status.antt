@@ -1,7 +1,7 @@
 -- The exit status of a run.
 use Rattle.std.specs.Prelude.{◌≡◌, ◌+◌, ℕ}
-use Rattle.utf16_cat.specs.declared.outcome.Outcome.{Outcome}
-use Rattle.utf16_cat.specs.declared.outcome.Outcome.TheVariants.{Done, Long, Memory, Read, Usage, Write}
+use Rattle.utf16_program.specs.declared.outcome.Outcome.{Outcome}
+use Rattle.utf16_program.specs.declared.outcome.Outcome.TheVariants.{Done, Long, Memory, Read, Usage, Write}
 
 -- 0 if the input was decoded, 2 if the arguments name no byte order, otherwise 1
 abbrev pub status_of : Outcome → ℕ

@@ -1,5 +1,5 @@
 use Rattle.std.proofs.Common.{rules}
-use Rattle.utf16_cat.proofs.outcome.report.Goals as goal
+use Rattle.utf16_program.proofs.messages.report.Goals as goal
 
 pub returns-in-Done-clause-quiet : goal.returns-in-Done-clause-quiet
 returns-in-Done-clause-quiet g c = search rules

@@ -1,6 +1,6 @@
 use Rattle.std.proofs.Common.{arith}
 use Rattle.std.proofs.lemmas.Grind.{common_steps}
-use Rattle.utf16_cat.proofs.outcome.order.Goals as goal
+use Rattle.utf16_cat.proofs.words.order.Goals as goal
 
 pub returns-in-le-clause-le : goal.returns-in-le-clause-le
 returns-in-le-clause-le c = grind (arith, common_steps)

@@ -1,5 +1,5 @@
 use Rattle.std.proofs.Common.{rules}
-use Rattle.utf16_cat.proofs.outcome.tell.Goals as goal
+use Rattle.utf16_program.proofs.messages.tell.Goals as goal
 
 pub returns-in-Done-clause-line : goal.returns-in-Done-clause-line
 returns-in-Done-clause-line g c = search rules

@@ -1,8 +1,8 @@
 use Rattle.std.proofs.Common.{◌≡◌, ◌<◌, ◌↔◌, IsSome, Ok, drop, length, vec_len, subst, ap, ◌∙◌}
 use Rattle.std.proofs.lemmas.Iterator.Adapters.{YieldsList-from_vec, fact_from_collect}
 use Rattle.std.specs.Vec.Iter.{into_iter_items}
-use Rattle.utf16_cat.proofs.WordsLemmas.{after_first}
-use Rattle.utf16_cat.proofs.program.after_name.Goals as goal
+use Rattle.utf16_program.proofs.WordsLemmas.{after_first}
+use Rattle.utf16_program.proofs.arguments.after_name.Goals as goal
 
 pub returns-clause-words : goal.returns-clause-words
 returns-clause-words c =
