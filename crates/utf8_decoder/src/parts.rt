@@ -1,0 +1,147 @@
+//! A chunk of UTF-8 decoded part by part, through a buffer.
+
+ghost use Rattle.std.specs.Prelude.{◌≡◌, ◌+◌, ◌*◌, ◌<◌, ◌≤◌, [], ◌++◌, All, IfOk, IsOk, OnErr, OnOk, length};
+ghost use Rattle.utf16_units.specs.Edit.{push_text};
+ghost use Rattle.utf16_units.specs.Encoding.{size};
+ghost use Rattle.utf8_split.specs.Split.{decided_text, split_tail};
+ghost use Rattle.utf16_transcode.specs.Utf8Stream.{utf8_stream_pending};
+ghost use Rattle.utf16string.specs.WStr.{wstr_bytes, wstr_text};
+ghost use Rattle.utf16string.specs.WString.{IsUnchanged, wstring_bytes, wstring_capacity, wstring_text};
+
+use std::alloc::{AllocError, Allocator};
+use utf16_transcode::Utf8Stream;
+use utf16string::{Utf16Order, WStr, WString};
+
+// A chunk of at most `SHORT_CHUNK` bytes is decoded at once, and capacity is reserved for its text
+// alone. The buffer has two bytes for each byte of the chunk, two for the pending bytes, and 16
+// more, with which SIMD writes to the end.
+const SHORT_CHUNK: usize = 512;
+
+const SHORT_BUFFER: usize = 1042;
+
+// A longer chunk is decoded in parts of as many bytes, through a larger buffer.
+const PART_LEN: usize = 4096;
+
+const PART_BUFFER: usize = 8210;
+
+/// Decodes the next chunk of a stream, appends its text, and returns the stream with the bytes that
+/// are pending then.
+///
+/// # Errors
+///
+/// If allocation fails. The string is unchanged then.
+pub fn feed<E: Utf16Order, A: Allocator>(
+    stream: Utf8Stream,
+    piece: &[u8],
+    to: &mut WString<E, A>,
+) -> Result<Utf8Stream, AllocError>
+    requires { split_tail (utf8_stream_pending stream) ≡ utf8_stream_pending stream }
+    ensures text { OnOk result (wstring_text to.new ≡ push_text (wstring_text to.old)
+        (decided_text (utf8_stream_pending stream ++ piece.now))) }
+    ensures len { OnOk result (length (wstring_bytes to.new) ≡ length (wstring_bytes to.old)
+        + size (decided_text (utf8_stream_pending stream ++ piece.now))) }
+    ensures pending { IfOk result (λ fed.
+        utf8_stream_pending fed ≡ split_tail (utf8_stream_pending stream ++ piece.now)) }
+    ensures err { OnErr result (IsUnchanged to.old to.new) }
+    ensures nothing { decided_text (utf8_stream_pending stream ++ piece.now) ≡ []
+        → IsOk result × IsUnchanged to.old to.new }
+    ensures succeeds { length (wstring_bytes to.old) + (2 * length piece.now + 2)
+        ≤ wstring_capacity to.old → IsOk result }
+    ensures grows { wstring_capacity to.old ≤ wstring_capacity to.new }
+{
+    if piece.len() <= SHORT_CHUNK {
+        return append_part(stream, piece, &mut [0; SHORT_BUFFER], to);
+    }
+    to.reserve(piece.len().saturating_mul(2).saturating_add(2))?;
+    Ok(decode_parts(stream, piece, to))
+}
+
+// Decodes a chunk in parts, appends its text, which fits in the capacity, and returns the stream
+// with the bytes that are pending then.
+fn decode_parts<E: Utf16Order, A: Allocator>(
+    stream: Utf8Stream,
+    piece: &[u8],
+    to: &mut WString<E, A>,
+) -> Utf8Stream
+    requires undecided { split_tail (utf8_stream_pending stream) ≡ utf8_stream_pending stream }
+    requires fits { length (wstring_bytes to.old)
+        + size (decided_text (utf8_stream_pending stream ++ piece.now)) ≤ wstring_capacity to.old }
+    ensures text { wstring_text to.new ≡ push_text (wstring_text to.old)
+        (decided_text (utf8_stream_pending stream ++ piece.now)) }
+    ensures len { length (wstring_bytes to.new) ≡ length (wstring_bytes to.old)
+        + size (decided_text (utf8_stream_pending stream ++ piece.now)) }
+    ensures pending { utf8_stream_pending result
+        ≡ split_tail (utf8_stream_pending stream ++ piece.now) }
+    ensures grows { wstring_capacity to.old ≤ wstring_capacity to.new }
+{
+    let mut buffer = [0; PART_BUFFER];
+    let mut stream = stream;
+    let mut rest = piece;
+    while !rest.is_empty() {
+        let (part, behind) = rest.split_at(rest.len().min(PART_LEN));
+        let Ok(fed) = append_part(stream, part, &mut buffer, to) else {
+            unreachable!()
+        };
+        stream = fed;
+        rest = behind;
+    }
+    stream
+}
+
+// Decodes the next part of a chunk through a buffer, appends its text, and returns the stream with
+// the bytes that are pending then.
+fn append_part<E: Utf16Order, A: Allocator>(
+    stream: Utf8Stream,
+    part: &[u8],
+    buffer: &mut [u8],
+    to: &mut WString<E, A>,
+) -> Result<Utf8Stream, AllocError>
+    requires undecided { split_tail (utf8_stream_pending stream) ≡ utf8_stream_pending stream }
+    requires space { 2 * length part.now + 2 ≤ length buffer.old }
+    ensures text { OnOk result (wstring_text to.new ≡ push_text (wstring_text to.old)
+        (decided_text (utf8_stream_pending stream ++ part.now))) }
+    ensures len { OnOk result (length (wstring_bytes to.new) ≡ length (wstring_bytes to.old)
+        + size (decided_text (utf8_stream_pending stream ++ part.now))) }
+    ensures pending { IfOk result (λ fed.
+        utf8_stream_pending fed ≡ split_tail (utf8_stream_pending stream ++ part.now)) }
+    ensures err { OnErr result (IsUnchanged to.old to.new) }
+    ensures nothing { decided_text (utf8_stream_pending stream ++ part.now) ≡ []
+        → IsOk result × IsUnchanged to.old to.new }
+    ensures succeeds { length (wstring_bytes to.old)
+        + size (decided_text (utf8_stream_pending stream ++ part.now)) ≤ wstring_capacity to.old
+        → IsOk result }
+    ensures grows { wstring_capacity to.old ≤ wstring_capacity to.new }
+{
+    let (stream, text) = decode_part::<E>(stream, part, buffer);
+    if !text.is_empty() {
+        to.push_wstr(text)?;
+    }
+    Ok(stream)
+}
+
+// Decodes the next part of a chunk into a buffer, and returns its text, and the stream with the
+// bytes that are pending then.
+fn decode_part<'a, E: Utf16Order>(
+    stream: Utf8Stream,
+    part: &[u8],
+    buffer: &'a mut [u8],
+) -> (Utf8Stream, WStr<'a, E>)
+    requires undecided { split_tail (utf8_stream_pending stream) ≡ utf8_stream_pending stream }
+    requires space { 2 * length part.now + 2 ≤ length buffer.old }
+    ensures text { wstr_text result.1 ≡ decided_text (utf8_stream_pending stream ++ part.now) }
+    ensures len { length (wstr_bytes result.1)
+        ≡ size (decided_text (utf8_stream_pending stream ++ part.now)) }
+    ensures pending { utf8_stream_pending result.0
+        ≡ split_tail (utf8_stream_pending stream ++ part.now) }
+{
+    let mut stream = stream;
+    let written = stream.feed::<E>(part, buffer).written;
+    (stream, WStr::from_utf16_unchecked(&buffer[..written]))
+}
+
+/// States that bytes are below 256, as the type of their slice says. It does nothing: a proof cites
+/// it by a call.
+#[inline]
+pub fn are_bytes(bytes: &[u8])
+    ensures { All (λ b. b < 256) bytes.now }
+{}
