@@ -1,8 +1,10 @@
 #!/usr/bin/env bash
-# Runs the built program over a table of cases: what it writes, its line on standard error and its
-# status, on plain inputs, on standard streams that are closed, full, broken or no files, and with
-# too little memory. Without arguments it takes each build that is in its crate, and builds one
-# where there is none. Prints each case that fails, and last a line 'N passed, M failed'.
+# Runs the built programs over tables of cases: what they write, their line on standard error and
+# their status, on plain inputs, on standard streams that are closed, full, broken or no files, and
+# with too little memory. Without arguments it takes each build of utf16_cat and utf16_enc in their
+# crates, and builds one where there is none. A program that is named is run over the cases of
+# utf16_enc if the name of its file begins so. Prints each case that fails, and last a line
+# 'N passed, M failed'.
 set -uo pipefail
 top=$(cd "$(dirname "$0")/.." && pwd)
 room=$(mktemp -d)
@@ -12,10 +14,14 @@ passed=0
 failed=0
 
 none=''
-usage='usage: utf16_cat le|be|auto\n'
-read_failed='utf16_cat: read failed\n'
-write_failed='utf16_cat: write failed\n'
-out_of_memory='utf16_cat: out of memory\n'
+
+# The lines of a program of this name, and its arguments.
+lines_of() {
+    usage="usage: $1 $2\\n"
+    read_failed="$1: read failed\\n"
+    write_failed="$1: write failed\\n"
+    out_of_memory="$1: out of memory\\n"
+}
 
 printf 'h\0i\0' > hi
 : > empty
@@ -29,6 +35,16 @@ mkdir folder
 head -c 3000000 /dev/zero > zeros
 head -c 1500000 /dev/zero > half
 head -c 1024 /dev/zero > front
+{ printf '\xFF\xFE'; head -c 1022 /dev/zero; } > front_le-bom
+{ printf '\xFE\xFF'; head -c 1022 /dev/zero; } > front_be-bom
+# 4,093 to 4,095 letters and then a pair, or an ill-formed sequence and a letter, across the
+# boundary of a block of 4,096 bytes of UTF-8.
+for letters in 4093 4094 4095; do
+    { head -c $letters /dev/zero | tr '\0' a; printf '\xF0\x90\x80\x80'; } > pair_${letters}_utf8
+    { head -c $letters /dev/zero | sed 's/\x0/a\x0/g'; printf '\0\xD8\0\xDC'; } > pair_$letters
+    { head -c $letters /dev/zero | tr '\0' a; printf '\xF0\x90\x80b'; } > part_${letters}_utf8
+    { head -c $letters /dev/zero | sed 's/\x0/a\x0/g'; printf '\xFD\xFFb\0'; } > part_$letters
+done
 
 # The name, the status, the line on standard error, what is on standard output as printf writes it,
 # and the command, of which $P is the program.
@@ -45,8 +61,8 @@ is() {
     fi
 }
 
-# A case that decodes these bytes without an error.
-decodes() {
+# A case that converts these bytes without an error.
+converts() {
     printf "$2" > input
     is "$1 of $2" 0 "$none" "$3" "\$P $1 < input"
 }
@@ -57,7 +73,7 @@ refuses() {
 }
 
 # Runs $P in a byte order with so little memory that it starts and an allocation fails. The limit is
-# searched between one at which it does not start and one at which it decodes.
+# searched between one at which it does not start and one at which it succeeds.
 with_little_memory() {
     local low=0 high=1048576 limit status
     while [ $((high - low)) -gt 1 ]; do
@@ -74,55 +90,14 @@ with_little_memory() {
 }
 export -f with_little_memory
 
-cases() {
-    decodes le '' ''
-    decodes be '' ''
-    decodes le 'h\0e\0l\0l\0o\0' 'hello'
-    decodes be '\0h\0e\0l\0l\0o' 'hello'
-    decodes le 'h\0i\0' 'hi'
-    decodes be 'h\0i\0' '\xE6\xA0\x80\xE6\xA4\x80'
-    decodes le '\0\xD8\0\xDC' '\xF0\x90\x80\x80'
-    decodes be '\xDB\xFF\xDF\xFF' '\xF4\x8F\xBF\xBF'
-    decodes be '\0h\xD8\0\xDC\0' 'h\xF0\x90\x80\x80'
-    decodes le 'h\0\0\xDCe\0l\0l\0o\0' 'h\xEF\xBF\xBDello'
-    decodes le 'h\0\0\xD8e\0l\0l\0o\0' 'h\xEF\xBF\xBDello'
-    decodes be '\0h\xD8\0\0e' 'h\xEF\xBF\xBDe'
-    decodes le '\0\xD8\0\xD8' '\xEF\xBF\xBD\xEF\xBF\xBD'
-    decodes le '\0\xDC\0\xDC' '\xEF\xBF\xBD\xEF\xBF\xBD'
-    decodes le 'h\0\0\xDC' 'h\xEF\xBF\xBD'
-    decodes le 'h\0\0\xDCi' 'h\xEF\xBF\xBD\xEF\xBF\xBD'
-    decodes le 'h' '\xEF\xBF\xBD'
-    decodes be 'h' '\xEF\xBF\xBD'
-    decodes be '\xD8\0\0' '\xEF\xBF\xBD'
-    decodes be '\0h\xD8\0\0' 'h\xEF\xBF\xBD'
-    decodes be '\xDC' '\xEF\xBF\xBD'
-    decodes le '\xFF\xFEA\0' '\xEF\xBB\xBFA'
-    decodes be '\xFE\xFF\0A' '\xEF\xBB\xBFA'
-    decodes auto '' ''
-    decodes auto 'h\0i\0' '\xE6\xA0\x80\xE6\xA4\x80'
-    decodes auto '\xFF\xFEA\0' 'A'
-    decodes auto '\xFF\xFEh\0' 'h'
-    decodes auto '\xFE\xFF\0A' 'A'
-    decodes auto '\0A' 'A'
-    decodes auto 'A\0' '\xE4\x84\x80'
-    decodes auto '\xFE' '\xEF\xBF\xBD'
-    decodes auto '\xFF' '\xEF\xBF\xBD'
-    decodes auto '\xFF\xFE' ''
-    decodes auto '\xFF\xFE\xFF\xFE' '\xEF\xBB\xBF'
-    is 'a pair cut by a block' 0 "$none" "$none" '$P le < long | cmp - long_utf8'
-    is 'many blocks of letters and a pair' 0 "$none" "$none" '$P le < letters | cmp - letters_utf8'
-    is 'many blocks' 0 "$none" "$none" '$P le < zeros | cmp - half'
-    is 'many blocks from a pipe' 0 "$none" "$none" 'cat zeros | $P be | cmp - half'
-    is 'bytes that come slowly' 0 "$none" '\xF0\x90\x80\x80' \
-        '(printf "\\0"; sleep 0.1; printf "\\330\\0"; sleep 0.1; printf "\\334") | $P le'
-    is 'no input' 0 "$none" "$none" '$P le < /dev/null'
-
+# Cases of other arguments. Besides le and be this is one that the program takes.
+refusals() {
     refuses 'no word' ''
     refuses 'two orders' 'le be'
     refuses 'an order twice' 'le le'
-    refuses 'two orders, the first a mark' 'auto le'
+    refuses 'two orders, the first another' "$1 le"
     refuses 'capital letters' LE
-    refuses 'a capital letter' Auto
+    refuses 'a capital letter' "${1^}"
     refuses 'an empty word' '""'
     refuses 'an empty word behind' 'le ""'
     refuses 'an empty word before' '"" le'
@@ -130,7 +105,9 @@ cases() {
     refuses 'another word before' 'x le'
     refuses 'another word behind' 'le x'
     refuses 'a blank behind' '"le "'
-    refuses 'a blank behind a mark' '"auto "'
+    refuses 'a blank behind another' "\"$1 \""
+    refuses 'a beginning of another' "${1%?}"
+    refuses 'another and more' "${1}x"
     refuses 'a beginning' l
     refuses 'a longer word' lee
     refuses 'a name of no order' utf16
@@ -145,50 +122,184 @@ cases() {
     is 'wrong words and no standard error' 2 "$none" "$none" '$P LE 2>&-'
     is 'wrong words and a full standard error' 2 "$none" "$none" '$P LE 2> /dev/full'
     is 'wrong words and nothing open' 2 "$none" "$none" '$P LE <&- >&- 2>&-'
+}
 
-    is 'decoded, and a full standard error' 0 "$none" 'hi' '$P le 2> /dev/full'
-    is 'decoded, and no standard error' 0 "$none" 'hi' '$P le 2>&-'
+# Cases in which no line is written. For the standard input the program writes this.
+quiet() {
+    is 'done, and a full standard error' 0 "$none" "$1" '$P le 2> /dev/full'
+    is 'done, and no standard error' 0 "$none" "$1" '$P le 2>&-'
+}
 
+# Cases of an input for which nothing is written.
+writes_nothing() {
+    is "$1: nothing to write, standard output closed" 0 "$none" "$none" "\$P $1 < empty >&-"
+    is "$1: nothing to write, a full disk" 0 "$none" "$none" "\$P $1 < empty > /dev/full"
+}
+
+# Cases of standard streams that fail, and of too little memory. Of many zeros the program writes
+# this file first.
+streams() {
+    is "$1: all is read" 0 "$none" "$none" "\$P $1 > /dev/null; status=\$?; cat; exit \$status"
+    is "$1: out of memory" 1 "$out_of_memory" "$none" "with_little_memory $1"
+    is "$1: standard input closed" 1 "$read_failed" "$none" "\$P $1 <&-"
+    is "$1: standard input a folder" 1 "$read_failed" "$none" "\$P $1 < folder"
+    is "$1: standard input for writing" 1 "$read_failed" "$none" "\$P $1 0> empty_too"
+    is "$1: standard input closed, standard error full" 1 "$none" "$none" "\$P $1 <&- 2> /dev/full"
+    is "$1: standard output closed" 1 "$write_failed" "$none" "\$P $1 >&-"
+    is "$1: standard output a full disk" 1 "$write_failed" "$none" "\$P $1 > /dev/full"
+    is "$1: many blocks to a full disk" 1 "$write_failed" "$none" "\$P $1 < zeros > /dev/full"
+    is "$1: standard output for reading" 1 "$write_failed" "$none" "\$P $1 1< empty"
+    is "$1: a pipe without a reader" 1 "$write_failed" "$none" \
+        "mkfifo pipe; exec 3<> pipe 4> pipe 3>&-; rm pipe; \$P $1 >&4"
+    is "$1: a pipe whose reader goes" 1 "$write_failed" "$none" \
+        "set -o pipefail; \$P $1 < zeros | head -c 1 > /dev/null"
+    is "$1: a file at its greatest size" 1 "$write_failed" "$none" \
+        "set -o pipefail; (trap '' XFSZ; ulimit -f 0; exec \$P $1 > small) 2>&1 | cat >&2"
+    is "$1: a file that takes 1,024 bytes" 1 "$write_failed" "$none" \
+        "(trap '' XFSZ; ulimit -f 1; exec \$P $1 < zeros > small); status=\$?; cmp small $2; exit \$status"
+    is "$1: standard output and error closed" 1 "$none" "$none" "\$P $1 >&- 2>&-"
+    is "$1: nothing open" 1 "$none" "$none" "\$P $1 <&- >&- 2>&-"
+}
+
+cases_of_cat() {
+    lines_of utf16_cat 'le|be|auto'
+    converts le '' ''
+    converts be '' ''
+    converts le 'h\0e\0l\0l\0o\0' 'hello'
+    converts be '\0h\0e\0l\0l\0o' 'hello'
+    converts le 'h\0i\0' 'hi'
+    converts be 'h\0i\0' '\xE6\xA0\x80\xE6\xA4\x80'
+    converts le '\0\xD8\0\xDC' '\xF0\x90\x80\x80'
+    converts be '\xDB\xFF\xDF\xFF' '\xF4\x8F\xBF\xBF'
+    converts be '\0h\xD8\0\xDC\0' 'h\xF0\x90\x80\x80'
+    converts le 'h\0\0\xDCe\0l\0l\0o\0' 'h\xEF\xBF\xBDello'
+    converts le 'h\0\0\xD8e\0l\0l\0o\0' 'h\xEF\xBF\xBDello'
+    converts be '\0h\xD8\0\0e' 'h\xEF\xBF\xBDe'
+    converts le '\0\xD8\0\xD8' '\xEF\xBF\xBD\xEF\xBF\xBD'
+    converts le '\0\xDC\0\xDC' '\xEF\xBF\xBD\xEF\xBF\xBD'
+    converts le 'h\0\0\xDC' 'h\xEF\xBF\xBD'
+    converts le 'h\0\0\xDCi' 'h\xEF\xBF\xBD\xEF\xBF\xBD'
+    converts le 'h' '\xEF\xBF\xBD'
+    converts be 'h' '\xEF\xBF\xBD'
+    converts be '\xD8\0\0' '\xEF\xBF\xBD'
+    converts be '\0h\xD8\0\0' 'h\xEF\xBF\xBD'
+    converts be '\xDC' '\xEF\xBF\xBD'
+    converts le '\xFF\xFEA\0' '\xEF\xBB\xBFA'
+    converts be '\xFE\xFF\0A' '\xEF\xBB\xBFA'
+    converts auto '' ''
+    converts auto 'h\0i\0' '\xE6\xA0\x80\xE6\xA4\x80'
+    converts auto '\xFF\xFEA\0' 'A'
+    converts auto '\xFF\xFEh\0' 'h'
+    converts auto '\xFE\xFF\0A' 'A'
+    converts auto '\0A' 'A'
+    converts auto 'A\0' '\xE4\x84\x80'
+    converts auto '\xFE' '\xEF\xBF\xBD'
+    converts auto '\xFF' '\xEF\xBF\xBD'
+    converts auto '\xFF\xFE' ''
+    converts auto '\xFF\xFE\xFF\xFE' '\xEF\xBB\xBF'
+    is 'a pair cut by a block' 0 "$none" "$none" '$P le < long | cmp - long_utf8'
+    is 'many blocks of letters and a pair' 0 "$none" "$none" '$P le < letters | cmp - letters_utf8'
+    is 'many blocks' 0 "$none" "$none" '$P le < zeros | cmp - half'
+    is 'many blocks from a pipe' 0 "$none" "$none" 'cat zeros | $P be | cmp - half'
+    is 'bytes that come slowly' 0 "$none" '\xF0\x90\x80\x80' \
+        '(printf "\\0"; sleep 0.1; printf "\\330\\0"; sleep 0.1; printf "\\334") | $P le'
+    is 'no input' 0 "$none" "$none" '$P le < /dev/null'
+    refusals auto
+    quiet hi
     local order
     for order in le be auto; do
-        is "$order: all is read" 0 "$none" "$none" "\$P $order > /dev/null; status=\$?; cat; exit \$status"
-        is "$order: out of memory" 1 "$out_of_memory" "$none" "with_little_memory $order"
-        is "$order: standard input closed" 1 "$read_failed" "$none" "\$P $order <&-"
-        is "$order: standard input a folder" 1 "$read_failed" "$none" "\$P $order < folder"
-        is "$order: standard input for writing" 1 "$read_failed" "$none" "\$P $order 0> empty_too"
-        is "$order: standard input closed, standard error full" 1 "$none" "$none" "\$P $order <&- 2> /dev/full"
-        is "$order: standard output closed" 1 "$write_failed" "$none" "\$P $order >&-"
-        is "$order: standard output a full disk" 1 "$write_failed" "$none" "\$P $order > /dev/full"
-        is "$order: many blocks to a full disk" 1 "$write_failed" "$none" "\$P $order < zeros > /dev/full"
-        is "$order: standard output for reading" 1 "$write_failed" "$none" "\$P $order 1< empty"
-        is "$order: a pipe without a reader" 1 "$write_failed" "$none" \
-            "mkfifo pipe; exec 3<> pipe 4> pipe 3>&-; rm pipe; \$P $order >&4"
-        is "$order: a pipe whose reader goes" 1 "$write_failed" "$none" \
-            "set -o pipefail; \$P $order < zeros | head -c 1 > /dev/null"
-        is "$order: a file at its greatest size" 1 "$write_failed" "$none" \
-            "set -o pipefail; (trap '' XFSZ; ulimit -f 0; exec \$P $order > small) 2>&1 | cat >&2"
-        is "$order: a file that takes 1,024 bytes" 1 "$write_failed" "$none" \
-            "(trap '' XFSZ; ulimit -f 1; exec \$P $order < zeros > small); status=\$?; cmp small front; exit \$status"
-        is "$order: standard output and error closed" 1 "$none" "$none" "\$P $order >&- 2>&-"
-        is "$order: nothing to write, standard output closed" 0 "$none" "$none" "\$P $order < empty >&-"
-        is "$order: nothing to write, a full disk" 0 "$none" "$none" "\$P $order < empty > /dev/full"
-        is "$order: nothing open" 1 "$none" "$none" "\$P $order <&- >&- 2>&-"
+        streams $order front
+        writes_nothing $order
     done
 }
 
+cases_of_enc() {
+    lines_of utf16_enc 'le|be|le-bom|be-bom'
+    converts le '' ''
+    converts be '' ''
+    converts le-bom '' '\xFF\xFE'
+    converts be-bom '' '\xFE\xFF'
+    converts le hello 'h\0e\0l\0l\0o\0'
+    converts be hello '\0h\0e\0l\0l\0o'
+    converts le-bom h '\xFF\xFEh\0'
+    converts be-bom h '\xFE\xFF\0h'
+    converts be '\xC3\xA9\xE4\xB8\x80' '\0\xE9\x4E\0'
+    converts le '\xF0\x90\x80\x80' '\0\xD8\0\xDC'
+    converts be '\xF4\x8F\xBF\xBF' '\xDB\xFF\xDF\xFF'
+    converts be-bom '\xF0\x90\x80\x80' '\xFE\xFF\xD8\0\xDC\0'
+    # One BOM, and not two; without a BOM asked for it is a character like any other.
+    converts le '\xEF\xBB\xBFA' '\xFF\xFEA\0'
+    converts be '\xEF\xBB\xBFA' '\xFE\xFF\0A'
+    converts le-bom '\xEF\xBB\xBFA' '\xFF\xFEA\0'
+    converts be-bom '\xEF\xBB\xBF' '\xFE\xFF'
+    converts be-bom '\xEF\xBB\xBF\xEF\xBB\xBF' '\xFE\xFF\xFE\xFF'
+    converts le-bom 'A\xEF\xBB\xBF' '\xFF\xFEA\0\xFF\xFE'
+    converts le-bom '\xEF\xBB' '\xFF\xFE\xFD\xFF'
+    # Ill-formed sequences: the tables 3-8 to 3-11 of The Unicode Standard, section 3.9.
+    local eight='\xFF\xFD\xFF\xFD\xFF\xFD\xFF\xFD\xFF\xFD\xFF\xFD\xFF\xFD\xFF\xFD'
+    converts be '\xC0\xAF\xE0\x80\xBF\xF0\x81\x82\x41' "$eight"'\0A'
+    converts be '\xED\xA0\x80\xED\xBF\xBF\xED\xAF\x41' "$eight"'\0A'
+    converts be '\xF4\x91\x92\x93\xFF\x41\x80\xBF\x42' \
+        '\xFF\xFD\xFF\xFD\xFF\xFD\xFF\xFD\xFF\xFD\0A\xFF\xFD\xFF\xFD\0B'
+    converts be '\xE1\x80\xE2\xF0\x91\x92\xF1\xBF\x41' '\xFF\xFD\xFF\xFD\xFF\xFD\xFF\xFD\0A'
+    converts le '\xE1\x80\xE2\xF0\x91\x92\xF1\xBF\x41' '\xFD\xFF\xFD\xFF\xFD\xFF\xFD\xFFA\0'
+    # Incomplete at the end.
+    converts le '\xC2' '\xFD\xFF'
+    converts be 'h\xE2\x82' '\0h\xFF\xFD'
+    converts be 'h\xF0\x9F\x98' '\0h\xFF\xFD'
+    converts le-bom '\xF0' '\xFF\xFE\xFD\xFF'
+    local letters
+    for letters in 4093 4094 4095; do
+        is "a pair cut by a block after $letters letters" 0 "$none" "$none" \
+            "\$P le < pair_${letters}_utf8 | cmp - pair_$letters"
+        is "a part of one, cut after $letters letters" 0 "$none" "$none" \
+            "\$P le < part_${letters}_utf8 | cmp - part_$letters"
+    done
+    is 'many blocks of letters and a pair' 0 "$none" "$none" '$P le < letters_utf8 | cmp - letters'
+    is 'many blocks' 0 "$none" "$none" '$P le < half | cmp - zeros'
+    is 'many blocks from a pipe' 0 "$none" "$none" 'cat half | $P be | cmp - zeros'
+    is 'bytes that come slowly' 0 "$none" '\0\xD8\0\xDC' \
+        '(printf "\\360\\220"; sleep 0.1; printf "\\200"; sleep 0.1; printf "\\200") | $P le'
+    is 'no input' 0 "$none" "$none" '$P le < /dev/null'
+    refusals le-bom
+    refuses 'an order of the other program' auto
+    refuses 'a BOM alone' bom
+    quiet 'h\0\0\0i\0\0\0'
+    local order
+    for order in le be; do
+        streams $order front
+        writes_nothing $order
+    done
+    for order in le-bom be-bom; do
+        streams $order front_$order
+        is "$order: empty, standard output closed" 1 "$write_failed" "$none" "\$P $order < empty >&-"
+        is "$order: empty, a full disk" 1 "$write_failed" "$none" "\$P $order < empty > /dev/full"
+    done
+}
+
+# The builds of a program in its crate.
+builds_of() {
+    local built="$top/crates/$1/out/$1"
+    [ -x "$built" ] || (cd "$top/crates/$1" && rt run -- le < /dev/null) > said 2>&1 || tail -n 3 said
+    programs+=("$built")
+    [ ! -x "$built.by-rattle" ] || programs+=("$built.by-rattle")
+}
+
+programs=("$@")
 if [ $# = 0 ]; then
-    built="$top/crates/utf16_cat/out/utf16_cat"
-    [ -x "$built" ] || (cd "$top/crates/utf16_cat" && rt run -- le < /dev/null) > said 2>&1 || tail -n 3 said
-    set -- "$built"
-    [ ! -x "$built.by-rattle" ] || set -- "$@" "$built.by-rattle"
+    builds_of utf16_cat
+    builds_of utf16_enc
 fi
-for program in "$@"; do
-    if [ -x "$program" ]; then
-        cases
-    else
+for program in "${programs[@]}"; do
+    if [ ! -x "$program" ]; then
         failed=$((failed + 1))
         echo "failed: there is no program $program"
+        continue
     fi
+    case $(basename "$program") in
+        utf16_enc*) cases_of_enc ;;
+        *) cases_of_cat ;;
+    esac
 done
 echo "$passed passed, $failed failed"
 [ $failed = 0 ]

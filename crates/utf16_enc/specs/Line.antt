@@ -1,0 +1,13 @@
+-- The message of a run's outcome, as bytes.
+use Rattle.std.specs.Prelude.{ℕ, List, [], ◌∷◌, ◌++◌, codes}
+use Rattle.utf16_program.specs.declared.outcome.Outcome.{Outcome}
+use Rattle.utf16_program.specs.declared.outcome.Outcome.TheVariants.{Done, Long, Memory, Read, Usage, Write}
+
+-- the message and a newline; empty if all was encoded
+abbrev pub line_of : Outcome → List ℕ
+line_of Done = []
+line_of Read = codes "utf16_enc: read failed" ++ 0x0A ∷ []
+line_of Write = codes "utf16_enc: write failed" ++ 0x0A ∷ []
+line_of Memory = codes "utf16_enc: out of memory" ++ 0x0A ∷ []
+line_of Long = codes "utf16_enc: input too long" ++ 0x0A ∷ []
+line_of Usage = codes "usage: utf16_enc le|be|le-bom|be-bom" ++ 0x0A ∷ []
