@@ -13,15 +13,19 @@ use crate::progress::{Progress, Stop, put};
 const TESTED_LEN: usize = 8192;
 
 // The most bytes that are written through a buffer on the stack, and the length of that buffer:
-// what `write` needs for them in both directions.
+// what `write` needs for them in both directions; and the same of few bytes.
 const BUFFERED_LEN: usize = 256;
 
 const BUFFER_LEN: usize = 528;
 
-// With at least this much space left, chunks are written directly to their place.
-const MUCH: usize = 512;
+const FEW_LEN: usize = 32;
 
-// Fewer bytes than these are written character by character.
+const FEW_BUFFER_LEN: usize = 176;
+
+// Texts of at least so many bytes, and all others that fit, are written directly to their place.
+const MANY: usize = 256;
+
+// If fewer bytes than these surely fit, and not all, they are written character by character.
 const BY_CHARS: usize = 16;
 
 /// One of the two directions: how the bytes of one encoding are validated, and how a text is
@@ -83,14 +87,10 @@ pub trait Direction {
         ensures fits { (n : ℕ) → n ≤ result → IsValid (take n rest.now)
             → length (other (take n rest.now)) ≤ room };
 
-    /// Returns how many bytes of input `write` surely takes if the buffer has `room` bytes.
-    ///
-    /// # Precondition
-    ///
-    /// `room` is at least 512.
+    /// Returns how many bytes of input `write` surely takes if the buffer has `room` bytes, perhaps
+    /// none.
     fn most(room: usize) -> usize
-        requires { 512 ≤ room }
-        ensures { room_for result ≤ room };
+        ensures { 0 < result → room_for result ≤ room };
 
     /// Writes a text in the second encoding to the start of a buffer, and returns the number of
     /// bytes written.
@@ -109,7 +109,8 @@ pub trait Direction {
     /// each character; an ill-formed sequence after a text is one of the whole input.
     fn laws()
         ensures monotone { (m n : ℕ) → m ≤ n → room_for m ≤ room_for n }
-        ensures small { room_for 256 ≤ 528 }
+        ensures buffered { room_for 256 ≤ 528 }
+        ensures few { room_for 32 ≤ 176 }
         ensures of_nothing { Gives IsValid other [] [] }
         ensures joins { Joins (Gives IsValid other) }
         ensures each_char { (c : ℕ) → IsScalar c → Gives IsValid other (from c) (into c) }
@@ -163,11 +164,10 @@ fn put_piece<D: Direction>(rest: &[u8], before: usize, to: &mut [u8], at: usize)
     ensures { Puts (Gives D.IsValid D.other) rest.now to.old to.new at result.0 result.1 }
 {
     D::laws();
-    let room = to.len() - at;
-    if room < MUCH {
+    let most = D::most(to.len() - at).min(TESTED_LEN).min(rest.len());
+    if most < MANY.min(rest.len()) {
         return put_few::<D>(rest, to, at);
     }
-    let most = D::most(room).min(TESTED_LEN).min(rest.len());
     let len = D::valid_len(&rest[..most], before);
     if len == 0 {
         return (0, at);
@@ -176,14 +176,15 @@ fn put_piece<D: Direction>(rest: &[u8], before: usize, to: &mut [u8], at: usize)
     (len, at + written)
 }
 
-// Does the same for a few bytes that surely fit; character by character if those are very few.
+// Does the same for a few bytes that surely fit; character by character if those are very few, and
+// not all.
 fn put_few<D: Direction>(rest: &[u8], to: &mut [u8], at: usize) -> (usize, usize)
     requires { at ≤ length to.old }
     ensures { Puts (Gives D.IsValid D.other) rest.now to.old to.new at result.0 result.1 }
 {
     D::laws();
     let most = D::surely_fit(&rest[..rest.len().min(BUFFERED_LEN)], to.len() - at);
-    if most < BY_CHARS {
+    if most < BY_CHARS.min(rest.len()) {
         return put_chars::<D>(rest, to, at);
     }
     let len = D::valid_len(&rest[..most], 0);
@@ -199,8 +200,23 @@ fn put_text<D: Direction>(text: &[u8], to: &mut [u8], at: usize) -> usize
     ensures bytes { take result to.new ≡ take at to.old ++ D.other text.now }
 {
     D::laws();
-    let mut buf = [0; BUFFER_LEN];
-    let len = D::write(text, &mut buf);
+    if text.len() <= FEW_LEN {
+        put_through::<D>(text, &mut [0; FEW_BUFFER_LEN], to, at)
+    } else {
+        put_through::<D>(text, &mut [0; BUFFER_LEN], to, at)
+    }
+}
+
+// Does the same through a buffer.
+#[inline(always)]
+fn put_through<D: Direction>(text: &[u8], buf: &mut [u8], to: &mut [u8], at: usize) -> usize
+    requires well_formed { D.IsValid text.now }
+    requires space { D.room_for (length text.now) ≤ length buf.old }
+    requires fits { at + length (D.other text.now) ≤ length to.old }
+    ensures within { result ≤ length to.new }
+    ensures bytes { take result to.new ≡ take at to.old ++ D.other text.now }
+{
+    let len = D::write(text, buf);
     put(&buf[..len], to, at)
 }
 

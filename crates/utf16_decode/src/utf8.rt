@@ -91,7 +91,7 @@ impl<E: Utf16Order> Direction for ToUtf8<E> {
 
     #[inline(always)]
     fn most(room: usize) -> usize {
-        (room - SLACK) / 3 * 2
+        room.saturating_sub(SLACK) / 3 * 2
     }
 
     #[inline(always)]

@@ -83,7 +83,7 @@ impl<E: Utf16Order> Direction for FromUtf8<E> {
 
     #[inline(always)]
     fn most(room: usize) -> usize {
-        (room - 16) / 2
+        room.saturating_sub(16) / 2
     }
 
     #[inline(always)]

@@ -5,7 +5,8 @@ use Rattle.utf16_decode.proofs.utf8.ToUtf8Direction.laws.Goals as goal
 pub returns : goal.returns
 returns g c = record {
   monotone = room_grows;
-  small = omega arith;
+  buffered = omega arith;
+  few = omega arith;
   of_nothing = utf8_empty g.E.Utf16Order.BIG;
   joins = utf8_joins g.E.Utf16Order.BIG;
   each_char = char_gives g.E.Utf16Order.BIG;

@@ -5,7 +5,8 @@ use Rattle.utf16_transcode.proofs.utf16.FromUtf8Direction.laws.Goals as goal
 pub returns : goal.returns
 returns g c = record {
   monotone = room_grows;
-  small = omega arith;
+  buffered = omega arith;
+  few = omega arith;
   of_nothing = utf16_empty g.E.Utf16Order.BIG;
   joins = utf16_joins g.E.Utf16Order.BIG;
   each_char = char_gives g.E.Utf16Order.BIG;
