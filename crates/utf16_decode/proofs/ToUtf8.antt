@@ -1,10 +1,11 @@
 -- From UTF-16 to UTF-8: texts one after another, characters, and the place of an error.
-use Rattle.std.proofs.Common.{◌≡◌, ℕ, ◌+◌, ◌*◌, ◌/◌, ◌%◌, ◌<◌, ◌≤◌, Bool, List, [], ◌∷◌, ◌++◌, Option, length, take, drop, slice_index, encode_utf8_all, sym, ap, ap₂, ◌∙◌, subst, arith, append-nil, refl, length-append, length-take-le, take-take, All}
+use Rattle.std.proofs.Common.{◌≡◌, ℕ, ◌+◌, ◌*◌, ◌/◌, ◌%◌, ◌<◌, ◌≤◌, Bool, List, [], ◌∷◌, ◌++◌, Option, length, take, drop, slice_index, encode_utf8_all, sym, ap, ap₂, lt-ltb, le-ltb, ◌∙◌, subst, arith, append-nil, refl, length-append, length-take-le, take-take, All}
 use Rattle.std.proofs.lemmas.List.{take_rest}
 use Rattle.std.proofs.lemmas.List.Elements.{All-head, All-tail}
 use Rattle.std.proofs.lemmas.Str.{encode_ascii}
 use Rattle.std.proofs.lemmas.List.Concat.{flat_map-append}
 use Rattle.std.specs.Char.{IsScalar, encode_utf8}
+use lib.Utf8.{encode}
 use Rattle.utf16_units.specs.Encoding.{IsUtf16, char_bytes, char_size, text_of, units_of}
 use Rattle.utf16_units.specs.IllFormed.{BeginsWithChar, IsIllFormedAt}
 use Rattle.utf16_units.proofs.EncodingLemmas.{All-front, IsUtf16-append, IsUtf16-char, IsUtf16-nil, char_text, length-text, text_of-append, text_of-nil}
@@ -74,3 +75,21 @@ ascii_fits big rest many n within all few text =
 -- any text takes at most three bytes for two
 pub thirds_fit : (big : Bool) (raw : List ℕ) → IsUtf16 big raw → 2 * length (encode_utf8_all (text_of big raw)) ≤ 3 * length raw
 thirds_fit big raw text = omega (arith, encodes-le-size (text_of big raw), length-text big raw text)
+
+-- the bytes of a character that takes two, three or four
+pub two : (c : ℕ) → 0x80 ≤ c → c < 0x800 → encode c ≡ (0xC0 + c / 64) ∷ (0x80 + c % 64) ∷ []
+unfolding encode
+two c least most = rw (le-ltb c 0x80 least, lt-ltb c 0x800 most) refl
+
+pub three : (c : ℕ) → 0x800 ≤ c → c < 0x1_0000 → encode c ≡ (0xE0 + c / 4096) ∷ (0x80 + c / 64 % 64) ∷ (0x80 + c % 64) ∷ []
+unfolding encode
+three c least most =
+    let x : 0x80 ≤ c = omega arith in
+    rw (le-ltb c 0x80 x, le-ltb c 0x800 least, lt-ltb c 0x1_0000 most) refl
+
+pub four : (c : ℕ) → 0x1_0000 ≤ c → encode c ≡ (0xF0 + c / 262144) ∷ (0x80 + c / 4096 % 64) ∷ (0x80 + c / 64 % 64) ∷ (0x80 + c % 64) ∷ []
+unfolding encode
+four c least =
+    let x : 0x80 ≤ c = omega arith in
+    let y : 0x800 ≤ c = omega arith in
+    rw (le-ltb c 0x80 x, le-ltb c 0x800 y, le-ltb c 0x1_0000 least) refl

@@ -25,7 +25,10 @@ const FEW_BUFFER_LEN: usize = 176;
 // Texts of at least so many bytes, and all others that fit, are written directly to their place.
 const MANY: usize = 256;
 
-// If fewer bytes than these surely fit, and not all, they are written character by character.
+// Fewer bytes than these are written character by character, and fewer than these that surely fit,
+// if they are not all.
+const VERY_FEW: usize = 8;
+
 const BY_CHARS: usize = 16;
 
 /// One of the two directions: how the bytes of one encoding are validated, and how a text is
@@ -164,6 +167,9 @@ fn put_piece<D: Direction>(rest: &[u8], before: usize, to: &mut [u8], at: usize)
     ensures { Puts (Gives D.IsValid D.other) rest.now to.old to.new at result.0 result.1 }
 {
     D::laws();
+    if rest.len() < VERY_FEW {
+        return put_chars::<D>(rest, to, at);
+    }
     let most = D::most(to.len() - at).min(TESTED_LEN).min(rest.len());
     if most < MANY.min(rest.len()) {
         return put_few::<D>(rest, to, at);

@@ -1,6 +1,6 @@
 //! UTF-16 to UTF-8, up to the first ill-formed sequence.
 
-ghost use Rattle.std.specs.Prelude.{◌+◌, ◌-◌, ◌*◌, ◌/◌, length};
+ghost use Rattle.std.specs.Prelude.{◌≡◌, ◌+◌, ◌-◌, ◌*◌, ◌/◌, ◌<◌, ◌≤◌, ◌++◌, IfSome, None, length, take};
 ghost use Rattle.std.specs.Char.{encode_utf8};
 ghost use Rattle.utf16_units.specs.Encoding.{char_bytes, IsUtf16, utf8_of};
 ghost use Rattle.utf16_units.specs.IllFormed.{IsIllFormedAt};
@@ -67,16 +67,7 @@ impl<E: Utf16Order> Direction for ToUtf8<E> {
 
     #[inline(always)]
     fn put_char(c: char, to: &mut [u8], at: usize) -> Option<usize> {
-        if c.is_ascii() && at < to.len() {
-            to[at] = c as u8;
-            return Some(at + 1);
-        }
-        let mut buf = [0; 4];
-        let bytes = c.encode_utf8(&mut buf).as_bytes();
-        if to.len() - at < bytes.len() {
-            return None;
-        }
-        Some(put(bytes, to, at))
+        put_utf8(c, to, at)
     }
 
     #[inline(always)]
@@ -98,4 +89,45 @@ impl<E: Utf16Order> Direction for ToUtf8<E> {
     fn write(text: &[u8], to: &mut [u8]) -> usize {
         write_utf8::<E>(text, to)
     }
+}
+
+// Writes a character in UTF-8 at `at`, and returns where it ends; `None` if it does not fit. Unlike
+// `char::encode_utf8` it says what stays.
+#[inline(always)]
+fn put_utf8(c: char, to: &mut [u8], at: usize) -> Option<usize>
+    requires { at ≤ length to.old }
+    ensures within { IfSome result (λ end. end ≤ length to.new) }
+    ensures bytes { IfSome result (λ end. take end to.new ≡ take at to.old ++ encode_utf8 c) }
+    ensures none { result ≡ None → length to.new - at < length (encode_utf8 c) }
+    ensures unchanged { result ≡ None → to.new ≡ to.old }
+{
+    let code = c as u32;
+    let last = (0x80 + code % 64) as u8;
+    if code < 0x80 {
+        put_bytes(&[code as u8], to, at)
+    } else if code < 0x800 {
+        put_bytes(&[(0xC0 + code / 64) as u8, last], to, at)
+    } else if code < 0x1_0000 {
+        let middle = (0x80 + code / 64 % 64) as u8;
+        put_bytes(&[(0xE0 + code / 4096) as u8, middle, last], to, at)
+    } else {
+        let (second, third) = (0x80 + code / 4096 % 64, 0x80 + code / 64 % 64);
+        let first = 0xF0 + code / 262144;
+        put_bytes(&[first as u8, second as u8, third as u8, last], to, at)
+    }
+}
+
+// Writes bytes at `at`, and returns where they end; `None` if they do not fit.
+#[inline(always)]
+fn put_bytes(bytes: &[u8], to: &mut [u8], at: usize) -> Option<usize>
+    requires { at ≤ length to.old }
+    ensures within { IfSome result (λ end. end ≤ length to.new) }
+    ensures bytes { IfSome result (λ end. take end to.new ≡ take at to.old ++ bytes.now) }
+    ensures none { result ≡ None → length to.new - at < length bytes.now }
+    ensures unchanged { result ≡ None → to.new ≡ to.old }
+{
+    if to.len() - at < bytes.len() {
+        return None;
+    }
+    Some(put(bytes, to, at))
 }
