@@ -1,11 +1,11 @@
 -- From UTF-8 to UTF-16: texts one after another, characters, and the place of an error.
-use Rattle.std.proofs.Common.{◌≡◌, ℕ, ◌+◌, ◌-◌, ◌*◌, ◌<◌, ◌≤◌, Bool, true, false, List, [], ◌∷◌, ◌++◌, Option, drop_at, length, take, drop, encode_utf8_all, refl, sym, ap, ap₂, ◌∙◌, subst, ⊎_elim, arith, append-nil, append_assoc, length-append, length-drop, length-take, take_all, take_at, take-add, take-append-drop, take-take, le-ltb}
+use Rattle.std.proofs.Common.{◌≡◌, ℕ, zero, suc, replicate, ◌+◌, ◌-◌, ◌*◌, ◌<◌, ◌≤◌, Bool, true, false, List, [], ◌∷◌, ◌++◌, Option, drop_at, length, take, drop, encode_utf8_all, refl, sym, ap, ap₂, ◌∙◌, subst, ⊎_elim, arith, append-nil, append_assoc, length-append, length-drop, length-take, take_all, take_at, take-add, take-append-drop, take-take, le-ltb}
 use Rattle.std.specs.Prelude.{◌==◌, min}
 use borrow.Author.Tests.{ne_eqb}
 use Rattle.std.proofs.lemmas.Bool.{cases_lt}
 use Rattle.std.proofs.lemmas.List.{take_rest}
 use Rattle.std.proofs.lemmas.List.Elements.{All-cons, All-head, All-nil}
-use Rattle.std.proofs.lemmas.Str.{IsCharBoundary-from_take, IsUtf8-append, IsUtf8-drop, IsUtf8-encode, IsUtf8-nil, chars-append, chars-nil, chars-encodes, len_utf8_bounds, length-encode}
+use Rattle.std.proofs.lemmas.Str.{IsCharBoundary-at_seam, IsCharBoundary-from_take, IsUtf8-append, IsUtf8-drop, IsUtf8-encode, IsUtf8-nil, IsUtf8-take, chars-append, chars-nil, chars-encodes, len_utf8_bounds, length-encode}
 use Rattle.std.specs.Char.{IsScalar, encode_utf8}
 use Rattle.std.specs.Str.{IsUtf8, IsValidUpTo, StartsWithNoChar, all_scalars, chars}
 use Rattle.std.specs.Str.Lossy.{utf8_error_len}
@@ -123,3 +123,15 @@ pub valid_part : (text : List ℕ) (valid len n : ℕ) → IsUtf8 (take valid te
 valid_part text valid len n first within second =
     let rest = rest_from text valid in
     valid_more text valid n first (subst IsUtf8 (take-take n len rest (omega (arith, within, length-take len rest))) second)
+
+-- bytes that are UTF-8 with zeros after them are UTF-8
+zeros_valid : (n : ℕ) → IsUtf8 (replicate n 0)
+unfolding encode_utf8
+zeros_valid zero = IsUtf8-nil
+zeros_valid (suc n) = IsUtf8-append (0 ∷ []) (replicate n 0) (IsUtf8-encode 0 refl) (zeros_valid n)
+
+pub valid_before_zeros : (text : List ℕ) (n : ℕ) → IsUtf8 (text ++ replicate n 0) → IsUtf8 text
+valid_before_zeros text n whole =
+    let zeros = replicate n 0 in
+    subst IsUtf8 (take_at text zeros (length text) refl)
+    (IsUtf8-take (text ++ zeros) (length text) whole (IsCharBoundary-at_seam (text ++ zeros) text zeros refl (zeros_valid n)))

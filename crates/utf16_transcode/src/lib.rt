@@ -9,6 +9,7 @@ mod sizes;
 mod stream;
 mod units;
 mod utf16;
+mod valid;
 
 pub use crate::encode::{from_utf8_lossy, from_utf8_lossy_len, from_utf8_partial};
 pub use crate::sizes::{from_utf8_len, to_utf8_lossy_len};

@@ -10,6 +10,7 @@ ghost use Rattle.utf16_transcode.specs.FromUtf8.{TranscodesToUtf16, IsIllFormedU
 ghost use Rattle.utf16_decode.specs.Wrote.{Wrote};
 ghost use Rattle.utf16_decode.specs.Stops.{BeginsWith};
 
+use crate::valid::valid_prefix;
 use std::marker::PhantomData;
 use utf16_decode::{Direction, Progress, transcode};
 use utf16_from_utf8::write_units;
@@ -111,14 +112,14 @@ fn valid_len(text: &[u8], before: usize) -> usize
         return 0;
     }
     if text.len() <= FIRST {
-        return tested_len(text);
+        return valid_prefix(text);
     }
     let mut valid = 0;
     let mut part = before.max(FIRST);
     while valid < text.len() {
         let rest = &text[valid..];
         let len = part_len(rest, part);
-        let tested = tested_len(&rest[..len]);
+        let tested = valid_prefix(&rest[..len]);
         valid += tested;
         if tested < len {
             return valid;
@@ -126,17 +127,6 @@ fn valid_len(text: &[u8], before: usize) -> usize
         part = part.saturating_mul(GROWTH);
     }
     valid
-}
-
-// Returns the same, and validates all at once.
-fn tested_len(text: &[u8]) -> usize
-    ensures within { result ≤ length text.now }
-    ensures well_formed { IsUtf8 (take result text.now) }
-{
-    match simdutf8::compat::from_utf8(text) {
-        Ok(_) => text.len(),
-        Err(error) => error.valid_up_to(),
-    }
 }
 
 // Returns how many bytes to validate at once: at most `part`; if that is more than four, without

@@ -1,0 +1,48 @@
+//! The longest valid prefix of a chunk of UTF-8.
+
+ghost use Rattle.std.specs.Prelude.{◌≡◌, ◌<◌, ◌≤◌, ◌++◌, ◌-◌, IsTrue, length, replicate, take};
+ghost use Rattle.std.specs.Str.{IsUtf8};
+
+use simdutf8::Checker;
+use std::simd::prelude::*;
+
+// Chunks of at least this many bytes and less than a block are validated as a block, with zeros
+// after them.
+const PADDED_LEN: usize = 16;
+
+const BLOCK: usize = 64;
+
+// Returns the length of a valid prefix, the longest one.
+pub(crate) fn valid_prefix(text: &[u8]) -> usize
+    ensures within { result ≤ length text.now }
+    ensures well_formed { IsUtf8 (take result text.now) }
+{
+    if text.len() >= PADDED_LEN && text.len() < BLOCK && is_utf8_block(text) {
+        return text.len();
+    }
+    match simdutf8::compat::from_utf8(text) {
+        Ok(_) => text.len(),
+        Err(error) => error.valid_up_to(),
+    }
+}
+
+// Returns whether fewer bytes than a block are UTF-8, which they are if they are with zeros after
+// them.
+fn is_utf8_block(text: &[u8]) -> bool
+    requires { length text.now < BLOCK }
+    ensures { IsTrue result → IsUtf8 text.now }
+{
+    let checker = Checker::new().step(u8x64::from_array(padded(text)));
+    checker.finish()
+}
+
+// Returns the bytes with zeros after them, a block.
+#[inline(always)]
+fn padded(text: &[u8]) -> [u8; BLOCK]
+    requires { length text.now < BLOCK }
+    ensures { result ≡ text.now ++ replicate (BLOCK - length text.now) 0 }
+{
+    let mut block = [0; BLOCK];
+    block[..text.len()].copy_from_slice(text);
+    block
+}
