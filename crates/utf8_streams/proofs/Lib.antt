@@ -1,2 +1,3 @@
 pub mod EncoderLemmas
 pub mod Utf16Rows
+pub mod LawProofs

@@ -1,1 +1,2 @@
 pub mod Utf16
+pub mod Laws

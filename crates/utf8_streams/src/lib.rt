@@ -4,6 +4,7 @@
 
 mod encoder;
 mod filters;
+pub mod laws;
 
 pub use filters::{encode_stream, encode_stream_with_bom};
 pub use utf16_streams::{DeviceFault, FilterFault, Watched};
