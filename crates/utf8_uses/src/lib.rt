@@ -1,0 +1,4 @@
+//! Proved callers of streams of UTF-8; no tests.
+#![tactic(auto)]
+
+pub mod both;
