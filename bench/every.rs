@@ -1,7 +1,9 @@
 //! Converts every character from UTF-16 to UTF-8 and back in both byte orders by the library's
 //! calls, and compares with what Rust's `char` gives: alone, which is converted without SIMD, and
-//! among letters and repeated, which is converted with SIMD, at each offset of a block. The last
-//! line says how many calls were made and how many of their results differed.
+//! among letters and repeated, which is converted with SIMD, at each offset of a block. Then decodes
+//! every string of at most four of twenty bytes as a stream of UTF-8, cut in every way, and compares
+//! with `String::from_utf8_lossy`. The last lines say how many calls were made, or streams decoded,
+//! and how many of their results differed.
 
 #[repr(C)]
 struct Progress {
@@ -11,12 +13,26 @@ struct Progress {
     error_len: u32,
 }
 
+// The state of a decoder.
+#[repr(C)]
+struct Decoder {
+    pending: [u8; 3],
+    pending_len: u8,
+}
+
 type Call = unsafe extern "C" fn(u32, *const u8, usize, *mut u8, usize) -> Progress;
 
 unsafe extern "C" {
     fn dethrux_to_utf8(order: u32, utf16: *const u8, len: usize, to: *mut u8, capacity: usize) -> Progress;
     fn dethrux_from_utf8(order: u32, utf8: *const u8, len: usize, to: *mut u8, capacity: usize) -> Progress;
+    fn dethrux_utf8_decoder_feed(state: &mut Decoder, order: u32, chunk: *const u8, len: usize, to: *mut u8, capacity: usize) -> Progress;
+    fn dethrux_utf8_decoder_finish(state: &mut Decoder, order: u32, to: *mut u8, capacity: usize) -> Progress;
 }
+
+// Bytes at which a class of the bytes of UTF-8 begins or ends (Unicode, section 3.9, table 3-7).
+const TELLING: [u8; 20] = [
+    0x00, 0x41, 0x7F, 0x80, 0x8F, 0x90, 0x9F, 0xA0, 0xBF, 0xC1, 0xC2, 0xDF, 0xE0, 0xE1, 0xED, 0xEF, 0xF0, 0xF1, 0xF4, 0xF5,
+];
 
 // Whether a call makes just this of a text in a buffer of so many bytes, and writes nothing after
 // the buffer.
@@ -38,11 +54,72 @@ fn makes(call: Call, big: bool, of: &[u8], wanted: &[u8]) -> bool {
 // How many of the four ways, there and back in both orders, differ.
 fn differing(text: &str) -> usize {
     let differs = |big: bool| {
-        let bytes = |unit: u16| if big { unit.to_be_bytes() } else { unit.to_le_bytes() };
-        let utf16: Vec<u8> = text.encode_utf16().flat_map(bytes).collect();
+        let utf16 = in_order(text, big);
         !makes(dethrux_to_utf8, big, &utf16, text.as_bytes()) as usize + !makes(dethrux_from_utf8, big, text.as_bytes(), &utf16) as usize
     };
     differs(false) + differs(true)
+}
+
+fn in_order(text: &str, big: bool) -> Vec<u8> {
+    text.encode_utf16().flat_map(|unit| if big { unit.to_be_bytes() } else { unit.to_le_bytes() }).collect()
+}
+
+// The UTF-16 of a stream of UTF-8, cut after each byte whose bit is set, with a buffer of so many
+// bytes for each call.
+fn decoded(bytes: &[u8], cuts: usize, big: bool, capacity: usize) -> Vec<u8> {
+    let (mut state, mut to, mut utf16) = (Decoder { pending: [0; 3], pending_len: 0 }, [0; 16], Vec::new());
+    let mut start = 0;
+    for end in 1..=bytes.len() {
+        if end < bytes.len() && cuts >> (end - 1) & 1 == 0 {
+            continue;
+        }
+        while start < end {
+            let chunk = &bytes[start..end];
+            let fed = unsafe { dethrux_utf8_decoder_feed(&mut state, big.into(), chunk.as_ptr(), chunk.len(), to.as_mut_ptr(), capacity) };
+            utf16.extend_from_slice(&to[..fed.written]);
+            start += fed.read;
+            if fed.status == 0 {
+                break;
+            }
+        }
+        start = end;
+    }
+    loop {
+        // What a full buffer left pending comes before the end.
+        let fed = unsafe { dethrux_utf8_decoder_feed(&mut state, big.into(), to.as_ptr(), 0, to.as_mut_ptr(), capacity) };
+        utf16.extend_from_slice(&to[..fed.written]);
+        if fed.status == 0 {
+            break;
+        }
+    }
+    let ended = unsafe { dethrux_utf8_decoder_finish(&mut state, big.into(), to.as_mut_ptr(), capacity) };
+    utf16.extend_from_slice(&to[..ended.written]);
+    utf16
+}
+
+// How many streams were decoded, and how many of their texts differ.
+fn streams() -> (usize, usize) {
+    let (mut streams, mut differed) = (0, 0);
+    for len in 0..=4 {
+        for number in 0..TELLING.len().pow(len) {
+            let bytes: Vec<u8> = (0..len).map(|at| TELLING[number / TELLING.len().pow(at) % TELLING.len()]).collect();
+            let text = String::from_utf8_lossy(&bytes);
+            for big in [false, true] {
+                let wanted = in_order(&text, big);
+                for cuts in 0..1 << len.saturating_sub(1) {
+                    for capacity in [4, 16] {
+                        let differs = decoded(&bytes, cuts, big, capacity) != wanted;
+                        if differs && differed == 0 {
+                            println!("the first stream that differs: {bytes:X?}, cut at {cuts:b}");
+                        }
+                        differed += differs as usize;
+                        streams += 1;
+                    }
+                }
+            }
+        }
+    }
+    (streams, differed)
 }
 
 fn main() {
@@ -62,5 +139,7 @@ fn main() {
         characters += 1;
     }
     println!("{characters} characters in {texts} texts: {} calls ran, {differed} differed", 8 * texts);
-    std::process::exit((differed > 0) as i32);
+    let (streams, others) = streams();
+    println!("{streams} streams of UTF-8 decoded, {others} differed");
+    std::process::exit((differed + others > 0) as i32);
 }
