@@ -9,9 +9,9 @@ use utf16_test_support::refusing::Refusing;
 use utf16_test_support::stepped::{Giver, Taker};
 use utf8_streams::{encode_stream, encode_stream_with_bom};
 
-/// The filters.
+/// The calls of filters.
 #[derive(Clone, Copy, Drop)]
-pub enum Filter {
+pub enum FilterCall {
     Decode,
     DecodeAuto,
     Encode,
@@ -36,16 +36,16 @@ pub fn run<E: Utf16Order>(
     heap: &Refusing<Global>,
     how: &How,
     bytes: &[u8],
-    filter: Filter,
+    filter: FilterCall,
     odd: (usize, usize),
 ) -> Ended {
     let mut reader = Watched::new(Giver::new(bytes, manner(&how.reads, odd.0)));
     let mut writer = Watched::new(Taker::new(alloc, manner(&how.writes, odd.1)));
     let result = match filter {
-        Filter::Decode => utf16_streams::filter::<E, _, _, _>(heap, &mut reader, &mut writer),
-        Filter::DecodeAuto => filter_auto(heap, &mut reader, &mut writer),
-        Filter::Encode => encode_stream::<E, _, _, _>(heap, &mut reader, &mut writer),
-        Filter::EncodeWithBom => {
+        FilterCall::Decode => utf16_streams::filter::<E, _, _, _>(heap, &mut reader, &mut writer),
+        FilterCall::DecodeAuto => filter_auto(heap, &mut reader, &mut writer),
+        FilterCall::Encode => encode_stream::<E, _, _, _>(heap, &mut reader, &mut writer),
+        FilterCall::EncodeWithBom => {
             encode_stream_with_bom::<E, _, _, _>(heap, &mut reader, &mut writer)
         }
     };
@@ -80,7 +80,7 @@ pub fn filter<E: Utf16Order>(
     how: &How,
     values: &mut Values,
     answer: &mut Answer,
-    filter: Filter,
+    filter: FilterCall,
 ) -> Result<(), Trouble> {
     let bytes = values.bytes(alloc, E::BIG)?;
     let heap = heap(alloc, how);
@@ -88,8 +88,8 @@ pub fn filter<E: Utf16Order>(
     let ended = run::<E>(alloc, &heap, how, &bytes, filter, odd);
     add_result(answer, ended.result);
     match filter {
-        Filter::Decode | Filter::DecodeAuto => answer.text_or_bytes(&ended.taken, true),
-        Filter::Encode | Filter::EncodeWithBom => answer.bytes(&ended.taken),
+        FilterCall::Decode | FilterCall::DecodeAuto => answer.text_or_bytes(&ended.taken, true),
+        FilterCall::Encode | FilterCall::EncodeWithBom => answer.bytes(&ended.taken),
     }
     if how.counted {
         add_counts(answer, &ended);

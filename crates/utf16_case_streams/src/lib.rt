@@ -9,7 +9,7 @@ mod memory;
 mod pieces;
 mod sweeps;
 
-use crate::filtered::Filter;
+use crate::filtered::FilterCall;
 use std::alloc::Global;
 use utf16_case_lines::{Answer, How, Trouble, Values};
 use utf16_streams::{AnyLossy, Lossy, Utf16Order};
@@ -48,11 +48,11 @@ fn on_devices<E: Utf16Order>(
             devices::flush(alloc, how, answer);
             Ok(())
         }
-        "filter" => filtered::filter::<E>(alloc, how, values, answer, Filter::Decode),
-        "filter_auto" => filtered::filter::<E>(alloc, how, values, answer, Filter::DecodeAuto),
-        "encode_stream" => filtered::filter::<E>(alloc, how, values, answer, Filter::Encode),
+        "filter" => filtered::filter::<E>(alloc, how, values, answer, FilterCall::Decode),
+        "filter_auto" => filtered::filter::<E>(alloc, how, values, answer, FilterCall::DecodeAuto),
+        "encode_stream" => filtered::filter::<E>(alloc, how, values, answer, FilterCall::Encode),
         "encode_stream_with_bom" => {
-            filtered::filter::<E>(alloc, how, values, answer, Filter::EncodeWithBom)
+            filtered::filter::<E>(alloc, how, values, answer, FilterCall::EncodeWithBom)
         }
         "filter_each_read" => sweeps::each_read::<E>(alloc, how, values, answer),
         "filter_each_write" => sweeps::each_write::<E>(alloc, how, values, answer),

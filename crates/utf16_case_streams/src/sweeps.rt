@@ -1,6 +1,6 @@
 //! Filters whose reader or writer does something else at one call, at each in turn.
 
-use crate::filtered::{Ended, Filter, add_result, run};
+use crate::filtered::{Ended, FilterCall, add_result, run};
 use crate::memory::heap;
 use std::alloc::Global;
 use utf16_case_lines::{Answer, How, Trouble, Values};
@@ -19,7 +19,7 @@ pub fn each_read<E: Utf16Order>(
 ) -> Result<(), Trouble> {
     let bytes = values.bytes(alloc, E::BIG)?;
     for at in 1..MOST {
-        let ended = run::<E>(alloc, &heap(alloc, how), how, &bytes, Filter::Decode, (at, 0));
+        let ended = run::<E>(alloc, &heap(alloc, how), how, &bytes, FilterCall::Decode, (at, 0));
         add(answer, &ended);
         if ended.reads < at {
             break;
@@ -37,7 +37,7 @@ pub fn each_write<E: Utf16Order>(
 ) -> Result<(), Trouble> {
     let bytes = values.bytes(alloc, E::BIG)?;
     for at in 1..MOST {
-        let ended = run::<E>(alloc, &heap(alloc, how), how, &bytes, Filter::Decode, (0, at));
+        let ended = run::<E>(alloc, &heap(alloc, how), how, &bytes, FilterCall::Decode, (0, at));
         add(answer, &ended);
         if ended.writes.saturating_add(ended.flushes) < at {
             break;

@@ -1,9 +1,9 @@
 //! A transcoder from UTF-8 to UTF-16.
 
-ghost use Rattle.std.specs.Prelude.{◌≡◌, ◌+◌, ◌≤◌, [], ◌++◌, length, take};
+ghost use Rattle.std.specs.Prelude.{◌≡◌, ◌+◌, ◌*◌, ◌≤◌, [], ◌++◌, length, take};
 ghost use Rattle.utf8_split.specs.Split.{split_tail};
 ghost use Rattle.utf16_transcode.specs.Utf8Stream.{utf8_stream_pending};
-ghost use Rattle.utf8_streams.specs.Utf16.{certain, entire, with_bom};
+ghost use Rattle.utf8_streams.specs.Utf16.{certain, decided_utf16, entire, with_bom};
 
 use std::marker::PhantomData;
 use utf16_decode::put;
@@ -47,7 +47,7 @@ impl<E: Utf16Order> Transcoder for Encoder<E> {
         entire it.bom_due E.BIG (utf8_stream_pending it.stream ++ bytes) };
 
     fn feed_to(&mut self, piece: &[u8], to: &mut [u8]) -> usize {
-        let len = self.stream.feed::<E>(piece, to).written;
+        let len = feed::<E>(&mut self.stream, piece, to);
         if !self.bom_due {
             return len;
         }
@@ -69,6 +69,21 @@ impl<E: Utf16Order> Transcoder for Encoder<E> {
     }
 
     fn laws(&self) {}
+}
+
+// Decodes the next chunk, writes the text that is now certain to the start of a buffer, and returns
+// its length in bytes.
+fn feed<E: Utf16Order>(stream: &mut Utf8Stream, piece: &[u8], to: &mut [u8]) -> usize
+    requires undecided { split_tail (utf8_stream_pending stream.old)
+        ≡ utf8_stream_pending stream.old }
+    requires space { 2 * length piece.now + 8 ≤ length to.old }
+    ensures fits { result + 6 ≤ length to.new }
+    ensures bytes { take result to.new
+        ≡ decided_utf16 E.BIG (utf8_stream_pending stream.old ++ piece.now) }
+    ensures pending { utf8_stream_pending stream.new
+        ≡ split_tail (utf8_stream_pending stream.old ++ piece.now) }
+{
+    stream.feed::<E>(piece, to).written
 }
 
 // Inserts a BOM before the first `len` bytes of a buffer, unless they begin with one, and returns

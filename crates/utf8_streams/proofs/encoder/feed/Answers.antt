@@ -1,0 +1,34 @@
+use Rattle.std.proofs.Common.{◌≡◌, ◌-◌, ◌++◌, length, take, ap, ◌∙◌, subst, arith}
+use Rattle.std.proofs.lemmas.List.{length-take-le}
+use Rattle.utf16_units.proofs.EncodingLemmas.{length-encode}
+use Rattle.utf8_split.specs.Split.{decided_text}
+use Rattle.utf16_decode.specs.declared.progress.Stop.TheVariants.{Done}
+use Rattle.utf16_transcode.specs.Utf8Stream.{StopsFeedingUtf8, utf8_stream_pending}
+use Rattle.utf8_streams.specs.Utf16.{decided_utf16}
+use Rattle.utf8_streams.proofs.EncoderLemmas.{fed_text, text_short}
+use Rattle.utf8_streams.proofs.encoder.feed.Given.{Over}
+use Rattle.utf8_streams.proofs.encoder.feed.Goals as goal
+use Rattle.utf8_streams.proofs.encoder.feed.Goals.{After-feed}
+
+module _ (g : Over) (c : After-feed g) where
+  -- all of the chunk is decoded
+  took : StopsFeedingUtf8 g.E.Utf16Order.BIG (utf8_stream_pending c.args.stream.now) c.args.piece.now (utf8_stream_pending c.feed.new.self) c.feed.result.read
+      (length c.feed.new.to - c.feed.result.written) Done
+  took =
+      let short = text_short (utf8_stream_pending c.args.stream.now) c.args.piece.now c.requires.undecided in
+      subst (StopsFeedingUtf8 _ _ _ _ _ _) (c.feed.ensures.done.1 (omega arith)) c.feed.ensures.stop
+
+  text : take c.feed.result.written c.feed.new.to ≡ decided_utf16 g.E.Utf16Order.BIG (utf8_stream_pending c.args.stream.now ++ c.args.piece.now)
+  text = fed_text _ _ _ _ _ _ _ (length c.feed.new.to - c.feed.result.written) c.feed.ensures.feeds took
+
+pub returns-clause-bytes : goal.returns-clause-bytes
+returns-clause-bytes g c = text g (goal.at.returns-clause-bytes g c).After-feed
+
+pub returns-clause-pending : goal.returns-clause-pending
+returns-clause-pending g c = (took g (goal.at.returns-clause-pending g c).After-feed).1
+
+pub returns-clause-fits : goal.returns-clause-fits
+returns-clause-fits g c =
+    let pending = utf8_stream_pending c.args.stream.now in
+    let long = ap length (text g (goal.at.returns-clause-fits g c).After-feed) ∙ length-encode g.E.Utf16Order.BIG (decided_text (pending ++ c.args.piece.now)) in
+    omega (arith, long, text_short pending c.args.piece.now c.requires.undecided, length-take-le c.feed.result.written c.feed.new.to c.feed.ensures.feeds.fits)
