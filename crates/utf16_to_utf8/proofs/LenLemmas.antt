@@ -20,13 +20,13 @@ added-ascii (u ∷ units) are =
     let one : added_len u ≡ 1 = rw (lt-ltb u 0x80 (All-head (λ v. v < 0x80) u units are)) refl in
     omega (arith, one, sum_by-cons added_len u units, added-ascii units (All-tail (λ v. v < 0x80) u units are))
 
-length-units : (before : ℕ) (units : List ℕ) → Each1 (Fits w16) units → length (units_utf8 before units) ≡ sum_by added_len units
+pub length-units : (before : ℕ) (units : List ℕ) → Each1 (Fits w16) units → length (units_utf8 before units) ≡ sum_by added_len units
 length-units before [] fit = ap length (units-nil before)
 length-units before (u ∷ units) fit =
     ap length (units-cons before u units)
     ∙ omega (arith, sum_by-cons added_len u units, length-append (unit_utf8 before u) (units_utf8 u units), length-unit before u fit.0.fits, length-units u units fit.1)
 
-units-fit : (big : Bool) (bytes : List ℕ) → Each1 (Fits w8) bytes → Each1 (Fits w16) (units_of big bytes)
+pub units-fit : (big : Bool) (bytes : List ℕ) → Each1 (Fits w8) bytes → Each1 (Fits w16) (units_of big bytes)
 unfolding units_of
 units-fit big [] fit = tt
 units-fit big (x ∷ []) fit = tt

@@ -10,3 +10,4 @@ mod TextLemmas
 mod LenLemmas
 mod WriterLemmas
 mod BoundLemmas
+mod PlainLemmas

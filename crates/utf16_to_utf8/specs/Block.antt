@@ -15,3 +15,12 @@ IsOfKind Mixed unit = Unit {0}
 
 abbrev pub AreOfKind : Kind → List ℕ → Type 0
 AreOfKind kind units = (i : ℕ) → i < length units → IsOfKind kind (slice_index units i)
+
+-- a block of the kind has no surrogate
+abbrev pub IsPlain : Kind → Type 0
+IsPlain Ascii = Unit {0}
+IsPlain Letters = Unit {0}
+IsPlain Pairs = ⊥
+IsPlain Wide = Unit {0}
+IsPlain Basic = Unit {0}
+IsPlain Mixed = ⊥

@@ -4,7 +4,7 @@ ghost use Rattle.std.specs.Prelude.{◌≡◌, ◌+◌, ◌-◌, ◌/◌, ◌%�
 ghost use Rattle.std.specs.Simd.Lanes.{chunk, mask_l};
 ghost use Rattle.utf16_units.specs.Encoding.{units_of};
 ghost use Rattle.utf16_units.specs.Lanes.{HasLanes};
-ghost use Rattle.utf16_to_utf8.specs.Block.{AreOfKind};
+ghost use Rattle.utf16_to_utf8.specs.Block.{AreOfKind, IsPlain};
 ghost use Rattle.utf16_to_utf8.specs.Lanes.{folded, plus};
 ghost use Rattle.utf16_to_utf8.specs.Utf8.{units_utf8};
 ghost use Rattle.utf16_to_utf8.specs.declared.blocks.Kind.TheVariants.{Ascii};
@@ -165,6 +165,17 @@ pub(crate) fn kind_of(units: u16x32) -> Kind
         Kind::Pairs
     } else {
         Kind::Mixed
+    }
+}
+
+// Whether a block of the kind has no surrogate.
+#[inline(always)]
+pub(crate) fn is_plain(kind: Kind) -> bool
+    ensures { IsTrue result → IsPlain kind }
+{
+    match kind {
+        Kind::Ascii | Kind::Letters | Kind::Wide | Kind::Basic => true,
+        Kind::Pairs | Kind::Mixed => false,
     }
 }
 

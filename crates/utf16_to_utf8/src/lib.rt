@@ -20,4 +20,4 @@ mod writers;
 
 pub use crate::append::append_utf8;
 pub use crate::lens::utf8_len;
-pub use crate::write::{SLACK, write_utf8};
+pub use crate::write::{SLACK, write_before_surrogates, write_utf8};

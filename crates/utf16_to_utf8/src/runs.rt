@@ -1,12 +1,13 @@
 //! Writes the blocks of a text, with a loop of its own for blocks of the same kind that follow each
 //! other.
 
-ghost use Rattle.std.specs.Prelude.{◌≡◌, ◌+◌, ◌*◌, ◌/◌, ◌<◌, ◌≤◌, drop, length, take};
+ghost use Rattle.std.specs.Prelude.{◌≡◌, ◌+◌, ◌*◌, ◌/◌, ◌<◌, ◌≤◌, drop, false, length, take};
 ghost use Rattle.utf16_units.specs.Encoding.{units_of};
-ghost use Rattle.utf16_to_utf8.specs.Block.{AreOfKind};
+ghost use Rattle.utf16_units.specs.Lanes.{PairedTo};
+ghost use Rattle.utf16_to_utf8.specs.Block.{AreOfKind, IsPlain};
 ghost use Rattle.utf16_to_utf8.specs.Cursor.{Reached};
 
-use crate::blocks::{Kind, are_both_ascii, are_of, eights, kind_of, put_block};
+use crate::blocks::{Kind, are_both_ascii, are_of, eights, is_plain, kind_of, put_block};
 use crate::write::SLACK;
 use std::simd::prelude::*;
 use utf16_units::Utf16Order;
@@ -42,7 +43,52 @@ pub(crate) fn put_next<E: Utf16Order>(raw: &[u8], out: &mut [u8], from: Cursor) 
     ensures advances { from.at < result.at }
 {
     let units = next_units::<E>(raw, from.at);
-    let kind = kind_of(units);
+    put_known::<E>(raw, out, from, units, kind_of(units))
+}
+
+// Writes the blocks at the start that have no surrogate.
+#[inline(never)]
+pub(crate) fn put_plain<E: Utf16Order>(raw: &[u8], out: &mut [u8]) -> Cursor
+    requires space { length raw.now / 2 * 3 + SLACK ≤ length out.old }
+    ensures reached { Reached E.BIG raw.now out.new result }
+    ensures paired { PairedTo E.BIG raw.now result.at false }
+{
+    let mut cursor = Cursor {
+        at: 0,
+        end: 0,
+        previous: u16x8::splat(0),
+    };
+    while raw.len() - cursor.at >= 64 {
+        let units = next_units::<E>(raw, cursor.at);
+        let kind = kind_of(units);
+        if !is_plain(kind) {
+            break;
+        }
+        cursor = put_known::<E>(raw, out, cursor, units, kind);
+    }
+    cursor
+}
+
+// Writes the next block, which is of a kind, and if it is ASCII, wide or of pairs also the blocks
+// of its kind that follow it.
+#[inline(always)]
+fn put_known<E: Utf16Order>(
+    raw: &[u8],
+    out: &mut [u8],
+    from: Cursor,
+    units: u16x32,
+    kind: Kind,
+) -> Cursor
+    requires space { length raw.now / 2 * 3 + SLACK ≤ length out.old }
+    requires more { from.at + 64 ≤ length raw.now }
+    requires next { units ≡ units_of E.BIG (take 64 (drop from.at raw.now)) }
+    requires kind { AreOfKind kind units }
+    requires reached { Reached E.BIG raw.now out.old from }
+    ensures reached { Reached E.BIG raw.now out.new result }
+    ensures advances { from.at < result.at }
+    ensures paired { IsPlain kind → PairedTo E.BIG raw.now from.at false
+        → PairedTo E.BIG raw.now result.at false }
+{
     let next = put_units::<E>(raw, out, from, units, kind);
     match kind {
         Kind::Ascii => put_ascii_run::<E>(raw, out, next),
@@ -59,6 +105,8 @@ fn put_ascii_run<E: Utf16Order>(raw: &[u8], out: &mut [u8], from: Cursor) -> Cur
     requires reached { Reached E.BIG raw.now out.old from }
     ensures reached { Reached E.BIG raw.now out.new result }
     ensures advances { from.at ≤ result.at }
+    ensures paired { PairedTo E.BIG raw.now from.at false
+        → PairedTo E.BIG raw.now result.at false }
 {
     let mut cursor = from;
     while raw.len() - cursor.at >= 64 {
@@ -79,6 +127,8 @@ fn put_ascii_pairs<E: Utf16Order>(raw: &[u8], out: &mut [u8], from: Cursor) -> C
     requires reached { Reached E.BIG raw.now out.old from }
     ensures reached { Reached E.BIG raw.now out.new result }
     ensures advances { from.at ≤ result.at }
+    ensures paired { PairedTo E.BIG raw.now from.at false
+        → PairedTo E.BIG raw.now result.at false }
 {
     let mut cursor = from;
     while raw.len() - cursor.at >= 128 {
@@ -100,6 +150,8 @@ fn put_run<E: Utf16Order>(raw: &[u8], out: &mut [u8], from: Cursor, kind: Kind) 
     requires reached { Reached E.BIG raw.now out.old from }
     ensures reached { Reached E.BIG raw.now out.new result }
     ensures advances { from.at ≤ result.at }
+    ensures paired { IsPlain kind → PairedTo E.BIG raw.now from.at false
+        → PairedTo E.BIG raw.now result.at false }
 {
     let mut cursor = from;
     while raw.len() - cursor.at >= 64 {
@@ -128,6 +180,8 @@ fn put_units<E: Utf16Order>(
     requires reached { Reached E.BIG raw.now out.old from }
     ensures reached { Reached E.BIG raw.now out.new result }
     ensures at { result.at ≡ from.at + 64 }
+    ensures paired { IsPlain kind → PairedTo E.BIG raw.now from.at false
+        → PairedTo E.BIG raw.now result.at false }
 {
     let end = put_block(out, from.end, from.previous, units, kind);
     Cursor {

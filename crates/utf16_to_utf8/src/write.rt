@@ -7,7 +7,7 @@ ghost use Rattle.utf16_to_utf8.specs.Cursor.{Reached};
 
 use crate::few::{put_last_units, put_next_eight, put_padded};
 use crate::padded::few_bytes;
-use crate::runs::{Cursor, put_next};
+use crate::runs::{Cursor, put_next, put_plain};
 use crate::short::put_each;
 use std::simd::prelude::*;
 use utf16_units::Utf16Order;
@@ -38,6 +38,36 @@ pub fn write_utf8<E: Utf16Order>(raw: &[u8], to: &mut [u8]) -> usize
 {
     let room = raw.len() / 2 * 3 + SLACK;
     write_units::<E>(raw, &mut to[..room])
+}
+
+/// Writes the blocks of thirty-two code units that have no surrogate, up to the first that has one,
+/// in UTF-8 to the start of `to`. Returns the number of bytes read, which it validates while it
+/// writes them, and the number of bytes written.
+///
+/// The last code units are left if they are fewer than thirty-two. The bytes of `to` after the
+/// written ones and before `raw.len() / 2 * 3 + SLACK` may have changed; those from there on are
+/// unchanged.
+///
+/// # Precondition
+///
+/// `to` has at least `raw.len() / 2 * 3 + SLACK` bytes.
+///
+/// # Complexity
+///
+/// One pass over the bytes read.
+pub fn write_before_surrogates<E: Utf16Order>(raw: &[u8], to: &mut [u8]) -> (usize, usize)
+    requires { length raw.now / 2 * 3 + SLACK ≤ length to.old }
+    ensures within { result.0 ≤ length raw.now }
+    ensures well_formed { IsUtf16 E.BIG (take result.0 raw.now) }
+    ensures utf8 { take result.1 to.new ≡ utf8_of E.BIG (take result.0 raw.now) }
+    ensures len { result.1 ≡ length (utf8_of E.BIG (take result.0 raw.now)) }
+    ensures short { result.1 ≤ result.0 / 2 * 3 }
+    ensures rest { drop (length raw.now / 2 * 3 + SLACK) to.new
+        ≡ drop (length raw.now / 2 * 3 + SLACK) to.old }
+{
+    let room = raw.len() / 2 * 3 + SLACK;
+    let cursor = put_plain::<E>(raw, &mut to[..room]);
+    (cursor.at, cursor.end)
 }
 
 // Writes the UTF-8 that the units add.

@@ -1,4 +1,6 @@
-use Rattle.std.proofs.Common.{◌-◌, ◌≤◌, length}
+use Rattle.std.proofs.Common.{◌-◌, ◌≤◌, false, length}
+use Rattle.utf16_units.specs.Lanes.{PairedTo}
+use Rattle.utf16_to_utf8.specs.Block.{IsPlain}
 use Rattle.utf16_to_utf8.specs.Cursor.{Reached}
 use Rattle.utf16_to_utf8.proofs.runs.put_run.Given as goal
 
@@ -6,6 +8,7 @@ abbrev pub invariant-loop-cursor : goal.invariant-loop-cursor
 invariant-loop-cursor g l = record {
   reached : Reached g.E.Utf16Order.BIG l.raw l.out l.cursor;
   advances : l.fn.from.at ≤ l.cursor.at;
+  paired : IsPlain l.kind → PairedTo g.E.Utf16Order.BIG l.raw l.fn.from.at false → PairedTo g.E.Utf16Order.BIG l.raw l.cursor.at false;
 }
 
 abbrev pub decreases-loop-cursor : goal.decreases-loop-cursor
