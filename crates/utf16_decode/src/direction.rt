@@ -25,6 +25,9 @@ const FEW_BUFFER_LEN: usize = 176;
 // Texts of at least so many bytes, and all others that fit, are written directly to their place.
 const MANY: usize = 256;
 
+// At least so many bytes are validated while they are written, as far as that goes.
+const MANY_AT_ONCE: usize = 128;
+
 // Fewer bytes than these are written character by character, and fewer than these that surely fit,
 // if they are not all.
 const VERY_FEW: usize = 8;
@@ -107,6 +110,19 @@ pub trait Direction {
         ensures bytes { take result to.new ≡ other text.now }
         ensures len { result ≡ length (other text.now) };
 
+    /// Writes a valid prefix, perhaps an empty one, in the second encoding to the start of a buffer,
+    /// and validates it while it writes it. Returns the number of bytes read and the number of bytes
+    /// written. What is left needs no more than the space that is left.
+    ///
+    /// # Precondition
+    ///
+    /// The buffer has the space that `room_for` gives.
+    fn write_front(rest: &[u8], to: &mut [u8]) -> (usize, usize)
+        requires { room_for (length rest.now) ≤ length to.old }
+        ensures wrote { Wrote (Gives IsValid other) rest.now to.new result.0 result.1 }
+        ensures left { result.1 + room_for (length rest.now - result.0)
+            ≤ room_for (length rest.now) };
+
     /// States what the proof of `transcode` needs, and does nothing: fewer bytes need no more
     /// space, and a few fit in the buffer on the stack; two texts together are a text, and so is
     /// each character; an ill-formed sequence after a text is one of the whole input.
@@ -174,7 +190,47 @@ fn put_piece<D: Direction>(rest: &[u8], before: usize, to: &mut [u8], at: usize)
     if most < MANY.min(rest.len()) {
         return put_few::<D>(rest, to, at);
     }
-    let len = D::valid_len(&rest[..most], before);
+    put_many::<D>(&rest[..most], before, to, at)
+}
+
+// Does the same for bytes that surely fit, directly to their place: first for those that are
+// validated while they are written, and then for the others.
+fn put_many<D: Direction>(rest: &[u8], before: usize, to: &mut [u8], at: usize) -> (usize, usize)
+    requires { at + D.room_for (length rest.now) ≤ length to.old }
+    ensures { Puts (Gives D.IsValid D.other) rest.now to.old to.new at result.0 result.1 }
+{
+    D::laws();
+    let (read, written) = put_front::<D>(rest, to, at);
+    if read == rest.len() {
+        return (read, written);
+    }
+    let (len, end) = put_valid::<D>(&rest[read..], before.saturating_add(read), to, written);
+    (read + len, end)
+}
+
+// Does the same, and validates the bytes while it writes them, if they are not few.
+#[inline(always)]
+fn put_front<D: Direction>(rest: &[u8], to: &mut [u8], at: usize) -> (usize, usize)
+    requires { at + D.room_for (length rest.now) ≤ length to.old }
+    ensures wrote { Puts (Gives D.IsValid D.other) rest.now to.old to.new at result.0 result.1 }
+    ensures left { result.1 + D.room_for (length rest.now - result.0) ≤ length to.new }
+{
+    D::laws();
+    if rest.len() < MANY_AT_ONCE {
+        return (0, at);
+    }
+    let (read, written) = D::write_front(rest, &mut to[at..]);
+    (read, at + written)
+}
+
+// Does the same, and validates the bytes before it writes them.
+#[inline(always)]
+fn put_valid<D: Direction>(rest: &[u8], before: usize, to: &mut [u8], at: usize) -> (usize, usize)
+    requires { at + D.room_for (length rest.now) ≤ length to.old }
+    ensures { Puts (Gives D.IsValid D.other) rest.now to.old to.new at result.0 result.1 }
+{
+    D::laws();
+    let len = D::valid_len(rest, before);
     if len == 0 {
         return (0, at);
     }

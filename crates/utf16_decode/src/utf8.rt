@@ -10,7 +10,7 @@ ghost use Rattle.utf16_decode.specs.Stops.{IsIllFormedUtf16, StopsDecoding};
 use crate::direction::{Direction, transcode};
 use crate::progress::{Progress, put};
 use std::marker::PhantomData;
-use utf16_to_utf8::{SLACK, write_utf8};
+use utf16_to_utf8::{SLACK, write_before_surrogates, write_utf8};
 use utf16_units::ends::first_char;
 use utf16_units::text::has_ascii_units;
 use utf16_units::{Utf16Order, first_char_len, validate_raw_utf16};
@@ -88,6 +88,11 @@ impl<E: Utf16Order> Direction for ToUtf8<E> {
     #[inline(always)]
     fn write(text: &[u8], to: &mut [u8]) -> usize {
         write_utf8::<E>(text, to)
+    }
+
+    #[inline(always)]
+    fn write_front(rest: &[u8], to: &mut [u8]) -> (usize, usize) {
+        write_before_surrogates::<E>(rest, to)
     }
 }
 

@@ -91,6 +91,11 @@ impl<E: Utf16Order> Direction for FromUtf8<E> {
     fn write(text: &[u8], to: &mut [u8]) -> usize {
         write_units::<E>([0; 2], text, to)
     }
+
+    #[inline(always)]
+    fn write_front(_rest: &[u8], _to: &mut [u8]) -> (usize, usize) {
+        (0, 0)
+    }
 }
 
 // Writes a character that fits at `at`, and returns where it ends.
