@@ -1,5 +1,6 @@
 pub mod AddedLemmas
 pub mod AppendLemmas
+pub mod AsciiLemmas
 pub mod BlockLemmas
 pub mod EndLemmas
 pub mod FewLemmas

@@ -1,4 +1,5 @@
 pub mod Added
+pub mod Ascii
 pub mod Cursor
 pub mod Kind
 pub mod LaneBytes

@@ -36,6 +36,7 @@ pub(crate) fn put_ascii<E: Utf16Order>(out: &mut [u8], at: usize, block: u8x16) 
     requires ascii { (i : ℕ) → i < 16 → slice_index block i < 0x80 }
     ensures bytes { (b2 b1 : ℕ) → b1 < 0xE0
         → take result out.new ≡ take at out.old ++ added_bytes E.BIG b2 b1 block }
+    ensures rest { drop result out.new ≡ drop result out.old }
     ensures written_to { result ≡ at + 32 }
 {
     let (first, second) = paired::<E>(each(0), block);

@@ -2,6 +2,7 @@
 #![tactic(auto)]
 
 mod append;
+mod ascii;
 mod blocks;
 mod bytes;
 mod few;
@@ -18,5 +19,6 @@ mod units;
 mod write;
 
 pub use crate::append::{append_utf16, extend_utf16};
+pub use crate::ascii::write_ascii;
 pub use crate::size::utf16_len;
 pub use crate::write::write_units;

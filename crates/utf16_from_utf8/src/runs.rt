@@ -97,7 +97,7 @@ fn put_threes_run<E: Utf16Order>(piece: &[u8], out: &mut [u8], from: Cursor) -> 
 
 // Whether the next sixty-four bytes are ASCII.
 #[inline(always)]
-fn are_ascii(piece: &[u8], at: usize) -> bool
+pub(crate) fn are_ascii(piece: &[u8], at: usize) -> bool
     requires { at + 64 ≤ length piece.now }
     ensures { IsTrue result → (i : ℕ) → i < 64 → slice_index piece.now (at + i) < 0x80 }
 {

@@ -1,4 +1,5 @@
 use Rattle.std.proofs.Common.{◌++◌, take, sym, ap, ◌∙◌, arith}
+use Rattle.utf16_from_utf8.proofs.AsciiLemmas.{after_both}
 use Rattle.utf16_from_utf8.proofs.BlockLemmas.{ascii-added, both_stored}
 use Rattle.utf16_from_utf8.proofs.blocks.put_ascii.Goals as goal
 
@@ -10,3 +11,6 @@ returns-clause-bytes g c b2 b1 behind =
     (c.paired.ensures.pairs
     ∙ ascii-added g.E.Utf16Order.BIG b2 b1 c.each.result c.args.block (c.each.ensures.len ∙ sym long) behind
     (λ i below. c.each.ensures.lanes i (omega (arith, long))) (λ i below. c.requires.ascii i (omega (arith, long))))
+
+pub returns-clause-rest : goal.returns-clause-rest
+returns-clause-rest g c = after_both c.args.at c.paired.result.0 c.paired.result.1 c.args.out.now c.paired.ensures.first_len c.paired.ensures.second_len

@@ -1,0 +1,93 @@
+-- ASCII at the start of bytes, written in UTF-16 block by block.
+use Rattle.std.proofs.Common.{◌-◌, drop-drop, zero, suc, ◌≡◌, ℕ, ◌+◌, ◌*◌, ◌<◌, ◌≤◌, Bool, List, [], ◌∷◌, ◌++◌, length, length-take-le, take, drop, slice_index, subst, refl, sym, ap, ap₂, ◌∙◌, ⊎_elim, arith}
+use Rattle.std.proofs.Math.Seq.{take-add}
+use Rattle.std.proofs.lemmas.Bool.{cases_lt}
+use Rattle.std.proofs.lemmas.List.{get_or-take, get_or_past}
+use Rattle.std.proofs.lemmas.Simd.{get_or-chunk, length-chunk}
+use Rattle.std.proofs.lemmas.Str.{IsUtf8-from_ascii, chars-IsAscii}
+use Rattle.std.proofs.lemmas.Str.Ascii.{IsAscii-nil}
+use Rattle.std.specs.Simd.Lanes.{chunk, put_chunk}
+use Rattle.std.specs.Str.{IsAscii, chars}
+use Rattle.utf16_units.specs.Encoding.{encode}
+use Rattle.utf16_units.proofs.EncodingLemmas.{encode-append, encode-nil}
+use Rattle.utf16_from_utf8.specs.Added.{added_bytes}
+use Rattle.utf16_from_utf8.specs.Ascii.{IsWritten}
+use Rattle.utf16_from_utf8.proofs.AppendLemmas.{added_bytes-text}
+
+-- what is after a vector that was stored stays
+after_chunk : {X : Type 0} (at : ℕ) (out v : List X) (m : ℕ) → at + length v ≤ m → drop m (put_chunk at out v) ≡ drop m out
+after_chunk at [] v m over = refl
+after_chunk zero (x ∷ out) [] m over = refl
+after_chunk zero (x ∷ out) (y ∷ v) zero over = absurd (omega (arith, over))
+after_chunk zero (x ∷ out) (y ∷ v) (suc m) over = after_chunk zero out v m (omega (arith, over))
+after_chunk (suc at) (x ∷ out) v zero over = absurd (omega (arith, over))
+after_chunk (suc at) (x ∷ out) v (suc m) over = after_chunk at out v m (omega (arith, over))
+
+pub after_both : (at : ℕ) (first second out : List ℕ) → length first ≡ 16 → length second ≡ 16
+    → drop (at + 32) (put_chunk (at + 16) (put_chunk at out first) second) ≡ drop (at + 32) out
+after_both at first second out a b =
+    after_chunk (at + 16) (put_chunk at out first) second (at + 32) (omega (arith, b))
+    ∙ after_chunk at out first (at + 32) (omega (arith, a))
+
+-- ---- the next block
+
+-- ASCII up to a place and in the next block
+ascii-more : (bytes : List ℕ) (at : ℕ) → at + 16 ≤ length bytes → IsAscii (take at bytes) → ((i : ℕ) → i < 16 → slice_index bytes (at + i) < 0x80) → IsAscii (take (at + 16) bytes)
+ascii-more bytes at more before next i = ⊎_elim
+    (λ (a : i < at). omega (arith, before i, get_or-take at bytes i 0 a, get_or-take (at + 16) bytes i 0 (omega (arith, a))))
+    (λ (a : at ≤ i). ⊎_elim
+    (λ (b : i < at + 16). omega (arith, next (i - at) (omega (arith, a, b)), ap (slice_index bytes) (here a), get_or-take (at + 16) bytes i 0 b))
+    (λ (b : at + 16 ≤ i). omega (arith, get_or_past (take (at + 16) bytes) i 0 (omega (arith, b, length-take-le (at + 16) bytes more))))
+    (cases_lt i (at + 16)))
+    (cases_lt i at)
+  where
+    here : at ≤ i → at + (i - at) ≡ i
+    here a = omega (arith, a)
+
+pub next-ascii : (bytes : List ℕ) (at : ℕ) → IsAscii (take (at + 16) bytes) → (i : ℕ) → i < 16 → slice_index (chunk at 16 bytes) i < 0x80
+next-ascii bytes at ascii i below =
+    omega (arith, ascii (at + i), get_or-take (at + 16) bytes (at + i) 0 (omega (arith, below)), get_or-chunk at 16 bytes i 0 below)
+
+-- the next block was written behind the others
+pub block-written : (big : Bool) (bytes before old new : List ℕ) (at to : ℕ) → to ≡ at + 16 → at + 16 ≤ length bytes
+    → ((i : ℕ) → i < 16 → slice_index bytes (at + i) < 0x80)
+    → take (2 * at + 32) new ≡ take (2 * at) old ++ added_bytes big 0 0 (chunk at 16 bytes)
+    → drop (2 * at + 32) new ≡ drop (2 * at + 32) old
+    → IsWritten big bytes before old at → IsWritten big bytes before new to
+block-written big bytes before old new at to is more next wrote rest done = record {
+  within = omega (arith, is, more);
+  ascii = subst (λ n. IsAscii (take n bytes)) (sym is) all;
+  wrote =
+      ap (λ n. take n new) end ∙ wrote
+      ∙ ap₂ (λ x y. x ++ y) (done.wrote ∙ ap (encode big) (chars-IsAscii (take at bytes) done.ascii))
+      (added_bytes-text big block (IsUtf8-from_ascii block there) ∙ ap (encode big) (chars-IsAscii block there))
+      ∙ sym (encode-append big (take at bytes) block)
+      ∙ ap (encode big) (sym (take-add at 16 bytes) ∙ sym (chars-IsAscii (take (at + 16) bytes) all))
+      ∙ ap (λ n. encode big (chars (take n bytes))) (sym is);
+  rest =
+      ap (λ n. drop n new) end ∙ rest ∙ sym (drop-drop 32 (2 * at) old)
+      ∙ ap (drop 32) done.rest ∙ drop-drop 32 (2 * at) before ∙ ap (λ n. drop n before) (sym end);
+}
+  where
+    block : List ℕ
+    block = chunk at 16 bytes
+
+    all : IsAscii (take (at + 16) bytes)
+    all = ascii-more bytes at more done.ascii next
+
+    there : IsAscii block
+    there i = ⊎_elim
+        (λ (a : i < 16). next-ascii bytes at all i a)
+        (λ (a : 16 ≤ i). omega (arith, get_or_past block i 0 (omega (arith, a, length-chunk at 16 bytes more))))
+        (cases_lt i 16)
+
+    end : 2 * to ≡ 2 * at + 32
+    end = omega (arith, is)
+
+pub none-written : (big : Bool) (bytes out : List ℕ) → IsWritten big bytes out out 0
+none-written big bytes out = record {
+  within = omega arith;
+  ascii = IsAscii-nil;
+  wrote = sym (ap (encode big) (chars-IsAscii [] IsAscii-nil) ∙ encode-nil big);
+  rest = refl;
+}

@@ -1,0 +1,9 @@
+use Rattle.std.proofs.Common.{refl}
+use Rattle.utf16_from_utf8.proofs.AsciiLemmas.{none-written}
+use Rattle.utf16_from_utf8.proofs.ascii.put_wide_blocks.Goals as goal
+
+pub loop-at-init : goal.loop-at-init
+loop-at-init g c = record {
+  written = none-written g.E.Utf16Order.BIG c.args.bytes.now c.args.out.now;
+  blocks = refl;
+}

@@ -1,0 +1,108 @@
+//! Writes the ASCII at the start of bytes, sixteen or sixty-four at a time.
+
+ghost use Rattle.std.specs.Prelude.{◌≡◌, ◌+◌, ◌*◌, ◌%◌, ◌<◌, ◌≤◌, List, ℕ, drop, length, slice_index, take};
+ghost use Rattle.std.specs.Str.{IsAscii, chars};
+ghost use Rattle.utf16_units.specs.Encoding.{encode};
+ghost use Rattle.utf16_from_utf8.specs.Ascii.{IsWritten};
+
+use crate::blocks::put_ascii;
+use crate::runs::are_ascii;
+use crate::units::is_ascii;
+use std::simd::prelude::*;
+use utf16_units::Utf16Order;
+
+/// Writes the ASCII at the start of the bytes in UTF-16 to the start of `out`, and returns how many
+/// bytes it read. For each of them it wrote two bytes.
+///
+/// It reads whole blocks of sixteen bytes, and stops before the first that has a byte of another
+/// character. Fewer than sixteen bytes at the end are not read. The other bytes of `out` stay as
+/// they were.
+///
+/// # Precondition
+///
+/// `out` has at least `2 * bytes.len()` bytes.
+///
+/// # Complexity
+///
+/// One pass over the bytes that it reads.
+pub fn write_ascii<E: Utf16Order>(bytes: &[u8], out: &mut [u8]) -> usize
+    requires { 2 * length bytes.now ≤ length out.old }
+    ensures within { result ≤ length bytes.now }
+    ensures ascii { IsAscii (take result bytes.now) }
+    ensures bytes { take (2 * result) out.new ≡ encode E.BIG (chars (take result bytes.now)) }
+    ensures rest { drop (2 * result) out.new ≡ drop (2 * result) out.old }
+    ensures blocks { result % 16 ≡ 0 }
+    ensures stop { result + 16 ≤ length bytes.now → ¬ (IsAscii (take (result + 16) bytes.now)) }
+{
+    let at = put_wide_blocks::<E>(bytes, out);
+    put_blocks::<E>(bytes, out, at)
+}
+
+// Writes blocks of sixty-four characters of one byte.
+#[inline(always)]
+fn put_wide_blocks<E: Utf16Order>(bytes: &[u8], out: &mut [u8]) -> usize
+    requires { 2 * length bytes.now ≤ length out.old }
+    ensures written { IsWritten E.BIG bytes.now out.old out.new result }
+    ensures blocks { result % 16 ≡ 0 }
+{
+    let mut at = 0;
+    while bytes.len() - at >= 64 {
+        if !are_ascii(bytes, at) {
+            break;
+        }
+        at = put_wide_block::<E>(bytes, out, at);
+    }
+    at
+}
+
+// Writes blocks of sixteen characters of one byte, after those that were written.
+#[inline(always)]
+fn put_blocks<E: Utf16Order>(bytes: &[u8], out: &mut [u8], from: usize) -> usize
+    requires space { 2 * length bytes.now ≤ length out.old }
+    requires within { from ≤ length bytes.now }
+    requires blocks { from % 16 ≡ 0 }
+    ensures written { (before : List ℕ) → IsWritten E.BIG bytes.now before out.old from
+        → IsWritten E.BIG bytes.now before out.new result }
+    ensures within { result ≤ length bytes.now }
+    ensures blocks { result % 16 ≡ 0 }
+    ensures stop { result + 16 ≤ length bytes.now → ¬ (IsAscii (take (result + 16) bytes.now)) }
+{
+    let mut at = from;
+    while bytes.len() - at >= 16 {
+        if !is_ascii(u8x16::from_slice(&bytes[at..])) {
+            break;
+        }
+        at = put_block::<E>(bytes, out, at);
+    }
+    at
+}
+
+// Writes the next sixty-four bytes, and returns where the bytes after them begin.
+#[inline(always)]
+fn put_wide_block<E: Utf16Order>(bytes: &[u8], out: &mut [u8], at: usize) -> usize
+    requires space { 2 * length bytes.now ≤ length out.old }
+    requires more { at + 64 ≤ length bytes.now }
+    requires ascii { (i : ℕ) → i < 64 → slice_index bytes.now (at + i) < 0x80 }
+    ensures written { (before : List ℕ) → IsWritten E.BIG bytes.now before out.old at
+        → IsWritten E.BIG bytes.now before out.new result }
+    ensures at { result ≡ at + 64 }
+{
+    let second = put_block::<E>(bytes, out, at);
+    let third = put_block::<E>(bytes, out, second);
+    let fourth = put_block::<E>(bytes, out, third);
+    put_block::<E>(bytes, out, fourth)
+}
+
+// Writes the next sixteen bytes, and returns where the bytes after them begin.
+#[inline(always)]
+fn put_block<E: Utf16Order>(bytes: &[u8], out: &mut [u8], at: usize) -> usize
+    requires space { 2 * length bytes.now ≤ length out.old }
+    requires more { at + 16 ≤ length bytes.now }
+    requires ascii { (i : ℕ) → i < 16 → slice_index bytes.now (at + i) < 0x80 }
+    ensures written { (before : List ℕ) → IsWritten E.BIG bytes.now before out.old at
+        → IsWritten E.BIG bytes.now before out.new result }
+    ensures at { result ≡ at + 16 }
+{
+    put_ascii::<E>(out, 2 * at, u8x16::from_slice(&bytes[at..]));
+    at + 16
+}
