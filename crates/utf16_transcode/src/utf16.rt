@@ -13,7 +13,7 @@ ghost use Rattle.utf16_decode.specs.Stops.{BeginsWith};
 use crate::valid::valid_prefix;
 use std::marker::PhantomData;
 use utf16_decode::{Direction, Progress, transcode};
-use utf16_from_utf8::write_units;
+use utf16_from_utf8::{write_ascii, write_units};
 use utf16_units::{Utf16CharExt, Utf16Order};
 
 // The number of bytes that are validated first if few valid bytes precede them, and the factor by
@@ -93,8 +93,9 @@ impl<E: Utf16Order> Direction for FromUtf8<E> {
     }
 
     #[inline(always)]
-    fn write_front(_rest: &[u8], _to: &mut [u8]) -> (usize, usize) {
-        (0, 0)
+    fn write_front(rest: &[u8], to: &mut [u8]) -> (usize, usize) {
+        let len = write_ascii::<E>(rest, to);
+        (len, 2 * len)
     }
 }
 
