@@ -200,6 +200,9 @@ fn put_many<D: Direction>(rest: &[u8], before: usize, to: &mut [u8], at: usize) 
     ensures { Puts (Gives D.IsValid D.other) rest.now to.old to.new at result.0 result.1 }
 {
     D::laws();
+    if rest.len() < MANY_AT_ONCE {
+        return put_valid::<D>(rest, before, to, at);
+    }
     let (read, written) = put_front::<D>(rest, to, at);
     if read == rest.len() {
         return (read, written);
@@ -208,17 +211,13 @@ fn put_many<D: Direction>(rest: &[u8], before: usize, to: &mut [u8], at: usize) 
     (read + len, end)
 }
 
-// Does the same, and validates the bytes while it writes them, if they are not few.
+// Does the same, and validates the bytes while it writes them.
 #[inline(always)]
 fn put_front<D: Direction>(rest: &[u8], to: &mut [u8], at: usize) -> (usize, usize)
     requires { at + D.room_for (length rest.now) ≤ length to.old }
     ensures wrote { Puts (Gives D.IsValid D.other) rest.now to.old to.new at result.0 result.1 }
     ensures left { result.1 + D.room_for (length rest.now - result.0) ≤ length to.new }
 {
-    D::laws();
-    if rest.len() < MANY_AT_ONCE {
-        return (0, at);
-    }
     let (read, written) = D::write_front(rest, &mut to[at..]);
     (read, at + written)
 }

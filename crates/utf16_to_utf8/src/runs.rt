@@ -7,7 +7,9 @@ ghost use Rattle.utf16_units.specs.Lanes.{PairedTo};
 ghost use Rattle.utf16_to_utf8.specs.Block.{AreOfKind, IsPlain};
 ghost use Rattle.utf16_to_utf8.specs.Cursor.{Reached};
 
-use crate::blocks::{Kind, are_both_ascii, are_of, eights, is_plain, kind_of, put_block};
+use crate::blocks::{Kind, are_both_ascii, are_of, eights, is_plain, kind_of, lanes_from, put_block};
+use crate::lanes::{each, sum};
+use crate::padded::units8;
 use crate::write::SLACK;
 use std::simd::prelude::*;
 use utf16_units::Utf16Order;
@@ -44,6 +46,16 @@ pub(crate) fn put_next<E: Utf16Order>(raw: &[u8], out: &mut [u8], from: Cursor) 
 {
     let units = next_units::<E>(raw, from.at);
     put_known::<E>(raw, out, from, units, kind_of(units))
+}
+
+// Whether none of the first eight units is a surrogate; `false` if there are fewer.
+#[inline(always)]
+pub(crate) fn begins_plain<E: Utf16Order>(raw: &[u8]) -> bool {
+    if raw.len() < 16 {
+        return false;
+    }
+    let units = units8::<E>(u8x16::from_slice(raw));
+    lanes_from(sum(units, each(0x2800)), 0x800)
 }
 
 // Writes the blocks at the start that have no surrogate.

@@ -7,7 +7,7 @@ ghost use Rattle.utf16_to_utf8.specs.Cursor.{Reached};
 
 use crate::few::{put_last_units, put_next_eight, put_padded};
 use crate::padded::few_bytes;
-use crate::runs::{Cursor, put_next, put_plain};
+use crate::runs::{Cursor, begins_plain, put_next, put_plain};
 use crate::short::put_each;
 use std::simd::prelude::*;
 use utf16_units::Utf16Order;
@@ -55,6 +55,7 @@ pub fn write_utf8<E: Utf16Order>(raw: &[u8], to: &mut [u8]) -> usize
 /// # Complexity
 ///
 /// One pass over the bytes read.
+#[inline]
 pub fn write_before_surrogates<E: Utf16Order>(raw: &[u8], to: &mut [u8]) -> (usize, usize)
     requires { length raw.now / 2 * 3 + SLACK ≤ length to.old }
     ensures within { result.0 ≤ length raw.now }
@@ -65,6 +66,9 @@ pub fn write_before_surrogates<E: Utf16Order>(raw: &[u8], to: &mut [u8]) -> (usi
     ensures rest { drop (length raw.now / 2 * 3 + SLACK) to.new
         ≡ drop (length raw.now / 2 * 3 + SLACK) to.old }
 {
+    if !begins_plain::<E>(raw) {
+        return (0, 0);
+    }
     let room = raw.len() / 2 * 3 + SLACK;
     let cursor = put_plain::<E>(raw, &mut to[..room]);
     (cursor.at, cursor.end)

@@ -1,9 +1,6 @@
 use Rattle.std.proofs.Common.{arith, refl, rules}
-use Rattle.utf16_decode.proofs.WroteLemmas.{Puts-none, Puts-put}
+use Rattle.utf16_decode.proofs.WroteLemmas.{Puts-put}
 use Rattle.utf16_decode.proofs.direction.put_front.Goals as goal
-
-pub returns-then-rest-lt-MANY_AT_ONCE-clause-wrote : goal.returns-then-rest-lt-MANY_AT_ONCE-clause-wrote
-returns-then-rest-lt-MANY_AT_ONCE-clause-wrote g c = Puts-none c.laws.ensures.of_nothing c.args.rest.now _ _ c.args.at (omega (arith, c.requires)) refl
 
 pub returns-clause-wrote : goal.returns-clause-wrote
 returns-clause-wrote g c =
