@@ -40,8 +40,8 @@ pub extern "C" fn dethrux_utf8_decoder_feed(
     ensures succeeds { IsTail (utf8_stream_pending decoder.old)
         → 2 * length chunk.now + 2 ≤ length to.new
         → stop_of result.status result.error_len ≡ Done }
-    ensures succeeds_always { 2 * (length (utf8_stream_pending decoder.old) + length chunk.now) ≤ length to.new
-        → stop_of result.status result.error_len ≡ Done }
+    ensures succeeds_always { 2 * (length (utf8_stream_pending decoder.old) + length chunk.now)
+        ≤ length to.new → stop_of result.status result.error_len ≡ Done }
     ensures numbers { AreNumbers result.status result.error_len }
 {
     conversion_of(if is_big_endian(byte_order) {

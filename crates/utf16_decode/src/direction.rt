@@ -110,9 +110,9 @@ pub trait Direction {
         ensures bytes { take result to.new ≡ other text.now }
         ensures len { result ≡ length (other text.now) };
 
-    /// Writes a valid prefix, perhaps an empty one, in the second encoding to the start of a buffer,
-    /// and validates it while it writes it. Returns the number of bytes read and the number of bytes
-    /// written. What is left needs no more than the space that is left.
+    /// Writes a valid prefix, perhaps an empty one, in the second encoding to the start of a
+    /// buffer, and validates it while it writes it. Returns the number of bytes read and the number
+    /// of bytes written. What is left needs no more than the space that is left.
     ///
     /// # Precondition
     ///

@@ -2,5 +2,4 @@ pub mod Utf8
 pub mod Lanes
 pub mod Pack
 pub mod Block
-pub mod Append
 pub mod Cursor

@@ -1,8 +1,6 @@
-//! Conversion of UTF-16 to UTF-8 with SIMD: the length, a writer into a buffer of the caller's, and
-//! an append to a `String`.
+//! Conversion of UTF-16 to UTF-8 with SIMD: the length, and writers into a buffer of the caller's.
 #![tactic(auto)]
 
-mod append;
 mod blocks;
 mod few;
 mod groups;
@@ -18,6 +16,5 @@ mod word_places;
 mod write;
 mod writers;
 
-pub use crate::append::append_utf8;
 pub use crate::lens::utf8_len;
 pub use crate::write::{SLACK, write_before_surrogates, write_utf8};

@@ -85,8 +85,8 @@ impl Utf8Stream {
             → IsTail (utf8_stream_pending self.new) }
         ensures succeeds { IsTail (utf8_stream_pending self.old)
             → 2 * length piece.now + 2 ≤ length to.new → result.stop ≡ Done }
-        ensures succeeds_always { 2 * (length (utf8_stream_pending self.old) + length piece.now) ≤ length to.new
-            → result.stop ≡ Done }
+        ensures succeeds_always { 2 * (length (utf8_stream_pending self.old) + length piece.now)
+            ≤ length to.new → result.stop ≡ Done }
     {
         let (progress, pending) = feed_after::<E>(self.pending(), piece, to);
         *self = pending;

@@ -3,7 +3,7 @@ use Rattle.utf16_units.specs.Encoding.{text_of}
 use Rattle.utf16_units.proofs.BackChar.{size-even}
 use Rattle.utf16_units.proofs.EncodingLemmas.{length-text}
 use Rattle.utf16_units.proofs.PieceLemmas.{encodes-le-size}
-use Rattle.utf16_to_utf8.proofs.append.reserve_utf8.Goals as goal
+use Rattle.utf16_append.proofs.append.reserve_utf8.Goals as goal
 
 pub returns-then-raw-capacity-clause-reserved : goal.returns-then-raw-capacity-clause-reserved
 returns-then-raw-capacity-clause-reserved g c =

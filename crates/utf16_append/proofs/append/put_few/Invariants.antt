@@ -1,7 +1,7 @@
 use Rattle.std.proofs.Common.{◌≡◌, ◌+◌, ◌≤◌, ◌++◌, encode_utf8_all, length, string_bytes}
 use Rattle.std.specs.String.{string_capacity, string_len}
 use Rattle.utf16_units.specs.Encoding.{IsUtf16, text_of}
-use Rattle.utf16_to_utf8.proofs.append.put_pieces.Given as goal
+use Rattle.utf16_append.proofs.append.put_few.Given as goal
 
 -- the UTF-8 so far and that of the rest are the text before and that of the whole, and the capacity
 -- suffices

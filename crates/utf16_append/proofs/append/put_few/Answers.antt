@@ -2,7 +2,7 @@ use Rattle.std.proofs.Common.{◌≡◌, ◌++◌, ◌∙◌, [], ap, append-nil
 use Rattle.std.proofs.lemmas.List.{nil_from_length}
 use Rattle.utf16_units.specs.Encoding.{text_of}
 use Rattle.utf16_units.proofs.EncodingLemmas.{text_of-nil}
-use Rattle.utf16_to_utf8.proofs.append.put_few.Goals as goal
+use Rattle.utf16_append.proofs.append.put_few.Goals as goal
 
 pub returns-clause-appended : goal.returns-clause-appended
 returns-clause-appended g c =

@@ -4,11 +4,10 @@ ghost use Rattle.std.specs.Prelude.{◌≡◌, ◌+◌, ◌*◌, ◌/◌, ◌<�
 ghost use Rattle.std.specs.String.{string_capacity, string_len};
 ghost use Rattle.utf16_units.specs.Boundary.{IsBoundary};
 ghost use Rattle.utf16_units.specs.Encoding.{IsUtf16, text_of, utf8_of};
-ghost use Rattle.utf16_to_utf8.specs.Append.{IsPut};
+ghost use Rattle.utf16_append.specs.Append.{IsPut};
 
-use crate::lens::utf8_len;
-use crate::write::{SLACK, write_utf8};
 use std::alloc::{AllocError, Allocator};
+use utf16_to_utf8::{SLACK, utf8_len, write_utf8};
 use utf16_units::ends::first_char;
 use utf16_units::{Utf16Order, is_trailing_surrogate};
 

@@ -3,9 +3,9 @@ use Rattle.utf16_units.specs.Boundary.{text_from, text_to}
 use Rattle.utf16_units.specs.Encoding.{Encodes, text_of}
 use Rattle.utf16_units.proofs.BoundaryLemmas.{Encodes-from, Encodes-to, IsBoundary-within, text_to-text_from}
 use Rattle.utf16_units.proofs.EncodingLemmas.{Encodes-text_of, IsUtf16-from_Encodes, length-text, text_of-Encodes}
-use Rattle.utf16_to_utf8.proofs.append.cut_piece.Given.{Over}
-use Rattle.utf16_to_utf8.proofs.append.cut_piece.Goals as goal
-use Rattle.utf16_to_utf8.proofs.append.cut_piece.Goals.{After-piece_end}
+use Rattle.utf16_append.proofs.append.cut_piece.Given.{Over}
+use Rattle.utf16_append.proofs.append.cut_piece.Goals as goal
+use Rattle.utf16_append.proofs.append.cut_piece.Goals.{After-piece_end}
 
 to : (g : Over) (c : After-piece_end g) → Encodes g.E.Utf16Order.BIG (text_to (text_of g.E.Utf16Order.BIG c.args.raw.now) c.piece_end.result) (take c.piece_end.result c.args.raw.now)
 to g c = Encodes-to _ _ c.args.raw.now c.piece_end.result (Encodes-text_of _ _ c.requires) c.piece_end.ensures.boundary

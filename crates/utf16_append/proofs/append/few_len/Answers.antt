@@ -4,7 +4,7 @@ use Rattle.std.specs.Char.{encode_utf8}
 use Rattle.utf16_units.specs.Encoding.{text_of}
 use Rattle.utf16_units.proofs.EncodingLemmas.{length-text, text_of-nil}
 use Rattle.utf16_units.proofs.PieceLemmas.{encodes-le-size}
-use Rattle.utf16_to_utf8.proofs.append.few_len.Goals as goal
+use Rattle.utf16_append.proofs.append.few_len.Goals as goal
 
 pub overflow_add-len : goal.overflow_add-len
 overflow_add-len g c =

@@ -1,6 +1,6 @@
 use Rattle.std.proofs.Common.{◌≡◌, ◌+◌, encode_utf8_all, length}
 use Rattle.utf16_units.specs.Encoding.{IsUtf16, text_of}
-use Rattle.utf16_to_utf8.proofs.append.few_len.Given as goal
+use Rattle.utf16_append.proofs.append.few_len.Given as goal
 
 -- the length so far and that of the rest are that of the whole
 abbrev pub invariant-loop-rest : goal.invariant-loop-rest

@@ -6,9 +6,9 @@ use Rattle.utf16_units.proofs.BackChar.{boundary_at_end, boundary_at_unit, bound
 use Rattle.utf16_units.proofs.EncodingLemmas.{length-text}
 use Rattle.utf16_units.proofs.FirstChar.{first_unit}
 use Rattle.utf16_units.proofs.PieceLemmas.{near_boundary}
-use Rattle.utf16_to_utf8.proofs.append.piece_end.Given.{Over}
-use Rattle.utf16_to_utf8.proofs.append.piece_end.Goals as goal
-use Rattle.utf16_to_utf8.proofs.append.piece_end.Goals.{After-is_trailing_surrogate}
+use Rattle.utf16_append.proofs.append.piece_end.Given.{Over}
+use Rattle.utf16_append.proofs.append.piece_end.Goals as goal
+use Rattle.utf16_append.proofs.append.piece_end.Goals.{After-is_trailing_surrogate}
 
 unit : (g : Over) (c : After-is_trailing_surrogate g) → c.read_unit.result ≡ first_unit g.E.Utf16Order.BIG (drop 1024 c.args.raw.now)
 unit g c = c.read_unit.ensures ∙ sym (first_unit-drop g.E.Utf16Order.BIG c.args.raw.now 1024)

@@ -1,7 +1,7 @@
 use Rattle.std.proofs.Common.{sym}
 use Rattle.utf16_units.specs.Encoding.{text_of}
 use Rattle.utf16_units.proofs.EncodingLemmas.{all_scalars-from_All, scalars-text_of}
-use Rattle.utf16_to_utf8.proofs.append.put_piece.Goals as goal
+use Rattle.utf16_append.proofs.append.put_piece.Goals as goal
 
 pub from_utf8_unchecked-requires : goal.from_utf8_unchecked-requires
 from_utf8_unchecked-requires g c =
