@@ -3,11 +3,11 @@
 use crate::devices::manner;
 use crate::memory::{add_kept, heap};
 use std::alloc::Global;
+use utf8_streams::{encode_stream, encode_stream_with_bom};
 use utf16_case_lines::{Answer, How, Trouble, Values};
 use utf16_streams::{FilterFault, Utf16Order, Watched, filter_auto};
 use utf16_test_support::refusing::Refusing;
 use utf16_test_support::stepped::{Giver, Taker};
-use utf8_streams::{encode_stream, encode_stream_with_bom};
 
 /// The calls of filters.
 #[derive(Clone, Copy, Drop)]

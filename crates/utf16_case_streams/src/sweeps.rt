@@ -19,7 +19,14 @@ pub fn each_read<E: Utf16Order>(
 ) -> Result<(), Trouble> {
     let bytes = values.bytes(alloc, E::BIG)?;
     for at in 1..MOST {
-        let ended = run::<E>(alloc, &heap(alloc, how), how, &bytes, FilterCall::Decode, (at, 0));
+        let ended = run::<E>(
+            alloc,
+            &heap(alloc, how),
+            how,
+            &bytes,
+            FilterCall::Decode,
+            (at, 0),
+        );
         add(answer, &ended);
         if ended.reads < at {
             break;
@@ -37,7 +44,14 @@ pub fn each_write<E: Utf16Order>(
 ) -> Result<(), Trouble> {
     let bytes = values.bytes(alloc, E::BIG)?;
     for at in 1..MOST {
-        let ended = run::<E>(alloc, &heap(alloc, how), how, &bytes, FilterCall::Decode, (0, at));
+        let ended = run::<E>(
+            alloc,
+            &heap(alloc, how),
+            how,
+            &bytes,
+            FilterCall::Decode,
+            (0, at),
+        );
         add(answer, &ended);
         if ended.writes.saturating_add(ended.flushes) < at {
             break;
