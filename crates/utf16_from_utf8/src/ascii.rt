@@ -25,12 +25,27 @@ use utf16_units::Utf16Order;
 /// # Complexity
 ///
 /// One pass over the bytes that it reads.
+#[inline(always)]
 pub fn write_ascii<E: Utf16Order>(bytes: &[u8], out: &mut [u8]) -> usize
     requires { 2 * length bytes.now ≤ length out.old }
     ensures within { result ≤ length bytes.now }
     ensures ascii { IsAscii (take result bytes.now) }
     ensures bytes { take (2 * result) out.new ≡ encode E.BIG (chars (take result bytes.now)) }
     ensures rest { drop (2 * result) out.new ≡ drop (2 * result) out.old }
+    ensures blocks { result % 16 ≡ 0 }
+    ensures stop { result + 16 ≤ length bytes.now → ¬ (IsAscii (take (result + 16) bytes.now)) }
+{
+    if bytes.len() < 16 || !is_ascii(u8x16::from_slice(bytes)) {
+        return 0;
+    }
+    put_front::<E>(bytes, out)
+}
+
+// Does the same. A function of its own, so that other texts do not pay for a call.
+#[inline(never)]
+fn put_front<E: Utf16Order>(bytes: &[u8], out: &mut [u8]) -> usize
+    requires { 2 * length bytes.now ≤ length out.old }
+    ensures written { IsWritten E.BIG bytes.now out.old out.new result }
     ensures blocks { result % 16 ≡ 0 }
     ensures stop { result + 16 ≤ length bytes.now → ¬ (IsAscii (take (result + 16) bytes.now)) }
 {
