@@ -35,7 +35,6 @@ struct Validity {
 
 unsafe extern "C" {
     fn dethrux_validate(order: u32, utf16: *const u8, len: usize) -> Validity;
-    fn loop_validate(order: u32, utf16: *const u8, len: usize) -> Validity;
     fn dethrux_count_chars(order: u32, utf16: *const u8, len: usize) -> usize;
     fn dethrux_is_ascii(order: u32, utf16: *const u8, len: usize) -> bool;
     fn dethrux_to_utf8(order: u32, utf16: *const u8, len: usize, to: *mut u8, capacity: usize) -> Progress;
@@ -129,11 +128,9 @@ fn icu_units(units: &[u16]) -> usize {
     unsafe { icu_valid_up_to(units.as_ptr(), units.len()) }
 }
 
-// `unit loop` is the library's own loop over units, which follows the blocks; `plain loop` has the
-// Rust crate's structure.
+// `plain loop` has the Rust crate's structure.
 const VALIDATE: &[(&str, Call)] = &[
     ("here", |big, raw, _| here_valid_up_to(big, raw)),
-    ("unit loop", |big, raw, _| valid_up_to(unsafe { loop_validate(big.into(), raw.as_ptr(), raw.len()) })),
     ("plain loop", |big, raw, _| plain!(valid_up_to, big, raw)),
     ("encoding_rs mem", |big, raw, _| 2 * units(big, raw, mem::utf16_valid_up_to)),
     ("ICU", |big, raw, _| 2 * units(big, raw, icu_units)),

@@ -1,6 +1,6 @@
-//! Times `utf16_cat` and other programs on the files of a folder: `programs FOLDER UTF16_CAT MIB`.
-//! A line for each text, byte order and program with GB/s of UTF-16, and the peak of memory on so
-//! many MiB from a pipe. What they write is compared first.
+//! Times `utf16_cat`, `utf16_enc` and other programs on the files of a folder: `programs FOLDER
+//! UTF16_CAT UTF16_ENC MIB`. A line for each program of ours, text, byte order and program with GB/s
+//! of input, and the peak of memory on so many MiB from a pipe. What they write is compared first.
 use std::fs::File;
 use std::process::{Command, Stdio};
 use std::time::Instant;
@@ -26,48 +26,59 @@ fn run(words: &str, from: Stdio, to: Stdio) -> (f64, Option<i64>) {
     (start.elapsed().as_secs_f64(), (status == 0).then_some(used[4]))
 }
 
-fn main() {
-    let words: Vec<String> = std::env::args().collect();
-    let (folder, here, mib) = (&words[1], &words[2], words[3].parse::<u64>().unwrap());
-    for class in ["ascii", "random"] {
-        let bytes = (mib << 20).to_string();
-        let mut texts = Command::new(format!("{folder}/texts")).args([class, "le", &bytes]).stdout(Stdio::piped()).spawn().unwrap();
-        let (_, memory) = run(&format!("{here} le"), texts.stdout.take().unwrap().into(), Stdio::null());
-        texts.wait().unwrap();
-        println!("memory\t{class}\tle\there\t{}", memory.map_or("refused".into(), |kib| format!("{:.1}", kib as f64 / 1024.0)));
-    }
-    let mut cases = Vec::new();
+// What a program is compared with, from a file in `from` to `to`: names, and how each is called.
+fn others(folder: &str, order: &str, from: &str, to: &str, ours: &str) -> Vec<(&'static str, String)> {
+    let encoding_rs = if ours == "utf16_enc" { format!("enc-{order}") } else { order.to_string() };
+    let mut programs = vec![
+        ("encoding_rs", format!("{folder}/cat {encoding_rs}")),
+        ("uconv", format!("uconv -f {from} -t {to} --from-callback substitute")),
+        ("iconv", format!("iconv -c -f {from} -t {to}")),
+        ("copy", format!("{folder}/cat copy")),
+    ];
     // The kernels of simdutf that this machine can run, where `run.sh` has built the program.
-    let kernels: &[(&str, &str)] = match std::fs::exists(format!("{folder}/simdutf_cat")).unwrap() {
-        true if is_x86_feature_detected!("avx2") => &[("simdutf westmere", "westmere"), ("simdutf haswell", "haswell")],
-        true => &[("simdutf westmere", "westmere")],
-        false => &[],
-    };
-    for order in ["le", "be"] {
-        for class in ["ascii", "latin_cyrillic", "cjk", "emoji", "random"] {
-            let file = format!("{folder}/{class}.{order}");
-            let name = format!("UTF-16{}", order.to_uppercase());
-            let mut programs = vec![
-                ("encoding_rs", format!("{folder}/cat {order}")),
-                ("here", format!("{here} {order}")),
-                ("uconv", format!("uconv -f {name} -t UTF-8 --from-callback substitute")),
-                ("iconv", format!("iconv -c -f {name} -t UTF-8")),
-                ("copy", format!("{folder}/cat copy")),
-            ];
-            for &(name, kernel) in kernels {
+    if ours == "utf16_cat" && std::fs::exists(format!("{folder}/simdutf_cat")).unwrap() {
+        for (name, kernel) in [("simdutf westmere", "westmere"), ("simdutf haswell", "haswell")] {
+            if kernel == "westmere" || is_x86_feature_detected!("avx2") {
                 programs.push((name, format!("SIMDUTF_FORCE_IMPLEMENTATION={kernel} {folder}/simdutf_cat {order}")));
             }
-            for (program, words) in programs {
-                let made = format!("{folder}/{program}.made");
-                let (_, ended) = run(&words, File::open(&file).unwrap().into(), File::create(&made).unwrap().into());
-                let same = Command::new("cmp").args(["-s", &made, &format!("{folder}/encoding_rs.made")]).status().unwrap().success();
-                // `iconv -c` leaves ill-formed sequences out and says so by its status.
-                let other = program == "copy" || class == "random" && program == "iconv";
-                if ended.is_some() && !same && !other || ended.is_none() && !other && class != "random" {
-                    println!("differs\t{class}\t{order}\t{program}\t-");
-                }
-                if ended.is_some() || other {
-                    cases.push((format!("utf16_cat\t{class}\t{order}\t{program}"), words, file.clone(), f64::MAX));
+        }
+    }
+    programs
+}
+
+fn main() {
+    let words: Vec<String> = std::env::args().collect();
+    let (folder, mib) = (&words[1], words[4].parse::<u64>().unwrap());
+    let mut cases = Vec::new();
+    for (ours, here) in [("utf16_cat", &words[2]), ("utf16_enc", &words[3])] {
+        let from = |order: &'static str| if ours == "utf16_cat" { order } else { "utf8" };
+        for class in ["ascii", "random"] {
+            let bytes = (mib << 20).to_string();
+            let mut texts =
+                Command::new(format!("{folder}/texts")).args([class, from("le"), &bytes]).stdout(Stdio::piped()).spawn().unwrap();
+            let (_, memory) = run(&format!("{here} le"), texts.stdout.take().unwrap().into(), Stdio::null());
+            texts.wait().unwrap();
+            println!("memory\t{ours}, {class}\tle\there\t{}", memory.map_or("refused".into(), |kib| format!("{:.1}", kib as f64 / 1024.0)));
+        }
+        for order in ["le", "be"] {
+            let utf16 = format!("UTF-16{}", order.to_uppercase());
+            for class in ["ascii", "latin_cyrillic", "cjk", "emoji", "random"] {
+                let file = format!("{folder}/{class}.{}", from(order));
+                let (from, to) = if ours == "utf16_cat" { (utf16.as_str(), "UTF-8") } else { ("UTF-8", utf16.as_str()) };
+                let mut programs = others(folder, order, from, to, ours);
+                programs.insert(1, ("here", format!("{here} {order}")));
+                for (program, words) in programs {
+                    let made = format!("{folder}/{program}.made");
+                    let (_, ended) = run(&words, File::open(&file).unwrap().into(), File::create(&made).unwrap().into());
+                    let same = Command::new("cmp").args(["-s", &made, &format!("{folder}/encoding_rs.made")]).status().unwrap().success();
+                    // `iconv -c` leaves ill-formed sequences out and says so by its status.
+                    let other = program == "copy" || class == "random" && program == "iconv";
+                    if ended.is_some() && !same && !other || ended.is_none() && !other && class != "random" {
+                        println!("differs\t{class}\t{order}\t{program}\t-");
+                    }
+                    if ended.is_some() || other {
+                        cases.push((format!("{ours}\t{class}\t{order}\t{program}"), words, file.clone(), f64::MAX));
+                    }
                 }
             }
         }

@@ -33,8 +33,7 @@ function is_measured(decoder,    c, t, o) {
     return 0
 }
 
-# Adds to `behind` the rows where another is faster. A copy decodes nothing, and the unit loop is
-# the library's own.
+# Adds to `behind` the rows where another is faster. A copy decodes nothing.
 function compare(calls, texts, list,    c, t, o, d, others, times) {
     rows_of(calls, texts, list)
     for (c = 1; c in call; c++) for (t = 1; t in text; t++) for (o = 1; o in order; o++) {
@@ -42,7 +41,7 @@ function compare(calls, texts, list,    c, t, o, d, others, times) {
         compared++
         others = ""
         for (d = 1; d in decoders; d++) {
-            if (decoders[d] == "copy" || decoders[d] == "unit loop" || !((call[c], text[t], order[o], decoders[d]) in value)) continue
+            if (decoders[d] == "copy" || !((call[c], text[t], order[o], decoders[d]) in value)) continue
             times = factor(call[c], text[t], order[o], decoders[d])
             if (times + 0 < 1) others = others ", " decoders[d] " (" times ")"
         }
@@ -121,17 +120,17 @@ END {
     split("ascii,cjk", class, ","); split("2,4,8,16,24,32,40,62,64", size, ",")
     for (c = 1; c in class; c++) for (s = 1; s in size; s++) short = short (short == "" ? "" : ";") class[c] ", " size[s] " bytes"
     calls = "validate,count,is_ascii,read,to_utf8,from_utf8"
-    by_call = "here,unit loop,plain loop,encoding_rs,encoding_rs mem,ICU,iconv,simdutf westmere,simdutf haswell"
+    by_call = "here,plain loop,encoding_rs,encoding_rs mem,ICU,iconv,simdutf westmere,simdutf haswell"
     by_program = "here,encoding_rs,iconv,uconv,simdutf westmere,simdutf haswell,copy"
     short_calls = "short validate,short to_utf8,short from_utf8"
     compare(calls, classes, by_call)
-    compare("utf16_cat", classes, by_program)
+    compare("utf16_cat,utf16_enc", classes, by_program)
     compare(short_calls, short, by_call)
     printf "Another is faster in %d of %d rows; how many times as fast *here* is, in brackets:\n\n", slower, compared
     print "| Call | Text | Order | Faster |\n|---|---|---|---|"
     print behind
     table(calls, classes, by_call)
-    table("utf16_cat", classes, by_program)
+    table("utf16_cat,utf16_enc", classes, by_program)
     table(short_calls, short, by_call)
     print differs "| From a pipe | Peak, MiB |\n|---|---|" memory
     chart_of("validate,to_utf8,from_utf8,utf16_cat", classes, "here,simdutf haswell,simdutf westmere,encoding_rs,ICU,iconv")

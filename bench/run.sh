@@ -12,7 +12,6 @@ need() { # what has to succeed, and what is missing where it does not
 need 'command -v rt' 'rt, the toolchain'
 need 'rustc --edition 2024 --print sysroot' 'rustc 1.85 or later'
 need 'command -v gcc' 'gcc (Debian: gcc)'
-need 'command -v objcopy' 'objcopy (Debian: binutils)'
 need 'command -v iconv' 'iconv (Debian: libc-bin)'
 need 'command -v uconv' 'uconv (Debian: icu-devtools)'
 need 'command -v cmp' 'cmp (Debian: diffutils)'
@@ -29,16 +28,9 @@ fi
 kit=$(dirname "$(rt doc)")
 mkdir -p out
 (cd ../crates/dethrux && rt lib > ../../bench/out/rt.log 2>&1) || { cat out/rt.log >&2; exit 1; }
-# The validator with its loop over units, which follows its blocks, for every length: the same code
-# and proof, in an archive of its own under another name.
-rm -rf out/loop && mkdir out/loop && cp -r ../HANDLES ../crates.txt ../crates out/loop
-sed -i -e 's/if raw.len() < 32 {/if raw.len() < usize::MAX {/' \
-    -e '/if has_no_surrogate_short::<E>(raw) {/,/^        }/d' out/loop/crates/utf16_units/src/validate.rt
-! cmp -s ../crates/utf16_units/src/validate.rt out/loop/crates/utf16_units/src/validate.rt
-(cd out/loop/crates/dethrux && rt lib > ../../../rt.log 2>&1) || { cat out/rt.log >&2; exit 1; }
-objcopy --redefine-sym dethrux_validate=loop_validate --keep-global-symbol=loop_validate \
-    out/loop/crates/dethrux/out/libdethrux.a out/libdethrux_loop.a
-(cd ../crates/utf16_cat && rt run -- le < /dev/null > ../../bench/out/rt.log 2>&1) || { cat out/rt.log >&2; exit 1; }
+for program in utf16_cat utf16_enc; do
+    (cd ../crates/$program && rt run -- le < /dev/null > ../../bench/out/rt.log 2>&1) || { cat out/rt.log >&2; exit 1; }
+done
 
 # The processor that rt builds for. No branch lies across 32 bytes, since some processors halve the
 # speed of a loop where one does.
@@ -66,18 +58,18 @@ rust --edition 2024 texts.rs
 rust --edition 2024 programs.rs
 rust --edition 2024 cat.rs --extern encoding_rs=out/libencoding_rs.rlib
 rust --edition 2024 calls.rs ${simdutf:+--cfg simdutf} --extern encoding_rs=out/libencoding_rs.rlib -l icuuc \
-    -C link-args="out/icu.o $simdutf ../crates/dethrux/out/libdethrux.a out/libdethrux_loop.a $kit/c/liblibc_c.a"
+    -C link-args="out/icu.o $simdutf ../crates/dethrux/out/libdethrux.a $kit/c/liblibc_c.a"
 
-for order in le be; do
+for encoding in le be utf8; do
     for class in ascii latin_cyrillic cjk emoji random; do
         size=67108864
         [ $class != random ] || size=16777216
-        out/texts $class $order $size > out/$class.$order
-        out/texts $class $order 65536 > out/$class.$order.small
+        out/texts $class $encoding $size > out/$class.$encoding
+        out/texts $class $encoding 65536 > out/$class.$encoding.small
     done
 done
 out/calls out > out/lines.tsv
-out/programs out ../crates/utf16_cat/out/utf16_cat 1024 >> out/lines.tsv
+out/programs out ../crates/utf16_cat/out/utf16_cat ../crates/utf16_enc/out/utf16_enc 1024 >> out/lines.tsv
 rm out/*.made
 awk -v chart=out/chart.svg -f report.awk out/lines.tsv | tee out/table.md
 ! grep "^differs" out/lines.tsv >&2

@@ -1,5 +1,5 @@
-//! Writes UTF-16 to standard output: `texts CLASS ORDER BYTES`, of a class of text or of random
-//! bytes. The same arguments give the same bytes each time.
+//! Writes a text to standard output, of a class or of random bytes: `texts CLASS ENCODING BYTES`, in
+//! UTF-16 (`le`, `be`) or in UTF-8 (`utf8`). The same arguments give the same bytes each time.
 use std::io::Write;
 
 struct Random {
@@ -34,21 +34,34 @@ impl Random {
     }
 }
 
+// The bytes of what comes next: of a character, or of a letter where it does not fit, or two bytes
+// that are random.
+fn encoded(next: u32, class: &str, encoding: &str, left: usize) -> Vec<u8> {
+    let c = char::from_u32(next);
+    if encoding == "utf8" {
+        return match c.filter(|_| class != "random") {
+            Some(c) => (if c.len_utf8() <= left { c } else { 'a' }).to_string().into_bytes(),
+            None => (next as u16).to_le_bytes()[..left.min(2)].to_vec(),
+        };
+    }
+    let mut pair = [0; 2];
+    let units = match c {
+        Some(c) => (if 2 * c.len_utf16() <= left { c } else { 'a' }).encode_utf16(&mut pair),
+        None => &mut [next as u16][..],
+    };
+    units.iter().flat_map(|unit| if encoding == "be" { unit.to_be_bytes() } else { unit.to_le_bytes() }).collect()
+}
+
 fn main() {
     let words: Vec<String> = std::env::args().collect();
-    let (class, big, mut left) = (words[1].as_str(), words[2] == "be", words[3].parse::<usize>().unwrap() / 2);
+    let (class, encoding, mut left) = (words[1].as_str(), words[2].as_str(), words[3].parse::<usize>().unwrap());
     let (mut random, mut out) = (Random { state: 1, cyrillic: false }, std::io::stdout().lock());
     while left > 0 {
         let mut bytes = Vec::new();
         while bytes.len() < 65536 && left > 0 {
-            let (mut pair, next) = ([0; 2], random.next(class));
-            let units = match char::from_u32(next) {
-                // Where no pair fits there is a letter.
-                Some(c) => (if left > 1 || next < 0x10000 { c } else { 'a' }).encode_utf16(&mut pair),
-                None => &mut [next as u16][..],
-            };
-            left -= units.len();
-            bytes.extend(units.iter().flat_map(|unit| if big { unit.to_be_bytes() } else { unit.to_le_bytes() }));
+            let next = encoded(random.next(class), class, encoding, left);
+            left -= next.len();
+            bytes.extend(next);
         }
         out.write_all(&bytes).unwrap();
     }
