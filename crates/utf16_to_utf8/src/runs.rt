@@ -7,7 +7,9 @@ ghost use Rattle.utf16_units.specs.Lanes.{PairedTo};
 ghost use Rattle.utf16_to_utf8.specs.Block.{AreOfKind, IsPlain};
 ghost use Rattle.utf16_to_utf8.specs.Cursor.{Reached};
 
-use crate::blocks::{Kind, are_both_ascii, are_of, eights, is_plain, kind_of, lanes_from, put_block};
+use crate::blocks::{
+    Kind, are_both_ascii, are_of, eights, is_plain, kind_of, lanes_from, put_block,
+};
 use crate::lanes::{each, sum};
 use crate::padded::units8;
 use crate::write::SLACK;
