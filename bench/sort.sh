@@ -8,7 +8,7 @@ set -e
 top=$(cd "$(dirname "$0")/.." && pwd)
 room=$(mktemp -d)
 mkdir -p "$room/crates/sort_bench/src"
-for crate in utf16_units utf16_to_utf8 utf16_from_utf8 utf16_str utf16_retain utf16string; do
+for crate in utf16_units utf16_to_utf8 utf16_from_utf8 utf16_append utf16_str utf16_retain utf16string; do
     cp -r "$top/crates/$crate" "$room/crates"
     grep "^$crate:" "$top/crates.txt" >> "$room/crates.txt"
 done
