@@ -233,6 +233,34 @@ DETHRUX_NODISCARD dethrux_progress dethrux_utf8_decoder_feed(
 DETHRUX_NODISCARD dethrux_progress dethrux_utf8_decoder_finish(
     dethrux_utf8_decoder *decoder, dethrux_byte_order byte_order, uint8_t *to, size_t capacity);
 
+/* Returns whether `at` is a boundary between characters, so that the text may be cut there: `at` is
+ * even, at most `len`, and not between the two code units of a surrogate pair. Ill-formed input too
+ * may be cut there: what dethrux_to_utf8_lossy writes for the whole is what it writes for the bytes
+ * before `at`, then what it writes for those from `at`. */
+DETHRUX_NODISCARD bool dethrux_is_char_boundary(
+    dethrux_byte_order byte_order, const uint8_t *utf16, size_t len, size_t at);
+
+/* Returns the greatest boundary at or before `at`, and at most `len`; it is 0 to 3 bytes before the
+ * smaller of the two. */
+DETHRUX_NODISCARD size_t dethrux_floor_char_boundary(
+    dethrux_byte_order byte_order, const uint8_t *utf16, size_t len, size_t at);
+
+/* Swaps the two bytes of each code unit in place: UTF-16 in the other byte order. An odd byte at
+ * the end stays. */
+void dethrux_swap_byte_order(uint8_t *utf16, size_t len);
+
+/* Replaces each unpaired surrogate by U+FFFD in place, and returns how many there were. Then the
+ * code units are well formed. An odd byte at the end stays. */
+size_t dethrux_make_well_formed(dethrux_byte_order byte_order, uint8_t *utf16, size_t len);
+
+/* Compares two texts by their scalar values, each in its byte order: returns -1, 0 or 1 where the
+ * first is less than, equal to or greater than the second. That is the order of memcmp on what
+ * dethrux_to_utf8_lossy writes: an unpaired surrogate, and an incomplete character at the end, is
+ * U+FFFD, and a text is greater than each of its prefixes. */
+DETHRUX_NODISCARD int32_t dethrux_compare(
+    dethrux_byte_order first_order, const uint8_t *first, size_t first_len,
+    dethrux_byte_order second_order, const uint8_t *second, size_t second_len);
+
 /* Returns the BOM at the start of a stream (FF FE: little endian, FE FF: big endian) and the byte
  * order: big endian without a BOM, as the Unicode Standard has it. The BOM is no part of the text:
  * decode what follows its `len` bytes. With DETHRUX_BOM_UNDECIDED call again with two bytes or
