@@ -1,9 +1,8 @@
-//! Converts every character from UTF-16 to UTF-8 and back in both byte orders by the library's
-//! calls, and compares with what Rust's `char` gives: alone, which is converted without SIMD, and
-//! among letters and repeated, which is converted with SIMD, at each offset of a block. Then decodes
-//! every string of at most four of twenty bytes as a stream of UTF-8, cut in every way, and compares
-//! with `String::from_utf8_lossy`. The last lines say how many calls were made, or streams decoded,
-//! and how many of their results differed.
+//! Converts every character from UTF-16 to UTF-8 and back in both byte orders by the library, and
+//! compares with what Rust's `char` gives: alone, without SIMD, and repeated and among letters, with
+//! SIMD, at each offset of a block. Then decodes every string of at most four of twenty bytes as a
+//! stream of UTF-8, cut in every way, and compares with `String::from_utf8_lossy`. The last lines
+//! say how many calls were made, or streams decoded, and how many of their results differed.
 
 #[repr(C)]
 struct Progress {

@@ -1,6 +1,6 @@
 //! Times `utf16_cat`, `utf16_enc` and other programs on the files of a folder: `programs FOLDER
-//! UTF16_CAT UTF16_ENC MIB`. A line for each program of ours, text, byte order and program with GB/s
-//! of input, and the peak of memory on so many MiB from a pipe. What they write is compared first.
+//! UTF16_CAT UTF16_ENC MIB`. A line for each program of ours, text, byte order and program has GB/s
+//! of input and the peak of memory on so many MiB from a pipe. What they write is compared first.
 use std::fs::File;
 use std::process::{Command, Stdio};
 use std::time::Instant;

@@ -1,5 +1,5 @@
-//! Writes a text to standard output, of a class or of random bytes: `texts CLASS ENCODING BYTES`, in
-//! UTF-16 (`le`, `be`) or in UTF-8 (`utf8`). The same arguments give the same bytes each time.
+//! Writes a text to standard output, of a class or of random bytes: `texts CLASS ENCODING BYTES`,
+//! in UTF-16 (`le`, `be`) or in UTF-8 (`utf8`). The same arguments give the same bytes each time.
 use std::io::Write;
 
 struct Random {
