@@ -1,7 +1,7 @@
 -- Steps of decoding UTF-8 in sequence, each by items of the split.
 use Rattle.std.proofs.Common.{◌≡◌, ◌⊎◌, inl, inr, ℕ, ◌+◌, ◌-◌, ◌<◌, ◌≤◌, Bool, List, [], ◌∷◌, ◌++◌, Some, length, map, take, drop, refl, sym, ap, ap₂, ◌∙◌, subst, arith, append_assoc, append-nil, length-append, length-drop, take-append-drop}
 use borrow.Rule.Slice.PartMut.{put_mid}
-use Rattle.std.proofs.lemmas.List.{drop-append-le, drop-drop, drop_all, map-append}
+use Rattle.std.proofs.lemmas.List.{drop-append-le, drop-drop, drop_all, map-append, take_rest}
 use Rattle.std.proofs.lemmas.List.Concat.{flat_map-append}
 use Rattle.std.proofs.lemmas.Str.{IsUtf8-encode}
 use Rattle.std.specs.Char.{encode_utf8}
@@ -9,6 +9,7 @@ use Rattle.std.specs.Str.{StartsWithNoChar, chars}
 use Rattle.std.specs.Str.Lossy.{utf8_error_len}
 use Rattle.utf16_units.specs.Encoding.{char_bytes, encode}
 use Rattle.utf16_units.proofs.EncodingLemmas.{encode-append, encode-nil, encode-one}
+use Rattle.utf16_units.proofs.IllFormedLemmas.{rest_from}
 use Rattle.utf8_split.specs.Split.{IsTail, Item, good, ill, item_bytes, items_bytes, lossy_char, lossy_chars, split_items, split_tail}
 use Rattle.utf8_split.proofs.PartLemmas.{subpart_at}
 use Rattle.utf8_split.proofs.ShownLemmas.{length-IsTail}
@@ -131,6 +132,19 @@ module _ (big : Bool) (utf8 old part window behind : List ℕ) (read at n w : �
   stops_window (IllFormed len) (inl full) here = absurd (cc)
   stops_window Incomplete (inl full) here = absurd (cc)
 
+-- the same of all of the rest, as a slice from `read` on
+module _ (big : Bool) (utf8 old part : List ℕ) (read at n w : ℕ) (before : DecodesUtf8To big utf8 old read at)
+    (front : DecodesUtf8To big (rest_from utf8 read) part n w) (long : length part ≡ length old - at) where
+  abbrev joined : rest_from utf8 read ++ [] ≡ drop read utf8
+  joined = append-nil (rest_from utf8 read) ∙ take_rest utf8 read
+
+  pub DecodesUtf8To-rest : DecodesUtf8To big utf8 (put_mid at (length old - at) old part) (read + n) (at + w)
+  DecodesUtf8To-rest = DecodesUtf8To-window big utf8 old part (rest_from utf8 read) [] read at n w before joined front long
+
+  pub stops_rest : (stop : Stop) → StopsLossyUtf8 big (drop n (rest_from utf8 read)) (length part - w) stop
+      → StopsLossyUtf8 big (drop (read + n) utf8) (length (put_mid at (length old - at) old part) - (at + w)) stop
+  stops_rest stop = stops_window big utf8 old part (rest_from utf8 read) [] read at n w before joined front long stop (inr refl)
+
 -- ---- what a step decodes
 
 -- nothing
@@ -189,6 +203,13 @@ FirstItem-subpart bytes len none error =
       items = split_items-subpart bytes len none error;
       tail = split_tail-subpart bytes len none error;
     }
+
+-- the one at which a call that writes a text stopped
+pub FirstItem-stopped : (big : Bool) (utf8 : List ℕ) (read n left len : ℕ) → StopsEncoding big (rest_from utf8 read) n left (IllFormed len)
+    → FirstItem (drop (read + n) utf8) 0xFFFD len
+FirstItem-stopped big utf8 read n left len here =
+    subst (λ b. FirstItem b 0xFFFD len) (ap (drop n) (take_rest utf8 read) ∙ drop-drop n read utf8)
+    (FirstItem-subpart (drop n (rest_from utf8 read)) len (none_at (rest_from utf8 read) n here.0) (sym here.1))
 
 module _ (bytes : List ℕ) (char n : ℕ) (first : FirstItem bytes char n) where
   -- its character comes first

@@ -1,10 +1,10 @@
 //! UTF-8 to UTF-16, lossy: with U+FFFD for each ill-formed sequence.
 
-ghost use Rattle.std.specs.Prelude.{◌≡◌, ◌-◌, ◌*◌, ◌≤◌, length, take, drop};
+ghost use Rattle.std.specs.Prelude.{◌≡◌, ◌-◌, ◌*◌, ◌<◌, ◌≤◌, length, take, drop};
 ghost use Rattle.std.specs.List.{flat_map};
 ghost use Rattle.utf16_units.specs.Encoding.{char_bytes, size};
 ghost use Rattle.utf16_transcode.specs.FromUtf8.{text_of_utf8};
-ghost use Rattle.utf16_transcode.specs.Utf8Stream.{DecodesUtf8To, StopsLossyUtf8};
+ghost use Rattle.utf16_transcode.specs.Utf8Stream.{DecodesUtf8To, FirstItem, StopsLossyUtf8};
 ghost use Rattle.utf16_decode.specs.Shown.{ShowsWhole};
 ghost use Rattle.utf16_decode.specs.Stops.{StopsLossyWhole};
 
@@ -32,7 +32,6 @@ pub fn from_utf8_partial<E: Utf16Order>(text: &[u8], to: &mut [u8]) -> Progress
     ensures stop { StopsLossyUtf8 E.BIG (drop result.read text.now)
         (length to.new - result.written) result.stop }
 {
-    let replacement = E::write_unit(REPLACEMENT);
     let mut read = 0;
     let mut written = 0;
     loop {
@@ -53,12 +52,23 @@ pub fn from_utf8_partial<E: Utf16Order>(text: &[u8], to: &mut [u8]) -> Progress
                 stop: Stop::NoRoom,
             };
         }
-        read += len as usize;
-        written = put(&replacement, to, written);
-        let (len, size) = put_items::<E>(&text[read..], &mut to[written..]);
+        let (len, size) = put_ill_formed::<E>(&text[read..], len as usize, &mut to[written..]);
         read += len;
         written += size;
     }
+}
+
+// Writes U+FFFD for the ill-formed sequence of `len` bytes that the text begins with, and the items
+// after it; returns the number of bytes read and the number of bytes written.
+fn put_ill_formed<E: Utf16Order>(text: &[u8], len: usize, to: &mut [u8]) -> (usize, usize)
+    requires ill_formed { FirstItem text.now 0xFFFD len }
+    requires space { 2 ≤ length to.old }
+    ensures decodes { DecodesUtf8To E.BIG text.now to.new result.0 result.1 }
+    ensures some { 0 < result.0 }
+{
+    let written = put(&E::write_unit(REPLACEMENT), to, 0);
+    let (read, size) = put_items::<E>(&text[len..], &mut to[written..]);
+    (len + read, written + size)
 }
 
 /// Writes the whole text of UTF-8 in UTF-16 to the start of a buffer, as far as whole characters
