@@ -14,8 +14,8 @@ use utf16_units::Utf16Order;
 // U+FEFF, the BOM (byte order mark).
 const BOM: u16 = 0xFEFF;
 
-// A transcoder from UTF-8 to UTF-16 in byte order `E`, with U+FFFD for each maximal subpart of an
-// ill-formed sequence and one for an incomplete end.
+/// A transcoder from UTF-8 to UTF-16 in byte order `E`, with U+FFFD for each maximal subpart of an
+/// ill-formed sequence and one for an incomplete end.
 #[derive(Drop)]
 pub struct Encoder<E: Utf16Order> {
     stream: Utf8Stream,
@@ -26,7 +26,7 @@ pub struct Encoder<E: Utf16Order> {
 }
 
 impl<E: Utf16Order> Encoder<E> {
-    // Returns a transcoder at the beginning of a stream, whose output has a BOM first or not.
+    /// Returns a transcoder at the beginning of a stream, whose output has a BOM first or not.
     pub fn new(bom_due: bool) -> Self
         ensures bom_due { result.bom_due ≡ bom_due }
         ensures pending { utf8_stream_pending result.stream ≡ [] }
@@ -82,6 +82,8 @@ fn feed<E: Utf16Order>(stream: &mut Utf8Stream, piece: &[u8], to: &mut [u8]) -> 
         ≡ decided_utf16 E.BIG (utf8_stream_pending stream.old ++ piece.now) }
     ensures pending { utf8_stream_pending stream.new
         ≡ split_tail (utf8_stream_pending stream.old ++ piece.now) }
+    ensures undecided { split_tail (utf8_stream_pending stream.new)
+        ≡ utf8_stream_pending stream.new }
 {
     stream.feed::<E>(piece, to).written
 }

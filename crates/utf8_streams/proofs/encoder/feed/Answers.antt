@@ -1,11 +1,11 @@
-use Rattle.std.proofs.Common.{◌≡◌, ◌-◌, ◌++◌, length, take, ap, ◌∙◌, subst, arith}
+use Rattle.std.proofs.Common.{◌≡◌, ◌-◌, ◌++◌, length, take, sym, ap, ◌∙◌, subst, arith}
 use Rattle.std.proofs.lemmas.List.{length-take-le}
 use Rattle.utf16_units.proofs.EncodingLemmas.{length-encode}
-use Rattle.utf8_split.specs.Split.{decided_text}
+use Rattle.utf8_split.specs.Split.{decided_text, split_tail}
 use Rattle.utf16_decode.specs.declared.progress.Stop.TheVariants.{Done}
 use Rattle.utf16_transcode.specs.Utf8Stream.{StopsFeedingUtf8, utf8_stream_pending}
 use Rattle.utf8_streams.specs.Utf16.{decided_utf16}
-use Rattle.utf8_streams.proofs.EncoderLemmas.{fed_text, text_short}
+use Rattle.utf8_streams.proofs.EncoderLemmas.{fed_text, split_tail-again, text_short}
 use Rattle.utf8_streams.proofs.encoder.feed.Given.{Over}
 use Rattle.utf8_streams.proofs.encoder.feed.Goals as goal
 use Rattle.utf8_streams.proofs.encoder.feed.Goals.{After-feed}
@@ -32,3 +32,8 @@ returns-clause-fits g c =
     let pending = utf8_stream_pending c.args.stream.now in
     let long = ap length (text g (goal.at.returns-clause-fits g c).After-feed) ∙ length-encode g.E.Utf16Order.BIG (decided_text (pending ++ c.args.piece.now)) in
     omega (arith, long, text_short pending c.args.piece.now c.requires.undecided, length-take-le c.feed.result.written c.feed.new.to c.feed.ensures.feeds.fits)
+
+pub returns-clause-undecided : goal.returns-clause-undecided
+returns-clause-undecided g c =
+    let left = (took g (goal.at.returns-clause-undecided g c).After-feed).1 in
+    ap split_tail left ∙ split_tail-again _ ∙ sym left

@@ -1,9 +1,8 @@
 use Rattle.std.proofs.Common.{◌≡◌, inl, inr, ◌++◌, true, false, List, ℕ, length, refl, sym, ap, ◌∙◌, arith, rules}
 use Rattle.std.proofs.lemmas.List.{length-take-le, nil_from_length}
-use Rattle.utf8_split.specs.Split.{split_tail}
 use Rattle.utf16_transcode.specs.Utf8Stream.{utf8_stream_pending}
 use Rattle.utf8_streams.specs.Utf16.{decided_utf16, with_bom}
-use Rattle.utf8_streams.proofs.EncoderLemmas.{Continues-begun, Continues-same, certain-begun, certain-same, split_tail-again}
+use Rattle.utf8_streams.proofs.EncoderLemmas.{Continues-begun, Continues-same, certain-begun, certain-same}
 use Rattle.utf8_streams.proofs.encoder.EncoderTranscoder.feed_to.Given.{Over}
 use Rattle.utf8_streams.proofs.encoder.EncoderTranscoder.feed_to.Goals as goal
 use Rattle.utf8_streams.proofs.encoder.EncoderTranscoder.feed_to.Goals.{After-feed-len}
@@ -12,20 +11,8 @@ module _ (g : Over) (c : After-feed-len g) where
   abbrev added : List ℕ
   added = decided_utf16 g.E.Utf16Order.BIG (utf8_stream_pending c.args.self.now.stream ++ c.args.piece.now)
 
-  undecided : split_tail (utf8_stream_pending c.feed-len.new.stream) ≡ utf8_stream_pending c.feed-len.new.stream
-  undecided = ap split_tail c.feed-len.ensures.pending ∙ split_tail-again _ ∙ sym c.feed-len.ensures.pending
-
   long : length added ≡ c.feed-len.result
   long = ap length (sym c.feed-len.ensures.bytes) ∙ length-take-le c.feed-len.result c.feed-len.new.to (omega (arith, c.feed-len.ensures.fits))
-
-pub invariant_of-self : goal.invariant_of-self
-invariant_of-self g c = record { undecided = undecided g (goal.at.invariant_of-self g c).After-feed-len }
-
-pub invariant_of-self-then-len-eq0 : goal.invariant_of-self-then-len-eq0
-invariant_of-self-then-len-eq0 g c = record { undecided = undecided g (goal.at.invariant_of-self-then-len-eq0 g c).After-feed-len }
-
-pub invariant_of-self-2 : goal.invariant_of-self-2
-invariant_of-self-2 g c = record { undecided = undecided g (goal.at.invariant_of-self-2 g c).After-feed-len }
 
 -- no BOM is due
 pub returns-then-not-self-clause-bytes : goal.returns-then-not-self-clause-bytes
