@@ -16,7 +16,8 @@ outcome (Err fault.Long) = Long
 
 -- the outcome is that of a filter, and the bytes were read and written as the filter's result says
 abbrev pub EndsBy : Outcome → (Result (Unit {0}) FilterFault → Type 0) → Type 0
-EndsBy ended filters = (answer : Result (Unit {0}) FilterFault) × (ended ≡ outcome answer) × filters answer
+EndsBy ended filters =
+    (answer : Result (Unit {0}) FilterFault) × (ended ≡ outcome answer) × filters answer
 
 -- the same for a run that ended with a status: that of its outcome
 abbrev pub ExitsBy : ℕ → (Result (Unit {0}) FilterFault → Type 0) → Type 0

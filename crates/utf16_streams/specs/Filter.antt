@@ -14,7 +14,8 @@ decided_utf8 order bytes = encode_utf8_all (lossy_chars (items_in order bytes))
 
 -- the UTF-8 of the whole text of the bytes: that text, and U+FFFD if the split leaves a tail
 abbrev pub whole_utf8 : Option Bool → List ℕ → List ℕ
-whole_utf8 order bytes = encode_utf8_all (whole_lossy_chars (items_in order bytes) (tail_in order bytes))
+whole_utf8 order bytes =
+    encode_utf8_all (whole_lossy_chars (items_in order bytes) (tail_in order bytes))
 
 -- a prefix of the bytes was written, possibly none or all of them
 abbrev pub AppendsPrefix : Option (List ℕ) → Option (List ℕ) → List ℕ → Type 0
@@ -29,23 +30,27 @@ IsNearEnd bytes n = (n ≤ length bytes) × (length bytes ≤ n + 4096)
 module _ (decided whole : List ℕ → List ℕ) (input left old new : Option (List ℕ)) where
   -- the input was read to its end, and its whole output was written
   abbrev pub FiltersAll : Type 0
-  FiltersAll = (bytes : List ℕ) × Consumes input left bytes × IsAtEnd left × Appends old new (whole bytes)
+  FiltersAll = (bytes : List ℕ)
+      × Consumes input left bytes × IsAtEnd left × Appends old new (whole bytes)
 
   -- at least so many bytes were read, and the output that is certain of them was written
   abbrev pub FiltersSome : ℕ → Type 0
-  FiltersSome least = (bytes : List ℕ) × Consumes input left bytes × (least ≤ length bytes) × Appends old new (decided bytes)
+  FiltersSome least = (bytes : List ℕ)
+      × Consumes input left bytes × (least ≤ length bytes) × Appends old new (decided bytes)
 
   -- some bytes were read; the certain output of all but the last 8 to 4,096 of them was written,
   -- and with these more output is certain
   abbrev pub FiltersBefore : Type 0
-  FiltersBefore = (bytes : List ℕ) × Consumes input left bytes × ((n : ℕ) × (n + 8 ≤ length bytes) × IsNearEnd bytes n
+  FiltersBefore = (bytes : List ℕ) × Consumes input left bytes
+      × ((n : ℕ) × (n + 8 ≤ length bytes) × IsNearEnd bytes n
       × (decided (take n bytes) ≢ decided bytes) × Appends old new (decided (take n bytes)))
 
   -- some bytes were read; a prefix of their whole output was written, and at least the certain
   -- output of all but the last 4,096 of them
   abbrev pub FiltersPrefix : Type 0
-  FiltersPrefix = (bytes : List ℕ) × Consumes input left bytes × ((written : List ℕ) × Appends old new written
-      × StartsWith (whole bytes) written × ((n : ℕ) × IsNearEnd bytes n × StartsWith written (decided (take n bytes))))
+  FiltersPrefix = (bytes : List ℕ) × Consumes input left bytes
+      × ((written : List ℕ) × Appends old new written × StartsWith (whole bytes) written
+      × ((n : ℕ) × IsNearEnd bytes n × StartsWith written (decided (take n bytes))))
 
   -- for each result
   abbrev pub FiltersBy : Result (Unit {0}) FilterFault → Type 0
@@ -59,19 +64,23 @@ module _ (decided whole : List ℕ → List ℕ) (input left old new : Option (L
 -- and `None` if the BOM gives it
 module _ (order : Option Bool) where
   -- the input was read to its end, and its whole text was written
-  abbrev pub Filters : Option (List ℕ) → Option (List ℕ) → Option (List ℕ) → Option (List ℕ) → Type 0
+  abbrev pub Filters : Option (List ℕ) → Option (List ℕ)
+      → Option (List ℕ) → Option (List ℕ) → Type 0
   Filters = FiltersAll (decided_utf8 order) (whole_utf8 order)
 
   -- for each result
-  abbrev pub FiltersIn : Option (List ℕ) → Option (List ℕ) → Option (List ℕ) → Option (List ℕ) → Result (Unit {0}) FilterFault → Type 0
+  abbrev pub FiltersIn : Option (List ℕ) → Option (List ℕ)
+      → Option (List ℕ) → Option (List ℕ) → Result (Unit {0}) FilterFault → Type 0
   FiltersIn = FiltersBy (decided_utf8 order) (whole_utf8 order)
 
 -- what `filter` did, in a given byte order
-abbrev pub FiltersAs : Bool → Option (List ℕ) → Option (List ℕ) → Option (List ℕ) → Option (List ℕ) → Result (Unit {0}) FilterFault → Type 0
+abbrev pub FiltersAs : Bool → Option (List ℕ) → Option (List ℕ)
+    → Option (List ℕ) → Option (List ℕ) → Result (Unit {0}) FilterFault → Type 0
 FiltersAs big = FiltersIn (Some big)
 
 -- what `filter_auto` did, in the byte order that the BOM gives
-abbrev pub FiltersAuto : Option (List ℕ) → Option (List ℕ) → Option (List ℕ) → Option (List ℕ) → Result (Unit {0}) FilterFault → Type 0
+abbrev pub FiltersAuto : Option (List ℕ) → Option (List ℕ)
+    → Option (List ℕ) → Option (List ℕ) → Result (Unit {0}) FilterFault → Type 0
 FiltersAuto = FiltersIn None
 
 -- the number of I/O errors of the reader that a result stands for

@@ -39,7 +39,8 @@ abbrev pub StopsLossyUtf8 : Bool → List ℕ → ℕ → Stop → Type 0
 StopsLossyUtf8 big rest left Done = rest ≡ []
 StopsLossyUtf8 big rest left (IllFormed len) = ⊥
 StopsLossyUtf8 big rest left Incomplete = (rest ≢ []) × (split_tail rest ≡ rest)
-StopsLossyUtf8 big rest left NoRoom = TextDoesNotFit (char_bytes big) (lossy_chars (split_items rest)) left
+StopsLossyUtf8 big rest left NoRoom =
+    TextDoesNotFit (char_bytes big) (lossy_chars (split_items rest)) left
 
 -- `stream.pending()`
 abbrev pub utf8_stream_pending : Utf8Stream → List ℕ
@@ -57,8 +58,10 @@ pub record FeedsUtf8 (big : Bool) (pending piece left to : List ℕ) (read writt
 -- not fit, and as many bytes were taken, first of the pending ones and then of the chunk, as were
 -- decoded
 abbrev pub StopsFeedingUtf8 : Bool → List ℕ → List ℕ → List ℕ → ℕ → ℕ → Stop → Type 0
-StopsFeedingUtf8 big pending piece left read room Done = (read ≡ length piece) × (left ≡ split_tail (pending ++ piece))
+StopsFeedingUtf8 big pending piece left read room Done =
+    (read ≡ length piece) × (left ≡ split_tail (pending ++ piece))
 StopsFeedingUtf8 big pending piece left read room (IllFormed len) = ⊥
 StopsFeedingUtf8 big pending piece left read room Incomplete = ⊥
 StopsFeedingUtf8 big pending piece left read room NoRoom =
-    ((read ≡ 0) ⊎ (left ≡ [])) × TextDoesNotFit (char_bytes big) (lossy_chars (split_items (left ++ drop read piece))) room
+    ((read ≡ 0) ⊎ (left ≡ []))
+    × TextDoesNotFit (char_bytes big) (lossy_chars (split_items (left ++ drop read piece))) room

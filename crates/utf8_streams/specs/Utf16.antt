@@ -40,15 +40,20 @@ some_with_bom big (first ∷ bytes) = with_bom big (first ∷ bytes)
 
 -- what is certain and what is the whole, where a BOM is written first and where none is
 abbrev pub certain : Bool → Bool → List ℕ → List ℕ
-certain bom_first big bytes = if bom_first then some_with_bom big (decided_utf16 big bytes) else decided_utf16 big bytes
+certain bom_first big bytes =
+    if bom_first then some_with_bom big (decided_utf16 big bytes) else decided_utf16 big bytes
 
 abbrev pub entire : Bool → Bool → List ℕ → List ℕ
-entire bom_first big bytes = if bom_first then with_bom big (whole_utf16 big bytes) else whole_utf16 big bytes
+entire bom_first big bytes =
+    if bom_first then with_bom big (whole_utf16 big bytes) else whole_utf16 big bytes
 
 -- what `encode_stream` did
-abbrev pub EncodesAs : Bool → Option (List ℕ) → Option (List ℕ) → Option (List ℕ) → Option (List ℕ) → Result (Unit {0}) FilterFault → Type 0
+abbrev pub EncodesAs : Bool → Option (List ℕ) → Option (List ℕ)
+    → Option (List ℕ) → Option (List ℕ) → Result (Unit {0}) FilterFault → Type 0
 EncodesAs big = FiltersBy (decided_utf16 big) (whole_utf16 big)
 
 -- what `encode_stream_with_bom` did
-abbrev pub EncodesWithBom : Bool → Option (List ℕ) → Option (List ℕ) → Option (List ℕ) → Option (List ℕ) → Result (Unit {0}) FilterFault → Type 0
-EncodesWithBom big = FiltersBy (λ bytes. some_with_bom big (decided_utf16 big bytes)) (λ bytes. with_bom big (whole_utf16 big bytes))
+abbrev pub EncodesWithBom : Bool → Option (List ℕ) → Option (List ℕ)
+    → Option (List ℕ) → Option (List ℕ) → Result (Unit {0}) FilterFault → Type 0
+EncodesWithBom big = FiltersBy (λ bytes. some_with_bom big (decided_utf16 big bytes))
+    (λ bytes. with_bom big (whole_utf16 big bytes))
