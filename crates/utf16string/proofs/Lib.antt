@@ -1,5 +1,4 @@
 pub mod PrefixRules
-pub mod SwapLemmas
 pub mod Views
 pub mod Edited
 pub mod Removed

@@ -1,14 +1,9 @@
-//! Swaps the byte order of a text's bytes in place.
+//! The bytes of a text rewritten in place as those of the same text in another byte order.
 
-ghost use Rattle.std.specs.Prelude.{◌≡◌, ◌+◌, ◌≤◌, [], ◌∷◌, ◌++◌, length, take, drop, slice_index};
+ghost use Rattle.std.specs.Prelude.{◌≡◌};
 ghost use Rattle.utf16_units.specs.Encoding.{Encodes, IsUtf16, text_of};
-ghost use Rattle.utf16_units.specs.Laws.{swap_bytes};
 
-use std::simd::prelude::*;
 use utf16_units::Utf16Order;
-
-// The number of bytes that are swapped at once.
-const SWAP_BLOCK: usize = 64;
 
 /// Rewrites the bytes of a text in byte order `E` as those of the same text in byte order `F`, in
 /// place.
@@ -26,58 +21,6 @@ pub fn swap_byte_order<E: Utf16Order, F: Utf16Order>(raw: &mut [u8])
     ensures same { E.BIG ≡ F.BIG → raw.new ≡ raw.old }
 {
     if E::BIG != F::BIG {
-        swap_all(raw);
+        utf16_bytes::swap_byte_order(raw);
     }
-}
-
-// Swaps the two bytes of each code unit. A last odd byte stays.
-fn swap_all(raw: &mut [u8])
-    ensures { raw.new ≡ swap_bytes raw.old }
-{
-    let mut at = 0;
-    while raw.len() - at >= SWAP_BLOCK {
-        swap_block(raw, at);
-        at += SWAP_BLOCK;
-    }
-    while raw.len() - at >= 2 {
-        swap_two(raw, at);
-        at += 2;
-    }
-}
-
-// Swaps the two bytes of each of thirty-two code units, starting at `at`.
-#[inline]
-fn swap_block(raw: &mut [u8], at: usize)
-    requires { at + SWAP_BLOCK ≤ length raw.old }
-    ensures swapped { take (at + SWAP_BLOCK) raw.new ≡ take at raw.old
-        ++ swap_bytes (take SWAP_BLOCK (drop at raw.old)) }
-    ensures rest { drop (at + SWAP_BLOCK) raw.new ≡ drop (at + SWAP_BLOCK) raw.old }
-{
-    let block = u8x64::from_slice(&raw[at..]);
-    swapped(block).copy_to_slice(&mut raw[at..]);
-}
-
-// Returns the block with the two bytes of each code unit swapped.
-#[inline(always)]
-fn swapped(block: u8x64) -> u8x64
-    ensures { result ≡ swap_bytes block }
-{
-    block.swizzle([
-        1, 0, 3, 2, 5, 4, 7, 6, 9, 8, 11, 10, 13, 12, 15, 14, 17, 16, 19, 18, 21, 20, 23, 22, 25,
-        24, 27, 26, 29, 28, 31, 30, 33, 32, 35, 34, 37, 36, 39, 38, 41, 40, 43, 42, 45, 44, 47, 46,
-        49, 48, 51, 50, 53, 52, 55, 54, 57, 56, 59, 58, 61, 60, 63, 62,
-    ])
-}
-
-// Swaps the two bytes of the code unit at `at`.
-#[inline]
-fn swap_two(raw: &mut [u8], at: usize)
-    requires { at + 2 ≤ length raw.old }
-    ensures swapped { take (at + 2) raw.new ≡ take at raw.old
-        ++ (slice_index raw.old (at + 1) ∷ slice_index raw.old at ∷ []) }
-    ensures rest { drop (at + 2) raw.new ≡ drop (at + 2) raw.old }
-{
-    let first = raw[at];
-    raw[at] = raw[at + 1];
-    raw[at + 1] = first;
 }

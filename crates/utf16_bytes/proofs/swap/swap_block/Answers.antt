@@ -1,7 +1,7 @@
 use Rattle.std.proofs.Common.{◌+◌, ◌++◌, ◌∙◌, ap, arith, drop, length, sym, take}
 use Rattle.std.proofs.lemmas.Simd.{length-chunk, take_more_put_chunk}
-use Rattle.utf16string.proofs.SwapLemmas.{drop-put_chunk, length-swap_bytes}
-use Rattle.utf16string.proofs.swap_byte_order.swap_block.Goals as goal
+use Rattle.utf16_bytes.proofs.SwapLemmas.{drop-put_chunk, length-swap_bytes}
+use Rattle.utf16_bytes.proofs.swap.swap_block.Goals as goal
 
 pub returns-clause-swapped : goal.returns-clause-swapped
 returns-clause-swapped c =

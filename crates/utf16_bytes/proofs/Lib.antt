@@ -1,0 +1,2 @@
+pub mod SwapLemmas
+pub mod MendLemmas

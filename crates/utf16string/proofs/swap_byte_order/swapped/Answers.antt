@@ -1,5 +1,0 @@
-use Rattle.utf16string.proofs.SwapLemmas.{swapped-picked}
-use Rattle.utf16string.proofs.swap_byte_order.swapped.Goals as goal
-
-pub returns : goal.returns
-returns c = swapped-picked 32 c.args.block c.args.block c.fits-block.0
