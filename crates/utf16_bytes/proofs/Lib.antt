@@ -1,2 +1,3 @@
 pub mod SwapLemmas
+pub mod TextLemmas
 pub mod MendLemmas

@@ -17,12 +17,7 @@ use Rattle.utf16_units.proofs.IllFormedLemmas.{IsUtf16ValidUpTo-unique}
 use Rattle.utf16_units.proofs.RecipeLemmas.{lossy_char-lone_item, lossy_chars-good, split_text, two}
 use Rattle.utf16_units.proofs.SplitIllFormed.{AreBytes-drop, lone_item, split_items-fault, split_items-incomplete, split_tail-fault, split_tail-incomplete}
 use Rattle.utf16_bytes.specs.Unpaired.{lone_items, lone_tail, unpaired}
-
--- the text of items before others
-whole_lossy_chars-append : (items more : List Item) (tail : List ℕ) → whole_lossy_chars (items ++ more) tail ≡ lossy_chars items ++ whole_lossy_chars more tail
-whole_lossy_chars-append items more [] = map-append lossy_char items more
-whole_lossy_chars-append items more (first ∷ after) =
-    ap (λ t. t ++ 0xFFFD ∷ []) (map-append lossy_char items more) ∙ append_assoc (lossy_chars items) (lossy_chars more) (0xFFFD ∷ [])
+use Rattle.utf16_bytes.proofs.TextLemmas.{nil_text, well_formed_text, whole_lossy_chars-append, whole_lossy_chars-lone}
 
 -- characters are no unpaired surrogates
 lone_items-good : (text : List ℕ) (items : List Item) → lone_items (map good text ++ items) ≡ lone_items items
@@ -38,26 +33,12 @@ lone_items-lone unit items = by_class (is_high_surrogate unit) where
   by_class true = refl
   by_class false = refl
 
--- its character is U+FFFD
-whole_lossy_chars-lone : (unit : ℕ) (items : List Item) (tail : List ℕ) → whole_lossy_chars (lone_item unit ∷ items) tail ≡ 0xFFFD ∷ whole_lossy_chars items tail
-whole_lossy_chars-lone unit items [] = ap (λ c. c ∷ lossy_chars items) (lossy_char-lone_item unit)
-whole_lossy_chars-lone unit items (first ∷ after) = ap (λ c. c ∷ (lossy_chars items ++ 0xFFFD ∷ [])) (lossy_char-lone_item unit)
-
--- nothing has no text, and no unpaired surrogate
-nil_text : (big : Bool) → lossy_text big [] ≡ []
-unfolding split_items split_tail
-nil_text big = refl
-
+-- nothing has no unpaired surrogate
 nil_unpaired : (big : Bool) → unpaired big [] ≡ lone_items []
 unfolding lone_items split_items split_tail
 nil_unpaired big = refl
 
--- well-formed bytes have their text, and no unpaired surrogate
-well_formed_text : (big : Bool) (bytes : List ℕ) → IsUtf16 big bytes → lossy_text big bytes ≡ text_of big bytes
-well_formed_text big bytes text =
-    let split = split_text big (text_of big bytes) bytes (Encodes-text_of big bytes text) in
-    ap₂ whole_lossy_chars split.0 split.1 ∙ lossy_chars-good (text_of big bytes)
-
+-- well-formed bytes have no unpaired surrogate
 well_formed_unpaired : (big : Bool) (bytes : List ℕ) → IsUtf16 big bytes → unpaired big bytes ≡ 0
 unfolding lone_items
 well_formed_unpaired big bytes text =

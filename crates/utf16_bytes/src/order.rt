@@ -1,0 +1,55 @@
+//! Comparison of any bytes by the scalar values of their text.
+
+ghost use Rattle.std.specs.Prelude.{◌≡◌, ◌↔◌};
+ghost use Rattle.std.specs.Cmp.Lexicographic.{slice_cmp};
+ghost use Rattle.std.specs.Ordering.{nat_cmp};
+ghost use Rattle.std.specs.declared.cmp.Ordering.TheVariants.{Equal, Greater, Less};
+ghost use Rattle.utf16_units.specs.Split.{lossy_text};
+ghost use Rattle.utf16_units.specs.TextOrder.{IsBefore};
+
+use crate::first::first_lossy;
+use std::cmp::Ordering;
+use utf16_units::Utf16Order;
+
+/// Compares two texts by their scalar values, the first in byte order `E`, the second in byte order
+/// `F`. Any bytes are allowed: an unpaired surrogate, and an incomplete character at the end, is
+/// U+FFFD.
+///
+/// # Complexity
+///
+/// Reads both up to the first character that differs.
+pub fn compare<E: Utf16Order, F: Utf16Order>(first: &[u8], second: &[u8]) -> Ordering
+    ensures less { result ≡ Less
+        ↔ IsBefore (lossy_text E.BIG first.now) (lossy_text F.BIG second.now) }
+    ensures equal { result ≡ Equal
+        ↔ (lossy_text E.BIG first.now ≡ lossy_text F.BIG second.now) }
+    ensures greater { result ≡ Greater
+        ↔ IsBefore (lossy_text F.BIG second.now) (lossy_text E.BIG first.now) }
+    ensures computed { result ≡ slice_cmp nat_cmp (lossy_text E.BIG first.now)
+        (lossy_text F.BIG second.now) }
+{
+    compare_chars::<E, F>(first, second)
+}
+
+// Does the same, character by character.
+fn compare_chars<E: Utf16Order, F: Utf16Order>(first: &[u8], second: &[u8]) -> Ordering
+    ensures { result ≡ slice_cmp nat_cmp (lossy_text E.BIG first.now)
+        (lossy_text F.BIG second.now) }
+{
+    let mut rest = first;
+    let mut other = second;
+    loop {
+        match (first_lossy::<E>(rest), first_lossy::<F>(other)) {
+            (None, None) => return Ordering::Equal,
+            (None, Some(_)) => return Ordering::Less,
+            (Some(_), None) => return Ordering::Greater,
+            (Some((c, len)), Some((d, other_len))) => {
+                if c != d {
+                    return c.cmp(&d);
+                }
+                rest = &rest[len..];
+                other = &other[other_len..];
+            }
+        }
+    }
+}
