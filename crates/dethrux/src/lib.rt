@@ -6,6 +6,8 @@
 mod bom;
 mod byte_order;
 mod decoder;
+mod in_place;
+mod order;
 mod results;
 mod utf8_decoder;
 mod version;

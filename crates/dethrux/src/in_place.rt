@@ -1,0 +1,41 @@
+//! Bytes of UTF-16 rewritten in place.
+
+ghost use Rattle.std.specs.Prelude.{◌≡◌, ◌*◌, ◌/◌, ◌++◌, ℕ, Bool, List, not, length, take, drop};
+ghost use Rattle.utf16_units.specs.Encoding.{Encodes, encode};
+ghost use Rattle.utf16_units.specs.Laws.{swap_bytes};
+ghost use Rattle.utf16_units.specs.Split.{lossy_text};
+ghost use Rattle.utf16_bytes.specs.Unpaired.{unpaired};
+ghost use Rattle.dethrux.specs.Numbers.{is_big};
+
+use crate::byte_order::is_big_endian;
+use utf16_bytes::{make_well_formed, swap_byte_order};
+use utf16_units::{BE, LE};
+
+/// Swaps the two bytes of each code unit in place: UTF-16 becomes the same text in the other byte
+/// order. An odd byte at the end stays. One pass.
+#[unsafe(no_mangle)]
+pub extern "C" fn dethrux_swap_byte_order(utf16: &mut [u8])
+    ensures swapped { utf16.new ≡ swap_bytes utf16.old }
+    ensures text { (big : Bool) (text : List ℕ) → Encodes big text utf16.old
+        → Encodes (not big) text utf16.new }
+{
+    swap_byte_order(utf16);
+}
+
+/// Replaces each unpaired surrogate by U+FFFD in place, and returns how many there were. The whole
+/// code units are well formed then. A leading surrogate at the end is unpaired; an odd byte at the
+/// end stays. In linear time.
+#[unsafe(no_mangle)]
+pub extern "C" fn dethrux_make_well_formed(byte_order: u32, utf16: &mut [u8]) -> usize
+    ensures bytes { utf16.new
+        ≡ encode (is_big byte_order) (lossy_text (is_big byte_order)
+        (take (length utf16.old / 2 * 2) utf16.old)) ++ drop (length utf16.old / 2 * 2) utf16.old }
+    ensures count { result
+        ≡ unpaired (is_big byte_order) (take (length utf16.old / 2 * 2) utf16.old) }
+{
+    if is_big_endian(byte_order) {
+        make_well_formed::<BE>(utf16)
+    } else {
+        make_well_formed::<LE>(utf16)
+    }
+}
