@@ -37,7 +37,7 @@ FirstItem-more bytes more char n first =
     }
 
 -- a character before other bytes
-FirstItem-char : (front rest : List ℕ) (c : ℕ) → IsScalar c → encode_utf8 c ≡ front → FirstItem (front ++ rest) c (length front)
+pub FirstItem-char : (front rest : List ℕ) (c : ℕ) → IsScalar c → encode_utf8 c ≡ front → FirstItem (front ++ rest) c (length front)
 FirstItem-char front rest c scalar spelled =
     let text = subst (λ b. IsUtf8 b) spelled (IsUtf8-encode c scalar) in
     let chars_is = ap chars (sym spelled) ∙ chars-char c scalar in
@@ -99,10 +99,8 @@ module _ (x y z w : ℕ) where
     pub second : IsSecond x y
     second = grind (arith, nat_tests)
 
-    pub two : x < 0xE0 → FirstItem bytes ((x - 192) * 64 + (y - 128)) 2
-    two short =
-        let are = two_spelled x y from short (second_follows x y second) in
-        FirstItem-char (x ∷ y ∷ []) (z ∷ w ∷ []) ((x - 192) * 64 + (y - 128)) are.scalar are.spelled
+    pub two : x < 0xE0 → encode_utf8 ((x - 192) * 64 + (y - 128)) ≡ x ∷ y ∷ []
+    two short = (two_spelled x y from short (second_follows x y second)).spelled
 
     module _ (long : 0xE0 ≤ x) where
       pub no_third : is_in_range 0x80 0xBF z ≡ false → FirstItem bytes 0xFFFD 2
@@ -112,18 +110,15 @@ module _ (x y z w : ℕ) where
         third : Follows z
         third = follows z is_third
 
-        pub three : x < 0xF0 → FirstItem bytes ((x - 224) * 4096 + (y - 128) * 64 + (z - 128)) 3
-        three short =
-            let are = three_spelled x y z long short second third in
-            FirstItem-char (x ∷ y ∷ z ∷ []) (w ∷ []) ((x - 224) * 4096 + (y - 128) * 64 + (z - 128)) are.scalar are.spelled
+        pub three : x < 0xF0 → encode_utf8 ((x - 224) * 4096 + (y - 128) * 64 + (z - 128)) ≡ x ∷ y ∷ z ∷ []
+        three short = (three_spelled x y z long short second third).spelled
 
         pub no_fourth : 0xF0 ≤ x → is_in_range 0x80 0xBF w ≡ false → FirstItem bytes 0xFFFD 3
         no_fourth longer bad = FirstItem-part (x ∷ y ∷ z ∷ []) (w ∷ []) (bad_fourth x y z w [] longer to second third (follows_not w bad))
 
-        pub four : 0xF0 ≤ x → is_in_range 0x80 0xBF w ≡ true → FirstItem bytes ((x - 240) * 262144 + (y - 128) * 4096 + (z - 128) * 64 + (w - 128)) 4
-        four longer fourth =
-            let are = four_spelled x y z w longer to second third (follows w fourth) in
-            FirstItem-char (x ∷ y ∷ z ∷ w ∷ []) [] ((x - 240) * 262144 + (y - 128) * 4096 + (z - 128) * 64 + (w - 128)) are.scalar are.spelled
+        pub four : 0xF0 ≤ x → is_in_range 0x80 0xBF w ≡ true
+            → encode_utf8 ((x - 240) * 262144 + (y - 128) * 4096 + (z - 128) * 64 + (w - 128)) ≡ x ∷ y ∷ z ∷ w ∷ []
+        four longer fourth = (four_spelled x y z w longer to second third (follows w fourth)).spelled
 
 -- four bytes, and those after them
 four_at : (bytes : List ℕ) (i : ℕ) → i + 4 ≤ length bytes

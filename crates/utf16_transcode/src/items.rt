@@ -1,9 +1,9 @@
 //! UTF-8 item by item: a character, or a maximal subpart of an ill-formed subsequence, at a time.
 
 ghost use Rattle.std.specs.Prelude.{◌≡◌, [], ◌∷◌};
-ghost use Rattle.std.specs.Int.{is_in_range};
 ghost use Rattle.utf16_transcode.specs.Utf8Stream.{DecodesUtf8To, FirstItem};
 
+use crate::chars::{char_of_four, char_of_three, char_of_two, is_continuation};
 use crate::utf16::{can_begin, put_char};
 use utf16_units::Utf16Order;
 
@@ -49,32 +49,16 @@ fn first_item(lead: u8, second: u8, third: u8, fourth: u8) -> (char, usize)
         return (c, 1);
     }
     if lead < 0xE0 {
-        let code = (lead as u32 - 0xC0) * 0x40 + (second as u32 - 0x80);
-        return (unsafe { char::from_u32_unchecked(code) }, 2);
+        return (char_of_two(lead, second), 2);
     }
     if !is_continuation(third) {
         return (char::REPLACEMENT_CHARACTER, 2);
     }
     if lead < 0xF0 {
-        let code = (lead as u32 - 0xE0) * 0x1000
-            + (second as u32 - 0x80) * 0x40
-            + (third as u32 - 0x80);
-        return (unsafe { char::from_u32_unchecked(code) }, 3);
+        return (char_of_three(lead, second, third), 3);
     }
     if !is_continuation(fourth) {
         return (char::REPLACEMENT_CHARACTER, 3);
     }
-    let code = (lead as u32 - 0xF0) * 0x4_0000
-        + (second as u32 - 0x80) * 0x1000
-        + (third as u32 - 0x80) * 0x40
-        + (fourth as u32 - 0x80);
-    (unsafe { char::from_u32_unchecked(code) }, 4)
-}
-
-// Whether a byte can be the third or fourth of a character (Unicode Standard, table 3-7).
-#[inline(always)]
-fn is_continuation(byte: u8) -> bool
-    ensures { result ≡ is_in_range 0x80 0xBF byte }
-{
-    (0x80..=0xBF).contains(&byte)
+    (char_of_four(lead, second, third, fourth), 4)
 }

@@ -3,6 +3,7 @@
 //! result.
 #![tactic(auto)]
 
+mod chars;
 mod encode;
 mod items;
 mod sizes;

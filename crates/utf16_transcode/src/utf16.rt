@@ -10,6 +10,7 @@ ghost use Rattle.utf16_transcode.specs.FromUtf8.{TranscodesToUtf16, IsIllFormedU
 ghost use Rattle.utf16_decode.specs.Wrote.{Wrote};
 ghost use Rattle.utf16_decode.specs.Stops.{BeginsWith};
 
+use crate::chars::{char_of_four, char_of_three, char_of_two, is_continuation};
 use crate::valid::valid_prefix;
 use std::marker::PhantomData;
 use utf16_decode::{Direction, Progress, transcode};
@@ -174,7 +175,7 @@ pub(crate) fn can_begin(lead: u8, second: u8) -> bool
 }
 
 // Returns the first character and its length in bytes, or the `error_len` of what is there instead.
-#[inline]
+#[inline(always)]
 fn first_char(rest: &[u8]) -> Result<(char, usize), Option<u8>>
     requires { 0 < length rest.now }
     ensures char { IfOk result (λ first. BeginsWith encode_utf8 rest.now first.0 first.1) }
@@ -184,23 +185,26 @@ fn first_char(rest: &[u8]) -> Result<(char, usize), Option<u8>>
     if lead < 0x80 {
         return Ok((lead as char, 1));
     }
-    let len = if lead < 0xE0 {
-        2
-    } else if lead < 0xF0 {
-        3
-    } else {
-        4
-    };
-    if rest.len() >= len
-        && can_begin(lead, rest[1])
-        && let Ok(text) = str::from_utf8(&rest[..len])
-    {
-        return Ok(first_of(text));
+    if rest.len() < 2 || !can_begin(lead, rest[1]) {
+        return first_of_four(rest);
     }
-    first_of_four(rest)
+    if lead < 0xE0 {
+        return Ok((char_of_two(lead, rest[1]), 2));
+    }
+    if rest.len() < 3 || !is_continuation(rest[2]) {
+        return first_of_four(rest);
+    }
+    if lead < 0xF0 {
+        return Ok((char_of_three(lead, rest[1], rest[2]), 3));
+    }
+    if rest.len() < 4 || !is_continuation(rest[3]) {
+        return first_of_four(rest);
+    }
+    Ok((char_of_four(lead, rest[1], rest[2], rest[3]), 4))
 }
 
-// Returns the same. Four bytes suffice for it.
+// Returns the same. Four bytes suffice for it. A function of its own, since few inputs need it.
+#[inline(never)]
 fn first_of_four(rest: &[u8]) -> Result<(char, usize), Option<u8>>
     requires { 0 < length rest.now }
     ensures char { IfOk result (λ first. BeginsWith encode_utf8 rest.now first.0 first.1) }

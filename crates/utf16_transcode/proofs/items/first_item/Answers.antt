@@ -1,6 +1,5 @@
-use Rattle.std.proofs.Common.{◌∙◌, [], ◌∷◌, sym, subst}
-use Rattle.utf16_transcode.specs.Utf8Stream.{FirstItem}
-use Rattle.utf16_transcode.proofs.ItemLemmas.{ascii, four, no_fourth, no_start, no_third, three, two}
+use Rattle.std.proofs.Common.{◌∙◌, [], ◌∷◌, sym, rules}
+use Rattle.utf16_transcode.proofs.ItemLemmas.{FirstItem-char, ascii, no_fourth, no_start, no_third}
 use Rattle.utf16_transcode.proofs.items.first_item.Goals as goal
 
 pub returns-then-lead-lt128 : goal.returns-then-lead-lt128
@@ -12,8 +11,7 @@ returns-else-lead-lt128 c = no_start _ _ _ _ c.if-lead-lt128.false (sym c.can_be
 pub returns-then-lead-lt224 : goal.returns-then-lead-lt224
 returns-then-lead-lt224 c =
     let a = c.args in
-    let begins = sym c.can_begin.ensures ∙ c.if-not-can_begin.false in
-    subst (λ k. FirstItem (a.lead ∷ a.second ∷ a.third ∷ a.fourth ∷ []) k 2) (sym c.from_u32_unchecked.ensures) (two a.lead a.second a.third a.fourth begins c.if-lead-lt224.true)
+    FirstItem-char (a.lead ∷ a.second ∷ []) (a.third ∷ a.fourth ∷ []) c.char_of_two.result (search rules) c.char_of_two.ensures
 
 pub returns-then-not-is_continuation : goal.returns-then-not-is_continuation
 returns-then-not-is_continuation c =
@@ -24,9 +22,7 @@ returns-then-not-is_continuation c =
 pub returns-then-lead-lt240 : goal.returns-then-lead-lt240
 returns-then-lead-lt240 c =
     let a = c.args in
-    let begins = sym c.can_begin.ensures ∙ c.if-not-can_begin.false in
-    let third = sym c.is_continuation.ensures ∙ c.if-not-is_continuation.false in
-    subst (λ k. FirstItem (a.lead ∷ a.second ∷ a.third ∷ a.fourth ∷ []) k 3) (sym c.from_u32_unchecked-then-lead-lt240.ensures) (three a.lead a.second a.third a.fourth begins c.if-lead-lt224.false third c.if-lead-lt240.true)
+    FirstItem-char (a.lead ∷ a.second ∷ a.third ∷ []) (a.fourth ∷ []) c.char_of_three.result (search rules) c.char_of_three.ensures
 
 pub returns-then-not-is_continuation-2 : goal.returns-then-not-is_continuation-2
 returns-then-not-is_continuation-2 c =
@@ -38,7 +34,4 @@ returns-then-not-is_continuation-2 c =
 pub returns : goal.returns
 returns c =
     let a = c.args in
-    let begins = sym c.can_begin.ensures ∙ c.if-not-can_begin.false in
-    let third = sym c.is_continuation.ensures ∙ c.if-not-is_continuation.false in
-    let fourth = sym c.is_continuation-2.ensures ∙ c.if-not-is_continuation-2.false in
-    subst (λ k. FirstItem (a.lead ∷ a.second ∷ a.third ∷ a.fourth ∷ []) k 4) (sym c.from_u32_unchecked-2.ensures) (four a.lead a.second a.third a.fourth begins c.if-lead-lt224.false third c.if-lead-lt240.false fourth)
+    FirstItem-char (a.lead ∷ a.second ∷ a.third ∷ a.fourth ∷ []) [] c.char_of_four.result (search rules) c.char_of_four.ensures
