@@ -73,6 +73,11 @@ pub trait Direction {
         ensures char { IfOk result (λ first. BeginsWith from rest.now first.0 first.1) }
         ensures ill_formed { IfErr result (IsIllFormedAt rest.now) };
 
+    /// Returns the first character and its length in bytes, perhaps `None`: a call that makes no
+    /// other calls, for the characters that are frequent.
+    fn usual_char(rest: &[u8]) -> Option<(char, usize)>
+        ensures { IfSome result (λ first. BeginsWith from rest.now first.0 first.1) };
+
     /// Writes a character in the second encoding at `at`, and returns where it ends; `None` if it
     /// does not fit. The bytes after it may be overwritten.
     ///
@@ -140,7 +145,45 @@ pub trait Direction {
 
 /// Writes the longest valid prefix in the second encoding to the start of a buffer, as far as whole
 /// characters fit.
+#[inline(always)]
 pub fn transcode<D: Direction>(input: &[u8], to: &mut [u8]) -> Progress
+    ensures wrote { Wrote (Gives D.IsValid D.other) input.now to.new result.read result.written }
+    ensures stop { Stops D.from D.into D.IsIllFormed input.now result.read
+        (length to.new - result.written) result.stop }
+{
+    if input.len() < BY_CHARS
+        && let Some(written) = put_usual::<D>(input, to)
+    {
+        return Progress {
+            read: input.len(),
+            written,
+            stop: Stop::Done,
+        };
+    }
+    transcode_many::<D>(input, to)
+}
+
+// Writes the whole input character by character, and returns where the written bytes end; `None` if
+// it is not all usual characters that fit.
+#[inline(always)]
+fn put_usual<D: Direction>(input: &[u8], to: &mut [u8]) -> Option<usize>
+    ensures { IfSome result (Wrote (Gives D.IsValid D.other) input.now to.new (length input.now)) }
+{
+    D::laws();
+    let mut read = 0;
+    let mut written = 0;
+    while read < input.len() {
+        let (c, len) = D::usual_char(&input[read..])?;
+        written = D::put_char(c, to, written)?;
+        read += len;
+    }
+    Some(written)
+}
+
+// Does the same, as much at once as surely fits. A function of its own, so that short
+// inputs do not pay for its registers.
+#[inline(never)]
+fn transcode_many<D: Direction>(input: &[u8], to: &mut [u8]) -> Progress
     ensures wrote { Wrote (Gives D.IsValid D.other) input.now to.new result.read result.written }
     ensures stop { Stops D.from D.into D.IsIllFormed input.now result.read
         (length to.new - result.written) result.stop }

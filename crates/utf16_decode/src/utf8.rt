@@ -22,6 +22,7 @@ use utf16_units::{Utf16Order, first_char_len, validate_raw_utf16};
 /// # Complexity
 ///
 /// Linear time in the number of bytes read.
+#[inline(always)]
 pub fn to_utf8<E: Utf16Order>(raw: &[u8], to: &mut [u8]) -> Progress
     ensures wrote { Wrote (TranscodesToUtf8 E.BIG) raw.now to.new result.read result.written }
     ensures stop { StopsDecoding E.BIG raw.now result.read (length to.new - result.written)
@@ -63,6 +64,18 @@ impl<E: Utf16Order> Direction for ToUtf8<E> {
     fn first_char(rest: &[u8]) -> Result<(char, usize), Option<u8>> {
         let len = first_char_len::<E>(rest)?;
         Ok(first_char::<E>(&rest[..len]))
+    }
+
+    #[inline(always)]
+    fn usual_char(rest: &[u8]) -> Option<(char, usize)> {
+        if rest.len() < 2 {
+            return None;
+        }
+        let unit = E::read_unit([rest[0], rest[1]]);
+        if unit / 0x800 == 0x1B {
+            return None;
+        }
+        Some((unsafe { char::from_u32_unchecked(unit as u32) }, 2))
     }
 
     #[inline(always)]

@@ -1,6 +1,6 @@
 //! UTF-8 to UTF-16, up to the first ill-formed sequence.
 
-ghost use Rattle.std.specs.Prelude.{◌≡◌, ◌&&◌, ◌+◌, ◌-◌, ◌*◌, ◌<◌, ◌≤◌, ◌++◌, IfErr, IfOk, length, take};
+ghost use Rattle.std.specs.Prelude.{◌≡◌, ◌&&◌, ◌+◌, ◌-◌, ◌*◌, ◌<◌, ◌≤◌, ◌++◌, IfErr, IfOk, IfSome, length, take};
 ghost use Rattle.std.specs.Char.{encode_utf8};
 ghost use Rattle.std.specs.Int.{is_in_range};
 ghost use Rattle.std.specs.Str.{IsUtf8, chars};
@@ -31,6 +31,7 @@ const GROWTH: usize = 8;
 /// # Complexity
 ///
 /// Linear time in the number of bytes read.
+#[inline(always)]
 pub fn from_utf8<E: Utf16Order>(text: &[u8], to: &mut [u8]) -> Progress
     ensures wrote { Wrote (TranscodesToUtf16 E.BIG) text.now to.new result.read result.written }
     ensures stop { StopsEncoding E.BIG text.now result.read (length to.new - result.written)
@@ -68,6 +69,11 @@ impl<E: Utf16Order> Direction for FromUtf8<E> {
     #[inline(always)]
     fn first_char(rest: &[u8]) -> Result<(char, usize), Option<u8>> {
         first_char(rest)
+    }
+
+    #[inline(always)]
+    fn usual_char(rest: &[u8]) -> Option<(char, usize)> {
+        usual_char(rest)
     }
 
     #[inline(always)]
@@ -175,35 +181,49 @@ pub(crate) fn can_begin(lead: u8, second: u8) -> bool
 }
 
 // Returns the first character and its length in bytes, or the `error_len` of what is there instead.
-#[inline(always)]
+#[inline]
 fn first_char(rest: &[u8]) -> Result<(char, usize), Option<u8>>
     requires { 0 < length rest.now }
     ensures char { IfOk result (λ first. BeginsWith encode_utf8 rest.now first.0 first.1) }
     ensures ill_formed { IfErr result (IsIllFormedUtf8At rest.now) }
 {
-    let lead = rest[0];
-    if lead < 0x80 {
-        return Ok((lead as char, 1));
+    match usual_char(rest) {
+        Some(first) => Ok(first),
+        None => first_of_four(rest),
     }
-    if rest.len() < 2 || !can_begin(lead, rest[1]) {
-        return first_of_four(rest);
-    }
-    if lead < 0xE0 {
-        return Ok((char_of_two(lead, rest[1]), 2));
-    }
-    if rest.len() < 3 || !is_continuation(rest[2]) {
-        return first_of_four(rest);
-    }
-    if lead < 0xF0 {
-        return Ok((char_of_three(lead, rest[1], rest[2]), 3));
-    }
-    if rest.len() < 4 || !is_continuation(rest[3]) {
-        return first_of_four(rest);
-    }
-    Ok((char_of_four(lead, rest[1], rest[2], rest[3]), 4))
 }
 
-// Returns the same. Four bytes suffice for it. A function of its own, since few inputs need it.
+// Returns the first character and its length in bytes; `None` if there is none.
+#[inline(always)]
+fn usual_char(rest: &[u8]) -> Option<(char, usize)>
+    ensures { IfSome result (λ first. BeginsWith encode_utf8 rest.now first.0 first.1) }
+{
+    if rest.is_empty() {
+        return None;
+    }
+    let lead = rest[0];
+    if lead < 0x80 {
+        return Some((lead as char, 1));
+    }
+    if rest.len() < 2 || !can_begin(lead, rest[1]) {
+        return None;
+    }
+    if lead < 0xE0 {
+        return Some((char_of_two(lead, rest[1]), 2));
+    }
+    if rest.len() < 3 || !is_continuation(rest[2]) {
+        return None;
+    }
+    if lead < 0xF0 {
+        return Some((char_of_three(lead, rest[1], rest[2]), 3));
+    }
+    if rest.len() < 4 || !is_continuation(rest[3]) {
+        return None;
+    }
+    Some((char_of_four(lead, rest[1], rest[2], rest[3]), 4))
+}
+
+// Does the same as `first_char`. Four bytes suffice for it. A function of its own, since few inputs need it.
 #[inline(never)]
 fn first_of_four(rest: &[u8]) -> Result<(char, usize), Option<u8>>
     requires { 0 < length rest.now }
