@@ -25,9 +25,6 @@ const FEW_BUFFER_LEN: usize = 176;
 // Texts of at least so many bytes, and all others that fit, are written directly to their place.
 const MANY: usize = 256;
 
-// At least so many bytes are validated while they are written, as far as that goes.
-const MANY_AT_ONCE: usize = 128;
-
 // Fewer bytes than these are written character by character, and fewer than these that surely fit,
 // if they are not all.
 const VERY_FEW: usize = 8;
@@ -37,6 +34,12 @@ const BY_CHARS: usize = 16;
 /// One of the two directions: how the bytes of one encoding are validated, and how a text is
 /// written in the other.
 pub trait Direction {
+    /// Inputs of fewer bytes than this are first tried character by character.
+    const SHORT_LEN: usize;
+
+    /// At least so many bytes are validated while they are written, as far as that goes.
+    const FRONT_LEN: usize;
+
     // The bytes of a character in the first encoding, and in the second.
     ghost from: { ℕ → List ℕ };
 
@@ -72,6 +75,13 @@ pub trait Direction {
         requires { 0 < length rest.now }
         ensures char { IfOk result (λ first. BeginsWith from rest.now first.0 first.1) }
         ensures ill_formed { IfErr result (IsIllFormedAt rest.now) };
+
+    /// Begins to write a short input at the start of a buffer, perhaps with nothing, and returns the
+    /// number of bytes read and the number of bytes written; `None` if the input is not to be written
+    /// character by character.
+    fn begin_short(input: &[u8], to: &mut [u8]) -> Option<(usize, usize)>
+        ensures { IfSome result (λ begun.
+            Wrote (Gives IsValid other) input.now to.new begun.0 begun.1) };
 
     /// Returns the first character and its length in bytes, perhaps `None`: a call that makes no
     /// other calls, for the characters that are frequent.
@@ -151,7 +161,7 @@ pub fn transcode<D: Direction>(input: &[u8], to: &mut [u8]) -> Progress
     ensures stop { Stops D.from D.into D.IsIllFormed input.now result.read
         (length to.new - result.written) result.stop }
 {
-    if input.len() < BY_CHARS
+    if input.len() < D::SHORT_LEN
         && let Some(written) = put_usual::<D>(input, to)
     {
         return Progress {
@@ -170,8 +180,7 @@ fn put_usual<D: Direction>(input: &[u8], to: &mut [u8]) -> Option<usize>
     ensures { IfSome result (Wrote (Gives D.IsValid D.other) input.now to.new (length input.now)) }
 {
     D::laws();
-    let mut read = 0;
-    let mut written = 0;
+    let (mut read, mut written) = D::begin_short(input, to)?;
     while read < input.len() {
         let (c, len) = D::usual_char(&input[read..])?;
         written = D::put_char(c, to, written)?;
@@ -243,7 +252,7 @@ fn put_many<D: Direction>(rest: &[u8], before: usize, to: &mut [u8], at: usize) 
     ensures { Puts (Gives D.IsValid D.other) rest.now to.old to.new at result.0 result.1 }
 {
     D::laws();
-    if rest.len() < MANY_AT_ONCE {
+    if rest.len() < D::FRONT_LEN {
         return put_valid::<D>(rest, before, to, at);
     }
     let (read, written) = put_front::<D>(rest, to, at);

@@ -10,7 +10,7 @@ ghost use Rattle.utf16_decode.specs.Stops.{IsIllFormedUtf16, StopsDecoding};
 use crate::direction::{Direction, transcode};
 use crate::progress::{Progress, put};
 use std::marker::PhantomData;
-use utf16_to_utf8::{SLACK, write_before_surrogates, write_utf8};
+use utf16_to_utf8::{SLACK, write_before_surrogates, write_eight_ascii, write_utf8};
 use utf16_units::ends::first_char;
 use utf16_units::text::has_ascii_units;
 use utf16_units::{Utf16Order, first_char_len, validate_raw_utf16};
@@ -35,6 +35,10 @@ pub fn to_utf8<E: Utf16Order>(raw: &[u8], to: &mut [u8]) -> Progress
 struct ToUtf8<E: Utf16Order>(PhantomData<E>);
 
 impl<E: Utf16Order> Direction for ToUtf8<E> {
+    const SHORT_LEN: usize = 32;
+
+    const FRONT_LEN: usize = 128;
+
     ghost from = { char_bytes E.BIG };
 
     ghost into = { encode_utf8 };
@@ -64,6 +68,17 @@ impl<E: Utf16Order> Direction for ToUtf8<E> {
     fn first_char(rest: &[u8]) -> Result<(char, usize), Option<u8>> {
         let len = first_char_len::<E>(rest)?;
         Ok(first_char::<E>(&rest[..len]))
+    }
+
+    #[inline(always)]
+    fn begin_short(input: &[u8], to: &mut [u8]) -> Option<(usize, usize)> {
+        if input.len() < 16 {
+            return Some((0, 0));
+        }
+        if to.len() >= 8 && write_eight_ascii::<E>(input, to) {
+            return Some((16, 8));
+        }
+        None
     }
 
     #[inline(always)]

@@ -1,7 +1,7 @@
 -- Bounds on the units of a block, by the greatest and the least of its lanes.
 use Rattle.std.proofs.Common.{◌≡◌, ℕ, ◌+◌, ◌-◌, ◌*◌, ◌^◌, ◌<◌, ◌≤◌, ◌⊎◌, Bool, true, false, cond, ltb, ltb-true, ltb-false, ⊎_elim, inl, inr, List, [], ◌∷◌, ◌++◌, All, length, map, get_or, slice_index, refl, sym, ap, ap₂, ◌∙◌, subst, arith}
 use Rattle.std.proofs.lemmas.Bool.{cases_lt}
-use Rattle.std.proofs.lemmas.List.Elements.{All-append, All-cons, All-from_get_or, All-get_or, All-nil}
+use Rattle.std.proofs.lemmas.List.Elements.{All-append, All-cons, All-from_get_or, All-get_or, All-head, All-nil, All-tail}
 use Rattle.std.proofs.lemmas.Simd.{get_or-sel_l, get_or-zip2, length-sel_l, length-zip2, tops_compared}
 use Rattle.std.proofs.Math.Nat.{two-pow-succ}
 use lib.Lanes.{chunk, mask_l, sel_l, top, zip2}
@@ -46,6 +46,14 @@ all_by_bits p P passed (x ∷ xs) e =
     first : (b : Bool) (m k : ℕ) → cond b 1 0 + 2 * m + 1 ≡ 2 * k → (b ≡ true) × (m + 1 ≡ k)
     first true m k e = (refl, omega arith)
     first false m k e = absurd (omega arith)
+
+-- and where each element passes, each bit is set
+pub bits_of_all : (p : ℕ → Bool) (P : ℕ → Type 0) → ((x : ℕ) → P x → p x ≡ true) → (xs : List ℕ) → All P xs → mask_l (map p xs) + 1 ≡ 2 ^ length xs
+bits_of_all p P passes [] all = refl
+bits_of_all p P passes (x ∷ xs) all =
+    let here = passes x (All-head P x xs all) in
+    let more = bits_of_all p P passes xs (All-tail P x xs all) in
+    ap (λ b. cond b 1 0 + 2 * mask_l (map p xs) + 1) here ∙ omega (arith, more, two-pow-succ (length xs))
 
 -- ---- all lanes of the greater or of the lesser ones
 

@@ -1,13 +1,15 @@
 -- Blocks without surrogates, and what was written of them.
-use Rattle.std.proofs.Common.{◌≡◌, ℕ, ◌+◌, ◌<◌, ◌≤◌, Bool, false, List, [], ◌∷◌, ◌++◌, length, take, drop, slice_index, refl, sym, ap, ◌∙◌, subst, ⊎_elim, inl, inr, arith, append_assoc, Fits, w8, w16, length-append, le-ltb}
+use Rattle.std.proofs.Common.{◌≡◌, ℕ, All, ◌+◌, ◌<◌, ◌≤◌, Bool, false, List, [], ◌∷◌, ◌++◌, length, take, drop, slice_index, refl, sym, ap, ◌∙◌, subst, ⊎_elim, inl, inr, arith, append_assoc, Fits, w8, w16, length-append, le-ltb}
 use Rattle.std.proofs.Math.Seq.{take-append_seam}
 use Rattle.std.proofs.lemmas.Bool.{cases_lt, false_from_ne_true, false≢true, le-leb, lt-leb}
 use Rattle.std.proofs.lemmas.List.{get_or-drop}
-use Rattle.std.proofs.lemmas.List.Elements.{All-from_get_or}
+use Rattle.std.proofs.lemmas.List.Elements.{All-from_get_or, All-weaker}
 use Rattle.std.proofs.lemmas.Simd.{Each1-from_get_or, Each1-get_or}
 use lib.Lanes.{Each1}
 use Rattle.utf16_units.specs.Encoding.{IsUtf16, units_of, utf8_of}
 use Rattle.utf16_units.specs.Lanes.{HasNoSurrogate, IsNoSurrogate}
+use Rattle.utf16_units.proofs.PairLemmas.{PairedTo-next, PairedTo-none, PairedTo-text}
+use Rattle.utf16_units.proofs.PlainLemmas.{no_surrogate-paired}
 use Rattle.utf16_units.proofs.UnitsUpTo.{units_of-split}
 use Rattle.utf16_to_utf8.specs.Block.{AreOfKind, IsOfKind, IsPlain}
 use Rattle.utf16_to_utf8.specs.Cursor.{Reached}
@@ -80,3 +82,12 @@ written-text big raw out cursor fit reached text =
     let fit_back = units-fit big (drop cursor.at raw) (Each1-from_get_or (Fits w8) (drop cursor.at raw) 0 (λ k lt. subst (Fits w8) (sym (get_or-drop cursor.at raw k 0)) (fit (cursor.at + k)))) in
     fronts (take cursor.end out) (units_utf8 last back) (units_utf8 0 front) (units_utf8 all.0 back) same (length-units last back fit_back ∙ sym (length-units all.0 back fit_back))
     ∙ bytes-utf8 big (take cursor.at raw) text
+
+-- sixteen bytes of ASCII are a text
+pub ascii-text : (big : Bool) (raw : List ℕ) → ((k : ℕ) → Fits w8 (slice_index raw k)) → 16 ≤ length raw → All (λ u. u < 0x80) (units_of big (take 16 raw))
+    → IsUtf16 big (take 16 raw)
+ascii-text big raw fits long all =
+    let none : HasNoSurrogate (units_of big (take 16 raw)) =
+    All-weaker (λ u. u < 0x80) IsNoSurrogate (λ u low. plain-unit u (omega (arith, low)) (surrogate-no u (omega (arith, low)) (inl (omega (arith, low)))))
+    (units_of big (take 16 raw)) all in
+    PairedTo-text big raw 16 fits false refl (PairedTo-next big raw 0 16 false false (PairedTo-none big raw) refl long (no_surrogate-paired _ none))

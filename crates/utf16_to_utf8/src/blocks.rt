@@ -1,6 +1,6 @@
 //! A block of thirty-two code units: its kind, and the UTF-8 that it adds.
 
-ghost use Rattle.std.specs.Prelude.{◌≡◌, ◌+◌, ◌-◌, ◌/◌, ◌%◌, ◌<◌, ◌≤◌, ◌++◌, ◌==◌, ℕ, All, IsTrue, bit_and, length, map, replicate, slice_index, take};
+ghost use Rattle.std.specs.Prelude.{◌≡◌, ◌↔◌, ◌+◌, ◌-◌, ◌/◌, ◌%◌, ◌<◌, ◌≤◌, ◌++◌, ◌==◌, ℕ, All, IsTrue, bit_and, length, map, replicate, slice_index, take};
 ghost use Rattle.std.specs.Simd.Lanes.{chunk, mask_l};
 ghost use Rattle.utf16_units.specs.Encoding.{units_of};
 ghost use Rattle.utf16_units.specs.Lanes.{HasLanes};
@@ -59,7 +59,7 @@ pub(crate) fn are_below(units: u16x32, limit: u16) -> bool
 // Whether eight lanes are below a limit.
 #[inline(always)]
 pub(crate) fn lanes_below(lanes: u16x8, limit: u16) -> bool
-    ensures { IsTrue result → All (λ lane. lane < limit) lanes }
+    ensures { IsTrue result ↔ All (λ lane. lane < limit) lanes }
 {
     lanes.simd_lt(u16x8::splat(limit)).to_bitmask() == 0xFF
 }

@@ -1,7 +1,7 @@
 //! Writes eight units at once, in short texts and behind the last block of a text.
 
-ghost use Rattle.std.specs.Prelude.{◌≡◌, ◌+◌, ◌-◌, ◌*◌, ◌/◌, ◌%◌, ◌≤◌, ◌++◌, ℕ, drop, length, replicate, slice_index, take};
-ghost use Rattle.utf16_units.specs.Encoding.{units_of};
+ghost use Rattle.std.specs.Prelude.{◌≡◌, ◌↔◌, ◌+◌, ◌-◌, ◌*◌, ◌/◌, ◌%◌, ◌<◌, ◌≤◌, ◌++◌, ℕ, All, IsTrue, drop, false, length, replicate, slice_index, take};
+ghost use Rattle.utf16_units.specs.Encoding.{IsUtf16, units_of, utf8_of};
 ghost use Rattle.utf16_to_utf8.specs.Block.{AreOfKind};
 ghost use Rattle.utf16_to_utf8.specs.Cursor.{Reached};
 ghost use Rattle.utf16_to_utf8.specs.Lanes.{folded};
@@ -17,6 +17,36 @@ use crate::runs::Cursor;
 use crate::write::SLACK;
 use std::simd::prelude::*;
 use utf16_units::Utf16Order;
+
+/// Writes the first eight code units in UTF-8 to the start of `to` if they are ASCII, and returns
+/// whether they are.
+///
+/// The bytes of `to` after the first eight are unchanged, and all are if it returns `false`.
+///
+/// # Precondition
+///
+/// `raw` has at least sixteen bytes, and `to` at least eight.
+///
+/// # Complexity
+///
+/// Constant time.
+#[inline(always)]
+pub fn write_eight_ascii<E: Utf16Order>(raw: &[u8], to: &mut [u8]) -> bool
+    requires many { 16 ≤ length raw.now }
+    requires space { 8 ≤ length to.old }
+    ensures ascii { IsTrue result ↔ All (λ unit. unit < 0x80) (units_of E.BIG (take 16 raw.now)) }
+    ensures well_formed { IsTrue result → IsUtf16 E.BIG (take 16 raw.now) }
+    ensures utf8 { IsTrue result → take 8 to.new ≡ utf8_of E.BIG (take 16 raw.now) }
+    ensures rest { drop 8 to.new ≡ drop 8 to.old }
+    ensures unchanged { result ≡ false → to.new ≡ to.old }
+{
+    let units = units8::<E>(u8x16::from_slice(raw));
+    if !lanes_below(units, 0x80) {
+        return false;
+    }
+    put_ascii_eight(&mut to[..8], 0, units);
+    true
+}
 
 // Writes the low byte of each of eight units.
 #[inline(always)]

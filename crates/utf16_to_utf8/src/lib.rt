@@ -16,5 +16,6 @@ mod word_places;
 mod write;
 mod writers;
 
+pub use crate::few::write_eight_ascii;
 pub use crate::lens::utf8_len;
 pub use crate::write::{SLACK, write_before_surrogates, write_utf8};

@@ -26,8 +26,9 @@ pub(crate) fn char_of_three(lead: u8, second: u8, third: u8) -> char
     requires goes_on { is_in_range 0x80 0xBF third ≡ true }
     ensures { encode_utf8 result ≡ lead ∷ second ∷ third ∷ [] }
 {
-    let code =
-        (lead as u32 - 0xE0) * 0x1000 + (second as u32 - 0x80) * 0x40 + (third as u32 - 0x80);
+    let code = (lead as u32 - 0xE0) * 0x1000
+        + (second as u32 - 0x80) * 0x40
+        + (third as u32 - 0x80);
     unsafe { char::from_u32_unchecked(code) }
 }
 

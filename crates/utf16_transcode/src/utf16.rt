@@ -44,6 +44,10 @@ pub fn from_utf8<E: Utf16Order>(text: &[u8], to: &mut [u8]) -> Progress
 struct FromUtf8<E: Utf16Order>(PhantomData<E>);
 
 impl<E: Utf16Order> Direction for FromUtf8<E> {
+    const SHORT_LEN: usize = 20;
+
+    const FRONT_LEN: usize = 16;
+
     ghost from = { encode_utf8 };
 
     ghost into = { char_bytes E.BIG };
@@ -69,6 +73,15 @@ impl<E: Utf16Order> Direction for FromUtf8<E> {
     #[inline(always)]
     fn first_char(rest: &[u8]) -> Result<(char, usize), Option<u8>> {
         first_char(rest)
+    }
+
+    // Twelve bytes of ASCII take less time at once.
+    #[inline(always)]
+    fn begin_short(input: &[u8], _to: &mut [u8]) -> Option<(usize, usize)> {
+        if input.len() >= 12 && input[0] < 0x80 && input[11] < 0x80 {
+            return None;
+        }
+        Some((0, 0))
     }
 
     #[inline(always)]

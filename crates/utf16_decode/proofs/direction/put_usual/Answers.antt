@@ -1,9 +1,6 @@
 use Rattle.utf16_decode.specs.Wrote.{Gives}
-use Rattle.utf16_decode.proofs.WroteLemmas.{Wrote-none, Wrote-then, first_gives}
+use Rattle.utf16_decode.proofs.WroteLemmas.{Wrote-then, first_gives}
 use Rattle.utf16_decode.proofs.direction.put_usual.Goals as goal
-
-pub loop-read-init : goal.loop-read-init
-loop-read-init g c = Wrote-none c.laws.ensures.of_nothing _ _
 
 pub loop-read-preserved : goal.loop-read-preserved
 loop-read-preserved g c =
