@@ -4,6 +4,7 @@
 #![tactic(auto)]
 
 mod bom;
+mod boundary;
 mod byte_order;
 mod decoder;
 mod in_place;
