@@ -140,8 +140,9 @@ tell_loader() {
 # Makes the root, and refuses one where nothing can be written.
 make_root() {
     [ -d "$root/" ] || made+=(./)
-    mkdir -p -- "$root/" 2> /dev/null && [ -w "$root/" ] ||
+    if ! mkdir -p -- "$root/" 2> /dev/null || [ ! -w "$root/" ]; then
         fail "cannot write below $root/: give another PREFIX, or run this as its owner"
+    fi
 }
 
 # Writes down what was installed, and what an earlier version made there, of which this removes the

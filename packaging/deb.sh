@@ -1,0 +1,38 @@
+#!/usr/bin/env bash
+# Makes the Debian packages libdethrux0, libdethrux-dev and dethrux-tools by dpkg-buildpackage in
+# FOLDER, packaging/out if it is left out, and prints their paths. They have what install.sh
+# installs.
+#
+#     packaging/deb.sh [FOLDER]
+set -euo pipefail
+here=$(cd "$(dirname "${BASH_SOURCE[0]}")" && pwd)
+top=$(dirname "$here")
+
+# Ends with one line.
+fail() {
+    echo "deb.sh: $1" >&2
+    exit 1
+}
+
+if [ $# -gt 1 ] || [[ ${1-.} == -* ]]; then
+    echo 'usage: packaging/deb.sh [FOLDER]' >&2
+    exit 2
+fi
+folder=${1-$here/out}
+for tool in dpkg-buildpackage dh; do
+    command -v $tool > /dev/null || fail "there is no $tool: install dpkg-dev and debhelper"
+done
+"$here/build.sh"
+mkdir -p "$folder"
+folder=$(cd "$folder" && pwd)
+room=$(mktemp -d)
+trap 'rm -rf "$room"' EXIT
+mkdir "$room/tree"
+cp -R "$here/debian" "$room/tree/"
+cp "$top/CHANGELOG.md" "$room/tree/"
+(cd "$room/tree" && DETHRUX_TOP=$top dpkg-buildpackage --build=binary --no-sign) \
+    > "$room/log" 2>&1 || { cat "$room/log" >&2; fail 'dpkg-buildpackage failed'; }
+for file in "$room"/*.deb; do
+    mv "$file" "$folder/"
+    echo "$folder/${file##*/}"
+done
