@@ -29,7 +29,6 @@ room=$(mktemp -d)
 trap 'rm -rf "$room"' EXIT
 mkdir "$room/tree"
 cp -R "$here/debian" "$room/tree/"
-cp "$top/CHANGELOG.md" "$room/tree/"
 (cd "$room/tree" && DETHRUX_TOP=$top dpkg-buildpackage --build=binary --no-sign) \
     > "$room/log" 2>&1 || { cat "$room/log" >&2; fail 'dpkg-buildpackage failed'; }
 for file in "$room"/*.deb; do
