@@ -1,7 +1,7 @@
 #!/usr/bin/env bash
-# Installs the C library and the programs below PREFIX, /usr/local if it is left out, and prints each
-# path. In a clone it builds first what is not built yet; in an unpacked release archive everything
-# is. With --uninstall it removes what it installed there, and nothing else.
+# Installs the C library and the programs below PREFIX, /usr/local if it is left out, and prints
+# each path. In a clone it builds first what is not built yet; in an unpacked release archive
+# everything is. With --uninstall it removes what it installed there, and nothing else.
 #
 #     ./install.sh [--uninstall] [PREFIX]
 #
@@ -34,23 +34,27 @@ case $prefix in
 esac
 prefix=$(realpath -ms -- "$prefix")
 case $libdir in
-    /* | '' | . | .. | ../* | */.. | */../* | *$'\n'*) fail "LIBDIR is not a folder below PREFIX: $libdir" ;;
+    '' | /* | . | .. | ../* | */.. | */../* | *$'\n'*)
+        fail "LIBDIR is not a folder below PREFIX: $libdir"
+        ;;
 esac
 root=${DESTDIR-}${prefix%/}
 manifest=share/dethrux/install_manifest.txt
+# The paths that are installed, the folders that are made, and what the manifest lists.
 installed=()
 made=()
+listed=()
 
 # Makes a folder below the root and records each one that was not there.
 make_folder() {
     [ ! -d "$root/$1" ] || return 0
     [[ $1 != */* ]] || make_folder "${1%/*}"
-    mkdir -m 755 -- "$root/$1" || fail "could not make $root/$1"
+    mkdir -m 755 -- "$root/$1"
     made+=("$1/")
 }
 
 # Records a path and prints it.
-installed() {
+record() {
     installed+=("$1")
     echo "$root/$1"
 }
@@ -58,14 +62,14 @@ installed() {
 # Installs a file with these permissions.
 put() {
     make_folder "${3%/*}"
-    install -m "$1" -- "$2" "$root/$3" || fail "could not write $root/$3"
-    installed "$3"
+    install -m "$1" -- "$2" "$root/$3"
+    record "$3"
 }
 
 # Installs a symbolic link.
 put_link() {
-    ln -sfn -- "$1" "$root/$2" || fail "could not write $root/$2"
-    installed "$2"
+    ln -sfn -- "$1" "$root/$2"
+    record "$2"
 }
 
 # Installs a template of packaging/, with the way from its folder up to PREFIX.
@@ -102,8 +106,9 @@ put_built() {
 
 # Installs from an unpacked release archive, whose folders are those below PREFIX.
 put_unpacked() {
-    local file mode
-    while IFS= read -r -d '' file; do
+    local file mode files
+    mapfile -d '' files < <(cd "$top" && find bin include lib share ! -type d -print0 | sort -z)
+    for file in "${files[@]}"; do
         if [ -L "$top/$file" ]; then
             put_link "$(readlink "$top/$file")" "$file"
         else
@@ -111,16 +116,17 @@ put_unpacked() {
             [ ! -x "$top/$file" ] || mode=755
             put $mode "$top/$file" "$file"
         fi
-    done < <(cd "$top" && find bin include lib share \( -type f -o -type l \) -print0 | LC_ALL=C sort -z)
+    done
 }
 
-# Reads the manifest at the root into `listed`, and refuses one that leads elsewhere.
+# Reads the manifest, if there is one, and refuses one that leads elsewhere.
 read_manifest() {
     local line
+    [ -f "$root/$manifest" ] || return 0
     mapfile -t listed < "$root/$manifest"
     for line in "${listed[@]}"; do
         case /$line/ in
-            //* | */../*) fail "$root/$manifest has the line '$line', so nothing was removed" ;;
+            //* | */../*) fail "$root/$manifest has '$line', no path below $root/: mend it" ;;
         esac
     done
 }
@@ -128,30 +134,31 @@ read_manifest() {
 # Removes a file, and says so.
 remove() {
     [ -e "$root/$1" ] || [ -L "$root/$1" ] || return 0
-    rm -f -- "$root/$1" || fail "could not remove $root/$1"
+    rm -f -- "$root/$1"
     echo "removed $root/$1"
 }
 
-# Has the loader know the libraries of the running system, where this is one of its folders.
+# Has the loader look at the libraries again, if this is a folder where it looks.
 tell_loader() {
-    [ -n "${DESTDIR-}" ] || [ $EUID != 0 ] || ! command -v ldconfig > /dev/null || ldconfig
+    [ $EUID = 0 ] && grep -rqsxF -- "$root/$libdir" /etc/ld.so.conf /etc/ld.so.conf.d || return 0
+    ldconfig
 }
 
-# Makes the root, and refuses one where nothing can be written.
+# Makes the root, and refuses one where nothing can be written or the manifest is bad.
 make_root() {
     [ -d "$root/" ] || made+=(./)
     if ! mkdir -p -- "$root/" 2> /dev/null || [ ! -w "$root/" ]; then
         fail "cannot write below $root/: give another PREFIX, or run this as its owner"
     fi
+    read_manifest
 }
 
 # Writes down what was installed, and what an earlier version made there, of which this removes the
 # files that are gone from this version.
 write_manifest() {
-    local listed=() line
-    [ ! -e "$root/$manifest" ] || read_manifest
+    local line
     make_folder "${manifest%/*}"
-    installed "$manifest"
+    record "$manifest"
     for line in "${listed[@]}"; do
         if [[ $line == */ ]]; then
             made+=("$line")
@@ -160,19 +167,20 @@ write_manifest() {
         fi
     done
     printf '%s\n' "${installed[@]}" "${made[@]}" | LC_ALL=C sort -u > "$room/manifest"
-    install -m 644 -- "$room/manifest" "$root/$manifest" || fail "could not write $root/$manifest"
+    install -m 644 -- "$room/manifest" "$root/$manifest"
 }
 
 do_install() {
     version=$(< "$top/VERSION")
-    [ ! -d "$top/crates" ] || "$top/packaging/build.sh"
-    [ -d "$top/crates" ] || [ "$libdir" = lib ] || fail 'a release archive has its libraries in lib'
     room=$(mktemp -d)
     trap 'rm -rf "$room"' EXIT
-    make_root
     if [ -d "$top/crates" ]; then
+        "$top/packaging/build.sh"
+        make_root
         put_built
     else
+        [ "$libdir" = lib ] || fail 'a release archive has its libraries in lib'
+        make_root
         put_unpacked
     fi
     write_manifest
@@ -180,8 +188,8 @@ do_install() {
 }
 
 do_uninstall() {
-    local listed line
-    [ -f "$root/$manifest" ] || fail "nothing is installed below $root/: there is no $root/$manifest"
+    local line
+    [ -f "$root/$manifest" ] || fail "nothing is installed: there is no $root/$manifest"
     read_manifest
     for line in "${listed[@]}"; do
         [[ $line == */ ]] || remove "$line"

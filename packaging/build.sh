@@ -27,7 +27,8 @@ done
 
 # Whether a file is there and no source of a crate is newer.
 is_current() {
-    [ -e "$1" ] && [ -z "$(find "$top"/crates/*/{src,specs,proofs} -type f -newer "$1" -print -quit)" ]
+    local sources=("$top"/crates/*/{src,specs,proofs})
+    [ -e "$1" ] && [ -z "$(find "${sources[@]}" -type f -newer "$1" -print -quit)" ]
 }
 
 # Has rt prove and build a crate, by these words, unless its file is current.
@@ -75,11 +76,19 @@ if [ -z "$archive" ]; then
     archive=$top/crates/dethrux/out/libdethrux.a
 fi
 [ -f "$archive" ] || fail "there is no file $archive"
-static_library
-shared_library
-for name in utf16_cat utf16_enc; do
-    rattle $name $name.o rt run -- le
-done
-kit=$(dirname "$(dirname "$(readlink -f "$(command -v rt)")")")
-program utf16_cat
-program utf16_enc
+rattle utf16_cat utf16_cat.o rt run -- le
+rattle utf16_enc utf16_enc.o rt run -- le
+
+# What was linked already, of these very inputs, is not linked again.
+inputs=("$here/build.sh" "$here/dethrux.map" "$top/VERSION" "$archive")
+inputs+=("$top/crates/utf16_cat/out/utf16_cat.o" "$top/crates/utf16_enc/out/utf16_enc.o")
+made=$(cat "${inputs[@]}" | sha256sum)
+if [ "$(cat "$out/made" 2> /dev/null)" != "$made" ]; then
+    rm -f "$out/made"
+    static_library
+    shared_library
+    kit=$(dirname "$(dirname "$(readlink -f "$(command -v rt)")")")
+    program utf16_cat
+    program utf16_enc
+    echo "$made" > "$out/made"
+fi

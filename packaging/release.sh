@@ -37,8 +37,10 @@ trap 'rm -rf "$room"' EXIT
 umask 022
 DESTDIR='' LIBDIR=lib "$top/install.sh" "$room/$name" > "$room/said"
 rm -r "$room/$name/share/dethrux"
-cp "$top"/{CHANGELOG.md,LICENSE-APACHE,LICENSE-MIT,VERSION,install.sh} "$here/README.md" "$room/$name/"
-(cd "$room/$name" && find . -type f -printf '%P\0' | LC_ALL=C sort -z | xargs -0 sha256sum > "$room/sums")
+cp "$top"/{CHANGELOG.md,LICENSE-APACHE,LICENSE-MIT,VERSION,install.sh} "$here/README.md" \
+    "$room/$name/"
+(cd "$room/$name" && find . -type f -printf '%P\0' | LC_ALL=C sort -z | xargs -0 sha256sum) \
+    > "$room/sums"
 mv "$room/sums" "$room/$name/SHA256SUMS"
 tar -C "$room" --sort=name --format=gnu --owner=0 --group=0 --numeric-owner --mtime="@$when" \
     -cf - "$name" | gzip -9n > "$folder/$name.tar.gz"

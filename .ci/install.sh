@@ -1,0 +1,433 @@
+#!/usr/bin/env bash
+# Installs what is built into empty folders, by install.sh, from the release archive and by the
+# Debian packages, and compiles and runs programs against each. Compares the version in every file
+# with VERSION, and the symbols of the libraries with the header. rt proves nothing here if the
+# library and the programs are built. Tools that are missing are installed by apt-get where this
+# runs as root. Prints each check that fails, and last a line 'N passed, M failed'.
+set -uo pipefail
+top=$(cd "$(dirname "$0")/.." && pwd)
+sources=$top/packaging/test
+version=$(< "$top/VERSION")
+archive=dethrux-$version-x86_64-linux-gnu
+packages=(libdethrux0 libdethrux-dev dethrux-tools)
+room=$(mktemp -d)
+passed=0
+failed=0
+purge=false
+
+# Removes what was made, and the packages if they are installed for real.
+clean() {
+    ! $purge || dpkg --purge "${packages[@]}" > /dev/null 2>&1
+    rm -rf "$room"
+}
+trap clean EXIT
+
+# Ends here with the counts.
+finish() {
+    echo "$passed passed, $failed failed"
+    [ $failed = 0 ]
+    exit
+}
+
+# Counts a check by the status of a command, and prints the end of what it said if it failed.
+check() {
+    local name=$1
+    shift
+    if "$@" > "$room/said" 2>&1; then
+        passed=$((passed + 1))
+    else
+        failed=$((failed + 1))
+        echo "failed: $name"
+        tail -n 20 "$room/said"
+        return 1
+    fi
+}
+
+# Whether a command ends with this status and prints one line that has these words.
+says() {
+    local status=$1 words=$2 found
+    shift 2
+    "$@" > "$room/line" 2>&1
+    found=$?
+    cat "$room/line"
+    [ $found = "$status" ] && [ "$(wc -l < "$room/line")" = 1 ] && grep -qF -- "$words" "$room/line"
+}
+
+# == tools
+
+install_packages() {
+    apt-get install -y -q --no-install-recommends "$@"
+}
+
+# The tools and their packages. One that is missing is installed, where this runs as root.
+provide_tools() {
+    local pair missing=() wanted=()
+    for pair in gcc:gcc g++:g++ nm:binutils make:make cmake:cmake pkg-config:pkg-config \
+        dh:debhelper dpkg-buildpackage:dpkg-dev lintian:lintian qemu-x86_64:qemu-user; do
+        command -v "${pair%:*}" > /dev/null || { missing+=("${pair%:*}"); wanted+=("${pair#*:}"); }
+    done
+    [ ${#wanted[@]} != 0 ] || return 0
+    if [ $EUID = 0 ]; then
+        echo "installing ${wanted[*]}"
+        install_packages "${wanted[@]}" > "$room/said" 2>&1 < /dev/null ||
+            { apt-get update -q && install_packages "${wanted[@]}"; } > "$room/said" 2>&1 \
+                < /dev/null
+    fi
+    for pair in "${missing[@]}"; do
+        command -v "$pair" > /dev/null && continue
+        failed=$((failed + 1))
+        echo "failed: there is no $pair: install ${wanted[*]}"
+    done
+    [ $failed = 0 ]
+}
+
+# == versions
+
+# Whether a command prints what is in VERSION.
+is_version() {
+    local found
+    found=$("$@")
+    echo "VERSION has $version, and here is: $found"
+    [ "$found" = "$version" ]
+}
+
+# The first match of an expression in a file.
+first() {
+    sed -nE "s/$2/\\1/p" "$top/$1" | head -n 1
+}
+
+# A version of three lines, each a name after these words, and a number at the end of the line.
+numbers() {
+    sed -nE "s/$2(MAJOR|MINOR|PATCH).*[^0-9]([0-9]+);?\$/\\2/p" "$top/$1" | paste -sd.
+}
+
+# The versions of the files that packaging/README.md names, each once.
+named_files() {
+    grep -oE 'dethrux[-0a-z]*[-_][0-9]+\.[0-9]+\.[0-9]+' "$top/packaging/README.md" |
+        grep -oE '[0-9]+\.[0-9]+\.[0-9]+' | sort -u
+}
+
+# The version that the built package says.
+version_of_package() {
+    dpkg-deb -f "$room/debs/$1_${version}_amd64.deb" Version
+}
+
+check_versions() {
+    local file
+    check 'the version of dethrux.h' \
+        is_version numbers include/dethrux.h '^#define DETHRUX_VERSION_'
+    check 'the version of version.rt' is_version numbers crates/dethrux/src/version.rt '^const '
+    check 'the version of README.md' is_version first README.md '^Version ([0-9.]+) of .*'
+    check 'the version of CHANGELOG.md' is_version first CHANGELOG.md '^## ([0-9.]+), .*'
+    check 'the version of packaging/README.md' is_version named_files
+    for file in utf16_cat utf16_enc; do
+        check "the version of $file.1" is_version first "crates/$file/$file.1" '^\.Os Dethrux (.*)'
+    done
+    check 'the version of the Debian changelog' \
+        is_version dpkg-parsechangelog -l "$top/packaging/debian/changelog" -S Version
+    check 'the version of the Debian symbols' \
+        is_version first packaging/debian/libdethrux0.symbols '^ .* ([0-9.]+)'
+    for file in bindings/python/pyproject.toml bindings/rust/*/Cargo.toml; do
+        [ ! -e "$top/$file" ] ||
+            check "the version of $file" is_version first "$file" '^version = "(.*)"'
+    done
+}
+
+# == symbols
+
+# The functions that the header below a prefix declares for other objects, by the compiler.
+declared() {
+    gcc -fsyntax-only -aux-info "$room/prototypes" -x c "$1/include/dethrux.h" &&
+        sed -nE 's/.*dethrux\.h:.* extern .*[ *](dethrux_[a-z0-9_]+) \(.*/\1/p' "$room/prototypes" |
+        sort
+}
+
+# Whether the symbols that nm lists, by these words, are the functions of the header.
+exports_header() {
+    declared "$1" > "$room/declared" || return
+    "${@:2}" | sed -n 's/.* [A-Z] //p' | sort > "$room/exported"
+    [ -s "$room/declared" ] && diff "$room/declared" "$room/exported"
+}
+
+# Whether a library calls nothing but what copies, fills and compares memory.
+calls_memory_alone() {
+    ! nm --undefined-only "$1" | sed -n 's/.* U //p' | grep -vxE 'mem(cpy|move|set|cmp)'
+}
+
+# == programs against a prefix
+
+# Runs pkg-config on the file below a prefix.
+config() {
+    PKG_CONFIG_PATH="$1/lib/pkgconfig" pkg-config "${@:2}" dethrux
+}
+
+# Compiles a program of packaging/test with words that pkg-config has quoted for a shell.
+compile() {
+    local words
+    eval "words=($2)"
+    cc -Wall -Wextra -Werror "$sources/$1" "${words[@]}" "${@:3}" -o "$room/program"
+}
+
+# With the shared library, by pkg-config.
+with_shared() {
+    compile "$2" "$(config "$1" --cflags --libs)" || return
+    LD_LIBRARY_PATH=$1/lib "$room/program" && LD_LIBRARY_PATH=$1/lib ldd "$room/program" |
+        grep -F "$1/lib/libdethrux.so"
+}
+
+# With the static library, by pkg-config.
+with_static() {
+    compile "$2" "$(config "$1" --cflags)" "$1/lib/libdethrux.a" && "$room/program"
+}
+
+# With no shared library at all.
+all_static() {
+    compile user.c "$(config "$1" --static --cflags --libs)" -static && "$room/program" &&
+        ! ldd "$room/program"
+}
+
+in_cxx() {
+    c++ -std=c++17 -Wall -Wextra -Werror "-I$1/include" "$sources/user.cpp" \
+        "$1/lib/libdethrux.a" -o "$room/program" && "$room/program"
+}
+
+# Both libraries, by CMake.
+by_cmake() {
+    rm -rf "$room/cmake"
+    cmake -S "$sources" -B "$room/cmake" -DCMAKE_PREFIX_PATH="$1" &&
+        cmake --build "$room/cmake" && "$room/cmake/user_shared" && "$room/cmake/user_static" &&
+        ldd "$room/cmake/user_shared" | grep -F "$1"
+}
+
+# Whether CMake finds the package and takes it for no such version.
+cmake_refuses() {
+    mkdir -p "$room/refused"
+    { echo 'cmake_minimum_required(VERSION 3.13)'; echo 'project(refused NONE)'
+        echo "find_package(dethrux $2 REQUIRED)"; } > "$room/refused/CMakeLists.txt"
+    ! cmake -S "$room/refused" -B "$room/refused/out" -DCMAKE_PREFIX_PATH="$1" \
+        > "$room/log" 2>&1 && grep -F "version: $version" "$room/log"
+}
+
+# Whether the installed programs convert U+20AC and U+1F600.
+programs_run() {
+    local utf8='\xE2\x82\xAC\xF0\x9F\x98\x80'
+    printf '\xAC\x20\x3D\xD8\x00\xDE' | "$1/utf16_cat" le | cmp - <(printf "$utf8") &&
+        printf "$utf8" | "$1/utf16_enc" be | cmp - <(printf '\x20\xAC\xD8\x3D\xDE\x00')
+}
+
+# == processors
+
+# Whether a file says in a GNU property which level it needs.
+has_level() {
+    readelf -n "$1" | grep -E 'x86 ISA needed:.*x86-64-v2'
+}
+
+# Whether a command is refused on a processor of plain x86-64, and runs on one of x86-64-v2.
+is_refused_below() {
+    local status=$1
+    shift
+    says "$status" 'CPU ISA level is lower than required' \
+        qemu-x86_64 -cpu qemu64 "$@" < /dev/null &&
+        qemu-x86_64 -cpu Nehalem "$@" < /dev/null
+}
+
+# The same of the shared library alone, where a program loads it later.
+shared_is_refused_below() {
+    cc -Wall -Wextra -Werror "$sources/load.c" -o "$room/load" &&
+        is_refused_below 1 "$room/load" "$1"
+}
+
+# == install.sh
+
+# All paths below a folder, sorted.
+tree() {
+    (cd "$1" && find . ! -path . | LC_ALL=C sort)
+}
+
+# Whether install.sh printed each file that is below the prefix, and no other.
+printed_all() {
+    diff <(LC_ALL=C sort "$room/printed") <(find "$1" ! -type d | LC_ALL=C sort)
+}
+
+# Whether a prefix with a file of someone else's is as before, also where it was installed to twice
+# and a file was added since.
+uninstalls_its_own() {
+    mkdir -p "$room/used/bin" && echo mine > "$room/used/bin/mine" &&
+        tree "$room/used" > "$room/before" && "$top/install.sh" "$room/used" &&
+        "$top/install.sh" "$room/used" && echo mine > "$room/used/include/mine.h" &&
+        "$top/install.sh" --uninstall "$room/used" &&
+        printf './include\n./include/mine.h\n' | LC_ALL=C sort - "$room/before" |
+        diff <(tree "$room/used") -
+}
+
+# Whether nothing is left of a prefix that install.sh made.
+uninstalls_all() {
+    "$top/install.sh" "$room/gone" && "$top/install.sh" --uninstall "$room/gone" &&
+        [ ! -e "$room/gone" ]
+}
+
+# Whether a file of an earlier version goes as this one is installed over it.
+drops_old_files() {
+    "$top/install.sh" "$room/old" && touch "$room/old/include/old.h" &&
+        echo include/old.h >> "$room/old/share/dethrux/install_manifest.txt" &&
+        "$top/install.sh" "$room/old" && [ ! -e "$room/old/include/old.h" ] &&
+        "$top/install.sh" --uninstall "$room/old" && [ ! -e "$room/old" ]
+}
+
+# Whether a manifest with this line, of a file outside the prefix, removes nothing.
+keeps_outside() {
+    mkdir -p "$room/outside/share/dethrux" && touch "$room/kept" &&
+        echo "$1" > "$room/outside/share/dethrux/install_manifest.txt" &&
+        says 1 'no path below' "$top/install.sh" --uninstall "$room/outside" &&
+        [ -e "$room/kept" ]
+}
+
+# Whether DESTDIR is before each path and in no file.
+for_packagers() {
+    DESTDIR=$room/packaged LIBDIR=lib/x86_64-linux-gnu "$top/install.sh" /usr &&
+        [ -e "$room/packaged/usr/lib/x86_64-linux-gnu/libdethrux.so.$version" ] &&
+        ! grep -rlF "$room" "$room/packaged"
+}
+
+# A clone where nothing is built, without rt.
+refuses_without_rt() {
+    mkdir -p "$room/clone/crates" "$room/clone/packaging" &&
+        cp "$top/install.sh" "$top/VERSION" "$room/clone/" &&
+        cp "$top"/packaging/*.* "$room/clone/packaging/" &&
+        says 1 'there is no rt' env PATH=/usr/bin:/bin "$room/clone/install.sh" "$room/nowhere" &&
+        [ ! -e "$room/nowhere" ]
+}
+
+check_refusals() {
+    check 'an unknown option' says 2 'usage: install.sh' "$top/install.sh" --help
+    check 'two prefixes' says 2 'usage: install.sh' "$top/install.sh" "$room/a" "$room/b"
+    check 'an empty prefix' says 2 'usage: install.sh' "$top/install.sh" ''
+    check 'a prefix that cannot be written' \
+        says 1 'cannot write' "$top/install.sh" /proc/dethrux
+    check 'a prefix that is a file' says 1 'cannot write' "$top/install.sh" "$room/printed"
+    check 'a LIBDIR outside' says 1 'LIBDIR' env LIBDIR=../lib "$top/install.sh" "$room/a"
+    check 'nothing to uninstall' \
+        says 1 'nothing is installed' "$top/install.sh" --uninstall "$room"
+    check 'a manifest with an absolute path' keeps_outside "$room/kept"
+    check 'a manifest with a path upwards' keeps_outside ../kept
+    check 'a clone without rt' refuses_without_rt
+}
+
+# == the release archive
+
+makes_same_archive() {
+    "$top/packaging/release.sh" "$room/first" && sleep 1 &&
+        "$top/packaging/release.sh" "$room/second" &&
+        cmp "$room/first/$archive.tar.gz" "$room/second/$archive.tar.gz"
+}
+
+unpacks_archive() {
+    (cd "$room/first" && sha256sum -c "$archive.tar.gz.sha256") &&
+        tar -C "$room" -xzf "$room/first/$archive.tar.gz" &&
+        (cd "$room/$archive" && sha256sum -c --quiet SHA256SUMS)
+}
+
+# Whether install.sh of the archive installs, without rt, what that of the clone did.
+installs_unpacked() {
+    env PATH=/usr/bin:/bin:/usr/sbin:/sbin "$room/$archive/install.sh" "$room/from archive" &&
+        diff -r "$room/from archive" "$1" && diff <(tree "$room/from archive") <(tree "$1")
+}
+
+# == the Debian packages
+
+makes_same_packages() {
+    "$top/packaging/deb.sh" "$room/debs" && "$top/packaging/deb.sh" "$room/debs again" &&
+        diff -r "$room/debs" "$room/debs again"
+}
+
+# Whether lintian has no error and no warning.
+is_clean() {
+    lintian --allow-root --fail-on error,warning "$room"/debs/*.deb
+}
+
+# Unpacks the packages into an empty folder, and compiles and runs programs there.
+runs_unpacked() {
+    local package lib=$room/unpacked/usr/lib/x86_64-linux-gnu
+    for package in "$room"/debs/*.deb; do
+        dpkg-deb -x "$package" "$room/unpacked" || return
+    done
+    compile user.c "$(PKG_CONFIG_PATH=$lib/pkgconfig pkg-config --cflags --libs dethrux)" &&
+        LD_LIBRARY_PATH=$lib "$room/program" && by_cmake "$room/unpacked/usr" &&
+        programs_run "$room/unpacked/usr/bin"
+}
+
+# Whether one of the packages is installed already.
+is_installed() {
+    dpkg-query -f '${db:Status-Status}\n' -W "${packages[@]}" 2> /dev/null | grep -qx installed
+}
+
+# Installs the packages for real, compiles with and without pkg-config, runs, and purges them.
+runs_installed() {
+    purge=true
+    dpkg -i "$room"/debs/*.deb && compile user.c "$(pkg-config --cflags --libs dethrux)" &&
+        "$room/program" && compile own_names.c -ldethrux && "$room/program" &&
+        programs_run /usr/bin && dpkg --purge "${packages[@]}" && purge=false
+}
+
+provide_tools || finish
+check 'the build' "$top/packaging/build.sh" || finish
+check_versions
+
+prefix="$room/in stalled"
+check 'an installation' "$top/install.sh" "$prefix" || finish
+cp "$room/said" "$room/printed"
+check 'the paths that are printed' printed_all "$prefix"
+check 'the symbols of the shared library' \
+    exports_header "$prefix" nm -D --defined-only "$prefix/lib/libdethrux.so"
+check 'the symbols of the static library' \
+    exports_header "$prefix" nm -g --defined-only "$prefix/lib/libdethrux.a"
+check 'what the static library calls' calls_memory_alone "$prefix/lib/libdethrux.a"
+check 'the version of pkg-config' is_version config "$prefix" --modversion
+check 'the file of pkg-config' config "$prefix" --validate
+check 'the shared library by pkg-config' with_shared "$prefix" user.c
+check 'the static library by pkg-config' with_static "$prefix" user.c
+check 'no shared library' all_static "$prefix"
+check 'names of its own, the shared library' with_shared "$prefix" own_names.c
+check 'names of its own, the static library' with_static "$prefix" own_names.c
+check 'a program in C++' in_cxx "$prefix"
+check 'both libraries by CMake' by_cmake "$prefix"
+check 'a later version by CMake' cmake_refuses "$prefix" "${version%.*}.999"
+check 'another major version by CMake' cmake_refuses "$prefix" $((${version%%.*} + 1)).0
+check 'the programs' programs_run "$prefix/bin"
+for file in lib/libdethrux.so bin/utf16_cat bin/utf16_enc; do
+    check "the level of $file" has_level "$prefix/$file"
+done
+check 'the shared library below its level' shared_is_refused_below "$prefix/lib/libdethrux.so"
+check 'utf16_cat below its level' is_refused_below 127 "$prefix/bin/utf16_cat" le
+check 'utf16_enc below its level' is_refused_below 127 "$prefix/bin/utf16_enc" le
+check 'the static library, again' with_static "$prefix" user.c &&
+    check 'the static library below its level' is_refused_below 127 "$room/program"
+moved="$room/moved here"
+mv "$prefix" "$moved"
+check 'the shared library by pkg-config, moved' with_shared "$moved" user.c
+check 'both libraries by CMake, moved' by_cmake "$moved"
+
+check_refusals
+check 'uninstalling beside other files' uninstalls_its_own
+check 'uninstalling all' uninstalls_all
+check 'an installation over an older one' drops_old_files
+check 'DESTDIR and LIBDIR' for_packagers
+
+check 'the release archive, twice' makes_same_archive
+if check 'the checksums of the archive' unpacks_archive; then
+    check 'an installation from the archive' installs_unpacked "$moved"
+    check 'the shared library of the archive' with_shared "$room/$archive" user.c
+    check 'both libraries of the archive by CMake' by_cmake "$room/$archive"
+fi
+
+if check 'the Debian packages, twice' makes_same_packages; then
+    for package in "${packages[@]}"; do
+        check "the version of $package" is_version version_of_package "$package"
+    done
+    check 'lintian' is_clean
+    check 'the packages unpacked' runs_unpacked
+    if [ $EUID = 0 ] && ! is_installed; then
+        check 'the packages installed' runs_installed
+    fi
+fi
+finish
