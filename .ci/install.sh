@@ -17,7 +17,7 @@ purge=false
 
 # Removes what was made, and the packages if they are installed for real.
 clean() {
-    ! $purge || dpkg --purge "${packages[@]}" > /dev/null 2>&1
+    ! $purge || with_dpkg --purge "${packages[@]}" > /dev/null
     rm -rf "$room"
 }
 trap clean EXIT
@@ -56,7 +56,7 @@ says() {
 # == tools
 
 install_packages() {
-    apt-get install -y -q --no-install-recommends "$@"
+    apt-get -o DPkg::Lock::Timeout=60 install -y -q --no-install-recommends "$@"
 }
 
 # The tools and their packages. One that is missing is installed, where this runs as root.
@@ -103,7 +103,7 @@ numbers() {
 
 # The versions of the files that packaging/README.md names, each once.
 named_files() {
-    grep -oE 'dethrux[-0a-z]*[-_][0-9]+\.[0-9]+\.[0-9]+' "$top/packaging/README.md" |
+    grep -oE 'dethrux[-0a-z]*[-_ ][0-9]+\.[0-9]+\.[0-9]+' "$top/packaging/README.md" |
         grep -oE '[0-9]+\.[0-9]+\.[0-9]+' | sort -u
 }
 
@@ -127,7 +127,7 @@ check_versions() {
         is_version dpkg-parsechangelog -l "$top/packaging/debian/changelog" -S Version
     check 'the version of the Debian symbols' \
         is_version first packaging/debian/libdethrux0.symbols '^ .* ([0-9.]+)'
-    for file in bindings/python/pyproject.toml bindings/rust/*/Cargo.toml; do
+    for file in bindings/python/pyproject.toml bindings/rust/dethrux/Cargo.toml; do
         [ ! -e "$top/$file" ] ||
             check "the version of $file" is_version first "$file" '^version = "(.*)"'
     done
@@ -361,12 +361,25 @@ is_installed() {
     dpkg-query -f '${db:Status-Status}\n' -W "${packages[@]}" 2> /dev/null | grep -qx installed
 }
 
+# Runs dpkg, again while another process holds its lock, for a minute at most.
+with_dpkg() {
+    local attempt
+    for attempt in {1..12}; do
+        dpkg "$@" > "$room/dpkg" 2>&1 && return
+        grep -q 'lock' "$room/dpkg" || break
+        echo "attempt $attempt"
+        sleep 5
+    done
+    cat "$room/dpkg"
+    return 1
+}
+
 # Installs the packages for real, compiles with and without pkg-config, runs, and purges them.
 runs_installed() {
     purge=true
-    dpkg -i "$room"/debs/*.deb && compile user.c "$(pkg-config --cflags --libs dethrux)" &&
+    with_dpkg -i "$room"/debs/*.deb && compile user.c "$(pkg-config --cflags --libs dethrux)" &&
         "$room/program" && compile own_names.c -ldethrux && "$room/program" &&
-        programs_run /usr/bin && dpkg --purge "${packages[@]}" && purge=false
+        programs_run /usr/bin && with_dpkg --purge "${packages[@]}" && purge=false
 }
 
 provide_tools || finish

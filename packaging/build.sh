@@ -32,7 +32,7 @@ is_current() {
 }
 
 # Has rt prove and build a crate, by these words, unless its file is current.
-rattle() {
+build_crate() {
     local crate=$1 file=$top/crates/$1/out/$2
     shift 2
     is_current "$file" && return
@@ -66,18 +66,21 @@ shared_library() {
 
 # A program, of its object file and of the toolchain's calls of the operating system.
 program() {
+    local rt kit
+    rt=$(command -v rt) || fail 'there is no rt, whose folder has what the programs are linked with'
+    kit=$(dirname "$(dirname "$(readlink -f "$rt")")")
     link -pie "$top/crates/$1/out/$1.o" "$kit/c/libos_c.a" "$kit/c/liblibc_c.a" -o "$out/$1"
 }
 
 mkdir -p "$out"
 archive=${DETHRUX_ARCHIVE:-}
 if [ -z "$archive" ]; then
-    rattle dethrux libdethrux.a rt lib
+    build_crate dethrux libdethrux.a rt lib
     archive=$top/crates/dethrux/out/libdethrux.a
 fi
 [ -f "$archive" ] || fail "there is no file $archive"
-rattle utf16_cat utf16_cat.o rt run -- le
-rattle utf16_enc utf16_enc.o rt run -- le
+build_crate utf16_cat utf16_cat.o rt run -- le
+build_crate utf16_enc utf16_enc.o rt run -- le
 
 # What was linked already, of these very inputs, is not linked again.
 inputs=("$here/build.sh" "$here/dethrux.map" "$top/VERSION" "$archive")
@@ -87,7 +90,6 @@ if [ "$(cat "$out/made" 2> /dev/null)" != "$made" ]; then
     rm -f "$out/made"
     static_library
     shared_library
-    kit=$(dirname "$(dirname "$(readlink -f "$(command -v rt)")")")
     program utf16_cat
     program utf16_enc
     echo "$made" > "$out/made"
