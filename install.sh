@@ -34,7 +34,7 @@ case $prefix in
 esac
 prefix=$(realpath -ms -- "$prefix")
 case $libdir in
-    '' | /* | . | .. | ../* | */.. | */../* | *$'\n'*)
+    '' | /* | . | .. | ../* | */.. | */../* | *[!A-Za-z0-9._/+-]*)
         fail "LIBDIR is not a folder below PREFIX: $libdir"
         ;;
 esac

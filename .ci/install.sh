@@ -306,6 +306,7 @@ check_refusals() {
         says 1 'cannot write' "$top/install.sh" /proc/dethrux
     check 'a prefix that is a file' says 1 'cannot write' "$top/install.sh" "$room/printed"
     check 'a LIBDIR outside' says 1 'LIBDIR' env LIBDIR=../lib "$top/install.sh" "$room/a"
+    check 'a LIBDIR with a blank' says 1 'LIBDIR' env LIBDIR='a b' "$top/install.sh" "$room/a"
     check 'nothing to uninstall' \
         says 1 'nothing is installed' "$top/install.sh" --uninstall "$room"
     check 'a manifest with an absolute path' keeps_outside "$room/kept"
