@@ -35,7 +35,7 @@ esac
 prefix=$(realpath -ms -- "$prefix")
 case $libdir in
     '' | /* | . | .. | ../* | */.. | */../* | *[!A-Za-z0-9._/+-]*)
-        fail "LIBDIR is not a folder below PREFIX: $libdir"
+        fail "LIBDIR has to be a path below PREFIX, such as lib/x86_64-linux-gnu: $libdir"
         ;;
 esac
 root=${DESTDIR-}${prefix%/}
