@@ -1,8 +1,7 @@
 #!/usr/bin/env bash
-# Builds the library libdethrux.a and the examples in C, in Python over a shared object, and in Rust,
-# and runs each over the tables of cases. A tool that is missing is a failure. The last line is
-# 'N passed, M failed'. With --over-ci the library is built over the libraries that rt ci has just
-# proved.
+# Builds the library libdethrux.a and the examples in C and in Python over a shared object, and runs
+# each over the tables of cases. A tool that is missing is a failure. The last line is 'N passed, M
+# failed'. With --over-ci the library is built over the libraries that rt ci has just proved.
 set -uo pipefail
 here=$(cd "$(dirname "$0")" && pwd)
 top=$here/../..
@@ -104,15 +103,6 @@ check_python() {
     PYTHONDONTWRITEBYTECODE=1 DETHRUX_LIBRARY="$room/libdethrux.so" python3 "$here/check.py" < "$room/cases"
 }
 
-in_rust() {
-    CARGO_TARGET_DIR="$room/rust" RUSTFLAGS="-L native=$(dirname "$archive")" \
-        cargo build --quiet --offline --release --manifest-path "$here/rust/Cargo.toml"
-}
-
-check_rust() {
-    "$room/rust/release/check" < "$room/cases"
-}
-
 cat "$top"/cases/*.txt > "$room/cases"
 built=library
 [ "${1-}" != --over-ci ] || built=library_over_ci
@@ -128,9 +118,6 @@ if has cc 'C and Python'; then
     if has python3 'Python'; then
         count 'the shared object' shared && count 'the cases in Python' check_python
     fi
-fi
-if has cargo 'Rust'; then
-    count 'the crate in Rust' in_rust && count 'the cases in Rust' check_rust
 fi
 echo "$passed passed, $failed failed"
 [ $failed = 0 ]

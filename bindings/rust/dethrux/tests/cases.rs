@@ -1,11 +1,11 @@
-//! Reads tables of `cases/` on standard input, makes the calls that the crate has, prints each case
-//! whose result differs, with both, and last how many passed. Cases of other calls, and those with a
-//! condition on memory or devices, are skipped.
+//! Makes the calls that the tables of `cases/` name, prints each case whose result differs, with
+//! both, and last how many passed. Cases of other calls, and those with a condition on memory or
+//! devices, are skipped.
 
-use dethrux_example::ByteOrder::{BigEndian, LittleEndian};
-use dethrux_example::*;
+use dethrux::ByteOrder::{BigEndian, LittleEndian};
+use dethrux::*;
 use std::collections::BTreeSet;
-use std::io::BufRead;
+use std::path::Path;
 
 /// A word of a result.
 #[derive(Clone, Debug, PartialEq)]
@@ -32,7 +32,9 @@ fn quoted(word: &str) -> Option<String> {
 
 fn hex(digits: &str) -> Option<Vec<u8>> {
     let pairs = (0..digits.len()).step_by(2);
-    pairs.map(|at| u8::from_str_radix(digits.get(at..at + 2)?, 16).ok()).collect()
+    pairs
+        .map(|at| u8::from_str_radix(digits.get(at..at + 2)?, 16).ok())
+        .collect()
 }
 
 fn part(word: &str, order: ByteOrder) -> Option<Vec<u8>> {
@@ -40,7 +42,18 @@ fn part(word: &str, order: ByteOrder) -> Option<Vec<u8>> {
         Some(Vec::new())
     } else if let Some(text) = word.strip_prefix('~') {
         let units = quoted(text)?.encode_utf16().collect::<Vec<_>>();
-        Some(units.iter().flat_map(|unit| if order == BigEndian { unit.to_be_bytes() } else { unit.to_le_bytes() }).collect())
+        Some(
+            units
+                .iter()
+                .flat_map(|unit| {
+                    if order == BigEndian {
+                        unit.to_be_bytes()
+                    } else {
+                        unit.to_le_bytes()
+                    }
+                })
+                .collect(),
+        )
     } else if let Some(units) = word.strip_prefix('^') {
         let mut bytes = hex(units)?;
         if order != BigEndian {
@@ -87,7 +100,11 @@ fn stop(status: Status) -> Vec<Word> {
 }
 
 fn found(bytes: &[u8], is_text: bool) -> Word {
-    if is_text { Text(bytes.to_vec()) } else { Bytes(bytes.to_vec()) }
+    if is_text {
+        Text(bytes.to_vec())
+    } else {
+        Bytes(bytes.to_vec())
+    }
 }
 
 type Convert = fn(ByteOrder, &[u8], &mut [u8]) -> Progress;
@@ -105,19 +122,31 @@ fn conversion(name: &str) -> Option<(Convert, bool)> {
 }
 
 fn size(is_text: bool, order: ByteOrder, from: &[u8]) -> usize {
-    if is_text { to_utf8_lossy_len(order, from) } else { from_utf8_lossy_len(from) }
+    if is_text {
+        to_utf8_lossy_len(order, from)
+    } else {
+        from_utf8_lossy_len(from)
+    }
 }
 
 fn convert(name: &str, order: ByteOrder, from: &[u8], room: &str) -> Option<Vec<Word>> {
     let (make, is_text) = conversion(name)?;
-    let room = if room == "size" { size(is_text, order, from) } else { room.parse().ok()? };
+    let room = if room == "size" {
+        size(is_text, order, from)
+    } else {
+        room.parse().ok()?
+    };
     let mut to = vec![0; room];
     let progress = make(order, from, &mut to);
     let mut words = vec![Number(progress.read), Number(progress.written)];
     words.extend(stop(progress.status));
     words.push(found(&to[..progress.written], is_text));
     if name == "from_utf8_lossy" && progress.status == Status::Done {
-        words.extend(utf8_chunkings(order, from).filter(|other| other != &to[..progress.written]).map(Bytes));
+        words.extend(
+            utf8_chunkings(order, from)
+                .filter(|other| other != &to[..progress.written])
+                .map(Bytes),
+        );
     }
     Some(words)
 }
@@ -125,11 +154,11 @@ fn convert(name: &str, order: ByteOrder, from: &[u8], room: &str) -> Option<Vec<
 /// The UTF-16 of a stream of UTF-8, in each chunking.
 fn utf8_chunkings(order: ByteOrder, utf8: &[u8]) -> impl Iterator<Item = Vec<u8>> + '_ {
     (1..=utf8.len()).map(move |len| {
-        let (mut decoder, mut utf16) = (Utf8Decoder::new(order), Vec::new());
+        let (mut encoder, mut utf16) = (Encoder::new(order), Vec::new());
         for piece in utf8.chunks(len) {
-            decoder.feed(piece, &mut utf16);
+            encoder.encode(piece, &mut utf16);
         }
-        decoder.finish(&mut utf16);
+        utf16.extend(encoder.finish().into_iter().flatten());
         utf16
     })
 }
@@ -154,46 +183,56 @@ fn every_room(name: &str, order: ByteOrder, from: &[u8]) -> Option<Vec<Word>> {
 fn fed<'a>(order: ByteOrder, pieces: impl IntoIterator<Item = &'a [u8]>) -> Vec<u8> {
     let (mut decoder, mut text) = (Decoder::new(order), String::new());
     for piece in pieces {
-        decoder.feed(piece, &mut text);
+        decoder.decode(piece, &mut text);
     }
-    decoder.finish(&mut text);
+    text.extend(decoder.finish());
     text.into_bytes()
 }
 
 /// The text of a stream, and any other that a chunking has.
 fn cut_anywhere(order: ByteOrder, raw: &[u8]) -> Vec<Word> {
-    let text = to_string(order, raw).into_bytes();
+    let text = decode_lossy(order, raw).into_bytes();
     let others = (1..=raw.len()).map(|len| fed(order, raw.chunks(len)));
     let in_two = (0..=raw.len()).map(|at| fed(order, [&raw[..at], &raw[at..]]));
-    let others = others.chain(in_two).filter(|other| *other != text).map(Text).collect::<Vec<_>>();
+    let others = others
+        .chain(in_two)
+        .filter(|other| *other != text)
+        .map(Text)
+        .collect::<Vec<_>>();
     [vec![Text(text)], others].concat()
 }
 
 fn every_any_chunking(raw: &[u8]) -> Vec<Word> {
-    let (order, bom_len) = detect_bom(raw).unwrap_or((BigEndian, 0));
-    cut_anywhere(order, &raw[bom_len..])
+    let bom = detect_bom(raw).unwrap_or(Bom {
+        len: 0,
+        byte_order: BigEndian,
+    });
+    cut_anywhere(bom.byte_order, &raw[bom.len..])
 }
 
 fn lossy_feed(order: ByteOrder, pieces: &[Vec<u8>]) -> Vec<Word> {
     let (mut decoder, mut words) = (Decoder::new(order), Vec::new());
     for piece in pieces {
         let mut text = String::new();
-        decoder.feed(piece, &mut text);
+        decoder.decode(piece, &mut text);
         words.extend([Text(text.into_bytes()), Bytes(decoder.pending().to_vec())]);
     }
-    let mut end = String::new();
-    decoder.finish(&mut end);
-    words.push(Plain(if end.is_empty() { "none" } else { "'\\u{FFFD}'" }));
+    words.push(Plain(if decoder.finish().is_none() {
+        "none"
+    } else {
+        "'\\u{FFFD}'"
+    }));
     words
 }
 
 /// The error of a validation, or a word if there is none.
 fn validity(order: ByteOrder, raw: &[u8], none: Word) -> Vec<Word> {
-    let (valid_up_to, status) = validate(order, raw);
-    match status {
-        Status::Done => vec![none],
-        Status::IllFormed(len) => vec![Plain("error"), Number(valid_up_to), Number(len)],
-        _ => vec![Plain("error"), Number(valid_up_to), Plain("none")],
+    match validate(order, raw) {
+        Ok(()) => vec![none],
+        Err(error) => {
+            let error_len = error.error_len().map_or(Plain("none"), Number);
+            vec![Plain("error"), Number(error.valid_up_to()), error_len]
+        }
     }
 }
 
@@ -209,7 +248,11 @@ fn pieces(words: &[&str], order: ByteOrder) -> Option<Vec<Vec<u8>>> {
 fn ask(name: &str, order: ByteOrder, raw: &[u8]) -> Option<Vec<Word>> {
     Some(match name {
         "count_chars" => vec![Number(count_chars(order, raw))],
-        "is_ascii" => vec![Plain(if is_ascii(order, raw) { "true" } else { "false" })],
+        "is_ascii" => vec![Plain(if is_ascii(order, raw) {
+            "true"
+        } else {
+            "false"
+        })],
         "to_utf8_lossy_len" => vec![Number(to_utf8_lossy_len(order, raw))],
         "from_utf8_len" => vec![Number(from_utf8_len(raw))],
         "from_utf8_lossy_len" => vec![Number(from_utf8_lossy_len(raw))],
@@ -222,15 +265,32 @@ fn ask(name: &str, order: ByteOrder, raw: &[u8]) -> Option<Vec<Word>> {
 }
 
 const CALLS: [&str; 17] = [
-    "to_utf8", "to_utf8_partial", "to_utf8_lossy", "from_utf8", "from_utf8_lossy", "every_room", "count_chars", "is_ascii", "to_utf8_lossy_len", "from_utf8_len",
-    "from_utf8_lossy_len", "validate_raw_utf16", "WStr::from_utf16", "every_chunking", "AnyLossy::every_chunking", "Lossy::feed",
+    "to_utf8",
+    "to_utf8_partial",
+    "to_utf8_lossy",
+    "from_utf8",
+    "from_utf8_lossy",
+    "every_room",
+    "count_chars",
+    "is_ascii",
+    "to_utf8_lossy_len",
+    "from_utf8_len",
+    "from_utf8_lossy_len",
+    "validate_raw_utf16",
+    "WStr::from_utf16",
+    "every_chunking",
+    "AnyLossy::every_chunking",
+    "Lossy::feed",
     "decode_pieces",
 ];
 
 fn call(name: &str, order: ByteOrder, values: &[&str]) -> Option<Vec<Word>> {
     match (name, values) {
         ("Lossy::feed", words) => Some(lossy_feed(order, &pieces(words, order)?)),
-        ("decode_pieces", words) => Some(vec![Text(fed(order, pieces(words, order)?.iter().map(Vec::as_slice)))]),
+        ("decode_pieces", words) => Some(vec![Text(fed(
+            order,
+            pieces(words, order)?.iter().map(Vec::as_slice),
+        ))]),
         ("every_room", [by, raw]) => every_room(by, order, &spelled(raw, order)?),
         (_, [raw, room]) => convert(name, order, &spelled(raw, order)?, room),
         (_, [raw]) => ask(name, order, &spelled(raw, order)?),
@@ -241,11 +301,18 @@ fn call(name: &str, order: ByteOrder, values: &[&str]) -> Option<Vec<Word>> {
 /// Whether a case holds in a byte order; prints the result if it does not.
 fn holds(name: &str, order: ByteOrder, values: &[&str], wanted: &[&str]) -> bool {
     let found = call(name, order, values);
-    let is = found.as_ref().is_some_and(|words| {
-        words.len() == wanted.len() && words.iter().zip(wanted).all(|(word, wanted)| is_wanted(word, wanted, order))
+    let is = found.as_ref().map_or(false, |words| {
+        words.len() == wanted.len()
+            && words
+                .iter()
+                .zip(wanted)
+                .all(|(word, wanted)| is_wanted(word, wanted, order))
     });
     if !is {
-        println!("   found in {}: {found:?}", if order == BigEndian { "be" } else { "le" });
+        println!(
+            "   found in {}: {found:?}",
+            if order == BigEndian { "be" } else { "le" }
+        );
     }
     is
 }
@@ -260,50 +327,76 @@ fn orders(word: &str) -> Option<&'static [ByteOrder]> {
     }
 }
 
-/// Whether the library has the version of this package.
-fn is_version_same() -> bool {
-    let parts = env!("CARGO_PKG_VERSION").split('.').map(|part| part.parse::<u32>().ok());
-    parts.collect::<Option<Vec<_>>>().is_some_and(|parts| version() == parts[0] * 1_000_000 + parts[1] * 1_000 + parts[2])
+/// What the cases came to.
+#[derive(Default)]
+struct Count {
+    passed: usize,
+    failed: usize,
+    calls: BTreeSet<String>,
 }
 
-fn main() {
-    let (mut passed, mut failed, mut made) = (0, 0, BTreeSet::new());
-    for line in std::io::stdin().lock().lines() {
-        let line = line.expect("a line");
+impl Count {
+    fn case(&mut self, line: &str) {
         let words = line.split_whitespace().collect::<Vec<_>>();
         match words[..] {
-            [] => continue,
-            _ if line.starts_with('#') => continue,
-            [_, how, name, ..] if how.contains(';') || !CALLS.contains(&name) => continue,
+            [] => return,
+            _ if line.starts_with('#') => return,
+            [_, how, name, ..] if how.contains(';') || !CALLS.contains(&name) => return,
             _ => {}
         }
-        let equals = words.iter().position(|word| *word == "=").filter(|at| *at > 2);
-        let case = equals.zip(words.get(1).and_then(|how| orders(how)));
-        let Some((equals, orders)) = case else {
-            failed += 1;
-            println!("Rust failed, no case: {line}");
-            continue;
+        let equals = words
+            .iter()
+            .position(|word| *word == "=")
+            .filter(|at| *at > 2);
+        let (equals, orders) = match equals.zip(words.get(1).and_then(|how| orders(how))) {
+            Some(case) => case,
+            None => return self.fail(&format!("no case: {line}")),
         };
-        made.insert(words[2].to_string());
+        self.calls.insert(words[2].to_string());
         for order in orders {
             if holds(words[2], *order, &words[3..equals], &words[equals + 1..]) {
-                passed += 1;
+                self.passed += 1;
             } else {
-                failed += 1;
-                println!("Rust failed: {line}");
+                self.fail(line);
             }
         }
     }
-    if is_version_same() {
-        passed += 1;
-    } else {
-        failed += 1;
-        println!("Rust failed: the version of the library, {}", version());
+
+    fn fail(&mut self, line: &str) {
+        self.failed += 1;
+        println!("failed: {line}");
     }
-    for name in CALLS.iter().filter(|name| !made.contains(**name)) {
-        failed += 1;
-        println!("Rust failed: no case of {name}");
+}
+
+/// The lines of all tables of the repository.
+fn tables() -> std::io::Result<Vec<String>> {
+    let folder = Path::new(env!("CARGO_MANIFEST_DIR")).join("../../../cases");
+    let mut lines = Vec::new();
+    for entry in std::fs::read_dir(folder)? {
+        let path = entry?.path();
+        if path
+            .extension()
+            .map_or(false, |extension| extension == "txt")
+        {
+            lines.extend(std::fs::read_to_string(path)?.lines().map(String::from));
+        }
     }
-    println!("{passed} passed, {failed} failed");
-    std::process::exit((failed != 0) as i32);
+    Ok(lines)
+}
+
+fn main() {
+    let mut count = Count::default();
+    match tables() {
+        Ok(lines) => lines.iter().for_each(|line| count.case(line)),
+        Err(error) => count.fail(&format!("the tables of the repository: {error}")),
+    }
+    for name in CALLS
+        .iter()
+        .filter(|name| !count.calls.contains(**name))
+        .collect::<Vec<_>>()
+    {
+        count.fail(&format!("no case of {name}"));
+    }
+    println!("{} passed, {} failed", count.passed, count.failed);
+    std::process::exit(i32::from(count.failed != 0));
 }

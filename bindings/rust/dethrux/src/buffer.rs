@@ -1,0 +1,67 @@
+use core::mem::MaybeUninit;
+
+mod sealed {
+    pub trait Sealed {
+        /// Returns where the bytes are, and how many.
+        fn raw(&mut self) -> (*mut u8, usize);
+    }
+}
+
+pub(crate) use sealed::Sealed;
+
+/// Bytes that a call writes to: a slice or an array of `u8` or of `MaybeUninit<u8>`.
+///
+/// Only the first bytes, as many as the call returns as `written`, have a meaning after it, and
+/// these are initialized. Pass a vector as `&mut vec[..]`, or its `spare_capacity_mut()`.
+pub trait Buffer: Sealed {}
+
+impl Buffer for [u8] {}
+impl Buffer for [MaybeUninit<u8>] {}
+impl<const N: usize> Buffer for [u8; N] {}
+impl<const N: usize> Buffer for [MaybeUninit<u8>; N] {}
+
+impl Sealed for [u8] {
+    fn raw(&mut self) -> (*mut u8, usize) {
+        (self.as_mut_ptr(), self.len())
+    }
+}
+
+impl Sealed for [MaybeUninit<u8>] {
+    fn raw(&mut self) -> (*mut u8, usize) {
+        (self.as_mut_ptr().cast(), self.len())
+    }
+}
+
+impl<const N: usize> Sealed for [u8; N] {
+    fn raw(&mut self) -> (*mut u8, usize) {
+        self[..].raw()
+    }
+}
+
+impl<const N: usize> Sealed for [MaybeUninit<u8>; N] {
+    fn raw(&mut self) -> (*mut u8, usize) {
+        self[..].raw()
+    }
+}
+
+/// Appends what a conversion writes to the spare capacity of a vector, which is made at least
+/// `additional` bytes.
+///
+/// # Safety
+///
+/// The conversion returns as `written` how many bytes of its buffer it initialized.
+#[cfg(feature = "alloc")]
+pub(crate) unsafe fn append<F>(
+    to: &mut alloc::vec::Vec<u8>,
+    additional: usize,
+    convert: F,
+) -> crate::Progress
+where
+    F: FnOnce(&mut [MaybeUninit<u8>]) -> crate::Progress,
+{
+    to.reserve(additional);
+    let progress = convert(to.spare_capacity_mut());
+    // SAFETY: so many bytes were initialized after the length.
+    unsafe { to.set_len(to.len() + progress.written) }
+    progress
+}

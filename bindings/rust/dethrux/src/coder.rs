@@ -1,0 +1,267 @@
+//! Decoders and encoders of streams, each with a state of four bytes.
+
+#[cfg(feature = "alloc")]
+use crate::buffer::append;
+#[cfg(feature = "alloc")]
+use alloc::{string::String, vec::Vec};
+
+use crate::{ffi, Buffer, ByteOrder, Progress};
+
+/// Decodes a stream of UTF-16, cut anywhere, to UTF-8, with U+FFFD for each unpaired surrogate and
+/// for an incomplete character at the end.
+///
+/// It keeps at most three bytes. Its clones continue on their own.
+///
+/// ```
+/// use dethrux::{ByteOrder::LittleEndian, Decoder, Status};
+///
+/// let (mut decoder, mut utf8) = (Decoder::new(LittleEndian), [0; 4]);
+/// let progress = decoder.feed(b"\x3D\xD8\0", &mut utf8);
+/// assert_eq!((progress.written, decoder.pending()), (0, &b"\x3D\xD8\0"[..]));
+/// let progress = decoder.feed(b"\xDEh\0", &mut utf8);
+/// assert_eq!((progress.read, progress.status), (1, Status::NoSpace));
+/// assert_eq!(utf8, "\u{1F600}".as_bytes());
+/// ```
+///
+/// A decoder that was finished cannot be used:
+///
+/// ```compile_fail,E0382
+/// # use dethrux::{ByteOrder::LittleEndian, Decoder};
+/// let mut decoder = Decoder::new(LittleEndian);
+/// decoder.finish();
+/// decoder.feed(b"h\0", &mut [0; 4]);
+/// ```
+#[derive(Clone, Debug)]
+pub struct Decoder {
+    order: ByteOrder,
+    state: ffi::State,
+}
+
+impl Decoder {
+    /// Returns a decoder at the start of a stream.
+    #[must_use]
+    pub const fn new(order: ByteOrder) -> Self {
+        Decoder {
+            order,
+            state: ffi::State::START,
+        }
+    }
+
+    /// Returns the byte order of the stream.
+    #[must_use]
+    pub const fn byte_order(&self) -> ByteOrder {
+        self.order
+    }
+
+    /// Returns the bytes that are not decoded yet, at most three.
+    #[must_use]
+    pub fn pending(&self) -> &[u8] {
+        self.state.pending()
+    }
+
+    /// Returns a capacity in bytes that suffices to feed every chunk of `len` bytes.
+    #[must_use]
+    pub const fn max_len(len: usize) -> usize {
+        crate::to_utf8_max_len(len.saturating_add(2))
+    }
+
+    /// Decodes the next chunk: [`Status::Done`] if all of it was read, or [`Status::NoSpace`]: call
+    /// again with the rest. With a capacity of 4 or more, something was written then.
+    ///
+    /// [`Status::Done`]: crate::Status::Done
+    /// [`Status::NoSpace`]: crate::Status::NoSpace
+    #[must_use]
+    pub fn feed<B: Buffer + ?Sized>(&mut self, chunk: &[u8], to: &mut B) -> Progress {
+        let (to, capacity) = to.raw();
+        // SAFETY: the pointers and the lengths are those of slices, of which the mutable ones
+        // overlap no other.
+        unsafe {
+            ffi::dethrux_decoder_feed(
+                &mut self.state,
+                self.order,
+                chunk.as_ptr(),
+                chunk.len(),
+                to,
+                capacity,
+            )
+        }
+        .into()
+    }
+
+    /// Decodes the next chunk and appends its text. It allocates at most once.
+    ///
+    /// ```
+    /// use dethrux::{ByteOrder::LittleEndian, Decoder};
+    ///
+    /// let (mut decoder, mut text) = (Decoder::new(LittleEndian), String::new());
+    /// for chunk in [&b"h\0\x3D"[..], &b"\xD8\0\xDE\0"[..]] {
+    ///     decoder.decode(chunk, &mut text);
+    /// }
+    /// text.extend(decoder.finish());
+    /// assert_eq!(text, "h\u{1F600}\u{FFFD}");
+    /// ```
+    #[cfg(feature = "alloc")]
+    pub fn decode(&mut self, chunk: &[u8], to: &mut String) {
+        // SAFETY: the library writes UTF-8.
+        let bytes = unsafe { to.as_mut_vec() };
+        // SAFETY: the library initializes what it wrote.
+        unsafe {
+            append(bytes, Self::max_len(chunk.len()), |spare| {
+                self.feed(chunk, spare)
+            })
+        };
+    }
+
+    /// Ends the stream: returns U+FFFD if bytes are pending, else `None`.
+    pub fn finish(mut self) -> Option<char> {
+        let mut utf8 = [0; 3];
+        (self.finish_to(&mut utf8) > 0).then_some(char::REPLACEMENT_CHARACTER)
+    }
+
+    /// Ends the stream and begins another. Returns how many bytes were written.
+    fn finish_to(&mut self, to: &mut [u8]) -> usize {
+        // SAFETY: the pointer and the length are those of a mutable slice.
+        unsafe { ffi::dethrux_decoder_finish(&mut self.state, to.as_mut_ptr(), to.len()) }.written
+    }
+}
+
+/// Encodes a stream of UTF-8, cut anywhere, to UTF-16, with U+FFFD for each ill-formed sequence, as
+/// `String::from_utf8_lossy` has it, and for an incomplete character at the end.
+///
+/// It keeps at most three bytes. Its clones continue on their own.
+///
+/// ```
+/// use dethrux::{ByteOrder::BigEndian, Encoder};
+///
+/// let (mut encoder, mut utf16) = (Encoder::new(BigEndian), [0; 4]);
+/// let progress = encoder.feed(b"h\xE4\xB8", &mut utf16);
+/// assert_eq!(utf16[..progress.written], *b"\0h");
+/// assert_eq!(encoder.finish(), Some(*b"\xFF\xFD"));
+/// ```
+#[derive(Clone, Debug)]
+pub struct Encoder {
+    order: ByteOrder,
+    state: ffi::State,
+}
+
+impl Encoder {
+    /// Returns an encoder at the start of a stream.
+    #[must_use]
+    pub const fn new(order: ByteOrder) -> Self {
+        Encoder {
+            order,
+            state: ffi::State::START,
+        }
+    }
+
+    /// Returns the byte order of the UTF-16.
+    #[must_use]
+    pub const fn byte_order(&self) -> ByteOrder {
+        self.order
+    }
+
+    /// Returns the bytes that are not encoded yet, at most three.
+    #[must_use]
+    pub fn pending(&self) -> &[u8] {
+        self.state.pending()
+    }
+
+    /// Returns a capacity in bytes that suffices to feed every chunk of `len` bytes.
+    #[must_use]
+    pub const fn max_len(len: usize) -> usize {
+        crate::from_utf8_max_len(len.saturating_add(1))
+    }
+
+    /// Encodes the next chunk: [`Status::Done`] if all of it was read, or [`Status::NoSpace`]: call
+    /// again with the rest. With a capacity of 4 or more, something was written then.
+    ///
+    /// [`Status::Done`]: crate::Status::Done
+    /// [`Status::NoSpace`]: crate::Status::NoSpace
+    #[must_use]
+    pub fn feed<B: Buffer + ?Sized>(&mut self, chunk: &[u8], to: &mut B) -> Progress {
+        let (to, capacity) = to.raw();
+        // SAFETY: the pointers and the lengths are those of slices, of which the mutable ones
+        // overlap no other.
+        unsafe {
+            ffi::dethrux_utf8_decoder_feed(
+                &mut self.state,
+                self.order,
+                chunk.as_ptr(),
+                chunk.len(),
+                to,
+                capacity,
+            )
+        }
+        .into()
+    }
+
+    /// Encodes the next chunk and appends its UTF-16. It allocates at most once.
+    ///
+    /// ```
+    /// use dethrux::{ByteOrder::BigEndian, Encoder};
+    ///
+    /// let (mut encoder, mut utf16) = (Encoder::new(BigEndian), Vec::new());
+    /// for chunk in [&b"h\xE4\xB8"[..], &b"\x80\xE4"[..]] {
+    ///     encoder.encode(chunk, &mut utf16);
+    /// }
+    /// utf16.extend(encoder.finish().into_iter().flatten());
+    /// assert_eq!(utf16, b"\0h\x4E\0\xFF\xFD");
+    /// ```
+    #[cfg(feature = "alloc")]
+    pub fn encode(&mut self, chunk: &[u8], to: &mut Vec<u8>) {
+        // SAFETY: the library initializes what it wrote.
+        unsafe {
+            append(to, Self::max_len(chunk.len()), |spare| {
+                self.feed(chunk, spare)
+            })
+        };
+    }
+
+    /// Ends the stream: returns U+FFFD in the byte order of the stream if bytes are pending, else
+    /// `None`.
+    pub fn finish(mut self) -> Option<[u8; 2]> {
+        let mut utf16 = [0; 2];
+        (self.finish_to(&mut utf16) > 0).then_some(utf16)
+    }
+
+    /// Ends the stream and begins another. Returns how many bytes were written.
+    fn finish_to(&mut self, to: &mut [u8]) -> usize {
+        let (order, state) = (self.order, &mut self.state);
+        // SAFETY: the pointer and the length are those of a mutable slice.
+        unsafe { ffi::dethrux_utf8_decoder_finish(state, order, to.as_mut_ptr(), to.len()) }.written
+    }
+}
+
+/// What a decoder and an encoder have in common, for the adapters.
+#[cfg(feature = "std")]
+pub(crate) mod sealed {
+    use super::{Buffer, Decoder, Encoder, Progress};
+
+    pub trait Sealed {
+        /// Converts the next chunk.
+        fn feed<B: Buffer + ?Sized>(&mut self, chunk: &[u8], to: &mut B) -> Progress;
+
+        /// Ends the stream and begins another. Returns how many bytes were written, at most 3.
+        fn finish_to(&mut self, to: &mut [u8]) -> usize;
+    }
+
+    impl Sealed for Decoder {
+        fn feed<B: Buffer + ?Sized>(&mut self, chunk: &[u8], to: &mut B) -> Progress {
+            Decoder::feed(self, chunk, to)
+        }
+
+        fn finish_to(&mut self, to: &mut [u8]) -> usize {
+            Decoder::finish_to(self, to)
+        }
+    }
+
+    impl Sealed for Encoder {
+        fn feed<B: Buffer + ?Sized>(&mut self, chunk: &[u8], to: &mut B) -> Progress {
+            Encoder::feed(self, chunk, to)
+        }
+
+        fn finish_to(&mut self, to: &mut [u8]) -> usize {
+            Encoder::finish_to(self, to)
+        }
+    }
+}

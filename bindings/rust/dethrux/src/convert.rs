@@ -1,0 +1,139 @@
+//! Conversions between buffers of the caller's, and in place.
+
+use crate::{ffi, Buffer, ByteOrder};
+
+/// Why a call stopped.
+#[derive(Clone, Copy, Debug, Eq, PartialEq)]
+pub enum Status {
+    /// All of the input was read.
+    Done,
+    /// An ill-formed sequence of so many bytes follows what was read. Resume after it.
+    IllFormed(usize),
+    /// The input ends inside a character.
+    Incomplete,
+    /// The next character does not fit. Call again with the rest.
+    NoSpace,
+}
+
+/// How far a call came. Both numbers count bytes, and both ends are between characters.
+#[derive(Clone, Copy, Debug, Eq, PartialEq)]
+pub struct Progress {
+    /// The bytes of the input that were read.
+    pub read: usize,
+    /// The bytes that were written to the start of the buffer.
+    pub written: usize,
+    /// Why the call stopped.
+    pub status: Status,
+}
+
+impl From<ffi::Progress> for Progress {
+    fn from(raw: ffi::Progress) -> Self {
+        let status = match raw.status {
+            0 => Status::Done,
+            1 => Status::IllFormed(raw.error_len as usize),
+            2 => Status::Incomplete,
+            _ => Status::NoSpace,
+        };
+        Progress {
+            read: raw.read,
+            written: raw.written,
+            status,
+        }
+    }
+}
+
+/// Calls one of the library's conversions.
+fn convert<B: Buffer + ?Sized>(
+    call: ffi::Convert,
+    order: ByteOrder,
+    from: &[u8],
+    to: &mut B,
+) -> Progress {
+    let (to, capacity) = to.raw();
+    // SAFETY: the pointers and the lengths are those of two slices that do not overlap, since one
+    // is borrowed mutably. The calls write initialized bytes alone.
+    unsafe { call(order, from.as_ptr(), from.len(), to, capacity) }.into()
+}
+
+/// Converts UTF-16 to UTF-8, up to the first ill-formed sequence. A capacity of
+/// [`to_utf8_max_len`] suffices.
+///
+/// ```
+/// use dethrux::{to_utf8, ByteOrder::LittleEndian, Status};
+///
+/// let mut utf8 = [0; 4];
+/// let progress = to_utf8(LittleEndian, b"h\0i\0\0\xDC", &mut utf8);
+/// assert_eq!(progress.status, Status::IllFormed(2));
+/// assert_eq!((progress.read, &utf8[..progress.written]), (4, &b"hi"[..]));
+/// ```
+#[must_use]
+pub fn to_utf8<B: Buffer + ?Sized>(order: ByteOrder, utf16: &[u8], to: &mut B) -> Progress {
+    convert(ffi::dethrux_to_utf8, order, utf16, to)
+}
+
+/// Converts UTF-16 to UTF-8 and replaces each unpaired surrogate, and an incomplete character at
+/// the end, by U+FFFD: [`Status::Done`] or [`Status::NoSpace`].
+#[must_use]
+pub fn to_utf8_lossy<B: Buffer + ?Sized>(order: ByteOrder, utf16: &[u8], to: &mut B) -> Progress {
+    convert(ffi::dethrux_to_utf8_lossy, order, utf16, to)
+}
+
+/// Converts the next chunk of a stream like [`to_utf8_lossy`], but does not read an incomplete
+/// character at the end: [`Status::Done`], [`Status::Incomplete`] or [`Status::NoSpace`]. No state
+/// is kept: put the 1 to 3 bytes that were not read before the next chunk. [`Decoder`] does that.
+///
+/// [`Decoder`]: crate::Decoder
+#[must_use]
+pub fn to_utf8_partial<B: Buffer + ?Sized>(order: ByteOrder, utf16: &[u8], to: &mut B) -> Progress {
+    convert(ffi::dethrux_to_utf8_partial, order, utf16, to)
+}
+
+/// Converts UTF-8 to UTF-16, up to the first ill-formed sequence. A capacity of
+/// [`from_utf8_max_len`] suffices.
+#[must_use]
+pub fn from_utf8<B: Buffer + ?Sized>(order: ByteOrder, utf8: &[u8], to: &mut B) -> Progress {
+    convert(ffi::dethrux_from_utf8, order, utf8, to)
+}
+
+/// Converts UTF-8 to UTF-16 and replaces each ill-formed sequence, as `String::from_utf8_lossy`
+/// does, by U+FFFD: [`Status::Done`] or [`Status::NoSpace`].
+#[must_use]
+pub fn from_utf8_lossy<B: Buffer + ?Sized>(order: ByteOrder, utf8: &[u8], to: &mut B) -> Progress {
+    convert(ffi::dethrux_from_utf8_lossy, order, utf8, to)
+}
+
+/// Returns a capacity in bytes that suffices for the UTF-8 of every input of `len` bytes of UTF-16,
+/// and that some input needs.
+#[must_use]
+pub const fn to_utf8_max_len(len: usize) -> usize {
+    (len / 2 + len % 2).saturating_mul(3)
+}
+
+/// Returns a capacity in bytes that suffices for the UTF-16 of every input of `len` bytes of UTF-8,
+/// and that some input needs.
+#[must_use]
+pub const fn from_utf8_max_len(len: usize) -> usize {
+    len.saturating_mul(2)
+}
+
+/// Swaps the two bytes of each code unit in place: UTF-16 in the other byte order. An odd byte at
+/// the end stays.
+pub fn swap_byte_order(utf16: &mut [u8]) {
+    // SAFETY: the pointer and the length are those of a mutable slice.
+    unsafe { ffi::dethrux_swap_byte_order(utf16.as_mut_ptr(), utf16.len()) }
+}
+
+/// Replaces each unpaired surrogate by U+FFFD in place, and returns how many there were. An odd
+/// byte at the end stays.
+///
+/// ```
+/// use dethrux::ByteOrder::BigEndian;
+///
+/// let mut utf16 = *b"\0h\xDC\0\0i";
+/// assert_eq!(dethrux::make_well_formed(BigEndian, &mut utf16), 1);
+/// assert_eq!(utf16, *b"\0h\xFF\xFD\0i");
+/// ```
+pub fn make_well_formed(order: ByteOrder, utf16: &mut [u8]) -> usize {
+    // SAFETY: the pointer and the length are those of a mutable slice.
+    unsafe { ffi::dethrux_make_well_formed(order, utf16.as_mut_ptr(), utf16.len()) }
+}

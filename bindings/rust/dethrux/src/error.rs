@@ -1,0 +1,48 @@
+use core::fmt;
+
+/// The bytes are not well-formed UTF-16. Its fields are those of std's [`Utf8Error`].
+///
+/// [`Utf8Error`]: core::str::Utf8Error
+#[derive(Clone, Copy, Debug, Eq, PartialEq)]
+pub struct Utf16Error {
+    pub(crate) valid_up_to: usize,
+    pub(crate) error_len: Option<u8>,
+}
+
+impl Utf16Error {
+    /// Returns the length of the longest well-formed prefix, in bytes.
+    #[must_use]
+    pub fn valid_up_to(&self) -> usize {
+        self.valid_up_to
+    }
+
+    /// Returns the length of the ill-formed sequence after that prefix, in bytes: an unpaired
+    /// surrogate, of 2. Decoding resumes after it. Returns `None` if the input ends inside a
+    /// character, in its last 1 to 3 bytes.
+    #[must_use]
+    pub fn error_len(&self) -> Option<usize> {
+        self.error_len.map(usize::from)
+    }
+}
+
+impl fmt::Display for Utf16Error {
+    fn fmt(&self, f: &mut fmt::Formatter<'_>) -> fmt::Result {
+        match self.error_len {
+            Some(len) => {
+                write!(
+                    f,
+                    "invalid utf-16 sequence of {} bytes from index {}",
+                    len, self.valid_up_to
+                )
+            }
+            None => write!(
+                f,
+                "incomplete utf-16 byte sequence from index {}",
+                self.valid_up_to
+            ),
+        }
+    }
+}
+
+#[cfg(feature = "std")]
+impl std::error::Error for Utf16Error {}

@@ -1,0 +1,149 @@
+//! The calls of the C library, as `include/dethrux.h` declares them.
+
+use crate::ByteOrder;
+
+#[repr(C)]
+pub(crate) struct Validity {
+    pub(crate) valid_up_to: usize,
+    pub(crate) status: u32,
+    pub(crate) error_len: u32,
+}
+
+#[repr(C)]
+pub(crate) struct Progress {
+    pub(crate) read: usize,
+    pub(crate) written: usize,
+    pub(crate) status: u32,
+    pub(crate) error_len: u32,
+}
+
+#[repr(C)]
+pub(crate) struct Bom {
+    pub(crate) len: usize,
+    pub(crate) byte_order: u32,
+    pub(crate) status: u32,
+}
+
+/// The state of a decoder of either kind. All zero begins a stream.
+#[repr(C)]
+#[derive(Clone, Debug)]
+pub(crate) struct State {
+    pending: [u8; 3],
+    pending_len: u8,
+}
+
+impl State {
+    pub(crate) const START: State = State {
+        pending: [0; 3],
+        pending_len: 0,
+    };
+
+    pub(crate) fn pending(&self) -> &[u8] {
+        &self.pending[..usize::from(self.pending_len).min(self.pending.len())]
+    }
+}
+
+/// A conversion between two buffers of the caller's.
+pub(crate) type Convert =
+    unsafe extern "C" fn(ByteOrder, *const u8, usize, *mut u8, usize) -> Progress;
+
+extern "C" {
+    pub(crate) fn dethrux_version() -> u32;
+    pub(crate) fn dethrux_validate(order: ByteOrder, utf16: *const u8, len: usize) -> Validity;
+    pub(crate) fn dethrux_count_chars(order: ByteOrder, utf16: *const u8, len: usize) -> usize;
+    pub(crate) fn dethrux_is_ascii(order: ByteOrder, utf16: *const u8, len: usize) -> bool;
+    pub(crate) fn dethrux_is_char_boundary(
+        order: ByteOrder,
+        utf16: *const u8,
+        len: usize,
+        at: usize,
+    ) -> bool;
+    pub(crate) fn dethrux_floor_char_boundary(
+        order: ByteOrder,
+        utf16: *const u8,
+        len: usize,
+        at: usize,
+    ) -> usize;
+    pub(crate) fn dethrux_to_utf8_lossy_len(
+        order: ByteOrder,
+        utf16: *const u8,
+        len: usize,
+    ) -> usize;
+    pub(crate) fn dethrux_from_utf8_len(utf8: *const u8, len: usize) -> usize;
+    pub(crate) fn dethrux_from_utf8_lossy_len(utf8: *const u8, len: usize) -> usize;
+    pub(crate) fn dethrux_swap_byte_order(utf16: *mut u8, len: usize);
+    pub(crate) fn dethrux_make_well_formed(order: ByteOrder, utf16: *mut u8, len: usize) -> usize;
+    pub(crate) fn dethrux_compare(
+        first_order: ByteOrder,
+        first: *const u8,
+        first_len: usize,
+        second_order: ByteOrder,
+        second: *const u8,
+        second_len: usize,
+    ) -> i32;
+    pub(crate) fn dethrux_detect_bom(bytes: *const u8, len: usize) -> Bom;
+
+    pub(crate) fn dethrux_to_utf8(
+        order: ByteOrder,
+        utf16: *const u8,
+        len: usize,
+        to: *mut u8,
+        capacity: usize,
+    ) -> Progress;
+    pub(crate) fn dethrux_to_utf8_lossy(
+        order: ByteOrder,
+        utf16: *const u8,
+        len: usize,
+        to: *mut u8,
+        capacity: usize,
+    ) -> Progress;
+    pub(crate) fn dethrux_to_utf8_partial(
+        order: ByteOrder,
+        utf16: *const u8,
+        len: usize,
+        to: *mut u8,
+        capacity: usize,
+    ) -> Progress;
+    pub(crate) fn dethrux_from_utf8(
+        order: ByteOrder,
+        utf8: *const u8,
+        len: usize,
+        to: *mut u8,
+        capacity: usize,
+    ) -> Progress;
+    pub(crate) fn dethrux_from_utf8_lossy(
+        order: ByteOrder,
+        utf8: *const u8,
+        len: usize,
+        to: *mut u8,
+        capacity: usize,
+    ) -> Progress;
+
+    pub(crate) fn dethrux_decoder_feed(
+        decoder: *mut State,
+        order: ByteOrder,
+        chunk: *const u8,
+        len: usize,
+        to: *mut u8,
+        capacity: usize,
+    ) -> Progress;
+    pub(crate) fn dethrux_decoder_finish(
+        decoder: *mut State,
+        to: *mut u8,
+        capacity: usize,
+    ) -> Progress;
+    pub(crate) fn dethrux_utf8_decoder_feed(
+        decoder: *mut State,
+        order: ByteOrder,
+        chunk: *const u8,
+        len: usize,
+        to: *mut u8,
+        capacity: usize,
+    ) -> Progress;
+    pub(crate) fn dethrux_utf8_decoder_finish(
+        decoder: *mut State,
+        order: ByteOrder,
+        to: *mut u8,
+        capacity: usize,
+    ) -> Progress;
+}

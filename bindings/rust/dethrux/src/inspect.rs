@@ -1,0 +1,128 @@
+//! Calls that read.
+
+use core::cmp::Ordering;
+
+use crate::{ffi, ByteOrder, Utf16Error};
+
+/// Tests that the bytes are UTF-16.
+///
+/// # Errors
+///
+/// The length of the longest well-formed prefix, and that of the ill-formed sequence after it.
+///
+/// ```
+/// use dethrux::ByteOrder::BigEndian;
+///
+/// assert!(dethrux::validate(BigEndian, b"\0h\0i").is_ok());
+/// let error = dethrux::validate(BigEndian, b"\0h\xD8").unwrap_err();
+/// assert_eq!((error.valid_up_to(), error.error_len()), (2, None));
+/// ```
+pub fn validate(order: ByteOrder, utf16: &[u8]) -> Result<(), Utf16Error> {
+    // SAFETY: the pointer and the length are those of a slice.
+    let found = unsafe { ffi::dethrux_validate(order, utf16.as_ptr(), utf16.len()) };
+    match found.status {
+        0 => Ok(()),
+        1 => Err(Utf16Error {
+            valid_up_to: found.valid_up_to,
+            error_len: Some(found.error_len as u8),
+        }),
+        _ => Err(Utf16Error {
+            valid_up_to: found.valid_up_to,
+            error_len: None,
+        }),
+    }
+}
+
+/// Returns the number of characters (scalar values). For ill-formed input: the number of complete
+/// code units that are not trailing surrogates.
+#[must_use]
+pub fn count_chars(order: ByteOrder, utf16: &[u8]) -> usize {
+    // SAFETY: the pointer and the length are those of a slice.
+    unsafe { ffi::dethrux_count_chars(order, utf16.as_ptr(), utf16.len()) }
+}
+
+/// Returns whether the bytes are UTF-16 whose characters are all ASCII.
+#[must_use]
+pub fn is_ascii(order: ByteOrder, utf16: &[u8]) -> bool {
+    // SAFETY: the pointer and the length are those of a slice.
+    unsafe { ffi::dethrux_is_ascii(order, utf16.as_ptr(), utf16.len()) }
+}
+
+/// Returns whether `at` is a boundary between characters: even, at most the length, and not between
+/// the two code units of a surrogate pair.
+#[must_use]
+pub fn is_char_boundary(order: ByteOrder, utf16: &[u8], at: usize) -> bool {
+    // SAFETY: the pointer and the length are those of a slice.
+    unsafe { ffi::dethrux_is_char_boundary(order, utf16.as_ptr(), utf16.len(), at) }
+}
+
+/// Returns the greatest boundary at or before `at`, and at most the length. It is 0 to 3 bytes
+/// before the smaller of the two.
+///
+/// ```
+/// use dethrux::ByteOrder::LittleEndian;
+///
+/// // "a", then U+1F600 of four bytes.
+/// let utf16 = b"a\0\x3D\xD8\0\xDE";
+/// assert_eq!(dethrux::floor_char_boundary(LittleEndian, utf16, 5), 2);
+/// ```
+#[must_use]
+pub fn floor_char_boundary(order: ByteOrder, utf16: &[u8], at: usize) -> usize {
+    // SAFETY: the pointer and the length are those of a slice.
+    unsafe { ffi::dethrux_floor_char_boundary(order, utf16.as_ptr(), utf16.len(), at) }
+}
+
+/// Returns the length of what [`to_utf8_lossy`](crate::to_utf8_lossy) writes for the whole input.
+#[must_use]
+pub fn to_utf8_lossy_len(order: ByteOrder, utf16: &[u8]) -> usize {
+    // SAFETY: the pointer and the length are those of a slice.
+    unsafe { ffi::dethrux_to_utf8_lossy_len(order, utf16.as_ptr(), utf16.len()) }
+}
+
+/// Returns the length of what [`from_utf8`](crate::from_utf8) writes for the longest well-formed
+/// prefix, in either byte order.
+#[must_use]
+pub fn from_utf8_len(utf8: &[u8]) -> usize {
+    // SAFETY: the pointer and the length are those of a slice.
+    unsafe { ffi::dethrux_from_utf8_len(utf8.as_ptr(), utf8.len()) }
+}
+
+/// Returns the length of what [`from_utf8_lossy`](crate::from_utf8_lossy) writes for the whole
+/// input, in either byte order.
+#[must_use]
+pub fn from_utf8_lossy_len(utf8: &[u8]) -> usize {
+    // SAFETY: the pointer and the length are those of a slice.
+    unsafe { ffi::dethrux_from_utf8_lossy_len(utf8.as_ptr(), utf8.len()) }
+}
+
+/// Compares two texts by their scalar values, each in its byte order: the order of `str` on what
+/// [`to_utf8_lossy`](crate::to_utf8_lossy) writes.
+///
+/// ```
+/// use core::cmp::Ordering;
+/// use dethrux::ByteOrder::{BigEndian, LittleEndian};
+///
+/// // U+FFFF is less than U+10000, though its code unit is greater than a surrogate.
+/// let order = dethrux::compare(BigEndian, b"\xFF\xFF", LittleEndian, b"\x00\xD8\x00\xDC");
+/// assert_eq!(order, Ordering::Less);
+/// ```
+#[must_use]
+pub fn compare(
+    first_order: ByteOrder,
+    first: &[u8],
+    second_order: ByteOrder,
+    second: &[u8],
+) -> Ordering {
+    // SAFETY: the pointers and the lengths are those of slices.
+    let found = unsafe {
+        ffi::dethrux_compare(
+            first_order,
+            first.as_ptr(),
+            first.len(),
+            second_order,
+            second.as_ptr(),
+            second.len(),
+        )
+    };
+    found.cmp(&0)
+}

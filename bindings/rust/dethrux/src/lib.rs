@@ -1,0 +1,104 @@
+//! UTF-16 in either byte order, to and from UTF-8, by the C library `libdethrux`, whose calls are
+//! proved correct for all inputs.
+//!
+#![cfg_attr(feature = "alloc", doc = "```")]
+#![cfg_attr(not(feature = "alloc"), doc = "```ignore")]
+//! use dethrux::ByteOrder::LittleEndian;
+//!
+//! let utf16 = dethrux::encode(LittleEndian, "h\u{1F600}");
+//! assert_eq!(utf16, b"h\x00\x3D\xD8\x00\xDE");
+//! assert_eq!(dethrux::decode(LittleEndian, &utf16).unwrap(), "h\u{1F600}");
+//!
+//! let error = dethrux::decode(LittleEndian, b"h\x00\x00\xDCi\x00").unwrap_err();
+//! assert_eq!((error.valid_up_to(), error.error_len()), (2, Some(2)));
+//! ```
+//!
+//! # What is here
+//!
+//! - Without a feature, without an allocator: [`validate`], [`count_chars`], [`compare`] and others
+//!   that read; [`swap_byte_order`] and [`make_well_formed`], in place; [`to_utf8`], [`from_utf8`]
+//!   and others between your buffers; [`Decoder`] and [`Encoder`] for streams; [`Utf16Chunks`];
+//!   [`display`].
+//! - Feature `alloc`: [`decode`], [`decode_lossy`], [`encode`] and others that return a `String` or
+//!   a `Vec`.
+//! - Feature `std`, the default: [`io::Reader`] and [`io::Writer`], and `Error` for [`Utf16Error`].
+//! - Feature `dynamic`: links `libdethrux.so` in place of `libdethrux.a`.
+//!
+//! Lengths and offsets count bytes. Only [`detect_bom`] looks for a byte order mark; to every other
+//! call it is the character U+FEFF.
+//!
+//! # Panics and allocation
+//!
+//! No call panics for any input. The library does not allocate. The calls under `alloc` allocate
+//! as `Vec::reserve` does, each at most once: without memory the allocator's handler runs, and a
+//! capacity above `isize::MAX` panics. [`io::Reader`] and [`io::Writer`] allocate one buffer each,
+//! when they are made.
+//!
+//! # Threads
+//!
+//! The calls share no state, so any call may run in any thread at any time.
+
+#![no_std]
+#![forbid(unsafe_op_in_unsafe_fn)]
+#![deny(missing_docs)]
+#![warn(missing_debug_implementations)]
+#![cfg_attr(not(feature = "std"), allow(rustdoc::broken_intra_doc_links))]
+
+#[cfg(feature = "alloc")]
+extern crate alloc;
+#[cfg(feature = "std")]
+extern crate std;
+
+mod bom;
+mod buffer;
+mod chunks;
+mod coder;
+mod convert;
+mod display;
+mod error;
+mod ffi;
+mod inspect;
+#[cfg(feature = "std")]
+pub mod io;
+mod order;
+#[cfg(feature = "alloc")]
+mod text;
+mod units;
+
+pub use bom::{detect_bom, Bom};
+pub use buffer::Buffer;
+pub use chunks::{Utf16Chunk, Utf16Chunks};
+pub use coder::{Decoder, Encoder};
+pub use convert::{
+    from_utf8, from_utf8_lossy, from_utf8_max_len, make_well_formed, swap_byte_order, to_utf8,
+    to_utf8_lossy, to_utf8_max_len, to_utf8_partial, Progress, Status,
+};
+pub use display::{display, Display};
+pub use error::Utf16Error;
+pub use inspect::{
+    compare, count_chars, floor_char_boundary, from_utf8_len, from_utf8_lossy_len, is_ascii,
+    is_char_boundary, to_utf8_lossy_len, validate,
+};
+pub use order::ByteOrder;
+#[cfg(feature = "alloc")]
+pub use text::{decode, decode_lossy, decode_to, encode, encode_lossy, encode_to, encode_units};
+pub use units::{units_as_bytes, units_as_bytes_mut};
+
+/// Returns the version of the library: major, minor and patch.
+///
+/// The build script tests that the major and the minor version are those of this crate.
+///
+/// ```
+/// let (major, minor, _) = dethrux::version();
+/// assert_eq!((major, minor), (0, 1));
+/// ```
+#[must_use]
+pub fn version() -> (u32, u32, u32) {
+    // SAFETY: the call has no precondition.
+    let version = unsafe { ffi::dethrux_version() };
+    (
+        version / 1_000_000,
+        version / 1_000 % 1_000,
+        version % 1_000,
+    )
+}

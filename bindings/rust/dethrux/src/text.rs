@@ -1,0 +1,128 @@
+//! Calls that return a `String` or a `Vec`.
+
+use alloc::{string::String, vec::Vec};
+use core::mem::MaybeUninit;
+
+use crate::buffer::append;
+use crate::{from_utf8, from_utf8_len, from_utf8_lossy, from_utf8_lossy_len};
+use crate::{to_utf8, to_utf8_lossy, to_utf8_lossy_len};
+use crate::{ByteOrder, Status, Utf16Error};
+
+/// Returns the text of UTF-16.
+///
+/// # Errors
+///
+/// As [`validate`](crate::validate), where the bytes are ill formed.
+pub fn decode(order: ByteOrder, utf16: &[u8]) -> Result<String, Utf16Error> {
+    let mut text = String::new();
+    decode_to(order, utf16, &mut text)?;
+    Ok(text)
+}
+
+/// Appends the text of UTF-16 to a string. It allocates at most once.
+///
+/// # Errors
+///
+/// As [`validate`](crate::validate), where the bytes are ill formed. The string is unchanged then.
+///
+/// ```
+/// use dethrux::{decode_to, ByteOrder::LittleEndian};
+///
+/// let mut text = String::from("a");
+/// assert!(decode_to(LittleEndian, b"b\0\0\xDC", &mut text).is_err());
+/// assert!(decode_to(LittleEndian, b"b\0", &mut text).is_ok());
+/// assert_eq!(text, "ab");
+/// ```
+pub fn decode_to(order: ByteOrder, utf16: &[u8], to: &mut String) -> Result<(), Utf16Error> {
+    let len = to.len();
+    // SAFETY: the library writes UTF-8, and the length is taken back to one between characters.
+    let bytes = unsafe { to.as_mut_vec() };
+    // SAFETY: the library initializes what it wrote.
+    let progress = unsafe {
+        append(bytes, to_utf8_lossy_len(order, utf16), |spare| {
+            to_utf8(order, utf16, spare)
+        })
+    };
+    let error_len = match progress.status {
+        Status::Done => return Ok(()),
+        Status::IllFormed(len) => Some(len as u8),
+        Status::Incomplete | Status::NoSpace => None,
+    };
+    bytes.truncate(len);
+    Err(Utf16Error {
+        valid_up_to: progress.read,
+        error_len,
+    })
+}
+
+/// Returns the text of bytes that may be ill-formed UTF-16, with U+FFFD for each unpaired surrogate
+/// and for an incomplete character at the end.
+///
+/// ```
+/// use dethrux::{decode_lossy, ByteOrder::LittleEndian};
+///
+/// assert_eq!(decode_lossy(LittleEndian, b"h\0\0\xDCi"), "h\u{FFFD}\u{FFFD}");
+/// ```
+#[must_use]
+pub fn decode_lossy(order: ByteOrder, utf16: &[u8]) -> String {
+    let mut utf8 = Vec::new();
+    let len = to_utf8_lossy_len(order, utf16);
+    // SAFETY: the library initializes what it wrote, and writes UTF-8.
+    unsafe {
+        append(&mut utf8, len, |spare| to_utf8_lossy(order, utf16, spare));
+        String::from_utf8_unchecked(utf8)
+    }
+}
+
+/// Returns the UTF-16 of a text.
+#[must_use]
+pub fn encode(order: ByteOrder, text: &str) -> Vec<u8> {
+    let mut utf16 = Vec::new();
+    encode_to(order, text, &mut utf16);
+    utf16
+}
+
+/// Appends the UTF-16 of a text to a vector. It allocates at most once.
+pub fn encode_to(order: ByteOrder, text: &str, to: &mut Vec<u8>) {
+    let utf8 = text.as_bytes();
+    // SAFETY: the library initializes what it wrote.
+    unsafe {
+        append(to, from_utf8_len(utf8), |spare| {
+            from_utf8(order, utf8, spare)
+        })
+    };
+}
+
+/// Returns the UTF-16 of bytes that may be ill-formed UTF-8, with U+FFFD for each ill-formed
+/// sequence, as `String::from_utf8_lossy` has it.
+#[must_use]
+pub fn encode_lossy(order: ByteOrder, utf8: &[u8]) -> Vec<u8> {
+    let mut utf16 = Vec::new();
+    let len = from_utf8_lossy_len(utf8);
+    // SAFETY: the library initializes what it wrote.
+    unsafe { append(&mut utf16, len, |spare| from_utf8_lossy(order, utf8, spare)) };
+    utf16
+}
+
+/// Returns the code units of a text: `str::encode_utf16`, collected.
+///
+/// ```
+/// assert_eq!(dethrux::encode_units("h\u{1F600}"), [0x68, 0xD83D, 0xDE00]);
+/// ```
+#[must_use]
+pub fn encode_units(text: &str) -> Vec<u16> {
+    let utf8 = text.as_bytes();
+    let mut units: Vec<u16> = Vec::with_capacity(from_utf8_len(utf8) / 2);
+    let spare = units.spare_capacity_mut();
+    // SAFETY: the bytes of units may be written, and a byte needs no alignment.
+    let bytes = unsafe {
+        core::slice::from_raw_parts_mut(
+            spare.as_mut_ptr().cast::<MaybeUninit<u8>>(),
+            core::mem::size_of_val(spare),
+        )
+    };
+    let progress = from_utf8(ByteOrder::NATIVE, utf8, bytes);
+    // SAFETY: so many units were written, whole ones.
+    unsafe { units.set_len(progress.written / 2) };
+    units
+}

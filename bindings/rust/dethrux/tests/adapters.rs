@@ -1,0 +1,188 @@
+//! The adapters for `Read` and `Write`: chunks and buffers of any length, and errors.
+
+use dethrux::io::{Reader, Writer};
+use dethrux::ByteOrder::{BigEndian, LittleEndian};
+use dethrux::{decode_lossy, encode_lossy, Decoder, Encoder};
+use std::io::{Error, ErrorKind, Read, Result, Write};
+
+/// A text with characters of each length, longer than a buffer of an adapter.
+fn text() -> String {
+    "aß★\u{1F600}".repeat(3000)
+}
+
+/// A reader that gives a few bytes at a time, and an error before each of them.
+struct Slow<'a> {
+    bytes: &'a [u8],
+    len: usize,
+    fails: bool,
+}
+
+impl Read for Slow<'_> {
+    fn read(&mut self, to: &mut [u8]) -> Result<usize> {
+        self.fails = !self.fails;
+        if self.fails {
+            return Err(Error::from(ErrorKind::WouldBlock));
+        }
+        let len = self.len.min(to.len());
+        (&mut self.bytes).take(len as u64).read(to)
+    }
+}
+
+/// Reads to the end through a buffer of `len` bytes, again after each error. Returns what was read
+/// and the number of errors.
+fn read_all(mut reader: impl Read, len: usize) -> (Vec<u8>, usize) {
+    let (mut all, mut buffer, mut errors) = (Vec::new(), vec![0; len], 0);
+    loop {
+        match reader.read(&mut buffer) {
+            Ok(0) => return (all, errors),
+            Ok(read) => all.extend(&buffer[..read]),
+            Err(_) => errors += 1,
+        }
+    }
+}
+
+#[test]
+fn a_reader_decodes_to_buffers_of_any_length() {
+    let mut utf16 = encode_lossy(BigEndian, text().as_bytes());
+    utf16.extend(b"\xD8\x00\x00");
+    let expected = text() + "\u{FFFD}";
+    for len in [1, 2, 3, 4, 5, 100, 100_000] {
+        let (found, _) = read_all(Reader::new(&utf16[..], Decoder::new(BigEndian)), len);
+        assert!(found == expected.as_bytes(), "a buffer of {len} bytes");
+    }
+}
+
+#[test]
+fn a_reader_encodes_to_buffers_of_any_length() {
+    let utf8 = [text().as_bytes(), b"\xE2\x98"].concat();
+    let expected: Vec<u8> = (text() + "\u{FFFD}")
+        .encode_utf16()
+        .flat_map(u16::to_le_bytes)
+        .collect();
+    for len in [1, 2, 3, 4, 5, 100, 100_000] {
+        let (found, _) = read_all(Reader::new(&utf8[..], Encoder::new(LittleEndian)), len);
+        assert!(found == expected, "a buffer of {len} bytes");
+    }
+}
+
+#[test]
+fn a_reader_goes_on_after_an_error() {
+    let utf16 = encode_lossy(LittleEndian, "a★\u{1F600}".as_bytes());
+    for len in 1..5 {
+        let slow = Slow {
+            bytes: &utf16,
+            len,
+            fails: false,
+        };
+        let (found, errors) = read_all(Reader::new(slow, Decoder::new(LittleEndian)), 1);
+        assert_eq!(found, "a★\u{1F600}".as_bytes());
+        assert!(errors > utf16.len() / len);
+    }
+}
+
+#[test]
+fn a_reader_at_its_end_stays_there() {
+    let mut reader = Reader::new(&b"\0"[..], Decoder::new(LittleEndian));
+    let mut text = String::new();
+    assert_eq!(reader.read_to_string(&mut text).unwrap(), 3);
+    assert_eq!(reader.read_to_string(&mut text).unwrap(), 0);
+    assert_eq!(text, "\u{FFFD}");
+    assert!(reader.get_ref().is_empty());
+    assert_eq!(
+        Reader::new(&b""[..], Decoder::new(LittleEndian))
+            .read(&mut [0; 1])
+            .unwrap(),
+        0
+    );
+    assert_eq!(
+        Reader::new(&b"a\0"[..], Decoder::new(LittleEndian))
+            .read(&mut [])
+            .unwrap(),
+        0
+    );
+}
+
+/// A writer that takes a few bytes at a time, and fails at each second call.
+#[derive(Default)]
+struct Narrow {
+    bytes: Vec<u8>,
+    fails: bool,
+    is_flushed: bool,
+}
+
+impl Write for Narrow {
+    fn write(&mut self, bytes: &[u8]) -> Result<usize> {
+        self.fails = !self.fails;
+        if self.fails {
+            return Err(Error::from(ErrorKind::WouldBlock));
+        }
+        let len = bytes.len().min(1000);
+        self.bytes.extend(&bytes[..len]);
+        Ok(len)
+    }
+
+    fn flush(&mut self) -> Result<()> {
+        self.is_flushed = true;
+        Ok(())
+    }
+}
+
+#[test]
+fn a_writer_encodes_chunks_of_any_length() {
+    let expected: Vec<u8> = text().encode_utf16().flat_map(u16::to_be_bytes).collect();
+    for len in [1, 2, 3, 7, 5000, 100_000] {
+        let mut writer = Writer::new(Vec::new(), Encoder::new(BigEndian));
+        for chunk in text().as_bytes().chunks(len) {
+            writer.write_all(chunk).unwrap();
+        }
+        writer.finish().unwrap();
+        assert!(writer.into_inner() == expected, "chunks of {len} bytes");
+    }
+}
+
+#[test]
+fn a_writer_decodes_and_ends_with_what_is_incomplete() {
+    let mut writer = Writer::new(Vec::new(), Decoder::new(LittleEndian));
+    writer.write_all(b"h\0\0\xD8\0").unwrap();
+    writer.flush().unwrap();
+    assert_eq!(writer.get_ref(), b"h");
+    writer.finish().unwrap();
+    writer.finish().unwrap();
+    let error = writer.write(b"i\0").unwrap_err();
+    assert_eq!(
+        error.to_string(),
+        "the writer is finished: make another for the next stream"
+    );
+    assert_eq!(writer.into_inner(), "h\u{FFFD}".as_bytes());
+}
+
+#[test]
+fn a_writer_loses_nothing_by_errors() {
+    let utf16 = encode_lossy(LittleEndian, text().as_bytes());
+    let utf16 = [&utf16[..], b"\0"].concat();
+    let mut writer = Writer::new(Narrow::default(), Decoder::new(LittleEndian));
+    let (mut rest, mut errors) = (&utf16[..], 0);
+    while !rest.is_empty() {
+        match writer.write(rest) {
+            Ok(written) => rest = &rest[written..],
+            Err(error) => {
+                assert_eq!(error.kind(), ErrorKind::WouldBlock);
+                errors += 1;
+            }
+        }
+    }
+    while writer.finish().is_err() {
+        errors += 1;
+    }
+    assert!(errors > 10);
+    assert!(writer.get_ref().is_flushed);
+    assert!(writer.into_inner().bytes == decode_lossy(LittleEndian, &utf16).into_bytes());
+}
+
+#[test]
+fn a_writer_that_takes_nothing_is_an_error() {
+    let mut byte = [0; 1];
+    let mut writer = Writer::new(&mut byte[..], Encoder::new(LittleEndian));
+    assert_eq!(writer.write(b"a").unwrap(), 1);
+    assert_eq!(writer.finish().unwrap_err().kind(), ErrorKind::WriteZero);
+}
