@@ -1,0 +1,219 @@
+//! Slicing by brackets and by `get`. The ranges are Rust's own; whether an offset is a boundary is
+//! a call of `libdethrux`.
+
+use std::ops::{Index, IndexMut, Range};
+use std::ops::{RangeFrom, RangeFull, RangeInclusive, RangeTo, RangeToInclusive};
+
+use byteorder::ByteOrder;
+
+use crate::{WStr, WString};
+
+mod private {
+    use super::*;
+
+    pub trait SealedSliceIndex {
+        /// Returns where the range begins and ends in a string of `len` bytes, in bounds or not, or
+        /// `None` if its end is not a `usize`.
+        fn window(self, len: usize) -> Option<Range<usize>>;
+    }
+
+    impl SealedSliceIndex for RangeFull {
+        #[inline]
+        fn window(self, len: usize) -> Option<Range<usize>> {
+            Some(0..len)
+        }
+    }
+
+    impl SealedSliceIndex for Range<usize> {
+        #[inline]
+        fn window(self, _len: usize) -> Option<Range<usize>> {
+            Some(self)
+        }
+    }
+
+    impl SealedSliceIndex for RangeFrom<usize> {
+        #[inline]
+        fn window(self, len: usize) -> Option<Range<usize>> {
+            Some(self.start..len)
+        }
+    }
+
+    impl SealedSliceIndex for RangeTo<usize> {
+        #[inline]
+        fn window(self, _len: usize) -> Option<Range<usize>> {
+            Some(0..self.end)
+        }
+    }
+
+    impl SealedSliceIndex for RangeInclusive<usize> {
+        #[inline]
+        fn window(self, _len: usize) -> Option<Range<usize>> {
+            Some(*self.start()..self.end().checked_add(1)?)
+        }
+    }
+
+    impl SealedSliceIndex for RangeToInclusive<usize> {
+        #[inline]
+        fn window(self, _len: usize) -> Option<Range<usize>> {
+            Some(0..self.end.checked_add(1)?)
+        }
+    }
+}
+
+/// A range of offsets, as [`std::slice::SliceIndex`]. The trait is sealed: its implementations are
+/// those for the ranges of `usize`.
+pub trait SliceIndex<T>: private::SealedSliceIndex
+where
+    T: ?Sized,
+{
+    /// The type of a part: the same as that of the whole.
+    type Output: ?Sized;
+
+    /// Returns the part, or `None` if the range is out of bounds, its start is after its end, or
+    /// one of them is not a character boundary.
+    fn get(self, slice: &T) -> Option<&Self::Output>;
+
+    /// Returns the part, mutable, or `None` as [`get`](SliceIndex::get).
+    fn get_mut(self, slice: &mut T) -> Option<&mut Self::Output>;
+
+    /// Returns the part, without a test.
+    ///
+    /// # Safety
+    ///
+    /// [`get`](SliceIndex::get) would return `Some`.
+    unsafe fn get_unchecked(self, slice: &T) -> &Self::Output;
+
+    /// Returns the part, mutable, without a test.
+    ///
+    /// # Safety
+    ///
+    /// [`get_mut`](SliceIndex::get_mut) would return `Some`.
+    unsafe fn get_unchecked_mut(self, slice: &mut T) -> &mut Self::Output;
+
+    /// Returns the part.
+    ///
+    /// # Panics
+    ///
+    /// Panics if [`get`](SliceIndex::get) would return `None`.
+    fn index(self, slice: &T) -> &Self::Output;
+
+    /// Returns the part, mutable.
+    ///
+    /// # Panics
+    ///
+    /// Panics if [`get_mut`](SliceIndex::get_mut) would return `None`.
+    fn index_mut(self, slice: &mut T) -> &mut Self::Output;
+}
+
+/// Returns the window, or panics if there is none.
+#[inline]
+fn expect(window: Option<Range<usize>>) -> Range<usize> {
+    window.expect("index overflow")
+}
+
+/// Returns the window if it begins and ends at boundaries, and does not end before it begins.
+#[inline]
+fn checked<E: ByteOrder>(window: Range<usize>, slice: &WStr<E>) -> Option<Range<usize>> {
+    let is_part = window.start <= window.end
+        && slice.is_char_boundary(window.start)
+        && slice.is_char_boundary(window.end);
+    is_part.then_some(window)
+}
+
+impl<I, E> SliceIndex<WStr<E>> for I
+where
+    I: private::SealedSliceIndex,
+    E: 'static + ByteOrder,
+{
+    type Output = WStr<E>;
+
+    #[inline]
+    fn get(self, slice: &WStr<E>) -> Option<&WStr<E>> {
+        let window = checked(self.window(slice.len())?, slice)?;
+        // SAFETY: both ends are boundaries, in this order.
+        Some(unsafe { window.get_unchecked(slice) })
+    }
+
+    #[inline]
+    fn get_mut(self, slice: &mut WStr<E>) -> Option<&mut WStr<E>> {
+        let window = checked(self.window(slice.len())?, slice)?;
+        // SAFETY: both ends are boundaries, in this order.
+        Some(unsafe { window.get_unchecked_mut(slice) })
+    }
+
+    #[inline]
+    unsafe fn get_unchecked(self, slice: &WStr<E>) -> &WStr<E> {
+        let window = expect(self.window(slice.len()));
+        // SAFETY: the caller says that the range is a part.
+        unsafe { WStr::from_utf16_unchecked(slice.as_bytes().get_unchecked(window)) }
+    }
+
+    #[inline]
+    unsafe fn get_unchecked_mut(self, slice: &mut WStr<E>) -> &mut WStr<E> {
+        let window = expect(self.window(slice.len()));
+        // SAFETY: the caller says that the range is a part.
+        unsafe { WStr::from_utf16_unchecked_mut(slice.as_bytes_mut().get_unchecked_mut(window)) }
+    }
+
+    #[inline]
+    fn index(self, slice: &WStr<E>) -> &WStr<E> {
+        expect(self.window(slice.len()))
+            .get(slice)
+            .expect("slice index out of bounds")
+    }
+
+    #[inline]
+    fn index_mut(self, slice: &mut WStr<E>) -> &mut WStr<E> {
+        expect(self.window(slice.len()))
+            .get_mut(slice)
+            .expect("slice index out of bounds")
+    }
+}
+
+impl<I, E> Index<I> for WStr<E>
+where
+    I: SliceIndex<WStr<E>>,
+    E: ByteOrder,
+{
+    type Output = I::Output;
+
+    #[inline]
+    fn index(&self, index: I) -> &I::Output {
+        index.index(self)
+    }
+}
+
+impl<I, E> IndexMut<I> for WStr<E>
+where
+    I: SliceIndex<WStr<E>>,
+    E: ByteOrder,
+{
+    #[inline]
+    fn index_mut(&mut self, index: I) -> &mut I::Output {
+        index.index_mut(self)
+    }
+}
+
+impl<I, E> Index<I> for WString<E>
+where
+    I: SliceIndex<WStr<E>>,
+    E: ByteOrder,
+{
+    type Output = I::Output;
+
+    #[inline]
+    fn index(&self, index: I) -> &I::Output {
+        index.index(self)
+    }
+}
+
+impl<I, E> IndexMut<I> for WString<E>
+where
+    I: SliceIndex<WStr<E>>,
+    E: ByteOrder,
+{
+    #[inline]
+    fn index_mut(&mut self, index: I) -> &mut I::Output {
+        index.index_mut(self)
+    }
+}

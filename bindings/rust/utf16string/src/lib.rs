@@ -1,0 +1,48 @@
+//! UTF-16 strings in either byte order: [`WStr`] and [`WString`] are to UTF-16 what [`str`] and
+//! [`String`] are to UTF-8.
+//!
+//! The names, types and signatures are those of the crate `utf16string` 0.2.0, so a program that
+//! uses it changes one line of its `Cargo.toml`:
+//!
+//! ```toml
+//! [dependencies]
+//! utf16string = { path = "dethrux/bindings/rust/utf16string" }
+//! ```
+//!
+//! Validation, boundaries, counts, conversions and comparison are calls of the C library
+//! `libdethrux`, which are proved. What is Rust's own is thin and tested, not proved: slicing by
+//! brackets, `Deref`, the iterators, and the moving of bytes within a vector.
+//!
+//! ```
+//! use utf16string::{WStr, WString, BE, LE};
+//!
+//! let mut name: WString<BE> = WString::from("h\u{1F600}");
+//! name.push('!');
+//! assert_eq!(name.len(), 8);
+//! assert_eq!(name[2..6].to_utf8(), "\u{1F600}");
+//!
+//! let error = WStr::<LE>::from_utf16(b"h\0\0\xDC").unwrap_err();
+//! assert_eq!((error.valid_up_to(), error.error_len()), (2, Some(2)));
+//! ```
+//!
+//! Lengths, offsets and capacities count bytes.
+
+#![forbid(unsafe_op_in_unsafe_fn)]
+#![deny(missing_docs)]
+#![warn(missing_debug_implementations)]
+
+mod error;
+mod index;
+mod iter;
+mod order;
+mod string;
+mod utf16;
+mod view;
+
+pub use byteorder::{BigEndian, LittleEndian, BE, LE};
+
+pub use error::Utf16Error;
+pub use index::SliceIndex;
+pub use iter::{WStrCharIndices, WStrChars};
+pub use string::WString;
+pub use view::WStr;

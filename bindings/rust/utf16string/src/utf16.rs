@@ -1,0 +1,109 @@
+//! Code units and characters.
+
+use byteorder::ByteOrder;
+
+/// Returns whether a code unit is a leading surrogate, 0xD800 to 0xDBFF.
+#[inline]
+pub(crate) fn is_leading_surrogate(unit: u16) -> bool {
+    matches!(unit, 0xD800..=0xDBFF)
+}
+
+/// Returns whether a code unit is a trailing surrogate, 0xDC00 to 0xDFFF.
+#[inline]
+pub(crate) fn is_trailing_surrogate(unit: u16) -> bool {
+    matches!(unit, 0xDC00..=0xDFFF)
+}
+
+/// Returns the character of a surrogate pair.
+#[inline]
+pub(crate) fn decode_surrogates(leading: u16, trailing: u16) -> char {
+    let bits = (u32::from(leading) & 0x3FF) << 10 | u32::from(trailing) & 0x3FF;
+    char::from_u32(0x1_0000 + bits).unwrap_or(char::REPLACEMENT_CHARACTER)
+}
+
+/// The encoding of a character.
+pub(crate) trait Utf16CharExt {
+    /// Returns the length of its encoding: 2 or 4 bytes.
+    fn encoded_utf16_len(self) -> usize;
+
+    /// Writes its encoding to the start of a buffer, and returns the length.
+    ///
+    /// # Panics
+    ///
+    /// Panics if the buffer is shorter.
+    fn encode_utf16_into<E: ByteOrder>(self, to: &mut [u8]) -> usize;
+}
+
+impl Utf16CharExt for char {
+    #[inline]
+    fn encoded_utf16_len(self) -> usize {
+        2 * self.len_utf16()
+    }
+
+    #[inline]
+    fn encode_utf16_into<E: ByteOrder>(self, to: &mut [u8]) -> usize {
+        let len = self.encoded_utf16_len();
+        assert!(to.len() >= len, "destination too small, need {} bytes", len);
+        E::write_u16_into(self.encode_utf16(&mut [0; 2]), &mut to[..len]);
+        len
+    }
+}
+
+#[cfg(test)]
+mod tests {
+    use super::*;
+    use crate::LE;
+
+    #[test]
+    fn test_is_leading_surrogate() {
+        assert!(is_leading_surrogate(0xD800));
+        assert!(!is_leading_surrogate(0xF800));
+        let leading = (0..=u16::MAX).filter(|unit| is_leading_surrogate(*unit));
+        assert!(leading.eq(0xD800..0xDC00));
+    }
+
+    #[test]
+    fn test_is_trailing_surrogate() {
+        assert!(is_trailing_surrogate(0xDC00));
+        assert!(!is_trailing_surrogate(0xFC00));
+        let trailing = (0..=u16::MAX).filter(|unit| is_trailing_surrogate(*unit));
+        assert!(trailing.eq(0xDC00..0xE000));
+    }
+
+    #[test]
+    fn every_pair_is_a_character() {
+        let mut units = [0; 2];
+        for character in '\u{10000}'..=char::MAX {
+            character.encode_utf16(&mut units);
+            assert_eq!(decode_surrogates(units[0], units[1]), character);
+        }
+    }
+
+    #[test]
+    fn test_utf16_char_ext_encode_utf16_into() {
+        let mut bytes = [0xAA; 10];
+        assert_eq!('a'.encode_utf16_into::<LE>(&mut bytes), 2);
+        assert_eq!('\u{10000}'.encode_utf16_into::<LE>(&mut bytes[2..]), 4);
+        assert_eq!(bytes, *b"a\0\0\xD8\0\xDC\xAA\xAA\xAA\xAA");
+    }
+
+    #[test]
+    #[should_panic(expected = "destination too small, need 2 bytes")]
+    fn test_utf16_char_ext_encode_utf16_into_too_small_single_unit() {
+        'a'.encode_utf16_into::<LE>(&mut [0; 1]);
+    }
+
+    #[test]
+    #[should_panic(expected = "destination too small, need 4 bytes")]
+    fn test_utf16_char_ext_encode_utf16_into_too_small_surrogate() {
+        '\u{10000}'.encode_utf16_into::<LE>(&mut [0; 3]);
+    }
+
+    #[test]
+    fn test_utf16_char_ext_len_utf16_bytes() {
+        for (character, len) in [('c', 2), ('\u{10000}', 4)] {
+            assert_eq!(character.encoded_utf16_len(), len);
+            assert_eq!(character.encoded_utf16_len(), 2 * character.len_utf16());
+        }
+    }
+}
