@@ -1,7 +1,7 @@
 #!/usr/bin/env bash
-# Looks for each block of Rattle in the documents in the file of the tree that the text before it
-# names last: it must be there, paragraph by paragraph, so the code of a document is proved. Prints
-# each that is not, and last a line 'N passed, M failed'.
+# Looks for each block of Rattle or Rust in the documents in the file of the tree that the text
+# before it names last: it must be there, paragraph by paragraph, so the code of a document is
+# proved, and that of bindings/ tested. Prints each that is not, and last a line 'N passed, M failed'.
 set -uo pipefail
 cd "$(dirname "$0")/.." || exit 1
 passed=0
@@ -37,7 +37,7 @@ for document in README.md docs/*.md; do
         elif [[ $line == '```'* ]]; then
             inside=${line#'```'}
             inside=${inside:-text}
-        elif [[ $line =~ \`(crates/[a-z0-9_/]+\.rt)\` ]]; then
+        elif [[ $line =~ \`(crates/[a-z0-9_/]+\.rt|bindings/[a-z0-9_/]+\.rs)\` ]]; then
             source=${BASH_REMATCH[1]}
         fi
     done < "$document"

@@ -1,0 +1,162 @@
+#!/usr/bin/env bash
+# Tests the crates of this folder without network: their tests and the examples of their
+# documentation with each set of features, the page docs/RUST.md in an empty project, the errors of
+# the build script, formatting and lints. The last line is 'N passed, M failed'. It needs cargo,
+# cc, the library (crates/dethrux/out/libdethrux.a, or the folder that DETHRUX_LIB_DIR names), and
+# for utf16string the crate byteorder (Debian: librust-byteorder-dev). What is missing is a failure.
+set -uo pipefail
+here=$(cd "$(dirname "$0")" && pwd)
+top=$(cd "$here/../.." && pwd)
+registry=/usr/share/cargo/registry
+room=$(mktemp -d)
+trap 'rm -rf "$room"' EXIT
+passed=0
+failed=0
+
+fail() {
+    failed=$((failed + 1))
+    echo "failed: $1"
+}
+
+# Runs a step, whose output counts by the lines of cargo test and of the tables of cases, or as one.
+count() {
+    local name=$1 line number=0
+    shift
+    if ! "$@" > "$room/said" 2>&1; then
+        fail "$name"
+        tail -n 30 "$room/said"
+        return 1
+    fi
+    while IFS= read -r line; do
+        [[ $line =~ ^(test\ result:\ ok\.\ )?([0-9]+)\ passed[,\;]\ 0\ failed ]] || continue
+        number=$((number + BASH_REMATCH[2]))
+    done < "$room/said"
+    passed=$((passed + (number > 0 ? number : 1)))
+}
+
+# Runs cargo without network, on the crate of the first argument. It is run in a folder whose
+# configuration takes crates from Debian's packages.
+on_crate() {
+    local crate=$1 command=$2
+    shift 2
+    (cd "$room" && cargo "$command" --offline --manifest-path "$here/$crate/Cargo.toml" "$@")
+}
+
+documented() {
+    RUSTDOCFLAGS='-D warnings' on_crate "$@"
+}
+
+# Formatting and lints, if this toolchain has them.
+lint() {
+    local crate=$1
+    if cargo fmt --version > "$room/said" 2>&1; then
+        count "$crate: cargo fmt" cargo fmt --check --manifest-path "$here/$crate/Cargo.toml"
+    else
+        echo "not run: cargo fmt of $crate (rustup component add rustfmt)"
+    fi
+    if cargo clippy --version > "$room/said" 2>&1; then
+        count "$crate: cargo clippy" on_crate "$crate" clippy --quiet --all-targets -- -D warnings
+    else
+        echo "not run: cargo clippy of $crate (rustup component add clippy)"
+    fi
+}
+
+test_dethrux() {
+    count 'dethrux' on_crate dethrux test
+    count 'dethrux without features' on_crate dethrux test --no-default-features
+    count 'dethrux with alloc' on_crate dethrux test --no-default-features --features alloc
+    count 'the documentation of dethrux' documented dethrux doc --no-deps
+    lint dethrux
+}
+
+# The tests over the shared library.
+test_dynamic() {
+    mkdir "$room/shared"
+    cc -shared -o "$room/shared/libdethrux.so" \
+        -Wl,--whole-archive "$library" -Wl,--no-whole-archive || return
+    DETHRUX_LIB_DIR=$room/shared LD_LIBRARY_PATH=$room/shared \
+        on_crate dethrux test --features dynamic --test std --test adapters
+}
+
+test_utf16string() {
+    if ! compgen -G "$registry/byteorder-1.*" > /dev/null; then
+        fail 'utf16string: there is no crate byteorder: apt-get install librust-byteorder-dev'
+        return
+    fi
+    count 'utf16string' on_crate utf16string test
+    count 'the documentation of utf16string' documented utf16string doc --no-deps
+    lint utf16string
+}
+
+# Prints the first block of the page that is in a language.
+block() {
+    sed -n "/^\`\`\`$1\$/,/^\`\`\`\$/p" "$top/docs/RUST.md" | sed '1d; /^```$/,$d'
+}
+
+# The page, in an empty project beside a clone.
+test_page() {
+    local project=$room/page/first
+    mkdir -p "$project/src" && ln -s "$top" "$room/page/dethrux" || return
+    block toml > "$project/Cargo.toml"
+    block rust > "$project/src/main.rs"
+    [ -s "$project/src/main.rs" ] || return
+    (cd "$project" && cargo build --offline --quiet) || return
+    printf '\xFF\xFEh\0\x05\x26\n\0' | "$CARGO_TARGET_DIR/debug/first" > "$room/found" || return
+    printf 'h★\n' | cmp - "$room/found" || return
+    printf '\0h\xDC\0\0' | "$CARGO_TARGET_DIR/debug/first" > "$room/found" || return
+    printf 'h\xEF\xBF\xBD\xEF\xBF\xBD' | cmp - "$room/found" || return
+    [ "$(wc -l < "$top/docs/RUST.md")" -le 60 ]
+}
+
+# Whether the build script fails with one line, in a copy of the crate outside of the repository.
+refuses() {
+    local line=$1
+    shift
+    [ -d "$room/copy" ] || cp -r "$here/dethrux" "$room/copy"
+    if (cd "$room/copy" && PKG_CONFIG_PATH='' PKG_CONFIG_LIBDIR=$room "$@" cargo build --offline) \
+        > "$room/refusal" 2>&1; then
+        echo "it builds, and should not"
+        return 1
+    fi
+    grep -qxF "  error: $line" "$room/refusal" || { cat "$room/refusal"; return 1; }
+}
+
+test_refusals() {
+    local empty=$room/empty other=$room/other said
+    mkdir "$empty" "$other"
+    printf 'unsigned dethrux_version(void) { return 2001; }\n' > "$other/other.c"
+    cc -c "$other/other.c" -o "$other/other.o" && ar cr "$other/libdethrux.a" "$other/other.o"
+    count 'no library' refuses \
+        'there is no libdethrux.a: install libdethrux, or set DETHRUX_LIB_DIR to its folder' \
+        env -u DETHRUX_LIB_DIR
+    count 'a folder without the library' refuses \
+        "DETHRUX_LIB_DIR is $empty, which has no libdethrux.a: point it to one, or unset it" \
+        env "DETHRUX_LIB_DIR=$empty"
+    said="$other/libdethrux.a has version 0.2.1, this crate 0.1.0"
+    said+=": install that, or set DETHRUX_LIB_DIR to it"
+    count 'another version' refuses "$said" env "DETHRUX_LIB_DIR=$other"
+    rm "$other/libdethrux.a" && : > "$other/libdethrux.a"
+    said="$other/libdethrux.a cannot be used, since a program does not link with it"
+    said+=": install it again, or set DETHRUX_LIB_DIR"
+    count 'a file that is no library' refuses "$said" env "DETHRUX_LIB_DIR=$other"
+}
+
+library=${DETHRUX_LIB_DIR:-$top/crates/dethrux/out}/libdethrux.a
+for tool in cargo rustc cc ar cmp sed; do
+    command -v "$tool" > /dev/null || fail "there is no $tool"
+done
+[ -f "$library" ] || fail "there is no $library: (cd crates/dethrux && rt lib)"
+if [ $failed = 0 ]; then
+    export CARGO_TARGET_DIR=$room/target DETHRUX_LIB_DIR=${library%/*}
+    export CARGO_PROFILE_DEV_DEBUG=0 CARGO_INCREMENTAL=0
+    mkdir "$room/.cargo"
+    printf '[source.crates-io]\nreplace-with = "debian"\n[source.debian]\ndirectory = "%s"\n' \
+        "$registry" > "$room/.cargo/config.toml"
+    test_dethrux
+    count 'dethrux over the shared library' test_dynamic
+    test_utf16string
+    count 'the page docs/RUST.md' test_page
+    test_refusals
+fi
+echo "$passed passed, $failed failed"
+[ $failed = 0 ]
