@@ -1,7 +1,8 @@
 #!/usr/bin/env bash
 # Looks for each block of Rattle or Rust in the documents in the file of the tree that the text
 # before it names last: it must be there, paragraph by paragraph, so the code of a document is
-# proved, and that of bindings/ tested. Prints each that is not, and last a line 'N passed, M failed'.
+# proved, and that of bindings/ tested. Prints each that is not, and last a line 'N passed, M
+# failed'.
 set -uo pipefail
 cd "$(dirname "$0")/.." || exit 1
 passed=0

@@ -30,9 +30,10 @@
 //! # Panics and allocation
 //!
 //! No call panics for any input. The library does not allocate. The calls under `alloc` allocate
-//! as `Vec::reserve` does, each at most once: without memory the allocator's handler runs, and a
-//! capacity above `isize::MAX` panics. [`io::Reader`] and [`io::Writer`] allocate one buffer each,
-//! when they are made.
+//! as `Vec` does, once, for the longest result: without memory the allocator's handler runs, and a
+//! capacity above `isize::MAX` panics. The capacity of what they return may be up to three times
+//! its length.
+//! [`io::Reader`] and [`io::Writer`] allocate one buffer each, when they are made.
 //!
 //! # Threads
 //!

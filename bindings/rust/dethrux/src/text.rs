@@ -1,12 +1,31 @@
 //! Calls that return a `String` or a `Vec`.
+//!
+//! Each reserves for the longest result, since a count beforehand can take as long as the
+//! conversion.
 
 use alloc::{string::String, vec::Vec};
-use core::mem::MaybeUninit;
+use core::mem::{size_of_val, MaybeUninit};
 
 use crate::buffer::append;
-use crate::{from_utf8, from_utf8_len, from_utf8_lossy, from_utf8_lossy_len};
-use crate::{to_utf8, to_utf8_lossy, to_utf8_lossy_len};
+use crate::{from_utf8, from_utf8_lossy, from_utf8_max_len};
+use crate::{to_utf8, to_utf8_lossy, to_utf8_max_len};
 use crate::{ByteOrder, Status, Utf16Error};
+
+/// Unused elements that are not worth a call of the allocator.
+const FEW: usize = 64;
+
+/// A capacity from which on unused memory stays: most of its pages were never touched, and a
+/// smaller block may be a copy.
+const LARGE: usize = 65536;
+
+/// Returns memory to the allocator if most of the capacity is unused.
+fn trimmed<T>(mut vector: Vec<T>) -> Vec<T> {
+    let unused = vector.capacity() - vector.len();
+    if unused > vector.len().max(FEW) && vector.capacity() < LARGE {
+        vector.shrink_to_fit();
+    }
+    vector
+}
 
 /// Returns the text of UTF-16.
 ///
@@ -16,7 +35,8 @@ use crate::{ByteOrder, Status, Utf16Error};
 pub fn decode(order: ByteOrder, utf16: &[u8]) -> Result<String, Utf16Error> {
     let mut text = String::new();
     decode_to(order, utf16, &mut text)?;
-    Ok(text)
+    // SAFETY: they are the bytes of a string.
+    Ok(unsafe { String::from_utf8_unchecked(trimmed(text.into_bytes())) })
 }
 
 /// Appends the text of UTF-16 to a string. It allocates at most once.
@@ -37,12 +57,9 @@ pub fn decode_to(order: ByteOrder, utf16: &[u8], to: &mut String) -> Result<(), 
     let len = to.len();
     // SAFETY: the library writes UTF-8, and the length is taken back to one between characters.
     let bytes = unsafe { to.as_mut_vec() };
+    let max_len = to_utf8_max_len(utf16.len());
     // SAFETY: the library initializes what it wrote.
-    let progress = unsafe {
-        append(bytes, to_utf8_lossy_len(order, utf16), |spare| {
-            to_utf8(order, utf16, spare)
-        })
-    };
+    let progress = unsafe { append(bytes, max_len, |spare| to_utf8(order, utf16, spare)) };
     let error_len = match progress.status {
         Status::Done => return Ok(()),
         Status::IllFormed(len) => Some(len as u8),
@@ -66,11 +83,13 @@ pub fn decode_to(order: ByteOrder, utf16: &[u8], to: &mut String) -> Result<(), 
 #[must_use]
 pub fn decode_lossy(order: ByteOrder, utf16: &[u8]) -> String {
     let mut utf8 = Vec::new();
-    let len = to_utf8_lossy_len(order, utf16);
+    let max_len = to_utf8_max_len(utf16.len());
     // SAFETY: the library initializes what it wrote, and writes UTF-8.
     unsafe {
-        append(&mut utf8, len, |spare| to_utf8_lossy(order, utf16, spare));
-        String::from_utf8_unchecked(utf8)
+        append(&mut utf8, max_len, |spare| {
+            to_utf8_lossy(order, utf16, spare)
+        });
+        String::from_utf8_unchecked(trimmed(utf8))
     }
 }
 
@@ -79,18 +98,15 @@ pub fn decode_lossy(order: ByteOrder, utf16: &[u8]) -> String {
 pub fn encode(order: ByteOrder, text: &str) -> Vec<u8> {
     let mut utf16 = Vec::new();
     encode_to(order, text, &mut utf16);
-    utf16
+    trimmed(utf16)
 }
 
 /// Appends the UTF-16 of a text to a vector. It allocates at most once.
 pub fn encode_to(order: ByteOrder, text: &str, to: &mut Vec<u8>) {
     let utf8 = text.as_bytes();
+    let max_len = from_utf8_max_len(utf8.len());
     // SAFETY: the library initializes what it wrote.
-    unsafe {
-        append(to, from_utf8_len(utf8), |spare| {
-            from_utf8(order, utf8, spare)
-        })
-    };
+    unsafe { append(to, max_len, |spare| from_utf8(order, utf8, spare)) };
 }
 
 /// Returns the UTF-16 of bytes that may be ill-formed UTF-8, with U+FFFD for each ill-formed
@@ -98,10 +114,14 @@ pub fn encode_to(order: ByteOrder, text: &str, to: &mut Vec<u8>) {
 #[must_use]
 pub fn encode_lossy(order: ByteOrder, utf8: &[u8]) -> Vec<u8> {
     let mut utf16 = Vec::new();
-    let len = from_utf8_lossy_len(utf8);
+    let max_len = from_utf8_max_len(utf8.len());
     // SAFETY: the library initializes what it wrote.
-    unsafe { append(&mut utf16, len, |spare| from_utf8_lossy(order, utf8, spare)) };
-    utf16
+    unsafe {
+        append(&mut utf16, max_len, |spare| {
+            from_utf8_lossy(order, utf8, spare)
+        })
+    };
+    trimmed(utf16)
 }
 
 /// Returns the code units of a text: `str::encode_utf16`, collected.
@@ -112,17 +132,17 @@ pub fn encode_lossy(order: ByteOrder, utf8: &[u8]) -> Vec<u8> {
 #[must_use]
 pub fn encode_units(text: &str) -> Vec<u16> {
     let utf8 = text.as_bytes();
-    let mut units: Vec<u16> = Vec::with_capacity(from_utf8_len(utf8) / 2);
+    let mut units: Vec<u16> = Vec::with_capacity(utf8.len());
     let spare = units.spare_capacity_mut();
     // SAFETY: the bytes of units may be written, and a byte needs no alignment.
     let bytes = unsafe {
         core::slice::from_raw_parts_mut(
             spare.as_mut_ptr().cast::<MaybeUninit<u8>>(),
-            core::mem::size_of_val(spare),
+            size_of_val(spare),
         )
     };
     let progress = from_utf8(ByteOrder::NATIVE, utf8, bytes);
     // SAFETY: so many units were written, whole ones.
     unsafe { units.set_len(progress.written / 2) };
-    units
+    trimmed(units)
 }

@@ -7,7 +7,7 @@ use std::marker::PhantomData;
 use byteorder::ByteOrder;
 
 use crate::order::byte_order;
-use crate::utf16::{decode_surrogates, is_leading_surrogate, is_trailing_surrogate, Utf16CharExt};
+use crate::utf16::{decode_surrogates, decode_unit, Utf16CharExt};
 
 /// An iterator over the characters of a [`WStr`](crate::WStr), from both ends.
 /// [`WStr::chars`](crate::WStr::chars) returns it.
@@ -51,10 +51,9 @@ impl<E: ByteOrder> Iterator for WStrChars<'_, E> {
     #[inline]
     fn next(&mut self) -> Option<char> {
         let unit = self.next_unit()?;
-        if is_leading_surrogate(unit) {
-            Some(decode_surrogates(unit, self.next_unit()?))
-        } else {
-            char::from_u32(u32::from(unit))
+        match decode_unit(unit) {
+            Some(character) => Some(character),
+            None => Some(decode_surrogates(unit, self.next_unit()?)),
         }
     }
 
@@ -73,10 +72,9 @@ impl<E: ByteOrder> DoubleEndedIterator for WStrChars<'_, E> {
     #[inline]
     fn next_back(&mut self) -> Option<char> {
         let unit = self.next_back_unit()?;
-        if is_trailing_surrogate(unit) {
-            Some(decode_surrogates(self.next_back_unit()?, unit))
-        } else {
-            char::from_u32(u32::from(unit))
+        match decode_unit(unit) {
+            Some(character) => Some(character),
+            None => Some(decode_surrogates(self.next_back_unit()?, unit)),
         }
     }
 }

@@ -14,11 +14,22 @@ pub(crate) fn is_trailing_surrogate(unit: u16) -> bool {
     matches!(unit, 0xDC00..=0xDFFF)
 }
 
+/// Returns the character of a code unit, or `None` if it is a surrogate.
+#[inline]
+pub(crate) fn decode_unit(unit: u16) -> Option<char> {
+    if is_leading_surrogate(unit) || is_trailing_surrogate(unit) {
+        return None;
+    }
+    // SAFETY: the number is not a surrogate, and below 0x110000.
+    Some(unsafe { char::from_u32_unchecked(u32::from(unit)) })
+}
+
 /// Returns the character of a surrogate pair.
 #[inline]
 pub(crate) fn decode_surrogates(leading: u16, trailing: u16) -> char {
     let bits = (u32::from(leading) & 0x3FF) << 10 | u32::from(trailing) & 0x3FF;
-    char::from_u32(0x1_0000 + bits).unwrap_or(char::REPLACEMENT_CHARACTER)
+    // SAFETY: of 20 bits, the number is from 0x10000 to 0x10FFFF.
+    unsafe { char::from_u32_unchecked(0x1_0000 + bits) }
 }
 
 /// The encoding of a character.
@@ -68,6 +79,13 @@ mod tests {
         assert!(!is_trailing_surrogate(0xFC00));
         let trailing = (0..=u16::MAX).filter(|unit| is_trailing_surrogate(*unit));
         assert!(trailing.eq(0xDC00..0xE000));
+    }
+
+    #[test]
+    fn every_unit_is_a_character_or_a_surrogate() {
+        for unit in 0..=u16::MAX {
+            assert_eq!(decode_unit(unit), char::from_u32(u32::from(unit)));
+        }
     }
 
     #[test]
