@@ -1,9 +1,10 @@
 #!/usr/bin/env bash
 # Tests the crates of this folder without network: their tests and the examples of their
-# documentation with each set of features, the page docs/RUST.md in an empty project, the errors of
-# the build script, formatting and lints. The last line is 'N passed, M failed'. It needs cargo,
-# cc, the library (crates/dethrux/out/libdethrux.a, or the folder that DETHRUX_LIB_DIR names), and
-# for utf16string the crate byteorder (Debian: librust-byteorder-dev). What is missing is a failure.
+# documentation with each set of features, the page docs/RUST.md in an empty project, how the build
+# script finds the library and what it refuses, formatting and lints. The last line is 'N passed, M
+# failed'. It needs cargo, cc, pkg-config, the library (crates/dethrux/out/libdethrux.a, or the
+# folder that DETHRUX_LIB_DIR names), and for utf16string the crate byteorder (Debian:
+# librust-byteorder-dev). What is missing is a failure.
 set -uo pipefail
 here=$(cd "$(dirname "$0")" && pwd)
 top=$(cd "$here/../.." && pwd)
@@ -84,8 +85,36 @@ test_utf16string() {
         return
     fi
     count 'utf16string' on_crate utf16string test
+    count 'a program of utf16string 0.2' test_patch
     count 'the documentation of utf16string' documented utf16string doc --no-deps
     lint utf16string
+}
+
+# A program that depends on utf16string 0.2 of the registry, with the crate here in its place.
+test_patch() {
+    local project=$room/patched
+    mkdir -p "$project/src"
+    printf '%s\n' '[package]' 'name = "patched"' 'version = "0.1.0"' 'edition = "2021"' \
+        '[dependencies]' 'byteorder = "1"' 'utf16string = "0.2"' \
+        '[patch.crates-io]' "utf16string = { path = '$here/utf16string' }" > "$project/Cargo.toml"
+    cat > "$project/src/main.rs" << 'END'
+use byteorder::{ByteOrder, LE};
+use utf16string::{WStr, WString};
+
+fn shout<E: 'static + ByteOrder>(name: &WStr<E>) -> WString<E> {
+    let mut shouted = WString::with_capacity(name.len() + 2);
+    shouted.push_wstr(&name[..]);
+    shouted.push('!');
+    shouted
+}
+
+fn main() {
+    let name = WStr::<LE>::from_utf16(b"h\0i\0").expect("well-formed UTF-16");
+    println!("{}", shout(name).as_wstr());
+}
+END
+    (cd "$project" && cargo build --offline --quiet) || return
+    [ "$("$CARGO_TARGET_DIR/debug/patched")" = 'hi!' ]
 }
 
 # Prints the first block of the page that is in a language.
@@ -108,13 +137,25 @@ test_page() {
     [ "$(wc -l < "$top/docs/RUST.md")" -le 60 ]
 }
 
-# Whether the build script fails with one line, in a copy of the crate outside of the repository.
+# Builds a copy of the crate outside of the repository, by a command that sets its environment.
+build_copy() {
+    [ -d "$room/copy" ] || cp -r "$here/dethrux" "$room/copy"
+    (cd "$room/copy" && PKG_CONFIG_LIBDIR=$room "$@" cargo build --offline)
+}
+
+# Whether the build script finds the library that pkg-config knows.
+test_installed() {
+    mkdir "$room/pkgconfig"
+    printf 'libdir=%s\nName: dethrux\nDescription: UTF-16\nVersion: 0.1.0\n' \
+        "${library%/*}" > "$room/pkgconfig/dethrux.pc"
+    build_copy env -u DETHRUX_LIB_DIR "PKG_CONFIG_PATH=$room/pkgconfig"
+}
+
+# Whether the build script fails with one line.
 refuses() {
     local line=$1
     shift
-    [ -d "$room/copy" ] || cp -r "$here/dethrux" "$room/copy"
-    if (cd "$room/copy" && PKG_CONFIG_PATH='' PKG_CONFIG_LIBDIR=$room "$@" cargo build --offline) \
-        > "$room/refusal" 2>&1; then
+    if build_copy "$@" > "$room/refusal" 2>&1; then
         echo "it builds, and should not"
         return 1
     fi
@@ -128,7 +169,7 @@ test_refusals() {
     cc -c "$other/other.c" -o "$other/other.o" && ar cr "$other/libdethrux.a" "$other/other.o"
     count 'no library' refuses \
         'there is no libdethrux.a: install libdethrux, or set DETHRUX_LIB_DIR to its folder' \
-        env -u DETHRUX_LIB_DIR
+        env -u DETHRUX_LIB_DIR PKG_CONFIG_PATH=
     count 'a folder without the library' refuses \
         "DETHRUX_LIB_DIR is $empty, which has no libdethrux.a: point it to one, or unset it" \
         env "DETHRUX_LIB_DIR=$empty"
@@ -142,7 +183,7 @@ test_refusals() {
 }
 
 library=${DETHRUX_LIB_DIR:-$top/crates/dethrux/out}/libdethrux.a
-for tool in cargo rustc cc ar cmp sed; do
+for tool in cargo rustc cc ar pkg-config cmp sed; do
     command -v "$tool" > /dev/null || fail "there is no $tool"
 done
 [ -f "$library" ] || fail "there is no $library: (cd crates/dethrux && rt lib)"
@@ -156,6 +197,7 @@ if [ $failed = 0 ]; then
     count 'dethrux over the shared library' test_dynamic
     test_utf16string
     count 'the page docs/RUST.md' test_page
+    count 'the installed library' test_installed
     test_refusals
 fi
 echo "$passed passed, $failed failed"
