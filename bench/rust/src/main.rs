@@ -1,6 +1,7 @@
 //! Times the Rust strings beside other crates, on the texts in the folder that the argument names,
 //! and prints a table.
 
+use dethrux::{ByteOrder::LittleEndian, Decoder};
 use std::hint::black_box;
 use std::time::{Duration, Instant};
 use utf16string::{WStr, WString, LE};
@@ -96,6 +97,26 @@ const TASKS: &[Task] = &[
             }),
             ("std", |text| {
                 black_box(text.utf8.encode_utf16().collect::<Vec<u16>>()).len()
+            }),
+        ],
+    ),
+    (
+        "a stream in chunks of 4 KiB",
+        &[
+            ("`Decoder::feed`", |text| {
+                let (mut decoder, mut utf8) = (Decoder::new(LittleEndian), [0; 8192]);
+                let chunks = text.utf16.chunks(4096);
+                chunks
+                    .map(|chunk| decoder.feed(chunk, &mut utf8).written)
+                    .sum()
+            }),
+            ("encoding_rs", |text| {
+                let mut decoder = encoding_rs::UTF_16LE.new_decoder_without_bom_handling();
+                let mut utf8 = [0; 8192];
+                let chunks = text.utf16.chunks(4096);
+                chunks
+                    .map(|chunk| decoder.decode_to_utf8(chunk, &mut utf8, false).2)
+                    .sum()
             }),
         ],
     ),

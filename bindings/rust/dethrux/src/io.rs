@@ -156,12 +156,10 @@ impl<W: Write, C: Coder> Writer<W, C> {
     /// Those of the inner writer. Another call continues where this one failed.
     pub fn finish(&mut self) -> Result<()> {
         self.write_output()?;
-        if !self.is_finished {
-            self.is_finished = true;
-            self.output.resize(3, 0);
-            let written = self.coder.finish_to(&mut self.output);
-            self.output.truncate(written);
-        }
+        self.is_finished = true;
+        self.output.resize(3, 0);
+        let written = self.coder.finish_to(&mut self.output);
+        self.output.truncate(written);
         self.flush()
     }
 

@@ -81,6 +81,40 @@ fn a_reader_goes_on_after_an_error() {
 }
 
 #[test]
+fn a_reader_replaces_what_is_ill_formed_wherever_it_is_cut() {
+    let utf16 = b"\0\xD8\0\xD8a\0\0\xDC\0\xD8\0\xDCb\0\0\xD8\0\0\0\xDC\0";
+    let utf8 = b"\xE4\xB8\xE4\xB8\x80\xF0\x9F\x98\xF0\x9F\x98\x80a\xC0\x80\xED\xA0\x80\xF0";
+    let decoded = decode_lossy(LittleEndian, utf16);
+    let encoded = encode_lossy(BigEndian, utf8);
+    for len in 1..6 {
+        for buffer_len in 1..9 {
+            let slow = Slow {
+                bytes: utf16,
+                len,
+                fails: false,
+            };
+            let reader = Reader::new(slow, Decoder::new(LittleEndian));
+            assert_eq!(read_all(reader, buffer_len).0, decoded.as_bytes());
+            let slow = Slow {
+                bytes: utf8,
+                len,
+                fails: false,
+            };
+            let reader = Reader::new(slow, Encoder::new(BigEndian));
+            assert_eq!(read_all(reader, buffer_len).0, encoded);
+        }
+    }
+    assert_eq!(
+        decoded,
+        "\u{FFFD}\u{FFFD}a\u{FFFD}\u{10000}b\u{FFFD}\0\u{FFFD}\u{FFFD}"
+    );
+    assert_eq!(
+        decode_lossy(BigEndian, &encoded),
+        String::from_utf8_lossy(utf8)
+    );
+}
+
+#[test]
 fn a_reader_at_its_end_stays_there() {
     let mut reader = Reader::new(&b"\0"[..], Decoder::new(LittleEndian));
     let mut text = String::new();

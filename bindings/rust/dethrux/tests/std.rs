@@ -75,6 +75,25 @@ fn decodes_as_std() {
 }
 
 #[test]
+fn long_texts_are_shown_whole() {
+    for text in ["aß★\u{1F600}".repeat(100), "★".repeat(1000)] {
+        assert_eq!(
+            display(BigEndian, &encode(BigEndian, &text)).to_string(),
+            text
+        );
+    }
+}
+
+#[test]
+fn an_error_leaves_a_string_as_it_was() {
+    let mut text = String::from("a");
+    assert!(decode_to(LittleEndian, b"b\0\0\xDC", &mut text).is_err());
+    assert_eq!(text, "a");
+    assert!(decode_to(LittleEndian, b"b\0", &mut text).is_ok());
+    assert_eq!(text, "ab");
+}
+
+#[test]
 fn errors_are_at_the_first_unpaired_surrogate() {
     for_units(|order, units, utf16| {
         let mut at = 0;

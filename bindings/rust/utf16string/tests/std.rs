@@ -131,6 +131,15 @@ fn iterators_meet_in_the_middle() {
 }
 
 #[test]
+fn truncate_past_the_length_does_nothing() {
+    let mut text = WString::<BE>::from("a\u{10000}");
+    for new_len in [6, 7, 8, usize::MAX] {
+        text.truncate(new_len);
+        assert_eq!(text.to_utf8(), "a\u{10000}");
+    }
+}
+
+#[test]
 fn ranges_that_are_no_parts_give_none() {
     let text = WString::<LE>::from("a\u{10000}b");
     assert_eq!(
