@@ -31,6 +31,10 @@ impl Text {
         }
     }
 
+    fn is_short(&self) -> bool {
+        self.name.ends_with("short")
+    }
+
     fn string(&self) -> &WStr<LE> {
         WStr::from_utf16le(&self.utf16).expect("well-formed UTF-16")
     }
@@ -60,7 +64,7 @@ const TASKS: &[Task] = &[
     (
         "to a `String`",
         &[
-            ("`WStr::from_utf16le`, `to_utf8`", |text| {
+            ("`WStr::from_utf16le`, then `to_utf8`", |text| {
                 black_box(text.string().to_utf8()).len()
             }),
             ("encoding_rs", |text| {
@@ -175,6 +179,44 @@ fn best_times(calls: &[Call], text: &Text) -> Vec<f64> {
     best
 }
 
+/// Prints a row of a table.
+fn print_row(task: &str, call: &str, figures: impl Iterator<Item = String>) {
+    let figures: Vec<String> = figures.collect();
+    println!("| {task} | {call} | {} |", figures.join(" | "));
+}
+
+/// Times the calls for a task on each text and prints a row for each call: how fast the first is,
+/// and of each other how many times its time is that of the first.
+fn run((task, calls): &Task, texts: &[Text]) {
+    let mut times = Vec::new();
+    for text in texts {
+        let found: Vec<usize> = calls.iter().map(|(_, call)| call(text)).collect();
+        assert!(
+            found.iter().all(|number| *number == found[0]),
+            "{task}, {}: {found:?}",
+            text.name
+        );
+        times.push(best_times(calls, text));
+    }
+    let here = texts
+        .iter()
+        .zip(&times)
+        .map(|(text, times)| match text.is_short() {
+            true => format!("{:.0} ns", times[0] * 1e9),
+            false => format!("{:.1} GB/s", text.utf16.len() as f64 / times[0] / 1e9),
+        });
+    print_row(task, calls[0].0, here);
+    for (index, (call, _)) in calls.iter().enumerate().skip(1) {
+        print_row(
+            "",
+            call,
+            times
+                .iter()
+                .map(|times| format!("{:.2}", times[index] / times[0])),
+        );
+    }
+}
+
 fn main() {
     let folder = std::env::args().nth(1).expect("the folder of the texts");
     let names = [
@@ -186,29 +228,10 @@ fn main() {
         "cjk.short",
         "emoji.short",
     ];
-    println!("| Task | Text | Here | Others, and how many times as fast *here* is |");
-    println!("|---|---|---|---|");
-    for (task, calls) in TASKS {
-        for name in names {
-            let text = Text::read(&folder, name);
-            let found: Vec<usize> = calls.iter().map(|(_, call)| call(&text)).collect();
-            assert!(
-                found.iter().all(|number| *number == found[0]),
-                "{task} {name}: {found:?}"
-            );
-            let times = best_times(calls, &text);
-            let here = if name.ends_with("short") {
-                format!("{:.0} ns", times[0] * 1e9)
-            } else {
-                format!("{:.2} GB/s", text.utf16.len() as f64 / times[0] / 1e9)
-            };
-            let others = calls.iter().zip(&times).skip(1);
-            let others = others.map(|((other, _), time)| format!("{other} {:.2}", time / times[0]));
-            let others = others.collect::<Vec<_>>().join(", ");
-            println!(
-                "| {task} by {} | {} | {here} | {others} |",
-                calls[0].0, text.name
-            );
-        }
+    let texts = names.map(|name| Text::read(&folder, name));
+    println!("| Task | By | {} |", names.join(" | "));
+    println!("|{}", "---|".repeat(2 + names.len()));
+    for task in TASKS {
+        run(task, &texts);
     }
 }
