@@ -19,26 +19,26 @@ use std::io::{Error, ErrorKind, Read, Result, Write};
 use std::vec::Vec;
 
 use crate::buffer::append;
-use crate::coder::sealed::Sealed;
+use crate::stream::sealed::Sealed;
 use crate::{Decoder, Encoder};
 
 /// The size of the buffer of an adapter.
 const BUFFER_LEN: usize = 8192;
 
 /// A [`Decoder`] or an [`Encoder`].
-pub trait Coder: Sealed {}
+pub trait Transcoder: Sealed {}
 
-impl Coder for Decoder {}
-impl Coder for Encoder {}
+impl Transcoder for Decoder {}
+impl Transcoder for Encoder {}
 
 /// Converts what it reads: UTF-16 to UTF-8 by a [`Decoder`], UTF-8 to UTF-16 by an [`Encoder`].
 ///
 /// An error of the inner reader is returned as it is, and reading may go on after it. A buffer of
 /// any length may be read to, and a character may be cut.
 #[derive(Debug)]
-pub struct Reader<R, C> {
+pub struct Reader<R, T> {
     inner: R,
-    coder: C,
+    transcoder: T,
     /// Bytes that were read; those of `start..end` are not converted yet.
     input: Vec<u8>,
     start: usize,
@@ -50,15 +50,15 @@ pub struct Reader<R, C> {
     is_finished: bool,
 }
 
-impl<R: Read, C: Coder> Reader<R, C> {
+impl<R: Read, T: Transcoder> Reader<R, T> {
     /// Returns a reader of the converted stream. It has a buffer of its own, so the inner reader
     /// needs none.
-    pub fn new(inner: R, coder: C) -> Self {
+    pub fn new(inner: R, transcoder: T) -> Self {
         let input = std::vec![0; BUFFER_LEN];
         let short = [0; 4];
         Reader {
             inner,
-            coder,
+            transcoder,
             input,
             start: 0,
             end: 0,
@@ -88,10 +88,10 @@ impl<R: Read, C: Coder> Reader<R, C> {
                 self.end = self.inner.read(&mut self.input)?;
                 if self.end == 0 {
                     self.is_finished = true;
-                    return Ok(self.coder.finish_to(to));
+                    return Ok(self.transcoder.finish_to(to));
                 }
             }
-            let progress = self.coder.feed(&self.input[self.start..self.end], to);
+            let progress = self.transcoder.feed(&self.input[self.start..self.end], to);
             self.start += progress.read;
             if progress.written > 0 {
                 return Ok(progress.written);
@@ -101,7 +101,7 @@ impl<R: Read, C: Coder> Reader<R, C> {
     }
 }
 
-impl<R: Read, C: Coder> Read for Reader<R, C> {
+impl<R: Read, T: Transcoder> Read for Reader<R, T> {
     fn read(&mut self, to: &mut [u8]) -> Result<usize> {
         if to.is_empty() {
             return Ok(0);
@@ -128,21 +128,21 @@ impl<R: Read, C: Coder> Read for Reader<R, C> {
 /// the end is not written, nor what an error of the inner writer left. After such an error nothing
 /// is lost: the next call writes what is left first, and returns the error if it fails again.
 #[derive(Debug)]
-pub struct Writer<W, C> {
+pub struct Writer<W, T> {
     inner: W,
-    coder: C,
+    transcoder: T,
     /// Converted bytes; those from `start` on are not written yet.
     output: Vec<u8>,
     start: usize,
     is_finished: bool,
 }
 
-impl<W: Write, C: Coder> Writer<W, C> {
+impl<W: Write, T: Transcoder> Writer<W, T> {
     /// Returns a writer that converts.
-    pub fn new(inner: W, coder: C) -> Self {
+    pub fn new(inner: W, transcoder: T) -> Self {
         Writer {
             inner,
-            coder,
+            transcoder,
             output: Vec::with_capacity(BUFFER_LEN),
             start: 0,
             is_finished: false,
@@ -158,7 +158,7 @@ impl<W: Write, C: Coder> Writer<W, C> {
         self.write_output()?;
         self.is_finished = true;
         self.output.resize(3, 0);
-        let written = self.coder.finish_to(&mut self.output);
+        let written = self.transcoder.finish_to(&mut self.output);
         self.output.truncate(written);
         self.flush()
     }
@@ -190,7 +190,7 @@ impl<W: Write, C: Coder> Writer<W, C> {
     }
 }
 
-impl<W: Write, C: Coder> Write for Writer<W, C> {
+impl<W: Write, T: Transcoder> Write for Writer<W, T> {
     fn write(&mut self, chunk: &[u8]) -> Result<usize> {
         if self.is_finished {
             return Err(Error::new(
@@ -199,11 +199,11 @@ impl<W: Write, C: Coder> Write for Writer<W, C> {
             ));
         }
         self.write_output()?;
-        let coder = &mut self.coder;
+        let transcoder = &mut self.transcoder;
         // SAFETY: the library initializes what it wrote.
         let progress = unsafe {
             append(&mut self.output, BUFFER_LEN, |spare| {
-                coder.feed(chunk, spare)
+                transcoder.feed(chunk, spare)
             })
         };
         // The chunk is read, so an error is for the next call, which writes the same bytes.

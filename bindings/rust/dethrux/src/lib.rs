@@ -53,7 +53,6 @@ extern crate std;
 mod bom;
 mod buffer;
 mod chunks;
-mod coder;
 mod convert;
 mod display;
 mod error;
@@ -62,6 +61,7 @@ mod inspect;
 #[cfg(feature = "std")]
 pub mod io;
 mod order;
+mod stream;
 #[cfg(feature = "alloc")]
 mod text;
 mod units;
@@ -69,7 +69,6 @@ mod units;
 pub use bom::{detect_bom, Bom};
 pub use buffer::Buffer;
 pub use chunks::{Utf16Chunk, Utf16Chunks};
-pub use coder::{Decoder, Encoder};
 pub use convert::{
     from_utf8, from_utf8_lossy, from_utf8_max_len, make_well_formed, swap_byte_order, to_utf8,
     to_utf8_lossy, to_utf8_max_len, to_utf8_partial, Progress, Status,
@@ -81,6 +80,7 @@ pub use inspect::{
     is_char_boundary, to_utf8_lossy_len, validate,
 };
 pub use order::ByteOrder;
+pub use stream::{Decoder, Encoder};
 #[cfg(feature = "alloc")]
 pub use text::{decode, decode_lossy, decode_to, encode, encode_lossy, encode_to, encode_units};
 pub use units::{units_as_bytes, units_as_bytes_mut};

@@ -66,38 +66,38 @@ pub trait SliceIndex<T>: private::SealedSliceIndex
 where
     T: ?Sized,
 {
-    /// The type of a part: the same as that of the whole.
+    /// The type of a substring: the same as that of the string.
     type Output: ?Sized;
 
-    /// Returns the part, or `None` if the range is out of bounds, its start is after its end, or
-    /// one of them is not a character boundary.
+    /// Returns the substring, or `None` if the range is out of bounds, its start is after its end,
+    /// or one of them is not a character boundary.
     fn get(self, slice: &T) -> Option<&Self::Output>;
 
-    /// Returns the part, mutable, or `None` as [`get`](SliceIndex::get).
+    /// Returns the substring, mutable, or `None` as [`get`](SliceIndex::get).
     fn get_mut(self, slice: &mut T) -> Option<&mut Self::Output>;
 
-    /// Returns the part, without a test.
+    /// Returns the substring, without a test.
     ///
     /// # Safety
     ///
     /// [`get`](SliceIndex::get) would return `Some`.
     unsafe fn get_unchecked(self, slice: &T) -> &Self::Output;
 
-    /// Returns the part, mutable, without a test.
+    /// Returns the substring, mutable, without a test.
     ///
     /// # Safety
     ///
     /// [`get_mut`](SliceIndex::get_mut) would return `Some`.
     unsafe fn get_unchecked_mut(self, slice: &mut T) -> &mut Self::Output;
 
-    /// Returns the part.
+    /// Returns the substring.
     ///
     /// # Panics
     ///
     /// Panics if [`get`](SliceIndex::get) would return `None`.
     fn index(self, slice: &T) -> &Self::Output;
 
-    /// Returns the part, mutable.
+    /// Returns the substring, mutable.
     ///
     /// # Panics
     ///
@@ -114,10 +114,10 @@ fn expect(window: Option<Range<usize>>) -> Range<usize> {
 /// Returns the window if it begins and ends at boundaries, and does not end before it begins.
 #[inline]
 fn checked<E: ByteOrder>(window: Range<usize>, slice: &WStr<E>) -> Option<Range<usize>> {
-    let is_part = window.start <= window.end
+    let is_substring = window.start <= window.end
         && slice.is_char_boundary(window.start)
         && slice.is_char_boundary(window.end);
-    is_part.then_some(window)
+    is_substring.then_some(window)
 }
 
 impl<I, E> SliceIndex<WStr<E>> for I
@@ -144,14 +144,14 @@ where
     #[inline]
     unsafe fn get_unchecked(self, slice: &WStr<E>) -> &WStr<E> {
         let window = expect(self.window(slice.len()));
-        // SAFETY: the caller says that the range is a part.
+        // SAFETY: the caller says that the range is a substring.
         unsafe { WStr::from_utf16_unchecked(slice.as_bytes().get_unchecked(window)) }
     }
 
     #[inline]
     unsafe fn get_unchecked_mut(self, slice: &mut WStr<E>) -> &mut WStr<E> {
         let window = expect(self.window(slice.len()));
-        // SAFETY: the caller says that the range is a part.
+        // SAFETY: the caller says that the range is a substring.
         unsafe { WStr::from_utf16_unchecked_mut(slice.as_bytes_mut().get_unchecked_mut(window)) }
     }
 

@@ -194,8 +194,8 @@ where
         self.raw.as_mut_ptr()
     }
 
-    /// Returns a part, or `None` if the range is out of bounds, its start is after its end, or one
-    /// of them is not a character boundary.
+    /// Returns a substring, or `None` if the range is out of bounds, its start is after its end, or
+    /// one of them is not a character boundary.
     #[inline]
     pub fn get<I>(&self, index: I) -> Option<&<I as SliceIndex<WStr<E>>>::Output>
     where
@@ -204,7 +204,7 @@ where
         index.get(self)
     }
 
-    /// Returns a part, mutable, or `None` as [`get`](WStr::get).
+    /// Returns a substring, mutable, or `None` as [`get`](WStr::get).
     #[inline]
     pub fn get_mut<I>(&mut self, index: I) -> Option<&mut <I as SliceIndex<WStr<E>>>::Output>
     where
@@ -213,7 +213,7 @@ where
         index.get_mut(self)
     }
 
-    /// Returns a part, without a test.
+    /// Returns a substring, without a test.
     ///
     /// # Safety
     ///
@@ -227,7 +227,7 @@ where
         unsafe { index.get_unchecked(self) }
     }
 
-    /// Returns a part, mutable, without a test.
+    /// Returns a substring, mutable, without a test.
     ///
     /// # Safety
     ///

@@ -140,7 +140,7 @@ fn truncate_past_the_length_does_nothing() {
 }
 
 #[test]
-fn ranges_that_are_no_parts_give_none() {
+fn ranges_that_are_not_substrings_give_none() {
     let text = WString::<LE>::from("a\u{10000}b");
     assert_eq!(
         text.get(2..6).map(WStr::to_utf8).as_deref(),
