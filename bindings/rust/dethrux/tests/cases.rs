@@ -4,6 +4,7 @@
 
 use dethrux::ByteOrder::{BigEndian, LittleEndian};
 use dethrux::*;
+use std::cmp::Ordering;
 use std::collections::BTreeSet;
 use std::path::Path;
 
@@ -244,15 +245,27 @@ fn pieces(words: &[&str], order: ByteOrder) -> Option<Vec<Vec<u8>>> {
     }
 }
 
+fn truth(is: bool) -> Word {
+    Plain(if is { "true" } else { "false" })
+}
+
+/// The comparison of two texts.
+fn compared(order: ByteOrder, first: &str, second: &str) -> Option<Vec<Word>> {
+    let (first, second) = (spelled(first, order)?, spelled(second, order)?);
+    Some(vec![Plain(match compare(order, &first, order, &second) {
+        Ordering::Less => "less",
+        Ordering::Equal => "equal",
+        Ordering::Greater => "greater",
+    })])
+}
+
 /// Calls that read bytes.
 fn ask(name: &str, order: ByteOrder, raw: &[u8]) -> Option<Vec<Word>> {
     Some(match name {
-        "count_chars" => vec![Number(count_chars(order, raw))],
-        "is_ascii" => vec![Plain(if is_ascii(order, raw) {
-            "true"
-        } else {
-            "false"
-        })],
+        "count_chars" | "WStrChars::count" => vec![Number(count_chars(order, raw))],
+        "is_ascii" | "WStr::is_ascii" => vec![truth(is_ascii(order, raw))],
+        "WStr::to_utf8" => vec![Text(decode(order, raw).ok()?.into_bytes())],
+        "WString::from_str" => vec![Bytes(encode(order, std::str::from_utf8(raw).ok()?))],
         "to_utf8_lossy_len" => vec![Number(to_utf8_lossy_len(order, raw))],
         "from_utf8_len" => vec![Number(from_utf8_len(raw))],
         "from_utf8_lossy_len" => vec![Number(from_utf8_lossy_len(raw))],
@@ -264,7 +277,7 @@ fn ask(name: &str, order: ByteOrder, raw: &[u8]) -> Option<Vec<Word>> {
     })
 }
 
-const CALLS: [&str; 17] = [
+const CALLS: [&str; 26] = [
     "to_utf8",
     "to_utf8_partial",
     "to_utf8_lossy",
@@ -282,6 +295,15 @@ const CALLS: [&str; 17] = [
     "AnyLossy::every_chunking",
     "Lossy::feed",
     "decode_pieces",
+    "compare",
+    "WStr::cmp",
+    "WString::cmp",
+    "WStr::is_char_boundary",
+    "WString::is_char_boundary",
+    "WStr::to_utf8",
+    "WString::from_str",
+    "WStrChars::count",
+    "WStr::is_ascii",
 ];
 
 fn call(name: &str, order: ByteOrder, values: &[&str]) -> Option<Vec<Word>> {
@@ -291,6 +313,18 @@ fn call(name: &str, order: ByteOrder, values: &[&str]) -> Option<Vec<Word>> {
             order,
             pieces(words, order)?.iter().map(Vec::as_slice),
         ))]),
+        ("compare" | "WStr::cmp" | "WString::cmp", [first, second]) => {
+            compared(order, first, second)
+        }
+        ("WStr::is_char_boundary" | "WString::is_char_boundary", [raw, at]) => {
+            let raw = spelled(raw, order)?;
+            let at = if *at == "max" {
+                usize::MAX
+            } else {
+                at.parse().ok()?
+            };
+            Some(vec![truth(is_char_boundary(order, &raw, at))])
+        }
         ("every_room", [by, raw]) => every_room(by, order, &spelled(raw, order)?),
         (_, [raw, room]) => convert(name, order, &spelled(raw, order)?, room),
         (_, [raw]) => ask(name, order, &spelled(raw, order)?),
