@@ -1,5 +1,9 @@
+/* SPDX-License-Identifier: MIT OR Apache-2.0 */
+
 /* Dethrux: UTF-16 in either byte order, to and from UTF-8, between buffers of the caller's. No call
- * allocates, keeps a pointer or prints anything. C99 and C++11. Link with libdethrux.a alone.
+ * allocates, keeps a pointer or prints anything. C99 and C++11. Link with libdethrux.a alone. It is
+ * for x86-64-v2 and above (SSE4.2, POPCNT): an older processor ends the program with an illegal
+ * instruction.
  *
  * Proved for all inputs of up to PTRDIFF_MAX bytes: each result is as described, and no call reads
  * or writes outside the buffers that it is given. No proof sees the caller, so this is trusted: a
@@ -12,7 +16,34 @@
  * at a time may use a decoder, or a buffer that a call writes to.
  *
  * Lengths, offsets and capacities count bytes. Only dethrux_detect_bom looks for a byte order mark
- * (BOM); to every other call it is the character U+FEFF. */
+ * (BOM); to every other call it is the character U+FEFF.
+ *
+ * A program that decodes little-endian UTF-16 of any length with two small buffers:
+ *
+ *     #include "dethrux.h"
+ *
+ *     #include <stdio.h>
+ *
+ *     int main(void) {
+ *         dethrux_decoder decoder = DETHRUX_DECODER_INIT;
+ *         dethrux_progress progress;
+ *         uint8_t utf16[512], utf8[256];
+ *         size_t len, at;
+ *         while ((len = fread(utf16, 1, sizeof utf16, stdin)) != 0) {
+ *             at = 0;
+ *             do {
+ *                 progress = dethrux_decoder_feed(&decoder, DETHRUX_LITTLE_ENDIAN, utf16 + at,
+ *                                                 len - at, utf8, sizeof utf8);
+ *                 if (fwrite(utf8, 1, progress.written, stdout) != progress.written) {
+ *                     return 1;
+ *                 }
+ *                 at += progress.read;
+ *             } while (progress.status == DETHRUX_NO_SPACE);
+ *         }
+ *         progress = dethrux_decoder_finish(&decoder, utf8, sizeof utf8);
+ *         return fwrite(utf8, 1, progress.written, stdout) != progress.written
+ *             || fflush(stdout) != 0 || ferror(stdin);
+ *     } */
 #ifndef DETHRUX_H
 #define DETHRUX_H
 

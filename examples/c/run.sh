@@ -95,6 +95,20 @@ decodes() {
     { for _ in {1..3000}; do printf 'a\xE4\xB8\x80'; done; printf '\xEF\xBF\xBD'; } | cmp - "$room/found"
 }
 
+# The program in the first comment of the header, compiled as it is there.
+in_comment() {
+    sed -n 's|^ \*     ||p' "$top/include/dethrux.h" | sed 's|} \*/$|}|' > "$room/comment.c"
+    cc -std=c99 -O2 -Wall -Wextra -Wpedantic -Werror "-I$top/include" "$room/comment.c" "$archive" -o "$room/comment"
+}
+
+# That program, on a text that is longer than its buffers, with characters of one to four bytes of
+# UTF-8, an unpaired surrogate and an odd byte at the end.
+comment_decodes() {
+    { for _ in {1..700}; do printf 'a\0\xE4\0\0\x4E\x3D\xD8\0\xDE\0\xD8'; done; printf 'b\0c'; } | "$room/comment" > "$room/found" || return
+    { for _ in {1..700}; do printf 'a\xC3\xA4\xE4\xB8\x80\xF0\x9F\x98\x80\xEF\xBF\xBD'; done; printf 'b\xEF\xBF\xBD'; } > "$room/wanted"
+    cmp "$room/wanted" "$room/found"
+}
+
 shared() {
     cc -shared -o "$room/libdethrux.so" -Wl,--whole-archive "$archive" -Wl,--no-whole-archive
 }
@@ -109,6 +123,7 @@ built=library
 ("$built") > "$room/said" 2>&1 || { tail -n 20 "$room/said"; echo "0 passed, 1 failed"; exit 1; }
 if has cc 'C and Python'; then
     count 'the program in C' in_c decode && count 'a file in chunks' decodes
+    count 'the program of the header' in_comment && count 'the program of the header, in chunks' comment_decodes
     count 'the check in C' in_c check && count 'the cases in C' check_c
     count 'an ignored result in C' refuses_ignored cc -std=c99 -x c
     if has c++ 'the header in C++'; then
