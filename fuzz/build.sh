@@ -1,0 +1,23 @@
+#!/usr/bin/env bash
+# Builds the harness, as fuzz/build.sh COMPILER PROGRAM [ARGUMENT..]. Further arguments are for the
+# compiler. If a tool or a file is missing, one line says so.
+set -euo pipefail
+cd "$(dirname "$0")"
+archive=../crates/dethrux/out/libdethrux.a
+compiler=${1:?the compiler}
+program=${2:?the program to build}
+shift 2
+
+refuse() {
+    echo "fuzz/build.sh: $1" >&2
+    exit 1
+}
+
+command -v "$compiler" > /dev/null || refuse "$compiler is missing: install gcc, or afl++ for AFL++"
+[ -e "$archive" ] || refuse 'libdethrux.a is missing: run rt lib in crates/dethrux'
+echo '#include <unicode/ucnv.h>' | "$compiler" -E - > /dev/null 2>&1 ||
+    refuse 'the headers of ICU are missing: install libicu-dev'
+
+mkdir -p "$(dirname "$program")"
+"$compiler" -std=gnu11 -O2 -g -Wall -Wextra -Werror -I../include -o "$program" \
+    checks.c coverage.c guarded.c harness.c input.c peers.c reference.c "$@" "$archive" -licuuc

@@ -1,0 +1,739 @@
+#include "checks.h"
+
+#include "guarded.h"
+#include "peers.h"
+
+#include <errno.h>
+#include <stdio.h>
+#include <string.h>
+
+/* Lines of a difference, and the hexadecimal digits of a text that it shows. */
+enum { LINE_MAX_LEN = 1024, SHOWN_MAX = 48 };
+
+/* The longest form of UTF-8 that glibc knows. */
+enum { GLIBC_FORM_MAX = 6 };
+
+/* The capacity of a call without `to`. */
+static const size_t NO_OUTPUT = SIZE_MAX;
+
+/* Calls that an older archive lacks are not checked. */
+#pragma weak dethrux_is_char_boundary
+#pragma weak dethrux_floor_char_boundary
+#pragma weak dethrux_swap_byte_order
+#pragma weak dethrux_make_well_formed
+#pragma weak dethrux_compare
+
+static input in;
+static decoded from_utf16, from_utf8;
+
+/* Where the buffers of the last call are, for the line of a difference. */
+static struct {
+    place at; /* PLACES before any call */
+    size_t capacity;
+} situation;
+
+void checks_begin(const input *next) {
+    in = *next;
+    situation.at = PLACES;
+    situation.capacity = NO_OUTPUT;
+    decode_utf16(in.order, in.text, in.len, &from_utf16);
+    decode_utf8(in.order, in.text, in.len, &from_utf8);
+}
+
+static void describe_situation(char *to) {
+    static const char *const PLACE_NAMES[] = {"start of the page", "end of the page",
+                                              "null pointer", "no call"};
+    const char *name = PLACE_NAMES[situation.at];
+    if (situation.capacity == NO_OUTPUT) {
+        snprintf(to, LINE_MAX_LEN, " (%s)", name);
+    } else {
+        snprintf(to, LINE_MAX_LEN, " (%s, capacity %zu)", name, situation.capacity);
+    }
+}
+
+/* Stops unless a number that a call returned is as expected. */
+static void expect(const char *what, size_t got, size_t want) {
+    char line[LINE_MAX_LEN], where[LINE_MAX_LEN];
+    if (got != want) {
+        describe_situation(where);
+        snprintf(line, sizeof line, "%.100s is %zu, expected %zu%.300s", what, got, want, where);
+        report_difference(line);
+    }
+}
+
+static void to_hex(const uint8_t *bytes, size_t len, char *to) {
+    to[0] = 0;
+    for (size_t i = 0; i < len && i < SHOWN_MAX; i++) {
+        snprintf(to + 2 * i, 3, "%02X", bytes[i]);
+    }
+}
+
+/* Stops unless the bytes are as expected, and shows those from the first that differs. */
+static void expect_bytes(const char *what, const uint8_t *got, const uint8_t *want, size_t len) {
+    size_t same = 0;
+    while (same < len && got[same] == want[same]) {
+        same++;
+    }
+    if (same < len) {
+        char line[LINE_MAX_LEN], where[LINE_MAX_LEN];
+        char got_hex[2 * SHOWN_MAX + 1], want_hex[2 * SHOWN_MAX + 1];
+        to_hex(got + same, len - same, got_hex);
+        to_hex(want + same, len - same, want_hex);
+        describe_situation(where);
+        snprintf(line, sizeof line, "%.100s from byte %zu: %s, expected %s%.300s", what, same,
+                 got_hex, want_hex, where);
+        report_difference(line);
+    }
+}
+
+static void expect_progress(dethrux_progress got, dethrux_progress want) {
+    expect("read", got.read, want.read);
+    expect("written", got.written, want.written);
+    expect("status", got.status, want.status);
+    expect("error_len", got.error_len, want.error_len);
+}
+
+/* A null pointer is one more place, if one of the buffers is empty. */
+static place place_count(size_t len) {
+    return len == 0 ? PLACES : AT_NULL;
+}
+
+static place place_count_of_both(size_t len, size_t capacity) {
+    return place_count(len < capacity ? len : capacity);
+}
+
+static const uint8_t *input_at(place at) {
+    situation.at = at;
+    situation.capacity = NO_OUTPUT;
+    return guarded_input(0, in.text, in.len, at);
+}
+
+static uint8_t *output_at(size_t capacity, place at) {
+    situation.at = at;
+    situation.capacity = capacity;
+    return guarded_output(capacity, at);
+}
+
+/* The conversions between buffers. */
+
+typedef dethrux_progress conversion(dethrux_byte_order order, const uint8_t *from, size_t len,
+                                    uint8_t *to, size_t capacity);
+
+static dethrux_progress convert(conversion *call, const decoded *text, conversion_mode mode,
+                                size_t capacity) {
+    dethrux_progress want = expected_progress(text, mode, capacity);
+    for (place at = AT_START; at < place_count_of_both(in.len, capacity); at++) {
+        const uint8_t *from = input_at(at);
+        uint8_t *to = output_at(capacity, at);
+        dethrux_progress got = call(in.order, from, in.len, to, capacity);
+        expect_progress(got, want);
+        expect_bytes("text", to, text->out, got.written);
+        expect("writes nothing outside of `to`", guarded_intact(got.written, false), true);
+    }
+    return want;
+}
+
+/* A capacity of `enough` suffices; and the calls with the chosen capacity. */
+static void check_conversion(conversion *call, const decoded *text, conversion_mode mode,
+                             size_t enough) {
+    expect("capacity suffices", convert(call, text, mode, enough).status != DETHRUX_NO_SPACE, true);
+    convert(call, text, mode, 0);
+    convert(call, text, mode, text->out_len);
+    convert(call, text, mode, in.capacity % (text->out_len + 8));
+    if (text->out_len > 0) {
+        convert(call, text, mode, text->out_len - 1);
+    }
+}
+
+/* With DETHRUX_NO_SPACE fewer than 4 bytes are left. */
+static void expect_full(const dethrux_progress *got, size_t capacity) {
+    if (got->status == DETHRUX_NO_SPACE) {
+        expect("fewer than 4 bytes are left", capacity - got->written < 4, true);
+    }
+}
+
+/* With DETHRUX_NO_SPACE a call with the rest continues: all together write the whole text. */
+static void check_resumed(conversion *call, const decoded *text) {
+    size_t capacity = 4 + in.capacity % 64, read = 0, written = 0;
+    dethrux_progress got = {0, 0, DETHRUX_NO_SPACE, 0};
+    while (got.status == DETHRUX_NO_SPACE) {
+        const uint8_t *from = guarded_input(0, in.text + read, in.len - read, AT_END);
+        uint8_t *to = output_at(capacity, AT_END);
+        got = call(in.order, from, in.len - read, to, capacity);
+        expect_bytes("text", to, text->out + written, got.written);
+        read += got.read;
+        written += got.written;
+        expect_full(&got, capacity);
+    }
+    dethrux_progress want = {got.read, got.written, DETHRUX_DONE, 0};
+    expect_progress(got, want);
+    expect("read in all", read, in.len);
+    expect("written in all", written, text->out_len);
+}
+
+static void check_to_utf8(void) {
+    check_conversion(dethrux_to_utf8, &from_utf16, STRICT, in.len / 2 * 3);
+}
+
+static void check_to_utf8_lossy(void) {
+    check_conversion(dethrux_to_utf8_lossy, &from_utf16, LOSSY, DETHRUX_UTF8_MAX(in.len));
+    check_resumed(dethrux_to_utf8_lossy, &from_utf16);
+}
+
+static void check_from_utf8(void) {
+    check_conversion(dethrux_from_utf8, &from_utf8, STRICT, DETHRUX_UTF16_MAX(in.len));
+}
+
+static void check_from_utf8_lossy(void) {
+    check_conversion(dethrux_from_utf8_lossy, &from_utf8, LOSSY, DETHRUX_UTF16_MAX(in.len));
+    check_resumed(dethrux_from_utf8_lossy, &from_utf8);
+}
+
+/* The streams. */
+
+/* Returns the length of a chunk of the stream. Not all chunks are empty. */
+static size_t chunk_len(size_t number, size_t rest) {
+    static const uint8_t NO_CUTS[CUTS] = {0};
+    size_t len = in.cuts[number % CUTS];
+    if (len > rest || memcmp(in.cuts, NO_CUTS, CUTS) == 0) {
+        len = rest;
+    }
+    return len;
+}
+
+static void expect_written(const decoded *text, size_t before, const uint8_t *to, size_t len) {
+    expect("written so far is at most", before + len > text->out_len, false);
+    expect_bytes("text", to, text->out + before, len);
+}
+
+/* However the stream is cut, dethrux_to_utf8_partial writes the same bytes in all. */
+static void check_partial_stream(void) {
+    uint8_t chunk[DETHRUX_PENDING_MAX + TEXT_MAX];
+    size_t pending = 0, written = 0, capacity = 4 + in.capacity % 64;
+    for (size_t at = 0, number = 0; at < in.len; number++) {
+        size_t len = chunk_len(number, in.len - at);
+        memcpy(chunk + pending, in.text + at, len);
+        at += len;
+        len += pending;
+        size_t read = 0;
+        dethrux_progress got;
+        do {
+            const uint8_t *from = guarded_input(0, chunk + read, len - read, AT_END);
+            uint8_t *to = output_at(capacity, AT_END);
+            got = dethrux_to_utf8_partial(in.order, from, len - read, to, capacity);
+            expect_written(&from_utf16, written, to, got.written);
+            expect_full(&got, capacity);
+            read += got.read;
+            written += got.written;
+        } while (got.status == DETHRUX_NO_SPACE);
+        pending = len - read;
+        expect("pending is at most 3", pending <= DETHRUX_PENDING_MAX, true);
+        memmove(chunk, chunk + read, pending);
+    }
+    uint8_t *to = output_at(DETHRUX_FINISH_MAX, AT_END);
+    dethrux_progress last = dethrux_to_utf8_lossy(in.order, chunk, pending, to, DETHRUX_FINISH_MAX);
+    expect_written(&from_utf16, written, to, last.written);
+    expect("written in all", written + last.written, from_utf16.out_len);
+}
+
+static void check_to_utf8_partial(void) {
+    check_conversion(dethrux_to_utf8_partial, &from_utf16, PARTIAL, in.len / 2 * 3);
+    check_partial_stream();
+}
+
+typedef dethrux_progress feed_call(dethrux_decoder *decoder, dethrux_byte_order order,
+                                   const uint8_t *chunk, size_t len, uint8_t *to, size_t capacity);
+typedef dethrux_progress finish_call(dethrux_decoder *decoder, dethrux_byte_order order,
+                                     uint8_t *to, size_t capacity);
+
+/* The calls of one kind of decoder. */
+typedef struct {
+    feed_call *feed;
+    finish_call *finish;
+    void (*decode)(dethrux_byte_order order, const uint8_t *bytes, size_t len, decoded *to);
+    const decoded *text; /* the whole text of the input */
+    size_t finish_max;
+} decoder_calls;
+
+/* The calls over a state that ends or begins where its buffers do; and over one type of state, so
+ * that the checks are for both. */
+
+static dethrux_progress feed_utf16(dethrux_decoder *decoder, dethrux_byte_order order,
+                                   const uint8_t *chunk, size_t len, uint8_t *to, size_t capacity) {
+    dethrux_decoder *state = guarded_state(decoder, sizeof *decoder, situation.at);
+    dethrux_progress got = dethrux_decoder_feed(state, order, chunk, len, to, capacity);
+    memcpy(decoder, state, sizeof *decoder);
+    return got;
+}
+
+static dethrux_progress finish_utf16(dethrux_decoder *decoder, dethrux_byte_order order,
+                                     uint8_t *to, size_t capacity) {
+    (void)order;
+    dethrux_decoder *state = guarded_state(decoder, sizeof *decoder, situation.at);
+    dethrux_progress got = dethrux_decoder_finish(state, to, capacity);
+    memcpy(decoder, state, sizeof *decoder);
+    return got;
+}
+
+static dethrux_progress feed_utf8(dethrux_decoder *decoder, dethrux_byte_order order,
+                                  const uint8_t *chunk, size_t len, uint8_t *to, size_t capacity) {
+    dethrux_utf8_decoder *state = guarded_state(decoder, sizeof *decoder, situation.at);
+    dethrux_progress got = dethrux_utf8_decoder_feed(state, order, chunk, len, to, capacity);
+    memcpy(decoder, state, sizeof *decoder);
+    return got;
+}
+
+static dethrux_progress finish_utf8(dethrux_decoder *decoder, dethrux_byte_order order, uint8_t *to,
+                                    size_t capacity) {
+    dethrux_utf8_decoder *state = guarded_state(decoder, sizeof *decoder, situation.at);
+    dethrux_progress got = dethrux_utf8_decoder_finish(state, order, to, capacity);
+    memcpy(decoder, state, sizeof *decoder);
+    return got;
+}
+
+static const decoder_calls UTF16_DECODER = {feed_utf16, finish_utf16, decode_utf16, &from_utf16,
+                                            DETHRUX_FINISH_MAX};
+static const decoder_calls UTF8_DECODER = {feed_utf8, finish_utf8, decode_utf8, &from_utf8,
+                                           DETHRUX_UTF8_FINISH_MAX};
+
+static size_t pending_len(const dethrux_decoder *decoder) {
+    return decoder->pending_len < DETHRUX_PENDING_MAX ? decoder->pending_len : DETHRUX_PENDING_MAX;
+}
+
+/* A chunk for a decoder in any state is the next part of a stream that begins with its pending
+ * bytes, and so it is with the state and the rest of the chunk after the call. */
+static void check_feed_once(const decoder_calls *calls, const decoded *text, const uint8_t *stream,
+                            size_t capacity, place at) {
+    size_t before = pending_len(&in.decoder);
+    dethrux_progress want = expected_progress(text, PARTIAL, capacity);
+    const uint8_t *chunk = input_at(at);
+    uint8_t *to = output_at(capacity, at);
+    dethrux_decoder decoder = in.decoder;
+    dethrux_progress got = calls->feed(&decoder, in.order, chunk, in.len, to, capacity);
+    expect("written", got.written, want.written);
+    expect("status", got.status, want.status == DETHRUX_INCOMPLETE ? DETHRUX_DONE : want.status);
+    expect("error_len", got.error_len, 0);
+    expect_bytes("text", to, text->out, got.written);
+    expect("writes nothing outside of `to`", guarded_intact(got.written, false), true);
+    if (got.status == DETHRUX_DONE) {
+        expect("read", got.read, in.len);
+    }
+    expect("pending_len is at most 3", decoder.pending_len <= DETHRUX_PENDING_MAX, true);
+    expect("decoded and pending bytes", want.read + decoder.pending_len, before + got.read);
+    expect_bytes("pending", decoder.pending, stream + want.read, decoder.pending_len);
+}
+
+static void check_feed_any_state(const decoder_calls *calls) {
+    static decoded text;
+    uint8_t stream[DETHRUX_PENDING_MAX + TEXT_MAX];
+    size_t pending = pending_len(&in.decoder);
+    memcpy(stream, in.decoder.pending, pending);
+    memcpy(stream + pending, in.text, in.len);
+    calls->decode(in.order, stream, pending + in.len, &text);
+    size_t chosen = in.capacity % (text.out_len + 8);
+    size_t enough = calls == &UTF16_DECODER ? DETHRUX_FEED_MAX(in.len) : 2 * (pending + in.len);
+    expect("capacity suffices",
+           expected_progress(&text, PARTIAL, enough).status != DETHRUX_NO_SPACE, true);
+    const size_t capacities[] = {0, chosen, enough, text.out_len};
+    for (size_t i = 0; i < sizeof capacities / sizeof capacities[0]; i++) {
+        for (place at = AT_START; at < place_count_of_both(in.len, capacities[i]); at++) {
+            check_feed_once(calls, &text, stream, capacities[i], at);
+        }
+    }
+}
+
+/* However the stream is cut, the same bytes are written in all. */
+static void check_stream(const decoder_calls *calls) {
+    dethrux_decoder decoder = DETHRUX_DECODER_INIT;
+    size_t written = 0, capacity = 4 + in.capacity % 64;
+    for (size_t at = 0, number = 0; at < in.len; number++) {
+        size_t end = at + chunk_len(number, in.len - at);
+        dethrux_progress got;
+        do {
+            const uint8_t *from = guarded_input(0, in.text + at, end - at, AT_END);
+            uint8_t *to = output_at(capacity, AT_END);
+            got = calls->feed(&decoder, in.order, from, end - at, to, capacity);
+            expect_written(calls->text, written, to, got.written);
+            expect_full(&got, capacity);
+            at += got.read;
+            written += got.written;
+        } while (got.status == DETHRUX_NO_SPACE);
+        expect("read so far", at, end);
+    }
+    uint8_t *to = output_at(calls->finish_max, AT_END);
+    dethrux_progress last = calls->finish(&decoder, in.order, to, calls->finish_max);
+    expect_written(calls->text, written, to, last.written);
+    expect("written in all", written + last.written, calls->text->out_len);
+}
+
+static void check_feed(const decoder_calls *calls) {
+    check_feed_any_state(calls);
+    check_stream(calls);
+}
+
+static void check_finish(const decoder_calls *calls) {
+    uint8_t replacement[3];
+    bool pending = in.decoder.pending_len > 0;
+    encode_utf8(REPLACEMENT, replacement);
+    if (calls == &UTF8_DECODER) {
+        encode_utf16(in.order, REPLACEMENT, replacement);
+    }
+    for (size_t capacity = 0; capacity <= calls->finish_max + 1; capacity++) {
+        for (place at = AT_START; at < place_count(capacity); at++) {
+            dethrux_decoder decoder = in.decoder;
+            uint8_t *to = output_at(capacity, at);
+            bool fits = !pending || capacity >= calls->finish_max;
+            dethrux_progress got = calls->finish(&decoder, in.order, to, capacity);
+            dethrux_progress want = {0, pending && fits ? calls->finish_max : 0,
+                                     fits ? DETHRUX_DONE : DETHRUX_NO_SPACE, 0};
+            expect_progress(got, want);
+            expect_bytes("text", to, replacement, got.written);
+            expect("the rest of `to` stays", guarded_intact(got.written, true), true);
+            expect("the decoder begins a new stream", decoder.pending_len,
+                   fits ? 0 : in.decoder.pending_len);
+            if (!fits) {
+                expect_bytes("pending", decoder.pending, in.decoder.pending, DETHRUX_PENDING_MAX);
+            }
+        }
+    }
+}
+
+static void check_decoder_feed(void) {
+    check_feed(&UTF16_DECODER);
+}
+
+static void check_decoder_finish(void) {
+    check_finish(&UTF16_DECODER);
+}
+
+static void check_utf8_decoder_feed(void) {
+    check_feed(&UTF8_DECODER);
+}
+
+static void check_utf8_decoder_finish(void) {
+    check_finish(&UTF8_DECODER);
+}
+
+/* Questions about a text. */
+
+static void check_version(void) {
+    expect("version", dethrux_version(), DETHRUX_VERSION);
+}
+
+static void check_validate(void) {
+    dethrux_progress want = expected_progress(&from_utf16, STRICT, from_utf16.out_len);
+    for (place at = AT_START; at < place_count(in.len); at++) {
+        dethrux_validity got = dethrux_validate(in.order, input_at(at), in.len);
+        expect("valid_up_to", got.valid_up_to, want.read);
+        expect("status", got.status, want.status);
+        expect("error_len", got.error_len, want.error_len);
+    }
+}
+
+static void check_count_chars(void) {
+    size_t count = 0;
+    for (size_t at = 0; at + 2 <= in.len; at += 2) {
+        count += !is_trailing(unit_at(in.order, in.text, at));
+    }
+    for (place at = AT_START; at < place_count(in.len); at++) {
+        expect("count", dethrux_count_chars(in.order, input_at(at), in.len), count);
+    }
+}
+
+static void check_is_ascii(void) {
+    bool ascii = true;
+    for (size_t i = 0; i < from_utf16.item_count; i++) {
+        ascii = ascii && from_utf16.items[i].scalar < 0x80;
+    }
+    for (place at = AT_START; at < place_count(in.len); at++) {
+        expect("result", dethrux_is_ascii(in.order, input_at(at), in.len), ascii);
+    }
+}
+
+static void check_to_utf8_lossy_len(void) {
+    for (place at = AT_START; at < place_count(in.len); at++) {
+        expect("length", dethrux_to_utf8_lossy_len(in.order, input_at(at), in.len),
+               from_utf16.out_len);
+    }
+}
+
+static void check_from_utf8_len(void) {
+    size_t len = expected_progress(&from_utf8, STRICT, from_utf8.out_len).written;
+    for (place at = AT_START; at < place_count(in.len); at++) {
+        expect("length", dethrux_from_utf8_len(input_at(at), in.len), len);
+    }
+}
+
+static void check_from_utf8_lossy_len(void) {
+    for (place at = AT_START; at < place_count(in.len); at++) {
+        expect("length", dethrux_from_utf8_lossy_len(input_at(at), in.len), from_utf8.out_len);
+    }
+}
+
+static void check_detect_bom(void) {
+    uint32_t first = in.len < 2 ? 0 : unit_at(DETHRUX_BIG_ENDIAN, in.text, 0);
+    bool present = first == 0xFEFF || first == 0xFFFE;
+    dethrux_bom_status status = in.len < 2 ? DETHRUX_BOM_UNDECIDED
+                                : present  ? DETHRUX_BOM_PRESENT
+                                           : DETHRUX_BOM_ABSENT;
+    for (place at = AT_START; at < place_count(in.len); at++) {
+        dethrux_bom got = dethrux_detect_bom(input_at(at), in.len);
+        expect("len", got.len, present ? 2 : 0);
+        expect("byte_order", got.byte_order,
+               first == 0xFFFE ? DETHRUX_LITTLE_ENDIAN : DETHRUX_BIG_ENDIAN);
+        expect("status", got.status, status);
+    }
+}
+
+/* Boundaries. */
+
+/* Returns whether no surrogate pair begins one unit before an even offset. */
+static bool is_boundary(size_t at) {
+    if (at > in.len || at % 2 != 0) {
+        return false;
+    }
+    return at == 0 || at + 2 > in.len || !is_leading(unit_at(in.order, in.text, at - 2))
+           || !is_trailing(unit_at(in.order, in.text, at));
+}
+
+static size_t floor_boundary(size_t at) {
+    size_t floor = at < in.len ? at : in.len;
+    while (!is_boundary(floor)) {
+        floor--;
+    }
+    return floor;
+}
+
+/* Calls a check for offsets around the chosen one, at both ends and far after the end. */
+static void for_offsets(void (*check_offset)(const uint8_t *utf16, size_t at)) {
+    for (place at = AT_START; at < place_count(in.len); at++) {
+        const uint8_t *utf16 = input_at(at);
+        for (size_t near = 0; near < 6; near++) {
+            check_offset(utf16, in.at % (in.len + 1) + near);
+            check_offset(utf16, near);
+            check_offset(utf16, in.len + 3 > near ? in.len + 3 - near : 0);
+        }
+        check_offset(utf16, in.at);
+        check_offset(utf16, SIZE_MAX - 1);
+        check_offset(utf16, SIZE_MAX);
+    }
+}
+
+static void check_boundary_at(const uint8_t *utf16, size_t at) {
+    expect("result", dethrux_is_char_boundary(in.order, utf16, in.len, at), is_boundary(at));
+}
+
+static void check_is_char_boundary(void) {
+    if (dethrux_is_char_boundary == NULL) {
+        return;
+    }
+    for_offsets(check_boundary_at);
+}
+
+static void check_floor_at(const uint8_t *utf16, size_t at) {
+    expect("floor", dethrux_floor_char_boundary(in.order, utf16, in.len, at), floor_boundary(at));
+}
+
+static void check_floor_char_boundary(void) {
+    if (dethrux_floor_char_boundary == NULL) {
+        return;
+    }
+    for_offsets(check_floor_at);
+}
+
+/* Calls in place. */
+
+static dethrux_byte_order other_order(dethrux_byte_order order) {
+    return order == DETHRUX_BIG_ENDIAN ? DETHRUX_LITTLE_ENDIAN : DETHRUX_BIG_ENDIAN;
+}
+
+/* Returns a copy of the text that a call may change. */
+static uint8_t *copy_at(place at) {
+    uint8_t *copy = output_at(in.len, at);
+    if (in.len > 0) {
+        memcpy(copy, in.text, in.len);
+    }
+    return copy;
+}
+
+static void swap_units(const uint8_t *from, size_t len, uint8_t *to) {
+    for (size_t i = 0; i < len; i++) {
+        to[i] = i % 2 == 1 ? from[i - 1] : i + 1 < len ? from[i + 1] : from[i];
+    }
+}
+
+static void check_swap_byte_order(void) {
+    if (dethrux_swap_byte_order == NULL) {
+        return;
+    }
+    uint8_t want[TEXT_MAX];
+    swap_units(in.text, in.len, want);
+    for (place at = AT_START; at < place_count(in.len); at++) {
+        uint8_t *copy = copy_at(at);
+        dethrux_swap_byte_order(copy, in.len);
+        expect_bytes("text", copy, want, in.len);
+        expect("writes nothing outside", guarded_intact(in.len, false), true);
+    }
+}
+
+/* Replaces each unpaired surrogate by U+FFFD, also one that is incomplete. Returns how many. */
+static size_t make_well_formed(uint8_t *to) {
+    size_t count = 0, at = 0;
+    memcpy(to, in.text, in.len);
+    for (size_t i = 0; i < from_utf16.item_count; i++) {
+        const item *next = &from_utf16.items[i];
+        if (next->kind != CHARACTER && next->len >= 2) {
+            encode_unit(in.order, REPLACEMENT, to + at);
+            count++;
+        }
+        at += next->len;
+    }
+    return count;
+}
+
+static void check_make_well_formed(void) {
+    if (dethrux_make_well_formed == NULL) {
+        return;
+    }
+    uint8_t want[TEXT_MAX];
+    size_t count = make_well_formed(want);
+    for (place at = AT_START; at < place_count(in.len); at++) {
+        uint8_t *copy = copy_at(at);
+        expect("count", dethrux_make_well_formed(in.order, copy, in.len), count);
+        expect_bytes("text", copy, want, in.len);
+        expect("writes nothing outside", guarded_intact(in.len, false), true);
+    }
+}
+
+/* Comparison. */
+
+static int sign(int compared) {
+    return (compared > 0) - (compared < 0);
+}
+
+/* The order of the bytes of both texts in UTF-8. */
+static int compare_texts(const decoded *first, const decoded *second) {
+    size_t len = first->out_len < second->out_len ? first->out_len : second->out_len;
+    int compared = sign(memcmp(first->out, second->out, len));
+    return compared != 0 ? compared
+                         : (first->out_len > second->out_len) - (first->out_len < second->out_len);
+}
+
+static void compare_with(dethrux_byte_order order, const uint8_t *second, size_t len) {
+    static decoded text;
+    decode_utf16(order, second, len, &text);
+    int want = compare_texts(&from_utf16, &text);
+    for (place at = AT_START; at < place_count(in.len); at++) {
+        const uint8_t *first = input_at(at), *guarded = guarded_input(1, second, len, at);
+        int32_t got = dethrux_compare(in.order, first, in.len, order, guarded, len);
+        int32_t reversed = dethrux_compare(order, guarded, len, in.order, first, in.len);
+        expect("1 + result", (size_t)(1 + got), (size_t)(1 + want));
+        expect("1 + result of the reverse", (size_t)(1 + reversed), (size_t)(1 - want));
+    }
+}
+
+/* The text with itself, with parts of it, and with itself after one change, in both byte orders. */
+static void check_compare(void) {
+    if (dethrux_compare == NULL) {
+        return;
+    }
+    uint8_t other[TEXT_MAX];
+    size_t at = in.at % (in.len + 1);
+    swap_units(in.text, in.len, other);
+    compare_with(in.order, in.text, in.len);
+    compare_with(in.order, in.text, at);
+    compare_with(in.order, in.text + at, in.len - at);
+    compare_with(other_order(in.order), other, in.len);
+    if (at < in.len) {
+        other[at] ^= in.change;
+        compare_with(other_order(in.order), other, in.len);
+        memcpy(other, in.text, in.len);
+        other[at] ^= in.change;
+        compare_with(in.order, other, in.len);
+    }
+}
+
+/* The peers. */
+
+typedef size_t icu_call(dethrux_byte_order order, const uint8_t *bytes, size_t len, uint8_t *to,
+                        size_t capacity);
+
+static void check_icu(icu_call *call, const decoded *text) {
+    static uint8_t out[3 * TEXT_MAX];
+    size_t len = call(in.order, in.text, in.len, out, sizeof out);
+    expect("written", text->out_len, len);
+    expect_bytes("text", text->out, out, len);
+}
+
+static void check_icu_to_utf8(void) {
+    check_icu(icu_utf16_to_utf8, &from_utf16);
+}
+
+static void check_icu_from_utf8(void) {
+    check_icu(icu_utf8_to_utf16, &from_utf8);
+}
+
+typedef void iconv_call(dethrux_byte_order order, const uint8_t *bytes, size_t len,
+                        iconv_result *to);
+
+/* glibc takes bytes at the end for incomplete by the first one alone, such as E0 80, or F8 88 80 80
+ * of a form that Unicode does not have. There its EINVAL agrees with ill-formed bytes too. */
+static bool errno_agrees(int error, dethrux_status status, bool at_end) {
+    switch (status) {
+    case DETHRUX_DONE:
+        return error == 0;
+    case DETHRUX_ILL_FORMED:
+        return error == EILSEQ || (error == EINVAL && at_end);
+    default:
+        return error == EINVAL;
+    }
+}
+
+static void check_iconv(iconv_call *call, const decoded *text) {
+    static iconv_result want;
+    dethrux_progress got = expected_progress(text, STRICT, text->out_len);
+    call(in.order, in.text, in.len, &want);
+    expect("read", got.read, want.read);
+    expect("written", got.written, want.out_len);
+    expect_bytes("text", text->out, want.out, got.written);
+    bool at_end = in.len - got.read < GLIBC_FORM_MAX;
+    expect("errno agrees", errno_agrees(want.error, got.status, at_end), true);
+}
+
+static void check_iconv_to_utf8(void) {
+    check_iconv(iconv_utf16_to_utf8, &from_utf16);
+}
+
+static void check_iconv_from_utf8(void) {
+    check_iconv(iconv_utf8_to_utf16, &from_utf8);
+}
+
+const check CHECKS[] = {
+    {"ICU, UTF-16 to UTF-8", check_icu_to_utf8},
+    {"ICU, UTF-8 to UTF-16", check_icu_from_utf8},
+    {"iconv, UTF-16 to UTF-8", check_iconv_to_utf8},
+    {"iconv, UTF-8 to UTF-16", check_iconv_from_utf8},
+    {"dethrux_version", check_version},
+    {"dethrux_validate", check_validate},
+    {"dethrux_count_chars", check_count_chars},
+    {"dethrux_is_ascii", check_is_ascii},
+    {"dethrux_to_utf8_lossy_len", check_to_utf8_lossy_len},
+    {"dethrux_from_utf8_len", check_from_utf8_len},
+    {"dethrux_from_utf8_lossy_len", check_from_utf8_lossy_len},
+    {"dethrux_to_utf8", check_to_utf8},
+    {"dethrux_to_utf8_lossy", check_to_utf8_lossy},
+    {"dethrux_to_utf8_partial", check_to_utf8_partial},
+    {"dethrux_from_utf8", check_from_utf8},
+    {"dethrux_from_utf8_lossy", check_from_utf8_lossy},
+    {"dethrux_decoder_feed", check_decoder_feed},
+    {"dethrux_decoder_finish", check_decoder_finish},
+    {"dethrux_utf8_decoder_feed", check_utf8_decoder_feed},
+    {"dethrux_utf8_decoder_finish", check_utf8_decoder_finish},
+    {"dethrux_is_char_boundary", check_is_char_boundary},
+    {"dethrux_floor_char_boundary", check_floor_char_boundary},
+    {"dethrux_swap_byte_order", check_swap_byte_order},
+    {"dethrux_make_well_formed", check_make_well_formed},
+    {"dethrux_compare", check_compare},
+    {"dethrux_detect_bom", check_detect_bom},
+};
+const size_t CHECK_COUNT = sizeof CHECKS / sizeof CHECKS[0];

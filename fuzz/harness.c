@@ -1,0 +1,188 @@
+/* Calls libdethrux on inputs and compares what it returns with a reference decoder, ICU and iconv.
+ *
+ *   harness                         reads one input on standard input (built for AFL++: many)
+ *   harness FILE..                  reads each file as one input
+ *   harness --hex DIGITS            reads one input from hexadecimal digits
+ *   harness --random SEED SECONDS   makes inputs, and ends with 'N passed, M failed', by call
+ *   harness --seeds DIR SEED COUNT  writes inputs to files that begin a corpus
+ *
+ * A difference, or an access outside of a buffer, is printed with the input as digits for --hex.
+ * Then the process aborts; with --random it goes on with the other checks. */
+#include "checks.h"
+#include "guarded.h"
+#include "peers.h"
+
+#include <setjmp.h>
+#include <signal.h>
+#include <stdio.h>
+#include <stdlib.h>
+#include <string.h>
+#include <time.h>
+#include <unistd.h>
+
+static struct {
+    const uint8_t *bytes; /* the input */
+    size_t len;
+    const char *check;
+    bool resumes; /* goes on after a difference */
+    sigjmp_buf after;
+} current;
+
+static void print_difference(const char *what) {
+    fprintf(stderr, "%s: %s\n  reproduce: fuzz/out/harness --hex ", current.check, what);
+    for (size_t i = 0; i < current.len; i++) {
+        fprintf(stderr, "%02X", current.bytes[i]);
+    }
+    fputc('\n', stderr);
+}
+
+_Noreturn void report_difference(const char *what) {
+    print_difference(what);
+    if (current.resumes) {
+        siglongjmp(current.after, 1);
+    }
+    abort();
+}
+
+/* An access outside of a buffer, or another fault inside of a call. */
+static void on_fault(int number) {
+    char what[64];
+    snprintf(what, sizeof what, "signal %d (%s)", number, strsignal(number));
+    signal(number, SIG_DFL);
+    report_difference(what);
+}
+
+static void catch_faults(void) {
+    static const int FAULTS[] = {SIGSEGV, SIGBUS, SIGILL, SIGFPE};
+    for (size_t i = 0; i < sizeof FAULTS / sizeof FAULTS[0]; i++) {
+        signal(FAULTS[i], on_fault);
+    }
+}
+
+static void run_checks(const uint8_t *bytes, size_t len, bool failed[]) {
+    input in = parse_input(bytes, len);
+    current.bytes = bytes;
+    current.len = len;
+    checks_begin(&in);
+    for (size_t i = 0; i < CHECK_COUNT; i++) {
+        current.check = CHECKS[i].name;
+        if (failed != NULL && failed[i]) {
+            continue;
+        }
+        if (failed == NULL) {
+            CHECKS[i].run();
+        } else if (sigsetjmp(current.after, 1) == 0) {
+            CHECKS[i].run();
+        } else {
+            failed[i] = true;
+            catch_faults();
+        }
+    }
+}
+
+static int run_random(uint64_t seed, time_t seconds) {
+    static uint8_t bytes[INPUT_MAX];
+    bool *failed = calloc(CHECK_COUNT, sizeof *failed);
+    unsigned long long inputs = 0;
+    size_t failures = 0;
+    current.resumes = true;
+    printf("seed %llu\n", (unsigned long long)seed);
+    print_peers();
+    for (time_t end = time(NULL) + seconds; time(NULL) < end; inputs++) {
+        run_checks(bytes, generate_input(&seed, bytes), failed);
+    }
+    for (size_t i = 0; i < CHECK_COUNT; i++) {
+        failures += failed[i];
+    }
+    printf("%llu inputs\n%zu passed, %zu failed\n", inputs, CHECK_COUNT - failures, failures);
+    free(failed);
+    return failures != 0;
+}
+
+static int write_seeds(const char *folder, uint64_t seed, unsigned count) {
+    static uint8_t bytes[INPUT_MAX];
+    for (unsigned i = 0; i < count; i++) {
+        char name[4096];
+        snprintf(name, sizeof name, "%s/%04u", folder, i);
+        size_t len = generate_input(&seed, bytes);
+        FILE *file = fopen(name, "wb");
+        if (file == NULL || fwrite(bytes, 1, len, file) != len || fclose(file) != 0) {
+            perror(name);
+            return 2;
+        }
+    }
+    return 0;
+}
+
+static int run_file(FILE *file) {
+    static uint8_t bytes[INPUT_MAX];
+    run_checks(bytes, fread(bytes, 1, sizeof bytes, file), NULL);
+    return 0;
+}
+
+static int run_files(char **names) {
+    for (; *names != NULL; names++) {
+        FILE *file = fopen(*names, "rb");
+        if (file == NULL) {
+            perror(*names);
+            return 2;
+        }
+        run_file(file);
+        fclose(file);
+    }
+    return 0;
+}
+
+static int run_hex(const char *digits) {
+    static uint8_t bytes[INPUT_MAX];
+    size_t len = strlen(digits);
+    if (len % 2 != 0 || len > 2 * INPUT_MAX || strspn(digits, "0123456789ABCDEFabcdef") != len) {
+        fprintf(stderr, "--hex: give two hexadecimal digits for each of at most %d bytes\n",
+                INPUT_MAX);
+        return 2;
+    }
+    for (size_t i = 0; i < len / 2; i++) {
+        char byte[3] = {digits[2 * i], digits[2 * i + 1], 0};
+        bytes[i] = (uint8_t)strtoul(byte, NULL, 16);
+    }
+    run_checks(bytes, len / 2, NULL);
+    return 0;
+}
+
+#ifdef __AFL_COMPILER
+__AFL_FUZZ_INIT();
+
+/* Many inputs in one process, each in memory that AFL++ shares. */
+static int run_afl(void) {
+    __AFL_INIT();
+    const uint8_t *bytes = __AFL_FUZZ_TESTCASE_BUF;
+    while (__AFL_LOOP(10000)) {
+        run_checks(bytes, (size_t)__AFL_FUZZ_TESTCASE_LEN, NULL);
+    }
+    return 0;
+}
+#else
+static int run_afl(void) {
+    return run_file(stdin);
+}
+#endif
+
+int main(int argc, char **argv) {
+    guarded_init();
+    peers_init();
+    catch_faults();
+    if (argc == 1) {
+        return run_afl();
+    }
+    if (argc == 3 && strcmp(argv[1], "--hex") == 0) {
+        return run_hex(argv[2]);
+    }
+    if (argc == 4 && strcmp(argv[1], "--random") == 0) {
+        return run_random(strtoull(argv[2], NULL, 0), (time_t)strtoull(argv[3], NULL, 0));
+    }
+    if (argc == 5 && strcmp(argv[1], "--seeds") == 0) {
+        return write_seeds(argv[2], strtoull(argv[3], NULL, 0),
+                           (unsigned)strtoul(argv[4], NULL, 0));
+    }
+    return run_files(argv + 1);
+}

@@ -1,0 +1,173 @@
+#include "input.h"
+
+#include <string.h>
+
+static size_t two_bytes(const uint8_t *bytes) {
+    return (size_t)bytes[0] | (size_t)bytes[1] << 8;
+}
+
+/* The two byte orders for three of four values, and a value that is neither for the fourth. */
+static dethrux_byte_order order_of(uint8_t byte) {
+    return (byte & 3) == 3   ? (dethrux_byte_order)byte
+           : (byte & 3) == 0 ? DETHRUX_LITTLE_ENDIAN
+                             : DETHRUX_BIG_ENDIAN;
+}
+
+input parse_input(const uint8_t *bytes, size_t len) {
+    uint8_t choices[CHOICES_LEN] = {0};
+    size_t choices_len = len < CHOICES_LEN ? len : CHOICES_LEN;
+    if (choices_len > 0) {
+        memcpy(choices, bytes, choices_len);
+    }
+    input read = {.order = order_of(choices[0]),
+                  .capacity = two_bytes(choices + 1),
+                  .at = two_bytes(choices + 3),
+                  .change = choices[13]};
+    memcpy(read.cuts, choices + 5, CUTS);
+    memcpy(&read.decoder, choices + 9, sizeof read.decoder);
+    read.text = bytes + choices_len;
+    read.len = len - choices_len < TEXT_MAX ? len - choices_len : TEXT_MAX;
+    return read;
+}
+
+/* Returns a number below `limit`: SplitMix64. */
+static uint32_t below(uint64_t *seed, uint32_t limit) {
+    uint64_t mixed = *seed += 0x9E3779B97F4A7C15;
+    mixed = (mixed ^ mixed >> 30) * 0xBF58476D1CE4E5B9;
+    mixed = (mixed ^ mixed >> 27) * 0x94D049BB133111EB;
+    return (uint32_t)((mixed ^ mixed >> 31) % limit);
+}
+
+/* A text that is being written. */
+typedef struct {
+    uint8_t *bytes;
+    size_t len, limit;
+    bool utf8;
+    dethrux_byte_order order;
+} writer;
+
+static void put(writer *to, const void *bytes, size_t len) {
+    if (len <= to->limit - to->len) {
+        memcpy(to->bytes + to->len, bytes, len);
+        to->len += len;
+    } else {
+        to->limit = to->len;
+    }
+}
+
+static void put_scalar(writer *to, uint32_t scalar) {
+    uint8_t bytes[4];
+    size_t len = to->utf8 ? encode_utf8(scalar, bytes) : encode_utf16(to->order, scalar, bytes);
+    put(to, bytes, len);
+}
+
+/* The kinds of text. */
+enum { OF_ASCII, OF_LATIN, OF_CJK, OF_EMOJI, OF_LIMITS, OF_ILL_FORMED, OF_NOISE, KINDS };
+
+static const uint32_t LIMITS[] = {0x00,    0x7F,    0x80,    0xFF,    0x7FF,  0x800,
+                                  0xD7FF,  0xE000,  0xFEFF,  0xFFFD,  0xFFFE, 0xFFFF,
+                                  0x10000, 0x103FF, 0x10400, 0x10FFFF};
+
+/* Every kind of ill-formed UTF-8, by the Unicode Standard, 3.9, Table 3-7: bytes that begin no
+ * character, forms that are too long, surrogates, values above 10FFFF, and truncated characters. */
+static const char *const ILL_FORMED_UTF8[] = {
+    "\x80",
+    "\xBF",
+    "\xC0\x80",
+    "\xC1\xBF",
+    "\xE0\x80\x80",
+    "\xE0\x9F\xBF",
+    "\xED\xA0\x80",
+    "\xED\xBF\xBF",
+    "\xF0\x80\x80\x80",
+    "\xF0\x8F\xBF\xBF",
+    "\xF4\x90\x80\x80",
+    "\xF5\x80\x80\x80",
+    "\xF8\x88\x80\x80\x80",
+    "\xFE",
+    "\xFF",
+    "\xC3",
+    "\xE2\x98",
+    "\xE2",
+    "\xF0\x9F\x98",
+    "\xF0\x9F",
+    "\xF0",
+};
+
+static void put_ill_formed(uint64_t *seed, writer *to) {
+    if (to->utf8) {
+        const char *bytes =
+            ILL_FORMED_UTF8[below(seed, sizeof ILL_FORMED_UTF8 / sizeof ILL_FORMED_UTF8[0])];
+        put(to, bytes, strlen(bytes));
+    } else {
+        uint8_t unit[2];
+        encode_unit(to->order, 0xD800 + below(seed, 0x800), unit);
+        put(to, unit, 2);
+    }
+}
+
+static void put_kind(uint64_t *seed, writer *to, uint32_t kind) {
+    uint8_t noise;
+    switch (kind) {
+    case OF_ASCII:
+        put_scalar(to, below(seed, 0x80));
+        break;
+    case OF_LATIN:
+        put_scalar(to, 0x80 + below(seed, 0x780));
+        break;
+    case OF_CJK:
+        put_scalar(to, 0x800 + below(seed, 0xD000));
+        break;
+    case OF_EMOJI:
+        put_scalar(to, 0x10000 + below(seed, 0x100000));
+        break;
+    case OF_LIMITS:
+        put_scalar(to, LIMITS[below(seed, sizeof LIMITS / sizeof LIMITS[0])]);
+        break;
+    case OF_ILL_FORMED:
+        put_ill_formed(seed, to);
+        break;
+    default:
+        noise = (uint8_t)below(seed, 256);
+        put(to, &noise, 1);
+    }
+}
+
+/* Texts of mostly one kind, with one item of another in some 4, 16 or 64. */
+static void put_text(uint64_t *seed, writer *to) {
+    uint32_t kind = below(seed, KINDS);
+    uint32_t others = 1U << (2 * below(seed, 4));
+    while (to->len < to->limit) {
+        bool other = others > 1 ? below(seed, others) == 0 : below(seed, 2) == 0;
+        put_kind(seed, to, other ? below(seed, KINDS) : kind);
+    }
+}
+
+/* Mostly 0 to 255 bytes, at times up to 4,096. */
+static size_t choose_len(uint64_t *seed) {
+    return below(seed, 64) == 0 ? below(seed, 4097) : below(seed, 256);
+}
+
+static void put_choices(uint64_t *seed, uint8_t *to) {
+    for (size_t i = 0; i < CHOICES_LEN; i++) {
+        to[i] = (uint8_t)below(seed, 256);
+    }
+    for (size_t i = 2; i <= 4; i += 2) {
+        to[i] = (uint8_t)(below(seed, 8) == 0 ? below(seed, 16) : 0);
+    }
+    uint32_t cut_limit = 1U << below(seed, 9);
+    for (size_t i = 5; i < 5 + CUTS; i++) {
+        to[i] = (uint8_t)below(seed, cut_limit);
+    }
+    writer pending = {to + 9, 0, DETHRUX_PENDING_MAX, below(seed, 2) == 0, order_of(to[0])};
+    put_text(seed, &pending);
+    to[9 + DETHRUX_PENDING_MAX] = (uint8_t)below(seed, below(seed, 4) == 0 ? 256 : 5);
+}
+
+size_t generate_input(uint64_t *seed, uint8_t *to) {
+    put_choices(seed, to);
+    writer text = {to + CHOICES_LEN, 0, choose_len(seed), below(seed, 2) == 0, order_of(to[0])};
+    put_text(seed, &text);
+    size_t left_out = below(seed, 4);
+    return CHOICES_LEN + (text.len > left_out ? text.len - left_out : 0);
+}

@@ -1,0 +1,66 @@
+/* Wrong versions of calls, which the harness has to find: each is right but for few inputs. They
+ * take the place of the library's by the linker's --wrap. */
+#include "dethrux.h"
+
+dethrux_validity __real_dethrux_validate(dethrux_byte_order order, const uint8_t *utf16,
+                                         size_t len);
+dethrux_progress __real_dethrux_to_utf8(dethrux_byte_order order, const uint8_t *utf16, size_t len,
+                                        uint8_t *to, size_t capacity);
+dethrux_progress __real_dethrux_from_utf8_lossy(dethrux_byte_order order, const uint8_t *utf8,
+                                                size_t len, uint8_t *to, size_t capacity);
+size_t __real_dethrux_from_utf8_len(const uint8_t *utf8, size_t len);
+dethrux_progress __real_dethrux_utf8_decoder_feed(dethrux_utf8_decoder *decoder,
+                                                  dethrux_byte_order order, const uint8_t *chunk,
+                                                  size_t len, uint8_t *to, size_t capacity);
+
+/* Does not see an unpaired surrogate in the last unit of a block of 64 bytes. */
+dethrux_validity __wrap_dethrux_validate(dethrux_byte_order order, const uint8_t *utf16,
+                                         size_t len) {
+    dethrux_validity validity = __real_dethrux_validate(order, utf16, len);
+    if (validity.status == DETHRUX_ILL_FORMED && validity.valid_up_to % 64 == 62) {
+        validity = (dethrux_validity){len, DETHRUX_DONE, 0};
+    }
+    return validity;
+}
+
+/* Converts U+FFFF to U+FFFD. */
+dethrux_progress __wrap_dethrux_to_utf8(dethrux_byte_order order, const uint8_t *utf16, size_t len,
+                                        uint8_t *to, size_t capacity) {
+    dethrux_progress progress = __real_dethrux_to_utf8(order, utf16, len, to, capacity);
+    for (size_t i = 0; i + 3 <= progress.written; i++) {
+        if (to[i] == 0xEF && to[i + 1] == 0xBF && to[i + 2] == 0xBF) {
+            to[i + 2] = 0xBD;
+        }
+    }
+    return progress;
+}
+
+/* Writes one byte after a buffer that it has filled. */
+dethrux_progress __wrap_dethrux_from_utf8_lossy(dethrux_byte_order order, const uint8_t *utf8,
+                                                size_t len, uint8_t *to, size_t capacity) {
+    dethrux_progress progress = __real_dethrux_from_utf8_lossy(order, utf8, len, to, capacity);
+    if (capacity > 0 && progress.written == capacity) {
+        to[capacity] = 0;
+    }
+    return progress;
+}
+
+/* Reads one byte after an input of 33 bytes. */
+size_t __wrap_dethrux_from_utf8_len(const uint8_t *utf8, size_t len) {
+    if (len == 33) {
+        (void)((const volatile uint8_t *)utf8)[len];
+    }
+    return __real_dethrux_from_utf8_len(utf8, len);
+}
+
+/* Loses the third pending byte. */
+dethrux_progress __wrap_dethrux_utf8_decoder_feed(dethrux_utf8_decoder *decoder,
+                                                  dethrux_byte_order order, const uint8_t *chunk,
+                                                  size_t len, uint8_t *to, size_t capacity) {
+    dethrux_progress progress =
+        __real_dethrux_utf8_decoder_feed(decoder, order, chunk, len, to, capacity);
+    if (decoder->pending_len == DETHRUX_PENDING_MAX) {
+        decoder->pending_len--;
+    }
+    return progress;
+}

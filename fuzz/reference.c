@@ -1,0 +1,174 @@
+#include "reference.h"
+
+#include "coverage.h"
+
+/* An item of the input, before its conversion. */
+typedef struct {
+    item_kind kind;
+    size_t len;
+    uint32_t scalar;
+} sequence;
+
+static const sequence NO_SEQUENCE = {INCOMPLETE, 0, REPLACEMENT};
+
+uint32_t unit_at(dethrux_byte_order order, const uint8_t *bytes, size_t at) {
+    return order == DETHRUX_BIG_ENDIAN ? (uint32_t)bytes[at] << 8 | bytes[at + 1]
+                                       : (uint32_t)bytes[at + 1] << 8 | bytes[at];
+}
+
+bool is_leading(uint32_t unit) {
+    return unit >= 0xD800 && unit <= 0xDBFF;
+}
+
+bool is_trailing(uint32_t unit) {
+    return unit >= 0xDC00 && unit <= 0xDFFF;
+}
+
+/* The Unicode Standard, 3.9, D91, for bytes that are not empty. */
+static sequence next_utf16(dethrux_byte_order order, const uint8_t *bytes, size_t len) {
+    if (len < 2) {
+        return (sequence){INCOMPLETE, len, REPLACEMENT};
+    }
+    uint32_t unit = unit_at(order, bytes, 0);
+    if (is_trailing(unit)) {
+        return (sequence){ILL_FORMED, 2, REPLACEMENT};
+    }
+    if (!is_leading(unit)) {
+        return (sequence){CHARACTER, 2, unit};
+    }
+    if (len < 4) {
+        return (sequence){INCOMPLETE, len, REPLACEMENT};
+    }
+    uint32_t next = unit_at(order, bytes, 2);
+    if (!is_trailing(next)) {
+        return (sequence){ILL_FORMED, 2, REPLACEMENT};
+    }
+    return (sequence){CHARACTER, 4, 0x10000 + ((unit - 0xD800) << 10) + (next - 0xDC00)};
+}
+
+/* A row of Table 3-7: first bytes, the range of the second byte, and the length. */
+typedef struct {
+    uint8_t first, last, second_from, second_to;
+    size_t len;
+} utf8_row;
+
+static const utf8_row UTF8_ROWS[] = {
+    {0x00, 0x7F, 0x00, 0x00, 1}, {0xC2, 0xDF, 0x80, 0xBF, 2}, {0xE0, 0xE0, 0xA0, 0xBF, 3},
+    {0xE1, 0xEC, 0x80, 0xBF, 3}, {0xED, 0xED, 0x80, 0x9F, 3}, {0xEE, 0xEF, 0x80, 0xBF, 3},
+    {0xF0, 0xF0, 0x90, 0xBF, 4}, {0xF1, 0xF3, 0x80, 0xBF, 4}, {0xF4, 0xF4, 0x80, 0x8F, 4},
+};
+
+static const utf8_row *row_of(uint8_t byte) {
+    for (size_t i = 0; i < sizeof UTF8_ROWS / sizeof UTF8_ROWS[0]; i++) {
+        if (byte >= UTF8_ROWS[i].first && byte <= UTF8_ROWS[i].last) {
+            return &UTF8_ROWS[i];
+        }
+    }
+    return NULL;
+}
+
+/* The Unicode Standard, 3.9, Table 3-7 and "U+FFFD Substitution of Maximal Subparts", for bytes
+ * that are not empty. */
+static sequence next_utf8(dethrux_byte_order order, const uint8_t *bytes, size_t len) {
+    (void)order;
+    const utf8_row *row = row_of(bytes[0]);
+    if (row == NULL) {
+        return (sequence){ILL_FORMED, 1, REPLACEMENT};
+    }
+    static const uint8_t FIRST_BITS[] = {0, 0x7F, 0x1F, 0x0F, 0x07};
+    uint32_t scalar = bytes[0] & FIRST_BITS[row->len];
+    for (size_t i = 1; i < row->len; i++) {
+        if (i == len) {
+            return (sequence){INCOMPLETE, len, REPLACEMENT};
+        }
+        uint8_t from = i == 1 ? row->second_from : 0x80;
+        uint8_t to = i == 1 ? row->second_to : 0xBF;
+        if (bytes[i] < from || bytes[i] > to) {
+            return (sequence){ILL_FORMED, i, REPLACEMENT};
+        }
+        scalar = scalar << 6 | (bytes[i] & 0x3F);
+    }
+    return (sequence){CHARACTER, row->len, scalar};
+}
+
+/* The Unicode Standard, 3.9, Table 3-6. */
+size_t encode_utf8(uint32_t scalar, uint8_t *to) {
+    static const uint8_t MARKS[] = {0, 0x00, 0xC0, 0xE0, 0xF0};
+    size_t len = scalar < 0x80 ? 1 : scalar < 0x800 ? 2 : scalar < 0x10000 ? 3 : 4;
+    for (size_t i = len; i > 1; i--) {
+        to[i - 1] = (uint8_t)(0x80 | (scalar & 0x3F));
+        scalar >>= 6;
+    }
+    to[0] = (uint8_t)(MARKS[len] | scalar);
+    return len;
+}
+
+void encode_unit(dethrux_byte_order order, uint32_t unit, uint8_t *to) {
+    bool big = order == DETHRUX_BIG_ENDIAN;
+    to[big ? 0 : 1] = (uint8_t)(unit >> 8);
+    to[big ? 1 : 0] = (uint8_t)unit;
+}
+
+/* The Unicode Standard, 3.9, Table 3-5. */
+size_t encode_utf16(dethrux_byte_order order, uint32_t scalar, uint8_t *to) {
+    if (scalar < 0x10000) {
+        encode_unit(order, scalar, to);
+        return 2;
+    }
+    encode_unit(order, 0xD800 + ((scalar - 0x10000) >> 10), to);
+    encode_unit(order, 0xDC00 + ((scalar - 0x10000) & 0x3FF), to + 2);
+    return 4;
+}
+
+static void append_item(decoded *to, sequence found, size_t out_len) {
+    to->items[to->item_count++] = (item){found.kind, found.scalar, found.len, out_len};
+    to->out_len += out_len;
+}
+
+void decode_utf16(dethrux_byte_order order, const uint8_t *bytes, size_t len, decoded *to) {
+    to->item_count = 0;
+    to->out_len = 0;
+    sequence found = NO_SEQUENCE;
+    for (size_t at = 0; at < len; at += found.len) {
+        coverage_class before = coverage_class_of(found.kind, found.scalar, found.len);
+        found = next_utf16(order, bytes + at, len - at);
+        cover(FROM_UTF16, before, coverage_class_of(found.kind, found.scalar, found.len), at / 2);
+        append_item(to, found, encode_utf8(found.scalar, to->out + to->out_len));
+    }
+}
+
+void decode_utf8(dethrux_byte_order order, const uint8_t *bytes, size_t len, decoded *to) {
+    to->item_count = 0;
+    to->out_len = 0;
+    sequence found = NO_SEQUENCE;
+    for (size_t at = 0; at < len; at += found.len) {
+        coverage_class before = coverage_class_of(found.kind, found.scalar, found.len);
+        found = next_utf8(order, bytes + at, len - at);
+        cover(FROM_UTF8, before, coverage_class_of(found.kind, found.scalar, found.len), at);
+        append_item(to, found, encode_utf16(order, found.scalar, to->out + to->out_len));
+    }
+}
+
+static bool stops(conversion_mode mode, item_kind kind) {
+    return (kind == ILL_FORMED && mode == STRICT) || (kind == INCOMPLETE && mode != LOSSY);
+}
+
+dethrux_progress expected_progress(const decoded *text, conversion_mode mode, size_t capacity) {
+    dethrux_progress progress = {0, 0, DETHRUX_DONE, 0};
+    for (size_t i = 0; i < text->item_count; i++) {
+        const item *next = &text->items[i];
+        if (stops(mode, next->kind)) {
+            bool ill_formed = next->kind == ILL_FORMED;
+            progress.status = ill_formed ? DETHRUX_ILL_FORMED : DETHRUX_INCOMPLETE;
+            progress.error_len = ill_formed ? (uint32_t)next->len : 0;
+            return progress;
+        }
+        if (next->out_len > capacity - progress.written) {
+            progress.status = DETHRUX_NO_SPACE;
+            return progress;
+        }
+        progress.read += next->len;
+        progress.written += next->out_len;
+    }
+    return progress;
+}

@@ -1,0 +1,49 @@
+/* A plain decoder of UTF-16 and of UTF-8 by the Unicode Standard, and what each call of the library
+ * has to return by it. It is compiled with the instrumentation of AFL++, so its branches are what
+ * guides the fuzzer. */
+#ifndef REFERENCE_H
+#define REFERENCE_H
+
+#include "dethrux.h"
+
+enum { TEXT_MAX = 8192, REPLACEMENT = 0xFFFD };
+
+/* One character, or one sequence that U+FFFD replaces. */
+typedef enum { CHARACTER, ILL_FORMED, INCOMPLETE } item_kind;
+
+typedef struct {
+    item_kind kind;
+    uint32_t scalar; /* of a character; else U+FFFD */
+    size_t len;      /* of its bytes in the input */
+    size_t out_len;  /* of what replaces it in the output */
+} item;
+
+/* A text decoded, and its conversion with U+FFFD. */
+typedef struct {
+    size_t item_count;
+    item items[TEXT_MAX];
+    size_t out_len;
+    uint8_t out[3 * TEXT_MAX];
+} decoded;
+
+/* Where a call stops: at ill-formed sequences and at an incomplete end, at an incomplete end, or
+ * only where `to` is full. */
+typedef enum { STRICT, PARTIAL, LOSSY } conversion_mode;
+
+void decode_utf16(dethrux_byte_order order, const uint8_t *bytes, size_t len, decoded *to);
+void decode_utf8(dethrux_byte_order order, const uint8_t *bytes, size_t len, decoded *to);
+
+/* Returns what a conversion of the text returns for a capacity. */
+dethrux_progress expected_progress(const decoded *text, conversion_mode mode, size_t capacity);
+
+/* Encode a scalar value, and return the length; encode any code unit. */
+size_t encode_utf8(uint32_t scalar, uint8_t *to);
+size_t encode_utf16(dethrux_byte_order order, uint32_t scalar, uint8_t *to);
+void encode_unit(dethrux_byte_order order, uint32_t unit, uint8_t *to);
+
+/* Returns the code unit at an offset. */
+uint32_t unit_at(dethrux_byte_order order, const uint8_t *bytes, size_t at);
+bool is_leading(uint32_t unit);
+bool is_trailing(uint32_t unit);
+
+#endif

@@ -1,0 +1,79 @@
+#!/usr/bin/env bash
+# Calls libdethrux on random inputs for a minute, as fuzz/run.sh [--seconds N] [--seed N], and tests
+# that the harness finds the wrong versions of planted.c. The last line is 'N passed, M failed',
+# where each call of the library, each peer and each planted version counts as one.
+set -uo pipefail
+cd "$(dirname "$0")" || exit 1
+seconds=60
+seed=1
+planted=(dethrux_from_utf8_len dethrux_from_utf8_lossy dethrux_to_utf8 dethrux_utf8_decoder_feed
+    dethrux_validate)
+passed=0
+failed=0
+
+refuse() {
+    echo "fuzz/run.sh: $1; usage: fuzz/run.sh [--seconds N] [--seed N]" >&2
+    echo '0 passed, 1 failed'
+    exit 1
+}
+
+while [ $# != 0 ]; do
+    case $1 in
+        --seconds) seconds=${2-} ;;
+        --seed) seed=${2-} ;;
+        *) refuse "$1 is not an option" ;;
+    esac
+    [[ ${2-} =~ ^[0-9]+$ ]] || refuse "$1 needs a number"
+    shift 2
+done
+
+# Runs a program on random inputs, prints what it prints, and leaves it in the file `said`.
+random() {
+    timeout $(($2 + 60)) "$1" --random "$seed" "$2" 2>&1 | tee "$room/said"
+}
+
+# Counts the last line of the harness, or one failure where it came to none.
+check_library() {
+    random out/harness "$seconds" | grep -v ' passed, '
+    if [[ $(tail -n 1 "$room/said") =~ ^([0-9]+)\ passed,\ ([0-9]+)\ failed$ ]]; then
+        passed=$((passed + BASH_REMATCH[1]))
+        failed=$((failed + BASH_REMATCH[2]))
+    else
+        echo 'the harness did not come to its end'
+        failed=$((failed + 1))
+    fi
+}
+
+# Counts each planted version that is found, and fails where another call is reported.
+check_planted() {
+    local call
+    random out/planted 5 > /dev/null
+    for call in "${planted[@]}"; do
+        if grep -q "^$call: " "$room/said"; then
+            passed=$((passed + 1))
+        else
+            echo "not found: the planted version of $call"
+            failed=$((failed + 1))
+        fi
+    done
+    if [[ $(tail -n 1 "$room/said") != *" passed, ${#planted[@]} failed" ]]; then
+        echo 'with the planted versions other calls differ too:'
+        grep -E '^[^ ]+: ' "$room/said"
+        failed=$((failed + 1))
+    fi
+}
+
+room=$(mktemp -d)
+trap 'rm -rf "$room"' EXIT
+if ./build.sh gcc out/harness; then
+    check_library
+else
+    failed=$((failed + 1))
+fi
+if ./build.sh gcc out/planted planted.c "${planted[@]/#/-Wl,--wrap=}"; then
+    check_planted
+else
+    failed=$((failed + 1))
+fi
+echo "$passed passed, $failed failed"
+[ "$failed" = 0 ]
