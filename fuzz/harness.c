@@ -17,6 +17,7 @@
 #include <stdio.h>
 #include <stdlib.h>
 #include <string.h>
+#include <sys/time.h>
 #include <time.h>
 #include <unistd.h>
 
@@ -44,7 +45,10 @@ _Noreturn void report_difference(const char *what) {
     abort();
 }
 
-/* An access outside of a buffer, or another fault inside of a call. */
+/* The processor time after which a call is taken not to return. */
+enum { SECONDS_AN_INPUT = 20 };
+
+/* An access outside of a buffer, another fault inside of a call, or one that does not return. */
 static void on_fault(int number) {
     char what[64];
     snprintf(what, sizeof what, "signal %d (%s)", number, strsignal(number));
@@ -53,13 +57,15 @@ static void on_fault(int number) {
 }
 
 static void catch_faults(void) {
-    static const int FAULTS[] = {SIGSEGV, SIGBUS, SIGILL, SIGFPE};
+    static const int FAULTS[] = {SIGSEGV, SIGBUS, SIGILL, SIGFPE, SIGVTALRM};
     for (size_t i = 0; i < sizeof FAULTS / sizeof FAULTS[0]; i++) {
         signal(FAULTS[i], on_fault);
     }
 }
 
 static void run_checks(const uint8_t *bytes, size_t len, bool failed[]) {
+    const struct itimerval limit = {.it_value = {.tv_sec = SECONDS_AN_INPUT}};
+    setitimer(ITIMER_VIRTUAL, &limit, NULL);
     input in = parse_input(bytes, len);
     current.bytes = bytes;
     current.len = len;

@@ -143,9 +143,11 @@ static void put_text(uint64_t *seed, writer *to) {
     }
 }
 
-/* Mostly 0 to 255 bytes, at times up to 4,096. */
+/* Mostly 0 to 255 bytes, at times up to 4,096, and now and then up to TEXT_MAX. */
 static size_t choose_len(uint64_t *seed) {
-    return below(seed, 64) == 0 ? below(seed, 4097) : below(seed, 256);
+    uint32_t rank = below(seed, 512);
+    uint32_t limit = rank == 0 ? TEXT_MAX + 1 : rank < 8 ? 4097 : 256;
+    return below(seed, limit);
 }
 
 static void put_choices(uint64_t *seed, uint8_t *to) {

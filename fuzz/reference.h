@@ -6,7 +6,7 @@
 
 #include "dethrux.h"
 
-enum { TEXT_MAX = 8192, REPLACEMENT = 0xFFFD };
+enum { TEXT_MAX = 20480, REPLACEMENT = 0xFFFD };
 
 /* One character, or one sequence that U+FFFD replaces. */
 typedef enum { CHARACTER, ILL_FORMED, INCOMPLETE } item_kind;
@@ -18,10 +18,10 @@ typedef struct {
     size_t out_len;  /* of what replaces it in the output */
 } item;
 
-/* A text decoded, and its conversion with U+FFFD. */
+/* A text decoded, with the pending bytes before it, and its conversion with U+FFFD. */
 typedef struct {
     size_t item_count;
-    item items[TEXT_MAX];
+    item items[DETHRUX_PENDING_MAX + TEXT_MAX];
     size_t out_len;
     uint8_t out[3 * TEXT_MAX];
 } decoded;
