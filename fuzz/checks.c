@@ -114,6 +114,12 @@ static uint8_t *output_at(size_t capacity, place at) {
     return guarded_output(capacity, at);
 }
 
+/* Stops unless the last output holds the text, and the bytes around it are as they were. */
+static void expect_text(const uint8_t *to, const uint8_t *want, size_t len) {
+    expect_bytes("text", to, want, len);
+    expect("writes nothing outside of `to`", guarded_intact(len, false), true);
+}
+
 /* The conversions between buffers. */
 
 typedef dethrux_progress conversion(dethrux_byte_order order, const uint8_t *from, size_t len,
@@ -127,8 +133,7 @@ static dethrux_progress convert(conversion *call, const decoded *text, conversio
         uint8_t *to = output_at(capacity, at);
         dethrux_progress got = call(in.order, from, in.len, to, capacity);
         expect_progress(got, want);
-        expect_bytes("text", to, text->out, got.written);
-        expect("writes nothing outside of `to`", guarded_intact(got.written, false), true);
+        expect_text(to, text->out, got.written);
     }
     return want;
 }
@@ -160,7 +165,7 @@ static void check_resumed(conversion *call, const decoded *text) {
         const uint8_t *from = guarded_input(0, in.text + read, in.len - read, AT_END);
         uint8_t *to = output_at(capacity, AT_END);
         got = call(in.order, from, in.len - read, to, capacity);
-        expect_bytes("text", to, text->out + written, got.written);
+        expect_text(to, text->out + written, got.written);
         read += got.read;
         written += got.written;
         expect_full(&got, capacity);
@@ -203,7 +208,7 @@ static size_t chunk_len(size_t number, size_t rest) {
 
 static void expect_written(const decoded *text, size_t before, const uint8_t *to, size_t len) {
     expect("written so far is at most", before + len > text->out_len, false);
-    expect_bytes("text", to, text->out + before, len);
+    expect_text(to, text->out + before, len);
 }
 
 /* However the stream is cut, dethrux_to_utf8_partial writes the same bytes in all. */
@@ -313,8 +318,7 @@ static void check_feed_once(const decoder_calls *calls, const decoded *text, con
     expect("written", got.written, want.written);
     expect("status", got.status, want.status == DETHRUX_INCOMPLETE ? DETHRUX_DONE : want.status);
     expect("error_len", got.error_len, 0);
-    expect_bytes("text", to, text->out, got.written);
-    expect("writes nothing outside of `to`", guarded_intact(got.written, false), true);
+    expect_text(to, text->out, got.written);
     if (got.status == DETHRUX_DONE) {
         expect("read", got.read, in.len);
     }
@@ -334,7 +338,8 @@ static void check_feed_any_state(const decoder_calls *calls) {
     size_t enough = calls == &UTF16_DECODER ? DETHRUX_FEED_MAX(in.len) : 2 * (pending + in.len);
     expect("capacity suffices",
            expected_progress(&text, PARTIAL, enough).status != DETHRUX_NO_SPACE, true);
-    const size_t capacities[] = {0, chosen, enough, text.out_len};
+    size_t one_less = text.out_len - (text.out_len > 0);
+    const size_t capacities[] = {0, chosen, one_less, text.out_len, enough};
     for (size_t i = 0; i < sizeof capacities / sizeof capacities[0]; i++) {
         for (place at = AT_START; at < place_count_of_both(in.len, capacities[i]); at++) {
             check_feed_once(calls, &text, stream, capacities[i], at);
@@ -571,8 +576,7 @@ static void check_swap_byte_order(void) {
     for (place at = AT_START; at < place_count(in.len); at++) {
         uint8_t *copy = copy_at(at);
         dethrux_swap_byte_order(copy, in.len);
-        expect_bytes("text", copy, want, in.len);
-        expect("writes nothing outside", guarded_intact(in.len, false), true);
+        expect_text(copy, want, in.len);
     }
 }
 
@@ -600,8 +604,7 @@ static void check_make_well_formed(void) {
     for (place at = AT_START; at < place_count(in.len); at++) {
         uint8_t *copy = copy_at(at);
         expect("count", dethrux_make_well_formed(in.order, copy, in.len), count);
-        expect_bytes("text", copy, want, in.len);
-        expect("writes nothing outside", guarded_intact(in.len, false), true);
+        expect_text(copy, want, in.len);
     }
 }
 
