@@ -61,6 +61,16 @@ static void expect(const char *what, size_t got, size_t want) {
     }
 }
 
+/* Stops unless what a sentence says holds. */
+static void expect_that(const char *sentence, bool holds) {
+    char line[LINE_MAX_LEN], where[LINE_MAX_LEN];
+    if (!holds) {
+        describe_situation(where);
+        snprintf(line, sizeof line, "expected that %.100s%.300s", sentence, where);
+        report_difference(line);
+    }
+}
+
 static void to_hex(const uint8_t *bytes, size_t len, char *to) {
     to[0] = 0;
     for (size_t i = 0; i < len && i < SHOWN_MAX; i++) {
@@ -117,7 +127,7 @@ static uint8_t *output_at(size_t capacity, place at) {
 /* Stops unless the last output holds the text, and the bytes around it are as they were. */
 static void expect_text(const uint8_t *to, const uint8_t *want, size_t len) {
     expect_bytes("text", to, want, len);
-    expect("writes nothing outside of `to`", guarded_intact(len, false), true);
+    expect_that("nothing is written outside of `to`", guarded_intact(len, false));
 }
 
 /* The conversions between buffers. */
@@ -141,7 +151,8 @@ static dethrux_progress convert(conversion *call, const decoded *text, conversio
 /* A capacity of `enough` suffices; and the calls with the chosen capacity. */
 static void check_conversion(conversion *call, const decoded *text, conversion_mode mode,
                              size_t enough) {
-    expect("capacity suffices", convert(call, text, mode, enough).status != DETHRUX_NO_SPACE, true);
+    expect_that("the capacity suffices",
+                convert(call, text, mode, enough).status != DETHRUX_NO_SPACE);
     convert(call, text, mode, 0);
     convert(call, text, mode, text->out_len);
     convert(call, text, mode, in.capacity % (text->out_len + 8));
@@ -153,7 +164,7 @@ static void check_conversion(conversion *call, const decoded *text, conversion_m
 /* With DETHRUX_NO_SPACE fewer than 4 bytes are left. */
 static void expect_full(const dethrux_progress *got, size_t capacity) {
     if (got->status == DETHRUX_NO_SPACE) {
-        expect("fewer than 4 bytes are left", capacity - got->written < 4, true);
+        expect_that("fewer than 4 bytes are left", capacity - got->written < 4);
     }
 }
 
@@ -207,7 +218,7 @@ static size_t chunk_len(size_t number, size_t rest) {
 }
 
 static void expect_written(const decoded *text, size_t before, const uint8_t *to, size_t len) {
-    expect("written so far is at most", before + len > text->out_len, false);
+    expect_that("no more than the text is written", before + len <= text->out_len);
     expect_text(to, text->out + before, len);
 }
 
@@ -232,7 +243,7 @@ static void check_partial_stream(void) {
             written += got.written;
         } while (got.status == DETHRUX_NO_SPACE);
         pending = len - read;
-        expect("pending is at most 3", pending <= DETHRUX_PENDING_MAX, true);
+        expect_that("at most 3 bytes are unread", pending <= DETHRUX_PENDING_MAX);
         memmove(chunk, chunk + read, pending);
     }
     uint8_t *to = output_at(DETHRUX_FINISH_MAX, AT_END);
@@ -322,7 +333,7 @@ static void check_feed_once(const decoder_calls *calls, const decoded *text, con
     if (got.status == DETHRUX_DONE) {
         expect("read", got.read, in.len);
     }
-    expect("pending_len is at most 3", decoder.pending_len <= DETHRUX_PENDING_MAX, true);
+    expect_that("pending_len is at most 3", decoder.pending_len <= DETHRUX_PENDING_MAX);
     expect("decoded and pending bytes", want.read + decoder.pending_len, before + got.read);
     expect_bytes("pending", decoder.pending, stream + want.read, decoder.pending_len);
 }
@@ -336,8 +347,8 @@ static void check_feed_any_state(const decoder_calls *calls) {
     calls->decode(in.order, stream, pending + in.len, &text);
     size_t chosen = in.capacity % (text.out_len + 8);
     size_t enough = calls == &UTF16_DECODER ? DETHRUX_FEED_MAX(in.len) : 2 * (pending + in.len);
-    expect("capacity suffices",
-           expected_progress(&text, PARTIAL, enough).status != DETHRUX_NO_SPACE, true);
+    expect_that("the capacity suffices",
+                expected_progress(&text, PARTIAL, enough).status != DETHRUX_NO_SPACE);
     size_t one_less = text.out_len - (text.out_len > 0);
     const size_t capacities[] = {0, chosen, one_less, text.out_len, enough};
     for (size_t i = 0; i < sizeof capacities / sizeof capacities[0]; i++) {
@@ -393,7 +404,7 @@ static void check_finish(const decoder_calls *calls) {
                                      fits ? DETHRUX_DONE : DETHRUX_NO_SPACE, 0};
             expect_progress(got, want);
             expect_bytes("text", to, replacement, got.written);
-            expect("the rest of `to` stays", guarded_intact(got.written, true), true);
+            expect_that("the rest of `to` stays", guarded_intact(got.written, true));
             expect("the decoder begins a new stream", decoder.pending_len,
                    fits ? 0 : in.decoder.pending_len);
             if (!fits) {
@@ -700,7 +711,7 @@ static void check_iconv(iconv_call *call, const decoded *text) {
     expect("written", got.written, want.out_len);
     expect_bytes("text", text->out, want.out, got.written);
     bool at_end = in.len - got.read < GLIBC_FORM_MAX;
-    expect("errno agrees", errno_agrees(want.error, got.status, at_end), true);
+    expect_that("errno agrees", errno_agrees(want.error, got.status, at_end));
 }
 
 static void check_iconv_to_utf8(void) {
