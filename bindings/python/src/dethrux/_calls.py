@@ -1,0 +1,351 @@
+"""The calls of the library, over bytes."""
+
+import ctypes
+import enum
+import operator
+from typing import Any, Callable, Literal, NamedTuple, Optional, Union
+
+from . import _library
+
+ByteOrder = Literal["little", "big"]
+ReadableBuffer = Union[bytes, bytearray, memoryview]
+WritableBuffer = Union[bytearray, memoryview]
+
+
+class Status(enum.IntEnum):
+    """Why a call stopped."""
+
+    DONE = 0
+    ILL_FORMED = 1
+    INCOMPLETE = 2
+    NO_SPACE = 3
+
+
+class BomStatus(enum.IntEnum):
+    """Whether a stream begins with a byte order mark (BOM)."""
+
+    ABSENT = 0
+    PRESENT = 1
+    UNDECIDED = 2
+
+
+class Progress(NamedTuple):
+    """What a conversion wrote, how many bytes it read, and why it stopped.
+
+    ``error_len`` is the length of the ill-formed sequence after the bytes that
+    were read if the status is ``Status.ILL_FORMED``, else 0.
+    """
+
+    output: bytes
+    read: int
+    status: Status
+    error_len: int
+
+
+class Validity(NamedTuple):
+    """The length of the longest well-formed prefix, and what follows it."""
+
+    valid_up_to: int
+    status: Status
+    error_len: int
+
+
+class Bom(NamedTuple):
+    """The byte order of a stream, the length of its BOM, and whether it has one."""
+
+    byteorder: ByteOrder
+    len: int
+    status: BomStatus
+
+
+_STATUSES = tuple(Status)
+
+
+def order_number(byteorder: str) -> int:
+    """Return a byte order as the library has it."""
+    if byteorder == "little":
+        return 0
+    if byteorder == "big":
+        return 1
+    if isinstance(byteorder, str):
+        raise ValueError("byteorder must be either 'little' or 'big'")
+    raise TypeError(f"byteorder must be str, not {type(byteorder).__name__}")
+
+
+def as_bytes(data: ReadableBuffer) -> bytes:
+    """Return bytes as they are, and those of any other buffer as a copy.
+
+    A copy, because the library runs without the GIL, and another thread might
+    change them.
+    """
+    return data if type(data) is bytes else memoryview(data).tobytes()
+
+
+def as_size(size: int, name: str) -> int:
+    """Return a length or an offset; raise an exception if it is none."""
+    number = operator.index(size)
+    if number < 0:
+        raise ValueError(f"{name} must not be negative")
+    return number
+
+
+def pointer(buffer: WritableBuffer, offset: int = 0) -> Any:
+    """Return the address of a byte of a buffer, which keeps its length while this is in use."""
+    if offset == len(buffer):
+        return None
+    return ctypes.byref(ctypes.c_char.from_buffer(buffer, offset))
+
+
+def _run(call: Callable[..., Any], capacity: int, *arguments: object) -> Progress:
+    """Make a call that writes to a buffer of this capacity."""
+    to = bytearray(capacity)
+    found = call(*arguments, pointer(to), capacity)
+    output = bytes(memoryview(to)[: found.written])
+    return Progress(output, found.read, _STATUSES[found.status], found.error_len)
+
+
+def _limited(capacity: Optional[int], sufficient: int) -> int:
+    """Return the capacity that a caller gave, but no more than suffices."""
+    return sufficient if capacity is None else min(as_size(capacity, "capacity"), sufficient)
+
+
+def validate(utf16: ReadableBuffer, byteorder: ByteOrder) -> Validity:
+    """Return the length of the longest well-formed prefix, and what follows it."""
+    utf16 = as_bytes(utf16)
+    found = _library.validate(order_number(byteorder), utf16, len(utf16))
+    return Validity(found.valid_up_to, _STATUSES[found.status], found.error_len)
+
+
+def count_chars(utf16: ReadableBuffer, byteorder: ByteOrder) -> int:
+    """Return the number of characters.
+
+    For ill-formed input: the number of complete code units that are not
+    trailing surrogates.
+    """
+    utf16 = as_bytes(utf16)
+    count: int = _library.count_chars(order_number(byteorder), utf16, len(utf16))
+    return count
+
+
+def is_ascii(utf16: ReadableBuffer, byteorder: ByteOrder) -> bool:
+    """Return whether the bytes are UTF-16 whose characters are all ASCII."""
+    utf16 = as_bytes(utf16)
+    found: bool = _library.is_ascii(order_number(byteorder), utf16, len(utf16))
+    return found
+
+
+def to_utf8_lossy_len(utf16: ReadableBuffer, byteorder: ByteOrder) -> int:
+    """Return the length of what ``to_utf8_lossy`` returns for the whole input."""
+    utf16 = as_bytes(utf16)
+    length: int = _library.to_utf8_lossy_len(order_number(byteorder), utf16, len(utf16))
+    return length
+
+
+def from_utf8_len(utf8: ReadableBuffer) -> int:
+    """Return the length of what ``from_utf8`` returns for the longest well-formed prefix."""
+    utf8 = as_bytes(utf8)
+    length: int = _library.from_utf8_len(utf8, len(utf8))
+    return length
+
+
+def from_utf8_lossy_len(utf8: ReadableBuffer) -> int:
+    """Return the length of what ``from_utf8_lossy`` returns for the whole input."""
+    utf8 = as_bytes(utf8)
+    length: int = _library.from_utf8_lossy_len(utf8, len(utf8))
+    return length
+
+
+def _to_utf8(
+    call: Callable[..., Any], utf16: ReadableBuffer, byteorder: str, capacity: Optional[int]
+) -> Progress:
+    utf16 = as_bytes(utf16)
+    room = _limited(capacity, (len(utf16) + 1) // 2 * 3)
+    return _run(call, room, order_number(byteorder), utf16, len(utf16))
+
+
+def _from_utf8(
+    call: Callable[..., Any], utf8: ReadableBuffer, byteorder: str, capacity: Optional[int]
+) -> Progress:
+    utf8 = as_bytes(utf8)
+    room = _limited(capacity, len(utf8) * 2)
+    return _run(call, room, order_number(byteorder), utf8, len(utf8))
+
+
+def to_utf8(
+    utf16: ReadableBuffer, byteorder: ByteOrder, capacity: Optional[int] = None
+) -> Progress:
+    """Convert UTF-16 to UTF-8, up to the first ill-formed sequence.
+
+    With a capacity, write at most so many bytes: the status is
+    ``Status.NO_SPACE`` where the next character does not fit.
+    """
+    return _to_utf8(_library.to_utf8, utf16, byteorder, capacity)
+
+
+def to_utf8_lossy(
+    utf16: ReadableBuffer, byteorder: ByteOrder, capacity: Optional[int] = None
+) -> Progress:
+    """Convert UTF-16 to UTF-8, with U+FFFD for each unpaired surrogate.
+
+    An incomplete character at the end is replaced too.
+    """
+    return _to_utf8(_library.to_utf8_lossy, utf16, byteorder, capacity)
+
+
+def to_utf8_partial(
+    utf16: ReadableBuffer, byteorder: ByteOrder, capacity: Optional[int] = None
+) -> Progress:
+    """Convert a chunk like ``to_utf8_lossy``, but leave an incomplete character unread.
+
+    The status is then ``Status.INCOMPLETE``, and the at most three bytes after
+    those that were read belong before the next chunk.
+    """
+    return _to_utf8(_library.to_utf8_partial, utf16, byteorder, capacity)
+
+
+def from_utf8(
+    utf8: ReadableBuffer, byteorder: ByteOrder, capacity: Optional[int] = None
+) -> Progress:
+    """Convert UTF-8 to UTF-16, up to the first ill-formed sequence."""
+    return _from_utf8(_library.from_utf8, utf8, byteorder, capacity)
+
+
+def from_utf8_lossy(
+    utf8: ReadableBuffer, byteorder: ByteOrder, capacity: Optional[int] = None
+) -> Progress:
+    """Convert UTF-8 to UTF-16, with U+FFFD for each ill-formed sequence.
+
+    That is each maximal subpart of an ill-formed subsequence, as in
+    ``bytes.decode("utf-8", "replace")``.
+    """
+    return _from_utf8(_library.from_utf8_lossy, utf8, byteorder, capacity)
+
+
+def is_char_boundary(utf16: ReadableBuffer, byteorder: ByteOrder, at: int) -> bool:
+    """Return whether the text may be cut at this offset."""
+    utf16 = as_bytes(utf16)
+    order, at = order_number(byteorder), as_size(at, "at")
+    return at <= len(utf16) and bool(_library.is_char_boundary(order, utf16, len(utf16), at))
+
+
+def floor_char_boundary(utf16: ReadableBuffer, byteorder: ByteOrder, at: int) -> int:
+    """Return the greatest boundary between characters at or before this offset."""
+    utf16 = as_bytes(utf16)
+    order, at = order_number(byteorder), min(as_size(at, "at"), len(utf16))
+    boundary: int = _library.floor_char_boundary(order, utf16, len(utf16), at)
+    return boundary
+
+
+def swap_byte_order(utf16: WritableBuffer) -> None:
+    """Swap the two bytes of each code unit in place; an odd byte at the end stays."""
+    raw = memoryview(utf16).cast("B")
+    _library.swap_byte_order(pointer(raw), len(raw))
+
+
+def make_well_formed(utf16: WritableBuffer, byteorder: ByteOrder) -> int:
+    """Replace each unpaired surrogate by U+FFFD in place, and return how many there were."""
+    raw = memoryview(utf16).cast("B")
+    count: int = _library.make_well_formed(order_number(byteorder), pointer(raw), len(raw))
+    return count
+
+
+def compare(
+    first: ReadableBuffer,
+    first_byteorder: ByteOrder,
+    second: ReadableBuffer,
+    second_byteorder: ByteOrder,
+) -> int:
+    """Compare two texts by their scalar values.
+
+    Return -1, 0 or 1 where the first is less than, equal to or greater than the
+    second. An unpaired surrogate, and an incomplete character at the end, is
+    compared as U+FFFD.
+    """
+    first, second = as_bytes(first), as_bytes(second)
+    orders = order_number(first_byteorder), order_number(second_byteorder)
+    found: int = _library.compare(orders[0], first, len(first), orders[1], second, len(second))
+    return found
+
+
+def detect_bom(data: ReadableBuffer) -> Bom:
+    """Return the BOM at the start of a stream and the byte order, big endian without one.
+
+    The status is ``BomStatus.UNDECIDED`` for fewer than two bytes.
+    """
+    data = as_bytes(data)
+    found = _library.detect_bom(data, len(data))
+    return Bom("big" if found.byte_order else "little", found.len, BomStatus(found.status))
+
+
+class Decoder:
+    """Decodes a stream of UTF-16, cut anywhere, to UTF-8 with U+FFFD for ill-formed sequences.
+
+    One thread at a time may use it.
+    """
+
+    def __init__(self, byteorder: ByteOrder) -> None:
+        self._order = order_number(byteorder)
+        self.reset()
+
+    def reset(self) -> None:
+        """Begin a new stream."""
+        self._state = _library.State()
+        self._finished = False
+
+    @property
+    def pending(self) -> bytes:
+        """The bytes that are not decoded yet, at most three."""
+        return bytes(self._state.pending[: self._state.pending_len])
+
+    def feed(self, chunk: ReadableBuffer) -> bytes:
+        """Return the text of the next chunk."""
+        return self.feed_partial(chunk).output
+
+    def feed_partial(self, chunk: ReadableBuffer, capacity: Optional[int] = None) -> Progress:
+        """Decode the next chunk, and write at most ``capacity`` bytes.
+
+        Where the next character does not fit the status is
+        ``Status.NO_SPACE``: call again with the bytes after those that were
+        read. With a capacity of four or more, something was written.
+        """
+        chunk = as_bytes(chunk)
+        room = _limited(capacity, self._feed_max(len(chunk)))
+        self._check_open()
+        return self._feed(chunk, room)
+
+    def finish(self) -> bytes:
+        """End the stream, and return U+FFFD if bytes are pending, else nothing."""
+        self._check_open()
+        self._finished = True
+        return self._finish().output
+
+    def _check_open(self) -> None:
+        if self._finished:
+            raise ValueError("the decoder is finished: reset() begins a new stream")
+
+    def _feed_max(self, length: int) -> int:
+        return (length + 3) // 2 * 3
+
+    def _feed(self, chunk: bytes, capacity: int) -> Progress:
+        call = _library.decoder_feed
+        return _run(call, capacity, self._state, self._order, chunk, len(chunk))
+
+    def _finish(self) -> Progress:
+        return _run(_library.decoder_finish, 3, self._state)
+
+
+class Utf8Decoder(Decoder):
+    """Decodes a stream of UTF-8, cut anywhere, to UTF-16 in this byte order.
+
+    Each ill-formed sequence becomes U+FFFD. One thread at a time may use it.
+    """
+
+    def _feed_max(self, length: int) -> int:
+        return length * 2 + 2
+
+    def _feed(self, chunk: bytes, capacity: int) -> Progress:
+        call = _library.utf8_decoder_feed
+        return _run(call, capacity, self._state, self._order, chunk, len(chunk))
+
+    def _finish(self) -> Progress:
+        return _run(_library.utf8_decoder_finish, 2, self._state, self._order)

@@ -1,0 +1,126 @@
+"""Finds the shared library, tests its version and declares its calls."""
+
+import ctypes
+import os
+from pathlib import Path
+from typing import Any
+
+from ._version import __version__
+
+SONAME = "libdethrux.so.0"
+
+
+class Progress(ctypes.Structure):
+    """``dethrux_progress``."""
+
+    _fields_ = [
+        ("read", ctypes.c_size_t),
+        ("written", ctypes.c_size_t),
+        ("status", ctypes.c_uint32),
+        ("error_len", ctypes.c_uint32),
+    ]
+
+
+class Validity(ctypes.Structure):
+    """``dethrux_validity``."""
+
+    _fields_ = [
+        ("valid_up_to", ctypes.c_size_t),
+        ("status", ctypes.c_uint32),
+        ("error_len", ctypes.c_uint32),
+    ]
+
+
+class Bom(ctypes.Structure):
+    """``dethrux_bom``."""
+
+    _fields_ = [
+        ("len", ctypes.c_size_t),
+        ("byte_order", ctypes.c_uint32),
+        ("status", ctypes.c_uint32),
+    ]
+
+
+class State(ctypes.Structure):
+    """``dethrux_decoder`` and ``dethrux_utf8_decoder``."""
+
+    _fields_ = [("pending", ctypes.c_uint8 * 3), ("pending_len", ctypes.c_uint8)]
+
+
+def _candidate() -> tuple[str, str]:
+    """Return the library to load, and what to do where that fails."""
+    named = os.environ.get("DETHRUX_LIBRARY")
+    if named:
+        return named, f"set DETHRUX_LIBRARY to the path of {SONAME}, or unset it"
+    packaged = Path(__file__).with_name(SONAME)
+    if packaged.exists():
+        return str(packaged), "install the package dethrux again"
+    return SONAME, "install the C library Dethrux, or set DETHRUX_LIBRARY to its path"
+
+
+def _load() -> ctypes.CDLL:
+    """Load the library; raise ImportError if it is not there or of another version."""
+    path, advice = _candidate()
+    try:
+        library = ctypes.CDLL(path)
+        version = library.dethrux_version
+    except (OSError, AttributeError) as error:
+        raise ImportError(f"cannot load {path} ({error}): {advice}", name="dethrux") from None
+    version.restype, version.argtypes = ctypes.c_uint32, []
+    found = version()
+    if found != _number(__version__):
+        spelled = f"{found // 1000000}.{found // 1000 % 1000}.{found % 1000}"
+        raise ImportError(
+            f"{path} has version {spelled}, not {__version__} as this package: {advice}",
+            name="dethrux",
+        )
+    return library
+
+
+def _number(version: str) -> int:
+    """Return a version as the number that ``dethrux_version`` returns."""
+    major, minor, patch = map(int, version.split("."))
+    return major * 1000000 + minor * 1000 + patch
+
+
+def _call(name: str, result: Any, *arguments: Any) -> Any:
+    """Return a call of the library with its types declared."""
+    try:
+        function = _library["dethrux_" + name]
+    except AttributeError:
+        _path, advice = _candidate()
+        raise ImportError(
+            f"{_library._name} has no dethrux_{name}: {advice}", name="dethrux"
+        ) from None
+    function.restype, function.argtypes = result, arguments
+    return function
+
+
+_library = _load()
+_order = ctypes.c_uint32
+_size = ctypes.c_size_t
+# A pointer and a length; ctypes passes the address of a bytes object as it is.
+_buffer = (ctypes.c_void_p, _size)
+_state = ctypes.POINTER(State)
+
+validate = _call("validate", Validity, _order, *_buffer)
+count_chars = _call("count_chars", _size, _order, *_buffer)
+is_ascii = _call("is_ascii", ctypes.c_bool, _order, *_buffer)
+to_utf8_lossy_len = _call("to_utf8_lossy_len", _size, _order, *_buffer)
+from_utf8_len = _call("from_utf8_len", _size, *_buffer)
+from_utf8_lossy_len = _call("from_utf8_lossy_len", _size, *_buffer)
+to_utf8 = _call("to_utf8", Progress, _order, *_buffer, *_buffer)
+to_utf8_lossy = _call("to_utf8_lossy", Progress, _order, *_buffer, *_buffer)
+to_utf8_partial = _call("to_utf8_partial", Progress, _order, *_buffer, *_buffer)
+from_utf8 = _call("from_utf8", Progress, _order, *_buffer, *_buffer)
+from_utf8_lossy = _call("from_utf8_lossy", Progress, _order, *_buffer, *_buffer)
+decoder_feed = _call("decoder_feed", Progress, _state, _order, *_buffer, *_buffer)
+decoder_finish = _call("decoder_finish", Progress, _state, *_buffer)
+utf8_decoder_feed = _call("utf8_decoder_feed", Progress, _state, _order, *_buffer, *_buffer)
+utf8_decoder_finish = _call("utf8_decoder_finish", Progress, _state, _order, *_buffer)
+is_char_boundary = _call("is_char_boundary", ctypes.c_bool, _order, *_buffer, _size)
+floor_char_boundary = _call("floor_char_boundary", _size, _order, *_buffer, _size)
+swap_byte_order = _call("swap_byte_order", None, *_buffer)
+make_well_formed = _call("make_well_formed", _size, _order, *_buffer)
+compare = _call("compare", ctypes.c_int32, _order, *_buffer, _order, *_buffer)
+detect_bom = _call("detect_bom", Bom, *_buffer)
