@@ -457,21 +457,26 @@ class Utf16StreamReader(codecs.StreamReader):
 # The names.
 
 
-def _decode_all(function: Any) -> Any:
-    """Return the stateless decoder of a codec."""
+def utf_16_le_decode_all(input: ReadableBuffer, errors: str = "strict") -> tuple[str, int]:
+    """Decode UTF-16LE to its end."""
+    return utf_16_le_decode(input, errors, True)
 
-    def decode(input: ReadableBuffer, errors: str = "strict") -> tuple[str, int]:
-        text, read = function(input, errors, True)
-        return text, read
 
-    return decode
+def utf_16_be_decode_all(input: ReadableBuffer, errors: str = "strict") -> tuple[str, int]:
+    """Decode UTF-16BE to its end."""
+    return utf_16_be_decode(input, errors, True)
+
+
+def utf_16_decode_all(input: ReadableBuffer, errors: str = "strict") -> tuple[str, int]:
+    """Decode UTF-16 to its end."""
+    return utf_16_decode(input, errors, True)
 
 
 _CODECS = {
     "dethrux_utf_16_le": codecs.CodecInfo(
         name="dethrux-utf-16-le",
         encode=utf_16_le_encode,
-        decode=_decode_all(utf_16_le_decode),
+        decode=utf_16_le_decode_all,
         incrementalencoder=Utf16LEIncrementalEncoder,
         incrementaldecoder=Utf16LEIncrementalDecoder,
         streamreader=Utf16LEStreamReader,
@@ -480,7 +485,7 @@ _CODECS = {
     "dethrux_utf_16_be": codecs.CodecInfo(
         name="dethrux-utf-16-be",
         encode=utf_16_be_encode,
-        decode=_decode_all(utf_16_be_decode),
+        decode=utf_16_be_decode_all,
         incrementalencoder=Utf16BEIncrementalEncoder,
         incrementaldecoder=Utf16BEIncrementalDecoder,
         streamreader=Utf16BEStreamReader,
@@ -489,7 +494,7 @@ _CODECS = {
     "dethrux_utf_16": codecs.CodecInfo(
         name="dethrux-utf-16",
         encode=utf_16_encode,
-        decode=_decode_all(utf_16_decode),
+        decode=utf_16_decode_all,
         incrementalencoder=Utf16IncrementalEncoder,
         incrementaldecoder=Utf16IncrementalDecoder,
         streamreader=Utf16StreamReader,
