@@ -13,7 +13,8 @@ import unittest
 
 import dethrux._codecs
 
-MODULES = ("test_codecs", "test_codeccallbacks", "test_io", "test_unicode")
+STR_TESTS = "test_str" if sys.version_info >= (3, 13) else "test_unicode"
+MODULES = ("test_codecs", "test_codeccallbacks", "test_io", STR_TESTS)
 NAMES = {
     "utf16": "dethrux-utf-16",
     "utf16le": "dethrux-utf-16-le",
@@ -34,6 +35,7 @@ class Replacement(ast.NodeTransformer):
     def __init__(self):
         self.places = set()
         self._path = ()
+        self._lists = set()
 
     def _visit_scope(self, node):
         self._path += (node.name,)
@@ -42,6 +44,18 @@ class Replacement(ast.NodeTransformer):
         return node
 
     visit_ClassDef = visit_FunctionDef = _visit_scope
+
+    def visit_Assign(self, node):
+        self.generic_visit(node)
+        if () in self.places:
+            self._lists.add(getattr(node.targets[0], "id", ""))
+            self.places.remove(())
+        return node
+
+    def visit_Name(self, node):
+        if node.id in self._lists:
+            self.places.add(self._path[:2])
+        return node
 
     def visit_Constant(self, node):
         name = node.value.lower() if isinstance(node.value, str) else ""

@@ -375,7 +375,7 @@ class _BomDecoder:
         self.function: Any = None
 
     def decode(self, data: bytes, errors: str, final: bool) -> tuple[str, int]:
-        """Return the text and how many bytes were read; raise UnicodeError if there is no BOM."""
+        """Return the text and how many bytes were read; raise UnicodeDecodeError without a BOM."""
         if self.function is not None:
             text, read = self.function(data, errors, final)
             return text, read
@@ -383,7 +383,8 @@ class _BomDecoder:
         if byteorder:
             self.function = utf_16_le_decode if byteorder < 0 else utf_16_be_decode
         elif read >= 2:
-            raise UnicodeError("UTF-16 stream does not start with BOM")
+            reason = "Stream does not start with BOM"
+            raise UnicodeDecodeError("utf-16", data, 0, 2, reason)
         return text, read
 
 

@@ -1,0 +1,119 @@
+"""The library is found or refused with one line; the version; what pip installs."""
+
+import os
+import re
+import shutil
+import subprocess
+import sys
+import tempfile
+import unittest
+from pathlib import Path
+
+import dethrux
+from dethrux import _library
+
+FOLDER = Path(dethrux.__file__).parent
+TOP = Path(os.environ.get("DETHRUX_TOP") or Path(__file__).resolve().parents[3])
+LIBRARY = os.environ.get("DETHRUX_LIBRARY") or str(FOLDER / _library.SONAME)
+
+
+def compiled(folder, body):
+    """Return the path of a shared library of this C code."""
+    path = Path(folder) / "libother.so"
+    words = ["cc", "-shared", "-fPIC", "-x", "c", "-", "-o", str(path)]
+    subprocess.run(words, input=body.encode(), check=True)
+    return str(path)
+
+
+class Library(unittest.TestCase):
+    def setUp(self):
+        """Copy the package without its library."""
+        self.folder = tempfile.TemporaryDirectory()
+        self.addCleanup(self.folder.cleanup)
+        ignored = shutil.ignore_patterns(_library.SONAME, "__pycache__")
+        self.package = Path(self.folder.name) / "dethrux"
+        shutil.copytree(FOLDER, self.package, ignore=ignored)
+
+    def imported(self, **environment):
+        """Import the copy, and return the status and the last line of the errors, or the path."""
+        script = "import dethrux; print(dethrux._library._library._name)"
+        run = subprocess.run(
+            [sys.executable, "-B", "-c", script],
+            env={"PYTHONPATH": self.folder.name, **environment},
+            capture_output=True,
+            text=True,
+            check=False,
+        )
+        return (run.stdout or run.stderr).strip().splitlines()[-1]
+
+    def test_by_the_environment(self):
+        self.assertEqual(self.imported(DETHRUX_LIBRARY=LIBRARY), LIBRARY)
+
+    def test_in_the_package(self):
+        copy = self.package / _library.SONAME
+        shutil.copy(LIBRARY, copy)
+        self.assertEqual(self.imported(), str(copy))
+        self.assertEqual(self.imported(DETHRUX_LIBRARY=LIBRARY), LIBRARY)
+
+    def test_by_the_loader(self):
+        shutil.copy(LIBRARY, Path(self.folder.name) / _library.SONAME)
+        self.assertEqual(self.imported(LD_LIBRARY_PATH=self.folder.name), _library.SONAME)
+
+    def test_not_there(self):
+        self.assertRegex(
+            self.imported(DETHRUX_LIBRARY="/nowhere.so"),
+            r"^ImportError: cannot load /nowhere\.so \(.*\): set DETHRUX_LIBRARY to the path of "
+            r"libdethrux\.so\.0, or unset it$",
+        )
+        self.assertRegex(
+            self.imported(),
+            r"^ImportError: cannot load libdethrux\.so\.0 \(.*\): install the C library Dethrux, "
+            r"or set DETHRUX_LIBRARY to its path$",
+        )
+
+    def test_no_library(self):
+        (self.package / _library.SONAME).write_bytes(b"no library")
+        self.assertRegex(self.imported(), r"\): install the package dethrux again$")
+
+    def test_another_library(self):
+        other = compiled(self.folder.name, "int other;")
+        self.assertRegex(
+            self.imported(DETHRUX_LIBRARY=other), r"^ImportError: cannot load .*dethrux_version"
+        )
+
+    def test_another_version(self):
+        other = compiled(self.folder.name, "unsigned dethrux_version(void) { return 1002003; }")
+        self.assertRegex(
+            self.imported(DETHRUX_LIBRARY=other),
+            r"^ImportError: .*libother\.so has version 1\.2\.3, not [0-9.]+ as this package: set "
+            r"DETHRUX_LIBRARY ",
+        )
+
+    def test_a_call_is_missing(self):
+        number = _library._number(dethrux.__version__)
+        body = f"unsigned dethrux_version(void) {{ return {number}; }}"
+        self.assertRegex(
+            self.imported(DETHRUX_LIBRARY=compiled(self.folder.name, body)),
+            r"^ImportError: .*libother\.so has no dethrux_validate: set DETHRUX_LIBRARY ",
+        )
+
+
+class Version(unittest.TestCase):
+    def test_is_that_of_the_tree(self):
+        self.assertEqual(dethrux.__version__, (TOP / "VERSION").read_text().strip())
+
+    def test_is_that_of_the_header(self):
+        header = (TOP / "include" / "dethrux.h").read_text()
+        parts = zip(("MAJOR", "MINOR", "PATCH"), dethrux.__version__.split("."))
+        for name, number in parts:
+            self.assertIn(f"#define DETHRUX_VERSION_{name} {number}\n", header)
+
+    def test_every_call_of_the_header_is_there(self):
+        header = (TOP / "include" / "dethrux.h").read_text()
+        names = set(re.findall(r"^[^#/*]*\bdethrux_([a-z0-9_]+)\(", header, re.MULTILINE))
+        self.assertGreater(len(names), 10)
+        self.assertEqual({name for name in names if not hasattr(_library, name)}, {"version"})
+
+
+if __name__ == "__main__":
+    unittest.main()
