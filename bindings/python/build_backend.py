@@ -119,7 +119,7 @@ def build_wheel(wheel_directory, config_settings=None, metadata_directory=None):
 
 
 def build_editable(wheel_directory, config_settings=None, metadata_directory=None):
-    """Write a wheel that names this folder; the library is that of the loader or the environment."""
+    """Write a wheel that names this folder; the library is not in it."""
     return write_wheel(wheel_directory, None, {"dethrux.pth": f"{SOURCES}\n".encode()})
 
 

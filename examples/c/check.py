@@ -1,19 +1,20 @@
-"""Reads tables of cases/ on standard input, makes the calls that dethrux.py has, prints each case whose
-result differs, with both, and last how many passed. Cases of other calls, and those with a condition
-on memory or devices, are skipped."""
+"""Reads tables of cases/ on standard input, makes the calls that the package dethrux of
+bindings/python has, prints each case whose result differs, with both, and last how many passed.
+Cases of other calls, and those with a condition on memory or devices, are skipped."""
 
 import collections
 import re
 import sys
 
 import dethrux
+from dethrux import Status
 
 ORDERS = {
-    "le": [dethrux.LITTLE_ENDIAN],
-    "be": [dethrux.BIG_ENDIAN],
-    "both": [dethrux.LITTLE_ENDIAN, dethrux.BIG_ENDIAN],
+    "le": ["little"],
+    "be": ["big"],
+    "both": ["little", "big"],
 }
-STOPS = {dethrux.DONE: ["end"], dethrux.INCOMPLETE: ["incomplete"], dethrux.NO_SPACE: ["no_space"]}
+STOPS = {Status.DONE: ["end"], Status.INCOMPLETE: ["incomplete"], Status.NO_SPACE: ["no_space"]}
 
 
 class Text(bytes):
@@ -28,13 +29,13 @@ def part(word, order):
     if word == "-":
         return b""
     if word.startswith("~"):
-        return unescaped(word[2:-1]).encode("utf-16-be" if order == dethrux.BIG_ENDIAN else "utf-16-le")
+        return unescaped(word[2:-1]).encode("utf-16-be" if order == "big" else "utf-16-le")
     if word.startswith('"'):
         return unescaped(word[1:-1]).encode()
     if not word.startswith("^"):
         return bytes.fromhex(word)
     units = bytes.fromhex(word[1:])
-    return units if order == dethrux.BIG_ENDIAN else b"".join(units[at : at + 2][::-1] for at in range(0, len(units), 2))
+    return units if order == "big" else b"".join(units[at : at + 2][::-1] for at in range(0, len(units), 2))
 
 
 def has_parts(word):
@@ -67,9 +68,18 @@ def chunkings(raw):
     return [singly, *([raw[:at], raw[at:]] for at in range(len(raw) + 1))]
 
 
+def feed(decoder, chunk, room):
+    """What a decoder writes for a chunk, at most so many bytes a call."""
+    text, status = b"", Status.NO_SPACE
+    while status == Status.NO_SPACE:
+        output, read, status, _error_len = decoder.feed_partial(chunk, room)
+        text, chunk = text + output, chunk[read:]
+    return text
+
+
 def fed(order, parts, room=4096, kind=dethrux.Decoder):
-    decoder = kind(order, room)
-    text = b"".join(decoder.feed(piece) for piece in parts) + decoder.finish()
+    decoder = kind(order)
+    text = b"".join(feed(decoder, piece, room) for piece in parts) + decoder.finish()
     return Text(text) if kind is dethrux.Decoder else text
 
 
@@ -83,9 +93,19 @@ def cut_anywhere(order, raw, kind=dethrux.Decoder):
 # The calls: each takes a byte order and the values, and returns the words of the result.
 
 
-def converted(convert, is_text):
+def to_utf8_len(order, utf16):
+    return dethrux.to_utf8_lossy_len(utf16, order)
+
+
+def from_utf8_len(_order, utf8):
+    return dethrux.from_utf8_lossy_len(utf8)
+
+
+def converted(convert, size, is_text):
     def call(order, source, room):
-        found, read, status, error_len = convert(order, spelled(source, order), None if room == "size" else int(room))
+        raw = spelled(source, order)
+        capacity = size(order, raw) if room == "size" else int(room)
+        found, read, status, error_len = convert(raw, order, capacity)
         return [read, len(found), *stop(status, error_len), Text(found) if is_text else found]
 
     return call
@@ -93,17 +113,17 @@ def converted(convert, is_text):
 
 def from_utf8_lossy(order, source, room):
     """The call, and what differs from its whole result in any chunking of the input."""
-    words = converted(dethrux.from_utf8_lossy, False)(order, source, room)
+    words = converted(dethrux.from_utf8_lossy, from_utf8_len, False)(order, source, room)
     streams = cut_anywhere(order, spelled(source, order), dethrux.Utf8Decoder) if words[2] == "end" else []
     return [*words, *(text for text in streams if text != words[-1])]
 
 
 def validate(order, raw, *whole):
     raw = spelled(raw, order)
-    valid_up_to, status, error_len = dethrux.validate(order, raw)
-    if status == dethrux.DONE:
+    valid_up_to, status, error_len = dethrux.validate(raw, order)
+    if status == Status.DONE:
         return list(whole) or [raw]
-    return ["error", valid_up_to, "none" if status == dethrux.INCOMPLETE else error_len]
+    return ["error", valid_up_to, "none" if status == Status.INCOMPLETE else error_len]
 
 
 def every_any_chunking(order, raw):
@@ -115,19 +135,19 @@ def every_any_chunking(order, raw):
 def lossy_feed(order, *words):
     decoder, found = dethrux.Decoder(order), []
     for piece in pieces(words, order):
-        found += [Text(decoder.feed(piece)), decoder.pending()]
+        found += [Text(decoder.feed(piece)), decoder.pending]
     return [*found, "'\\u{FFFD}'" if decoder.finish() else "none"]
 
 
 CALLS = {
-    "to_utf8": converted(dethrux.to_utf8, True),
-    "to_utf8_partial": converted(dethrux.to_utf8_partial, True),
-    "to_utf8_lossy": converted(dethrux.to_utf8_lossy, True),
-    "from_utf8": converted(dethrux.from_utf8, False),
+    "to_utf8": converted(dethrux.to_utf8, to_utf8_len, True),
+    "to_utf8_partial": converted(dethrux.to_utf8_partial, to_utf8_len, True),
+    "to_utf8_lossy": converted(dethrux.to_utf8_lossy, to_utf8_len, True),
+    "from_utf8": converted(dethrux.from_utf8, from_utf8_len, False),
     "from_utf8_lossy": from_utf8_lossy,
-    "count_chars": lambda order, raw: [dethrux.count_chars(order, spelled(raw, order))],
-    "is_ascii": lambda order, raw: [str(dethrux.is_ascii(order, spelled(raw, order))).lower()],
-    "to_utf8_lossy_len": lambda order, raw: [dethrux.to_utf8_lossy_len(order, spelled(raw, order))],
+    "count_chars": lambda order, raw: [dethrux.count_chars(spelled(raw, order), order)],
+    "is_ascii": lambda order, raw: [str(dethrux.is_ascii(spelled(raw, order), order)).lower()],
+    "to_utf8_lossy_len": lambda order, raw: [dethrux.to_utf8_lossy_len(spelled(raw, order), order)],
     "from_utf8_len": lambda order, text: [dethrux.from_utf8_len(spelled(text, order))],
     "from_utf8_lossy_len": lambda order, text: [dethrux.from_utf8_lossy_len(spelled(text, order))],
     "validate_raw_utf16": lambda order, raw: validate(order, raw, "done"),
@@ -144,7 +164,7 @@ def holds(order, call, values, wanted):
         found = CALLS[call](order, *values)
         if len(found) == len(wanted) and all(is_wanted(one, word, order) for one, word in zip(found, wanted)):
             return True
-        print(f"   found in {'be' if order == dethrux.BIG_ENDIAN else 'le'}: {found}")
+        print(f"   found in {order} endian: {found}")
     except (TypeError, ValueError) as error:
         print(f"   {error}")
     return False

@@ -114,7 +114,8 @@ shared() {
 }
 
 check_python() {
-    PYTHONDONTWRITEBYTECODE=1 DETHRUX_LIBRARY="$room/libdethrux.so" python3 "$here/check.py" < "$room/cases"
+    PYTHONDONTWRITEBYTECODE=1 PYTHONPATH="$top/bindings/python/src" \
+        DETHRUX_LIBRARY="$room/libdethrux.so" python3 "$here/check.py" < "$room/cases"
 }
 
 cat "$top"/cases/*.txt > "$room/cases"
