@@ -98,11 +98,15 @@ class BesideCPython(unittest.TestCase):
         self.assert_same("utf_16_le_decode", b"\x00\xdcb\0", "replace", True)
 
     def test_long(self):
-        for text in ("a" * 5000, "a\xe9" * 5000, "\u4e00\U0001f600" * 5000):
+        for text in ("a" * 70000, "a\xe9" * 70000, "\u4e00\U0001f600" * 70000):
             for name in NAMES:
                 raw = text.encode(name)
                 self.assertEqual(text.encode(f"dethrux-{name}"), raw)
                 self.assertEqual(raw.decode(f"dethrux-{name}"), text)
+                wrong = raw + b"\xd8\xd8" + raw
+                for errors in ("replace", "backslashreplace"):
+                    decoded = wrong.decode(f"dethrux-{name}", errors)
+                    self.assertEqual(decoded, wrong.decode(name, errors))
 
     def test_functions(self):
         for order, name in (("little", "utf-16-le"), ("big", "utf-16-be")):

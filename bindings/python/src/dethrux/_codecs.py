@@ -19,6 +19,8 @@ _LITTLE, _BIG = 0, 1
 _NATIVE = _LITTLE if sys.byteorder == "little" else _BIG
 _ENCODINGS = ("utf-16-le", "utf-16-be")
 _BOMS = (codecs.BOM_UTF16_LE, codecs.BOM_UTF16_BE)
+# The most that one call writes: long texts go through a buffer that stays in the cache.
+_CAPACITY = 1 << 16
 _SURROGATE = re.compile("[\ud800-\udfff]")
 
 
@@ -58,6 +60,14 @@ class _Handler:
         return offset
 
 
+def _address(data: bytes, offset: int) -> Any:
+    """Return the address of a byte, in a form that a call takes."""
+    if not offset:
+        return data
+    address: Any = ctypes.cast(ctypes.c_char_p(data), ctypes.c_void_p).value
+    return address + offset
+
+
 # UTF-16 to str.
 
 
@@ -66,19 +76,17 @@ class _Source:
 
     def __init__(self, utf16: bytes, order: int) -> None:
         self.utf16, self.order = utf16, order
-        self._capacity = (len(utf16) + 1) // 2 * 3
-        self._buffer = bytearray(self._capacity)
+        self._buffer = bytearray(min((len(utf16) + 1) // 2 * 3, _CAPACITY))
 
     def convert(self, call: Any, start: int, end: int) -> tuple[str, int, int]:
         """Return the text from an offset up to where a call stops, that offset, and the status."""
-        address: Any = self.utf16
-        if start:
-            address = ctypes.cast(address, ctypes.c_void_p).value
-            address += start
-        to, capacity = pointer(self._buffer), self._capacity
-        found = call(self.order, address, end - start, to, capacity)
-        text = str(memoryview(self._buffer)[: found.written], "utf-8")
-        return text, start + found.read, found.status
+        parts: list[str] = []
+        to, capacity, status = pointer(self._buffer), len(self._buffer), Status.NO_SPACE
+        while status == Status.NO_SPACE:
+            found = call(self.order, _address(self.utf16, start), end - start, to, capacity)
+            parts.append(str(memoryview(self._buffer)[: found.written], "utf-8"))
+            start, status = start + found.read, found.status
+        return "".join(parts), start, status
 
     def has_trailing(self, at: int) -> bool:
         """Return whether the code unit at an offset is a trailing surrogate."""
@@ -192,11 +200,14 @@ def utf_16_decode(
 
 def _from_utf8(utf8: bytes, order: int, bom: bytes = b"") -> bytes:
     """Return the BOM and the UTF-16 of well-formed UTF-8."""
-    start, capacity = len(bom), len(utf8) * 2
-    to = bytearray(start + capacity)
-    to[:start] = bom
-    found = _library.from_utf8(order, utf8, len(utf8), pointer(to, start), capacity)
-    return bytes(memoryview(to)[: start + found.written])
+    parts = [bom]
+    buffer = bytearray(min(len(utf8) * 2, _CAPACITY))
+    to, capacity, start, status = pointer(buffer), len(buffer), 0, Status.NO_SPACE
+    while status == Status.NO_SPACE:
+        found = _library.from_utf8(order, _address(utf8, start), len(utf8) - start, to, capacity)
+        parts.append(bytes(memoryview(buffer)[: found.written]))
+        start, status = start + found.read, found.status
+    return b"".join(parts)
 
 
 def _encode(
