@@ -1,8 +1,8 @@
 #!/usr/bin/env bash
-# Looks for each block of Rattle or Rust in the documents in the file of the tree that the text
-# before it names last: it must be there, paragraph by paragraph, so the code of a document is
-# proved, and that of bindings/ tested. Prints each that is not, and last a line 'N passed, M
-# failed'.
+# Looks for each block of Rattle or Rust in the documents, and each of C and C++ in docs/, in the
+# file of the tree that the text before it names last: it must be there, paragraph by paragraph, so
+# the code of a document is proved, and that of bindings/ and examples/ run. Prints each that is
+# not, and last a line 'N passed, M failed'.
 set -uo pipefail
 cd "$(dirname "$0")/.." || exit 1
 passed=0
@@ -29,7 +29,7 @@ for document in README.md docs/*.md; do
         number=$((number + 1))
         if [ -n "$inside" ]; then
             if [[ $line == '```' || -z $line ]]; then
-                [ "$inside" = rust ] && stands "$paragraph" "$document:$number"
+                [[ $inside == rust || $document:$inside =~ ^docs/.*:(c|cpp)$ ]] && stands "$paragraph" "$document:$number"
                 paragraph=''
                 [ -z "$line" ] || inside=''
             else
@@ -38,7 +38,7 @@ for document in README.md docs/*.md; do
         elif [[ $line == '```'* ]]; then
             inside=${line#'```'}
             inside=${inside:-text}
-        elif [[ $line =~ \`(crates/[a-z0-9_/]+\.rt|bindings/[a-z0-9_/]+\.rs)\` ]]; then
+        elif [[ $line =~ \`(crates/[a-z0-9_/]+\.rt|bindings/[a-z0-9_/]+\.rs|examples/[a-z0-9_/]+\.c(pp)?)\` ]]; then
             source=${BASH_REMATCH[1]}
         fi
     done < "$document"

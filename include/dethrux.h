@@ -1,9 +1,10 @@
 /* SPDX-License-Identifier: MIT OR Apache-2.0 */
 
 /* Dethrux: UTF-16 in either byte order, to and from UTF-8, between buffers of the caller's. No call
- * allocates, keeps a pointer or prints anything. C99 and C++11. Link with libdethrux.a alone. It is
- * for x86-64-v2 and above (SSE4.2, POPCNT): an older processor ends the program with an illegal
- * instruction.
+ * allocates, keeps a pointer or prints anything. C99 and C++11; for C++17 there is dethrux.hpp over
+ * it. Link with libdethrux.so (-ldethrux), or with libdethrux.a alone. Both are for x86-64-v2 and
+ * above (SSE4.2, POPCNT): the loader refuses to start them on an older processor, and where no
+ * loader is asked, as in a program that is linked with -static, an illegal instruction ends it.
  *
  * Proved for all inputs of up to PTRDIFF_MAX bytes: each result is as described, and no call reads
  * or writes outside the buffers that it is given. No proof sees the caller, so this is trusted: a
@@ -15,8 +16,10 @@
  * Threads: the calls share no state, so any call may run in any thread at any time. Only one thread
  * at a time may use a decoder, or a buffer that a call writes to.
  *
- * Lengths, offsets and capacities count bytes. Only dethrux_detect_bom looks for a byte order mark
- * (BOM); to every other call it is the character U+FEFF.
+ * Lengths, offsets and capacities count bytes, except in the dethrux_u16 calls at the end, for
+ * UTF-16 in the machine's byte order, where they count code units. A bool is 0 or 1. Only
+ * dethrux_detect_bom looks for a byte order mark (BOM); to every other call it is the character
+ * U+FEFF.
  *
  * A program that decodes little-endian UTF-16 of any length with two small buffers:
  *
@@ -264,15 +267,17 @@ DETHRUX_NODISCARD dethrux_progress dethrux_utf8_decoder_feed(
 DETHRUX_NODISCARD dethrux_progress dethrux_utf8_decoder_finish(
     dethrux_utf8_decoder *decoder, dethrux_byte_order byte_order, uint8_t *to, size_t capacity);
 
-/* Returns whether `at` is a boundary between characters, so that the text may be cut there: `at` is
- * even, at most `len`, and not between the two code units of a surrogate pair. Ill-formed input too
- * may be cut there: what dethrux_to_utf8_lossy writes for the whole is what it writes for the bytes
- * before `at`, then what it writes for those from `at`. */
+/* Returns whether `at` is a boundary between characters: `len`, or a smaller even offset that is
+ * neither inside a surrogate pair nor between a leading surrogate and a single byte at the end. An
+ * unpaired surrogate counts as a character, and so does an incomplete one at the end, of 1 to 3
+ * bytes. Any bytes may be cut at a boundary: what dethrux_to_utf8_lossy writes for all of them is
+ * what it writes for those before it, then for those from it on. Only the two bytes before `at` and
+ * the two from it on are read. */
 DETHRUX_NODISCARD bool dethrux_is_char_boundary(
     dethrux_byte_order byte_order, const uint8_t *utf16, size_t len, size_t at);
 
-/* Returns the greatest boundary at or before `at`, and at most `len`; it is 0 to 3 bytes before the
- * smaller of the two. */
+/* Returns the greatest boundary at or before `at`: at most 3 bytes before the smaller of `at` and
+ * `len`. */
 DETHRUX_NODISCARD size_t dethrux_floor_char_boundary(
     dethrux_byte_order byte_order, const uint8_t *utf16, size_t len, size_t at);
 
@@ -281,13 +286,14 @@ DETHRUX_NODISCARD size_t dethrux_floor_char_boundary(
 void dethrux_swap_byte_order(uint8_t *utf16, size_t len);
 
 /* Replaces each unpaired surrogate by U+FFFD in place, and returns how many there were. Then the
- * code units are well formed. An odd byte at the end stays. */
+ * whole code units are well formed. A leading surrogate at the end is unpaired; an odd byte at the
+ * end stays. */
 size_t dethrux_make_well_formed(dethrux_byte_order byte_order, uint8_t *utf16, size_t len);
 
 /* Compares two texts by their scalar values, each in its byte order: returns -1, 0 or 1 where the
- * first is less than, equal to or greater than the second. That is the order of memcmp on what
- * dethrux_to_utf8_lossy writes: an unpaired surrogate, and an incomplete character at the end, is
- * U+FFFD, and a text is greater than each of its prefixes. */
+ * first is less than, equal to or greater than the second. An unpaired surrogate, and an incomplete
+ * character at the end, counts as U+FFFD; a text is greater than each of its prefixes. UTF-8, and
+ * so what dethrux_to_utf8_lossy writes, has the same order by bytes. */
 DETHRUX_NODISCARD int32_t dethrux_compare(
     dethrux_byte_order first_order, const uint8_t *first, size_t first_len,
     dethrux_byte_order second_order, const uint8_t *second, size_t second_len);
@@ -301,5 +307,180 @@ DETHRUX_NODISCARD dethrux_bom dethrux_detect_bom(const uint8_t *bytes, size_t le
 #ifdef __cplusplus
 }
 #endif
+
+/* ---- UTF-16 in the machine's byte order
+ *
+ * The same calls on code units, as Windows, ICU, Qt and Java hold them: of type uint16_t or
+ * char16_t in C, which are one type, and of any integral type of two bytes in C++. Each length,
+ * offset and capacity of UTF-16 counts code units, and so do `read`, `written`, `valid_up_to` and
+ * `error_len` where they speak of UTF-16; of UTF-8 they count bytes. Nothing is copied. */
+
+#if defined(__BYTE_ORDER__) && __BYTE_ORDER__ == 4321
+#define DETHRUX_NATIVE_ENDIAN DETHRUX_BIG_ENDIAN
+#else
+#define DETHRUX_NATIVE_ENDIAN DETHRUX_LITTLE_ENDIAN
+#endif
+
+#ifdef __cplusplus
+#define DETHRUX_U16 template <typename dethrux_unit> inline
+#define DETHRUX_U16_RESULT template <typename dethrux_unit> DETHRUX_NODISCARD inline
+DETHRUX_U16 const uint8_t *dethrux_u16_bytes(const dethrux_unit *utf16) {
+    static_assert(sizeof(dethrux_unit) == 2, "a code unit of UTF-16 has two bytes");
+    return reinterpret_cast<const uint8_t *>(utf16);
+}
+DETHRUX_U16 uint8_t *dethrux_u16_bytes(dethrux_unit *utf16) {
+    static_assert(sizeof(dethrux_unit) == 2, "a code unit of UTF-16 has two bytes");
+    return reinterpret_cast<uint8_t *>(utf16);
+}
+#define DETHRUX_U16_BYTES(utf16) dethrux_u16_bytes(utf16)
+#define DETHRUX_U16_BYTES_MUT(utf16) dethrux_u16_bytes(utf16)
+#else
+#define DETHRUX_U16 static inline
+#define DETHRUX_U16_RESULT DETHRUX_NODISCARD static inline
+typedef uint16_t dethrux_unit;
+#define DETHRUX_U16_BYTES(utf16) ((const uint8_t *)(utf16))
+#define DETHRUX_U16_BYTES_MUT(utf16) ((uint8_t *)(utf16))
+#endif
+
+/* dethrux_validate. */
+DETHRUX_U16_RESULT dethrux_validity dethrux_u16_validate(
+    const dethrux_unit *utf16, size_t len) {
+    dethrux_validity validity =
+        dethrux_validate(DETHRUX_NATIVE_ENDIAN, DETHRUX_U16_BYTES(utf16), len * 2);
+    validity.valid_up_to /= 2;
+    validity.error_len /= 2;
+    return validity;
+}
+
+/* dethrux_count_chars. */
+DETHRUX_U16_RESULT size_t dethrux_u16_count_chars(
+    const dethrux_unit *utf16, size_t len) {
+    return dethrux_count_chars(DETHRUX_NATIVE_ENDIAN, DETHRUX_U16_BYTES(utf16), len * 2);
+}
+
+/* dethrux_is_ascii. */
+DETHRUX_U16_RESULT bool dethrux_u16_is_ascii(const dethrux_unit *utf16, size_t len) {
+    return dethrux_is_ascii(DETHRUX_NATIVE_ENDIAN, DETHRUX_U16_BYTES(utf16), len * 2);
+}
+
+/* dethrux_to_utf8_lossy_len: at most len * 3. */
+DETHRUX_U16_RESULT size_t dethrux_u16_to_utf8_lossy_len(
+    const dethrux_unit *utf16, size_t len) {
+    return dethrux_to_utf8_lossy_len(DETHRUX_NATIVE_ENDIAN, DETHRUX_U16_BYTES(utf16), len * 2);
+}
+
+/* dethrux_to_utf8. A capacity of len * 3 suffices, here and in the next two calls. */
+DETHRUX_U16_RESULT dethrux_progress dethrux_u16_to_utf8(
+    const dethrux_unit *utf16, size_t len, uint8_t *to, size_t capacity) {
+    dethrux_progress progress =
+        dethrux_to_utf8(DETHRUX_NATIVE_ENDIAN, DETHRUX_U16_BYTES(utf16), len * 2, to, capacity);
+    progress.read /= 2;
+    progress.error_len /= 2;
+    return progress;
+}
+
+/* dethrux_to_utf8_lossy. */
+DETHRUX_U16_RESULT dethrux_progress dethrux_u16_to_utf8_lossy(
+    const dethrux_unit *utf16, size_t len, uint8_t *to, size_t capacity) {
+    dethrux_progress progress = dethrux_to_utf8_lossy(
+        DETHRUX_NATIVE_ENDIAN, DETHRUX_U16_BYTES(utf16), len * 2, to, capacity);
+    progress.read /= 2;
+    return progress;
+}
+
+/* dethrux_to_utf8_partial. With DETHRUX_INCOMPLETE one unit follows `read`, a leading surrogate. */
+DETHRUX_U16_RESULT dethrux_progress dethrux_u16_to_utf8_partial(
+    const dethrux_unit *utf16, size_t len, uint8_t *to, size_t capacity) {
+    dethrux_progress progress = dethrux_to_utf8_partial(
+        DETHRUX_NATIVE_ENDIAN, DETHRUX_U16_BYTES(utf16), len * 2, to, capacity);
+    progress.read /= 2;
+    return progress;
+}
+
+/* dethrux_decoder_feed, on a decoder that only this call and dethrux_decoder_finish have changed.
+ * A capacity of (len + 1) * 3 suffices. */
+DETHRUX_U16_RESULT dethrux_progress dethrux_u16_decoder_feed(
+    dethrux_decoder *decoder, const dethrux_unit *chunk, size_t len, uint8_t *to,
+    size_t capacity) {
+    dethrux_progress progress = dethrux_decoder_feed(
+        decoder, DETHRUX_NATIVE_ENDIAN, DETHRUX_U16_BYTES(chunk), len * 2, to, capacity);
+    progress.read /= 2;
+    return progress;
+}
+
+/* dethrux_from_utf8. A capacity of len suffices, here and in the next call. */
+DETHRUX_U16_RESULT dethrux_progress dethrux_u16_from_utf8(
+    const uint8_t *utf8, size_t len, dethrux_unit *to, size_t capacity) {
+    dethrux_progress progress = dethrux_from_utf8(
+        DETHRUX_NATIVE_ENDIAN, utf8, len, DETHRUX_U16_BYTES_MUT(to), capacity * 2);
+    progress.written /= 2;
+    return progress;
+}
+
+/* dethrux_from_utf8_lossy. */
+DETHRUX_U16_RESULT dethrux_progress dethrux_u16_from_utf8_lossy(
+    const uint8_t *utf8, size_t len, dethrux_unit *to, size_t capacity) {
+    dethrux_progress progress = dethrux_from_utf8_lossy(
+        DETHRUX_NATIVE_ENDIAN, utf8, len, DETHRUX_U16_BYTES_MUT(to), capacity * 2);
+    progress.written /= 2;
+    return progress;
+}
+
+/* dethrux_utf8_decoder_feed. A capacity of len + 1 suffices. */
+DETHRUX_U16_RESULT dethrux_progress dethrux_u16_utf8_decoder_feed(
+    dethrux_utf8_decoder *decoder, const uint8_t *chunk, size_t len, dethrux_unit *to,
+    size_t capacity) {
+    dethrux_progress progress = dethrux_utf8_decoder_feed(
+        decoder, DETHRUX_NATIVE_ENDIAN, chunk, len, DETHRUX_U16_BYTES_MUT(to), capacity * 2);
+    progress.written /= 2;
+    return progress;
+}
+
+/* dethrux_utf8_decoder_finish. A capacity of 1 suffices. */
+DETHRUX_U16_RESULT dethrux_progress dethrux_u16_utf8_decoder_finish(
+    dethrux_utf8_decoder *decoder, dethrux_unit *to, size_t capacity) {
+    dethrux_progress progress = dethrux_utf8_decoder_finish(
+        decoder, DETHRUX_NATIVE_ENDIAN, DETHRUX_U16_BYTES_MUT(to), capacity * 2);
+    progress.written /= 2;
+    return progress;
+}
+
+/* dethrux_is_char_boundary. */
+DETHRUX_U16_RESULT bool dethrux_u16_is_char_boundary(
+    const dethrux_unit *utf16, size_t len, size_t at) {
+    return at <= len
+        && dethrux_is_char_boundary(
+            DETHRUX_NATIVE_ENDIAN, DETHRUX_U16_BYTES(utf16), len * 2, at * 2);
+}
+
+/* dethrux_floor_char_boundary: at most one unit before the smaller of `at` and `len`. */
+DETHRUX_U16_RESULT size_t dethrux_u16_floor_char_boundary(
+    const dethrux_unit *utf16, size_t len, size_t at) {
+    return dethrux_floor_char_boundary(DETHRUX_NATIVE_ENDIAN, DETHRUX_U16_BYTES(utf16), len * 2,
+               at < len ? at * 2 : len * 2)
+        / 2;
+}
+
+/* dethrux_swap_byte_order. */
+DETHRUX_U16 void dethrux_u16_swap_byte_order(dethrux_unit *utf16, size_t len) {
+    dethrux_swap_byte_order(DETHRUX_U16_BYTES_MUT(utf16), len * 2);
+}
+
+/* dethrux_make_well_formed. */
+DETHRUX_U16 size_t dethrux_u16_make_well_formed(dethrux_unit *utf16, size_t len) {
+    return dethrux_make_well_formed(DETHRUX_NATIVE_ENDIAN, DETHRUX_U16_BYTES_MUT(utf16), len * 2);
+}
+
+/* dethrux_compare. */
+DETHRUX_U16_RESULT int32_t dethrux_u16_compare(const dethrux_unit *first,
+    size_t first_len, const dethrux_unit *second, size_t second_len) {
+    return dethrux_compare(DETHRUX_NATIVE_ENDIAN, DETHRUX_U16_BYTES(first), first_len * 2,
+        DETHRUX_NATIVE_ENDIAN, DETHRUX_U16_BYTES(second), second_len * 2);
+}
+
+#undef DETHRUX_U16
+#undef DETHRUX_U16_RESULT
+#undef DETHRUX_U16_BYTES
+#undef DETHRUX_U16_BYTES_MUT
 
 #endif

@@ -1,7 +1,8 @@
 #!/usr/bin/env bash
-# Builds the library libdethrux.a and the examples in C and in Python over a shared object, and runs
-# each over the tables of cases. A tool that is missing is a failure. The last line is 'N passed, M
-# failed'. With --over-ci the library is built over the libraries that rt ci has just proved.
+# Builds the library libdethrux.a and the examples in C, in C++ and in Python over a shared object,
+# and runs them: the tables of cases, the programs of docs/C.md and docs/CPP.md, and all in C under
+# valgrind. A tool that is missing is a failure. The last line is 'N passed, M failed'. With
+# --over-ci the library is built over the libraries that rt ci has just proved.
 set -uo pipefail
 here=$(cd "$(dirname "$0")" && pwd)
 top=$here/../..
@@ -51,7 +52,7 @@ library_over_ci() {
     for below in ../*/out/rlib; do
         words+=(-L "dependency=$below")
     done
-    for below in utf16_transcode utf16_decode utf8_split utf16_units; do
+    for below in utf16_transcode utf16_decode utf8_split utf16_boundaries utf16_bytes utf16_units; do
         words+=(--extern "$below=../$below/out/rlib/$below.rlib")
     done
     words+=(--extern "std=$kit/rlibs/std.rlib" -L "dependency=$kit/rlibs" --toolchain "$kit/toolchain")
@@ -67,15 +68,35 @@ has() {
     return 1
 }
 
+# A program of this folder, in C99 or, with the types of <uchar.h>, C11.
 in_c() {
-    cc -std=c99 -O2 -Wall -Wextra -Wpedantic -Werror "-I$top/include" "$here/$1.c" "$archive" -o "$room/$1"
+    cc -std="${2:-c99}" -O2 -Wall -Wextra -Wpedantic -Werror "-I$top/include" "$here/$1.c" "$archive" -o "$room/$1"
 }
 
+# A program of examples/cpp, by a compiler and in a standard.
 in_cxx() {
+    "$1" -std="$2" -O2 -Wall -Wextra -Wpedantic -Wconversion -Wshadow -Werror "-I$top/include" \
+        "$top/examples/cpp/$3.cpp" "$archive" -o "$room/cpp_$3"
+}
+
+header_in_cxx() {
     local standard
     for standard in c++11 c++17; do
         c++ -std=$standard -Wall -Wextra -Wpedantic -Werror "-I$top/include" -x c++ -fsyntax-only "$top/include/dethrux.h" || return
     done
+}
+
+# Whether a program prints what a page shows in its block of text.
+prints_page() {
+    sed -n '/^```text$/,/^```$/p' "$top/docs/$2.md" | sed '/^```/d' > "$room/page"
+    [ -s "$room/page" ] && "$room/$1" | cmp - "$room/page"
+}
+
+# Whether valgrind has nothing to say of a program on this input.
+is_clean() {
+    valgrind -q --error-exitcode=9 --leak-check=full "$room/$1" ${3+"$3"} < "$2" > "$room/under" 2>&1 && return
+    cat "$room/under"
+    return 1
 }
 
 # Whether a compiler, with its words, refuses a call whose result is ignored.
@@ -126,10 +147,31 @@ if has cc 'C and Python'; then
     count 'the program in C' in_c decode && count 'a file in chunks' decodes
     count 'the program of the header' in_comment && count 'the program of the header, in chunks' comment_decodes
     count 'the check in C' in_c check && count 'the cases in C' check_c
+    count 'the check of code units' in_c units c11 && count 'code units in C' "$room/units"
+    count 'the first program in C' in_c first && count 'the page for C' prints_page first C
+    if has valgrind 'memory in C'; then
+        { for _ in {1..300}; do printf 'a\0\x4E\0\xD8'; done; } > "$room/odd"
+        count 'decode under valgrind' is_clean decode "$room/odd" le
+        count 'the program of the header under valgrind' is_clean comment "$room/odd"
+        count 'the check in C under valgrind' is_clean check "$room/cases"
+        count 'code units under valgrind' is_clean units /dev/null
+        count 'the first program under valgrind' is_clean first /dev/null
+    fi
     count 'an ignored result in C' refuses_ignored cc -std=c99 -x c
     if has c++ 'the header in C++'; then
-        count 'the header in C++' in_cxx
+        count 'the header in C++' header_in_cxx
         count 'an ignored result in C++' refuses_ignored c++ -std=c++17 -x c++
+    fi
+    for compiler in g++ clang++; do
+        has $compiler "C++ by $compiler" || continue
+        for standard in c++17 c++20; do
+            count "the check by $compiler in $standard" in_cxx $compiler $standard check &&
+                count "C++ by $compiler in $standard" "$room/cpp_check"
+        done
+    done
+    count 'the first program in C++' in_cxx c++ c++17 first && count 'the page for C++' prints_page cpp_first CPP
+    if has valgrind 'memory in C++'; then
+        count 'the first program in C++ under valgrind' is_clean cpp_first /dev/null
     fi
     if has python3 'Python'; then
         count 'the shared object' shared && count 'the cases in Python' check_python

@@ -1,0 +1,429 @@
+// SPDX-License-Identifier: MIT OR Apache-2.0
+
+// Dethrux for C++17: UTF-16 in either byte order, to and from UTF-8, in strings. Each function
+// makes a proved call of dethrux.h; what is added here is memory and types.
+//
+// UTF-16 is given as code units in the machine's byte order (dethrux::units: std::u16string and its
+// view, a vector or span of any integral type of two bytes, a pointer and a length), or as bytes
+// and a byte order (dethrux::bytes: std::string and its view, a vector or span of std::byte or
+// unsigned char, a pointer and a length). UTF-8 is given as dethrux::bytes. A pointer alone is a
+// text that ends with a NUL.
+//
+// Offsets and lengths of `units` count code units, those of `bytes` bytes. Ill-formed input is a
+// value, dethrux::error, and never an exception. The only exceptions are those of memory, such as
+// std::bad_alloc: after one, a string that was passed and a decoder are as they were.
+//
+// A result takes the memory of the longest text for its length of input: three bytes a code unit of
+// UTF-16, a code unit a byte of UTF-8. One pass is made so; shrink_to_fit() gives the rest back.
+#ifndef DETHRUX_HPP
+#define DETHRUX_HPP
+
+#include "dethrux.h"
+
+#include <cstddef>
+#include <cstdint>
+#include <optional>
+#include <string>
+#include <string_view>
+#include <type_traits>
+#include <utility>
+#include <variant>
+
+namespace dethrux {
+
+// The byte order of UTF-16 in bytes.
+enum class byte_order : std::uint32_t {
+    little = DETHRUX_LITTLE_ENDIAN,
+    big = DETHRUX_BIG_ENDIAN,
+    native = DETHRUX_NATIVE_ENDIAN
+};
+
+namespace detail {
+
+inline dethrux_byte_order order(byte_order from) noexcept {
+    return static_cast<dethrux_byte_order>(from);
+}
+
+inline std::uint8_t *data(std::string &text, std::size_t at = 0) noexcept {
+    return reinterpret_cast<std::uint8_t *>(text.data()) + at;
+}
+
+// Whether a type has elements of so many bytes, one after another, that are numbers.
+template <std::size_t Size, class C, class = void>
+struct holds : std::false_type {};
+
+template <std::size_t Size, class C>
+struct holds<Size, C,
+    std::void_t<decltype(std::declval<const C &>().data()),
+        decltype(std::declval<const C &>().size())>> {
+    using element =
+        std::remove_cv_t<std::remove_pointer_t<decltype(std::declval<const C &>().data())>>;
+    static constexpr bool value =
+        sizeof(element) == Size && (std::is_integral_v<element> || std::is_enum_v<element>);
+};
+
+// Elements of `Size` bytes that are read during a call; `Char` is the usual type of them.
+template <std::size_t Size, class Char>
+class view {
+public:
+    constexpr view() noexcept = default;
+
+    template <class T,
+        class = std::enable_if_t<sizeof(T) == Size && (std::is_integral_v<T> || std::is_enum_v<T>)>>
+    view(const T *data, std::size_t size) noexcept : data_(data), size_(size) {}
+
+    template <class C, class = std::enable_if_t<holds<Size, C>::value>>
+    view(const C &from) noexcept : data_(from.data()), size_(from.size()) {}
+
+    // A text that ends with a NUL.
+    view(const Char *from) : data_(from), size_(std::char_traits<Char>::length(from)) {}
+
+    const std::uint8_t *data() const noexcept { return static_cast<const std::uint8_t *>(data_); }
+    std::size_t size() const noexcept { return size_; }
+
+private:
+    const void *data_ = nullptr;
+    std::size_t size_ = 0;
+};
+
+} // namespace detail
+
+// Bytes, of UTF-8 or of UTF-16 in a byte order, that are read during a call.
+using bytes = detail::view<1, char>;
+
+// Code units of UTF-16 in the machine's byte order that are read during a call.
+using units = detail::view<2, char16_t>;
+
+// Why input is no text: the length of its longest well-formed prefix, and of the ill-formed
+// sequence after it. `error_len` is 0 where the input ends inside a character.
+struct error {
+    std::size_t valid_up_to = 0;
+    std::size_t error_len = 0;
+
+    bool is_incomplete() const noexcept { return error_len == 0; }
+
+    friend bool operator==(const error &a, const error &b) noexcept {
+        return a.valid_up_to == b.valid_up_to && a.error_len == b.error_len;
+    }
+    friend bool operator!=(const error &a, const error &b) noexcept { return !(a == b); }
+};
+
+// A value or an error, with the names of std::expected. Where there is an error, `value` throws
+// std::bad_variant_access, and `*` must not be used.
+template <class T>
+class [[nodiscard]] result {
+public:
+    result(T value) : state_(std::in_place_index<0>, std::move(value)) {}
+    result(dethrux::error reason) : state_(std::in_place_index<1>, reason) {}
+
+    bool has_value() const noexcept { return state_.index() == 0; }
+    explicit operator bool() const noexcept { return has_value(); }
+
+    T &value() & { return std::get<0>(state_); }
+    const T &value() const & { return std::get<0>(state_); }
+    T &&value() && { return std::get<0>(std::move(state_)); }
+    T value_or(T other) && { return has_value() ? std::move(**this) : std::move(other); }
+
+    T &operator*() &noexcept { return *std::get_if<0>(&state_); }
+    const T &operator*() const &noexcept { return *std::get_if<0>(&state_); }
+    T &&operator*() &&noexcept { return std::move(*std::get_if<0>(&state_)); }
+    T *operator->() noexcept { return std::get_if<0>(&state_); }
+    const T *operator->() const noexcept { return std::get_if<0>(&state_); }
+
+    const dethrux::error &error() const { return std::get<1>(state_); }
+
+private:
+    std::variant<T, dethrux::error> state_;
+};
+
+namespace detail {
+
+inline std::optional<error> error_of(dethrux_validity validity, std::size_t unit) noexcept {
+    if (validity.status == DETHRUX_DONE) {
+        return std::nullopt;
+    }
+    return error{validity.valid_up_to / unit, validity.error_len / unit};
+}
+
+// The text that a call wrote, or why it stopped.
+template <class String>
+result<String> text_or_error(String &&text, dethrux_progress progress, std::size_t unit) {
+    if (progress.status != DETHRUX_DONE) {
+        return error{progress.read / unit, progress.error_len / unit};
+    }
+    return std::move(text);
+}
+
+using conversion = dethrux_progress (*)(
+    dethrux_byte_order, const std::uint8_t *, std::size_t, std::uint8_t *, std::size_t);
+
+// Makes a call to UTF-8 that always has the space that it needs.
+inline dethrux_progress to_utf8_by(conversion call, byte_order order, const std::uint8_t *utf16,
+    std::size_t len, std::string &to) {
+    to.resize(DETHRUX_UTF8_MAX(len));
+    dethrux_progress progress = call(detail::order(order), utf16, len, data(to), to.size());
+    to.resize(progress.written);
+    return progress;
+}
+
+// The same from UTF-8, to UTF-16 in bytes and in code units.
+inline dethrux_progress from_utf8_by(
+    conversion call, byte_order order, bytes utf8, std::string &to) {
+    to.resize(DETHRUX_UTF16_MAX(utf8.size()));
+    dethrux_progress progress =
+        call(detail::order(order), utf8.data(), utf8.size(), data(to), to.size());
+    to.resize(progress.written);
+    return progress;
+}
+
+inline dethrux_progress from_utf8_by(conversion call, bytes utf8, std::u16string &to) {
+    to.resize(utf8.size());
+    dethrux_progress progress = call(DETHRUX_NATIVE_ENDIAN, utf8.data(), utf8.size(),
+        reinterpret_cast<std::uint8_t *>(to.data()), to.size() * 2);
+    to.resize(progress.written / 2);
+    return progress;
+}
+
+} // namespace detail
+
+// ---- what is there
+
+// Returns why the input is no UTF-16, and nothing if it is.
+[[nodiscard]] inline std::optional<error> validate(bytes utf16, byte_order order) noexcept {
+    return detail::error_of(dethrux_validate(detail::order(order), utf16.data(), utf16.size()), 1);
+}
+
+[[nodiscard]] inline std::optional<error> validate(units utf16) noexcept {
+    return detail::error_of(
+        dethrux_validate(DETHRUX_NATIVE_ENDIAN, utf16.data(), utf16.size() * 2), 2);
+}
+
+// Returns the number of characters (scalar values) of UTF-16. Of ill-formed input it is the number
+// of whole code units that are not trailing surrogates.
+[[nodiscard]] inline std::size_t count_chars(bytes utf16, byte_order order) noexcept {
+    return dethrux_count_chars(detail::order(order), utf16.data(), utf16.size());
+}
+
+[[nodiscard]] inline std::size_t count_chars(units utf16) noexcept {
+    return dethrux_count_chars(DETHRUX_NATIVE_ENDIAN, utf16.data(), utf16.size() * 2);
+}
+
+// Returns whether the input is UTF-16 whose characters are all ASCII.
+[[nodiscard]] inline bool is_ascii(bytes utf16, byte_order order) noexcept {
+    return dethrux_is_ascii(detail::order(order), utf16.data(), utf16.size());
+}
+
+[[nodiscard]] inline bool is_ascii(units utf16) noexcept {
+    return dethrux_is_ascii(DETHRUX_NATIVE_ENDIAN, utf16.data(), utf16.size() * 2);
+}
+
+// Compares by scalar values: less than, equal to or greater than 0, as the first text is less than,
+// equal to or greater than the second. What is ill formed counts as U+FFFD.
+[[nodiscard]] inline int compare(
+    bytes first, byte_order first_order, bytes second, byte_order second_order) noexcept {
+    return dethrux_compare(detail::order(first_order), first.data(), first.size(),
+        detail::order(second_order), second.data(), second.size());
+}
+
+[[nodiscard]] inline int compare(units first, units second) noexcept {
+    return dethrux_compare(DETHRUX_NATIVE_ENDIAN, first.data(), first.size() * 2,
+        DETHRUX_NATIVE_ENDIAN, second.data(), second.size() * 2);
+}
+
+// Returns whether the text may be cut at an offset, and the greatest such offset at or before one:
+// dethrux_is_char_boundary and dethrux_floor_char_boundary.
+[[nodiscard]] inline bool is_char_boundary(bytes utf16, byte_order order, std::size_t at) noexcept {
+    return dethrux_is_char_boundary(detail::order(order), utf16.data(), utf16.size(), at);
+}
+
+[[nodiscard]] inline bool is_char_boundary(units utf16, std::size_t at) noexcept {
+    return at <= utf16.size()
+           && dethrux_is_char_boundary(
+               DETHRUX_NATIVE_ENDIAN, utf16.data(), utf16.size() * 2, at * 2);
+}
+
+[[nodiscard]] inline std::size_t floor_char_boundary(
+    bytes utf16, byte_order order, std::size_t at) noexcept {
+    return dethrux_floor_char_boundary(detail::order(order), utf16.data(), utf16.size(), at);
+}
+
+[[nodiscard]] inline std::size_t floor_char_boundary(units utf16, std::size_t at) noexcept {
+    return dethrux_floor_char_boundary(DETHRUX_NATIVE_ENDIAN, utf16.data(), utf16.size() * 2,
+               at < utf16.size() ? at * 2 : utf16.size() * 2)
+           / 2;
+}
+
+// ---- to UTF-8
+
+// Returns the text in UTF-8, or where the input is ill formed.
+inline result<std::string> to_utf8(bytes utf16, byte_order order) {
+    std::string to;
+    dethrux_progress progress =
+        detail::to_utf8_by(dethrux_to_utf8, order, utf16.data(), utf16.size(), to);
+    return detail::text_or_error(std::move(to), progress, 1);
+}
+
+inline result<std::string> to_utf8(units utf16) {
+    std::string to;
+    dethrux_progress progress =
+        detail::to_utf8_by(dethrux_to_utf8, byte_order::native, utf16.data(), utf16.size() * 2, to);
+    return detail::text_or_error(std::move(to), progress, 2);
+}
+
+// Returns the text in UTF-8, with U+FFFD for each unpaired surrogate and for an incomplete
+// character at the end.
+[[nodiscard]] inline std::string to_utf8_lossy(bytes utf16, byte_order order) {
+    std::string to;
+    detail::to_utf8_by(dethrux_to_utf8_lossy, order, utf16.data(), utf16.size(), to);
+    return to;
+}
+
+[[nodiscard]] inline std::string to_utf8_lossy(units utf16) {
+    std::string to;
+    detail::to_utf8_by(
+        dethrux_to_utf8_lossy, byte_order::native, utf16.data(), utf16.size() * 2, to);
+    return to;
+}
+
+// ---- from UTF-8
+
+// Returns the text in UTF-16, in bytes or in code units, or where the input is ill formed.
+inline result<std::string> from_utf8(bytes utf8, byte_order order) {
+    std::string to;
+    dethrux_progress progress = detail::from_utf8_by(dethrux_from_utf8, order, utf8, to);
+    return detail::text_or_error(std::move(to), progress, 1);
+}
+
+inline result<std::u16string> from_utf8(bytes utf8) {
+    std::u16string to;
+    dethrux_progress progress = detail::from_utf8_by(dethrux_from_utf8, utf8, to);
+    return detail::text_or_error(std::move(to), progress, 1);
+}
+
+// Returns the text in UTF-16, with U+FFFD for each maximal subpart of an ill-formed sequence, as
+// the Unicode Standard recommends.
+[[nodiscard]] inline std::string from_utf8_lossy(bytes utf8, byte_order order) {
+    std::string to;
+    detail::from_utf8_by(dethrux_from_utf8_lossy, order, utf8, to);
+    return to;
+}
+
+[[nodiscard]] inline std::u16string from_utf8_lossy(bytes utf8) {
+    std::u16string to;
+    detail::from_utf8_by(dethrux_from_utf8_lossy, utf8, to);
+    return to;
+}
+
+// ---- in place
+
+// Swaps the two bytes of each code unit. An odd byte at the end stays.
+inline void swap_byte_order(std::string &utf16) noexcept {
+    dethrux_swap_byte_order(detail::data(utf16), utf16.size());
+}
+
+inline void swap_byte_order(std::u16string &utf16) noexcept {
+    dethrux_u16_swap_byte_order(utf16.data(), utf16.size());
+}
+
+// Replaces each unpaired surrogate by U+FFFD, and returns how many there were.
+inline std::size_t make_well_formed(std::string &utf16, byte_order order) noexcept {
+    return dethrux_make_well_formed(detail::order(order), detail::data(utf16), utf16.size());
+}
+
+inline std::size_t make_well_formed(std::u16string &utf16) noexcept {
+    return dethrux_u16_make_well_formed(utf16.data(), utf16.size());
+}
+
+// ---- streams
+
+// Decodes a stream of UTF-16 that comes in chunks, cut anywhere, to UTF-8, with U+FFFD for each
+// unpaired surrogate. At most three bytes of the stream are in the decoder.
+class decoder {
+public:
+    explicit decoder(byte_order order = byte_order::native) noexcept : order_(order) {}
+
+    // Appends the text of the next chunk that is certain.
+    void feed(bytes chunk, std::string &to) { feed_bytes(chunk.data(), chunk.size(), order_, to); }
+
+    // The same for code units in the machine's byte order, which the decoder must have.
+    void feed(units chunk, std::string &to) {
+        feed_bytes(chunk.data(), chunk.size() * 2, byte_order::native, to);
+    }
+
+    // Ends the stream: appends U+FFFD if it ends inside a character. A new stream begins.
+    void finish(std::string &to) {
+        std::size_t size = to.size();
+        to.resize(size + DETHRUX_FINISH_MAX);
+        dethrux_progress progress =
+            dethrux_decoder_finish(&state_, detail::data(to, size), DETHRUX_FINISH_MAX);
+        to.resize(size + progress.written);
+    }
+
+    // The number of bytes that more bytes must decide, at most three.
+    std::size_t pending() const noexcept { return state_.pending_len; }
+
+private:
+    void feed_bytes(const std::uint8_t *chunk, std::size_t len, byte_order order, std::string &to) {
+        std::size_t size = to.size();
+        to.resize(size + DETHRUX_FEED_MAX(len));
+        dethrux_progress progress = dethrux_decoder_feed(
+            &state_, detail::order(order), chunk, len, detail::data(to, size), to.size() - size);
+        to.resize(size + progress.written);
+    }
+
+    dethrux_decoder state_ = DETHRUX_DECODER_INIT;
+    byte_order order_;
+};
+
+// Decodes a stream of UTF-8 that comes in chunks, cut anywhere, to UTF-16, with U+FFFD for each
+// maximal subpart of an ill-formed sequence. Give one type of string for a whole stream.
+class utf8_decoder {
+public:
+    explicit utf8_decoder(byte_order order = byte_order::native) noexcept : order_(order) {}
+
+    // Appends the text of the next chunk that is certain, in bytes of the decoder's byte order.
+    void feed(bytes chunk, std::string &to) {
+        std::size_t size = to.size();
+        to.resize(size + DETHRUX_UTF8_FEED_MAX(chunk.size()));
+        dethrux_progress progress = dethrux_utf8_decoder_feed(&state_, detail::order(order_),
+            chunk.data(), chunk.size(), detail::data(to, size), to.size() - size);
+        to.resize(size + progress.written);
+    }
+
+    // The same in code units of the machine's byte order.
+    void feed(bytes chunk, std::u16string &to) {
+        std::size_t size = to.size();
+        to.resize(size + chunk.size() + 1);
+        dethrux_progress progress = dethrux_u16_utf8_decoder_feed(
+            &state_, chunk.data(), chunk.size(), to.data() + size, to.size() - size);
+        to.resize(size + progress.written);
+    }
+
+    // Ends the stream: appends U+FFFD if it ends inside a character. A new stream begins.
+    void finish(std::string &to) {
+        std::size_t size = to.size();
+        to.resize(size + DETHRUX_UTF8_FINISH_MAX);
+        dethrux_progress progress = dethrux_utf8_decoder_finish(
+            &state_, detail::order(order_), detail::data(to, size), DETHRUX_UTF8_FINISH_MAX);
+        to.resize(size + progress.written);
+    }
+
+    void finish(std::u16string &to) {
+        std::size_t size = to.size();
+        to.resize(size + 1);
+        dethrux_progress progress =
+            dethrux_u16_utf8_decoder_finish(&state_, to.data() + size, std::size_t{1});
+        to.resize(size + progress.written);
+    }
+
+    // The number of bytes that more bytes must decide, at most three.
+    std::size_t pending() const noexcept { return state_.pending_len; }
+
+private:
+    dethrux_utf8_decoder state_ = DETHRUX_UTF8_DECODER_INIT;
+    byte_order order_;
+};
+
+} // namespace dethrux
+
+#endif
