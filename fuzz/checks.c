@@ -16,13 +16,6 @@ enum { GLIBC_FORM_MAX = 6 };
 /* The capacity of a call without `to`. */
 static const size_t NO_OUTPUT = SIZE_MAX;
 
-/* Calls that an older archive lacks are not checked. */
-#pragma weak dethrux_is_char_boundary
-#pragma weak dethrux_floor_char_boundary
-#pragma weak dethrux_swap_byte_order
-#pragma weak dethrux_make_well_formed
-#pragma weak dethrux_compare
-
 static input in;
 static decoded from_utf16, from_utf8;
 
@@ -503,13 +496,13 @@ static void check_detect_bom(void) {
 
 /* Boundaries. */
 
-/* Returns whether no surrogate pair begins one unit before an even offset. */
+/* Returns whether an item of the reference ends at an offset, or the text begins there. */
 static bool is_boundary(size_t at) {
-    if (at > in.len || at % 2 != 0) {
-        return false;
+    size_t end = 0;
+    for (size_t i = 0; i < from_utf16.item_count && end < at; i++) {
+        end += from_utf16.items[i].len;
     }
-    return at == 0 || at + 2 > in.len || !is_leading(unit_at(in.order, in.text, at - 2))
-           || !is_trailing(unit_at(in.order, in.text, at));
+    return end == at;
 }
 
 static size_t floor_boundary(size_t at) {
@@ -540,9 +533,6 @@ static void check_boundary_at(const uint8_t *utf16, size_t at) {
 }
 
 static void check_is_char_boundary(void) {
-    if (dethrux_is_char_boundary == NULL) {
-        return;
-    }
     for_offsets(check_boundary_at);
 }
 
@@ -551,9 +541,6 @@ static void check_floor_at(const uint8_t *utf16, size_t at) {
 }
 
 static void check_floor_char_boundary(void) {
-    if (dethrux_floor_char_boundary == NULL) {
-        return;
-    }
     for_offsets(check_floor_at);
 }
 
@@ -579,9 +566,6 @@ static void swap_units(const uint8_t *from, size_t len, uint8_t *to) {
 }
 
 static void check_swap_byte_order(void) {
-    if (dethrux_swap_byte_order == NULL) {
-        return;
-    }
     uint8_t want[TEXT_MAX];
     swap_units(in.text, in.len, want);
     for (place at = AT_START; at < place_count(in.len); at++) {
@@ -607,9 +591,6 @@ static size_t make_well_formed(uint8_t *to) {
 }
 
 static void check_make_well_formed(void) {
-    if (dethrux_make_well_formed == NULL) {
-        return;
-    }
     uint8_t want[TEXT_MAX];
     size_t count = make_well_formed(want);
     for (place at = AT_START; at < place_count(in.len); at++) {
@@ -648,9 +629,6 @@ static void compare_with(dethrux_byte_order order, const uint8_t *second, size_t
 
 /* The text with itself, with parts of it, and with itself after one change, in both byte orders. */
 static void check_compare(void) {
-    if (dethrux_compare == NULL) {
-        return;
-    }
     uint8_t other[TEXT_MAX];
     size_t at = in.at % (in.len + 1);
     swap_units(in.text, in.len, other);

@@ -807,6 +807,76 @@ static bool call_decode_pieces(dethrux_byte_order order, char **values, size_t c
     return is;
 }
 
+/* A value that is a number, or `max`. */
+static size_t number_of(const char *word) {
+    return strcmp(word, "max") == 0 ? SIZE_MAX : (size_t)strtoull(word, NULL, 0);
+}
+
+static bool call_swap(dethrux_byte_order order, char **values, size_t count, text *answer) {
+    text raw = {0};
+    bool is = count == 1 && bytes_of(values[0], order, &raw);
+    if (is) {
+        dethrux_swap_byte_order(raw.bytes, raw.len);
+        add_bytes(answer, raw.bytes, raw.len);
+    }
+    free(raw.bytes);
+    return is;
+}
+
+static bool call_make_well_formed(
+    dethrux_byte_order order, char **values, size_t count, text *answer) {
+    text raw = {0};
+    bool is = count == 1 && bytes_of(values[0], order, &raw);
+    if (is) {
+        add_number(answer, dethrux_make_well_formed(order, raw.bytes, raw.len));
+        add_bytes(answer, raw.bytes, raw.len);
+    }
+    free(raw.bytes);
+    return is;
+}
+
+/* The second text in the other byte order must compare in the same way. */
+static bool call_compare(dethrux_byte_order order, char **values, size_t count, text *answer) {
+    dethrux_byte_order other =
+        order == DETHRUX_BIG_ENDIAN ? DETHRUX_LITTLE_ENDIAN : DETHRUX_BIG_ENDIAN;
+    text raw = {0}, second = {0};
+    bool is = count == 2 && bytes_of(values[0], order, &raw) && bytes_of(values[1], order, &second);
+    if (is) {
+        int32_t found =
+            dethrux_compare(order, raw.bytes, raw.len, order, second.bytes, second.len);
+        add_word(answer, found < 0 ? "less" : found > 0 ? "greater" : "equal");
+        dethrux_swap_byte_order(second.bytes, second.len);
+        if (dethrux_compare(order, raw.bytes, raw.len, other, second.bytes, second.len) != found) {
+            add_word(answer, "differs");
+        }
+    }
+    free(raw.bytes);
+    free(second.bytes);
+    return is;
+}
+
+static bool call_is_boundary(dethrux_byte_order order, char **values, size_t count, text *answer) {
+    text raw = {0};
+    bool is = count == 2 && bytes_of(values[0], order, &raw);
+    if (is) {
+        bool found = dethrux_is_char_boundary(order, raw.bytes, raw.len, number_of(values[1]));
+        add_word(answer, found ? "true" : "false");
+    }
+    free(raw.bytes);
+    return is;
+}
+
+static bool call_floor(dethrux_byte_order order, char **values, size_t count, text *answer) {
+    text raw = {0};
+    bool is = count == 2 && bytes_of(values[0], order, &raw);
+    if (is) {
+        add_number(answer,
+            dethrux_floor_char_boundary(order, raw.bytes, raw.len, number_of(values[1])));
+    }
+    free(raw.bytes);
+    return is;
+}
+
 /* A call by its name: of values, or of bytes alone. The conversions have their own table. */
 static struct {
     const char *name;
@@ -819,6 +889,11 @@ static struct {
     {"Utf8Stream::feed", call_utf8_stream_feed, NULL, 0},
     {"Lossy::feed", call_lossy_feed, NULL, 0},
     {"decode_pieces", call_decode_pieces, NULL, 0},
+    {"swap_byte_order", call_swap, NULL, 0},
+    {"make_well_formed", call_make_well_formed, NULL, 0},
+    {"bytes::compare", call_compare, NULL, 0},
+    {"bytes::is_char_boundary", call_is_boundary, NULL, 0},
+    {"bytes::floor_char_boundary", call_floor, NULL, 0},
     {"count_chars", NULL, ask_count, 0},
     {"is_ascii", NULL, ask_is_ascii, 0},
     {"to_utf8_lossy_len", NULL, ask_utf8_size, 0},

@@ -139,7 +139,41 @@ def lossy_feed(order, *words):
     return [*found, "'\\u{FFFD}'" if decoder.finish() else "none"]
 
 
+def in_place(call, *is_counted):
+    """A call that rewrites bytes: what it returns, if it counts, and the bytes."""
+
+    def made(order, raw):
+        raw = bytearray(spelled(raw, order))
+        found = call(raw, order) if is_counted else call(raw)
+        return [found, bytes(raw)] if is_counted else [bytes(raw)]
+
+    return made
+
+
+def compare(order, first, second):
+    first, second = spelled(first, order), bytearray(spelled(second, order))
+    found = dethrux.compare(first, order, second, order)
+    dethrux.swap_byte_order(second)
+    other = {"little": "big", "big": "little"}[order]
+    if dethrux.compare(first, order, second, other) != found:
+        return ["differs"]
+    return [{-1: "less", 0: "equal", 1: "greater"}[found]]
+
+
+def offset(spelled_offset):
+    return sys.maxsize if spelled_offset == "max" else int(spelled_offset)
+
+
 CALLS = {
+    "swap_byte_order": in_place(dethrux.swap_byte_order),
+    "make_well_formed": in_place(dethrux.make_well_formed, "counted"),
+    "bytes::compare": compare,
+    "bytes::is_char_boundary": lambda order, raw, at: [
+        str(dethrux.is_char_boundary(spelled(raw, order), order, offset(at))).lower()
+    ],
+    "bytes::floor_char_boundary": lambda order, raw, at: [
+        dethrux.floor_char_boundary(spelled(raw, order), order, offset(at))
+    ],
     "to_utf8": converted(dethrux.to_utf8, to_utf8_len, True),
     "to_utf8_partial": converted(dethrux.to_utf8_partial, to_utf8_len, True),
     "to_utf8_lossy": converted(dethrux.to_utf8_lossy, to_utf8_len, True),

@@ -110,7 +110,8 @@ class Version(unittest.TestCase):
 
     def test_every_call_of_the_header_is_there(self):
         header = (TOP / "include" / "dethrux.h").read_text()
-        names = set(re.findall(r"^[^#/*]*\bdethrux_([a-z0-9_]+)\(", header, re.MULTILINE))
+        exported = header[: header.index("/* ---- UTF-16 in the machine's byte order")]
+        names = set(re.findall(r"^[^#/*]*\bdethrux_([a-z0-9_]+)\(", exported, re.MULTILINE))
         self.assertGreater(len(names), 10)
         self.assertEqual({name for name in names if not hasattr(_library, name)}, {"version"})
 

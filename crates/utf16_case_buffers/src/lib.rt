@@ -3,6 +3,7 @@
 #![tactic(auto)]
 
 mod buffers;
+mod bytes;
 mod conversions;
 mod questions;
 mod streams;
@@ -43,6 +44,11 @@ pub fn call<E: Utf16Order>(
         | "has_ascii_units"
         | "trailing_units"
         | "first_char_len" => { questions::call::<E>(alloc, name, values, answer) }
+        "swap_byte_order"
+        | "make_well_formed"
+        | "bytes::compare"
+        | "bytes::is_char_boundary"
+        | "bytes::floor_char_boundary" => bytes::call::<E>(alloc, name, values, answer),
         _ => texts::call::<E>(alloc, name, values, answer),
     }
 }

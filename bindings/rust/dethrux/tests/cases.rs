@@ -277,7 +277,34 @@ fn ask(name: &str, order: ByteOrder, raw: &[u8]) -> Option<Vec<Word>> {
     })
 }
 
-const CALLS: [&str; 26] = [
+/// Calls that rewrite bytes in place, and calls at an offset.
+fn on_bytes(name: &str, order: ByteOrder, raw: &str, at: Option<&str>) -> Option<Vec<Word>> {
+    let mut raw = spelled(raw, order)?;
+    let at = match at {
+        Some("max") => usize::MAX,
+        Some(at) => at.parse().ok()?,
+        None => 0,
+    };
+    Some(match name {
+        "swap_byte_order" => {
+            swap_byte_order(&mut raw);
+            vec![Bytes(raw)]
+        }
+        "make_well_formed" => {
+            let count = make_well_formed(order, &mut raw);
+            vec![Number(count), Bytes(raw)]
+        }
+        "bytes::floor_char_boundary" => vec![Number(floor_char_boundary(order, &raw, at))],
+        _ => vec![truth(is_char_boundary(order, &raw, at))],
+    })
+}
+
+const CALLS: [&str; 31] = [
+    "swap_byte_order",
+    "make_well_formed",
+    "bytes::compare",
+    "bytes::is_char_boundary",
+    "bytes::floor_char_boundary",
     "to_utf8",
     "to_utf8_partial",
     "to_utf8_lossy",
@@ -313,18 +340,17 @@ fn call(name: &str, order: ByteOrder, values: &[&str]) -> Option<Vec<Word>> {
             order,
             pieces(words, order)?.iter().map(Vec::as_slice),
         ))]),
-        ("compare" | "WStr::cmp" | "WString::cmp", [first, second]) => {
+        ("compare" | "bytes::compare" | "WStr::cmp" | "WString::cmp", [first, second]) => {
             compared(order, first, second)
         }
-        ("WStr::is_char_boundary" | "WString::is_char_boundary", [raw, at]) => {
-            let raw = spelled(raw, order)?;
-            let at = if *at == "max" {
-                usize::MAX
-            } else {
-                at.parse().ok()?
-            };
-            Some(vec![truth(is_char_boundary(order, &raw, at))])
-        }
+        ("swap_byte_order" | "make_well_formed", [raw]) => on_bytes(name, order, raw, None),
+        (
+            "WStr::is_char_boundary"
+            | "WString::is_char_boundary"
+            | "bytes::is_char_boundary"
+            | "bytes::floor_char_boundary",
+            [raw, at],
+        ) => on_bytes(name, order, raw, Some(*at)),
         ("every_room", [by, raw]) => every_room(by, order, &spelled(raw, order)?),
         (_, [raw, room]) => convert(name, order, &spelled(raw, order)?, room),
         (_, [raw]) => ask(name, order, &spelled(raw, order)?),

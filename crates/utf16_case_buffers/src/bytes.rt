@@ -1,0 +1,60 @@
+//! Calls on any bytes of UTF-16 as they are.
+
+use std::alloc::Global;
+use std::cmp::Ordering;
+use utf16_boundaries::{floor_char_boundary, is_char_boundary};
+use utf16_bytes::{compare, make_well_formed, swap_byte_order};
+use utf16_case_lines::{Answer, Trouble, Values};
+use utf16_units::{BE, LE, Utf16Order};
+
+/// Makes the call of this name.
+pub fn call<E: Utf16Order>(
+    alloc: Global,
+    name: &str,
+    values: &mut Values,
+    answer: &mut Answer,
+) -> Result<(), Trouble> {
+    let mut bytes = values.bytes(alloc, E::BIG)?;
+    match name {
+        "swap_byte_order" => {
+            swap_byte_order(bytes.as_mut_slice());
+            answer.bytes(&bytes);
+        }
+        "make_well_formed" => {
+            answer.number(make_well_formed::<E>(bytes.as_mut_slice()));
+            answer.bytes(&bytes);
+        }
+        "bytes::is_char_boundary" => {
+            answer.truth(is_char_boundary::<E>(&bytes, values.number()?));
+        }
+        "bytes::floor_char_boundary" => {
+            answer.number(floor_char_boundary::<E>(&bytes, values.number()?));
+        }
+        _ => {
+            let other = values.bytes(alloc, E::BIG)?;
+            compared::<E>(&bytes, other, answer);
+        }
+    }
+    Ok(())
+}
+
+// Adds how two texts compare, and `differs` if the second one in the other byte order compares in
+// another way.
+fn compared<E: Utf16Order>(first: &[u8], second: Vec<u8>, answer: &mut Answer) {
+    let mut second = second;
+    let order = compare::<E, E>(first, &second);
+    answer.word(match order {
+        Ordering::Less => "less",
+        Ordering::Equal => "equal",
+        Ordering::Greater => "greater",
+    });
+    swap_byte_order(second.as_mut_slice());
+    let swapped = if E::BIG {
+        compare::<E, LE>(first, &second)
+    } else {
+        compare::<E, BE>(first, &second)
+    };
+    if swapped != order {
+        answer.word("differs");
+    }
+}
