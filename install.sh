@@ -99,8 +99,8 @@ put_built() {
     put_filled dethrux.pc "$libdir/pkgconfig/dethrux.pc"
     put_filled dethruxConfig.cmake "$libdir/cmake/dethrux/dethruxConfig.cmake"
     put_filled dethruxConfigVersion.cmake "$libdir/cmake/dethrux/dethruxConfigVersion.cmake"
-    for page in CHANGELOG.md LICENSE-APACHE LICENSE-MIT; do
-        put 644 "$top/$page" "share/doc/dethrux/$page"
+    for page in CHANGELOG.md LICENSE-APACHE LICENSE-MIT docs/C.md docs/CPP.md; do
+        put 644 "$top/$page" "share/doc/dethrux/${page##*/}"
     done
 }
 

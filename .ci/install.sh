@@ -127,10 +127,10 @@ check_versions() {
         is_version dpkg-parsechangelog -l "$top/packaging/debian/changelog" -S Version
     check 'the version of the Debian symbols' \
         is_version first packaging/debian/libdethrux0.symbols '^ .* ([0-9.]+)'
-    for file in bindings/python/pyproject.toml bindings/rust/dethrux/Cargo.toml; do
-        [ ! -e "$top/$file" ] ||
-            check "the version of $file" is_version first "$file" '^version = "(.*)"'
-    done
+    check 'the version of the Rust crate' \
+        is_version first bindings/rust/dethrux/Cargo.toml '^version = "(.*)"'
+    check 'the version of the Python package' \
+        is_version first bindings/python/src/dethrux/_version.py '^__version__ = "(.*)"'
 }
 
 # == symbols

@@ -1,0 +1,32 @@
+#!/usr/bin/env bash
+# Installs the Debian packages that the parts after this one need and that are not there, where this
+# runs as root. A package that is not there in the end is a failure, with a line that says what to
+# install. The last line is 'N passed, M failed'.
+set -uo pipefail
+packages=(pkg-config librust-byteorder-dev libicu-dev)
+passed=0
+failed=0
+
+is_installed() {
+    dpkg-query -f '${db:Status-Status}\n' -W "$1" 2> /dev/null | grep -qx installed
+}
+
+missing=()
+for package in "${packages[@]}"; do
+    is_installed "$package" || missing+=("$package")
+done
+if [ ${#missing[@]} != 0 ] && [ $EUID = 0 ]; then
+    apt-get install -y -q --no-install-recommends "${missing[@]}" > /dev/null 2>&1 < /dev/null ||
+        { apt-get update -q && apt-get install -y -q --no-install-recommends "${missing[@]}"; } \
+            > /dev/null 2>&1 < /dev/null
+fi
+for package in "${packages[@]}"; do
+    if is_installed "$package"; then
+        passed=$((passed + 1))
+    else
+        failed=$((failed + 1))
+        echo "failed: there is no $package: apt-get install ${missing[*]}"
+    fi
+done
+echo "$passed passed, $failed failed"
+[ $failed = 0 ]
