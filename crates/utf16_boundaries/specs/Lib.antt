@@ -1,2 +1,4 @@
 pub mod Boundary
+pub mod File
 pub mod Laws
+pub mod Shards
