@@ -544,6 +544,52 @@ static void check_floor_char_boundary(void) {
     for_offsets(check_floor_at);
 }
 
+/* The bytes around an offset are in memory of their own, so that a read beyond them is found. */
+static void check_floor_around_at(const uint8_t *utf16, size_t at) {
+    (void)utf16;
+    if (at > in.len) {
+        return;
+    }
+    size_t start = at < 2 ? 0 : at / 2 * 2 - 2;
+    size_t len = in.len - start < 4 ? in.len - start : 4;
+    for (place where = AT_START; where < place_count(len); where++) {
+        uint8_t *around = output_at(len, where);
+        if (len > 0) {
+            memcpy(around, in.text + start, len);
+        }
+        expect("floor", dethrux_floor_char_boundary_around(in.order, around, len, at),
+            floor_boundary(at));
+    }
+}
+
+static void check_floor_char_boundary_around(void) {
+    for_offsets(check_floor_around_at);
+}
+
+/* Where each part begins, by adding up the code units of those before it. */
+static void check_shards_of(uint64_t len, uint64_t count) {
+    uint64_t offset = 0;
+    for (uint64_t i = 0; i < count && i < 40; i++) {
+        expect("part", dethrux_shard_offset(len, count, i), offset);
+        uint64_t units = len / 2 / count + (i < len / 2 % count ? 1 : 0);
+        offset += units * 2;
+    }
+    expect("end", dethrux_shard_offset(len, count, count), len);
+    expect("after the end", dethrux_shard_offset(len, count, UINT64_MAX), len);
+    if (count > 0 && count <= 40) {
+        expect("all code units", offset, len / 2 * 2);
+    }
+}
+
+static void check_shard_offset(void) {
+    for (uint64_t count = 0; count < 9; count++) {
+        check_shards_of(in.len, count);
+        check_shards_of(UINT64_MAX - in.len, count);
+        check_shards_of(in.at, in.len + count);
+        check_shards_of(in.at, UINT64_MAX - count);
+    }
+}
+
 /* Calls in place. */
 
 static dethrux_byte_order other_order(dethrux_byte_order order) {
@@ -723,6 +769,8 @@ const check CHECKS[] = {
     {"dethrux_utf8_decoder_finish", check_utf8_decoder_finish},
     {"dethrux_is_char_boundary", check_is_char_boundary},
     {"dethrux_floor_char_boundary", check_floor_char_boundary},
+    {"dethrux_floor_char_boundary_around", check_floor_char_boundary_around},
+    {"dethrux_shard_offset", check_shard_offset},
     {"dethrux_swap_byte_order", check_swap_byte_order},
     {"dethrux_make_well_formed", check_make_well_formed},
     {"dethrux_compare", check_compare},

@@ -76,6 +76,9 @@
  * decoder of either kind keeps. */
 #define DETHRUX_PENDING_MAX 3
 
+/* The offset of the first of the bytes that dethrux_floor_char_boundary_around takes. */
+#define DETHRUX_AROUND_START(at) ((uint64_t)(at) < 2 ? 0 : (uint64_t)(at) / 2 * 2 - 2)
+
 #if (defined(__cplusplus) && __cplusplus >= 201703L) \
     || (!defined(__cplusplus) && defined(__STDC_VERSION__) && __STDC_VERSION__ >= 202311L)
 #define DETHRUX_NODISCARD [[nodiscard]]
@@ -280,6 +283,19 @@ DETHRUX_NODISCARD bool dethrux_is_char_boundary(
  * `len`. */
 DETHRUX_NODISCARD size_t dethrux_floor_char_boundary(
     dethrux_byte_order byte_order, const uint8_t *utf16, size_t len, size_t at);
+
+/* Returns the greatest boundary at or before offset `at` of a file, from a few of its bytes:
+ * `around` is the 4 from DETHRUX_AROUND_START(at) on, or as many as the file has. Where it is that
+ * and `at` is at most the length of the file, the result is that of dethrux_floor_char_boundary
+ * over the whole file. For any bytes it is at most 3 bytes before `at`. */
+DETHRUX_NODISCARD uint64_t dethrux_floor_char_boundary_around(
+    dethrux_byte_order byte_order, const uint8_t *around, size_t len, uint64_t at);
+
+/* Returns the offset where part `index` of `count` parts begins in a file of `len` bytes: 0 for
+ * part 0, and `len` for `index >= count`. Each part has `len / 2 / count` code units or one more,
+ * and the last one has an odd byte at the end too. The offset may be inside a surrogate pair: move
+ * it to a boundary by dethrux_floor_char_boundary_around. */
+DETHRUX_NODISCARD uint64_t dethrux_shard_offset(uint64_t len, uint64_t count, uint64_t index);
 
 /* Swaps the two bytes of each code unit in place: UTF-16 in the other byte order. An odd byte at
  * the end stays. */

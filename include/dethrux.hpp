@@ -253,6 +253,20 @@ inline dethrux_progress from_utf8_by(conversion call, bytes utf8, std::u16string
            / 2;
 }
 
+// Returns the greatest boundary at or before an offset of a file, from the 4 bytes of it from
+// DETHRUX_AROUND_START(at) on, or as many as it has: dethrux_floor_char_boundary_around.
+[[nodiscard]] inline std::uint64_t floor_char_boundary_around(
+    bytes around, byte_order order, std::uint64_t at) noexcept {
+    return dethrux_floor_char_boundary_around(
+        detail::order(order), around.data(), around.size(), at);
+}
+
+// Returns where a part of a file of `len` bytes begins: dethrux_shard_offset.
+[[nodiscard]] inline std::uint64_t shard_offset(
+    std::uint64_t len, std::uint64_t count, std::uint64_t index) noexcept {
+    return dethrux_shard_offset(len, count, index);
+}
+
 // ---- to UTF-8
 
 // Returns the text in UTF-8, or where the input is ill formed.

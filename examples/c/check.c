@@ -877,6 +877,26 @@ static bool call_floor(dethrux_byte_order order, char **values, size_t count, te
     return is;
 }
 
+static bool call_floor_around(dethrux_byte_order order, char **values, size_t count, text *answer) {
+    text raw = {0};
+    bool is = count == 2 && bytes_of(values[0], order, &raw);
+    if (is) {
+        add_number(answer,
+            dethrux_floor_char_boundary_around(order, raw.bytes, raw.len, number_of(values[1])));
+    }
+    free(raw.bytes);
+    return is;
+}
+
+static bool call_shard(dethrux_byte_order order, char **values, size_t count, text *answer) {
+    (void)order;
+    if (count == 3) {
+        add_number(answer, dethrux_shard_offset(
+                               number_of(values[0]), number_of(values[1]), number_of(values[2])));
+    }
+    return count == 3;
+}
+
 /* A call by its name: of values, or of bytes alone. The conversions have their own table. */
 static struct {
     const char *name;
@@ -894,6 +914,8 @@ static struct {
     {"bytes::compare", call_compare, NULL, 0},
     {"bytes::is_char_boundary", call_is_boundary, NULL, 0},
     {"bytes::floor_char_boundary", call_floor, NULL, 0},
+    {"bytes::floor_char_boundary_around", call_floor_around, NULL, 0},
+    {"shard_offset", call_shard, NULL, 0},
     {"count_chars", NULL, ask_count, 0},
     {"is_ascii", NULL, ask_is_ascii, 0},
     {"to_utf8_lossy_len", NULL, ask_utf8_size, 0},

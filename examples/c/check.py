@@ -174,6 +174,10 @@ CALLS = {
     "bytes::floor_char_boundary": lambda order, raw, at: [
         dethrux.floor_char_boundary(spelled(raw, order), order, offset(at))
     ],
+    "bytes::floor_char_boundary_around": lambda order, raw, at: [
+        dethrux.floor_char_boundary_around(spelled(raw, order), int(at), order)
+    ],
+    "shard_offset": lambda _order, *numbers: [dethrux.shard_offset(*map(int, numbers))],
     "to_utf8": converted(dethrux.to_utf8, to_utf8_len, True),
     "to_utf8_partial": converted(dethrux.to_utf8_partial, to_utf8_len, True),
     "to_utf8_lossy": converted(dethrux.to_utf8_lossy, to_utf8_len, True),

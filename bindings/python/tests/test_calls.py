@@ -69,6 +69,33 @@ class Functions(unittest.TestCase):
             with self.assertRaisesRegex(ValueError, "at must not be negative"):
                 dethrux.floor_char_boundary(pair, order, -1)
 
+    def test_boundaries_of_a_file(self):
+        for order, pair in GRINNING.items():
+            for file in (b"", pair * 2, pair + b"a", pair[2:] + pair * 2, pair * 2 + pair[:3]):
+                for at in range(len(file) + 1):
+                    around = file[max(at // 2 * 2 - 2, 0) :][:4]
+                    self.assertEqual(
+                        dethrux.floor_char_boundary_around(around, at, order),
+                        dethrux.floor_char_boundary(file, order, at),
+                    )
+            last = dethrux.floor_char_boundary_around(bytearray(pair), 2**64 - 1, order)
+            self.assertEqual(last, 2**64 - 4)
+            with self.assertRaisesRegex(ValueError, "at must not be negative"):
+                dethrux.floor_char_boundary_around(pair, -1, order)
+            with self.assertRaisesRegex(OverflowError, r"at must be less than 2\*\*64"):
+                dethrux.floor_char_boundary_around(pair, 2**64, order)
+
+    def test_shards(self):
+        self.assertEqual([dethrux.shard_offset(11, 3, part) for part in range(5)], [0, 4, 8, 11, 11])
+        self.assertEqual(dethrux.shard_offset(11, 0, 0), 11)
+        self.assertEqual(dethrux.shard_offset(2**64 - 1, 2**64 - 1, 2**64 - 2), 2**64 - 2)
+        with self.assertRaisesRegex(ValueError, "count must not be negative"):
+            dethrux.shard_offset(11, -1, 0)
+        with self.assertRaisesRegex(OverflowError, r"index must be less than 2\*\*64"):
+            dethrux.shard_offset(11, 3, 2**64)
+        with self.assertRaises(TypeError):
+            dethrux.shard_offset(11.0, 3, 0)
+
     def test_in_place(self):
         raw = bytearray(b"\x3d\xd8\x00\xde\x00")
         dethrux.swap_byte_order(raw)

@@ -1,11 +1,15 @@
 //! Boundaries between characters.
 
-ghost use Rattle.std.specs.Prelude.{◌↔◌, ◌+◌, ◌≤◌, ◌⊎◌, IsTrue, length};
+ghost use Rattle.std.specs.Prelude.{◌≡◌, ◌↔◌, ℕ, ◌+◌, ◌-◌, ◌≤◌, ◌⊎◌, IsTrue, List, length};
 ghost use Rattle.utf16_boundaries.specs.Boundary.{IsCut, IsLastCut};
+ghost use Rattle.utf16_boundaries.specs.File.{around_start, bytes_around};
+ghost use Rattle.utf16_boundaries.specs.Shards.{shard_start};
 ghost use Rattle.dethrux.specs.Numbers.{is_big};
 
 use crate::byte_order::is_big_endian;
-use utf16_boundaries::{floor_char_boundary, is_char_boundary};
+use utf16_boundaries::{
+    floor_char_boundary, floor_char_boundary_around, is_char_boundary, shard_offset,
+};
 use utf16_units::{BE, LE};
 
 /// Returns whether an offset is a boundary between characters: the end of the bytes, or an offset
@@ -34,4 +38,33 @@ pub extern "C" fn dethrux_floor_char_boundary(byte_order: u32, utf16: &[u8], at:
     } else {
         floor_char_boundary::<LE>(utf16, at)
     }
+}
+
+/// Returns the greatest boundary at or before an offset of a file, from the bytes around it alone:
+/// the four from `(at / 2 * 2).saturating_sub(2)` on, or as many as the file has. Where they are
+/// that and the offset is at most the file's length, it is that of `dethrux_floor_char_boundary`
+/// over the whole file; at most three bytes before the offset for any bytes. In constant time.
+#[unsafe(no_mangle)]
+pub extern "C" fn dethrux_floor_char_boundary_around(byte_order: u32, around: &[u8], at: u64) -> u64
+    ensures near { (around_start at ≤ result) × (result ≤ at) × (at ≤ result + 3) }
+    ensures around { IsLastCut (is_big byte_order) around.now (at - around_start at) (result - around_start at) }
+    ensures file { (file : List ℕ) → around.now ≡ bytes_around file at → at ≤ length file
+        → IsLastCut (is_big byte_order) file at result }
+{
+    if is_big_endian(byte_order) {
+        floor_char_boundary_around::<BE>(around, at)
+    } else {
+        floor_char_boundary_around::<LE>(around, at)
+    }
+}
+
+/// Returns the offset where part `index` of `count` parts begins in a file of `len` bytes: 0 for
+/// part 0, and `len` for `index >= count`. Each part has `len / 2 / count` code units or one more,
+/// and the last one has an odd byte at the end too. In constant time.
+#[unsafe(no_mangle)]
+pub extern "C" fn dethrux_shard_offset(len: u64, count: u64, index: u64) -> u64
+    ensures value { result ≡ shard_start len count index }
+    ensures within { result ≤ len }
+{
+    shard_offset(len, count, index)
 }

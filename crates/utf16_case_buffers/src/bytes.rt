@@ -2,7 +2,9 @@
 
 use std::alloc::Global;
 use std::cmp::Ordering;
-use utf16_boundaries::{floor_char_boundary, is_char_boundary};
+use utf16_boundaries::{
+    floor_char_boundary, floor_char_boundary_around, is_char_boundary, shard_offset,
+};
 use utf16_bytes::{compare, make_well_formed, swap_byte_order};
 use utf16_case_lines::{Answer, Trouble, Values};
 use utf16_units::{BE, LE, Utf16Order};
@@ -30,11 +32,24 @@ pub fn call<E: Utf16Order>(
         "bytes::floor_char_boundary" => {
             answer.number(floor_char_boundary::<E>(&bytes, values.number()?));
         }
+        "bytes::floor_char_boundary_around" => {
+            let at = values.number()? as u64;
+            answer.number(floor_char_boundary_around::<E>(&bytes, at) as usize);
+        }
         _ => {
             let other = values.bytes(alloc, E::BIG)?;
             compared::<E>(&bytes, other, answer);
         }
     }
+    Ok(())
+}
+
+/// Makes a call of `shard_offset`.
+pub fn shard(values: &mut Values, answer: &mut Answer) -> Result<(), Trouble> {
+    let len = values.number()? as u64;
+    let count = values.number()? as u64;
+    let index = values.number()? as u64;
+    answer.number(shard_offset(len, count, index) as usize);
     Ok(())
 }
 

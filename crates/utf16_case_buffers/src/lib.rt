@@ -48,7 +48,9 @@ pub fn call<E: Utf16Order>(
         | "make_well_formed"
         | "bytes::compare"
         | "bytes::is_char_boundary"
-        | "bytes::floor_char_boundary" => bytes::call::<E>(alloc, name, values, answer),
+        | "bytes::floor_char_boundary"
+        | "bytes::floor_char_boundary_around" => bytes::call::<E>(alloc, name, values, answer),
+        "shard_offset" => bytes::shard(values, answer),
         _ => texts::call::<E>(alloc, name, values, answer),
     }
 }

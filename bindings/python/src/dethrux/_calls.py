@@ -89,6 +89,14 @@ def as_size(size: int, name: str) -> int:
     return number
 
 
+def as_offset(offset: int, name: str) -> int:
+    """Return an offset of a file; raise an exception if it is none."""
+    number = as_size(offset, name)
+    if number >= 2**64:
+        raise OverflowError(f"{name} must be less than 2**64")
+    return number
+
+
 def pointer(buffer: WritableBuffer, offset: int = 0) -> Any:
     """Return the address of a byte of a buffer, which keeps its length while this is in use."""
     if offset == len(buffer):
@@ -234,6 +242,30 @@ def floor_char_boundary(utf16: ReadableBuffer, byteorder: ByteOrder, at: int) ->
     order, at = order_number(byteorder), min(as_size(at, "at"), len(utf16))
     boundary: int = _library.floor_char_boundary(order, utf16, len(utf16), at)
     return boundary
+
+
+def floor_char_boundary_around(around: ReadableBuffer, at: int, byteorder: ByteOrder) -> int:
+    """Return the greatest boundary at or before an offset of a file, from the bytes around it.
+
+    They are the file's bytes from ``max(at // 2 * 2 - 2, 0)`` on: four of them,
+    or as many as there are.
+    """
+    around = as_bytes(around)
+    order, at = order_number(byteorder), as_offset(at, "at")
+    boundary: int = _library.floor_char_boundary_around(order, around, len(around), at)
+    return boundary
+
+
+def shard_offset(length: int, count: int, index: int) -> int:
+    """Return where part ``index`` of ``count`` begins in a file of this length.
+
+    The parts have the same number of code units, but for one. The offset is
+    even, or the end for an index that is not below the count. It may be inside
+    a surrogate pair: ``floor_char_boundary_around`` moves it to a boundary.
+    """
+    numbers = as_offset(length, "length"), as_offset(count, "count"), as_offset(index, "index")
+    offset: int = _library.shard_offset(*numbers)
+    return offset
 
 
 def swap_byte_order(utf16: WritableBuffer) -> None:

@@ -99,6 +99,7 @@ def _call(name: str, result: Any, *arguments: Any) -> Any:
 _library = _load()
 _order = ctypes.c_uint32
 _size = ctypes.c_size_t
+_offset = ctypes.c_uint64
 # A pointer and a length; ctypes passes the address of a bytes object as it is.
 _buffer = (ctypes.c_void_p, _size)
 _state = ctypes.POINTER(State)
@@ -120,6 +121,10 @@ utf8_decoder_feed = _call("utf8_decoder_feed", Progress, _state, _order, *_buffe
 utf8_decoder_finish = _call("utf8_decoder_finish", Progress, _state, _order, *_buffer)
 is_char_boundary = _call("is_char_boundary", ctypes.c_bool, _order, *_buffer, _size)
 floor_char_boundary = _call("floor_char_boundary", _size, _order, *_buffer, _size)
+floor_char_boundary_around = _call(
+    "floor_char_boundary_around", _offset, _order, *_buffer, _offset
+)
+shard_offset = _call("shard_offset", _offset, _offset, _offset, _offset)
 swap_byte_order = _call("swap_byte_order", None, *_buffer)
 make_well_formed = _call("make_well_formed", _size, _order, *_buffer)
 compare = _call("compare", ctypes.c_int32, _order, *_buffer, _order, *_buffer)

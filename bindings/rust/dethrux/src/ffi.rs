@@ -64,6 +64,13 @@ extern "C" {
         len: usize,
         at: usize,
     ) -> usize;
+    pub(crate) fn dethrux_floor_char_boundary_around(
+        order: ByteOrder,
+        around: *const u8,
+        len: usize,
+        at: u64,
+    ) -> u64;
+    pub(crate) fn dethrux_shard_offset(len: u64, count: u64, index: u64) -> u64;
     pub(crate) fn dethrux_to_utf8_lossy_len(
         order: ByteOrder,
         utf16: *const u8,

@@ -72,6 +72,38 @@ pub fn floor_char_boundary(order: ByteOrder, utf16: &[u8], at: usize) -> usize {
     unsafe { ffi::dethrux_floor_char_boundary(order, utf16.as_ptr(), utf16.len(), at) }
 }
 
+/// Returns the greatest boundary at or before offset `at` of a file, from a few of its bytes: the
+/// four from `(at / 2 * 2).saturating_sub(2)` on, or as many as the file has. Where they are that
+/// and `at` is at most the length of the file, it is that of [`floor_char_boundary`] over the whole
+/// file. For any bytes it is at most 3 bytes before `at`.
+///
+/// ```
+/// use dethrux::ByteOrder::LittleEndian;
+///
+/// // The file's bytes from 998 on: U+1F600 of four bytes.
+/// let around = b"\x3D\xD8\0\xDE";
+/// assert_eq!(dethrux::floor_char_boundary_around(LittleEndian, around, 1000), 998);
+/// ```
+#[must_use]
+pub fn floor_char_boundary_around(order: ByteOrder, around: &[u8], at: u64) -> u64 {
+    // SAFETY: the pointer and the length are those of a slice.
+    unsafe { ffi::dethrux_floor_char_boundary_around(order, around.as_ptr(), around.len(), at) }
+}
+
+/// Returns the offset where part `index` of `count` parts begins in a file of `len` bytes: 0 for
+/// part 0, and `len` for `index >= count`. Each part has `len / 2 / count` code units or one more,
+/// and the last one has an odd byte at the end too. The offset may be inside a surrogate pair: move
+/// it to a boundary by [`floor_char_boundary_around`].
+///
+/// ```
+/// assert_eq!([0, 1, 2, 3].map(|part| dethrux::shard_offset(11, 3, part)), [0, 4, 8, 11]);
+/// ```
+#[must_use]
+pub fn shard_offset(len: u64, count: u64, index: u64) -> u64 {
+    // SAFETY: the call takes numbers alone.
+    unsafe { ffi::dethrux_shard_offset(len, count, index) }
+}
+
 /// Returns the length of what [`to_utf8_lossy`](crate::to_utf8_lossy) writes for the whole input.
 #[must_use]
 pub fn to_utf8_lossy_len(order: ByteOrder, utf16: &[u8]) -> usize {

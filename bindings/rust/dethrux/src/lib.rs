@@ -76,8 +76,8 @@ pub use convert::{
 pub use display::{display, Display};
 pub use error::Utf16Error;
 pub use inspect::{
-    compare, count_chars, floor_char_boundary, from_utf8_len, from_utf8_lossy_len, is_ascii,
-    is_char_boundary, to_utf8_lossy_len, validate,
+    compare, count_chars, floor_char_boundary, floor_char_boundary_around, from_utf8_len,
+    from_utf8_lossy_len, is_ascii, is_char_boundary, shard_offset, to_utf8_lossy_len, validate,
 };
 pub use order::ByteOrder;
 pub use stream::{Decoder, Encoder};

@@ -295,16 +295,22 @@ fn on_bytes(name: &str, order: ByteOrder, raw: &str, at: Option<&str>) -> Option
             vec![Number(count), Bytes(raw)]
         }
         "bytes::floor_char_boundary" => vec![Number(floor_char_boundary(order, &raw, at))],
+        "bytes::floor_char_boundary_around" => {
+            let boundary = floor_char_boundary_around(order, &raw, at.try_into().ok()?);
+            vec![Number(boundary.try_into().ok()?)]
+        }
         _ => vec![truth(is_char_boundary(order, &raw, at))],
     })
 }
 
-const CALLS: [&str; 31] = [
+const CALLS: [&str; 33] = [
     "swap_byte_order",
     "make_well_formed",
     "bytes::compare",
     "bytes::is_char_boundary",
     "bytes::floor_char_boundary",
+    "bytes::floor_char_boundary_around",
+    "shard_offset",
     "to_utf8",
     "to_utf8_partial",
     "to_utf8_lossy",
@@ -348,9 +354,18 @@ fn call(name: &str, order: ByteOrder, values: &[&str]) -> Option<Vec<Word>> {
             "WStr::is_char_boundary"
             | "WString::is_char_boundary"
             | "bytes::is_char_boundary"
-            | "bytes::floor_char_boundary",
+            | "bytes::floor_char_boundary"
+            | "bytes::floor_char_boundary_around",
             [raw, at],
         ) => on_bytes(name, order, raw, Some(*at)),
+        ("shard_offset", [len, count, index]) => {
+            let offset = shard_offset(
+                len.parse().ok()?,
+                count.parse().ok()?,
+                index.parse().ok()?,
+            );
+            Some(vec![Number(offset.try_into().ok()?)])
+        }
         ("every_room", [by, raw]) => every_room(by, order, &spelled(raw, order)?),
         (_, [raw, room]) => convert(name, order, &spelled(raw, order)?, room),
         (_, [raw]) => ask(name, order, &spelled(raw, order)?),

@@ -221,6 +221,14 @@ fn boundaries_are_those_of_the_characters() {
                 .max()
                 .unwrap();
             assert_eq!(floor_char_boundary(order, utf16, at), floor);
+            if at <= utf16.len() {
+                let start = (at / 2 * 2).saturating_sub(2);
+                let around = &utf16[start..utf16.len().min(start + 4)];
+                assert_eq!(
+                    floor_char_boundary_around(order, around, at as u64),
+                    floor as u64
+                );
+            }
         }
         assert!(!is_char_boundary(order, utf16, usize::MAX));
         assert_eq!(floor_char_boundary(order, utf16, usize::MAX), utf16.len());
