@@ -1,8 +1,8 @@
 //! Boundaries between characters.
 
-ghost use Rattle.std.specs.Prelude.{◌≡◌, ◌↔◌, ℕ, ◌+◌, ◌-◌, ◌≤◌, ◌⊎◌, IsTrue, List, length};
+ghost use Rattle.std.specs.Prelude.{◌≡◌, ◌↔◌, ◌+◌, ◌≤◌, ◌⊎◌, IsTrue, length};
 ghost use Rattle.utf16_boundaries.specs.Boundary.{IsCut, IsLastCut};
-ghost use Rattle.utf16_boundaries.specs.File.{around_start, bytes_around};
+ghost use Rattle.utf16_boundaries.specs.File.{IsLastCutAround, IsLastCutOfFile, around_start};
 ghost use Rattle.utf16_boundaries.specs.Shards.{shard_start};
 ghost use Rattle.dethrux.specs.Numbers.{is_big};
 
@@ -47,9 +47,8 @@ pub extern "C" fn dethrux_floor_char_boundary(byte_order: u32, utf16: &[u8], at:
 #[unsafe(no_mangle)]
 pub extern "C" fn dethrux_floor_char_boundary_around(byte_order: u32, around: &[u8], at: u64) -> u64
     ensures near { (around_start at ≤ result) × (result ≤ at) × (at ≤ result + 3) }
-    ensures around { IsLastCut (is_big byte_order) around.now (at - around_start at) (result - around_start at) }
-    ensures file { (file : List ℕ) → around.now ≡ bytes_around file at → at ≤ length file
-        → IsLastCut (is_big byte_order) file at result }
+    ensures around { IsLastCutAround (is_big byte_order) around.now at result }
+    ensures file { IsLastCutOfFile (is_big byte_order) around.now at result }
 {
     if is_big_endian(byte_order) {
         floor_char_boundary_around::<BE>(around, at)

@@ -1,5 +1,5 @@
 -- A file of UTF-16 in parts about equal, before their ends are moved to boundaries.
-use Rattle.std.specs.Prelude.{ℕ, ◌+◌, ◌*◌, ◌/◌, ◌%◌, min, nat_lt, if◌then◌else◌}
+use Rattle.std.specs.Prelude.{ℕ, ◌+◌, ◌-◌, ◌*◌, ◌/◌, ◌%◌, min, nat_lt, if◌then◌else◌}
 
 -- how many whole code units each part has at least, and how many of the first parts have one more
 abbrev pub units_each : ℕ → ℕ → ℕ
@@ -12,3 +12,7 @@ parts_with_more len count = len / 2 % count
 abbrev pub shard_start : ℕ → ℕ → ℕ → ℕ
 shard_start len count index =
     if nat_lt index count then 2 * (index * units_each len count + min index (parts_with_more len count)) else len
+
+-- how long a part is
+abbrev pub shard_len : ℕ → ℕ → ℕ → ℕ
+shard_len len count index = shard_start len count (index + 1) - shard_start len count index

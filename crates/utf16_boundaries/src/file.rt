@@ -1,8 +1,7 @@
 //! Boundaries of a file, from a few of its bytes.
 
-ghost use Rattle.std.specs.Prelude.{◌≡◌, ℕ, ◌+◌, ◌-◌, ◌≤◌, List, length};
-ghost use Rattle.utf16_boundaries.specs.Boundary.{IsLastCut};
-ghost use Rattle.utf16_boundaries.specs.File.{around_start, bytes_around};
+ghost use Rattle.std.specs.Prelude.{◌+◌, ◌≤◌};
+ghost use Rattle.utf16_boundaries.specs.File.{IsLastCutAround, IsLastCutOfFile, around_start};
 
 use crate::boundary::floor_char_boundary;
 use utf16_units::Utf16Order;
@@ -17,9 +16,8 @@ use utf16_units::Utf16Order;
 /// Constant time, as `floor_char_boundary`.
 pub fn floor_char_boundary_around<E: Utf16Order>(around: &[u8], at: u64) -> u64
     ensures near { (around_start at ≤ result) × (result ≤ at) × (at ≤ result + 3) }
-    ensures around { IsLastCut E.BIG around.now (at - around_start at) (result - around_start at) }
-    ensures file { (file : List ℕ) → around.now ≡ bytes_around file at → at ≤ length file
-        → IsLastCut E.BIG file at result }
+    ensures around { IsLastCutAround E.BIG around.now at result }
+    ensures file { IsLastCutOfFile E.BIG around.now at result }
 {
     let start = (at / 2 * 2).saturating_sub(2);
     start + floor_char_boundary::<E>(around, (at - start) as usize) as u64

@@ -359,11 +359,7 @@ fn call(name: &str, order: ByteOrder, values: &[&str]) -> Option<Vec<Word>> {
             [raw, at],
         ) => on_bytes(name, order, raw, Some(*at)),
         ("shard_offset", [len, count, index]) => {
-            let offset = shard_offset(
-                len.parse().ok()?,
-                count.parse().ok()?,
-                index.parse().ok()?,
-            );
+            let offset = shard_offset(len.parse().ok()?, count.parse().ok()?, index.parse().ok()?);
             Some(vec![Number(offset.try_into().ok()?)])
         }
         ("every_room", [by, raw]) => every_room(by, order, &spelled(raw, order)?),
