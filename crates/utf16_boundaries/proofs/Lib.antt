@@ -1,3 +1,4 @@
 pub mod CutLemmas
 pub mod FloorLemmas
+pub mod PartsLemmas
 pub mod WindowLemmas

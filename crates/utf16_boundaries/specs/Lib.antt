@@ -1,4 +1,5 @@
 pub mod Boundary
 pub mod File
 pub mod Laws
+pub mod Parts
 pub mod Shards
