@@ -1,4 +1,5 @@
 pub mod CutLemmas
 pub mod FloorLemmas
 pub mod PartsLemmas
+pub mod ShardLemmas
 pub mod WindowLemmas

@@ -1,0 +1,2 @@
+mod JoinedLemmas
+mod StartsLemmas
