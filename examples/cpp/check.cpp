@@ -103,6 +103,11 @@ static void others() {
                             && !dethrux::is_char_boundary(big, byte_order::big, 8)
                             && dethrux::floor_char_boundary(big, byte_order::big, 9) == 6
                             && dethrux::floor_char_boundary(text, SIZE_MAX) == 5);
+    const auto around = "\xD8\x3D\xDE\0"sv;
+    check("parts of a file",
+        dethrux::floor_char_boundary_around(around, byte_order::big, 1001) == 998
+            && dethrux::floor_char_boundary_around(around, byte_order::little, 1001) == 1000
+            && dethrux::shard_offset(11, 3, 2) == 8);
     std::string swapped = little;
     dethrux::swap_byte_order(swapped);
     check("swap_byte_order", swapped == big);
