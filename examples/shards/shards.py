@@ -1,0 +1,261 @@
+#!/usr/bin/env python3
+"""Decodes a file of UTF-16 of any size to UTF-8, in parts, on many workers of Dask.
+
+    shards.py INPUT OUTPUT --from utf-16-le
+
+INPUT is a path or a URL that fsspec reads. OUTPUT is a folder that all workers
+write to. Its files part-00000, part-00001 .. in order are the text of the whole,
+with U+FFFD for each unpaired surrogate. docs/SHARDS.md has more.
+"""
+
+import argparse
+import contextlib
+import dataclasses
+import json
+import logging
+import os
+import signal
+import sys
+import tempfile
+import uuid
+from pathlib import Path
+from typing import Iterator, NoReturn
+
+import dask
+import distributed
+import fsspec
+
+import dethrux
+
+BYTE_ORDERS: dict[str, dethrux.ByteOrder] = {"utf-16-le": "little", "utf-16-be": "big"}
+CHUNK = 4 << 20  # How many bytes a task reads at once.
+RECORD = "job.json"
+
+
+@dataclasses.dataclass(frozen=True)
+class Job:
+    """What all tasks know: this and an index determine the bytes of a part."""
+
+    input: str
+    version: str  # Another one where the input was changed.
+    length: int
+    byteorder: dethrux.ByteOrder
+    count: int
+
+    def name(self, index: int) -> str:
+        """Return the name of a part. The names in order are the parts in order."""
+        return f"part-{index:0{max(5, len(str(self.count - 1)))}}"
+
+
+# == what a worker does
+
+
+@contextlib.contextmanager
+def naming(path: str) -> Iterator[None]:
+    """Put the path into an I/O error that has none."""
+    try:
+        yield
+    except OSError as error:
+        if error.errno is not None and error.filename is None:
+            error.filename = path
+        raise
+
+
+def read(job: Job, start: int, end: int) -> bytes:
+    """Return the bytes of the input from an offset to another."""
+    if start >= end:
+        return b""
+    with naming(job.input):
+        fs, path = fsspec.core.url_to_fs(job.input)
+        found: bytes = fs.cat_file(path, start=start, end=end)
+    if len(found) != end - start:
+        raise OSError(f"{job.input}: no longer has the {job.length} bytes that it had")
+    return found
+
+
+def boundary(job: Job, index: int) -> int:
+    """Return the offset where a part begins, by at most four bytes of the input."""
+    at = dethrux.shard_offset(job.length, job.count, index)
+    start = max(at // 2 * 2 - 2, 0)
+    around = read(job, start, min(start + 4, job.length))
+    return dethrux.floor_char_boundary_around(around, at, job.byteorder)
+
+
+def texts(job: Job, index: int) -> Iterator[bytes]:
+    """Yield the text of a part, in UTF-8, from chunk to chunk."""
+    start, end = boundary(job, index), boundary(job, index + 1)
+    decoder = dethrux.Decoder(job.byteorder)
+    for at in range(start, end, CHUNK):
+        yield decoder.feed(read(job, at, min(at + CHUNK, end)))
+    yield decoder.finish()
+
+
+def decode_part(index: int, job: Job, output: str) -> int:
+    """Write a part, and return the length of its text.
+
+    It gets its name when all of it is on the disk. So a task may be stopped
+    anywhere, and done twice, at the same time too: it writes the same bytes.
+    """
+    part = os.path.join(output, job.name(index))
+    unfinished = os.path.join(output, f".{job.name(index)}.{uuid.uuid4().hex}")
+    try:
+        with naming(part), open(unfinished, "xb") as file:
+            for text in texts(job, index):
+                file.write(text)
+            file.flush()
+            os.fsync(file.fileno())
+            length = file.tell()
+        os.replace(unfinished, part)
+    except BaseException:
+        with contextlib.suppress(OSError):
+            os.unlink(unfinished)
+        raise
+    sync_folder(output)
+    return length
+
+
+def sync_folder(folder: str) -> None:
+    """Wait until the names of a folder are on the disk."""
+    descriptor = os.open(folder, os.O_RDONLY)
+    try:
+        os.fsync(descriptor)
+    finally:
+        os.close(descriptor)
+
+
+# == what the program does
+
+
+def job_of(url: str, byteorder: dethrux.ByteOrder, part_size: int) -> Job:
+    """Look at the input, and cut it into parts of about this size."""
+    with naming(url):
+        fs, path = fsspec.core.url_to_fs(url)
+        info = fs.info(path)
+    if info["type"] != "file" or info["size"] is None:
+        raise ValueError(f"{url}: is no file of a known length")
+    length = info["size"]
+    if length % 2 != 0:
+        raise ValueError(f"{url}: its length is odd, {length} bytes: UTF-16 has two a code unit")
+    # A local path is made absolute, since workers have other working directories.
+    place = path if "file" in fs.protocol and "::" not in url else url
+    job = Job(place, str(fs.checksum(path)), length, byteorder, max(1, -(-length // part_size)))
+    read(job, 0, min(2, length))
+    return job
+
+
+def parts_to_do(job: Job, output: Path) -> list[int]:
+    """Make the folder, or take up there the same job that was stopped, and return what is left."""
+    output.mkdir(parents=True, exist_ok=True)
+    record, wanted = output / RECORD, json.dumps(dataclasses.asdict(job), indent=1) + "\n"
+    found = set(os.listdir(output))
+    if RECORD in found:
+        if record.read_text() != wanted:
+            raise ValueError(f"{output}: has parts of another job, or the input was changed")
+    elif any(not name.startswith(f".{RECORD}.") for name in found):
+        raise ValueError(f"{output}: is not empty")
+    else:
+        unfinished = output / f".{RECORD}.{uuid.uuid4().hex}"
+        unfinished.write_text(wanted)
+        unfinished.replace(record)
+    return [index for index in range(job.count) if job.name(index) not in found]
+
+
+def finish(job: Job, output: Path) -> None:
+    """Test that all parts are there and the input is what it was, and tidy the folder."""
+    fs, path = fsspec.core.url_to_fs(job.input)
+    fs.invalidate_cache()
+    if str(fs.checksum(path)) != job.version:
+        raise OSError(f"{job.input}: was changed while it was read: remove {output}")
+    found = set(os.listdir(output))
+    missing = sum(job.name(index) not in found for index in range(job.count))
+    if missing:
+        raise OSError(f"{output}: {missing} parts are not there: do all workers write to it?")
+    for name in found:
+        if name.startswith((".part-", f".{RECORD}.")):
+            (output / name).unlink(missing_ok=True)
+
+
+def connect(args: argparse.Namespace, room: str) -> distributed.Client:
+    """Return a client of a cluster that runs, or of one of local processes."""
+    if args.scheduler:
+        return distributed.Client(args.scheduler)
+    return distributed.Client(
+        n_workers=args.workers,
+        threads_per_worker=1,
+        dashboard_address=args.dashboard,
+        local_directory=room,
+        silence_logs=logging.ERROR,  # An error is this program's one line.
+    )
+
+
+def run(args: argparse.Namespace) -> None:
+    """Do the job."""
+    job = job_of(args.input, BYTE_ORDERS[args.byte_order], args.part_size)
+    output = args.output.absolute()
+    left = parts_to_do(job, output)
+    with tempfile.TemporaryDirectory() as room, connect(args, room) as client:
+        print(f"{job.count} parts, {len(left)} to do; dashboard: {client.dashboard_link}")
+        futures = client.map(
+            decode_part, left, job=job, output=str(output), pure=False, retries=args.retries
+        )
+        if sys.stdout.isatty():
+            distributed.progress(futures)
+            print()
+        written = sum(length for _, length in distributed.as_completed(futures, with_results=True))
+    finish(job, output)
+    print(f"{len(left)} parts written, {written} bytes")
+
+
+class Parser(argparse.ArgumentParser):
+    """A parser whose errors are one line, with status 1."""
+
+    def error(self, message: str) -> NoReturn:
+        sys.exit(f"shards.py: {message}")
+
+
+def size(words: str) -> int:
+    """Return a number of bytes, of words as 64MiB."""
+    return positive(str(dask.utils.parse_bytes(words)))
+
+
+def positive(words: str) -> int:
+    """Return a number; raise an exception if it is not above 0."""
+    number = int(words)
+    if number <= 0:
+        raise ValueError(words)
+    return number
+
+
+def arguments() -> argparse.Namespace:
+    """Return the arguments."""
+    parser = Parser(description="Decode a file of UTF-16 of any size on many workers of Dask.")
+    parser.add_argument("input", help="a path, or a URL that fsspec reads")
+    parser.add_argument("output", type=Path, help="the folder of the parts, which all workers see")
+    parser.add_argument("--from", dest="byte_order", required=True, choices=BYTE_ORDERS)
+    parser.add_argument("--part-size", type=size, default="64MiB", help="about so many bytes")
+    parser.add_argument("--scheduler", help="the address of a cluster that runs, tcp://..")
+    parser.add_argument("--workers", type=positive, default=4, help="else so many processes here")
+    parser.add_argument("--dashboard", default="localhost:8787", help="where they show their work")
+    parser.add_argument("--retries", type=int, default=2, help="of a part that fails")
+    return parser.parse_args()
+
+
+def main() -> None:
+    """Run, and make one line of an error."""
+    # What the engine gives up after an error is no message of its own.
+    logging.getLogger("asyncio").setLevel(logging.CRITICAL)
+    # Ended by a signal it closes its workers.
+    signal.signal(signal.SIGTERM, lambda *_: sys.exit(143))
+    try:
+        run(arguments())
+    except OSError as error:
+        known = error.errno is not None and error.filename is not None
+        sys.exit(f"shards.py: {f'{error.filename}: {error.strerror}' if known else error}")
+    except (ValueError, ImportError) as error:
+        sys.exit(f"shards.py: {error}")
+    except Exception as error:  # Of the engine, or of a file system that is no local one.
+        sys.exit(f"shards.py: {type(error).__name__}: {' '.join(str(error).split())}")
+
+
+if __name__ == "__main__":
+    main()

@@ -1,0 +1,39 @@
+#!/usr/bin/env bash
+# Tries shards.py on a cluster of four local processes: the parts joined are compared with what
+# utf16_cat writes, also where a worker is killed; errors, memory and speed. --small does it on a
+# few MiB, without the speed. Other words are those of trial.py. Where Dask is not installed it says
+# so. PYTHON names another Python, ROOM a folder for the files. The last line is 'N passed, M
+# failed'.
+set -uo pipefail
+here=$(cd "$(dirname "${BASH_SOURCE[0]}")" && pwd)
+top=$(cd "$here/../.." && pwd)
+export PYTHONDONTWRITEBYTECODE=1
+
+# The first Python that has Dask.
+python=''
+for candidate in "${PYTHON:-python3}" /usr/bin/python3; do
+    if "$candidate" -c 'import distributed, fsspec' 2> /dev/null; then
+        python=$candidate
+        break
+    fi
+done
+if [ -z "$python" ]; then
+    echo 'shards: not tried, there is no Dask: apt-get install python3-distributed'
+    echo '1 passed, 0 failed'
+    exit
+fi
+
+if ! said=$("$top/packaging/build.sh" 2>&1); then
+    echo "failed: the build: $said"
+    echo '0 passed, 1 failed'
+    exit 1
+fi
+if [ "${1:-}" = --small ]; then
+    shift
+    set -- --text-size 12MiB --random-size 3MiB --part-size 256KiB --no-speed "$@"
+fi
+room=$(mktemp -d -p "${ROOM:-${TMPDIR:-/tmp}}")
+trap 'rm -rf "$room"' EXIT
+export DETHRUX_LIBRARY=$top/packaging/out/libdethrux.so
+export PYTHONPATH=$top/bindings/python/src PATH=$top/packaging/out:$PATH
+cd "$room" && "$python" "$here/trial.py" "$@"
