@@ -3,7 +3,7 @@
 # runs as root. A package that is not there in the end is a failure, with a line that says what to
 # install. The last line is 'N passed, M failed'.
 set -uo pipefail
-packages=(pkg-config librust-byteorder-dev libicu-dev)
+packages=(pkg-config librust-byteorder-dev libicu-dev python3-distributed)
 passed=0
 failed=0
 

@@ -20,6 +20,7 @@ import distributed
 import fsspec
 
 import dethrux
+import dethrux_parts
 import shards
 
 HERE = Path(__file__).parent
@@ -146,8 +147,8 @@ def short_inputs() -> None:
             wanted = raw.decode(encoding, "replace").encode()
             memory.pipe_file("/short", raw)
             for count in range(1, length + 3):
-                job = shards.Job("memory://short", "", len(raw), order, count)
-                found = [b"".join(shards.texts(job, index)) for index in range(count)]
+                job = dethrux_parts.Job("memory://short", "", len(raw), order, count)
+                found = [b"".join(dethrux_parts.texts(job, index)) for index in range(count)]
                 cases += 1
                 if b"".join(found) != wanted:
                     wrong.append((raw, order, count, found))
@@ -224,7 +225,7 @@ def taken_up(trial: Trial) -> None:
     kept = all(other.stat().st_mtime_ns == then for other, then in before)
     check("one part is missing", run.returncode == 0 and joined_is("parts", "text.utf8") and kept)
     job = shards.job_of("text", "little", dask.utils.parse_bytes(trial.args.part_size))
-    shards.decode_part(1, job, "parts")
+    dethrux_parts.decode_part(job, "parts", 1)
     check("a part is done twice", joined_is("parts", "text.utf8"))
     run = subprocess.run(trial.decode("random", "parts", "le"), capture_output=True)
     check("parts of another job", run.returncode == 1 and b"another job" in run.stderr)
@@ -284,7 +285,7 @@ def full_disk(trial: Trial) -> None:
     """Write parts to a disk that has no room for one, where this may mount one."""
     Path("disk").mkdir()
     mount = ["mount", "-t", "tmpfs", "-o", "size=64k", "tmpfs", "disk"]
-    if subprocess.run(mount, capture_output=True).returncode != 0:
+    if not shutil.which("mount") or subprocess.run(mount, capture_output=True).returncode != 0:
         return
     try:
         call = trial.decode("random", "disk/parts", "le")
@@ -321,7 +322,7 @@ def one_process(source: str, part_size: str) -> None:
     job = shards.job_of(source, "little", dask.utils.parse_bytes(part_size))
     os.mkdir("parts")
     for index in range(job.count):
-        shards.decode_part(index, job, "parts")
+        dethrux_parts.decode_part(job, "parts", index)
 
 
 def seconds(call: Callable[[], object]) -> float:
