@@ -131,7 +131,11 @@ class Trial:
 
 
 def short_inputs() -> None:
-    """Cut every short sequence of a letter and surrogates, into every number of parts."""
+    """Cut every short sequence of a letter and surrogates into every number of parts.
+
+    A part is read by chunks that end inside a code unit.
+    """
+    dethrux_parts.CHUNK, chunk = 3, dethrux_parts.CHUNK
     units: dict[dethrux.ByteOrder, tuple[bytes, ...]] = {
         "little": (b"a\0", b"\x3d\xd8", b"\x00\xde"),
         "big": (b"\0a", b"\xd8\x3d", b"\xde\x00"),
@@ -152,6 +156,7 @@ def short_inputs() -> None:
                 cases += 1
                 if b"".join(found) != wanted:
                     wrong.append((raw, order, count, found))
+    dethrux_parts.CHUNK = chunk
     check(f"{cases} cuts of short inputs", cases > 1000 and not wrong, wrong[:3])
 
 
@@ -337,9 +342,14 @@ def seconds(call: Callable[[], object]) -> float:
 def speed(trial: Trial) -> None:
     """Time the cluster, one process and utf16_cat in turn, three rounds, and take the best."""
     size = os.path.getsize("text")
-    on_cluster = trial.decode("text", "parts", "le")
+
+    def on_cluster(source: str) -> None:
+        run = trial.decode(source, "parts", "le")
+        subprocess.run(run, check=True, capture_output=True)
+
     calls: dict[str, Callable[[], object]] = {
-        "the cluster": lambda: subprocess.run(on_cluster, check=True, capture_output=True),
+        "the cluster": lambda: on_cluster("text"),
+        "the cluster, an empty file": lambda: on_cluster("empty"),
         "one process, without engine": lambda: one_process("text", trial.args.part_size),
         "utf16_cat": lambda: utf16_cat("le", "text", "again.utf8"),
         "xargs": lambda: subprocess.run(
@@ -350,7 +360,8 @@ def speed(trial: Trial) -> None:
     best = {name: min(times[name] for times in rounds) for name in calls}
     for name, spent in best.items():
         times = spent / best["the cluster"]
-        print(f"{name}: {spent:.2f} s, {size / spent / 1e9:.2f} GB/s, {times:.2f} of the cluster")
+        print(f"{name}: {spent:.2f} s, {times:.2f} of the cluster's time")
+    print(f"the cluster: {size / best['the cluster'] / 1e9:.2f} GB/s")
 
 
 def main() -> int:
