@@ -24,6 +24,8 @@ from typing import NoReturn
 import dask
 import distributed
 import fsspec
+from distributed.comm.core import CommClosedError
+from fsspec.implementations.local import LocalFileSystem
 
 import dethrux
 import dethrux_parts
@@ -44,7 +46,7 @@ def job_of(url: str, byteorder: dethrux.ByteOrder, part_size: int) -> Job:
     if length % 2 != 0:
         raise ValueError(f"{url}: its length is odd, {length} bytes: UTF-16 has two a code unit")
     # A local path is made absolute, since workers have other working directories.
-    place = path if "file" in fs.protocol and "::" not in url else url
+    place = path if isinstance(fs, LocalFileSystem) else url
     job = Job(place, str(fs.checksum(path)), length, byteorder, max(1, -(-length // part_size)))
     read(job, 0, min(2, length))
     return job
@@ -91,7 +93,7 @@ def connect(args: argparse.Namespace, room: str) -> distributed.Client:
         threads_per_worker=1,
         dashboard_address=args.dashboard,
         local_directory=room,
-        silence_logs=logging.ERROR,  # An error is this program's one line.
+        silence_logs=logging.ERROR,
     )
 
 
@@ -109,7 +111,11 @@ def run(args: argparse.Namespace) -> None:
         if sys.stdout.isatty():
             distributed.progress(futures)
             print()
-        written = sum(length for _, length in distributed.as_completed(futures, with_results=True))
+        written = 0
+        for future in distributed.as_completed(futures):
+            if future.cancelled():
+                raise CommClosedError
+            written += future.result()
     finish(job, output)
     print(f"{len(left)} parts written, {written} bytes")
 
@@ -150,17 +156,22 @@ def arguments() -> argparse.Namespace:
 
 def main() -> None:
     """Run, and make one line of an error."""
-    # What the engine gives up after an error is no message of its own.
-    logging.getLogger("asyncio").setLevel(logging.CRITICAL)
+    # An error of the engine is this program's one line, and what it gives up then is none.
+    for name in ("asyncio", "distributed", "distributed.client"):
+        logging.getLogger(name).setLevel(logging.CRITICAL)
     # Ended by a signal it closes its workers.
     signal.signal(signal.SIGTERM, lambda *_: sys.exit(143))
     try:
         run(arguments())
+    except CommClosedError:
+        sys.exit("shards.py: the scheduler is lost: the same command does the parts that are left")
     except OSError as error:
         known = error.errno is not None and error.filename is not None
         sys.exit(f"shards.py: {f'{error.filename}: {error.strerror}' if known else error}")
     except (ValueError, ImportError) as error:
         sys.exit(f"shards.py: {error}")
+    except KeyboardInterrupt:
+        sys.exit(130)
     except Exception as error:  # Of the engine, or of a file system that is no local one.
         sys.exit(f"shards.py: {type(error).__name__}: {' '.join(str(error).split())}")
 

@@ -2,6 +2,7 @@
 
 import argparse
 import itertools
+import json
 import logging
 import os
 import random
@@ -221,6 +222,46 @@ def killed_worker(trial: Trial) -> None:
     trial.client.wait_for_workers(trial.args.workers, timeout=60)
 
 
+def lost_scheduler(trial: Trial) -> None:
+    """Kill the scheduler of another cluster: the same command does the parts that are left."""
+    size = ("--part-size", "4KiB")
+    there = ("--scheduler-file", "other.json", "--no-dashboard")
+    local = ("--host", "127.0.0.1", "--port", "0")
+    scheduler = engine("dask_scheduler", *there, *local)
+    worker = engine("dask_worker", *there, "--no-nanny", "--death-timeout", "60")
+    try:
+        wait_until(lambda: os.path.exists("other.json"))
+        address = json.loads(Path("other.json").read_text())["address"]
+        words = ("--from", "utf-16-le", "--scheduler", address, *size)
+        run = subprocess.Popen(
+            command("random", "parts", *words), stdout=subprocess.DEVNULL, stderr=subprocess.PIPE
+        )
+        wait_until(lambda: len(parts_of("parts")) > 2)
+        scheduler.kill()
+        said = run.communicate()[1].decode()
+    finally:
+        for process in (scheduler, worker):
+            process.kill()
+            process.wait()
+    one = said.count("\n") == 1 and "lost" in said
+    some = 0 < len(parts_of("parts")) < os.path.getsize("random") // 4096
+    check("the scheduler is killed", run.returncode == 1 and one and some, said)
+    trial.same("the parts that are left", "random", "le", "random.le", *size)
+
+
+def engine(module: str, *words: str) -> "subprocess.Popen[bytes]":
+    """Start a process of the engine."""
+    call = [sys.executable, "-m", f"distributed.cli.{module}", *words]
+    return subprocess.Popen(call, stdout=subprocess.DEVNULL, stderr=subprocess.DEVNULL)
+
+
+def wait_until(holds: Callable[[], bool]) -> None:
+    """Wait until something holds, half a minute at most."""
+    end = time.monotonic() + 30
+    while not holds() and time.monotonic() < end:
+        time.sleep(0.01)
+
+
 def taken_up(trial: Trial) -> None:
     """Decode what is left of a job that was stopped, and no more."""
     part, *others = parts_of("parts")
@@ -401,6 +442,7 @@ def main() -> int:
         check("memory of a worker", after - before < 64, after - before)
         killed_worker(trial)
         taken_up(trial)
+        lost_scheduler(trial)
         errors(trial)
         without_engine(trial)
         if not args.no_speed:
