@@ -234,7 +234,7 @@ def lost_scheduler(trial: Trial) -> None:
         address = json.loads(Path("other.json").read_text())["address"]
         words = ("--from", "utf-16-le", "--scheduler", address, *size)
         run = subprocess.Popen(
-            command("random", "parts", *words), stdout=subprocess.DEVNULL, stderr=subprocess.PIPE
+            command("some", "parts", *words), stdout=subprocess.DEVNULL, stderr=subprocess.PIPE
         )
         wait_until(lambda: len(parts_of("parts")) > 2)
         scheduler.kill()
@@ -244,9 +244,9 @@ def lost_scheduler(trial: Trial) -> None:
             process.kill()
             process.wait()
     one = said.count("\n") == 1 and "lost" in said
-    some = 0 < len(parts_of("parts")) < os.path.getsize("random") // 4096
+    some = 0 < len(parts_of("parts")) < os.path.getsize("some") // 4096
     check("the scheduler is killed", run.returncode == 1 and one and some, said)
-    trial.same("the parts that are left", "random", "le", "random.le", *size)
+    trial.same("the parts that are left", "some", "le", "some.utf8", *size)
 
 
 def engine(module: str, *words: str) -> "subprocess.Popen[bytes]":
@@ -417,12 +417,13 @@ def main() -> int:
 
     fill("text", mixed_text(), dask.utils.parse_bytes(args.text_size) // 2 * 2)
     fill("random", random_bytes(), dask.utils.parse_bytes(args.random_size) // 2 * 2)
+    fill("some", random_bytes(), 3 * MIB)
     fill("short", random_bytes(), 64 * 1024)
     Path("empty").write_bytes(b"")
     Path("bom").write_bytes("\ufeffa😀".encode("utf-16-le"))
     Path("bom.utf8").write_text("\ufeffa😀", encoding="utf-8")
-    utf16_cat("le", "text", "text.utf8")
-    utf16_cat("le", "short", "short.utf8")
+    for name in ("text", "some", "short"):
+        utf16_cat("le", name, f"{name}.utf8")
     for order in ("le", "be"):
         utf16_cat(order, "random", f"random.{order}")
 
