@@ -1,0 +1,7 @@
+pub mod CharLemmas
+pub mod TailLemmas
+pub mod CutLemmas
+pub mod PartsLemmas
+pub mod WellFormedLemmas
+pub mod FloorLemmas
+pub mod LawProofs

@@ -1,0 +1,41 @@
+-- Where any bytes of UTF-8 may be cut, well formed or not, so that each part can be decoded alone.
+use Rattle.std.specs.Prelude.{◌≡◌, ℕ, ◌-◌, ◌<◌, ◌≤◌, ◌⊎◌, List, [], ◌∷◌, length, take, drop, slice_index}
+use Rattle.std.specs.Str.{IsCharBoundary}
+
+-- a continuation byte, which is the second, third or fourth of a character (Unicode, section 3.9,
+-- table 3-7)
+abbrev pub IsContinuation : ℕ → Type 0
+IsContinuation byte = (0x80 ≤ byte) × (byte < 0xC0)
+
+-- an offset that follows three continuation bytes: no character has more of them
+abbrev pub FollowsThree : List ℕ → ℕ → Type 0
+FollowsThree bytes at = (3 ≤ at) × (at ≤ length bytes) × IsContinuation (slice_index bytes (at - 3))
+    × IsContinuation (slice_index bytes (at - 2)) × IsContinuation (slice_index bytes (at - 1))
+
+-- the start; or the end or the offset of a byte that is no continuation byte, as std has the
+-- boundaries of a text; or such an offset
+abbrev pub IsCut : List ℕ → ℕ → Type 0
+IsCut bytes at = (at ≡ 0) ⊎ (IsCharBoundary bytes at ⊎ FollowsThree bytes at)
+
+-- the greatest of them at or before an offset
+pub record IsLastCut (bytes : List ℕ) (at n : ℕ) : Type 0 where
+  pub cut : IsCut bytes n
+  pub within : n ≤ at
+  pub last : (m : ℕ) → IsCut bytes m → m ≤ at → m ≤ n
+
+-- offsets ascend, and each is such an offset
+abbrev pub AreCutsFrom : List ℕ → ℕ → List ℕ → Type 0
+AreCutsFrom bytes start [] = Unit {0}
+AreCutsFrom bytes start (end ∷ ends) = (start ≤ end) × IsCut bytes end × AreCutsFrom bytes end ends
+
+abbrev pub AreCuts : List ℕ → List ℕ → Type 0
+AreCuts bytes ends = AreCutsFrom bytes 0 ends
+
+-- the parts of bytes that end at these offsets, the first of which begins at `start`, and the last
+-- part, which ends where the bytes end
+abbrev pub parts_from : List ℕ → ℕ → List ℕ → List (List ℕ)
+parts_from bytes start [] = drop start bytes ∷ []
+parts_from bytes start (end ∷ ends) = drop start (take end bytes) ∷ parts_from bytes end ends
+
+abbrev pub parts_of : List ℕ → List ℕ → List (List ℕ)
+parts_of bytes ends = parts_from bytes 0 ends

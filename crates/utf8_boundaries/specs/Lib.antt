@@ -1,0 +1,2 @@
+pub mod Boundary
+pub mod Laws
