@@ -8,6 +8,7 @@ mod conversions;
 mod questions;
 mod streams;
 mod texts;
+mod utf8;
 mod well_formed;
 
 use crate::conversions::Conversion;
@@ -51,6 +52,9 @@ pub fn call<E: Utf16Order>(
         | "bytes::floor_char_boundary"
         | "bytes::floor_char_boundary_around" => bytes::call::<E>(alloc, name, values, answer),
         "shard_offset" => bytes::shard(values, answer),
+        "utf8::is_char_boundary" | "utf8::floor_char_boundary" => {
+            utf8::call::<E>(alloc, name, values, answer)
+        }
         _ => texts::call::<E>(alloc, name, values, answer),
     }
 }

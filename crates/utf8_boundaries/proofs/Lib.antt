@@ -3,5 +3,4 @@ pub mod TailLemmas
 pub mod CutLemmas
 pub mod PartsLemmas
 pub mod WellFormedLemmas
-pub mod FloorLemmas
 pub mod LawProofs

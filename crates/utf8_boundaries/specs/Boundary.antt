@@ -17,12 +17,6 @@ FollowsThree bytes at = (3 ≤ at) × (at ≤ length bytes) × IsContinuation (s
 abbrev pub IsCut : List ℕ → ℕ → Type 0
 IsCut bytes at = (at ≡ 0) ⊎ (IsCharBoundary bytes at ⊎ FollowsThree bytes at)
 
--- the greatest of them at or before an offset
-pub record IsLastCut (bytes : List ℕ) (at n : ℕ) : Type 0 where
-  pub cut : IsCut bytes n
-  pub within : n ≤ at
-  pub last : (m : ℕ) → IsCut bytes m → m ≤ at → m ≤ n
-
 -- offsets ascend, and each is such an offset
 abbrev pub AreCutsFrom : List ℕ → ℕ → List ℕ → Type 0
 AreCutsFrom bytes start [] = Unit {0}

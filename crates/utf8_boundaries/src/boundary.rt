@@ -1,7 +1,7 @@
 //! Boundaries between characters in any bytes of UTF-8.
 
-ghost use Rattle.std.specs.Prelude.{◌≡◌, ◌↔◌, ◌+◌, ◌≤◌, ◌⊎◌, IsTrue, length};
-ghost use Rattle.utf8_boundaries.specs.Boundary.{FollowsThree, IsContinuation, IsCut, IsLastCut};
+ghost use Rattle.std.specs.Prelude.{◌≡◌, ◌↔◌, ◌+◌, ◌<◌, ◌≤◌, ◌⊎◌, ℕ, IsTrue, length};
+ghost use Rattle.utf8_boundaries.specs.Boundary.{FollowsThree, IsContinuation, IsCut};
 
 /// Returns whether a byte is a continuation byte, 0x80 to 0xBF.
 fn is_continuation(byte: u8) -> bool
@@ -50,7 +50,10 @@ pub fn is_char_boundary(utf8: &[u8], at: usize) -> bool
 ///
 /// Constant time, as `is_char_boundary`.
 pub fn floor_char_boundary(utf8: &[u8], at: usize) -> usize
-    ensures last { IsLastCut utf8.now at result }
+    ensures bound { result ≤ at }
+    ensures within { result ≤ length utf8.now }
+    ensures boundary { IsCut utf8.now result }
+    ensures nearest { (i : ℕ) → result < i → i ≤ at → ¬ (IsCut utf8.now i) }
     ensures near { (at ≤ result + 3) ⊎ (result ≡ length utf8.now) }
 {
     if at >= utf8.len() {

@@ -1,5 +1,6 @@
-//! Proved callers of streams of UTF-8; no tests.
+//! Proved callers of streams and of parts of UTF-8; no tests.
 #![tactic(auto)]
 
 pub mod both;
+pub mod parts;
 pub mod streams;
