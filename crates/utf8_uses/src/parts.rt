@@ -1,13 +1,14 @@
 //! Any bytes of UTF-8 decoded in parts, each alone.
 
-ghost use Rattle.std.specs.Prelude.{◌≡◌, OnOk};
+ghost use Rattle.std.specs.Prelude.{◌≡◌, ◌<◌, ◌≤◌, ℕ, OnOk};
+ghost use Rattle.std.specs.Str.{IsCharBoundary};
 ghost use Rattle.utf16_units.specs.Edit.{push_text};
 ghost use Rattle.utf8_split.specs.Split.{lossy_text};
 ghost use Rattle.utf16string.specs.WString.{wstring_text};
 
 use std::alloc::{AllocError, Allocator};
 use utf8_boundaries::floor_char_boundary;
-use utf8_boundaries::laws::cut_text;
+use utf8_boundaries::laws::{cut_text, text_boundaries};
 use utf8_decoder::Utf8Decoder;
 use utf16string::{Utf16Order, WString};
 
@@ -52,4 +53,18 @@ pub fn push_in_two<E: Utf16Order, A: Allocator>(
     push_lossy(before, to)?;
     push_lossy(after, to)?;
     Ok(())
+}
+
+/// Returns what `str::floor_char_boundary` returns.
+///
+/// # Complexity
+///
+/// Constant time.
+pub fn floor_of_text(text: &str, at: usize) -> usize
+    ensures bound { result ≤ at }
+    ensures boundary { IsCharBoundary text.now result }
+    ensures nearest { (i : ℕ) → result < i → i ≤ at → ¬ (IsCharBoundary text.now i) }
+{
+    text_boundaries();
+    floor_char_boundary(text.as_bytes(), at)
 }
