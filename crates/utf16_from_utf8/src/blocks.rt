@@ -15,9 +15,9 @@ use crate::units::{
 use std::simd::prelude::*;
 use utf16_units::Utf16Order;
 
-// The two bytes of each unit next to each other, of the first eight units and of the others.
+/// The two bytes of each unit next to each other, of the first eight units and of the others.
 #[inline(always)]
-pub(crate) fn paired<E: Utf16Order>(highs: u8x16, lows: u8x16) -> (u8x16, u8x16)
+pub fn paired<E: Utf16Order>(highs: u8x16, lows: u8x16) -> (u8x16, u8x16)
     ensures pairs { result.0 ++ result.1 ≡ pairs_of E.BIG highs lows }
     ensures first_len { length result.0 ≡ 16 }
     ensures second_len { length result.1 ≡ 16 }

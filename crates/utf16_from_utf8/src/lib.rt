@@ -3,19 +3,19 @@
 
 mod append;
 mod ascii;
-mod blocks;
+pub mod blocks;
 mod bytes;
 mod few;
-mod lanes;
+pub mod lanes;
 pub mod laws;
-mod pack;
+pub mod pack;
 mod positions;
 mod runs;
 mod short;
 mod size;
 mod steps;
-mod threes;
-mod units;
+pub mod threes;
+pub mod units;
 mod write;
 
 pub use crate::append::{append_utf16, extend_utf16};

@@ -21,9 +21,9 @@ pub(crate) fn put_eight(out: &mut [u8], at: usize, pairs: u8x16, bits: usize) ->
     at + 2 * bits.count_ones() as usize
 }
 
-// Stores those of all sixteen pairs whose bit is set, starting at `at`, and returns their end.
+/// Stores those of all sixteen pairs whose bit is set, starting at `at`, and returns their end.
 #[inline(always)]
-pub(crate) fn put_kept(out: &mut [u8], at: usize, first: u8x16, second: u8x16, bits: u64) -> usize
+pub fn put_kept(out: &mut [u8], at: usize, first: u8x16, second: u8x16, bits: u64) -> usize
     requires bound { bits < 2 ^ 16 }
     requires space { at + 32 ≤ length out.old }
     ensures pairs { take result out.new ≡ take at out.old ++ kept_pairs bits (first ++ second) }

@@ -13,9 +13,9 @@ use crate::units::{are_below, short_lows, three_highs};
 use std::simd::prelude::*;
 use utf16_units::Utf16Order;
 
-// The first, the second and the third bytes of the next forty-eight.
+/// The first, the second and the third bytes of the next forty-eight.
 #[inline(always)]
-pub(crate) fn in_threes(piece: &[u8], at: usize) -> (u8x16, u8x16, u8x16)
+pub fn in_threes(piece: &[u8], at: usize) -> (u8x16, u8x16, u8x16)
     requires { at + 48 ≤ length piece.now }
     ensures { take 48 (drop at piece.now) ≡ woven result.0 result.1 result.2 }
 {
@@ -73,9 +73,9 @@ fn thirds(a: u8x16, b: u8x16, c: u8x16) -> u8x16
     all.swizzle([2, 5, 8, 11, 14, 1, 4, 7, 10, 13, 0, 3, 6, 9, 12, 15])
 }
 
-// Whether they are the bytes of sixteen characters.
+/// Whether they are the bytes of sixteen characters.
 #[inline(always)]
-pub(crate) fn are_sixteen(firsts: u8x16, seconds: u8x16, thirds: u8x16) -> bool
+pub fn are_sixteen(firsts: u8x16, seconds: u8x16, thirds: u8x16) -> bool
     ensures { IsTrue result → (i : ℕ) → i < 16
         → IsThree (slice_index firsts i) (slice_index seconds i) (slice_index thirds i) }
 {
@@ -86,9 +86,9 @@ pub(crate) fn are_sixteen(firsts: u8x16, seconds: u8x16, thirds: u8x16) -> bool
     are_below(greater(greater(first, second), third), 1)
 }
 
-// Writes sixteen characters of three bytes.
+/// Writes sixteen characters of three bytes.
 #[inline(always)]
-pub(crate) fn put_sixteen<E: Utf16Order>(
+pub fn put_sixteen<E: Utf16Order>(
     out: &mut [u8],
     at: usize,
     firsts: u8x16,

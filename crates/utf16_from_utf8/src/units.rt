@@ -47,9 +47,9 @@ fn middles(b1: u8x16) -> u8x16
     masked(down(b1, 2), 0xF)
 }
 
-// The high bytes of characters of three bytes.
+/// The high bytes of characters of three bytes.
 #[inline(always)]
-pub(crate) fn three_highs(b2: u8x16, b1: u8x16) -> u8x16
+pub fn three_highs(b2: u8x16, b1: u8x16) -> u8x16
     ensures { HasLanes 16 result (λ i. three_high (slice_index b2 i) (slice_index b1 i)) }
 {
     sum(up(b2, 4), middles(b1))
@@ -155,17 +155,17 @@ pub(crate) fn is_ascii(block: u8x16) -> bool
     set_bits(masked(block, 0x80)) == 0
 }
 
-// Whether all bytes of a block are below a limit.
+/// Whether all bytes of a block are below a limit.
 #[inline(always)]
-pub(crate) fn are_below(block: u8x16, limit: u8) -> bool
+pub fn are_below(block: u8x16, limit: u8) -> bool
     ensures { IsTrue result → (i : ℕ) → i < 16 → slice_index block i < limit }
 {
     set_bits(where_below(block, limit, each(0), each(0xFF))) == 0
 }
 
-// The greatest bytes of the next sixty-four: of those at the same place in each group of sixteen.
+/// The greatest bytes of the next sixty-four: of those at the same place in each group of sixteen.
 #[inline(always)]
-pub(crate) fn greatest(piece: &[u8], at: usize) -> u8x16
+pub fn greatest(piece: &[u8], at: usize) -> u8x16
     requires { at + 64 ≤ length piece.now }
     ensures { (limit : ℕ) → ((i : ℕ) → i < 16 → slice_index result i < limit)
         → (i : ℕ) → i < 64 → slice_index piece.now (at + i) < limit }

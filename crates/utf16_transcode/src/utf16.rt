@@ -14,8 +14,9 @@ use crate::chars::{char_of_four, char_of_three, char_of_two, is_continuation};
 use crate::valid::valid_prefix;
 use std::marker::PhantomData;
 use utf16_decode::{Direction, Progress, transcode};
-use utf16_from_utf8::{write_ascii, write_units};
+use utf16_from_utf8::write_units;
 use utf16_units::{Utf16CharExt, Utf16Order};
+use utf8_blocks::write_blocks;
 
 // The number of bytes that are validated first if few valid bytes precede them, and the factor by
 // which it grows after each valid part. Validation of 64 bytes or more goes to their end before it
@@ -114,8 +115,7 @@ impl<E: Utf16Order> Direction for FromUtf8<E> {
 
     #[inline(always)]
     fn write_front(rest: &[u8], to: &mut [u8]) -> (usize, usize) {
-        let len = write_ascii::<E>(rest, to);
-        (len, 2 * len)
+        write_blocks::<E>(rest, to)
     }
 }
 

@@ -1,0 +1,4 @@
+pub mod BlockLemmas
+pub mod NarrowLemmas
+pub mod ThreesLemmas
+pub mod WrittenLemmas

@@ -1,0 +1,8 @@
+//! Conversion of UTF-8 to UTF-16 in blocks that are validated while they are written.
+#![tactic(auto)]
+
+mod narrow;
+mod threes;
+mod write;
+
+pub use crate::write::write_blocks;
