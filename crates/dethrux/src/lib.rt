@@ -35,7 +35,7 @@ use utf16_transcode::{
     count_chars, from_utf8, from_utf8_len, from_utf8_lossy, from_utf8_lossy_len, is_ascii, to_utf8,
     to_utf8_lossy, to_utf8_lossy_len, to_utf8_partial,
 };
-use utf16_units::{BE, LE, validate_raw_utf16};
+use utf16_units::{BE, LE, Utf16Order, is_short_plain, validate_raw_utf16};
 
 /// Returns the length of the longest well-formed prefix, and what follows it: nothing, an unpaired
 /// surrogate, or an incomplete character at the end. One pass, up to the first error.
@@ -45,14 +45,34 @@ pub extern "C" fn dethrux_validate(byte_order: u32, utf16: &[u8]) -> Validity
         (stop_of result.status result.error_len) }
     ensures numbers { AreNumbers result.status result.error_len }
 {
-    validity_of(
-        utf16.len(),
-        if is_big_endian(byte_order) {
-            validate_raw_utf16::<BE>(utf16)
-        } else {
-            validate_raw_utf16::<LE>(utf16)
-        },
-    )
+    if is_big_endian(byte_order) {
+        validity::<BE>(utf16)
+    } else {
+        validity::<LE>(utf16)
+    }
+}
+
+// Does the same in one byte order.
+#[inline(always)]
+fn validity<E: Utf16Order>(utf16: &[u8]) -> Validity
+    ensures validity { IsValidity E.BIG utf16.now result.valid_up_to
+        (stop_of result.status result.error_len) }
+    ensures numbers { AreNumbers result.status result.error_len }
+{
+    if is_short_plain::<E>(utf16) {
+        return validity_of(utf16.len(), Ok(()));
+    }
+    validity_of_many::<E>(utf16)
+}
+
+// Does the same. A function of its own, so that short texts do not pay for its frame.
+#[inline(never)]
+fn validity_of_many<E: Utf16Order>(utf16: &[u8]) -> Validity
+    ensures validity { IsValidity E.BIG utf16.now result.valid_up_to
+        (stop_of result.status result.error_len) }
+    ensures numbers { AreNumbers result.status result.error_len }
+{
+    validity_of(utf16.len(), validate_raw_utf16::<E>(utf16))
 }
 
 /// Returns the number of characters of well-formed bytes; of ill-formed bytes, that of the whole
@@ -113,11 +133,11 @@ pub extern "C" fn dethrux_to_utf8(byte_order: u32, utf16: &[u8], to: &mut [u8]) 
         (length to.new - result.written) (stop_of result.status result.error_len) }
     ensures numbers { AreNumbers result.status result.error_len }
 {
-    conversion_of(if is_big_endian(byte_order) {
-        to_utf8::<BE>(utf16, to)
+    if is_big_endian(byte_order) {
+        conversion_of(to_utf8::<BE>(utf16, to))
     } else {
-        to_utf8::<LE>(utf16, to)
-    })
+        conversion_of(to_utf8::<LE>(utf16, to))
+    }
 }
 
 /// Converts UTF-16 to UTF-8 as `dethrux_to_utf8`, and replaces each unpaired surrogate, and an
@@ -176,11 +196,11 @@ pub extern "C" fn dethrux_from_utf8(byte_order: u32, utf8: &[u8], to: &mut [u8])
         (length to.new - result.written) (stop_of result.status result.error_len) }
     ensures numbers { AreNumbers result.status result.error_len }
 {
-    conversion_of(if is_big_endian(byte_order) {
-        from_utf8::<BE>(utf8, to)
+    if is_big_endian(byte_order) {
+        conversion_of(from_utf8::<BE>(utf8, to))
     } else {
-        from_utf8::<LE>(utf8, to)
-    })
+        conversion_of(from_utf8::<LE>(utf8, to))
+    }
 }
 
 /// Converts any bytes as UTF-8 to UTF-16, as far as whole characters fit, and replaces each maximal

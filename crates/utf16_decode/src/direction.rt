@@ -12,6 +12,10 @@ use crate::progress::{Progress, Stop, put};
 // when they are written.
 const TESTED_LEN: usize = 8192;
 
+// Where so many of them were written while they were validated, the others are left for the next
+// part.
+const NEARLY_TESTED: usize = TESTED_LEN - 64;
+
 // The most bytes that are written through a buffer on the stack, and the length of that buffer:
 // what `write` needs for them in both directions; and the same of few bytes.
 const BUFFERED_LEN: usize = 256;
@@ -76,9 +80,9 @@ pub trait Direction {
         ensures char { IfOk result (λ first. BeginsWith from rest.now first.0 first.1) }
         ensures ill_formed { IfErr result (IsIllFormedAt rest.now) };
 
-    /// Begins to write a short input at the start of a buffer, perhaps with nothing, and returns the
-    /// number of bytes read and the number of bytes written; `None` if the input is not to be written
-    /// character by character.
+    /// Begins to write a short input at the start of a buffer, perhaps with nothing, and returns
+    /// the number of bytes read and the number of bytes written; `None` if the input is not to be
+    /// written character by character.
     fn begin_short(input: &[u8], to: &mut [u8]) -> Option<(usize, usize)>
         ensures { IfSome result (λ begun.
             Wrote (Gives IsValid other) input.now to.new begun.0 begun.1) };
@@ -256,7 +260,7 @@ fn put_many<D: Direction>(rest: &[u8], before: usize, to: &mut [u8], at: usize) 
         return put_valid::<D>(rest, before, to, at);
     }
     let (read, written) = put_front::<D>(rest, to, at);
-    if read == rest.len() {
+    if read == rest.len() || read >= NEARLY_TESTED {
         return (read, written);
     }
     let (len, end) = put_valid::<D>(&rest[read..], before.saturating_add(read), to, written);

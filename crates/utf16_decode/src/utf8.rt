@@ -58,10 +58,7 @@ impl<E: Utf16Order> Direction for ToUtf8<E> {
 
     #[inline(always)]
     fn valid_len(bytes: &[u8], _before: usize) -> usize {
-        match validate_raw_utf16::<E>(bytes) {
-            Ok(()) => bytes.len(),
-            Err(error) => error.valid_up_to(),
-        }
+        valid_up_to::<E>(bytes)
     }
 
     #[inline(always)]
@@ -121,6 +118,19 @@ impl<E: Utf16Order> Direction for ToUtf8<E> {
     #[inline(always)]
     fn write_front(rest: &[u8], to: &mut [u8]) -> (usize, usize) {
         write_before_surrogates::<E>(rest, to)
+    }
+}
+
+// Returns the length of the longest valid prefix. A function of its own, so that the writer does
+// not pay for its registers.
+#[inline(never)]
+fn valid_up_to<E: Utf16Order>(bytes: &[u8]) -> usize
+    ensures within { result ≤ length bytes.now }
+    ensures valid { IsUtf16 E.BIG (take result bytes.now) }
+{
+    match validate_raw_utf16::<E>(bytes) {
+        Ok(()) => bytes.len(),
+        Err(error) => error.valid_up_to(),
     }
 }
 

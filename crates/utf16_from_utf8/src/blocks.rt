@@ -29,9 +29,9 @@ pub fn paired<E: Utf16Order>(highs: u8x16, lows: u8x16) -> (u8x16, u8x16)
     }
 }
 
-// Writes sixteen characters of one byte.
+/// Writes sixteen characters of one byte.
 #[inline(always)]
-pub(crate) fn put_ascii<E: Utf16Order>(out: &mut [u8], at: usize, block: u8x16) -> usize
+pub fn put_ascii<E: Utf16Order>(out: &mut [u8], at: usize, block: u8x16) -> usize
     requires space { at + 32 ≤ length out.old }
     requires ascii { (i : ℕ) → i < 16 → slice_index block i < 0x80 }
     ensures bytes { (b2 b1 : ℕ) → b1 < 0xE0

@@ -147,9 +147,9 @@ pub(crate) fn ended_bits(b1: u8x16, b0: u8x16) -> u64
     ))
 }
 
-// Whether all are characters of one byte, ASCII.
+/// Whether all are characters of one byte, ASCII.
 #[inline(always)]
-pub(crate) fn is_ascii(block: u8x16) -> bool
+pub fn is_ascii(block: u8x16) -> bool
     ensures { IsTrue result ↔ ((i : ℕ) → i < 16 → slice_index block i < 0x80) }
 {
     set_bits(masked(block, 0x80)) == 0

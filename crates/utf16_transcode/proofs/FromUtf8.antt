@@ -1,19 +1,21 @@
 -- From UTF-8 to UTF-16: texts one after another, characters, and the place of an error.
-use Rattle.std.proofs.Common.{◌≡◌, ℕ, zero, suc, replicate, ◌+◌, ◌-◌, ◌*◌, ◌<◌, ◌≤◌, Bool, true, false, List, [], ◌∷◌, ◌++◌, Option, drop_at, length, take, drop, encode_utf8_all, refl, sym, ap, ap₂, ◌∙◌, subst, ⊎_elim, arith, append-nil, append_assoc, length-append, length-drop, length-take, take_all, take_at, take-add, take-append-drop, take-take, le-ltb}
+use Rattle.std.proofs.Common.{◌≡◌, ℕ, zero, suc, replicate, ◌+◌, ◌-◌, ◌*◌, ◌<◌, ◌≤◌, Bool, true, false, List, [], ◌∷◌, ◌++◌, Option, drop_at, length, take, drop, encode_utf8_all, refl, sym, ap, ap₂, ◌∙◌, subst, ⊎_elim, arith, append-nil, append_assoc, length-append, length-drop, length-take, take_all, take_at, take-add, take-append-drop, take-take, le-ltb, slice_index}
 use Rattle.std.specs.Prelude.{◌==◌, min}
 use borrow.Author.Tests.{ne_eqb}
 use Rattle.std.proofs.lemmas.Bool.{cases_lt}
-use Rattle.std.proofs.lemmas.List.{take_rest}
+use Rattle.std.proofs.lemmas.List.{take_more, take_rest}
 use Rattle.std.proofs.lemmas.List.Elements.{All-cons, All-head, All-nil}
-use Rattle.std.proofs.lemmas.Str.{IsCharBoundary-at_seam, IsCharBoundary-from_take, IsUtf8-append, IsUtf8-drop, IsUtf8-encode, IsUtf8-nil, IsUtf8-take, chars-append, chars-nil, chars-encodes, len_utf8_bounds, length-encode}
+use Rattle.std.proofs.lemmas.Str.{IsCharBoundary-at_seam, IsCharBoundary-from_take, IsUtf8-append, IsUtf8-drop, IsUtf8-encode, IsUtf8-from_ascii, IsUtf8-nil, IsUtf8-take, chars-append, chars-nil, chars-encodes, len_utf8_bounds, length-encode}
 use Rattle.std.specs.Char.{IsScalar, encode_utf8}
-use Rattle.std.specs.Str.{IsUtf8, IsValidUpTo, StartsWithNoChar, all_scalars, chars}
+use Rattle.std.specs.Str.{IsAscii, IsUtf8, IsValidUpTo, StartsWithNoChar, all_scalars, chars}
 use Rattle.std.specs.Str.Lossy.{utf8_error_len}
 use Rattle.utf16_units.specs.Encoding.{char_bytes, encode}
 use Rattle.utf16_units.proofs.EncodingLemmas.{All-from_all_scalars, all_scalars-from_All, encode-append, encode-nil, encode-one}
 use Rattle.utf16_units.proofs.IllFormedLemmas.{rest_from}
+use lib.Utf8.{low_scalar}
+use Rattle.utf16_from_utf8.proofs.TextLemmas.{one_byte}
 use Rattle.utf16_transcode.specs.FromUtf8.{TranscodesToUtf16, IsIllFormedUtf8, IsIllFormedUtf8At}
-use Rattle.utf16_decode.specs.Wrote.{Gives, Joins}
+use Rattle.utf16_decode.specs.Wrote.{Gives, Joins, Wrote}
 
 pub room_grows : (m n : ℕ) → m ≤ n → 2 * m + 16 ≤ 2 * n + 16
 room_grows m n le = omega arith
@@ -35,6 +37,31 @@ chars-char c scalar =
 
 pub char_gives : (big : Bool) (c : ℕ) → IsScalar c → Gives IsUtf8 (λ text. encode big (chars text)) (encode_utf8 c) (char_bytes big c)
 char_gives big c scalar = (IsUtf8-encode c scalar, sym (ap (encode big) (chars-char c scalar) ∙ encode-one big c))
+
+-- one more byte, which is ASCII
+pub ascii-more : (big : Bool) (bytes old new : List ℕ) (read written to : ℕ) → Wrote (TranscodesToUtf16 big) bytes old read written → read < length bytes → slice_index bytes read < 0x80
+    → to ≤ length new → take to new ≡ take written old ++ char_bytes big (slice_index bytes read) → Wrote (TranscodesToUtf16 big) bytes new (read + 1) to
+ascii-more big bytes old new read written to done more low fits wrote =
+    let byte = slice_index bytes read in
+    let one : encode_utf8 byte ≡ byte ∷ [] = one_byte byte low in
+    let scalar : IsScalar byte = low_scalar byte (omega (arith, low)) in
+    let next = subst (λ b. TranscodesToUtf16 big b (char_bytes big byte)) one (char_gives big byte scalar) in
+    record {
+      within = omega (arith, more);
+      fits = fits;
+      gives =
+          subst (λ b. TranscodesToUtf16 big b (take to new)) (sym (take_more bytes read 0 more))
+          (subst (TranscodesToUtf16 big (take read bytes ++ byte ∷ [])) (sym wrote) (utf16_joins big (take read bytes) (byte ∷ []) (take written old) (char_bytes big byte) done.gives next));
+    }
+
+-- all of them
+pub ascii-all : (big : Bool) (bytes new : List ℕ) → IsAscii bytes → 2 * length bytes ≤ length new → take (2 * length bytes) new ≡ encode big (chars bytes)
+    → Wrote (TranscodesToUtf16 big) bytes new (length bytes) (2 * length bytes)
+ascii-all big bytes new ascii fits wrote = record {
+  within = omega arith;
+  fits = fits;
+  gives = subst (λ b. TranscodesToUtf16 big b (take (2 * length bytes) new)) (sym (take_all (length bytes) bytes (omega arith))) (IsUtf8-from_ascii bytes ascii, wrote);
+}
 
 -- if UTF-8 begins with UTF-8, the rest is UTF-8 too
 pub IsUtf8-behind : (front back : List ℕ) → IsUtf8 front → IsUtf8 (front ++ back) → IsUtf8 back

@@ -13,10 +13,10 @@ ghost use Rattle.utf16_decode.specs.Stops.{BeginsWith};
 use crate::chars::{char_of_four, char_of_three, char_of_two, is_continuation};
 use crate::valid::valid_prefix;
 use std::marker::PhantomData;
+use utf8_blocks::{write_blocks, write_few_ascii};
 use utf16_decode::{Direction, Progress, transcode};
 use utf16_from_utf8::write_units;
 use utf16_units::{Utf16CharExt, Utf16Order};
-use utf8_blocks::write_blocks;
 
 // The number of bytes that are validated first if few valid bytes precede them, and the factor by
 // which it grows after each valid part. Validation of 64 bytes or more goes to their end before it
@@ -45,7 +45,7 @@ pub fn from_utf8<E: Utf16Order>(text: &[u8], to: &mut [u8]) -> Progress
 struct FromUtf8<E: Utf16Order>(PhantomData<E>);
 
 impl<E: Utf16Order> Direction for FromUtf8<E> {
-    const SHORT_LEN: usize = 20;
+    const SHORT_LEN: usize = 32;
 
     const FRONT_LEN: usize = 16;
 
@@ -76,11 +76,15 @@ impl<E: Utf16Order> Direction for FromUtf8<E> {
         first_char(rest)
     }
 
-    // Twelve bytes of ASCII take less time at once.
+    // Begins with the ASCII at the start; of sixteen bytes or more with all of them, or none.
     #[inline(always)]
-    fn begin_short(input: &[u8], _to: &mut [u8]) -> Option<(usize, usize)> {
-        if input.len() >= 12 && input[0] < 0x80 && input[11] < 0x80 {
-            return None;
+    fn begin_short(input: &[u8], to: &mut [u8]) -> Option<(usize, usize)> {
+        let len = input.len();
+        if len < 16 {
+            return Some(put_ascii_chars::<E>(input, to));
+        }
+        if len < 32 && len <= to.len() / 2 && write_few_ascii::<E>(input, to) {
+            return Some((len, 2 * len));
         }
         Some((0, 0))
     }
@@ -119,11 +123,28 @@ impl<E: Utf16Order> Direction for FromUtf8<E> {
     }
 }
 
+// Writes the ASCII at the start of the bytes character by character, as far as it fits, and returns
+// the number of bytes read and the number of bytes written.
+#[inline(always)]
+fn put_ascii_chars<E: Utf16Order>(bytes: &[u8], to: &mut [u8]) -> (usize, usize)
+    ensures { Wrote (TranscodesToUtf16 E.BIG) bytes.now to.new result.0 result.1 }
+{
+    let most = bytes.len().min(to.len() / 2);
+    let mut len = 0;
+    let mut end = 0;
+    while len < most && bytes[len] < 0x80 {
+        end = put_char::<E>(bytes[len] as char, to, end);
+        len += 1;
+    }
+    (len, end)
+}
+
 // Writes a character that fits at `at`, and returns where it ends.
 #[inline(always)]
 pub(crate) fn put_char<E: Utf16Order>(c: char, to: &mut [u8], at: usize) -> usize
     requires { at + char_size c ≤ length to.old }
     ensures within { result ≤ length to.new }
+    ensures end { result ≡ at + char_size c }
     ensures bytes { take result to.new ≡ take at to.old ++ char_bytes E.BIG c }
 {
     at + c.encode_utf16_into::<E>(&mut to[at..])
@@ -183,6 +204,10 @@ pub(crate) fn can_begin(lead: u8, second: u8) -> bool
     if lead / 0x40 * 4 + second / 0x40 != 0b1110 {
         return false;
     }
+    // The frequent ones, by few comparisons.
+    if (0xE1..=0xEC).contains(&lead) || (0xC2..=0xDF).contains(&lead) {
+        return true;
+    }
     let (least, most) = match lead {
         0xE0 => (0xA0, 0xBF),
         0xED => (0x80, 0x9F),
@@ -236,7 +261,8 @@ fn usual_char(rest: &[u8]) -> Option<(char, usize)>
     Some((char_of_four(lead, rest[1], rest[2], rest[3]), 4))
 }
 
-// Does the same as `first_char`. Four bytes suffice for it. A function of its own, since few inputs need it.
+// Does the same as `first_char`. Four bytes suffice for it. A function of its own, since few inputs
+// need it.
 #[inline(never)]
 fn first_of_four(rest: &[u8]) -> Result<(char, usize), Option<u8>>
     requires { 0 < length rest.now }

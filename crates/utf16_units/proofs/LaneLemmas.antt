@@ -1,8 +1,8 @@
 -- The lanes of a block: the high bytes of its units, and the bits of its surrogates.
-use Rattle.std.proofs.Common.{◌≡◌, ℕ, zero, suc, ◌+◌, ◌-◌, ◌*◌, ◌/◌, ◌%◌, ◌^◌, ◌<◌, ◌≤◌, ◌&&◌, Bool, true, false, cond, eqb, leb, ltb, List, [], ◌∷◌, ◌++◌, map, length, get_or, replicate, bit_and, refl, sym, ap, ap₂, ◌∙◌, subst, ⊎_elim, arith, Fits, w8, length-append}
+use Rattle.std.proofs.Common.{◌≡◌, ℕ, zero, suc, ◌+◌, ◌-◌, ◌*◌, ◌/◌, ◌%◌, ◌^◌, ◌<◌, ◌≤◌, ◌&&◌, Bool, true, false, cond, eqb, leb, ltb, List, [], ◌∷◌, ◌++◌, map, length, get_or, replicate, bit_and, refl, sym, ap, ap₂, ◌∙◌, subst, ⊎_elim, arith, Fits, w8, length-append, true≢false}
 use Rattle.std.proofs.lemmas.Bool.{and_parts, cases_Bool, cases_lt, eqb-false, eqb-true, false_from_ne_true, le-leb, leb-true, lt-leb, lt-ltb, ltb-true}
 use Rattle.std.proofs.lemmas.List.{length-map}
-use Rattle.std.proofs.lemmas.List.Elements.{All-cons, All-nil}
+use Rattle.std.proofs.lemmas.List.Elements.{All-cons, All-nil, All-head, All-tail}
 use Rattle.std.proofs.lemmas.Nat.{mod_low, one_shl}
 use Rattle.std.proofs.lemmas.Nat.Bits.{and_high}
 use Rattle.std.proofs.lemmas.Simd.{bitmask_splat, map-map, mask_l-lt, zip2_splat}
@@ -207,3 +207,25 @@ plain_units (unit ∷ units) none =
 -- none of the high bytes has these bits: no unit is a surrogate
 pub no_surrogate_by_bits : (units highs : List ℕ) → map high_byte units ≡ highs → mask_l (map (λ high. eqb (bit_and high 0xF8) 0xD8) highs) ≡ 0 → HasNoSurrogate units
 no_surrogate_by_bits units highs same none = plain_units units (ap (λ hs. mask_l (map (λ high. eqb (bit_and high 0xF8) 0xD8) hs)) same ∙ none)
+
+surrogate_there : (unit : ℕ) → unit / 256 < 256 → IsNoSurrogate unit → eqb (bit_and (high_byte unit) 0xF8) 0xD8 ≡ false
+surrogate_there unit small plain =
+    let upper : bit_and (unit / 256) 0xF8 ≡ unit / 256 / 8 % 32 * 8 = and_high (unit / 256) 5 3 in
+    let inside : (m : ℕ) → 1024 * m ≤ unit → unit < 1024 * m + 1024 → in_class m unit ≡ true = λ m from to.
+    ap₂ (λ a b. a && b) (le-leb (1024 * m) unit from) (lt-ltb unit (1024 * m + 1024) to) in
+    false_from_ne_true (eqb (bit_and (high_byte unit) 0xF8) 0xD8) (λ yes.
+    let bits : bit_and (unit / 256) 0xF8 ≡ 0xD8 = eqb-true _ _ yes in
+    ⊎_elim
+    (λ (low : unit < 0xDC00). true≢false (sym (inside 54 (omega arith) (omega arith)) ∙ plain.0))
+    (λ (high : 0xDC00 ≤ unit). true≢false (sym (inside 55 (omega arith) (omega arith)) ∙ plain.1))
+    (cases_lt unit 0xDC00))
+
+plain_bits : (units : List ℕ) → Each1 (Fits w8) (map high_byte units) → HasNoSurrogate units → mask_l (map (λ high. eqb (bit_and high 0xF8) 0xD8) (map high_byte units)) ≡ 0
+plain_bits [] fit plain = refl
+plain_bits (unit ∷ units) fit plain =
+    ap₂ (λ bit rest. cond bit 1 0 + 2 * rest) (surrogate_there unit fit.0.fits (All-head IsNoSurrogate unit units plain)) (plain_bits units fit.1 (All-tail IsNoSurrogate unit units plain))
+
+-- and none has them if no unit is a surrogate
+pub bits_of_no_surrogate : (units highs : List ℕ) → map high_byte units ≡ highs → Each1 (Fits w8) highs → HasNoSurrogate units → mask_l (map (λ high. eqb (bit_and high 0xF8) 0xD8) highs) ≡ 0
+bits_of_no_surrogate units highs same fit plain =
+    ap (λ hs. mask_l (map (λ high. eqb (bit_and high 0xF8) 0xD8) hs)) (sym same) ∙ plain_bits units (subst (Each1 (Fits w8)) (sym same) fit) plain

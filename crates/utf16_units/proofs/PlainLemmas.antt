@@ -1,10 +1,11 @@
 -- Bytes of which no unit is a surrogate are a text.
-use Rattle.std.proofs.Common.{◌≡◌, ℕ, ◌-◌, ◌+◌, ◌%◌, ◌≤◌, Bool, false, List, [], ◌∷◌, ◌++◌, length, map, take, drop, slice_index, refl, sym, ap, ◌∙◌, subst, arith, take_all, Fits, w8, length-drop, length-take-le}
+use Rattle.std.proofs.Common.{◌≡◌, ℕ, ◌-◌, ◌+◌, ◌*◌, ◌/◌, ◌%◌, ◌<◌, ◌≤◌, ◌↔◌, Bool, false, List, [], ◌∷◌, ◌++◌, length, map, take, drop, slice_index, refl, sym, ap, ◌∙◌, subst, arith, take_all, Fits, w8, length-drop, length-take-le}
 use Rattle.std.proofs.lemmas.List.{take-take}
 use Rattle.std.proofs.lemmas.List.Elements.{All-append, All-cons, All-head, All-nil, All-tail}
 use Rattle.std.specs.Char.Utf16.{is_high_surrogate, is_low_surrogate}
 use Rattle.utf16_units.specs.Encoding.{IsUtf16, units_of}
 use Rattle.utf16_units.specs.Lanes.{HasNoSurrogate, IsNoSurrogate, Paired, PairedTo}
+use Rattle.utf16_units.specs.Unit.{unit_of}
 use Rattle.utf16_units.proofs.PairLemmas.{PairedTo-next, PairedTo-text}
 use Rattle.utf16_units.proofs.UnitsUpTo.{units_of-split}
 
@@ -26,8 +27,23 @@ no_surrogate-front [] back all = All-nil IsNoSurrogate
 no_surrogate-front (unit ∷ front) back all =
     All-cons IsNoSurrogate unit front (All-head IsNoSurrogate unit (front ++ back) all) (no_surrogate-front front back (All-tail IsNoSurrogate unit (front ++ back) all))
 
+no_surrogate-behind : (front back : List ℕ) → HasNoSurrogate (front ++ back) → HasNoSurrogate back
+no_surrogate-behind [] back all = all
+no_surrogate-behind (unit ∷ front) back all = no_surrogate-behind front back (All-tail IsNoSurrogate unit (front ++ back) all)
+
+-- all units
+pub IsUtf16-plain : (big : Bool) (bytes : List ℕ) → ((k : ℕ) → Fits w8 (slice_index bytes k)) → length bytes % 2 ≡ 0 → HasNoSurrogate (units_of big bytes) → IsUtf16 big bytes
+IsUtf16-plain big bytes fits even all =
+    let whole : take (length bytes) bytes ≡ bytes = take_all (length bytes) bytes (omega arith) in
+    let paired : PairedTo big bytes (length bytes) false = record {
+      within = omega arith;
+      even = even;
+      paired = subst (λ part. Paired false (units_of big part) false) (sym whole) (no_surrogate-paired (units_of big bytes) all);
+    } in
+    subst (IsUtf16 big) whole (PairedTo-text big bytes (length bytes) fits false refl paired)
+
 -- the first and the last n bytes, if there are at most twice as many
-module _ (big : Bool) (bytes : List ℕ) (fits : (k : ℕ) → Fits w8 (slice_index bytes k)) (n : ℕ) (even : length bytes % 2 ≡ 0) (even_n : n % 2 ≡ 0)
+module _ (big : Bool) (bytes : List ℕ) (n : ℕ) (even : length bytes % 2 ≡ 0) (even_n : n % 2 ≡ 0)
     (few : n ≤ length bytes) (many : length bytes ≤ n + n) where
   abbrev at : ℕ
   at = length bytes - n
@@ -42,15 +58,64 @@ module _ (big : Bool) (bytes : List ℕ) (fits : (k : ℕ) → Fits w8 (slice_in
       subst (λ part. HasNoSurrogate (units_of big part)) (take-take at n bytes (omega arith))
       (no_surrogate-front _ _ (subst HasNoSurrogate split all))
 
-  pub no_surrogate-ends : HasNoSurrogate (units_of big (take n bytes)) → HasNoSurrogate (units_of big (take n (drop at bytes))) → IsUtf16 big bytes
-  no_surrogate-ends first last =
-      let back : take n (drop at bytes) ≡ drop at bytes = take_all n (drop at bytes) (omega (arith, length-drop at bytes)) in
+  back : take n (drop at bytes) ≡ drop at bytes
+  back = take_all n (drop at bytes) (omega (arith, length-drop at bytes))
+
+  pub no_surrogate-ends : (HasNoSurrogate (units_of big (take n bytes)) × HasNoSurrogate (units_of big (take n (drop at bytes)))) ↔ HasNoSurrogate (units_of big bytes)
+  no_surrogate-ends =
       let split = units_of-split big bytes at even_at (omega arith) in
-      let all = subst HasNoSurrogate (sym split) (All-append IsNoSurrogate _ _ (front first) (subst (λ part. HasNoSurrogate (units_of big part)) back last)) in
-      let whole : take (length bytes) bytes ≡ bytes = take_all (length bytes) bytes (omega arith) in
-      let paired : PairedTo big bytes (length bytes) false = record {
-        within = omega arith;
-        even = even;
-        paired = subst (λ part. Paired false (units_of big part) false) (sym whole) (no_surrogate-paired (units_of big bytes) all);
-      } in
-      subst (IsUtf16 big) whole (PairedTo-text big bytes (length bytes) fits false refl paired)
+      let first = units_of-split big bytes n even_n few in (
+        (λ both. subst HasNoSurrogate (sym split) (All-append IsNoSurrogate _ _ (front both.0) (subst (λ part. HasNoSurrogate (units_of big part)) back both.1))),
+        (λ all. (
+          no_surrogate-front _ _ (subst HasNoSurrogate first all),
+          subst (λ part. HasNoSurrogate (units_of big part)) (sym back) (no_surrogate-behind _ _ (subst HasNoSurrogate split all)),
+        )),
+      )
+
+plain-nil : (big : Bool) → HasNoSurrogate (units_of big [])
+unfolding units_of
+plain-nil big = All-nil IsNoSurrogate
+
+plain-cons : (big : Bool) (first second : ℕ) (bytes : List ℕ) → IsNoSurrogate (unit_of big first second) → HasNoSurrogate (units_of big bytes) → HasNoSurrogate (units_of big (first ∷ second ∷ bytes))
+unfolding units_of
+plain-cons big first second bytes here others = All-cons IsNoSurrogate (unit_of big first second) (units_of big bytes) here others
+
+plain-head : (big : Bool) (first second : ℕ) (bytes : List ℕ) → HasNoSurrogate (units_of big (first ∷ second ∷ bytes)) → IsNoSurrogate (unit_of big first second)
+unfolding units_of
+plain-head big first second bytes all = All-head IsNoSurrogate (unit_of big first second) (units_of big bytes) all
+
+plain-tail : (big : Bool) (first second : ℕ) (bytes : List ℕ) → HasNoSurrogate (units_of big (first ∷ second ∷ bytes)) → HasNoSurrogate (units_of big bytes)
+unfolding units_of
+plain-tail big first second bytes all = All-tail IsNoSurrogate (unit_of big first second) (units_of big bytes) all
+
+-- the first, one between and the last of at most three units
+abbrev pub AreFew : Bool → List ℕ → Type 0
+AreFew big bytes = IsNoSurrogate (unit_of big (slice_index bytes 0) (slice_index bytes 1))
+    × IsNoSurrogate (unit_of big (slice_index bytes (length bytes / 4 * 2)) (slice_index bytes (length bytes / 4 * 2 + 1)))
+    × IsNoSurrogate (unit_of big (slice_index bytes (length bytes - 2)) (slice_index bytes (length bytes - 1)))
+
+pub no_surrogate-few : (big : Bool) (bytes : List ℕ) → 0 < length bytes → length bytes < 8 → length bytes % 2 ≡ 0 → AreFew big bytes ↔ HasNoSurrogate (units_of big bytes)
+no_surrogate-few big [] some few even = absurd (omega arith)
+no_surrogate-few big (a ∷ []) some few even = absurd (omega arith)
+no_surrogate-few big (a ∷ b ∷ []) some few even = (
+  (λ are. plain-cons big a b [] are.0 (plain-nil big)),
+  (λ all. let here = plain-head big a b [] all in (here, here, here)),
+)
+no_surrogate-few big (a ∷ b ∷ c ∷ []) some few even = absurd (omega arith)
+no_surrogate-few big (a ∷ b ∷ c ∷ d ∷ []) some few even = (
+  (λ are. plain-cons big a b (c ∷ d ∷ []) are.0 (plain-cons big c d [] are.2 (plain-nil big))),
+  (λ all. let last = plain-head big c d [] (plain-tail big a b (c ∷ d ∷ []) all) in (plain-head big a b (c ∷ d ∷ []) all, last, last)),
+)
+no_surrogate-few big (a ∷ b ∷ c ∷ d ∷ e ∷ []) some few even = absurd (omega arith)
+no_surrogate-few big (a ∷ b ∷ c ∷ d ∷ e ∷ f ∷ []) some few even = (
+  (λ are. plain-cons big a b (c ∷ d ∷ e ∷ f ∷ []) are.0 (plain-cons big c d (e ∷ f ∷ []) are.1 (plain-cons big e f [] are.2 (plain-nil big)))),
+  (λ all.
+      let others = plain-tail big a b (c ∷ d ∷ e ∷ f ∷ []) all in
+      (plain-head big a b (c ∷ d ∷ e ∷ f ∷ []) all, plain-head big c d (e ∷ f ∷ []) others, plain-head big e f [] (plain-tail big c d (e ∷ f ∷ []) others))),
+)
+no_surrogate-few big (a ∷ b ∷ c ∷ d ∷ e ∷ f ∷ g ∷ []) some few even = absurd (omega arith)
+no_surrogate-few big (a ∷ b ∷ c ∷ d ∷ e ∷ f ∷ g ∷ h ∷ bytes) some few even = absurd (omega arith)
+
+pub no_surrogate-none : (big : Bool) (bytes : List ℕ) → length bytes ≡ 0 → HasNoSurrogate (units_of big bytes)
+no_surrogate-none big [] none = plain-nil big
+no_surrogate-none big (byte ∷ bytes) none = absurd (omega (arith, none))

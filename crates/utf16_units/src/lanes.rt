@@ -117,8 +117,8 @@ pub(crate) fn paired<const N: usize>(highs: Simd<u8, N>, before: bool) -> Option
 #[inline(always)]
 pub(crate) fn has_no_surrogate<const N: usize>(highs: Simd<u8, N>) -> bool
     requires { N ≤ 64 }
-    ensures { IsTrue result → (units : List ℕ) → map high_byte units ≡ highs.entry
-        → HasNoSurrogate units }
+    ensures { (units : List ℕ) → map high_byte units ≡ highs.entry
+        → (IsTrue result ↔ HasNoSurrogate units) }
 {
     class_bits(highs, 0xF8, 0xD8) == 0
 }

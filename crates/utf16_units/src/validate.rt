@@ -1,9 +1,9 @@
 //! Validation of UTF-16.
 
-ghost use Rattle.std.specs.Prelude.{◌≡◌, ◌↔◌, ◌+◌, ◌<◌, ◌≤◌, false, length, take, IsOk, IfOk, IfErr, IsTrue};
+ghost use Rattle.std.specs.Prelude.{◌≡◌, ◌↔◌, ◌+◌, ◌%◌, ◌<◌, ◌≤◌, false, length, take, IsOk, IfOk, IfErr, IsTrue};
 ghost use Rattle.utf16_units.specs.Encoding.{IsUtf16, units_of};
 ghost use Rattle.utf16_units.specs.IllFormed.{BeginsWithChar, IsIllFormedAt};
-ghost use Rattle.utf16_units.specs.Lanes.{HasNoSurrogate, PairedTo, PassedTo, BlocksStopAt};
+ghost use Rattle.utf16_units.specs.Lanes.{HasNoSurrogate, IsNoSurrogate, PairedTo, PassedTo, BlocksStopAt};
 ghost use Rattle.utf16_units.specs.Utf16Error.{IsErrorOf};
 
 use crate::lanes::{
@@ -22,38 +22,93 @@ use std::simd::prelude::*;
 /// # Complexity
 ///
 /// One pass.
+#[inline(always)]
 pub fn validate_raw_utf16<E: Utf16Order>(raw: &[u8]) -> Result<(), Utf16Error>
     ensures ok { IsOk result ↔ IsUtf16 E.BIG raw.now }
     ensures error { IfErr result (IsErrorOf E.BIG raw.now) }
 {
+    if is_short_plain::<E>(raw) {
+        return Ok(());
+    }
+    validate_any::<E>(raw)
+}
+
+// Does the same. A function of its own, so that short texts do not pay for its registers.
+#[inline(never)]
+fn validate_any<E: Utf16Order>(raw: &[u8]) -> Result<(), Utf16Error>
+    ensures ok { IsOk result ↔ IsUtf16 E.BIG raw.now }
+    ensures error { IfErr result (IsErrorOf E.BIG raw.now) }
+{
     if raw.len() < 32 {
-        if has_no_surrogate_short::<E>(raw) {
-            return Ok(());
-        }
         return validate_units::<E>(raw, 0);
     }
     validate_units::<E>(raw, passed_blocks::<E>(raw))
 }
 
-// Whether fewer than 32 bytes are whole code units of which none is a surrogate; `false` if they
-// are fewer than 8. It reads the first and the last bytes of a text, which overlap.
+/// Returns whether at most sixty-four bytes are whole code units of which none is a surrogate; no
+/// longer text is tested. It reads the first and the last bytes, which overlap.
+///
+/// # Complexity
+///
+/// Constant time.
+#[inline(always)]
+pub fn is_short_plain<E: Utf16Order>(raw: &[u8]) -> bool
+    ensures plain { IsTrue result ↔ ((length raw.now ≤ 64) × (length raw.now % 2 ≡ 0)
+        × HasNoSurrogate (units_of E.BIG raw.now)) }
+    ensures text { IsTrue result → IsUtf16 E.BIG raw.now }
+{
+    if raw.len() > 64 {
+        return false;
+    }
+    raw.len() % 2 == 0 && has_no_surrogate_short::<E>(raw)
+}
+
+// Whether none of at most thirty-two units is a surrogate.
 #[inline(always)]
 fn has_no_surrogate_short<E: Utf16Order>(raw: &[u8]) -> bool
-    requires { length raw.now < 32 }
-    ensures { IsTrue result → IsUtf16 E.BIG raw.now }
+    requires short { length raw.now ≤ 64 }
+    requires even { length raw.now % 2 ≡ 0 }
+    ensures { IsTrue result ↔ HasNoSurrogate (units_of E.BIG raw.now) }
 {
     let len = raw.len();
-    if len % 2 != 0 {
-        false
-    } else if len >= 16 {
-        has_no_surrogate(high_bytes8::<E>(u8x16::from_slice(raw)))
-            && has_no_surrogate(high_bytes8::<E>(u8x16::from_slice(&raw[len - 16..])))
-    } else if len >= 8 {
+    if len < 8 {
+        has_no_surrogate_few::<E>(raw)
+    } else if len < 16 {
         has_no_surrogate(high_bytes4::<E>(u8x8::from_slice(raw)))
             && has_no_surrogate(high_bytes4::<E>(u8x8::from_slice(&raw[len - 8..])))
+    } else if len < 32 {
+        has_no_surrogate(high_bytes8::<E>(u8x16::from_slice(raw)))
+            && has_no_surrogate(high_bytes8::<E>(u8x16::from_slice(&raw[len - 16..])))
     } else {
-        false
+        has_no_surrogate(high_bytes16::<E>(u8x32::from_slice(raw)))
+            && has_no_surrogate(high_bytes16::<E>(u8x32::from_slice(&raw[len - 32..])))
     }
+}
+
+// The same of at most three units: the first, the last, and one between them.
+#[inline(always)]
+fn has_no_surrogate_few<E: Utf16Order>(raw: &[u8]) -> bool
+    requires short { length raw.now < 8 }
+    requires even { length raw.now % 2 ≡ 0 }
+    ensures { IsTrue result ↔ HasNoSurrogate (units_of E.BIG raw.now) }
+{
+    let len = raw.len();
+    if len == 0 {
+        return true;
+    }
+    let middle = len / 4 * 2;
+    let first = is_no_surrogate(E::read_unit([raw[0], raw[1]]));
+    let second = is_no_surrogate(E::read_unit([raw[middle], raw[middle + 1]]));
+    let last = is_no_surrogate(E::read_unit([raw[len - 2], raw[len - 1]]));
+    first & second & last
+}
+
+// Whether a unit is no surrogate: the surrogates are the units from 0xD800 to 0xDFFF.
+#[inline(always)]
+fn is_no_surrogate(unit: u16) -> bool
+    ensures { IsTrue result ↔ IsNoSurrogate unit }
+{
+    unit / 0x800 != 0x1B
 }
 
 // The length of a well-formed prefix, as far as whole blocks reach.

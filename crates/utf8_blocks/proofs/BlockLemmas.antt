@@ -1,9 +1,8 @@
 -- The next sixty-four bytes, as four blocks of sixteen.
-use Rattle.std.proofs.Common.{◌≡◌, ℕ, zero, suc, ◌+◌, ◌-◌, ◌<◌, ◌≤◌, ⊎_elim, Bool, List, [], ◌∷◌, ◌++◌, length, length-take-le, length-drop, drop-cons, drop-drop, take, drop, slice_index, refl, sym, ap, ap₂, ◌∙◌, append-nil, arith}
+use Rattle.std.proofs.Common.{◌≡◌, ℕ, zero, suc, ◌+◌, ◌-◌, ◌<◌, ◌≤◌, ⊎_elim, Bool, List, [], ◌∷◌, ◌++◌, length, length-take-le, length-drop, drop-cons, drop-drop, take, drop, slice_index, refl, sym, ap, ◌∙◌, append-nil, arith}
 use Rattle.std.proofs.Math.Seq.{take-add}
 use Rattle.std.proofs.lemmas.Bool.{cases_lt}
 use Rattle.std.proofs.lemmas.List.{get_or-drop, get_or-take}
-use Rattle.std.proofs.lemmas.Simd.{length-chunk}
 use Rattle.std.specs.Simd.Lanes.{chunk}
 use Rattle.std.specs.Str.{IsUtf8}
 use Rattle.utf16_from_utf8.specs.Added.{added_bytes}
@@ -99,7 +98,7 @@ front-utf8 bytes at n more some follow last =
 pub uses-all : (big : Bool) (bytes : List ℕ) (at : ℕ) → at + 64 ≤ length bytes → FollowTo 64 bytes at → slice_index bytes (at + 63) < 0xC0 → Uses big bytes at 64
 uses-all big bytes at more follow last =
     let utf8 = front-utf8 bytes at 64 more (omega arith) follow (omega (arith, last, ap (slice_index bytes) same)) in
-    record { well_formed = utf8; adds = refl; }
+    record { well_formed = utf8; adds = refl }
   where
     same : at + 64 - 1 ≡ at + 63
     same = omega arith
@@ -107,7 +106,7 @@ uses-all big bytes at more follow last =
 pub uses-but-one : (big : Bool) (bytes : List ℕ) (at : ℕ) → at + 64 ≤ length bytes → FollowTo 64 bytes at → 0xC0 ≤ slice_index bytes (at + 63) → Uses big bytes at 63
 uses-but-one big bytes at more follow first =
     let utf8 = front-utf8 bytes at 63 (omega (arith, more)) (omega arith) (λ i b. follow i (omega (arith, b))) before in
-    record { well_formed = utf8; adds = whole; }
+    record { well_formed = utf8; adds = whole }
   where
     rest : List ℕ
     rest = drop at bytes

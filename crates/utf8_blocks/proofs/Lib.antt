@@ -1,4 +1,5 @@
 pub mod BlockLemmas
+pub mod FewLemmas
 pub mod NarrowLemmas
 pub mod ThreesLemmas
 pub mod WrittenLemmas

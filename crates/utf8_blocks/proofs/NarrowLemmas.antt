@@ -1,5 +1,5 @@
 -- Characters of one and of two bytes, by each byte and the one before it.
-use Rattle.std.proofs.Common.{◌≡◌, ℕ, zero, suc, ◌+◌, ◌-◌, ◌*◌, ◌/◌, ◌%◌, ◌^◌, ◌<◌, ◌≤◌, ◌==◌, ◌⊎◌, ⊎_elim, inl, inr, Bool, cond, ltb, List, [], ◌∷◌, ◌++◌, length, slice_index, bit_and, subst, sym, refl, ap, ap₂, ◌∙◌, arith, lt-ltb, le-ltb}
+use Rattle.std.proofs.Common.{◌≡◌, ℕ, suc, ◌+◌, ◌-◌, ◌*◌, ◌/◌, ◌%◌, ◌^◌, ◌<◌, ◌≤◌, ◌==◌, ◌⊎◌, ⊎_elim, inl, inr, Bool, cond, ltb, List, [], ◌∷◌, ◌++◌, length, slice_index, bit_and, subst, sym, refl, ap, ap₂, ◌∙◌, arith, lt-ltb, le-ltb}
 use Rattle.std.proofs.lemmas.Bool.{cases_lt}
 use Rattle.std.proofs.lemmas.Nat.{and_mask}
 use Rattle.std.proofs.lemmas.Str.{IsUtf8-append, IsUtf8-encode, IsUtf8-nil}
@@ -38,12 +38,12 @@ unit-lanes b2 b1 b0 follows low = ⊎_elim
     let none : b1 < 0xC0 = ⊎_elim (λ (b : b1 < 0xC0). b) (λ (b : 0xC0 ≤ b1). absurd (omega (arith, a, (follows.continues.0 b).0))) (cases_lt b1 0xC0) in
     let unit = unit-one b2 b1 b0 a in
     let bits = lead-bits-none b1 none in
-    record { is_high = omega (arith, unit, bits, a); is_low = omega (arith, unit, bits, a, last); })
+    record { is_high = omega (arith, unit, bits, a); is_low = omega (arith, unit, bits, a, last) })
     (λ (a : 0x80 ≤ b0).
     let lead : 0xC0 ≤ b1 = follows.continues.1 (a, low) in
     let unit = unit-two b2 b1 b0 a lead in
     let bits = lead-bits-are b1 lead follows.before in
-    record { is_high = omega (arith, unit, bits, lead, follows.before); is_low = omega (arith, unit, bits, lead, follows.before, a, low, last); })
+    record { is_high = omega (arith, unit, bits, lead, follows.before); is_low = omega (arith, unit, bits, lead, follows.before, a, low, last) })
     (cases_lt b0 0x80)
   where
     last : bit_and b0 0x7F ≡ b0 % 128

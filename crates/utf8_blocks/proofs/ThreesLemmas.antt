@@ -1,5 +1,5 @@
 -- Characters of three bytes, by the upper bits of their bytes and the high bytes of their units.
-use Rattle.std.proofs.Common.{◌≡◌, ℕ, suc, ◌+◌, ◌*◌, ◌/◌, ◌%◌, ◌<◌, ◌≤◌, ◌⊎◌, ⊎_elim, List, [], ◌∷◌, ◌++◌, length, slice_index, bit_and, subst, sym, refl, ap, ap₂, ◌∙◌, arith}
+use Rattle.std.proofs.Common.{◌≡◌, ℕ, suc, ◌+◌, ◌*◌, ◌/◌, ◌%◌, ◌<◌, ◌≤◌, ◌⊎◌, ⊎_elim, List, [], ◌∷◌, length, slice_index, bit_and, subst, ap₂, ◌∙◌, arith}
 use Rattle.std.proofs.lemmas.Nat.Bits.{and_high}
 use Rattle.std.proofs.lemmas.Str.{IsUtf8-append, IsUtf8-encode, IsUtf8-nil}
 use Rattle.std.specs.Char.{IsScalar}
@@ -26,9 +26,9 @@ three-utf8 x y z p q r is high =
     let least : 0x800 ≤ c = omega (arith, upper, high.0) in
     let most : c < 0x1_0000 = omega arith in
     let scalar : IsScalar c = ⊎_elim
-        (λ (low : three_high x y < 0xD8). low_scalar c (omega (arith, upper, low)))
-        (λ (above : 0xE0 ≤ three_high x y). high_scalar c (omega (arith, upper, above)) (omega (arith, most)))
-        high.1 in
+    (λ (low : three_high x y < 0xD8). low_scalar c (omega (arith, upper, low)))
+    (λ (above : 0xE0 ≤ three_high x y). high_scalar c (omega (arith, upper, above)) (omega (arith, most)))
+    high.1 in
     let a : 224 + c / 4096 ≡ x = omega (arith, is.first, first, p) in
     let b : 128 + c / 64 % 64 ≡ y = omega (arith, is.second, second, q) in
     let d : 128 + c % 64 ≡ z = omega (arith, is.third, third, r) in

@@ -15,8 +15,8 @@ use utf16_from_utf8::pack::put_kept;
 use utf16_from_utf8::units::are_below;
 use utf16_units::Utf16Order;
 
-// Writes the next sixty-four bytes, but not the last one if it begins a character. Writes nothing if
-// they are ill formed.
+// Writes the next sixty-four bytes, but not the last one if it begins a character. Writes nothing
+// if they are ill formed.
 #[inline(always)]
 pub(crate) fn put_narrow<E: Utf16Order>(
     bytes: &[u8],

@@ -13,9 +13,9 @@ use utf16_units::Utf16Order;
 const BLOCK_LEN: usize = 64;
 
 /// Writes the blocks at the start of the bytes in UTF-16 to the start of `out`, and validates them
-/// while it writes them: blocks of ASCII, of characters of at most two bytes, of characters of three.
-/// Returns the number of bytes read, which are well formed, and the number of bytes written. The
-/// bytes after those written may be overwritten.
+/// while it writes them: blocks of ASCII, of characters of at most two bytes, of characters of
+/// three. Returns the number of bytes read, which are well formed, and the number of bytes written.
+/// The bytes after those written may be overwritten.
 ///
 /// It stops before the first other block, and may leave fewer than sixty-four bytes at the end.
 ///

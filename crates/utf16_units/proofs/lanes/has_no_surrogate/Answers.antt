@@ -1,7 +1,10 @@
-use Rattle.std.proofs.Common.{sym, ◌∙◌}
+use Rattle.std.proofs.Common.{nat_eq, sym, ap, ◌∙◌}
 use Rattle.std.proofs.lemmas.Bool.{eqb-true}
-use Rattle.utf16_units.proofs.LaneLemmas.{no_surrogate_by_bits}
+use Rattle.utf16_units.proofs.LaneLemmas.{bits_of_no_surrogate, no_surrogate_by_bits}
 use Rattle.utf16_units.proofs.lanes.has_no_surrogate.Goals as goal
 
 pub returns : goal.returns
-returns g c pass units e = no_surrogate_by_bits units c.args.highs e (sym c.class_bits.ensures ∙ eqb-true _ _ pass)
+returns g c units e = (
+  (λ pass. no_surrogate_by_bits units c.args.highs e (sym c.class_bits.ensures ∙ eqb-true _ _ pass)),
+  (λ plain. ap (λ bits. nat_eq bits 0) (c.class_bits.ensures ∙ bits_of_no_surrogate units c.args.highs e c.fits-highs.1 plain)),
+)

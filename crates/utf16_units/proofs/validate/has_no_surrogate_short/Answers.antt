@@ -1,15 +1,42 @@
-use Rattle.std.proofs.Common.{arith, refl, sym, rules}
+use Rattle.std.proofs.Common.{sym, refl, ◌∙◌, arith, true≢false}
 use Rattle.utf16_units.proofs.PlainLemmas.{no_surrogate-ends}
 use Rattle.utf16_units.proofs.validate.has_no_surrogate_short.Goals as goal
 
 pub returns-then-has_no_surrogate : goal.returns-then-has_no_surrogate
-returns-then-has_no_surrogate g c pass =
-    no_surrogate-ends g.E.Utf16Order.BIG c.args.raw.now c.type_inv.raw 16 (search rules) refl (omega arith) (omega arith)
-    (c.has_no_surrogate.ensures (search rules) _ (sym c.high_bytes8.ensures))
-    (c.has_no_surrogate-then-has_no_surrogate.ensures pass _ (sym c.high_bytes8-then-has_no_surrogate.ensures))
+returns-then-has_no_surrogate g c =
+    let ends = no_surrogate-ends g.E.Utf16Order.BIG c.args.raw.now 8 c.requires.even refl (omega (arith, c.if-len-lt8.false)) (omega (arith, c.if-len-lt16.true)) in
+    let first = c.has_no_surrogate.ensures _ (sym c.high_bytes4.ensures) in
+    let last = c.has_no_surrogate-then-has_no_surrogate.ensures _ (sym c.high_bytes4-then-has_no_surrogate.ensures) in
+    ((λ pass. ends.0 (first.0 c.if-has_no_surrogate.true, last.0 pass)), (λ all. last.1 (ends.1 all).1))
+
+pub returns-else-has_no_surrogate : goal.returns-else-has_no_surrogate
+returns-else-has_no_surrogate g c =
+    let ends = no_surrogate-ends g.E.Utf16Order.BIG c.args.raw.now 8 c.requires.even refl (omega (arith, c.if-len-lt8.false)) (omega (arith, c.if-len-lt16.true)) in
+    let first = c.has_no_surrogate.ensures _ (sym c.high_bytes4.ensures) in
+    ((λ pass. absurd (true≢false (sym pass ∙ c.if-has_no_surrogate.false))), (λ all. first.1 (ends.1 all).0))
 
 pub returns-then-has_no_surrogate-2 : goal.returns-then-has_no_surrogate-2
-returns-then-has_no_surrogate-2 g c pass =
-    no_surrogate-ends g.E.Utf16Order.BIG c.args.raw.now c.type_inv.raw 8 (search rules) refl (omega arith) (omega arith)
-    (c.has_no_surrogate-then-len-ge8.ensures (search rules) _ (sym c.high_bytes4.ensures))
-    (c.has_no_surrogate-then-has_no_surrogate-2.ensures pass _ (sym c.high_bytes4-then-has_no_surrogate-2.ensures))
+returns-then-has_no_surrogate-2 g c =
+    let ends = no_surrogate-ends g.E.Utf16Order.BIG c.args.raw.now 16 c.requires.even refl (omega (arith, c.if-len-lt16.false)) (omega (arith, c.if-len-lt32.true)) in
+    let first = c.has_no_surrogate-then-len-lt32.ensures _ (sym c.high_bytes8.ensures) in
+    let last = c.has_no_surrogate-then-has_no_surrogate-2.ensures _ (sym c.high_bytes8-then-has_no_surrogate-2.ensures) in
+    ((λ pass. ends.0 (first.0 c.if-has_no_surrogate-2.true, last.0 pass)), (λ all. last.1 (ends.1 all).1))
+
+pub returns-else-has_no_surrogate-2 : goal.returns-else-has_no_surrogate-2
+returns-else-has_no_surrogate-2 g c =
+    let ends = no_surrogate-ends g.E.Utf16Order.BIG c.args.raw.now 16 c.requires.even refl (omega (arith, c.if-len-lt16.false)) (omega (arith, c.if-len-lt32.true)) in
+    let first = c.has_no_surrogate-then-len-lt32.ensures _ (sym c.high_bytes8.ensures) in
+    ((λ pass. absurd (true≢false (sym pass ∙ c.if-has_no_surrogate-2.false))), (λ all. first.1 (ends.1 all).0))
+
+pub returns-then-has_no_surrogate-3 : goal.returns-then-has_no_surrogate-3
+returns-then-has_no_surrogate-3 g c =
+    let ends = no_surrogate-ends g.E.Utf16Order.BIG c.args.raw.now 32 c.requires.even refl (omega (arith, c.if-len-lt32.false)) (omega (arith, c.requires.short)) in
+    let first = c.has_no_surrogate-else-len-lt32.ensures _ (sym c.high_bytes16.ensures) in
+    let last = c.has_no_surrogate-then-has_no_surrogate-3.ensures _ (sym c.high_bytes16-then-has_no_surrogate-3.ensures) in
+    ((λ pass. ends.0 (first.0 c.if-has_no_surrogate-3.true, last.0 pass)), (λ all. last.1 (ends.1 all).1))
+
+pub returns-else-has_no_surrogate-3 : goal.returns-else-has_no_surrogate-3
+returns-else-has_no_surrogate-3 g c =
+    let ends = no_surrogate-ends g.E.Utf16Order.BIG c.args.raw.now 32 c.requires.even refl (omega (arith, c.if-len-lt32.false)) (omega (arith, c.requires.short)) in
+    let first = c.has_no_surrogate-else-len-lt32.ensures _ (sym c.high_bytes16.ensures) in
+    ((λ pass. absurd (true≢false (sym pass ∙ c.if-has_no_surrogate-3.false))), (λ all. first.1 (ends.1 all).0))

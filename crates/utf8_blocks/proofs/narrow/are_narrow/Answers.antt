@@ -1,4 +1,4 @@
-use Rattle.std.proofs.Common.{◌+◌, ◌-◌, ◌∷◌, [], slice_index, sym, ◌∙◌, ap, refl, arith}
+use Rattle.std.proofs.Common.{◌+◌, ◌-◌, sym, ◌∙◌, refl, arith}
 use Rattle.std.proofs.lemmas.Simd.{get_or-chunk}
 use Rattle.utf16_from_utf8.proofs.LaneLemmas.{greatest-below}
 use Rattle.utf8_blocks.proofs.BlockLemmas.{first-before, follow-more, further-below, lane-below}

@@ -1,4 +1,4 @@
-use Rattle.std.proofs.Common.{◌<◌, slice_index, subst, sym, ◌∙◌, arith, Fits, w8}
+use Rattle.std.proofs.Common.{subst, sym, ◌∙◌, arith, Fits, w8}
 use Rattle.std.proofs.lemmas.Simd.{Each1-get_or}
 use Rattle.utf8_blocks.proofs.ThreesLemmas.{IsHigh, woven-utf8}
 use Rattle.utf8_blocks.proofs.threes.are_characters.Goals as goal
