@@ -1,9 +1,11 @@
 #!/usr/bin/env bash
 # Installs the Debian packages that the parts after this one need and that are not there, where this
 # runs as root. A package that is not there in the end is a failure, with a line that says what to
-# install. The last line is 'N passed, M failed'.
+# install, but for those that are optional. The last line is 'N passed, M failed'.
 set -uo pipefail
-packages=(pkg-config librust-byteorder-dev libicu-dev python3-distributed)
+packages=(pkg-config librust-byteorder-dev libicu-dev)
+# What a part is left out without, which then says so.
+optional=(python3-distributed)
 passed=0
 failed=0
 
@@ -20,6 +22,12 @@ if [ ${#missing[@]} != 0 ] && [ $EUID = 0 ]; then
         { apt-get update -q && apt-get install -y -q --no-install-recommends "${missing[@]}"; } \
             > /dev/null 2>&1 < /dev/null
 fi
+for package in "${optional[@]}"; do
+    is_installed "$package" || [ $EUID != 0 ] ||
+        timeout 180 apt-get install -y -q --no-install-recommends "$package" \
+            > /dev/null 2>&1 < /dev/null
+    is_installed "$package" || echo "there is no $package: its part is left out"
+done
 for package in "${packages[@]}"; do
     if is_installed "$package"; then
         passed=$((passed + 1))
