@@ -243,6 +243,14 @@ fn usual_char(rest: &[u8]) -> Option<(char, usize)>
     if lead < 0x80 {
         return Some((lead as char, 1));
     }
+    // Most characters of three bytes, by the fewest tests.
+    if rest.len() >= 3
+        && (0xE1..=0xEC).contains(&lead)
+        && is_continuation(rest[1])
+        && is_continuation(rest[2])
+    {
+        return Some((char_of_three(lead, rest[1], rest[2]), 3));
+    }
     if rest.len() < 2 || !can_begin(lead, rest[1]) {
         return None;
     }
