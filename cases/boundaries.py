@@ -10,6 +10,10 @@ CHARACTERS = [0x7F, 0x80, 0x7FF, 0x800, 0xE000, 0xFFFF, 0x10000, 0x10FFFF]
 PLACES = [*range(18), *range(30, 35), *range(62, 67)]
 # A character of each length in UTF-8, and the first or last ones of each.
 MIXED = "a\xe9\u4e00\u4e00\x7f\U0001f600\U0010ffff\uffff\u07ff\ud7ff\ue000"
+# Ill-formed sequences of UTF-8, some with a character behind them, for runs of characters of two bytes
+# and of three; and how many come before: by which byte of a block of 64, and of 48, they begin.
+ILL_FORMED_UTF8 = ["80", "C0AF", "C1BF", "C341", "E09FBF", "E282C3A9", "EDA080", "EDBFBF", "E4B841", "F08FBFBF", "F5808080"]
+RUNS = {"\xe9": [0, 1, 7, 8, 15, 16, 30, 31, 32, 33, 64], "\u4e00": [0, 1, 5, 15, 16, 17, 20, 21, 31, 32, 48]}
 # Two units among letters, and what is written for them where they are made well formed.
 WELL_FORMED = {
     "D83DDE00": "D83DDE00",
@@ -83,6 +87,24 @@ def taken(name, units, before, after, odd):
     line(name, "WStr::from_utf16", ["+".join(ones)], *answer)
 
 
+def ill_formed_utf8(name, run, before, ill, after):
+    """By the codec's error, and its replacement of what is ill formed."""
+    raw = run.encode() * before + bytes.fromhex(ill) + run.encode() * after
+    front = [f"{before}*{run.encode().hex().upper()}"] * (before > 0)
+    back = [f"{after}*{run.encode().hex().upper()}"] * (after > 0)
+    given = "+".join([*front, f"1*{ill}", *back])
+    try:
+        codecs.utf_8_decode(raw, "strict", True)
+        sys.exit(f"{given} is well formed")
+    except UnicodeDecodeError as error:
+        is_cut = error.reason == "unexpected end of data"
+        why = ["incomplete"] if is_cut else ["ill_formed", error.end - error.start]
+        text = raw[: error.start].decode()
+        line(name, "from_utf8", [given, "size"], error.start, 2 * len(text), *why, utf16((before, run), (1, text[before:])))
+    shown = raw.decode("utf-8", "replace")
+    line(name, "from_utf8_lossy", [given, "size"], len(raw), 2 * len(shown), "end", utf16((before, run), (1, shown[before : len(shown) - after]), (after, run)))
+
+
 def well_formed(name, units, before, after):
     front, back = f"{before}*^0061+" if before else "", f"+{after}*^0061" if after else ""
     size = 2 * before + 4 + 2 * after
@@ -117,6 +139,11 @@ def main():
             taken("taken", units, before, 0, 0)
             taken("taken", units, before, 35, 0)
             taken("taken.odd", units, before, 2, 1)
+    for run, places in RUNS.items():
+        for before in places:
+            for ill in ILL_FORMED_UTF8:
+                ill_formed_utf8("ill_formed", run, before, ill, 40)
+            ill_formed_utf8("ill_formed", run, before, run.encode().hex().upper()[:-2], 0)
     for units in WELL_FORMED:
         for before in PLACES:
             well_formed("well_formed", units, before, 1)
