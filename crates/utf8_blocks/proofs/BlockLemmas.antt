@@ -19,7 +19,7 @@ use Rattle.utf8_blocks.proofs.WrittenLemmas.{more-written}
 abbrev pub FollowTo : ℕ → List ℕ → ℕ → Type 0
 FollowTo n bytes at = (i : ℕ) → i < n → Follows (slice_index (0 ∷ drop at bytes) i) (slice_index bytes (at + i))
 
-before-at : (bytes : List ℕ) (at i : ℕ) → 1 ≤ i → slice_index (0 ∷ drop at bytes) i ≡ slice_index bytes (at + i - 1)
+pub before-at : (bytes : List ℕ) (at i : ℕ) → 1 ≤ i → slice_index (0 ∷ drop at bytes) i ≡ slice_index bytes (at + i - 1)
 before-at bytes at zero some = absurd (omega arith)
 before-at bytes at (suc i) some = get_or-drop at bytes i 0 ∙ ap (slice_index bytes) (omega arith)
 

@@ -96,10 +96,10 @@ narrow-kept big b2 b1 (b0 ∷ block) (h ∷ highs) (l ∷ lows) bits are =
 
 -- ---- what they are
 
-one-utf8 : (x : ℕ) → x < 0x80 → IsUtf8 (x ∷ [])
+pub one-utf8 : (x : ℕ) → x < 0x80 → IsUtf8 (x ∷ [])
 one-utf8 x a = subst IsUtf8 (one_byte x a) (IsUtf8-encode x (low_scalar x (omega (arith, a))))
 
-two-utf8 : (x y : ℕ) → 0xC2 ≤ x → x < 0xE0 → 0x80 ≤ y → y < 0xC0 → IsUtf8 (x ∷ y ∷ [])
+pub two-utf8 : (x y : ℕ) → 0xC2 ≤ x → x < 0xE0 → 0x80 ≤ y → y < 0xC0 → IsUtf8 (x ∷ y ∷ [])
 two-utf8 x y a b c d =
     let char = (x - 0xC0) * 64 + (y - 0x80) in
     let bytes : encode char ≡ x ∷ y ∷ [] =

@@ -4,6 +4,7 @@
 mod few;
 mod narrow;
 mod threes;
+mod wide;
 mod write;
 
 pub use crate::few::write_few_ascii;

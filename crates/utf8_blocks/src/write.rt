@@ -5,6 +5,7 @@ ghost use Rattle.utf8_blocks.specs.Written.{IsWritten};
 
 use crate::narrow::put_narrow;
 use crate::threes::put_threes;
+use crate::wide::put_wide;
 use utf16_from_utf8::units::{are_below, greatest};
 use utf16_from_utf8::write_ascii;
 use utf16_units::Utf16Order;
@@ -13,9 +14,9 @@ use utf16_units::Utf16Order;
 const BLOCK_LEN: usize = 64;
 
 /// Writes the blocks at the start of the bytes in UTF-16 to the start of `out`, and validates them
-/// while it writes them: blocks of ASCII, of characters of at most two bytes, of characters of
-/// three. Returns the number of bytes read, which are well formed, and the number of bytes written.
-/// The bytes after those written may be overwritten.
+/// while it writes them: those of characters of at most three bytes. Returns the number of bytes
+/// read, which are well formed, and the number of bytes written. The bytes after those written may
+/// be overwritten.
 ///
 /// It stops before the first other block, and may leave fewer than sixty-four bytes at the end.
 ///
@@ -81,7 +82,11 @@ fn put_next<E: Utf16Order>(
     if are_below(greatest, 0xE0) {
         return put_narrow::<E>(bytes, out, read, written);
     }
-    put_threes::<E>(bytes, out, read, written)
+    let (next, end) = put_threes::<E>(bytes, out, read, written);
+    if next == read && are_below(greatest, 0xF0) {
+        return put_wide::<E>(bytes, out, read, written);
+    }
+    (next, end)
 }
 
 // Writes the next blocks of ASCII.
