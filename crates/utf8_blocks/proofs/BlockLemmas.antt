@@ -1,5 +1,5 @@
 -- The next sixty-four bytes, as four blocks of sixteen.
-use Rattle.std.proofs.Common.{◌≡◌, ℕ, zero, suc, ◌+◌, ◌-◌, ◌<◌, ◌≤◌, ⊎_elim, Bool, List, [], ◌∷◌, ◌++◌, length, length-take-le, length-drop, drop-cons, drop-drop, take, drop, slice_index, refl, sym, ap, ◌∙◌, append-nil, arith}
+use Rattle.std.proofs.Common.{◌≡◌, ℕ, zero, suc, ◌+◌, ◌-◌, ◌<◌, ◌≤◌, ⊎_elim, Bool, List, ◌∷◌, ◌++◌, length, length-take-le, length-drop, drop-drop, take, drop, slice_index, refl, sym, ap, ◌∙◌, arith}
 use Rattle.std.proofs.Math.Seq.{take-add}
 use Rattle.std.proofs.lemmas.Bool.{cases_lt}
 use Rattle.std.proofs.lemmas.List.{get_or-drop, get_or-take}
@@ -8,11 +8,10 @@ use Rattle.std.specs.Str.{IsUtf8}
 use Rattle.utf16_from_utf8.specs.Added.{added_bytes}
 use Rattle.utf16_from_utf8.proofs.AddedLemmas.{added_bytes-append, last_but_one, last_of, last_of-get}
 use Rattle.utf16_from_utf8.proofs.AppendLemmas.{added_bytes-text}
-use Rattle.utf16_from_utf8.proofs.BlockLemmas.{added_bytes-one, byte-adds-first}
 use Rattle.utf16_from_utf8.proofs.RunLemmas.{added-bound}
 use Rattle.utf8_blocks.specs.Narrow.{Follows}
 use Rattle.utf8_blocks.specs.Written.{IsWritten}
-use Rattle.utf8_blocks.proofs.NarrowLemmas.{follows-at, narrow-utf8}
+use Rattle.utf8_blocks.proofs.NarrowLemmas.{follows-at}
 use Rattle.utf8_blocks.proofs.WrittenLemmas.{more-written}
 
 -- each of the next n bytes may follow the one before it; none is before the first
@@ -75,72 +74,6 @@ added-more big bytes at (suc k) some more =
 pub record Uses (big : Bool) (bytes : List ℕ) (at used : ℕ) : Type 0 where
   pub well_formed : IsUtf8 (take used (drop at bytes))
   pub adds : added_bytes big 0 0 (take 64 (drop at bytes)) ≡ added_bytes big 0 0 (take used (drop at bytes))
-
--- the first n of them, if the last of those begins no character
-front-utf8 : (bytes : List ℕ) (at n : ℕ) → at + n ≤ length bytes → 1 ≤ n → FollowTo n bytes at → slice_index bytes (at + n - 1) < 0xC0 → IsUtf8 (take n (drop at bytes))
-front-utf8 bytes at n more some follow last =
-    let front = take n (drop at bytes) in
-    let long : length front ≡ n = length-take-le n (drop at bytes) (omega (arith, more, length-drop at bytes)) in
-    narrow-utf8 0 front (omega arith)
-    (λ i b. follows-at (slice_index (0 ∷ drop at bytes) i) (slice_index bytes (at + i)) _ _ (before i (omega (arith, b, long))) (here i (omega (arith, b, long))) (follow i (omega (arith, b, long))))
-    (λ i e. omega (arith, last, here i (omega (arith, e, long)), ap (slice_index bytes) (end i (omega (arith, e, long)))))
-  where
-    here : (i : ℕ) → i < n → slice_index (take n (drop at bytes)) i ≡ slice_index bytes (at + i)
-    here i b = get_or-take n (drop at bytes) i 0 b ∙ get_or-drop at bytes i 0
-
-    before : (i : ℕ) → i < n → slice_index (0 ∷ take n (drop at bytes)) i ≡ slice_index (0 ∷ drop at bytes) i
-    before zero b = refl
-    before (suc i) b = get_or-take n (drop at bytes) i 0 (omega (arith, b))
-
-    end : (i : ℕ) → suc i ≡ n → at + n - 1 ≡ at + i
-    end i e = omega (arith, e)
-
-pub uses-all : (big : Bool) (bytes : List ℕ) (at : ℕ) → at + 64 ≤ length bytes → FollowTo 64 bytes at → slice_index bytes (at + 63) < 0xC0 → Uses big bytes at 64
-uses-all big bytes at more follow last =
-    let utf8 = front-utf8 bytes at 64 more (omega arith) follow (omega (arith, last, ap (slice_index bytes) same)) in
-    record { well_formed = utf8; adds = refl }
-  where
-    same : at + 64 - 1 ≡ at + 63
-    same = omega arith
-
-pub uses-but-one : (big : Bool) (bytes : List ℕ) (at : ℕ) → at + 64 ≤ length bytes → FollowTo 64 bytes at → 0xC0 ≤ slice_index bytes (at + 63) → Uses big bytes at 63
-uses-but-one big bytes at more follow first =
-    let utf8 = front-utf8 bytes at 63 (omega (arith, more)) (omega arith) (λ i b. follow i (omega (arith, b))) before in
-    record { well_formed = utf8; adds = whole }
-  where
-    rest : List ℕ
-    rest = drop at bytes
-
-    front : List ℕ
-    front = take 63 rest
-
-    -- the last byte is no continuation byte, so the one before it begins none of two
-    before : slice_index bytes (at + 63 - 1) < 0xC0
-    before =
-        let next = follow-next bytes at 48 15 (omega arith) (omega arith) follow (omega arith) in
-        ⊎_elim
-        (λ (a : slice_index bytes (at + 63 - 1) < 0xC0). a)
-        (λ (a : 0xC0 ≤ slice_index bytes (at + 63 - 1)).
-        absurd (omega (arith, first, (next.continues.0 (omega (arith, a, ap (slice_index bytes) one))).1, ap (slice_index bytes) two)))
-        (cases_lt (slice_index bytes (at + 63 - 1)) 0xC0)
-      where
-        one : at + 63 - 1 ≡ at + 48 - 1 + 15
-        one = omega arith
-
-        two : at + 48 + 15 ≡ at + 63
-        two = omega arith
-
-    single : take 1 (drop 63 rest) ≡ slice_index bytes (at + 63) ∷ []
-    single = ap (take 1) (drop-cons rest 63 0 (omega (arith, more, length-drop at bytes))) ∙ ap (λ b. b ∷ []) (get_or-drop at bytes 63 0)
-
-    whole : added_bytes big 0 0 (take 64 rest) ≡ added_bytes big 0 0 front
-    whole =
-        let last = slice_index bytes (at + 63) in
-        let end : take 1 (drop 63 rest) ≡ last ∷ [] = single in
-        ap (added_bytes big 0 0) (take-add 63 1 rest ∙ ap (λ t. front ++ t) end)
-        ∙ added_bytes-append big 0 0 front (last ∷ [])
-        ∙ ap (λ t. added_bytes big 0 0 front ++ t) (added_bytes-one big _ _ last ∙ byte-adds-first big _ _ last first)
-        ∙ append-nil (added_bytes big 0 0 front)
 
 -- written behind what was written
 pub uses-written : (big : Bool) (bytes old new : List ℕ) (at written used to : ℕ) → used ≤ 64 → at + 64 ≤ length bytes → Uses big bytes at used → IsWritten big bytes old at written

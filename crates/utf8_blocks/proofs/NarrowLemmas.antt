@@ -1,8 +1,8 @@
 -- Characters of one and of two bytes, by each byte and the one before it.
-use Rattle.std.proofs.Common.{◌≡◌, ℕ, suc, ◌+◌, ◌-◌, ◌*◌, ◌/◌, ◌%◌, ◌^◌, ◌<◌, ◌≤◌, ◌==◌, ◌⊎◌, ⊎_elim, inl, inr, Bool, cond, ltb, List, [], ◌∷◌, ◌++◌, length, slice_index, bit_and, subst, sym, refl, ap, ap₂, ◌∙◌, arith, lt-ltb, le-ltb}
+use Rattle.std.proofs.Common.{◌≡◌, ℕ, suc, ◌+◌, ◌-◌, ◌*◌, ◌/◌, ◌%◌, ◌^◌, ◌<◌, ◌≤◌, ◌==◌, ⊎_elim, Bool, cond, ltb, List, [], ◌∷◌, ◌++◌, length, slice_index, bit_and, subst, sym, refl, ap, ap₂, ◌∙◌, arith, lt-ltb, le-ltb}
 use Rattle.std.proofs.lemmas.Bool.{cases_lt}
 use Rattle.std.proofs.lemmas.Nat.{and_mask}
-use Rattle.std.proofs.lemmas.Str.{IsUtf8-append, IsUtf8-encode, IsUtf8-nil}
+use Rattle.std.proofs.lemmas.Str.{IsUtf8-encode}
 use Rattle.std.proofs.Math.Nat.{div-div-eq-div-mul}
 use Rattle.std.specs.Str.{IsUtf8}
 use lib.Utf8.{encode, low_scalar}
@@ -105,30 +105,3 @@ two-utf8 x y a b c d =
     let bytes : encode char ≡ x ∷ y ∷ [] =
     two_bytes char (omega (arith, a)) (omega (arith, b, d)) ∙ ap₂ (λ s t. s ∷ t ∷ []) (omega (arith, a, b, c, d)) (omega (arith, a, c, d)) in
     subst IsUtf8 bytes (IsUtf8-encode char (low_scalar char (omega (arith, b, d))))
-
--- behind a byte that begins none of two, the next one is ASCII or begins a character
-begins : (b1 x : ℕ) → b1 < 0xC0 → Follows b1 x → (x < 0x80) ⊎ (0xC2 ≤ x)
-begins b1 x none follows = ⊎_elim
-    (λ (a : x < 0x80). inl a)
-    (λ (a : 0x80 ≤ x). ⊎_elim
-    (λ (b : x < 0xC0). absurd (omega (arith, none, follows.continues.1 (a, b))))
-    (λ (b : 0xC2 ≤ x). inr b)
-    follows.shortest)
-    (cases_lt x 0x80)
-
-pub narrow-utf8 : (b1 : ℕ) (bytes : List ℕ) → b1 < 0xC0 → ((i : ℕ) → i < length bytes → Follows (slice_index (b1 ∷ bytes) i) (slice_index bytes i))
-    → ((i : ℕ) → suc i ≡ length bytes → slice_index bytes i < 0xC0) → IsUtf8 bytes
-narrow-utf8 b1 [] none follow last = IsUtf8-nil
-narrow-utf8 b1 (x ∷ []) none follow last = ⊎_elim
-    (λ (a : x < 0x80). one-utf8 x a)
-    (λ (a : 0xC2 ≤ x). absurd (omega (arith, a, last 0 refl)))
-    (begins b1 x none (follow 0 (omega arith)))
-narrow-utf8 b1 (x ∷ y ∷ bytes) none follow last = ⊎_elim
-    (λ (a : x < 0x80). IsUtf8-append (x ∷ []) (y ∷ bytes) (one-utf8 x a)
-    (narrow-utf8 x (y ∷ bytes) (omega (arith, a)) (λ i b. follow (suc i) (omega arith)) (λ i e. last (suc i) (omega (arith, e)))))
-    (λ (a : 0xC2 ≤ x).
-    let next = follow 1 (omega arith) in
-    let cont = next.continues.0 (omega (arith, a)) in
-    IsUtf8-append (x ∷ y ∷ []) bytes (two-utf8 x y a next.before cont.0 cont.1)
-    (narrow-utf8 y bytes cont.1 (λ i b. follow (suc (suc i)) (omega arith)) (λ i e. last (suc (suc i)) (omega (arith, e)))))
-    (begins b1 x none (follow 0 (omega arith)))

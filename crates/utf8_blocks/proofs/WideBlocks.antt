@@ -8,8 +8,9 @@ use Rattle.std.specs.Str.{IsUtf8}
 use Rattle.utf16_from_utf8.specs.Added.{added_bytes}
 use Rattle.utf16_from_utf8.proofs.AddedLemmas.{added_bytes-append, added_bytes-cons, last_but_one, last_but_one-get}
 use Rattle.utf16_from_utf8.proofs.BlockLemmas.{added_bytes-one, byte-adds-behind, byte-adds-first}
+use Rattle.utf8_blocks.specs.Narrow.{Follows}
 use Rattle.utf8_blocks.specs.Wide.{FollowsTwo}
-use Rattle.utf8_blocks.proofs.BlockLemmas.{Uses, added-more, before-at, first-before, lane-below}
+use Rattle.utf8_blocks.proofs.BlockLemmas.{FollowTo, Uses, added-more, before-at, first-before, lane-below}
 use Rattle.utf8_blocks.proofs.WideLemmas.{follows-two-at, wide-utf8}
 
 -- each of the next n bytes may follow the two before it; none is before the first
@@ -176,3 +177,22 @@ module _ (big : Bool) (bytes : List ℕ) (at : ℕ) (more : at + 64 ≤ length b
 pub two-lane-below : (bytes : List ℕ) (at i limit : ℕ) → 0 < limit → i < 64 → ((i : ℕ) → i < 64 → slice_index bytes (at + i) < limit) → slice_index (0 ∷ 0 ∷ drop at bytes) i < limit
 two-lane-below bytes at zero limit some below all = some
 two-lane-below bytes at (suc i) limit some below all = lane-below bytes at i limit some (omega (arith, below)) all
+
+-- ---- characters of at most two bytes
+
+from-narrow-at : (b2 b1 b0 : ℕ) → b2 < 0xE0 → Follows b1 b0 → FollowsTwo b2 b1 b0
+from-narrow-at b2 b1 b0 two follows = record {
+  continues = (
+    (λ is. ⊎_elim (λ (a : 0xC0 ≤ b1). follows.continues.0 a) (λ (a : 0xE0 ≤ b2). absurd (omega (arith, two, a))) is),
+    (λ cont. inl (follows.continues.1 cont)),
+  );
+  shortest = follows.shortest;
+  least = λ e. absurd (omega (arith, e, follows.before));
+  most = λ e. absurd (omega (arith, e, follows.before));
+  before = omega (arith, two);
+  three = omega (arith, follows.two);
+}
+
+pub from-narrow : (bytes : List ℕ) (at n : ℕ) → FollowTo n bytes at → FollowTwoTo n bytes at
+from-narrow bytes at n follow zero below = from-narrow-at 0 _ _ (omega arith) (follow zero below)
+from-narrow bytes at n follow (suc i) below = from-narrow-at _ _ _ (follow i (omega (arith, below))).before (follow (suc i) below)
