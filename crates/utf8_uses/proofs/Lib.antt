@@ -1,1 +1,4 @@
 mod BothLemmas
+mod CutLemmas
+mod EndsLemmas
+mod JoinedLemmas

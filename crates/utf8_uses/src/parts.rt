@@ -1,14 +1,17 @@
 //! Any bytes of UTF-8 decoded in parts, each alone.
 
-ghost use Rattle.std.specs.Prelude.{◌≡◌, ◌<◌, ◌≤◌, ℕ, OnOk};
+ghost use Rattle.std.specs.Prelude.{◌≡◌, ◌+◌, ◌-◌, ◌*◌, ◌/◌, ◌<◌, ◌≤◌, ℕ, IfOk, OnOk, length, slice_index};
 ghost use Rattle.std.specs.Str.{IsCharBoundary};
+ghost use Rattle.std.specs.Vec.{vec_items};
 ghost use Rattle.utf16_units.specs.Edit.{push_text};
+ghost use Rattle.utf8_boundaries.specs.Boundary.{AreCuts};
 ghost use Rattle.utf8_split.specs.Split.{lossy_text};
+ghost use Rattle.utf8_uses.specs.Parts.{IsLastCut};
 ghost use Rattle.utf16string.specs.WString.{wstring_text};
 
 use std::alloc::{AllocError, Allocator};
 use utf8_boundaries::floor_char_boundary;
-use utf8_boundaries::laws::{cut_text, text_boundaries};
+use utf8_boundaries::laws::{cut_text, cuts_text, text_boundaries};
 use utf8_decoder::Utf8Decoder;
 use utf16string::{Utf16Order, WString};
 
@@ -53,6 +56,94 @@ pub fn push_in_two<E: Utf16Order, A: Allocator>(
     push_lossy(before, to)?;
     push_lossy(after, to)?;
     Ok(())
+}
+
+/// Returns where parts of bytes end, each but the last: the greatest boundary at or before each
+/// multiple of `size` that is less than the length of the bytes.
+///
+/// # Errors
+///
+/// If allocation fails.
+///
+/// # Precondition
+///
+/// `size` is not 0.
+///
+/// # Complexity
+///
+/// Constant time for each part.
+pub fn part_ends<A: Allocator>(
+    alloc: A,
+    utf8: &[u8],
+    size: usize,
+) -> Result<Vec<usize, A>, AllocError>
+    requires some { 0 < size }
+    ensures count { IfOk result (λ ends. length (vec_items ends)
+        ≡ (length utf8.now - 1) / size) }
+    ensures ends { IfOk result (λ ends. (k : ℕ) → k < length (vec_items ends)
+        → IsLastCut utf8.now ((k + 1) * size) (slice_index (vec_items ends) k)) }
+    ensures cuts { IfOk result (λ ends. AreCuts utf8.now (vec_items ends)) }
+{
+    let mut ends = Vec::new(alloc);
+    let mut at = size;
+    while at < utf8.len() {
+        ends.push(floor_char_boundary(utf8, at))?;
+        at += size;
+    }
+    Ok(ends)
+}
+
+/// Appends the same text, each part decoded alone: those that end at ascending boundaries, and the
+/// last, which ends where the bytes end.
+///
+/// # Errors
+///
+/// If allocation fails.
+///
+/// # Precondition
+///
+/// The offsets are boundaries, and none is less than the one before.
+pub fn push_parts<E: Utf16Order, A: Allocator>(
+    utf8: &[u8],
+    ends: &[usize],
+    to: &mut WString<E, A>,
+) -> Result<(), AllocError>
+    requires cuts { AreCuts utf8.now ends.now }
+    ensures text { OnOk result (wstring_text to.new
+        ≡ push_text (wstring_text to.old) (lossy_text utf8.now)) }
+{
+    cuts_text();
+    let mut start = 0;
+    for end in ends {
+        push_lossy(&utf8[start..*end], to)?;
+        start = *end;
+    }
+    push_lossy(&utf8[start..], to)?;
+    Ok(())
+}
+
+/// Appends the same text, by parts of about `size` bytes, each decoded alone: the same for any
+/// size.
+///
+/// # Errors
+///
+/// If allocation fails.
+///
+/// # Precondition
+///
+/// `size` is not 0.
+pub fn push_in_parts<E: Utf16Order, A: Allocator, B: Allocator>(
+    ends_alloc: B,
+    utf8: &[u8],
+    size: usize,
+    to: &mut WString<E, A>,
+) -> Result<(), AllocError>
+    requires some { 0 < size }
+    ensures text { OnOk result (wstring_text to.new
+        ≡ push_text (wstring_text to.old) (lossy_text utf8.now)) }
+{
+    let ends = part_ends(ends_alloc, utf8, size)?;
+    push_parts(utf8, &ends, to)
 }
 
 /// Returns what `str::floor_char_boundary` returns.
