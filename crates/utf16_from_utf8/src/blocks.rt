@@ -62,10 +62,10 @@ pub(crate) fn put_threes<E: Utf16Order>(out: &mut [u8], at: usize, block: u8x16)
     at + 10
 }
 
-// Writes four characters of four bytes: two units for each, that of its first three bytes and that
-// of its last three.
+/// Writes four characters of four bytes: two units for each, that of its first three bytes and that
+/// of its last three.
 #[inline(always)]
-pub(crate) fn put_fours<E: Utf16Order>(out: &mut [u8], at: usize, block: u8x16) -> usize
+pub fn put_fours<E: Utf16Order>(out: &mut [u8], at: usize, block: u8x16) -> usize
     requires space { at + 16 ≤ length out.old }
     requires fours { zip2 bit_and block UPPER_OF_FOURS ≡ FOURS }
     ensures bytes { (b2 b1 : ℕ) → take result out.new ≡ take at out.old
@@ -81,18 +81,18 @@ pub(crate) fn put_fours<E: Utf16Order>(out: &mut [u8], at: usize, block: u8x16) 
     at + 16
 }
 
-// The byte before each one of a block, and the one before that.
+/// The byte two before each one of a block, and the one before it.
 #[inline(always)]
-pub(crate) fn before(block: u8x16, before2: u8, before1: u8) -> (u8x16, u8x16)
+pub fn before(block: u8x16, before2: u8, before1: u8) -> (u8x16, u8x16)
     ensures { AreBefore before2 before1 block result.0 result.1 }
 {
     let b1 = previous_lanes(block, before1);
     (previous_lanes(b1, before2), b1)
 }
 
-// The same of the block at `at`.
+/// The same of the block at `at`.
 #[inline(always)]
-pub(crate) fn before_at(piece: &[u8], at: usize) -> (u8x16, u8x16)
+pub fn before_at(piece: &[u8], at: usize) -> (u8x16, u8x16)
     requires some { 2 ≤ at }
     requires more { at + 16 ≤ length piece.now }
     ensures { AreBefore (slice_index piece.now (at - 2)) (slice_index piece.now (at - 1))
@@ -104,9 +104,9 @@ pub(crate) fn before_at(piece: &[u8], at: usize) -> (u8x16, u8x16)
     )
 }
 
-// Writes the UTF-16 that sixteen bytes add after the two before each. The bytes are of a kind.
+/// Writes the UTF-16 that sixteen bytes add after the two before each. The bytes are of a kind.
 #[inline(always)]
-pub(crate) fn put_block<E: Utf16Order>(
+pub fn put_block<E: Utf16Order>(
     out: &mut [u8],
     at: usize,
     b2: u8x16,

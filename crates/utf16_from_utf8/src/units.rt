@@ -11,9 +11,9 @@ ghost use Rattle.utf16_units.specs.Lanes.{HasLanes};
 use crate::lanes::{down, each, greater, masked, set_bits, sum, up, where_below};
 use std::simd::prelude::*;
 
-// Bytes of characters of at most so many bytes.
+/// Bytes of characters of at most so many bytes.
 #[derive(Clone, Copy)]
-pub(crate) enum Kind {
+pub enum Kind {
     One,
     Two,
     Three,
@@ -202,18 +202,19 @@ pub(crate) fn are_threes(block: u8x16) -> bool
         == 0
 }
 
-// The upper bits of each byte in four characters of four bytes, and the mask of these bits.
-pub(crate) const FOURS: [u8; 16] = [
+/// The upper bits of each byte in four characters of four bytes.
+pub const FOURS: [u8; 16] = [
     0xF0, 0x80, 0x80, 0x80, 0xF0, 0x80, 0x80, 0x80, 0xF0, 0x80, 0x80, 0x80, 0xF0, 0x80, 0x80, 0x80,
 ];
 
-pub(crate) const UPPER_OF_FOURS: [u8; 16] = [
+/// The mask of these bits.
+pub const UPPER_OF_FOURS: [u8; 16] = [
     0xF8, 0xC0, 0xC0, 0xC0, 0xF8, 0xC0, 0xC0, 0xC0, 0xF8, 0xC0, 0xC0, 0xC0, 0xF8, 0xC0, 0xC0, 0xC0,
 ];
 
-// Whether the bytes are four characters of four bytes.
+/// Whether the bytes are four characters of four bytes, but for their range.
 #[inline(always)]
-pub(crate) fn are_fours(block: u8x16) -> bool
+pub fn are_fours(block: u8x16) -> bool
     ensures { IsTrue result → zip2 bit_and block UPPER_OF_FOURS ≡ FOURS }
 {
     (block & u8x16::from_array(UPPER_OF_FOURS))

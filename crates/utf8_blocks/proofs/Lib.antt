@@ -1,7 +1,11 @@
-pub mod BlockLemmas
+pub mod AddedLemmas
 pub mod FewLemmas
-pub mod NarrowLemmas
+pub mod FollowLemmas
+pub mod FoursLemmas
+pub mod KeptLemmas
+pub mod LimitLemmas
+pub mod TextLemmas
 pub mod ThreesLemmas
-pub mod WideBlocks
-pub mod WideLemmas
+pub mod UnitLemmas
+pub mod UsedLemmas
 pub mod WrittenLemmas

@@ -1,3 +1,2 @@
-pub mod Narrow
-pub mod Wide
+pub mod Follow
 pub mod Written

@@ -5,10 +5,11 @@ ghost use Rattle.std.specs.Str.{IsUtf8};
 ghost use Rattle.utf16_from_utf8.specs.Threes.{IsThree, woven};
 ghost use Rattle.utf8_blocks.specs.Written.{IsWritten};
 
+use crate::limits::are_below;
 use std::simd::prelude::*;
 use utf16_from_utf8::lanes::{each, greater, sum, where_below};
 use utf16_from_utf8::threes::{are_sixteen, in_threes, put_sixteen};
-use utf16_from_utf8::units::{are_below, three_highs};
+use utf16_from_utf8::units::three_highs;
 use utf16_units::Utf16Order;
 
 // Writes the next characters of three bytes, sixteen at a time.

@@ -1,12 +1,13 @@
 //! Writes the blocks at the start of bytes, by the kind of their characters.
 
-ghost use Rattle.std.specs.Prelude.{◌+◌, ◌*◌, ◌≤◌, length};
+ghost use Rattle.std.specs.Prelude.{◌≡◌, ◌+◌, ◌*◌, ◌<◌, ◌≤◌, ℕ, length, slice_index};
+ghost use Rattle.utf8_blocks.specs.Follow.{AreBelow, IsBlock};
 ghost use Rattle.utf8_blocks.specs.Written.{IsWritten};
 
-use crate::narrow::put_narrow;
+use crate::block::put_block;
+use crate::fours::put_fours_run;
+use crate::limits::{are_below, greatest};
 use crate::threes::put_threes;
-use crate::wide::put_wide;
-use utf16_from_utf8::units::{are_below, greatest};
 use utf16_from_utf8::write_ascii;
 use utf16_units::Utf16Order;
 
@@ -14,11 +15,11 @@ use utf16_units::Utf16Order;
 const BLOCK_LEN: usize = 64;
 
 /// Writes the blocks at the start of the bytes in UTF-16 to the start of `out`, and validates them
-/// while it writes them: those of characters of at most three bytes. Returns the number of bytes
-/// read, which are well formed, and the number of bytes written. The bytes after those written may
-/// be overwritten.
+/// while it writes them. Returns the number of bytes read, which are well formed, and the number of
+/// bytes written. The bytes after those written may be overwritten.
 ///
-/// It stops before the first other block, and may leave fewer than sixty-four bytes at the end.
+/// It stops before an ill-formed sequence that is among the next sixty-four bytes, or where there
+/// are fewer.
 ///
 /// # Precondition
 ///
@@ -30,7 +31,8 @@ const BLOCK_LEN: usize = 64;
 #[inline(always)]
 pub fn write_blocks<E: Utf16Order>(bytes: &[u8], out: &mut [u8]) -> (usize, usize)
     requires { 2 * length bytes.now + 16 ≤ length out.old }
-    ensures { IsWritten E.BIG bytes.now out.new result.0 result.1 }
+    ensures written { IsWritten E.BIG bytes.now out.new result.0 result.1 }
+    ensures stop { ¬ (IsBlock bytes.now result.0) }
 {
     let len = write_ascii::<E>(bytes, out);
     if bytes.len() - len < BLOCK_LEN {
@@ -39,29 +41,31 @@ pub fn write_blocks<E: Utf16Order>(bytes: &[u8], out: &mut [u8]) -> (usize, usiz
     put_blocks::<E>(bytes, out, len)
 }
 
-// Writes blocks of all three kinds after some ASCII. A function of its own, so that short texts do
+// Writes blocks of all kinds after some ASCII. A function of its own, so that short texts do
 // not pay for its registers.
 #[inline(never)]
 fn put_blocks<E: Utf16Order>(bytes: &[u8], out: &mut [u8], len: usize) -> (usize, usize)
     requires space { 2 * length bytes.now + 16 ≤ length out.old }
     requires written { IsWritten E.BIG bytes.now out.old len (2 * len) }
-    ensures { IsWritten E.BIG bytes.now out.new result.0 result.1 }
+    ensures written { IsWritten E.BIG bytes.now out.new result.0 result.1 }
+    ensures stop { ¬ (IsBlock bytes.now result.0) }
 {
     let mut read = len;
     let mut written = 2 * len;
     while bytes.len() - read >= BLOCK_LEN {
         let (next, end) = put_next::<E>(bytes, out, read, written);
-        if next == read {
-            break;
-        }
+        let stays = next == read;
         read = next;
         written = end;
+        if stays {
+            break;
+        }
     }
     (read, written)
 }
 
-// Writes at least the next block and those of its kind that follow, or nothing. Returns where the
-// bytes after them begin, and where what was written ends.
+// Writes at least the next block, or nothing if it is ill formed. Returns where the bytes after
+// those read begin, and where what was written ends.
 #[inline(always)]
 fn put_next<E: Utf16Order>(
     bytes: &[u8],
@@ -74,19 +78,27 @@ fn put_next<E: Utf16Order>(
     requires written { IsWritten E.BIG bytes.now out.old read written }
     ensures written { IsWritten E.BIG bytes.now out.new result.0 result.1 }
     ensures advances { read ≤ result.0 }
+    ensures stop { result.0 ≡ read → ¬ (IsBlock bytes.now read) }
 {
     let greatest = greatest(bytes, read);
     if are_below(greatest, 0x80) {
         return put_ascii::<E>(bytes, out, read, written);
     }
     if are_below(greatest, 0xE0) {
-        return put_narrow::<E>(bytes, out, read, written);
+        return put_block::<E, 2>(bytes, out, read, written);
     }
     let (next, end) = put_threes::<E>(bytes, out, read, written);
-    if next == read && are_below(greatest, 0xF0) {
-        return put_wide::<E>(bytes, out, read, written);
+    if next > read {
+        return (next, end);
     }
-    (next, end)
+    if are_below(greatest, 0xF0) {
+        return put_block::<E, 3>(bytes, out, next, end);
+    }
+    let (next, end) = put_fours_run::<E>(bytes, out, next, end);
+    if next > read {
+        return (next, end);
+    }
+    put_block::<E, 4>(bytes, out, next, end)
 }
 
 // Writes the next blocks of ASCII.
@@ -98,9 +110,11 @@ fn put_ascii<E: Utf16Order>(
     written: usize,
 ) -> (usize, usize)
     requires space { 2 * length bytes.now + 16 ≤ length out.old }
+    requires more { read + 64 ≤ length bytes.now }
+    requires ascii { AreBelow 64 bytes.now read 0x80 }
     requires written { IsWritten E.BIG bytes.now out.old read written }
     ensures written { IsWritten E.BIG bytes.now out.new result.0 result.1 }
-    ensures advances { read ≤ result.0 }
+    ensures advances { read < result.0 }
 {
     let len = write_ascii::<E>(&bytes[read..], &mut out[written..]);
     (read + len, written + 2 * len)

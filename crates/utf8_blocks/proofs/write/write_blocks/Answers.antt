@@ -6,10 +6,13 @@ pub returns-then-bytes-len-lt-BLOCK_LEN : goal.returns-then-bytes-len-lt-BLOCK_L
 returns-then-bytes-len-lt-BLOCK_LEN g c =
     let ascii = c.write_ascii-len.ensures in
     record {
-      within = ascii.within;
-      well_formed = IsUtf8-from_ascii _ ascii.ascii;
-      wrote = ascii.bytes;
-      short = omega arith;
+      written = record {
+        within = ascii.within;
+        well_formed = IsUtf8-from_ascii _ ascii.ascii;
+        wrote = ascii.bytes;
+        short = omega arith;
+      };
+      stop = λ block. absurd (omega (arith, block.0, c.if-bytes-len-lt-BLOCK_LEN.true));
     }
 
 pub put_blocks-requires-clause-written : goal.put_blocks-requires-clause-written

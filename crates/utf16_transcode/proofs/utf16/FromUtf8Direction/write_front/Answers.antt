@@ -3,7 +3,7 @@ use Rattle.utf16_transcode.proofs.utf16.FromUtf8Direction.write_front.Goals as g
 
 pub returns-clause-wrote : goal.returns-clause-wrote
 returns-clause-wrote g c =
-    let wrote = c.write_blocks.ensures in
+    let wrote = c.write_blocks.ensures.written in
     record {
       within = wrote.within;
       fits = omega (arith, c.requires, wrote.short, wrote.within);

@@ -1,0 +1,12 @@
+use Rattle.std.proofs.Common.{◌-◌, ◌≤◌, length}
+use Rattle.utf8_blocks.specs.Written.{IsWritten}
+use Rattle.utf8_blocks.proofs.fours.put_fours_run.Given as goal
+
+abbrev pub invariant-loop-read : goal.invariant-loop-read
+invariant-loop-read g l = record {
+  done : IsWritten g.E.Utf16Order.BIG l.bytes l.out l.read l.written;
+  advances : l.from ≤ l.read;
+}
+
+abbrev pub decreases-loop-read : goal.decreases-loop-read
+decreases-loop-read g l = length l.bytes - l.read

@@ -1,0 +1,159 @@
+//! Characters of at most two, three or four bytes, sixty-four bytes at a time.
+
+ghost use Rattle.std.specs.Prelude.{◌≡◌, ◌+◌, ◌-◌, ◌*◌, ◌<◌, ◌≤◌, ◌++◌, ◌↔◌, IsTrue, ℕ, drop, length, slice_index, take};
+ghost use Rattle.utf16_from_utf8.specs.Added.{added_bytes};
+ghost use Rattle.utf8_blocks.specs.Follow.{AreBelow, AreUsed, FollowTo, Follows, IsBlock, limit_of};
+ghost use Rattle.utf8_blocks.specs.Written.{IsWritten};
+
+use crate::faults::faults;
+use crate::limits::are_below;
+use crate::sixteen::put_sixteen;
+use std::simd::prelude::*;
+use utf16_from_utf8::blocks::{before, before_at};
+use utf16_from_utf8::lanes::{greater, previous_lanes};
+use utf16_units::Utf16Order;
+
+// Writes the next sixty-four bytes, of characters of at most `MOST` bytes, but not those at the end
+// that begin a character and do not end it. Writes nothing if they are ill formed.
+#[inline(always)]
+pub(crate) fn put_block<E: Utf16Order, const MOST: usize>(
+    bytes: &[u8],
+    out: &mut [u8],
+    read: usize,
+    written: usize,
+) -> (usize, usize)
+    requires space { 2 * length bytes.now + 16 ≤ length out.old }
+    requires more { read + 64 ≤ length bytes.now }
+    requires below { AreBelow 64 bytes.now read (limit_of MOST) }
+    requires written { IsWritten E.BIG bytes.now out.old read written }
+    ensures written { IsWritten E.BIG bytes.now out.new result.0 result.1 }
+    ensures advances { read ≤ result.0 }
+    ensures stop { result.0 ≡ read → ¬ (IsBlock bytes.now read) }
+{
+    if !are_well_formed::<MOST>(bytes, read) {
+        return (read, written);
+    }
+    let end = put_all::<E, MOST>(bytes, out, read, written);
+    let used = used::<MOST>(bytes, read);
+    if used == 61 {
+        // Three bytes of a character have added its leading surrogate.
+        (read + used, end - 2)
+    } else {
+        (read + used, end)
+    }
+}
+
+// Whether the next sixty-four bytes begin a well-formed text.
+#[inline(always)]
+fn are_well_formed<const MOST: usize>(bytes: &[u8], at: usize) -> bool
+    requires more { at + 64 ≤ length bytes.now }
+    requires below { AreBelow 64 bytes.now at (limit_of MOST) }
+    ensures { IsTrue result ↔ FollowTo 64 bytes.now at }
+{
+    let first = u8x16::from_slice(&bytes[at..]);
+    let (b2, b1) = before(first, 0, 0);
+    let mut all = faults::<MOST>(previous_lanes(b2, 0), b2, b1, first);
+    let mut k = 16;
+    while k < 64 {
+        let next = faults_at::<MOST>(bytes, at + k);
+        all = greater(all, next);
+        k += 16;
+    }
+    are_below(all, 1)
+}
+
+// Not zero where one of the sixteen bytes at `at` may not follow the three before it.
+#[inline(always)]
+fn faults_at<const MOST: usize>(bytes: &[u8], at: usize) -> u8x16
+    requires some { 3 ≤ at }
+    requires more { at + 16 ≤ length bytes.now }
+    requires below { AreBelow 19 bytes.now (at - 3) (limit_of MOST) }
+    ensures { (i : ℕ) → i < 16 → (slice_index result i < 1)
+        ↔ Follows (slice_index bytes.now (at - 3 + i)) (slice_index bytes.now (at - 2 + i))
+        (slice_index bytes.now (at - 1 + i)) (slice_index bytes.now (at + i)) }
+{
+    let (b2, b1) = before_at(bytes, at);
+    let b3 = u8x16::from_slice(&bytes[at - 3..]);
+    faults::<MOST>(b3, b2, b1, u8x16::from_slice(&bytes[at..]))
+}
+
+// Writes the next sixty-four bytes, which begin a well-formed text.
+#[inline(always)]
+fn put_all<E: Utf16Order, const MOST: usize>(
+    bytes: &[u8],
+    out: &mut [u8],
+    read: usize,
+    written: usize,
+) -> usize
+    requires more { read + 64 ≤ length bytes.now }
+    requires space { written + 128 ≤ length out.old }
+    requires below { AreBelow 64 bytes.now read (limit_of MOST) }
+    requires follow { FollowTo 64 bytes.now read }
+    ensures bytes { take result out.new ≡ take written out.old
+        ++ added_bytes E.BIG 0 0 (take 64 (drop read bytes.now)) }
+    ensures written_to { result ≤ written + 128 }
+{
+    let first = u8x16::from_slice(&bytes[read..]);
+    let (b2, b1) = before(first, 0, 0);
+    let mut end = put_sixteen::<E, MOST>(out, written, b2, b1, first);
+    let mut k = 16;
+    while k < 64 {
+        let (b2, b1) = before_at(bytes, read + k);
+        let block = u8x16::from_slice(&bytes[read + k..]);
+        end = put_sixteen::<E, MOST>(out, end, b2, b1, block);
+        k += 16;
+    }
+    end
+}
+
+// How many of the next sixty-four bytes are of characters that end among them.
+#[inline(always)]
+fn used<const MOST: usize>(bytes: &[u8], at: usize) -> usize
+    requires more { at + 64 ≤ length bytes.now }
+    requires below { AreBelow 64 bytes.now at (limit_of MOST) }
+    ensures { AreUsed bytes.now at result }
+{
+    if MOST == 2 {
+        return used_of_two(bytes, at);
+    }
+    if MOST == 3 {
+        return used_of_three(bytes, at);
+    }
+    used_of_four(bytes, at)
+}
+
+#[inline(always)]
+fn used_of_two(bytes: &[u8], at: usize) -> usize
+    requires more { at + 64 ≤ length bytes.now }
+    requires no_four { slice_index bytes.now (at + 61) < 0xF0 }
+    requires no_three { slice_index bytes.now (at + 62) < 0xE0 }
+    ensures { AreUsed bytes.now at result }
+{
+    if bytes[at + 63] >= 0xC0 {
+        return 63;
+    }
+    64
+}
+
+#[inline(always)]
+fn used_of_three(bytes: &[u8], at: usize) -> usize
+    requires more { at + 64 ≤ length bytes.now }
+    requires no_four { slice_index bytes.now (at + 61) < 0xF0 }
+    ensures { AreUsed bytes.now at result }
+{
+    if bytes[at + 62] >= 0xE0 {
+        return 62;
+    }
+    used_of_two(bytes, at)
+}
+
+#[inline(always)]
+fn used_of_four(bytes: &[u8], at: usize) -> usize
+    requires { at + 64 ≤ length bytes.now }
+    ensures { AreUsed bytes.now at result }
+{
+    if bytes[at + 61] >= 0xF0 {
+        return 61;
+    }
+    used_of_three(bytes, at)
+}
