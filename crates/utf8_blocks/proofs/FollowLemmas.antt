@@ -6,7 +6,10 @@ use Rattle.std.proofs.lemmas.Simd.{get_or-chunk}
 use Rattle.std.specs.Simd.Lanes.{chunk}
 use Rattle.utf16_units.specs.Lanes.{HasLanes}
 use Rattle.utf16_from_utf8.specs.Kind.{AreBefore}
-use Rattle.utf8_blocks.specs.Follow.{AreBelow, FollowTo, Follows, FollowsTwo}
+use Rattle.utf8_blocks.specs.Follow.{AreBelow, FollowLanes, FollowTo, Follows, FollowsTwo}
+
+pub follows-two-at : (limit x y z p q r : ℕ) → p ≡ x → q ≡ y → r ≡ z → FollowsTwo limit x y z → FollowsTwo limit p q r
+follows-two-at limit x y z p q r e f g follows = subst (λ t. FollowsTwo limit t q r) (sym e) (subst (λ t. FollowsTwo limit x t r) (sym f) (subst (λ t. FollowsTwo limit x y t) (sym g) follows))
 
 pub follows-at : (x y z w p q r s : ℕ) → p ≡ x → q ≡ y → r ≡ z → s ≡ w → Follows x y z w → Follows p q r s
 follows-at x y z w p q r s e f g h follows =
@@ -117,3 +120,19 @@ follows-two bytes at limit n i some most within below all =
       two = behind-below 2 bytes at i n limit some within below;
       one = behind-below 1 bytes at i n limit some within below;
     }
+
+pub first-lanes : (bytes b2 b1 : List ℕ) (at limit : ℕ) → 0 < limit → limit ≤ 0xF0 → AreBelow 64 bytes at limit → FollowTo 64 bytes at → AreBefore 0 0 (chunk at 16 bytes) b2 b1
+    → FollowLanes limit b2 b1 (chunk at 16 bytes)
+first-lanes bytes b2 b1 at limit some most below all before i few =
+    follows-two-at limit _ _ _ _ _ _ (first-two bytes b2 b1 at before i few) (first-one bytes b2 b1 at before i few) (get_or-chunk at 16 bytes i 0 few)
+    (follows-two bytes at limit 64 i some most (omega (arith, few)) below all)
+
+pub next-lanes : (bytes b2 b1 : List ℕ) (at k limit : ℕ) → 2 ≤ k → k + 16 ≤ 64 → 0 < limit → limit ≤ 0xF0 → AreBelow 64 bytes at limit → FollowTo 64 bytes at
+    → AreBefore (slice_index bytes (at + k - 2)) (slice_index bytes (at + k - 1)) (chunk (at + k) 16 bytes) b2 b1 → FollowLanes limit b2 b1 (chunk (at + k) 16 bytes)
+next-lanes bytes b2 b1 at k limit two within some most below all before i few =
+    follows-two-at limit _ _ _ _ _ _
+    (before.two.lanes i few ∙ before-two bytes b1 (at + k) i (omega (arith, two)) few before.one.lanes
+    ∙ ap (slice_index bytes) (omega (arith, two)) ∙ sym (behind-at 2 bytes at (k + i) (omega (arith, two))))
+    (before.one.lanes i few ∙ before-one bytes (at + k) i (omega (arith, two)) few ∙ ap (slice_index bytes) (omega (arith, two)) ∙ sym (behind-at 1 bytes at (k + i) (omega (arith, two))))
+    (get_or-chunk (at + k) 16 bytes i 0 few ∙ ap (slice_index bytes) (omega arith))
+    (follows-two bytes at limit 64 (k + i) some most (omega (arith, within, few)) below all)

@@ -1,5 +1,5 @@
 -- The unit that ends at a byte of characters of at most two and of at most three bytes, by lanes.
-use Rattle.std.proofs.Common.{◌≡◌, ℕ, ◌+◌, ◌-◌, ◌*◌, ◌/◌, ◌%◌, ◌^◌, ◌<◌, ◌≤◌, ◌==◌, ◌⊎◌, ⊎_elim, inl, inr, Bool, cond, ltb, [], bit_and, subst, sym, refl, ap, ap₂, ◌∙◌, arith, lt-ltb, le-ltb}
+use Rattle.std.proofs.Common.{◌≡◌, ℕ, ◌+◌, ◌-◌, ◌*◌, ◌/◌, ◌%◌, ◌^◌, ◌<◌, ◌≤◌, ◌==◌, ◌⊎◌, ⊎_elim, inl, inr, Bool, cond, ltb, [], bit_and, sym, refl, ap, ap₂, ◌∙◌, arith, lt-ltb, le-ltb}
 use Rattle.std.proofs.lemmas.Bool.{cases_lt}
 use Rattle.std.proofs.lemmas.Nat.{and_mask}
 use Rattle.utf16_from_utf8.specs.Added.{unit_after}
@@ -8,9 +8,6 @@ use Rattle.utf16_from_utf8.proofs.AddedLemmas.{byte_adds, unit-one, unit-three, 
 use Rattle.utf16_from_utf8.proofs.BlockLemmas.{byte-adds-behind, byte-adds-first, byte-adds-one}
 use Rattle.utf16_from_utf8.proofs.LaneByteLemmas.{AreBytes, pair-unit}
 use Rattle.utf8_blocks.specs.Follow.{FollowsTwo}
-
-pub follows-two-at : (limit x y z p q r : ℕ) → p ≡ x → q ≡ y → r ≡ z → FollowsTwo limit x y z → FollowsTwo limit p q r
-follows-two-at limit x y z p q r e f g follows = subst (λ t. FollowsTwo limit t q r) (sym e) (subst (λ t. FollowsTwo limit x t r) (sym f) (subst (λ t. FollowsTwo limit x y t) (sym g) follows))
 
 -- ---- at most two bytes
 

@@ -161,7 +161,7 @@ used-most bytes at used is = ⊎_elim (λ a. omega (arith, a.0)) (λ b. ⊎_elim
 
 -- written behind what was written
 module _ (big : Bool) (bytes old new : List ℕ) (at written used over to : ℕ) (is : AreUsed bytes at used) (more : at + 64 ≤ length bytes) (uses : Uses big bytes at used over)
-  (p : written ≤ length old) (q : to ≤ length new) (wrote : take to new ≡ take written old ++ added_bytes big 0 0 (take 64 (drop at bytes))) where
+    (p : written ≤ length old) (q : to ≤ length new) (wrote : take to new ≡ take written old ++ added_bytes big 0 0 (take 64 (drop at bytes))) where
   abbrev block : List ℕ
   block = take used (drop at bytes)
 

@@ -50,9 +50,7 @@ fn are_well_formed<const MOST: usize>(bytes: &[u8], at: usize) -> bool
     requires below { AreBelow 64 bytes.now at (limit_of MOST) }
     ensures { IsTrue result ↔ FollowTo 64 bytes.now at }
 {
-    let first = u8x16::from_slice(&bytes[at..]);
-    let (b2, b1) = before(first, 0, 0);
-    let mut all = faults::<MOST>(previous_lanes(b2, 0), b2, b1, first);
+    let mut all = first_faults::<MOST>(bytes, at);
     let mut k = 16;
     while k < 64 {
         let next = faults_at::<MOST>(bytes, at + k);
@@ -60,6 +58,19 @@ fn are_well_formed<const MOST: usize>(bytes: &[u8], at: usize) -> bool
         k += 16;
     }
     are_below(all, 1)
+}
+
+// Not zero where one of the sixteen bytes at `at` may not follow those before it, if a text begins
+// there.
+#[inline(always)]
+fn first_faults<const MOST: usize>(bytes: &[u8], at: usize) -> u8x16
+    requires more { at + 16 ≤ length bytes.now }
+    requires below { AreBelow 16 bytes.now at (limit_of MOST) }
+    ensures { ((i : ℕ) → i < 16 → slice_index result i < 1) ↔ FollowTo 16 bytes.now at }
+{
+    let first = u8x16::from_slice(&bytes[at..]);
+    let (b2, b1) = before(first, 0, 0);
+    faults::<MOST>(previous_lanes(b2, 0), b2, b1, first)
 }
 
 // Not zero where one of the sixteen bytes at `at` may not follow the three before it.

@@ -41,8 +41,8 @@ fn faults_of_three(b2: u8x16, b1: u8x16, b0: u8x16) -> u8x16
         ↔ Follows b3 (slice_index b2 i) (slice_index b1 i) (slice_index b0 i) }
 {
     let (continues, others) = continuations(b0);
-    let second = where_below(b2, 0xE0, continues, others);
-    let misplaced = where_below(b1, 0xC0, second, others);
+    let begun = greater(above(b1, 0xBF), above(b2, 0xDF));
+    let misplaced = where_below(begun, 1, continues, others);
     greater(
         misplaced,
         greater(overlong(b0), out_of_range_of_three(b1, b0)),
@@ -55,12 +55,20 @@ fn faults_of_four(b3: u8x16, b2: u8x16, b1: u8x16, b0: u8x16) -> u8x16
         ↔ Follows (slice_index b3 i) (slice_index b2 i) (slice_index b1 i) (slice_index b0 i) }
 {
     let (continues, others) = continuations(b0);
-    let third = where_below(b3, 0xF0, continues, others);
-    let second = where_below(b2, 0xE0, third, others);
-    let misplaced = where_below(b1, 0xC0, second, others);
+    let begun = greater(greater(above(b1, 0xBF), above(b2, 0xDF)), above(b3, 0xEF));
+    let misplaced = where_below(begun, 1, continues, others);
     let three = out_of_range_of_three(b1, b0);
     let four = out_of_range_of_four(b1, b0);
     greater(greater(misplaced, overlong(b0)), greater(three, four))
+}
+
+// Not zero where a byte is above a limit.
+#[inline(always)]
+fn above(v: u8x16, limit: u8) -> u8x16
+    requires { 0 < limit }
+    ensures { (i : ℕ) → i < 16 → (slice_index result i < 1) ↔ (slice_index v i ≤ limit) }
+{
+    sum(greater(v, each(limit)), each(255 - limit + 1))
 }
 
 // Not zero where a byte is a continuation byte, and where it is none.

@@ -7,14 +7,14 @@ ghost use Rattle.utf8_blocks.specs.Written.{IsWritten};
 
 use crate::limits::are_below;
 use std::simd::prelude::*;
-use utf16_from_utf8::blocks::put_fours;
+use utf16_from_utf8::blocks;
 use utf16_from_utf8::lanes::{down, each, masked, sum, up};
 use utf16_from_utf8::units::{FOURS, UPPER_OF_FOURS, are_fours};
 use utf16_units::Utf16Order;
 
 // Writes the next characters of four bytes, four at a time.
 #[inline(always)]
-pub(crate) fn put_fours_run<E: Utf16Order>(
+pub(crate) fn put_fours<E: Utf16Order>(
     bytes: &[u8],
     out: &mut [u8],
     from: usize,
@@ -32,7 +32,7 @@ pub(crate) fn put_fours_run<E: Utf16Order>(
         if !are_characters(block) {
             break;
         }
-        written = put_fours::<E>(out, written, block);
+        written = blocks::put_fours::<E>(out, written, block);
         read += 16;
     }
     (read, written)

@@ -5,7 +5,7 @@ ghost use Rattle.utf8_blocks.specs.Follow.{AreBelow, IsBlock};
 ghost use Rattle.utf8_blocks.specs.Written.{IsWritten};
 
 use crate::block::put_block;
-use crate::fours::put_fours_run;
+use crate::fours::put_fours;
 use crate::limits::{are_below, greatest};
 use crate::threes::put_threes;
 use utf16_from_utf8::write_ascii;
@@ -87,18 +87,38 @@ fn put_next<E: Utf16Order>(
     if are_below(greatest, 0xE0) {
         return put_block::<E, 2>(bytes, out, read, written);
     }
-    let (next, end) = put_threes::<E>(bytes, out, read, written);
+    let (next, end) = put_run::<E>(bytes, out, read, written);
     if next > read {
         return (next, end);
     }
     if are_below(greatest, 0xF0) {
         return put_block::<E, 3>(bytes, out, next, end);
     }
-    let (next, end) = put_fours_run::<E>(bytes, out, next, end);
-    if next > read {
-        return (next, end);
-    }
     put_block::<E, 4>(bytes, out, next, end)
+}
+
+// Writes the next characters of three or of four bytes, whichever the first has, several at a time.
+#[inline(always)]
+fn put_run<E: Utf16Order>(
+    bytes: &[u8],
+    out: &mut [u8],
+    read: usize,
+    written: usize,
+) -> (usize, usize)
+    requires space { 2 * length bytes.now + 16 ≤ length out.old }
+    requires more { read + 64 ≤ length bytes.now }
+    requires written { IsWritten E.BIG bytes.now out.old read written }
+    ensures written { IsWritten E.BIG bytes.now out.new result.0 result.1 }
+    ensures advances { read ≤ result.0 }
+{
+    let first = bytes[read];
+    if first < 0xE0 {
+        return (read, written);
+    }
+    if first < 0xF0 {
+        return put_threes::<E>(bytes, out, read, written);
+    }
+    put_fours::<E>(bytes, out, read, written)
 }
 
 // Writes the next blocks of ASCII.

@@ -14,13 +14,13 @@ returns g c i below =
     let one = c.before_at.ensures.one.lanes i below ∙ before-one bytes at i (omega (arith, c.requires.some)) below in
     let here = get_or-chunk at 16 bytes i 0 below in
     let each =
-        λ (j : ℕ) (place : ℕ) (is : place ≡ at - 3 + j) (few : j < 19). further-below bytes (at - 3) limit 19 j place is few c.requires.below in
+    λ (j : ℕ) (place : ℕ) (is : place ≡ at - 3 + j) (few : j < 19). further-below bytes (at - 3) limit 19 j place is few c.requires.below in
     let both =
-        c.faults.ensures i below
-        (omega (arith, three, each i (at - 3 + i) (omega arith) (omega (arith, below))))
-        (omega (arith, two, each (i + 1) (at - 2 + i) (omega (arith, c.requires.some)) (omega (arith, below))))
-        (omega (arith, one, each (i + 2) (at - 1 + i) (omega (arith, c.requires.some)) (omega (arith, below))))
-        (omega (arith, here, each (i + 3) (at + i) (omega (arith, c.requires.some)) (omega (arith, below)))) in (
-          (λ none. follows-at _ _ _ _ _ _ _ _ (sym three) (sym two) (sym one) (sym here) (both.0 none)),
-          (λ follows. both.1 (follows-at _ _ _ _ _ _ _ _ three two one here follows)),
-        )
+    c.faults.ensures i below
+    (omega (arith, three, each i (at - 3 + i) (omega arith) (omega (arith, below))))
+    (omega (arith, two, each (i + 1) (at - 2 + i) (omega (arith, c.requires.some)) (omega (arith, below))))
+    (omega (arith, one, each (i + 2) (at - 1 + i) (omega (arith, c.requires.some)) (omega (arith, below))))
+    (omega (arith, here, each (i + 3) (at + i) (omega (arith, c.requires.some)) (omega (arith, below)))) in (
+      (λ none. follows-at _ _ _ _ _ _ _ _ (sym three) (sym two) (sym one) (sym here) (both.0 none)),
+      (λ follows. both.1 (follows-at _ _ _ _ _ _ _ _ three two one here follows)),
+    )

@@ -1,8 +1,9 @@
 use Rattle.std.proofs.Common.{◌≡◌, ◌+◌, ◌*◌, ◌/◌, ◌%◌, ◌^◌, ◌<◌, ◌==◌, ◌∷◌, ◌++◌, ℕ, Bool, true, false, bit_and, cond, ltb, slice_index, take, refl, ap, ap₂, sym, ◌∙◌, arith}
 use Rattle.utf16_from_utf8.specs.Lanes.{kept_pairs}
 use Rattle.utf16_from_utf8.proofs.BlockLemmas.{two-behind}
+use Rattle.utf8_blocks.proofs.FollowLemmas.{follows-two-at}
 use Rattle.utf8_blocks.proofs.KeptLemmas.{AreAdded, kept-added}
-use Rattle.utf8_blocks.proofs.UnitLemmas.{behind_of, follows-two-at, three-added, three_lead}
+use Rattle.utf8_blocks.proofs.UnitLemmas.{behind_of, three-added, three_lead}
 use Rattle.utf8_blocks.proofs.sixteen.put_three.Goals as goal
 
 -- a bit by a lane that was chosen twice

@@ -1,7 +1,8 @@
 use Rattle.std.proofs.Common.{◌≡◌, ◌+◌, ◌*◌, ◌/◌, ◌%◌, ◌^◌, ◌<◌, ◌==◌, ◌∷◌, ◌++◌, ℕ, Bool, true, false, cond, ltb, slice_index, take, refl, ap, ap₂, sym, ◌∙◌, arith}
 use Rattle.utf16_from_utf8.specs.Lanes.{kept_pairs}
+use Rattle.utf8_blocks.proofs.FollowLemmas.{follows-two-at}
 use Rattle.utf8_blocks.proofs.KeptLemmas.{AreAdded, kept-added}
-use Rattle.utf8_blocks.proofs.UnitLemmas.{follows-two-at, two-added, two_lead}
+use Rattle.utf8_blocks.proofs.UnitLemmas.{two-added, two_lead}
 use Rattle.utf8_blocks.proofs.sixteen.put_two.Goals as goal
 
 -- a bit by a lane that was chosen

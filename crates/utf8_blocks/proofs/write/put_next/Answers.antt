@@ -10,5 +10,5 @@ put_block-requires-clause-below g c = (c.greatest-greatest.ensures 0xE0).0 (c.ar
 
 pub put_block-requires-then-are_below-3-clause-below : goal.put_block-requires-then-are_below-3-clause-below
 put_block-requires-then-are_below-3-clause-below g c =
-    let stays : c.args.read ≡ c.put_threes-next.result.0 = omega (arith, c.if-next-read.false, c.put_threes-next.ensures.advances) in
+    let stays : c.args.read ≡ c.put_run-next.result.0 = omega (arith, c.if-next-read.false, c.put_run-next.ensures.advances) in
     subst (λ at. AreBelow 64 c.args.bytes.now at 0xF0) stays ((c.greatest-greatest.ensures 0xF0).0 (c.are_below-3.ensures.0 c.if-are_below-3.true))

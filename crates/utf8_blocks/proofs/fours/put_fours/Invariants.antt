@@ -1,6 +1,6 @@
 use Rattle.std.proofs.Common.{◌-◌, ◌≤◌, length}
 use Rattle.utf8_blocks.specs.Written.{IsWritten}
-use Rattle.utf8_blocks.proofs.fours.put_fours_run.Given as goal
+use Rattle.utf8_blocks.proofs.fours.put_fours.Given as goal
 
 abbrev pub invariant-loop-read : goal.invariant-loop-read
 invariant-loop-read g l = record {

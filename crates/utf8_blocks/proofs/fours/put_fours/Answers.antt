@@ -1,7 +1,7 @@
 use Rattle.std.proofs.Common.{◌++◌, take, drop, ap, ◌∙◌, arith}
 use Rattle.utf16_from_utf8.proofs.AppendLemmas.{added_bytes-text}
 use Rattle.utf8_blocks.proofs.WrittenLemmas.{more-written}
-use Rattle.utf8_blocks.proofs.fours.put_fours_run.Goals as goal
+use Rattle.utf8_blocks.proofs.fours.put_fours.Goals as goal
 
 pub loop-read-preserved : goal.loop-read-preserved
 loop-read-preserved g c =
