@@ -1,6 +1,6 @@
 //! UTF-8 to UTF-16, up to the first ill-formed sequence.
 
-ghost use Rattle.std.specs.Prelude.{◌≡◌, ◌&&◌, ◌+◌, ◌-◌, ◌*◌, ◌<◌, ◌≤◌, ◌++◌, IfErr, IfOk, IfSome, length, take};
+ghost use Rattle.std.specs.Prelude.{◌≡◌, ◌&&◌, ◌||◌, ◌+◌, ◌-◌, ◌*◌, ◌<◌, ◌≤◌, ◌++◌, IfErr, IfOk, IfSome, length, nat_lt, slice_index, take};
 ghost use Rattle.std.specs.Char.{encode_utf8};
 ghost use Rattle.std.specs.Int.{is_in_range};
 ghost use Rattle.std.specs.Str.{IsUtf8, chars};
@@ -119,6 +119,10 @@ impl<E: Utf16Order> Direction for FromUtf8<E> {
 
     #[inline(always)]
     fn write_front(rest: &[u8], to: &mut [u8]) -> (usize, usize) {
+        // Behind an ill-formed sequence there is often another.
+        if !may_begin(rest) {
+            return (0, 0);
+        }
         write_blocks::<E>(rest, to)
     }
 }
@@ -155,7 +159,7 @@ fn valid_len(text: &[u8], before: usize) -> usize
     ensures within { result ≤ length text.now }
     ensures well_formed { IsUtf8 (take result text.now) }
 {
-    if text.len() >= 2 && text[0] >= 0x80 && !can_begin(text[0], text[1]) {
+    if !may_begin(text) {
         return 0;
     }
     if text.len() <= FIRST {
@@ -192,6 +196,23 @@ fn part_len(rest: &[u8], part: usize) -> usize
         len -= 1;
     }
     if rest[len - 1] < 0xC0 { len } else { len - 1 }
+}
+
+// Whether a text may begin with these bytes, by the first two.
+#[inline(always)]
+fn may_begin(text: &[u8]) -> bool
+    ensures { result ≡ (nat_lt (length text.now) 2 || nat_lt (slice_index text.now 0) 0x80
+        || (is_in_range 0xC2 0xF4 (slice_index text.now 0)
+        && is_in_range (second_byte_min (slice_index text.now 0))
+        (second_byte_max (slice_index text.now 0)) (slice_index text.now 1))) }
+{
+    if text.len() < 2 {
+        return true;
+    }
+    if text[0] < 0x80 {
+        return true;
+    }
+    can_begin(text[0], text[1])
 }
 
 // Whether a character of two bytes or more can begin with these two (Unicode Standard, table 3-7).
