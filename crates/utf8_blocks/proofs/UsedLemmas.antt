@@ -184,4 +184,4 @@ module _ (big : Bool) (bytes old new : List ℕ) (at written used over to : ℕ)
       let long : length block ≡ used = length-take-le used (drop at bytes) (omega (arith, most, more, length-drop at bytes)) in
       more-written big bytes old new at written used end done (omega (arith, most, more)) uses.well_formed
       (adds ∙ ap (λ t. take written old ++ t) (added_bytes-text big block uses.well_formed))
-      (omega (arith, added-bound big 0 0 old new block written end p (omega (arith, q, ends)) adds, long))
+      (omega (arith, added-bound big 0 0 old new block written end p (omega (arith, q, ends)) adds, long)) (omega (arith, q, ends))

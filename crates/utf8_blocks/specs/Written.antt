@@ -10,3 +10,4 @@ pub record IsWritten (big : Bool) (bytes out : List ℕ) (read written : ℕ) : 
   pub well_formed : IsUtf8 (take read bytes)
   pub wrote : take written out ≡ encode big (chars (take read bytes))
   pub short : written ≤ 2 * read
+  pub fits : written ≤ length out

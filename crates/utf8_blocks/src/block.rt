@@ -22,7 +22,7 @@ pub(crate) fn put_block<E: Utf16Order, const MOST: usize>(
     read: usize,
     written: usize,
 ) -> (usize, usize)
-    requires space { 2 * length bytes.now + 16 ≤ length out.old }
+    requires space { written + 128 ≤ length out.old }
     requires more { read + 64 ≤ length bytes.now }
     requires below { AreBelow 64 bytes.now read (limit_of MOST) }
     requires written { IsWritten E.BIG bytes.now out.old read written }

@@ -20,14 +20,17 @@ pub(crate) fn put_fours<E: Utf16Order>(
     from: usize,
     end: usize,
 ) -> (usize, usize)
-    requires space { 2 * length bytes.now + 16 ≤ length out.old }
-    requires written { IsWritten E.BIG bytes.now out.old from end }
+    requires { IsWritten E.BIG bytes.now out.old from end }
     ensures written { IsWritten E.BIG bytes.now out.new result.0 result.1 }
     ensures advances { from ≤ result.0 }
+    ensures stays { result.0 ≡ from → result.1 ≡ end }
 {
     let mut read = from;
     let mut written = end;
     while bytes.len() - read >= 16 {
+        if out.len() - written < 16 {
+            break;
+        }
         let block = u8x16::from_slice(&bytes[read..]);
         if !are_characters(block) {
             break;

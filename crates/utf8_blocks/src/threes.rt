@@ -1,6 +1,6 @@
 //! Characters of three bytes, sixteen at a time.
 
-ghost use Rattle.std.specs.Prelude.{◌+◌, ◌*◌, ◌<◌, ◌≤◌, ◌⊎◌, IsTrue, ℕ, length, slice_index};
+ghost use Rattle.std.specs.Prelude.{◌≡◌, ◌+◌, ◌*◌, ◌<◌, ◌≤◌, ◌⊎◌, IsTrue, ℕ, length, slice_index};
 ghost use Rattle.std.specs.Str.{IsUtf8};
 ghost use Rattle.utf16_from_utf8.specs.Threes.{IsThree, woven};
 ghost use Rattle.utf8_blocks.specs.Written.{IsWritten};
@@ -20,14 +20,17 @@ pub(crate) fn put_threes<E: Utf16Order>(
     from: usize,
     end: usize,
 ) -> (usize, usize)
-    requires space { 2 * length bytes.now + 16 ≤ length out.old }
-    requires written { IsWritten E.BIG bytes.now out.old from end }
+    requires { IsWritten E.BIG bytes.now out.old from end }
     ensures written { IsWritten E.BIG bytes.now out.new result.0 result.1 }
     ensures advances { from ≤ result.0 }
+    ensures stays { result.0 ≡ from → result.1 ≡ end }
 {
     let mut read = from;
     let mut written = end;
     while bytes.len() - read >= 48 {
+        if out.len() - written < 32 {
+            break;
+        }
         let (firsts, seconds, thirds) = in_threes(bytes, read);
         if !are_characters(firsts, seconds, thirds) {
             break;

@@ -14,27 +14,26 @@ use utf16_units::Utf16Order;
 // The length of a block in bytes.
 const BLOCK_LEN: usize = 64;
 
+// The most bytes that a block takes in UTF-16.
+const BLOCK_SPACE: usize = 128;
+
 /// Writes the blocks at the start of the bytes in UTF-16 to the start of `out`, and validates them
 /// while it writes them. Returns the number of bytes read, which are well formed, and the number of
 /// bytes written. The bytes after those written may be overwritten.
 ///
-/// It stops before an ill-formed sequence that is among the next sixty-four bytes, or where there
-/// are fewer.
-///
-/// # Precondition
-///
-/// `out` has at least `2 * bytes.len() + 16` bytes.
+/// It stops only where the next sixty-four bytes do not begin a well-formed text, or there are
+/// fewer, or `out` has fewer than 128 bytes of space left.
 ///
 /// # Complexity
 ///
 /// One pass over the bytes that it reads.
 #[inline(always)]
 pub fn write_blocks<E: Utf16Order>(bytes: &[u8], out: &mut [u8]) -> (usize, usize)
-    requires { 2 * length bytes.now + 16 ≤ length out.old }
     ensures written { IsWritten E.BIG bytes.now out.new result.0 result.1 }
-    ensures stop { ¬ (IsBlock bytes.now result.0) }
+    ensures stop { IsBlock bytes.now result.0 → length out.new < result.1 + 128 }
 {
-    let len = write_ascii::<E>(bytes, out);
+    let most = bytes.len().min(out.len() / 2);
+    let len = write_ascii::<E>(&bytes[..most], out);
     if bytes.len() - len < BLOCK_LEN {
         return (len, 2 * len);
     }
@@ -45,14 +44,16 @@ pub fn write_blocks<E: Utf16Order>(bytes: &[u8], out: &mut [u8]) -> (usize, usiz
 // not pay for its registers.
 #[inline(never)]
 fn put_blocks<E: Utf16Order>(bytes: &[u8], out: &mut [u8], len: usize) -> (usize, usize)
-    requires space { 2 * length bytes.now + 16 ≤ length out.old }
-    requires written { IsWritten E.BIG bytes.now out.old len (2 * len) }
+    requires { IsWritten E.BIG bytes.now out.old len (2 * len) }
     ensures written { IsWritten E.BIG bytes.now out.new result.0 result.1 }
-    ensures stop { ¬ (IsBlock bytes.now result.0) }
+    ensures stop { IsBlock bytes.now result.0 → length out.new < result.1 + 128 }
 {
     let mut read = len;
     let mut written = 2 * len;
     while bytes.len() - read >= BLOCK_LEN {
+        if out.len() - written < BLOCK_SPACE {
+            break;
+        }
         let (next, end) = put_next::<E>(bytes, out, read, written);
         let stays = next == read;
         read = next;
@@ -73,7 +74,7 @@ fn put_next<E: Utf16Order>(
     read: usize,
     written: usize,
 ) -> (usize, usize)
-    requires space { 2 * length bytes.now + 16 ≤ length out.old }
+    requires space { written + 128 ≤ length out.old }
     requires more { read + 64 ≤ length bytes.now }
     requires written { IsWritten E.BIG bytes.now out.old read written }
     ensures written { IsWritten E.BIG bytes.now out.new result.0 result.1 }
@@ -105,11 +106,12 @@ fn put_run<E: Utf16Order>(
     read: usize,
     written: usize,
 ) -> (usize, usize)
-    requires space { 2 * length bytes.now + 16 ≤ length out.old }
+    requires space { written + 128 ≤ length out.old }
     requires more { read + 64 ≤ length bytes.now }
     requires written { IsWritten E.BIG bytes.now out.old read written }
     ensures written { IsWritten E.BIG bytes.now out.new result.0 result.1 }
     ensures advances { read ≤ result.0 }
+    ensures stays { result.0 ≡ read → result.1 ≡ written }
 {
     let first = bytes[read];
     if first < 0xE0 {
@@ -129,13 +131,15 @@ fn put_ascii<E: Utf16Order>(
     read: usize,
     written: usize,
 ) -> (usize, usize)
-    requires space { 2 * length bytes.now + 16 ≤ length out.old }
+    requires space { written + 128 ≤ length out.old }
     requires more { read + 64 ≤ length bytes.now }
     requires ascii { AreBelow 64 bytes.now read 0x80 }
     requires written { IsWritten E.BIG bytes.now out.old read written }
     ensures written { IsWritten E.BIG bytes.now out.new result.0 result.1 }
     ensures advances { read < result.0 }
 {
-    let len = write_ascii::<E>(&bytes[read..], &mut out[written..]);
+    let rest = &bytes[read..];
+    let most = rest.len().min((out.len() - written) / 2);
+    let len = write_ascii::<E>(&rest[..most], &mut out[written..]);
     (read + len, written + 2 * len)
 }

@@ -20,7 +20,7 @@ returns g c = (λ none i below. (each i below).0 (none i below), λ follow i bel
         let here = get_or-chunk at 16 bytes i 0 below in
         let under = λ (d : ℕ). behind-below d bytes at i 16 limit (limit-some g.row.MOST) below c.requires.below in
         let both =
-            c.faults.ensures i below (omega (arith, three, under 3)) (omega (arith, two, under 2)) (omega (arith, one, under 1)) (omega (arith, here, c.requires.below i below)) in (
-              (λ none. follows-at _ _ _ _ _ _ _ _ (sym three) (sym two) (sym one) (sym here) (both.0 none)),
-              (λ follows. both.1 (follows-at _ _ _ _ _ _ _ _ three two one here follows)),
-            )
+        c.faults.ensures i below (omega (arith, three, under 3)) (omega (arith, two, under 2)) (omega (arith, one, under 1)) (omega (arith, here, c.requires.below i below)) in (
+          (λ none. follows-at _ _ _ _ _ _ _ _ (sym three) (sym two) (sym one) (sym here) (both.0 none)),
+          (λ follows. both.1 (follows-at _ _ _ _ _ _ _ _ three two one here follows)),
+        )

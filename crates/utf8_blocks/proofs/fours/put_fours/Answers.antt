@@ -1,4 +1,4 @@
-use Rattle.std.proofs.Common.{◌++◌, take, drop, ap, ◌∙◌, arith}
+use Rattle.std.proofs.Common.{◌++◌, take, drop, ap, ◌∙◌, arith, rules}
 use Rattle.utf16_from_utf8.proofs.AppendLemmas.{added_bytes-text}
 use Rattle.utf8_blocks.proofs.WrittenLemmas.{more-written}
 use Rattle.utf8_blocks.proofs.fours.put_fours.Goals as goal
@@ -15,6 +15,7 @@ loop-read-preserved g c =
       done =
           more-written big bytes c.loop-read.out wrote.new.out c.loop-read.read c.loop-read.written 16 wrote.result now.done (omega (arith, now.done.within, c.loop-read-test.true)) utf8
           (wrote.ensures.bytes 0 0 ∙ ap (λ t. take c.loop-read.written c.loop-read.out ++ t) (added_bytes-text big next utf8))
-          (omega (arith, wrote.ensures.written_to));
+          (omega (arith, wrote.ensures.written_to)) (search rules);
       advances = omega (arith, now.advances);
+      stays = λ same. absurd (omega (arith, same, now.advances));
     }

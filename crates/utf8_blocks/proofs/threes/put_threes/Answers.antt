@@ -1,4 +1,4 @@
-use Rattle.std.proofs.Common.{◌++◌, take, drop, subst, ap, sym, ◌∙◌, arith}
+use Rattle.std.proofs.Common.{◌++◌, take, drop, subst, ap, sym, ◌∙◌, arith, rules}
 use Rattle.std.specs.Str.{IsUtf8}
 use Rattle.utf16_from_utf8.specs.Added.{added_bytes}
 use Rattle.utf16_from_utf8.proofs.AppendLemmas.{added_bytes-text}
@@ -17,6 +17,7 @@ loop-read-preserved g c =
       done =
           more-written big bytes c.loop-read.out wrote.new.out c.loop-read.read c.loop-read.written 48 wrote.result now.done (omega (arith, now.done.within, c.loop-read-test.true)) utf8
           (wrote.ensures.bytes 0 0 ∙ ap (λ t. take c.loop-read.written c.loop-read.out ++ t) (ap (added_bytes big 0 0) (sym c.in_threes.ensures) ∙ added_bytes-text big next utf8))
-          (omega (arith, wrote.ensures.written_to));
+          (omega (arith, wrote.ensures.written_to)) (search rules);
       advances = omega (arith, now.advances);
+      stays = λ same. absurd (omega (arith, same, now.advances));
     }

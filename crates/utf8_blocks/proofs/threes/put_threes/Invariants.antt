@@ -1,4 +1,4 @@
-use Rattle.std.proofs.Common.{◌-◌, ◌≤◌, length}
+use Rattle.std.proofs.Common.{◌≡◌, ◌-◌, ◌≤◌, length}
 use Rattle.utf8_blocks.specs.Written.{IsWritten}
 use Rattle.utf8_blocks.proofs.threes.put_threes.Given as goal
 
@@ -6,6 +6,7 @@ abbrev pub invariant-loop-read : goal.invariant-loop-read
 invariant-loop-read g l = record {
   done : IsWritten g.E.Utf16Order.BIG l.bytes l.out l.read l.written;
   advances : l.from ≤ l.read;
+  stays : l.read ≡ l.from → l.written ≡ l.end;
 }
 
 abbrev pub decreases-loop-read : goal.decreases-loop-read

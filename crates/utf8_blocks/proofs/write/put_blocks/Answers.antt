@@ -5,4 +5,4 @@ use Rattle.utf8_blocks.proofs.write.put_blocks.Goals as goal
 pub returns-then-stays-clause-stop : goal.returns-then-stays-clause-stop
 returns-then-stays-clause-stop g c block =
     let stays = c.if-stays.true in
-    c.put_next-next.ensures.stop stays (subst (IsBlock c.args.bytes.now) stays block)
+    absurd (c.put_next-next.ensures.stop stays (subst (IsBlock c.args.bytes.now) stays block))
