@@ -145,3 +145,11 @@ Puts-front {Gives} most rest old new at len last piece =
       gives = subst (λ i. Gives i piece.added) (take-take len most rest (omega arith)) piece.gives;
       bytes = piece.bytes;
     }
+
+-- what was written of the first bytes of the input
+pub Wrote-front : {Gives : List ℕ → List ℕ → Type 0} (most : ℕ) (input to : List ℕ) (read written : ℕ) → Wrote Gives (take most input) to read written → Wrote Gives input to read written
+Wrote-front {Gives} most input to read written front = record {
+  within = omega (arith, front.within, length-take most input);
+  fits = front.fits;
+  gives = subst (λ i. Gives i (take written to)) (take-take read most input (omega (arith, front.within, length-take most input))) front.gives;
+}

@@ -12,10 +12,6 @@ use crate::progress::{Progress, Stop, put};
 // when they are written.
 const TESTED_LEN: usize = 8192;
 
-// Where so many of them were written while they were validated, the others are left for the next
-// part.
-const NEARLY_TESTED: usize = TESTED_LEN - 64;
-
 // The most bytes that are written through a buffer on the stack, and the length of that buffer:
 // what `write` needs for them in both directions; and the same of few bytes.
 const BUFFERED_LEN: usize = 256;
@@ -27,7 +23,7 @@ const FEW_LEN: usize = 32;
 const FEW_BUFFER_LEN: usize = 176;
 
 // Texts of at least so many bytes, and all others that fit, are written directly to their place.
-const MANY: usize = 256;
+pub(crate) const MANY: usize = 256;
 
 // Fewer bytes than these are written character by character, and fewer than these that surely fit,
 // if they are not all.
@@ -130,17 +126,10 @@ pub trait Direction {
         ensures len { result ≡ length (other text.now) };
 
     /// Writes a valid prefix, perhaps an empty one, in the second encoding to the start of a
-    /// buffer, and validates it while it writes it. Returns the number of bytes read and the number
-    /// of bytes written. What is left needs no more than the space that is left.
-    ///
-    /// # Precondition
-    ///
-    /// The buffer has the space that `room_for` gives.
+    /// buffer, as far as it fits there, and validates it while it writes it. Returns the number of
+    /// bytes read and the number of bytes written.
     fn write_front(rest: &[u8], to: &mut [u8]) -> (usize, usize)
-        requires { room_for (length rest.now) ≤ length to.old }
-        ensures wrote { Wrote (Gives IsValid other) rest.now to.new result.0 result.1 }
-        ensures left { result.1 + room_for (length rest.now - result.0)
-            ≤ room_for (length rest.now) };
+        ensures { Wrote (Gives IsValid other) rest.now to.new result.0 result.1 };
 
     /// States what the proof of `transcode` needs, and does nothing: fewer bytes need no more
     /// space, and a few fit in the buffer on the stack; two texts together are a text, and so is
@@ -233,8 +222,38 @@ fn transcode_many<D: Direction>(input: &[u8], to: &mut [u8]) -> Progress
 }
 
 // Writes a valid prefix of the bytes, perhaps an empty one, at `at`; returns how many bytes of it
-// were read, and where the written bytes end. `before` valid bytes precede `rest`.
+// were read, and where the written bytes end. `before` valid bytes precede `rest`. What goes is
+// validated while it is written, and a part of the others before it is.
 fn put_piece<D: Direction>(rest: &[u8], before: usize, to: &mut [u8], at: usize) -> (usize, usize)
+    requires { at ≤ length to.old }
+    ensures { Puts (Gives D.IsValid D.other) rest.now to.old to.new at result.0 result.1 }
+{
+    D::laws();
+    let (read, written) = put_front::<D>(rest, to, at);
+    if read == rest.len() {
+        return (read, written);
+    }
+    let (len, end) = put_left::<D>(&rest[read..], before.saturating_add(read), to, written);
+    (read + len, end)
+}
+
+// Does the same, and validates the bytes while it writes them.
+#[inline(always)]
+fn put_front<D: Direction>(rest: &[u8], to: &mut [u8], at: usize) -> (usize, usize)
+    requires { at ≤ length to.old }
+    ensures { Puts (Gives D.IsValid D.other) rest.now to.old to.new at result.0 result.1 }
+{
+    D::laws();
+    if rest.len() < D::FRONT_LEN {
+        return (0, at);
+    }
+    let (read, written) = D::write_front(rest, &mut to[at..]);
+    (read, at + written)
+}
+
+// Does the same, and validates the bytes before it writes them: as many as surely fit, directly to
+// their place, or a few.
+fn put_left<D: Direction>(rest: &[u8], before: usize, to: &mut [u8], at: usize) -> (usize, usize)
     requires { at ≤ length to.old }
     ensures { Puts (Gives D.IsValid D.other) rest.now to.old to.new at result.0 result.1 }
 {
@@ -246,39 +265,10 @@ fn put_piece<D: Direction>(rest: &[u8], before: usize, to: &mut [u8], at: usize)
     if most < MANY.min(rest.len()) {
         return put_few::<D>(rest, to, at);
     }
-    put_many::<D>(&rest[..most], before, to, at)
+    put_valid::<D>(&rest[..most], before, to, at)
 }
 
-// Does the same for bytes that surely fit, directly to their place: first for those that are
-// validated while they are written, and then for the others.
-fn put_many<D: Direction>(rest: &[u8], before: usize, to: &mut [u8], at: usize) -> (usize, usize)
-    requires { at + D.room_for (length rest.now) ≤ length to.old }
-    ensures { Puts (Gives D.IsValid D.other) rest.now to.old to.new at result.0 result.1 }
-{
-    D::laws();
-    if rest.len() < D::FRONT_LEN {
-        return put_valid::<D>(rest, before, to, at);
-    }
-    let (read, written) = put_front::<D>(rest, to, at);
-    if read == rest.len() || read >= NEARLY_TESTED {
-        return (read, written);
-    }
-    let (len, end) = put_valid::<D>(&rest[read..], before.saturating_add(read), to, written);
-    (read + len, end)
-}
-
-// Does the same, and validates the bytes while it writes them.
-#[inline(always)]
-fn put_front<D: Direction>(rest: &[u8], to: &mut [u8], at: usize) -> (usize, usize)
-    requires { at + D.room_for (length rest.now) ≤ length to.old }
-    ensures wrote { Puts (Gives D.IsValid D.other) rest.now to.old to.new at result.0 result.1 }
-    ensures left { result.1 + D.room_for (length rest.now - result.0) ≤ length to.new }
-{
-    let (read, written) = D::write_front(rest, &mut to[at..]);
-    (read, at + written)
-}
-
-// Does the same, and validates the bytes before it writes them.
+// Does the same for bytes that surely fit.
 #[inline(always)]
 fn put_valid<D: Direction>(rest: &[u8], before: usize, to: &mut [u8], at: usize) -> (usize, usize)
     requires { at + D.room_for (length rest.now) ≤ length to.old }

@@ -7,7 +7,7 @@ ghost use Rattle.utf16_units.specs.IllFormed.{IsIllFormedAt};
 ghost use Rattle.utf16_decode.specs.Wrote.{TranscodesToUtf8, Wrote};
 ghost use Rattle.utf16_decode.specs.Stops.{IsIllFormedUtf16, StopsDecoding};
 
-use crate::direction::{Direction, transcode};
+use crate::direction::{Direction, MANY, transcode};
 use crate::progress::{Progress, put};
 use std::marker::PhantomData;
 use utf16_to_utf8::{SLACK, write_before_surrogates, write_eight_ascii, write_utf8};
@@ -107,7 +107,7 @@ impl<E: Utf16Order> Direction for ToUtf8<E> {
 
     #[inline(always)]
     fn most(room: usize) -> usize {
-        room.saturating_sub(SLACK) / 3 * 2
+        surely_taken(room)
     }
 
     #[inline(always)]
@@ -117,8 +117,21 @@ impl<E: Utf16Order> Direction for ToUtf8<E> {
 
     #[inline(always)]
     fn write_front(rest: &[u8], to: &mut [u8]) -> (usize, usize) {
-        write_before_surrogates::<E>(rest, to)
+        let most = surely_taken(to.len()).min(rest.len());
+        if most < MANY.min(rest.len()).max(1) {
+            return (0, 0);
+        }
+        write_before_surrogates::<E>(&rest[..most], to)
     }
+}
+
+// Returns how many bytes of UTF-16 surely fit in `room` bytes of UTF-8, with what the writer needs
+// beside them.
+#[inline(always)]
+fn surely_taken(room: usize) -> usize
+    ensures { result ≡ (room - SLACK) / 3 * 2 }
+{
+    room.saturating_sub(SLACK) / 3 * 2
 }
 
 // Returns the length of the longest valid prefix. A function of its own, so that the writer does

@@ -1,5 +1,0 @@
-use Rattle.utf16_decode.proofs.WroteLemmas.{Puts-then}
-use Rattle.utf16_decode.proofs.direction.put_many.Goals as goal
-
-pub returns : goal.returns
-returns g c = Puts-then c.laws.ensures.joins _ _ _ _ _ _ _ _ _ c.put_front-read.ensures.wrote c.put_valid-len.ensures
