@@ -12,6 +12,10 @@ use crate::progress::{Progress, Stop, put};
 // when they are written.
 const TESTED_LEN: usize = 8192;
 
+// Where so many bytes were validated while they were written, the next ones are too, behind one
+// character.
+const FAR: usize = 1024;
+
 // The most bytes that are written through a buffer on the stack, and the length of that buffer:
 // what `write` needs for them in both directions; and the same of few bytes.
 const BUFFERED_LEN: usize = 256;
@@ -230,7 +234,7 @@ fn put_piece<D: Direction>(rest: &[u8], before: usize, to: &mut [u8], at: usize)
 {
     D::laws();
     let (read, written) = put_front::<D>(rest, to, at);
-    if read == rest.len() {
+    if read == rest.len() || read >= FAR {
         return (read, written);
     }
     let (len, end) = put_left::<D>(&rest[read..], before.saturating_add(read), to, written);

@@ -25,12 +25,12 @@ pub(crate) fn put_fours<E: Utf16Order>(
     ensures advances { from ≤ result.0 }
     ensures stays { result.0 ≡ from → result.1 ≡ end }
 {
+    // Four characters of four bytes take as many bytes in UTF-16.
+    let most = (bytes.len() - from).min(out.len() - end);
+    let last = from + most / 16 * 16;
     let mut read = from;
     let mut written = end;
-    while bytes.len() - read >= 16 {
-        if out.len() - written < 16 {
-            break;
-        }
+    while read < last {
         let block = u8x16::from_slice(&bytes[read..]);
         if !are_characters(block) {
             break;

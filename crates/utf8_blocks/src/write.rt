@@ -37,6 +37,9 @@ pub fn write_blocks<E: Utf16Order>(bytes: &[u8], out: &mut [u8]) -> (usize, usiz
     if bytes.len() - len < BLOCK_LEN {
         return (len, 2 * len);
     }
+    if out.len() - 2 * len < BLOCK_SPACE {
+        return (len, 2 * len);
+    }
     put_blocks::<E>(bytes, out, len)
 }
 

@@ -13,9 +13,13 @@ loop-read-preserved g c =
     let utf8 = c.are_characters.ensures.well_formed c.if-not-are_characters.false in
     record {
       done =
-          more-written big bytes c.loop-read.out wrote.new.out c.loop-read.read c.loop-read.written 16 wrote.result now.done (omega (arith, now.done.within, c.loop-read-test.true)) utf8
+          more-written big bytes c.loop-read.out wrote.new.out c.loop-read.read c.loop-read.written 16 wrote.result now.done (omega (arith, now.end, now.whole, c.loop-read-test.true)) utf8
           (wrote.ensures.bytes 0 0 ∙ ap (λ t. take c.loop-read.written c.loop-read.out ++ t) (added_bytes-text big next utf8))
           (omega (arith, wrote.ensures.written_to)) (search rules);
       advances = omega (arith, now.advances);
       stays = λ same. absurd (omega (arith, same, now.advances));
+      before = omega (arith, now.whole, c.loop-read-test.true);
+      whole = omega (arith, now.whole, c.loop-read-test.true);
+      space = search rules;
+      end = now.end;
     }

@@ -10,6 +10,11 @@ returns-then-bytes-len-lt-BLOCK_LEN g c =
       stop = λ block. absurd (omega (arith, block.0, c.if-bytes-len-lt-BLOCK_LEN.true));
     }
 
+pub returns-then-out-len-lt-BLOCK_SPACE-clause-written : goal.returns-then-out-len-lt-BLOCK_SPACE-clause-written
+returns-then-out-len-lt-BLOCK_SPACE-clause-written g c =
+    let ascii = c.write_ascii-len.ensures in
+    ascii-first g.E.Utf16Order.BIG c.args.bytes.now c.write_ascii-len.new.out c.min-most.result c.write_ascii-len.result ascii.within ascii.ascii ascii.bytes (search rules)
+
 pub put_blocks-requires : goal.put_blocks-requires
 put_blocks-requires g c =
     let ascii = c.write_ascii-len.ensures in
