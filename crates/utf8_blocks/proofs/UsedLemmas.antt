@@ -1,5 +1,5 @@
 -- How many of the next sixty-four bytes are of whole characters, and what they add.
-use Rattle.std.proofs.Common.{◌≡◌, ℕ, zero, suc, ◌+◌, ◌-◌, ◌*◌, ◌<◌, ◌≤◌, ◌⊎◌, ⊎_elim, inl, inr, Bool, List, [], ◌∷◌, ◌++◌, append-nil, append_assoc, drop-cons, length, length-append, length-drop, length-take-le, take, drop, slice_index, subst, refl, sym, ap, ap₂, ◌∙◌, arith}
+use Rattle.std.proofs.Common.{◌≡◌, ℕ, suc, ◌+◌, ◌-◌, ◌<◌, ◌≤◌, ◌⊎◌, ⊎_elim, inl, inr, Bool, List, [], ◌∷◌, ◌++◌, append-nil, append_assoc, drop-cons, length, length-append, length-drop, length-take-le, take, drop, slice_index, subst, refl, sym, ap, ap₂, ◌∙◌, arith}
 use Rattle.std.proofs.Math.Seq.{take-add}
 use Rattle.std.proofs.lemmas.Bool.{cases_lt}
 use Rattle.std.proofs.lemmas.List.{get_or-drop, get_or-take, take-take, take_at}
@@ -14,7 +14,7 @@ use Rattle.utf16_from_utf8.proofs.RunLemmas.{added-bound}
 use Rattle.utf8_blocks.specs.Follow.{AreUsed, FollowTo}
 use Rattle.utf8_blocks.specs.Written.{IsWritten}
 use Rattle.utf8_blocks.proofs.FollowLemmas.{behind-at, behind-take, follows-at}
-use Rattle.utf8_blocks.proofs.TextLemmas.{EndsWhole, text-utf8}
+use Rattle.utf8_blocks.proofs.TextLemmas.{text-utf8}
 use Rattle.utf8_blocks.proofs.WrittenLemmas.{more-written}
 
 -- the next `used` bytes are a text, and all sixty-four add `over` bytes more than these

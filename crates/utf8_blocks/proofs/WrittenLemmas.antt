@@ -29,7 +29,7 @@ more-written big bytes old new read written k to done more utf8 wrote short fits
 
 -- ASCII at the start of the first `most` bytes
 module _ (big : Bool) (bytes new : List ℕ) (most len : ℕ) (within : len ≤ length (take most bytes)) (ascii : IsAscii (take len (take most bytes)))
-  (wrote : take (2 * len) new ≡ encode big (chars (take len (take most bytes)))) where
+    (wrote : take (2 * len) new ≡ encode big (chars (take len (take most bytes)))) where
   len-within : len ≤ length bytes
   len-within = omega (arith, within, length-take most bytes)
 

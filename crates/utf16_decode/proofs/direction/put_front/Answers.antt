@@ -1,5 +1,5 @@
 use Rattle.std.proofs.Common.{refl, rules}
-use Rattle.utf16_decode.proofs.WroteLemmas.{Puts-none, Puts-put}
+use Rattle.utf16_decode.proofs.WroteLemmas.{Puts-put}
 use Rattle.utf16_decode.proofs.direction.put_front.Goals as goal
 
 pub returns : goal.returns

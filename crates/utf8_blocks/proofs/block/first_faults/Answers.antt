@@ -1,4 +1,4 @@
-use Rattle.std.proofs.Common.{◌+◌, ◌<◌, ◌↔◌, ◌∷◌, ◌∙◌, ℕ, drop, slice_index, sym, arith}
+use Rattle.std.proofs.Common.{◌+◌, ◌<◌, ◌↔◌, ◌∷◌, ℕ, drop, slice_index, sym, arith}
 use Rattle.std.proofs.lemmas.Simd.{get_or-chunk}
 use Rattle.utf8_blocks.specs.Follow.{Follows, limit_of}
 use Rattle.utf8_blocks.proofs.FollowLemmas.{behind-below, first-one, first-three, first-two, follows-at}

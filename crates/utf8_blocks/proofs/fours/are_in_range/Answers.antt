@@ -1,6 +1,6 @@
 use Rattle.std.proofs.Common.{◌≡◌, ◌+◌, ◌*◌, ◌/◌, ◌%◌, ◌^◌, ◌<◌, bit_and, slice_index, ap, ap₂, ◌∙◌, arith}
 use Rattle.std.proofs.lemmas.Nat.{and_mask}
-use Rattle.utf8_blocks.proofs.FoursLemmas.{first-lane, plane, second-lane}
+use Rattle.utf8_blocks.proofs.FoursLemmas.{first-lane, second-lane}
 use Rattle.utf8_blocks.proofs.fours.are_in_range.Goals as goal
 
 pub returns : goal.returns

@@ -1,4 +1,4 @@
-use Rattle.std.proofs.Common.{◌≡◌, subst, sym, arith}
+use Rattle.std.proofs.Common.{◌≡◌, subst, arith}
 use Rattle.utf8_blocks.specs.Follow.{AreBelow}
 use Rattle.utf8_blocks.proofs.write.put_next.Goals as goal
 
