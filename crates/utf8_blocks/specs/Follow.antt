@@ -17,7 +17,8 @@ pub record Follows (b3 b2 b1 b0 : ℕ) : Type 0 where
 abbrev pub FollowTo : ℕ → List ℕ → ℕ → Type 0
 FollowTo n bytes at =
     (i : ℕ) → i < n
-    → Follows (slice_index (0 ∷ 0 ∷ 0 ∷ drop at bytes) i) (slice_index (0 ∷ 0 ∷ drop at bytes) i) (slice_index (0 ∷ drop at bytes) i) (slice_index bytes (at + i))
+    → Follows (slice_index (0 ∷ 0 ∷ 0 ∷ drop at bytes) i) (slice_index (0 ∷ 0 ∷ drop at bytes) i)
+    (slice_index (0 ∷ drop at bytes) i) (slice_index bytes (at + i))
 
 -- there are sixty-four bytes more, and they begin a well-formed text
 abbrev pub IsBlock : List ℕ → ℕ → Type 0
@@ -34,8 +35,11 @@ limit_of most = if most == 2 then 0xE0 else (if most == 3 then 0xF0 else 0x100)
 -- one byte of a character of several, two of one of three or more, or three of one of four
 abbrev pub AreUsed : List ℕ → ℕ → ℕ → Type 0
 AreUsed bytes at used =
-    ((used ≡ 61) × (0xF0 ≤ slice_index bytes (at + 61))) ⊎ ((used ≡ 62) × (0xE0 ≤ slice_index bytes (at + 62))) ⊎ ((used ≡ 63) × (0xC0 ≤ slice_index bytes (at + 63)))
-    ⊎ ((used ≡ 64) × (slice_index bytes (at + 63) < 0xC0) × (slice_index bytes (at + 62) < 0xE0) × (slice_index bytes (at + 61) < 0xF0))
+    ((used ≡ 61) × (0xF0 ≤ slice_index bytes (at + 61)))
+    ⊎ ((used ≡ 62) × (0xE0 ≤ slice_index bytes (at + 62)))
+    ⊎ ((used ≡ 63) × (0xC0 ≤ slice_index bytes (at + 63)))
+    ⊎ ((used ≡ 64) × (slice_index bytes (at + 63) < 0xC0) × (slice_index bytes (at + 62) < 0xE0)
+    × (slice_index bytes (at + 61) < 0xF0))
 
 -- b0 after b2 and b1, where characters have at most three bytes
 pub record FollowsTwo (limit b2 b1 b0 : ℕ) : Type 0 where
@@ -45,4 +49,6 @@ pub record FollowsTwo (limit b2 b1 b0 : ℕ) : Type 0 where
   pub one : b1 < limit
 
 abbrev pub FollowLanes : ℕ → List ℕ → List ℕ → List ℕ → Type 0
-FollowLanes limit b2 b1 block = (i : ℕ) → i < 16 → FollowsTwo limit (slice_index b2 i) (slice_index b1 i) (slice_index block i)
+FollowLanes limit b2 b1 block =
+    (i : ℕ) → i < 16
+    → FollowsTwo limit (slice_index b2 i) (slice_index b1 i) (slice_index block i)
