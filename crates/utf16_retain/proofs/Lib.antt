@@ -1,4 +1,5 @@
 pub mod Asked
 pub mod PlainUnits
 pub mod KeptUnits
+pub mod NextChar
 pub mod Retained

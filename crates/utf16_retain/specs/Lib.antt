@@ -1,1 +1,2 @@
 pub mod Retain
+pub mod Kept

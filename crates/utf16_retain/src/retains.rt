@@ -1,7 +1,8 @@
 //! Retains the characters of UTF-16 that a predicate accepts, in place.
 
-ghost use Rattle.std.specs.Prelude.{◌≡◌, ◌⊎◌, ◌+◌, ◌<◌, ◌≤◌, [], ◌∷◌, ◌++◌, IfSome, List, ℕ, length, take, drop};
+ghost use Rattle.std.specs.Prelude.{◌≡◌, ◌⊎◌, ◌+◌, ◌*◌, ◌<◌, ◌≤◌, [], ◌∷◌, ◌++◌, All, IfSome, List, ℕ, length, take, drop};
 ghost use Rattle.utf16_units.specs.Encoding.{Encodes, IsUtf16, char_size, encode, text_of};
+ghost use Rattle.utf16_retain.specs.Kept.{KeepsNext};
 ghost use Rattle.utf16_retain.specs.Retain.{MayBeAsked, RetainsTo};
 
 use crate::blocks::{BLOCK_BYTES, HALF, UNITS, keep_block, keep_each, plain_units};
@@ -34,45 +35,128 @@ pub fn retain_in_place<E: Utf16Order, F: FnMut(char) -> bool>(
         (text_of E.BIG (take result bytes.new)) keep.new }
     ensures within { result ≤ length bytes.old }
 {
-    // Sixteen characters of one unit each are tested together. If there is a surrogate pair among
-    // the next sixteen units, the first eight are tested together if they come before it, and
-    // otherwise those before it one by one.
     let mut kept = 0;
     let mut read = 0;
     while read < bytes.len() {
-        let Some(c) = single_at::<E>(bytes, read) else {
-            let (c, size) = char_from::<E>(bytes, read);
-            kept = keep_one::<E, F>(bytes, keep, kept, read, c, size);
-            read += size;
-            continue;
-        };
-        if bytes.len() - read >= BLOCK_BYTES {
-            let (units, plain) = plain_units::<E>(&bytes[read..]);
-            if plain == UNITS {
-                kept = keep_block::<E, F, UNITS>(bytes, keep, kept, read, &units);
-                read += BLOCK_BYTES;
-                continue;
-            }
-            if plain >= HALF {
-                let half = units.first_chunk::<HALF>().unwrap();
-                kept = keep_block::<E, F, HALF>(bytes, keep, kept, read, half);
-                read += BLOCK_BYTES / 2;
-                continue;
-            }
-            if plain > 0 {
-                kept = keep_each::<E, F>(bytes, keep, kept, read, &units[..plain]);
-                read += 2 * plain;
-                continue;
-            }
-        }
-        kept = keep_one::<E, F>(bytes, keep, kept, read, c, 2);
-        read += 2;
+        (kept, read) = keep_next::<E, F>(bytes, keep, kept, read);
     }
     kept
 }
 
-// The character at an index, if it has one unit. Those of one unit have their own branch in the
-// loop, so that the next index does not wait for a size computed from what was read.
+// Calls the predicate on the next character, or on those of the next block in turn, and moves those
+// kept down. Returns the end of those kept and the start of the next character.
+#[inline(always)]
+fn keep_next<E: Utf16Order, F: FnMut(char) -> bool>(
+    bytes: &mut [u8],
+    keep: &mut F,
+    kept: usize,
+    read: usize,
+) -> (usize, usize)
+    requires down { kept ≤ read }
+    requires within { read < length bytes.old }
+    requires well_formed { IsUtf16 E.BIG (drop read bytes.old) }
+    requires askable { MayBeAsked F.FnMut keep.old (text_of E.BIG (drop read bytes.old)) }
+    ensures retained { KeepsNext F.FnMut E.BIG keep.old bytes.old kept read
+        keep.new bytes.new result.0 result.1 }
+    ensures advances { read < result.1 }
+    ensures down { result.0 ≤ result.1 }
+    ensures within { result.1 ≤ length bytes.new }
+{
+    let Some(c) = single_at::<E>(bytes, read) else {
+        let (c, size) = char_from::<E>(bytes, read);
+        return keep_char::<E, F>(bytes, keep, kept, read, c, size);
+    };
+    // Sixteen characters of one unit each are tested together. If there is a surrogate pair among
+    // the next sixteen units, the first eight are tested together if they come before it, and
+    // otherwise those before it one by one.
+    if bytes.len() - read >= BLOCK_BYTES {
+        let (units, plain) = plain_units::<E>(&bytes[read..]);
+        if plain == UNITS {
+            return keep_units::<E, F, UNITS>(bytes, keep, kept, read, &units);
+        }
+        if plain >= HALF {
+            let half = units.first_chunk::<HALF>().unwrap();
+            return keep_units::<E, F, HALF>(bytes, keep, kept, read, half);
+        }
+        if plain > 0 {
+            return keep_front::<E, F>(bytes, keep, kept, read, &units[..plain]);
+        }
+    }
+    keep_char::<E, F>(bytes, keep, kept, read, c, 2)
+}
+
+// Calls the predicate on each character of a block or of half of one, in turn, and moves those kept
+// down. Returns the end of those kept and the start of the next character.
+#[inline(always)]
+fn keep_units<E: Utf16Order, F: FnMut(char) -> bool, const N: usize>(
+    bytes: &mut [u8],
+    keep: &mut F,
+    kept: usize,
+    read: usize,
+    units: &[u16; N],
+) -> (usize, usize)
+    requires down { kept ≤ read }
+    requires within { read + 2 * N ≤ length bytes.old }
+    requires are_units { All (λ unit. unit < 0x1_0000) units.now }
+    requires here { Encodes E.BIG units.now (take (2 * N) (drop read bytes.old)) }
+    requires askable { MayBeAsked F.FnMut keep.old units.now }
+    ensures retained { KeepsNext F.FnMut E.BIG keep.old bytes.old kept read
+        keep.new bytes.new result.0 result.1 }
+    ensures advances { result.1 ≡ read + 2 * N }
+    ensures down { result.0 ≤ result.1 }
+{
+    let end = keep_block::<E, F, N>(bytes, keep, kept, read, units);
+    (end, read + 2 * N)
+}
+
+// Does the same for the few characters before a surrogate.
+#[inline(always)]
+fn keep_front<E: Utf16Order, F: FnMut(char) -> bool>(
+    bytes: &mut [u8],
+    keep: &mut F,
+    kept: usize,
+    read: usize,
+    units: &[u16],
+) -> (usize, usize)
+    requires down { kept ≤ read }
+    requires within { read + 2 * length units.now ≤ length bytes.old }
+    requires here { Encodes E.BIG units.now (take (2 * length units.now) (drop read bytes.old)) }
+    requires askable { MayBeAsked F.FnMut keep.old units.now }
+    ensures retained { KeepsNext F.FnMut E.BIG keep.old bytes.old kept read
+        keep.new bytes.new result.0 result.1 }
+    ensures advances { result.1 ≡ read + 2 * length units.now }
+    ensures down { result.0 ≤ result.1 }
+{
+    let end = keep_each::<E, F>(bytes, keep, kept, read, units);
+    (end, read + 2 * units.len())
+}
+
+// Does the same for one character.
+#[inline(always)]
+fn keep_char<E: Utf16Order, F: FnMut(char) -> bool>(
+    bytes: &mut [u8],
+    keep: &mut F,
+    kept: usize,
+    read: usize,
+    c: char,
+    size: usize,
+) -> (usize, usize)
+    requires down { kept ≤ read }
+    requires char_len { (size ≡ 2) ⊎ (size ≡ 4) }
+    requires within { read + size ≤ length bytes.old }
+    requires here { Encodes E.BIG (c ∷ []) (take size (drop read bytes.old)) }
+    requires askable { MayBeAsked F.FnMut keep.old (c ∷ []) }
+    ensures retained { KeepsNext F.FnMut E.BIG keep.old bytes.old kept read
+        keep.new bytes.new result.0 result.1 }
+    ensures advances { result.1 ≡ read + size }
+    ensures down { result.0 ≤ result.1 }
+{
+    let end = keep_one::<E, F>(bytes, keep, kept, read, c, size);
+    (end, read + size)
+}
+
+// The character at an index, if it has one unit. Those of one unit have their own branch in
+// `keep_next`, so that the next index does not wait for a size computed from what was read.
 #[inline]
 fn single_at<E: Utf16Order>(bytes: &[u8], at: usize) -> Option<char>
     requires within { at < length bytes.now }

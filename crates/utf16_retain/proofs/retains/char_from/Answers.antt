@@ -2,7 +2,7 @@ use Rattle.std.proofs.Common.{◌∙◌, ◌-◌, ap, arith, drop, length, subst
 use Rattle.std.proofs.lemmas.List.{length-drop, take_all}
 use Rattle.utf16_units.specs.Encoding.{Encodes, text_of}
 use Rattle.utf16_units.proofs.EncodingLemmas.{Encodes-text_of}
-use Rattle.utf16_retain.proofs.Retained.{first-bytes}
+use Rattle.utf16_retain.proofs.NextChar.{first-bytes}
 use Rattle.utf16_retain.proofs.retains.char_from.Goals as goal
 
 pub returns-clause-char : goal.returns-clause-char
