@@ -1,5 +1,5 @@
 -- What sixteen more bytes add.
-use Rattle.std.proofs.Common.{◌≡◌, ℕ, zero, suc, ◌+◌, ◌-◌, ◌≤◌, Bool, List, ◌++◌, length, length-drop, length-take-le, drop-drop, take, drop, slice_index, ap, ap₂, ◌∙◌, arith}
+use Rattle.std.proofs.Common.{◌≡◌, ℕ, zero, suc, ◌+◌, ◌-◌, ◌≤◌, Bool, List, ◌++◌, append_assoc, length, length-drop, length-take-le, drop-drop, take, drop, slice_index, sym, ap, ap₂, ◌∙◌, arith}
 use Rattle.std.proofs.Math.Seq.{take-add}
 use Rattle.std.proofs.lemmas.List.{get_or-drop, get_or-take}
 use Rattle.std.specs.Simd.Lanes.{chunk}
@@ -24,3 +24,13 @@ added-more big bytes at (suc (suc k)) some more =
     ap (added_bytes big 0 0) (take-add n 16 rest ∙ ap (λ t. front ++ take 16 t) (drop-drop n at bytes))
     ∙ added_bytes-append big 0 0 front next
     ∙ ap₂ (λ x y. added_bytes big 0 0 front ++ added_bytes big x y next) two one
+
+-- they are written behind what was written before
+pub written-more : (big : Bool) (bytes old done more : List ℕ) (at k : ℕ) → 2 ≤ k → at + k + 16 ≤ length bytes → done ≡ old ++ added_bytes big 0 0 (take k (drop at bytes))
+    → more ≡ done ++ added_bytes big (slice_index bytes (at + k - 2)) (slice_index bytes (at + k - 1)) (chunk (at + k) 16 bytes) → more ≡ old ++ added_bytes big 0 0 (take (k + 16) (drop at bytes))
+written-more big bytes old done more at k some within before step =
+    let next = added_bytes big (slice_index bytes (at + k - 2)) (slice_index bytes (at + k - 1)) (chunk (at + k) 16 bytes) in
+    step
+    ∙ ap (λ t. t ++ next) before
+    ∙ append_assoc old (added_bytes big 0 0 (take k (drop at bytes))) next
+    ∙ ap (λ t. old ++ t) (sym (added-more big bytes at k some within))

@@ -6,10 +6,10 @@ use Rattle.std.proofs.lemmas.Simd.{get_or-chunk}
 use Rattle.std.specs.Simd.Lanes.{chunk}
 use Rattle.utf16_units.specs.Lanes.{HasLanes}
 use Rattle.utf16_from_utf8.specs.Kind.{AreBefore}
-use Rattle.utf8_blocks.specs.Follow.{AreBelow, FollowLanes, FollowTo, Follows, FollowsTwo}
+use Rattle.utf8_blocks.specs.Follow.{AreBelow, FollowTo, Follows, FollowsAny, FollowsTwo}
 
-pub follows-two-at : (limit x y z p q r : ℕ) → p ≡ x → q ≡ y → r ≡ z → FollowsTwo limit x y z → FollowsTwo limit p q r
-follows-two-at limit x y z p q r e f g follows = subst (λ t. FollowsTwo limit t q r) (sym e) (subst (λ t. FollowsTwo limit x t r) (sym f) (subst (λ t. FollowsTwo limit x y t) (sym g) follows))
+pub same-three : (P : ℕ → ℕ → ℕ → Type 0) (x y z p q r : ℕ) → p ≡ x → q ≡ y → r ≡ z → P x y z → P p q r
+same-three P x y z p q r e f g is = subst (λ t. P t q r) (sym e) (subst (λ t. P x t r) (sym f) (subst (λ t. P x y t) (sym g) is))
 
 pub follows-at : (x y z w p q r s : ℕ) → p ≡ x → q ≡ y → r ≡ z → s ≡ w → Follows x y z w → Follows p q r s
 follows-at x y z w p q r s e f g h follows =
@@ -91,6 +91,10 @@ pub first-three : (bytes b3 b2 b1 : List ℕ) (at : ℕ) → AreBefore 0 0 (chun
     → (i : ℕ) → i < 16 → slice_index b3 i ≡ slice_index (0 ∷ 0 ∷ 0 ∷ drop at bytes) i
 first-three bytes b3 b2 b1 at before third i below = third.lanes i below ∙ later-lanes b2 (0 ∷ 0 ∷ drop at bytes) (first-two bytes b2 b1 at before) i below
 
+-- what is said of a byte and the two before it holds at a place
+abbrev pub At : (ℕ → ℕ → ℕ → Type 0) → List ℕ → ℕ → ℕ → Type 0
+At P bytes at i = P (slice_index (0 ∷ 0 ∷ drop at bytes) i) (slice_index (0 ∷ drop at bytes) i) (slice_index bytes (at + i))
+
 -- ---- characters of at most three bytes
 
 -- behind the first byte of three comes no first byte
@@ -101,9 +105,8 @@ apart bytes at n (suc i) below all = ⊎_elim
     (λ (a : 0xE0 ≤ slice_index (0 ∷ drop at bytes) i). inr (omega (arith, get_or-drop at bytes i 0, ((all i (omega (arith, below))).continues.0 (inl (omega (arith, a)))).1)))
     (cases_lt (slice_index (0 ∷ drop at bytes) i) 0xE0)
 
-pub follows-two : (bytes : List ℕ) (at limit n i : ℕ) → 0 < limit → limit ≤ 0xF0 → i < n → AreBelow n bytes at limit → FollowTo n bytes at
-    → FollowsTwo limit (slice_index (0 ∷ 0 ∷ drop at bytes) i) (slice_index (0 ∷ drop at bytes) i) (slice_index bytes (at + i))
-follows-two bytes at limit n i some most within below all =
+pub follows-two : (bytes : List ℕ) (at limit n : ℕ) → 0 < limit → limit ≤ 0xF0 → AreBelow n bytes at limit → FollowTo n bytes at → (i : ℕ) → i < n → At (FollowsTwo limit) bytes at i
+follows-two bytes at limit n some most below all i within =
     let here = all i within in
     record {
       continues = (
@@ -121,18 +124,50 @@ follows-two bytes at limit n i some most within below all =
       one = behind-below 1 bytes at i n limit some within below;
     }
 
-pub first-lanes : (bytes b2 b1 : List ℕ) (at limit : ℕ) → 0 < limit → limit ≤ 0xF0 → AreBelow 64 bytes at limit → FollowTo 64 bytes at → AreBefore 0 0 (chunk at 16 bytes) b2 b1
-    → FollowLanes limit b2 b1 (chunk at 16 bytes)
-first-lanes bytes b2 b1 at limit some most below all before i few =
-    follows-two-at limit _ _ _ _ _ _ (first-two bytes b2 b1 at before i few) (first-one bytes b2 b1 at before i few) (get_or-chunk at 16 bytes i 0 few)
-    (follows-two bytes at limit 64 i some most (omega (arith, few)) below all)
+-- ---- characters of at most four bytes
 
-pub next-lanes : (bytes b2 b1 : List ℕ) (at k limit : ℕ) → 2 ≤ k → k + 16 ≤ 64 → 0 < limit → limit ≤ 0xF0 → AreBelow 64 bytes at limit → FollowTo 64 bytes at
-    → AreBefore (slice_index bytes (at + k - 2)) (slice_index bytes (at + k - 1)) (chunk (at + k) 16 bytes) b2 b1 → FollowLanes limit b2 b1 (chunk (at + k) 16 bytes)
-next-lanes bytes b2 b1 at k limit two within some most below all before i few =
-    follows-two-at limit _ _ _ _ _ _
-    (before.two.lanes i few ∙ before-two bytes b1 (at + k) i (omega (arith, two)) few before.one.lanes
-    ∙ ap (slice_index bytes) (omega (arith, two)) ∙ sym (behind-at 2 bytes at (k + i) (omega (arith, two))))
-    (before.one.lanes i few ∙ before-one bytes (at + k) i (omega (arith, two)) few ∙ ap (slice_index bytes) (omega (arith, two)) ∙ sym (behind-at 1 bytes at (k + i) (omega (arith, two))))
+-- behind the first byte of four come two continuation bytes
+last : (bytes : List ℕ) (at n i : ℕ) → i < n → FollowTo n bytes at → 0xF0 ≤ slice_index (0 ∷ 0 ∷ 0 ∷ drop at bytes) i
+    → (slice_index (0 ∷ drop at bytes) i < 0xC0) × (slice_index (0 ∷ 0 ∷ drop at bytes) i < 0xC0)
+last bytes at n zero below all first = (omega arith, omega arith)
+last bytes at n (suc zero) below all first = absurd (omega (arith, first))
+last bytes at n (suc (suc i)) below all first =
+    let two = get_or-drop at bytes i 0 in
+    let one = get_or-drop at bytes (suc i) 0 in (
+      omega (arith, one, ((all (suc i) (omega (arith, below))).continues.0 (inr (inl (omega (arith, first))))).1),
+      omega (arith, two, ((all i (omega (arith, below))).continues.0 (inl (omega (arith, first)))).1),
+    )
+
+begins : (bytes : List ℕ) (at n i : ℕ) → i < n → FollowTo n bytes at → slice_index (0 ∷ 0 ∷ drop at bytes) i < 0xF5
+begins bytes at n zero below all = omega arith
+begins bytes at n (suc zero) below all = omega arith
+begins bytes at n (suc (suc i)) below all = ⊎_elim
+    (λ (a : slice_index bytes (at + i) < 0xC0). omega (arith, get_or-drop at bytes i 0, a))
+    (λ a. omega (arith, get_or-drop at bytes i 0, a.1))
+    (all i (omega (arith, below))).begins
+
+pub follows-any : (bytes : List ℕ) (at n : ℕ) → FollowTo n bytes at → (i : ℕ) → i < n → At FollowsAny bytes at i
+follows-any bytes at n all i within = record {
+  continues = λ is. ⊎_elim (λ a. (all i within).continues.0 (inl a)) (λ a. (all i within).continues.0 (inr (inl a))) is;
+  apart = apart bytes at n i within all;
+  last = λ cont. ⊎_elim (λ a. inl a) (λ more. ⊎_elim (λ a. inr (inl a)) (λ a. inr (inr (last bytes at n i within all a))) more) ((all i within).continues.1 cont);
+  begins = begins bytes at n i within all;
+}
+
+-- ---- what holds at each of sixty-four bytes, in lanes
+
+pub first-lanes : (P : ℕ → ℕ → ℕ → Type 0) (bytes b2 b1 : List ℕ) (at : ℕ) → ((i : ℕ) → i < 64 → At P bytes at i) → AreBefore 0 0 (chunk at 16 bytes) b2 b1
+    → (i : ℕ) → i < 16 → P (slice_index b2 i) (slice_index b1 i) (slice_index (chunk at 16 bytes) i)
+first-lanes P bytes b2 b1 at each before i few =
+    same-three P _ _ _ _ _ _ (first-two bytes b2 b1 at before i few) (first-one bytes b2 b1 at before i few) (get_or-chunk at 16 bytes i 0 few) (each i (omega (arith, few)))
+
+pub next-lanes : (P : ℕ → ℕ → ℕ → Type 0) (bytes b2 b1 : List ℕ) (at k : ℕ) → 16 ≤ k → k + 16 ≤ 64 → ((i : ℕ) → i < 64 → At P bytes at i)
+    → AreBefore (slice_index bytes (at + k - 2)) (slice_index bytes (at + k - 1)) (chunk (at + k) 16 bytes) b2 b1
+    → (i : ℕ) → i < 16 → P (slice_index b2 i) (slice_index b1 i) (slice_index (chunk (at + k) 16 bytes) i)
+next-lanes P bytes b2 b1 at k some within each before i few =
+    same-three P _ _ _ _ _ _
+    (before.two.lanes i few ∙ before-two bytes b1 (at + k) i (omega (arith, some)) few before.one.lanes
+    ∙ ap (slice_index bytes) (omega (arith, some)) ∙ sym (behind-at 2 bytes at (k + i) (omega (arith, some))))
+    (before.one.lanes i few ∙ before-one bytes (at + k) i (omega (arith, some)) few ∙ ap (slice_index bytes) (omega (arith, some)) ∙ sym (behind-at 1 bytes at (k + i) (omega (arith, some))))
     (get_or-chunk (at + k) 16 bytes i 0 few ∙ ap (slice_index bytes) (omega arith))
-    (follows-two bytes at limit 64 (k + i) some most (omega (arith, within, few)) below all)
+    (each (k + i) (omega (arith, within, few)))

@@ -1,6 +1,7 @@
 pub mod AddedLemmas
 pub mod FewLemmas
 pub mod FollowLemmas
+pub mod FourLemmas
 pub mod FoursLemmas
 pub mod KeptLemmas
 pub mod LimitLemmas

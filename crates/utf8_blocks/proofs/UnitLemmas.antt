@@ -1,13 +1,33 @@
 -- The unit that ends at a byte of characters of at most two and of at most three bytes, by lanes.
-use Rattle.std.proofs.Common.{◌≡◌, ℕ, ◌+◌, ◌-◌, ◌*◌, ◌/◌, ◌%◌, ◌^◌, ◌<◌, ◌≤◌, ◌==◌, ⊎_elim, inl, inr, Bool, cond, ltb, [], bit_and, sym, refl, ap, ap₂, ◌∙◌, arith, lt-ltb, le-ltb}
+use Rattle.std.proofs.Common.{◌≡◌, ℕ, ◌+◌, ◌-◌, ◌*◌, ◌/◌, ◌%◌, ◌^◌, ◌<◌, ◌≤◌, ◌==◌, ◌&&◌, ⊎_elim, inl, inr, Bool, cond, ltb, [], bit_and, sym, refl, ap, ap₂, ◌∙◌, arith, lt-ltb, le-ltb}
 use Rattle.std.proofs.lemmas.Bool.{cases_lt}
 use Rattle.std.proofs.lemmas.Nat.{and_mask}
-use Rattle.utf16_from_utf8.specs.Added.{unit_after}
+use Rattle.utf16_from_utf8.specs.Added.{ends_unit, unit_after}
 use Rattle.utf16_from_utf8.specs.Lanes.{pair_bytes}
 use Rattle.utf16_from_utf8.proofs.AddedLemmas.{byte_adds, unit-one, unit-three, unit-two}
 use Rattle.utf16_from_utf8.proofs.BlockLemmas.{byte-adds-behind, byte-adds-first, byte-adds-one}
 use Rattle.utf16_from_utf8.proofs.LaneByteLemmas.{AreBytes, pair-unit}
 use Rattle.utf8_blocks.specs.Follow.{FollowsTwo}
+use Rattle.utf8_blocks.specs.UnitLanes.{behind_of, high_of, low_of}
+
+-- ---- any bytes
+
+-- a pair is kept exactly if a unit ends, and then it is that unit
+pub unit-added : (big : Bool) (b2 b1 b0 bit high low : ℕ) → ◌≡◌ {A = ℕ} bit (cond (ends_unit b1 b0) 1 0) → (b0 < 0xC0 → b1 < 0xE0 → AreBytes (unit_after b2 b1 b0) high low)
+    → cond (bit == 1) (pair_bytes big high low) [] ≡ byte_adds big b2 b1 b0
+unit-added big b2 b1 b0 bit high low is are = ⊎_elim
+    (λ (a : b0 < 0xC0). ⊎_elim
+    (λ (b : b1 < 0xE0).
+    let one : bit ≡ 1 = is ∙ ap₂ (λ (x y : Bool). cond (x && y) 1 0) (lt-ltb b0 0xC0 a) (lt-ltb b1 0xE0 b) in
+    ap (λ n. cond (n == 1) (pair_bytes big high low) []) one ∙ pair-unit big (unit_after b2 b1 b0) high low (are a b) ∙ sym (byte-adds-one big b2 b1 b0 a b))
+    (λ (b : 0xE0 ≤ b1).
+    let none : bit ≡ 0 = is ∙ ap₂ (λ (x y : Bool). cond (x && y) 1 0) (lt-ltb b0 0xC0 a) (le-ltb b1 0xE0 b) in
+    ap (λ n. cond (n == 1) (pair_bytes big high low) []) none ∙ sym (byte-adds-behind big b2 b1 b0 b))
+    (cases_lt b1 0xE0))
+    (λ (a : 0xC0 ≤ b0).
+    let none : bit ≡ 0 = is ∙ ap (λ (x : Bool). cond (x && ltb b1 0xE0) 1 0) (le-ltb b0 0xC0 a) in
+    ap (λ n. cond (n == 1) (pair_bytes big high low) []) none ∙ sym (byte-adds-first big b2 b1 b0 a))
+    (cases_lt b0 0xC0)
 
 -- ---- at most two bytes
 
@@ -57,33 +77,23 @@ two-added big b2 b1 b0 bit high low follows is h l = ⊎_elim
 
 -- ---- at most three
 
--- the bits of the first byte of three, in the lane of the third; else zero
+-- the first byte of three, in the lane of the third; else one whose lower bits are zero
 abbrev pub three_lead : ℕ → ℕ
-three_lead b2 = (cond (ltb b2 0xE0) 0xE0 b2 + 0x20) % 2 ^ 8
+three_lead b2 = cond (ltb b2 0xE0) 0xE0 b2
 
--- the byte before one of several, and zero behind a character of one byte
-abbrev pub behind_of : ℕ → ℕ → ℕ
-behind_of b1 b0 = cond (ltb b0 0x80) 0 b1
+pub behind-none : (b1 b0 : ℕ) → b0 < 0x80 → behind_of b1 b0 ≡ 0xC0
+behind-none b1 b0 a = ap (λ (x : Bool). cond x 0xC0 b1) (lt-ltb b0 0x80 a)
 
-abbrev pub three_high : ℕ → ℕ → ℕ → ℕ
-three_high b2 b1 b0 = (bit_and (behind_of b1 b0 / 2 ^ 2) 0xF + three_lead b2 * 2 ^ 4 % 2 ^ 8) % 2 ^ 8
+pub behind-is : (b1 b0 : ℕ) → 0x80 ≤ b0 → behind_of b1 b0 ≡ b1
+behind-is b1 b0 a = ap (λ (x : Bool). cond x 0xC0 b1) (le-ltb b0 0x80 a)
 
-abbrev pub three_low : ℕ → ℕ → ℕ
-three_low b1 b0 = (bit_and b0 0x7F + behind_of b1 b0 * 2 ^ 6 % 2 ^ 8) % 2 ^ 8
+pub three-lead-none : (b2 : ℕ) → b2 < 0xE0 → three_lead b2 ≡ 0xE0
+three-lead-none b2 a = ap (λ (x : Bool). cond x 0xE0 b2) (lt-ltb b2 0xE0 a)
 
-three-lead-none : (b2 : ℕ) → b2 < 0xE0 → three_lead b2 ≡ 0
-three-lead-none b2 a = rw (lt-ltb b2 0xE0 a) refl
+three-lead-is : (b2 : ℕ) → 0xE0 ≤ b2 → three_lead b2 ≡ b2
+three-lead-is b2 a = ap (λ (x : Bool). cond x 0xE0 b2) (le-ltb b2 0xE0 a)
 
-three-lead-is : (b2 : ℕ) → 0xE0 ≤ b2 → b2 < 0xF0 → three_lead b2 ≡ b2 - 0xE0
-three-lead-is b2 a b = ap (λ (x : Bool). (cond x 0xE0 b2 + 0x20) % 2 ^ 8) (le-ltb b2 0xE0 a) ∙ omega (arith, a, b)
-
-behind-none : (b1 b0 : ℕ) → b0 < 0x80 → behind_of b1 b0 ≡ 0
-behind-none b1 b0 a = ap (λ (x : Bool). cond x 0 b1) (lt-ltb b0 0x80 a)
-
-behind-is : (b1 b0 : ℕ) → 0x80 ≤ b0 → behind_of b1 b0 ≡ b1
-behind-is b1 b0 a = ap (λ (x : Bool). cond x 0 b1) (le-ltb b0 0x80 a)
-
-three-unit : (b2 b1 b0 : ℕ) → FollowsTwo 0xF0 b2 b1 b0 → b0 < 0xC0 → b1 < 0xE0 → AreBytes (unit_after b2 b1 b0) (three_high b2 b1 b0) (three_low b1 b0)
+pub three-unit : (b2 b1 b0 : ℕ) → FollowsTwo 0xF0 b2 b1 b0 → b0 < 0xC0 → b1 < 0xE0 → AreBytes (unit_after b2 b1 b0) (high_of b2 (behind_of b1 b0)) (low_of (behind_of b1 b0) b0)
 three-unit b2 b1 b0 follows low before = ⊎_elim
     (λ (a : b0 < 0x80).
     let none : b2 < 0xE0 = ⊎_elim (λ (b : b2 < 0xE0). b) (λ (b : 0xE0 ≤ b2). absurd (omega (arith, a, (follows.continues.0 (inr b)).0))) (cases_lt b2 0xE0) in
@@ -99,7 +109,7 @@ three-unit b2 b1 b0 follows low before = ⊎_elim
     (λ (b : b1 < 0xC0).
     let three : 0xE0 ≤ b2 = ⊎_elim (λ (d : 0xC0 ≤ b1). absurd (omega (arith, b, d))) (λ (d : 0xE0 ≤ b2). d) (follows.continues.1 (a, low)) in
     let unit = unit-three b2 b1 b0 a b three follows.two in
-    let bits = three-lead-is b2 three follows.two in
+    let bits = three-lead-is b2 three in
     record { is_high = omega (arith, unit, bits, mid, three, follows.two); is_low = omega (arith, unit, behind, last, a, low) })
     (λ (b : 0xC0 ≤ b1).
     let none : b2 < 0xE0 = ⊎_elim (λ (d : b2 < 0xE0). d) (λ (d : b1 < 0xC0). absurd (omega (arith, b, d))) follows.apart in
@@ -111,26 +121,3 @@ three-unit b2 b1 b0 follows low before = ⊎_elim
   where
     last : bit_and b0 0x7F ≡ b0 % 128
     last = and_mask b0 7
-
--- whether a unit ends at b0
-abbrev pub ends : ℕ → ℕ → ℕ
-ends b1 b0 = cond (ltb b0 0xC0) (cond (ltb b1 0xE0) 1 0) 0
-
-pub three-added : (big : Bool) (b2 b1 b0 bit high low : ℕ) → FollowsTwo 0xF0 b2 b1 b0 → bit ≡ ends b1 b0
-    → high ≡ three_high b2 b1 b0 → low ≡ three_low b1 b0 → cond (bit == 1) (pair_bytes big high low) [] ≡ byte_adds big b2 b1 b0
-three-added big b2 b1 b0 bit high low follows is h l = ⊎_elim
-    (λ (a : b0 < 0xC0). ⊎_elim
-    (λ (b : b1 < 0xE0).
-    let one : bit ≡ 1 = is ∙ ap₂ (λ (x y : Bool). cond x (cond y 1 0) 0) (lt-ltb b0 0xC0 a) (lt-ltb b1 0xE0 b) in
-    ap (λ n. cond (n == 1) (pair_bytes big high low) []) one
-    ∙ ap₂ (pair_bytes big) h l
-    ∙ pair-unit big (unit_after b2 b1 b0) (three_high b2 b1 b0) (three_low b1 b0) (three-unit b2 b1 b0 follows a b)
-    ∙ sym (byte-adds-one big b2 b1 b0 a b))
-    (λ (b : 0xE0 ≤ b1).
-    let none : bit ≡ 0 = is ∙ ap₂ (λ (x y : Bool). cond x (cond y 1 0) 0) (lt-ltb b0 0xC0 a) (le-ltb b1 0xE0 b) in
-    ap (λ n. cond (n == 1) (pair_bytes big high low) []) none ∙ sym (byte-adds-behind big b2 b1 b0 b))
-    (cases_lt b1 0xE0))
-    (λ (a : 0xC0 ≤ b0).
-    let none : bit ≡ 0 = is ∙ ap (λ (x : Bool). cond x (cond (ltb b1 0xE0) 1 0) 0) (le-ltb b0 0xC0 a) in
-    ap (λ n. cond (n == 1) (pair_bytes big high low) []) none ∙ sym (byte-adds-first big b2 b1 b0 a))
-    (cases_lt b0 0xC0)

@@ -52,3 +52,17 @@ abbrev pub FollowLanes : ℕ → List ℕ → List ℕ → List ℕ → Type 0
 FollowLanes limit b2 b1 block =
     (i : ℕ) → i < 16
     → FollowsTwo limit (slice_index b2 i) (slice_index b1 i) (slice_index block i)
+
+-- b0 after b2 and b1, where characters have at most four bytes: before a continuation byte one of
+-- the two begins a character, or both are continuation bytes too
+pub record FollowsAny (b2 b1 b0 : ℕ) : Type 0 where
+  pub continues : (0xC0 ≤ b1) ⊎ (0xE0 ≤ b2) → (0x80 ≤ b0) × (b0 < 0xC0)
+  pub apart : (b2 < 0xE0) ⊎ (b1 < 0xC0)
+  pub last : (0x80 ≤ b0) × (b0 < 0xC0)
+      → (0xC0 ≤ b1) ⊎ (0xE0 ≤ b2) ⊎ ((b1 < 0xC0) × (b2 < 0xC0))
+  pub begins : b2 < 0xF5
+
+abbrev pub FollowAnyLanes : List ℕ → List ℕ → List ℕ → Type 0
+FollowAnyLanes b2 b1 block =
+    (i : ℕ) → i < 16
+    → FollowsAny (slice_index b2 i) (slice_index b1 i) (slice_index block i)

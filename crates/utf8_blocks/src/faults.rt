@@ -36,8 +36,8 @@ fn faults_of_two(b1: u8x16, b0: u8x16) -> u8x16
 
 #[inline(always)]
 fn faults_of_three(b2: u8x16, b1: u8x16, b0: u8x16) -> u8x16
-    ensures { (i b3 : ℕ) → i < 16 → b3 < 0xF0 → slice_index b2 i < 0xF0 → slice_index b1 i < 0xF0
-        → slice_index b0 i < 0xF0 → (slice_index result i < 1)
+    ensures { (i b3 : ℕ) → i < 16 → b3 < 0xF0 → slice_index b2 i < 0xF0
+        → slice_index b1 i < 0xF0 → slice_index b0 i < 0xF0 → (slice_index result i < 1)
         ↔ Follows b3 (slice_index b2 i) (slice_index b1 i) (slice_index b0 i) }
 {
     let (continues, others) = continuations(b0);

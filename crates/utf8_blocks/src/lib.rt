@@ -8,6 +8,7 @@ mod fours;
 mod limits;
 mod sixteen;
 mod threes;
+mod units;
 mod write;
 
 pub use crate::few::write_few_ascii;

@@ -4,13 +4,15 @@ ghost use Rattle.std.specs.Prelude.{◌≡◌, ◌+◌, ◌<◌, ◌≤◌, ◌+
 ghost use Rattle.utf16_from_utf8.specs.Added.{added_bytes};
 ghost use Rattle.utf16_from_utf8.specs.Kind.{AreBefore};
 ghost use Rattle.utf16_units.specs.Lanes.{HasLanes};
-ghost use Rattle.utf8_blocks.specs.Follow.{FollowLanes, FollowsTwo, limit_of};
+ghost use Rattle.utf8_blocks.specs.Follow.{FollowAnyLanes, FollowLanes, FollowsTwo, limit_of};
 
+use crate::units::{
+    bytes_behind, ended_bits, high_bytes, joined, leading_bytes, low_bytes, trailing_bits,
+};
 use std::simd::prelude::*;
-use utf16_from_utf8::blocks::{paired, put_block};
+use utf16_from_utf8::blocks::paired;
 use utf16_from_utf8::lanes::{down, each, greater, masked, set_bits, sum, up, where_below};
 use utf16_from_utf8::pack::put_kept;
-use utf16_from_utf8::units::Kind;
 use utf16_units::Utf16Order;
 
 // Writes sixteen bytes of characters of at most `MOST` bytes, each of which may follow the one
@@ -25,6 +27,7 @@ pub(crate) fn put_sixteen<E: Utf16Order, const MOST: usize>(
 ) -> usize
     requires space { at + 32 ≤ length out.old }
     requires follow { limit_of MOST ≤ 0xF0 → FollowLanes (limit_of MOST) b2 b1 block }
+    requires follow_any { FollowAnyLanes b2 b1 block }
     ensures bytes { (before2 before1 : ℕ) → AreBefore before2 before1 block b2 b1
         → take result out.new ≡ take at out.old ++ added_bytes E.BIG before2 before1 block }
     ensures written_to { result ≤ at + 32 }
@@ -35,7 +38,7 @@ pub(crate) fn put_sixteen<E: Utf16Order, const MOST: usize>(
     if MOST == 3 {
         return put_three::<E>(out, at, b2, b1, block);
     }
-    put_block::<E>(out, at, b2, b1, block, Kind::Four)
+    put_four::<E>(out, at, b2, b1, block)
 }
 
 #[inline(always)]
@@ -43,7 +46,8 @@ fn put_two<E: Utf16Order>(out: &mut [u8], at: usize, b1: u8x16, block: u8x16) ->
     requires space { at + 32 ≤ length out.old }
     requires follow { (i : ℕ) → i < 16
         → FollowsTwo 0xE0 0 (slice_index b1 i) (slice_index block i) }
-    ensures bytes { (before2 before1 : ℕ) → HasLanes 16 b1 (λ i. slice_index (before1 ∷ block) i)
+    ensures bytes { (before2 before1 : ℕ)
+        → HasLanes 16 b1 (λ i. slice_index (before1 ∷ block) i)
         → take result out.new ≡ take at out.old ++ added_bytes E.BIG before2 before1 block }
     ensures written_to { result ≤ at + 32 }
 {
@@ -63,13 +67,26 @@ fn put_three<E: Utf16Order>(out: &mut [u8], at: usize, b2: u8x16, b1: u8x16, blo
         → take result out.new ≡ take at out.old ++ added_bytes E.BIG before2 before1 block }
     ensures written_to { result ≤ at + 32 }
 {
-    // The bits of the first byte of three, and zero after any other.
-    let lead = sum(greater(b2, each(0xE0)), each(0x20));
-    let behind = where_below(block, 0x80, each(0), b1);
-    let highs = sum(masked(down(behind, 2), 0xF), up(lead, 4));
-    let lows = sum(masked(block, 0x7F), up(behind, 6));
-    let (first, second) = paired::<E>(highs, lows);
-    let one = where_below(b1, 0xE0, each(0xFF), each(0));
-    let ended = where_below(block, 0xC0, one, each(0));
-    put_kept(out, at, first, second, set_bits(ended))
+    let behind = bytes_behind(b1, block);
+    let (first, second) = paired::<E>(high_bytes(b2, behind), low_bytes(behind, block));
+    put_kept(out, at, first, second, ended_bits(b1, block))
+}
+
+#[inline(always)]
+fn put_four<E: Utf16Order>(out: &mut [u8], at: usize, b2: u8x16, b1: u8x16, block: u8x16) -> usize
+    requires space { at + 32 ≤ length out.old }
+    requires follow { FollowAnyLanes b2 b1 block }
+    ensures bytes { (before2 before1 : ℕ) → AreBefore before2 before1 block b2 b1
+        → take result out.new ≡ take at out.old ++ added_bytes E.BIG before2 before1 block }
+    ensures written_to { result ≤ at + 32 }
+{
+    let behind = bytes_behind(b1, block);
+    let (lead_highs, lead_lows) = leading_bytes(b2, b1, block);
+    let highs = joined(high_bytes(b2, behind), trailing_bits(b2, behind));
+    // A leading surrogate ends two bytes behind the first byte of four.
+    let (first, second) = paired::<E>(
+        where_below(b2, 0xF0, highs, lead_highs),
+        where_below(b2, 0xF0, low_bytes(behind, block), lead_lows),
+    );
+    put_kept(out, at, first, second, ended_bits(b1, block))
 }

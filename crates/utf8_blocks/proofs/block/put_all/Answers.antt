@@ -1,20 +1,27 @@
-use Rattle.std.proofs.Common.{◌≤◌, ◌+◌, ◌-◌, ◌++◌, append_assoc, slice_index, take, drop, ap, refl, sym, ◌∙◌, arith}
-use Rattle.utf16_from_utf8.specs.Added.{added_bytes}
-use Rattle.utf8_blocks.specs.Follow.{limit_of}
-use Rattle.utf8_blocks.proofs.AddedLemmas.{added-more}
-use Rattle.utf8_blocks.proofs.FollowLemmas.{first-lanes, next-lanes}
+use Rattle.std.proofs.Common.{◌≤◌, take, refl, arith}
+use Rattle.utf8_blocks.specs.Follow.{FollowsAny, FollowsTwo, limit_of}
+use Rattle.utf8_blocks.proofs.AddedLemmas.{written-more}
+use Rattle.utf8_blocks.proofs.FollowLemmas.{first-lanes, follows-any, follows-two, next-lanes}
 use Rattle.utf8_blocks.proofs.LimitLemmas.{limit-some}
 use Rattle.utf8_blocks.proofs.block.put_all.Goals as goal
 
 pub put_sixteen-end-requires-clause-follow : goal.put_sixteen-end-requires-clause-follow
 put_sixteen-end-requires-clause-follow g c most =
-    first-lanes c.args.bytes.now c.before-2.result.0 c.before-2.result.1 c.args.read (limit_of g.row.MOST) (limit-some g.row.MOST) most c.requires.below c.requires.follow c.before-2.ensures
+    first-lanes (FollowsTwo (limit_of g.row.MOST)) c.args.bytes.now _ _ c.args.read (follows-two _ _ _ 64 (limit-some g.row.MOST) most c.requires.below c.requires.follow) c.before-2.ensures
+
+pub put_sixteen-end-requires-clause-follow_any : goal.put_sixteen-end-requires-clause-follow_any
+put_sixteen-end-requires-clause-follow_any g c = first-lanes FollowsAny c.args.bytes.now _ _ c.args.read (follows-any _ _ 64 c.requires.follow) c.before-2.ensures
 
 pub put_sixteen-end-requires-in-loop-k-clause-follow : goal.put_sixteen-end-requires-in-loop-k-clause-follow
 put_sixteen-end-requires-in-loop-k-clause-follow g c most =
     let now = c.loop-k.invariant in
-    next-lanes c.args.bytes.now c.before_at.result.0 c.before_at.result.1 c.args.read c.loop-k.k (limit_of g.row.MOST) (omega (arith, now.some)) (omega (arith, now.steps, now.most, c.loop-k-test.true))
-    (limit-some g.row.MOST) most c.requires.below c.requires.follow c.before_at.ensures
+    next-lanes (FollowsTwo (limit_of g.row.MOST)) c.args.bytes.now _ _ c.args.read c.loop-k.k now.some (omega (arith, now.steps, now.most, c.loop-k-test.true))
+    (follows-two _ _ _ 64 (limit-some g.row.MOST) most c.requires.below c.requires.follow) c.before_at.ensures
+
+pub put_sixteen-end-requires-in-loop-k-clause-follow_any : goal.put_sixteen-end-requires-in-loop-k-clause-follow_any
+put_sixteen-end-requires-in-loop-k-clause-follow_any g c =
+    let now = c.loop-k.invariant in
+    next-lanes FollowsAny c.args.bytes.now _ _ c.args.read c.loop-k.k now.some (omega (arith, now.steps, now.most, c.loop-k-test.true)) (follows-any _ _ 64 c.requires.follow) c.before_at.ensures
 
 pub loop-k-init : goal.loop-k-init
 loop-k-init g c = record {
@@ -27,21 +34,13 @@ loop-k-init g c = record {
 
 pub loop-k-preserved : goal.loop-k-preserved
 loop-k-preserved g c =
-    let bytes = c.args.bytes.now in
-    let big = g.E.Utf16Order.BIG in
     let now = c.loop-k.invariant in
-    let k = c.loop-k.k in
-    let at = c.args.read + k in
-    let most : k ≤ 48 = omega (arith, now.steps, now.most, c.loop-k-test.true) in
-    let next = added_bytes big (slice_index bytes (at - 2)) (slice_index bytes (at - 1)) (take 16 (drop at bytes)) in
+    let most : c.loop-k.k ≤ 48 = omega (arith, now.steps, now.most, c.loop-k-test.true) in
     record {
       some = omega (arith, now.some);
       most = omega (arith, most);
       steps = omega (arith, now.steps);
-      wrote =
-          c.put_sixteen-end-in-loop-k.ensures.bytes (slice_index bytes (at - 2)) (slice_index bytes (at - 1)) c.before_at.ensures
-          ∙ ap (λ t. t ++ next) now.wrote
-          ∙ append_assoc (take c.args.written c.args.out.now) (added_bytes big 0 0 (take k (drop c.args.read bytes))) next
-          ∙ ap (λ t. take c.args.written c.args.out.now ++ t) (sym (added-more big bytes c.args.read k (omega (arith, now.some)) (omega (arith, most, c.requires.more))));
+      wrote = written-more g.E.Utf16Order.BIG c.args.bytes.now (take c.args.written c.args.out.now) _ _ c.args.read c.loop-k.k (omega (arith, now.some)) (omega (arith, most, c.requires.more)) now.wrote
+          (c.put_sixteen-end-in-loop-k.ensures.bytes _ _ c.before_at.ensures);
       short = omega (arith, now.short, c.put_sixteen-end-in-loop-k.ensures.written_to);
     }

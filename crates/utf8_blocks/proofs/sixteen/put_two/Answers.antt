@@ -1,6 +1,7 @@
 use Rattle.std.proofs.Common.{◌≡◌, ◌+◌, ◌*◌, ◌/◌, ◌%◌, ◌^◌, ◌<◌, ◌==◌, ◌∷◌, ◌++◌, ℕ, Bool, true, false, cond, ltb, slice_index, take, refl, ap, ap₂, sym, ◌∙◌, arith}
 use Rattle.utf16_from_utf8.specs.Lanes.{kept_pairs}
-use Rattle.utf8_blocks.proofs.FollowLemmas.{follows-two-at}
+use Rattle.utf8_blocks.specs.Follow.{FollowsTwo}
+use Rattle.utf8_blocks.proofs.FollowLemmas.{same-three}
 use Rattle.utf8_blocks.proofs.KeptLemmas.{AreAdded, kept-added}
 use Rattle.utf8_blocks.proofs.UnitLemmas.{two-added, two_lead}
 use Rattle.utf8_blocks.proofs.sixteen.put_two.Goals as goal
@@ -22,7 +23,7 @@ returns-clause-bytes g c before2 before1 behind =
       low_len = c.sum-lows.ensures.len ∙ sym long;
       each = λ i within.
           let b : i < 16 = omega (arith, within, long) in
-          two-added g.E.Utf16Order.BIG _ _ _ _ _ _ (follows-two-at 0xE0 _ _ _ _ _ _ refl (sym (behind.lanes i b)) refl (c.requires.follow i b))
+          two-added g.E.Utf16Order.BIG _ _ _ _ _ _ (same-three (FollowsTwo 0xE0) _ _ _ _ _ _ refl (sym (behind.lanes i b)) refl (c.requires.follow i b))
           (c.set_bits.ensures.bits i b
           ∙ ap (λ x. cond (x == 0) 0 1) (c.where_below-ended.ensures.lanes i b ∙ ap₂ (cond (ltb (slice_index block i) 0xC0)) (c.each-3.ensures.lanes i b) (c.each-4.ensures.lanes i b))
           ∙ turn (ltb (slice_index block i) 0xC0))
