@@ -5,5 +5,6 @@ pub mod IllFormedDecides
 pub mod StreamLemmas
 pub mod WroteLemmas
 pub mod LossyLemmas
+pub mod PrefixLemmas
 pub mod StreamSteps
 pub mod ToUtf8

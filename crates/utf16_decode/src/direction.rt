@@ -1,24 +1,16 @@
 //! Transcoding from one encoding to the other, up to the first ill-formed sequence or as far as
 //! whole characters fit.
 
-ghost use Rattle.std.specs.Prelude.{◌≡◌, ◌≤◌, ◌<◌, ◌+◌, ◌-◌, ◌++◌, ℕ, List, Option, [], IfErr, IfOk, IfSome, None, length, take, drop};
+ghost use Rattle.std.specs.Prelude.{◌≡◌, ◌≤◌, ◌<◌, ◌+◌, ◌-◌, ◌++◌, ◌⊎◌, ℕ, List, Option, [], IfErr, IfOk, IfSome, None, length, take, drop};
 ghost use Rattle.std.specs.Char.{IsScalar};
 ghost use Rattle.utf16_decode.specs.Stops.{BeginsWith, Stops, StopsHere};
 ghost use Rattle.utf16_decode.specs.Wrote.{Gives, Joins, Puts, Wrote};
 
 use crate::progress::{Progress, Stop, put};
 
-// The most bytes that are validated and then written at once, so that they are still in the cache
-// when they are written.
-const TESTED_LEN: usize = 8192;
-
-// Where so many bytes were validated while they were written, the next ones are too, behind one
-// character.
-const FAR: usize = 1024;
-
-// The most bytes that are written through a buffer on the stack, and the length of that buffer:
-// what `write` needs for them in both directions; and the same of few bytes.
-const BUFFERED_LEN: usize = 256;
+// The most bytes that are validated and then written, and the length of a buffer on the stack for
+// them: what `write` needs in both directions; and the same of fewer bytes.
+const LEFT_LEN: usize = 256;
 
 const BUFFER_LEN: usize = 528;
 
@@ -26,11 +18,8 @@ const FEW_LEN: usize = 32;
 
 const FEW_BUFFER_LEN: usize = 176;
 
-// Texts of at least so many bytes, and all others that fit, are written directly to their place.
-pub(crate) const MANY: usize = 256;
-
-// Fewer bytes than these are written character by character, and fewer than these that surely fit,
-// if they are not all.
+// Fewer bytes than these are written character by character, and so are bytes for which there is
+// less space than this.
 const VERY_FEW: usize = 8;
 
 const BY_CHARS: usize = 16;
@@ -64,8 +53,8 @@ pub trait Direction {
     ghost room_for: { ℕ → ℕ };
 
     /// Returns the length in bytes of a valid prefix: the bytes before the first ill-formed
-    /// sequence. `before` valid bytes precede the slice; as many bytes past the error may be read.
-    fn valid_len(bytes: &[u8], before: usize) -> usize
+    /// sequence.
+    fn valid_len(bytes: &[u8]) -> usize
         ensures within { result ≤ length bytes.now }
         ensures valid { IsValid (take result bytes.now) };
 
@@ -105,16 +94,31 @@ pub trait Direction {
         ensures none { result ≡ None → length to.new - at < length (into c) }
         ensures unchanged { result ≡ None → to.new ≡ to.old };
 
-    /// Returns how many of the bytes surely fit in `room` bytes in the second encoding, as far as
-    /// they are valid.
-    fn surely_fit(rest: &[u8], room: usize) -> usize
-        ensures within { result ≤ length rest.now }
-        ensures fits { (n : ℕ) → n ≤ result → IsValid (take n rest.now)
-            → length (other (take n rest.now)) ≤ room };
+    /// Returns about how many of the bytes fit in `room` bytes in the second encoding: as many as
+    /// if all characters took as much as the first one. Any number is right.
+    ///
+    /// # Precondition
+    ///
+    /// There are at least two bytes.
+    fn likely_fit(rest: &[u8], room: usize) -> usize
+        requires { 2 ≤ length rest.now };
 
-    /// Returns how many bytes of input `write` surely takes if the buffer has `room` bytes, perhaps
-    /// none.
-    fn most(room: usize) -> usize
+    /// Returns how much of a text, which takes more than `room` bytes in the second encoding, fits
+    /// there: the number of bytes of the text, and the number of bytes that they take.
+    ///
+    /// # Precondition
+    ///
+    /// `written` is the text in the second encoding, and longer than `room`.
+    fn fitting_prefix(text: &[u8], written: &[u8], room: usize) -> (usize, usize)
+        requires text { Gives IsValid other text.now written.now }
+        requires long { room < length written.now }
+        ensures prefix { Wrote (Gives IsValid other) text.now written.now result.0 result.1 }
+        ensures fits { result.1 ≤ room }
+        ensures most { room < result.1 + 4 };
+
+    /// Returns how many bytes surely fit in `room` bytes in the second encoding, with what `write`
+    /// needs beside them, perhaps none.
+    fn surely_fit(room: usize) -> usize
         ensures { 0 < result → room_for result ≤ room };
 
     /// Writes a text in the second encoding to the start of a buffer, and returns the number of
@@ -198,7 +202,7 @@ fn transcode_many<D: Direction>(input: &[u8], to: &mut [u8]) -> Progress
     let mut read = 0;
     let mut written = 0;
     while read < input.len() {
-        let (len, end) = put_piece::<D>(&input[read..], read, to, written);
+        let (len, end) = put_piece::<D>(&input[read..], to, written);
         read += len;
         written = end;
         if read == input.len() {
@@ -226,18 +230,18 @@ fn transcode_many<D: Direction>(input: &[u8], to: &mut [u8]) -> Progress
 }
 
 // Writes a valid prefix of the bytes, perhaps an empty one, at `at`; returns how many bytes of it
-// were read, and where the written bytes end. `before` valid bytes precede `rest`. What goes is
-// validated while it is written, and a part of the others before it is.
-fn put_piece<D: Direction>(rest: &[u8], before: usize, to: &mut [u8], at: usize) -> (usize, usize)
+// were read, and where the written bytes end. The bytes are validated while they are written, as
+// far as possible, and a few behind these before it.
+fn put_piece<D: Direction>(rest: &[u8], to: &mut [u8], at: usize) -> (usize, usize)
     requires { at ≤ length to.old }
     ensures { Puts (Gives D.IsValid D.other) rest.now to.old to.new at result.0 result.1 }
 {
     D::laws();
     let (read, written) = put_front::<D>(rest, to, at);
-    if read == rest.len() || read >= FAR {
+    if read == rest.len() {
         return (read, written);
     }
-    let (len, end) = put_left::<D>(&rest[read..], before.saturating_add(read), to, written);
+    let (len, end) = put_left::<D>(&rest[read..], to, written);
     (read + len, end)
 }
 
@@ -255,9 +259,9 @@ fn put_front<D: Direction>(rest: &[u8], to: &mut [u8], at: usize) -> (usize, usi
     (read, at + written)
 }
 
-// Does the same, and validates the bytes before it writes them: as many as surely fit, directly to
-// their place, or a few.
-fn put_left<D: Direction>(rest: &[u8], before: usize, to: &mut [u8], at: usize) -> (usize, usize)
+// Does the same for a few bytes, and validates them before it writes them: directly to their place
+// if they surely fit there.
+fn put_left<D: Direction>(rest: &[u8], to: &mut [u8], at: usize) -> (usize, usize)
     requires { at ≤ length to.old }
     ensures { Puts (Gives D.IsValid D.other) rest.now to.old to.new at result.0 result.1 }
 {
@@ -265,21 +269,21 @@ fn put_left<D: Direction>(rest: &[u8], before: usize, to: &mut [u8], at: usize) 
     if rest.len() < VERY_FEW {
         return put_chars::<D>(rest, to, at);
     }
-    let most = D::most(to.len() - at).min(TESTED_LEN).min(rest.len());
-    if most < MANY.min(rest.len()) {
-        return put_few::<D>(rest, to, at);
+    let len = rest.len().min(LEFT_LEN);
+    if len <= D::surely_fit(to.len() - at) {
+        return put_valid::<D>(&rest[..len], to, at);
     }
-    put_valid::<D>(&rest[..most], before, to, at)
+    put_few::<D>(rest, to, at)
 }
 
 // Does the same for bytes that surely fit.
 #[inline(always)]
-fn put_valid<D: Direction>(rest: &[u8], before: usize, to: &mut [u8], at: usize) -> (usize, usize)
+fn put_valid<D: Direction>(rest: &[u8], to: &mut [u8], at: usize) -> (usize, usize)
     requires { at + D.room_for (length rest.now) ≤ length to.old }
     ensures { Puts (Gives D.IsValid D.other) rest.now to.old to.new at result.0 result.1 }
 {
     D::laws();
-    let len = D::valid_len(rest, before);
+    let len = D::valid_len(rest);
     if len == 0 {
         return (0, at);
     }
@@ -287,28 +291,29 @@ fn put_valid<D: Direction>(rest: &[u8], before: usize, to: &mut [u8], at: usize)
     (len, at + written)
 }
 
-// Does the same for a few bytes that surely fit; character by character if those are very few, and
-// not all.
+// Does the same for a few bytes, as far as they fit; character by character if there is little
+// space.
 fn put_few<D: Direction>(rest: &[u8], to: &mut [u8], at: usize) -> (usize, usize)
-    requires { at ≤ length to.old }
+    requires some { 2 ≤ length rest.now }
+    requires within { at ≤ length to.old }
     ensures { Puts (Gives D.IsValid D.other) rest.now to.old to.new at result.0 result.1 }
 {
     D::laws();
-    let most = D::surely_fit(&rest[..rest.len().min(BUFFERED_LEN)], to.len() - at);
-    if most < BY_CHARS.min(rest.len()) {
+    let room = to.len() - at;
+    if room < BY_CHARS {
         return put_chars::<D>(rest, to, at);
     }
-    let len = D::valid_len(&rest[..most], 0);
-    (len, put_text::<D>(&rest[..len], to, at))
+    let most = D::likely_fit(rest, room).min(LEFT_LEN).min(rest.len());
+    let len = D::valid_len(&rest[..most]);
+    put_text::<D>(&rest[..len], to, at)
 }
 
-// Writes a few bytes of text at `at`, and returns where the written bytes end.
-fn put_text<D: Direction>(text: &[u8], to: &mut [u8], at: usize) -> usize
+// Does the same for a few bytes of text.
+fn put_text<D: Direction>(text: &[u8], to: &mut [u8], at: usize) -> (usize, usize)
     requires well_formed { D.IsValid text.now }
-    requires few { length text.now ≤ BUFFERED_LEN }
-    requires fits { at + length (D.other text.now) ≤ length to.old }
-    ensures within { result ≤ length to.new }
-    ensures bytes { take result to.new ≡ take at to.old ++ D.other text.now }
+    requires few { length text.now ≤ LEFT_LEN }
+    requires within { at ≤ length to.old }
+    ensures { Puts (Gives D.IsValid D.other) text.now to.old to.new at result.0 result.1 }
 {
     D::laws();
     if text.len() <= FEW_LEN {
@@ -320,15 +325,36 @@ fn put_text<D: Direction>(text: &[u8], to: &mut [u8], at: usize) -> usize
 
 // Does the same through a buffer.
 #[inline(always)]
-fn put_through<D: Direction>(text: &[u8], buf: &mut [u8], to: &mut [u8], at: usize) -> usize
+fn put_through<D: Direction>(
+    text: &[u8],
+    buf: &mut [u8],
+    to: &mut [u8],
+    at: usize,
+) -> (usize, usize)
     requires well_formed { D.IsValid text.now }
     requires space { D.room_for (length text.now) ≤ length buf.old }
-    requires fits { at + length (D.other text.now) ≤ length to.old }
-    ensures within { result ≤ length to.new }
-    ensures bytes { take result to.new ≡ take at to.old ++ D.other text.now }
+    requires within { at ≤ length to.old }
+    ensures { Puts (Gives D.IsValid D.other) text.now to.old to.new at result.0 result.1 }
 {
     let len = D::write(text, buf);
-    put(&buf[..len], to, at)
+    let (read, end) = prefix_for::<D>(text, &buf[..len], to.len() - at);
+    (read, put(&buf[..end], to, at))
+}
+
+// Returns how much of a text fits in `room` bytes in the second encoding: the number of bytes of
+// the text, and the number of bytes that they take.
+#[inline(always)]
+fn prefix_for<D: Direction>(text: &[u8], written: &[u8], room: usize) -> (usize, usize)
+    requires { Gives D.IsValid D.other text.now written.now }
+    ensures prefix { Wrote (Gives D.IsValid D.other) text.now written.now result.0 result.1 }
+    ensures fits { result.1 ≤ room }
+    ensures most { (result.0 ≡ length text.now) ⊎ (room < result.1 + 4) }
+{
+    if written.len() <= room {
+        (text.len(), written.len())
+    } else {
+        D::fitting_prefix(text, written, room)
+    }
 }
 
 // Writes the valid characters at the start of the bytes one by one, as far as they fit.

@@ -7,12 +7,11 @@ ghost use Rattle.utf16_units.specs.IllFormed.{IsIllFormedAt};
 ghost use Rattle.utf16_decode.specs.Wrote.{TranscodesToUtf8, Wrote};
 ghost use Rattle.utf16_decode.specs.Stops.{IsIllFormedUtf16, StopsDecoding};
 
-use crate::direction::{Direction, MANY, transcode};
+use crate::direction::{Direction, transcode};
 use crate::progress::{Progress, put};
 use std::marker::PhantomData;
-use utf16_to_utf8::{SLACK, write_before_surrogates, write_eight_ascii, write_utf8};
-use utf16_units::ends::first_char;
-use utf16_units::text::has_ascii_units;
+use utf16_to_utf8::{SLACK, write_blocks, write_eight_ascii, write_utf8};
+use utf16_units::ends::{first_char, last_char};
 use utf16_units::{Utf16Order, first_char_len, validate_raw_utf16};
 
 /// Writes UTF-16 in UTF-8 to the start of a buffer, up to the first ill-formed sequence or as far
@@ -57,7 +56,7 @@ impl<E: Utf16Order> Direction for ToUtf8<E> {
     fn laws() {}
 
     #[inline(always)]
-    fn valid_len(bytes: &[u8], _before: usize) -> usize {
+    fn valid_len(bytes: &[u8]) -> usize {
         valid_up_to::<E>(bytes)
     }
 
@@ -96,18 +95,32 @@ impl<E: Utf16Order> Direction for ToUtf8<E> {
     }
 
     #[inline(always)]
-    fn surely_fit(rest: &[u8], room: usize) -> usize {
-        let ascii = rest.len().min(room.saturating_mul(2));
-        if has_ascii_units::<E>(&rest[..ascii]) {
-            ascii
+    fn likely_fit(rest: &[u8], room: usize) -> usize {
+        let unit = E::read_unit([rest[0], rest[1]]);
+        if unit < 0x80 {
+            room.saturating_mul(2)
+        } else if unit < 0x800 || unit / 0x800 == 0x1B {
+            room / 4 * 4
         } else {
-            rest.len().min(room / 3 * 2)
+            room / 3 * 2
         }
     }
 
     #[inline(always)]
-    fn most(room: usize) -> usize {
-        surely_taken(room)
+    fn fitting_prefix(text: &[u8], written: &[u8], room: usize) -> (usize, usize) {
+        let mut read = text.len();
+        let mut end = written.len();
+        while end > room {
+            let (c, size) = last_char::<E>(&text[..read]);
+            read -= size;
+            end -= c.len_utf8();
+        }
+        (read, end)
+    }
+
+    #[inline(always)]
+    fn surely_fit(room: usize) -> usize {
+        room.saturating_sub(SLACK) / 3 * 2
     }
 
     #[inline(always)]
@@ -117,21 +130,8 @@ impl<E: Utf16Order> Direction for ToUtf8<E> {
 
     #[inline(always)]
     fn write_front(rest: &[u8], to: &mut [u8]) -> (usize, usize) {
-        let most = surely_taken(to.len()).min(rest.len());
-        if most < MANY.min(rest.len()).max(1) {
-            return (0, 0);
-        }
-        write_before_surrogates::<E>(&rest[..most], to)
+        write_blocks::<E>(rest, to)
     }
-}
-
-// Returns how many bytes of UTF-16 surely fit in `room` bytes of UTF-8, with what the writer needs
-// beside them.
-#[inline(always)]
-fn surely_taken(room: usize) -> usize
-    ensures { result ≡ (room - SLACK) / 3 * 2 }
-{
-    room.saturating_sub(SLACK) / 3 * 2
 }
 
 // Returns the length of the longest valid prefix. A function of its own, so that the writer does

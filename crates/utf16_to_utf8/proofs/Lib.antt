@@ -11,3 +11,5 @@ mod LenLemmas
 mod WriterLemmas
 mod BoundLemmas
 mod PlainLemmas
+mod PairedLemmas
+mod LeadingLemmas

@@ -53,7 +53,7 @@ plain-block kind units plain fit are =
     plain-unit (slice_index units i) fits.fits (plain-kind kind plain (slice_index units i) fits.fits (are i lt)))
 
 -- what units add that follow others, after some last unit
-units-after : (before : ℕ) (units more : List ℕ) → (last : ℕ) × (units_utf8 before (units ++ more) ≡ units_utf8 before units ++ units_utf8 last more)
+pub units-after : (before : ℕ) (units more : List ℕ) → (last : ℕ) × (units_utf8 before (units ++ more) ≡ units_utf8 before units ++ units_utf8 last more)
 units-after before [] more = (before, ap (λ bs. bs ++ units_utf8 before more) (sym (units-nil before)))
 units-after before (u ∷ units) more =
     let behind = units-after u units more in (
@@ -69,11 +69,11 @@ fronts a b front back same ends =
     let long : length a ≡ length front = omega (arith, ap length same, length-append a b, length-append front back, ends) in
     sym (take-append_seam a b) ∙ ap (λ n. take n (a ++ b)) long ∙ ap (take (length front)) same ∙ take-append_seam front back
 
--- if the bytes that were read are a text, its UTF-8 was written: what a unit adds has the same
--- length whatever unit comes before it
-pub written-text : (big : Bool) (raw out : List ℕ) (cursor : Cursor) → ((k : ℕ) → Fits w8 (slice_index raw k)) → Reached big raw out cursor
-    → IsUtf16 big (take cursor.at raw) → take cursor.end out ≡ utf8_of big (take cursor.at raw)
-written-text big raw out cursor fit reached text =
+-- what was written is what the units that were read add: a unit adds as many bytes whatever comes
+-- before it
+pub written-units : (big : Bool) (raw out : List ℕ) (cursor : Cursor) → ((k : ℕ) → Fits w8 (slice_index raw k)) → Reached big raw out cursor
+    → take cursor.end out ≡ units_utf8 0 (units_of big (take cursor.at raw))
+written-units big raw out cursor fit reached =
     let front = units_of big (take cursor.at raw) in
     let back = units_of big (drop cursor.at raw) in
     let all = units-after 0 front back in
@@ -81,7 +81,11 @@ written-text big raw out cursor fit reached text =
     let same = reached.written ∙ ap (units_utf8 0) (units_of-split big raw cursor.at reached.even reached.within) ∙ all.1 in
     let fit_back = units-fit big (drop cursor.at raw) (Each1-from_get_or (Fits w8) (drop cursor.at raw) 0 (λ k lt. subst (Fits w8) (sym (get_or-drop cursor.at raw k 0)) (fit (cursor.at + k)))) in
     fronts (take cursor.end out) (units_utf8 last back) (units_utf8 0 front) (units_utf8 all.0 back) same (length-units last back fit_back ∙ sym (length-units all.0 back fit_back))
-    ∙ bytes-utf8 big (take cursor.at raw) text
+
+-- if they are a text, that is its UTF-8
+pub written-text : (big : Bool) (raw out : List ℕ) (cursor : Cursor) → ((k : ℕ) → Fits w8 (slice_index raw k)) → Reached big raw out cursor
+    → IsUtf16 big (take cursor.at raw) → take cursor.end out ≡ utf8_of big (take cursor.at raw)
+written-text big raw out cursor fit reached text = written-units big raw out cursor fit reached ∙ bytes-utf8 big (take cursor.at raw) text
 
 -- sixteen bytes of ASCII are a text
 pub ascii-text : (big : Bool) (raw : List ℕ) → ((k : ℕ) → Fits w8 (slice_index raw k)) → 16 ≤ length raw → All (λ u. u < 0x80) (units_of big (take 16 raw))

@@ -60,8 +60,8 @@ fn block_len(units: u16x32) -> usize
     if are_below(units, 0x80) {
         return 32;
     }
-    let low = class_bits(units, 0).count_ones() as usize;
-    let surrogates = class_bits(units, 0xD800).count_ones() as usize;
+    let low = class_bits(units, 0xF800, 0).count_ones() as usize;
+    let surrogates = class_bits(units, 0xF800, 0xD800).count_ones() as usize;
     96 - low - surrogates - ascii_bits(units).count_ones() as usize
 }
 

@@ -18,4 +18,4 @@ mod writers;
 
 pub use crate::few::write_eight_ascii;
 pub use crate::lens::utf8_len;
-pub use crate::write::{SLACK, write_before_surrogates, write_utf8};
+pub use crate::write::{SLACK, write_blocks, write_utf8};

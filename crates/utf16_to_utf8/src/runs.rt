@@ -1,17 +1,14 @@
 //! Writes the blocks of a text, with a loop of its own for blocks of the same kind that follow each
 //! other.
 
-ghost use Rattle.std.specs.Prelude.{◌≡◌, ◌+◌, ◌*◌, ◌/◌, ◌<◌, ◌≤◌, drop, false, length, take};
+ghost use Rattle.std.specs.Prelude.{◌≡◌, ◌+◌, ◌-◌, ◌*◌, ◌/◌, ◌<◌, ◌≤◌, ◌⊎◌, Bool, IfSome, None, drop, false, length, take};
 ghost use Rattle.utf16_units.specs.Encoding.{units_of};
-ghost use Rattle.utf16_units.specs.Lanes.{PairedTo};
+ghost use Rattle.utf16_units.specs.Lanes.{BlocksStopAt, Paired, PairedTo};
 ghost use Rattle.utf16_to_utf8.specs.Block.{AreOfKind, IsPlain};
 ghost use Rattle.utf16_to_utf8.specs.Cursor.{Reached};
+ghost use Rattle.utf16_to_utf8.specs.declared.blocks.Kind.TheVariants.{Ascii};
 
-use crate::blocks::{
-    Kind, are_both_ascii, are_of, eights, is_plain, kind_of, lanes_from, put_block,
-};
-use crate::lanes::{each, sum};
-use crate::padded::units8;
+use crate::blocks::{Kind, are_both_ascii, are_of, eights, is_plain, kind_of, paired, put_block};
 use crate::write::SLACK;
 use std::simd::prelude::*;
 use utf16_units::Utf16Order;
@@ -47,58 +44,145 @@ pub(crate) fn put_next<E: Utf16Order>(raw: &[u8], out: &mut [u8], from: Cursor) 
     ensures advances { from.at < result.at }
 {
     let units = next_units::<E>(raw, from.at);
-    put_known::<E>(raw, out, from, units, kind_of(units))
+    put_known::<E, true>(raw, out, from, units, kind_of(units))
 }
 
-// Whether none of the first eight units is a surrogate; `false` if there are fewer.
-#[inline(always)]
-pub(crate) fn begins_plain<E: Utf16Order>(raw: &[u8]) -> bool {
-    if raw.len() < 16 {
-        return false;
-    }
-    let units = units8::<E>(u8x16::from_slice(raw));
-    lanes_from(sum(units, each(0x2800)), 0x800)
+// How far a text was written that was tested too, and whether the last unit is a leading surrogate,
+// of which two bytes were written.
+#[derive(Clone, Copy)]
+pub(crate) struct Tested {
+    pub(crate) cursor: Cursor,
+    pub(crate) leading: bool,
 }
 
-// Writes the blocks at the start that have no surrogate.
+// Writes the blocks at the start whose surrogates are paired, as far as they fit.
 #[inline(never)]
-pub(crate) fn put_plain<E: Utf16Order>(raw: &[u8], out: &mut [u8]) -> Cursor
-    requires space { length raw.now / 2 * 3 + SLACK ≤ length out.old }
-    ensures reached { Reached E.BIG raw.now out.new result }
-    ensures paired { PairedTo E.BIG raw.now result.at false }
+pub(crate) fn put_paired<E: Utf16Order>(raw: &[u8], out: &mut [u8]) -> Tested
+    ensures reached { Reached E.BIG raw.now out.new result.cursor }
+    ensures fits { result.cursor.end ≤ length out.new }
+    ensures paired { PairedTo E.BIG raw.now result.cursor.at result.leading }
+    ensures stop { BlocksStopAt 64 E.BIG raw.now result.cursor.at result.leading
+        ⊎ (length out.new < result.cursor.end + SLACK) }
 {
     let mut cursor = Cursor {
         at: 0,
         end: 0,
         previous: u16x8::splat(0),
     };
-    while raw.len() - cursor.at >= 64 {
+    let mut leading = false;
+    if raw.len() < 64 || out.len() < SLACK {
+        return Tested { cursor, leading };
+    }
+    while cursor.at <= raw.len() - 64 {
+        if !leading {
+            cursor = put_plain::<E>(raw, out, cursor);
+        }
+        if cursor.at > raw.len() - 64 || cursor.end > out.len() - SLACK {
+            break;
+        }
+        let units = next_units::<E>(raw, cursor.at);
+        let Some(next) = put_surrogates::<E>(raw, out, Tested { cursor, leading }, units) else {
+            break;
+        };
+        cursor = next.cursor;
+        leading = next.leading;
+    }
+    Tested { cursor, leading }
+}
+
+// Writes the next blocks that have no surrogate, as far as they fit.
+#[inline(always)]
+fn put_plain<E: Utf16Order>(raw: &[u8], out: &mut [u8], from: Cursor) -> Cursor
+    requires many { 64 ≤ length raw.now }
+    requires space { SLACK ≤ length out.old }
+    requires fits { from.end ≤ length out.old }
+    requires reached { Reached E.BIG raw.now out.old from }
+    requires paired { PairedTo E.BIG raw.now from.at false }
+    ensures reached { Reached E.BIG raw.now out.new result }
+    ensures fits { result.end ≤ length out.new }
+    ensures advances { from.at ≤ result.at }
+    ensures paired { PairedTo E.BIG raw.now result.at false }
+{
+    let last = raw.len() - 64;
+    let most = out.len() - SLACK;
+    let mut cursor = from;
+    while cursor.at <= last {
+        if cursor.end > most {
+            break;
+        }
         let units = next_units::<E>(raw, cursor.at);
         let kind = kind_of(units);
         if !is_plain(kind) {
             break;
         }
-        cursor = put_known::<E>(raw, out, cursor, units, kind);
+        cursor = put_known::<E, false>(raw, out, cursor, units, kind);
     }
     cursor
 }
 
-// Writes the next block, which is of a kind, and if it is ASCII, wide or of pairs also the blocks
-// of its kind that follow it.
+// Writes the next block if its surrogates are paired, and if it has pairs and letters alone also
+// the blocks of these that follow it, as far as they fit.
 #[inline(always)]
-fn put_known<E: Utf16Order>(
+fn put_surrogates<E: Utf16Order>(
+    raw: &[u8],
+    out: &mut [u8],
+    from: Tested,
+    units: u16x32,
+) -> Option<Tested>
+    requires space { from.cursor.end + SLACK ≤ length out.old }
+    requires more { from.cursor.at + 64 ≤ length raw.now }
+    requires next { units ≡ units_of E.BIG (take 64 (drop from.cursor.at raw.now)) }
+    requires reached { Reached E.BIG raw.now out.old from.cursor }
+    requires paired { PairedTo E.BIG raw.now from.cursor.at from.leading }
+    ensures reached { IfSome result (λ done. Reached E.BIG raw.now out.new done.cursor) }
+    ensures paired { IfSome result (λ done. PairedTo E.BIG raw.now done.cursor.at done.leading) }
+    ensures fits { IfSome result (λ done. done.cursor.end ≤ length out.new) }
+    ensures advances { IfSome result (λ done. from.cursor.at < done.cursor.at) }
+    ensures none { result ≡ None → BlocksStopAt 64 E.BIG raw.now from.cursor.at from.leading }
+    ensures unchanged { result ≡ None → out.new ≡ out.old }
+{
+    let leading = paired(units, from.leading)?;
+    if !are_of(units, Kind::Pairs) {
+        let cursor = put_units::<E>(raw, out, from.cursor, units, Kind::Mixed);
+        return Some(Tested { cursor, leading });
+    }
+    let cursor = put_units::<E>(raw, out, from.cursor, units, Kind::Pairs);
+    let mut done = Tested { cursor, leading };
+    while done.cursor.at <= raw.len() - 64 {
+        if done.cursor.end > out.len() - SLACK {
+            break;
+        }
+        let units = next_units::<E>(raw, done.cursor.at);
+        if !are_of(units, Kind::Pairs) {
+            break;
+        }
+        let Some(leading) = paired(units, done.leading) else {
+            break;
+        };
+        let cursor = put_units::<E>(raw, out, done.cursor, units, Kind::Pairs);
+        done = Tested { cursor, leading };
+    }
+    Some(done)
+}
+
+// Writes the next block, which is of a kind, and if it is ASCII, wide or, with `PAIRS`, of pairs
+// also the blocks of its kind that follow it and fit. A function for each caller, so that it is
+// compiled into both.
+#[inline(always)]
+fn put_known<E: Utf16Order, const PAIRS: bool>(
     raw: &[u8],
     out: &mut [u8],
     from: Cursor,
     units: u16x32,
     kind: Kind,
 ) -> Cursor
-    requires space { length raw.now / 2 * 3 + SLACK ≤ length out.old }
+    requires space { from.end + SLACK ≤ length out.old }
     requires more { from.at + 64 ≤ length raw.now }
     requires next { units ≡ units_of E.BIG (take 64 (drop from.at raw.now)) }
     requires kind { AreOfKind kind units }
     requires reached { Reached E.BIG raw.now out.old from }
     ensures reached { Reached E.BIG raw.now out.new result }
+    ensures fits { result.end ≤ length out.new }
     ensures advances { from.at < result.at }
     ensures paired { IsPlain kind → PairedTo E.BIG raw.now from.at false
         → PairedTo E.BIG raw.now result.at false }
@@ -107,23 +191,32 @@ fn put_known<E: Utf16Order>(
     match kind {
         Kind::Ascii => put_ascii_run::<E>(raw, out, next),
         Kind::Wide => put_run::<E>(raw, out, next, Kind::Wide),
-        Kind::Pairs => put_run::<E>(raw, out, next, Kind::Pairs),
-        Kind::Letters | Kind::Basic | Kind::Mixed => next,
+        Kind::Pairs if PAIRS => put_run::<E>(raw, out, next, Kind::Pairs),
+        Kind::Letters | Kind::Basic | Kind::Pairs | Kind::Mixed => next,
     }
 }
 
-// Writes the ASCII blocks from the cursor on: the first alone, and those after it two at a time.
+// Writes the ASCII blocks from the cursor on that fit: the first alone, and those after it two at a
+// time.
 #[inline(always)]
 fn put_ascii_run<E: Utf16Order>(raw: &[u8], out: &mut [u8], from: Cursor) -> Cursor
-    requires space { length raw.now / 2 * 3 + SLACK ≤ length out.old }
+    requires many { 64 ≤ length raw.now }
+    requires space { SLACK ≤ length out.old }
+    requires fits { from.end ≤ length out.old }
     requires reached { Reached E.BIG raw.now out.old from }
     ensures reached { Reached E.BIG raw.now out.new result }
+    ensures fits { result.end ≤ length out.new }
     ensures advances { from.at ≤ result.at }
     ensures paired { PairedTo E.BIG raw.now from.at false
         → PairedTo E.BIG raw.now result.at false }
 {
+    let last = raw.len() - 64;
+    let most = out.len() - SLACK;
     let mut cursor = from;
-    while raw.len() - cursor.at >= 64 {
+    while cursor.at <= last {
+        if cursor.end > most {
+            break;
+        }
         let units = next_units::<E>(raw, cursor.at);
         if !are_of(units, Kind::Ascii) {
             break;
@@ -134,18 +227,26 @@ fn put_ascii_run<E: Utf16Order>(raw: &[u8], out: &mut [u8], from: Cursor) -> Cur
     cursor
 }
 
-// Writes the ASCII blocks from the cursor on, two at a time.
+// Writes the ASCII blocks from the cursor on that fit, two at a time.
 #[inline(always)]
 fn put_ascii_pairs<E: Utf16Order>(raw: &[u8], out: &mut [u8], from: Cursor) -> Cursor
-    requires space { length raw.now / 2 * 3 + SLACK ≤ length out.old }
+    requires fits { from.end ≤ length out.old }
     requires reached { Reached E.BIG raw.now out.old from }
     ensures reached { Reached E.BIG raw.now out.new result }
+    ensures fits { result.end ≤ length out.new }
     ensures advances { from.at ≤ result.at }
     ensures paired { PairedTo E.BIG raw.now from.at false
         → PairedTo E.BIG raw.now result.at false }
 {
+    // Each two blocks take 64 bytes.
+    let space = out.len() - from.end;
+    if raw.len() - from.at < 128 || space < SLACK + 32 {
+        return from;
+    }
+    let most = (raw.len() - from.at - 128).min((space - SLACK - 32).saturating_mul(2));
+    let last = from.at + most;
     let mut cursor = from;
-    while raw.len() - cursor.at >= 128 {
+    while cursor.at <= last {
         let first = next_units::<E>(raw, cursor.at);
         let second = next_units::<E>(raw, cursor.at + 64);
         if !are_both_ascii(first, second) {
@@ -157,18 +258,26 @@ fn put_ascii_pairs<E: Utf16Order>(raw: &[u8], out: &mut [u8], from: Cursor) -> C
     cursor
 }
 
-// Writes the blocks of a kind from the cursor on.
+// Writes the blocks of a kind from the cursor on that fit.
 #[inline(always)]
 fn put_run<E: Utf16Order>(raw: &[u8], out: &mut [u8], from: Cursor, kind: Kind) -> Cursor
-    requires space { length raw.now / 2 * 3 + SLACK ≤ length out.old }
+    requires many { 64 ≤ length raw.now }
+    requires space { SLACK ≤ length out.old }
+    requires fits { from.end ≤ length out.old }
     requires reached { Reached E.BIG raw.now out.old from }
     ensures reached { Reached E.BIG raw.now out.new result }
+    ensures fits { result.end ≤ length out.new }
     ensures advances { from.at ≤ result.at }
     ensures paired { IsPlain kind → PairedTo E.BIG raw.now from.at false
         → PairedTo E.BIG raw.now result.at false }
 {
+    let last = raw.len() - 64;
+    let most = out.len() - SLACK;
     let mut cursor = from;
-    while raw.len() - cursor.at >= 64 {
+    while cursor.at <= last {
+        if cursor.end > most {
+            break;
+        }
         let units = next_units::<E>(raw, cursor.at);
         if !are_of(units, kind) {
             break;
@@ -187,13 +296,17 @@ fn put_units<E: Utf16Order>(
     units: u16x32,
     kind: Kind,
 ) -> Cursor
-    requires space { length raw.now / 2 * 3 + SLACK ≤ length out.old }
+    requires space { from.end + SLACK ≤ length out.old }
     requires more { from.at + 64 ≤ length raw.now }
     requires next { units ≡ units_of E.BIG (take 64 (drop from.at raw.now)) }
     requires kind { AreOfKind kind units }
     requires reached { Reached E.BIG raw.now out.old from }
     ensures reached { Reached E.BIG raw.now out.new result }
     ensures at { result.at ≡ from.at + 64 }
+    ensures end { result.end ≤ from.end + 96 }
+    ensures ascii { kind ≡ Ascii → result.end ≤ from.end + 32 }
+    ensures pairs { (before after : Bool) → PairedTo E.BIG raw.now from.at before
+        → Paired before units after → PairedTo E.BIG raw.now result.at after }
     ensures paired { IsPlain kind → PairedTo E.BIG raw.now from.at false
         → PairedTo E.BIG raw.now result.at false }
 {

@@ -1,13 +1,14 @@
 //! Writes a text into a buffer, in UTF-8.
 
-ghost use Rattle.std.specs.Prelude.{◌≡◌, ◌+◌, ◌*◌, ◌/◌, ◌%◌, ◌<◌, ◌≤◌, ◌++◌, drop, length, slice_index, take};
+ghost use Rattle.std.specs.Prelude.{◌≡◌, ◌+◌, ◌*◌, ◌/◌, ◌%◌, ◌<◌, ◌≤◌, ◌⊎◌, ◌++◌, drop, false, length, slice_index, take};
 ghost use Rattle.utf16_units.specs.Encoding.{IsUtf16, units_of, utf8_of};
+ghost use Rattle.utf16_units.specs.Lanes.{BlocksStopAt, PairedTo};
 ghost use Rattle.utf16_to_utf8.specs.Utf8.{units_utf8};
 ghost use Rattle.utf16_to_utf8.specs.Cursor.{Reached};
 
 use crate::few::{put_last_units, put_next_eight, put_padded};
 use crate::padded::few_bytes;
-use crate::runs::{Cursor, begins_plain, put_next, put_plain};
+use crate::runs::{Cursor, Tested, put_next, put_paired};
 use crate::short::put_each;
 use std::simd::prelude::*;
 use utf16_units::Utf16Order;
@@ -40,37 +41,54 @@ pub fn write_utf8<E: Utf16Order>(raw: &[u8], to: &mut [u8]) -> usize
     write_units::<E>(raw, &mut to[..room])
 }
 
-/// Writes the blocks of thirty-two code units that have no surrogate, up to the first that has one,
-/// in UTF-8 to the start of `to`. Returns the number of bytes read, which it validates while it
-/// writes them, and the number of bytes written.
+/// Writes the blocks of thirty-two code units at the start whose surrogates are paired in UTF-8 to
+/// the start of `to`, as far as they fit, and validates them while it writes them. Returns the
+/// number of bytes read, which are well formed, and the number of bytes written.
 ///
-/// The last code units are left if they are fewer than thirty-two. The bytes of `to` after the
-/// written ones and before `raw.len() / 2 * 3 + SLACK` may have changed; those from there on are
-/// unchanged.
-///
-/// # Precondition
-///
-/// `to` has at least `raw.len() / 2 * 3 + SLACK` bytes.
+/// It stops only where the surrogates of the next thirty-three code units are not paired, or there
+/// are fewer, or `to` has fewer than 130 bytes of space left. The bytes of `to` after the written
+/// ones and before `raw.len() / 2 * 3 + SLACK` may have changed; those from there on are unchanged.
 ///
 /// # Complexity
 ///
 /// One pass over the bytes read.
-#[inline]
-pub fn write_before_surrogates<E: Utf16Order>(raw: &[u8], to: &mut [u8]) -> (usize, usize)
-    requires { length raw.now / 2 * 3 + SLACK ≤ length to.old }
+#[inline(always)]
+pub fn write_blocks<E: Utf16Order>(raw: &[u8], to: &mut [u8]) -> (usize, usize)
     ensures within { result.0 ≤ length raw.now }
     ensures well_formed { IsUtf16 E.BIG (take result.0 raw.now) }
     ensures utf8 { take result.1 to.new ≡ utf8_of E.BIG (take result.0 raw.now) }
     ensures len { result.1 ≡ length (utf8_of E.BIG (take result.0 raw.now)) }
-    ensures short { result.1 ≤ result.0 / 2 * 3 }
+    ensures stop { BlocksStopAt 66 E.BIG raw.now result.0 false
+        ⊎ (length to.new < result.1 + 130) }
     ensures rest { drop (length raw.now / 2 * 3 + SLACK) to.new
         ≡ drop (length raw.now / 2 * 3 + SLACK) to.old }
 {
-    if !begins_plain::<E>(raw) {
-        return (0, 0);
+    let room = to.len().min(raw.len() / 2 * 3 + SLACK);
+    let out = &mut to[..room];
+    let done = put_paired::<E>(raw, out);
+    whole_chars::<E>(raw, out, done)
+}
+
+// Returns how far whole characters were read and written.
+#[inline(always)]
+fn whole_chars<E: Utf16Order>(raw: &[u8], out: &[u8], done: Tested) -> (usize, usize)
+    requires reached { Reached E.BIG raw.now out.now done.cursor }
+    requires fits { done.cursor.end ≤ length out.now }
+    requires paired { PairedTo E.BIG raw.now done.cursor.at done.leading }
+    requires stop { BlocksStopAt 64 E.BIG raw.now done.cursor.at done.leading
+        ⊎ (length out.now < done.cursor.end + SLACK) }
+    ensures within { result.0 ≤ length raw.now }
+    ensures fits { result.1 ≤ length out.now }
+    ensures well_formed { IsUtf16 E.BIG (take result.0 raw.now) }
+    ensures utf8 { take result.1 out.now ≡ utf8_of E.BIG (take result.0 raw.now) }
+    ensures stop { BlocksStopAt 66 E.BIG raw.now result.0 false
+        ⊎ (length out.now < done.cursor.end + SLACK) }
+    ensures near { done.cursor.end ≤ result.1 + 2 }
+{
+    let cursor = done.cursor;
+    if done.leading {
+        return (cursor.at - 2, cursor.end - 2);
     }
-    let room = raw.len() / 2 * 3 + SLACK;
-    let cursor = put_plain::<E>(raw, &mut to[..room]);
     (cursor.at, cursor.end)
 }
 

@@ -144,13 +144,6 @@ pub valid_more : (text : List ℕ) (valid n : ℕ) → IsUtf8 (take valid text) 
 valid_more text valid n first second =
     subst IsUtf8 (sym (take-add valid n text)) (IsUtf8-append (take valid text) (take n (drop valid text)) first (subst (λ r. IsUtf8 (take n r)) (take_rest text valid) second))
 
--- the same for a prefix of the part that is validated at once
-pub valid_part : (text : List ℕ) (valid len n : ℕ) → IsUtf8 (take valid text) → n ≤ length (take len (rest_from text valid))
-    → IsUtf8 (take n (take len (rest_from text valid))) → IsUtf8 (take (valid + n) text)
-valid_part text valid len n first within second =
-    let rest = rest_from text valid in
-    valid_more text valid n first (subst IsUtf8 (take-take n len rest (omega (arith, within, length-take len rest))) second)
-
 -- bytes that are UTF-8 with zeros after them are UTF-8
 zeros_valid : (n : ℕ) → IsUtf8 (replicate n 0)
 unfolding encode_utf8

@@ -1,5 +1,6 @@
 pub mod FromUtf8
 pub mod LossyLemmas
+pub mod PrefixLemmas
 pub mod CutLemmas
 pub mod DecodesUtf8
 pub mod ItemLemmas

@@ -5,7 +5,8 @@ ghost use Rattle.std.specs.Char.{encode_utf8};
 ghost use Rattle.std.specs.Int.{is_in_range};
 ghost use Rattle.std.specs.Str.{IsUtf8, chars};
 ghost use Rattle.std.specs.Str.Lossy.{second_byte_max, second_byte_min};
-ghost use Rattle.utf16_units.specs.Encoding.{char_bytes, char_size, encode};
+ghost use Rattle.utf16_units.specs.Boundary.{IsBoundary};
+ghost use Rattle.utf16_units.specs.Encoding.{IsUtf16, char_bytes, char_size, encode, text_of};
 ghost use Rattle.utf16_transcode.specs.FromUtf8.{TranscodesToUtf16, IsIllFormedUtf8, IsIllFormedUtf8At, StopsEncoding};
 ghost use Rattle.utf16_decode.specs.Wrote.{Wrote};
 ghost use Rattle.utf16_decode.specs.Stops.{BeginsWith};
@@ -16,14 +17,12 @@ use std::marker::PhantomData;
 use utf8_blocks::{write_blocks, write_few_ascii};
 use utf16_decode::{Direction, Progress, transcode};
 use utf16_from_utf8::write_units;
-use utf16_units::{Utf16CharExt, Utf16Order};
+use utf16_to_utf8::utf8_len;
+use utf16_units::{Utf16CharExt, Utf16Order, is_trailing_surrogate};
 
-// The number of bytes that are validated first if few valid bytes precede them, and the factor by
-// which it grows after each valid part. Validation of 64 bytes or more goes to their end before it
-// looks for the error; that of fewer stops at the error.
+// The number of bytes that are validated first. Validation of 64 bytes or more goes to their end
+// before it looks for the error; that of fewer stops at the error.
 const FIRST: usize = 63;
-
-const GROWTH: usize = 8;
 
 /// Writes UTF-8 in UTF-16 to the start of a buffer, up to the first ill-formed sequence or as far
 /// as whole characters fit. Any bytes are allowed. Bytes of the buffer after the written ones may
@@ -67,8 +66,8 @@ impl<E: Utf16Order> Direction for FromUtf8<E> {
     fn laws() {}
 
     #[inline(always)]
-    fn valid_len(bytes: &[u8], before: usize) -> usize {
-        valid_len(bytes, before)
+    fn valid_len(bytes: &[u8]) -> usize {
+        valid_len(bytes)
     }
 
     #[inline(always)]
@@ -103,12 +102,22 @@ impl<E: Utf16Order> Direction for FromUtf8<E> {
     }
 
     #[inline(always)]
-    fn surely_fit(rest: &[u8], room: usize) -> usize {
-        rest.len().min(room / 2)
+    fn likely_fit(rest: &[u8], room: usize) -> usize {
+        match rest[0] {
+            ..0x80 => room / 2,
+            0xE0..0xF0 => (room / 2).saturating_mul(3),
+            _ => room,
+        }
     }
 
     #[inline(always)]
-    fn most(room: usize) -> usize {
+    fn fitting_prefix(_text: &[u8], written: &[u8], room: usize) -> (usize, usize) {
+        let end = last_boundary::<E>(written, room);
+        (utf8_len::<E>(&written[..end]), end)
+    }
+
+    #[inline(always)]
+    fn surely_fit(room: usize) -> usize {
         room.saturating_sub(16) / 2
     }
 
@@ -125,6 +134,22 @@ impl<E: Utf16Order> Direction for FromUtf8<E> {
         }
         write_blocks::<E>(rest, to)
     }
+}
+
+// Returns the last boundary between characters of a text at or before an offset.
+#[inline(always)]
+fn last_boundary<E: Utf16Order>(utf16: &[u8], at: usize) -> usize
+    requires text { IsUtf16 E.BIG utf16.now }
+    requires inside { at < length utf16.now }
+    ensures boundary { IsBoundary (text_of E.BIG utf16.now) result }
+    ensures before { result ≤ at }
+    ensures near { at < result + 4 }
+{
+    let whole = at / 2 * 2;
+    if is_trailing_surrogate(E::read_unit([utf16[whole], utf16[whole + 1]])) {
+        return whole - 2;
+    }
+    whole
 }
 
 // Writes the ASCII at the start of the bytes character by character, as far as it fits, and returns
@@ -154,8 +179,8 @@ pub(crate) fn put_char<E: Utf16Order>(c: char, to: &mut [u8], at: usize) -> usiz
     at + c.encode_utf16_into::<E>(&mut to[at..])
 }
 
-// Returns the length of the longest valid prefix. `before` valid bytes precede it.
-fn valid_len(text: &[u8], before: usize) -> usize
+// Returns the length of the longest valid prefix.
+fn valid_len(text: &[u8]) -> usize
     ensures within { result ≤ length text.now }
     ensures well_formed { IsUtf8 (take result text.now) }
 {
@@ -165,37 +190,25 @@ fn valid_len(text: &[u8], before: usize) -> usize
     if text.len() <= FIRST {
         return valid_prefix(text);
     }
-    let mut valid = 0;
-    let mut part = before.max(FIRST);
-    while valid < text.len() {
-        let rest = &text[valid..];
-        let len = part_len(rest, part);
-        let tested = valid_prefix(&rest[..len]);
-        valid += tested;
-        if tested < len {
-            return valid;
-        }
-        part = part.saturating_mul(GROWTH);
+    let first = first_len(text);
+    let len = valid_prefix(&text[..first]);
+    if len < first {
+        return len;
     }
-    valid
+    len + valid_prefix(&text[len..])
 }
 
-// Returns how many bytes to validate at once: at most `part`; if that is more than four, without
-// the last character, which may be incomplete and is left for the next part.
-fn part_len(rest: &[u8], part: usize) -> usize
-    requires not_empty { 0 < length rest.now }
-    requires not_zero { 0 < part }
-    ensures { (0 < result) × (result ≤ length rest.now) }
+// Returns how many bytes to validate first: without the last character, which may be incomplete and
+// is left for the next ones.
+fn first_len(text: &[u8]) -> usize
+    requires { FIRST < length text.now }
+    ensures { result ≤ length text.now }
 {
-    let most = part.min(rest.len());
-    if most <= 4 {
-        return most;
-    }
-    let mut len = most;
-    while len > most - 3 && rest[len - 1] & 0xC0 == 0x80 {
+    let mut len = FIRST;
+    while len > FIRST - 3 && text[len - 1] & 0xC0 == 0x80 {
         len -= 1;
     }
-    if rest[len - 1] < 0xC0 { len } else { len - 1 }
+    if text[len - 1] < 0xC0 { len } else { len - 1 }
 }
 
 // Whether a text may begin with these bytes, by the first two.

@@ -1,4 +1,4 @@
-use Rattle.std.proofs.Common.{◌≡◌, ◌<◌, ◌^◌, ltb, ltb-true, lt-ltb, eqb-true, w16, sym, ap, ◌∙◌, arith}
+use Rattle.std.proofs.Common.{◌<◌, ◌^◌, ltb, ltb-true, lt-ltb, eqb-true, w16, sym, ap, ◌∙◌, arith}
 use borrow.Author.Tests.{eq-eqb}
 use Rattle.std.proofs.lemmas.Simd.{bitmask_splat}
 use Rattle.utf16_to_utf8.proofs.BoundLemmas.{all_by_bits, bits_of_all}

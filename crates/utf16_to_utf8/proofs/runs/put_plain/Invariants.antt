@@ -1,4 +1,4 @@
-use Rattle.std.proofs.Common.{◌-◌, false, length}
+use Rattle.std.proofs.Common.{◌-◌, ◌≤◌, false, length}
 use Rattle.utf16_units.specs.Lanes.{PairedTo}
 use Rattle.utf16_to_utf8.specs.Cursor.{Reached}
 use Rattle.utf16_to_utf8.proofs.runs.put_plain.Given as goal
@@ -6,6 +6,8 @@ use Rattle.utf16_to_utf8.proofs.runs.put_plain.Given as goal
 abbrev pub invariant-loop-cursor : goal.invariant-loop-cursor
 invariant-loop-cursor g l = record {
   reached : Reached g.E.Utf16Order.BIG l.raw l.out l.cursor;
+  fits : l.cursor.end ≤ length l.out;
+  advances : l.fn.from.at ≤ l.cursor.at;
   paired : PairedTo g.E.Utf16Order.BIG l.raw l.cursor.at false;
 }
 

@@ -7,6 +7,7 @@ use Rattle.utf16_to_utf8.proofs.runs.put_run.Given as goal
 abbrev pub invariant-loop-cursor : goal.invariant-loop-cursor
 invariant-loop-cursor g l = record {
   reached : Reached g.E.Utf16Order.BIG l.raw l.out l.cursor;
+  fits : l.cursor.end ≤ length l.out;
   advances : l.fn.from.at ≤ l.cursor.at;
   paired : IsPlain l.kind → PairedTo g.E.Utf16Order.BIG l.raw l.fn.from.at false → PairedTo g.E.Utf16Order.BIG l.raw l.cursor.at false;
 }

@@ -1,16 +1,13 @@
-use Rattle.std.proofs.Common.{rules}
-use Rattle.utf16_transcode.proofs.FromUtf8.{valid_part}
+use Rattle.std.proofs.Common.{arith, length-take, subst, take-take}
+use Rattle.std.specs.Str.{IsUtf8}
+use Rattle.utf16_transcode.proofs.FromUtf8.{valid_more}
 use Rattle.utf16_transcode.proofs.utf16.valid_len.Goals as goal
 
-pub returns-then-tested-len-clause-well_formed : goal.returns-then-tested-len-clause-well_formed
-returns-then-tested-len-clause-well_formed c =
-    let tested = c.valid_prefix-tested in
-    valid_part c.args.text.now c.loop-valid.valid c.part_len-len.result tested.result c.loop-valid.invariant.1 tested.ensures.within
-    tested.ensures.well_formed
-
-pub loop-valid-preserved : goal.loop-valid-preserved
-loop-valid-preserved c =
-    let tested = c.valid_prefix-tested in
-    let more = valid_part c.args.text.now c.loop-valid.valid c.part_len-len.result tested.result c.loop-valid.invariant.1
-    tested.ensures.within tested.ensures.well_formed in
-    (search rules, more, search rules)
+pub returns-clause-well_formed : goal.returns-clause-well_formed
+returns-clause-well_formed c =
+    let text = c.args.text.now in
+    let first = c.first_len-first.result in
+    let front = c.valid_prefix-len in
+    valid_more text front.result c.valid_prefix-2.result
+    (subst IsUtf8 (take-take front.result first text (omega (arith, front.ensures.within, length-take first text))) front.ensures.well_formed)
+    c.valid_prefix-2.ensures.well_formed

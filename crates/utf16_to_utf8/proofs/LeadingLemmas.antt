@@ -1,0 +1,130 @@
+-- What was written up to a leading surrogate, which is the last unit that was read.
+use Rattle.std.proofs.Common.{◌≡◌, ⊎_elim, ◌/◌, ◌%◌, ℕ, ◌+◌, ◌-◌, ◌*◌, ◌<◌, ◌≤◌, Bool, true, false, List, [], ◌∷◌, ◌++◌, length, map, take, drop, slice_index, refl, sym, ap, ap₂, ◌∙◌, subst, arith, append-nil, Fits, w8, drop_at, length-append, length-drop, length-take-le, take_at, take-take}
+use Rattle.std.proofs.lemmas.List.{drop-drop, length-map, map-append}
+use Rattle.std.proofs.lemmas.Bool.{cases_lt}
+use Rattle.std.specs.Prelude.{min}
+use Rattle.std.specs.Char.Utf16.{is_high_surrogate, is_low_surrogate}
+use Rattle.utf16_units.specs.Encoding.{IsUtf16, units_of, utf8_of}
+use Rattle.utf16_units.specs.Lanes.{BlocksStopAt, Paired, PairedTo}
+use Rattle.utf16_units.specs.Unit.{unit_of}
+use Rattle.utf16_units.proofs.PairLemmas.{PairedTo-some, PairedTo-text_before, is_of}
+use Rattle.utf16_units.proofs.UnitsUpTo.{units_of-next}
+use Rattle.utf16_to_utf8.specs.Cursor.{Reached}
+use Rattle.utf16_to_utf8.specs.Utf8.{unit_utf8, units_utf8}
+use Rattle.utf16_to_utf8.specs.declared.runs.Cursor.{Cursor}
+use Rattle.utf16_to_utf8.proofs.ListLemmas.{units-cons, units-nil}
+use Rattle.utf16_to_utf8.proofs.PlainLemmas.{units-after, written-units}
+use Rattle.utf16_to_utf8.proofs.TextLemmas.{bytes-utf8}
+use Rattle.utf16_to_utf8.proofs.UnitLemmas.{unit-leading}
+
+abbrev head_bit : List Bool → Bool
+head_bit [] = false
+head_bit (b ∷ bits) = b
+
+last-bit : (xs ys : List Bool) (a b : Bool) → length xs ≡ length ys → xs ++ a ∷ [] ≡ ys ++ b ∷ [] → a ≡ b
+last-bit xs ys a b long e =
+    ap head_bit (sym (drop_at xs (a ∷ []) (length xs) refl) ∙ ap (drop (length xs)) e ∙ drop_at ys (b ∷ []) (length xs) (sym long))
+
+-- whether the last of paired units is leading
+last-leading : (before after : Bool) (units : List ℕ) (unit : ℕ) → Paired before (units ++ unit ∷ []) after → after ≡ is_high_surrogate unit
+last-leading before after units unit p =
+    last-bit (map is_low_surrogate (units ++ unit ∷ [])) (before ∷ map is_high_surrogate units) after (is_high_surrogate unit)
+    (omega (arith, length-map (units ++ unit ∷ []) is_low_surrogate, length-append units (unit ∷ []), length-map units is_high_surrogate))
+    (p ∙ ap (λ bits. before ∷ bits) (map-append is_high_surrogate units (unit ∷ [])))
+
+-- of a block and a unit more that are paired, the block is
+paired-front : (before after : Bool) (units : List ℕ) (unit : ℕ) → Paired before (units ++ unit ∷ []) after → Paired before units (is_low_surrogate unit)
+paired-front before after units unit p =
+    let lows = map is_low_surrogate units ++ is_low_surrogate unit ∷ [] in
+    let highs = before ∷ map is_high_surrogate units in
+    let long : length lows ≡ length highs =
+    omega (arith, length-append (map is_low_surrogate units) (is_low_surrogate unit ∷ []), length-map units is_low_surrogate, length-map units is_high_surrogate) in
+    sym (take_at lows (after ∷ []) (length lows) refl)
+    ∙ ap (take (length lows)) (ap (λ bits. bits ++ after ∷ []) (sym (map-append is_low_surrogate units (unit ∷ []))) ∙ p ∙ ap (λ bits. before ∷ bits) (map-append is_high_surrogate units (unit ∷ [])))
+    ∙ take_at highs (is_high_surrogate unit ∷ []) (length lows) (sym long)
+
+one-unit : (big : Bool) (bytes : List ℕ) → length bytes ≡ 2 → (unit : ℕ) × (units_of big bytes ≡ unit ∷ [])
+unfolding units_of
+one-unit big [] long = absurd (omega (arith, long))
+one-unit big (x ∷ []) long = absurd (omega (arith, long))
+one-unit big (x ∷ y ∷ []) long = (unit_of big x y, refl)
+one-unit big (x ∷ y ∷ z ∷ bytes) long = absurd (omega (arith, long))
+
+two-bytes : (before unit : ℕ) → is_high_surrogate unit ≡ true → length (units_utf8 before (unit ∷ [])) ≡ 2
+two-bytes before unit high =
+    let bounds = is_of 54 unit high in
+    ap length (units-cons before unit [] ∙ ap (λ bs. unit_utf8 before unit ++ bs) (units-nil unit) ∙ append-nil (unit_utf8 before unit)
+    ∙ unit-leading before unit (omega (arith, bounds.0)) (omega (arith, bounds.1)))
+
+-- where little of a part of the buffer is left, little is left of all of it
+pub little-left : (len part size at end : ℕ) → part ≡ min len (size / 2 * 3 + 128) → 2 * end ≤ 3 * at → at % 2 ≡ 0 → at ≤ size → part < end + 128 → len < end + 128
+little-left len part size at end is short even within full = ⊎_elim
+    (λ (less : len < size / 2 * 3 + 128). omega (arith, is, less, full))
+    (λ (more : size / 2 * 3 + 128 ≤ len). absurd (omega (arith, is, more, short, even, within, full)))
+    (cases_lt len (size / 2 * 3 + 128))
+
+-- where no block is paired, no block and a unit more are
+pub stops-more : (big : Bool) (raw : List ℕ) (at : ℕ) (leading : Bool) → leading ≡ false → BlocksStopAt 64 big raw at leading → BlocksStopAt 66 big raw at false
+stops-more big raw at leading is stops more after p =
+    let rest = drop at raw in
+    let left = length-drop at raw in
+    let next = one-unit big (take 2 (drop 64 rest)) (length-take-le 2 (drop 64 rest) (omega (arith, more, left, length-drop 64 rest))) in
+    let all : units_of big (take 66 rest) ≡ units_of big (take 64 rest) ++ next.0 ∷ [] =
+    units_of-next big rest 64 2 refl (omega (arith, more, left)) ∙ ap (λ us. units_of big (take 64 rest) ++ us) next.1 in
+    let front = paired-front false after (units_of big (take 64 rest)) next.0 (subst (λ us. Paired false us after) all p) in
+    stops (omega (arith, more)) (is_low_surrogate next.0) (subst (λ b. Paired b (units_of big (take 64 rest)) (is_low_surrogate next.0)) (sym is) front)
+
+module _ (big : Bool) (raw out : List ℕ) (cursor : Cursor) (fit : (k : ℕ) → Fits w8 (slice_index raw k)) (reached : Reached big raw out cursor)
+    (after : Bool) (is : after ≡ true) (paired : PairedTo big raw cursor.at after) (room : cursor.end ≤ length out) where
+  pub some : 2 ≤ cursor.at
+  some = PairedTo-some big raw cursor.at fit after is paired
+
+  pub text : IsUtf16 big (take (cursor.at - 2) raw)
+  text = PairedTo-text_before big raw cursor.at fit after is paired
+
+  abbrev units : List ℕ
+  units = units_of big (take (cursor.at - 2) raw)
+
+  last : (unit : ℕ) × (units_of big (take 2 (drop (cursor.at - 2) raw)) ≡ unit ∷ [])
+  last = one-unit big (take 2 (drop (cursor.at - 2) raw)) (length-take-le 2 (drop (cursor.at - 2) raw) (omega (arith, some, reached.within, length-drop (cursor.at - 2) raw)))
+
+  split : units_of big (take cursor.at raw) ≡ units ++ last.0 ∷ []
+  split =
+      let same : cursor.at - 2 + 2 ≡ cursor.at = omega (arith, some) in
+      ap (λ n. units_of big (take n raw)) (sym same)
+      ∙ units_of-next big raw (cursor.at - 2) 2 (omega (arith, some, reached.even)) (omega (arith, some, reached.within))
+      ∙ ap (λ us. units ++ us) last.1
+
+  high : is_high_surrogate last.0 ≡ true
+  high = sym (last-leading false after units last.0 (subst (λ us. Paired false us after) split paired.paired)) ∙ is
+
+  behind : (before : ℕ) × (units_utf8 0 (units ++ last.0 ∷ []) ≡ units_utf8 0 units ++ units_utf8 before (last.0 ∷ []))
+  behind = units-after 0 units (last.0 ∷ [])
+
+  wrote : take cursor.end out ≡ units_utf8 0 units ++ units_utf8 behind.0 (last.0 ∷ [])
+  wrote = written-units big raw out cursor fit reached ∙ ap (units_utf8 0) split ∙ behind.1
+
+  size : length (units_utf8 0 units) + 2 ≡ cursor.end
+  size =
+      sym (ap (λ n. length (units_utf8 0 units) + n) (two-bytes behind.0 last.0 high)) ∙ sym (length-append (units_utf8 0 units) (units_utf8 behind.0 (last.0 ∷ [])))
+      ∙ sym (ap length wrote) ∙ length-take-le cursor.end out room
+
+  pub some_written : 2 ≤ cursor.end
+  some_written = omega (arith, size)
+
+  pub before-leading : take (cursor.end - 2) out ≡ utf8_of big (take (cursor.at - 2) raw)
+  before-leading =
+      let n : cursor.end - 2 ≡ length (units_utf8 0 units) = omega (arith, size) in
+      sym (take-take (cursor.end - 2) cursor.end out (omega arith)) ∙ ap₂ take n wrote
+      ∙ take_at (units_utf8 0 units) (units_utf8 behind.0 (last.0 ∷ [])) (length (units_utf8 0 units)) refl ∙ bytes-utf8 big (take (cursor.at - 2) raw) text
+
+  -- if blocks stop behind that unit, no block and a unit more can be read from it on
+  pub stops-before : BlocksStopAt 64 big raw cursor.at after → BlocksStopAt 66 big raw (cursor.at - 2) false
+  stops-before stops more last_leads p =
+      let rest = drop (cursor.at - 2) raw in
+      let block = units_of big (take 64 (drop cursor.at raw)) in
+      let here : drop 2 rest ≡ drop cursor.at raw = drop-drop 2 (cursor.at - 2) raw ∙ ap (λ n. drop n raw) (omega (arith, some)) in
+      let all : units_of big (take 66 rest) ≡ last.0 ∷ block =
+      units_of-next big rest 2 64 refl (omega (arith, more, some, length-drop (cursor.at - 2) raw)) ∙ ap₂ (λ us bs. us ++ units_of big (take 64 bs)) last.1 here in
+      let behind_it : Paired (is_high_surrogate last.0) block last_leads = ap (drop 1) (subst (λ us. Paired false us last_leads) all p) in
+      stops (omega (arith, more, some)) last_leads (subst (λ b. Paired b block last_leads) (high ∙ sym is) behind_it)
