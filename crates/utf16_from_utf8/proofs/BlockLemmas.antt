@@ -15,7 +15,7 @@ use Rattle.utf16_from_utf8.specs.LaneBytes.{high_lane, low_lane, short_low, thre
 use Rattle.utf16_from_utf8.specs.Lanes.{kept_pairs, pair_bytes, pairs_of}
 use Rattle.utf16_from_utf8.specs.declared.units.TheConstants.{THREES, UPPER}
 use Rattle.utf16_from_utf8.proofs.AddedLemmas.{added_bytes-append, added_bytes-cons, added_bytes-nil, last_but_one, last_but_one-get, last_of, last_of-get, adds-none-behind, adds-none-first, adds-one, byte_adds, unit-one, unit-three}
-use Rattle.utf16_from_utf8.proofs.LaneByteLemmas.{lane-bytes, pair-unit, three-bytes}
+use Rattle.utf16_from_utf8.proofs.LaneByteLemmas.{AreBytes, lane-bytes, pair-unit, three-bytes}
 
 -- ---- one byte
 
@@ -55,16 +55,14 @@ pub kept-first : (big : Bool) (bits high low : ℕ) (pairs : List ℕ)
 kept-first true bits high low pairs = refl
 kept-first false bits high low pairs = refl
 
-kept-one : (big : Bool) (b2 b1 b0 bit high low : ℕ) → b0 < 256 → ◌≡◌ {A = ℕ} bit (cond (ends_unit b1 b0) 1 0) → high ≡ high_lane b2 b1 b0 → low ≡ low_lane b2 b1 b0
+-- a pair is kept exactly if a unit ends, and then it is that unit
+pub unit-added : (big : Bool) (b2 b1 b0 bit high low : ℕ) → ◌≡◌ {A = ℕ} bit (cond (ends_unit b1 b0) 1 0) → (b0 < 0xC0 → b1 < 0xE0 → AreBytes (unit_after b2 b1 b0) high low)
     → cond (bit == 1) (pair_bytes big high low) [] ≡ byte_adds big b2 b1 b0
-kept-one big b2 b1 b0 bit high low small is h l = ⊎_elim
+unit-added big b2 b1 b0 bit high low is are = ⊎_elim
     (λ (a : b0 < 0xC0). ⊎_elim
     (λ (b : b1 < 0xE0).
     let one : bit ≡ 1 = is ∙ ap₂ (λ (x y : Bool). cond (x && y) 1 0) (lt-ltb b0 0xC0 a) (lt-ltb b1 0xE0 b) in
-    ap (λ n. cond (n == 1) (pair_bytes big high low) []) one
-    ∙ ap₂ (pair_bytes big) h l
-    ∙ pair-unit big (unit_after b2 b1 b0) (high_lane b2 b1 b0) (low_lane b2 b1 b0) (lane-bytes b2 b1 b0 small b)
-    ∙ sym (byte-adds-one big b2 b1 b0 a b))
+    ap (λ n. cond (n == 1) (pair_bytes big high low) []) one ∙ pair-unit big (unit_after b2 b1 b0) high low (are a b) ∙ sym (byte-adds-one big b2 b1 b0 a b))
     (λ (b : 0xE0 ≤ b1).
     let none : bit ≡ 0 = is ∙ ap₂ (λ (x y : Bool). cond (x && y) 1 0) (lt-ltb b0 0xC0 a) (le-ltb b1 0xE0 b) in
     ap (λ n. cond (n == 1) (pair_bytes big high low) []) none ∙ sym (byte-adds-behind big b2 b1 b0 b))
@@ -74,39 +72,47 @@ kept-one big b2 b1 b0 bit high low small is h l = ⊎_elim
     ap (λ n. cond (n == 1) (pair_bytes big high low) []) none ∙ sym (byte-adds-first big b2 b1 b0 a))
     (cases_lt b0 0xC0)
 
--- the lanes and the bits of a block after two bytes
-pub record AreLanesOf (b2 b1 : ℕ) (block highs lows : List ℕ) (bits : ℕ) : Type 0 where
+-- of the pairs from k on each is kept exactly if its byte adds a unit, and then it is that unit
+pub record AreAdded (big : Bool) (k b2 b1 : ℕ) (block highs lows : List ℕ) (bits : ℕ) : Type 0 where
   pub high_len : length highs ≡ length block
   pub low_len : length lows ≡ length block
-  pub fits : Each1 (Fits w8) block
-  pub high : (i : ℕ) → i < length block → slice_index highs i ≡ high_lane (slice_index (b2 ∷ b1 ∷ block) i) (slice_index (b1 ∷ block) i) (slice_index block i)
-  pub low : (i : ℕ) → i < length block → slice_index lows i ≡ low_lane (slice_index (b2 ∷ b1 ∷ block) i) (slice_index (b1 ∷ block) i) (slice_index block i)
-  pub ended : (i : ℕ) → i < length block → ◌≡◌ {A = ℕ} (bits / 2 ^ i % 2) (cond (ends_unit (slice_index (b1 ∷ block) i) (slice_index block i)) 1 0)
+  pub none : (i : ℕ) → i < k → bits / 2 ^ i % 2 ≡ 0
+  pub each : (i : ℕ) → k ≤ i → i < length block
+      → cond (bits / 2 ^ i % 2 == 1) (pair_bytes big (slice_index highs i) (slice_index lows i)) [] ≡ byte_adds big (slice_index (b2 ∷ b1 ∷ block) i) (slice_index (b1 ∷ block) i) (slice_index block i)
 
-pub twice : (i : ℕ) → 2 * 2 ^ i ≡ 2 ^ suc i
-twice i = omega (arith, two-pow-succ i)
+-- a bit of the rest
+later : (bits i : ℕ) → bits / 2 / 2 ^ i % 2 ≡ bits / 2 ^ suc i % 2
+later bits i = ap (λ n. n % 2) (div-div-eq-div-mul bits 2 (2 ^ i) ∙ ap (λ n. bits / n) (omega (arith, two-pow-succ i)))
 
-pub kept-added : (big : Bool) (b2 b1 : ℕ) (block highs lows : List ℕ) (bits : ℕ) → AreLanesOf b2 b1 block highs lows bits
-    → kept_pairs bits (pairs_of big highs lows) ≡ added_bytes big b2 b1 block
-kept-added big b2 b1 [] [] lows bits are = sym (added_bytes-nil big b2 b1)
-kept-added big b2 b1 [] (h ∷ highs) lows bits are = absurd (omega (arith, are.high_len))
-kept-added big b2 b1 (b0 ∷ block) [] lows bits are = absurd (omega (arith, are.high_len))
-kept-added big b2 b1 (b0 ∷ block) (h ∷ highs) [] bits are = absurd (omega (arith, are.low_len))
-kept-added big b2 b1 (b0 ∷ block) (h ∷ highs) (l ∷ lows) bits are =
+pub kept-added : (big : Bool) (k b2 b1 : ℕ) (block highs lows : List ℕ) (bits : ℕ) → k ≤ length block → AreAdded big k b2 b1 block highs lows bits
+    → kept_pairs bits (pairs_of big highs lows) ≡ added_bytes big (slice_index (b2 ∷ b1 ∷ block) k) (slice_index (b1 ∷ block) k) (drop k block)
+kept-added big zero b2 b1 [] [] lows bits room are = sym (added_bytes-nil big b2 b1)
+kept-added big zero b2 b1 [] (h ∷ highs) lows bits room are = absurd (omega (arith, are.high_len))
+kept-added big (suc k) b2 b1 [] highs lows bits room are = absurd (omega (arith, room))
+kept-added big k b2 b1 (b0 ∷ block) [] lows bits room are = absurd (omega (arith, are.high_len))
+kept-added big k b2 b1 (b0 ∷ block) (h ∷ highs) [] bits room are = absurd (omega (arith, are.low_len))
+kept-added big zero b2 b1 (b0 ∷ block) (h ∷ highs) (l ∷ lows) bits room are =
     let first : bits % 2 ≡ bits / 1 % 2 = omega arith in
-    let rest : AreLanesOf b1 b0 block highs lows (bits / 2) = record {
+    let rest : AreAdded big 0 b1 b0 block highs lows (bits / 2) = record {
       high_len = omega (arith, are.high_len);
       low_len = omega (arith, are.low_len);
-      fits = are.fits.1;
-      high = λ i below. are.high (suc i) (omega arith);
-      low = λ i below. are.low (suc i) (omega arith);
-      ended = λ i below. ap (λ n. n % 2) (div-div-eq-div-mul bits 2 (2 ^ i) ∙ ap (λ n. bits / n) (twice i)) ∙ are.ended (suc i) (omega arith);
+      none = λ i below. absurd (omega (arith, below));
+      each = λ i from below. ap (λ n. cond (n == 1) (pair_bytes big (slice_index highs i) (slice_index lows i)) []) (later bits i) ∙ are.each (suc i) (omega arith) (omega (arith, below));
     } in
     kept-first big bits h l (pairs_of big highs lows)
-    ∙ ap₂ (λ x y. x ++ y)
-    (kept-one big b2 b1 b0 (bits % 2) h l are.fits.0.fits (first ∙ are.ended 0 (omega arith)) (are.high 0 (omega arith)) (are.low 0 (omega arith)))
-    (kept-added big b1 b0 block highs lows (bits / 2) rest)
+    ∙ ap₂ (λ x y. x ++ y) (ap (λ n. cond (n == 1) (pair_bytes big h l) []) first ∙ are.each 0 (omega arith) (omega arith)) (kept-added big 0 b1 b0 block highs lows (bits / 2) (omega arith) rest)
     ∙ sym (added_bytes-cons big b2 b1 b0 block)
+kept-added big (suc k) b2 b1 (b0 ∷ block) (h ∷ highs) (l ∷ lows) bits room are =
+    let first : bits % 2 ≡ bits / 1 % 2 = omega arith in
+    let rest : AreAdded big k b1 b0 block highs lows (bits / 2) = record {
+      high_len = omega (arith, are.high_len);
+      low_len = omega (arith, are.low_len);
+      none = λ i below. later bits i ∙ are.none (suc i) (omega (arith, below));
+      each = λ i from below. ap (λ n. cond (n == 1) (pair_bytes big (slice_index highs i) (slice_index lows i)) []) (later bits i) ∙ are.each (suc i) (omega (arith, from)) (omega (arith, below));
+    } in
+    kept-first big bits h l (pairs_of big highs lows)
+    ∙ ap (λ n. cond (n == 1) (pair_bytes big h l) [] ++ kept_pairs (bits / 2) (pairs_of big highs lows)) (first ∙ are.none 0 (omega arith))
+    ∙ kept-added big k b1 b0 block highs lows (bits / 2) (omega (arith, room)) rest
 
 -- two bytes before each one
 pub two-behind : (b2 b1 : ℕ) (block v : List ℕ) → ((i : ℕ) → i < 16 → slice_index v i ≡ slice_index (b1 ∷ block) i)
@@ -204,28 +210,31 @@ two_stored big at two unit out room is =
 
 -- ---- a block's lanes, from the vectors that they were computed of
 
-pub block-lanes : (before2 before1 : ℕ) (block b1 b2 highs lows : List ℕ) (bits : ℕ) → length block ≡ 16 → Each1 (Fits w8) block → AreBefore before2 before1 block b2 b1
-    → length highs ≡ 16 → ((i : ℕ) → i < 16 → slice_index highs i ≡ high_lane (slice_index b2 i) (slice_index b1 i) (slice_index block i))
-    → length lows ≡ 16 → ((i : ℕ) → i < 16 → slice_index lows i ≡ low_lane (slice_index b2 i) (slice_index b1 i) (slice_index block i))
-    → ((i : ℕ) → i < 16 → ◌≡◌ {A = ℕ} (bits / 2 ^ i % 2) (cond (ends_unit (slice_index b1 i) (slice_index block i)) 1 0))
-    → AreLanesOf before2 before1 block highs lows bits
-block-lanes before2 before1 block b1 b2 highs lows bits long fits are hlen h llen l ended =
-    let second : (i : ℕ) → i < 16 → slice_index b2 i ≡ slice_index (before2 ∷ before1 ∷ block) i =
-    λ i below. are.two.lanes i below ∙ two-behind before2 before1 block b1 are.one.lanes i below in
-    record {
-      high_len = hlen ∙ sym long;
-      low_len = llen ∙ sym long;
-      fits = fits;
-      high = λ i below.
-          let b : i < 16 = omega (arith, long) in
-          h i b ∙ ap₂ (λ x y. high_lane x y (slice_index block i)) (second i b) (are.one.lanes i b);
-      low = λ i below.
-          let b : i < 16 = omega (arith, long) in
-          l i b ∙ ap₂ (λ x y. low_lane x y (slice_index block i)) (second i b) (are.one.lanes i b);
-      ended = λ i below.
-          let b : i < 16 = omega (arith, long) in
-          ended i b ∙ ap (λ x. cond (ends_unit x (slice_index block i)) 1 0) (are.one.lanes i b);
-    }
+-- where a unit ends, the lanes are its bytes
+abbrev pub AreUnits : List ℕ → List ℕ → List ℕ → List ℕ → List ℕ → Type 0
+AreUnits b2 b1 block highs lows = (i : ℕ) → i < 16 → slice_index block i < 0xC0 → slice_index b1 i < 0xE0
+    → AreBytes (unit_after (slice_index b2 i) (slice_index b1 i) (slice_index block i)) (slice_index highs i) (slice_index lows i)
+
+pub lane-units : (b2 b1 block highs lows : List ℕ) → length block ≡ 16 → Each1 (Fits w8) block
+    → ((i : ℕ) → i < 16 → slice_index highs i ≡ high_lane (slice_index b2 i) (slice_index b1 i) (slice_index block i))
+    → ((i : ℕ) → i < 16 → slice_index lows i ≡ low_lane (slice_index b2 i) (slice_index b1 i) (slice_index block i)) → AreUnits b2 b1 block highs lows
+lane-units b2 b1 block highs lows long fits h l i b low one =
+    let are = lane-bytes (slice_index b2 i) (slice_index b1 i) (slice_index block i) (Each1-get_or (Fits w8) block i 0 (omega (arith, long, b)) fits).fits one in
+    record { is_high = h i b ∙ are.is_high; is_low = l i b ∙ are.is_low }
+
+pub block-added : (big : Bool) (k before2 before1 : ℕ) (block b2 b1 highs lows : List ℕ) (bits : ℕ) → AreBefore before2 before1 block b2 b1 → length block ≡ 16 → length highs ≡ 16 → length lows ≡ 16
+    → k < 16 → ((i : ℕ) → i < k → bits / 2 ^ i % 2 ≡ 0)
+    → ((i : ℕ) → k ≤ i → i < 16 → ◌≡◌ {A = ℕ} (bits / 2 ^ i % 2) (cond (ends_unit (slice_index b1 i) (slice_index block i)) 1 0)) → AreUnits b2 b1 block highs lows
+    → kept_pairs bits (pairs_of big highs lows) ≡ added_bytes big (slice_index (before2 ∷ before1 ∷ block) k) (slice_index (before1 ∷ block) k) (drop k block)
+block-added big k before2 before1 block b2 b1 highs lows bits before long high_long low_long few none ended are = kept-added big k before2 before1 block highs lows bits (omega (arith, few, long)) (record {
+  high_len = high_long ∙ sym long;
+  low_len = low_long ∙ sym long;
+  none = none;
+  each = λ i from within.
+      let b : i < 16 = omega (arith, within, long) in
+      unit-added big _ _ _ _ _ _ (ended i from b) (are i b)
+      ∙ ap₂ (λ x y. byte_adds big x y (slice_index block i)) (before.two.lanes i b ∙ two-behind before2 before1 block b1 before.one.lanes i b) (before.one.lanes i b);
+})
 
 -- ---- two vectors stored, and the next step of a loop
 

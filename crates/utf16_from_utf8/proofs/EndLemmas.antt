@@ -1,97 +1,33 @@
 -- What the lanes of a block from one of them on hold is what its bytes from there on add.
-use Rattle.std.proofs.Common.{◌≡◌, ℕ, zero, suc, ◌+◌, ◌-◌, ◌/◌, ◌%◌, ◌^◌, ◌<◌, ◌≤◌, ◌==◌, Bool, cond, ltb, List, [], ◌∷◌, ◌++◌, length, take, drop, get_or, get_or-drop, slice_index, refl, sym, ap, ap₂, ◌∙◌, ⊎_elim, arith, lt-ltb, le-ltb, Fits, w8, replicate}
+use Rattle.std.proofs.Common.{◌≡◌, ℕ, ◌+◌, ◌-◌, ◌/◌, ◌%◌, ◌^◌, ◌<◌, ◌≤◌, Bool, cond, ltb, List, [], ◌∷◌, ◌++◌, length, take, drop, get_or, get_or-drop, slice_index, refl, sym, ap, ap₂, ◌∙◌, ⊎_elim, arith, lt-ltb, le-ltb, Fits, w8, replicate}
 use Rattle.std.proofs.lemmas.Bool.{cases_lt}
 use Rattle.std.proofs.lemmas.List.{get_or_append_left, get_or-append_right, get_or-take}
 use Rattle.std.proofs.lemmas.Simd.{Each1-get_or, get_or-chunk, get_or-replicate}
-use Rattle.std.proofs.Math.Nat.{div-div-eq-div-mul}
 use lib.Lanes.{Each1, chunk}
 use Rattle.utf16_units.specs.Lanes.{HasLanes}
 use Rattle.utf16_from_utf8.specs.Added.{added_bytes, ends_unit}
 use Rattle.utf16_from_utf8.specs.Kind.{AreBefore}
-use Rattle.utf16_from_utf8.specs.LaneBytes.{high_lane, low_lane}
-use Rattle.utf16_from_utf8.specs.Lanes.{kept_pairs, pair_bytes, pairs_of}
+use Rattle.utf16_from_utf8.specs.Lanes.{kept_pairs, pairs_of}
 use Rattle.utf16_from_utf8.specs.declared.blocks.TheConstants.{EDGE}
-use Rattle.utf16_from_utf8.proofs.BlockLemmas.{kept-added, kept-first, twice, two-behind}
+use Rattle.utf16_from_utf8.proofs.BlockLemmas.{AreUnits, block-added, two-behind}
 use Rattle.utf16_from_utf8.proofs.PackLemmas.{kept_pairs-eight}
 
--- the lanes of a block whose first k bits are not set
-pub record AreLanesFrom (k b2 b1 : ℕ) (block highs lows : List ℕ) (bits : ℕ) : Type 0 where
-  pub high_len : length highs ≡ length block
-  pub low_len : length lows ≡ length block
-  pub fits : Each1 (Fits w8) block
-  pub high : (i : ℕ) → i < length block → slice_index highs i ≡ high_lane (slice_index (b2 ∷ b1 ∷ block) i) (slice_index (b1 ∷ block) i) (slice_index block i)
-  pub low : (i : ℕ) → i < length block → slice_index lows i ≡ low_lane (slice_index (b2 ∷ b1 ∷ block) i) (slice_index (b1 ∷ block) i) (slice_index block i)
-  pub none : (i : ℕ) → i < k → bits / 2 ^ i % 2 ≡ 0
-  pub ended : (i : ℕ) → k ≤ i → i < length block → ◌≡◌ {A = ℕ} (bits / 2 ^ i % 2) (cond (ends_unit (slice_index (b1 ∷ block) i) (slice_index block i)) 1 0)
+-- with the first k bytes replaced no unit ends at them
+pub none-ended : (k : ℕ) (block b1 marked : List ℕ) (bits : ℕ) → HasLanes 16 marked (λ i. cond (ltb i k) 0xFF (slice_index block i)) → k < 16
+    → ((i : ℕ) → i < 16 → ◌≡◌ {A = ℕ} (bits / 2 ^ i % 2) (cond (ends_unit (slice_index b1 i) (slice_index marked i)) 1 0)) → (i : ℕ) → i < k → bits / 2 ^ i % 2 ≡ 0
+none-ended k block b1 marked bits marks few ended i below =
+    let b : i < 16 = omega arith in
+    ended i b ∙ ap (λ x. cond (ends_unit (slice_index b1 i) x) 1 0) (marks.lanes i b ∙ ap (λ t. cond t 0xFF (slice_index block i)) (lt-ltb i k below))
 
-pub kept-from : (big : Bool) (k b2 b1 : ℕ) (block highs lows : List ℕ) (bits : ℕ) → k ≤ length block → AreLanesFrom k b2 b1 block highs lows bits
-    → kept_pairs bits (pairs_of big highs lows) ≡ added_bytes big (slice_index (b2 ∷ b1 ∷ block) k) (slice_index (b1 ∷ block) k) (drop k block)
-kept-from big zero b2 b1 block highs lows bits room are =
-    kept-added big b2 b1 block highs lows bits (record {
-      high_len = are.high_len;
-      low_len = are.low_len;
-      fits = are.fits;
-      high = are.high;
-      low = are.low;
-      ended = λ i below. are.ended i (omega arith) below;
-    })
-kept-from big (suc k) b2 b1 [] highs lows bits room are = absurd (omega arith)
-kept-from big (suc k) b2 b1 (b0 ∷ block) [] lows bits room are = absurd (omega (arith, are.high_len))
-kept-from big (suc k) b2 b1 (b0 ∷ block) (h ∷ highs) [] bits room are = absurd (omega (arith, are.low_len))
-kept-from big (suc k) b2 b1 (b0 ∷ block) (h ∷ highs) (l ∷ lows) bits room are =
-    let first : bits % 2 ≡ bits / 1 % 2 = omega arith in
-    let clear : bits % 2 ≡ 0 = first ∙ are.none 0 (omega arith) in
-    let rest : AreLanesFrom k b1 b0 block highs lows (bits / 2) = record {
-      high_len = omega (arith, are.high_len);
-      low_len = omega (arith, are.low_len);
-      fits = are.fits.1;
-      high = λ i below. are.high (suc i) (omega arith);
-      low = λ i below. are.low (suc i) (omega arith);
-      none = λ i below. further i ∙ are.none (suc i) (omega arith);
-      ended = λ i from below. further i ∙ are.ended (suc i) (omega arith) (omega arith);
-    } in
-    kept-first big bits h l (pairs_of big highs lows)
-    ∙ ap (λ n. cond (n == 1) (pair_bytes big h l) [] ++ kept_pairs (bits / 2) (pairs_of big highs lows)) clear
-    ∙ kept-from big k b1 b0 block highs lows (bits / 2) (omega arith) rest
-  where
-    further : (i : ℕ) → bits / 2 / 2 ^ i % 2 ≡ bits / 2 ^ suc i % 2
-    further i = ap (λ n. n % 2) (div-div-eq-div-mul bits 2 (2 ^ i) ∙ ap (λ n. bits / n) (twice i))
-
--- the same, of the lanes from k on
-pub end-lanes : (k before2 before1 : ℕ) (block b1 b2 highs lows marked : List ℕ) (bits : ℕ) → length block ≡ 16 → Each1 (Fits w8) block → AreBefore before2 before1 block b2 b1
-    → length highs ≡ 16 → ((i : ℕ) → i < 16 → slice_index highs i ≡ high_lane (slice_index b2 i) (slice_index b1 i) (slice_index block i))
-    → length lows ≡ 16 → ((i : ℕ) → i < 16 → slice_index lows i ≡ low_lane (slice_index b2 i) (slice_index b1 i) (slice_index block i))
-    → HasLanes 16 marked (λ i. cond (ltb i k) 0xFF (slice_index block i)) → k < 16
-    → ((i : ℕ) → i < 16 → ◌≡◌ {A = ℕ} (bits / 2 ^ i % 2) (cond (ends_unit (slice_index b1 i) (slice_index marked i)) 1 0))
-    → AreLanesFrom k before2 before1 block highs lows bits
-end-lanes k before2 before1 block b1 b2 highs lows marked bits long fits are hlen h llen l marks few ended =
-    let second : (i : ℕ) → i < 16 → slice_index b2 i ≡ slice_index (before2 ∷ before1 ∷ block) i =
-    λ i below. are.two.lanes i below ∙ two-behind before2 before1 block b1 are.one.lanes i below in
-    record {
-      high_len = hlen ∙ sym long;
-      low_len = llen ∙ sym long;
-      fits = fits;
-      high = λ i below.
-          let b : i < 16 = omega (arith, long) in
-          h i b ∙ ap₂ (λ x y. high_lane x y (slice_index block i)) (second i b) (are.one.lanes i b);
-      low = λ i below.
-          let b : i < 16 = omega (arith, long) in
-          l i b ∙ ap₂ (λ x y. low_lane x y (slice_index block i)) (second i b) (are.one.lanes i b);
-      none = λ i below.
-          let b : i < 16 = omega arith in
-          ended i b ∙ ap (λ x. cond (ends_unit (slice_index b1 i) x) 1 0) (marks.lanes i b ∙ ap (λ t. cond t 0xFF (slice_index block i)) (lt-ltb i k below));
-      ended = λ i from below.
-          let b : i < 16 = omega (arith, long) in
-          ended i b ∙ ap (λ x. cond (ends_unit (slice_index b1 i) x) 1 0) (marks.lanes i b ∙ ap (λ t. cond t 0xFF (slice_index block i)) (le-ltb i k from))
-          ∙ ap (λ x. cond (ends_unit x (slice_index block i)) 1 0) (are.one.lanes i b);
-    }
-
-pub end-added : (big : Bool) (k before2 before1 : ℕ) (block b1 b2 highs lows : List ℕ) (bits : ℕ) → length block ≡ 16 → AreBefore before2 before1 block b2 b1 → k < 16
-    → AreLanesFrom k before2 before1 block highs lows bits → kept_pairs bits (pairs_of big highs lows) ≡ added_bytes big (slice_index b2 k) (slice_index b1 k) (drop k block)
-end-added big k before2 before1 block b1 b2 highs lows bits long are few lanes =
-    kept-from big k before2 before1 block highs lows bits (omega (arith, long)) lanes
+pub end-added : (big : Bool) (k before2 before1 : ℕ) (block b2 b1 highs lows marked : List ℕ) (bits : ℕ) → AreBefore before2 before1 block b2 b1 → length block ≡ 16 → length highs ≡ 16 → length lows ≡ 16
+    → k < 16 → HasLanes 16 marked (λ i. cond (ltb i k) 0xFF (slice_index block i))
+    → ((i : ℕ) → i < 16 → ◌≡◌ {A = ℕ} (bits / 2 ^ i % 2) (cond (ends_unit (slice_index b1 i) (slice_index marked i)) 1 0)) → AreUnits b2 b1 block highs lows
+    → kept_pairs bits (pairs_of big highs lows) ≡ added_bytes big (slice_index b2 k) (slice_index b1 k) (drop k block)
+end-added big k before2 before1 block b2 b1 highs lows marked bits before long high_long low_long few marks ended are =
+    block-added big k before2 before1 block b2 b1 highs lows bits before long high_long low_long few (none-ended k block b1 marked bits marks few ended)
+    (λ i from b. ended i b ∙ ap (λ x. cond (ends_unit (slice_index b1 i) x) 1 0) (marks.lanes i b ∙ ap (λ t. cond t 0xFF (slice_index block i)) (le-ltb i k from))) are
     ∙ ap₂ (λ x y. added_bytes big x y (drop k block))
-    (sym (are.two.lanes k few ∙ two-behind before2 before1 block b1 are.one.lanes k few)) (sym (are.one.lanes k few))
+    (sym (before.two.lanes k few ∙ two-behind before2 before1 block b1 before.one.lanes k few)) (sym (before.one.lanes k few))
 
 -- ---- no pair of the first eight is kept
 

@@ -104,9 +104,9 @@ pub fn before_at(piece: &[u8], at: usize) -> (u8x16, u8x16)
     )
 }
 
-/// Writes the UTF-16 that sixteen bytes add after the two before each. The bytes are of a kind.
+// Writes the UTF-16 that sixteen bytes add after the two before each. The bytes are of a kind.
 #[inline(always)]
-pub fn put_block<E: Utf16Order>(
+pub(crate) fn put_block<E: Utf16Order>(
     out: &mut [u8],
     at: usize,
     b2: u8x16,

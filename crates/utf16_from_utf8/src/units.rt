@@ -11,9 +11,9 @@ ghost use Rattle.utf16_units.specs.Lanes.{HasLanes};
 use crate::lanes::{down, each, greater, masked, set_bits, sum, up, where_below};
 use std::simd::prelude::*;
 
-/// Bytes of characters of at most so many bytes.
+// Bytes of characters of at most so many bytes.
 #[derive(Clone, Copy)]
-pub enum Kind {
+pub(crate) enum Kind {
     One,
     Two,
     Three,
@@ -155,17 +155,17 @@ pub fn is_ascii(block: u8x16) -> bool
     set_bits(masked(block, 0x80)) == 0
 }
 
-/// Whether all bytes of a block are below a limit.
+// Whether all bytes of a block are below a limit.
 #[inline(always)]
-pub fn are_below(block: u8x16, limit: u8) -> bool
+pub(crate) fn are_below(block: u8x16, limit: u8) -> bool
     ensures { IsTrue result → (i : ℕ) → i < 16 → slice_index block i < limit }
 {
     set_bits(where_below(block, limit, each(0), each(0xFF))) == 0
 }
 
-/// The greatest bytes of the next sixty-four: of those at the same place in each group of sixteen.
+// The greatest bytes of the next sixty-four: of those at the same place in each group of sixteen.
 #[inline(always)]
-pub fn greatest(piece: &[u8], at: usize) -> u8x16
+pub(crate) fn greatest(piece: &[u8], at: usize) -> u8x16
     requires { at + 64 ≤ length piece.now }
     ensures { (limit : ℕ) → ((i : ℕ) → i < 16 → slice_index result i < limit)
         → (i : ℕ) → i < 64 → slice_index piece.now (at + i) < limit }

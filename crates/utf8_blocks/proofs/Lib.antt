@@ -3,7 +3,6 @@ pub mod FewLemmas
 pub mod FollowLemmas
 pub mod FourLemmas
 pub mod FoursLemmas
-pub mod KeptLemmas
 pub mod LimitLemmas
 pub mod TextLemmas
 pub mod ThreesLemmas

@@ -2,32 +2,14 @@
 use Rattle.std.proofs.Common.{◌≡◌, ℕ, ◌+◌, ◌-◌, ◌*◌, ◌/◌, ◌%◌, ◌^◌, ◌<◌, ◌≤◌, ◌==◌, ◌&&◌, ⊎_elim, inl, inr, Bool, cond, ltb, [], bit_and, sym, refl, ap, ap₂, ◌∙◌, arith, lt-ltb, le-ltb}
 use Rattle.std.proofs.lemmas.Bool.{cases_lt}
 use Rattle.std.proofs.lemmas.Nat.{and_mask}
-use Rattle.utf16_from_utf8.specs.Added.{ends_unit, unit_after}
+use Rattle.std.proofs.Math.Bool.{and-true}
+use Rattle.utf16_from_utf8.specs.Added.{unit_after}
 use Rattle.utf16_from_utf8.specs.Lanes.{pair_bytes}
 use Rattle.utf16_from_utf8.proofs.AddedLemmas.{byte_adds, unit-one, unit-three, unit-two}
-use Rattle.utf16_from_utf8.proofs.BlockLemmas.{byte-adds-behind, byte-adds-first, byte-adds-one}
-use Rattle.utf16_from_utf8.proofs.LaneByteLemmas.{AreBytes, pair-unit}
+use Rattle.utf16_from_utf8.proofs.BlockLemmas.{unit-added}
+use Rattle.utf16_from_utf8.proofs.LaneByteLemmas.{AreBytes}
 use Rattle.utf8_blocks.specs.Follow.{FollowsTwo}
 use Rattle.utf8_blocks.specs.UnitLanes.{behind_of, high_of, low_of}
-
--- ---- any bytes
-
--- a pair is kept exactly if a unit ends, and then it is that unit
-pub unit-added : (big : Bool) (b2 b1 b0 bit high low : ℕ) → ◌≡◌ {A = ℕ} bit (cond (ends_unit b1 b0) 1 0) → (b0 < 0xC0 → b1 < 0xE0 → AreBytes (unit_after b2 b1 b0) high low)
-    → cond (bit == 1) (pair_bytes big high low) [] ≡ byte_adds big b2 b1 b0
-unit-added big b2 b1 b0 bit high low is are = ⊎_elim
-    (λ (a : b0 < 0xC0). ⊎_elim
-    (λ (b : b1 < 0xE0).
-    let one : bit ≡ 1 = is ∙ ap₂ (λ (x y : Bool). cond (x && y) 1 0) (lt-ltb b0 0xC0 a) (lt-ltb b1 0xE0 b) in
-    ap (λ n. cond (n == 1) (pair_bytes big high low) []) one ∙ pair-unit big (unit_after b2 b1 b0) high low (are a b) ∙ sym (byte-adds-one big b2 b1 b0 a b))
-    (λ (b : 0xE0 ≤ b1).
-    let none : bit ≡ 0 = is ∙ ap₂ (λ (x y : Bool). cond (x && y) 1 0) (lt-ltb b0 0xC0 a) (le-ltb b1 0xE0 b) in
-    ap (λ n. cond (n == 1) (pair_bytes big high low) []) none ∙ sym (byte-adds-behind big b2 b1 b0 b))
-    (cases_lt b1 0xE0))
-    (λ (a : 0xC0 ≤ b0).
-    let none : bit ≡ 0 = is ∙ ap (λ (x : Bool). cond (x && ltb b1 0xE0) 1 0) (le-ltb b0 0xC0 a) in
-    ap (λ n. cond (n == 1) (pair_bytes big high low) []) none ∙ sym (byte-adds-first big b2 b1 b0 a))
-    (cases_lt b0 0xC0)
 
 -- ---- at most two bytes
 
@@ -63,17 +45,9 @@ two-unit b2 b1 b0 follows low = ⊎_elim
 
 pub two-added : (big : Bool) (b2 b1 b0 bit high low : ℕ) → FollowsTwo 0xE0 0 b1 b0 → ◌≡◌ {A = ℕ} bit (cond (ltb b0 0xC0) 1 0)
     → high ≡ two_lead b1 / 2 ^ 2 → low ≡ two_low b1 b0 → cond (bit == 1) (pair_bytes big high low) [] ≡ byte_adds big b2 b1 b0
-two-added big b2 b1 b0 bit high low follows is h l = ⊎_elim
-    (λ (a : b0 < 0xC0).
-    let one : bit ≡ 1 = is ∙ ap (λ (x : Bool). cond x 1 0) (lt-ltb b0 0xC0 a) in
-    ap (λ n. cond (n == 1) (pair_bytes big high low) []) one
-    ∙ ap₂ (pair_bytes big) h l
-    ∙ pair-unit big (unit_after b2 b1 b0) (two_lead b1 / 2 ^ 2) (two_low b1 b0) (two-unit b2 b1 b0 follows a)
-    ∙ sym (byte-adds-one big b2 b1 b0 a follows.one))
-    (λ (a : 0xC0 ≤ b0).
-    let none : bit ≡ 0 = is ∙ ap (λ (x : Bool). cond x 1 0) (le-ltb b0 0xC0 a) in
-    ap (λ n. cond (n == 1) (pair_bytes big high low) []) none ∙ sym (byte-adds-first big b2 b1 b0 a))
-    (cases_lt b0 0xC0)
+two-added big b2 b1 b0 bit high low follows is h l =
+    let ended : (ltb b0 0xC0 && ltb b1 0xE0) ≡ ltb b0 0xC0 = ap (λ x. ltb b0 0xC0 && x) (lt-ltb b1 0xE0 follows.one) ∙ and-true (ltb b0 0xC0) in
+    unit-added big b2 b1 b0 bit high low (is ∙ ap (λ (x : Bool). cond x 1 0) (sym ended)) (λ a b. let are = two-unit b2 b1 b0 follows a in record { is_high = h ∙ are.is_high; is_low = l ∙ are.is_low })
 
 -- ---- at most three
 

@@ -1,7 +1,7 @@
-use Rattle.std.proofs.Common.{◌++◌, slice_index, take, ap, ◌∙◌}
+use Rattle.std.proofs.Common.{◌++◌, slice_index, take, ap, ◌∙◌, arith}
 use Rattle.utf16_from_utf8.specs.Lanes.{kept_pairs}
+use Rattle.utf16_from_utf8.proofs.BlockLemmas.{block-added}
 use Rattle.utf8_blocks.specs.UnitLanes.{high_of, low_of}
-use Rattle.utf8_blocks.proofs.KeptLemmas.{block-added}
 use Rattle.utf8_blocks.proofs.UnitLemmas.{three-unit}
 use Rattle.utf8_blocks.proofs.sixteen.put_three.Goals as goal
 
@@ -10,7 +10,7 @@ returns-clause-bytes g c before2 before1 before =
     c.put_kept.ensures.pairs
     ∙ ap (λ t. take c.args.at c.args.out.now ++ t)
     (ap (kept_pairs c.ended_bits.result) c.paired.ensures.pairs
-    ∙ block-added g.E.Utf16Order.BIG before2 before1 c.args.block c.args.b2 c.args.b1 c.high_bytes.result c.low_bytes.result c.ended_bits.result before c.fits-block.0 c.high_bytes.ensures.len c.low_bytes.ensures.len c.ended_bits.ensures.bits
+    ∙ block-added g.E.Utf16Order.BIG 0 before2 before1 c.args.block c.args.b2 c.args.b1 c.high_bytes.result c.low_bytes.result c.ended_bits.result before c.fits-block.0 c.high_bytes.ensures.len c.low_bytes.ensures.len (omega arith) (λ i b. absurd (omega (arith, b))) (λ i from b. c.ended_bits.ensures.bits i b)
     (λ i b low one.
     let unit = three-unit _ _ _ (c.requires.follow i b) low one in
     let behind = c.bytes_behind-behind.ensures.lanes i b in

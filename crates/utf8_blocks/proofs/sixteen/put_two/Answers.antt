@@ -1,8 +1,8 @@
 use Rattle.std.proofs.Common.{◌≡◌, ◌+◌, ◌*◌, ◌/◌, ◌%◌, ◌^◌, ◌<◌, ◌==◌, ◌∷◌, ◌++◌, ℕ, Bool, true, false, cond, ltb, slice_index, take, refl, ap, ap₂, sym, ◌∙◌, arith}
 use Rattle.utf16_from_utf8.specs.Lanes.{kept_pairs}
+use Rattle.utf16_from_utf8.proofs.BlockLemmas.{AreAdded, kept-added}
 use Rattle.utf8_blocks.specs.Follow.{FollowsTwo}
 use Rattle.utf8_blocks.proofs.FollowLemmas.{same-three}
-use Rattle.utf8_blocks.proofs.KeptLemmas.{AreAdded, kept-added}
 use Rattle.utf8_blocks.proofs.UnitLemmas.{two-added, two_lead}
 use Rattle.utf8_blocks.proofs.sixteen.put_two.Goals as goal
 
@@ -18,10 +18,11 @@ returns-clause-bytes g c before2 before1 behind =
     let long = c.fits-block.0 in
     let lead : (i : ℕ) → i < 16 → slice_index c.sum-lead.result i ≡ two_lead (slice_index (before1 ∷ block) i) =
     λ i b. c.sum-lead.ensures.lanes i b ∙ ap₂ (λ x y. (x + y) % 2 ^ 8) (c.greater.ensures.lanes i b ∙ ap₂ (λ e v. cond (ltb v e) e v) (c.each.ensures.lanes i b) (behind.lanes i b)) (c.each-2.ensures.lanes i b) in
-    let are : AreAdded g.E.Utf16Order.BIG before2 before1 block c.down.result c.sum-lows.result bits = record {
+    let are : AreAdded g.E.Utf16Order.BIG 0 before2 before1 block c.down.result c.sum-lows.result bits = record {
       high_len = c.down.ensures.len ∙ sym long;
       low_len = c.sum-lows.ensures.len ∙ sym long;
-      each = λ i within.
+      none = λ i b. absurd (omega (arith, b));
+      each = λ i from within.
           let b : i < 16 = omega (arith, within, long) in
           two-added g.E.Utf16Order.BIG _ _ _ _ _ _ (same-three (FollowsTwo 0xE0) _ _ _ _ _ _ refl (sym (behind.lanes i b)) refl (c.requires.follow i b))
           (c.set_bits.ensures.bits i b
@@ -33,4 +34,4 @@ returns-clause-bytes g c before2 before1 behind =
     } in
     c.put_kept.ensures.pairs
     ∙ ap (λ t. take c.args.at c.args.out.now ++ t)
-    (ap (kept_pairs bits) c.paired.ensures.pairs ∙ kept-added g.E.Utf16Order.BIG before2 before1 block c.down.result c.sum-lows.result bits are)
+    (ap (kept_pairs bits) c.paired.ensures.pairs ∙ kept-added g.E.Utf16Order.BIG 0 before2 before1 block c.down.result c.sum-lows.result bits (omega arith) are)
