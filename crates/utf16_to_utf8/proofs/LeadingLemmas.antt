@@ -75,7 +75,7 @@ stops-more big raw at leading is stops more after p =
     stops (omega (arith, more)) (is_low_surrogate next.0) (subst (λ b. Paired b (units_of big (take 64 rest)) (is_low_surrogate next.0)) (sym is) front)
 
 module _ (big : Bool) (raw out : List ℕ) (cursor : Cursor) (fit : (k : ℕ) → Fits w8 (slice_index raw k)) (reached : Reached big raw out cursor)
-    (after : Bool) (is : after ≡ true) (paired : PairedTo big raw cursor.at after) (room : cursor.end ≤ length out) where
+    (after : Bool) (is : after ≡ true) (paired : PairedTo big raw cursor.at after) where
   pub some : 2 ≤ cursor.at
   some = PairedTo-some big raw cursor.at fit after is paired
 
@@ -107,7 +107,7 @@ module _ (big : Bool) (raw out : List ℕ) (cursor : Cursor) (fit : (k : ℕ) �
   size : length (units_utf8 0 units) + 2 ≡ cursor.end
   size =
       sym (ap (λ n. length (units_utf8 0 units) + n) (two-bytes behind.0 last.0 high)) ∙ sym (length-append (units_utf8 0 units) (units_utf8 behind.0 (last.0 ∷ [])))
-      ∙ sym (ap length wrote) ∙ length-take-le cursor.end out room
+      ∙ sym (ap length wrote) ∙ length-take-le cursor.end out reached.fits
 
   pub some_written : 2 ≤ cursor.end
   some_written = omega (arith, size)

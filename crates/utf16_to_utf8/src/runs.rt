@@ -4,9 +4,9 @@
 ghost use Rattle.std.specs.Prelude.{◌≡◌, ◌+◌, ◌-◌, ◌*◌, ◌/◌, ◌<◌, ◌≤◌, ◌⊎◌, Bool, IfSome, None, drop, false, length, take};
 ghost use Rattle.utf16_units.specs.Encoding.{units_of};
 ghost use Rattle.utf16_units.specs.Lanes.{BlocksStopAt, Paired, PairedTo};
-ghost use Rattle.utf16_to_utf8.specs.Block.{AreOfKind, IsPlain};
-ghost use Rattle.utf16_to_utf8.specs.Cursor.{Reached};
-ghost use Rattle.utf16_to_utf8.specs.declared.blocks.Kind.TheVariants.{Ascii};
+ghost use Rattle.utf16_to_utf8.specs.Block.{AreOfKind};
+ghost use Rattle.utf16_to_utf8.specs.Cursor.{Advanced, Reached};
+ghost use Rattle.utf16_to_utf8.specs.declared.blocks.Kind.TheVariants.{Ascii, Basic};
 
 use crate::blocks::{Kind, are_both_ascii, are_of, eights, is_plain, kind_of, paired, put_block};
 use crate::write::SLACK;
@@ -59,7 +59,6 @@ pub(crate) struct Tested {
 #[inline(never)]
 pub(crate) fn put_paired<E: Utf16Order>(raw: &[u8], out: &mut [u8]) -> Tested
     ensures reached { Reached E.BIG raw.now out.new result.cursor }
-    ensures fits { result.cursor.end ≤ length out.new }
     ensures paired { PairedTo E.BIG raw.now result.cursor.at result.leading }
     ensures stop { BlocksStopAt 64 E.BIG raw.now result.cursor.at result.leading
         ⊎ (length out.new < result.cursor.end + SLACK) }
@@ -95,13 +94,8 @@ pub(crate) fn put_paired<E: Utf16Order>(raw: &[u8], out: &mut [u8]) -> Tested
 fn put_plain<E: Utf16Order>(raw: &[u8], out: &mut [u8], from: Cursor) -> Cursor
     requires many { 64 ≤ length raw.now }
     requires space { SLACK ≤ length out.old }
-    requires fits { from.end ≤ length out.old }
     requires reached { Reached E.BIG raw.now out.old from }
-    requires paired { PairedTo E.BIG raw.now from.at false }
-    ensures reached { Reached E.BIG raw.now out.new result }
-    ensures fits { result.end ≤ length out.new }
-    ensures advances { from.at ≤ result.at }
-    ensures paired { PairedTo E.BIG raw.now result.at false }
+    ensures advanced { Advanced E.BIG Basic raw.now out.new from result }
 {
     let last = raw.len() - 64;
     let most = out.len() - SLACK;
@@ -136,7 +130,6 @@ fn put_surrogates<E: Utf16Order>(
     requires paired { PairedTo E.BIG raw.now from.cursor.at from.leading }
     ensures reached { IfSome result (λ done. Reached E.BIG raw.now out.new done.cursor) }
     ensures paired { IfSome result (λ done. PairedTo E.BIG raw.now done.cursor.at done.leading) }
-    ensures fits { IfSome result (λ done. done.cursor.end ≤ length out.new) }
     ensures advances { IfSome result (λ done. from.cursor.at < done.cursor.at) }
     ensures none { result ≡ None → BlocksStopAt 64 E.BIG raw.now from.cursor.at from.leading }
     ensures unchanged { result ≡ None → out.new ≡ out.old }
@@ -181,11 +174,8 @@ fn put_known<E: Utf16Order, const PAIRS: bool>(
     requires next { units ≡ units_of E.BIG (take 64 (drop from.at raw.now)) }
     requires kind { AreOfKind kind units }
     requires reached { Reached E.BIG raw.now out.old from }
-    ensures reached { Reached E.BIG raw.now out.new result }
-    ensures fits { result.end ≤ length out.new }
-    ensures advances { from.at < result.at }
-    ensures paired { IsPlain kind → PairedTo E.BIG raw.now from.at false
-        → PairedTo E.BIG raw.now result.at false }
+    ensures advanced { Advanced E.BIG kind raw.now out.new from result }
+    ensures some { from.at < result.at }
 {
     let next = put_units::<E>(raw, out, from, units, kind);
     match kind {
@@ -202,13 +192,8 @@ fn put_known<E: Utf16Order, const PAIRS: bool>(
 fn put_ascii_run<E: Utf16Order>(raw: &[u8], out: &mut [u8], from: Cursor) -> Cursor
     requires many { 64 ≤ length raw.now }
     requires space { SLACK ≤ length out.old }
-    requires fits { from.end ≤ length out.old }
     requires reached { Reached E.BIG raw.now out.old from }
-    ensures reached { Reached E.BIG raw.now out.new result }
-    ensures fits { result.end ≤ length out.new }
-    ensures advances { from.at ≤ result.at }
-    ensures paired { PairedTo E.BIG raw.now from.at false
-        → PairedTo E.BIG raw.now result.at false }
+    ensures advanced { Advanced E.BIG Ascii raw.now out.new from result }
 {
     let last = raw.len() - 64;
     let most = out.len() - SLACK;
@@ -230,13 +215,8 @@ fn put_ascii_run<E: Utf16Order>(raw: &[u8], out: &mut [u8], from: Cursor) -> Cur
 // Writes the ASCII blocks from the cursor on that fit, two at a time.
 #[inline(always)]
 fn put_ascii_pairs<E: Utf16Order>(raw: &[u8], out: &mut [u8], from: Cursor) -> Cursor
-    requires fits { from.end ≤ length out.old }
     requires reached { Reached E.BIG raw.now out.old from }
-    ensures reached { Reached E.BIG raw.now out.new result }
-    ensures fits { result.end ≤ length out.new }
-    ensures advances { from.at ≤ result.at }
-    ensures paired { PairedTo E.BIG raw.now from.at false
-        → PairedTo E.BIG raw.now result.at false }
+    ensures advanced { Advanced E.BIG Ascii raw.now out.new from result }
 {
     // Each two blocks take 64 bytes.
     let space = out.len() - from.end;
@@ -263,13 +243,8 @@ fn put_ascii_pairs<E: Utf16Order>(raw: &[u8], out: &mut [u8], from: Cursor) -> C
 fn put_run<E: Utf16Order>(raw: &[u8], out: &mut [u8], from: Cursor, kind: Kind) -> Cursor
     requires many { 64 ≤ length raw.now }
     requires space { SLACK ≤ length out.old }
-    requires fits { from.end ≤ length out.old }
     requires reached { Reached E.BIG raw.now out.old from }
-    ensures reached { Reached E.BIG raw.now out.new result }
-    ensures fits { result.end ≤ length out.new }
-    ensures advances { from.at ≤ result.at }
-    ensures paired { IsPlain kind → PairedTo E.BIG raw.now from.at false
-        → PairedTo E.BIG raw.now result.at false }
+    ensures advanced { Advanced E.BIG kind raw.now out.new from result }
 {
     let last = raw.len() - 64;
     let most = out.len() - SLACK;
@@ -301,14 +276,12 @@ fn put_units<E: Utf16Order>(
     requires next { units ≡ units_of E.BIG (take 64 (drop from.at raw.now)) }
     requires kind { AreOfKind kind units }
     requires reached { Reached E.BIG raw.now out.old from }
-    ensures reached { Reached E.BIG raw.now out.new result }
+    ensures advanced { Advanced E.BIG kind raw.now out.new from result }
     ensures at { result.at ≡ from.at + 64 }
     ensures end { result.end ≤ from.end + 96 }
     ensures ascii { kind ≡ Ascii → result.end ≤ from.end + 32 }
     ensures pairs { (before after : Bool) → PairedTo E.BIG raw.now from.at before
         → Paired before units after → PairedTo E.BIG raw.now result.at after }
-    ensures paired { IsPlain kind → PairedTo E.BIG raw.now from.at false
-        → PairedTo E.BIG raw.now result.at false }
 {
     let end = put_block(out, from.end, from.previous, units, kind);
     Cursor {

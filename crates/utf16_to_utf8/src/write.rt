@@ -73,7 +73,6 @@ pub fn write_blocks<E: Utf16Order>(raw: &[u8], to: &mut [u8]) -> (usize, usize)
 #[inline(always)]
 fn whole_chars<E: Utf16Order>(raw: &[u8], out: &[u8], done: Tested) -> (usize, usize)
     requires reached { Reached E.BIG raw.now out.now done.cursor }
-    requires fits { done.cursor.end ≤ length out.now }
     requires paired { PairedTo E.BIG raw.now done.cursor.at done.leading }
     requires stop { BlocksStopAt 64 E.BIG raw.now done.cursor.at done.leading
         ⊎ (length out.now < done.cursor.end + SLACK) }

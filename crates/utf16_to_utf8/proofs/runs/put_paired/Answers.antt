@@ -1,9 +1,9 @@
-use Rattle.std.proofs.Common.{arith, inl, rules}
+use Rattle.std.proofs.Common.{inl, rules}
 use Rattle.utf16_units.proofs.PairLemmas.{PairedTo-none}
 use Rattle.utf16_to_utf8.proofs.runs.put_paired.Goals as goal
 
 pub loop-cursor-init : goal.loop-cursor-init
-loop-cursor-init g c = record { reached = search rules; fits = omega arith; paired = PairedTo-none g.E.Utf16Order.BIG c.args.raw.now }
+loop-cursor-init g c = record { reached = search rules; paired = PairedTo-none g.E.Utf16Order.BIG c.args.raw.now }
 
 pub returns-in_default-clause-stop : goal.returns-in_default-clause-stop
 returns-in_default-clause-stop g c = inl (c.put_surrogates.ensures.none c.in_default.is)

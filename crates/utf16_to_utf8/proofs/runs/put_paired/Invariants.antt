@@ -1,4 +1,4 @@
-use Rattle.std.proofs.Common.{◌-◌, ◌≤◌, length}
+use Rattle.std.proofs.Common.{◌-◌, length}
 use Rattle.utf16_units.specs.Lanes.{PairedTo}
 use Rattle.utf16_to_utf8.specs.Cursor.{Reached}
 use Rattle.utf16_to_utf8.proofs.runs.put_paired.Given as goal
@@ -6,7 +6,6 @@ use Rattle.utf16_to_utf8.proofs.runs.put_paired.Given as goal
 abbrev pub invariant-loop-cursor : goal.invariant-loop-cursor
 invariant-loop-cursor g l = record {
   reached : Reached g.E.Utf16Order.BIG l.raw l.out l.cursor;
-  fits : l.cursor.end ≤ length l.out;
   paired : PairedTo g.E.Utf16Order.BIG l.raw l.cursor.at l.leading;
 }
 

@@ -1,15 +1,10 @@
-use Rattle.std.proofs.Common.{◌-◌, ◌≤◌, false, length}
-use Rattle.utf16_units.specs.Lanes.{PairedTo}
-use Rattle.utf16_to_utf8.specs.Block.{IsPlain}
-use Rattle.utf16_to_utf8.specs.Cursor.{Reached}
+use Rattle.std.proofs.Common.{◌-◌, length}
+use Rattle.utf16_to_utf8.specs.Cursor.{Advanced}
 use Rattle.utf16_to_utf8.proofs.runs.put_run.Given as goal
 
 abbrev pub invariant-loop-cursor : goal.invariant-loop-cursor
 invariant-loop-cursor g l = record {
-  reached : Reached g.E.Utf16Order.BIG l.raw l.out l.cursor;
-  fits : l.cursor.end ≤ length l.out;
-  advances : l.fn.from.at ≤ l.cursor.at;
-  paired : IsPlain l.kind → PairedTo g.E.Utf16Order.BIG l.raw l.fn.from.at false → PairedTo g.E.Utf16Order.BIG l.raw l.cursor.at false;
+  advanced : Advanced g.E.Utf16Order.BIG l.kind l.raw l.out l.fn.from l.cursor;
 }
 
 abbrev pub decreases-loop-cursor : goal.decreases-loop-cursor

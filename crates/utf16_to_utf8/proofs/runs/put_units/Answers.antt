@@ -7,16 +7,19 @@ use Rattle.utf16_to_utf8.proofs.PlainLemmas.{plain-block}
 use Rattle.utf16_to_utf8.proofs.WriterLemmas.{reached-next}
 use Rattle.utf16_to_utf8.proofs.runs.put_units.Goals as goal
 
-pub returns-clause-reached : goal.returns-clause-reached
-returns-clause-reached g c =
+pub returns-clause-advanced : goal.returns-clause-advanced
+returns-clause-advanced g c =
+    let big = g.E.Utf16Order.BIG in
+    let raw = c.args.raw.now in
     let units = c.args.units in
+    let put = c.put_block-end in
     let last = ap (λ us. slice_index us 7) c.eights.ensures.fourth ∙ get_or-chunk 24 8 units 7 0 (omega arith) in
-    reached-next 31 g.E.Utf16Order.BIG c.args.raw.now c.args.out.now _ units c.args.from _ c.requires.reached c.requires.more c.fits-units.0 c.requires.next refl c.put_block-end.ensures.written_to last c.put_block-end.ensures.bytes
-
-pub returns-clause-paired : goal.returns-clause-paired
-returns-clause-paired g c plain before =
-    PairedTo-plain g.E.Utf16Order.BIG c.args.raw.now c.args.from.at before c.requires.more
-    (subst HasNoSurrogate c.requires.next (plain-block c.args.kind c.args.units plain c.fits-units.1 c.requires.kind))
+    record {
+      reached = reached-next 31 big raw c.args.out.now _ units c.args.from _ c.requires.reached c.requires.more c.fits-units.0 c.requires.next refl put.ensures.written_to last
+          (omega (arith, put.ensures.written_to, put.auto.out, c.requires.space)) put.ensures.bytes;
+      advances = omega arith;
+      paired = λ plain before. PairedTo-plain big raw c.args.from.at before c.requires.more (subst HasNoSurrogate c.requires.next (plain-block c.args.kind units plain c.fits-units.1 c.requires.kind));
+    }
 
 pub returns-clause-pairs : goal.returns-clause-pairs
 returns-clause-pairs g c before after start block =

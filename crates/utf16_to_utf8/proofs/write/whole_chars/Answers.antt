@@ -19,20 +19,20 @@ returns-clause-stop g c = ⊎_elim
     c.requires.stop
 
 pub overflow_sub-result : goal.overflow_sub-result
-overflow_sub-result g c = some g.E.Utf16Order.BIG _ _ _ c.type_inv.raw c.requires.reached _ c.if-done.true c.requires.paired c.requires.fits
+overflow_sub-result g c = some g.E.Utf16Order.BIG _ _ _ c.type_inv.raw c.requires.reached _ c.if-done.true c.requires.paired
 
 pub overflow_sub-result-then-done : goal.overflow_sub-result-then-done
-overflow_sub-result-then-done g c = some_written g.E.Utf16Order.BIG _ _ _ c.type_inv.raw c.requires.reached _ c.if-done.true c.requires.paired c.requires.fits
+overflow_sub-result-then-done g c = some_written g.E.Utf16Order.BIG _ _ _ c.type_inv.raw c.requires.reached _ c.if-done.true c.requires.paired
 
 pub returns-then-done-clause-well_formed : goal.returns-then-done-clause-well_formed
-returns-then-done-clause-well_formed g c = text g.E.Utf16Order.BIG _ _ _ c.type_inv.raw c.requires.reached _ c.if-done.true c.requires.paired c.requires.fits
+returns-then-done-clause-well_formed g c = text g.E.Utf16Order.BIG _ _ _ c.type_inv.raw c.requires.reached _ c.if-done.true c.requires.paired
 
 pub returns-then-done-clause-utf8 : goal.returns-then-done-clause-utf8
-returns-then-done-clause-utf8 g c = before-leading g.E.Utf16Order.BIG _ _ _ c.type_inv.raw c.requires.reached _ c.if-done.true c.requires.paired c.requires.fits
+returns-then-done-clause-utf8 g c = before-leading g.E.Utf16Order.BIG _ _ _ c.type_inv.raw c.requires.reached _ c.if-done.true c.requires.paired
 
 pub returns-then-done-clause-stop : goal.returns-then-done-clause-stop
 returns-then-done-clause-stop g c = ⊎_elim
     (λ (stops : BlocksStopAt 64 g.E.Utf16Order.BIG c.args.raw.now c.args.done.cursor.at c.args.done.leading).
-    inl (stops-before g.E.Utf16Order.BIG _ _ _ c.type_inv.raw c.requires.reached _ c.if-done.true c.requires.paired c.requires.fits stops))
+    inl (stops-before g.E.Utf16Order.BIG _ _ _ c.type_inv.raw c.requires.reached _ c.if-done.true c.requires.paired stops))
     (λ full. inr full)
     c.requires.stop
