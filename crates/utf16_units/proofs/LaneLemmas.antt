@@ -187,7 +187,7 @@ module _ (highs : List ℕ) (n leading : ℕ) (long : length highs ≡ n)
       sym (low_part after n (mask_l lows) below) ∙ ap (λ m. m % 2 ^ n) whole ∙ ap (λ p. (2 * leading + bool_byte before) % p) (sym power)
 
 -- the upper five bits of a surrogate's high byte are its own
-no_surrogate_here : (unit : ℕ) → eqb (bit_and (high_byte unit) 0xF8) 0xD8 ≡ false → IsNoSurrogate unit
+pub no_surrogate_here : (unit : ℕ) → eqb (bit_and (high_byte unit) 0xF8) 0xD8 ≡ false → IsNoSurrogate unit
 no_surrogate_here unit other =
     let upper : bit_and (unit / 256) 0xF8 ≡ unit / 256 / 8 % 32 * 8 = and_high (unit / 256) 5 3 in
     let outside : (m : ℕ) → 54 ≤ m → m < 56 → in_class m unit ≡ false = λ m from to.
@@ -208,7 +208,7 @@ plain_units (unit ∷ units) none =
 pub no_surrogate_by_bits : (units highs : List ℕ) → map high_byte units ≡ highs → mask_l (map (λ high. eqb (bit_and high 0xF8) 0xD8) highs) ≡ 0 → HasNoSurrogate units
 no_surrogate_by_bits units highs same none = plain_units units (ap (λ hs. mask_l (map (λ high. eqb (bit_and high 0xF8) 0xD8) hs)) same ∙ none)
 
-surrogate_there : (unit : ℕ) → unit / 256 < 256 → IsNoSurrogate unit → eqb (bit_and (high_byte unit) 0xF8) 0xD8 ≡ false
+pub surrogate_there : (unit : ℕ) → unit / 256 < 256 → IsNoSurrogate unit → eqb (bit_and (high_byte unit) 0xF8) 0xD8 ≡ false
 surrogate_there unit small plain =
     let upper : bit_and (unit / 256) 0xF8 ≡ unit / 256 / 8 % 32 * 8 = and_high (unit / 256) 5 3 in
     let inside : (m : ℕ) → 1024 * m ≤ unit → unit < 1024 * m + 1024 → in_class m unit ≡ true = λ m from to.

@@ -36,6 +36,7 @@ pub mod LanesByIndex
 pub mod CountLemmas
 pub mod AsciiLemmas
 pub mod PairLemmas
+pub mod FrontLemmas
 pub mod PlainLemmas
 pub mod TextOrderLemmas
 pub mod RankLemmas

@@ -1,6 +1,6 @@
 -- Units whose surrogates are paired are those of a text, followed by a leading unit if the last one
 -- is leading.
-use Rattle.std.proofs.Common.{◌≡◌, ℕ, ◌+◌, ◌-◌, ◌*◌, ◌%◌, ◌<◌, ◌≤◌, Bool, true, false, cond, leb, ltb, List, [], ◌∷◌, ◌++◌, length, map, take, drop, slice_index, refl, sym, ap, ◌∙◌, subst, arith, append_assoc, Fits, w8, length-append, length-drop, length-take-le}
+use Rattle.std.proofs.Common.{◌≡◌, ℕ, ◌+◌, ◌-◌, ◌*◌, ◌%◌, ◌<◌, ◌≤◌, Bool, true, false, cond, leb, ltb, List, [], ◌∷◌, ◌++◌, length, map, take, drop, slice_index, refl, sym, ap, ◌∙◌, subst, arith, append_assoc, take_all, Fits, w8, length-append, length-drop, length-take-le}
 use Rattle.std.proofs.lemmas.Bool.{and_from, and_parts, false≢true, false_from_ne_true, leb-true, le-leb, lt-ltb, ltb-true}
 use Rattle.std.proofs.lemmas.List.{append_cancel_left, drop-drop, map-append, take-take}
 use Rattle.std.proofs.lemmas.Simd.{chunk-fits}
@@ -114,6 +114,12 @@ text_before big true after (z ∷ w ∷ bytes) fit even p =
     λ x y bx by lead.
     TextBefore-behind big after (x ∷ y ∷ z ∷ w ∷ []) bytes (four_bytes_text big x y z w bx by fit.0.fits fit.1.0.fits lead (is_of 55 unit low))
     (subst (λ high. Before big high bytes after) not_high rest)
+
+-- if the last unit is not leading, the bytes are a text
+pub paired-text : (big : Bool) (bytes : List ℕ) → Each1 (Fits w8) bytes → length bytes % 2 ≡ 0 → Paired false (units_of big bytes) false → IsUtf16 big bytes
+paired-text big bytes fit even p =
+    let h = text_before big false false bytes fit even p in
+    subst (IsUtf16 big) (take_all h.size bytes (omega (arith, h.all))) h.text
 
 module _ (big : Bool) (bytes : List ℕ) (at : ℕ) (fits : (k : ℕ) → Fits w8 (slice_index bytes k)) where
   before : (after : Bool) → PairedTo big bytes at after → TextBefore big (take at bytes) after

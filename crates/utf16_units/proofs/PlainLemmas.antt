@@ -1,13 +1,15 @@
 -- Bytes of which no unit is a surrogate are a text.
-use Rattle.std.proofs.Common.{◌≡◌, ℕ, ◌-◌, ◌+◌, ◌*◌, ◌/◌, ◌%◌, ◌<◌, ◌≤◌, ◌↔◌, Bool, false, List, [], ◌∷◌, ◌++◌, length, map, take, drop, slice_index, refl, sym, ap, ◌∙◌, subst, arith, take_all, Fits, w8, length-drop, length-take-le}
-use Rattle.std.proofs.lemmas.List.{take-take}
+use Rattle.std.proofs.Common.{◌≡◌, ℕ, ◌-◌, ◌+◌, ◌*◌, ◌/◌, ◌%◌, ◌<◌, ◌≤◌, ◌↔◌, Bool, false, List, [], ◌∷◌, ◌++◌, length, map, take, drop, slice_index, refl, sym, ap, ap₂, ◌∙◌, subst, arith, take_all, Fits, w8, length-drop, length-take-le}
+use Rattle.std.proofs.lemmas.List.{get_or-take, take-take}
 use Rattle.std.proofs.lemmas.List.Elements.{All-append, All-cons, All-head, All-nil, All-tail}
+use Rattle.std.proofs.lemmas.Simd.{chunk-fits}
+use lib.Lanes.{Each1}
 use Rattle.std.specs.Char.Utf16.{is_high_surrogate, is_low_surrogate}
 use Rattle.utf16_units.specs.Encoding.{IsUtf16, units_of}
 use Rattle.utf16_units.specs.Lanes.{HasNoSurrogate, IsNoSurrogate, Paired, PairedTo}
 use Rattle.utf16_units.specs.Unit.{unit_of}
-use Rattle.utf16_units.proofs.PairLemmas.{PairedTo-next, PairedTo-text}
-use Rattle.utf16_units.proofs.UnitsUpTo.{units_of-split}
+use Rattle.utf16_units.proofs.PairLemmas.{PairedTo-next, paired-text}
+use Rattle.utf16_units.proofs.UnitsUpTo.{units_of-at, units_of-front, units_of-split}
 
 pub no_surrogate-paired : (units : List ℕ) → HasNoSurrogate units → Paired false units false
 no_surrogate-paired [] all = refl
@@ -34,13 +36,26 @@ no_surrogate-behind (unit ∷ front) back all = no_surrogate-behind front back (
 -- all units
 pub IsUtf16-plain : (big : Bool) (bytes : List ℕ) → ((k : ℕ) → Fits w8 (slice_index bytes k)) → length bytes % 2 ≡ 0 → HasNoSurrogate (units_of big bytes) → IsUtf16 big bytes
 IsUtf16-plain big bytes fits even all =
-    let whole : take (length bytes) bytes ≡ bytes = take_all (length bytes) bytes (omega arith) in
-    let paired : PairedTo big bytes (length bytes) false = record {
-      within = omega arith;
-      even = even;
-      paired = subst (λ part. Paired false (units_of big part) false) (sym whole) (no_surrogate-paired (units_of big bytes) all);
-    } in
-    subst (IsUtf16 big) whole (PairedTo-text big bytes (length bytes) fits false refl paired)
+    let fit = subst (Each1 (Fits w8)) (take_all (length bytes) bytes (omega arith)) (chunk-fits w8 0 (length bytes) bytes fits) in
+    paired-text big bytes fit even (no_surrogate-paired (units_of big bytes) all)
+
+-- the first units of a block
+module _ (big : Bool) (bytes : List ℕ) (n : ℕ) (within : n ≤ length bytes) where
+  block_len : length (take n bytes) ≡ n
+  block_len = length-take-le n bytes within
+
+  pub IsUtf16-plain_front : (many : ℕ) → 2 * many ≤ n → ((k : ℕ) → Fits w8 (slice_index bytes k)) → HasNoSurrogate (take many (units_of big (take n bytes)))
+      → IsUtf16 big (take (2 * many) bytes)
+  IsUtf16-plain_front many few fits all =
+      let here : take many (units_of big (take n bytes)) ≡ units_of big (take (2 * many) bytes) =
+      units_of-front big (take n bytes) many (omega (arith, block_len)) ∙ ap (units_of big) (take-take (2 * many) n bytes few) in
+      let even : length (take (2 * many) bytes) % 2 ≡ 0 = omega (arith, length-take-le (2 * many) bytes (omega arith)) in
+      paired-text big _ (chunk-fits w8 0 (2 * many) bytes fits) even (no_surrogate-paired _ (subst HasNoSurrogate here all))
+
+  pub unit-in_front : (i : ℕ) → 2 * i + 2 ≤ n → slice_index (units_of big (take n bytes)) i ≡ unit_of big (slice_index bytes (2 * i)) (slice_index bytes (2 * i + 1))
+  unit-in_front i within_block =
+      units_of-at big (take n bytes) i (omega (arith, block_len))
+      ∙ ap₂ (unit_of big) (get_or-take n bytes (2 * i) 0 (omega arith)) (get_or-take n bytes (2 * i + 1) 0 (omega arith))
 
 -- the first and the last n bytes, if there are at most twice as many
 module _ (big : Bool) (bytes : List ℕ) (n : ℕ) (even : length bytes % 2 ≡ 0) (even_n : n % 2 ≡ 0)

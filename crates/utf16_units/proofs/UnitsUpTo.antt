@@ -1,5 +1,6 @@
 -- The units of bytes up to an offset between units, and from there on.
-use Rattle.std.proofs.Common.{◌≡◌, ℕ, suc, ◌+◌, ◌*◌, ◌%◌, ◌<◌, ◌≤◌, Bool, List, [], ◌∷◌, ◌++◌, length, take, drop, slice_index, refl, sym, ap, ◌∙◌, arith, append-nil, drop-cons, drop-drop, flat_map, length-drop, length-take-le, take-add, take-append-drop}
+use Rattle.std.proofs.Common.{◌≡◌, ℕ, suc, ◌+◌, ◌-◌, ◌*◌, ◌/◌, ◌%◌, ◌<◌, ◌≤◌, Bool, List, [], ◌∷◌, ◌++◌, length, take, drop, slice_index, refl, sym, ap, ◌∙◌, arith, append-nil, drop-cons, drop-drop, flat_map, length-drop, length-take-le, take-add, take-append-drop}
+use Rattle.std.proofs.lemmas.List.{get_or-append_right, take_at}
 use Rattle.std.specs.Char.Escape.{encode_utf16}
 use Rattle.utf16_units.specs.Unit.{unit_of}
 use Rattle.utf16_units.specs.Encoding.{encode, IsUtf16, text_of, units_of}
@@ -54,11 +55,31 @@ units_of-all big bytes at even within few =
     ∙ ap (λ us. units_of big (take at bytes) ++ us) (units_of-short big (drop at bytes) (omega (arith, length-drop at bytes)))
     ∙ append-nil (units_of big (take at bytes))
 
-pub length-units_of : (big : Bool) (bytes : List ℕ) → 2 * length (units_of big bytes) ≤ length bytes
+pub length-units_of : (big : Bool) (bytes : List ℕ) → length (units_of big bytes) ≡ length bytes / 2
 unfolding units_of
 length-units_of big [] = omega arith
 length-units_of big (x ∷ []) = omega arith
 length-units_of big (x ∷ y ∷ bytes) = omega (arith, length-units_of big bytes)
+
+-- the first n units are those of the first 2 * n bytes
+pub units_of-front : (big : Bool) (bytes : List ℕ) (n : ℕ) → 2 * n ≤ length bytes → take n (units_of big bytes) ≡ units_of big (take (2 * n) bytes)
+units_of-front big bytes n within =
+    let front = units_of big (take (2 * n) bytes) in
+    ap (take n) (units_of-split big bytes (2 * n) (omega arith) within)
+    ∙ take_at front _ n (omega (arith, length-units_of big (take (2 * n) bytes), length-take-le (2 * n) bytes within))
+
+-- the unit at an index is that of the two bytes there
+pub units_of-at : (big : Bool) (bytes : List ℕ) (i : ℕ) → 2 * i + 2 ≤ length bytes
+    → slice_index (units_of big bytes) i ≡ unit_of big (slice_index bytes (2 * i)) (slice_index bytes (2 * i + 1))
+units_of-at big bytes i within =
+    let front = units_of big (take (2 * i) bytes) in
+    let many : length front ≡ i = omega (arith, length-units_of big (take (2 * i) bytes), length-take-le (2 * i) bytes (omega arith)) in
+    let two : i - i ≡ 0 = omega arith in
+    ap (λ units. slice_index units i) (units_of-split big bytes (2 * i) (omega arith) (omega arith))
+    ∙ get_or-append_right front (units_of big (drop (2 * i) bytes)) i i 0 many (omega arith)
+    ∙ ap (slice_index (units_of big (drop (2 * i) bytes))) two
+    ∙ ap (λ units. slice_index units 0) (units_of-behind big bytes (2 * i) 2 refl within)
+    ∙ ap (λ units. slice_index (units ++ units_of big (drop (2 * i + 2) bytes)) 0) (units_of-one big bytes (2 * i) within)
 
 -- the units of an encoding are those of the characters
 units_of-encode : (big : Bool) (text : List ℕ) → units_of big (encode big text) ≡ flat_map encode_utf16 text

@@ -1,5 +1,5 @@
 -- Texts numbered 0, 1, 2 and so on, and these numbers sorted by their texts.
-use Rattle.std.specs.Prelude.{◌≡◌, ◌≢◌, ℕ, ◌≤◌, List, [], IsPermutation, length, slice_index_or}
+use Rattle.std.specs.Prelude.{◌≢◌, ℕ, ◌≤◌, List, [], IsPermutation, length, slice_index_or}
 use Rattle.std.specs.List.{AllPairs, AllWithin, range_with_len}
 use Rattle.utf16_units.specs.TextOrder.{IsBefore}
 use Rattle.utf16_units.specs.Parts.{AreEnds, parts_of}

@@ -119,7 +119,7 @@ const LONG: [Row; 9] = [
     (true, 15, &[0xD8, 0x00, 0xDC], 0, Some((30, None))),
 ];
 
-const SEAMS: [Row; 4] = [
+const SEAMS: [Row; 7] = [
     (false, 31, &[0x00, 0xD8, 0x00, 0xDC], 0, None),
     (false, 31, &[0x00, 0xD8], 0, Some((62, None))),
     (
@@ -130,6 +130,15 @@ const SEAMS: [Row; 4] = [
         Some((62, Some(2))),
     ),
     (false, 32, &[0x00, 0xDC], 31, Some((64, Some(2)))),
+    (false, 40, &[0x00, 0xDC], 31, Some((80, Some(2)))),
+    (true, 40, &[0xD8, 0x00, 0x00, 0x61], 31, Some((80, Some(2)))),
+    (
+        false,
+        40,
+        &[0x00, 0xD8, 0x00, 0xDC, 0x61, 0x00, 0x00, 0xDC],
+        31,
+        Some((86, Some(2))),
+    ),
 ];
 
 const SHORT_ROWS: [Row; 14] = [

@@ -1,11 +1,11 @@
 //! Blocks of code units with SIMD: the surrogates as bits, whether they are paired, and whether a
 //! block is ASCII.
 
-ghost use Rattle.std.specs.Prelude.{◌≡◌, ◌↔◌, ◌<◌, ◌≤◌, ◌==◌, ℕ, All, List, IfNone, IfSome, IsTrue, bit_and, map};
+ghost use Rattle.std.specs.Prelude.{◌≡◌, ◌↔◌, ◌<◌, ◌≤◌, ◌==◌, ℕ, All, List, IfNone, IfSome, IsTrue, bit_and, map, slice_index, take};
 ghost use Rattle.std.specs.Char.Utf16.{is_high_surrogate, is_low_surrogate};
 ghost use Rattle.std.specs.Simd.Lanes.{mask_l};
 ghost use Rattle.utf16_units.specs.Encoding.{units_of};
-ghost use Rattle.utf16_units.specs.Lanes.{HasNoSurrogate, Paired, Unpaired, high_byte};
+ghost use Rattle.utf16_units.specs.Lanes.{HasNoSurrogate, IsNoSurrogate, Paired, Unpaired, high_byte};
 
 use crate::Utf16Order;
 use std::simd::prelude::*;
@@ -121,6 +121,24 @@ pub(crate) fn has_no_surrogate<const N: usize>(highs: Simd<u8, N>) -> bool
         → (IsTrue result ↔ HasNoSurrogate units) }
 {
     class_bits(highs, 0xF8, 0xD8) == 0
+}
+
+// The number of code units before the first surrogate, or of all if none is one.
+#[inline(always)]
+pub(crate) fn plain_len<const N: usize>(highs: Simd<u8, N>) -> usize
+    requires { N ≤ 64 }
+    ensures few { result ≤ N }
+    ensures plain { (units : List ℕ) → map high_byte units ≡ highs.entry
+        → HasNoSurrogate (take result units) }
+    ensures stop { (units : List ℕ) → map high_byte units ≡ highs.entry → result < N
+        → ¬ IsNoSurrogate (slice_index units result) }
+{
+    let surrogates = class_bits(highs, 0xF8, 0xD8);
+    if surrogates == 0 {
+        N
+    } else {
+        surrogates.trailing_zeros() as usize
+    }
 }
 
 // Whether thirty-two code units are ASCII: no byte is above the byte of U+007F at its position.

@@ -20,4 +20,4 @@ pub use crate::byte_order::{BE, BigEndian, LE, LittleEndian, Utf16Order};
 pub use crate::char::Utf16CharExt;
 pub use crate::error::Utf16Error;
 pub use crate::unit::{decode_surrogates, is_leading_surrogate, is_trailing_surrogate};
-pub use crate::validate::{first_char_len, is_short_plain, validate_raw_utf16};
+pub use crate::validate::{first_char_len, is_short_plain, plain_prefix_len, validate_raw_utf16};

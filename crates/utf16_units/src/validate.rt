@@ -1,13 +1,15 @@
 //! Validation of UTF-16.
 
-ghost use Rattle.std.specs.Prelude.{◌≡◌, ◌↔◌, ◌+◌, ◌%◌, ◌<◌, ◌≤◌, false, length, take, IsOk, IfOk, IfErr, IsTrue};
+ghost use Rattle.std.specs.Prelude.{◌≡◌, ◌↔◌, ◌⊎◌, ◌+◌, ◌%◌, ◌<◌, ◌≤◌, false, length, slice_index, take, IsOk, IfOk, IfErr, IsTrue};
 ghost use Rattle.utf16_units.specs.Encoding.{IsUtf16, units_of};
 ghost use Rattle.utf16_units.specs.IllFormed.{BeginsWithChar, IsIllFormedAt};
 ghost use Rattle.utf16_units.specs.Lanes.{HasNoSurrogate, IsNoSurrogate, PairedTo, PassedTo, BlocksStopAt};
+ghost use Rattle.utf16_units.specs.Unit.{unit_of};
 ghost use Rattle.utf16_units.specs.Utf16Error.{IsErrorOf};
 
 use crate::lanes::{
     has_no_surrogate, high_bytes4, high_bytes8, high_bytes16, high_bytes32, leading_bits, paired,
+    plain_len,
 };
 use crate::{Utf16Error, Utf16Order, is_trailing_surrogate};
 use std::simd::prelude::*;
@@ -42,7 +44,31 @@ fn validate_any<E: Utf16Order>(raw: &[u8]) -> Result<(), Utf16Error>
     if raw.len() < 32 {
         return validate_units::<E>(raw, 0);
     }
-    validate_units::<E>(raw, passed_blocks::<E>(raw))
+    let passed = passed_blocks::<E>(raw);
+    let plain = plain_prefix_len::<E>(&raw[passed..]);
+    validate_units::<E>(raw, passed + plain)
+}
+
+/// Returns the number of bytes before the first surrogate of the first sixty-four bytes: 64 if they
+/// have none, and 0 if there are fewer bytes.
+///
+/// # Complexity
+///
+/// Constant time.
+#[inline(always)]
+pub fn plain_prefix_len<E: Utf16Order>(raw: &[u8]) -> usize
+    ensures within { result ≤ length raw.now }
+    ensures most { result ≤ 64 }
+    ensures text { IsUtf16 E.BIG (take result raw.now) }
+    ensures stop { 64 ≤ length raw.now → (result ≡ 64)
+        ⊎ (¬ IsNoSurrogate (unit_of E.BIG (slice_index raw.now result)
+        (slice_index raw.now (result + 1)))) }
+    ensures few { length raw.now < 64 → result ≡ 0 }
+{
+    if raw.len() < 64 {
+        return 0;
+    }
+    2 * plain_len(high_bytes32::<E>(u8x64::from_slice(raw)))
 }
 
 /// Returns whether at most sixty-four bytes are whole code units of which none is a surrogate; no
@@ -150,12 +176,13 @@ fn paired_blocks<E: Utf16Order>(raw: &[u8]) -> (usize, bool)
     (at, leading)
 }
 
-// The end of the pairs of blocks at the front of a long text that have no surrogate.
+// The end of the pairs of blocks at the front of a long text that have no surrogate. The first
+// block is tested here: where it has one, the loop is not entered.
 #[inline(always)]
 fn plain_front<E: Utf16Order>(raw: &[u8]) -> usize
     ensures { PairedTo E.BIG raw.now result false }
 {
-    if raw.len() < LONG {
+    if raw.len() < LONG || !is_plain::<E>(u8x64::from_slice(raw)) {
         return 0;
     }
     plain_pairs::<E>(raw)

@@ -1,0 +1,22 @@
+use Rattle.std.proofs.Common.{◌≤◌, ◌<◌, sym, subst, arith, inl, inr, ⊎_elim}
+use Rattle.std.proofs.lemmas.Bool.{cases_lt}
+use Rattle.utf16_units.specs.Lanes.{IsNoSurrogate}
+use Rattle.utf16_units.proofs.EncodingLemmas.{IsUtf16-nil}
+use Rattle.utf16_units.proofs.PlainLemmas.{IsUtf16-plain_front, unit-in_front}
+use Rattle.utf16_units.proofs.validate.plain_prefix_len.Goals as goal
+
+pub returns-then-raw-lt64-clause-text : goal.returns-then-raw-lt64-clause-text
+returns-then-raw-lt64-clause-text g c = IsUtf16-nil g.E.Utf16Order.BIG
+
+pub returns-clause-text : goal.returns-clause-text
+returns-clause-text g c =
+    IsUtf16-plain_front g.E.Utf16Order.BIG c.args.raw.now 64 (omega arith) c.plain_len.result (omega arith) c.type_inv.raw
+    (c.plain_len.ensures.plain _ (sym c.high_bytes32.ensures))
+
+pub returns-clause-stop : goal.returns-clause-stop
+returns-clause-stop g c within = ⊎_elim
+    (λ (some : c.plain_len.result < 32). inr
+    (subst (λ unit. ¬ IsNoSurrogate unit) (unit-in_front g.E.Utf16Order.BIG c.args.raw.now 64 within c.plain_len.result (omega arith))
+    (c.plain_len.ensures.stop _ (sym c.high_bytes32.ensures) some)))
+    (λ (all : 32 ≤ c.plain_len.result). inl (omega (arith, c.plain_len.ensures.few)))
+    (cases_lt c.plain_len.result 32)
