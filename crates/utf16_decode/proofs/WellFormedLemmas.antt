@@ -1,7 +1,7 @@
 -- Code units between their neighbors: with SIMD, and block by block.
-use Rattle.std.proofs.Common.{◌≡◌, ℕ, zero, suc, ◌+◌, ◌-◌, ◌*◌, ◌/◌, ◌%◌, ◌<◌, ◌≤◌, Bool, cond, eqb, List, [], ◌∷◌, ◌++◌, length, get_or, slice_index, take, drop, replicate, bit_and, refl, sym, ap, ap₂, ◌∙◌, arith, Fits, w16, flat_map, append_assoc, length-append, length-drop, get_or-drop}
+use Rattle.std.proofs.Common.{◌≡◌, ℕ, zero, suc, ◌+◌, ◌-◌, ◌*◌, ◌/◌, ◌%◌, ◌<◌, ◌≤◌, Bool, cond, eqb, List, [], ◌∷◌, ◌++◌, length, get_or, slice_index, take, drop, replicate, bit_and, refl, sym, ap, ap₂, ◌∙◌, arith, Fits, w16, flat_map, append_assoc, length-append, length-drop, get_or-drop, take_all, append-nil}
 use Rattle.std.proofs.lemmas.Grind.{flat_map-append}
-use Rattle.std.proofs.lemmas.List.{ext_get_or, take_at}
+use Rattle.std.proofs.lemmas.List.{drop_all, ext_get_or, take_at}
 use Rattle.std.proofs.lemmas.Nat.Bits.{and_high}
 use Rattle.std.proofs.lemmas.Simd.{Each1-get_or, get_or-chunk, get_or-replicate, pick_l-range_with_len}
 use Rattle.std.specs.Char.Utf16.{is_high_surrogate, is_low_surrogate}
@@ -149,6 +149,10 @@ first-units_of big [] long = absurd (omega arith)
 first-units_of big (x ∷ []) long = absurd (omega arith)
 first-units_of big (x ∷ y ∷ bytes) long = refl
 
+pub first-units_of-nil : (big : Bool) → first_or (units_of big []) 0 ≡ 0
+unfolding units_of
+first-units_of-nil big = refl
+
 pub first-units_of-drop : (big : Bool) (bytes : List ℕ) (at next : ℕ) → at + 2 ≤ length bytes → next ≡ at + 1
     → unit_of big (slice_index bytes at) (slice_index bytes next) ≡ first_or (units_of big (drop at bytes)) 0
 first-units_of-drop big bytes at next room is =
@@ -165,6 +169,13 @@ wrote_block big done next all units more before behind long is wrote e =
     ∙ append_assoc done (spelled big before units (first_or more 0)) (spelled big (slice_index units 15) more 0)
     ∙ ap (λ u. done ++ (spelled big before units (first_or more 0) ++ spelled big u more 0)) (sym (last_or-index 15 before units long))
     ∙ ap (λ bs. done ++ bs) (sym (spelled-append big before units more 0)) ∙ e
+
+-- if no unit is left, all is written
+pub wrote_all : (big : Bool) (bytes to : List ℕ) (at before : ℕ) (all : List ℕ) → length bytes ≤ at → length to ≤ at
+    → take at to ++ spelled big before (units_of big (drop at bytes)) 0 ≡ all → to ≡ all
+unfolding units_of well_formed_units
+wrote_all big bytes to at before all none full wrote =
+    sym (take_all at to full) ∙ sym (append-nil (take at to)) ∙ sym (ap (λ b. take at to ++ spelled big before (units_of big b) 0) (drop_all at bytes none)) ∙ wrote
 
 -- ---- the last block, padded with zeros
 

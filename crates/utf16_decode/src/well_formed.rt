@@ -7,7 +7,7 @@ ghost use Rattle.utf16_units.specs.Encoding.{Encodes, IsUtf16, encode, units_of}
 ghost use Rattle.utf16_units.specs.Lanes.{HasLanes};
 ghost use Rattle.utf16_units.specs.Split.{lossy_chars, split_items, split_tail};
 ghost use Rattle.utf16_units.specs.Unit.{unit_bytes};
-ghost use Rattle.utf16_decode.specs.WellFormed.{well_formed_units};
+ghost use Rattle.utf16_decode.specs.WellFormed.{first_or, well_formed_units};
 
 use std::simd::prelude::*;
 use utf16_units::blocks::{bytes16, units16};
@@ -61,14 +61,31 @@ fn write_units<E: Utf16Order>(raw: &[u8], to: &mut [u8])
 {
     let mut at = 0;
     let mut before = 0;
-    while raw.len() - at > 32 {
+    while raw.len() - at >= 32 {
         let units = units16::<E>(u8x32::from_slice(&raw[at..]));
-        let behind = E::read_unit([raw[at + 32], raw[at + 33]]);
+        let behind = unit_at::<E>(raw, at + 32);
         bytes16::<E>(well_formed(before, units, behind)).copy_to_slice(&mut to[at..]);
         before = units.to_array()[15];
         at += 32;
     }
-    write_rest::<E>(before, &raw[at..], &mut to[at..]);
+    if at < raw.len() {
+        write_rest::<E>(before, &raw[at..], &mut to[at..]);
+    }
+}
+
+// Returns the code unit at an offset, and zero at the end.
+#[inline(always)]
+fn unit_at<E: Utf16Order>(raw: &[u8], at: usize) -> u16
+    requires even { length raw.now % 2 ≡ 0 }
+    requires whole { at % 2 ≡ 0 }
+    requires within { at ≤ length raw.now }
+    ensures { result ≡ first_or (units_of E.BIG (drop at raw.now)) 0 }
+{
+    if at < raw.len() {
+        E::read_unit([raw[at], raw[at + 1]])
+    } else {
+        0
+    }
 }
 
 // Writes the last code units, a block at most: those of a whole block, padded with zeros.
