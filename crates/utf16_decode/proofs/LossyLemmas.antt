@@ -1,12 +1,12 @@
 -- Lossy decoding: the text that was written, then U+FFFD for what follows it.
-use Rattle.std.proofs.Common.{◌≡◌, ◌≢◌, ℕ, ◌+◌, ◌-◌, ◌*◌, ◌<◌, ◌≤◌, Bool, List, [], ◌∷◌, ◌++◌, Option, None, Some, length, map, take, drop, encode_utf8_all, refl, sym, ap, ap₂, ◌∙◌, subst, arith, append-nil, append_assoc, length-append, length-drop, take-append-drop, take_all, ⊎_elim}
+use Rattle.std.proofs.Common.{◌≡◌, ◌≢◌, ℕ, ◌+◌, ◌-◌, ◌*◌, ◌<◌, ◌≤◌, Bool, List, [], ◌∷◌, ◌++◌, Option, None, Some, length, map, take, drop, encode_utf8_all, refl, sym, ap, ap₂, ◌∙◌, subst, arith, append-nil, append_assoc, length-append, length-drop, length-take-le, take-append-drop, take_all, ⊎_elim}
 use borrow.Rule.Slice.PartMut.{put_mid}
 use Rattle.std.proofs.lemmas.Bool.{cases_lt}
 use Rattle.std.proofs.lemmas.List.{append_cancel_left, drop-drop, drop_all, map-append, take_rest}
 use Rattle.std.proofs.lemmas.List.Concat.{flat_map-append}
 use Rattle.std.proofs.lemmas.List.Elements.{All-cons, All-nil}
 use Rattle.std.specs.Char.{IsScalar, encode_utf8}
-use Rattle.utf16_units.specs.Encoding.{Encodes, IsUtf16, char_bytes, text_of}
+use Rattle.utf16_units.specs.Encoding.{Encodes, IsUtf16, char_bytes, text_of, utf8_of}
 use Rattle.utf16_units.specs.IllFormed.{IsIncomplete, IsIllFormed, IsUtf16ValidUpTo}
 use Rattle.utf16_units.specs.Split.{Item, whole_lossy_chars, good, lossy_text, lossy_char, lossy_chars, split_items, split_tail}
 use Rattle.utf16_units.specs.Utf16Error.{IsErrorOf, error_len, valid_up_to}
@@ -17,14 +17,14 @@ use Rattle.utf16_units.proofs.FirstChar.{AreBytes, first_unit}
 use Rattle.utf16_units.proofs.RecipeLemmas.{lossy_char-lone_item, lossy_chars-good, split_text, two}
 use Rattle.utf16_units.proofs.ShownLemmas.{split_within}
 use Rattle.utf16_units.proofs.SplitLemmas.{Split-computed}
-use Rattle.utf16_units.proofs.SplitIllFormed.{AreBytes-drop, lone_item, split_items-fault, split_tail-incomplete, split_tail-fault}
+use Rattle.utf16_units.proofs.SplitIllFormed.{AreBytes-drop, AreBytes-take, lone_item, split_items-fault, split_tail-incomplete, split_tail-fault}
 use Rattle.utf16_units.proofs.SplitJoin.{split_items-text, split_tail-text}
 use Rattle.utf16_decode.specs.Decodes.{Decodes}
 use Rattle.utf16_decode.proofs.DecodesLemmas.{Decodes-then, cut_off_decides, cut_off_leaves, split_tail-again, undecided_items}
 use Rattle.utf16_decode.proofs.IllFormedDecides.{fault_decides}
 use Rattle.utf16_decode.specs.Shown.{ShowsWhole}
 use Rattle.utf16_decode.specs.Wrote.{DecodesTo, TranscodesToUtf8, Wrote}
-use Rattle.utf16_decode.specs.Stops.{StopsDecoding, StopsLossy, TextDoesNotFit}
+use Rattle.utf16_decode.specs.Stops.{IsIllFormedUtf16, StopsDecoding, StopsLossy, TextDoesNotFit}
 use Rattle.utf16_decode.specs.declared.progress.Stop.{Stop}
 use Rattle.utf16_decode.specs.declared.progress.Stop.TheVariants.{Incomplete, Done, IllFormed, NoRoom}
 use Rattle.utf16_decode.proofs.WroteLemmas.{put_end-long, take-end}
@@ -43,6 +43,11 @@ Decodes-text big bytes n old utf8 is =
       tail = ap (split_tail big) (sym whole) ∙ split_tail-text big text front (drop n bytes) encodes;
       text = ap (λ t. old ++ t) (is.1 ∙ ap encode_utf8_all (sym (lossy_chars-good text)));
     }
+
+-- a text at the start was written
+pub DecodesTo-front : (big : Bool) (raw to : List ℕ) (n w : ℕ) → n ≤ length raw → w ≤ length to → TranscodesToUtf8 big (take n raw) (take w to)
+    → DecodesTo big raw to n w
+DecodesTo-front big raw to n w within fits is = record { within = within; fits = fits; decodes = Decodes-text big raw n [] (take w to) is }
 
 -- what follows a prefix
 drop-front : (raw : List ℕ) (read n : ℕ) → drop n (rest_from raw read) ≡ drop (read + n) raw
@@ -69,8 +74,8 @@ module _ (big : Bool) (raw old part : List ℕ) (read at n w : ℕ) (before : De
   pub new_long : length new ≡ length old
   new_long = put_end-long at old part before.fits long
 
-  bytes : take (at + w) new ≡ take at old ++ take w part
-  bytes = take-end at w old part before.fits long front.fits
+  new_bytes : take (at + w) new ≡ take at old ++ take w part
+  new_bytes = take-end at w old part before.fits long front.fits
 
   pub DecodesTo-text : DecodesTo big raw new (read + n) (at + w)
   DecodesTo-text =
@@ -85,7 +90,7 @@ module _ (big : Bool) (raw old part : List ℕ) (read at n w : ℕ) (before : De
         fits = omega arith;
         decodes =
             Decodes-then big raw (drop read raw) (drop (read + n) raw) [] (take at old) (take (at + w) new) before.decodes
-            (subst (λ t. Decodes big (drop read raw) (drop (read + n) raw) (take at old) t) (sym bytes)
+            (subst (λ t. Decodes big (drop read raw) (drop (read + n) raw) (take at old) t) (sym new_bytes)
             (subst (λ b. Decodes big (drop read raw) b (take at old) (take at old ++ take w part)) (drop-drop n read raw)
             (Decodes-text big (drop read raw) n (take at old) (take w part)
             (subst (λ r. TranscodesToUtf8 big (take n r) (take w part)) (take_rest raw read) front.gives))));
@@ -192,6 +197,19 @@ module _ (big : Bool) (raw old part : List ℕ) (read at n w : ℕ) (before : De
           });
         }
 
+-- a text and U+FFFD for the ill-formed sequence after it were written
+pub DecodesTo-lone : (big : Bool) (raw mid next : List ℕ) (n w len last : ℕ) → AreBytes raw → n ≤ length raw → w ≤ length mid
+    → TranscodesToUtf8 big (take n raw) (take w mid) → IsIllFormedUtf16 big raw n (Some len)
+    → last ≤ length next → take last next ≡ take w mid ++ 0xEF ∷ 0xBF ∷ 0xBD ∷ [] → DecodesTo big raw next (n + len) last
+DecodesTo-lone big raw mid next n w len last are within fits text found room bytes =
+    let whole : rest_from raw 0 ≡ raw = take_rest raw 0 in
+    let nothing : DecodesTo big raw mid 0 0 = record { within = omega arith; fits = omega arith; decodes = record { taken = []; items = refl; tail = refl; text = refl } } in
+    let front : Wrote (TranscodesToUtf8 big) (rest_from raw 0) mid n w = subst (λ r. Wrote (TranscodesToUtf8 big) r mid n w) (sym whole) (record { within = within; fits = fits; gives = text }) in
+    let here = subst (λ r. IsIllFormedUtf16 big r n (Some len)) (sym whole) found in
+    let same : 0 + n + len ≡ n + len = omega arith in
+    subst (λ read. DecodesTo big raw next read last) same
+    (DecodesTo-replacement big raw mid mid 0 0 n w nothing front (omega arith) are len here.1 here.0 next last room (bytes ∙ ap (λ t. t ++ 0xEF ∷ 0xBF ∷ 0xBD ∷ []) (sym (new_bytes big raw mid mid 0 0 n w nothing front (omega arith)))))
+
 -- ---- the whole text
 
 -- what a tail adds to the text
@@ -268,6 +286,11 @@ text_size big rest t =
 -- 2 * the length of the whole text is at most 3 * the number of bytes + 3
 pub most_size : (big : Bool) (raw : List ℕ) → AreBytes raw → 2 * length (encode_utf8_all (lossy_text big raw)) ≤ 3 * length raw + 3
 most_size big raw are = (split_within big raw (split_items big raw) (split_tail big raw) (Split-computed big raw are)).2
+
+-- 2 * the length of a text is at most 3 * the number of bytes + 3
+pub text_most : (big : Bool) (raw : List ℕ) (n : ℕ) → AreBytes raw → n ≤ length raw → IsUtf16 big (take n raw) → 2 * length (utf8_of big (take n raw)) ≤ 3 * n + 3
+text_most big raw n are within text =
+    omega (arith, ap (λ t. 2 * length (encode_utf8_all t)) (text_size big (take n raw) text), most_size big (take n raw) (AreBytes-take n raw are), length-take-le n raw within)
 
 module _ (big : Bool) (rest : List ℕ) (e : Utf16Error) (is : IsErrorOf big rest e) (n : ℕ) (at : n ≡ valid_up_to e) where
   pub fault_size : AreBytes rest → (len : ℕ) → error_len e ≡ Some len

@@ -1,6 +1,6 @@
 //! UTF-16 to UTF-8, lossy: with U+FFFD for each ill-formed sequence.
 
-ghost use Rattle.std.specs.Prelude.{◌≡◌, ◌≢◌, ◌-◌, ◌<◌, ◌≤◌, [], length, drop};
+ghost use Rattle.std.specs.Prelude.{◌≡◌, ◌≢◌, ◌-◌, ◌<◌, ◌≤◌, ◌⊎◌, [], length, drop};
 ghost use Rattle.utf16_units.specs.Split.{lossy_text, split_items};
 ghost use Rattle.std.specs.Char.{encode_utf8};
 ghost use Rattle.utf16_decode.specs.Shown.{ShowsWhole};
@@ -11,17 +11,22 @@ ghost use Rattle.utf16_decode.specs.declared.progress.Stop.TheVariants.{NoRoom};
 use crate::progress::{Progress, Stop, put};
 use crate::utf8::to_utf8;
 use crate::well_formed::write_well_formed;
-use utf16_to_utf8::{SLACK, write_utf8};
-use utf16_units::Utf16Order;
+use utf16_to_utf8::{SLACK, write_blocks, write_utf8};
+use utf16_units::{Utf16Order, first_char_len, plain_prefix_len};
 
-// An ill-formed sequence after fewer than this many bytes: others are probably near, and the next
-// bytes are copied with the replacement characters inserted.
-const CLOSE: usize = 256;
+// Fewer bytes than these are not written in blocks, nor any with less space than this.
+const BLOCKS_LEN: usize = 128;
 
-// The most bytes that are copied at once, and the least space in which they are.
-const COPIED: usize = 1024;
+const BLOCKS_ROOM: usize = 512;
 
-const COPIED_ROOM: usize = 512;
+// Two ill-formed sequences, each after fewer bytes than this in blocks: others are probably near,
+// and the next bytes are copied with U+FFFD inserted.
+const CLOSE: usize = 128;
+
+// The most bytes that are copied then, and where an ill-formed sequence is among pairs.
+const COPIED_CLOSE: usize = 1024;
+
+const COPIED: usize = 64;
 
 /// U+FFFD, the replacement character, in UTF-8.
 pub const REPLACEMENT: [u8; 3] = [0xEF, 0xBF, 0xBD];
@@ -39,8 +44,7 @@ pub fn to_utf8_partial<E: Utf16Order>(raw: &[u8], to: &mut [u8]) -> Progress
     ensures stop { StopsLossy E.BIG (drop result.read raw.now) (length to.new - result.written)
         result.stop }
 {
-    let mut read = 0;
-    let mut written = 0;
+    let (mut read, mut written) = put_blocks::<E>(raw, to);
     loop {
         let front = to_utf8::<E>(&raw[read..], &mut to[written..]);
         read += front.read;
@@ -52,8 +56,8 @@ pub fn to_utf8_partial<E: Utf16Order>(raw: &[u8], to: &mut [u8]) -> Progress
                 stop: front.stop,
             };
         };
-        if front.read < CLOSE && to.len() - written >= COPIED_ROOM {
-            let (len, size) = put_copied::<E>(&raw[read..], &mut to[written..]);
+        if to.len() - written >= BLOCKS_ROOM {
+            let (len, size) = put_copied::<E, COPIED_CLOSE>(&raw[read..], &mut to[written..]);
             read += len;
             written += size;
             continue;
@@ -70,17 +74,92 @@ pub fn to_utf8_partial<E: Utf16Order>(raw: &[u8], to: &mut [u8]) -> Progress
     }
 }
 
-// Writes the text of the next bytes to the start of a buffer, of as many bytes as surely fit, from
-// a copy of them on the stack with U+FFFD for each unpaired surrogate; returns the number of bytes
-// read and the number of bytes written.
+// Writes the text of the first bytes to the start of a buffer, while at least `BLOCKS_LEN` bytes
+// and `BLOCKS_ROOM` bytes of space are left. Returns the number of bytes read and the number of
+// bytes written.
+#[inline(always)]
+fn put_blocks<E: Utf16Order>(raw: &[u8], to: &mut [u8]) -> (usize, usize)
+    ensures decodes { DecodesTo E.BIG raw.now to.new result.0 result.1 }
+    ensures most { (length raw.now - result.0 < BLOCKS_LEN)
+        ⊎ (length to.new - result.1 < BLOCKS_ROOM) }
+{
+    if raw.len() < BLOCKS_LEN {
+        return (0, 0);
+    }
+    put_many::<E>(raw, to)
+}
+
+// Does the same in blocks, which are validated while they are written, with U+FFFD for each
+// ill-formed sequence between them. A function of its own, so that short texts do not pay for its
+// registers.
 #[inline(never)]
-fn put_copied<E: Utf16Order>(raw: &[u8], to: &mut [u8]) -> (usize, usize)
-    requires { COPIED_ROOM ≤ length to.old }
+fn put_many<E: Utf16Order>(raw: &[u8], to: &mut [u8]) -> (usize, usize)
+    ensures decodes { DecodesTo E.BIG raw.now to.new result.0 result.1 }
+    ensures most { (length raw.now - result.0 < BLOCKS_LEN)
+        ⊎ (length to.new - result.1 < BLOCKS_ROOM) }
+{
+    let mut read = 0;
+    let mut written = 0;
+    let mut close = false;
+    while raw.len() - read >= BLOCKS_LEN && to.len() - written >= BLOCKS_ROOM {
+        let (front, size) = put_well_formed::<E>(&raw[read..], &mut to[written..]);
+        read += front;
+        written += size;
+        if raw.len() - read < BLOCKS_LEN || to.len() - written < BLOCKS_ROOM {
+            break;
+        }
+        let many = close && front < CLOSE;
+        close = front < CLOSE;
+        let (len, size) = put_ill_formed::<E>(&raw[read..], &mut to[written..], many);
+        read += len;
+        written += size;
+    }
+    (read, written)
+}
+
+// Writes blocks of text to the start of a buffer, up to an ill-formed sequence. Returns the number
+// of bytes read and the number of bytes written.
+#[inline(always)]
+fn put_well_formed<E: Utf16Order>(raw: &[u8], to: &mut [u8]) -> (usize, usize)
+    ensures { DecodesTo E.BIG raw.now to.new result.0 result.1 }
+{
+    write_blocks::<E>(raw, to)
+}
+
+// Writes the text of the next bytes to the start of a buffer: of the units before the first
+// surrogate and U+FFFD if it is unpaired, else of a copy, and of a longer copy if there are many
+// ill-formed sequences. Returns the number of bytes read and the number of bytes written.
+#[inline(always)]
+fn put_ill_formed<E: Utf16Order>(raw: &[u8], to: &mut [u8], many: bool) -> (usize, usize)
+    requires bytes { BLOCKS_LEN ≤ length raw.now }
+    requires space { BLOCKS_ROOM ≤ length to.old }
+    ensures decodes { DecodesTo E.BIG raw.now to.new result.0 result.1 }
+    ensures advances { 0 < result.0 }
+{
+    if many {
+        return put_copied::<E, COPIED_CLOSE>(raw, to);
+    }
+    let len = plain_prefix_len::<E>(raw);
+    let Err(Some(lone)) = first_char_len::<E>(&raw[len..]) else {
+        return put_copied::<E, COPIED>(raw, to);
+    };
+    let written = write_utf8::<E>(&raw[..len], to);
+    (len + lone as usize, put(&REPLACEMENT, to, written))
+}
+
+// Writes the text of the next bytes to the start of a buffer, of as many bytes as surely fit and at
+// most `MOST`, from a copy of them on the stack with U+FFFD for each unpaired surrogate; returns
+// the number of bytes read and the number of bytes written.
+#[inline(never)]
+fn put_copied<E: Utf16Order, const MOST: usize>(raw: &[u8], to: &mut [u8]) -> (usize, usize)
+    requires some { 4 ≤ MOST }
+    requires few { MOST ≤ COPIED_CLOSE }
+    requires space { BLOCKS_ROOM ≤ length to.old }
     ensures decodes { DecodesTo E.BIG raw.now to.new result.0 result.1 }
     ensures advances { split_items E.BIG raw.now ≢ [] → 0 < result.0 }
 {
-    let mut copy = [0; COPIED];
-    let most = ((to.len() - SLACK) / 3 * 2).min(COPIED).min(raw.len());
+    let mut copy = [0; MOST];
+    let most = ((to.len() - SLACK) / 3 * 2).min(MOST).min(raw.len());
     let len = write_well_formed::<E>(&raw[..most], &mut copy);
     (len, write_utf8::<E>(&copy[..len], to))
 }

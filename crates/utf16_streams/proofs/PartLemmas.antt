@@ -21,12 +21,6 @@ AreBytes-append front back before behind k = ⊎_elim
     (λ (past : length front ≤ k). subst (λ b. b < 256) (sym (get_or-append_right front back (length front) k 0 refl past)) (behind (k - length front)))
     (cases_lt k (length front))
 
-pub AreBytes-take : (n : ℕ) (bytes : List ℕ) → AreBytes bytes → AreBytes (take n bytes)
-AreBytes-take n bytes are k = ⊎_elim
-    (λ (within : k < n). subst (λ b. b < 256) (sym (get_or-take n bytes k 0 within)) (are k))
-    (λ (past : n ≤ k). subst (λ b. b < 256) (sym (get_or_past (take n bytes) k 0 (omega (arith, past, length-take n bytes)))) (omega arith))
-    (cases_lt k n)
-
 module _ (big : Bool) (bytes : List ℕ) (are : AreBytes bytes) where
   -- the text has at most three bytes for each two bytes decoded
   pub shown_most : 2 * length (shown (split_items big bytes)) ≤ 3 * length bytes

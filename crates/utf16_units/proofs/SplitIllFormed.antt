@@ -3,7 +3,7 @@
 use Rattle.std.proofs.Common.{◌≡◌, ℕ, suc, ◌+◌, ◌<◌, ◌≤◌, ◌⊎◌, Bool, true, false, List, [], ◌∷◌, ◌++◌, Option, None, Some, length, take, drop, map, take_all, refl, sym, ap, ◌∙◌, subst, ⊎_elim, inl, inr, arith, append-nil, length-drop, take-append-drop, le-leb, le-ltb, lt-ltb}
 use Rattle.std.specs.Prelude.{if◌then◌else◌}
 use Rattle.std.specs.Char.Utf16.{is_high_surrogate}
-use Rattle.std.proofs.lemmas.List.{drop-drop, get_or-drop, take_rest}
+use Rattle.std.proofs.lemmas.List.{drop-drop, get_or-drop, get_or-take, get_or_past, length-take, take_rest}
 use Rattle.std.proofs.lemmas.Bool.{cases_lt, cases_Bool}
 use Rattle.utf16_units.specs.Unit.{IsLeading, IsTrailing, unit_of}
 use Rattle.utf16_units.specs.Encoding.{IsUtf16, text_of}
@@ -98,6 +98,12 @@ begins_lone big (first ∷ second ∷ bytes) are some none whole = unit_lone big
 
 pub AreBytes-drop : (n : ℕ) (bytes : List ℕ) → AreBytes bytes → AreBytes (drop n bytes)
 AreBytes-drop n bytes are k = subst (λ b. b < 256) (sym (get_or-drop n bytes k 0)) (are (n + k))
+
+pub AreBytes-take : (n : ℕ) (bytes : List ℕ) → AreBytes bytes → AreBytes (take n bytes)
+AreBytes-take n bytes are k = ⊎_elim
+    (λ (within : k < n). subst (λ b. b < 256) (sym (get_or-take n bytes k 0 within)) (are k))
+    (λ (past : n ≤ k). subst (λ b. b < 256) (sym (get_or_past (take n bytes) k 0 (omega (arith, past, length-take n bytes)))) (omega arith))
+    (cases_lt k n)
 
 module _ (big : Bool) (bytes : List ℕ) (n : ℕ) (error_len : Option ℕ) (fault : IsIllFormed big bytes error_len) (front : IsUtf16ValidUpTo big bytes n) where
   same_front : fault.valid_up_to ≡ n

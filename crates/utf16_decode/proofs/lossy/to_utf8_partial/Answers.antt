@@ -41,15 +41,15 @@ loop-len-preserved g c =
     DecodesTo-replacement _ _ _ _ _ _ _ _ c.loop-len.invariant c.to_utf8-front.ensures.wrote (search rules) (λ k. omega (arith, c.type_inv.raw k)) c.in-IllFormed.len
     found.1 found.0 _ _ (search rules) c.put-written.ensures.bytes
 
-pub loop-len-preserved-then-to-written-ge-COPIED_ROOM : goal.loop-len-preserved-then-to-written-ge-COPIED_ROOM
-loop-len-preserved-then-to-written-ge-COPIED_ROOM g c =
+pub loop-len-preserved-then-to-written-ge-BLOCKS_ROOM : goal.loop-len-preserved-then-to-written-ge-BLOCKS_ROOM
+loop-len-preserved-then-to-written-ge-BLOCKS_ROOM g c =
     let before = DecodesTo-text _ _ _ _ _ _ _ _ c.loop-len.invariant c.to_utf8-front.ensures.wrote (search rules) in
     DecodesTo-window _ _ _ _ _ [] _ _ _ _ before (append-nil _ ∙ take_rest c.args.raw.now (c.loop-len.read + c.to_utf8-front.result.read)) c.put_copied-len.ensures.decodes (search rules)
 
-pub loop-len-smaller-then-to-written-ge-COPIED_ROOM : goal.loop-len-smaller-then-to-written-ge-COPIED_ROOM
-loop-len-smaller-then-to-written-ge-COPIED_ROOM g c =
+pub loop-len-smaller-then-to-written-ge-BLOCKS_ROOM : goal.loop-len-smaller-then-to-written-ge-BLOCKS_ROOM
+loop-len-smaller-then-to-written-ge-BLOCKS_ROOM g c =
     let raw = c.args.raw.now in
-    let found = fault g (goal.at.loop-len-smaller-then-to-written-ge-COPIED_ROOM g c).In-IllFormed in
+    let found = fault g (goal.at.loop-len-smaller-then-to-written-ge-BLOCKS_ROOM g c).In-IllFormed in
     let wrote = c.to_utf8-front.ensures.wrote in
     let here = take_rest raw (c.loop-len.read + c.to_utf8-front.result.read) in
     let left = some_items _ _ _ _ _ _ _ _ c.loop-len.invariant wrote (search rules) (λ k. omega (arith, c.type_inv.raw k)) c.in-IllFormed.len found.1 found.0 in

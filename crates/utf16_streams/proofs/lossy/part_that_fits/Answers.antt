@@ -1,6 +1,7 @@
 use Rattle.std.proofs.Common.{◌≤◌, ◌++◌, length, length-append, length-take-le, ap, sym, ◌∙◌, subst, arith, rules}
 use Rattle.utf16_units.proofs.FirstChar.{AreBytes}
-use Rattle.utf16_streams.proofs.PartLemmas.{AreBytes-append, AreBytes-take, shown_most, shown_utf8}
+use Rattle.utf16_units.proofs.SplitIllFormed.{AreBytes-take}
+use Rattle.utf16_streams.proofs.PartLemmas.{AreBytes-append, shown_most, shown_utf8}
 use Rattle.utf16_streams.proofs.lossy.part_that_fits.Given.{Over}
 use Rattle.utf16_streams.proofs.lossy.part_that_fits.Goals as goal
 
