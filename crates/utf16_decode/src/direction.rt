@@ -190,8 +190,7 @@ fn put_usual<D: Direction>(input: &[u8], to: &mut [u8]) -> Option<usize>
     Some(written)
 }
 
-// Does the same, as much at once as surely fits. A function of its own, so that short
-// inputs do not pay for its registers.
+// Does the same, as much at once as surely fits. Not inlined, so that short inputs stay cheap.
 #[inline(never)]
 fn transcode_many<D: Direction>(input: &[u8], to: &mut [u8]) -> Progress
     ensures wrote { Wrote (Gives D.IsValid D.other) input.now to.new result.read result.written }
@@ -291,8 +290,7 @@ fn put_valid<D: Direction>(rest: &[u8], to: &mut [u8], at: usize) -> (usize, usi
     (len, at + written)
 }
 
-// Does the same for a few bytes, as far as they fit; character by character if there is little
-// space.
+// Does the same for a few bytes, as far as they fit; one by one if there is little space.
 fn put_few<D: Direction>(rest: &[u8], to: &mut [u8], at: usize) -> (usize, usize)
     requires some { 2 ≤ length rest.now }
     requires within { at ≤ length to.old }
@@ -308,12 +306,13 @@ fn put_few<D: Direction>(rest: &[u8], to: &mut [u8], at: usize) -> (usize, usize
     put_text::<D>(&rest[..len], to, at)
 }
 
-// Does the same for a few bytes of text.
+// Does the same for a few bytes of text, as far as they fit.
 fn put_text<D: Direction>(text: &[u8], to: &mut [u8], at: usize) -> (usize, usize)
     requires well_formed { D.IsValid text.now }
     requires few { length text.now ≤ LEFT_LEN }
     requires within { at ≤ length to.old }
-    ensures { Puts (Gives D.IsValid D.other) text.now to.old to.new at result.0 result.1 }
+    ensures bytes { Puts (Gives D.IsValid D.other) text.now to.old to.new at result.0 result.1 }
+    ensures most { (result.0 ≡ length text.now) ⊎ (length to.new - result.1 < 4) }
 {
     D::laws();
     if text.len() <= FEW_LEN {
@@ -323,7 +322,7 @@ fn put_text<D: Direction>(text: &[u8], to: &mut [u8], at: usize) -> (usize, usiz
     }
 }
 
-// Does the same through a buffer.
+// Does the same through a buffer, as far as the text fits.
 #[inline(always)]
 fn put_through<D: Direction>(
     text: &[u8],
@@ -334,7 +333,8 @@ fn put_through<D: Direction>(
     requires well_formed { D.IsValid text.now }
     requires space { D.room_for (length text.now) ≤ length buf.old }
     requires within { at ≤ length to.old }
-    ensures { Puts (Gives D.IsValid D.other) text.now to.old to.new at result.0 result.1 }
+    ensures bytes { Puts (Gives D.IsValid D.other) text.now to.old to.new at result.0 result.1 }
+    ensures most { (result.0 ≡ length text.now) ⊎ (length to.new - result.1 < 4) }
 {
     let len = D::write(text, buf);
     let (read, end) = prefix_for::<D>(text, &buf[..len], to.len() - at);
