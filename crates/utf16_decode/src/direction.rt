@@ -119,7 +119,8 @@ pub trait Direction {
     /// Returns how many bytes surely fit in `room` bytes in the second encoding, with what `write`
     /// needs beside them, perhaps none.
     fn surely_fit(room: usize) -> usize
-        ensures { 0 < result → room_for result ≤ room };
+        ensures fits { 0 < result → room_for result ≤ room }
+        ensures most { room < room_for (result + 2) };
 
     /// Writes a text in the second encoding to the start of a buffer, and returns the number of
     /// bytes written.
