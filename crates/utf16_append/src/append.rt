@@ -12,12 +12,17 @@ use utf16_units::ends::first_char;
 use utf16_units::{Utf16Order, is_trailing_surrogate};
 
 // Texts of fewer bytes are appended character by character.
-const TINY_TEXT: usize = 32;
+const TINY_TEXT: usize = 8;
 
-// Texts of at most this many bytes are written at once, to a buffer as long as `write_utf8` needs.
+// Texts of at most this many bytes are written at once, to a buffer as long as `write_utf8` needs;
+// and those of fewer to a shorter one.
 const SHORT_TEXT: usize = 128;
 
 const SHORT_BUFFER: usize = 320;
+
+const FEW_TEXT: usize = 32;
+
+const FEW_BUFFER: usize = 176;
 
 // The length in bytes of a chunk, and of the buffer that `write_utf8` needs for it.
 const CHUNK: usize = 1024;
@@ -37,8 +42,8 @@ const CHUNK_BUFFER: usize = 1664;
 ///
 /// # Complexity
 ///
-/// One pass if `to` has spare capacity of three bytes per code unit, else two. Allocates once, and
-/// not at all if the spare capacity suffices.
+/// One pass over a text of 8 to 128 bytes, or if `to` has spare capacity of three bytes per code
+/// unit, else two. Allocates once, and not at all if the spare capacity suffices.
 pub fn append_utf8<E: Utf16Order, A: Allocator>(
     raw: &[u8],
     to: &mut String<A>,
@@ -52,14 +57,35 @@ pub fn append_utf8<E: Utf16Order, A: Allocator>(
     ensures succeeds { string_len to.old + length (utf8_of E.BIG raw.now) ≤ string_capacity to.old
         → IsOk result }
 {
+    if raw.len() >= TINY_TEXT && raw.len() <= SHORT_TEXT {
+        return put_short::<E, A>(raw, to);
+    }
     reserve_utf8::<E, A>(raw, to)?;
     if raw.len() < TINY_TEXT {
-        return put_few::<E, A>(raw, to);
+        put_few::<E, A>(raw, to)
+    } else {
+        put_pieces::<E, A>(raw, to)
     }
-    if raw.len() <= SHORT_TEXT {
-        return put_piece::<E, A>(raw, &mut [0; SHORT_BUFFER], to);
+}
+
+// The same of a short text, which is written at once.
+#[inline]
+fn put_short<E: Utf16Order, A: Allocator>(raw: &[u8], to: &mut String<A>) -> Result<(), AllocError>
+    requires well_formed { IsUtf16 E.BIG raw.now }
+    requires short { length raw.now ≤ SHORT_TEXT }
+    ensures text { OnOk result (string_bytes to.new ≡ string_bytes to.old
+        ++ utf8_of E.BIG raw.now) }
+    ensures err { OnErr result ((string_bytes to.new ≡ string_bytes to.old)
+        × (string_capacity to.new ≡ string_capacity to.old)) }
+    ensures grows { string_capacity to.old ≤ string_capacity to.new }
+    ensures succeeds { string_len to.old + length (utf8_of E.BIG raw.now) ≤ string_capacity to.old
+        → IsOk result }
+{
+    if raw.len() < FEW_TEXT {
+        put_piece::<E, A>(raw, &mut [0; FEW_BUFFER], to)
+    } else {
+        put_piece::<E, A>(raw, &mut [0; SHORT_BUFFER], to)
     }
-    put_pieces::<E, A>(raw, to)
 }
 
 // Appends the characters one by one to a string with enough capacity.
@@ -97,7 +123,7 @@ fn put_pieces<E: Utf16Order, A: Allocator>(raw: &[u8], to: &mut String<A>) -> Re
     Ok(())
 }
 
-// The same at once.
+// Appends the text at once, through a buffer.
 #[inline]
 fn put_piece<E: Utf16Order, A: Allocator>(
     raw: &[u8],
@@ -106,12 +132,16 @@ fn put_piece<E: Utf16Order, A: Allocator>(
 ) -> Result<(), AllocError>
     requires well_formed { IsUtf16 E.BIG raw.now }
     requires space { length raw.now / 2 * 3 + SLACK ≤ length buf.old }
-    requires fits { string_len to.old + length (utf8_of E.BIG raw.now) ≤ string_capacity to.old }
-    ensures ok { IsOk result }
-    ensures appended { IsPut (text_of E.BIG raw.now) (string_bytes to.old) (string_bytes to.new)
-        (string_capacity to.old) (string_capacity to.new) }
+    ensures text { OnOk result (string_bytes to.new ≡ string_bytes to.old
+        ++ utf8_of E.BIG raw.now) }
+    ensures err { OnErr result ((string_bytes to.new ≡ string_bytes to.old)
+        × (string_capacity to.new ≡ string_capacity to.old)) }
+    ensures grows { string_capacity to.old ≤ string_capacity to.new }
+    ensures succeeds { string_len to.old + length (utf8_of E.BIG raw.now) ≤ string_capacity to.old
+        → IsOk result }
 {
     let len = write_utf8::<E>(raw, buf);
+    to.reserve(len)?;
     to.push_str(unsafe { str::from_utf8_unchecked(&buf[..len]) })
 }
 

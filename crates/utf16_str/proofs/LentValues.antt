@@ -3,7 +3,7 @@
 --     result_tells         of a `Result`: the variant, and one machine value in it
 --     pair_tells           of a slice beside a value: the pair of their machine values
 --     Ok-of, Err-of        a `Result` is made of one machine value
-use Rattle.std.proofs.Common.{◌≡◌, ℕ, T, List, [], ◌∷◌, ◌++◌, Bool, true, false, length, refl, sym, ap, subst, ◌∙◌, MutBor, Result, Ok, Err}
+use Rattle.std.proofs.Common.{◌≡◌, ℕ, T, List, [], ◌∷◌, ◌++◌, Bool, true, false, length, refl, ap, subst, ◌∙◌, MutBor, Result, Ok, Err}
 use mathlib.Core.Bool.{◌&&◌}
 use seplogic.Ra.Ura.{Ura}
 use mir.Syntax.{Ty, named}
