@@ -1,14 +1,24 @@
 //! Strings made from UTF-8, and UTF-8 appended to a string.
 
-ghost use Rattle.std.specs.Prelude.{◌≡◌, ◌+◌, ◌≤◌, [], length, IfOk, IsOk, OnErr, OnOk};
+ghost use Rattle.std.specs.Prelude.{◌≡◌, ◌+◌, ◌*◌, ◌≤◌, [], length, IfOk, IsOk, OnErr, OnOk};
 ghost use Rattle.std.specs.Str.{chars};
 ghost use Rattle.utf16_units.specs.Edit.{push_text};
 ghost use Rattle.utf16_units.specs.Encoding.{size};
 
 use crate::WString;
 use std::alloc::{AllocError, Allocator};
-use utf16_from_utf8::{append_utf16, extend_utf16, utf16_len};
+use utf16_from_utf8::{append_utf16, extend_utf16, utf16_len, write_units};
 use utf16_units::Utf16Order;
+
+// Texts of at most this many bytes are converted on the stack, in one pass; and those of fewer in a
+// shorter buffer.
+const SHORT_TEXT: usize = 128;
+
+const SHORT_BUFFER: usize = 272;
+
+const FEW_TEXT: usize = 32;
+
+const FEW_BUFFER: usize = 80;
 
 impl<E: Utf16Order, A: Allocator> WString<E, A> {
     ghost use Rattle.utf16string.specs.WString.{IsUnchanged, wstring_bytes, wstring_capacity, wstring_text};
@@ -21,8 +31,8 @@ impl<E: Utf16Order, A: Allocator> WString<E, A> {
     ///
     /// # Complexity
     ///
-    /// Two passes over the text. Allocates once, for as many bytes as the string takes, and not at
-    /// all for the empty text.
+    /// One pass over a text of at most 128 bytes, else two. Allocates once, for as many bytes as the
+    /// string takes, and not at all for the empty text.
     pub fn from_str(alloc: A, s: &str) -> Result<Self, AllocError>
         ensures text { IfOk result (λ t. wstring_text t ≡ chars s.now) }
         ensures nothing { s.now ≡ [] → IsOk result }
@@ -31,8 +41,28 @@ impl<E: Utf16Order, A: Allocator> WString<E, A> {
         if s.is_empty() {
             return Ok(Self::new(alloc));
         }
+        if s.len() <= FEW_TEXT {
+            return Self::from_short::<FEW_BUFFER>(alloc, s);
+        }
+        if s.len() <= SHORT_TEXT {
+            return Self::from_short::<SHORT_BUFFER>(alloc, s);
+        }
         let mut raw = Vec::with_capacity(alloc, utf16_len(s))?;
         extend_utf16::<E, A>(&mut raw, s)?;
+        Ok(Self::from_utf16_unchecked(raw))
+    }
+
+    // The same of a short text, which is converted on the stack before its length is known.
+    #[inline(never)]
+    fn from_short<const N: usize>(alloc: A, s: &str) -> Result<Self, AllocError>
+        requires space { 2 * length s.now + 16 ≤ N }
+        requires few { N ≤ SHORT_BUFFER }
+        ensures { IfOk result (λ t. wstring_text t ≡ chars s.now) }
+    {
+        let mut buf = [0; N];
+        let end = write_units::<E>([0; 2], s.as_bytes(), &mut buf);
+        let mut raw = Vec::with_capacity(alloc, end)?;
+        raw.extend_from_slice(&buf[..end])?;
         Ok(Self::from_utf16_unchecked(raw))
     }
 

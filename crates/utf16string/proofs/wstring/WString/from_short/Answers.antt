@@ -1,0 +1,26 @@
+use Rattle.std.proofs.Common.{◌≡◌, ◌++◌, ◌∙◌, ap, refl, subst, sym, take}
+use Rattle.std.proofs.lemmas.Str.{scalars-chars}
+use Rattle.std.specs.Str.{chars}
+use Rattle.utf16_units.specs.Encoding.{IsUtf16, encode, text_of}
+use Rattle.utf16_units.proofs.EncodingLemmas.{All-from_all_scalars, IsUtf16-encode, text_of-encode}
+use Rattle.utf16string.proofs.wstring.WString.from_short.Given.{Over}
+use Rattle.utf16string.proofs.wstring.WString.from_short.Goals as goal
+use Rattle.utf16string.proofs.wstring.WString.from_short.Goals.{In_ok-extend_from_slice}
+
+-- what was written on the stack was appended to nothing
+written : (g : Over) (c : In_ok-extend_from_slice g) → c.extend_from_slice.new.self.items ≡ encode g.E.Utf16Order.BIG (chars c.args.s.now)
+written g c =
+    c.in_ok-extend_from_slice.ensures.items ∙ ap (λ bytes. bytes ++ take c.write_units-end.result c.write_units-end.new.out) c.in_ok-raw.ensures.items
+    ∙ c.write_units-end.ensures.text refl refl c.as_bytes.ensures.utf8
+    ∙ ap (λ bytes. encode g.E.Utf16Order.BIG (chars bytes)) c.as_bytes.ensures.value
+
+pub from_utf16_unchecked-requires : goal.from_utf16_unchecked-requires
+from_utf16_unchecked-requires g c =
+    subst (IsUtf16 g.E.Utf16Order.BIG) (sym (written g (goal.at.from_utf16_unchecked-requires g c).In_ok-extend_from_slice))
+    (IsUtf16-encode _ _ (All-from_all_scalars _ (scalars-chars c.args.s.now c.utf8.s)))
+
+pub returns : goal.returns
+returns g c =
+    ap (λ v. text_of g.E.Utf16Order.BIG v.items) c.from_utf16_unchecked.ensures.vec
+    ∙ ap (text_of g.E.Utf16Order.BIG) (written g (goal.at.returns g c).In_ok-extend_from_slice)
+    ∙ text_of-encode _ _ (All-from_all_scalars _ (scalars-chars c.args.s.now c.utf8.s))
