@@ -7,6 +7,11 @@ use std::time::Instant;
 
 const ROUNDS: usize = 5;
 
+const CLASSES: [&str; 4] = ["ascii", "latin_cyrillic", "cjk", "emoji"];
+
+// Those with ill-formed sequences.
+const ILL_FORMED: [&str; 5] = ["random", "ascii_100", "ascii_1000", "ascii_5000", "cjk_1000"];
+
 // What `wait4` returns of a process: the fifth number is the peak of its memory in KiB.
 unsafe extern "C" {
     fn wait4(process: i32, status: &mut i32, options: i32, used: &mut [i64; 18]) -> i32;
@@ -62,7 +67,8 @@ fn main() {
         }
         for order in ["le", "be"] {
             let utf16 = format!("UTF-16{}", order.to_uppercase());
-            for class in ["ascii", "latin_cyrillic", "cjk", "emoji", "random"] {
+            for class in [&CLASSES[..], &ILL_FORMED].concat() {
+                let ill_formed = ILL_FORMED.contains(&class);
                 let file = format!("{folder}/{class}.{}", from(order));
                 let (from, to) = if ours == "utf16_cat" { (utf16.as_str(), "UTF-8") } else { ("UTF-8", utf16.as_str()) };
                 let mut programs = others(folder, order, from, to, ours);
@@ -72,8 +78,8 @@ fn main() {
                     let (_, ended) = run(&words, File::open(&file).unwrap().into(), File::create(&made).unwrap().into());
                     let same = Command::new("cmp").args(["-s", &made, &format!("{folder}/encoding_rs.made")]).status().unwrap().success();
                     // `iconv -c` leaves ill-formed sequences out and says so by its status.
-                    let other = program == "copy" || class == "random" && program == "iconv";
-                    if ended.is_some() && !same && !other || ended.is_none() && !other && class != "random" {
+                    let other = program == "copy" || ill_formed && program == "iconv";
+                    if ended.is_some() && !same && !other || ended.is_none() && !other && !ill_formed {
                         println!("differs\t{class}\t{order}\t{program}\t-");
                     }
                     if ended.is_some() || other {

@@ -117,6 +117,7 @@ function chart_of(calls, texts, list,    c, d, x, name, names) {
 
 END {
     classes = "ascii;latin_cyrillic;cjk;emoji;random"
+    filtered = classes ";ascii_100;ascii_1000;ascii_5000;cjk_1000"
     split("ascii,cjk", class, ","); split("2,4,8,16,24,32,40,62,64", size, ",")
     for (c = 1; c in class; c++) for (s = 1; s in size; s++) short = short (short == "" ? "" : ";") class[c] ", " size[s] " bytes"
     calls = "validate,count,is_ascii,read,to_utf8,from_utf8"
@@ -124,13 +125,13 @@ END {
     by_program = "here,encoding_rs,iconv,uconv,simdutf westmere,simdutf haswell,copy"
     short_calls = "short validate,short to_utf8,short from_utf8"
     compare(calls, classes, by_call)
-    compare("utf16_cat,utf16_enc", classes, by_program)
+    compare("utf16_cat,utf16_enc", filtered, by_program)
     compare(short_calls, short, by_call)
     printf "Another is faster in %d of %d rows; how many times as fast *here* is, in brackets:\n\n", slower, compared
     print "| Call | Text | Order | Faster |\n|---|---|---|---|"
     print behind
     table(calls, classes, by_call)
-    table("utf16_cat,utf16_enc", classes, by_program)
+    table("utf16_cat,utf16_enc", filtered, by_program)
     table(short_calls, short, by_call)
     print differs "| From a pipe | Peak, MiB |\n|---|---|" memory
     chart_of("validate,to_utf8,from_utf8,utf16_cat", classes, "here,simdutf haswell,simdutf westmere,encoding_rs,ICU,iconv")

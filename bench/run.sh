@@ -61,9 +61,9 @@ rust --edition 2024 calls.rs ${simdutf:+--cfg simdutf} --extern encoding_rs=out/
     -C link-args="out/icu.o $simdutf ../crates/dethrux/out/libdethrux.a $kit/c/liblibc_c.a"
 
 for encoding in le be utf8; do
-    for class in ascii latin_cyrillic cjk emoji random; do
+    for class in ascii latin_cyrillic cjk emoji random ascii_100 ascii_1000 ascii_5000 cjk_1000; do
         size=67108864
-        [ $class != random ] || size=16777216
+        case $class in random | *00) size=16777216 ;; esac
         out/texts $class $encoding $size > out/$class.$encoding
         out/texts $class $encoding 65536 > out/$class.$encoding.small
     done

@@ -4,21 +4,13 @@
 # `WString` in little and in big endian, of `String` here and of Rust's `String`, then the ratio of
 # each byte order to `String` here and to Rust's. The two programs run in turn, so that other work
 # of the machine affects both. It stops where two of them sort differently.
-set -e
-top=$(cd "$(dirname "$0")/.." && pwd)
-room=$(mktemp -d)
-mkdir -p "$room/crates/sort_bench/src"
-for crate in utf16_units utf16_to_utf8 utf16_from_utf8 utf16_append utf16_str utf16_retain utf16string; do
-    cp -r "$top/crates/$crate" "$room/crates"
-    grep "^$crate:" "$top/crates.txt" >> "$room/crates.txt"
-done
-cp "$top/bench/sort.rt.txt" "$room/crates/sort_bench/src/main.rt"
-echo 'sort_bench: utf16string' >> "$room/crates.txt"
+set -eu
+. "$(dirname "$0")/program.sh"
+build sort
 rustc -O -o "$room/sort" "$top/bench/sort.rs"
-(cd "$room/crates/sort_bench" && rt run) > "$room/times" 2> "$room/said"
 for _ in 1 2 3; do
     "$room/sort" >> "$room/times"
-    "$room/crates/sort_bench/out/sort_bench" >> "$room/times"
+    "$program" >> "$room/times"
 done
 "$room/sort" >> "$room/times"
 awk '
@@ -29,4 +21,3 @@ END {
         printf "%s  %.0f %.0f %.0f %.0f  %.2f %.2f  %.2f %.2f\n", t, l / 1e6, b / 1e6, h / 1e6, r / 1e6, l / h, b / h, l / r, b / r
     }
 }' "$room/times"
-rm -r "$room"

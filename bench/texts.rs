@@ -1,10 +1,12 @@
 //! Writes a text to standard output, of a class or of random bytes: `texts CLASS ENCODING BYTES`,
-//! in UTF-16 (`le`, `be`) or in UTF-8 (`utf8`). The same arguments give the same bytes each time.
+//! in UTF-16 (`le`, `be`) or in UTF-8 (`utf8`). A number after the class is how many bytes of UTF-16
+//! an ill-formed sequence has, as in `ascii_1000`. The same arguments give the same bytes each time.
 use std::io::Write;
 
 struct Random {
     state: u64,
     cyrillic: bool,
+    every: u32,
 }
 
 impl Random {
@@ -17,6 +19,9 @@ impl Random {
     }
 
     fn next(&mut self, class: &str) -> u32 {
+        if self.every > 0 && self.among(1, self.every / 2) == 1 {
+            return 0xDC00;
+        }
         match (class, self.among(0, 7)) {
             ("ascii", _) => self.among(0x20, 0x7E),
             ("latin_cyrillic", 0) => {
@@ -55,7 +60,11 @@ fn encoded(next: u32, class: &str, encoding: &str, left: usize) -> Vec<u8> {
 fn main() {
     let words: Vec<String> = std::env::args().collect();
     let (class, encoding, mut left) = (words[1].as_str(), words[2].as_str(), words[3].parse::<usize>().unwrap());
-    let (mut random, mut out) = (Random { state: 1, cyrillic: false }, std::io::stdout().lock());
+    let (class, every) = match class.rsplit_once('_').map(|(class, every)| (class, every.parse())) {
+        Some((class, Ok(every))) => (class, every),
+        _ => (class, 0),
+    };
+    let (mut random, mut out) = (Random { state: 1, cyrillic: false, every }, std::io::stdout().lock());
     while left > 0 {
         let mut bytes = Vec::new();
         while bytes.len() < 65536 && left > 0 {

@@ -6,21 +6,12 @@
 # that other work of the machine affects both. It stops where a call finds something else than
 # std's. The table stays in bench/out/walks.md.
 set -eu
-top=$(cd "$(dirname "$0")/.." && pwd)
-room=$(mktemp -d)
-trap 'rm -rf "$room"' EXIT
-mkdir -p "$top/bench/out" "$room/crates/walks_bench/src"
-for crate in utf16_units utf16_to_utf8 utf16_from_utf8 utf16_append utf16_str utf16_retain utf16string; do
-    cp -r "$top/crates/$crate" "$room/crates"
-    grep "^$crate:" "$top/crates.txt" >> "$room/crates.txt"
-done
-cp "$top/bench/walks.rt.txt" "$room/crates/walks_bench/src/main.rt"
-echo 'walks_bench: utf16string' >> "$room/crates.txt"
+. "$(dirname "$0")/program.sh"
+build walks
 rustc --edition 2024 -O -C target-cpu=x86-64-v2 -o "$room/walks" "$top/bench/walks.rs"
-(cd "$room/crates/walks_bench" && rt run) > "$room/times" 2> "$room/said" || { cat "$room/said" >&2; exit 1; }
 for _ in 1 2 3; do
     "$room/walks" >> "$room/times"
-    "$room/crates/walks_bench/out/walks_bench" >> "$room/times"
+    "$program" >> "$room/times"
 done
 "$room/walks" >> "$room/times"
 awk '
@@ -62,5 +53,6 @@ END {
     print "| Call | Text | Bytes | Little, ns | Big, ns | std, ns | Little to std | Big to std |\n|---|---|---|---|---|---|---|---|"
     printf "%s", all
 }' "$room/times" > "$room/table" || exit 1
+mkdir -p "$top/bench/out"
 cp "$room/table" "$top/bench/out/walks.md"
 cat "$room/table"
