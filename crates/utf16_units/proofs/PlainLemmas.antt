@@ -44,13 +44,15 @@ module _ (big : Bool) (bytes : List ℕ) (n : ℕ) (within : n ≤ length bytes)
   block_len : length (take n bytes) ≡ n
   block_len = length-take-le n bytes within
 
+  pub no_surrogate-plain_front : (many : ℕ) → 2 * many ≤ n → HasNoSurrogate (take many (units_of big (take n bytes))) → HasNoSurrogate (units_of big (take (2 * many) bytes))
+  no_surrogate-plain_front many few all =
+      subst HasNoSurrogate (units_of-front big (take n bytes) many (omega (arith, block_len)) ∙ ap (units_of big) (take-take (2 * many) n bytes few)) all
+
   pub IsUtf16-plain_front : (many : ℕ) → 2 * many ≤ n → ((k : ℕ) → Fits w8 (slice_index bytes k)) → HasNoSurrogate (take many (units_of big (take n bytes)))
       → IsUtf16 big (take (2 * many) bytes)
   IsUtf16-plain_front many few fits all =
-      let here : take many (units_of big (take n bytes)) ≡ units_of big (take (2 * many) bytes) =
-      units_of-front big (take n bytes) many (omega (arith, block_len)) ∙ ap (units_of big) (take-take (2 * many) n bytes few) in
       let even : length (take (2 * many) bytes) % 2 ≡ 0 = omega (arith, length-take-le (2 * many) bytes (omega arith)) in
-      paired-text big _ (chunk-fits w8 0 (2 * many) bytes fits) even (no_surrogate-paired _ (subst HasNoSurrogate here all))
+      paired-text big _ (chunk-fits w8 0 (2 * many) bytes fits) even (no_surrogate-paired _ (no_surrogate-plain_front many few all))
 
   pub unit-in_front : (i : ℕ) → 2 * i + 2 ≤ n → slice_index (units_of big (take n bytes)) i ≡ unit_of big (slice_index bytes (2 * i)) (slice_index bytes (2 * i + 1))
   unit-in_front i within_block =
@@ -87,7 +89,7 @@ module _ (big : Bool) (bytes : List ℕ) (n : ℕ) (even : length bytes % 2 ≡ 
         )),
       )
 
-plain-nil : (big : Bool) → HasNoSurrogate (units_of big [])
+pub plain-nil : (big : Bool) → HasNoSurrogate (units_of big [])
 unfolding units_of
 plain-nil big = All-nil IsNoSurrogate
 

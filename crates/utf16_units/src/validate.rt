@@ -35,7 +35,8 @@ pub fn validate_raw_utf16<E: Utf16Order>(raw: &[u8]) -> Result<(), Utf16Error>
     validate_any::<E>(raw)
 }
 
-// Does the same. A function of its own, so that short texts do not pay for its registers.
+// Does the same. A function of its own, so that short texts do not pay for its registers. Where the
+// first surrogate is unpaired, pairs are not looked for.
 #[inline(never)]
 fn validate_any<E: Utf16Order>(raw: &[u8]) -> Result<(), Utf16Error>
     ensures ok { IsOk result ↔ IsUtf16 E.BIG raw.now }
@@ -44,7 +45,17 @@ fn validate_any<E: Utf16Order>(raw: &[u8]) -> Result<(), Utf16Error>
     if raw.len() < 32 {
         return validate_units::<E>(raw, 0);
     }
-    let passed = passed_blocks::<E>(raw);
+    let front = plain_front::<E>(raw);
+    if raw.len() - front > 64 {
+        let first = front + plain_prefix_len::<E>(&raw[front..]);
+        if let Err(error_len) = first_char_len::<E>(&raw[first..]) {
+            return Err(Utf16Error {
+                valid_up_to: first,
+                error_len,
+            });
+        }
+    }
+    let passed = passed_blocks::<E>(raw, front);
     let plain = plain_prefix_len::<E>(&raw[passed..]);
     validate_units::<E>(raw, passed + plain)
 }
@@ -59,6 +70,7 @@ fn validate_any<E: Utf16Order>(raw: &[u8]) -> Result<(), Utf16Error>
 pub fn plain_prefix_len<E: Utf16Order>(raw: &[u8]) -> usize
     ensures within { result ≤ length raw.now }
     ensures most { result ≤ 64 }
+    ensures plain { HasNoSurrogate (units_of E.BIG (take result raw.now)) }
     ensures text { IsUtf16 E.BIG (take result raw.now) }
     ensures stop { 64 ≤ length raw.now → (result ≡ 64)
         ⊎ (¬ IsNoSurrogate (unit_of E.BIG (slice_index raw.now result)
@@ -137,13 +149,14 @@ fn is_no_surrogate(unit: u16) -> bool
     unit / 0x800 != 0x1B
 }
 
-// The length of a well-formed prefix, as far as whole blocks reach.
-fn passed_blocks<E: Utf16Order>(raw: &[u8]) -> usize
+// The length of a well-formed prefix, as far as whole blocks reach from an offset on.
+fn passed_blocks<E: Utf16Order>(raw: &[u8], from: usize) -> usize
+    requires { PairedTo E.BIG raw.now from false }
     ensures within { result ≤ length raw.now }
     ensures well_formed { IsUtf16 E.BIG (take result raw.now) }
     ensures passed { PassedTo E.BIG raw.now result }
 {
-    let (whole, leading) = paired_blocks::<E>(raw);
+    let (whole, leading) = paired_blocks::<E>(raw, from);
     let (at, leading) = paired_half_block::<E>(raw, whole, leading);
     if leading { at - 2 } else { at }
 }
@@ -151,16 +164,17 @@ fn passed_blocks<E: Utf16Order>(raw: &[u8]) -> usize
 // At each multiple of so many bytes, blocks without a surrogate are tried again.
 const PLAIN_EVERY: usize = 512;
 
-// In a text of this length or more, blocks without a surrogate are first passed two at a time.
-const LONG: usize = 1024;
+// Behind so many bytes without a surrogate at the front, blocks are passed two at a time.
+const MANY_PLAIN: usize = 256;
 
-// The length of the prefix of blocks of 64 bytes whose surrogates are paired, and whether its last
+// The end of the blocks of 64 bytes from `from` on whose surrogates are paired, and whether the last
 // unit is leading. Blocks without a surrogate are passed by a loop that looks for no pairs.
-fn paired_blocks<E: Utf16Order>(raw: &[u8]) -> (usize, bool)
+fn paired_blocks<E: Utf16Order>(raw: &[u8], from: usize) -> (usize, bool)
+    requires { PairedTo E.BIG raw.now from false }
     ensures paired { PairedTo E.BIG raw.now result.0 result.1 }
     ensures stops { BlocksStopAt 64 E.BIG raw.now result.0 result.1 }
 {
-    let mut at = plain_blocks::<E>(raw, plain_front::<E>(raw));
+    let mut at = from;
     let mut leading = false;
     while raw.len() - at >= 64 {
         let highs = high_bytes32::<E>(u8x64::from_slice(&raw[at..]));
@@ -176,24 +190,33 @@ fn paired_blocks<E: Utf16Order>(raw: &[u8]) -> (usize, bool)
     (at, leading)
 }
 
-// The end of the pairs of blocks at the front of a long text that have no surrogate. The first
-// block is tested here: where it has one, the loop is not entered.
+// The end of the blocks of 64 bytes at the front that have no surrogate: the first few one by one,
+// and then two at a time. Random bytes seldom come as far as that.
 #[inline(always)]
 fn plain_front<E: Utf16Order>(raw: &[u8]) -> usize
     ensures { PairedTo E.BIG raw.now result false }
 {
-    if raw.len() < LONG || !is_plain::<E>(u8x64::from_slice(raw)) {
-        return 0;
+    let mut at = 0;
+    while raw.len() - at >= 64 {
+        if !is_plain::<E>(u8x64::from_slice(&raw[at..])) {
+            break;
+        }
+        at += 64;
+        if at == MANY_PLAIN {
+            at = plain_pairs::<E>(raw, at);
+        }
     }
-    plain_pairs::<E>(raw)
+    at
 }
 
-// The end of the pairs of blocks of 64 bytes at the front that have no surrogate.
-#[inline(never)]
-fn plain_pairs<E: Utf16Order>(raw: &[u8]) -> usize
-    ensures { PairedTo E.BIG raw.now result false }
+// The end of the pairs of blocks of 64 bytes from `from` on that have no surrogate.
+#[inline(always)]
+fn plain_pairs<E: Utf16Order>(raw: &[u8], from: usize) -> usize
+    requires { PairedTo E.BIG raw.now from false }
+    ensures paired { PairedTo E.BIG raw.now result false }
+    ensures after { from ≤ result }
 {
-    let mut at = 0;
+    let mut at = from;
     while raw.len() - at >= 128
         && is_plain::<E>(u8x64::from_slice(&raw[at..]))
             & is_plain::<E>(u8x64::from_slice(&raw[at + 64..]))

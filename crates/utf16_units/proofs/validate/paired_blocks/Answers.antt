@@ -3,14 +3,11 @@ use Rattle.utf16_units.specs.Lanes.{PairedTo}
 use Rattle.utf16_units.proofs.PairLemmas.{PairedTo-next}
 use Rattle.utf16_units.proofs.validate.paired_blocks.Goals as goal
 
-pub plain_blocks-at-requires-then-not-leading : goal.plain_blocks-at-requires-then-not-leading
-plain_blocks-at-requires-then-not-leading g c =
+pub plain_blocks-at-requires : goal.plain_blocks-at-requires
+plain_blocks-at-requires g c =
     subst (PairedTo g.E.Utf16Order.BIG c.args.raw.now _) c.if-not-leading.true
     (PairedTo-next g.E.Utf16Order.BIG c.args.raw.now c.loop-at.at 64 c.loop-at.leading c.in-Some.last c.loop-at.invariant refl (omega arith)
     (c.in-Some.ensures.some _ (sym c.high_bytes32-highs.ensures)))
-
-pub loop-at-init : goal.loop-at-init
-loop-at-init g c = c.plain_blocks-at.ensures.paired
 
 pub loop-at-preserved : goal.loop-at-preserved
 loop-at-preserved g c =

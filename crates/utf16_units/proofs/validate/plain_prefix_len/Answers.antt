@@ -2,11 +2,19 @@ use Rattle.std.proofs.Common.{◌≤◌, ◌<◌, sym, subst, arith, inl, inr, �
 use Rattle.std.proofs.lemmas.Bool.{cases_lt}
 use Rattle.utf16_units.specs.Lanes.{IsNoSurrogate}
 use Rattle.utf16_units.proofs.EncodingLemmas.{IsUtf16-nil}
-use Rattle.utf16_units.proofs.PlainLemmas.{IsUtf16-plain_front, unit-in_front}
+use Rattle.utf16_units.proofs.PlainLemmas.{IsUtf16-plain_front, no_surrogate-plain_front, plain-nil, unit-in_front}
 use Rattle.utf16_units.proofs.validate.plain_prefix_len.Goals as goal
 
 pub returns-then-raw-lt64-clause-text : goal.returns-then-raw-lt64-clause-text
 returns-then-raw-lt64-clause-text g c = IsUtf16-nil g.E.Utf16Order.BIG
+
+pub returns-then-raw-lt64-clause-plain : goal.returns-then-raw-lt64-clause-plain
+returns-then-raw-lt64-clause-plain g c = plain-nil g.E.Utf16Order.BIG
+
+pub returns-clause-plain : goal.returns-clause-plain
+returns-clause-plain g c =
+    no_surrogate-plain_front g.E.Utf16Order.BIG c.args.raw.now 64 (omega arith) c.plain_len.result (omega arith)
+    (c.plain_len.ensures.plain _ (sym c.high_bytes32.ensures))
 
 pub returns-clause-text : goal.returns-clause-text
 returns-clause-text g c =
