@@ -6,7 +6,7 @@
 # its loop. The table stays in bench/out/short.md.
 set -eu
 . "$(dirname "$0")/program.sh"
-build short
+build short utf16_transcode utf16_decode utf16_units
 for _ in 1 2; do
     "$program" >> "$room/times"
 done
