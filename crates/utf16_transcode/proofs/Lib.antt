@@ -6,3 +6,4 @@ pub mod DecodesUtf8
 pub mod ItemLemmas
 pub mod DecodedText
 pub mod FeedsUtf8
+pub mod AsciiFront

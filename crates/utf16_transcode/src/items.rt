@@ -1,15 +1,24 @@
 //! UTF-8 item by item: a character, or a maximal subpart of an ill-formed subsequence, at a time.
 
-ghost use Rattle.std.specs.Prelude.{◌≡◌, [], ◌∷◌};
+ghost use Rattle.std.specs.Prelude.{◌≡◌, ◌*◌, ◌<◌, ◌≤◌, ◌==◌, [], ◌∷◌, bit_and, length, map, slice_index, take};
+ghost use Rattle.std.specs.Simd.Lanes.{mask_l};
+ghost use Rattle.std.specs.Str.{IsAscii};
+ghost use Rattle.utf16_decode.specs.Wrote.{Wrote};
+ghost use Rattle.utf16_transcode.specs.FromUtf8.{TranscodesToUtf16};
 ghost use Rattle.utf16_transcode.specs.Utf8Stream.{DecodesUtf8To, FirstItem};
 
 use crate::chars::{char_of_four, char_of_three, char_of_two, is_continuation};
 use crate::utf16::{can_begin, put_char};
+use std::simd::prelude::*;
+use utf16_from_utf8::blocks::put_ascii;
 use utf16_units::Utf16Order;
 
-// So many characters in a row, none of them U+FFFD, end the loop over items: others are probably
-// well formed too, and many at once take less time.
+// So many characters in a row, none of them U+FFFD, end the loop over items: what follows is
+// probably well formed too, and many at once take less time. ASCII that is written at once counts
+// as two.
 const RUN: usize = 16;
+
+const ASCII_RUN: usize = 2;
 
 /// Writes the text of the next bytes of UTF-8 in UTF-16 to the start of a buffer, with U+FFFD for
 /// each ill-formed sequence; returns the number of bytes read and the number of bytes written. It
@@ -22,16 +31,98 @@ pub(crate) fn put_items<E: Utf16Order>(text: &[u8], to: &mut [u8]) -> (usize, us
     let mut written = 0;
     let mut run = 0;
     while run < RUN && text.len() - read >= 4 && to.len() - written >= 4 {
-        let (c, len) = first_item(text[read], text[read + 1], text[read + 2], text[read + 3]);
-        written = put_char::<E>(c, to, written);
-        read += len;
-        run = if c == char::REPLACEMENT_CHARACTER {
-            0
-        } else {
-            run + 1
-        };
+        let step = put_step::<E>(&text[read..], &mut to[written..]);
+        read += step.read;
+        written += step.written;
+        run = if step.run == 0 { 0 } else { run + step.run };
     }
     (read, written)
+}
+
+// How many bytes a step read and wrote, and what it adds to the run: nothing if it wrote U+FFFD,
+// which ends the run.
+#[derive(Clone, Copy)]
+struct Step {
+    read: usize,
+    written: usize,
+    run: usize,
+}
+
+// Writes the ASCII at the start of the bytes in UTF-16 to the start of a buffer, of sixteen bytes at
+// most, or the first item.
+#[inline(always)]
+fn put_step<E: Utf16Order>(text: &[u8], to: &mut [u8]) -> Step
+    requires bytes { 4 ≤ length text.now }
+    requires space { 4 ≤ length to.old }
+    ensures decodes { DecodesUtf8To E.BIG text.now to.new result.read result.written }
+    ensures advances { 0 < result.read }
+    ensures run { result.run ≤ ASCII_RUN }
+{
+    let ascii = put_ascii_front::<E>(text, to);
+    if ascii > 0 {
+        return Step {
+            read: ascii,
+            written: 2 * ascii,
+            run: ASCII_RUN,
+        };
+    }
+    let (c, len) = first_item(text[0], text[1], text[2], text[3]);
+    Step {
+        read: len,
+        written: put_char::<E>(c, to, 0),
+        run: (c != char::REPLACEMENT_CHARACTER) as usize,
+    }
+}
+
+// Writes all ASCII at the start of the first sixteen bytes in UTF-16 to the start of a buffer, and
+// returns how many bytes it read; none if there are fewer bytes, or less than twice as much space.
+// The bytes of the buffer after those written may be overwritten.
+#[inline(always)]
+fn put_ascii_front<E: Utf16Order>(text: &[u8], to: &mut [u8]) -> usize
+    requires { 0 < length text.now }
+    ensures wrote { Wrote (TranscodesToUtf16 E.BIG) text.now to.new result (2 * result) }
+    ensures most { 16 ≤ length text.now → 32 ≤ length to.old → result < 16
+        → 0x80 ≤ slice_index text.now result }
+    ensures len { length to.new ≡ length to.old }
+{
+    if text[0] >= 0x80 || text.len() < 16 || to.len() < 32 {
+        return 0;
+    }
+    let block = u8x16::from_slice(text);
+    put_ascii::<E>(to, 0, low_bits(block));
+    ascii_len(block)
+}
+
+// Returns the number of bytes before the first that is not ASCII.
+#[inline(always)]
+fn ascii_len(block: u8x16) -> usize
+    ensures few { result ≤ 16 }
+    ensures ascii { IsAscii (take result block) }
+    ensures stop { result < 16 → 0x80 ≤ slice_index block result }
+{
+    let high = high_bits(block);
+    if high == 0 {
+        16
+    } else {
+        high.trailing_zeros() as usize
+    }
+}
+
+// The low seven bits of each byte: of ASCII the byte itself.
+#[inline(always)]
+fn low_bits(block: u8x16) -> u8x16
+    ensures { result ≡ map (λ byte. bit_and byte 0x7F) block }
+{
+    block & u8x16::splat(0x7F)
+}
+
+// A bit for each byte that is not ASCII, by its highest bit.
+#[inline(always)]
+fn high_bits(block: u8x16) -> u64
+    ensures { result ≡ mask_l (map (λ byte. bit_and byte 0x80 == 0x80) block) }
+{
+    let high = u8x16::splat(0x80);
+    (block & high).simd_eq(high).to_bitmask()
 }
 
 // Returns the first item of these bytes, which decide it, and its length: a character, or U+FFFD
