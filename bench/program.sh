@@ -4,10 +4,11 @@ room=$(mktemp -d)
 trap 'rm -rf "$room"' EXIT
 
 # Builds the program NAME.rt.txt over `utf16string` and the crates named after it, beside a copy of
-# the crates in a temporary folder, $room, and runs it: what it prints stays in $room/times, and
-# $program is its file. `rt` proves the crates first where it has kept no proof of them.
+# the crates, and of what `rt` keeps of them, in a temporary folder, $room, and runs it: what it
+# prints stays in $room/times, and $program is its file. `rt` proves the crates first where it has
+# kept no proof of them.
 build() {
-    tar -C "$top" --exclude=out -cf - crates crates.txt | tar -C "$room" -xf -
+    cp -a "$top/crates" "$top/crates.txt" "$room/"
     name=$1
     shift
     mkdir -p "$room/crates/${name}_bench/src"
