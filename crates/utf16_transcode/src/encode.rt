@@ -8,8 +8,9 @@ ghost use Rattle.utf16_transcode.specs.Utf8Stream.{DecodesUtf8To, FirstItem, Sto
 ghost use Rattle.utf16_decode.specs.Shown.{ShowsWhole};
 ghost use Rattle.utf16_decode.specs.Stops.{StopsLossyWhole};
 
-use crate::items::put_items;
+use crate::items::{ITEM_LEN, put_items};
 use crate::utf16::from_utf8;
+use utf8_blocks::write_blocks;
 use utf16_decode::{Progress, Stop, put};
 use utf16_from_utf8::utf16_len;
 use utf16_units::Utf16Order;
@@ -18,6 +19,11 @@ use utf16_units::Utf16Order;
 pub(crate) const REPLACEMENT: u16 = 0xFFFD;
 
 pub(crate) const REPLACEMENT_LEN: usize = 2;
+
+// The length in bytes of a block, and the space that it may take.
+const BLOCK_LEN: usize = 64;
+
+const BLOCK_SPACE: usize = 128;
 
 /// Writes the text of UTF-8 in UTF-16 to the start of a buffer, as far as whole characters fit: the
 /// characters, and U+FFFD for each ill-formed sequence, one for each maximal subpart. An incomplete
@@ -58,8 +64,8 @@ pub fn from_utf8_partial<E: Utf16Order>(text: &[u8], to: &mut [u8]) -> Progress
     }
 }
 
-// Writes U+FFFD for the ill-formed sequence of `len` bytes that the text begins with, and the items
-// after it; returns the number of bytes read and the number of bytes written.
+// Writes U+FFFD for the ill-formed sequence of `len` bytes that the text begins with, and the text
+// of bytes after it; returns the number of bytes read and the number of bytes written.
 fn put_ill_formed<E: Utf16Order>(text: &[u8], len: usize, to: &mut [u8]) -> (usize, usize)
     requires ill_formed { FirstItem text.now 0xFFFD len }
     requires space { 2 ≤ length to.old }
@@ -67,8 +73,36 @@ fn put_ill_formed<E: Utf16Order>(text: &[u8], len: usize, to: &mut [u8]) -> (usi
     ensures some { 0 < result.0 }
 {
     let written = put(&E::write_unit(REPLACEMENT), to, 0);
-    let (read, size) = put_items::<E>(&text[len..], &mut to[written..]);
+    let (read, size) = put_behind::<E>(&text[len..], &mut to[written..]);
     (len + read, written + size)
+}
+
+// Writes the text of bytes that follow an ill-formed sequence: items, up to some well-formed
+// characters, and then blocks, up to the next ill-formed sequence, in turn while a block may follow.
+fn put_behind<E: Utf16Order>(text: &[u8], to: &mut [u8]) -> (usize, usize)
+    ensures { DecodesUtf8To E.BIG text.now to.new result.0 result.1 }
+{
+    let (mut read, mut written) = put_items::<E>(text, to);
+    while text.len() - read >= BLOCK_LEN && to.len() - written >= BLOCK_SPACE {
+        let (len, size) = put_text_blocks::<E>(&text[read..], &mut to[written..]);
+        read += len;
+        written += size;
+        if text.len() - read < ITEM_LEN || to.len() - written < ITEM_LEN {
+            break;
+        }
+        let (len, size) = put_items::<E>(&text[read..], &mut to[written..]);
+        read += len;
+        written += size;
+    }
+    (read, written)
+}
+
+// Writes blocks of text, up to an ill-formed sequence.
+#[inline(always)]
+fn put_text_blocks<E: Utf16Order>(text: &[u8], to: &mut [u8]) -> (usize, usize)
+    ensures { DecodesUtf8To E.BIG text.now to.new result.0 result.1 }
+{
+    write_blocks::<E>(text, to)
 }
 
 /// Writes the whole text of UTF-8 in UTF-16 to the start of a buffer, as far as whole characters

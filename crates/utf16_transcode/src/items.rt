@@ -20,17 +20,21 @@ const RUN: usize = 16;
 
 const ASCII_RUN: usize = 2;
 
+/// The most bytes of an item, in either encoding.
+pub(crate) const ITEM_LEN: usize = 4;
+
 /// Writes the text of the next bytes of UTF-8 in UTF-16 to the start of a buffer, with U+FFFD for
 /// each ill-formed sequence; returns the number of bytes read and the number of bytes written. It
 /// ends after some well-formed characters, or where fewer than four bytes are left of the input or
 /// of the buffer.
 pub(crate) fn put_items<E: Utf16Order>(text: &[u8], to: &mut [u8]) -> (usize, usize)
-    ensures { DecodesUtf8To E.BIG text.now to.new result.0 result.1 }
+    ensures decodes { DecodesUtf8To E.BIG text.now to.new result.0 result.1 }
+    ensures advances { ITEM_LEN ≤ length text.now → ITEM_LEN ≤ length to.old → 0 < result.0 }
 {
     let mut read = 0;
     let mut written = 0;
     let mut run = 0;
-    while run < RUN && text.len() - read >= 4 && to.len() - written >= 4 {
+    while run < RUN && text.len() - read >= ITEM_LEN && to.len() - written >= ITEM_LEN {
         let step = put_step::<E>(&text[read..], &mut to[written..]);
         read += step.read;
         written += step.written;
@@ -52,8 +56,8 @@ struct Step {
 // most, or the first item.
 #[inline(always)]
 fn put_step<E: Utf16Order>(text: &[u8], to: &mut [u8]) -> Step
-    requires bytes { 4 ≤ length text.now }
-    requires space { 4 ≤ length to.old }
+    requires bytes { ITEM_LEN ≤ length text.now }
+    requires space { ITEM_LEN ≤ length to.old }
     ensures decodes { DecodesUtf8To E.BIG text.now to.new result.read result.written }
     ensures advances { 0 < result.read }
     ensures run { result.run ≤ ASCII_RUN }

@@ -17,4 +17,4 @@ replaced g c =
 pub returns-clause-decodes : goal.returns-clause-decodes
 returns-clause-decodes g c =
     let at = goal.at.returns-clause-decodes g c in
-    DecodesUtf8To-rest _ _ _ _ _ _ _ _ (replaced g at.After-put-written) c.put_items-read.ensures (search rules)
+    DecodesUtf8To-rest _ _ _ _ _ _ _ _ (replaced g at.After-put-written) c.put_behind-read.ensures (search rules)

@@ -1,12 +1,18 @@
-use Rattle.std.proofs.Common.{rules}
+use Rattle.std.proofs.Common.{arith, inl, inr, refl, rules}
 use Rattle.utf16_transcode.proofs.DecodesUtf8.{DecodesUtf8To-none, DecodesUtf8To-rest}
 use Rattle.utf16_transcode.proofs.items.put_items.Goals as goal
 
 pub loop-run-init : goal.loop-run-init
-loop-run-init g c = DecodesUtf8To-none _ _ _
+loop-run-init g c = record { decodes = DecodesUtf8To-none _ _ _; begins = inr (refl, refl) }
 
 pub loop-run-preserved : goal.loop-run-preserved
-loop-run-preserved g c = DecodesUtf8To-rest _ _ _ _ _ _ _ _ c.loop-run.invariant c.put_step-step.ensures.decodes (search rules)
+loop-run-preserved g c = record {
+  decodes = DecodesUtf8To-rest _ _ _ _ _ _ _ _ c.loop-run.invariant.decodes c.put_step-step.ensures.decodes (search rules);
+  begins = inl (omega (arith, c.put_step-step.ensures.advances));
+}
 
 pub loop-run-preserved-then-step-eq0 : goal.loop-run-preserved-then-step-eq0
-loop-run-preserved-then-step-eq0 g c = DecodesUtf8To-rest _ _ _ _ _ _ _ _ c.loop-run.invariant c.put_step-step.ensures.decodes (search rules)
+loop-run-preserved-then-step-eq0 g c = record {
+  decodes = DecodesUtf8To-rest _ _ _ _ _ _ _ _ c.loop-run.invariant.decodes c.put_step-step.ensures.decodes (search rules);
+  begins = inl (omega (arith, c.put_step-step.ensures.advances));
+}
