@@ -7,13 +7,15 @@ mod joined;
 mod lossy;
 mod progress;
 mod stream;
+mod transcoding;
 mod utf8;
 mod well_formed;
 
-pub use crate::direction::{Direction, transcode};
+pub use crate::direction::Direction;
 pub use crate::joined::{joined_start, rest_of};
 pub use crate::lossy::{REPLACEMENT, to_utf8_lossy, to_utf8_partial};
 pub use crate::progress::{Progress, Stop, put};
 pub use crate::stream::Stream;
+pub use crate::transcoding::transcode;
 pub use crate::utf8::to_utf8;
 pub use crate::well_formed::write_well_formed;

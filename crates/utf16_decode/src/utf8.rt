@@ -7,8 +7,9 @@ ghost use Rattle.utf16_units.specs.IllFormed.{IsIllFormedAt};
 ghost use Rattle.utf16_decode.specs.Wrote.{TranscodesToUtf8, Wrote};
 ghost use Rattle.utf16_decode.specs.Stops.{IsIllFormedUtf16, StopsDecoding};
 
-use crate::direction::{Direction, transcode};
+use crate::direction::Direction;
 use crate::progress::{Progress, put};
+use crate::transcoding::transcode;
 use std::marker::PhantomData;
 use utf16_to_utf8::{SLACK, write_blocks, write_eight_ascii, write_utf8};
 use utf16_units::ends::{first_char, last_char};

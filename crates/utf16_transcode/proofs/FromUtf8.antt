@@ -1,14 +1,10 @@
 -- From UTF-8 to UTF-16: texts one after another, characters, and the place of an error.
-use Rattle.std.proofs.Common.{◌≡◌, ℕ, zero, suc, replicate, ◌+◌, ◌-◌, ◌*◌, ◌<◌, ◌≤◌, Bool, true, false, List, [], ◌∷◌, ◌++◌, Option, drop_at, length, take, drop, encode_utf8_all, refl, sym, ap, ap₂, ◌∙◌, subst, ⊎_elim, arith, append-nil, append_assoc, length-append, length-drop, length-take, take_all, take_at, take-add, take-append-drop, take-take, le-ltb, slice_index}
-use Rattle.std.specs.Prelude.{◌==◌, min}
-use borrow.Author.Tests.{ne_eqb}
-use Rattle.std.proofs.lemmas.Bool.{cases_lt}
+use Rattle.std.proofs.Common.{◌≡◌, ℕ, zero, suc, replicate, ◌+◌, ◌-◌, ◌*◌, ◌<◌, ◌≤◌, Bool, true, List, [], ◌∷◌, ◌++◌, Option, drop_at, length, take, drop, encode_utf8_all, refl, sym, ap, ap₂, ◌∙◌, subst, arith, append-nil, append_assoc, length-append, length-drop, length-take, take_all, take_at, take-add, take-append-drop, slice_index}
 use Rattle.std.proofs.lemmas.List.{take_more, take_rest}
 use Rattle.std.proofs.lemmas.List.Elements.{All-cons, All-head, All-nil}
-use Rattle.std.proofs.lemmas.Str.{IsCharBoundary-at_seam, IsCharBoundary-from_take, IsUtf8-append, IsUtf8-drop, IsUtf8-encode, IsUtf8-from_ascii, IsUtf8-nil, IsUtf8-take, chars-append, chars-nil, chars-encodes, len_utf8_bounds, length-encode}
+use Rattle.std.proofs.lemmas.Str.{IsCharBoundary-at_seam, IsCharBoundary-from_take, IsUtf8-append, IsUtf8-drop, IsUtf8-encode, IsUtf8-from_ascii, IsUtf8-nil, IsUtf8-take, chars-append, chars-nil, chars-encodes}
 use Rattle.std.specs.Char.{IsScalar, encode_utf8}
 use Rattle.std.specs.Str.{IsAscii, IsUtf8, IsValidUpTo, StartsWithNoChar, all_scalars, chars}
-use Rattle.std.specs.Str.Lossy.{utf8_error_len}
 use Rattle.utf16_units.specs.Encoding.{char_bytes, encode}
 use Rattle.utf16_units.proofs.EncodingLemmas.{All-from_all_scalars, all_scalars-from_All, encode-append, encode-nil, encode-one}
 use Rattle.utf16_units.proofs.IllFormedLemmas.{rest_from}
@@ -107,37 +103,6 @@ valid_to bytes read within front none = record {
 pub faults_there : (text : List ℕ) (read : ℕ) (len : Option ℕ) → read < length text → IsUtf8 (take read text) → IsIllFormedUtf8At (drop read text) len
     → IsIllFormedUtf8 text read len
 faults_there text read len within front here = (valid_to text read within front here.0, here.1)
-
--- ---- four bytes suffice to find the length of an ill-formed sequence
-
-four_tell : (rest : List ℕ) → utf8_error_len (take 4 rest) ≡ utf8_error_len rest
-unfolding utf8_error_len
-four_tell [] = refl
-four_tell (x ∷ []) = refl
-four_tell (x ∷ y ∷ []) = refl
-four_tell (x ∷ y ∷ z ∷ []) = refl
-four_tell (x ∷ y ∷ z ∷ w ∷ more) =
-    let n = length (x ∷ y ∷ z ∷ w ∷ more) in
-    let some : (n == 0) ≡ false = ne_eqb n 0 (omega arith) in
-    rw (some, le-ltb n 2 (omega arith), le-ltb n 3 (omega arith), le-ltb n 4 (omega arith)) refl
-
-pub window_tells : (rest : List ℕ) (m : ℕ) → m ≡ min (length rest) 4 → utf8_error_len (take m rest) ≡ utf8_error_len rest
-window_tells rest m is = ⊎_elim
-    (λ (short : length rest < 4). ap utf8_error_len (take_all m rest (omega arith)))
-    (λ (long : 4 ≤ length rest).
-    let four : m ≡ 4 = omega arith in
-    ap (λ k. utf8_error_len (take k rest)) four ∙ four_tell rest)
-    (cases_lt (length rest) 4)
-
-pub no_char : (rest : List ℕ) (m : ℕ) → m ≡ min (length rest) 4 → IsValidUpTo (take m rest) 0 → StartsWithNoChar rest
-no_char rest m is none c more scalar e =
-    let k = length (encode_utf8 c) in
-    let size = length-encode c in
-    let bounds = len_utf8_bounds c in
-    let within = ap length e ∙ length-append (encode_utf8 c) more in
-    let le : k ≤ m = omega arith in
-    none.longest k (omega arith)
-    (subst IsUtf8 (sym (take-take k m rest le ∙ ap (take k) e ∙ take_at (encode_utf8 c) more k refl)) (IsUtf8-encode c scalar))
 
 -- a valid part, and a valid prefix of what follows it
 pub valid_more : (text : List ℕ) (valid n : ℕ) → IsUtf8 (take valid text) → IsUtf8 (take n (rest_from text valid)) → IsUtf8 (take (valid + n) text)

@@ -56,10 +56,10 @@ FirstItem-part : (part rest : List ℕ) → IsSubpart part rest → FirstItem (p
 FirstItem-part part rest is = FirstItem-subpart (part ++ rest) (length part) is.no_char is.len
 
 -- a test for a third or fourth byte
-follows : (z : ℕ) → is_in_range 0x80 0xBF z ≡ true → Follows z
+pub follows : (z : ℕ) → is_in_range 0x80 0xBF z ≡ true → Follows z
 follows z test = (grind (arith, nat_tests), grind (arith, nat_tests))
 
-follows_not : (z : ℕ) → is_in_range 0x80 0xBF z ≡ false → ¬ (Follows z)
+pub follows_not : (z : ℕ) → is_in_range 0x80 0xBF z ≡ false → ¬ (Follows z)
 follows_not z test is =
     let above = is.0 in
     let below = is.1 in
@@ -68,6 +68,18 @@ follows_not z test is =
 -- whether a character of two bytes or more can begin with these two
 abbrev pub begins_two : ℕ → ℕ → Bool
 begins_two x y = is_in_range 0xC2 0xF4 x && is_in_range (second_byte_min x) (second_byte_max x) y
+
+-- a byte that begins no character with the one after it
+pub not_begun : (x y : ℕ) (rest : List ℕ) → 0x80 ≤ x → begins_two x y ≡ false → IsSubpart (x ∷ []) (y ∷ rest)
+not_begun x y rest high bad = ⊎_elim
+    (λ (low : x < 0xC2). bad_first x (y ∷ rest) high (inl low))
+    (λ (from : 0xC2 ≤ x). ⊎_elim
+    (λ (past : 0xF4 < x). bad_first x (y ∷ rest) high (inr past))
+    (λ (to : x ≤ 0xF4). bad_second x y rest from to (λ second. not_second from to second))
+    (cases_lt 0xF4 x))
+    (cases_lt x 0xC2) where
+      not_second : 0xC2 ≤ x → x ≤ 0xF4 → ¬ (IsSecond x y)
+      not_second from to second = grind (arith, nat_tests)
 
 module _ (x y z w : ℕ) where
   abbrev bytes : List ℕ
@@ -79,15 +91,7 @@ module _ (x y z w : ℕ) where
       FirstItem-char (x ∷ []) (y ∷ z ∷ w ∷ []) x are.scalar are.spelled
 
   pub no_start : 0x80 ≤ x → begins_two x y ≡ false → FirstItem bytes 0xFFFD 1
-  no_start high not_begins = ⊎_elim
-      (λ (low : x < 0xC2). FirstItem-part (x ∷ []) (y ∷ z ∷ w ∷ []) (bad_first x (y ∷ z ∷ w ∷ []) high (inl low)))
-      (λ (from : 0xC2 ≤ x). ⊎_elim
-      (λ (past : 0xF4 < x). FirstItem-part (x ∷ []) (y ∷ z ∷ w ∷ []) (bad_first x (y ∷ z ∷ w ∷ []) high (inr past)))
-      (λ (to : x ≤ 0xF4). FirstItem-part (x ∷ []) (y ∷ z ∷ w ∷ []) (bad_second x y (z ∷ w ∷ []) from to (λ second. not_second from to second)))
-      (cases_lt 0xF4 x))
-      (cases_lt x 0xC2) where
-        not_second : 0xC2 ≤ x → x ≤ 0xF4 → ¬ (IsSecond x y)
-        not_second from to second = grind (arith, nat_tests)
+  no_start high bad = FirstItem-part (x ∷ []) (y ∷ z ∷ w ∷ []) (not_begun x y (z ∷ w ∷ []) high bad)
 
   module _ (begins : begins_two x y ≡ true) where
     pub from : 0xC2 ≤ x

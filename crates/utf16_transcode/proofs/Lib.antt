@@ -7,3 +7,4 @@ pub mod ItemLemmas
 pub mod DecodedText
 pub mod FeedsUtf8
 pub mod AsciiFront
+pub mod NoCharLemmas

@@ -1,6 +1,6 @@
 //! UTF-8 to UTF-16, up to the first ill-formed sequence.
 
-ghost use Rattle.std.specs.Prelude.{◌≡◌, ◌&&◌, ◌||◌, ◌+◌, ◌-◌, ◌*◌, ◌<◌, ◌≤◌, ◌++◌, IfErr, IfOk, IfSome, length, nat_lt, slice_index, take};
+ghost use Rattle.std.specs.Prelude.{◌≡◌, ◌&&◌, ◌+◌, ◌-◌, ◌*◌, ◌<◌, ◌≤◌, [], ◌∷◌, ◌++◌, IfErr, IfOk, IfSome, length, take};
 ghost use Rattle.std.specs.Char.{encode_utf8};
 ghost use Rattle.std.specs.Int.{is_in_range};
 ghost use Rattle.std.specs.Str.{IsUtf8, chars};
@@ -90,7 +90,10 @@ impl<E: Utf16Order> Direction for FromUtf8<E> {
 
     #[inline(always)]
     fn usual_char(rest: &[u8]) -> Option<(char, usize)> {
-        usual_char(rest)
+        if rest.is_empty() {
+            return None;
+        }
+        first_char(rest).ok()
     }
 
     #[inline(always)]
@@ -128,10 +131,6 @@ impl<E: Utf16Order> Direction for FromUtf8<E> {
 
     #[inline(always)]
     fn write_front(rest: &[u8], to: &mut [u8]) -> (usize, usize) {
-        // Behind an ill-formed sequence there is often another.
-        if !may_begin(rest) {
-            return (0, 0);
-        }
         write_blocks::<E>(rest, to)
     }
 }
@@ -184,9 +183,6 @@ fn valid_len(text: &[u8]) -> usize
     ensures within { result ≤ length text.now }
     ensures well_formed { IsUtf8 (take result text.now) }
 {
-    if !may_begin(text) {
-        return 0;
-    }
     if text.len() <= FIRST {
         return valid_prefix(text);
     }
@@ -209,23 +205,6 @@ fn first_len(text: &[u8]) -> usize
         len -= 1;
     }
     if text[len - 1] < 0xC0 { len } else { len - 1 }
-}
-
-// Whether a text may begin with these bytes, by the first two.
-#[inline(always)]
-fn may_begin(text: &[u8]) -> bool
-    ensures { result ≡ (nat_lt (length text.now) 2 || nat_lt (slice_index text.now 0) 0x80
-        || (is_in_range 0xC2 0xF4 (slice_index text.now 0)
-        && is_in_range (second_byte_min (slice_index text.now 0))
-        (second_byte_max (slice_index text.now 0)) (slice_index text.now 1))) }
-{
-    if text.len() < 2 {
-        return true;
-    }
-    if text[0] < 0x80 {
-        return true;
-    }
-    can_begin(text[0], text[1])
 }
 
 // Whether a character of two bytes or more can begin with these two (Unicode Standard, table 3-7).
@@ -252,30 +231,17 @@ pub(crate) fn can_begin(lead: u8, second: u8) -> bool
     (0xC2..=0xF4).contains(&lead) && (least..=most).contains(&second)
 }
 
-// Returns the first character and its length in bytes, or the `error_len` of what is there instead.
-#[inline]
+// Returns the first character and its length in bytes, or the `error_len` of what is there instead
+// (Unicode Standard, table 3-7).
+#[inline(always)]
 fn first_char(rest: &[u8]) -> Result<(char, usize), Option<u8>>
     requires { 0 < length rest.now }
     ensures char { IfOk result (λ first. BeginsWith encode_utf8 rest.now first.0 first.1) }
     ensures ill_formed { IfErr result (IsIllFormedUtf8At rest.now) }
 {
-    match usual_char(rest) {
-        Some(first) => Ok(first),
-        None => first_of_four(rest),
-    }
-}
-
-// Returns the first character and its length in bytes; `None` if there is none.
-#[inline(always)]
-fn usual_char(rest: &[u8]) -> Option<(char, usize)>
-    ensures { IfSome result (λ first. BeginsWith encode_utf8 rest.now first.0 first.1) }
-{
-    if rest.is_empty() {
-        return None;
-    }
     let lead = rest[0];
     if lead < 0x80 {
-        return Some((lead as char, 1));
+        return Ok((lead as char, 1));
     }
     // Most characters of three bytes, by the fewest tests.
     if rest.len() >= 3
@@ -283,58 +249,44 @@ fn usual_char(rest: &[u8]) -> Option<(char, usize)>
         && is_continuation(rest[1])
         && is_continuation(rest[2])
     {
-        return Some((char_of_three(lead, rest[1], rest[2]), 3));
+        return Ok((char_of_three(lead, rest[1], rest[2]), 3));
     }
-    if rest.len() < 2 || !can_begin(lead, rest[1]) {
-        return None;
+    if rest.len() < 2 {
+        return Err(error_len_of_one(lead));
+    }
+    if !can_begin(lead, rest[1]) {
+        return Err(Some(1));
     }
     if lead < 0xE0 {
-        return Some((char_of_two(lead, rest[1]), 2));
+        return Ok((char_of_two(lead, rest[1]), 2));
     }
-    if rest.len() < 3 || !is_continuation(rest[2]) {
-        return None;
+    if rest.len() < 3 {
+        return Err(None);
+    }
+    if !is_continuation(rest[2]) {
+        return Err(Some(2));
     }
     if lead < 0xF0 {
-        return Some((char_of_three(lead, rest[1], rest[2]), 3));
+        return Ok((char_of_three(lead, rest[1], rest[2]), 3));
     }
-    if rest.len() < 4 || !is_continuation(rest[3]) {
-        return None;
+    if rest.len() < 4 {
+        return Err(None);
     }
-    Some((char_of_four(lead, rest[1], rest[2], rest[3]), 4))
+    if !is_continuation(rest[3]) {
+        return Err(Some(3));
+    }
+    Ok((char_of_four(lead, rest[1], rest[2], rest[3]), 4))
 }
 
-// Does the same as `first_char`. Four bytes suffice for it. A function of its own, since few inputs
-// need it.
-#[inline(never)]
-fn first_of_four(rest: &[u8]) -> Result<(char, usize), Option<u8>>
-    requires { 0 < length rest.now }
-    ensures char { IfOk result (λ first. BeginsWith encode_utf8 rest.now first.0 first.1) }
-    ensures ill_formed { IfErr result (IsIllFormedUtf8At rest.now) }
+// Returns the `error_len` of a single byte that is not ASCII: `None` if it can begin a character.
+#[inline(always)]
+fn error_len_of_one(lead: u8) -> Option<u8>
+    requires { 0x80 ≤ lead }
+    ensures { IsIllFormedUtf8At (lead ∷ []) result }
 {
-    let window = &rest[..rest.len().min(4)];
-    match str::from_utf8(window) {
-        Ok(text) => Ok(first_of(text)),
-        Err(error) => {
-            let len = error.valid_up_to();
-            if len == 0 {
-                return match error.error_len() {
-                    Some(len) => Err(Some(len as u8)),
-                    None => Err(None),
-                };
-            }
-            Ok(first_of(unsafe { str::from_utf8_unchecked(&window[..len]) }))
-        }
-    }
-}
-
-// Returns the first character of a text and its length in bytes.
-fn first_of(text: &str) -> (char, usize)
-    requires { 0 < length text.now }
-    ensures { BeginsWith encode_utf8 text.now result.0 result.1 }
-{
-    let mut chars = text.chars();
-    match chars.next() {
-        Some(c) => (c, c.len_utf8()),
-        None => ('\0', 0),
+    if (0xC2..=0xF4).contains(&lead) {
+        None
+    } else {
+        Some(1)
     }
 }

@@ -1,6 +1,6 @@
 use Rattle.std.proofs.Common.{refl, rules}
 use Rattle.utf16_decode.proofs.WroteLemmas.{Puts-put}
-use Rattle.utf16_decode.proofs.direction.put_front.Goals as goal
+use Rattle.utf16_decode.proofs.transcoding.put_front.Goals as goal
 
 pub returns : goal.returns
 returns g c =

@@ -1,6 +1,6 @@
 use Rattle.std.proofs.Common.{refl}
 use Rattle.utf16_decode.proofs.WroteLemmas.{Puts-none, Puts-then}
-use Rattle.utf16_decode.proofs.direction.put_chars.Goals as goal
+use Rattle.utf16_decode.proofs.transcoding.put_chars.Goals as goal
 
 pub loop-read-init : goal.loop-read-init
 loop-read-init g c = Puts-none c.laws.ensures.of_nothing c.args.rest.now _ _ c.args.at c.requires refl

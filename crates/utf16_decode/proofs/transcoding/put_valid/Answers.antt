@@ -1,6 +1,6 @@
 use Rattle.std.proofs.Common.{arith, refl, rules}
 use Rattle.utf16_decode.proofs.WroteLemmas.{Puts-none, Puts-put, enough}
-use Rattle.utf16_decode.proofs.direction.put_valid.Goals as goal
+use Rattle.utf16_decode.proofs.transcoding.put_valid.Goals as goal
 
 pub returns-then-len-eq0 : goal.returns-then-len-eq0
 returns-then-len-eq0 g c = Puts-none c.laws.ensures.of_nothing c.args.rest.now _ _ c.args.at (omega (arith, c.requires)) refl

@@ -1,7 +1,7 @@
 use Rattle.std.proofs.Common.{◌+◌, sym, subst, rules}
 use Rattle.utf16_decode.specs.Wrote.{Gives, Wrote}
 use Rattle.utf16_decode.proofs.WroteLemmas.{Wrote-none, Wrote-then, stops_there}
-use Rattle.utf16_decode.proofs.direction.transcode_many.Goals as goal
+use Rattle.utf16_decode.proofs.transcoding.transcode_many.Goals as goal
 
 pub loop-read-init : goal.loop-read-init
 loop-read-init g c = Wrote-none c.laws.ensures.of_nothing _ _

@@ -1,6 +1,6 @@
 use Rattle.utf16_decode.specs.Wrote.{Gives}
 use Rattle.utf16_decode.proofs.WroteLemmas.{Wrote-then, first_gives}
-use Rattle.utf16_decode.proofs.direction.put_usual.Goals as goal
+use Rattle.utf16_decode.proofs.transcoding.put_usual.Goals as goal
 
 pub loop-read-preserved : goal.loop-read-preserved
 loop-read-preserved g c =

@@ -1,6 +1,6 @@
 use Rattle.std.proofs.Common.{◌-◌, length}
 use Rattle.utf16_decode.specs.Wrote.{Gives, Wrote}
-use Rattle.utf16_decode.proofs.direction.put_usual.Given as goal
+use Rattle.utf16_decode.proofs.transcoding.put_usual.Given as goal
 
 -- what was read so far is written
 abbrev pub invariant-loop-read : goal.invariant-loop-read

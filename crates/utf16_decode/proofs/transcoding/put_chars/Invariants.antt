@@ -1,6 +1,6 @@
 use Rattle.std.proofs.Common.{◌-◌, length}
 use Rattle.utf16_decode.specs.Wrote.{Gives, Puts}
-use Rattle.utf16_decode.proofs.direction.put_chars.Given as goal
+use Rattle.utf16_decode.proofs.transcoding.put_chars.Given as goal
 
 -- the characters so far are written
 abbrev pub invariant-loop-read : goal.invariant-loop-read

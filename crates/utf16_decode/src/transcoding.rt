@@ -1,0 +1,292 @@
+//! Transcoding from one encoding to the other, up to the first ill-formed sequence or as far as
+//! whole characters fit.
+
+ghost use Rattle.std.specs.Prelude.{◌≡◌, ◌≤◌, ◌<◌, ◌+◌, ◌-◌, ◌⊎◌, ℕ, IfErr, IfOk, IfSome, length};
+ghost use Rattle.utf16_decode.specs.Stops.{BeginsWith, Stops, StopsHere};
+ghost use Rattle.utf16_decode.specs.Wrote.{Gives, Puts, Wrote};
+
+use crate::direction::Direction;
+use crate::progress::{Progress, Stop, put};
+
+// The most bytes that are validated and then written, and the length of a buffer on the stack for
+// them: what `write` needs in both directions; and the same of fewer bytes.
+const LEFT_LEN: usize = 256;
+
+const BUFFER_LEN: usize = 528;
+
+const FEW_LEN: usize = 32;
+
+const FEW_BUFFER_LEN: usize = 176;
+
+// Fewer bytes than these are written character by character, and so are bytes for which there is
+// less space than this.
+const VERY_FEW: usize = 8;
+
+const BY_CHARS: usize = 16;
+
+/// Writes the longest valid prefix in the second encoding to the start of a buffer, as far as whole
+/// characters fit.
+#[inline(always)]
+pub fn transcode<D: Direction>(input: &[u8], to: &mut [u8]) -> Progress
+    ensures wrote { Wrote (Gives D.IsValid D.other) input.now to.new result.read result.written }
+    ensures stop { Stops D.from D.into D.IsIllFormed input.now result.read
+        (length to.new - result.written) result.stop }
+{
+    D::laws();
+    if input.len() < D::SHORT_LEN
+        && let Some(written) = put_usual::<D>(input, to)
+    {
+        return Progress {
+            read: input.len(),
+            written,
+            stop: Stop::Done,
+        };
+    }
+    // Behind an ill-formed sequence there is often another.
+    if !input.is_empty()
+        && let Err(stop) = first_char::<D>(input)
+    {
+        return Progress {
+            read: 0,
+            written: 0,
+            stop,
+        };
+    }
+    transcode_many::<D>(input, to)
+}
+
+// Writes the whole input character by character, and returns where the written bytes end; `None` if
+// it is not all usual characters that fit.
+#[inline(always)]
+fn put_usual<D: Direction>(input: &[u8], to: &mut [u8]) -> Option<usize>
+    ensures { IfSome result (Wrote (Gives D.IsValid D.other) input.now to.new (length input.now)) }
+{
+    D::laws();
+    let (mut read, mut written) = D::begin_short(input, to)?;
+    while read < input.len() {
+        let (c, len) = D::usual_char(&input[read..])?;
+        written = D::put_char(c, to, written)?;
+        read += len;
+    }
+    Some(written)
+}
+
+// Does the same, as much at once as surely fits. Not inlined, so that short inputs stay cheap.
+#[inline(never)]
+fn transcode_many<D: Direction>(input: &[u8], to: &mut [u8]) -> Progress
+    ensures wrote { Wrote (Gives D.IsValid D.other) input.now to.new result.read result.written }
+    ensures stop { Stops D.from D.into D.IsIllFormed input.now result.read
+        (length to.new - result.written) result.stop }
+{
+    D::laws();
+    let mut read = 0;
+    let mut written = 0;
+    while read < input.len() {
+        let (len, end) = put_piece::<D>(&input[read..], to, written);
+        read += len;
+        written = end;
+        if read == input.len() {
+            break;
+        }
+        match put_char::<D>(&input[read..], to, written) {
+            Ok((len, end)) => {
+                read += len;
+                written = end;
+            }
+            Err(stop) => {
+                return Progress {
+                    read,
+                    written,
+                    stop,
+                };
+            }
+        }
+    }
+    Progress {
+        read,
+        written,
+        stop: Stop::Done,
+    }
+}
+
+// Writes a valid prefix of the bytes, perhaps an empty one, at `at`; returns how many bytes of it
+// were read, and where the written bytes end. The bytes are validated while they are written, as
+// far as possible, and a few behind these before it.
+fn put_piece<D: Direction>(rest: &[u8], to: &mut [u8], at: usize) -> (usize, usize)
+    requires { at ≤ length to.old }
+    ensures { Puts (Gives D.IsValid D.other) rest.now to.old to.new at result.0 result.1 }
+{
+    D::laws();
+    let (read, written) = put_front::<D>(rest, to, at);
+    if read == rest.len() {
+        return (read, written);
+    }
+    let (len, end) = put_left::<D>(&rest[read..], to, written);
+    (read + len, end)
+}
+
+// Does the same, and validates the bytes while it writes them.
+#[inline(always)]
+fn put_front<D: Direction>(rest: &[u8], to: &mut [u8], at: usize) -> (usize, usize)
+    requires { at ≤ length to.old }
+    ensures { Puts (Gives D.IsValid D.other) rest.now to.old to.new at result.0 result.1 }
+{
+    D::laws();
+    if rest.len() < D::FRONT_LEN {
+        return (0, at);
+    }
+    let (read, written) = D::write_front(rest, &mut to[at..]);
+    (read, at + written)
+}
+
+// Does the same for a few bytes, and validates them before it writes them: directly to their place
+// if they surely fit there.
+fn put_left<D: Direction>(rest: &[u8], to: &mut [u8], at: usize) -> (usize, usize)
+    requires { at ≤ length to.old }
+    ensures { Puts (Gives D.IsValid D.other) rest.now to.old to.new at result.0 result.1 }
+{
+    D::laws();
+    if rest.len() < VERY_FEW {
+        return put_chars::<D>(rest, to, at);
+    }
+    let len = rest.len().min(LEFT_LEN);
+    if len <= D::surely_fit(to.len() - at) {
+        return put_valid::<D>(&rest[..len], to, at);
+    }
+    put_few::<D>(rest, to, at)
+}
+
+// Does the same for bytes that surely fit.
+#[inline(always)]
+fn put_valid<D: Direction>(rest: &[u8], to: &mut [u8], at: usize) -> (usize, usize)
+    requires { at + D.room_for (length rest.now) ≤ length to.old }
+    ensures { Puts (Gives D.IsValid D.other) rest.now to.old to.new at result.0 result.1 }
+{
+    D::laws();
+    let len = D::valid_len(rest);
+    if len == 0 {
+        return (0, at);
+    }
+    let written = D::write(&rest[..len], &mut to[at..]);
+    (len, at + written)
+}
+
+// Does the same for a few bytes, as far as they fit; one by one if there is little space.
+fn put_few<D: Direction>(rest: &[u8], to: &mut [u8], at: usize) -> (usize, usize)
+    requires some { 2 ≤ length rest.now }
+    requires within { at ≤ length to.old }
+    ensures { Puts (Gives D.IsValid D.other) rest.now to.old to.new at result.0 result.1 }
+{
+    D::laws();
+    let room = to.len() - at;
+    if room < BY_CHARS {
+        return put_chars::<D>(rest, to, at);
+    }
+    let most = D::likely_fit(rest, room).min(LEFT_LEN).min(rest.len());
+    let len = D::valid_len(&rest[..most]);
+    put_text::<D>(&rest[..len], to, at)
+}
+
+// Does the same for a few bytes of text, as far as they fit.
+fn put_text<D: Direction>(text: &[u8], to: &mut [u8], at: usize) -> (usize, usize)
+    requires well_formed { D.IsValid text.now }
+    requires few { length text.now ≤ LEFT_LEN }
+    requires within { at ≤ length to.old }
+    ensures bytes { Puts (Gives D.IsValid D.other) text.now to.old to.new at result.0 result.1 }
+    ensures most { (result.0 ≡ length text.now) ⊎ (length to.new - result.1 < 4) }
+{
+    D::laws();
+    if text.len() <= FEW_LEN {
+        put_through::<D>(text, &mut [0; FEW_BUFFER_LEN], to, at)
+    } else {
+        put_through::<D>(text, &mut [0; BUFFER_LEN], to, at)
+    }
+}
+
+// Does the same through a buffer, as far as the text fits.
+#[inline(always)]
+fn put_through<D: Direction>(
+    text: &[u8],
+    buf: &mut [u8],
+    to: &mut [u8],
+    at: usize,
+) -> (usize, usize)
+    requires well_formed { D.IsValid text.now }
+    requires space { D.room_for (length text.now) ≤ length buf.old }
+    requires within { at ≤ length to.old }
+    ensures bytes { Puts (Gives D.IsValid D.other) text.now to.old to.new at result.0 result.1 }
+    ensures most { (result.0 ≡ length text.now) ⊎ (length to.new - result.1 < 4) }
+{
+    let len = D::write(text, buf);
+    let (read, end) = prefix_for::<D>(text, &buf[..len], to.len() - at);
+    (read, put(&buf[..end], to, at))
+}
+
+// Returns how much of a text fits in `room` bytes in the second encoding: the number of bytes of
+// the text, and the number of bytes that they take.
+#[inline(always)]
+fn prefix_for<D: Direction>(text: &[u8], written: &[u8], room: usize) -> (usize, usize)
+    requires { Gives D.IsValid D.other text.now written.now }
+    ensures prefix { Wrote (Gives D.IsValid D.other) text.now written.now result.0 result.1 }
+    ensures fits { result.1 ≤ room }
+    ensures most { (result.0 ≡ length text.now) ⊎ (room < result.1 + 4) }
+{
+    if written.len() <= room {
+        (text.len(), written.len())
+    } else {
+        D::fitting_prefix(text, written, room)
+    }
+}
+
+// Writes the valid characters at the start of the bytes one by one, as far as they fit.
+fn put_chars<D: Direction>(rest: &[u8], to: &mut [u8], at: usize) -> (usize, usize)
+    requires { at ≤ length to.old }
+    ensures { Puts (Gives D.IsValid D.other) rest.now to.old to.new at result.0 result.1 }
+{
+    D::laws();
+    let mut read = 0;
+    let mut written = at;
+    while read < rest.len() {
+        let Ok((len, end)) = put_char::<D>(&rest[read..], to, written) else {
+            break;
+        };
+        read += len;
+        written = end;
+    }
+    (read, written)
+}
+
+// Writes the first character at `at`, or returns why it cannot.
+#[inline(always)]
+fn put_char<D: Direction>(rest: &[u8], to: &mut [u8], at: usize) -> Result<(usize, usize), Stop>
+    requires not_empty { 0 < length rest.now }
+    requires within { at ≤ length to.old }
+    ensures wrote { IfOk result (λ r.
+        Puts (Gives D.IsValid D.other) rest.now to.old to.new at r.0 r.1) }
+    ensures advances { IfOk result (λ r. 0 < r.0) }
+    ensures stop { IfErr result (StopsHere D.from D.into D.IsIllFormedAt rest.now
+        (length to.new - at)) }
+    ensures unchanged { IfErr result (λ _. to.new ≡ to.old) }
+{
+    D::laws();
+    let (c, len) = first_char::<D>(rest)?;
+    match D::put_char(c, to, at) {
+        Some(end) => Ok((len, end)),
+        None => Err(Stop::NoRoom),
+    }
+}
+
+// Returns the first character and its length in bytes, or why a call stops there.
+#[inline(always)]
+fn first_char<D: Direction>(rest: &[u8]) -> Result<(char, usize), Stop>
+    requires { 0 < length rest.now }
+    ensures char { IfOk result (λ first. BeginsWith D.from rest.now first.0 first.1) }
+    ensures stop { IfErr result (λ stop. (left : ℕ)
+        → StopsHere D.from D.into D.IsIllFormedAt rest.now left stop) }
+{
+    match D::first_char(rest) {
+        Ok(first) => Ok(first),
+        Err(Some(len)) => Err(Stop::IllFormed(len)),
+        Err(None) => Err(Stop::Incomplete),
+    }
+}
