@@ -1,5 +1,5 @@
 -- The longest valid prefix of bytes, and the ill-formed sequence after it.
-use Rattle.std.specs.Prelude.{◌≡◌, ◌≢◌, ◌++◌, ℕ, zero, suc, ◌≤◌, Bool, true, false, ◌&&◌, List, [], ◌∷◌, Option, None, Some, length, take, drop, nat_le, if◌then◌else◌}
+use Rattle.std.specs.Prelude.{◌≡◌, ◌≢◌, ◌++◌, ℕ, zero, suc, ◌<◌, ◌≤◌, Bool, true, false, ◌&&◌, List, [], ◌∷◌, Option, None, Some, length, take, drop, nat_le, if◌then◌else◌}
 use Rattle.utf16_units.specs.Unit.{IsLeading, unit_of}
 use Rattle.std.specs.Char.{IsScalar}
 use Rattle.std.specs.Option.{ForSome}
@@ -61,6 +61,12 @@ pub record BeginsWithChar (big : Bool) (bytes : List ℕ) (n : ℕ) : Type 0 whe
 -- no prefix of the bytes is one character
 abbrev pub BeginsWithNoChar : Bool → List ℕ → Type 0
 BeginsWithNoChar big bytes = (c : ℕ) (rest : List ℕ) → IsScalar c → bytes ≢ char_bytes big c ++ rest
+
+-- the first n bytes are well formed, and no character begins after them
+pub record IsTextUpTo (big : Bool) (bytes : List ℕ) (n : ℕ) : Type 0 where
+  pub within : n ≤ length bytes
+  pub text : IsUtf16 big (take n bytes)
+  pub stops : n < length bytes → BeginsWithNoChar big (drop n bytes)
 
 -- no character begins here, and the error length says whether more bytes could make one
 abbrev pub IsIllFormedAt : Bool → List ℕ → Option ℕ → Type 0

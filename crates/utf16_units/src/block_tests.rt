@@ -4,7 +4,7 @@
 ghost use Rattle.std.specs.Prelude.{IsTrue};
 
 use crate::lanes::{high_bytes16, high_bytes32, is_ascii_block, paired, trailing_bits};
-use crate::validate::validate_units;
+use crate::validate::valid_len_from;
 use crate::{BE, LE, Utf16Error, Utf16Order, validate_raw_utf16};
 use std::process::Abort;
 use std::simd::prelude::*;
@@ -69,9 +69,9 @@ fn blocks_in_both_orders(rt: HostRuntime) {
     blocks_are::<BE>(&rt);
 }
 
-// Validates unit by unit, starting at the first one.
-fn by_units<E: Utf16Order>(raw: &[u8]) -> Result<(), Utf16Error> {
-    validate_units::<E>(raw, 0)
+// The length of the longest valid prefix, unit by unit.
+fn by_units<E: Utf16Order>(raw: &[u8]) -> usize {
+    valid_len_from::<E>(raw, 0)
 }
 
 // The fields of the error, if there is one.
@@ -179,7 +179,11 @@ fn row_is<E: Utf16Order>(
     buf[letters * 2..end].copy_from_slice(bytes);
     let raw = &buf[..end + more * 2];
     holds(rt, fields(validate_raw_utf16::<E>(raw)) == wanted);
-    holds(rt, fields(by_units::<E>(raw)) == wanted);
+    let wanted_len = match wanted {
+        None => raw.len(),
+        Some((len, _)) => len,
+    };
+    holds(rt, by_units::<E>(raw) == wanted_len);
 }
 
 fn rows_are(rt: &impl Abort, rows: &[Row]) {

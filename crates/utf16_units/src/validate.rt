@@ -2,7 +2,7 @@
 
 ghost use Rattle.std.specs.Prelude.{◌≡◌, ◌↔◌, ◌⊎◌, ◌+◌, ◌%◌, ◌<◌, ◌≤◌, false, length, slice_index, take, IsOk, IfOk, IfErr, IsTrue};
 ghost use Rattle.utf16_units.specs.Encoding.{IsUtf16, units_of};
-ghost use Rattle.utf16_units.specs.IllFormed.{BeginsWithChar, IsIllFormedAt};
+ghost use Rattle.utf16_units.specs.IllFormed.{BeginsWithChar, BeginsWithNoChar, IsIllFormedAt, IsTextUpTo};
 ghost use Rattle.utf16_units.specs.Lanes.{HasNoSurrogate, IsNoSurrogate, PairedTo, PassedTo, BlocksStopAt};
 ghost use Rattle.utf16_units.specs.Unit.{unit_of};
 ghost use Rattle.utf16_units.specs.Utf16Error.{IsErrorOf};
@@ -32,32 +32,47 @@ pub fn validate_raw_utf16<E: Utf16Order>(raw: &[u8]) -> Result<(), Utf16Error>
     if is_short_plain::<E>(raw) {
         return Ok(());
     }
-    validate_any::<E>(raw)
+    let valid_up_to = valid_len::<E>(raw);
+    if valid_up_to == raw.len() {
+        return Ok(());
+    }
+    Err(Utf16Error {
+        valid_up_to,
+        error_len: error_len::<E>(&raw[valid_up_to..]),
+    })
 }
 
-// Does the same. A function of its own, so that short texts do not pay for its registers. Where the
-// first surrogate is unpaired, pairs are not looked for.
+// The `error_len` of what is at the start of the rest, where no character begins.
 #[inline(never)]
-fn validate_any<E: Utf16Order>(raw: &[u8]) -> Result<(), Utf16Error>
-    ensures ok { IsOk result ↔ IsUtf16 E.BIG raw.now }
-    ensures error { IfErr result (IsErrorOf E.BIG raw.now) }
+fn error_len<E: Utf16Order>(rest: &[u8]) -> Option<u8>
+    requires { 0 < length rest.now }
+    ensures { BeginsWithNoChar E.BIG rest.now → IsIllFormedAt E.BIG rest.now result }
+{
+    match first_char_len::<E>(rest) {
+        Ok(_) => None,
+        Err(error_len) => error_len,
+    }
+}
+
+// The length of the longest valid prefix. A function of its own, so that short texts do not pay for
+// its registers. Where the first surrogate is unpaired, pairs are not looked for.
+#[inline(never)]
+fn valid_len<E: Utf16Order>(raw: &[u8]) -> usize
+    ensures { IsTextUpTo E.BIG raw.now result }
 {
     if raw.len() < 32 {
-        return validate_units::<E>(raw, 0);
+        return valid_len_from::<E>(raw, 0);
     }
     let front = plain_front::<E>(raw);
     if raw.len() - front > 64 {
         let first = front + plain_prefix_len::<E>(&raw[front..]);
-        if let Err(error_len) = first_char_len::<E>(&raw[first..]) {
-            return Err(Utf16Error {
-                valid_up_to: first,
-                error_len,
-            });
+        if let Err(_) = first_char_len::<E>(&raw[first..]) {
+            return first;
         }
     }
     let passed = passed_blocks::<E>(raw, front);
     let plain = plain_prefix_len::<E>(&raw[passed..]);
-    validate_units::<E>(raw, passed + plain)
+    valid_len_from::<E>(raw, passed + plain)
 }
 
 /// Returns the number of bytes before the first surrogate of the first sixty-four bytes: 64 if they
@@ -268,28 +283,22 @@ fn paired_half_block<E: Utf16Order>(raw: &[u8], at: usize, leading: bool) -> (us
     }
 }
 
-// The same validation unit by unit, starting at the end of a well-formed prefix. Inlined at each
-// call: that for short fields starts at 0, and costs them what it would without blocks.
+// The same unit by unit, starting at the end of a well-formed prefix. Inlined at each call: that for
+// short fields starts at 0, and costs them what it would without blocks.
 #[inline(always)]
-pub(crate) fn validate_units<E: Utf16Order>(raw: &[u8], from: usize) -> Result<(), Utf16Error>
+pub(crate) fn valid_len_from<E: Utf16Order>(raw: &[u8], from: usize) -> usize
     requires within { from ≤ length raw.now }
     requires well_formed_before { IsUtf16 E.BIG (take from raw.now) }
-    ensures ok { IsOk result ↔ IsUtf16 E.BIG raw.now }
-    ensures error { IfErr result (IsErrorOf E.BIG raw.now) }
+    ensures { IsTextUpTo E.BIG raw.now result }
 {
-    let mut valid_up_to = from;
-    while valid_up_to < raw.len() {
-        match first_char_len::<E>(&raw[valid_up_to..]) {
-            Ok(len) => valid_up_to += len,
-            Err(error_len) => {
-                return Err(Utf16Error {
-                    valid_up_to,
-                    error_len,
-                });
-            }
+    let mut at = from;
+    while at < raw.len() {
+        match first_char_len::<E>(&raw[at..]) {
+            Ok(len) => at += len,
+            Err(_) => return at,
         }
     }
-    Ok(())
+    at
 }
 
 /// Returns the number of bytes of the character at the start of `rest`, 2 or 4.
