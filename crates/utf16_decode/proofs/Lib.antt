@@ -8,3 +8,4 @@ pub mod LossyLemmas
 pub mod PrefixLemmas
 pub mod StreamSteps
 pub mod ToUtf8
+pub mod AsciiLemmas

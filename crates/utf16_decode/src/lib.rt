@@ -2,6 +2,7 @@
 //! sequence, lossy with U+FFFD for each, and as a stream that comes in chunks.
 #![tactic(auto)]
 
+mod ascii;
 mod direction;
 mod joined;
 mod lossy;

@@ -8,6 +8,7 @@ ghost use Rattle.utf16_decode.specs.Stops.{StopsLossy, StopsLossyWhole};
 ghost use Rattle.utf16_decode.specs.Wrote.{DecodesTo};
 ghost use Rattle.utf16_decode.specs.declared.progress.Stop.TheVariants.{NoRoom};
 
+use crate::ascii::put_ascii_blocks;
 use crate::progress::{Progress, Stop, put};
 use crate::utf8::to_utf8;
 use crate::well_formed::write_well_formed;
@@ -126,9 +127,10 @@ fn put_well_formed<E: Utf16Order>(raw: &[u8], to: &mut [u8]) -> (usize, usize)
     write_blocks::<E>(raw, to)
 }
 
-// Writes the text of the next bytes to the start of a buffer: of the units before the first
-// surrogate and U+FFFD if it is unpaired, else of a copy, and of a longer copy if there are many
-// ill-formed sequences. Returns the number of bytes read and the number of bytes written.
+// Writes the text of the next bytes to the start of a buffer: of blocks of ASCII with U+FFFD in
+// them; else of the units before the first surrogate and U+FFFD if it is unpaired; else of a copy,
+// and of a longer copy if there are many ill-formed sequences. Returns the number of bytes read and
+// the number of bytes written.
 #[inline(always)]
 fn put_ill_formed<E: Utf16Order>(raw: &[u8], to: &mut [u8], many: bool) -> (usize, usize)
     requires bytes { BLOCKS_LEN ≤ length raw.now }
@@ -136,6 +138,12 @@ fn put_ill_formed<E: Utf16Order>(raw: &[u8], to: &mut [u8], many: bool) -> (usiz
     ensures decodes { DecodesTo E.BIG raw.now to.new result.0 result.1 }
     ensures advances { 0 < result.0 }
 {
+    if E::read_unit([raw[0], raw[1]]) < 0x80 {
+        let (read, written) = put_ascii_blocks::<E>(raw, to);
+        if read > 0 {
+            return (read, written);
+        }
+    }
     if many {
         return put_copied::<E, COPIED_CLOSE>(raw, to);
     }

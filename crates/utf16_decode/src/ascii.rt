@@ -1,0 +1,117 @@
+//! ASCII with unpaired surrogates in it, in blocks of thirty-two code units.
+
+ghost use Rattle.std.specs.Prelude.{◌≡◌, ◌*◌, ◌<◌, ◌≤◌, ◌==◌, ℕ, All, IfSome, bit_and, length, map, min, slice_index, take};
+ghost use Rattle.std.specs.Simd.Lanes.{mask_l};
+ghost use Rattle.utf16_units.specs.Encoding.{units_of};
+ghost use Rattle.utf16_units.specs.Lanes.{HasLanes};
+ghost use Rattle.utf16_decode.specs.Wrote.{DecodesTo, TranscodesToUtf8};
+
+use crate::lossy::REPLACEMENT;
+use crate::progress::put;
+use std::simd::prelude::*;
+use utf16_units::blocks::units32;
+use utf16_units::{Utf16Order, first_char_len};
+
+// The number of code units of a block.
+const BLOCK: usize = 32;
+
+// Writes blocks of ASCII to the start of a buffer, with U+FFFD for each unpaired surrogate in them,
+// until another character comes. Returns the number of bytes read and the number of bytes written.
+// A function of its own, so that its loop has all registers.
+#[inline(never)]
+pub(crate) fn put_ascii_blocks<E: Utf16Order>(raw: &[u8], to: &mut [u8]) -> (usize, usize)
+    requires bytes { 66 ≤ length raw.now }
+    requires space { 35 ≤ length to.old }
+    ensures { DecodesTo E.BIG raw.now to.new result.0 result.1 }
+{
+    let last = raw.len() - 66;
+    let most = to.len() - 35;
+    let mut read = 0;
+    let mut written = 0;
+    while read <= last && written <= most {
+        let Some((len, size)) = put_ascii_block::<E>(&raw[read..], &mut to[written..]) else {
+            break;
+        };
+        read += len;
+        written += size;
+    }
+    (read, written)
+}
+
+// Writes the ASCII at the start of a block to the start of a buffer, and U+FFFD for the unpaired
+// surrogate that follows it. Returns the number of bytes read and the number of bytes written;
+// `None` if another character follows.
+#[inline(always)]
+fn put_ascii_block<E: Utf16Order>(raw: &[u8], to: &mut [u8]) -> Option<(usize, usize)>
+    requires bytes { 66 ≤ length raw.now }
+    requires space { 35 ≤ length to.old }
+    ensures decodes { IfSome result (λ done. DecodesTo E.BIG raw.now to.new done.0 done.1) }
+    ensures advances { IfSome result (λ done. 0 < done.0) }
+{
+    let len = put_ascii::<E>(raw, to);
+    if len == BLOCK {
+        return Some((2 * len, len));
+    }
+    match first_char_len::<E>(&raw[2 * len..]) {
+        Err(Some(lone)) => Some((2 * len + lone as usize, put(&REPLACEMENT, to, len))),
+        _ => None,
+    }
+}
+
+// Writes the ASCII at the start of a block to the start of a buffer, and returns the number of its
+// code units. The bytes after them may be overwritten.
+#[inline(always)]
+fn put_ascii<E: Utf16Order>(raw: &[u8], to: &mut [u8]) -> usize
+    requires bytes { 64 ≤ length raw.now }
+    requires space { 32 ≤ length to.old }
+    ensures few { result ≤ 32 }
+    ensures text { TranscodesToUtf8 E.BIG (take (2 * result) raw.now) (take result to.new) }
+    ensures stop { result < 32 → 0x80 ≤ slice_index (units_of E.BIG (take 64 raw.now)) result }
+{
+    let units = units32::<E>(u8x64::from_slice(raw));
+    let bytes = low_bytes(clamped(units));
+    bytes.copy_to_slice(to);
+    ascii_len(bytes)
+}
+
+// The units, each of them at most 0xFF.
+#[inline(always)]
+fn clamped(units: u16x32) -> u16x32
+    ensures { HasLanes 32 result (λ i. min (slice_index units i) 0xFF) }
+{
+    units.simd_min(u16x32::splat(0xFF))
+}
+
+// The low byte of each unit.
+#[inline(always)]
+fn low_bytes(units: u16x32) -> u8x32
+    requires { (i : ℕ) → i < length units → slice_index units i ≤ 0xFF }
+    ensures { HasLanes 32 result (λ i. slice_index units i) }
+{
+    units.cast::<u8>()
+}
+
+// The number of bytes before the first that is not ASCII, or of all if none is.
+#[inline(always)]
+fn ascii_len(bytes: u8x32) -> usize
+    ensures few { result ≤ 32 }
+    ensures ascii { All (λ byte. byte < 0x80) (take result bytes) }
+    ensures stop { result < 32 → 0x80 ≤ slice_index bytes result }
+{
+    let others = high_bits(bytes);
+    if others == 0 {
+        BLOCK
+    } else {
+        others.trailing_zeros() as usize
+    }
+}
+
+// A bit for each byte that is not ASCII.
+#[inline(always)]
+fn high_bits(bytes: u8x32) -> u64
+    ensures { result ≡ mask_l (map (λ byte. bit_and byte 0x80 == 0x80) bytes) }
+{
+    (bytes & u8x32::splat(0x80))
+        .simd_eq(u8x32::splat(0x80))
+        .to_bitmask()
+}
