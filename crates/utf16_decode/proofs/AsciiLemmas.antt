@@ -40,18 +40,18 @@ is_not_ascii byte set = ⊎_elim
     (λ (ascii : is_other byte ≡ false). absurd (true≢false (sym (ap not ascii) ∙ set)))
     (cases_Bool (is_other byte))
 
-module _ (bytes : List ℕ) (long : length bytes ≡ 32) (bits : ℕ) (are : bits ≡ mask_l (map (λ byte. eqb (bit_and byte 0x80) 0x80) bytes)) where
+module _ (bytes : List ℕ) (m : ℕ) (long : length bytes ≡ m) (most : m ≤ 64) (bits : ℕ) (are : bits ≡ mask_l (map (λ byte. eqb (bit_and byte 0x80) 0x80) bytes)) where
   abbrev pub ascii_len : ℕ
   ascii_len = prefix_len (λ byte. not (is_other byte)) bytes
 
-  pub ascii_len-all : bits ≡ 0 → ascii_len ≡ 32
+  pub ascii_len-all : bits ≡ 0 → ascii_len ≡ m
   ascii_len-all none = leading_from_mask_l is_other bytes (sym are ∙ none) ∙ long
 
   pub ascii_len-lowest : 0 < bits → ascii_len ≡ count_trailing_zeros 64 bits
   ascii_len-lowest some =
       sym (ap (count_trailing_zeros 64) are ∙ trailing_mask_l is_other 64 bytes (omega (arith, long)) (subst (λ m. 0 < m) are some))
 
-  pub ascii_len-few : ascii_len ≤ 32
+  pub ascii_len-few : ascii_len ≤ m
   ascii_len-few = omega (arith, long, prefix_len-le-length (λ byte. not (is_other byte)) bytes)
 
   pub ascii_front : Each1 (Fits w8) bytes → All (λ byte. byte < 0x80) (take ascii_len bytes)
@@ -62,7 +62,7 @@ module _ (bytes : List ℕ) (long : length bytes ≡ 32) (bits : ℕ) (are : bit
       (is_ascii (slice_index bytes i) (Each1-get_or (Fits w8) bytes i 0 within fits).fits
       (prefix_len_passes (λ byte. not (is_other byte)) bytes i 0 before)))
 
-  pub other_there : ascii_len < 32 → 0x80 ≤ slice_index bytes ascii_len
+  pub other_there : ascii_len < m → 0x80 ≤ slice_index bytes ascii_len
   other_there within =
       is_not_ascii (slice_index bytes ascii_len) (prefix_len_stops (λ byte. not (is_other byte)) bytes 0 (omega (arith, long)))
 

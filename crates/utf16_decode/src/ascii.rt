@@ -91,16 +91,21 @@ fn low_bytes(units: u16x32) -> u8x32
     units.cast::<u8>()
 }
 
-// The number of bytes before the first that is not ASCII, or of all if none is.
+/// Returns the number of bytes before the first that is not ASCII, or of all if none is.
+///
+/// # Precondition
+///
+/// There are at most sixty-four bytes.
 #[inline(always)]
-fn ascii_len(bytes: u8x32) -> usize
-    ensures few { result ≤ 32 }
-    ensures ascii { All (λ byte. byte < 0x80) (take result bytes) }
-    ensures stop { result < 32 → 0x80 ≤ slice_index bytes result }
+pub fn ascii_len<const N: usize>(bytes: Simd<u8, N>) -> usize
+    requires { N ≤ 64 }
+    ensures few { result ≤ N }
+    ensures ascii { All (λ byte. byte < 0x80) (take result bytes.entry) }
+    ensures stop { result < N → 0x80 ≤ slice_index bytes.entry result }
 {
     let others = high_bits(bytes);
     if others == 0 {
-        BLOCK
+        N
     } else {
         others.trailing_zeros() as usize
     }
@@ -108,10 +113,11 @@ fn ascii_len(bytes: u8x32) -> usize
 
 // A bit for each byte that is not ASCII.
 #[inline(always)]
-fn high_bits(bytes: u8x32) -> u64
-    ensures { result ≡ mask_l (map (λ byte. bit_and byte 0x80 == 0x80) bytes) }
+fn high_bits<const N: usize>(bytes: Simd<u8, N>) -> u64
+    requires { N ≤ 64 }
+    ensures { result ≡ mask_l (map (λ byte. bit_and byte 0x80 == 0x80) bytes.entry) }
 {
-    (bytes & u8x32::splat(0x80))
-        .simd_eq(u8x32::splat(0x80))
+    (bytes & Simd::splat(0x80))
+        .simd_eq(Simd::splat(0x80))
         .to_bitmask()
 }

@@ -12,6 +12,7 @@ mod transcoding;
 mod utf8;
 mod well_formed;
 
+pub use crate::ascii::ascii_len;
 pub use crate::direction::Direction;
 pub use crate::joined::{joined_start, rest_of};
 pub use crate::lossy::{REPLACEMENT, to_utf8_lossy, to_utf8_partial};

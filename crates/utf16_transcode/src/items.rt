@@ -1,8 +1,6 @@
 //! UTF-8 item by item: a character, or a maximal subpart of an ill-formed subsequence, at a time.
 
-ghost use Rattle.std.specs.Prelude.{◌≡◌, ◌*◌, ◌<◌, ◌≤◌, ◌==◌, [], ◌∷◌, bit_and, length, map, slice_index, take};
-ghost use Rattle.std.specs.Simd.Lanes.{mask_l};
-ghost use Rattle.std.specs.Str.{IsAscii};
+ghost use Rattle.std.specs.Prelude.{◌≡◌, ◌*◌, ◌<◌, ◌≤◌, [], ◌∷◌, bit_and, length, map, slice_index};
 ghost use Rattle.utf16_decode.specs.Wrote.{Wrote};
 ghost use Rattle.utf16_transcode.specs.FromUtf8.{TranscodesToUtf16};
 ghost use Rattle.utf16_transcode.specs.Utf8Stream.{DecodesUtf8To, FirstItem};
@@ -10,6 +8,7 @@ ghost use Rattle.utf16_transcode.specs.Utf8Stream.{DecodesUtf8To, FirstItem};
 use crate::chars::{char_of_four, char_of_three, char_of_two, is_continuation};
 use crate::utf16::{can_begin, put_char};
 use std::simd::prelude::*;
+use utf16_decode::ascii_len;
 use utf16_from_utf8::blocks::put_ascii;
 use utf16_units::Utf16Order;
 
@@ -97,36 +96,12 @@ fn put_ascii_front<E: Utf16Order>(text: &[u8], to: &mut [u8]) -> usize
     ascii_len(block)
 }
 
-// Returns the number of bytes before the first that is not ASCII.
-#[inline(always)]
-fn ascii_len(block: u8x16) -> usize
-    ensures few { result ≤ 16 }
-    ensures ascii { IsAscii (take result block) }
-    ensures stop { result < 16 → 0x80 ≤ slice_index block result }
-{
-    let high = high_bits(block);
-    if high == 0 {
-        16
-    } else {
-        high.trailing_zeros() as usize
-    }
-}
-
 // The low seven bits of each byte: of ASCII the byte itself.
 #[inline(always)]
 fn low_bits(block: u8x16) -> u8x16
     ensures { result ≡ map (λ byte. bit_and byte 0x7F) block }
 {
     block & u8x16::splat(0x7F)
-}
-
-// A bit for each byte that is not ASCII, by its highest bit.
-#[inline(always)]
-fn high_bits(block: u8x16) -> u64
-    ensures { result ≡ mask_l (map (λ byte. bit_and byte 0x80 == 0x80) block) }
-{
-    let high = u8x16::splat(0x80);
-    (block & high).simd_eq(high).to_bitmask()
 }
 
 // Returns the first item of these bytes, which decide it, and its length: a character, or U+FFFD

@@ -1,6 +1,5 @@
-use Rattle.std.proofs.Common.{arith}
 use Rattle.utf16_units.proofs.LaneLemmas.{class_bits-mask_l}
 use Rattle.utf16_decode.proofs.ascii.high_bits.Goals as goal
 
 pub returns : goal.returns
-returns c = class_bits-mask_l c.args.bytes 32 0x80 0x80 c.fits-bytes.0 (omega arith)
+returns g c = class_bits-mask_l c.args.bytes g.row.N 0x80 0x80 c.fits-bytes.0 c.requires

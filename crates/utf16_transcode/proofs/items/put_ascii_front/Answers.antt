@@ -4,7 +4,7 @@ use Rattle.std.proofs.lemmas.Str.{IsUtf8-from_ascii}
 use Rattle.std.specs.Str.{IsAscii}
 use Rattle.utf16_from_utf8.proofs.AppendLemmas.{added_bytes-text}
 use Rattle.utf16_decode.proofs.WroteLemmas.{Wrote-none}
-use Rattle.utf16_transcode.proofs.AsciiFront.{front-low, low-ascii, wrote-front}
+use Rattle.utf16_transcode.proofs.AsciiFront.{ascii-all, front-low, low-ascii, wrote-front}
 use Rattle.utf16_transcode.proofs.FromUtf8.{utf16_empty}
 use Rattle.utf16_transcode.proofs.items.put_ascii_front.Given.{Over}
 use Rattle.utf16_transcode.proofs.items.put_ascii_front.Goals as goal
@@ -27,7 +27,7 @@ returns-clause-wrote g c =
     let ascii = low g (goal.at.returns-clause-wrote g c).After-low_bits in
     let long : length block ≡ 16 = ap length c.low_bits.ensures ∙ length-map (take 16 text) _ ∙ length-take-le 16 text (omega arith) in
     let end : 2 * length block ≡ c.put_ascii.result = omega (arith, long, c.put_ascii.ensures.written_to) in
-    let front = ap (take n) c.low_bits.ensures ∙ front-low (take 16 text) n c.ascii_len.ensures.ascii ∙ take-take n 16 text c.ascii_len.ensures.few in
+    let front = ap (take n) c.low_bits.ensures ∙ front-low (take 16 text) n (ascii-all _ c.ascii_len.ensures.ascii) ∙ take-take n 16 text c.ascii_len.ensures.few in
     wrote-front g.E.Utf16Order.BIG text block c.put_ascii.new.out n (omega (arith, c.ascii_len.ensures.few)) front (omega (arith, long, c.ascii_len.ensures.few)) ascii (omega (arith, long, c.put_ascii.auto.out))
     (ap (λ k. take k c.put_ascii.new.out) end ∙ c.put_ascii.ensures.bytes 0 0 (omega arith) ∙ added_bytes-text g.E.Utf16Order.BIG block (IsUtf8-from_ascii block ascii))
 
