@@ -1,6 +1,6 @@
-//! Appends a text to a `String`, in UTF-8.
+//! A text in UTF-8, as a new `String` or appended to one.
 
-ghost use Rattle.std.specs.Prelude.{◌≡◌, ◌+◌, ◌*◌, ◌/◌, ◌<◌, ◌≤◌, ◌++◌, length, IsOk, OnErr, OnOk, string_bytes};
+ghost use Rattle.std.specs.Prelude.{◌≡◌, ◌+◌, ◌*◌, ◌/◌, ◌<◌, ◌≤◌, [], ◌++◌, length, IfOk, IsOk, OnErr, OnOk, string_bytes};
 ghost use Rattle.std.specs.String.{string_capacity, string_len};
 ghost use Rattle.utf16_units.specs.Boundary.{IsBoundary};
 ghost use Rattle.utf16_units.specs.Encoding.{IsUtf16, text_of, utf8_of};
@@ -14,6 +14,9 @@ use utf16_units::{Utf16Order, is_trailing_surrogate};
 // Texts of fewer bytes are appended character by character.
 const TINY_TEXT: usize = 8;
 
+// A new `String` is made character by character of at most this many bytes.
+const TWO_UNITS: usize = 4;
+
 // Texts of at most this many bytes are written at once, to a buffer as long as `write_utf8` needs;
 // and those of fewer to a shorter one.
 const SHORT_TEXT: usize = 128;
@@ -24,10 +27,78 @@ const FEW_TEXT: usize = 32;
 
 const FEW_BUFFER: usize = 176;
 
+// The least capacity of a new `String`, unless its text is empty.
+const LEAST_CAPACITY: usize = 8;
+
 // The length in bytes of a chunk, and of the buffer that `write_utf8` needs for it.
 const CHUNK: usize = 1024;
 
 const CHUNK_BUFFER: usize = 1664;
+
+/// Returns a text, in UTF-8, as a new `String`.
+///
+/// # Errors
+///
+/// `AllocError`, only if allocation fails. It does not fail for the empty text.
+///
+/// # Precondition
+///
+/// `raw` is well-formed UTF-16 in the byte order `E` (check with
+/// `utf16_units::validate_raw_utf16`).
+///
+/// # Complexity
+///
+/// One pass over a text of at most 128 bytes, else two. Allocates once, for as many bytes as the
+/// characters take or for eight, and not at all for the empty text.
+pub fn to_utf8<E: Utf16Order, A: Allocator>(raw: &[u8], alloc: A) -> Result<String<A>, AllocError>
+    requires { IsUtf16 E.BIG raw.now }
+    ensures text { IfOk result (λ s. string_bytes s ≡ utf8_of E.BIG raw.now) }
+    ensures nothing { raw.now ≡ [] → IsOk result }
+{
+    if raw.len() > TWO_UNITS {
+        return make_text::<E, A>(raw, alloc);
+    }
+    // Two code units take at most six bytes.
+    let capacity = if raw.is_empty() { 0 } else { LEAST_CAPACITY };
+    let mut utf8 = String::with_capacity(alloc, capacity)?;
+    put_few::<E, A>(raw, &mut utf8)?;
+    Ok(utf8)
+}
+
+// The same of a text that is not written character by character.
+#[inline(never)]
+fn make_text<E: Utf16Order, A: Allocator>(raw: &[u8], alloc: A) -> Result<String<A>, AllocError>
+    requires { IsUtf16 E.BIG raw.now }
+    ensures { IfOk result (λ s. string_bytes s ≡ utf8_of E.BIG raw.now) }
+{
+    if raw.len() < FEW_TEXT {
+        return make_piece::<E, A>(raw, &mut [0; FEW_BUFFER], alloc);
+    }
+    if raw.len() <= SHORT_TEXT {
+        return make_piece::<E, A>(raw, &mut [0; SHORT_BUFFER], alloc);
+    }
+    let mut utf8 = String::with_capacity(alloc, utf8_len::<E>(raw))?;
+    put_pieces::<E, A>(raw, &mut utf8)?;
+    Ok(utf8)
+}
+
+// Returns a new `String` with the text, which is written through a buffer before its length is
+// known.
+#[inline]
+fn make_piece<E: Utf16Order, A: Allocator>(
+    raw: &[u8],
+    buf: &mut [u8],
+    alloc: A,
+) -> Result<String<A>, AllocError>
+    requires well_formed { IsUtf16 E.BIG raw.now }
+    requires space { length raw.now / 2 * 3 + SLACK ≤ length buf.old }
+    ensures { IfOk result (λ s. string_bytes s ≡ utf8_of E.BIG raw.now) }
+{
+    let len = write_utf8::<E>(raw, buf);
+    let mut utf8 = String::with_capacity(alloc, len.max(LEAST_CAPACITY))?;
+    utf8.push_str(unsafe { str::from_utf8_unchecked(&buf[..len]) })?;
+    Ok(utf8)
+}
 
 /// Appends a text, in UTF-8, to a `String`.
 ///
@@ -44,6 +115,7 @@ const CHUNK_BUFFER: usize = 1664;
 ///
 /// One pass over a text of 8 to 128 bytes, or if `to` has spare capacity of three bytes per code
 /// unit, else two. Allocates once, and not at all if the spare capacity suffices.
+#[inline]
 pub fn append_utf8<E: Utf16Order, A: Allocator>(
     raw: &[u8],
     to: &mut String<A>,
@@ -69,7 +141,7 @@ pub fn append_utf8<E: Utf16Order, A: Allocator>(
 }
 
 // The same of a short text, which is written at once.
-#[inline]
+#[inline(never)]
 fn put_short<E: Utf16Order, A: Allocator>(raw: &[u8], to: &mut String<A>) -> Result<(), AllocError>
     requires well_formed { IsUtf16 E.BIG raw.now }
     requires short { length raw.now ≤ SHORT_TEXT }
@@ -106,6 +178,7 @@ fn put_few<E: Utf16Order, A: Allocator>(raw: &[u8], to: &mut String<A>) -> Resul
 }
 
 // The same chunk by chunk.
+#[inline(never)]
 fn put_pieces<E: Utf16Order, A: Allocator>(raw: &[u8], to: &mut String<A>) -> Result<(), AllocError>
     requires well_formed { IsUtf16 E.BIG raw.now }
     requires fits { string_len to.old + length (utf8_of E.BIG raw.now) ≤ string_capacity to.old }
@@ -195,6 +268,25 @@ fn reserve_utf8<E: Utf16Order, A: Allocator>(
     if raw.len() / 2 * 3 <= to.capacity() - to.len() {
         return Ok(());
     }
+    reserve_counted::<E, A>(raw, to)
+}
+
+// The same, after the length is computed. A function of its own, so that a text that fits does not
+// pay for its registers.
+#[inline(never)]
+fn reserve_counted<E: Utf16Order, A: Allocator>(
+    raw: &[u8],
+    to: &mut String<A>,
+) -> Result<(), AllocError>
+    requires { IsUtf16 E.BIG raw.now }
+    ensures bytes { string_bytes to.new ≡ string_bytes to.old }
+    ensures reserved { OnOk result (string_len to.new + length (utf8_of E.BIG raw.now)
+        ≤ string_capacity to.new) }
+    ensures err { OnErr result (string_capacity to.new ≡ string_capacity to.old) }
+    ensures grows { string_capacity to.old ≤ string_capacity to.new }
+    ensures succeeds { string_len to.old + length (utf8_of E.BIG raw.now) ≤ string_capacity to.old
+        → IsOk result }
+{
     to.reserve(len_in_utf8::<E>(raw))
 }
 

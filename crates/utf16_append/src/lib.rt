@@ -1,6 +1,6 @@
-//! UTF-16 appended to a `String`, in UTF-8.
+//! UTF-16 as UTF-8, in a new `String` or appended to one.
 #![tactic(auto)]
 
 mod append;
 
-pub use crate::append::append_utf8;
+pub use crate::append::{append_utf8, to_utf8};

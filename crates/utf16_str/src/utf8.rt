@@ -18,21 +18,15 @@ impl<'a, E: Utf16Order> WStr<'a, E> {
     ///
     /// # Complexity
     ///
-    /// One pass over a text of at most 128 bytes that does not have three code units, else two.
-    /// Allocates once, for as many bytes as the characters take or for eight, and not at all for
-    /// the empty text.
+    /// One pass over a text of at most 128 bytes that does not have three or four code units, else
+    /// two. Allocates once, for as many bytes as the characters take or for eight, and not at all
+    /// for the empty text.
+    #[inline]
     pub fn to_utf8<A: Allocator>(&self, alloc: A) -> Result<String<A>, AllocError>
         ensures text { IfOk result (λ s. string_bytes s ≡ encode_utf8_all (wstr_text self.now)) }
         ensures nothing { wstr_text self.now ≡ [] → IsOk result }
     {
-        // Two code units take at most six bytes.
-        let capacity = match self.len() {
-            2 | 4 => 8,
-            _ => 0,
-        };
-        let mut utf8 = String::with_capacity(alloc, capacity)?;
-        self.push_utf8(&mut utf8)?;
-        Ok(utf8)
+        utf16_append::to_utf8::<E, A>(self.as_bytes(), alloc)
     }
 
     /// Appends the text, in UTF-8, to a `String`.
@@ -45,6 +39,7 @@ impl<'a, E: Utf16Order> WStr<'a, E> {
     ///
     /// One pass over the view if it has 8 to 128 bytes or `to` has spare capacity of three bytes per
     /// code unit, else two. Allocates once, and not at all if the spare capacity suffices.
+    #[inline]
     pub fn push_utf8<A: Allocator>(self, to: &mut String<A>) -> Result<(), AllocError>
         ensures text { OnOk result (string_bytes to.new ≡ string_bytes to.old
             ++ encode_utf8_all (wstr_text self.entry)) }

@@ -1,15 +1,13 @@
-use Rattle.std.proofs.Common.{◌≡◌, ◌∙◌, ap, arith}
-use Rattle.std.proofs.lemmas.Bool.{false≢true}
+use Rattle.std.proofs.Common.{◌∙◌, ap}
+use Rattle.std.proofs.lemmas.List.{nil_from_length}
 use Rattle.utf16_units.specs.Encoding.{size}
-use Rattle.utf16_units.proofs.EncodingLemmas.{size-nil}
+use Rattle.utf16_units.proofs.EncodingLemmas.{IsUtf16-from_Encodes, length-text, size-nil, text_of-Encodes}
 use Rattle.utf16_str.proofs.wstr.WStr.to_utf8.Goals as goal
-use Rattle.utf16_str.proofs.wstr.WStr.to_utf8.Goals.{in-2, in_default}
 
-pub returns-in_err-utf8-clause-nothing : goal.returns-in_err-utf8-clause-nothing
-returns-in_err-utf8-clause-nothing g c empty =
-    let none : c.len.result ≡ 0 = c.len.ensures.size ∙ ap size empty ∙ size-nil in
-    let capacity : c.match-len.capacity ≡ 0 = elim c.match-len.branch [
-      | in-2 w ↦ omega (arith, none, w.in-2)
-      | in_default w ↦ w.capacity-is
-    ] in
-    absurd (false≢true (c.in_err-utf8.ensures.succeeds capacity))
+pub returns-clause-nothing : goal.returns-clause-nothing
+returns-clause-nothing g c empty =
+    let raw = c.as_bytes.result.now in
+    let encoding = c.as_bytes.ensures.encoding in
+    let text = text_of-Encodes g.E.Utf16Order.BIG _ raw encoding in
+    c.to_utf8.ensures.nothing
+    (nil_from_length raw (length-text g.E.Utf16Order.BIG raw (IsUtf16-from_Encodes _ _ _ encoding) ∙ ap size (text ∙ empty) ∙ size-nil))
