@@ -1,5 +1,6 @@
-pub mod PrefixRules
-pub mod Views
+pub mod Converted
 pub mod Edited
-pub mod Removed
 pub mod Predicates
+pub mod PrefixRules
+pub mod Removed
+pub mod Views

@@ -5,10 +5,14 @@ ghost use Rattle.std.specs.Str.{chars};
 ghost use Rattle.utf16_units.specs.Edit.{push_text};
 ghost use Rattle.utf16_units.specs.Encoding.{size};
 
+use super::inserts::put_char;
 use crate::WString;
 use std::alloc::{AllocError, Allocator};
 use utf16_from_utf8::{append_utf16, extend_utf16, utf16_len, write_units};
 use utf16_units::Utf16Order;
+
+// Texts of fewer bytes are converted character by character.
+const TINY_TEXT: usize = 8;
 
 // Texts of at most this many bytes are converted on the stack, in one pass; and those of fewer in a
 // shorter buffer.
@@ -31,24 +35,36 @@ impl<E: Utf16Order, A: Allocator> WString<E, A> {
     ///
     /// # Complexity
     ///
-    /// One pass over a text of at most 128 bytes, else two. Allocates once, for as many bytes as the
+    /// One pass over a text of 8 to 128 bytes, else two. Allocates once, for as many bytes as the
     /// string takes, and not at all for the empty text.
+    #[inline]
     pub fn from_str(alloc: A, s: &str) -> Result<Self, AllocError>
         ensures text { IfOk result (λ t. wstring_text t ≡ chars s.now) }
         ensures nothing { s.now ≡ [] → IsOk result }
         ensures empty { s.now ≡ [] → IfOk result (λ t. wstring_capacity t ≡ 0) }
     {
-        if s.is_empty() {
-            return Ok(Self::new(alloc));
+        if s.len() < TINY_TEXT {
+            Self::from_few(alloc, s)
+        } else if s.len() <= FEW_TEXT {
+            Self::from_short::<FEW_BUFFER>(alloc, s)
+        } else if s.len() <= SHORT_TEXT {
+            Self::from_short::<SHORT_BUFFER>(alloc, s)
+        } else {
+            Self::from_long(alloc, s)
         }
-        if s.len() <= FEW_TEXT {
-            return Self::from_short::<FEW_BUFFER>(alloc, s);
-        }
-        if s.len() <= SHORT_TEXT {
-            return Self::from_short::<SHORT_BUFFER>(alloc, s);
-        }
+    }
+
+    // The same of a few characters, whose length is computed first.
+    #[inline(never)]
+    fn from_few(alloc: A, s: &str) -> Result<Self, AllocError>
+        ensures text { IfOk result (λ t. wstring_text t ≡ chars s.now) }
+        ensures nothing { s.now ≡ [] → IsOk result }
+        ensures exact { IfOk result (λ t. wstring_capacity t ≡ size (chars s.now)) }
+    {
         let mut raw = Vec::with_capacity(alloc, utf16_len(s))?;
-        extend_utf16::<E, A>(&mut raw, s)?;
+        for c in s.chars() {
+            put_char::<E, A>(&mut raw, c);
+        }
         Ok(Self::from_utf16_unchecked(raw))
     }
 
@@ -63,6 +79,16 @@ impl<E: Utf16Order, A: Allocator> WString<E, A> {
         let end = write_units::<E>([0; 2], s.as_bytes(), &mut buf);
         let mut raw = Vec::with_capacity(alloc, end)?;
         raw.extend_from_slice(&buf[..end])?;
+        Ok(Self::from_utf16_unchecked(raw))
+    }
+
+    // The same of a long text.
+    #[inline(never)]
+    fn from_long(alloc: A, s: &str) -> Result<Self, AllocError>
+        ensures { IfOk result (λ t. wstring_text t ≡ chars s.now) }
+    {
+        let mut raw = Vec::with_capacity(alloc, utf16_len(s))?;
+        extend_utf16::<E, A>(&mut raw, s)?;
         Ok(Self::from_utf16_unchecked(raw))
     }
 

@@ -1,8 +1,7 @@
-use Rattle.std.proofs.Common.{◌≡◌, ◌++◌, ◌∙◌, ap, refl, subst, sym, take}
-use Rattle.std.proofs.lemmas.Str.{scalars-chars}
+use Rattle.std.proofs.Common.{◌≡◌, ◌++◌, ◌∙◌, ap, refl, take}
 use Rattle.std.specs.Str.{chars}
-use Rattle.utf16_units.specs.Encoding.{IsUtf16, encode, text_of}
-use Rattle.utf16_units.proofs.EncodingLemmas.{All-from_all_scalars, IsUtf16-encode, text_of-encode}
+use Rattle.utf16_units.specs.Encoding.{encode, text_of}
+use Rattle.utf16string.proofs.Converted.{converted-IsUtf16, converted-text}
 use Rattle.utf16string.proofs.wstring.WString.from_short.Given.{Over}
 use Rattle.utf16string.proofs.wstring.WString.from_short.Goals as goal
 use Rattle.utf16string.proofs.wstring.WString.from_short.Goals.{In_ok-extend_from_slice}
@@ -16,11 +15,9 @@ written g c =
 
 pub from_utf16_unchecked-requires : goal.from_utf16_unchecked-requires
 from_utf16_unchecked-requires g c =
-    subst (IsUtf16 g.E.Utf16Order.BIG) (sym (written g (goal.at.from_utf16_unchecked-requires g c).In_ok-extend_from_slice))
-    (IsUtf16-encode _ _ (All-from_all_scalars _ (scalars-chars c.args.s.now c.utf8.s)))
+    converted-IsUtf16 g.E.Utf16Order.BIG c.args.s.now _ c.utf8.s (written g (goal.at.from_utf16_unchecked-requires g c).In_ok-extend_from_slice)
 
 pub returns : goal.returns
 returns g c =
     ap (λ v. text_of g.E.Utf16Order.BIG v.items) c.from_utf16_unchecked.ensures.vec
-    ∙ ap (text_of g.E.Utf16Order.BIG) (written g (goal.at.returns g c).In_ok-extend_from_slice)
-    ∙ text_of-encode _ _ (All-from_all_scalars _ (scalars-chars c.args.s.now c.utf8.s))
+    ∙ converted-text g.E.Utf16Order.BIG c.args.s.now _ c.utf8.s (written g (goal.at.returns g c).In_ok-extend_from_slice)
