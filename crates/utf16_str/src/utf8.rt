@@ -18,9 +18,8 @@ impl<'a, E: Utf16Order> WStr<'a, E> {
     ///
     /// # Complexity
     ///
-    /// One pass over a text of at most 128 bytes that does not have three or four code units, else
-    /// two. Allocates once, for as many bytes as the characters take or for eight, and not at all
-    /// for the empty text.
+    /// One pass over a text of at most 128 bytes, else two. Allocates once, for as many bytes as the
+    /// characters take or for eight, and not at all for the empty text.
     #[inline]
     pub fn to_utf8<A: Allocator>(&self, alloc: A) -> Result<String<A>, AllocError>
         ensures text { IfOk result (λ s. string_bytes s ≡ encode_utf8_all (wstr_text self.now)) }
