@@ -78,7 +78,8 @@ fn put_ill_formed<E: Utf16Order>(text: &[u8], len: usize, to: &mut [u8]) -> (usi
 }
 
 // Writes the text of bytes that follow an ill-formed sequence: items, up to some well-formed
-// characters, and then blocks, up to the next ill-formed sequence, in turn while a block may follow.
+// characters, and then blocks, up to the next ill-formed sequence, in turn while a block may
+// follow.
 fn put_behind<E: Utf16Order>(text: &[u8], to: &mut [u8]) -> (usize, usize)
     ensures { DecodesUtf8To E.BIG text.now to.new result.0 result.1 }
 {

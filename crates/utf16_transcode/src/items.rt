@@ -51,8 +51,8 @@ struct Step {
     run: usize,
 }
 
-// Writes the ASCII at the start of the bytes in UTF-16 to the start of a buffer, of sixteen bytes at
-// most, or the first item.
+// Writes the ASCII at the start of the bytes in UTF-16 to the start of a buffer, of sixteen bytes
+// at most, or the first item.
 #[inline(always)]
 fn put_step<E: Utf16Order>(text: &[u8], to: &mut [u8]) -> Step
     requires bytes { ITEM_LEN ≤ length text.now }

@@ -182,8 +182,8 @@ const PLAIN_EVERY: usize = 512;
 // Behind so many bytes without a surrogate at the front, blocks are passed two at a time.
 const MANY_PLAIN: usize = 256;
 
-// The end of the blocks of 64 bytes from `from` on whose surrogates are paired, and whether the last
-// unit is leading. Blocks without a surrogate are passed by a loop that looks for no pairs.
+// The end of the blocks of 64 bytes from `from` on whose surrogates are paired, and whether the
+// last unit is leading. Blocks without a surrogate are passed by a loop that looks for no pairs.
 fn paired_blocks<E: Utf16Order>(raw: &[u8], from: usize) -> (usize, bool)
     requires { PairedTo E.BIG raw.now from false }
     ensures paired { PairedTo E.BIG raw.now result.0 result.1 }
@@ -283,8 +283,8 @@ fn paired_half_block<E: Utf16Order>(raw: &[u8], at: usize, leading: bool) -> (us
     }
 }
 
-// The same unit by unit, starting at the end of a well-formed prefix. Inlined at each call: that for
-// short fields starts at 0, and costs them what it would without blocks.
+// The same unit by unit, starting at the end of a well-formed prefix. Inlined at each call: that
+// for short fields starts at 0, and costs them what it would without blocks.
 #[inline(always)]
 pub(crate) fn valid_len_from<E: Utf16Order>(raw: &[u8], from: usize) -> usize
     requires within { from ≤ length raw.now }
