@@ -105,30 +105,32 @@ plain-tail : (big : Bool) (first second : ℕ) (bytes : List ℕ) → HasNoSurro
 unfolding units_of
 plain-tail big first second bytes all = All-tail IsNoSurrogate (unit_of big first second) (units_of big bytes) all
 
--- the first, one between and the last of at most three units
+-- the first and the last of at most three units, and of three the second
 abbrev pub AreFew : Bool → List ℕ → Type 0
 AreFew big bytes = IsNoSurrogate (unit_of big (slice_index bytes 0) (slice_index bytes 1))
-    × IsNoSurrogate (unit_of big (slice_index bytes (length bytes / 4 * 2)) (slice_index bytes (length bytes / 4 * 2 + 1)))
     × IsNoSurrogate (unit_of big (slice_index bytes (length bytes - 2)) (slice_index bytes (length bytes - 1)))
+    × (6 ≤ length bytes → IsNoSurrogate (unit_of big (slice_index bytes 2) (slice_index bytes 3)))
 
 pub no_surrogate-few : (big : Bool) (bytes : List ℕ) → 0 < length bytes → length bytes < 8 → length bytes % 2 ≡ 0 → AreFew big bytes ↔ HasNoSurrogate (units_of big bytes)
 no_surrogate-few big [] some few even = absurd (omega arith)
 no_surrogate-few big (a ∷ []) some few even = absurd (omega arith)
 no_surrogate-few big (a ∷ b ∷ []) some few even = (
   (λ are. plain-cons big a b [] are.0 (plain-nil big)),
-  (λ all. let here = plain-head big a b [] all in (here, here, here)),
+  (λ all. let here = plain-head big a b [] all in (here, here, λ many. absurd (omega (arith, many)))),
 )
 no_surrogate-few big (a ∷ b ∷ c ∷ []) some few even = absurd (omega arith)
 no_surrogate-few big (a ∷ b ∷ c ∷ d ∷ []) some few even = (
-  (λ are. plain-cons big a b (c ∷ d ∷ []) are.0 (plain-cons big c d [] are.2 (plain-nil big))),
-  (λ all. let last = plain-head big c d [] (plain-tail big a b (c ∷ d ∷ []) all) in (plain-head big a b (c ∷ d ∷ []) all, last, last)),
+  (λ are. plain-cons big a b (c ∷ d ∷ []) are.0 (plain-cons big c d [] are.1 (plain-nil big))),
+  (λ all.
+      let last = plain-head big c d [] (plain-tail big a b (c ∷ d ∷ []) all) in
+      (plain-head big a b (c ∷ d ∷ []) all, last, λ many. absurd (omega (arith, many)))),
 )
 no_surrogate-few big (a ∷ b ∷ c ∷ d ∷ e ∷ []) some few even = absurd (omega arith)
 no_surrogate-few big (a ∷ b ∷ c ∷ d ∷ e ∷ f ∷ []) some few even = (
-  (λ are. plain-cons big a b (c ∷ d ∷ e ∷ f ∷ []) are.0 (plain-cons big c d (e ∷ f ∷ []) are.1 (plain-cons big e f [] are.2 (plain-nil big)))),
+  (λ are. plain-cons big a b (c ∷ d ∷ e ∷ f ∷ []) are.0 (plain-cons big c d (e ∷ f ∷ []) (are.2 (omega arith)) (plain-cons big e f [] are.1 (plain-nil big)))),
   (λ all.
       let others = plain-tail big a b (c ∷ d ∷ e ∷ f ∷ []) all in
-      (plain-head big a b (c ∷ d ∷ e ∷ f ∷ []) all, plain-head big c d (e ∷ f ∷ []) others, plain-head big e f [] (plain-tail big c d (e ∷ f ∷ []) others))),
+      (plain-head big a b (c ∷ d ∷ e ∷ f ∷ []) all, plain-head big e f [] (plain-tail big c d (e ∷ f ∷ []) others), λ many. plain-head big c d (e ∷ f ∷ []) others)),
 )
 no_surrogate-few big (a ∷ b ∷ c ∷ d ∷ e ∷ f ∷ g ∷ []) some few even = absurd (omega arith)
 no_surrogate-few big (a ∷ b ∷ c ∷ d ∷ e ∷ f ∷ g ∷ h ∷ bytes) some few even = absurd (omega arith)

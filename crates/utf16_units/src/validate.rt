@@ -110,23 +110,25 @@ pub fn is_short_plain<E: Utf16Order>(raw: &[u8]) -> bool
         × HasNoSurrogate (units_of E.BIG raw.now)) }
     ensures text { IsTrue result → IsUtf16 E.BIG raw.now }
 {
+    if raw.len() < 8 {
+        return raw.len() % 2 == 0 && has_no_surrogate_few::<E>(raw);
+    }
     if raw.len() > 64 {
         return false;
     }
     raw.len() % 2 == 0 && has_no_surrogate_short::<E>(raw)
 }
 
-// Whether none of at most thirty-two units is a surrogate.
+// Whether none of four to thirty-two units is a surrogate.
 #[inline(always)]
 fn has_no_surrogate_short<E: Utf16Order>(raw: &[u8]) -> bool
+    requires some { 8 ≤ length raw.now }
     requires short { length raw.now ≤ 64 }
     requires even { length raw.now % 2 ≡ 0 }
     ensures { IsTrue result ↔ HasNoSurrogate (units_of E.BIG raw.now) }
 {
     let len = raw.len();
-    if len < 8 {
-        has_no_surrogate_few::<E>(raw)
-    } else if len < 16 {
+    if len < 16 {
         has_no_surrogate(high_bytes4::<E>(u8x8::from_slice(raw)))
             && has_no_surrogate(high_bytes4::<E>(u8x8::from_slice(&raw[len - 8..])))
     } else if len < 32 {
@@ -138,7 +140,7 @@ fn has_no_surrogate_short<E: Utf16Order>(raw: &[u8]) -> bool
     }
 }
 
-// The same of at most three units: the first, the last, and one between them.
+// The same of at most three units: the first, the last, and of three the second.
 #[inline(always)]
 fn has_no_surrogate_few<E: Utf16Order>(raw: &[u8]) -> bool
     requires short { length raw.now < 8 }
@@ -149,11 +151,12 @@ fn has_no_surrogate_few<E: Utf16Order>(raw: &[u8]) -> bool
     if len == 0 {
         return true;
     }
-    let middle = len / 4 * 2;
     let first = is_no_surrogate(E::read_unit([raw[0], raw[1]]));
-    let second = is_no_surrogate(E::read_unit([raw[middle], raw[middle + 1]]));
     let last = is_no_surrogate(E::read_unit([raw[len - 2], raw[len - 1]]));
-    first & second & last
+    if len < 6 {
+        return first & last;
+    }
+    first & last & is_no_surrogate(E::read_unit([raw[2], raw[3]]))
 }
 
 // Whether a unit is no surrogate: the surrogates are the units from 0xD800 to 0xDFFF.

@@ -4,14 +4,14 @@ use Rattle.utf16_units.proofs.validate.has_no_surrogate_short.Goals as goal
 
 pub returns-then-has_no_surrogate : goal.returns-then-has_no_surrogate
 returns-then-has_no_surrogate g c =
-    let ends = no_surrogate-ends g.E.Utf16Order.BIG c.args.raw.now 8 c.requires.even refl (omega (arith, c.if-len-lt8.false)) (omega (arith, c.if-len-lt16.true)) in
+    let ends = no_surrogate-ends g.E.Utf16Order.BIG c.args.raw.now 8 c.requires.even refl (omega (arith, c.requires.some)) (omega (arith, c.if-len-lt16.true)) in
     let first = c.has_no_surrogate.ensures _ (sym c.high_bytes4.ensures) in
     let last = c.has_no_surrogate-then-has_no_surrogate.ensures _ (sym c.high_bytes4-then-has_no_surrogate.ensures) in
     ((λ pass. ends.0 (first.0 c.if-has_no_surrogate.true, last.0 pass)), (λ all. last.1 (ends.1 all).1))
 
 pub returns-else-has_no_surrogate : goal.returns-else-has_no_surrogate
 returns-else-has_no_surrogate g c =
-    let ends = no_surrogate-ends g.E.Utf16Order.BIG c.args.raw.now 8 c.requires.even refl (omega (arith, c.if-len-lt8.false)) (omega (arith, c.if-len-lt16.true)) in
+    let ends = no_surrogate-ends g.E.Utf16Order.BIG c.args.raw.now 8 c.requires.even refl (omega (arith, c.requires.some)) (omega (arith, c.if-len-lt16.true)) in
     let first = c.has_no_surrogate.ensures _ (sym c.high_bytes4.ensures) in
     ((λ pass. absurd (true≢false (sym pass ∙ c.if-has_no_surrogate.false))), (λ all. first.1 (ends.1 all).0))
 
