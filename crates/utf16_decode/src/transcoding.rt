@@ -32,7 +32,6 @@ pub fn transcode<D: Direction>(input: &[u8], to: &mut [u8]) -> Progress
     ensures stop { Stops D.from D.into D.IsIllFormed input.now result.read
         (length to.new - result.written) result.stop }
 {
-    D::laws();
     if input.len() < D::SHORT_LEN
         && let Some(written) = put_usual::<D>(input, to)
     {
@@ -40,16 +39,6 @@ pub fn transcode<D: Direction>(input: &[u8], to: &mut [u8]) -> Progress
             read: input.len(),
             written,
             stop: Stop::Done,
-        };
-    }
-    // Behind an ill-formed sequence there is often another.
-    if !input.is_empty()
-        && let Err(stop) = first_char::<D>(input)
-    {
-        return Progress {
-            read: 0,
-            written: 0,
-            stop,
         };
     }
     transcode_many::<D>(input, to)
@@ -79,6 +68,16 @@ fn transcode_many<D: Direction>(input: &[u8], to: &mut [u8]) -> Progress
         (length to.new - result.written) result.stop }
 {
     D::laws();
+    // Behind an ill-formed sequence there is often another.
+    if !input.is_empty()
+        && let Err(stop) = first_char::<D>(input)
+    {
+        return Progress {
+            read: 0,
+            written: 0,
+            stop,
+        };
+    }
     let mut read = 0;
     let mut written = 0;
     while read < input.len() {

@@ -1,6 +1,6 @@
 use Rattle.std.proofs.Common.{◌+◌, sym, subst, rules}
 use Rattle.utf16_decode.specs.Wrote.{Gives, Wrote}
-use Rattle.utf16_decode.proofs.WroteLemmas.{Wrote-none, Wrote-then, stops_there}
+use Rattle.utf16_decode.proofs.WroteLemmas.{Wrote-none, Wrote-then, stops_at_start, stops_there}
 use Rattle.utf16_decode.proofs.transcoding.transcode_many.Goals as goal
 
 pub loop-read-init : goal.loop-read-init
@@ -11,18 +11,24 @@ loop-read-preserved g c =
     let joins = c.laws.ensures.joins in
     Wrote-then joins _ _ _ _ _ _ _ (Wrote-then joins _ _ _ _ _ _ _ c.loop-read.invariant c.put_piece-len.ensures) c.in-Ok.ensures.wrote
 
-pub returns-in-Err-clause-wrote : goal.returns-in-Err-clause-wrote
-returns-in-Err-clause-wrote g c =
-    subst (λ to. Wrote (Gives g.D.Direction.IsValid g.D.Direction.other) c.args.input.now to (c.loop-read.read + c.put_piece-len.result.0) c.put_piece-len.result.1) (sym c.in-Err.ensures.unchanged)
+pub returns-in-Err-put_char-clause-wrote : goal.returns-in-Err-put_char-clause-wrote
+returns-in-Err-put_char-clause-wrote g c =
+    subst (λ to. Wrote (Gives g.D.Direction.IsValid g.D.Direction.other) c.args.input.now to (c.loop-read.read + c.put_piece-len.result.0) c.put_piece-len.result.1) (sym c.in-Err-put_char.ensures.unchanged)
     (Wrote-then c.laws.ensures.joins _ _ _ _ _ _ _ c.loop-read.invariant c.put_piece-len.ensures)
 
-pub returns-in-Err-clause-stop : goal.returns-in-Err-clause-stop
-returns-in-Err-clause-stop g c =
+pub returns-in-Err-put_char-clause-stop : goal.returns-in-Err-put_char-clause-stop
+returns-in-Err-put_char-clause-stop g c =
     let here = Wrote-then c.laws.ensures.joins _ _ _ _ _ _ _ c.loop-read.invariant c.put_piece-len.ensures in
     let within = here.within in
     let left = c.if-read-input.false in
     let d = g.D.Direction in
-    stops_there d.from d.into d.IsValid d.IsIllFormedAt d.IsIllFormed c.laws.ensures.ill_formed _ _ _ (search rules) here.gives.0 c.in-Err.stop c.in-Err.ensures.stop
+    stops_there d.from d.into d.IsValid d.IsIllFormedAt d.IsIllFormed c.laws.ensures.ill_formed _ _ _ (search rules) here.gives.0 c.in-Err-put_char.stop c.in-Err-put_char.ensures.stop
 
 pub returns-then-read-input-clause-wrote : goal.returns-then-read-input-clause-wrote
 returns-then-read-input-clause-wrote g c = Wrote-then c.laws.ensures.joins _ _ _ _ _ _ _ c.loop-read.invariant c.put_piece-len.ensures
+
+pub returns-clause-stop : goal.returns-clause-stop
+returns-clause-stop g c =
+    let d = g.D.Direction in
+    let laws = c.laws.ensures in
+    stops_at_start d.from d.into d.IsValid d.IsIllFormedAt d.IsIllFormed laws.ill_formed _ _ (search rules) laws.of_nothing.0 c.in-Err.stop (c.in-Err.ensures.stop _)
