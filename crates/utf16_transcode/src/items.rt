@@ -19,6 +19,8 @@ const RUN: usize = 16;
 
 const ASCII_RUN: usize = 2;
 
+const FEW_ASCII: usize = 4;
+
 /// The most bytes of an item, in either encoding.
 pub(crate) const ITEM_LEN: usize = 4;
 
@@ -78,22 +80,25 @@ fn put_step<E: Utf16Order>(text: &[u8], to: &mut [u8]) -> Step
 }
 
 // Writes all ASCII at the start of the first sixteen bytes in UTF-16 to the start of a buffer, and
-// returns how many bytes it read; none if there are fewer bytes, or less than twice as much space.
-// The bytes of the buffer after those written may be overwritten.
+// returns how many bytes it read; none if fewer than four are, there are fewer bytes, or less than
+// twice as much space. The bytes of the buffer after those written may be overwritten.
 #[inline(always)]
 fn put_ascii_front<E: Utf16Order>(text: &[u8], to: &mut [u8]) -> usize
-    requires { 0 < length text.now }
     ensures wrote { Wrote (TranscodesToUtf16 E.BIG) text.now to.new result (2 * result) }
-    ensures most { 16 ≤ length text.now → 32 ≤ length to.old → result < 16
-        → 0x80 ≤ slice_index text.now result }
+    ensures most { 0 < result → result < 16 → 0x80 ≤ slice_index text.now result }
     ensures len { length to.new ≡ length to.old }
 {
-    if text[0] >= 0x80 || text.len() < 16 || to.len() < 32 {
+    if text.len() < 16 || to.len() < 32 {
         return 0;
     }
     let block = u8x16::from_slice(text);
+    let len = ascii_len(block);
+    // In random bytes every other one is ASCII, and few are at once.
+    if len < FEW_ASCII {
+        return 0;
+    }
     put_ascii::<E>(to, 0, low_bits(block));
-    ascii_len(block)
+    len
 }
 
 // The low seven bits of each byte: of ASCII the byte itself.
