@@ -1,5 +1,5 @@
 -- Bytes of which no unit is a surrogate are a text.
-use Rattle.std.proofs.Common.{◌≡◌, ℕ, ◌-◌, ◌+◌, ◌*◌, ◌/◌, ◌%◌, ◌<◌, ◌≤◌, ◌↔◌, Bool, false, List, [], ◌∷◌, ◌++◌, length, map, take, drop, slice_index, refl, sym, ap, ap₂, ◌∙◌, subst, arith, take_all, Fits, w8, length-drop, length-take-le}
+use Rattle.std.proofs.Common.{◌≡◌, ℕ, ◌-◌, ◌+◌, ◌*◌, ◌%◌, ◌≤◌, ◌↔◌, Bool, false, List, [], ◌∷◌, ◌++◌, length, map, take, drop, slice_index, refl, sym, ap, ap₂, ◌∙◌, subst, arith, take_all, Fits, w8, length-drop, length-take-le}
 use Rattle.std.proofs.lemmas.List.{get_or-take, take-take}
 use Rattle.std.proofs.lemmas.List.Elements.{All-append, All-cons, All-head, All-nil, All-tail}
 use Rattle.std.proofs.lemmas.Simd.{chunk-fits}
@@ -105,35 +105,36 @@ plain-tail : (big : Bool) (first second : ℕ) (bytes : List ℕ) → HasNoSurro
 unfolding units_of
 plain-tail big first second bytes all = All-tail IsNoSurrogate (unit_of big first second) (units_of big bytes) all
 
--- the first and the last of at most three units, and of three the second
-abbrev pub AreFew : Bool → List ℕ → Type 0
-AreFew big bytes = IsNoSurrogate (unit_of big (slice_index bytes 0) (slice_index bytes 1))
-    × IsNoSurrogate (unit_of big (slice_index bytes (length bytes - 2)) (slice_index bytes (length bytes - 1)))
-    × (6 ≤ length bytes → IsNoSurrogate (unit_of big (slice_index bytes 2) (slice_index bytes 3)))
+-- one, two and three units
+pub no_surrogate-one : (big : Bool) (bytes : List ℕ) → length bytes ≡ 2
+    → IsNoSurrogate (unit_of big (slice_index bytes 0) (slice_index bytes 1)) ↔ HasNoSurrogate (units_of big bytes)
+no_surrogate-one big [] two = absurd (omega (arith, two))
+no_surrogate-one big (a ∷ []) two = absurd (omega (arith, two))
+no_surrogate-one big (a ∷ b ∷ []) two = ((λ here. plain-cons big a b [] here (plain-nil big)), (λ all. plain-head big a b [] all))
+no_surrogate-one big (a ∷ b ∷ c ∷ bytes) two = absurd (omega (arith, two))
 
-pub no_surrogate-few : (big : Bool) (bytes : List ℕ) → 0 < length bytes → length bytes < 8 → length bytes % 2 ≡ 0 → AreFew big bytes ↔ HasNoSurrogate (units_of big bytes)
-no_surrogate-few big [] some few even = absurd (omega arith)
-no_surrogate-few big (a ∷ []) some few even = absurd (omega arith)
-no_surrogate-few big (a ∷ b ∷ []) some few even = (
-  (λ are. plain-cons big a b [] are.0 (plain-nil big)),
-  (λ all. let here = plain-head big a b [] all in (here, here, λ many. absurd (omega (arith, many)))),
+no_surrogate-cons : (big : Bool) (a b : ℕ) (bytes : List ℕ) (Others : Type 0) → Others ↔ HasNoSurrogate (units_of big bytes)
+    → (IsNoSurrogate (unit_of big a b) × Others) ↔ HasNoSurrogate (units_of big (a ∷ b ∷ bytes))
+no_surrogate-cons big a b bytes Others others = (
+  (λ both. plain-cons big a b bytes both.0 (others.0 both.1)),
+  (λ all. (plain-head big a b bytes all, others.1 (plain-tail big a b bytes all))),
 )
-no_surrogate-few big (a ∷ b ∷ c ∷ []) some few even = absurd (omega arith)
-no_surrogate-few big (a ∷ b ∷ c ∷ d ∷ []) some few even = (
-  (λ are. plain-cons big a b (c ∷ d ∷ []) are.0 (plain-cons big c d [] are.1 (plain-nil big))),
-  (λ all.
-      let last = plain-head big c d [] (plain-tail big a b (c ∷ d ∷ []) all) in
-      (plain-head big a b (c ∷ d ∷ []) all, last, λ many. absurd (omega (arith, many)))),
-)
-no_surrogate-few big (a ∷ b ∷ c ∷ d ∷ e ∷ []) some few even = absurd (omega arith)
-no_surrogate-few big (a ∷ b ∷ c ∷ d ∷ e ∷ f ∷ []) some few even = (
-  (λ are. plain-cons big a b (c ∷ d ∷ e ∷ f ∷ []) are.0 (plain-cons big c d (e ∷ f ∷ []) (are.2 (omega arith)) (plain-cons big e f [] are.1 (plain-nil big)))),
-  (λ all.
-      let others = plain-tail big a b (c ∷ d ∷ e ∷ f ∷ []) all in
-      (plain-head big a b (c ∷ d ∷ e ∷ f ∷ []) all, plain-head big e f [] (plain-tail big c d (e ∷ f ∷ []) others), λ many. plain-head big c d (e ∷ f ∷ []) others)),
-)
-no_surrogate-few big (a ∷ b ∷ c ∷ d ∷ e ∷ f ∷ g ∷ []) some few even = absurd (omega arith)
-no_surrogate-few big (a ∷ b ∷ c ∷ d ∷ e ∷ f ∷ g ∷ h ∷ bytes) some few even = absurd (omega arith)
+
+pub no_surrogate-two : (big : Bool) (bytes : List ℕ) → length bytes ≡ 4
+    → (IsNoSurrogate (unit_of big (slice_index bytes 0) (slice_index bytes 1)) × IsNoSurrogate (unit_of big (slice_index bytes 2) (slice_index bytes 3)))
+    ↔ HasNoSurrogate (units_of big bytes)
+no_surrogate-two big [] four = absurd (omega (arith, four))
+no_surrogate-two big (a ∷ []) four = absurd (omega (arith, four))
+no_surrogate-two big (a ∷ b ∷ bytes) four = no_surrogate-cons big a b bytes _ (no_surrogate-one big bytes (omega (arith, four)))
+
+pub no_surrogate-three : (big : Bool) (bytes : List ℕ) → length bytes ≡ 6
+    → ((IsNoSurrogate (unit_of big (slice_index bytes 0) (slice_index bytes 1)) × IsNoSurrogate (unit_of big (slice_index bytes 2) (slice_index bytes 3))) × IsNoSurrogate (unit_of big (slice_index bytes 4) (slice_index bytes 5)))
+    ↔ HasNoSurrogate (units_of big bytes)
+no_surrogate-three big [] six = absurd (omega (arith, six))
+no_surrogate-three big (a ∷ []) six = absurd (omega (arith, six))
+no_surrogate-three big (a ∷ b ∷ bytes) six =
+    let all = no_surrogate-cons big a b bytes _ (no_surrogate-two big bytes (omega (arith, six))) in
+    ((λ are. all.0 (are.0.0, (are.0.1, are.1))), (λ plain. let are = all.1 plain in ((are.0, are.1.0), are.1.1)))
 
 pub no_surrogate-none : (big : Bool) (bytes : List ℕ) → length bytes ≡ 0 → HasNoSurrogate (units_of big bytes)
 no_surrogate-none big [] none = plain-nil big

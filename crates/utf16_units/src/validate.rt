@@ -1,6 +1,6 @@
 //! Validation of UTF-16.
 
-ghost use Rattle.std.specs.Prelude.{◌≡◌, ◌↔◌, ◌⊎◌, ◌+◌, ◌%◌, ◌<◌, ◌≤◌, false, length, slice_index, take, IsOk, IfOk, IfErr, IsTrue};
+ghost use Rattle.std.specs.Prelude.{◌≡◌, ◌≢◌, ◌↔◌, ◌⊎◌, ◌+◌, ◌%◌, ◌<◌, ◌≤◌, false, length, slice_index, take, IsOk, IfOk, IfErr, IsTrue};
 ghost use Rattle.utf16_units.specs.Encoding.{IsUtf16, units_of};
 ghost use Rattle.utf16_units.specs.IllFormed.{BeginsWithChar, BeginsWithNoChar, IsIllFormedAt, IsTextUpTo};
 ghost use Rattle.utf16_units.specs.Lanes.{HasNoSurrogate, IsNoSurrogate, PairedTo, PassedTo, BlocksStopAt};
@@ -99,7 +99,7 @@ pub fn plain_prefix_len<E: Utf16Order>(raw: &[u8]) -> usize
 }
 
 /// Returns whether at most sixty-four bytes are whole code units of which none is a surrogate; no
-/// longer text is tested. It reads the first and the last bytes, which overlap.
+/// longer text is tested. Of eight bytes or more it reads the first and the last, which overlap.
 ///
 /// # Complexity
 ///
@@ -110,8 +110,12 @@ pub fn is_short_plain<E: Utf16Order>(raw: &[u8]) -> bool
         × HasNoSurrogate (units_of E.BIG raw.now)) }
     ensures text { IsTrue result → IsUtf16 E.BIG raw.now }
 {
+    // One unit is tested before all else: it is the shortest text, and any other test would show.
+    if raw.len() == 2 {
+        return is_no_surrogate::<E>([raw[0], raw[1]]);
+    }
     if raw.len() < 8 {
-        return raw.len() % 2 == 0 && has_no_surrogate_few::<E>(raw);
+        return is_plain_few::<E>(raw);
     }
     if raw.len() > 64 {
         return false;
@@ -140,31 +144,31 @@ fn has_no_surrogate_short<E: Utf16Order>(raw: &[u8]) -> bool
     }
 }
 
-// The same of at most three units: the first, the last, and of three the second.
+// Whether fewer than eight bytes, and not two, are whole code units of which none is a surrogate.
 #[inline(always)]
-fn has_no_surrogate_few<E: Utf16Order>(raw: &[u8]) -> bool
+fn is_plain_few<E: Utf16Order>(raw: &[u8]) -> bool
     requires short { length raw.now < 8 }
-    requires even { length raw.now % 2 ≡ 0 }
-    ensures { IsTrue result ↔ HasNoSurrogate (units_of E.BIG raw.now) }
+    requires other { length raw.now ≢ 2 }
+    ensures { IsTrue result ↔ ((length raw.now % 2 ≡ 0) × HasNoSurrogate (units_of E.BIG raw.now)) }
 {
-    let len = raw.len();
-    if len == 0 {
-        return true;
+    if raw.len() == 4 {
+        return is_no_surrogate::<E>([raw[0], raw[1]]) & is_no_surrogate::<E>([raw[2], raw[3]]);
     }
-    let first = is_no_surrogate(E::read_unit([raw[0], raw[1]]));
-    let last = is_no_surrogate(E::read_unit([raw[len - 2], raw[len - 1]]));
-    if len < 6 {
-        return first & last;
+    if raw.len() == 6 {
+        return is_no_surrogate::<E>([raw[0], raw[1]])
+            & is_no_surrogate::<E>([raw[2], raw[3]])
+            & is_no_surrogate::<E>([raw[4], raw[5]]);
     }
-    first & last & is_no_surrogate(E::read_unit([raw[2], raw[3]]))
+    raw.is_empty()
 }
 
 // Whether a unit is no surrogate: the surrogates are the units from 0xD800 to 0xDFFF.
 #[inline(always)]
-fn is_no_surrogate(unit: u16) -> bool
-    ensures { IsTrue result ↔ IsNoSurrogate unit }
+fn is_no_surrogate<E: Utf16Order>(unit: [u8; 2]) -> bool
+    ensures { IsTrue result ↔ IsNoSurrogate (unit_of E.BIG (slice_index unit 0)
+        (slice_index unit 1)) }
 {
-    unit / 0x800 != 0x1B
+    E::read_unit(unit) / 0x800 != 0x1B
 }
 
 // The length of a well-formed prefix, as far as whole blocks reach from an offset on.
