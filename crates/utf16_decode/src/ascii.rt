@@ -15,9 +15,14 @@ use utf16_units::{Utf16Order, first_char_len};
 // The number of code units of a block.
 const BLOCK: usize = 32;
 
+// Where so many bytes more are written than if one unit in eight were U+FFFD, unpaired surrogates
+// are near one another, and a copy takes less time.
+const NEAR: usize = 8;
+
 // Writes blocks of ASCII to the start of a buffer, with U+FFFD for each unpaired surrogate in them,
-// until another character comes. Returns the number of bytes read and the number of bytes written.
-// A function of its own, so that its loop has all registers.
+// until another character comes, or unpaired surrogates are near one another. Returns the number of
+// bytes read and the number of bytes written. A function of its own, so that its loop has all
+// registers.
 #[inline(never)]
 pub(crate) fn put_ascii_blocks<E: Utf16Order>(raw: &[u8], to: &mut [u8]) -> (usize, usize)
     requires bytes { 66 ≤ length raw.now }
@@ -34,6 +39,9 @@ pub(crate) fn put_ascii_blocks<E: Utf16Order>(raw: &[u8], to: &mut [u8]) -> (usi
         };
         read += len;
         written += size;
+        if len < 2 * BLOCK && written > read / 2 + read / 8 + NEAR {
+            break;
+        }
     }
     (read, written)
 }

@@ -24,6 +24,10 @@ const BLOCKS_ROOM: usize = 512;
 // and the next bytes are copied with U+FFFD inserted.
 const CLOSE: usize = 128;
 
+// Where fewer bytes than this were read at an ill-formed sequence, ASCII is not looked for at the
+// next one.
+const FEW: usize = 64;
+
 // The most bytes that are copied then, and where an ill-formed sequence is among pairs.
 const COPIED_CLOSE: usize = 1024;
 
@@ -102,6 +106,7 @@ fn put_many<E: Utf16Order>(raw: &[u8], to: &mut [u8]) -> (usize, usize)
     let mut read = 0;
     let mut written = 0;
     let mut close = false;
+    let mut few = false;
     while raw.len() - read >= BLOCKS_LEN && to.len() - written >= BLOCKS_ROOM {
         let (front, size) = put_well_formed::<E>(&raw[read..], &mut to[written..]);
         read += front;
@@ -111,9 +116,10 @@ fn put_many<E: Utf16Order>(raw: &[u8], to: &mut [u8]) -> (usize, usize)
         }
         let many = close && front < CLOSE;
         close = front < CLOSE;
-        let (len, size) = put_ill_formed::<E>(&raw[read..], &mut to[written..], many);
+        let (len, size) = put_ill_formed::<E>(&raw[read..], &mut to[written..], many, few);
         read += len;
         written += size;
+        few = !few & (len < FEW);
     }
     (read, written)
 }
@@ -128,17 +134,17 @@ fn put_well_formed<E: Utf16Order>(raw: &[u8], to: &mut [u8]) -> (usize, usize)
 }
 
 // Writes the text of the next bytes to the start of a buffer: of blocks of ASCII with U+FFFD in
-// them; else of the units before the first surrogate and U+FFFD if it is unpaired; else of a copy,
-// and of a longer copy if there are many ill-formed sequences. Returns the number of bytes read and
-// the number of bytes written.
+// them, unless that read few bytes just before; else of the units before the first surrogate, and
+// U+FFFD if it is unpaired; else of a copy, and of a longer copy if there are many ill-formed
+// sequences. Returns the number of bytes read and the number of bytes written.
 #[inline(always)]
-fn put_ill_formed<E: Utf16Order>(raw: &[u8], to: &mut [u8], many: bool) -> (usize, usize)
+fn put_ill_formed<E: Utf16Order>(raw: &[u8], to: &mut [u8], many: bool, few: bool) -> (usize, usize)
     requires bytes { BLOCKS_LEN ≤ length raw.now }
     requires space { BLOCKS_ROOM ≤ length to.old }
     ensures decodes { DecodesTo E.BIG raw.now to.new result.0 result.1 }
     ensures advances { 0 < result.0 }
 {
-    if E::read_unit([raw[0], raw[1]]) < 0x80 {
+    if !few & (E::read_unit([raw[0], raw[1]]) < 0x80) {
         let (read, written) = put_ascii_blocks::<E>(raw, to);
         if read > 0 {
             return (read, written);

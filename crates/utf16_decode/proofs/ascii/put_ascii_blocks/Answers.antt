@@ -7,3 +7,8 @@ pub loop-read-preserved : goal.loop-read-preserved
 loop-read-preserved g c =
     DecodesTo-window _ _ _ _ _ [] _ _ _ _ c.loop-read.invariant (append-nil _ ∙ take_rest c.args.raw.now c.loop-read.read) c.in-Some.ensures.decodes
     (search rules)
+
+pub returns-then-written-read : goal.returns-then-written-read
+returns-then-written-read g c =
+    DecodesTo-window _ _ _ _ _ [] _ _ _ _ c.loop-read.invariant (append-nil _ ∙ take_rest c.args.raw.now c.loop-read.read) c.in-Some.ensures.decodes
+    (search rules)
