@@ -1,8 +1,12 @@
-use Rattle.std.proofs.Common.{◌∷◌, sym, ◌∙◌, subst}
+use Rattle.std.proofs.Common.{◌≡◌, ℕ, ◌∷◌, List, length, take, ap, sym, ◌∙◌, subst}
+use Rattle.std.proofs.lemmas.List.{length-take, take_min}
 use Rattle.utf16_str.specs.Common.{IsCommonPrefix}
 use Rattle.utf16_str.specs.WStr.{wstr_text}
 use Rattle.utf16_str.proofs.CommonLemmas.{IsShared, other_ahead, same_ahead, shared-all, shared-start, shared-step, shared-stop}
 use Rattle.utf16_str.proofs.wstr.WStr.common_prefix.Goals as goal
+
+own-length : (part whole : List ℕ) (n : ℕ) → part ≡ take n whole → part ≡ take (length part) whole
+own-length part whole n e = e ∙ sym (take_min n whole) ∙ ap (λ k. take k whole) (sym (length-take n whole) ∙ ap length (sym e))
 
 pub loop-at-init : goal.loop-at-init
 loop-at-init g c = shared-start _ _ _ _ (c.into_iter-at-iterator.ensures.into_iter_gives ∙ c.char_indices-at-items.ensures.text) c.chars-theirs.ensures.text
@@ -25,3 +29,6 @@ pub returns-clause-text : goal.returns-clause-text
 returns-clause-text g c =
     shared-all _ _ c.loop-at.theirs
     (subst (λ items. IsShared (wstr_text c.args.self) (wstr_text c.args.other) items c.loop-at.theirs) c.in-None.ensures.steps.0 c.loop-at.invariant)
+
+pub returns-then-ne-clause-bytes : goal.returns-then-ne-clause-bytes
+returns-then-ne-clause-bytes g c = own-length _ _ _ c.split_at.ensures.front_bytes
