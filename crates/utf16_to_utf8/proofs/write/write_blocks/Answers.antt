@@ -29,3 +29,9 @@ returns-clause-stop g c =
     reached.even reached.within full in
     inr (omega (arith, less, c.whole_chars.ensures.near, length-append done.new.out (drop room to), length-drop room to, done.auto.out, part, c.min-room.ensures)))
     c.whole_chars.ensures.stop
+
+pub whole_chars-requires-clause-reached : goal.whole_chars-requires-clause-reached
+whole_chars-requires-clause-reached g c = c.put_paired-done.ensures.reached
+
+pub whole_chars-requires-clause-stop : goal.whole_chars-requires-clause-stop
+whole_chars-requires-clause-stop g c = c.put_paired-done.ensures.stop
