@@ -19,3 +19,6 @@ pub put_blocks-requires : goal.put_blocks-requires
 put_blocks-requires g c =
     let ascii = c.write_ascii-len.ensures in
     ascii-first g.E.Utf16Order.BIG c.args.bytes.now c.write_ascii-len.new.out c.min-most.result c.write_ascii-len.result ascii.within ascii.ascii ascii.bytes (search rules)
+
+pub returns-then-out-len-lt-BLOCK_SPACE-clause-stop : goal.returns-then-out-len-lt-BLOCK_SPACE-clause-stop
+returns-then-out-len-lt-BLOCK_SPACE-clause-stop g c block = omega arith
