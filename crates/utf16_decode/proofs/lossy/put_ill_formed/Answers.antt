@@ -15,6 +15,9 @@ pub returns-in_default-clause-advances : goal.returns-in_default-clause-advances
 returns-in_default-clause-advances g c =
     c.put_copied-in_default.ensures.advances (four_decide g.E.Utf16Order.BIG c.args.raw.now (omega (arith, c.requires.bytes)))
 
+pub write_utf8-written-requires-clause-well_formed : goal.write_utf8-written-requires-clause-well_formed
+write_utf8-written-requires-clause-well_formed g c = c.plain_prefix_len-len.ensures.text
+
 pub put-requires : goal.put-requires
 put-requires g c =
     let len = c.plain_prefix_len-len in

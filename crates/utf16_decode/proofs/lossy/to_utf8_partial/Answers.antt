@@ -10,6 +10,9 @@ use Rattle.utf16_decode.proofs.lossy.to_utf8_partial.Given.{Over}
 use Rattle.utf16_decode.proofs.lossy.to_utf8_partial.Goals as goal
 use Rattle.utf16_decode.proofs.lossy.to_utf8_partial.Goals.{In-IllFormed}
 
+pub loop-len-init : goal.loop-len-init
+loop-len-init g c = c.put_blocks-read.ensures.decodes
+
 pub returns-in_default : goal.returns-in_default
 returns-in_default g c =
     let wrote = c.to_utf8-front.ensures.wrote in
