@@ -53,9 +53,8 @@ pub loop-len-smaller-then-to-written-ge-BLOCKS_ROOM : goal.loop-len-smaller-then
 loop-len-smaller-then-to-written-ge-BLOCKS_ROOM g c =
     let raw = c.args.raw.now in
     let found = fault g (goal.at.loop-len-smaller-then-to-written-ge-BLOCKS_ROOM g c).In-IllFormed in
-    let wrote = c.to_utf8-front.ensures.wrote in
     let here = take_rest raw (c.loop-len.read + c.to_utf8-front.result.read) in
-    let left = some_items _ _ _ _ _ _ _ _ c.loop-len.invariant wrote (search rules) (λ k. omega (arith, c.type_inv.raw k)) c.in-IllFormed.len found.1 found.0 in
+    let left = some_items _ _ _ _ _ _ _ _ c.loop-len.invariant c.to_utf8-front.ensures.wrote (search rules) (λ k. omega (arith, c.type_inv.raw k)) c.in-IllFormed.len found.1 found.0 in
     let some = c.put_copied-len.ensures.advances (λ none. left (ap (split_items g.E.Utf16Order.BIG) (sym here) ∙ none)) in
     let within = c.put_copied-len.ensures.decodes.within in
     omega (arith, ap length here, length-drop (c.loop-len.read + c.to_utf8-front.result.read) raw)
