@@ -1,9 +1,10 @@
 -- How many units the characters have that begin in bytes of UTF-8.
-use Rattle.std.proofs.Common.{◌≡◌, ℕ, suc, ◌+◌, ◌*◌, ◌/◌, ◌%◌, ◌^◌, ◌<◌, ◌≤◌, ◌⊎◌, Bool, true, false, not, cond, eqb, eq-eqb, eqb-true, List, [], ◌∷◌, ◌++◌, All, map, length, take, drop, slice_index, replicate, bit_and, count_ones, encode_utf8_all, flat_map, refl, sym, ap, ap₂, ◌∙◌, ⊎_elim, inl, inr, arith, drop-cons, length-append, w8}
+use Rattle.std.proofs.Common.{◌≡◌, ℕ, suc, zero, ◌+◌, ◌-◌, ◌*◌, ◌/◌, ◌%◌, ◌^◌, ◌<◌, ◌≤◌, ◌⊎◌, Bool, true, false, not, cond, eqb, eq-eqb, eqb-true, List, [], ◌∷◌, ◌++◌, All, map, length, take, drop, replicate, bit_and, count_by, count_ones, encode_utf8_all, flat_map, refl, sym, ap, ap₂, ◌∙◌, ⊎_elim, inl, inr, arith, drop-drop, length-append, length-drop, take_all, w8}
 use Rattle.std.proofs.lemmas.Bool.{cases_lt, false_from_ne_true}
-use Rattle.std.proofs.lemmas.List.{drop_all, length-map}
+use Rattle.std.proofs.lemmas.List.{drop-map, length-map}
 use Rattle.std.proofs.lemmas.List.Elements.{All-head, All-tail}
 use Rattle.std.proofs.lemmas.List.Sums.{count_by-le-length, sum_by-append, sum_by-cons}
+use Rattle.std.proofs.Math.Nat.{div-div-eq-div-mul, two-pow-succ, zero-div}
 use Rattle.std.proofs.lemmas.Nat.Bits.{and_high}
 use Rattle.std.proofs.lemmas.Simd.{bitmask_splat, chunk-drop, map-map, ones-mask_l, zip2_splat}
 use Rattle.std.proofs.lemmas.Str.{encodes-chars, scalars-chars}
@@ -11,9 +12,8 @@ use Rattle.std.proofs.str.Utf16.{one_unit, two_units}
 use Rattle.std.specs.Char.{IsScalar}
 use Rattle.std.specs.Char.Escape.{encode_utf16}
 use Rattle.std.specs.Str.{IsUtf8, chars}
-use lib.Lanes.{mask_l, top, zip2}
+use lib.Lanes.{chunk, mask_l, top, zip2}
 use lib.Utf8.{encode}
-use mir.Val.{bool_byte}
 use Rattle.utf16_units.specs.Encoding.{size}
 use Rattle.utf16_units.proofs.CharLemmas.{no_surrogate}
 use Rattle.utf16_units.proofs.EncodingLemmas.{All-from_all_scalars}
@@ -159,46 +159,51 @@ begun-step bytes at n units more e is =
     let split = ap units_begun (chunk-drop at n bytes) in
     omega (arith, split, begun-append (take n (drop at bytes)) (drop (at + n) bytes), is, e)
 
-pub begun-step-one : (bytes : List ℕ) (at units more : ℕ) → at < length bytes → units + units_begun (drop at bytes) ≡ units_begun bytes
-    → more ≡ units_begun (slice_index bytes at ∷ []) → units + more + units_begun (drop (at + 1) bytes) ≡ units_begun bytes
-begun-step-one bytes at units more room e is =
-    let next : suc at ≡ at + 1 = omega arith in
-    let split = ap units_begun (drop-cons bytes at 0 room ∙ ap (λ n. slice_index bytes at ∷ drop n bytes) next) in
-    omega (arith, split, begun-append (slice_index bytes at ∷ []) (drop (at + 1) bytes), is, e)
-
-pub begun-all : (bytes : List ℕ) (at units : ℕ) → length bytes ≤ at → units + units_begun (drop at bytes) ≡ units_begun bytes → units ≡ units_begun bytes
-begun-all bytes at units end e =
-    let none : units_begun (drop at bytes) ≡ 0 = ap units_begun (drop_all at bytes end) in
-    omega (arith, none, e)
-
 -- ---- a block by its bits
 
-pub char-bits : (block : List ℕ) → length block ≡ 64
-    → mask_l (map (top 7) (zip2 (λ a b. cond (not (eqb a b)) 255 0) (zip2 bit_and block (replicate 64 0xC0)) (replicate 64 0x80))) % 2 ^ 64 ≡ mask_l (map begins_char block)
-char-bits block long =
-    let masked = zip2_splat bit_and block 64 0xC0 long in
-    bitmask_splat w8 (λ (a b : ℕ). not (eqb a b)) (zip2 bit_and block (replicate 64 0xC0)) 64 0x80 (ap length masked ∙ length-map block (λ b. bit_and b 0xC0) ∙ long) (omega arith)
+pub char-bits : (n : ℕ) (block : List ℕ) → n ≤ 64 → length block ≡ n
+    → mask_l (map (top 7) (zip2 (λ a b. cond (not (eqb a b)) 255 0) (zip2 bit_and block (replicate n 0xC0)) (replicate n 0x80))) % 2 ^ 64 ≡ mask_l (map begins_char block)
+char-bits n block few long =
+    let masked = zip2_splat bit_and block n 0xC0 long in
+    bitmask_splat w8 (λ (a b : ℕ). not (eqb a b)) (zip2 bit_and block (replicate n 0xC0)) n 0x80 (ap length masked ∙ length-map block (λ b. bit_and b 0xC0) ∙ long) few
     ∙ ap (λ bs. mask_l (map (λ b. not (eqb b 0x80)) bs)) masked
     ∙ ap mask_l (map-map (λ b. not (eqb b 0x80)) (λ b. bit_and b 0xC0) block)
 
-pub four-bits : (block : List ℕ) → length block ≡ 64
-    → mask_l (map (top 7) (zip2 (λ a b. cond (eqb a b) 255 0) (zip2 bit_and block (replicate 64 0xF0)) (replicate 64 0xF0))) % 2 ^ 64 ≡ mask_l (map begins_four block)
-four-bits block long =
-    let masked = zip2_splat bit_and block 64 0xF0 long in
-    bitmask_splat w8 eqb (zip2 bit_and block (replicate 64 0xF0)) 64 0xF0 (ap length masked ∙ length-map block (λ b. bit_and b 0xF0) ∙ long) (omega arith)
+pub four-bits : (n : ℕ) (block : List ℕ) → n ≤ 64 → length block ≡ n
+    → mask_l (map (top 7) (zip2 (λ a b. cond (eqb a b) 255 0) (zip2 bit_and block (replicate n 0xF0)) (replicate n 0xF0))) % 2 ^ 64 ≡ mask_l (map begins_four block)
+four-bits n block few long =
+    let masked = zip2_splat bit_and block n 0xF0 long in
+    bitmask_splat w8 eqb (zip2 bit_and block (replicate n 0xF0)) n 0xF0 (ap length masked ∙ length-map block (λ b. bit_and b 0xF0) ∙ long) few
     ∙ ap (λ bs. mask_l (map (λ b. eqb b 0xF0) bs)) masked
     ∙ ap mask_l (map-map (λ b. eqb b 0xF0) (λ b. bit_and b 0xF0) block)
 
-pub ones-begun : (block : List ℕ) (chars' fours : ℕ) → chars' ≡ mask_l (map begins_char block) → fours ≡ mask_l (map begins_four block)
-    → count_ones chars' + count_ones fours ≡ units_begun block
-ones-begun block chars' fours a b = ap₂ (λ m n. m + n) (ap count_ones a ∙ ones-mask_l begins_char block) (ap count_ones b ∙ ones-mask_l begins_four block)
-
-bool-bit : (b : Bool) → bool_byte b ≡ bit b
-bool-bit true = refl
-bool-bit false = refl
-
-pub one-begun : (byte : ℕ) → bool_byte (begins_char byte) + bool_byte (begins_four byte) ≡ units_begun (byte ∷ [])
-one-begun byte = ap₂ (λ m n. m + n) (bool-bit (begins_char byte)) (bool-bit (begins_four byte)) ∙ omega (arith, begun-cons byte [], empty)
+-- without the lowest bits, the bits of the flags behind
+mask-drop : (n : ℕ) (flags : List Bool) → mask_l flags / 2 ^ n ≡ mask_l (drop n flags)
+mask-drop zero flags = omega arith
+mask-drop (suc n) [] = zero-div (2 ^ suc n)
+mask-drop (suc n) (flag ∷ flags) =
+    let bits = mask_l (flag ∷ flags) in
+    ap (λ d. bits / d) (omega (arith, two-pow-succ n)) ∙ sym (div-div-eq-div-mul bits 2 (2 ^ n)) ∙ ap (λ k. k / 2 ^ n) (halved flag) ∙ mask-drop n flags
   where
-    empty : units_begun [] ≡ 0
-    empty = refl
+    halved : (f : Bool) → (cond f 1 0 + 2 * mask_l flags) / 2 ≡ mask_l flags
+    halved true = omega arith
+    halved false = omega arith
+
+pub ones-begun : (n : ℕ) (block : List ℕ) (chars' fours : ℕ) → chars' ≡ mask_l (map begins_char block) → fours ≡ mask_l (map begins_four block)
+    → count_ones (chars' / 2 ^ n) + count_ones (fours / 2 ^ n) ≡ units_begun (drop n block)
+ones-begun n block chars' fours a b = ap₂ (λ m n. m + n) (ones begins_char chars' a) (ones begins_four fours b)
+  where
+    ones : (p : ℕ → Bool) (bits : ℕ) → bits ≡ mask_l (map p block) → count_ones (bits / 2 ^ n) ≡ count_by p (drop n block)
+    ones p bits is =
+        ap count_ones (ap (λ m. m / 2 ^ n) is ∙ mask-drop n (map p block) ∙ ap mask_l (drop-map p n block)) ∙ ones-mask_l p (drop n block)
+
+-- of the last bytes those behind an offset
+pub begun-last : (bytes : List ℕ) (at : ℕ) → 16 ≤ length bytes → at ≤ length bytes → length bytes < at + 16
+    → units_begun (drop (16 - (length bytes - at)) (chunk (length bytes - 16) 16 bytes)) ≡ units_begun (drop at bytes)
+begun-last bytes at many within near =
+    let first = length bytes - 16 in
+    let skip = 16 - (length bytes - at) in
+    let rest = drop first bytes in
+    let last : chunk first 16 bytes ≡ rest = take_all 16 rest (omega (arith, length-drop first bytes, many)) in
+    let here : first + skip ≡ at = omega (arith, many, within, near) in
+    ap units_begun (ap (drop skip) last ∙ drop-drop skip first bytes ∙ ap (λ n. drop n bytes) here)

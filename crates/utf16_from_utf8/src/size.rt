@@ -1,12 +1,15 @@
 //! The length of a text in UTF-16.
 
-ghost use Rattle.std.specs.Prelude.{◌≡◌, ◌∷◌, []};
+ghost use Rattle.std.specs.Prelude.{◌≡◌, ◌≤◌, ◌<◌, ◌/◌, ◌^◌, count_ones, drop, length};
 ghost use Rattle.std.specs.Str.{chars};
 ghost use Rattle.utf16_units.specs.Encoding.{size};
 ghost use Rattle.utf16_from_utf8.specs.Sizes.{units_begun};
 
-use crate::few::{TINY_TEXT, few_len};
+use crate::few::few_len;
 use std::simd::prelude::*;
+
+// Texts of fewer bytes than this, a small SIMD block, are counted character by character.
+const FEW: usize = 16;
 
 /// Returns the length of a text in UTF-16, in bytes.
 ///
@@ -16,7 +19,7 @@ use std::simd::prelude::*;
 pub fn utf16_len(s: &str) -> usize
     ensures { result ≡ size (chars s.now) }
 {
-    if s.len() < TINY_TEXT {
+    if s.len() < FEW {
         return few_len(s);
     }
     2 * units(s.as_bytes())
@@ -24,36 +27,44 @@ pub fn utf16_len(s: &str) -> usize
 
 // The number of code units of the characters that begin in the bytes.
 fn units(bytes: &[u8]) -> usize
+    requires { FEW ≤ length bytes.now }
     ensures { result ≡ units_begun bytes.now }
 {
     let mut at = 0;
     let mut units = 0;
     while bytes.len() - at >= 64 {
-        units += units_of_block(u8x64::from_slice(&bytes[at..]));
+        units += units_behind(u8x64::from_slice(&bytes[at..]), 0);
         at += 64;
     }
-    while at < bytes.len() {
-        units += units_of_byte(bytes[at]);
-        at += 1;
+    while bytes.len() - at >= 16 {
+        units += units_behind(u8x16::from_slice(&bytes[at..]), 0);
+        at += 16;
     }
-    units
+    // Of the last sixteen bytes those that were not counted.
+    let left = bytes.len() - at;
+    let last = u8x16::from_slice(&bytes[bytes.len() - 16..]);
+    units + units_behind(last, 16 - left)
 }
 
-// The same for sixty-four bytes: the first byte of a character does not have the upper two bits of
-// a continuation byte, and the first of four has all upper four bits.
+// The same for at most sixty-four bytes, without the first `skip`: the first byte of a character
+// does not have the upper two bits of a continuation byte, and the first of four has all upper four
+// bits.
 #[inline(always)]
-fn units_of_block(block: u8x64) -> usize
-    ensures { result ≡ units_begun block }
+fn units_behind<const N: usize>(block: Simd<u8, N>, skip: usize) -> usize
+    requires few { N ≤ 64 }
+    requires within { skip < 64 }
+    ensures { result ≡ units_begun (drop skip block.entry) }
 {
-    let begun = (block & u8x64::splat(0xC0)).simd_ne(u8x64::splat(0x80));
-    let fours = (block & u8x64::splat(0xF0)).simd_eq(u8x64::splat(0xF0));
-    begun.to_bitmask().count_ones() as usize + fours.to_bitmask().count_ones() as usize
+    let begun = (block & Simd::splat(0xC0)).simd_ne(Simd::splat(0x80));
+    let fours = (block & Simd::splat(0xF0)).simd_eq(Simd::splat(0xF0));
+    set_behind(begun.to_bitmask(), skip) + set_behind(fours.to_bitmask(), skip)
 }
 
-// The same for one byte.
+// The number of bits that are set, without the lowest `skip`.
 #[inline(always)]
-fn units_of_byte(byte: u8) -> usize
-    ensures { result ≡ units_begun (byte ∷ []) }
+fn set_behind(bits: u64, skip: usize) -> usize
+    requires { skip < 64 }
+    ensures { result ≡ count_ones (bits / 2 ^ skip) }
 {
-    (byte & 0xC0 != 0x80) as usize + (byte & 0xF0 == 0xF0) as usize
+    (bits >> skip).count_ones() as usize
 }
