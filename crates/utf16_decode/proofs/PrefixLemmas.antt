@@ -1,42 +1,53 @@
--- What was written without the last character.
-use Rattle.std.proofs.Common.{◌≡◌, ⊎_elim, ℕ, ◌+◌, ◌-◌, ◌<◌, ◌≤◌, Bool, List, [], ◌∷◌, ◌++◌, length, take, encode_utf8_all, refl, sym, ap, ap₂, ◌∙◌, subst, arith, append-nil, length-append, length-take-le, take_at, take-take}
+-- The prefix of a text that ends at a boundary of its UTF-8.
+use Rattle.std.proofs.Common.{◌≡◌, ⊎_elim, ℕ, ◌+◌, ◌<◌, ◌≤◌, Bool, List, [], ◌∷◌, ◌++◌, length, take, drop, encode_utf8_all, sym, ap, ◌∙◌, subst, All, arith, take_at, length-append, length-drop, take-append-drop}
 use Rattle.std.proofs.lemmas.Bool.{cases_lt}
-use Rattle.std.proofs.lemmas.List.{nil_from_length}
-use Rattle.std.proofs.lemmas.List.Concat.{flat_map-append}
-use Rattle.std.specs.Char.{encode_utf8}
-use Rattle.utf16_units.specs.Encoding.{IsUtf16, text_of}
-use Rattle.utf16_units.proofs.EncodingLemmas.{text_of-nil}
+use Rattle.std.proofs.lemmas.Str.{IsCharBoundary-past_char, IsUtf8-drop, IsUtf8-take, chars-append, chars-encodes, encodes-chars, len_utf8_bounds}
+use Rattle.std.specs.Char.{IsScalar, len_utf8}
+use Rattle.std.specs.Str.{IsCharBoundary, IsUtf8, chars}
+use Rattle.utf16_units.specs.Encoding.{IsUtf16, encode, size, text_of}
+use Rattle.utf16_units.proofs.EncodingLemmas.{All-before, IsUtf16-encode, all_scalars-from_All, encode-append, encode-text_of, length-encode, scalars-text_of, text_of-encode}
 use Rattle.utf16_decode.specs.Wrote.{TranscodesToUtf8, Wrote}
 
-module _ (big : Bool) (raw utf8 : List ℕ) (read end : ℕ) (wrote : Wrote (TranscodesToUtf8 big) raw utf8 read end) where
-  -- something was read if something was written
-  pub some_read : 0 < end → 0 < length (take read raw)
-  some_read some = ⊎_elim
-      (λ (none : length (take read raw) < 1).
-      let nothing : take read raw ≡ [] = nil_from_length (take read raw) (omega (arith, none)) in
-      let empty : take end utf8 ≡ [] = wrote.gives.1 ∙ ap (λ r. encode_utf8_all (text_of big r)) nothing ∙ ap encode_utf8_all (text_of-nil big) in
-      absurd (omega (arith, some, sym (length-take-le end utf8 wrote.fits) ∙ ap length empty)))
-      (λ (more : 1 ≤ length (take read raw)). more)
-      (cases_lt (length (take read raw)) 1)
+-- the UTF-8 that was written is well formed
+pub utf8_given : (big : Bool) (raw utf8 : List ℕ) → TranscodesToUtf8 big raw utf8 → IsUtf8 utf8
+utf8_given big raw utf8 gives = (text_of big raw, (all_scalars-from_All (text_of big raw) (scalars-text_of big raw gives.0), sym gives.1))
 
-  pub without_last : (c size len : ℕ) → len ≡ length (encode_utf8 c) → size ≤ length (take read raw)
-      → text_of big (take read raw) ≡ text_of big (take (length (take read raw) - size) (take read raw)) ++ c ∷ []
-      → IsUtf16 big (take (length (take read raw) - size) (take read raw)) → (len ≤ end) × Wrote (TranscodesToUtf8 big) raw utf8 (read - size) (end - len)
-  without_last c size len is within joined text =
-      let whole = length-take-le read raw wrote.within in
-      let rest : take (length (take read raw) - size) (take read raw) ≡ take (read - size) raw =
-      take-take (length (take read raw) - size) read raw (omega (arith, whole)) ∙ ap (λ n. take n raw) (omega (arith, whole)) in
-      let front = encode_utf8_all (text_of big (take (read - size) raw)) in
-      let char = encode_utf8 c in
-      let all : take end utf8 ≡ front ++ char =
-      wrote.gives.1 ∙ ap encode_utf8_all (joined ∙ ap (λ r. text_of big r ++ c ∷ []) rest) ∙ flat_map-append encode_utf8 (text_of big (take (read - size) raw)) (c ∷ [])
-      ∙ ap (λ t. front ++ t) (append-nil char) in
-      let long : end ≡ length front + length char = sym (length-take-le end utf8 wrote.fits) ∙ ap length all ∙ length-append front char in
-      let same : end - len ≡ length front = omega (arith, long, is) in (
-        omega (arith, long, is),
-        record {
-          within = omega (arith, wrote.within);
-          fits = omega (arith, wrote.fits);
-          gives = (subst (IsUtf16 big) rest text, sym (take-take (end - len) end utf8 (omega arith)) ∙ ap₂ take same all ∙ take_at front char (length front) refl);
-        },
-      )
+module _ (utf8 : List ℕ) (end room : ℕ) (valid : IsUtf8 utf8) (at : IsCharBoundary utf8 end) (before : end ≤ room) (long : room < length utf8)
+    (nearest : (i : ℕ) → end < i → i ≤ room → ¬ (IsCharBoundary utf8 i)) where
+  near : (cs : List ℕ) → encode_utf8_all cs ≡ drop end utf8 → room < end + 4
+  near [] none = absurd (omega (arith, length-drop end utf8, ap length none, before, long))
+  near (c ∷ more) spelled =
+      let size = len_utf8_bounds c in
+      let next = IsCharBoundary-past_char utf8 (encode_utf8_all more) end c at.0 (IsUtf8-drop utf8 end valid at) (sym spelled) in
+      ⊎_elim (λ (beyond : room < end + len_utf8 c). omega (arith, beyond, size.1))
+      (λ (within : end + len_utf8 c ≤ room). absurd (nearest (end + len_utf8 c) (omega (arith, size.0)) within next))
+      (cases_lt room (end + len_utf8 c))
+
+  -- the character behind the last boundary before an offset ends behind it, and takes at most four bytes
+  pub boundary_is_near : room < end + 4
+  boundary_is_near = let back = IsUtf8-drop utf8 end valid at in near back.0 back.1.1
+
+-- the UTF-16 of the characters before a boundary of the UTF-8
+pub prefix_to_utf8 : (big : Bool) (raw utf8 : List ℕ) (end : ℕ) → TranscodesToUtf8 big raw utf8 → IsCharBoundary utf8 end
+    → Wrote (TranscodesToUtf8 big) raw utf8 (size (chars (take end utf8))) end
+prefix_to_utf8 big raw utf8 end gives at =
+    let text = text_of big raw in
+    let scalars = scalars-text_of big raw gives.0 in
+    let valid = utf8_given big raw utf8 gives in
+    let front = chars (take end utf8) in
+    let back = chars (drop end utf8) in
+    let first = IsUtf8-take utf8 end valid at in
+    let split : text ≡ front ++ back =
+    sym (ap chars gives.1 ∙ chars-encodes text (all_scalars-from_All text scalars)) ∙ ap chars (sym (take-append-drop end utf8)) ∙ chars-append (take end utf8) (drop end utf8) first in
+    let parts : raw ≡ encode big front ++ encode big back = sym (encode-text_of big raw gives.0) ∙ ap (encode big) split ∙ encode-append big front back in
+    let before = All-before front back (subst (All IsScalar) split scalars) in
+    let same : take (size front) raw ≡ encode big front =
+    ap (take (size front)) parts ∙ take_at (encode big front) (encode big back) (size front) (length-encode big front) in
+    record {
+      within = omega (arith, ap length parts, length-append (encode big front) (encode big back), length-encode big front);
+      fits = at.0;
+      gives = (
+        subst (IsUtf16 big) (sym same) (IsUtf16-encode big front before),
+        sym (encodes-chars (take end utf8) first) ∙ ap encode_utf8_all (sym (ap (text_of big) same ∙ text_of-encode big front before)),
+      );
+    }

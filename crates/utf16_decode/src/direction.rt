@@ -75,15 +75,6 @@ pub trait Direction {
         ensures none { result ≡ None → length to.new - at < length (into c) }
         ensures unchanged { result ≡ None → to.new ≡ to.old };
 
-    /// Returns about how many of the bytes fit in `room` bytes in the second encoding: as many as
-    /// if all characters took as much as the first one. Any number is right.
-    ///
-    /// # Precondition
-    ///
-    /// There are at least two bytes.
-    fn likely_fit(rest: &[u8], room: usize) -> usize
-        requires { 2 ≤ length rest.now };
-
     /// Returns how much of a text, which takes more than `room` bytes in the second encoding, fits
     /// there: the number of bytes of the text, and the number of bytes that they take.
     ///
@@ -126,8 +117,7 @@ pub trait Direction {
     /// each character; an ill-formed sequence after a text is one of the whole input.
     fn laws()
         ensures monotone { (m n : ℕ) → m ≤ n → room_for m ≤ room_for n }
-        ensures buffered { room_for 256 ≤ 528 }
-        ensures few { room_for 32 ≤ 176 }
+        ensures buffered { room_for 64 ≤ 260 }
         ensures of_nothing { Gives IsValid other [] [] }
         ensures joins { Joins (Gives IsValid other) }
         ensures each_char { (c : ℕ) → IsScalar c → Gives IsValid other (from c) (into c) }

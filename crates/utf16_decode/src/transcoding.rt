@@ -8,21 +8,24 @@ ghost use Rattle.utf16_decode.specs.Wrote.{Gives, Puts, Wrote};
 use crate::direction::Direction;
 use crate::progress::{Progress, Stop, put};
 
-// The most bytes that are validated and then written, and the length of a buffer on the stack for
-// them: what `write` needs in both directions; and the same of fewer bytes.
+// The most bytes that are validated and then written straight to their place, and through a buffer.
 const LEFT_LEN: usize = 256;
 
-const BUFFER_LEN: usize = 528;
+const FEW_LEN: usize = 64;
 
-const FEW_LEN: usize = 32;
+// How many bytes have a block in both directions, and two blocks; and the length of a buffer on the
+// stack for what they take, or for what `write` needs for a few.
+const BLOCK_LEN: usize = 66;
 
-const FEW_BUFFER_LEN: usize = 176;
+const TWO_BLOCKS_LEN: usize = 130;
+
+const BUFFER_LEN: usize = 260;
 
 // Fewer bytes than these are written character by character, and so are bytes for which there is
 // less space than this.
 const VERY_FEW: usize = 8;
 
-const BY_CHARS: usize = 16;
+const BY_CHARS: usize = 24;
 
 /// Writes the longest valid prefix in the second encoding to the start of a buffer, as far as whole
 /// characters fit.
@@ -170,55 +173,83 @@ fn put_valid<D: Direction>(rest: &[u8], to: &mut [u8], at: usize) -> (usize, usi
     (len, at + written)
 }
 
-// Does the same for a few bytes, as far as they fit; one by one if there is little space.
+// Does the same for bytes that may not all fit; one by one if there is little space.
 fn put_few<D: Direction>(rest: &[u8], to: &mut [u8], at: usize) -> (usize, usize)
-    requires some { 2 ≤ length rest.now }
+    requires some { 0 < length rest.now }
     requires within { at ≤ length to.old }
     ensures { Puts (Gives D.IsValid D.other) rest.now to.old to.new at result.0 result.1 }
 {
     D::laws();
-    let room = to.len() - at;
-    if room < BY_CHARS {
+    if to.len() - at < BY_CHARS {
         return put_chars::<D>(rest, to, at);
     }
-    let most = D::likely_fit(rest, room).min(LEFT_LEN).min(rest.len());
-    let len = D::valid_len(&rest[..most]);
-    put_text::<D>(&rest[..len], to, at)
+    if is_near_ill_formed::<D>(rest) {
+        return put_chars::<D>(rest, to, at);
+    }
+    let mut buf = [0; BUFFER_LEN];
+    let (read, written) = put_blocks::<D>(rest, &mut buf, to, at);
+    if read > 0 {
+        return (read, written);
+    }
+    let (len, end) = put_text::<D>(&rest[read..], &mut buf, to, written);
+    (read + len, end)
 }
 
-// Does the same for a few bytes of text, as far as they fit.
-fn put_text<D: Direction>(text: &[u8], to: &mut [u8], at: usize) -> (usize, usize)
-    requires well_formed { D.IsValid text.now }
-    requires few { length text.now ≤ LEFT_LEN }
-    requires within { at ≤ length to.old }
-    ensures bytes { Puts (Gives D.IsValid D.other) text.now to.old to.new at result.0 result.1 }
-    ensures most { (result.0 ≡ length text.now) ⊎ (length to.new - result.1 < 4) }
+// Whether the first or the second character is missing or ill formed. Any answer is right.
+#[inline(always)]
+fn is_near_ill_formed<D: Direction>(rest: &[u8]) -> bool
+    requires { 0 < length rest.now }
 {
-    D::laws();
-    if text.len() <= FEW_LEN {
-        put_through::<D>(text, &mut [0; FEW_BUFFER_LEN], to, at)
-    } else {
-        put_through::<D>(text, &mut [0; BUFFER_LEN], to, at)
+    match D::first_char(rest) {
+        Ok((_, len)) => len < rest.len() && D::first_char(&rest[len..]).is_err(),
+        Err(_) => true,
     }
 }
 
-// Does the same through a buffer, as far as the text fits.
+// Does the same through a buffer for a block or two, as many as may fit on average, and validates
+// them while it writes them.
 #[inline(always)]
-fn put_through<D: Direction>(
+fn put_blocks<D: Direction>(rest: &[u8], buf: &mut [u8], to: &mut [u8], at: usize) -> (usize, usize)
+    requires { at ≤ length to.old }
+    ensures { Puts (Gives D.IsValid D.other) rest.now to.old to.new at result.0 result.1 }
+{
+    let most = if to.len() - at <= FEW_LEN {
+        BLOCK_LEN
+    } else {
+        TWO_BLOCKS_LEN
+    };
+    let (len, end) = D::write_front(&rest[..most.min(rest.len())], buf);
+    put_fitting::<D>(&rest[..len], &buf[..end], to, at)
+}
+
+// Does the same through a buffer for a few bytes, and validates them before it writes them.
+fn put_text<D: Direction>(rest: &[u8], buf: &mut [u8], to: &mut [u8], at: usize) -> (usize, usize)
+    requires space { BUFFER_LEN ≤ length buf.old }
+    requires within { at ≤ length to.old }
+    ensures { Puts (Gives D.IsValid D.other) rest.now to.old to.new at result.0 result.1 }
+{
+    D::laws();
+    let len = D::valid_len(&rest[..rest.len().min(FEW_LEN)]);
+    let end = D::write(&rest[..len], buf);
+    put_fitting::<D>(&rest[..len], &buf[..end], to, at)
+}
+
+// Copies a text in the second encoding, as far as it fits, and returns how many bytes of the text
+// these are, and where the copied bytes end.
+#[inline(always)]
+fn put_fitting<D: Direction>(
     text: &[u8],
-    buf: &mut [u8],
+    written: &[u8],
     to: &mut [u8],
     at: usize,
 ) -> (usize, usize)
-    requires well_formed { D.IsValid text.now }
-    requires space { D.room_for (length text.now) ≤ length buf.old }
+    requires text { Gives D.IsValid D.other text.now written.now }
     requires within { at ≤ length to.old }
     ensures bytes { Puts (Gives D.IsValid D.other) text.now to.old to.new at result.0 result.1 }
     ensures most { (result.0 ≡ length text.now) ⊎ (length to.new - result.1 < 4) }
 {
-    let len = D::write(text, buf);
-    let (read, end) = prefix_for::<D>(text, &buf[..len], to.len() - at);
-    (read, put(&buf[..end], to, at))
+    let (read, end) = prefix_for::<D>(text, written, to.len() - at);
+    (read, put(&written[..end], to, at))
 }
 
 // Returns how much of a text fits in `room` bytes in the second encoding: the number of bytes of

@@ -11,8 +11,9 @@ use crate::direction::Direction;
 use crate::progress::{Progress, put};
 use crate::transcoding::transcode;
 use std::marker::PhantomData;
+use utf16_from_utf8::utf16_len;
 use utf16_to_utf8::{SLACK, write_blocks, write_eight_ascii, write_utf8};
-use utf16_units::ends::{first_char, last_char};
+use utf16_units::ends::first_char;
 use utf16_units::{Utf16Order, first_char_len, validate_raw_utf16};
 
 /// Writes UTF-16 in UTF-8 to the start of a buffer, up to the first ill-formed sequence or as far
@@ -96,27 +97,10 @@ impl<E: Utf16Order> Direction for ToUtf8<E> {
     }
 
     #[inline(always)]
-    fn likely_fit(rest: &[u8], room: usize) -> usize {
-        let unit = E::read_unit([rest[0], rest[1]]);
-        if unit < 0x80 {
-            room.saturating_mul(2)
-        } else if unit < 0x800 || unit / 0x800 == 0x1B {
-            room / 4 * 4
-        } else {
-            room / 3 * 2
-        }
-    }
-
-    #[inline(always)]
-    fn fitting_prefix(text: &[u8], written: &[u8], room: usize) -> (usize, usize) {
-        let mut read = text.len();
-        let mut end = written.len();
-        while end > room {
-            let (c, size) = last_char::<E>(&text[..read]);
-            read -= size;
-            end -= c.len_utf8();
-        }
-        (read, end)
+    fn fitting_prefix(_text: &[u8], written: &[u8], room: usize) -> (usize, usize) {
+        let text = unsafe { str::from_utf8_unchecked(written) };
+        let end = text.floor_char_boundary(room);
+        (utf16_len(&text[..end]), end)
     }
 
     #[inline(always)]
@@ -131,8 +115,33 @@ impl<E: Utf16Order> Direction for ToUtf8<E> {
 
     #[inline(always)]
     fn write_front(rest: &[u8], to: &mut [u8]) -> (usize, usize) {
-        write_blocks::<E>(rest, to)
+        let (read, written) = write_blocks::<E>(rest, to);
+        put_ascii_from::<E>(rest, to, read, written)
     }
+}
+
+// Goes on with ASCII behind what was written, eight code units at a time, which need no more space
+// than they take.
+#[inline(always)]
+fn put_ascii_from<E: Utf16Order>(
+    raw: &[u8],
+    to: &mut [u8],
+    from: usize,
+    end: usize,
+) -> (usize, usize)
+    requires { Wrote (TranscodesToUtf8 E.BIG) raw.now to.old from end }
+    ensures { Wrote (TranscodesToUtf8 E.BIG) raw.now to.new result.0 result.1 }
+{
+    let mut read = from;
+    let mut written = end;
+    while raw.len() - read >= 16 && to.len() - written >= 8 {
+        if !write_eight_ascii::<E>(&raw[read..], &mut to[written..]) {
+            break;
+        }
+        read += 16;
+        written += 8;
+    }
+    (read, written)
 }
 
 // Returns the length of the longest valid prefix. A function of its own, so that the writer does

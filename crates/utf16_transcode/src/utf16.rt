@@ -105,15 +105,6 @@ impl<E: Utf16Order> Direction for FromUtf8<E> {
     }
 
     #[inline(always)]
-    fn likely_fit(rest: &[u8], room: usize) -> usize {
-        match rest[0] {
-            ..0x80 => room / 2,
-            0xE0..0xF0 => (room / 2).saturating_mul(3),
-            _ => room,
-        }
-    }
-
-    #[inline(always)]
     fn fitting_prefix(_text: &[u8], written: &[u8], room: usize) -> (usize, usize) {
         let end = last_boundary::<E>(written, room);
         (utf8_len::<E>(&written[..end]), end)

@@ -1,19 +1,27 @@
-use Rattle.std.proofs.Common.{arith}
-use Rattle.utf16_decode.proofs.PrefixLemmas.{some_read, without_last}
+use Rattle.std.proofs.Common.{◌≡◌, ◌-◌, ◌∙◌, ap, arith, length, subst, sym, take}
+use Rattle.std.specs.Str.{IsCharBoundary, chars}
+use Rattle.utf16_units.specs.Encoding.{size}
+use Rattle.utf16_decode.specs.Wrote.{TranscodesToUtf8, Wrote}
+use Rattle.utf16_decode.proofs.PrefixLemmas.{boundary_is_near, prefix_to_utf8, utf8_given}
 use Rattle.utf16_decode.proofs.utf8.ToUtf8Direction.fitting_prefix.Goals as goal
 
-pub last_char-c-requires-clause-not_empty : goal.last_char-c-requires-clause-not_empty
-last_char-c-requires-clause-not_empty g c = some_read g.E.Utf16Order.BIG _ _ _ _ c.loop-end.invariant.wrote (omega (arith, c.loop-end-test.true))
+pub from_utf8_unchecked-text-requires : goal.from_utf8_unchecked-text-requires
+from_utf8_unchecked-text-requires g c = utf8_given g.E.Utf16Order.BIG _ _ c.requires.text
 
-pub overflow_sub-end : goal.overflow_sub-end
-overflow_sub-end g c =
-    let last = c.last_char-c.ensures in
-    (without_last g.E.Utf16Order.BIG _ _ _ _ c.loop-end.invariant.wrote c.last_char-c.result.0 c.last_char-c.result.1 c.len_utf8-end.result c.len_utf8-end.ensures.len last.within last.joined last.well_formed).0
+pub returns-clause-prefix : goal.returns-clause-prefix
+returns-clause-prefix g c =
+    let big = g.E.Utf16Order.BIG in
+    let text = c.args._text.now in
+    let utf8 = c.args.written.now in
+    let end = c.floor_char_boundary-end in
+    let same = c.from_utf8_unchecked-text.ensures in
+    let all : end.result - 0 ≡ end.result = omega arith in
+    let front = c.range.ensures.value ∙ ap (λ n. take n c.from_utf8_unchecked-text.result.now) all ∙ ap (take end.result) same in
+    subst (λ n. Wrote (TranscodesToUtf8 big) text utf8 n end.result) (sym (c.utf16_len.ensures ∙ ap (λ t. size (chars t)) front))
+    (prefix_to_utf8 big text utf8 end.result c.requires.text (subst (λ t. IsCharBoundary t end.result) same end.ensures.boundary))
 
-pub loop-end-preserved : goal.loop-end-preserved
-loop-end-preserved g c =
-    let last = c.last_char-c.ensures in
-    record {
-      wrote = (without_last g.E.Utf16Order.BIG _ _ _ _ c.loop-end.invariant.wrote c.last_char-c.result.0 c.last_char-c.result.1 c.len_utf8-end.result c.len_utf8-end.ensures.len last.within last.joined last.well_formed).1;
-      most = omega (arith, c.loop-end-test.true, c.len_utf8-end.ensures.upper_bound);
-    }
+pub returns-clause-most : goal.returns-clause-most
+returns-clause-most g c =
+    let end = c.floor_char_boundary-end in
+    let text = c.from_utf8_unchecked-text in
+    boundary_is_near text.result.now end.result c.args.room text.utf8 end.ensures.boundary end.ensures.bound (omega (arith, c.requires.long, ap length text.ensures)) end.ensures.nearest

@@ -6,7 +6,6 @@ pub returns : goal.returns
 returns g c = record {
   monotone = room_grows;
   buffered = omega arith;
-  few = omega arith;
   of_nothing = utf8_empty g.E.Utf16Order.BIG;
   joins = utf8_joins g.E.Utf16Order.BIG;
   each_char = char_gives g.E.Utf16Order.BIG;

@@ -1,9 +1,9 @@
 use Rattle.utf16_decode.proofs.WroteLemmas.{enough}
 use Rattle.utf16_decode.proofs.utf8.ToUtf8Direction.write_front.Goals as goal
 
-pub returns : goal.returns
-returns g c =
-    let wrote = c.write_blocks in
+pub put_ascii_from-requires : goal.put_ascii_from-requires
+put_ascii_from-requires g c =
+    let wrote = c.write_blocks-read in
     record {
       within = wrote.ensures.within;
       fits = enough _ _ _ wrote.ensures.utf8 wrote.ensures.len;

@@ -6,7 +6,6 @@ pub returns : goal.returns
 returns g c = record {
   monotone = room_grows;
   buffered = omega arith;
-  few = omega arith;
   of_nothing = utf16_empty g.E.Utf16Order.BIG;
   joins = utf16_joins g.E.Utf16Order.BIG;
   each_char = char_gives g.E.Utf16Order.BIG;
