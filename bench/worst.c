@@ -12,7 +12,8 @@ enum { INPUT = 1 << 15, ROUNDS = 9, MAX_CAPACITY = 1 << 16 };
 static const size_t capacities[] = {16, 32, 64, 128, 256, 1024, 4096, MAX_CAPACITY};
 enum { CAPACITIES = sizeof capacities / sizeof *capacities };
 
-// A text: what it is made of, and an ill-formed sequence that begins each `every` bytes.
+// A text: the characters that it is made of in turn, or at random where a space is between them, and
+// an ill-formed sequence that begins each `every` bytes.
 struct text {
     const char *name;
     const char *good, *fault;
@@ -29,7 +30,8 @@ static const struct text utf16[] = {
     {"Cyrillic", "3004", "", INPUT},
     {"CJK", "004e", "", INPUT},
     {"emoji", "3dd800de", "", INPUT},
-    {"1 to 4 bytes", "610030043dd800de004e", "", INPUT},
+    {"1 to 4 bytes in turn", "610030043dd800de004e", "", INPUT},
+    {"1 to 4 bytes at random", "6100 3004 3dd800de 004e", "", INPUT},
     FAULTS("trailing surrogate in ASCII", "6100", "00dc"),
     FAULTS("leading surrogate in ASCII", "6100", "00d8"),
     FAULTS("trailing surrogate in CJK", "004e", "00dc"),
@@ -41,7 +43,8 @@ static const struct text utf8[] = {
     {"Cyrillic", "d0b0", "", INPUT},
     {"CJK", "e4b880", "", INPUT},
     {"emoji", "f09f9880", "", INPUT},
-    {"1 to 4 bytes", "61d0b0f09f9880e4b880", "", INPUT},
+    {"1 to 4 bytes in turn", "61d0b0f09f9880e4b880", "", INPUT},
+    {"1 to 4 bytes at random", "61 d0b0 f09f9880 e4b880", "", INPUT},
     FAULTS("byte FF in ASCII", "61", "ff"),
     FAULTS("continuation byte in CJK", "e4b880", "80"),
     FAULTS("overlong form in ASCII", "61", "c080"),
@@ -53,8 +56,16 @@ static const struct text utf8[] = {
 static uint8_t input[INPUT + 8], output[MAX_CAPACITY];
 static UChar units[MAX_CAPACITY];
 
+static uint32_t seed = 1;
+
+// Writes a character of some, or all of them, and returns their length.
 static size_t put(uint8_t *to, const char *hex) {
-    size_t len = strlen(hex) / 2;
+    size_t others = 0;
+    for (const char *it = hex; (it = strchr(it, ' ')); it++) others++;
+    seed = seed * 1664525 + 1013904223;
+    for (size_t skip = others ? (seed >> 16) % (others + 1) : 0; skip; skip--)
+        hex = strchr(hex, ' ') + 1;
+    size_t len = strcspn(hex, " ") / 2;
     for (size_t i = 0; i < len; i++) {
         unsigned byte;
         sscanf(hex + 2 * i, "%2x", &byte);
