@@ -50,9 +50,9 @@ pub trait Direction {
         ensures char { IfOk result (λ first. BeginsWith from rest.now first.0 first.1) }
         ensures ill_formed { IfErr result (IsIllFormedAt rest.now) };
 
-    /// Begins to write a short input at the start of a buffer, perhaps with nothing, and returns
-    /// the number of bytes read and the number of bytes written; `None` if the input is not to be
-    /// written character by character.
+    /// Begins to write a short input, or one for which there is little space, at the start of a
+    /// buffer, perhaps with nothing, and returns the number of bytes read and the number of bytes
+    /// written; `None` if a short input is not to be written character by character.
     fn begin_short(input: &[u8], to: &mut [u8]) -> Option<(usize, usize)>
         ensures { IfSome result (λ begun.
             Wrote (Gives IsValid other) input.now to.new begun.0 begun.1) };

@@ -8,7 +8,8 @@ ghost use Rattle.utf16_decode.specs.Wrote.{Gives, Puts, Wrote};
 use crate::direction::Direction;
 use crate::progress::{Progress, Stop, put};
 
-// The most bytes that are validated and then written straight to their place, and through a buffer.
+// The most bytes that are validated and then written straight to their place, and through a buffer;
+// fewer than these have no block.
 const LEFT_LEN: usize = 256;
 
 const FEW_LEN: usize = 64;
@@ -173,7 +174,8 @@ fn put_valid<D: Direction>(rest: &[u8], to: &mut [u8], at: usize) -> (usize, usi
     (len, at + written)
 }
 
-// Does the same for bytes that may not all fit; one by one if there is little space.
+// Does the same for bytes that may not all fit; one by one if there is little space, or an
+// ill-formed sequence is near, where a block would stop.
 fn put_few<D: Direction>(rest: &[u8], to: &mut [u8], at: usize) -> (usize, usize)
     requires some { 0 < length rest.now }
     requires within { at ≤ length to.old }
@@ -183,16 +185,26 @@ fn put_few<D: Direction>(rest: &[u8], to: &mut [u8], at: usize) -> (usize, usize
     if to.len() - at < BY_CHARS {
         return put_chars::<D>(rest, to, at);
     }
+    let mut buf = [0; BUFFER_LEN];
+    if rest.len() < FEW_LEN {
+        return put_text::<D>(rest, &mut buf, to, at);
+    }
     if is_near_ill_formed::<D>(rest) {
         return put_chars::<D>(rest, to, at);
     }
-    let mut buf = [0; BUFFER_LEN];
     let (read, written) = put_blocks::<D>(rest, &mut buf, to, at);
-    if read > 0 {
+    if read > 0 && !is_for_text(rest.len() - read, to.len() - written) {
         return (read, written);
     }
     let (len, end) = put_text::<D>(&rest[read..], &mut buf, to, written);
     (read + len, end)
+}
+
+// Whether so many bytes, with so much space, are for `put_text`: too few for a block, and neither
+// bytes nor space so few that `put_chars` is faster. Any answer is right.
+#[inline(always)]
+fn is_for_text(len: usize, space: usize) -> bool {
+    VERY_FEW <= len && len < FEW_LEN && BY_CHARS <= space
 }
 
 // Whether the first or the second character is missing or ill formed. Any answer is right.
@@ -268,14 +280,14 @@ fn prefix_for<D: Direction>(text: &[u8], written: &[u8], room: usize) -> (usize,
     }
 }
 
-// Writes the valid characters at the start of the bytes one by one, as far as they fit.
+// Writes the valid characters at the start of the bytes as far as they fit: one by one, behind what
+// `begin_short` writes at once.
 fn put_chars<D: Direction>(rest: &[u8], to: &mut [u8], at: usize) -> (usize, usize)
     requires { at ≤ length to.old }
     ensures { Puts (Gives D.IsValid D.other) rest.now to.old to.new at result.0 result.1 }
 {
     D::laws();
-    let mut read = 0;
-    let mut written = at;
+    let (mut read, mut written) = put_begin::<D>(rest, to, at);
     while read < rest.len() {
         let Ok((len, end)) = put_char::<D>(&rest[read..], to, written) else {
             break;
@@ -284,6 +296,19 @@ fn put_chars<D: Direction>(rest: &[u8], to: &mut [u8], at: usize) -> (usize, usi
         written = end;
     }
     (read, written)
+}
+
+// Writes what `begin_short` does of the bytes at `at`, perhaps nothing.
+#[inline(always)]
+fn put_begin<D: Direction>(rest: &[u8], to: &mut [u8], at: usize) -> (usize, usize)
+    requires { at ≤ length to.old }
+    ensures { Puts (Gives D.IsValid D.other) rest.now to.old to.new at result.0 result.1 }
+{
+    D::laws();
+    match D::begin_short(rest, &mut to[at..]) {
+        Some((read, written)) => (read, at + written),
+        None => (0, at),
+    }
 }
 
 // Writes the first character at `at`, or returns why it cannot.

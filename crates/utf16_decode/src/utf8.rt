@@ -73,10 +73,11 @@ impl<E: Utf16Order> Direction for ToUtf8<E> {
         if input.len() < 16 {
             return Some((0, 0));
         }
-        if to.len() >= 8 && write_eight_ascii::<E>(input, to) {
-            return Some((16, 8));
+        let (read, written) = put_ascii_from::<E>(input, to, 0, 0);
+        if read == 0 {
+            return None;
         }
-        None
+        Some((read, written))
     }
 
     #[inline(always)]
