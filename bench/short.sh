@@ -1,35 +1,59 @@
 #!/bin/sh
-# Times calls on short strings beside plain loops that do the same, in one program that `rt` compiles:
-# for each call, text and size (bytes of UTF-16) the best of fifteen in nanoseconds a call in little
-# and in big endian, that of the loop, and the ratio to the loop in each byte order. Before them the
-# rows that take more than 1.1 times a loop's time. It stops where a call finds something else than
-# its loop. The table stays in bench/out/short.md.
+# Times calls on short strings beside plain loops that do the same, in one program that `rt`
+# compiles: for each call, text and size (bytes of UTF-16) the best in nanoseconds a call in little
+# and in big endian, that of the loop, and the ratio to the loop in each byte order, all at the
+# better of two places of the program. Before them the rows that take more than 1.1 times a loop's
+# time. It stops where a call finds something else than its loop. The table stays in
+# bench/out/short.md.
 set -eu
 . "$(dirname "$0")/program.sh"
 build short utf16_transcode utf16_decode utf16_units
-for _ in 1 2; do
-    "$program" >> "$room/times"
+# The program is linked at two places, 16 bytes apart: a branch that lies across 32 bytes at one of
+# them does not at the other.
+kit=$(dirname "$(rt doc)")
+printf '.text\n.balign 16\n.skip 16\n.section .note.GNU-stack,"",@progbits\n' |
+    gcc -c -x assembler -o "$room/pad.o" -
+gcc "$program.o" "$kit/c/libos_c.a" "$kit/c/liblibc_c.a" -o "$room/at_0"
+gcc "$room/pad.o" "$program.o" "$kit/c/libos_c.a" "$kit/c/liblibc_c.a" -o "$room/at_16"
+for _ in 1 2 3; do
+    for place in at_0 at_16; do
+        "$room/$place" | sed "s/^/$place /" >> "$room/both"
+    done
 done
 awk '
 {
-    row = $1 " " $2 " " $3
+    row = $2 " " $3 " " $4
     if (!(row in seen)) { seen[row] = 1; rows[++n] = row }
-    time = $6 / $7
-    if (!((row, $4) in best) || time < best[row, $4]) best[row, $4] = time
-    order = substr($4, 1, 2)
+    time = $7 / $8
+    if (!((row, $5, $1) in best) || time < best[row, $5, $1]) best[row, $5, $1] = time
+    order = substr($5, 1, 2)
     # A hash of a string is not that of a slice of the same bytes.
-    if ($1 == "hash") next
-    if (!((row, order) in found)) found[row, order] = $5
-    if (found[row, order] "" != $5 "") { print "short: differs: " $0 > "/dev/stderr"; failed = 1; exit 1 }
+    if ($2 == "hash") next
+    if (!((row, order) in found)) found[row, order] = $6
+    if (found[row, order] "" != $6 "") { print "short: differs: " $0 > "/dev/stderr"; failed = 1; exit 1 }
+}
+# Returns the ratio to the loop in a byte order, and leaves both times, at the place where it is less.
+function ratio(row, order,    place, least, its) {
+    least = -1
+    for (place = 0; place <= 16; place += 16) {
+        its = best[row, order, "at_" place] / best[row, order "-loop", "at_" place]
+        if (least >= 0 && its >= least) continue
+        least = its
+        ours = best[row, order, "at_" place]
+        loops = best[row, order "-loop", "at_" place]
+    }
+    return least
 }
 END {
     if (failed) exit 1
     for (i = 1; i <= n; i++) {
         row = rows[i]
         split(row, name, " ")
-        little = sprintf("%.2f", best[row, "LE"] / best[row, "LE-loop"])
-        big = sprintf("%.2f", best[row, "BE"] / best[row, "BE-loop"])
-        all = all sprintf("| `%s` | %s | %s | %.1f | %.1f | %.1f | %.1f | %s | %s |\n", name[1], name[2], name[3], best[row, "LE"], best[row, "LE-loop"], best[row, "BE"], best[row, "BE-loop"], little, big)
+        little = sprintf("%.2f", ratio(row, "LE"))
+        times = sprintf("%.1f | %.1f", ours, loops)
+        big = sprintf("%.2f", ratio(row, "BE"))
+        times = times sprintf(" | %.1f | %.1f", ours, loops)
+        all = all sprintf("| `%s` | %s | %s | %s | %s | %s |\n", name[1], name[2], name[3], times, little, big)
         if (little + 0 <= 1.1 && big + 0 <= 1.1) continue
         slower++
         first = first sprintf("| `%s` | %s | %s | %s | %s |\n", name[1], name[2], name[3], little, big)
@@ -39,7 +63,7 @@ END {
     print first
     print "| Call | Text | Bytes | Little, ns | its loop, ns | Big, ns | its loop, ns | Little to the loop | Big to the loop |\n|---|---|---|---|---|---|---|---|---|"
     printf "%s", all
-}' "$room/times" > "$room/table" || exit 1
+}' "$room/both" > "$room/table" || exit 1
 mkdir -p "$top/bench/out"
 cp "$room/table" "$top/bench/out/short.md"
 cat "$room/table"
