@@ -98,5 +98,6 @@ pub fn program_on<R: Read, W: Write, T: Write, A: Allocator>(
         (watched_faults reader.old) (watched_faults reader.new)
         (watched_faults writer.old) (watched_faults writer.new) }
 {
-    ended::<Lines, _>(run(alloc, words, reader, writer), errors)
+    let outcome = run(alloc, words, reader, writer);
+    ended::<Lines, _>(outcome, errors)
 }
