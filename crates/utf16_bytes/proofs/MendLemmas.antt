@@ -46,7 +46,7 @@ well_formed_unpaired big bytes text =
     let none = ap lone_items (sym (append-nil (map good (text_of big bytes)))) ∙ lone_items-good (text_of big bytes) [] in
     omega (arith, ap₂ (λ i t. lone_items i + lone_tail t) split.0 split.1, none)
 
--- ---- whole code units up to the first unpaired surrogate, and behind it
+-- ---- whole code units up to the first unpaired surrogate, and after it
 module _ (big : Bool) (bytes : List ℕ) (are : AreBytes bytes) (even : length bytes % 2 ≡ 0) (e : Utf16Error) (is : IsErrorOf big bytes e) where
   abbrev n : ℕ
   n = valid_up_to e

@@ -9,12 +9,13 @@ use std::cmp::Ordering;
 use utf16_append::append_utf8;
 use utf16_case_lines::{Answer, Trouble, Values};
 use utf16_decode::put;
-use utf16_from_utf8::{append_utf16, extend_utf16, utf16_len, write_units};
+use utf16_from_utf8::{append_utf16, extend_utf16, write_units};
 use utf16_to_utf8::{SLACK, utf8_len, write_utf8};
 use utf16_units::compare::compare;
 use utf16_units::ends::{first_char, last_char};
+use utf16_units::size::few_len;
 use utf16_units::text::{count_chars, is_ascii};
-use utf16_units::{Utf16Order, validate_raw_utf16};
+use utf16_units::{Utf16Order, utf16_len, validate_raw_utf16};
 
 /// Makes a call on bytes that are a text, or on a text in UTF-8. `Call` if none has this name.
 pub fn call<E: Utf16Order>(
@@ -30,7 +31,7 @@ pub fn call<E: Utf16Order>(
         "compare" => compared::<E>(alloc, values, answer),
         "append_utf8" => to_string::<E>(alloc, values, answer),
         "write_utf8" => to_buffer::<E>(alloc, values, answer),
-        "utf16_len" => of_utf8(alloc, values, answer),
+        "utf16_len" | "few_len" => of_utf8(alloc, name, values, answer),
         "append_utf16" | "extend_utf16" => to_bytes::<E>(alloc, name, values, answer),
         "write_units" => units_to_buffer::<E>(alloc, values, answer),
         "put" => at_place(alloc, values, answer),
@@ -120,9 +121,18 @@ fn to_buffer<E: Utf16Order>(
     Ok(())
 }
 
-fn of_utf8(alloc: Global, values: &mut Values, answer: &mut Answer) -> Result<(), Trouble> {
+fn of_utf8(
+    alloc: Global,
+    name: &str,
+    values: &mut Values,
+    answer: &mut Answer,
+) -> Result<(), Trouble> {
     let text = values.text(alloc)?;
-    answer.number(utf16_len(text.as_str()));
+    if name == "few_len" {
+        answer.number(few_len(text.as_str()));
+    } else {
+        answer.number(utf16_len(text.as_str()));
+    }
     Ok(())
 }
 

@@ -23,7 +23,7 @@ module _ (utf8 : List ℕ) (end room : ℕ) (valid : IsUtf8 utf8) (at : IsCharBo
       (λ (within : end + len_utf8 c ≤ room). absurd (nearest (end + len_utf8 c) (omega (arith, size.0)) within next))
       (cases_lt room (end + len_utf8 c))
 
-  -- the character behind the last boundary before an offset ends behind the offset, and takes at
+  -- the character after the last boundary before an offset ends after the offset, and takes at
   -- most four bytes
   pub boundary_is_near : room < end + 4
   boundary_is_near = let back = IsUtf8-drop utf8 end valid at in near back.0 back.1.1

@@ -1,9 +1,8 @@
 -- From UTF-16 to UTF-8: texts one after another, characters, and the place of an error.
-use Rattle.std.proofs.Common.{◌≡◌, ℕ, ◌+◌, ◌*◌, ◌/◌, ◌%◌, ◌<◌, ◌≤◌, Bool, List, [], ◌∷◌, ◌++◌, Option, length, take, drop, slice_index, encode_utf8_all, sym, ap, ap₂, lt-ltb, le-ltb, ◌∙◌, subst, arith, append-nil, refl, length-take-le}
+use Rattle.std.proofs.Common.{◌≡◌, ℕ, ◌+◌, ◌*◌, ◌/◌, ◌<◌, ◌≤◌, Bool, List, [], ◌∷◌, ◌++◌, Option, length, take, drop, slice_index, encode_utf8_all, sym, ap, ap₂, ◌∙◌, subst, arith, append-nil, length-take-le}
 use Rattle.std.proofs.lemmas.List.{take_rest}
 use Rattle.std.proofs.lemmas.List.Concat.{flat_map-append}
 use Rattle.std.specs.Char.{IsScalar, encode_utf8}
-use lib.Utf8.{encode}
 use Rattle.utf16_units.specs.Encoding.{IsUtf16, char_bytes, char_size, text_of}
 use Rattle.utf16_units.specs.IllFormed.{BeginsWithChar, IsIllFormedAt}
 use Rattle.utf16_units.proofs.EncodingLemmas.{IsUtf16-append, IsUtf16-char, IsUtf16-nil, char_text, text_of-append, text_of-nil}
@@ -47,21 +46,3 @@ begins big rest len c n first size joined =
       some = omega (arith, size, char_size_cases c);
       spelled = ap (λ k. take k rest) all ∙ first.spelled ∙ ap (char_bytes big) same;
     }
-
--- the bytes of a character that takes two, three or four
-pub two : (c : ℕ) → 0x80 ≤ c → c < 0x800 → encode c ≡ (0xC0 + c / 64) ∷ (0x80 + c % 64) ∷ []
-unfolding encode
-two c least most = rw (le-ltb c 0x80 least, lt-ltb c 0x800 most) refl
-
-pub three : (c : ℕ) → 0x800 ≤ c → c < 0x1_0000 → encode c ≡ (0xE0 + c / 4096) ∷ (0x80 + c / 64 % 64) ∷ (0x80 + c % 64) ∷ []
-unfolding encode
-three c least most =
-    let x : 0x80 ≤ c = omega arith in
-    rw (le-ltb c 0x80 x, le-ltb c 0x800 least, lt-ltb c 0x1_0000 most) refl
-
-pub four : (c : ℕ) → 0x1_0000 ≤ c → encode c ≡ (0xF0 + c / 262144) ∷ (0x80 + c / 4096 % 64) ∷ (0x80 + c / 64 % 64) ∷ (0x80 + c % 64) ∷ []
-unfolding encode
-four c least =
-    let x : 0x80 ≤ c = omega arith in
-    let y : 0x800 ≤ c = omega arith in
-    rw (le-ltb c 0x80 x, le-ltb c 0x800 y, le-ltb c 0x1_0000 least) refl

@@ -114,7 +114,7 @@ fn transcode_many<D: Direction>(input: &[u8], to: &mut [u8]) -> Progress
 
 // Writes a valid prefix of the bytes, perhaps an empty one, at `at`; returns how many bytes of it
 // were read, and where the written bytes end. The bytes are validated while they are written, as
-// far as possible, and a few behind these before it.
+// far as possible; a few after these are validated first.
 fn put_piece<D: Direction>(rest: &[u8], to: &mut [u8], at: usize) -> (usize, usize)
     requires { at ≤ length to.old }
     ensures { Puts (Gives D.IsValid D.other) rest.now to.old to.new at result.0 result.1 }
@@ -280,7 +280,7 @@ fn prefix_for<D: Direction>(text: &[u8], written: &[u8], room: usize) -> (usize,
     }
 }
 
-// Writes the valid characters at the start of the bytes as far as they fit: one by one, behind what
+// Writes the valid characters at the start of the bytes as far as they fit: one by one, after what
 // `begin_short` writes at once.
 fn put_chars<D: Direction>(rest: &[u8], to: &mut [u8], at: usize) -> (usize, usize)
     requires { at ≤ length to.old }

@@ -11,10 +11,9 @@ use crate::direction::Direction;
 use crate::progress::{Progress, put};
 use crate::transcoding::transcode;
 use std::marker::PhantomData;
-use utf16_from_utf8::utf16_len;
 use utf16_to_utf8::{SLACK, write_blocks, write_eight_ascii, write_utf8};
 use utf16_units::ends::first_char;
-use utf16_units::{Utf16Order, first_char_len, validate_raw_utf16};
+use utf16_units::{Utf16Order, first_char_len, utf16_len, validate_raw_utf16};
 
 /// Writes UTF-16 in UTF-8 to the start of a buffer, up to the first ill-formed sequence or as far
 /// as whole characters fit. Any bytes are allowed. Bytes of the buffer after the written ones may
@@ -121,7 +120,7 @@ impl<E: Utf16Order> Direction for ToUtf8<E> {
     }
 }
 
-// Goes on with ASCII behind what was written, eight code units at a time, which need no more space
+// Goes on with ASCII after what was written, eight code units at a time, which need no more space
 // than they take.
 #[inline(always)]
 fn put_ascii_from<E: Utf16Order>(

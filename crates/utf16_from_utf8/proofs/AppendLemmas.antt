@@ -10,7 +10,7 @@ use Rattle.utf16_units.specs.Unit.{unit_bytes}
 use Rattle.utf16_units.proofs.EncodingLemmas.{encode-cons, encode-nil}
 use Rattle.utf16_from_utf8.specs.Added.{added_bytes}
 use Rattle.utf16_from_utf8.proofs.AddedLemmas.{added_bytes-append, last_but_one, last_of}
-use Rattle.utf16_from_utf8.proofs.SizeLemmas.{scalars-of}
+use Rattle.utf16_units.proofs.SizeLemmas.{scalars-of}
 use Rattle.utf16_from_utf8.proofs.TextLemmas.{all_added-text}
 
 -- if there is capacity for all, there is for the next chunk

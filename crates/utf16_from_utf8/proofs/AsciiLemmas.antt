@@ -48,7 +48,7 @@ pub next-ascii : (bytes : List ℕ) (at : ℕ) → IsAscii (take (at + 16) bytes
 next-ascii bytes at ascii i below =
     omega (arith, ascii (at + i), get_or-take (at + 16) bytes (at + i) 0 (omega (arith, below)), get_or-chunk at 16 bytes i 0 below)
 
--- the next block was written behind the others
+-- the next block was written after the others
 pub block-written : (big : Bool) (bytes before old new : List ℕ) (at to : ℕ) → to ≡ at + 16 → at + 16 ≤ length bytes
     → ((i : ℕ) → i < 16 → slice_index bytes (at + i) < 0x80)
     → take (2 * at + 32) new ≡ take (2 * at) old ++ added_bytes big 0 0 (chunk at 16 bytes)

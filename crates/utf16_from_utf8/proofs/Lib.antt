@@ -10,6 +10,5 @@ pub mod LaneLemmas
 pub mod PackLemmas
 pub mod RunLemmas
 pub mod ShortLemmas
-pub mod SizeLemmas
 pub mod TextLemmas
 pub mod ThreeLemmas

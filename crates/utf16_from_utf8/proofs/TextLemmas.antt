@@ -1,5 +1,5 @@
 -- What the bytes of a text in UTF-8 add is its UTF-16.
-use Rattle.std.proofs.Common.{◌≡◌, ℕ, ◌+◌, ◌-◌, ◌*◌, ◌/◌, ◌%◌, ◌<◌, ◌≤◌, List, [], ◌∷◌, ◌++◌, All, refl, sym, ap, ap₂, ◌∙◌, ⊎_elim, arith, flat_map, encode_utf8_all, lt-ltb, le-ltb}
+use Rattle.std.proofs.Common.{◌≡◌, ℕ, ◌+◌, ◌-◌, ◌*◌, ◌/◌, ◌%◌, ◌<◌, ◌≤◌, List, [], ◌∷◌, ◌++◌, All, refl, sym, ap, ap₂, ◌∙◌, ⊎_elim, arith, flat_map, encode_utf8_all}
 use Rattle.std.proofs.lemmas.Bool.{cases_lt}
 use Rattle.std.proofs.lemmas.List.Elements.{All-head, All-tail}
 use Rattle.std.proofs.str.Utf16.{one_unit, two_units}
@@ -7,33 +7,9 @@ use Rattle.std.specs.Char.{IsScalar}
 use Rattle.std.specs.Char.Escape.{encode_utf16}
 use lib.Utf8.{encode}
 use Rattle.utf16_units.proofs.CharLemmas.{no_surrogate}
+use Rattle.utf16_units.proofs.Utf8Lemmas.{four_bytes, one_byte, three_bytes, two_bytes}
 use Rattle.utf16_from_utf8.specs.Added.{added, all_added}
 use Rattle.utf16_from_utf8.proofs.AddedLemmas.{adds-none-behind, adds-none-first, adds-one, all_added-cons, all_added-nil, unit-leading, unit-one, unit-three, unit-trailing, unit-two}
-
--- ---- a character's bytes, by how many there are
-
-pub one_byte : (c : ℕ) → c < 0x80 → encode c ≡ c ∷ []
-unfolding encode
-one_byte c a = rw (lt-ltb c 0x80 a) refl
-
-pub two_bytes : (c : ℕ) → 0x80 ≤ c → c < 0x800 → encode c ≡ (192 + c / 64) ∷ (128 + c % 64) ∷ []
-unfolding encode
-two_bytes c a b = rw (le-ltb c 0x80 a, lt-ltb c 0x800 b) refl
-
-pub three_bytes : (c : ℕ) → 0x800 ≤ c → c < 0x1_0000 → encode c ≡ (224 + c / 4096) ∷ (128 + c / 64 % 64) ∷ (128 + c % 64) ∷ []
-unfolding encode
-three_bytes c a b =
-    let below : 0x80 ≤ c = omega arith in
-    rw (le-ltb c 0x80 below, le-ltb c 0x800 a, lt-ltb c 0x1_0000 b) refl
-
-pub four_bytes : (c : ℕ) → 0x1_0000 ≤ c → encode c ≡ (240 + c / 262144) ∷ (128 + c / 4096 % 64) ∷ (128 + c / 64 % 64) ∷ (128 + c % 64) ∷ []
-unfolding encode
-four_bytes c a =
-    let below : 0x80 ≤ c = omega arith in
-    let less : 0x800 ≤ c = omega arith in
-    rw (le-ltb c 0x80 below, le-ltb c 0x800 less, le-ltb c 0x1_0000 a) refl
-
--- ---- what they add
 
 -- what the bytes of a character add, and the two bytes before the next one
 record Adds (b2 b1 c : ℕ) (more : List ℕ) : Type 0 where

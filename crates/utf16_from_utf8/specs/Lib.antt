@@ -5,5 +5,4 @@ pub mod Kind
 pub mod LaneBytes
 pub mod Lanes
 pub mod Short
-pub mod Sizes
 pub mod Threes

@@ -7,10 +7,9 @@ ghost use Rattle.utf16_units.specs.Encoding.{encode, size};
 ghost use Rattle.utf16_from_utf8.specs.Added.{added_bytes};
 
 use crate::few::{TINY_TEXT, extend_few};
-use crate::size::utf16_len;
 use crate::write::write_units;
 use std::alloc::{AllocError, Allocator};
-use utf16_units::Utf16Order;
+use utf16_units::{Utf16Order, utf16_len};
 
 // The number of bytes converted at once, of a short text and of a long one. Their UTF-16 is first
 // written to a buffer on the stack.

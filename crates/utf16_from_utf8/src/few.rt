@@ -11,17 +11,6 @@ use utf16_units::{Utf16CharExt, Utf16Order};
 // Texts of fewer bytes than this, two SIMD blocks, are converted character by character.
 pub(crate) const TINY_TEXT: usize = 32;
 
-// The length of the text in UTF-16, in bytes.
-pub(crate) fn few_len(s: &str) -> usize
-    ensures { result ≡ size (chars s.now) }
-{
-    let mut len = 0;
-    for c in s.chars() {
-        len += c.encoded_utf16_len();
-    }
-    len
-}
-
 // Writes the characters to the start of a buffer that has space for them, and returns the number of
 // bytes written.
 fn write_few<E: Utf16Order>(s: &str, buf: &mut [u8]) -> usize

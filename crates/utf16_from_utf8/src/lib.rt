@@ -12,7 +12,6 @@ pub mod pack;
 mod positions;
 mod runs;
 mod short;
-mod size;
 mod steps;
 pub mod threes;
 pub mod units;
@@ -20,5 +19,4 @@ mod write;
 
 pub use crate::append::{append_utf16, extend_utf16};
 pub use crate::ascii::write_ascii;
-pub use crate::size::utf16_len;
 pub use crate::write::write_units;

@@ -118,7 +118,7 @@ module _ (big : Bool) (raw out : List ℕ) (cursor : Cursor) (fit : (k : ℕ) �
       sym (take-take (cursor.end - 2) cursor.end out (omega arith)) ∙ ap₂ take n wrote
       ∙ take_at (units_utf8 0 units) (units_utf8 behind.0 (last.0 ∷ [])) (length (units_utf8 0 units)) refl ∙ bytes-utf8 big (take (cursor.at - 2) raw) text
 
-  -- if blocks stop behind that unit, no block and a unit more can be read from it on
+  -- if blocks stop after that unit, no block and a unit more can be read from it on
   pub stops-before : BlocksStopAt 64 big raw cursor.at after → BlocksStopAt 66 big raw (cursor.at - 2) false
   stops-before stops more last_leads p =
       let rest = drop (cursor.at - 2) raw in

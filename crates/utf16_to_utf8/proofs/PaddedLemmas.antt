@@ -1,4 +1,4 @@
--- Bytes moved to the front of a vector, and zeros behind them.
+-- Bytes moved to the front of a vector, and zeros after them.
 use Rattle.std.proofs.Common.{◌≡◌, ℕ, zero, suc, ◌+◌, ◌-◌, ◌<◌, ◌≤◌, ◌&&◌, ◌||◌, Bool, true, ltb, List, [], ◌∷◌, ◌++◌, length, get_or, take, drop, replicate, refl, sym, ap, ap₂, ◌∙◌, subst, ⊎_elim, arith, w8, take_all, append_assoc, drop-drop, length-append, length-drop, length-take-le, take-append-drop}
 use Rattle.std.proofs.lemmas.Bool.{and_parts, cases_lt}
 use Rattle.std.proofs.lemmas.List.{drop-append-le, drop_all, length-replicate, take-append-le, take-replicate}
@@ -78,7 +78,7 @@ swz-moved bytes len long few =
     (swz-picked bytes 0 places (omega (arith, places_long, few)) below ∙ pick_l-range_with_len 0 bytes k len (omega (arith, long, few)) ∙ take_all len (drop k bytes) (omega (arith, length-drop k bytes, long, few)))
     (swz-zeros bytes (0 + length places) k)
 
--- the front of a vector and what is behind it
+-- the front of a vector and what follows it
 pub front-of : (front zeros : List ℕ) (len : ℕ) → length front ≡ len → (take len (front ++ zeros) ≡ front) × (drop len (front ++ zeros) ≡ zeros)
 front-of front zeros len long = (
   take-append-le len front zeros (omega (arith, long)) ∙ take_all len front (omega (arith, long)),

@@ -7,6 +7,7 @@ use Rattle.std.specs.Char.{IsScalar}
 use Rattle.std.specs.Char.Escape.{encode_utf16}
 use lib.Utf8.{encode}
 use Rattle.utf16_units.proofs.CharLemmas.{no_surrogate}
+use Rattle.utf16_units.proofs.Utf8Lemmas.{four_bytes, one_byte, three_bytes, two_bytes}
 use Rattle.utf16_to_utf8.specs.Utf8.{continuation, unit_utf8, units_utf8}
 
 pub unit-one : (before unit : ℕ) → unit < 0x80 → unit_utf8 before unit ≡ unit ∷ []
@@ -52,22 +53,14 @@ unit-three before unit a (inr high) =
 -- ---- one character
 
 char_one : (before c : ℕ) → c < 0x1_0000 → (c < 0xD800) ⊎ ((0xE000 ≤ c) × (c < 0x11_0000)) → unit_utf8 before c ≡ encode c
-unfolding encode
 char_one before c below s = ⊎_elim
-    (λ (a : c < 0x80). unit-one before c a ∙ rw (lt-ltb c 0x80 a) refl)
+    (λ (a : c < 0x80). unit-one before c a ∙ sym (one_byte c a))
     (λ (b : 0x80 ≤ c). ⊎_elim
-    (λ (a : c < 0x800). unit-two before c b a ∙ rw (le-ltb c 0x80 b, lt-ltb c 0x800 a) refl)
-    (λ (d : 0x800 ≤ c). unit-three before c d (⊎_elim (λ (low : c < 0xD800). inl low) (λ (high : (0xE000 ≤ c) × (c < 0x11_0000)). inr high.0) s)
-    ∙ rw (le-ltb c 0x80 b, le-ltb c 0x800 d, lt-ltb c 0x1_0000 below) refl)
+    (λ (a : c < 0x800). unit-two before c b a ∙ sym (two_bytes c b a))
+    (λ (d : 0x800 ≤ c).
+    unit-three before c d (⊎_elim (λ (low : c < 0xD800). inl low) (λ (high : (0xE000 ≤ c) × (c < 0x11_0000)). inr high.0) s) ∙ sym (three_bytes c d below))
     (cases_lt c 0x800))
     (cases_lt c 0x80)
-
-four : (c : ℕ) → 0x1_0000 ≤ c → encode c ≡ (240 + c / 262144) ∷ (128 + c / 4096 % 64) ∷ (128 + c / 64 % 64) ∷ (128 + c % 64) ∷ []
-unfolding encode
-four c two =
-    let x : 0x80 ≤ c = omega arith in
-    let y : 0x800 ≤ c = omega arith in
-    rw (le-ltb c 128 x, le-ltb c 2048 y, le-ltb c 65536 two) refl
 
 char_two : (before c : ℕ) → 0x1_0000 ≤ c → c < 0x11_0000
     → unit_utf8 before (0xD800 + (c - 0x1_0000) / 0x400) ++ unit_utf8 (0xD800 + (c - 0x1_0000) / 0x400) (0xDC00 + (c - 0x1_0000) % 0x400) ≡ encode c
@@ -77,7 +70,7 @@ char_two before c two below =
     ap₂ (λ xs ys. xs ++ ys) (unit-leading before lead (omega arith) (omega arith)) (unit-trailing lead trail (omega arith) (omega arith))
     ∙ ap₂ (λ (x y : ℕ). x ∷ y ∷ continuation (lead % 4 * 16 + trail % 1024 / 64) ∷ continuation trail ∷ []) (omega arith) (omega arith)
     ∙ ap₂ (λ (x y : ℕ). (240 + c / 262144) ∷ (128 + c / 4096 % 64) ∷ x ∷ y ∷ []) (omega arith) (omega arith)
-    ∙ sym (four c two)
+    ∙ sym (four_bytes c two)
 
 -- what the units of a character add, followed by others
 char_utf8 : (before c : ℕ) (units : List ℕ) → IsScalar c → (last : ℕ) × (units_utf8 before (encode_utf16 c ++ units) ≡ encode c ++ units_utf8 last units)

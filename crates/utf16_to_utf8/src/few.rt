@@ -1,4 +1,4 @@
-//! Writes eight units at once, in short texts and behind the last block of a text.
+//! Writes eight units at once, in short texts and after the last block of a text.
 
 ghost use Rattle.std.specs.Prelude.{◌≡◌, ◌↔◌, ◌+◌, ◌-◌, ◌*◌, ◌/◌, ◌%◌, ◌<◌, ◌≤◌, ◌++◌, ℕ, All, IsTrue, drop, false, length, replicate, slice_index, take};
 ghost use Rattle.utf16_units.specs.Encoding.{IsUtf16, units_of, utf8_of};

@@ -20,7 +20,7 @@ pub(crate) fn units8<E: Utf16Order>(bytes: u8x16) -> u16x8
     units
 }
 
-// The last bytes of sixteen, moved to the front, and zeros behind them.
+// The last bytes of sixteen, moved to the front, and zeros after them.
 #[inline(always)]
 pub(crate) fn moved_front(bytes: u8x16, len: usize) -> u8x16
     requires { len ≤ 16 }
@@ -40,7 +40,7 @@ fn last_places(len: usize) -> u8x16
     u8x16::from_array(LAST_PLACES[len])
 }
 
-// The bytes of a text of eight to sixteen bytes, and zeros behind them.
+// The bytes of a text of eight to sixteen bytes, and zeros after them.
 #[inline(always)]
 pub(crate) fn few_bytes(raw: &[u8]) -> u8x16
     requires some { 8 ≤ length raw.now }

@@ -130,7 +130,7 @@ fn write_many<E: Utf16Order>(raw: &[u8], out: &mut [u8]) -> usize
     put_rest::<E>(raw, out, cursor)
 }
 
-// Writes the units behind the last block, eight at a time.
+// Writes the units after the last block, eight at a time.
 #[inline(always)]
 fn put_rest<E: Utf16Order>(raw: &[u8], out: &mut [u8], from: Cursor) -> usize
     requires even { length raw.now % 2 ≡ 0 }

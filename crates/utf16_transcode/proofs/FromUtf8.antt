@@ -9,7 +9,7 @@ use Rattle.utf16_units.specs.Encoding.{char_bytes, encode}
 use Rattle.utf16_units.proofs.EncodingLemmas.{All-from_all_scalars, all_scalars-from_All, encode-append, encode-nil, encode-one}
 use Rattle.utf16_units.proofs.IllFormedLemmas.{rest_from}
 use lib.Utf8.{low_scalar}
-use Rattle.utf16_from_utf8.proofs.TextLemmas.{one_byte}
+use Rattle.utf16_units.proofs.Utf8Lemmas.{one_byte}
 use Rattle.utf16_transcode.specs.FromUtf8.{TranscodesToUtf16, IsIllFormedUtf8, IsIllFormedUtf8At}
 use Rattle.utf16_decode.specs.Wrote.{Gives, Joins, Wrote}
 

@@ -7,7 +7,7 @@ use Rattle.std.proofs.lemmas.Str.{IsUtf8-append, IsUtf8-from_is_utf8, chars-appe
 use Rattle.std.specs.Option.{unwrap_or}
 use Rattle.std.specs.Str.{IsUtf8, chars, is_utf8}
 use Rattle.std.specs.Str.Lossy.{after_first_chunk, replacement_bytes, utf8_invalid_len, utf8_lossy, utf8_valid_len, valid_len_up_to}
-use Rattle.utf16_from_utf8.proofs.SizeLemmas.{size-le}
+use Rattle.utf16_units.proofs.SizeLemmas.{size-le}
 use Rattle.utf16_units.specs.Encoding.{size}
 use Rattle.utf16_units.proofs.EncodingLemmas.{size-append, size-cons}
 use Rattle.utf16_units.proofs.IllFormedLemmas.{take-past}

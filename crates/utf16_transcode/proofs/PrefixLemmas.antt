@@ -16,7 +16,7 @@ use Rattle.utf16_units.proofs.EncodingLemmas.{All-before, All-from_all_scalars, 
 use Rattle.utf16_decode.specs.Wrote.{Wrote}
 use Rattle.utf16_transcode.specs.FromUtf8.{TranscodesToUtf16}
 
--- a boundary behind one more character
+-- a boundary after one more character
 one_more : (c : ℕ) (text : List ℕ) (i : ℕ) → char_size c ≤ i → IsBoundary text (i - char_size c) → IsBoundary (c ∷ text) i
 one_more c text i fits b = record {
   front = c ∷ b.front;

@@ -12,8 +12,7 @@ use crate::items::{ITEM_LEN, put_items};
 use crate::utf16::from_utf8;
 use utf8_blocks::write_blocks;
 use utf16_decode::{Progress, Stop, put};
-use utf16_from_utf8::utf16_len;
-use utf16_units::Utf16Order;
+use utf16_units::{Utf16Order, utf16_len};
 
 // U+FFFD, the replacement character, and its length in bytes of UTF-16.
 pub(crate) const REPLACEMENT: u16 = 0xFFFD;

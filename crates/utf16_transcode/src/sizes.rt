@@ -7,9 +7,8 @@ ghost use Rattle.utf16_units.specs.Encoding.{size};
 ghost use Rattle.utf16_units.specs.Split.{lossy_text};
 
 use utf16_decode::REPLACEMENT;
-use utf16_from_utf8::utf16_len;
 use utf16_to_utf8::utf8_len;
-use utf16_units::{Utf16Order, validate_raw_utf16};
+use utf16_units::{Utf16Order, utf16_len, validate_raw_utf16};
 
 /// Returns the length in bytes of the output of `to_utf8_lossy` for the whole input. Any bytes are
 /// allowed.

@@ -2,9 +2,9 @@
 use Rattle.std.proofs.Common.{◌≡◌, ℕ, ◌+◌, ◌-◌, ◌*◌, ◌/◌, ◌%◌, ◌<◌, ◌≤◌, ◌⊎◌, Bool, List, ◌∷◌, ◌++◌, length, get_or, Some, ap, append-nil, flat_map, ◌∙◌, ⊎_elim, inl, inr, arith}
 use Rattle.std.proofs.lemmas.Bool.{cases_lt}
 use Rattle.std.proofs.Math.Utf8.{scalar_cases}
-use Rattle.std.proofs.lemmas.Str.{utf16_chars_lone, utf16_chars_pair}
+use Rattle.std.proofs.lemmas.Str.{len_utf8_bounds, length-encode, utf16_chars_lone, utf16_chars_pair}
 use Rattle.std.proofs.str.Utf16.{IsPair, one_unit, two_units, lone_unit_char_low, lone_unit_char_high}
-use Rattle.std.specs.Char.{IsScalar}
+use Rattle.std.specs.Char.{IsScalar, encode_utf8, len_utf8}
 use Rattle.std.specs.Char.Escape.{encode_utf16}
 use Rattle.std.specs.Char.Utf16.{utf16_chars, lone_unit_char, surrogate_pair_char}
 use Rattle.utf16_units.specs.Encoding.{char_bytes, char_size}
@@ -47,6 +47,18 @@ char_size_four c two = ap (λ us. 2 * length us) (two_units c two)
 
 pub char_size_cases : (c : ℕ) → (char_size c ≡ 2) ⊎ (char_size c ≡ 4)
 char_size_cases c = ⊎_elim (λ one. inl (char_size_two c one)) (λ two. inr (char_size_four c two)) (cases_lt c 0x1_0000)
+
+-- a character takes at most twice as many bytes in UTF-16 as in UTF-8
+pub char_size-le : (c : ℕ) → char_size c ≤ 2 * length (encode_utf8 c)
+char_size-le c =
+    let utf8 = length-encode c in
+    let bounds = len_utf8_bounds c in
+    ⊎_elim
+    (λ (one : c < 0x1_0000). omega (arith, char_size_two c one))
+    (λ (two : 0x1_0000 ≤ c).
+    let four : len_utf8 c ≡ 4 = grind arith in
+    omega (arith, char_size_four c two))
+    (cases_lt c 0x1_0000)
 
 pub length-char_bytes : (big : Bool) (c : ℕ) → length (char_bytes big c) ≡ char_size c
 length-char_bytes big c = length-units_bytes big (encode_utf16 c)

@@ -44,3 +44,6 @@ pub mod SameLemmas
 pub mod TextOrderTies
 pub mod PartsLemmas
 pub mod NumberedLemmas
+pub mod Utf8Lemmas
+pub mod PrefixLemmas
+pub mod SizeLemmas

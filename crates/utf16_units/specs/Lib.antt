@@ -14,3 +14,4 @@ pub mod TextOrder
 pub mod Compared
 pub mod Parts
 pub mod Numbered
+pub mod Sizes

@@ -25,7 +25,7 @@ added-more big bytes at (suc (suc k)) some more =
     ∙ added_bytes-append big 0 0 front next
     ∙ ap₂ (λ x y. added_bytes big 0 0 front ++ added_bytes big x y next) two one
 
--- they are written behind what was written before
+-- they are written after what was written before
 pub written-more : (big : Bool) (bytes old done more : List ℕ) (at k : ℕ) → 2 ≤ k → at + k + 16 ≤ length bytes → done ≡ old ++ added_bytes big 0 0 (take k (drop at bytes))
     → more ≡ done ++ added_bytes big (slice_index bytes (at + k - 2)) (slice_index bytes (at + k - 1)) (chunk (at + k) 16 bytes) → more ≡ old ++ added_bytes big 0 0 (take (k + 16) (drop at bytes))
 written-more big bytes old done more at k some within before step =

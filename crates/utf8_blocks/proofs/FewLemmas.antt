@@ -87,7 +87,7 @@ overwritten big bytes one new at below is ascii first last =
     split : take 16 bytes ≡ take at bytes ++ take (16 - at) (drop at bytes)
     split = ap (λ k. take k bytes) sixteen ∙ take-add at (16 - at) bytes
 
--- what stays behind a place stays behind a later one
+-- what stays after a place stays after a later one
 pub drop-further : (m n : ℕ) (xs ys : List ℕ) → m ≤ n → drop m xs ≡ drop m ys → drop n xs ≡ drop n ys
 drop-further m n xs ys later same =
     let on : n ≡ m + (n - m) = omega (arith, later) in

@@ -97,7 +97,7 @@ At P bytes at i = P (slice_index (0 ∷ 0 ∷ drop at bytes) i) (slice_index (0 
 
 -- ---- characters of at most three bytes
 
--- behind the first byte of three comes no first byte
+-- after the first byte of three comes no first byte
 apart : (bytes : List ℕ) (at n i : ℕ) → i < n → FollowTo n bytes at → (slice_index (0 ∷ 0 ∷ drop at bytes) i < 0xE0) ⊎ (slice_index (0 ∷ drop at bytes) i < 0xC0)
 apart bytes at n zero below all = inl (omega arith)
 apart bytes at n (suc i) below all = ⊎_elim
@@ -126,7 +126,7 @@ follows-two bytes at limit n some most below all i within =
 
 -- ---- characters of at most four bytes
 
--- behind the first byte of four come two continuation bytes
+-- after the first byte of four come two continuation bytes
 last : (bytes : List ℕ) (at n i : ℕ) → i < n → FollowTo n bytes at → 0xF0 ≤ slice_index (0 ∷ 0 ∷ 0 ∷ drop at bytes) i
     → (slice_index (0 ∷ drop at bytes) i < 0xC0) × (slice_index (0 ∷ 0 ∷ drop at bytes) i < 0xC0)
 last bytes at n zero below all first = (omega arith, omega arith)

@@ -6,7 +6,7 @@ use Rattle.std.specs.Char.{IsScalar}
 use Rattle.std.specs.Str.{IsUtf8}
 use lib.Utf8.{low_scalar}
 use Rattle.utf16_units.proofs.FirstChar.{high_scalar}
-use Rattle.utf16_from_utf8.proofs.TextLemmas.{four_bytes, one_byte, three_bytes, two_bytes}
+use Rattle.utf16_units.proofs.Utf8Lemmas.{four_bytes, one_byte, three_bytes, two_bytes}
 use Rattle.utf8_blocks.specs.Follow.{Follows}
 
 -- ---- a character
@@ -83,7 +83,7 @@ rest-whole x bytes whole = record {
   three = λ i e. whole.three (suc i) (omega (arith, e));
 }
 
--- behind the end of a character the next byte is ASCII or begins a character
+-- after the end of a character the next byte is ASCII or begins a character
 begins : (b3 b2 b1 x : ℕ) → b3 < 0xF0 → b2 < 0xE0 → b1 < 0xC0 → Follows b3 b2 b1 x → (x < 0x80) ⊎ ((0xC2 ≤ x) × (x < 0xF5))
 begins b3 b2 b1 x three two one follows = ⊎_elim
     (λ (a : x < 0x80). inl a)
@@ -99,7 +99,7 @@ begins b3 b2 b1 x three two one follows = ⊎_elim
 behind-one : (b3 b2 b1 : ℕ) (y : ℕ) (bytes : List ℕ) → FollowAll b3 b2 b1 (y ∷ bytes) → FollowAll b2 b1 y bytes
 behind-one b3 b2 b1 y bytes follow i below = follow (suc i) (omega arith)
 
--- the bytes behind a whole character, and behind one, two and three bytes of another
+-- the bytes after a whole character, and after one, two and three bytes of another
 record Rest (bytes : List ℕ) : Type 0 where
   none : (b3 b2 b1 : ℕ) → b3 < 0xF0 → b2 < 0xE0 → b1 < 0xC0 → FollowAll b3 b2 b1 bytes → EndsWhole bytes → IsUtf8 bytes
   one : (b2 b1 x : ℕ) → b1 < 0xF0 → 0xC2 ≤ x → x < 0xF5 → FollowAll b2 b1 x bytes → EndsWhole (x ∷ bytes) → IsUtf8 (x ∷ bytes)

@@ -9,7 +9,7 @@ use Rattle.utf16_units.proofs.FirstChar.{high_scalar}
 use Rattle.utf16_from_utf8.specs.LaneBytes.{three_high}
 use Rattle.utf16_from_utf8.specs.Threes.{IsThree, woven}
 use Rattle.utf16_from_utf8.proofs.LaneByteLemmas.{three-bytes}
-use Rattle.utf16_from_utf8.proofs.TextLemmas.{three_bytes}
+use Rattle.utf16_units.proofs.Utf8Lemmas.{three_bytes}
 
 -- the high byte of a unit that is at least U+0800 and no surrogate
 abbrev pub IsHigh : ℕ → Type 0

@@ -71,7 +71,7 @@ module _ (big : Bool) (bytes : List ℕ) (at : ℕ) (more : at + 64 ≤ length b
       none : {A : Type 0} → ((0xC0 ≤ slice_index (0 ∷ rest) i) ⊎ (0xE0 ≤ slice_index (0 ∷ 0 ∷ rest) i) ⊎ (0xF0 ≤ slice_index (0 ∷ 0 ∷ 0 ∷ rest) i)) → A
       none behind = absurd (omega (arith, lead, ((follow i b).continues.0 behind).1))
 
-  -- what the last bytes add behind the others
+  -- what the last bytes add after the others
   last-add : (n i : ℕ) (tail added : List ℕ) → i + n ≡ 64 → take n (drop i rest) ≡ tail → added_bytes big (last_but_one 0 0 (take i rest)) (last_of 0 (take i rest)) tail ≡ added
       → added_bytes big 0 0 (take 64 rest) ≡ added_bytes big 0 0 (take i rest) ++ added
   last-add n i tail added all are adds =
@@ -159,7 +159,7 @@ module _ (big : Bool) (bytes : List ℕ) (at : ℕ) (more : at + 64 ≤ length b
 used-most : (bytes : List ℕ) (at used : ℕ) → AreUsed bytes at used → used ≤ 64
 used-most bytes at used is = ⊎_elim (λ a. omega (arith, a.0)) (λ b. ⊎_elim (λ a. omega (arith, a.0)) (λ b. ⊎_elim (λ a. omega (arith, a.0)) (λ a. omega (arith, a.0)) b) b) is
 
--- written behind what was written
+-- written after what was written
 module _ (big : Bool) (bytes old new : List ℕ) (at written used over to : ℕ) (is : AreUsed bytes at used) (more : at + 64 ≤ length bytes) (uses : Uses big bytes at used over)
     (p : written ≤ length old) (q : to ≤ length new) (wrote : take to new ≡ take written old ++ added_bytes big 0 0 (take 64 (drop at bytes))) where
   abbrev block : List ℕ

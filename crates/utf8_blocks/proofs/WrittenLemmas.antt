@@ -1,4 +1,4 @@
--- More UTF-8 that is well formed, written behind what was written.
+-- More UTF-8 that is well formed, written after what was written.
 use Rattle.std.proofs.Common.{◌≡◌, ℕ, ◌+◌, ◌-◌, ◌*◌, ◌≤◌, Bool, List, ◌++◌, length, length-append, length-drop, length-take, length-take-le, take, drop, subst, sym, ap, ◌∙◌, arith}
 use borrow.Rule.Slice.PartMut.{put_mid}
 use Rattle.std.proofs.Math.Seq.{take-add, take-append-add}

@@ -31,7 +31,7 @@ AreBelow n bytes at limit = (i : ℕ) → i < n → slice_index bytes (at + i) <
 abbrev pub limit_of : ℕ → ℕ
 limit_of most = if most == 2 then 0xE0 else (if most == 3 then 0xF0 else 0x100)
 
--- how many of the next sixty-four bytes are of characters that end among them: behind these come
+-- how many of the next sixty-four bytes are of characters that end among them: after these come
 -- one byte of a character of several, two of one of three or more, or three of one of four
 abbrev pub AreUsed : List ℕ → ℕ → ℕ → Type 0
 AreUsed bytes at used =

@@ -83,7 +83,7 @@ fn put_four<E: Utf16Order>(out: &mut [u8], at: usize, b2: u8x16, b1: u8x16, bloc
     let behind = bytes_behind(b1, block);
     let (lead_highs, lead_lows) = leading_bytes(b2, b1, block);
     let highs = joined(high_bytes(b2, behind), trailing_bits(b2, behind));
-    // A leading surrogate ends two bytes behind the first byte of four.
+    // A leading surrogate ends two bytes after the first byte of four.
     let (first, second) = paired::<E>(
         where_below(b2, 0xF0, highs, lead_highs),
         where_below(b2, 0xF0, low_bytes(behind, block), lead_lows),

@@ -41,7 +41,7 @@ pub(crate) fn low_bytes(behind: u8x16, b0: u8x16) -> u8x16
 pub(crate) fn trailing_bits(b2: u8x16, behind: u8x16) -> u8x16
     ensures { HasLanes 16 result (λ i. trailing_of (slice_index b2 i) (slice_index behind i)) }
 {
-    // Both are continuation bytes only behind the first byte of four.
+    // Both are continuation bytes only after the first byte of four.
     where_below(greater(behind, b2), 0xC0, each(0xDC), each(0))
 }
 

@@ -1,28 +1,15 @@
 -- How many items bytes have, and the length in UTF-16 and in UTF-8 of their text with U+FFFD.
-use Rattle.std.proofs.Common.{◌≡◌, ℕ, ◌*◌, ◌<◌, ◌≤◌, List, [], ◌∷◌, ◌++◌, length, encode_utf8_all, refl, sym, ap, ◌∙◌, ⊎_elim, arith, append-nil, length-append}
-use Rattle.std.proofs.lemmas.Bool.{cases_lt}
+use Rattle.std.proofs.Common.{◌≡◌, ℕ, ◌*◌, ◌<◌, ◌≤◌, List, [], ◌∷◌, ◌++◌, length, encode_utf8_all, refl, sym, ap, ◌∙◌, arith, append-nil, length-append}
 use Rattle.std.proofs.lemmas.List.Concat.{flat_map-append}
 use Rattle.std.proofs.lemmas.Str.{len_utf8_bounds, length-encode}
-use Rattle.std.specs.Char.{encode_utf8, len_utf8}
+use Rattle.std.specs.Char.{encode_utf8}
 use Rattle.utf16_units.specs.Encoding.{char_size, size}
-use Rattle.utf16_units.proofs.CharLemmas.{char_size_four, char_size_two}
+use Rattle.utf16_units.proofs.CharLemmas.{char_size-le, char_size_two}
 use Rattle.utf16_units.proofs.EncodingLemmas.{size-append, size-cons}
 use Rattle.utf8_split.specs.Split.{AreItems, IsTail, Item, Split, good, ill, item_bytes, items_bytes, lossy_char, lossy_chars, whole_lossy_chars}
 use Rattle.utf8_split.proofs.BeginsLemmas.{some_bytes}
 use Rattle.utf8_split.proofs.PartLemmas.{subpart_len}
 use Rattle.utf8_split.proofs.LossyLemmas.{tail_text, whole_is}
-
--- a character takes at most twice as many bytes in UTF-16 as in UTF-8
-char_size-le : (c : ℕ) → char_size c ≤ 2 * length (encode_utf8 c)
-char_size-le c =
-    let utf8 = length-encode c in
-    let some = some_bytes c in
-    ⊎_elim
-    (λ (one : c < 0x1_0000). omega (arith, char_size_two c one))
-    (λ (two : 0x1_0000 ≤ c).
-    let four : len_utf8 c ≡ 4 = grind arith in
-    omega (arith, char_size_four c two))
-    (cases_lt c 0x1_0000)
 
 pub replacement_size : char_size 0xFFFD ≡ 2
 replacement_size = char_size_two 0xFFFD (omega arith)

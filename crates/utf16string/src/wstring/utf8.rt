@@ -8,8 +8,9 @@ ghost use Rattle.utf16_units.specs.Encoding.{size};
 use super::inserts::put_char;
 use crate::WString;
 use std::alloc::{AllocError, Allocator};
-use utf16_from_utf8::{append_utf16, extend_utf16, utf16_len, write_units};
-use utf16_units::Utf16Order;
+use utf16_from_utf8::{append_utf16, extend_utf16, write_units};
+use utf16_units::size::few_len;
+use utf16_units::{Utf16Order, utf16_len};
 
 // Texts of fewer bytes are converted character by character.
 const TINY_TEXT: usize = 8;
@@ -61,7 +62,7 @@ impl<E: Utf16Order, A: Allocator> WString<E, A> {
         ensures nothing { s.now ≡ [] → IsOk result }
         ensures exact { IfOk result (λ t. wstring_capacity t ≡ size (chars s.now)) }
     {
-        let mut raw = Vec::with_capacity(alloc, utf16_len(s))?;
+        let mut raw = Vec::with_capacity(alloc, few_len(s))?;
         for c in s.chars() {
             put_char::<E, A>(&mut raw, c);
         }

@@ -5,12 +5,13 @@ use Rattle.std.proofs.lemmas.List.{take_all}
 use Rattle.std.specs.Str.{chars}
 use Rattle.utf16_units.specs.Encoding.{encode, size}
 use Rattle.utf16_units.proofs.EncodingLemmas.{encode-nil, size-nil}
-use Rattle.utf16_from_utf8.proofs.FewLemmas.{IsBeginningOf, beginning-more, size-beginning, size-push, written-more}
+use Rattle.utf16_units.proofs.PrefixLemmas.{IsPrefixOf, prefix-more, size-prefix, size-push}
+use Rattle.utf16_from_utf8.proofs.FewLemmas.{written-more}
 use Rattle.utf16_from_utf8.proofs.few.write_few.Goals as goal
 
 -- what was written is within the buffer
-within : (s given buf old : List ℕ) (len : ℕ) → IsBeginningOf given (chars s) → len ≡ size given → length buf ≡ length old → size (chars s) ≤ length old → len ≤ length buf
-within s given buf old len begins counted same room = omega (arith, size-beginning given (chars s) begins)
+within : (s given buf old : List ℕ) (len : ℕ) → IsPrefixOf given (chars s) → len ≡ size given → length buf ≡ length old → size (chars s) ≤ length old → len ≤ length buf
+within s given buf old len begins counted same room = omega (arith, size-prefix given (chars s) begins)
 
 pub loop-c-init : goal.loop-c-init
 loop-c-init g c = record { begins = refl; counted = sym size-nil; written = sym (encode-nil g.E.Utf16Order.BIG) }
@@ -26,7 +27,7 @@ slice_bounds-encode_utf16_into-start g c =
 pub encode_utf16_into-len-requires : goal.encode_utf16_into-len-requires
 encode_utf16_into-len-requires g c =
     let turn = YieldsList-turn (YieldsList-from_chars c.args.s.now c.utf8.s cc) c.loop-c.yielded _ c.loop-c.yielded_by _ _ c.in-Some.c c.in-Some.is c.next.ensures.steps in
-    let more = size-beginning _ _ (beginning-more c.loop-c.yielded (chars c.args.s.now) c.in-Some.c c.loop-c.invariant.begins turn) in
+    let more = size-prefix _ _ (prefix-more c.loop-c.yielded (chars c.args.s.now) c.in-Some.c c.loop-c.invariant.begins turn) in
     let k = length c.loop-c.buf - c.loop-c.len in
     let left = length-drop c.loop-c.len c.loop-c.buf in
     let all = ap length (take_all k (drop c.loop-c.len c.loop-c.buf) (omega arith)) in
@@ -51,7 +52,7 @@ loop-c-preserved g c =
     let left = length-drop c.loop-c.len c.loop-c.buf in
     let all = ap length (take_all k (drop c.loop-c.len c.loop-c.buf) (omega arith)) in
     record {
-      begins = beginning-more c.loop-c.yielded (chars c.args.s.now) c.in-Some.c c.loop-c.invariant.begins turn;
+      begins = prefix-more c.loop-c.yielded (chars c.args.s.now) c.in-Some.c c.loop-c.invariant.begins turn;
       counted = omega (arith, size-push c.loop-c.yielded c.in-Some.c, c.loop-c.invariant.counted, put.ensures.len);
       written =
           written-more g.E.Utf16Order.BIG c.loop-c.buf put.new.buf _ c.loop-c.yielded c.loop-c.len c.in-Some.c put.result c.loop-c.invariant.written c.loop-c.invariant.counted inside put.ensures.bytes put.ensures.len (omega (arith, put.auto.buf));

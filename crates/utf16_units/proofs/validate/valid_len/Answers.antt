@@ -7,7 +7,7 @@ use Rattle.utf16_units.proofs.IllFormedLemmas.{rest_from}
 use Rattle.utf16_units.proofs.PairLemmas.{PairedTo-text}
 use Rattle.utf16_units.proofs.validate.valid_len.Goals as goal
 
--- a text, and a text at the start of what is behind it
+-- a text, and a text at the start of what follows it
 both : (big : Bool) (raw : List ℕ) (at len : ℕ) → IsUtf16 big (take at raw) → IsUtf16 big (take len (rest_from raw at)) → IsUtf16 big (take (at + len) raw)
 both big raw at len front behind =
     subst (IsUtf16 big) (sym (take-add at len raw))

@@ -5,7 +5,7 @@ use Rattle.std.proofs.lemmas.Iterator.Consumers.{YieldsList-end, YieldsList-turn
 use Rattle.std.specs.Str.{chars}
 use Rattle.utf16_units.specs.Encoding.{encode, size, text_of}
 use Rattle.utf16_units.proofs.EncodingLemmas.{encode-nil, length-encode, size-nil}
-use Rattle.utf16_from_utf8.proofs.FewLemmas.{beginning-more, size-beginning, size-push}
+use Rattle.utf16_units.proofs.PrefixLemmas.{prefix-more, size-prefix, size-push}
 use Rattle.utf16string.proofs.Converted.{converted-IsUtf16, converted-text, encode-push}
 use Rattle.utf16string.proofs.wstring.WString.from_few.Given.{Over}
 use Rattle.utf16string.proofs.wstring.WString.from_few.Goals as goal
@@ -14,15 +14,15 @@ use Rattle.utf16string.proofs.wstring.WString.from_few.Goals.{In-None}
 pub returns-in_err-raw-clause-nothing : goal.returns-in_err-raw-clause-nothing
 unfolding chars
 returns-in_err-raw-clause-nothing g c none =
-    absurd (false≢true (c.in_err-raw.ensures.succeeds (c.utf16_len.ensures ∙ ap (λ s. size (chars s)) none ∙ size-nil)))
+    absurd (false≢true (c.in_err-raw.ensures.succeeds (c.few_len.ensures ∙ ap (λ s. size (chars s)) none ∙ size-nil)))
 
 pub loop-c-init : goal.loop-c-init
-loop-c-init g c = record { begins = refl; written = c.in_ok-raw.ensures.items ∙ sym (encode-nil g.E.Utf16Order.BIG); exact = c.in_ok-raw.ensures.exact ∙ c.utf16_len.ensures }
+loop-c-init g c = record { begins = refl; written = c.in_ok-raw.ensures.items ∙ sym (encode-nil g.E.Utf16Order.BIG); exact = c.in_ok-raw.ensures.exact ∙ c.few_len.ensures }
 
 pub put_char-requires : goal.put_char-requires
 put_char-requires g c =
     let turn = YieldsList-turn (YieldsList-from_chars c.args.s.now c.utf8.s cc) c.loop-c.yielded _ c.loop-c.yielded_by _ _ c.in-Some.c c.in-Some.is c.next.ensures.steps in
-    let more = size-beginning _ _ (beginning-more c.loop-c.yielded (chars c.args.s.now) c.in-Some.c c.loop-c.invariant.begins turn) in
+    let more = size-prefix _ _ (prefix-more c.loop-c.yielded (chars c.args.s.now) c.in-Some.c c.loop-c.invariant.begins turn) in
     let done = ap length c.loop-c.invariant.written ∙ length-encode g.E.Utf16Order.BIG c.loop-c.yielded in
     omega (arith, size-push c.loop-c.yielded c.in-Some.c, done, c.loop-c.raw.ok.0, c.loop-c.invariant.exact)
 
@@ -30,7 +30,7 @@ pub loop-c-preserved : goal.loop-c-preserved
 loop-c-preserved g c =
     let turn = YieldsList-turn (YieldsList-from_chars c.args.s.now c.utf8.s cc) c.loop-c.yielded _ c.loop-c.yielded_by _ _ c.in-Some.c c.in-Some.is c.next.ensures.steps in
     record {
-      begins = beginning-more c.loop-c.yielded (chars c.args.s.now) c.in-Some.c c.loop-c.invariant.begins turn;
+      begins = prefix-more c.loop-c.yielded (chars c.args.s.now) c.in-Some.c c.loop-c.invariant.begins turn;
       written = c.put_char.ensures.items ∙ encode-push g.E.Utf16Order.BIG c.loop-c.raw.items c.loop-c.yielded c.in-Some.c c.loop-c.invariant.written;
       exact = c.put_char.ensures.capacity ∙ c.loop-c.invariant.exact;
     }

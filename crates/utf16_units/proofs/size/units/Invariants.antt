@@ -1,6 +1,6 @@
 use Rattle.std.proofs.Common.{◌≡◌, ◌+◌, ◌-◌, ◌≤◌, drop, length}
-use Rattle.utf16_from_utf8.specs.Sizes.{units_begun}
-use Rattle.utf16_from_utf8.proofs.size.units.Given as goal
+use Rattle.utf16_units.specs.Sizes.{units_begun}
+use Rattle.utf16_units.proofs.size.units.Given as goal
 
 -- what was counted, and what begins in the rest, are all
 abbrev pub invariant-loop-at : goal.invariant-loop-at

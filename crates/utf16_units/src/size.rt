@@ -1,11 +1,11 @@
-//! The length of a text in UTF-16.
+//! The length of a text in UTF-16, by its UTF-8.
 
 ghost use Rattle.std.specs.Prelude.{◌≡◌, ◌≤◌, ◌<◌, ◌/◌, ◌^◌, count_ones, drop, length};
 ghost use Rattle.std.specs.Str.{chars};
 ghost use Rattle.utf16_units.specs.Encoding.{size};
-ghost use Rattle.utf16_from_utf8.specs.Sizes.{units_begun};
+ghost use Rattle.utf16_units.specs.Sizes.{units_begun};
 
-use crate::few::few_len;
+use crate::Utf16CharExt;
 use std::simd::prelude::*;
 
 // Texts of fewer bytes than this, a small SIMD block, are counted character by character.
@@ -25,6 +25,23 @@ pub fn utf16_len(s: &str) -> usize
     2 * units(s.as_bytes())
 }
 
+/// Returns the length of a text in UTF-16, in bytes, as `utf16_len` does. It takes less time for a
+/// few characters, and more for many.
+///
+/// # Complexity
+///
+/// One pass, character by character.
+#[inline]
+pub fn few_len(s: &str) -> usize
+    ensures { result ≡ size (chars s.now) }
+{
+    let mut len = 0;
+    for c in s.chars() {
+        len += c.encoded_utf16_len();
+    }
+    len
+}
+
 // The number of code units of the characters that begin in the bytes.
 fn units(bytes: &[u8]) -> usize
     requires { FEW ≤ length bytes.now }
@@ -33,36 +50,36 @@ fn units(bytes: &[u8]) -> usize
     let mut at = 0;
     let mut units = 0;
     while bytes.len() - at >= 64 {
-        units += units_behind(u8x64::from_slice(&bytes[at..]), 0);
+        units += units_after(u8x64::from_slice(&bytes[at..]), 0);
         at += 64;
     }
     while bytes.len() - at >= 16 {
-        units += units_behind(u8x16::from_slice(&bytes[at..]), 0);
+        units += units_after(u8x16::from_slice(&bytes[at..]), 0);
         at += 16;
     }
     // Of the last sixteen bytes those that were not counted.
     let left = bytes.len() - at;
     let last = u8x16::from_slice(&bytes[bytes.len() - 16..]);
-    units + units_behind(last, 16 - left)
+    units + units_after(last, 16 - left)
 }
 
 // The same for at most sixty-four bytes, without the first `skip`: the first byte of a character
 // does not have the upper two bits of a continuation byte, and the first of four has all upper four
 // bits.
 #[inline(always)]
-fn units_behind<const N: usize>(block: Simd<u8, N>, skip: usize) -> usize
+fn units_after<const N: usize>(block: Simd<u8, N>, skip: usize) -> usize
     requires few { N ≤ 64 }
     requires within { skip < 64 }
     ensures { result ≡ units_begun (drop skip block.entry) }
 {
     let begun = (block & Simd::splat(0xC0)).simd_ne(Simd::splat(0x80));
     let fours = (block & Simd::splat(0xF0)).simd_eq(Simd::splat(0xF0));
-    set_behind(begun.to_bitmask(), skip) + set_behind(fours.to_bitmask(), skip)
+    set_after(begun.to_bitmask(), skip) + set_after(fours.to_bitmask(), skip)
 }
 
 // The number of bits that are set, without the lowest `skip`.
 #[inline(always)]
-fn set_behind(bits: u64, skip: usize) -> usize
+fn set_after(bits: u64, skip: usize) -> usize
     requires { skip < 64 }
     ensures { result ≡ count_ones (bits / 2 ^ skip) }
 {

@@ -1,5 +1,5 @@
 -- How many units the characters have that begin in bytes of UTF-8.
-use Rattle.std.proofs.Common.{◌≡◌, ℕ, suc, zero, ◌+◌, ◌-◌, ◌*◌, ◌/◌, ◌%◌, ◌^◌, ◌<◌, ◌≤◌, ◌⊎◌, Bool, true, false, not, cond, eqb, eq-eqb, eqb-true, List, [], ◌∷◌, ◌++◌, All, map, length, take, drop, replicate, bit_and, count_by, count_ones, encode_utf8_all, flat_map, refl, sym, ap, ap₂, ◌∙◌, ⊎_elim, inl, inr, arith, drop-drop, length-append, length-drop, take_all, w8}
+use Rattle.std.proofs.Common.{◌≡◌, ℕ, suc, zero, ◌+◌, ◌-◌, ◌*◌, ◌/◌, ◌%◌, ◌^◌, ◌<◌, ◌≤◌, ◌⊎◌, Bool, true, false, not, cond, eqb, eq-eqb, eqb-true, List, [], ◌∷◌, ◌++◌, All, map, length, take, drop, replicate, bit_and, count_by, count_ones, encode_utf8_all, flat_map, refl, sym, ap, ap₂, subst, ◌∙◌, ⊎_elim, inl, inr, arith, drop-drop, length-append, length-drop, take_all, w8}
 use Rattle.std.proofs.lemmas.Bool.{cases_lt, false_from_ne_true}
 use Rattle.std.proofs.lemmas.List.{drop-map, length-map}
 use Rattle.std.proofs.lemmas.List.Elements.{All-head, All-tail}
@@ -15,10 +15,10 @@ use Rattle.std.specs.Str.{IsUtf8, chars}
 use lib.Lanes.{chunk, mask_l, top, zip2}
 use lib.Utf8.{encode}
 use Rattle.utf16_units.specs.Encoding.{size}
-use Rattle.utf16_units.proofs.CharLemmas.{no_surrogate}
-use Rattle.utf16_units.proofs.EncodingLemmas.{All-from_all_scalars}
-use Rattle.utf16_from_utf8.specs.Sizes.{begins_char, begins_four, units_begun}
-use Rattle.utf16_from_utf8.proofs.TextLemmas.{four_bytes, one_byte, three_bytes, two_bytes}
+use Rattle.utf16_units.specs.Sizes.{begins_char, begins_four, units_begun}
+use Rattle.utf16_units.proofs.CharLemmas.{char_size-le, no_surrogate}
+use Rattle.utf16_units.proofs.EncodingLemmas.{All-from_all_scalars, size-cons, size-nil}
+use Rattle.utf16_units.proofs.Utf8Lemmas.{four_bytes, one_byte, three_bytes, two_bytes}
 
 -- ---- one byte, by its class
 
@@ -50,8 +50,8 @@ four-yes byte small from =
     let upper : bit_and byte 0xF0 ≡ byte / 16 % 16 * 16 = and_high byte 4 4 in
     eq-eqb (bit_and byte 0xF0) 0xF0 (omega (arith, upper))
 
-begun-behind : (byte : ℕ) (more : List ℕ) → 0x80 ≤ byte → byte < 0xC0 → units_begun (byte ∷ more) ≡ units_begun more
-begun-behind byte more a b =
+begun-continuation : (byte : ℕ) (more : List ℕ) → 0x80 ≤ byte → byte < 0xC0 → units_begun (byte ∷ more) ≡ units_begun more
+begun-continuation byte more a b =
     let no = ap bit (begins-no byte a b) in
     let four = ap bit (four-no byte (omega arith)) in
     omega (arith, begun-cons byte more, no, four)
@@ -83,7 +83,7 @@ begun-char c more scalar = ⊎_elim
     let units = ap length (one_unit c (omega arith)) in
     let first : 0xC0 ≤ x = omega arith in
     ap (λ bytes. units_begun (bytes ++ more)) (two_bytes c a two)
-    ∙ omega (arith, begun-first x (y ∷ more) (omega arith) (inr first), begun-behind y more (omega arith) (omega arith), units))
+    ∙ omega (arith, begun-first x (y ∷ more) (omega arith) (inr first), begun-continuation y more (omega arith) (omega arith), units))
     (λ (b : 0x800 ≤ c). ⊎_elim
     (λ (three : c < 0x1_0000).
     let x = 224 + c / 4096 in
@@ -92,7 +92,7 @@ begun-char c more scalar = ⊎_elim
     let units = ap length (one_unit c three) in
     let first : 0xC0 ≤ x = omega arith in
     ap (λ bytes. units_begun (bytes ++ more)) (three_bytes c b three)
-    ∙ omega (arith, begun-first x (y ∷ z ∷ more) (omega arith) (inr first), begun-behind y (z ∷ more) (omega arith) (omega arith), begun-behind z more (omega arith) (omega arith), units))
+    ∙ omega (arith, begun-first x (y ∷ z ∷ more) (omega arith) (inr first), begun-continuation y (z ∷ more) (omega arith) (omega arith), begun-continuation z more (omega arith) (omega arith), units))
     (λ (four : 0x1_0000 ≤ c).
     let x = 240 + c / 262144 in
     let y = 128 + c / 4096 % 64 in
@@ -101,7 +101,7 @@ begun-char c more scalar = ⊎_elim
     let top : c < 0x11_0000 = ⊎_elim (λ (low : c < 0xD800). omega arith) (λ (high : (0xE000 ≤ c) × (c < 0x11_0000)). high.1) (no_surrogate c scalar) in
     let units = ap length (two_units c four) in
     ap (λ bytes. units_begun (bytes ++ more)) (four_bytes c four)
-    ∙ omega (arith, begun-four x (y ∷ z ∷ w ∷ more) (omega arith) (omega arith), begun-behind y (z ∷ w ∷ more) (omega arith) (omega arith), begun-behind z (w ∷ more) (omega arith) (omega arith), begun-behind w more (omega arith) (omega arith), units))
+    ∙ omega (arith, begun-four x (y ∷ z ∷ w ∷ more) (omega arith) (omega arith), begun-continuation y (z ∷ w ∷ more) (omega arith) (omega arith), begun-continuation z (w ∷ more) (omega arith) (omega arith), begun-continuation w more (omega arith) (omega arith), units))
     (cases_lt c 0x1_0000))
     (cases_lt c 0x800))
     (cases_lt c 0x80)
@@ -120,29 +120,14 @@ pub begun-size : (bytes : List ℕ) → IsUtf8 bytes → 2 * units_begun bytes �
 unfolding size
 begun-size bytes utf8 = ap (λ n. 2 * n) (ap units_begun (sym (encodes-chars bytes utf8)) ∙ begun-text (chars bytes) (scalars-of bytes utf8))
 
--- a character has no more units than bytes
-units-le : (c : ℕ) → length (encode_utf16 c) ≤ length (encode c)
-units-le c = ⊎_elim
-    (λ (one : c < 0x1_0000).
-    let units = ap length (one_unit c one) in
-    ⊎_elim
-    (λ (a : c < 0x80). omega (arith, units, ap length (one_byte c a)))
-    (λ (a : 0x80 ≤ c). ⊎_elim
-    (λ (b : c < 0x800). omega (arith, units, ap length (two_bytes c a b)))
-    (λ (b : 0x800 ≤ c). omega (arith, units, ap length (three_bytes c b one)))
-    (cases_lt c 0x800))
-    (cases_lt c 0x80))
-    (λ (two : 0x1_0000 ≤ c). omega (arith, ap length (two_units c two), ap length (four_bytes c two)))
-    (cases_lt c 0x1_0000)
+size-le-encodes : (text : List ℕ) → size text ≤ 2 * length (encode_utf8_all text)
+size-le-encodes [] = omega (arith, size-nil)
+size-le-encodes (c ∷ text) =
+    omega (arith, size-cons c text, char_size-le c, size-le-encodes text, length-append (encode c) (encode_utf8_all text))
 
-text-le : (text : List ℕ) → length (flat_map encode_utf16 text) ≤ length (encode_utf8_all text)
-text-le [] = omega arith
-text-le (c ∷ text) =
-    omega (arith, units-le c, text-le text, length-append (encode_utf16 c) (flat_map encode_utf16 text), length-append (encode c) (encode_utf8_all text))
-
+-- a text takes at most twice as many bytes as its UTF-8
 pub size-le : (bytes : List ℕ) → IsUtf8 bytes → size (chars bytes) ≤ 2 * length bytes
-unfolding size
-size-le bytes utf8 = omega (arith, text-le (chars bytes), ap length (encodes-chars bytes utf8))
+size-le bytes utf8 = subst (λ t. size (chars bytes) ≤ 2 * length t) (encodes-chars bytes utf8) (size-le-encodes (chars bytes))
 
 -- ---- the steps of the count
 
@@ -177,7 +162,7 @@ four-bits n block few long =
     ∙ ap (λ bs. mask_l (map (λ b. eqb b 0xF0) bs)) masked
     ∙ ap mask_l (map-map (λ b. eqb b 0xF0) (λ b. bit_and b 0xF0) block)
 
--- without the lowest bits, the bits of the flags behind
+-- without the lowest bits, those of the flags after them
 mask-drop : (n : ℕ) (flags : List Bool) → mask_l flags / 2 ^ n ≡ mask_l (drop n flags)
 mask-drop zero flags = omega arith
 mask-drop (suc n) [] = zero-div (2 ^ suc n)
@@ -197,7 +182,7 @@ ones-begun n block chars' fours a b = ap₂ (λ m n. m + n) (ones begins_char ch
     ones p bits is =
         ap count_ones (ap (λ m. m / 2 ^ n) is ∙ mask-drop n (map p block) ∙ ap mask_l (drop-map p n block)) ∙ ones-mask_l p (drop n block)
 
--- of the last bytes those behind an offset
+-- of the last bytes those after an offset
 pub begun-last : (bytes : List ℕ) (at : ℕ) → 16 ≤ length bytes → at ≤ length bytes → length bytes < at + 16
     → units_begun (drop (16 - (length bytes - at)) (chunk (length bytes - 16) 16 bytes)) ≡ units_begun (drop at bytes)
 begun-last bytes at many within near =

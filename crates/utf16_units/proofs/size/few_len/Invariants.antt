@@ -1,12 +1,12 @@
 use Rattle.std.proofs.Common.{◌≡◌}
 use Rattle.std.specs.Str.{chars}
 use Rattle.utf16_units.specs.Encoding.{size}
-use Rattle.utf16_from_utf8.proofs.FewLemmas.{IsBeginningOf}
-use Rattle.utf16_from_utf8.proofs.few.few_len.Given as goal
+use Rattle.utf16_units.proofs.PrefixLemmas.{IsPrefixOf}
+use Rattle.utf16_units.proofs.size.few_len.Given as goal
 
 -- the length so far is that of the characters so far
 abbrev pub invariant-loop-c : goal.invariant-loop-c
 invariant-loop-c l = record {
-  begins : IsBeginningOf l.yielded (chars l.s);
+  begins : IsPrefixOf l.yielded (chars l.s);
   counted : l.len ≡ size l.yielded;
 }

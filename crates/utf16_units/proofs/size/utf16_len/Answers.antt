@@ -1,7 +1,7 @@
 use Rattle.std.proofs.Common.{ap, arith}
-use Rattle.utf16_from_utf8.specs.Sizes.{units_begun}
-use Rattle.utf16_from_utf8.proofs.SizeLemmas.{begun-size, size-le}
-use Rattle.utf16_from_utf8.proofs.size.utf16_len.Goals as goal
+use Rattle.utf16_units.specs.Sizes.{units_begun}
+use Rattle.utf16_units.proofs.SizeLemmas.{begun-size, size-le}
+use Rattle.utf16_units.proofs.size.utf16_len.Goals as goal
 
 pub returns : goal.returns
 returns c =
