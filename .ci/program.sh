@@ -99,13 +99,13 @@ refusals() {
     refuses 'capital letters' LE
     refuses 'a capital letter' "${1^}"
     refuses 'an empty word' '""'
-    refuses 'an empty word behind' 'le ""'
+    refuses 'an empty word after' 'le ""'
     refuses 'an empty word before' '"" le'
     refuses 'an empty word between' 'le "" be'
     refuses 'another word before' 'x le'
-    refuses 'another word behind' 'le x'
-    refuses 'a blank behind' '"le "'
-    refuses 'a blank behind another' "\"$1 \""
+    refuses 'another word after' 'le x'
+    refuses 'a blank after' '"le "'
+    refuses 'a blank after another' "\"$1 \""
     refuses 'a beginning of another' "${1%?}"
     refuses 'another and more' "${1}x"
     refuses 'a beginning' l

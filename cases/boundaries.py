@@ -10,7 +10,7 @@ CHARACTERS = [0x7F, 0x80, 0x7FF, 0x800, 0xE000, 0xFFFF, 0x10000, 0x10FFFF]
 PLACES = [*range(18), *range(30, 35), *range(62, 67)]
 # A character of each length in UTF-8, and the first or last ones of each.
 MIXED = "a\xe9\u4e00\u4e00\x7f\U0001f600\U0010ffff\uffff\u07ff\ud7ff\ue000"
-# Ill-formed sequences of UTF-8, some with a character behind them, for runs of characters of two bytes
+# Ill-formed sequences of UTF-8, some with a character after them, for runs of characters of two bytes
 # and of three; and how many come before: by which byte of a block of 64, and of 48, they begin.
 ILL_FORMED_UTF8 = ["80", "C0AF", "C1BF", "C341", "E09FBF", "E282C3A9", "EDA080", "EDBFBF", "E4B841", "F08FBFBF", "F5808080"]
 RUNS = {"\xe9": [0, 1, 7, 8, 15, 16, 30, 31, 32, 33, 64], "\u4e00": [0, 1, 5, 15, 16, 17, 20, 21, 31, 32, 48]}
