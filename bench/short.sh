@@ -32,7 +32,8 @@ awk '
     if (!((row, order) in found)) found[row, order] = $6
     if (found[row, order] "" != $6 "") { print "short: differs: " $0 > "/dev/stderr"; failed = 1; exit 1 }
 }
-# Returns the ratio to the loop in a byte order, and leaves both times, at the place where it is less.
+# Returns the ratio to the loop in a byte order, and leaves both times, at the place where it is
+# less.
 function ratio(row, order,    place, least, its) {
     least = -1
     for (place = 0; place <= 16; place += 16) {
