@@ -26,22 +26,6 @@ shown items = encode_utf8_all (lossy_chars items)
 pub shown-append : (items more : List Item) → shown (items ++ more) ≡ shown items ++ shown more
 shown-append items more = ap encode_utf8_all (map-append lossy_char items more) ∙ flat_map-append encode_utf8 (lossy_chars items) (lossy_chars more)
 
--- nothing is decoded
-pub Decodes-none : (big : Bool) (bytes old : List ℕ) → Decodes big bytes bytes old old
-Decodes-none big bytes old = record { taken = []; items = refl; tail = refl; text = sym (append-nil old) }
-
--- one step and then another
-pub Decodes-then : (big : Bool) (bytes rest last old mid new : List ℕ) → Decodes big bytes rest old mid → Decodes big rest last mid new
-    → Decodes big bytes last old new
-Decodes-then big bytes rest last old mid new first second = record {
-  taken = first.taken ++ second.taken;
-  items = first.items ∙ ap (λ i. first.taken ++ i) second.items ∙ sym (append_assoc first.taken second.taken (split_items big last));
-  tail = first.tail ∙ second.tail;
-  text =
-      second.text ∙ ap (λ t. t ++ shown second.taken) first.text ∙ append_assoc old (shown first.taken) (shown second.taken)
-      ∙ ap (λ t. old ++ t) (sym (shown-append first.taken second.taken));
-}
-
 -- the step that decodes a chunk, with more bytes after it
 pub Decodes-piece : (big : Bool) (piece behind old new : List ℕ) → new ≡ old ++ shown (split_items big piece)
     → Decodes big (piece ++ behind) (split_tail big piece ++ behind) old new
@@ -51,26 +35,6 @@ Decodes-piece big piece behind old new text = record {
   tail = split_tail-append big piece behind;
   text = text;
 }
-
--- steps, and then decoding the rest
-pub Decodes-last : (big : Bool) (bytes rest old mid new : List ℕ) → Decodes big bytes rest old mid → new ≡ mid ++ shown (split_items big rest)
-    → new ≡ old ++ shown (split_items big bytes)
-Decodes-last big bytes rest old mid new steps last =
-    last ∙ ap (λ t. t ++ shown (split_items big rest)) steps.text ∙ append_assoc old (shown steps.taken) (shown (split_items big rest))
-    ∙ ap (λ t. old ++ t) (sym (shown-append steps.taken (split_items big rest)) ∙ ap shown (sym steps.items))
-
--- steps that leave bytes that decode to nothing
-pub Decodes-end : (big : Bool) (bytes rest old new : List ℕ) → Decodes big bytes rest old new → split_items big rest ≡ []
-    → new ≡ old ++ shown (split_items big bytes)
-Decodes-end big bytes rest old new steps none =
-    steps.text ∙ ap (λ i. old ++ shown i) (sym (append-nil steps.taken) ∙ ap (λ i. steps.taken ++ i) (sym none) ∙ sym steps.items)
-
--- if bytes decode to nothing, so does what steps leave of them
-pub Decodes-empty : (big : Bool) (bytes rest old new : List ℕ) → Decodes big bytes rest old new → split_items big bytes ≡ [] → split_items big rest ≡ []
-Decodes-empty big bytes rest old new steps none = behind steps.taken (sym steps.items ∙ none) where
-  behind : (taken : List Item) → taken ++ split_items big rest ≡ [] → split_items big rest ≡ []
-  behind [] e = e
-  behind (item ∷ taken) e = absurd (cc)
 
 -- a text is the whole decoded text of its bytes
 pub text_shown : (big : Bool) (text bytes old new : List ℕ) → Encodes big text bytes → new ≡ old ++ encode_utf8_all text → new ≡ old ++ shown (split_items big bytes)

@@ -1,11 +1,14 @@
 pub mod WellFormedLemmas
 pub mod WellFormedSplit
+pub mod DecodesSteps
 pub mod DecodesLemmas
+pub mod ToUtf8Parts
 pub mod IllFormedDecides
 pub mod StreamLemmas
 pub mod WroteLemmas
+pub mod WholeLemmas
 pub mod LossyLemmas
 pub mod PrefixLemmas
 pub mod StreamSteps
-pub mod ToUtf8
+pub mod ToUtf8Lemmas
 pub mod AsciiLemmas

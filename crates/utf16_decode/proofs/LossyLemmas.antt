@@ -19,8 +19,11 @@ use Rattle.utf16_units.proofs.ShownLemmas.{split_within}
 use Rattle.utf16_units.proofs.SplitLemmas.{Split-computed}
 use Rattle.utf16_units.proofs.SplitIllFormed.{AreBytes-drop, AreBytes-take, lone_item, split_items-fault, split_tail-incomplete, split_tail-fault}
 use Rattle.utf16_units.proofs.SplitJoin.{split_items-text, split_tail-text}
-use Rattle.utf16_decode.specs.Decodes.{Decodes}
-use Rattle.utf16_decode.proofs.DecodesLemmas.{Decodes-then, cut_off_decides, cut_off_leaves, split_tail-again, undecided_items}
+use Rattle.utf16_decode.specs.Decodes.{Decodes, utf16_parts}
+use Rattle.utf16_decode.proofs.DecodesSteps.{Decodes-then}
+use Rattle.utf16_decode.proofs.ToUtf8Parts.{utf16_chunks, whole_lossy_chars-is}
+use Rattle.utf16_decode.proofs.WholeLemmas.{whole_text}
+use Rattle.utf16_decode.proofs.DecodesLemmas.{cut_off_decides, cut_off_leaves, split_tail-again, undecided_items}
 use Rattle.utf16_decode.proofs.IllFormedDecides.{fault_decides}
 use Rattle.utf16_decode.specs.Shown.{ShowsWhole}
 use Rattle.utf16_decode.specs.Wrote.{DecodesTo, TranscodesToUtf8, Wrote}
@@ -89,7 +92,7 @@ module _ (big : Bool) (raw old part : List ℕ) (read at n w : ℕ) (before : De
         within = omega arith;
         fits = omega arith;
         decodes =
-            Decodes-then big raw (drop read raw) (drop (read + n) raw) [] (take at old) (take (at + w) new) before.decodes
+            Decodes-then (utf16_parts big) encode_utf8 raw (drop read raw) (drop (read + n) raw) [] (take at old) (take (at + w) new) before.decodes
             (subst (λ t. Decodes big (drop read raw) (drop (read + n) raw) (take at old) t) (sym new_bytes)
             (subst (λ b. Decodes big (drop read raw) b (take at old) (take at old ++ take w part)) (drop-drop n read raw)
             (Decodes-text big (drop read raw) n (take at old) (take w part)
@@ -189,7 +192,7 @@ module _ (big : Bool) (raw old part : List ℕ) (read at n w : ℕ) (before : De
         record {
           within = omega arith;
           fits = room;
-          decodes = Decodes-then big raw (drop (read + n) raw) (drop (read + n + len) raw) [] (take (at + w) new) (take last next) DecodesTo-text.decodes (record {
+          decodes = Decodes-then (utf16_parts big) encode_utf8 raw (drop (read + n) raw) (drop (read + n + len) raw) [] (take (at + w) new) (take last next) DecodesTo-text.decodes (record {
             taken = lone ∷ [];
             items = items_here;
             tail = tail_here;
@@ -209,61 +212,6 @@ DecodesTo-lone big raw mid next n w len last are within fits text found room byt
     let same : 0 + n + len ≡ n + len = omega arith in
     subst (λ read. DecodesTo big raw next read last) same
     (DecodesTo-replacement big raw mid mid 0 0 n w nothing front (omega arith) are len here.1 here.0 next last room (bytes ∙ ap (λ t. t ++ 0xEF ∷ 0xBF ∷ 0xBD ∷ []) (sym (new_bytes big raw mid mid 0 0 n w nothing front (omega arith)))))
-
--- ---- the whole text
-
--- what a tail adds to the text
-abbrev pub tail_char : List ℕ → List ℕ
-tail_char [] = []
-tail_char (first ∷ after) = 0xFFFD ∷ []
-
-whole_lossy_chars-is : (items : List Item) (tail : List ℕ) → whole_lossy_chars items tail ≡ lossy_chars items ++ tail_char tail
-whole_lossy_chars-is items [] = sym (append-nil (lossy_chars items))
-whole_lossy_chars-is items (first ∷ after) = refl
-
-whole_lossy_chars-append : (items more : List Item) (tail : List ℕ) → whole_lossy_chars (items ++ more) tail ≡ lossy_chars items ++ whole_lossy_chars more tail
-whole_lossy_chars-append items more tail =
-    whole_lossy_chars-is (items ++ more) tail ∙ ap (λ t. t ++ tail_char tail) (map-append lossy_char items more) ∙ append_assoc (lossy_chars items) (lossy_chars more) (tail_char tail)
-    ∙ ap (λ t. lossy_chars items ++ t) (sym (whole_lossy_chars-is more tail))
-
--- the text decoded so far is a prefix of the whole text, and the rest's whole text follows it
-pub whole_text : (big : Bool) (bytes rest new : List ℕ) → Decodes big bytes rest [] new
-    → encode_utf8_all (lossy_text big bytes) ≡ new ++ encode_utf8_all (lossy_text big rest)
-whole_text big bytes rest new d =
-    ap₂ (λ i t. encode_utf8_all (whole_lossy_chars i t)) d.items d.tail ∙ ap encode_utf8_all (whole_lossy_chars-append d.taken (split_items big rest) (split_tail big rest))
-    ∙ flat_map-append encode_utf8 (lossy_chars d.taken) (lossy_text big rest) ∙ ap (λ n. n ++ encode_utf8_all (lossy_text big rest)) (sym d.text)
-
--- the text of a tail is U+FFFD
-pub tail_text : (big : Bool) (rest : List ℕ) → rest ≢ [] → split_tail big rest ≡ rest → lossy_text big rest ≡ 0xFFFD ∷ []
-tail_text big rest some same = ap₂ whole_lossy_chars (undecided_items big rest same) same ∙ marks rest some where
-  marks : (tail : List ℕ) → tail ≢ [] → whole_lossy_chars [] tail ≡ 0xFFFD ∷ []
-  marks [] some = absurd (some refl)
-  marks (first ∷ after) some = refl
-
-pub nil_text : (big : Bool) → lossy_text big [] ≡ []
-unfolding split_items split_tail
-nil_text big = refl
-
--- U+FFFD for the tail was appended to what was decoded
-pub ShowsWhole-tail : (big : Bool) (raw to next : List ℕ) (read written last : ℕ) → DecodesTo big raw to read written
-    → drop read raw ≢ [] → split_tail big (drop read raw) ≡ drop read raw → last ≤ length next
-    → take last next ≡ take written to ++ 0xEF ∷ 0xBF ∷ 0xBD ∷ []
-    → ShowsWhole (lossy_text big) encode_utf8 raw next (length raw) last
-unfolding encode_utf8
-ShowsWhole-tail big raw to next read written last d some same room bytes = record {
-  within = omega arith;
-  fits = room;
-  shown =
-      whole_text big raw (drop read raw) (take written to) d.decodes
-      ∙ ap (λ t. take written to ++ encode_utf8_all t) (tail_text big (drop read raw) some same)
-      ∙ sym bytes ∙ sym (append-nil (take last next))
-      ∙ ap (λ t. take last next ++ encode_utf8_all t) (sym (ap (lossy_text big) (drop_all (length raw) raw (omega arith)) ∙ nil_text big));
-}
-
-pub tail_does_not_fit : (big : Bool) (rest : List ℕ) (left : ℕ) → rest ≢ [] → split_tail big rest ≡ rest → left < 3
-    → TextDoesNotFit encode_utf8 (lossy_text big rest) left
-unfolding encode_utf8
-tail_does_not_fit big rest left some same few = record { char = 0xFFFD; more = []; begins = tail_text big rest some same; too_long = few }
 
 -- ---- the length of the whole text
 
@@ -298,7 +246,7 @@ module _ (big : Bool) (rest : List ℕ) (e : Utf16Error) (is : IsErrorOf big res
       ≡ length (encode_utf8_all (text_of big (take n rest))) + 3 + length (encode_utf8_all (lossy_text big (drop len (drop n rest))))
   fault_size are len some =
       let front = encode_utf8_all (text_of big (take n rest)) in
-      let all = whole_text big rest (drop len (drop n rest)) (front ++ encode_utf8 0xFFFD)
+      let all = whole_text (utf16_parts big) encode_utf8 (utf16_chunks big) rest (drop len (drop n rest)) (front ++ encode_utf8 0xFFFD)
       (fault_decides big rest e is n at are len some [] front (front ++ encode_utf8 0xFFFD) refl refl) in
       let both = ap length all ∙ length-append (front ++ encode_utf8 0xFFFD) (encode_utf8_all (lossy_text big (drop len (drop n rest)))) in
       omega (arith, length-append front (encode_utf8 0xFFFD), mark_within)
@@ -308,7 +256,7 @@ module _ (big : Bool) (rest : List ℕ) (e : Utf16Error) (is : IsErrorOf big res
   cut_off_size none =
       let shown = cut_off_decides big rest e is n at none [] (encode_utf8_all (text_of big (take n rest))) refl in
       let leaves = cut_off_leaves big rest e is n at none in
-      ap (λ t. length (encode_utf8_all t)) (whole_lossy_chars-is (split_items big rest) (split_tail big rest) ∙ ap (λ t. lossy_chars (split_items big rest) ++ tail_char t) (sym leaves)
+      ap (λ t. length (encode_utf8_all t)) (whole_lossy_chars-is (split_items big rest) (split_tail big rest) ∙ ap (λ t. lossy_chars (split_items big rest) ++ whole_lossy_chars [] t) (sym leaves)
       ∙ ap (λ t. lossy_chars (split_items big rest) ++ t) (left (drop n rest) some_left))
       ∙ replacement_long (lossy_chars (split_items big rest)) []
       ∙ ap (λ b. length b + 3 + 0) (sym shown)
@@ -318,7 +266,7 @@ module _ (big : Bool) (rest : List ℕ) (e : Utf16Error) (is : IsErrorOf big res
             is.fault.ill_formed (subst (IsUtf16 big) (sym (append-nil (take n rest)) ∙ ap (λ t. take n rest ++ t) (sym none) ∙ take-append-drop n rest)
             (subst (λ k. IsUtf16 big (take k rest)) (sym at) is.front.valid))
 
-        left : (tail : List ℕ) → tail ≢ [] → tail_char tail ≡ 0xFFFD ∷ []
+        left : (tail : List ℕ) → tail ≢ [] → whole_lossy_chars [] tail ≡ 0xFFFD ∷ []
         left [] some = absurd (some refl)
         left (first ∷ after) some = refl
 

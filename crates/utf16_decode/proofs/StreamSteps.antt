@@ -1,21 +1,17 @@
 -- Decoding bytes that are in two places, and the bytes of them that are pending.
-use Rattle.std.proofs.Common.{◌≡◌, ◌⊎◌, inl, inr, ℕ, ◌+◌, ◌-◌, ◌<◌, ◌≤◌, Bool, List, [], ◌∷◌, ◌++◌, length, take, drop, encode_utf8_all, refl, sym, ap, ap₂, ◌∙◌, subst, arith, append-nil, append_assoc, length-append, length-drop, length-take, length-take-le, take-append-drop, take_all, ⊎_elim}
+use Rattle.std.proofs.Common.{◌≡◌, ◌⊎◌, inl, inr, ℕ, ◌+◌, ◌-◌, ◌<◌, ◌≤◌, Bool, List, [], ◌∷◌, ◌++◌, length, map, take, drop, refl, sym, ap, ap₂, ◌∙◌, subst, arith, append-nil, append_assoc, length-append, length-drop, length-take, length-take-le, take-append-drop, take_all, ⊎_elim}
 use borrow.Rule.Slice.PartMut.{put_mid}
 use Rattle.std.proofs.Math.Seq.{drop-append-add}
 use Rattle.std.proofs.lemmas.Bool.{cases_lt}
 use Rattle.std.proofs.lemmas.List.{drop-append-le, drop-drop, drop_all, map-append, take_rest}
-use Rattle.std.proofs.lemmas.Str.{len_utf8_bounds, length-encode}
-use Rattle.std.specs.Char.{encode_utf8}
-use Rattle.utf16_units.specs.Split.{whole_lossy_chars, lossy_char, lossy_chars, split_items, split_tail}
+use Rattle.std.specs.List.{flat_map}
 use Rattle.utf16_units.proofs.IllFormedLemmas.{rest_from, take-past}
-use Rattle.utf16_units.proofs.SplitJoin.{split_items-append, split_tail-append}
-use Rattle.utf16_units.proofs.SplitUnique.{length-split_tail}
-use Rattle.utf16_decode.specs.Decodes.{Decodes}
-use Rattle.utf16_decode.proofs.DecodesLemmas.{Decodes-then, shown, shown-append, undecided_items}
-use Rattle.utf16_decode.proofs.StreamLemmas.{whole_lossy_chars-some}
-use Rattle.utf16_decode.specs.Wrote.{DecodesTo}
-use Rattle.utf16_decode.specs.Stops.{StopsLossy, TextDoesNotFit}
-use Rattle.utf16_decode.specs.Stream.{Feeds, StopsFeeding}
+use Rattle.utf16_decode.specs.Decodes.{DecodesAs}
+use Rattle.utf16_decode.specs.Decomposition.{Decomposition, IsSplitInChunks, decided}
+use Rattle.utf16_decode.proofs.DecodesSteps.{Decodes-more, Decodes-then, written_for, written_for-append}
+use Rattle.utf16_decode.specs.Wrote.{DecodesAsTo}
+use Rattle.utf16_decode.specs.Stops.{StopsLossyAs, TextDoesNotFit}
+use Rattle.utf16_decode.specs.Stream.{FeedsAs, StopsFeedingAs}
 use Rattle.utf16_decode.specs.declared.progress.Stop.{Stop}
 use Rattle.utf16_decode.specs.declared.progress.Stop.TheVariants.{Incomplete, Done, IllFormed, NoRoom}
 use Rattle.utf16_decode.proofs.WroteLemmas.{put_end-long, take-end}
@@ -44,71 +40,68 @@ join_drop pending piece at = ⊎_elim
     ∙ sym (drop-append-add pending piece (at - length pending)) ∙ ap (λ k. drop k (pending ++ piece)) same)
     (cases_lt at (length pending))
 
--- what bytes decode to they decode to with more bytes after them
-Decodes-more : (big : Bool) (bytes rest behind old new : List ℕ) → Decodes big bytes rest [] new
-    → Decodes big (bytes ++ behind) (rest ++ behind) old (old ++ new)
-Decodes-more big bytes rest behind old new d = record {
-  taken = d.taken;
-  items =
-      split_items-append big bytes behind ∙ ap₂ (λ i t. i ++ split_items big (t ++ behind)) d.items d.tail
-      ∙ append_assoc d.taken (split_items big rest) (split_items big (split_tail big rest ++ behind))
-      ∙ ap (λ i. d.taken ++ i) (sym (split_items-append big rest behind));
-  tail = split_tail-append big bytes behind ∙ ap (λ t. split_tail big (t ++ behind)) d.tail ∙ sym (split_tail-append big rest behind);
-  text = ap (λ t. old ++ t) d.text;
-}
-
--- the first bytes of the rest were decoded, and their text appended
-module _ (big : Bool) (raw old part window behind : List ℕ) (read at n w : ℕ) (before : DecodesTo big raw old read at)
-    (joined : window ++ behind ≡ drop read raw) (front : DecodesTo big window part n w) (long : length part ≡ length old - at) where
+-- the first bytes of the rest were decoded, and what is shown of them appended
+module _ (parts : Decomposition) (into : ℕ → List ℕ) (split : IsSplitInChunks parts) (input old part window next : List ℕ) (read at n w : ℕ)
+    (before : DecodesAsTo parts into input old read at) (joined : window ++ next ≡ drop read input) (front : DecodesAsTo parts into window part n w)
+    (long : length part ≡ length old - at) where
   abbrev new : List ℕ
   new = put_mid at (length old - at) old part
 
   new_long : length new ≡ length old
   new_long = put_end-long at old part before.fits long
 
-  left : drop n window ++ behind ≡ drop (read + n) raw
-  left = sym (drop-append-le n window behind front.within) ∙ ap (drop n) joined ∙ drop-drop n read raw
+  left : drop n window ++ next ≡ drop (read + n) input
+  left = sym (drop-append-le n window next front.within) ∙ ap (drop n) joined ∙ drop-drop n read input
 
-  pub DecodesTo-window : DecodesTo big raw new (read + n) (at + w)
+  pub DecodesTo-window : DecodesAsTo parts into input new (read + n) (at + w)
   DecodesTo-window =
       let within = before.within in
       let room = before.fits in
       let few = front.within in
       let fits = front.fits in
       let all = new_long in
-      let size = sym (length-append window behind) ∙ ap length joined ∙ length-drop read raw in
+      let size = sym (length-append window next) ∙ ap length joined ∙ length-drop read input in
       record {
         within = omega arith;
         fits = omega arith;
         decodes =
-            Decodes-then big raw (drop read raw) (drop (read + n) raw) [] (take at old) (take (at + w) new) before.decodes
-            (subst (λ t. Decodes big (drop read raw) (drop (read + n) raw) (take at old) t) (sym (take-end at w old part before.fits long front.fits))
-            (subst (λ r. Decodes big (drop read raw) r (take at old) (take at old ++ take w part)) left
-            (subst (λ b. Decodes big b (drop n window ++ behind) (take at old) (take at old ++ take w part)) joined
-            (Decodes-more big window (drop n window) behind (take at old) (take w part) front.decodes))));
+            Decodes-then parts into input (drop read input) (drop (read + n) input) [] (take at old) (take (at + w) new) before.decodes
+            (subst (λ t. DecodesAs parts into (drop read input) (drop (read + n) input) (take at old) t) (sym (take-end at w old part before.fits long front.fits))
+            (subst (λ r. DecodesAs parts into (drop read input) r (take at old) (take at old ++ take w part)) left
+            (subst (λ b. DecodesAs parts into b (drop n window ++ next) (take at old) (take at old ++ take w part)) joined
+            (Decodes-more parts into split window (drop n window) next (take at old) (take w part) front.decodes))));
       }
 
   left_over : length part - w ≡ length new - (at + w)
   left_over = let all = new_long in omega (arith, long)
 
   -- why it stopped there, if it stopped for lack of space or no bytes follow
-  pub stops_window : (stop : Stop) → (stop ≡ NoRoom) ⊎ (behind ≡ []) → StopsLossy big (drop n window) (length part - w) stop
-      → StopsLossy big (drop (read + n) raw) (length new - (at + w)) stop
+  pub stops_window : (stop : Stop) → (stop ≡ NoRoom) ⊎ (next ≡ []) → StopsLossyAs parts into (drop n window) (length part - w) stop
+      → StopsLossyAs parts into (drop (read + n) input) (length new - (at + w)) stop
   stops_window stop (inr none) here =
-      subst (λ r. StopsLossy big r (length new - (at + w)) stop) (sym (append-nil (drop n window)) ∙ ap (λ b. drop n window ++ b) (sym none) ∙ left)
-      (subst (λ k. StopsLossy big (drop n window) k stop) left_over here)
+      subst (λ r. StopsLossyAs parts into r (length new - (at + w)) stop) (sym (append-nil (drop n window)) ∙ ap (λ b. drop n window ++ b) (sym none) ∙ left)
+      (subst (λ k. StopsLossyAs parts into (drop n window) k stop) left_over here)
   stops_window NoRoom (inl full) here = record {
     char = here.char;
-    more = here.more ++ lossy_chars (split_items big (split_tail big (drop n window) ++ behind));
+    more = here.more ++ decided parts (parts.tail (drop n window) ++ next);
     begins =
-        ap (λ b. lossy_chars (split_items big b)) (sym left) ∙ ap lossy_chars (split_items-append big (drop n window) behind)
-        ∙ map-append lossy_char (split_items big (drop n window)) (split_items big (split_tail big (drop n window) ++ behind))
-        ∙ ap (λ t. t ++ lossy_chars (split_items big (split_tail big (drop n window) ++ behind))) here.begins;
-    too_long = subst (λ k. k < length (encode_utf8 here.char)) left_over here.too_long;
+        ap (decided parts) (sym left) ∙ ap (map parts.shown) (split.items (drop n window) next)
+        ∙ map-append parts.shown (parts.items (drop n window)) (parts.items (parts.tail (drop n window) ++ next))
+        ∙ ap (λ t. t ++ decided parts (parts.tail (drop n window) ++ next)) here.begins;
+    too_long = subst (λ k. k < length (into here.char)) left_over here.too_long;
   }
   stops_window Done (inl full) here = absurd (cc)
   stops_window (IllFormed len) (inl full) here = absurd (cc)
   stops_window Incomplete (inl full) here = absurd (cc)
+
+-- the same of all of the rest, as a slice from `read` on
+module _ (parts : Decomposition) (into : ℕ → List ℕ) (split : IsSplitInChunks parts) (input old part : List ℕ) (read at n w : ℕ)
+    (before : DecodesAsTo parts into input old read at) (front : DecodesAsTo parts into (rest_from input read) part n w) (long : length part ≡ length old - at) where
+  abbrev joined : rest_from input read ++ [] ≡ drop read input
+  joined = append-nil (rest_from input read) ∙ take_rest input read
+
+  pub DecodesTo-rest : DecodesAsTo parts into input (put_mid at (length old - at) old part) (read + n) (at + w)
+  DecodesTo-rest = DecodesTo-window parts into split input old part (rest_from input read) [] read at n w before joined front long
 
 -- the four bytes at the chunk boundary
 module _ (pending piece window : List ℕ) (read : ℕ) (within : read ≤ length pending) (is : window ≡ take 4 (rest_from pending read ++ piece)) where
@@ -127,12 +120,13 @@ module _ (pending piece window : List ℕ) (read : ℕ) (within : read ≤ lengt
       drop_all 4 (drop read (pending ++ piece)) (omega (arith, short, few))
 
   -- if none of them is decoded, they are the last ones, or there is no space
-  pub start_stops : (big : Bool) (n room : ℕ) (stop : Stop) → n ≡ 0 → StopsLossy big (drop n window) room stop → (stop ≡ NoRoom) ⊎ (after_seam ≡ [])
-  start_stops big n room Done zero here = inr (few_after (omega (arith, zero, ap length here, length-drop n window)))
-  start_stops big n room (IllFormed len) zero here = absurd here
-  start_stops big n room Incomplete zero here =
-      inr (few_after (omega (arith, zero, ap length here.1, length-split_tail big (drop n window), length-drop n window)))
-  start_stops big n room NoRoom zero here = inl refl
+  pub start_stops : (parts : Decomposition) (into : ℕ → List ℕ) → IsSplitInChunks parts → (n room : ℕ) (stop : Stop) → n ≡ 0
+      → StopsLossyAs parts into (drop n window) room stop → (stop ≡ NoRoom) ⊎ (after_seam ≡ [])
+  start_stops parts into split n room Done zero here = inr (few_after (omega (arith, zero, ap length here, length-drop n window)))
+  start_stops parts into split n room (IllFormed len) zero here = absurd here
+  start_stops parts into split n room Incomplete zero here =
+      inr (few_after (omega (arith, zero, ap length here.1, split.few (drop n window), length-drop n window)))
+  start_stops parts into split n room NoRoom zero here = inl refl
 
 -- after the pending bytes, the rest of the chunk is all that is left
 pub piece_joined : (pending piece : List ℕ) (read : ℕ) → length pending ≤ read → rest_from piece (read - length pending) ++ [] ≡ drop read (pending ++ piece)
@@ -143,101 +137,92 @@ piece_joined pending piece read past =
 -- ---- what a stream holds
 
 -- if a call did not stop for lack of space, the rest is pending
-pub rest_undecided : (big : Bool) (rest : List ℕ) (room : ℕ) (stop : Stop) → ¬ (stop ≡ NoRoom) → StopsLossy big rest room stop → split_tail big rest ≡ rest
-unfolding split_tail
-rest_undecided big rest room Done some here = ap (split_tail big) here ∙ sym here
-rest_undecided big rest room (IllFormed len) some here = absurd here
-rest_undecided big rest room Incomplete some here = here.1
-rest_undecided big rest room NoRoom some here = absurd (some refl)
+pub rest_undecided : (parts : Decomposition) (into : ℕ → List ℕ) → IsSplitInChunks parts → (rest : List ℕ) (room : ℕ) (stop : Stop) → ¬ (stop ≡ NoRoom)
+    → StopsLossyAs parts into rest room stop → parts.tail rest ≡ rest
+rest_undecided parts into split rest room Done some here = ap parts.tail here ∙ split.nothing ∙ sym here
+rest_undecided parts into split rest room (IllFormed len) some here = absurd here
+rest_undecided parts into split rest room Incomplete some here = here.1
+rest_undecided parts into split rest room NoRoom some here = absurd (some refl)
 
 -- a part of pending bytes and a chunk was decoded
-module _ (big : Bool) (pending piece to : List ℕ) (at written : ℕ) (front : DecodesTo big (pending ++ piece) to at written) where
+module _ (parts : Decomposition) (into : ℕ → List ℕ) (split : IsSplitInChunks parts) (pending piece to : List ℕ) (at written : ℕ)
+    (front : DecodesAsTo parts into (pending ++ piece) to at written) where
   abbrev all : List ℕ
   all = pending ++ piece
 
   abbrev rest : List ℕ
   rest = drop at all
 
+  abbrev shown : List ℕ → List ℕ
+  shown bytes = flat_map into (decided parts bytes)
+
   within : at ≤ length pending + length piece
   within = omega (arith, front.within, length-append pending piece)
 
-  -- the text of all, by what was written
-  shown_all : shown (split_items big all) ≡ take written to ++ shown (split_items big rest)
-  shown_all = ap shown front.decodes.items ∙ shown-append front.decodes.taken (split_items big rest) ∙ ap (λ t. t ++ shown (split_items big rest)) (sym front.decodes.text)
+  -- the output for all, by what was written
+  shown_all : shown all ≡ take written to ++ shown rest
+  shown_all =
+      ap (written_for parts into) front.decodes.items ∙ written_for-append parts into front.decodes.taken (parts.items rest)
+      ∙ ap (λ t. t ++ shown rest) (sym front.decodes.text)
 
-  shown_long : length (shown (split_items big all)) ≡ written + length (shown (split_items big rest))
-  shown_long =
-      ap length shown_all ∙ length-append (take written to) (shown (split_items big rest))
-      ∙ ap (λ n. n + length (shown (split_items big rest))) (length-take-le written to front.fits)
+  shown_long : length (shown all) ≡ written + length (shown rest)
+  shown_long = ap length shown_all ∙ length-append (take written to) (shown rest) ∙ ap (λ n. n + length (shown rest)) (length-take-le written to front.fits)
 
   -- there is no space for the next character
-  module _ (full : TextDoesNotFit encode_utf8 (lossy_chars (split_items big rest)) (length to - written)) (read : ℕ)
-      (is : read ≡ length piece - length (drop (at - length pending) piece)) where
+  module _ (full : TextDoesNotFit into (decided parts rest) (length to - written)) (read : ℕ) (is : read ≡ length piece - length (drop (at - length pending) piece)) where
     read_is : read ≡ at - length pending
-    read_is = let behind = length-drop (at - length pending) piece in let fits = within in omega arith
+    read_is = let next = length-drop (at - length pending) piece in let fits = within in omega arith
 
     -- the stream then holds what is left of the pending bytes
     module _ (left : List ℕ) (left_is : left ≡ drop at pending) where
       rest_is : left ++ drop read piece ≡ rest
       rest_is = ap₂ (λ h k. h ++ drop k piece) left_is read_is ∙ join_drop pending piece at
 
-      pub Feeds-full : Feeds big pending piece left to read written
+      pub Feeds-full : FeedsAs parts into pending piece left to read written
       Feeds-full =
           let fits = within in
           record {
             within = omega (arith, is);
             fits = front.fits;
-            decodes = subst (λ r. Decodes big all r [] (take written to)) (sym rest_is) front.decodes;
+            decodes = subst (λ r. DecodesAs parts into all r [] (take written to)) (sym rest_is) front.decodes;
           }
 
-      pub stops_full : StopsFeeding big pending piece left read (length to - written) NoRoom
+      pub stops_full : StopsFeedingAs parts into pending piece left read (length to - written) NoRoom
       stops_full = (
         ⊎_elim
             (λ (before : at < length pending). inl (omega (arith, read_is, before)))
-            (λ (behind : length pending ≤ at). inr (left_is ∙ drop_all at pending behind))
+            (λ (past : length pending ≤ at). inr (left_is ∙ drop_all at pending past))
             (cases_lt at (length pending)),
-        subst (λ b. TextDoesNotFit encode_utf8 (lossy_chars (split_items big b)) (length to - written)) (sym rest_is) full,
+        subst (λ b. TextDoesNotFit into (decided parts b) (length to - written)) (sym rest_is) full,
       )
 
-    next_long : length (shown (split_items big rest)) ≡ length (encode_utf8 full.char) + length (encode_utf8_all full.more)
-    next_long = ap (λ t. length (encode_utf8_all t)) full.begins ∙ length-append (encode_utf8 full.char) (encode_utf8_all full.more)
+    next_long : length (shown rest) ≡ length (into full.char) + length (flat_map into full.more)
+    next_long = ap (λ t. length (flat_map into t)) full.begins ∙ length-append (into full.char) (flat_map into full.more)
 
-    pub not_whole : ¬ (length (shown (split_items big all)) ≤ length to)
+    pub not_whole : ¬ (length (shown all) ≤ length to)
     not_whole whole = omega (arith, shown_long, next_long, full.too_long, whole)
 
-    pub filled : length to < written + 4
-    filled = omega (arith, full.too_long, length-encode full.char, len_utf8_bounds full.char)
+    pub filled : ((c : ℕ) → length (into c) ≤ 4) → length to < written + 4
+    filled short = omega (arith, full.too_long, short full.char)
 
   -- all was taken
-  module _ (undecided : split_tail big rest ≡ rest) where
+  module _ (undecided : parts.tail rest ≡ rest) where
     pub few_left : length rest ≤ 3
-    few_left = omega (arith, ap length undecided, length-split_tail big rest)
+    few_left = omega (arith, ap length undecided, split.few rest)
 
-    pub Feeds-done : (left : List ℕ) → left ≡ rest → Feeds big pending piece left to (length piece) written
+    pub Feeds-done : (left : List ℕ) → left ≡ rest → FeedsAs parts into pending piece left to (length piece) written
     Feeds-done left is = record {
       within = omega arith;
       fits = front.fits;
       decodes =
-          subst (λ r. Decodes big all r [] (take written to))
+          subst (λ r. DecodesAs parts into all r [] (take written to))
           (sym is ∙ sym (append-nil left) ∙ ap (λ b. left ++ b) (sym (drop_all (length piece) piece (omega arith)))) front.decodes;
     }
 
-    pub holds_tail : (left : List ℕ) → left ≡ rest → left ≡ split_tail big all
+    pub holds_tail : (left : List ℕ) → left ≡ rest → left ≡ parts.tail all
     holds_tail left is = is ∙ sym undecided ∙ sym front.decodes.tail
 
-    pub is_whole : length (shown (split_items big all)) ≤ length to
+    pub is_whole : length (shown all) ≤ length to
     is_whole =
-        let none = ap (λ i. length (shown i)) (undecided_items big rest undecided) in
+        let none = ap (λ i. length (written_for parts into i)) (split.undecided rest undecided) in
         omega (arith, shown_long, none, front.fits)
-
--- at the end of a stream with pending bytes comes U+FFFD
-module _ (pending slice : List ℕ) (is : slice ≡ pending) (some : 0 < length slice) where
-  some_held : ¬ (pending ≡ [])
-  some_held none = omega (arith, some, ap length (is ∙ none))
-
-  pub end_bytes : 0xEF ∷ 0xBF ∷ 0xBD ∷ [] ≡ encode_utf8_all (whole_lossy_chars [] pending)
-  unfolding encode_utf8
-  end_bytes = sym (whole_lossy_chars-some [] pending some_held)
-
-  pub end_long : length (encode_utf8_all (whole_lossy_chars [] pending)) ≡ 3
-  end_long = ap length (sym end_bytes)

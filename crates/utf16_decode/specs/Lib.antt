@@ -1,4 +1,5 @@
 pub mod WellFormed
+pub mod Decomposition
 pub mod Decodes
 pub mod Wrote
 pub mod Stops

@@ -3,7 +3,8 @@ use Rattle.std.specs.Prelude.{◌≡◌, ◌≢◌, ℕ, ◌<◌, ◌≤◌, Boo
 use Rattle.std.specs.Char.{IsScalar, encode_utf8}
 use Rattle.utf16_units.specs.Encoding.{char_bytes}
 use Rattle.utf16_units.specs.IllFormed.{IsIllFormed, IsUtf16ValidUpTo}
-use Rattle.utf16_units.specs.Split.{lossy_chars, split_items, split_tail}
+use Rattle.utf16_decode.specs.Decodes.{utf16_parts}
+use Rattle.utf16_decode.specs.Decomposition.{Decomposition, decided}
 use Rattle.utf16_decode.specs.declared.progress.Stop.{Stop}
 use Rattle.utf16_decode.specs.declared.progress.Stop.TheVariants.{Incomplete, Done, IllFormed, NoRoom}
 
@@ -50,11 +51,15 @@ pub record TextDoesNotFit (into : ℕ → List ℕ) (text : List ℕ) (left : �
 
 -- for a lossy call: nothing is left, or more bytes could change what is left, or the next character
 -- does not fit
+abbrev pub StopsLossyAs : Decomposition → (ℕ → List ℕ) → List ℕ → ℕ → Stop → Type 0
+StopsLossyAs parts into rest left Done = rest ≡ []
+StopsLossyAs parts into rest left (IllFormed len) = ⊥
+StopsLossyAs parts into rest left Incomplete = (rest ≢ []) × (parts.tail rest ≡ rest)
+StopsLossyAs parts into rest left NoRoom = TextDoesNotFit into (decided parts rest) left
+
+-- for UTF-16
 abbrev pub StopsLossy : Bool → List ℕ → ℕ → Stop → Type 0
-StopsLossy big rest left Done = rest ≡ []
-StopsLossy big rest left (IllFormed len) = ⊥
-StopsLossy big rest left Incomplete = (rest ≢ []) × (split_tail big rest ≡ rest)
-StopsLossy big rest left NoRoom = TextDoesNotFit encode_utf8 (lossy_chars (split_items big rest)) left
+StopsLossy big = StopsLossyAs (utf16_parts big) encode_utf8
 
 -- the same for the whole text, that of a tail included
 abbrev pub StopsLossyWhole : (List ℕ → List ℕ) → (ℕ → List ℕ) → List ℕ → ℕ → Stop → Type 0

@@ -1,7 +1,9 @@
 -- What a call read and what it wrote.
 use Rattle.std.specs.Prelude.{◌≡◌, ℕ, ◌≤◌, Bool, List, [], ◌++◌, length, take, drop, encode_utf8_all}
 use Rattle.utf16_units.specs.Encoding.{IsUtf16, text_of}
-use Rattle.utf16_decode.specs.Decodes.{Decodes}
+use Rattle.std.specs.Char.{encode_utf8}
+use Rattle.utf16_decode.specs.Decodes.{DecodesAs, utf16_parts}
+use Rattle.utf16_decode.specs.Decomposition.{Decomposition}
 
 -- valid bytes of one encoding, and the bytes of the same text in the other
 abbrev pub Gives : (List ℕ → Type 0) → (List ℕ → List ℕ) → List ℕ → List ℕ → Type 0
@@ -30,8 +32,12 @@ pub record Puts (Gives : List ℕ → List ℕ → Type 0) (rest old new : List 
   pub gives : Gives (take len rest) added
   pub bytes : take last new ≡ take at old ++ added
 
--- the first bytes of UTF-16 were decoded, and their text is at the start of the buffer in UTF-8
-pub record DecodesTo (big : Bool) (raw to : List ℕ) (read written : ℕ) : Type 0 where
-  pub within : read ≤ length raw
+-- the first bytes of the input were decoded, and what is shown of them is at the start of the buffer
+pub record DecodesAsTo (parts : Decomposition) (into : ℕ → List ℕ) (input to : List ℕ) (read written : ℕ) : Type 0 where
+  pub within : read ≤ length input
   pub fits : written ≤ length to
-  pub decodes : Decodes big raw (drop read raw) [] (take written to)
+  pub decodes : DecodesAs parts into input (drop read input) [] (take written to)
+
+-- the same of UTF-16, in UTF-8
+abbrev pub DecodesTo : Bool → List ℕ → List ℕ → ℕ → ℕ → Type 0
+DecodesTo big = DecodesAsTo (utf16_parts big) encode_utf8

@@ -7,10 +7,13 @@ ghost use Rattle.utf16_decode.specs.Shown.{ShowsWhole};
 ghost use Rattle.utf16_decode.specs.Stops.{StopsLossy, StopsLossyWhole};
 ghost use Rattle.utf16_decode.specs.Wrote.{DecodesTo};
 ghost use Rattle.utf16_decode.specs.declared.progress.Stop.TheVariants.{NoRoom};
+ghost use Rattle.utf16_decode.specs.Decodes.{utf16_parts};
 
 use crate::ascii::put_ascii_blocks;
+use crate::lossy_direction::LossyDirection;
+use crate::lossy_whole::transcode_lossy;
 use crate::progress::{Progress, Stop, put};
-use crate::utf8::to_utf8;
+use crate::utf8::{ToUtf8, to_utf8};
 use crate::well_formed::write_well_formed;
 use utf16_to_utf8::{SLACK, write_blocks, write_utf8};
 use utf16_units::{Utf16Order, first_char_len, plain_prefix_len};
@@ -178,6 +181,29 @@ fn put_copied<E: Utf16Order, const MOST: usize>(raw: &[u8], to: &mut [u8]) -> (u
     (len, write_utf8::<E>(&copy[..len], to))
 }
 
+impl<E: Utf16Order> LossyDirection for ToUtf8<E> {
+    ghost parts = { utf16_parts E.BIG };
+
+    #[inline(always)]
+    fn lossy_laws() {}
+
+    #[inline(always)]
+    fn write_decided(input: &[u8], to: &mut [u8]) -> Progress {
+        to_utf8_partial::<E>(input, to)
+    }
+
+    #[inline(always)]
+    fn write_end(tail: &[u8], to: &mut [u8], at: usize) -> Option<usize> {
+        if tail.is_empty() {
+            return Some(at);
+        }
+        if to.len() - at < REPLACEMENT.len() {
+            return None;
+        }
+        Some(put(&REPLACEMENT, to, at))
+    }
+}
+
 /// Writes the whole text of UTF-16 in UTF-8 to the start of a buffer, as far as whole characters
 /// fit, with U+FFFD for each unpaired surrogate and one for an incomplete character at the end. Any
 /// bytes are allowed. Bytes of the buffer after the written ones may have been overwritten.
@@ -193,20 +219,5 @@ pub fn to_utf8_lossy<E: Utf16Order>(raw: &[u8], to: &mut [u8]) -> Progress
     ensures between { result.stop ≡ NoRoom
         → DecodesTo E.BIG raw.now to.new result.read result.written }
 {
-    let front = to_utf8_partial::<E>(raw, to);
-    let Stop::Incomplete = front.stop else {
-        return front;
-    };
-    if to.len() - front.written < REPLACEMENT.len() {
-        return Progress {
-            read: front.read,
-            written: front.written,
-            stop: Stop::NoRoom,
-        };
-    }
-    Progress {
-        read: raw.len(),
-        written: put(&REPLACEMENT, to, front.written),
-        stop: Stop::Done,
-    }
+    transcode_lossy::<ToUtf8<E>>(raw, to)
 }

@@ -1,16 +1,16 @@
-//! UTF-16 that comes in chunks, cut anywhere, with the pending bytes in a value of the caller's.
+//! A stream that comes in chunks, cut anywhere, with the pending bytes in a value of the caller's.
 
-ghost use Rattle.std.specs.Prelude.{◌≡◌, ◌≢◌, ◌↔◌, ◌+◌, ◌-◌, ◌<◌, ◌≤◌, [], ◌∷◌, ◌++◌, length, take, drop, encode_utf8_all};
-ghost use Rattle.utf16_units.specs.Split.{decided_text, whole_lossy_chars};
-ghost use Rattle.utf16_decode.specs.Stops.{StopsLossy};
-ghost use Rattle.utf16_decode.specs.Stream.{Feeds, StopsFeeding, stream_pending};
-ghost use Rattle.utf16_decode.specs.Wrote.{DecodesTo};
+ghost use Rattle.std.specs.Prelude.{◌≡◌, ◌≢◌, ◌↔◌, ◌+◌, ◌-◌, ◌<◌, ◌≤◌, [], ◌∷◌, ◌++◌, length, take, drop};
+ghost use Rattle.std.specs.List.{flat_map};
+ghost use Rattle.utf16_decode.specs.Decomposition.{decided};
+ghost use Rattle.utf16_decode.specs.Stops.{StopsLossyAs};
+ghost use Rattle.utf16_decode.specs.Stream.{FeedsAs, StopsFeedingAs, stream_pending};
+ghost use Rattle.utf16_decode.specs.Wrote.{DecodesAsTo};
 ghost use Rattle.utf16_decode.specs.declared.progress.Stop.TheVariants.{Done, NoRoom};
 
 use crate::joined::{joined_start, rest_of};
-use crate::lossy::{REPLACEMENT, to_utf8_partial};
-use crate::progress::{Progress, Stop, put};
-use utf16_units::Utf16Order;
+use crate::lossy_direction::LossyDirection;
+use crate::progress::{Progress, Stop};
 
 /// The pending bytes of a stream between two chunks: its last bytes, at most three, that only more
 /// bytes can decide. Any values are allowed in the fields: a `len` above three is read as three,
@@ -34,8 +34,12 @@ impl Stream {
         }
     }
 
-    // Returns a stream with these bytes pending.
-    fn of(pending: &[u8]) -> Self
+    /// Returns a stream with these bytes pending.
+    ///
+    /// # Precondition
+    ///
+    /// There are at most three.
+    pub fn holding(pending: &[u8]) -> Self
         requires { length pending.now ≤ 3 }
         ensures pending { stream_pending result ≡ pending.now }
         ensures few { result.len ≤ 3 }
@@ -48,8 +52,9 @@ impl Stream {
         }
     }
 
-    /// Returns the pending bytes, at most three. After a `feed` that returned `Done` they are none,
-    /// one byte, or a leading surrogate and at most one byte after it.
+    /// Returns the pending bytes, at most three. After a `feed` that returned `Done` they are the
+    /// tail of what has come: of UTF-16 none, one byte, or a leading surrogate and at most one byte
+    /// after it; of UTF-8 none, or the first bytes of a character whose other bytes have not come.
     pub fn pending(&self) -> &[u8]
         ensures bytes { result.now ≡ stream_pending self.now }
         ensures few { length result.now ≤ 3 }
@@ -57,9 +62,10 @@ impl Stream {
         &self.bytes[..(self.len as usize).min(3)]
     }
 
-    /// Decodes the next chunk and writes the text that is now certain, in UTF-8, to the start of a
-    /// buffer, as far as whole characters fit: the characters, and U+FFFD for each unpaired
-    /// surrogate. `read` counts the bytes of the chunk that were taken.
+    /// Decodes the next chunk and writes what is now certain, in the second encoding, to the start
+    /// of a buffer, as far as whole characters fit: the characters, and what stands for each
+    /// ill-formed sequence. `read` counts the bytes of the chunk that were taken. The direction is
+    /// one for all chunks of a stream.
     ///
     /// With `Done` all of the chunk was taken, and what more bytes could change is pending. With
     /// `NoRoom` the next character does not fit: call again with the rest of the chunk and more
@@ -70,57 +76,50 @@ impl Stream {
     /// # Complexity
     ///
     /// Linear time in the number of bytes read.
-    pub fn feed<E: Utf16Order>(&mut self, piece: &[u8], to: &mut [u8]) -> Progress
-        ensures feeds { Feeds E.BIG (stream_pending self.old) piece.now (stream_pending self.new)
-            to.new result.read result.written }
-        ensures stop { StopsFeeding E.BIG (stream_pending self.old) piece.now
+    pub fn feed<D: LossyDirection>(&mut self, piece: &[u8], to: &mut [u8]) -> Progress
+        ensures feeds { FeedsAs D.parts D.into (stream_pending self.old) piece.now
+            (stream_pending self.new) to.new result.read result.written }
+        ensures stop { StopsFeedingAs D.parts D.into (stream_pending self.old) piece.now
             (stream_pending self.new) result.read (length to.new - result.written) result.stop }
         ensures done { (result.stop ≡ Done)
-            ↔ (length (encode_utf8_all (decided_text E.BIG (stream_pending self.old ++ piece.now)))
+            ↔ (length (flat_map D.into (decided D.parts (stream_pending self.old ++ piece.now)))
             ≤ length to.new) }
         ensures filled { result.stop ≡ NoRoom → length to.new < result.written + 4 }
         ensures few { self.new.len ≤ 3 }
     {
-        let (progress, pending) = feed_after::<E>(self.pending(), piece, to);
-        *self = pending;
+        let (progress, stream) = feed_after::<D>(self.pending(), piece, to);
+        *self = stream;
         progress
     }
 
-    /// Ends the stream: writes U+FFFD in UTF-8 to the start of a buffer if bytes are pending, and
-    /// nothing if not. No bytes are pending then. With `NoRoom` the buffer has fewer than three
-    /// bytes, and nothing changed. `read` is 0. Bytes of the buffer after the written ones stay.
-    pub fn finish(&mut self, to: &mut [u8]) -> Progress
+    /// Ends the stream: writes what stands for the pending bytes to the start of a buffer, and
+    /// nothing if none are. No bytes are pending then. With `NoRoom` it does not fit, and nothing
+    /// changed. `read` is 0. Bytes of the buffer after the written ones stay.
+    pub fn finish<D: LossyDirection>(&mut self, to: &mut [u8]) -> Progress
         ensures read { result.read ≡ 0 }
         ensures done { (result.stop ≡ Done)
-            ↔ (length (encode_utf8_all (whole_lossy_chars [] (stream_pending self.old)))
+            ↔ (length (flat_map D.into (D.parts.at_end (stream_pending self.old)))
             ≤ length to.new) }
         ensures text { result.stop ≡ Done
             → take result.written to.new
-            ≡ encode_utf8_all (whole_lossy_chars [] (stream_pending self.old)) }
+            ≡ flat_map D.into (D.parts.at_end (stream_pending self.old)) }
         ensures within { result.written ≤ length to.new }
         ensures rest { drop result.written to.new ≡ drop result.written to.old }
         ensures pending { result.stop ≡ Done → stream_pending self.new ≡ [] }
         ensures no_room { result.stop ≢ Done → (result.stop ≡ NoRoom) × (result.written ≡ 0) }
         ensures unchanged { result.stop ≢ Done → (self.new ≡ self.old) × (to.new ≡ to.old) }
     {
-        if self.pending().is_empty() {
-            return Progress {
-                read: 0,
-                written: 0,
-                stop: Stop::Done,
-            };
-        }
-        if to.len() < REPLACEMENT.len() {
+        let Some(written) = D::write_end(self.pending(), to, 0) else {
             return Progress {
                 read: 0,
                 written: 0,
                 stop: Stop::NoRoom,
             };
-        }
+        };
         *self = Stream::new();
         Progress {
             read: 0,
-            written: put(&REPLACEMENT, to, 0),
+            written,
             stop: Stop::Done,
         }
     }
@@ -128,19 +127,20 @@ impl Stream {
 
 // Decodes the next chunk after pending bytes, as `feed` does; returns the progress, and the stream
 // with the bytes that are pending then.
-fn feed_after<E: Utf16Order>(pending: &[u8], piece: &[u8], to: &mut [u8]) -> (Progress, Stream)
+fn feed_after<D: LossyDirection>(pending: &[u8], piece: &[u8], to: &mut [u8]) -> (Progress, Stream)
     requires { length pending.now ≤ 3 }
-    ensures feeds { Feeds E.BIG pending.now piece.now (stream_pending result.1) to.new
+    ensures feeds { FeedsAs D.parts D.into pending.now piece.now (stream_pending result.1) to.new
         result.0.read result.0.written }
-    ensures stop { StopsFeeding E.BIG pending.now piece.now (stream_pending result.1) result.0.read
-        (length to.new - result.0.written) result.0.stop }
+    ensures stop { StopsFeedingAs D.parts D.into pending.now piece.now (stream_pending result.1)
+        result.0.read (length to.new - result.0.written) result.0.stop }
     ensures done { (result.0.stop ≡ Done)
-        ↔ (length (encode_utf8_all (decided_text E.BIG (pending.now ++ piece.now)))
+        ↔ (length (flat_map D.into (decided D.parts (pending.now ++ piece.now)))
         ≤ length to.new) }
     ensures filled { result.0.stop ≡ NoRoom → length to.new < result.0.written + 4 }
     ensures few { result.1.len ≤ 3 }
 {
-    let front = decode_joined::<E>(pending, piece, to);
+    D::lossy_laws();
+    let front = decode_joined::<D>(pending, piece, to);
     let (pending, rest) = rest_of(pending, piece, front.read);
     if let Stop::NoRoom = front.stop {
         let full = Progress {
@@ -148,7 +148,7 @@ fn feed_after<E: Utf16Order>(pending: &[u8], piece: &[u8], to: &mut [u8]) -> (Pr
             written: front.written,
             stop: Stop::NoRoom,
         };
-        return (full, Stream::of(pending));
+        return (full, Stream::holding(pending));
     }
     let (tail, len) = joined_start(pending, rest);
     let done = Progress {
@@ -156,37 +156,38 @@ fn feed_after<E: Utf16Order>(pending: &[u8], piece: &[u8], to: &mut [u8]) -> (Pr
         written: front.written,
         stop: Stop::Done,
     };
-    (done, Stream::of(&tail[..len]))
+    (done, Stream::holding(&tail[..len]))
 }
 
-// Decodes pending bytes and a chunk after them as `to_utf8_partial` does, as if they were
-// contiguous: four bytes at the chunk boundary pass through a buffer on the stack.
-fn decode_joined<E: Utf16Order>(pending: &[u8], piece: &[u8], to: &mut [u8]) -> Progress
+// Decodes pending bytes and a chunk after them as `write_decided` does, as if they were contiguous:
+// four bytes at the chunk boundary pass through a buffer on the stack.
+fn decode_joined<D: LossyDirection>(pending: &[u8], piece: &[u8], to: &mut [u8]) -> Progress
     requires { length pending.now ≤ 3 }
-    ensures decodes { DecodesTo E.BIG (pending.now ++ piece.now) to.new result.read
+    ensures decodes { DecodesAsTo D.parts D.into (pending.now ++ piece.now) to.new result.read
         result.written }
-    ensures stop { StopsLossy E.BIG (drop result.read (pending.now ++ piece.now))
+    ensures stop { StopsLossyAs D.parts D.into (drop result.read (pending.now ++ piece.now))
         (length to.new - result.written) result.stop }
 {
+    D::lossy_laws();
     let mut read = 0;
     let mut written = 0;
     while read < pending.len() {
         let (joined, len) = joined_start(&pending[read..], piece);
-        let met = to_utf8_partial::<E>(&joined[..len], &mut to[written..]);
-        read += met.read;
-        written += met.written;
-        if met.read == 0 || met.stop == Stop::NoRoom {
+        let front = D::write_decided(&joined[..len], &mut to[written..]);
+        read += front.read;
+        written += front.written;
+        if front.read == 0 || front.stop == Stop::NoRoom {
             return Progress {
                 read,
                 written,
-                stop: met.stop,
+                stop: front.stop,
             };
         }
     }
-    let behind = to_utf8_partial::<E>(&piece[read - pending.len()..], &mut to[written..]);
+    let rest = D::write_decided(&piece[read - pending.len()..], &mut to[written..]);
     Progress {
-        read: read + behind.read,
-        written: written + behind.written,
-        stop: behind.stop,
+        read: read + rest.read,
+        written: written + rest.written,
+        stop: rest.stop,
     }
 }

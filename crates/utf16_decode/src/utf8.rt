@@ -31,8 +31,8 @@ pub fn to_utf8<E: Utf16Order>(raw: &[u8], to: &mut [u8]) -> Progress
     transcode::<ToUtf8<E>>(raw, to)
 }
 
-// From UTF-16 in byte order `E` to UTF-8.
-struct ToUtf8<E: Utf16Order>(PhantomData<E>);
+/// From UTF-16 in byte order `E` to UTF-8, with U+FFFD for each unpaired surrogate.
+pub struct ToUtf8<E: Utf16Order>(PhantomData<E>);
 
 impl<E: Utf16Order> Direction for ToUtf8<E> {
     const SHORT_LEN: usize = 32;

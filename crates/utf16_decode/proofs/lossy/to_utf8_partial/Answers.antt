@@ -6,6 +6,7 @@ use Rattle.utf16_decode.specs.Stops.{StopsDecoding}
 use Rattle.utf16_decode.specs.declared.progress.Stop.TheVariants.{IllFormed}
 use Rattle.utf16_decode.proofs.LossyLemmas.{DecodesTo-replacement, DecodesTo-text, replacement_does_not_fit, some_items, stops_lossy}
 use Rattle.utf16_decode.proofs.StreamSteps.{DecodesTo-window}
+use Rattle.utf16_decode.proofs.ToUtf8Parts.{utf16_chunks}
 use Rattle.utf16_decode.proofs.lossy.to_utf8_partial.Given.{Over}
 use Rattle.utf16_decode.proofs.lossy.to_utf8_partial.Goals as goal
 use Rattle.utf16_decode.proofs.lossy.to_utf8_partial.Goals.{In-IllFormed}
@@ -47,7 +48,7 @@ loop-len-preserved g c =
 pub loop-len-preserved-then-to-written-ge-BLOCKS_ROOM : goal.loop-len-preserved-then-to-written-ge-BLOCKS_ROOM
 loop-len-preserved-then-to-written-ge-BLOCKS_ROOM g c =
     let before = DecodesTo-text _ _ _ _ _ _ _ _ c.loop-len.invariant c.to_utf8-front.ensures.wrote (search rules) in
-    DecodesTo-window _ _ _ _ _ [] _ _ _ _ before (append-nil _ ∙ take_rest c.args.raw.now (c.loop-len.read + c.to_utf8-front.result.read)) c.put_copied-len.ensures.decodes (search rules)
+    DecodesTo-window _ _ (utf16_chunks g.E.Utf16Order.BIG) _ _ _ _ [] _ _ _ _ before (append-nil _ ∙ take_rest c.args.raw.now (c.loop-len.read + c.to_utf8-front.result.read)) c.put_copied-len.ensures.decodes (search rules)
 
 pub loop-len-smaller-then-to-written-ge-BLOCKS_ROOM : goal.loop-len-smaller-then-to-written-ge-BLOCKS_ROOM
 loop-len-smaller-then-to-written-ge-BLOCKS_ROOM g c =

@@ -1,5 +1,5 @@
 use Rattle.std.proofs.Common.{refl, rules, take}
-use Rattle.utf16_decode.proofs.ToUtf8.{utf8_joins}
+use Rattle.utf16_decode.proofs.ToUtf8Lemmas.{utf8_joins}
 use Rattle.utf16_decode.proofs.WroteLemmas.{Puts-put, Wrote-then}
 use Rattle.utf16_decode.proofs.utf8.put_ascii_from.Goals as goal
 

@@ -1,4 +1,4 @@
-use Rattle.utf16_decode.proofs.ToUtf8.{utf8_empty}
+use Rattle.utf16_decode.proofs.ToUtf8Lemmas.{utf8_empty}
 use Rattle.utf16_decode.proofs.WroteLemmas.{Wrote-none}
 use Rattle.utf16_decode.proofs.utf8.ToUtf8Direction.begin_short.Goals as goal
 

@@ -1,7 +1,7 @@
 use Rattle.std.proofs.Common.{sym, subst}
 use Rattle.utf16_units.specs.Encoding.{IsUtf16}
 use Rattle.utf16_units.proofs.EncodingLemmas.{IsUtf16-char}
-use Rattle.utf16_decode.proofs.ToUtf8.{begins}
+use Rattle.utf16_decode.proofs.ToUtf8Lemmas.{begins}
 use Rattle.utf16_decode.proofs.utf8.ToUtf8Direction.first_char.Goals as goal
 
 pub first_char-requires-clause-well_formed : goal.first_char-requires-clause-well_formed

@@ -1,5 +1,5 @@
 use Rattle.std.proofs.Common.{arith}
-use Rattle.utf16_decode.proofs.ToUtf8.{char_gives, faults_there, room_grows, utf8_empty, utf8_joins}
+use Rattle.utf16_decode.proofs.ToUtf8Lemmas.{char_gives, faults_there, room_grows, utf8_empty, utf8_joins}
 use Rattle.utf16_decode.proofs.utf8.ToUtf8Direction.laws.Goals as goal
 
 pub returns : goal.returns

@@ -1,0 +1,44 @@
+-- UTF-16 in chunks, and the length of a character in UTF-8.
+use Rattle.std.proofs.Common.{◌≡◌, ℕ, ◌<◌, ◌≤◌, Bool, List, [], ◌∷◌, ◌++◌, length, encode_utf8_all, refl, sym, arith, append-nil}
+use Rattle.std.proofs.lemmas.Str.{len_utf8_bounds, length-encode}
+use Rattle.std.specs.Char.{encode_utf8}
+use Rattle.utf16_units.specs.Split.{Item, lossy_chars, split_items, split_tail, whole_lossy_chars}
+use Rattle.utf16_units.proofs.SplitJoin.{split_items-append, split_tail-append}
+use Rattle.utf16_units.proofs.SplitUnique.{length-split_tail}
+use Rattle.utf16_decode.specs.Decodes.{utf16_parts}
+use Rattle.utf16_decode.specs.Decomposition.{IsSplitInChunks}
+use Rattle.utf16_decode.proofs.DecodesLemmas.{undecided_items}
+
+-- the whole text is that of the items and then of the tail
+pub whole_lossy_chars-is : (items : List Item) (tail : List ℕ) → whole_lossy_chars items tail ≡ lossy_chars items ++ whole_lossy_chars [] tail
+whole_lossy_chars-is items [] = sym (append-nil (lossy_chars items))
+whole_lossy_chars-is items (first ∷ after) = refl
+
+one_at_end : (tail : List ℕ) → length (whole_lossy_chars [] tail) ≤ 1
+one_at_end [] = omega arith
+one_at_end (first ∷ after) = omega arith
+
+no_tail : (big : Bool) → split_tail big [] ≡ []
+unfolding split_tail
+no_tail big = refl
+
+pub utf16_chunks : (big : Bool) → IsSplitInChunks (utf16_parts big)
+utf16_chunks big = record {
+  items = split_items-append big;
+  tail = split_tail-append big;
+  nothing = no_tail big;
+  few = length-split_tail big;
+  undecided = undecided_items big;
+  no_end = refl;
+  one = one_at_end;
+  whole = λ bytes. whole_lossy_chars-is (split_items big bytes) (split_tail big bytes);
+}
+
+pub utf8_short : (c : ℕ) → length (encode_utf8 c) ≤ 4
+utf8_short c = omega (arith, length-encode c, len_utf8_bounds c)
+
+-- U+FFFD stands for a tail
+pub end_bytes : (tail : List ℕ) → 0 < length tail → 0xEF ∷ 0xBF ∷ 0xBD ∷ [] ≡ encode_utf8_all (whole_lossy_chars [] tail)
+unfolding encode_utf8
+end_bytes [] some = absurd (omega arith)
+end_bytes (first ∷ after) some = refl
