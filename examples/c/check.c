@@ -906,7 +906,7 @@ static struct {
 } calls[] = {
     {"every_room", call_every_room, NULL, 0},
     {"Stream::feed", call_stream_feed, NULL, 0},
-    {"Utf8Stream::feed", call_utf8_stream_feed, NULL, 0},
+    {"feed_utf8", call_utf8_stream_feed, NULL, 0},
     {"Lossy::feed", call_lossy_feed, NULL, 0},
     {"decode_pieces", call_decode_pieces, NULL, 0},
     {"swap_byte_order", call_swap, NULL, 0},

@@ -8,7 +8,7 @@ ghost use Rattle.dethrux.specs.Numbers.{AreNumbers, is_big, stop_of};
 
 use crate::byte_order::is_big_endian;
 use crate::results::{Conversion, conversion_of};
-use utf16_transcode::Stream;
+use utf16_decode::{Stream, ToUtf8};
 use utf16_units::{BE, LE};
 
 /// Decodes the next chunk of a stream and writes its text in UTF-8, as far as whole characters fit,
@@ -37,9 +37,9 @@ pub extern "C" fn dethrux_decoder_feed(
     ensures numbers { AreNumbers result.status result.error_len }
 {
     conversion_of(if is_big_endian(byte_order) {
-        decoder.feed::<BE>(chunk, to)
+        decoder.feed::<ToUtf8<BE>>(chunk, to)
     } else {
-        decoder.feed::<LE>(chunk, to)
+        decoder.feed::<ToUtf8<LE>>(chunk, to)
     })
 }
 
@@ -64,5 +64,6 @@ pub extern "C" fn dethrux_decoder_finish(decoder: &mut Stream, to: &mut [u8]) ->
         × (to.new ≡ to.old) }
     ensures numbers { AreNumbers result.status result.error_len }
 {
-    conversion_of(decoder.finish(to))
+    // U+FFFD in UTF-8 is the same in both byte orders.
+    conversion_of(decoder.finish::<ToUtf8<LE>>(to))
 }

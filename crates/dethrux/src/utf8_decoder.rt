@@ -3,13 +3,14 @@
 ghost use Rattle.std.specs.Prelude.{◌≡◌, ◌≢◌, ◌↔◌, ◌+◌, ◌-◌, ◌*◌, ◌<◌, ◌≤◌, [], ◌++◌, drop, length, take};
 ghost use Rattle.utf16_units.specs.Encoding.{encode, size};
 ghost use Rattle.utf8_split.specs.Split.{IsTail, decided_text, whole_lossy_chars};
-ghost use Rattle.utf16_transcode.specs.Utf8Stream.{FeedsUtf8, StopsFeedingUtf8, utf8_stream_pending};
+ghost use Rattle.utf16_decode.specs.Stream.{stream_pending};
+ghost use Rattle.utf16_transcode.specs.Utf8Stream.{FeedsUtf8, StopsFeedingUtf8};
 ghost use Rattle.utf16_decode.specs.declared.progress.Stop.TheVariants.{Done, NoRoom};
 ghost use Rattle.dethrux.specs.Numbers.{AreNumbers, is_big, stop_of};
 
 use crate::byte_order::is_big_endian;
 use crate::results::{Conversion, conversion_of};
-use utf16_transcode::Utf8Stream;
+use utf16_transcode::{Stream, feed_utf8, finish_utf8};
 use utf16_units::{BE, LE};
 
 /// Decodes the next chunk of a stream of UTF-8 and writes its text in UTF-16, as far as whole
@@ -20,34 +21,34 @@ use utf16_units::{BE, LE};
 /// in what is read.
 #[unsafe(no_mangle)]
 pub extern "C" fn dethrux_utf8_decoder_feed(
-    decoder: &mut Utf8Stream,
+    decoder: &mut Stream,
     byte_order: u32,
     chunk: &[u8],
     to: &mut [u8],
 ) -> Conversion
-    ensures feeds { FeedsUtf8 (is_big byte_order) (utf8_stream_pending decoder.old) chunk.now
-        (utf8_stream_pending decoder.new) to.new result.read result.written }
-    ensures stop { StopsFeedingUtf8 (is_big byte_order) (utf8_stream_pending decoder.old) chunk.now
-        (utf8_stream_pending decoder.new) result.read (length to.new - result.written)
+    ensures feeds { FeedsUtf8 (is_big byte_order) (stream_pending decoder.old) chunk.now
+        (stream_pending decoder.new) to.new result.read result.written }
+    ensures stop { StopsFeedingUtf8 (is_big byte_order) (stream_pending decoder.old) chunk.now
+        (stream_pending decoder.new) result.read (length to.new - result.written)
         (stop_of result.status result.error_len) }
     ensures done { (stop_of result.status result.error_len ≡ Done)
-        ↔ (size (decided_text (utf8_stream_pending decoder.old ++ chunk.now)) ≤ length to.new) }
+        ↔ (size (decided_text (stream_pending decoder.old ++ chunk.now)) ≤ length to.new) }
     ensures filled { stop_of result.status result.error_len ≡ NoRoom
         → length to.new < result.written + 4 }
     ensures few { decoder.new.len ≤ 3 }
-    ensures tail { IsTail (utf8_stream_pending decoder.old)
-        → IsTail (utf8_stream_pending decoder.new) }
-    ensures succeeds { IsTail (utf8_stream_pending decoder.old)
+    ensures tail { IsTail (stream_pending decoder.old)
+        → IsTail (stream_pending decoder.new) }
+    ensures succeeds { IsTail (stream_pending decoder.old)
         → 2 * length chunk.now + 2 ≤ length to.new
         → stop_of result.status result.error_len ≡ Done }
-    ensures succeeds_always { 2 * (length (utf8_stream_pending decoder.old) + length chunk.now)
+    ensures succeeds_always { 2 * (length (stream_pending decoder.old) + length chunk.now)
         ≤ length to.new → stop_of result.status result.error_len ≡ Done }
     ensures numbers { AreNumbers result.status result.error_len }
 {
     conversion_of(if is_big_endian(byte_order) {
-        decoder.feed::<BE>(chunk, to)
+        feed_utf8::<BE>(decoder, chunk, to)
     } else {
-        decoder.feed::<LE>(chunk, to)
+        feed_utf8::<LE>(decoder, chunk, to)
     })
 }
 
@@ -55,20 +56,20 @@ pub extern "C" fn dethrux_utf8_decoder_feed(
 /// bytes after it stay as they were. If U+FFFD does not fit, nothing changes.
 #[unsafe(no_mangle)]
 pub extern "C" fn dethrux_utf8_decoder_finish(
-    decoder: &mut Utf8Stream,
+    decoder: &mut Stream,
     byte_order: u32,
     to: &mut [u8],
 ) -> Conversion
     ensures read { result.read ≡ 0 }
     ensures done { (stop_of result.status result.error_len ≡ Done)
-        ↔ (size (whole_lossy_chars [] (utf8_stream_pending decoder.old)) ≤ length to.new) }
+        ↔ (size (whole_lossy_chars [] (stream_pending decoder.old)) ≤ length to.new) }
     ensures text { stop_of result.status result.error_len ≡ Done
         → take result.written to.new
-        ≡ encode (is_big byte_order) (whole_lossy_chars [] (utf8_stream_pending decoder.old)) }
+        ≡ encode (is_big byte_order) (whole_lossy_chars [] (stream_pending decoder.old)) }
     ensures within { result.written ≤ length to.new }
     ensures rest { drop result.written to.new ≡ drop result.written to.old }
     ensures pending { stop_of result.status result.error_len ≡ Done
-        → utf8_stream_pending decoder.new ≡ [] }
+        → stream_pending decoder.new ≡ [] }
     ensures no_room { stop_of result.status result.error_len ≢ Done
         → (stop_of result.status result.error_len ≡ NoRoom) × (result.written ≡ 0) }
     ensures unchanged { stop_of result.status result.error_len ≢ Done → (decoder.new ≡ decoder.old)
@@ -76,8 +77,8 @@ pub extern "C" fn dethrux_utf8_decoder_finish(
     ensures numbers { AreNumbers result.status result.error_len }
 {
     conversion_of(if is_big_endian(byte_order) {
-        decoder.finish::<BE>(to)
+        finish_utf8::<BE>(decoder, to)
     } else {
-        decoder.finish::<LE>(to)
+        finish_utf8::<LE>(decoder, to)
     })
 }

@@ -14,6 +14,7 @@ mod well_formed;
 use crate::conversions::Conversion;
 use std::alloc::Global;
 use utf16_case_lines::{Answer, Trouble, Values};
+use utf16_transcode::{FromUtf8, ToUtf8};
 use utf16_units::Utf16Order;
 
 /// Makes a call on these values and adds its result. `Call` if no call over buffers has this name;
@@ -35,8 +36,8 @@ pub fn call<E: Utf16Order>(
             Ok(())
         }
         "Stream::pending" => streams::pending(alloc, values, answer),
-        "Stream::feed" => streams::feed::<E>(alloc, values, answer),
-        "Utf8Stream::feed" => streams::utf8_feed::<E>(alloc, values, answer),
+        "Stream::feed" => streams::feed::<E, ToUtf8<E>>(alloc, values, answer, true),
+        "feed_utf8" => streams::feed::<E, FromUtf8<E>>(alloc, values, answer, false),
         "count_chars"
         | "is_ascii"
         | "to_utf8_lossy_len"

@@ -3,7 +3,7 @@
 use crate::buffers::{add_changed, add_written, buffer};
 use std::alloc::Global;
 use utf16_case_lines::{Answer, Trouble, Values};
-use utf16_transcode::{Stream, Utf8Stream};
+use utf16_decode::{LossyDirection, Stream};
 use utf16_units::Utf16Order;
 
 /// Adds the pending bytes of a new stream.
@@ -26,65 +26,27 @@ pub fn pending(alloc: Global, values: &mut Values, answer: &mut Answer) -> Resul
     Ok(())
 }
 
-/// Feeds the chunks, each to a buffer of so many bytes: adds for each how far the call came, what
-/// was written, and what is pending then; and last how far the end came, what it wrote, and what is
-/// pending then.
-pub fn feed<E: Utf16Order>(
+/// Feeds the chunks in a direction, each to a buffer of so many bytes: adds for each how far the call
+/// came, what was written, and what is pending then; and last how far the end came, what it wrote,
+/// and what is pending then. What is written is UTF-8 or not.
+pub fn feed<E: Utf16Order, D: LossyDirection>(
     alloc: Global,
     values: &mut Values,
     answer: &mut Answer,
+    utf8: bool,
 ) -> Result<(), Trouble> {
     let pieces = values.pieces(alloc, E::BIG)?;
     let room = values.number()?;
     let mut stream = Stream::new();
     for piece in &pieces {
         let mut to = buffer(alloc, room)?;
-        let progress = stream.feed::<E>(piece, &mut to);
-        add_written(answer, &to, progress, true)?;
+        let progress = stream.feed::<D>(piece, &mut to);
+        add_written(answer, &to, progress, utf8)?;
         answer.bytes(stream.pending());
     }
-    finish(alloc, stream, room, answer)
-}
-
-// Ends a stream.
-fn finish(alloc: Global, stream: Stream, room: usize, answer: &mut Answer) -> Result<(), Trouble> {
-    let mut stream = stream;
     let mut to = buffer(alloc, room)?;
-    let progress = stream.finish(&mut to);
-    add_written(answer, &to, progress, true)?;
-    answer.bytes(stream.pending());
-    add_changed(answer, &to, progress.written)
-}
-
-/// Does the same for chunks of UTF-8.
-pub fn utf8_feed<E: Utf16Order>(
-    alloc: Global,
-    values: &mut Values,
-    answer: &mut Answer,
-) -> Result<(), Trouble> {
-    let pieces = values.pieces(alloc, E::BIG)?;
-    let room = values.number()?;
-    let mut stream = Utf8Stream::new();
-    for piece in &pieces {
-        let mut to = buffer(alloc, room)?;
-        let progress = stream.feed::<E>(piece, &mut to);
-        add_written(answer, &to, progress, false)?;
-        answer.bytes(stream.pending());
-    }
-    utf8_finish::<E>(alloc, stream, room, answer)
-}
-
-// Ends a stream of UTF-8.
-fn utf8_finish<E: Utf16Order>(
-    alloc: Global,
-    stream: Utf8Stream,
-    room: usize,
-    answer: &mut Answer,
-) -> Result<(), Trouble> {
-    let mut stream = stream;
-    let mut to = buffer(alloc, room)?;
-    let progress = stream.finish::<E>(&mut to);
-    add_written(answer, &to, progress, false)?;
+    let progress = stream.finish::<D>(&mut to);
+    add_written(answer, &to, progress, utf8)?;
     answer.bytes(stream.pending());
     add_changed(answer, &to, progress.written)
 }

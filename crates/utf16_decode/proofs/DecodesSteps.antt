@@ -63,3 +63,7 @@ module _ (parts : Decomposition) (into : ℕ → List ℕ) where
       tail = split.tail bytes next ∙ ap (λ t. parts.tail (t ++ next)) d.tail ∙ sym (split.tail rest next);
       text = ap (λ t. old ++ t) d.text;
     }
+
+    -- the tail of a tail is that tail
+    pub tail_again : (bytes : List ℕ) → parts.tail (parts.tail bytes) ≡ parts.tail bytes
+    tail_again bytes = ap parts.tail (sym (append-nil (parts.tail bytes))) ∙ sym (split.tail bytes []) ∙ ap parts.tail (append-nil bytes)

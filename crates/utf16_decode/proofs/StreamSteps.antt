@@ -8,7 +8,7 @@ use Rattle.std.specs.List.{flat_map}
 use Rattle.utf16_units.proofs.IllFormedLemmas.{rest_from, take-past}
 use Rattle.utf16_decode.specs.Decodes.{DecodesAs}
 use Rattle.utf16_decode.specs.Decomposition.{Decomposition, IsSplitInChunks, decided}
-use Rattle.utf16_decode.proofs.DecodesSteps.{Decodes-more, Decodes-then, written_for, written_for-append}
+use Rattle.utf16_decode.proofs.DecodesSteps.{Decodes-end, Decodes-more, Decodes-then, tail_again, written_for, written_for-append}
 use Rattle.utf16_decode.specs.Wrote.{DecodesAsTo}
 use Rattle.utf16_decode.specs.Stops.{StopsLossyAs, TextDoesNotFit}
 use Rattle.utf16_decode.specs.Stream.{FeedsAs, StopsFeedingAs}
@@ -102,6 +102,10 @@ module _ (parts : Decomposition) (into : ℕ → List ℕ) (split : IsSplitInChu
 
   pub DecodesTo-rest : DecodesAsTo parts into input (put_mid at (length old - at) old part) (read + n) (at + w)
   DecodesTo-rest = DecodesTo-window parts into split input old part (rest_from input read) [] read at n w before joined front long
+
+  pub stops_rest : (stop : Stop) → StopsLossyAs parts into (drop n (rest_from input read)) (length part - w) stop
+      → StopsLossyAs parts into (drop (read + n) input) (length (put_mid at (length old - at) old part) - (at + w)) stop
+  stops_rest stop = stops_window parts into split input old part (rest_from input read) [] read at n w before joined front long stop (inr refl)
 
 -- the four bytes at the chunk boundary
 module _ (pending piece window : List ℕ) (read : ℕ) (within : read ≤ length pending) (is : window ≡ take 4 (rest_from pending read ++ piece)) where
@@ -226,3 +230,12 @@ module _ (parts : Decomposition) (into : ℕ → List ℕ) (split : IsSplitInChu
     is_whole =
         let none = ap (λ i. length (written_for parts into i)) (split.undecided rest undecided) in
         omega (arith, shown_long, none, front.fits)
+
+-- if all of a chunk was taken, all that is certain was written
+pub fed_text : (parts : Decomposition) (into : ℕ → List ℕ) (split : IsSplitInChunks parts) (pending piece left to : List ℕ) (read written room : ℕ)
+    → FeedsAs parts into pending piece left to read written → StopsFeedingAs parts into pending piece left read room Done
+    → take written to ≡ flat_map into (decided parts (pending ++ piece))
+fed_text parts into split pending piece left to read written room feeds done =
+    let undecided = ap parts.tail done.1 ∙ tail_again parts into split (pending ++ piece) ∙ sym done.1 in
+    let rest : left ++ drop read piece ≡ left = ap (λ p. left ++ p) (drop_all read piece (omega (arith, done.0))) ∙ append-nil left in
+    Decodes-end parts into (pending ++ piece) (left ++ drop read piece) [] (take written to) feeds.decodes (ap parts.items rest ∙ split.undecided left undecided)

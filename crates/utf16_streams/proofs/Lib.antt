@@ -8,3 +8,4 @@ pub mod Utf8Lemmas
 pub mod PiecesLemmas
 pub mod PartLemmas
 pub mod StreamRules
+pub use Rattle.utf16_decode.proofs.DecodesSteps

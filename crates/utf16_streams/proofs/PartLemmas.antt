@@ -10,10 +10,8 @@ use Rattle.utf16_units.proofs.ShownLemmas.{split_within}
 use Rattle.utf16_units.proofs.SplitLemmas.{Split-computed}
 use Rattle.utf16_units.proofs.SplitJoin.{split_items-append}
 use Rattle.utf16_decode.specs.Decodes.{Decodes}
-use Rattle.utf16_decode.proofs.DecodesLemmas.{Decodes-end, Decodes-piece, length-split_tail-le, shown, split_tail-again, undecided_items}
+use Rattle.utf16_decode.proofs.DecodesLemmas.{Decodes-piece, length-split_tail-le, shown}
 use Rattle.utf16_decode.proofs.WellFormedSplit.{encodes_marked}
-use Rattle.utf16_decode.specs.Stream.{Feeds, StopsFeeding}
-use Rattle.utf16_decode.specs.declared.progress.Stop.TheVariants.{Done}
 
 pub AreBytes-append : (front back : List ℕ) → AreBytes front → AreBytes back → AreBytes (front ++ back)
 AreBytes-append front back before behind k = ⊎_elim
@@ -32,14 +30,6 @@ module _ (big : Bool) (bytes : List ℕ) (are : AreBytes bytes) where
       let ends : length bytes - tail + tail ≡ length bytes = omega (arith, length-split_tail-le big bytes) in
       let text = lossy_chars (split_items big bytes) in
       (text, (all_scalars-from_All text (encodes_marked big bytes (length bytes - tail) ends are []).scalars, refl))
-
--- if all of a part was read, all of its certain text was written
-pub fed_text : (big : Bool) (pending part left to : List ℕ) (read written room : ℕ) → Feeds big pending part left to read written
-    → StopsFeeding big pending part left read room Done → take written to ≡ shown (split_items big (pending ++ part))
-fed_text big pending part left to read written room feeds done =
-    let undecided = ap (split_tail big) done.1 ∙ split_tail-again big (pending ++ part) ∙ sym done.1 in
-    let rest : left ++ drop read part ≡ left = ap (λ p. left ++ p) (drop_all read part (omega (arith, done.0))) ∙ append-nil left in
-    Decodes-end big (pending ++ part) (left ++ drop read part) [] (take written to) feeds.decodes (ap (split_items big) rest ∙ undecided_items big left undecided)
 
 -- a part and the rest of a chunk
 module _ (big : Bool) (pending piece part rest : List ℕ) (joined : piece ≡ part ++ rest) where

@@ -13,7 +13,7 @@ ghost use Rattle.utf16_decode.specs.Stream.{stream_pending};
 use crate::decoder::{BUFFER_LEN, Decoder, FEED_SLACK, LEAST_BUFFER, are_bytes, feed};
 use std::alloc::{AllocError, Allocator};
 use std::marker::PhantomData;
-use utf16_decode::Stream;
+use utf16_decode::{Stream, ToUtf8};
 use utf16_units::Utf16Order;
 
 /// A decoder of UTF-16 in the byte order `E` that comes in chunks, cut anywhere. Ill-formed
@@ -90,10 +90,7 @@ impl<E: Utf16Order> Lossy<E> {
         ensures { lossy_pending result ≡ option_to_list first }
     {
         let stream = match first {
-            Some(byte) => Stream {
-                bytes: [byte, 0, 0],
-                len: 1,
-            },
+            Some(byte) => Stream::holding(&[byte]),
             None => Stream::new(),
         };
         Lossy {
@@ -140,7 +137,7 @@ impl<E: Utf16Order> Decoder for Lossy<E> {
 
     fn feed_to(&mut self, piece: &[u8], to: &mut [u8]) -> usize {
         are_bytes(self.stream.pending());
-        self.stream.feed::<E>(piece, to).written
+        self.stream.feed::<ToUtf8<E>>(piece, to).written
     }
 
     fn finish(self) -> Option<char> {
@@ -264,7 +261,7 @@ fn decode_part<'a, E: Utf16Order, A: Allocator>(
 {
     let mut stream = stream;
     let (part, rest) = part_that_fits::<E>(stream.pending(), piece, buffer.len());
-    let written = stream.feed::<E>(part, buffer).written;
+    let written = stream.feed::<ToUtf8<E>>(part, buffer).written;
     to.push_str(unsafe { str::from_utf8_unchecked(&buffer[..written]) })?;
     Ok((stream, rest))
 }

@@ -1,101 +1,25 @@
--- What was decoded of UTF-8 is a prefix of the whole lossy text, and is that of the bytes read.
-use Rattle.std.proofs.Common.{◌≡◌, ◌≢◌, ℕ, ◌+◌, ◌<◌, ◌≤◌, Bool, List, [], ◌∷◌, ◌++◌, Some, length, take, drop, refl, sym, ap, ap₂, ◌∙◌, subst, arith, append_assoc, append-nil, length-append, take-append-drop, take_all, take-add, take_at, drop_at}
-use Rattle.std.proofs.lemmas.List.{append_cancel_right, drop_all, map-append}
+-- What was decoded of UTF-8 is the text of the bytes read.
+use Rattle.std.proofs.Common.{◌≡◌, ℕ, ◌+◌, ◌<◌, Bool, List, [], ◌∷◌, ◌++◌, Some, flat_map, length, take, drop, refl, sym, ap, ap₂, ◌∙◌, subst, arith, append_assoc, append-nil, length-append, take-append-drop, take-add, take_at, drop_at}
+use Rattle.std.proofs.lemmas.List.{append_cancel_right}
 use Rattle.std.proofs.lemmas.List.Concat.{flat_map-append}
 use Rattle.std.proofs.lemmas.Str.{IsUtf8-encode, IsUtf8-nil, chars-append}
 use Rattle.std.specs.Char.{IsScalar, encode_utf8}
-use Rattle.std.specs.List.{flat_map}
 use Rattle.std.specs.Str.{chars}
 use Rattle.std.specs.Str.Lossy.{utf8_lossy}
-use Rattle.utf16_units.specs.Encoding.{char_bytes, encode}
-use Rattle.utf8_split.specs.Split.{AreItems, IsItem, IsSubpart, Item, good, ill, item_bytes, items_bytes, lossy_char, lossy_chars, split_items, split_tail, whole_lossy_chars}
-use Rattle.utf8_split.proofs.LossyLemmas.{lossy_text-is, tail_text, whole_is}
+use Rattle.utf16_units.specs.Encoding.{char_bytes}
+use Rattle.utf8_split.specs.Split.{AreItems, IsItem, IsSubpart, Item, good, ill, item_bytes, items_bytes, lossy_char, lossy_chars, split_items, split_tail}
 use Rattle.utf8_split.proofs.PartLemmas.{subpart_len}
 use Rattle.utf8_split.proofs.SplitLemmas.{Split-computed}
 use Rattle.utf16_decode.specs.Shown.{ShowsWhole}
-use Rattle.utf16_decode.specs.Stops.{StopsLossyWhole, TextDoesNotFit}
+use Rattle.utf16_decode.specs.Stops.{StopsLossyWhole}
 use Rattle.utf16_decode.specs.declared.progress.Stop.{Stop}
 use Rattle.utf16_decode.specs.declared.progress.Stop.TheVariants.{Incomplete, Done, IllFormed, NoRoom}
 use Rattle.utf16_transcode.specs.FromUtf8.{text_of_utf8}
-use Rattle.utf16_transcode.specs.Utf8Stream.{DecodesUtf8, DecodesUtf8To, StopsLossyUtf8}
+use Rattle.utf16_transcode.specs.Utf8Stream.{DecodesUtf8To}
 use Rattle.utf16_transcode.proofs.CutLemmas.{text-cut}
-use Rattle.utf16_transcode.proofs.DecodesUtf8.{taken_bytes, undecided_items}
-use Rattle.utf16_transcode.proofs.FromUtf8.{chars-char, valid_to}
+use Rattle.utf16_transcode.proofs.DecodesUtf8.{taken_bytes}
+use Rattle.utf16_transcode.proofs.FromUtf8Lemmas.{chars-char, valid_to}
 use Rattle.utf16_transcode.proofs.LossyLemmas.{text-empty, utf8_lossy-behind}
-
--- ---- the whole text
-
-whole-append : (items more : List Item) (tail : List ℕ) → whole_lossy_chars (items ++ more) tail ≡ lossy_chars items ++ whole_lossy_chars more tail
-whole-append items more tail =
-    whole_is (items ++ more) tail ∙ ap (λ t. t ++ tail_text tail) (map-append lossy_char items more) ∙ append_assoc (lossy_chars items) (lossy_chars more) (tail_text tail)
-    ∙ ap (λ t. lossy_chars items ++ t) (sym (whole_is more tail))
-
--- the decoded characters come first, and then the text of the rest
-pub whole_text : (big : Bool) (bytes rest old new : List ℕ) (d : DecodesUtf8 big bytes rest old new) → text_of_utf8 bytes ≡ lossy_chars d.taken ++ text_of_utf8 rest
-whole_text big bytes rest old new d =
-    sym (lossy_text-is bytes) ∙ ap₂ whole_lossy_chars d.items d.tail ∙ whole-append d.taken (split_items rest) (split_tail rest)
-    ∙ ap (λ t. lossy_chars d.taken ++ t) (lossy_text-is rest)
-
-flat_encode : (big : Bool) (text : List ℕ) → encode big text ≡ flat_map (char_bytes big) text
-unfolding encode
-flat_encode big text = refl
-
--- the text of a tail is U+FFFD
-tail_shown : (rest : List ℕ) → rest ≢ [] → split_tail rest ≡ rest → text_of_utf8 rest ≡ 0xFFFD ∷ []
-tail_shown rest some same = sym (lossy_text-is rest) ∙ ap₂ whole_lossy_chars (undecided_items rest same) same ∙ one rest some where
-  one : (tail : List ℕ) → tail ≢ [] → whole_lossy_chars [] tail ≡ 0xFFFD ∷ []
-  one [] some = absurd (some refl)
-  one (first ∷ after) some = refl
-
-module _ (big : Bool) (utf8 to : List ℕ) (read written : ℕ) (d : DecodesUtf8To big utf8 to read written) where
-  abbrev unread : List ℕ
-  unread = drop read utf8
-
-  written_is : take written to ≡ flat_map (char_bytes big) (lossy_chars d.decodes.taken)
-  written_is = d.decodes.text ∙ flat_encode big (lossy_chars d.decodes.taken)
-
-  pub ShowsWhole-decoded : ShowsWhole text_of_utf8 (char_bytes big) utf8 to read written
-  ShowsWhole-decoded = record {
-    within = d.within;
-    fits = d.fits;
-    shown =
-        let more = text_of_utf8 unread in
-        ap (flat_map (char_bytes big)) (whole_text big utf8 unread [] (take written to) d.decodes)
-        ∙ flat_map-append (char_bytes big) (lossy_chars d.decodes.taken) more
-        ∙ ap (λ b. b ++ flat_map (char_bytes big) more) (sym written_is);
-  }
-
-  -- U+FFFD for the tail was appended
-  pub ShowsWhole-tail : unread ≢ [] → split_tail unread ≡ unread → (next : List ℕ) (last : ℕ) → last ≤ length next
-      → take last next ≡ take written to ++ char_bytes big 0xFFFD → ShowsWhole text_of_utf8 (char_bytes big) utf8 next (length utf8) last
-  ShowsWhole-tail some same next last fits bytes = record {
-    within = omega arith;
-    fits = fits;
-    shown =
-        ShowsWhole-decoded.shown
-        ∙ ap (λ t. take written to ++ flat_map (char_bytes big) t) (tail_shown unread some same)
-        ∙ ap (λ t. take written to ++ t) (append-nil (char_bytes big 0xFFFD)) ∙ sym bytes ∙ sym (append-nil (take last next))
-        ∙ ap (λ t. take last next ++ flat_map (char_bytes big) t) (sym (text-empty (drop (length utf8) utf8) (ap length (drop_all (length utf8) utf8 (omega arith)))));
-  }
-
--- why a lossy call stopped, if not at a tail
-pub stops_whole : (big : Bool) (rest : List ℕ) (left : ℕ) (stop : Stop) → stop ≢ Incomplete → StopsLossyUtf8 big rest left stop
-    → StopsLossyWhole text_of_utf8 (char_bytes big) rest left stop
-stops_whole big rest left Done some here = here
-stops_whole big rest left (IllFormed len) some here = absurd here
-stops_whole big rest left Incomplete some here = absurd (some refl)
-stops_whole big rest left NoRoom some here = record {
-  char = here.char;
-  more = here.more ++ tail_text (split_tail rest);
-  begins = sym (lossy_text-is rest) ∙ whole_is (split_items rest) (split_tail rest) ∙ ap (λ t. t ++ tail_text (split_tail rest)) here.begins;
-  too_long = here.too_long;
-}
-
-pub tail_does_not_fit : (big : Bool) (rest : List ℕ) (left : ℕ) → rest ≢ [] → split_tail rest ≡ rest → left < length (char_bytes big 0xFFFD)
-    → TextDoesNotFit (char_bytes big) (text_of_utf8 rest) left
-tail_does_not_fit big rest left some same few = record { char = 0xFFFD; more = []; begins = tail_shown rest some same; too_long = few }
-
--- ---- the text of the bytes read
 
 -- a character before any bytes
 char_then : (c : ℕ) (more : List ℕ) → IsScalar c → text_of_utf8 (encode_utf8 c ++ more) ≡ c ∷ text_of_utf8 more
@@ -139,13 +63,17 @@ between big utf8 to read written d =
     append_cancel_right (take read utf8) (items_bytes taken) rest
     (take-append-drop read utf8 ∙ sym (taken_bytes utf8 rest taken d.decodes.items d.decodes.tail)) in
     let made = subst (λ i. AreItems i (split_tail utf8)) d.decodes.items (Split-computed utf8).made in
-    written_is big utf8 to read written d
+    d.decodes.text
     ∙ ap (flat_map (char_bytes big)) (sym (items_shown taken (split_items rest) (split_tail utf8) made) ∙ ap text_of_utf8 (sym front))
 
--- the same where all was read
-pub between-whole : (big : Bool) (utf8 to : List ℕ) (written : ℕ) → ShowsWhole text_of_utf8 (char_bytes big) utf8 to (length utf8) written
-    → take written to ≡ flat_map (char_bytes big) (text_of_utf8 (take (length utf8) utf8))
-between-whole big utf8 to written shows =
+-- the same of a lossy call, which stopped at the end or for lack of space
+pub between-lossy : (big : Bool) (utf8 to : List ℕ) (read written left : ℕ) (stop : Stop) → ShowsWhole text_of_utf8 (char_bytes big) utf8 to read written
+    → StopsLossyWhole text_of_utf8 (char_bytes big) (drop read utf8) left stop → (stop ≡ NoRoom → DecodesUtf8To big utf8 to read written)
+    → take written to ≡ flat_map (char_bytes big) (text_of_utf8 (take read utf8))
+between-lossy big utf8 to read written left Done shows here full =
     sym (append-nil (take written to))
-    ∙ ap (λ t. take written to ++ flat_map (char_bytes big) t) (sym (text-empty (drop (length utf8) utf8) (ap length (drop_all (length utf8) utf8 (omega arith)))))
-    ∙ sym shows.shown ∙ ap (λ b. flat_map (char_bytes big) (text_of_utf8 b)) (sym (take_all (length utf8) utf8 (omega arith)))
+    ∙ ap (λ t. take written to ++ flat_map (char_bytes big) t) (sym (text-empty (drop read utf8) (ap length here)))
+    ∙ sym shows.shown ∙ ap (λ b. flat_map (char_bytes big) (text_of_utf8 b)) (sym (take-append-drop read utf8) ∙ ap (λ r. take read utf8 ++ r) here ∙ append-nil (take read utf8))
+between-lossy big utf8 to read written left (IllFormed len) shows here full = absurd here
+between-lossy big utf8 to read written left Incomplete shows here full = absurd here
+between-lossy big utf8 to read written left NoRoom shows here full = between big utf8 to read written (full refl)

@@ -1,63 +1,35 @@
--- Steps of decoding UTF-8 in sequence, each by items of the split.
-use Rattle.std.proofs.Common.{◌≡◌, ◌⊎◌, inl, inr, ℕ, ◌+◌, ◌-◌, ◌<◌, ◌≤◌, Bool, List, [], ◌∷◌, ◌++◌, Some, length, map, take, drop, refl, sym, ap, ap₂, ◌∙◌, subst, arith, append_assoc, append-nil, length-append, length-drop, take-append-drop}
-use borrow.Rule.Slice.PartMut.{put_mid}
-use Rattle.std.proofs.lemmas.List.{drop-append-le, drop-drop, drop_all, map-append, take_rest}
+-- What is decoded of UTF-8: texts, and items of the split.
+use Rattle.std.proofs.Common.{◌≡◌, ℕ, ◌+◌, ◌<◌, ◌≤◌, Bool, List, [], ◌∷◌, ◌++◌, Some, flat_map, length, map, take, drop, refl, sym, ap, ap₂, ◌∙◌, subst, arith, append_assoc, append-nil, length-drop, take-append-drop}
+use Rattle.std.proofs.lemmas.List.{drop-drop, drop_all, take_rest}
 use Rattle.std.proofs.lemmas.List.Concat.{flat_map-append}
 use Rattle.std.proofs.lemmas.Str.{IsUtf8-encode}
 use Rattle.std.specs.Char.{encode_utf8}
 use Rattle.std.specs.Str.{StartsWithNoChar, chars}
 use Rattle.std.specs.Str.Lossy.{utf8_error_len}
 use Rattle.utf16_units.specs.Encoding.{char_bytes, encode}
-use Rattle.utf16_units.proofs.EncodingLemmas.{encode-append, encode-nil, encode-one}
 use Rattle.utf16_units.proofs.IllFormedLemmas.{rest_from}
 use Rattle.utf8_split.specs.Split.{IsTail, Item, good, ill, item_bytes, items_bytes, lossy_char, lossy_chars, split_items, split_tail}
 use Rattle.utf8_split.proofs.PartLemmas.{subpart_at}
 use Rattle.utf8_split.proofs.ShownLemmas.{length-IsTail}
 use Rattle.utf8_split.proofs.SplitIllFormed.{split_items-subpart, split_tail-subpart, split_undecided}
 use Rattle.utf8_split.proofs.SplitLemmas.{Split-computed, Split-nil}
-use Rattle.utf8_split.proofs.SplitUnique.{Split-unique, split_items-append, split_tail-append}
+use Rattle.utf8_split.proofs.SplitUnique.{Split-unique}
 use Rattle.utf8_split.proofs.TextLemmas.{lossy_chars-good, split_items-text, split_tail-text}
+use Rattle.utf8_split.proofs.ValidLemmas.{none_at}
+use Rattle.utf16_decode.specs.Decodes.{DecodesAs}
 use Rattle.utf16_decode.specs.Stops.{TextDoesNotFit}
 use Rattle.utf16_decode.specs.Wrote.{Wrote}
 use Rattle.utf16_decode.specs.declared.progress.Stop.{Stop}
 use Rattle.utf16_decode.specs.declared.progress.Stop.TheVariants.{Incomplete, Done, IllFormed, NoRoom}
-use Rattle.utf16_decode.proofs.WroteLemmas.{put_end-long, take-end}
+use Rattle.utf16_decode.proofs.DecodesSteps.{Decodes-none, Decodes-then}
 use Rattle.utf16_transcode.specs.FromUtf8.{StopsEncoding, TranscodesToUtf16}
-use Rattle.utf16_transcode.specs.Utf8Stream.{DecodesUtf8, DecodesUtf8To, FirstItem, StopsLossyUtf8}
-use Rattle.utf16_transcode.proofs.FromUtf8.{chars-char}
-use Rattle.utf8_split.proofs.ValidLemmas.{none_at}
+use Rattle.utf16_transcode.specs.Utf8Stream.{DecodesUtf8To, FirstItem, StopsLossyUtf8, utf8_parts}
+use Rattle.utf16_transcode.proofs.FromUtf8Lemmas.{chars-char}
 
--- the UTF-16 of the text of items
-abbrev pub shown : Bool → List Item → List ℕ
-shown big items = encode big (lossy_chars items)
-
-pub shown-append : (big : Bool) (items more : List Item) → shown big (items ++ more) ≡ shown big items ++ shown big more
-shown-append big items more = ap (encode big) (map-append lossy_char items more) ∙ encode-append big (lossy_chars items) (lossy_chars more)
-
--- one step and then another
-pub Decodes-then : (big : Bool) (bytes rest last old mid new : List ℕ) → DecodesUtf8 big bytes rest old mid → DecodesUtf8 big rest last mid new
-    → DecodesUtf8 big bytes last old new
-Decodes-then big bytes rest last old mid new first second = record {
-  taken = first.taken ++ second.taken;
-  items = first.items ∙ ap (λ i. first.taken ++ i) second.items ∙ sym (append_assoc first.taken second.taken (split_items last));
-  tail = first.tail ∙ second.tail;
-  text =
-      second.text ∙ ap (λ t. t ++ shown big second.taken) first.text ∙ append_assoc old (shown big first.taken) (shown big second.taken)
-      ∙ ap (λ t. old ++ t) (sym (shown-append big first.taken second.taken));
-}
-
--- what bytes decode to they decode to with more bytes after them
-pub Decodes-more : (big : Bool) (bytes rest behind old new : List ℕ) → DecodesUtf8 big bytes rest [] new
-    → DecodesUtf8 big (bytes ++ behind) (rest ++ behind) old (old ++ new)
-Decodes-more big bytes rest behind old new d = record {
-  taken = d.taken;
-  items =
-      split_items-append bytes behind ∙ ap₂ (λ i t. i ++ split_items (t ++ behind)) d.items d.tail
-      ∙ append_assoc d.taken (split_items rest) (split_items (split_tail rest ++ behind))
-      ∙ ap (λ i. d.taken ++ i) (sym (split_items-append rest behind));
-  tail = split_tail-append bytes behind ∙ ap (λ t. split_tail (t ++ behind)) d.tail ∙ sym (split_tail-append rest behind);
-  text = ap (λ t. old ++ t) d.text;
-}
+-- a text in UTF-16, character by character
+pub flat_encode : (big : Bool) (text : List ℕ) → encode big text ≡ flat_map (char_bytes big) text
+unfolding encode
+flat_encode big text = refl
 
 -- the bytes are those of the items that were decoded, and then the rest
 pub taken_bytes : (bytes rest : List ℕ) (taken : List Item) → split_items bytes ≡ taken ++ split_items rest → split_tail bytes ≡ split_tail rest
@@ -77,74 +49,6 @@ length-split_tail bytes = length-IsTail (split_tail bytes) (Split-computed bytes
 pub undecided_items : (bytes : List ℕ) → split_tail bytes ≡ bytes → split_items bytes ≡ []
 undecided_items bytes same = sym (Split-unique bytes [] bytes (Split-nil bytes (subst (λ t. IsTail t) same (Split-computed bytes).ends))).0
 
--- ---- one step after what was written
-
--- the first bytes of the rest were decoded, and their text appended
-module _ (big : Bool) (utf8 old part window behind : List ℕ) (read at n w : ℕ) (before : DecodesUtf8To big utf8 old read at)
-    (joined : window ++ behind ≡ drop read utf8) (front : DecodesUtf8To big window part n w) (long : length part ≡ length old - at) where
-  abbrev new : List ℕ
-  new = put_mid at (length old - at) old part
-
-  new_long : length new ≡ length old
-  new_long = put_end-long at old part before.fits long
-
-  still_left : drop n window ++ behind ≡ drop (read + n) utf8
-  still_left = sym (drop-append-le n window behind front.within) ∙ ap (drop n) joined ∙ drop-drop n read utf8
-
-  pub DecodesUtf8To-window : DecodesUtf8To big utf8 new (read + n) (at + w)
-  DecodesUtf8To-window =
-      let within = before.within in
-      let room = before.fits in
-      let few = front.within in
-      let fits = front.fits in
-      let all = new_long in
-      let size = sym (length-append window behind) ∙ ap length joined ∙ length-drop read utf8 in
-      record {
-        within = omega arith;
-        fits = omega arith;
-        decodes =
-            Decodes-then big utf8 (drop read utf8) (drop (read + n) utf8) [] (take at old) (take (at + w) new) before.decodes
-            (subst (λ t. DecodesUtf8 big (drop read utf8) (drop (read + n) utf8) (take at old) t) (sym (take-end at w old part before.fits long front.fits))
-            (subst (λ r. DecodesUtf8 big (drop read utf8) r (take at old) (take at old ++ take w part)) still_left
-            (subst (λ b. DecodesUtf8 big b (drop n window ++ behind) (take at old) (take at old ++ take w part)) joined
-            (Decodes-more big window (drop n window) behind (take at old) (take w part) front.decodes))));
-      }
-
-  left_over : length part - w ≡ length new - (at + w)
-  left_over = let all = new_long in omega (arith, long)
-
-  -- why it stopped there, if it stopped for lack of space or no bytes follow
-  pub stops_window : (stop : Stop) → (stop ≡ NoRoom) ⊎ (behind ≡ []) → StopsLossyUtf8 big (drop n window) (length part - w) stop
-      → StopsLossyUtf8 big (drop (read + n) utf8) (length new - (at + w)) stop
-  stops_window stop (inr none) here =
-      subst (λ r. StopsLossyUtf8 big r (length new - (at + w)) stop) (sym (append-nil (drop n window)) ∙ ap (λ b. drop n window ++ b) (sym none) ∙ still_left)
-      (subst (λ k. StopsLossyUtf8 big (drop n window) k stop) left_over here)
-  stops_window NoRoom (inl full) here = record {
-    char = here.char;
-    more = here.more ++ lossy_chars (split_items (split_tail (drop n window) ++ behind));
-    begins =
-        ap (λ b. lossy_chars (split_items b)) (sym still_left) ∙ ap lossy_chars (split_items-append (drop n window) behind)
-        ∙ map-append lossy_char (split_items (drop n window)) (split_items (split_tail (drop n window) ++ behind))
-        ∙ ap (λ t. t ++ lossy_chars (split_items (split_tail (drop n window) ++ behind))) here.begins;
-    too_long = subst (λ k. k < length (char_bytes big here.char)) left_over here.too_long;
-  }
-  stops_window Done (inl full) here = absurd (cc)
-  stops_window (IllFormed len) (inl full) here = absurd (cc)
-  stops_window Incomplete (inl full) here = absurd (cc)
-
--- the same of all of the rest, as a slice from `read` on
-module _ (big : Bool) (utf8 old part : List ℕ) (read at n w : ℕ) (before : DecodesUtf8To big utf8 old read at)
-    (front : DecodesUtf8To big (rest_from utf8 read) part n w) (long : length part ≡ length old - at) where
-  abbrev joined : rest_from utf8 read ++ [] ≡ drop read utf8
-  joined = append-nil (rest_from utf8 read) ∙ take_rest utf8 read
-
-  pub DecodesUtf8To-rest : DecodesUtf8To big utf8 (put_mid at (length old - at) old part) (read + n) (at + w)
-  DecodesUtf8To-rest = DecodesUtf8To-window big utf8 old part (rest_from utf8 read) [] read at n w before joined front long
-
-  pub stops_rest : (stop : Stop) → StopsLossyUtf8 big (drop n (rest_from utf8 read)) (length part - w) stop
-      → StopsLossyUtf8 big (drop (read + n) utf8) (length (put_mid at (length old - at) old part) - (at + w)) stop
-  stops_rest stop = stops_window big utf8 old part (rest_from utf8 read) [] read at n w before joined front long stop (inr refl)
-
 -- ---- what a step decodes
 
 -- nothing
@@ -152,7 +56,7 @@ pub DecodesUtf8To-none : (big : Bool) (utf8 to : List ℕ) → DecodesUtf8To big
 DecodesUtf8To-none big utf8 to = record {
   within = omega arith;
   fits = omega arith;
-  decodes = record { taken = []; items = refl; tail = refl; text = sym (encode-nil big) };
+  decodes = Decodes-none utf8_parts (char_bytes big) utf8 [];
 }
 
 -- a text, whose characters are written
@@ -168,7 +72,7 @@ DecodesUtf8To-text big utf8 to n w wrote =
         taken = map good (chars front);
         items = ap split_items (sym whole) ∙ split_items-text front (drop n utf8) text;
         tail = ap split_tail (sym whole) ∙ split_tail-text front (drop n utf8) text;
-        text = wrote.gives.1 ∙ ap (encode big) (sym (lossy_chars-good (chars front)));
+        text = wrote.gives.1 ∙ ap (encode big) (sym (lossy_chars-good (chars front))) ∙ flat_encode big (lossy_chars (map good (chars front)));
       };
     }
 
@@ -231,11 +135,11 @@ DecodesUtf8To-item big utf8 old new read at char n last before first fits bytes 
       within = omega (arith, length-drop read utf8);
       fits = fits;
       decodes =
-          Decodes-then big utf8 rest (drop (read + n) utf8) [] (take at old) (take last new) before.decodes
-          (subst (λ r. DecodesUtf8 big rest r (take at old) (take last new)) (drop-drop n read utf8) (record {
+          Decodes-then utf8_parts (char_bytes big) utf8 rest (drop (read + n) utf8) [] (take at old) (take last new) before.decodes
+          (subst (λ r. DecodesAs utf8_parts (char_bytes big) rest r (take at old) (take last new)) (drop-drop n read utf8) (record {
             taken = first.item ∷ [];
             items = first.items;
             tail = first.tail;
-            text = bytes ∙ ap (λ b. take at old ++ b) (sym (encode-one big char) ∙ ap (λ c. encode big (c ∷ [])) (sym first.is));
+            text = bytes ∙ ap (λ b. take at old ++ b) (sym (append-nil (char_bytes big char)) ∙ ap (λ c. flat_map (char_bytes big) (c ∷ [])) (sym first.is));
           }));
     }

@@ -17,7 +17,7 @@ use Rattle.utf8_split.proofs.TableLemmas.{IsSecond, bad_first, bad_fourth, bad_s
 use Rattle.utf8_split.proofs.TextLemmas.{split_items-text, split_tail-text}
 use Rattle.utf16_transcode.specs.Utf8Stream.{FirstItem}
 use Rattle.utf16_transcode.proofs.DecodesUtf8.{FirstItem-subpart}
-use Rattle.utf16_transcode.proofs.FromUtf8.{chars-char}
+use Rattle.utf16_transcode.proofs.FromUtf8Lemmas.{chars-char}
 
 -- the first item stays it with more bytes after it
 pub FirstItem-more : (bytes more : List ℕ) (char n : ℕ) → FirstItem bytes char n → FirstItem (bytes ++ more) char n

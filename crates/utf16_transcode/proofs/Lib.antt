@@ -1,4 +1,4 @@
-pub mod FromUtf8
+pub mod FromUtf8Lemmas
 pub mod LossyLemmas
 pub mod PrefixLemmas
 pub mod CutLemmas

@@ -11,7 +11,7 @@ use Rattle.utf16_units.proofs.SizeLemmas.{size-le}
 use Rattle.utf16_units.specs.Encoding.{size}
 use Rattle.utf16_units.proofs.EncodingLemmas.{size-append, size-cons}
 use Rattle.utf16_units.proofs.IllFormedLemmas.{take-past}
-use Rattle.utf16_transcode.proofs.FromUtf8.{IsUtf8-behind}
+use Rattle.utf16_transcode.proofs.FromUtf8Lemmas.{IsUtf8-behind}
 use Rattle.utf16_transcode.specs.FromUtf8.{IsIllFormedUtf8, text_of_utf8}
 
 -- two tests are equal if each passes where the other does

@@ -1,27 +1,29 @@
--- A stream of UTF-8 that comes in chunks and is written in UTF-16: what was decoded, why a call
--- stopped, what is pending between the chunks, and what a chunk adds. `left` and `room` are the
--- number of bytes of the buffer after those written.
-use Rattle.std.specs.Prelude.{◌≡◌, ◌≢◌, ℕ, ◌<◌, ◌≤◌, ◌⊎◌, Bool, List, [], ◌∷◌, ◌++◌, length, take, drop}
-use Rattle.utf16_units.specs.Encoding.{char_bytes, encode}
-use Rattle.utf8_split.specs.Split.{Item, lossy_char, lossy_chars, split_items, split_tail}
-use Rattle.utf16_decode.specs.Stops.{TextDoesNotFit}
+-- UTF-8 that is written in UTF-16, with U+FFFD for each ill-formed subpart: what a call decoded, why it
+-- stopped, and what a chunk of a stream adds.
+use Rattle.std.specs.Prelude.{◌≡◌, ℕ, ◌<◌, ◌≤◌, Bool, List, [], ◌∷◌, length, drop}
+use Rattle.utf16_units.specs.Encoding.{char_bytes}
+use Rattle.utf8_split.specs.Split.{Item, lossy_char, split_items, split_tail, whole_lossy_chars}
+use Rattle.utf16_decode.specs.Decomposition.{Decomposition}
+use Rattle.utf16_decode.specs.Stops.{StopsLossyAs}
+use Rattle.utf16_decode.specs.Stream.{FeedsAs, StopsFeedingAs}
+use Rattle.utf16_decode.specs.Wrote.{DecodesAsTo}
 use Rattle.utf16_decode.specs.declared.progress.Stop.{Stop}
-use Rattle.utf16_decode.specs.declared.progress.Stop.TheVariants.{Incomplete, Done, IllFormed, NoRoom}
-use Rattle.utf16_transcode.specs.declared.stream.Utf8Stream.{Utf8Stream}
+use Rattle.utf16_transcode.specs.FromUtf8.{text_of_utf8}
 
--- the first items of the bytes were decoded, their text was appended to the old bytes in UTF-16,
--- and the split continues with that of the rest
-pub record DecodesUtf8 (big : Bool) (bytes rest old new : List ℕ) : Type 0 where
-  pub taken : List Item
-  pub items : split_items bytes ≡ taken ++ split_items rest
-  pub tail : split_tail bytes ≡ split_tail rest
-  pub text : new ≡ old ++ encode big (lossy_chars taken)
+-- UTF-8 as characters and ill-formed subparts, with U+FFFD for each of these and for a tail
+abbrev pub utf8_parts : Decomposition
+utf8_parts = record {
+  Item = Item;
+  items = split_items;
+  tail = split_tail;
+  shown = lossy_char;
+  at_end = whole_lossy_chars [];
+  whole = text_of_utf8;
+}
 
 -- the first bytes of UTF-8 were decoded, and their text is at the start of the buffer in UTF-16
-pub record DecodesUtf8To (big : Bool) (utf8 to : List ℕ) (read written : ℕ) : Type 0 where
-  pub within : read ≤ length utf8
-  pub fits : written ≤ length to
-  pub decodes : DecodesUtf8 big utf8 (drop read utf8) [] (take written to)
+abbrev pub DecodesUtf8To : Bool → List ℕ → List ℕ → ℕ → ℕ → Type 0
+DecodesUtf8To big = DecodesAsTo utf8_parts (char_bytes big)
 
 -- the first item of the bytes has n bytes, and its character is this one: U+FFFD for an ill-formed
 -- subpart
@@ -36,32 +38,13 @@ pub record FirstItem (bytes : List ℕ) (char n : ℕ) : Type 0 where
 -- for a lossy call: nothing is left, or more bytes could change what is left, or the next character
 -- does not fit
 abbrev pub StopsLossyUtf8 : Bool → List ℕ → ℕ → Stop → Type 0
-StopsLossyUtf8 big rest left Done = rest ≡ []
-StopsLossyUtf8 big rest left (IllFormed len) = ⊥
-StopsLossyUtf8 big rest left Incomplete = (rest ≢ []) × (split_tail rest ≡ rest)
-StopsLossyUtf8 big rest left NoRoom =
-    TextDoesNotFit (char_bytes big) (lossy_chars (split_items rest)) left
+StopsLossyUtf8 big = StopsLossyAs utf8_parts (char_bytes big)
 
--- `stream.pending()`
-abbrev pub utf8_stream_pending : Utf8Stream → List ℕ
-utf8_stream_pending stream = take stream.len stream.bytes
+-- the first bytes of a chunk were taken, and the text of what is decoded is at the start of the
+-- buffer in UTF-16
+abbrev pub FeedsUtf8 : Bool → List ℕ → List ℕ → List ℕ → List ℕ → ℕ → ℕ → Type 0
+FeedsUtf8 big = FeedsAs utf8_parts (char_bytes big)
 
--- the first bytes of a chunk were taken: some of the pending bytes and the chunk is decoded, and
--- its text is at the start of the buffer in UTF-16; the rest is the bytes pending then and what is
--- left of the chunk
-pub record FeedsUtf8 (big : Bool) (pending piece left to : List ℕ) (read written : ℕ) : Type 0 where
-  pub within : read ≤ length piece
-  pub fits : written ≤ length to
-  pub decodes : DecodesUtf8 big (pending ++ piece) (left ++ drop read piece) [] (take written to)
-
--- why it stopped: all was taken and the tail of the split is pending; or the next character does
--- not fit, and as many bytes were taken, first of the pending ones and then of the chunk, as were
--- decoded
+-- why it stopped
 abbrev pub StopsFeedingUtf8 : Bool → List ℕ → List ℕ → List ℕ → ℕ → ℕ → Stop → Type 0
-StopsFeedingUtf8 big pending piece left read room Done =
-    (read ≡ length piece) × (left ≡ split_tail (pending ++ piece))
-StopsFeedingUtf8 big pending piece left read room (IllFormed len) = ⊥
-StopsFeedingUtf8 big pending piece left read room Incomplete = ⊥
-StopsFeedingUtf8 big pending piece left read room NoRoom =
-    ((read ≡ 0) ⊎ (left ≡ []))
-    × TextDoesNotFit (char_bytes big) (lossy_chars (split_items (left ++ drop read piece))) room
+StopsFeedingUtf8 big = StopsFeedingAs utf8_parts (char_bytes big)

@@ -4,20 +4,20 @@ ghost use Rattle.std.specs.Prelude.{◌≡◌, ◌-◌, ◌*◌, ◌<◌, ◌≤
 ghost use Rattle.std.specs.List.{flat_map};
 ghost use Rattle.utf16_units.specs.Encoding.{char_bytes, size};
 ghost use Rattle.utf16_transcode.specs.FromUtf8.{text_of_utf8};
-ghost use Rattle.utf16_transcode.specs.Utf8Stream.{DecodesUtf8To, FirstItem, StopsLossyUtf8};
+ghost use Rattle.utf16_transcode.specs.Utf8Stream.{DecodesUtf8To, FirstItem, StopsLossyUtf8, utf8_parts};
 ghost use Rattle.utf16_decode.specs.Shown.{ShowsWhole};
 ghost use Rattle.utf16_decode.specs.Stops.{StopsLossyWhole};
 
 use crate::items::{ITEM_LEN, put_items};
-use crate::utf16::from_utf8;
+use crate::utf16::{FromUtf8, from_utf8};
 use utf8_blocks::write_blocks;
-use utf16_decode::{Progress, Stop, put};
+use utf16_decode::{LossyDirection, Progress, Stop, put, transcode_lossy};
 use utf16_units::{Utf16Order, utf16_len};
 
 // U+FFFD, the replacement character, and its length in bytes of UTF-16.
-pub(crate) const REPLACEMENT: u16 = 0xFFFD;
+const REPLACEMENT: u16 = 0xFFFD;
 
-pub(crate) const REPLACEMENT_LEN: usize = 2;
+const REPLACEMENT_LEN: usize = 2;
 
 // The length in bytes of a block, and the space that it may take.
 const BLOCK_LEN: usize = 64;
@@ -127,21 +127,29 @@ pub fn from_utf8_lossy<E: Utf16Order>(text: &[u8], to: &mut [u8]) -> Progress
     ensures between { take result.written to.new
         ≡ flat_map (char_bytes E.BIG) (text_of_utf8 (take result.read text.now)) }
 {
-    let front = from_utf8_partial::<E>(text, to);
-    let Stop::Incomplete = front.stop else {
-        return front;
-    };
-    if to.len() - front.written < REPLACEMENT_LEN {
-        return Progress {
-            read: front.read,
-            written: front.written,
-            stop: Stop::NoRoom,
-        };
+    transcode_lossy::<FromUtf8<E>>(text, to)
+}
+
+impl<E: Utf16Order> LossyDirection for FromUtf8<E> {
+    ghost parts = { utf8_parts };
+
+    #[inline(always)]
+    fn lossy_laws() {}
+
+    #[inline(always)]
+    fn write_decided(input: &[u8], to: &mut [u8]) -> Progress {
+        from_utf8_partial::<E>(input, to)
     }
-    Progress {
-        read: text.len(),
-        written: put(&E::write_unit(REPLACEMENT), to, front.written),
-        stop: Stop::Done,
+
+    #[inline(always)]
+    fn write_end(tail: &[u8], to: &mut [u8], at: usize) -> Option<usize> {
+        if tail.is_empty() {
+            return Some(at);
+        }
+        if to.len() - at < REPLACEMENT_LEN {
+            return None;
+        }
+        Some(put(&E::write_unit(REPLACEMENT), to, at))
     }
 }
 

@@ -14,9 +14,9 @@ mod valid;
 
 pub use crate::encode::{from_utf8_lossy, from_utf8_lossy_len, from_utf8_partial};
 pub use crate::sizes::{from_utf8_len, to_utf8_lossy_len};
-pub use crate::stream::Utf8Stream;
+pub use crate::stream::{feed_utf8, finish_utf8};
 pub use crate::units::{count_chars, is_ascii};
-pub use crate::utf16::from_utf8;
+pub use crate::utf16::{FromUtf8, from_utf8};
 pub use utf16_decode::{
-    Progress, Stop, Stream, to_utf8, to_utf8_lossy, to_utf8_partial, write_well_formed,
+    Progress, Stop, Stream, ToUtf8, to_utf8, to_utf8_lossy, to_utf8_partial, write_well_formed,
 };

@@ -40,8 +40,8 @@ pub fn from_utf8<E: Utf16Order>(text: &[u8], to: &mut [u8]) -> Progress
     transcode::<FromUtf8<E>>(text, to)
 }
 
-// From UTF-8 to UTF-16 in byte order `E`.
-struct FromUtf8<E: Utf16Order>(PhantomData<E>);
+/// From UTF-8 to UTF-16 in byte order `E`, with U+FFFD for each ill-formed subpart.
+pub struct FromUtf8<E: Utf16Order>(PhantomData<E>);
 
 impl<E: Utf16Order> Direction for FromUtf8<E> {
     const SHORT_LEN: usize = 32;

@@ -3,7 +3,7 @@ use Rattle.std.proofs.Common.{◌≡◌, ◌+◌, ◌≤◌, ℕ, Bool, List, []
 use Rattle.std.proofs.lemmas.List.{drop_all}
 use Rattle.std.proofs.lemmas.List.Elements.{All-cons, All-nil}
 use Rattle.std.specs.Char.{IsScalar}
-use Rattle.utf16_units.specs.Encoding.{encode, Encodes, size}
+use Rattle.utf16_units.specs.Encoding.{Encodes, char_bytes, size}
 use Rattle.utf16_units.proofs.EncodingLemmas.{size-append}
 use Rattle.utf8_split.specs.Split.{AreItems, IsItem, IsTail, Item, decided_text, good, ill, items_bytes, lossy_char, lossy_chars, split_items, split_tail}
 use Rattle.utf8_split.proofs.LawProofs.{cut_anywhere, split_extends}
@@ -11,7 +11,10 @@ use Rattle.utf8_split.proofs.ResumesLemmas.{split_of_tail, tail_ends}
 use Rattle.utf8_split.proofs.ShownLemmas.{length-IsTail}
 use Rattle.utf8_split.proofs.SplitLemmas.{Split-computed}
 use Rattle.utf16_decode.specs.declared.progress.Stop.TheVariants.{Done}
-use Rattle.utf16_transcode.specs.Utf8Stream.{FeedsUtf8, StopsFeedingUtf8}
+use Rattle.utf16_decode.proofs.StreamSteps.{fed_text}
+use Rattle.utf16_transcode.specs.Utf8Stream.{FeedsUtf8, StopsFeedingUtf8, utf8_parts}
+use Rattle.utf16_transcode.proofs.DecodesUtf8.{flat_encode}
+use Rattle.utf16_transcode.proofs.FeedsUtf8.{utf8_chunks}
 
 item_scalar : (item : Item) (rest : List ℕ) → IsItem item rest → IsScalar (lossy_char item)
 item_scalar (good c) rest is = is
@@ -45,13 +48,9 @@ module _ (big : Bool) (pending piece left to : List ℕ) (read written room : �
     (done : StopsFeedingUtf8 big pending piece left read room Done) where
   pub fed_encodes : Encodes big (decided_text (pending ++ piece)) (take written to)
   fed_encodes =
-      let rest : left ++ drop read piece ≡ left = ap (λ p. left ++ p) (drop_all read piece (omega (arith, done.0))) ∙ append-nil left in
-      let none : split_items (left ++ drop read piece) ≡ [] =
-      ap split_items (rest ∙ done.1) ∙ (split_of_tail (split_tail (pending ++ piece)) (tail_ends (pending ++ piece))).0 in
-      let all = feeds.decodes.items ∙ ap (λ i. feeds.decodes.taken ++ i) none ∙ append-nil feeds.decodes.taken in
       record {
         scalars = items_scalar (split_items (pending ++ piece)) (split_tail (pending ++ piece)) (Split-computed (pending ++ piece)).made;
-        spelled = ap (λ i. encode big (lossy_chars i)) all ∙ sym feeds.decodes.text;
+        spelled = flat_encode big (decided_text (pending ++ piece)) ∙ sym (fed_text utf8_parts (char_bytes big) utf8_chunks pending piece left to read written room feeds done);
       }
 
 -- so much of the bytes is decoded that `rest` is left, and the text is appended

@@ -4,12 +4,12 @@ ghost use Rattle.std.specs.Prelude.{◌≡◌, ◌≢◌, ◌↔◌, ◌+◌, �
 ghost use Rattle.utf16_units.specs.Edit.{push_text};
 ghost use Rattle.utf16_units.specs.Encoding.{size};
 ghost use Rattle.utf8_split.specs.Split.{decided_text, IsTail, split_tail};
-ghost use Rattle.utf16_transcode.specs.Utf8Stream.{utf8_stream_pending};
+ghost use Rattle.utf16_decode.specs.Stream.{stream_pending};
 
 use crate::parts::{are_bytes, feed};
 use std::alloc::{AllocError, Allocator};
 use std::marker::PhantomData;
-use utf16_transcode::Utf8Stream;
+use utf16_transcode::Stream;
 use utf16string::{Utf16Order, WString};
 
 /// A decoder of UTF-8 that comes in chunks, cut anywhere, into a UTF-16 string in the byte order
@@ -17,9 +17,9 @@ use utf16string::{Utf16Order, WString};
 /// subpart. At most three bytes are pending, in the value itself.
 #[derive(Drop)]
 pub struct Utf8Decoder<E: Utf16Order> {
-    stream: Utf8Stream,
+    stream: Stream,
     order: PhantomData<E>,
-    ghost undecided: { split_tail (utf8_stream_pending stream) ≡ utf8_stream_pending stream },
+    ghost undecided: { split_tail (stream_pending stream) ≡ stream_pending stream },
 }
 
 impl<E: Utf16Order> Utf8Decoder<E> {
@@ -32,7 +32,7 @@ impl<E: Utf16Order> Utf8Decoder<E> {
         ensures { utf8_decoder_pending result ≡ [] }
     {
         Utf8Decoder {
-            stream: Utf8Stream::new(),
+            stream: Stream::new(),
             order: PhantomData,
         }
     }

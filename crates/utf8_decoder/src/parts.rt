@@ -4,12 +4,12 @@ ghost use Rattle.std.specs.Prelude.{◌≡◌, ◌+◌, ◌*◌, ◌<◌, ◌≤
 ghost use Rattle.utf16_units.specs.Edit.{push_text};
 ghost use Rattle.utf16_units.specs.Encoding.{size};
 ghost use Rattle.utf8_split.specs.Split.{decided_text, split_tail};
-ghost use Rattle.utf16_transcode.specs.Utf8Stream.{utf8_stream_pending};
+ghost use Rattle.utf16_decode.specs.Stream.{stream_pending};
 ghost use Rattle.utf16string.specs.WStr.{wstr_bytes, wstr_text};
 ghost use Rattle.utf16string.specs.WString.{IsUnchanged, wstring_bytes, wstring_capacity, wstring_text};
 
 use std::alloc::{AllocError, Allocator};
-use utf16_transcode::Utf8Stream;
+use utf16_transcode::{Stream, feed_utf8};
 use utf16string::{Utf16Order, WStr, WString};
 
 // A chunk of at most `SHORT_CHUNK` bytes is decoded at once, and capacity is reserved for its text
@@ -31,19 +31,19 @@ const PART_BUFFER: usize = 8210;
 ///
 /// If allocation fails. The string is unchanged then.
 pub fn feed<E: Utf16Order, A: Allocator>(
-    stream: Utf8Stream,
+    stream: Stream,
     piece: &[u8],
     to: &mut WString<E, A>,
-) -> Result<Utf8Stream, AllocError>
-    requires { split_tail (utf8_stream_pending stream) ≡ utf8_stream_pending stream }
+) -> Result<Stream, AllocError>
+    requires { split_tail (stream_pending stream) ≡ stream_pending stream }
     ensures text { OnOk result (wstring_text to.new ≡ push_text (wstring_text to.old)
-        (decided_text (utf8_stream_pending stream ++ piece.now))) }
+        (decided_text (stream_pending stream ++ piece.now))) }
     ensures len { OnOk result (length (wstring_bytes to.new) ≡ length (wstring_bytes to.old)
-        + size (decided_text (utf8_stream_pending stream ++ piece.now))) }
+        + size (decided_text (stream_pending stream ++ piece.now))) }
     ensures pending { IfOk result (λ fed.
-        utf8_stream_pending fed ≡ split_tail (utf8_stream_pending stream ++ piece.now)) }
+        stream_pending fed ≡ split_tail (stream_pending stream ++ piece.now)) }
     ensures err { OnErr result (IsUnchanged to.old to.new) }
-    ensures nothing { decided_text (utf8_stream_pending stream ++ piece.now) ≡ []
+    ensures nothing { decided_text (stream_pending stream ++ piece.now) ≡ []
         → IsOk result × IsUnchanged to.old to.new }
     ensures succeeds { length (wstring_bytes to.old) + (2 * length piece.now + 2)
         ≤ wstring_capacity to.old → IsOk result }
@@ -59,19 +59,19 @@ pub fn feed<E: Utf16Order, A: Allocator>(
 // Decodes a chunk in parts, appends its text, which fits in the capacity, and returns the stream
 // with the bytes that are pending then.
 fn decode_parts<E: Utf16Order, A: Allocator>(
-    stream: Utf8Stream,
+    stream: Stream,
     piece: &[u8],
     to: &mut WString<E, A>,
-) -> Utf8Stream
-    requires undecided { split_tail (utf8_stream_pending stream) ≡ utf8_stream_pending stream }
+) -> Stream
+    requires undecided { split_tail (stream_pending stream) ≡ stream_pending stream }
     requires fits { length (wstring_bytes to.old)
-        + size (decided_text (utf8_stream_pending stream ++ piece.now)) ≤ wstring_capacity to.old }
+        + size (decided_text (stream_pending stream ++ piece.now)) ≤ wstring_capacity to.old }
     ensures text { wstring_text to.new ≡ push_text (wstring_text to.old)
-        (decided_text (utf8_stream_pending stream ++ piece.now)) }
+        (decided_text (stream_pending stream ++ piece.now)) }
     ensures len { length (wstring_bytes to.new) ≡ length (wstring_bytes to.old)
-        + size (decided_text (utf8_stream_pending stream ++ piece.now)) }
-    ensures pending { utf8_stream_pending result
-        ≡ split_tail (utf8_stream_pending stream ++ piece.now) }
+        + size (decided_text (stream_pending stream ++ piece.now)) }
+    ensures pending { stream_pending result
+        ≡ split_tail (stream_pending stream ++ piece.now) }
     ensures grows { wstring_capacity to.old ≤ wstring_capacity to.new }
 {
     let mut buffer = [0; PART_BUFFER];
@@ -91,24 +91,24 @@ fn decode_parts<E: Utf16Order, A: Allocator>(
 // Decodes the next part of a chunk through a buffer, appends its text, and returns the stream with
 // the bytes that are pending then.
 fn append_part<E: Utf16Order, A: Allocator>(
-    stream: Utf8Stream,
+    stream: Stream,
     part: &[u8],
     buffer: &mut [u8],
     to: &mut WString<E, A>,
-) -> Result<Utf8Stream, AllocError>
-    requires undecided { split_tail (utf8_stream_pending stream) ≡ utf8_stream_pending stream }
+) -> Result<Stream, AllocError>
+    requires undecided { split_tail (stream_pending stream) ≡ stream_pending stream }
     requires space { 2 * length part.now + 2 ≤ length buffer.old }
     ensures text { OnOk result (wstring_text to.new ≡ push_text (wstring_text to.old)
-        (decided_text (utf8_stream_pending stream ++ part.now))) }
+        (decided_text (stream_pending stream ++ part.now))) }
     ensures len { OnOk result (length (wstring_bytes to.new) ≡ length (wstring_bytes to.old)
-        + size (decided_text (utf8_stream_pending stream ++ part.now))) }
+        + size (decided_text (stream_pending stream ++ part.now))) }
     ensures pending { IfOk result (λ fed.
-        utf8_stream_pending fed ≡ split_tail (utf8_stream_pending stream ++ part.now)) }
+        stream_pending fed ≡ split_tail (stream_pending stream ++ part.now)) }
     ensures err { OnErr result (IsUnchanged to.old to.new) }
-    ensures nothing { decided_text (utf8_stream_pending stream ++ part.now) ≡ []
+    ensures nothing { decided_text (stream_pending stream ++ part.now) ≡ []
         → IsOk result × IsUnchanged to.old to.new }
     ensures succeeds { length (wstring_bytes to.old)
-        + size (decided_text (utf8_stream_pending stream ++ part.now)) ≤ wstring_capacity to.old
+        + size (decided_text (stream_pending stream ++ part.now)) ≤ wstring_capacity to.old
         → IsOk result }
     ensures grows { wstring_capacity to.old ≤ wstring_capacity to.new }
 {
@@ -122,20 +122,20 @@ fn append_part<E: Utf16Order, A: Allocator>(
 // Decodes the next part of a chunk into a buffer, and returns its text, and the stream with the
 // bytes that are pending then.
 fn decode_part<'a, E: Utf16Order>(
-    stream: Utf8Stream,
+    stream: Stream,
     part: &[u8],
     buffer: &'a mut [u8],
-) -> (Utf8Stream, WStr<'a, E>)
-    requires undecided { split_tail (utf8_stream_pending stream) ≡ utf8_stream_pending stream }
+) -> (Stream, WStr<'a, E>)
+    requires undecided { split_tail (stream_pending stream) ≡ stream_pending stream }
     requires space { 2 * length part.now + 2 ≤ length buffer.old }
-    ensures text { wstr_text result.1 ≡ decided_text (utf8_stream_pending stream ++ part.now) }
+    ensures text { wstr_text result.1 ≡ decided_text (stream_pending stream ++ part.now) }
     ensures len { length (wstr_bytes result.1)
-        ≡ size (decided_text (utf8_stream_pending stream ++ part.now)) }
-    ensures pending { utf8_stream_pending result.0
-        ≡ split_tail (utf8_stream_pending stream ++ part.now) }
+        ≡ size (decided_text (stream_pending stream ++ part.now)) }
+    ensures pending { stream_pending result.0
+        ≡ split_tail (stream_pending stream ++ part.now) }
 {
     let mut stream = stream;
-    let written = stream.feed::<E>(part, buffer).written;
+    let written = feed_utf8::<E>(&mut stream, part, buffer).written;
     (stream, WStr::from_utf16_unchecked(&buffer[..written]))
 }
 

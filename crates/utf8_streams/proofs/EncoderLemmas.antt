@@ -2,7 +2,7 @@
 -- and without.
 use Rattle.std.proofs.Common.{◌≡◌, ◌≢◌, ◌⊎◌, inl, inr, ⊎_elim, ℕ, ◌+◌, ◌*◌, ◌≤◌, Bool, true, false, List, [], ◌∷◌, ◌++◌, Option, Result, length, take, drop, if◌then◌else◌, refl, sym, ap, ap₂, ◌∙◌, subst, arith, append-nil, append_assoc, length-append}
 use Rattle.std.proofs.lemmas.List.{drop_all, length-map, nil_from_length}
-use Rattle.utf16_units.specs.Encoding.{char_size, encode, size}
+use Rattle.utf16_units.specs.Encoding.{char_bytes, char_size, encode, size}
 use Rattle.utf16_units.proofs.CharLemmas.{char_size_cases}
 use Rattle.utf16_units.proofs.EncodingLemmas.{encode-append, encode-nil, length-encode, size-cons, size-nil}
 use Rattle.utf8_split.specs.Split.{IsTail, decided_text, items_bytes, lossy_char, lossy_chars, lossy_text, split_items, split_tail, whole_lossy_chars}
@@ -10,8 +10,10 @@ use Rattle.utf8_split.proofs.LawProofs.{cut_anywhere, shown_after, split_extends
 use Rattle.utf8_split.proofs.ShownLemmas.{length-IsTail, replacement_size}
 use Rattle.utf8_split.proofs.SplitLemmas.{Split-computed}
 use Rattle.utf16_decode.specs.declared.progress.Stop.TheVariants.{Done}
-use Rattle.utf16_transcode.specs.Utf8Stream.{FeedsUtf8, StopsFeedingUtf8}
-use Rattle.utf16_transcode.proofs.DecodesUtf8.{undecided_items}
+use Rattle.utf16_decode.proofs.StreamSteps.{fed_text as fed_flat}
+use Rattle.utf16_transcode.specs.Utf8Stream.{FeedsUtf8, StopsFeedingUtf8, utf8_parts}
+use Rattle.utf16_transcode.proofs.DecodesUtf8.{flat_encode, undecided_items}
+use Rattle.utf16_transcode.proofs.FeedsUtf8.{utf8_chunks}
 use Rattle.utf16_streams.specs.Continues.{Continues}
 use Rattle.utf16_streams.specs.Filter.{FiltersBy}
 use Rattle.utf16_streams.specs.declared.filters.FilterFault.{FilterFault}
@@ -44,12 +46,8 @@ module _ (big : Bool) where
   pub fed_text : (pending piece left to : List ℕ) (read written room : ℕ) → FeedsUtf8 big pending piece left to read written
       → StopsFeedingUtf8 big pending piece left read room Done → take written to ≡ decided_utf16 big (pending ++ piece)
   fed_text pending piece left to read written room feeds done =
-      let undecided = ap split_tail done.1 ∙ split_tail-again (pending ++ piece) ∙ sym done.1 in
-      let rest : left ++ drop read piece ≡ left = ap (λ p. left ++ p) (drop_all read piece (omega (arith, done.0))) ∙ append-nil left in
-      let taken = feeds.decodes.taken in
-      let items : split_items (pending ++ piece) ≡ taken =
-      feeds.decodes.items ∙ ap (λ i. taken ++ i) (ap split_items rest ∙ undecided_items left undecided) ∙ append-nil taken in
-      feeds.decodes.text ∙ ap (λ i. encode big (lossy_chars i)) (sym items)
+      fed_flat utf8_parts (char_bytes big) utf8_chunks pending piece left to read written room feeds done
+      ∙ sym (flat_encode big (decided_text (pending ++ piece)))
 
   -- with more bytes appended
   module _ (front back : List ℕ) where

@@ -2,13 +2,13 @@
 
 ghost use Rattle.std.specs.Prelude.{◌≡◌, ◌+◌, ◌*◌, ◌≤◌, [], ◌++◌, length, take};
 ghost use Rattle.utf8_split.specs.Split.{split_tail};
-ghost use Rattle.utf16_transcode.specs.Utf8Stream.{utf8_stream_pending};
+ghost use Rattle.utf16_decode.specs.Stream.{stream_pending};
 ghost use Rattle.utf8_streams.specs.Utf16.{certain, decided_utf16, entire, with_bom};
 
 use std::marker::PhantomData;
 use utf16_decode::put;
 use utf16_streams::Transcoder;
-use utf16_transcode::Utf8Stream;
+use utf16_transcode::{Stream, feed_utf8, finish_utf8};
 use utf16_units::Utf16Order;
 
 // U+FEFF, the BOM (byte order mark).
@@ -18,21 +18,21 @@ const BOM: u16 = 0xFEFF;
 /// ill-formed sequence and one for an incomplete end.
 #[derive(Drop)]
 pub struct Encoder<E: Utf16Order> {
-    stream: Utf8Stream,
+    stream: Stream,
     // Whether the output has a BOM first and has not begun.
     bom_due: bool,
     order: PhantomData<E>,
-    ghost undecided: { split_tail (utf8_stream_pending stream) ≡ utf8_stream_pending stream },
+    ghost undecided: { split_tail (stream_pending stream) ≡ stream_pending stream },
 }
 
 impl<E: Utf16Order> Encoder<E> {
     /// Returns a transcoder at the beginning of a stream, whose output has a BOM first or not.
     pub fn new(bom_due: bool) -> Self
         ensures bom_due { result.bom_due ≡ bom_due }
-        ensures pending { utf8_stream_pending result.stream ≡ [] }
+        ensures pending { stream_pending result.stream ≡ [] }
     {
         Encoder {
-            stream: Utf8Stream::new(),
+            stream: Stream::new(),
             bom_due,
             order: PhantomData,
         }
@@ -41,10 +41,10 @@ impl<E: Utf16Order> Encoder<E> {
 
 impl<E: Utf16Order> Transcoder for Encoder<E> {
     ghost decided = { λ it bytes.
-        certain it.bom_due E.BIG (utf8_stream_pending it.stream ++ bytes) };
+        certain it.bom_due E.BIG (stream_pending it.stream ++ bytes) };
 
     ghost whole = { λ it bytes.
-        entire it.bom_due E.BIG (utf8_stream_pending it.stream ++ bytes) };
+        entire it.bom_due E.BIG (stream_pending it.stream ++ bytes) };
 
     fn feed_to(&mut self, piece: &[u8], to: &mut [u8]) -> usize {
         let len = feed::<E>(&mut self.stream, piece, to);
@@ -60,7 +60,7 @@ impl<E: Utf16Order> Transcoder for Encoder<E> {
 
     fn finish_to(self, to: &mut [u8]) -> usize {
         let mut stream = self.stream;
-        let len = stream.finish::<E>(to).written;
+        let len = finish_utf8::<E>(&mut stream, to).written;
         if self.bom_due {
             put_bom::<E>(to, len)
         } else {
@@ -73,19 +73,19 @@ impl<E: Utf16Order> Transcoder for Encoder<E> {
 
 // Decodes the next chunk, writes the text that is now certain to the start of a buffer, and returns
 // its length in bytes.
-fn feed<E: Utf16Order>(stream: &mut Utf8Stream, piece: &[u8], to: &mut [u8]) -> usize
-    requires undecided { split_tail (utf8_stream_pending stream.old)
-        ≡ utf8_stream_pending stream.old }
+fn feed<E: Utf16Order>(stream: &mut Stream, piece: &[u8], to: &mut [u8]) -> usize
+    requires undecided { split_tail (stream_pending stream.old)
+        ≡ stream_pending stream.old }
     requires space { 2 * length piece.now + 8 ≤ length to.old }
     ensures fits { result + 6 ≤ length to.new }
     ensures bytes { take result to.new
-        ≡ decided_utf16 E.BIG (utf8_stream_pending stream.old ++ piece.now) }
-    ensures pending { utf8_stream_pending stream.new
-        ≡ split_tail (utf8_stream_pending stream.old ++ piece.now) }
-    ensures undecided { split_tail (utf8_stream_pending stream.new)
-        ≡ utf8_stream_pending stream.new }
+        ≡ decided_utf16 E.BIG (stream_pending stream.old ++ piece.now) }
+    ensures pending { stream_pending stream.new
+        ≡ split_tail (stream_pending stream.old ++ piece.now) }
+    ensures undecided { split_tail (stream_pending stream.new)
+        ≡ stream_pending stream.new }
 {
-    stream.feed::<E>(piece, to).written
+    feed_utf8::<E>(stream, piece, to).written
 }
 
 // Inserts a BOM before the first `len` bytes of a buffer, unless they begin with one, and returns

@@ -3,9 +3,11 @@ use Rattle.std.specs.Str.{IsUtf8}
 use Rattle.std.specs.String.{string_capacity, string_len}
 use Rattle.utf16_units.specs.Split.{split_items, split_tail}
 use Rattle.utf16_decode.proofs.DecodesLemmas.{shown, split_tail-again}
+use Rattle.utf16_decode.proofs.StreamSteps.{fed_text}
+use Rattle.utf16_decode.proofs.ToUtf8Parts.{utf16_chunks}
 use Rattle.utf16_decode.specs.Stream.{StopsFeeding, stream_pending}
 use Rattle.utf16_decode.specs.declared.progress.Stop.TheVariants.{Done}
-use Rattle.utf16_streams.proofs.PartLemmas.{Decodes-part, fed_text, part_none}
+use Rattle.utf16_streams.proofs.PartLemmas.{Decodes-part, part_none}
 use Rattle.utf16_streams.proofs.lossy.decode_part.Given.{Over}
 use Rattle.utf16_streams.proofs.lossy.decode_part.Goals as goal
 use Rattle.utf16_streams.proofs.lossy.decode_part.Goals.{After-feed-written}
@@ -31,7 +33,7 @@ module _ (g : Over) (c : After-feed-written g) where
   took = subst (StopsFeeding _ _ _ _ _ _) done c.feed-written.ensures.stop
 
   text : take c.feed-written.result.written c.feed-written.new.to ≡ shown (split_items g.E.Utf16Order.BIG (pending ++ part))
-  text = fed_text _ _ _ _ _ _ _ (length c.feed-written.new.to - c.feed-written.result.written) c.feed-written.ensures.feeds took
+  text = fed_text _ _ (utf16_chunks g.E.Utf16Order.BIG) _ _ _ _ _ _ (length c.feed-written.new.to - c.feed-written.result.written) c.feed-written.ensures.feeds took
 
 pub from_utf8_unchecked-requires : goal.from_utf8_unchecked-requires
 from_utf8_unchecked-requires g c =

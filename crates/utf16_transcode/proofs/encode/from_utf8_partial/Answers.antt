@@ -4,8 +4,10 @@ use Rattle.std.proofs.lemmas.List.{take_rest}
 use Rattle.utf16_units.proofs.CharLemmas.{one_unit_bytes}
 use Rattle.utf16_units.proofs.UnitLemmas.{length-unit_bytes}
 use Rattle.utf16_transcode.specs.FromUtf8.{StopsEncoding}
-use Rattle.utf16_transcode.specs.Utf8Stream.{DecodesUtf8To, FirstItem}
-use Rattle.utf16_transcode.proofs.DecodesUtf8.{DecodesUtf8To-none, DecodesUtf8To-rest, DecodesUtf8To-text, FirstItem-stopped, first_does_not_fit, stops_rest, stops_text}
+use Rattle.utf16_transcode.specs.Utf8Stream.{DecodesUtf8To, FirstItem, utf8_parts}
+use Rattle.utf16_decode.proofs.StreamSteps.{DecodesTo-rest, stops_rest}
+use Rattle.utf16_transcode.proofs.DecodesUtf8.{DecodesUtf8To-none, DecodesUtf8To-text, FirstItem-stopped, first_does_not_fit, stops_text}
+use Rattle.utf16_transcode.proofs.FeedsUtf8.{utf8_chunks}
 use Rattle.utf16_transcode.proofs.encode.from_utf8_partial.Given.{Over}
 use Rattle.utf16_transcode.proofs.encode.from_utf8_partial.Goals as goal
 use Rattle.utf16_transcode.proofs.encode.from_utf8_partial.Goals.{After-from_utf8-front, In-IllFormed}
@@ -18,7 +20,7 @@ after : (g : Over) (c : After-from_utf8-front g)
     → DecodesUtf8To g.E.Utf16Order.BIG c.args.text.now (put_mid c.loop-len.written (length c.loop-len.to - c.loop-len.written) c.loop-len.to c.from_utf8-front.new.to)
     (c.loop-len.read + c.from_utf8-front.result.read) (c.loop-len.written + c.from_utf8-front.result.written)
 after g c =
-    DecodesUtf8To-rest _ _ _ _ _ _ _ _ c.loop-len.invariant (DecodesUtf8To-text _ _ _ _ _ c.from_utf8-front.ensures.wrote) (search rules)
+    DecodesTo-rest utf8_parts _ utf8_chunks _ _ _ _ _ _ _ c.loop-len.invariant (DecodesUtf8To-text _ _ _ _ _ c.from_utf8-front.ensures.wrote) (search rules)
 
 pub returns-in_default : goal.returns-in_default
 returns-in_default g c =
@@ -27,7 +29,7 @@ returns-in_default g c =
     record {
       decodes = after g before;
       stop =
-          stops_rest _ _ _ _ _ _ _ _ c.loop-len.invariant text (search rules)
+          stops_rest utf8_parts _ utf8_chunks _ _ _ _ _ _ _ c.loop-len.invariant text (search rules)
           c.from_utf8-front.result.stop (stops_text _ _ _ _ _ c.in_default.not-IllFormed c.from_utf8-front.ensures.stop);
     }
 
@@ -57,4 +59,4 @@ put_ill_formed-len-requires-clause-ill_formed g c =
 pub loop-len-preserved : goal.loop-len-preserved
 loop-len-preserved g c =
     let before = after g (goal.at.loop-len-preserved g c).After-from_utf8-front in
-    DecodesUtf8To-rest _ _ _ _ _ _ _ _ before c.put_ill_formed-len.ensures.decodes (search rules)
+    DecodesTo-rest utf8_parts _ utf8_chunks _ _ _ _ _ _ _ before c.put_ill_formed-len.ensures.decodes (search rules)

@@ -1,7 +1,9 @@
 use Rattle.std.proofs.Common.{arith, rules, sym, subst, ◌∙◌}
 use Rattle.utf16_units.proofs.CharLemmas.{one_unit_bytes}
-use Rattle.utf16_transcode.specs.Utf8Stream.{DecodesUtf8To}
-use Rattle.utf16_transcode.proofs.DecodesUtf8.{DecodesUtf8To-item, DecodesUtf8To-none, DecodesUtf8To-rest}
+use Rattle.utf16_transcode.specs.Utf8Stream.{DecodesUtf8To, utf8_parts}
+use Rattle.utf16_decode.proofs.StreamSteps.{DecodesTo-rest}
+use Rattle.utf16_transcode.proofs.DecodesUtf8.{DecodesUtf8To-item, DecodesUtf8To-none}
+use Rattle.utf16_transcode.proofs.FeedsUtf8.{utf8_chunks}
 use Rattle.utf16_transcode.proofs.encode.put_ill_formed.Given.{Over}
 use Rattle.utf16_transcode.proofs.encode.put_ill_formed.Goals as goal
 use Rattle.utf16_transcode.proofs.encode.put_ill_formed.Goals.{After-put-written}
@@ -17,4 +19,4 @@ replaced g c =
 pub returns-clause-decodes : goal.returns-clause-decodes
 returns-clause-decodes g c =
     let at = goal.at.returns-clause-decodes g c in
-    DecodesUtf8To-rest _ _ _ _ _ _ _ _ (replaced g at.After-put-written) c.put_behind-read.ensures (search rules)
+    DecodesTo-rest utf8_parts _ utf8_chunks _ _ _ _ _ _ _ (replaced g at.After-put-written) c.put_behind-read.ensures (search rules)

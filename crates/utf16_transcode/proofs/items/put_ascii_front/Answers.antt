@@ -5,7 +5,7 @@ use Rattle.std.specs.Str.{IsAscii}
 use Rattle.utf16_from_utf8.proofs.AppendLemmas.{added_bytes-text}
 use Rattle.utf16_decode.proofs.WroteLemmas.{Wrote-none}
 use Rattle.utf16_transcode.proofs.AsciiFront.{ascii-all, front-low, low-ascii, wrote-front}
-use Rattle.utf16_transcode.proofs.FromUtf8.{utf16_empty}
+use Rattle.utf16_transcode.proofs.FromUtf8Lemmas.{utf16_empty}
 use Rattle.utf16_transcode.proofs.items.put_ascii_front.Given.{Over}
 use Rattle.utf16_transcode.proofs.items.put_ascii_front.Goals as goal
 use Rattle.utf16_transcode.proofs.items.put_ascii_front.Goals.{After-low_bits}

@@ -1,7 +1,7 @@
 use Rattle.std.proofs.Common.{slice_index, refl, arith}
 use Rattle.utf16_units.proofs.CharLemmas.{char_size_two}
 use Rattle.utf16_decode.proofs.WroteLemmas.{Wrote-none}
-use Rattle.utf16_transcode.proofs.FromUtf8.{ascii-more, utf16_empty}
+use Rattle.utf16_transcode.proofs.FromUtf8Lemmas.{ascii-more, utf16_empty}
 use Rattle.utf16_transcode.proofs.utf16.put_ascii_chars.Goals as goal
 
 pub loop-len-init : goal.loop-len-init

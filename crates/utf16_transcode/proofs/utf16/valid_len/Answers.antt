@@ -1,6 +1,6 @@
 use Rattle.std.proofs.Common.{arith, length-take, subst, take-take}
 use Rattle.std.specs.Str.{IsUtf8}
-use Rattle.utf16_transcode.proofs.FromUtf8.{valid_more}
+use Rattle.utf16_transcode.proofs.FromUtf8Lemmas.{valid_more}
 use Rattle.utf16_transcode.proofs.utf16.valid_len.Goals as goal
 
 pub returns-clause-well_formed : goal.returns-clause-well_formed

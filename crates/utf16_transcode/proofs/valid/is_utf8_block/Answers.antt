@@ -1,6 +1,6 @@
 use Rattle.std.proofs.Common.{subst}
 use Rattle.std.specs.Str.{IsUtf8}
-use Rattle.utf16_transcode.proofs.FromUtf8.{valid_before_zeros}
+use Rattle.utf16_transcode.proofs.FromUtf8Lemmas.{valid_before_zeros}
 use Rattle.utf16_transcode.proofs.valid.is_utf8_block.Goals as goal
 
 pub returns : goal.returns

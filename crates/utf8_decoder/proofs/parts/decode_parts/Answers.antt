@@ -3,14 +3,14 @@ use Rattle.std.proofs.lemmas.List.{nil_from_length}
 use Rattle.utf16_units.specs.Encoding.{size}
 use Rattle.utf16_units.proofs.EncodingLemmas.{size-nil}
 use Rattle.utf8_split.specs.Split.{split_tail}
-use Rattle.utf16_transcode.specs.Utf8Stream.{utf8_stream_pending}
+use Rattle.utf16_decode.specs.Stream.{stream_pending}
 use Rattle.utf8_decoder.proofs.PartLemmas.{Leaves-end, Leaves-part, decided_text-end, size-part, split_tail-again, two_parts}
 use Rattle.utf8_decoder.proofs.parts.decode_parts.Goals as goal
 
 pub unreachable-requires : goal.unreachable-requires
 unreachable-requires g c =
     let rest = two_parts c.min.result c.loop-rest.rest.now _ _ c.split_at.ensures.front c.split_at.ensures.back in
-    let pending = utf8_stream_pending c.loop-rest.stream in
+    let pending = stream_pending c.loop-rest.stream in
     let more = size-part pending _ _ _ (split_tail (pending ++ c.split_at.result.0.now)) rest refl in
     absurd (true≢false (sym (c.in_default.ensures.succeeds (omega (arith, more, c.loop-rest.invariant.2, c.loop-rest.invariant.3, c.requires.fits)))))
 
@@ -18,8 +18,8 @@ pub loop-rest-preserved : goal.loop-rest-preserved
 loop-rest-preserved g c =
     let rest = two_parts c.min.result c.loop-rest.rest.now _ _ c.split_at.ensures.front c.split_at.ensures.back in
     let tail = c.in-Ok.ensures.pending in
-    let more = size-part (utf8_stream_pending c.loop-rest.stream) _ _ _ _ rest tail in (
-      Leaves-part (utf8_stream_pending c.loop-rest.stream) _ _ _ _ rest tail _ _ _ _ c.loop-rest.invariant.0 c.in-Ok.ensures.text,
+    let more = size-part (stream_pending c.loop-rest.stream) _ _ _ _ rest tail in (
+      Leaves-part (stream_pending c.loop-rest.stream) _ _ _ _ rest tail _ _ _ _ c.loop-rest.invariant.0 c.in-Ok.ensures.text,
       ap split_tail tail ∙ split_tail-again _ ∙ sym tail,
       omega (arith, more, c.loop-rest.invariant.2, c.in-Ok.ensures.len),
       omega (arith, c.loop-rest.invariant.3, c.in-Ok.ensures.grows),

@@ -1,7 +1,7 @@
 use Rattle.std.proofs.Common.{◌≡◌, ◌+◌, ◌≤◌, ◌++◌, length}
 use Rattle.utf16_units.specs.Encoding.{size}
 use Rattle.utf8_split.specs.Split.{decided_text, split_tail}
-use Rattle.utf16_transcode.specs.Utf8Stream.{utf8_stream_pending}
+use Rattle.utf16_decode.specs.Stream.{stream_pending}
 use Rattle.utf16string.specs.WString.{wstring_bytes, wstring_capacity, wstring_text}
 use Rattle.utf8_decoder.proofs.PartLemmas.{Leaves}
 use Rattle.utf8_decoder.proofs.parts.decode_parts.Given as goal
@@ -9,10 +9,10 @@ use Rattle.utf8_decoder.proofs.parts.decode_parts.Given as goal
 -- everything before the pending bytes and the rest is decoded, and what is left fits
 abbrev pub invariant-loop-rest : goal.invariant-loop-rest
 invariant-loop-rest g l =
-    Leaves (utf8_stream_pending l.fn.stream ++ l.piece) (utf8_stream_pending l.stream ++ l.rest) (wstring_text l.fn.to) (wstring_text l.to)
-    × (split_tail (utf8_stream_pending l.stream) ≡ utf8_stream_pending l.stream)
-    × (length (wstring_bytes l.to) + size (decided_text (utf8_stream_pending l.stream ++ l.rest))
-    ≡ length (wstring_bytes l.fn.to) + size (decided_text (utf8_stream_pending l.fn.stream ++ l.piece)))
+    Leaves (stream_pending l.fn.stream ++ l.piece) (stream_pending l.stream ++ l.rest) (wstring_text l.fn.to) (wstring_text l.to)
+    × (split_tail (stream_pending l.stream) ≡ stream_pending l.stream)
+    × (length (wstring_bytes l.to) + size (decided_text (stream_pending l.stream ++ l.rest))
+    ≡ length (wstring_bytes l.fn.to) + size (decided_text (stream_pending l.fn.stream ++ l.piece)))
     × (wstring_capacity l.fn.to ≤ wstring_capacity l.to)
 
 abbrev pub decreases-loop-rest : goal.decreases-loop-rest

@@ -1,5 +1,5 @@
 use Rattle.std.proofs.Common.{◌+◌, ◌*◌, ◌++◌, length, length-append, arith}
-use Rattle.utf16_transcode.specs.Utf8Stream.{utf8_stream_pending}
+use Rattle.utf16_decode.specs.Stream.{stream_pending}
 use Rattle.utf16_transcode.proofs.FeedsUtf8.{enough_after_tail}
 use Rattle.utf8_decoder.proofs.PartLemmas.{IsTail-pending, few_undecided}
 use Rattle.utf8_decoder.proofs.parts.feed.Goals as goal
@@ -11,7 +11,7 @@ returns-then-piece-le-SHORT_CHUNK-clause-succeeds g c fits =
 
 pub returns-in_err-reserve-clause-nothing : goal.returns-in_err-reserve-clause-nothing
 returns-in_err-reserve-clause-nothing g c none =
-    absurd (omega (arith, few_undecided (utf8_stream_pending c.args.stream ++ c.args.piece.now) none, length-append (utf8_stream_pending c.args.stream) c.args.piece.now))
+    absurd (omega (arith, few_undecided (stream_pending c.args.stream ++ c.args.piece.now) none, length-append (stream_pending c.args.stream) c.args.piece.now))
 
 pub decode_parts-requires-clause-fits : goal.decode_parts-requires-clause-fits
 decode_parts-requires-clause-fits g c =
@@ -20,4 +20,4 @@ decode_parts-requires-clause-fits g c =
 
 pub returns-clause-nothing : goal.returns-clause-nothing
 returns-clause-nothing g c none =
-    absurd (omega (arith, few_undecided (utf8_stream_pending c.args.stream ++ c.args.piece.now) none, length-append (utf8_stream_pending c.args.stream) c.args.piece.now))
+    absurd (omega (arith, few_undecided (stream_pending c.args.stream ++ c.args.piece.now) none, length-append (stream_pending c.args.stream) c.args.piece.now))

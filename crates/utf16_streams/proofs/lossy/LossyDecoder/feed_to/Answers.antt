@@ -2,9 +2,11 @@ use Rattle.std.proofs.Common.{◌≡◌, ◌-◌, ◌*◌, ◌≤◌, ◌++◌, 
 use Rattle.utf16_units.proofs.FirstChar.{AreBytes, AreBytes-from_All}
 use Rattle.utf16_units.specs.Split.{split_items, split_tail}
 use Rattle.utf16_decode.proofs.DecodesLemmas.{shown, split_tail-again}
+use Rattle.utf16_decode.proofs.StreamSteps.{fed_text}
+use Rattle.utf16_decode.proofs.ToUtf8Parts.{utf16_chunks}
 use Rattle.utf16_decode.specs.Stream.{StopsFeeding, stream_pending}
 use Rattle.utf16_decode.specs.declared.progress.Stop.TheVariants.{Done}
-use Rattle.utf16_streams.proofs.PartLemmas.{AreBytes-append, fed_text, shown_most}
+use Rattle.utf16_streams.proofs.PartLemmas.{AreBytes-append, shown_most}
 use Rattle.utf16_streams.proofs.lossy.LossyDecoder.feed_to.Given.{Over}
 use Rattle.utf16_streams.proofs.lossy.LossyDecoder.feed_to.Goals as goal
 use Rattle.utf16_streams.proofs.lossy.LossyDecoder.feed_to.Goals.{After-feed}
@@ -22,7 +24,7 @@ took g c =
     subst (StopsFeeding _ _ _ _ _ _) (c.feed.ensures.done.1 (omega arith)) c.feed.ensures.stop
 
 pub returns-clause-text : goal.returns-clause-text
-returns-clause-text g c = fed_text _ _ _ _ _ _ _ (length c.feed.new.to - c.feed.result.written) c.feed.ensures.feeds (took g (goal.at.returns-clause-text g c).After-feed)
+returns-clause-text g c = fed_text _ _ (utf16_chunks g.E.Utf16Order.BIG) _ _ _ _ _ _ (length c.feed.new.to - c.feed.result.written) c.feed.ensures.feeds (took g (goal.at.returns-clause-text g c).After-feed)
 
 pub returns-clause-pending : goal.returns-clause-pending
 returns-clause-pending g c = (took g (goal.at.returns-clause-pending g c).After-feed).1

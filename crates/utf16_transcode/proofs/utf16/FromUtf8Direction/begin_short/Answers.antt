@@ -1,6 +1,6 @@
 use Rattle.std.proofs.Common.{arith}
 use Rattle.utf16_decode.proofs.WroteLemmas.{Wrote-none}
-use Rattle.utf16_transcode.proofs.FromUtf8.{ascii-all, utf16_empty}
+use Rattle.utf16_transcode.proofs.FromUtf8Lemmas.{ascii-all, utf16_empty}
 use Rattle.utf16_transcode.proofs.utf16.FromUtf8Direction.begin_short.Goals as goal
 
 pub returns-then-write_few_ascii : goal.returns-then-write_few_ascii

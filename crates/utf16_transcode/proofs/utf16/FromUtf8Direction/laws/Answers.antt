@@ -1,5 +1,5 @@
 use Rattle.std.proofs.Common.{arith}
-use Rattle.utf16_transcode.proofs.FromUtf8.{char_gives, faults_there, room_grows, utf16_empty, utf16_joins}
+use Rattle.utf16_transcode.proofs.FromUtf8Lemmas.{char_gives, faults_there, room_grows, utf16_empty, utf16_joins}
 use Rattle.utf16_transcode.proofs.utf16.FromUtf8Direction.laws.Goals as goal
 
 pub returns : goal.returns

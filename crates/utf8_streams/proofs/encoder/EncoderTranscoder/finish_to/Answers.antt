@@ -3,36 +3,36 @@ use Rattle.std.proofs.lemmas.List.{length-take-le}
 use Rattle.utf16_units.proofs.EncodingLemmas.{length-encode}
 use Rattle.utf8_split.specs.Split.{whole_lossy_chars}
 use Rattle.utf16_decode.specs.declared.progress.Stop.TheVariants.{Done}
-use Rattle.utf16_transcode.specs.Utf8Stream.{utf8_stream_pending}
+use Rattle.utf16_decode.specs.Stream.{stream_pending}
 use Rattle.utf8_streams.specs.Utf16.{entire, whole_utf16, with_bom}
 use Rattle.utf8_streams.proofs.EncoderLemmas.{end_short, whole-end}
 use Rattle.utf8_streams.proofs.encoder.EncoderTranscoder.finish_to.Given.{Over}
 use Rattle.utf8_streams.proofs.encoder.EncoderTranscoder.finish_to.Goals as goal
-use Rattle.utf8_streams.proofs.encoder.EncoderTranscoder.finish_to.Goals.{After-finish-len}
+use Rattle.utf8_streams.proofs.encoder.EncoderTranscoder.finish_to.Goals.{After-finish_utf8-len}
 
-module _ (g : Over) (c : After-finish-len g) where
-  text : take c.finish-len.result.written c.finish-len.new.to ≡ whole_utf16 g.E.Utf16Order.BIG (utf8_stream_pending c.args.self.stream ++ [])
+module _ (g : Over) (c : After-finish_utf8-len g) where
+  text : take c.finish_utf8-len.result.written c.finish_utf8-len.new.to ≡ whole_utf16 g.E.Utf16Order.BIG (stream_pending c.args.self.stream ++ [])
   text =
-      let short = end_short (utf8_stream_pending c.args.self.stream) in
-      let done : c.finish-len.result.stop ≡ Done = c.finish-len.ensures.done.1 (omega arith) in
-      c.finish-len.ensures.text done ∙ sym (whole-end g.E.Utf16Order.BIG c.args.self.bom_due _ c.args.self.undecided)
+      let short = end_short (stream_pending c.args.self.stream) in
+      let done : c.finish_utf8-len.result.stop ≡ Done = c.finish_utf8-len.ensures.done.1 (omega arith) in
+      c.finish_utf8-len.ensures.text done ∙ sym (whole-end g.E.Utf16Order.BIG c.args.self.bom_due _ c.args.self.undecided)
 
-  fits : c.finish-len.result.written + 2 ≤ length c.finish-len.new.to
+  fits : c.finish_utf8-len.result.written + 2 ≤ length c.finish_utf8-len.new.to
   fits =
-      let short = end_short (utf8_stream_pending c.args.self.stream) in
-      let done : c.finish-len.result.stop ≡ Done = c.finish-len.ensures.done.1 (omega arith) in
-      omega (arith, short, length-encode g.E.Utf16Order.BIG (whole_lossy_chars [] (utf8_stream_pending c.args.self.stream)), ap length (c.finish-len.ensures.text done), length-take-le c.finish-len.result.written c.finish-len.new.to c.finish-len.ensures.within)
+      let short = end_short (stream_pending c.args.self.stream) in
+      let done : c.finish_utf8-len.result.stop ≡ Done = c.finish_utf8-len.ensures.done.1 (omega arith) in
+      omega (arith, short, length-encode g.E.Utf16Order.BIG (whole_lossy_chars [] (stream_pending c.args.self.stream)), ap length (c.finish_utf8-len.ensures.text done), length-take-le c.finish_utf8-len.result.written c.finish_utf8-len.new.to c.finish_utf8-len.ensures.within)
 
 pub put_bom-requires : goal.put_bom-requires
-put_bom-requires g c = fits g (goal.at.put_bom-requires g c).After-finish-len
+put_bom-requires g c = fits g (goal.at.put_bom-requires g c).After-finish_utf8-len
 
 pub returns-then-self-clause-bytes : goal.returns-then-self-clause-bytes
 returns-then-self-clause-bytes g c =
-    let bytes = utf8_stream_pending c.args.self.stream ++ [] in
-    c.put_bom.ensures.bytes ∙ ap (with_bom g.E.Utf16Order.BIG) (text g (goal.at.returns-then-self-clause-bytes g c).After-finish-len)
+    let bytes = stream_pending c.args.self.stream ++ [] in
+    c.put_bom.ensures.bytes ∙ ap (with_bom g.E.Utf16Order.BIG) (text g (goal.at.returns-then-self-clause-bytes g c).After-finish_utf8-len)
     ∙ ap (λ due. entire due g.E.Utf16Order.BIG bytes) (sym c.if-self.true)
 
 pub returns-else-self-clause-bytes : goal.returns-else-self-clause-bytes
 returns-else-self-clause-bytes g c =
-    let bytes = utf8_stream_pending c.args.self.stream ++ [] in
-    text g (goal.at.returns-else-self-clause-bytes g c).After-finish-len ∙ ap (λ due. entire due g.E.Utf16Order.BIG bytes) (sym c.if-self.false)
+    let bytes = stream_pending c.args.self.stream ++ [] in
+    text g (goal.at.returns-else-self-clause-bytes g c).After-finish_utf8-len ∙ ap (λ due. entire due g.E.Utf16Order.BIG bytes) (sym c.if-self.false)
