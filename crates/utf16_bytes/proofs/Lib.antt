@@ -1,3 +1,2 @@
 pub mod SwapLemmas
 pub mod TextLemmas
-pub mod MendLemmas

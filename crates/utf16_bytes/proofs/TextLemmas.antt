@@ -1,14 +1,14 @@
 -- The lossy text of bytes, item by item.
-use Rattle.std.proofs.Common.{◌≡◌, ◌≢◌, ℕ, ◌+◌, ◌<◌, Bool, List, [], ◌∷◌, ◌++◌, None, Some, length, map, take, drop, slice_index, refl, sym, ap, ap₂, ◌∙◌, subst, arith, append_assoc, length-take-le, take-append-drop}
+use Rattle.std.proofs.Common.{◌≡◌, ℕ, ◌<◌, Bool, List, [], ◌∷◌, ◌++◌, None, Some, length, map, take, drop, slice_index, refl, sym, ap, ap₂, ◌∙◌, subst, arith, append_assoc, length-take-le, take-append-drop}
 use Rattle.std.proofs.lemmas.List.{drop_all, map-append, take_rest}
-use Rattle.utf16_units.specs.Encoding.{IsUtf16, char_bytes, char_size, text_of}
-use Rattle.utf16_units.specs.IllFormed.{BeginsWithChar, IsIllFormed, IsIllFormedAt, IsUtf16ValidUpTo}
+use Rattle.utf16_units.specs.Encoding.{IsUtf16, char_size, text_of}
+use Rattle.utf16_units.specs.IllFormed.{BeginsWithChar, IsIllFormedAt}
 use Rattle.utf16_units.specs.Split.{Item, good, lossy_char, lossy_chars, lossy_text, split_items, split_tail, whole_lossy_chars}
 use Rattle.utf16_units.proofs.CharLemmas.{length-char_bytes}
 use Rattle.utf16_units.proofs.EncodingLemmas.{Encodes-text_of, IsUtf16-char, IsUtf16-nil, char_text, text_of-nil}
 use Rattle.utf16_units.proofs.FirstChar.{AreBytes, first_unit}
 use Rattle.utf16_units.proofs.IllFormedLemmas.{faults}
-use Rattle.utf16_units.proofs.RecipeLemmas.{lossy_char-lone_item, lossy_chars-good, split_text, two}
+use Rattle.utf16_units.proofs.RecipeLemmas.{lossy_char-lone_item, two}
 use Rattle.utf16_units.proofs.SplitIllFormed.{lone_item, split_items-fault, split_items-incomplete, split_tail-fault, split_tail-incomplete}
 use Rattle.utf16_units.proofs.SplitJoin.{split_items-text, split_tail-text}
 
@@ -27,12 +27,6 @@ whole_lossy_chars-lone unit items (first ∷ after) = ap (λ c. c ∷ (lossy_cha
 pub nil_text : (big : Bool) → lossy_text big [] ≡ []
 unfolding split_items split_tail
 nil_text big = refl
-
--- well-formed bytes have the text that they encode
-pub well_formed_text : (big : Bool) (bytes : List ℕ) → IsUtf16 big bytes → lossy_text big bytes ≡ text_of big bytes
-well_formed_text big bytes text =
-    let split = split_text big (text_of big bytes) bytes (Encodes-text_of big bytes text) in
-    ap₂ whole_lossy_chars split.0 split.1 ∙ lossy_chars-good (text_of big bytes)
 
 -- ---- the first item
 module _ (big : Bool) (rest : List ℕ) where

@@ -5,8 +5,9 @@ use std::cmp::Ordering;
 use utf16_boundaries::{
     floor_char_boundary, floor_char_boundary_around, is_char_boundary, shard_offset,
 };
-use utf16_bytes::{compare, make_well_formed, swap_byte_order};
+use utf16_bytes::{compare, swap_byte_order};
 use utf16_case_lines::{Answer, Trouble, Values};
+use utf16_decode::make_well_formed;
 use utf16_units::{BE, LE, Utf16Order};
 
 /// Makes the call of this name.

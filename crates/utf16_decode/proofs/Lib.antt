@@ -1,5 +1,3 @@
-pub mod WellFormedLemmas
-pub mod WellFormedSplit
 pub mod DecodesSteps
 pub mod DecodesLemmas
 pub mod ToUtf8Parts
@@ -8,6 +6,8 @@ pub mod StreamLemmas
 pub mod WroteLemmas
 pub mod WholeLemmas
 pub mod LossyLemmas
+pub mod DecidedLemmas
+pub mod MendLemmas
 pub mod PrefixLemmas
 pub mod StreamSteps
 pub mod ToUtf8Lemmas

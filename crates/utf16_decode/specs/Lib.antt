@@ -1,4 +1,4 @@
-pub mod WellFormed
+pub mod Unpaired
 pub mod Decomposition
 pub mod Decodes
 pub mod Wrote

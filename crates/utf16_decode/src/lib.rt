@@ -24,4 +24,4 @@ pub use crate::progress::{Progress, Stop, put};
 pub use crate::stream::Stream;
 pub use crate::transcoding::transcode;
 pub use crate::utf8::{ToUtf8, to_utf8};
-pub use crate::well_formed::write_well_formed;
+pub use crate::well_formed::{make_well_formed, write_well_formed};

@@ -147,7 +147,7 @@ fn put_ascii_from<E: Utf16Order>(
 // Returns the length of the longest valid prefix. A function of its own, so that the writer does
 // not pay for its registers.
 #[inline(never)]
-fn valid_up_to<E: Utf16Order>(bytes: &[u8]) -> usize
+pub(crate) fn valid_up_to<E: Utf16Order>(bytes: &[u8]) -> usize
     ensures within { result ≤ length bytes.now }
     ensures valid { IsUtf16 E.BIG (take result bytes.now) }
 {

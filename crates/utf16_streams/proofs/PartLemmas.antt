@@ -10,8 +10,8 @@ use Rattle.utf16_units.proofs.ShownLemmas.{split_within}
 use Rattle.utf16_units.proofs.SplitLemmas.{Split-computed}
 use Rattle.utf16_units.proofs.SplitJoin.{split_items-append}
 use Rattle.utf16_decode.specs.Decodes.{Decodes}
-use Rattle.utf16_decode.proofs.DecodesLemmas.{Decodes-piece, length-split_tail-le, shown}
-use Rattle.utf16_decode.proofs.WellFormedSplit.{encodes_marked}
+use Rattle.utf16_decode.proofs.DecodesLemmas.{Decodes-piece, shown}
+use Rattle.utf16_decode.proofs.DecidedLemmas.{decided_scalars}
 
 pub AreBytes-append : (front back : List ℕ) → AreBytes front → AreBytes back → AreBytes (front ++ back)
 AreBytes-append front back before behind k = ⊎_elim
@@ -25,11 +25,7 @@ module _ (big : Bool) (bytes : List ℕ) (are : AreBytes bytes) where
   shown_most = (split_within big bytes (split_items big bytes) (split_tail big bytes) (Split-computed big bytes are)).1
 
   pub shown_utf8 : IsUtf8 (shown (split_items big bytes))
-  shown_utf8 =
-      let tail = length (split_tail big bytes) in
-      let ends : length bytes - tail + tail ≡ length bytes = omega (arith, length-split_tail-le big bytes) in
-      let text = lossy_chars (split_items big bytes) in
-      (text, (all_scalars-from_All text (encodes_marked big bytes (length bytes - tail) ends are []).scalars, refl))
+  shown_utf8 = (lossy_chars (split_items big bytes), (all_scalars-from_All (lossy_chars (split_items big bytes)) (decided_scalars big bytes are), refl))
 
 -- a part and the rest of a chunk
 module _ (big : Bool) (pending piece part rest : List ℕ) (joined : piece ≡ part ++ rest) where

@@ -3,20 +3,20 @@
 use Rattle.std.proofs.Common.{◌≡◌, ◌≢◌, ◌++◌, ℕ, ◌+◌, ◌<◌, ◌≤◌, Bool, true, false, List, [], ◌∷◌, Option, None, Some, Result, Ok, Err, All, drop, if◌then◌else◌, get_or, flat_map, length, take, take_all, append-nil, length-append, chars, encode_utf8_all, refl, sym, ap, ◌∙◌, subst}
 use Rattle.std.proofs.lemmas.Grind.{flat_map-append, take_at_read}
 use Rattle.std.proofs.lemmas.List.{map-append}
-use Rattle.std.proofs.lemmas.List.Elements.{All-append, All-cons, All-drop, All-head, All-nil, All-tail}
+use Rattle.std.proofs.lemmas.List.Elements.{All-append, All-cons, All-drop, All-nil}
 use Rattle.std.proofs.lemmas.List.Sums.{sum_by-append}
 use Rattle.std.proofs.lemmas.Result.{IfOk-weaker}
 use Rattle.std.specs.Prelude.{IfOk, OnOk, Vec, vec_items}
 use Rattle.std.specs.Char.{IsScalar}
 use Rattle.utf16_units.specs.declared.byte_order.Utf16Order.{Ghosts}
-use Rattle.utf16_units.specs.Split.{IsItem, Item, whole_lossy_chars, good, lone_lead, lone_trail, lossy_char, lossy_chars, split_items, split_tail}
+use Rattle.utf16_units.specs.Split.{Item, lossy_char, lossy_chars, split_items, split_tail, whole_lossy_chars}
 use Rattle.utf16_units.proofs.FirstChar.{AreBytes-from_All}
 use Rattle.utf16_units.proofs.LawProofs.{utf8_back}
 use Rattle.utf16_units.proofs.SplitJoin.{split_items-append, split_tail-append}
-use Rattle.utf16_units.proofs.SplitLemmas.{Split-computed}
 use Rattle.utf16_streams.specs.declared.lossy.Lossy.{Lossy}
 use Rattle.utf16_streams.specs.Bom.{big_in, has_bom, items_in, text_in}
 use Rattle.utf16_streams.specs.Lossy.{lossy_pending}
+use Rattle.utf16_decode.proofs.DecidedLemmas.{decided_scalars}
 use Rattle.utf16_decode.proofs.StreamLemmas.{joined-more}
 
 abbrev pub IsByte : ℕ → Type 0
@@ -33,16 +33,6 @@ module _ {X : Type 0} (of : X → List ℕ) (pieces : List X) (i : ℕ) where
 
 -- ---- the characters of what a call gives
 
-mark_scalar : (item : Item) → IsItem item → IsScalar (lossy_char item)
-mark_scalar (good c) is = is
-mark_scalar (lone_trail unit) is = refl
-mark_scalar (lone_lead unit) is = refl
-
-marks_scalar : (items : List Item) → All IsItem items → All IsScalar (lossy_chars items)
-marks_scalar [] made = All-nil IsScalar
-marks_scalar (item ∷ items) made =
-    All-cons IsScalar (lossy_char item) (lossy_chars items) (mark_scalar item (All-head IsItem item items made)) (marks_scalar items (All-tail IsItem item items made))
-
 -- the characters of items, and those of the whole text, are scalar values
 full_scalar : (items : List Item) (tail : List ℕ) → All IsScalar (lossy_chars items) → All IsScalar (whole_lossy_chars items tail)
 full_scalar items [] scalars = scalars
@@ -51,7 +41,7 @@ full_scalar items (first ∷ after) scalars =
 
 module _ (big : Bool) (bytes : List ℕ) (are : All IsByte bytes) where
   pub scalars_lossy : All IsScalar (lossy_chars (split_items big bytes))
-  scalars_lossy = marks_scalar (split_items big bytes) (Split-computed big bytes (AreBytes-from_All bytes are)).made
+  scalars_lossy = decided_scalars big bytes (AreBytes-from_All bytes are)
 
   pub scalars_full : All IsScalar (whole_lossy_chars (split_items big bytes) (split_tail big bytes))
   scalars_full = full_scalar (split_items big bytes) (split_tail big bytes) scalars_lossy
