@@ -11,29 +11,20 @@ use utf16_to_utf8::{SLACK, utf8_len, write_utf8};
 use utf16_units::ends::first_char;
 use utf16_units::{Utf16Order, is_trailing_surrogate};
 
-// Texts of fewer bytes are appended character by character.
-const TINY_TEXT: usize = 8;
+// Texts of fewer bytes are appended character by character, and so is a new `String` made of at most
+// two code units.
+const BY_CHARS: usize = 8;
 
-// A new `String` is made character by character of at most this many bytes.
 const TWO_UNITS: usize = 4;
 
-// Texts of at most this many bytes are written at once, to a buffer as long as `write_utf8` needs;
-// and those of fewer to a shorter one.
-const SHORT_TEXT: usize = 128;
+// Texts of at most this many bytes are written at once, through a buffer on the stack.
+const AT_ONCE: usize = 128;
 
-const SHORT_BUFFER: usize = 320;
-
-const FEW_TEXT: usize = 32;
-
-const FEW_BUFFER: usize = 176;
+// Longer ones are written in chunks of at most this many bytes.
+const CHUNK: usize = 1024;
 
 // The least capacity of a new `String`, unless its text is empty.
 const LEAST_CAPACITY: usize = 8;
-
-// The length in bytes of a chunk, and of the buffer that `write_utf8` needs for it.
-const CHUNK: usize = 1024;
-
-const CHUNK_BUFFER: usize = 1664;
 
 /// Returns a text, in UTF-8, as a new `String`.
 ///
@@ -71,11 +62,8 @@ fn make_text<E: Utf16Order, A: Allocator>(raw: &[u8], alloc: A) -> Result<String
     requires { IsUtf16 E.BIG raw.now }
     ensures { IfOk result (λ s. string_bytes s ≡ utf8_of E.BIG raw.now) }
 {
-    if raw.len() < FEW_TEXT {
-        return make_piece::<E, A>(raw, &mut [0; FEW_BUFFER], alloc);
-    }
-    if raw.len() <= SHORT_TEXT {
-        return make_piece::<E, A>(raw, &mut [0; SHORT_BUFFER], alloc);
+    if raw.len() <= AT_ONCE {
+        return make_piece::<E, A>(raw, &mut [0; AT_ONCE / 2 * 3 + SLACK], alloc);
     }
     let mut utf8 = String::with_capacity(alloc, utf8_len::<E>(raw))?;
     put_pieces::<E, A>(raw, &mut utf8)?;
@@ -129,11 +117,11 @@ pub fn append_utf8<E: Utf16Order, A: Allocator>(
     ensures succeeds { string_len to.old + length (utf8_of E.BIG raw.now) ≤ string_capacity to.old
         → IsOk result }
 {
-    if raw.len() >= TINY_TEXT && raw.len() <= SHORT_TEXT {
+    if raw.len() >= BY_CHARS && raw.len() <= AT_ONCE {
         return put_short::<E, A>(raw, to);
     }
     reserve_utf8::<E, A>(raw, to)?;
-    if raw.len() < TINY_TEXT {
+    if raw.len() < BY_CHARS {
         put_few::<E, A>(raw, to)
     } else {
         put_pieces::<E, A>(raw, to)
@@ -144,7 +132,7 @@ pub fn append_utf8<E: Utf16Order, A: Allocator>(
 #[inline(never)]
 fn put_short<E: Utf16Order, A: Allocator>(raw: &[u8], to: &mut String<A>) -> Result<(), AllocError>
     requires well_formed { IsUtf16 E.BIG raw.now }
-    requires short { length raw.now ≤ SHORT_TEXT }
+    requires short { length raw.now ≤ AT_ONCE }
     ensures text { OnOk result (string_bytes to.new ≡ string_bytes to.old
         ++ utf8_of E.BIG raw.now) }
     ensures err { OnErr result ((string_bytes to.new ≡ string_bytes to.old)
@@ -153,11 +141,7 @@ fn put_short<E: Utf16Order, A: Allocator>(raw: &[u8], to: &mut String<A>) -> Res
     ensures succeeds { string_len to.old + length (utf8_of E.BIG raw.now) ≤ string_capacity to.old
         → IsOk result }
 {
-    if raw.len() < FEW_TEXT {
-        put_piece::<E, A>(raw, &mut [0; FEW_BUFFER], to)
-    } else {
-        put_piece::<E, A>(raw, &mut [0; SHORT_BUFFER], to)
-    }
+    put_piece::<E, A>(raw, &mut [0; AT_ONCE / 2 * 3 + SLACK], to)
 }
 
 // Appends the characters one by one to a string with enough capacity.
@@ -186,12 +170,12 @@ fn put_pieces<E: Utf16Order, A: Allocator>(raw: &[u8], to: &mut String<A>) -> Re
     ensures appended { IsPut (text_of E.BIG raw.now) (string_bytes to.old) (string_bytes to.new)
         (string_capacity to.old) (string_capacity to.new) }
 {
-    let mut buf = [0; CHUNK_BUFFER];
+    let mut buf = [0; CHUNK / 2 * 3 + SLACK];
     let mut rest = raw;
     while !rest.is_empty() {
-        let (piece, behind) = cut_piece::<E>(rest);
+        let (piece, next) = cut_piece::<E>(rest);
         put_piece::<E, A>(piece, &mut buf, to)?;
-        rest = behind;
+        rest = next;
     }
     Ok(())
 }
@@ -268,52 +252,15 @@ fn reserve_utf8<E: Utf16Order, A: Allocator>(
     if raw.len() / 2 * 3 <= to.capacity() - to.len() {
         return Ok(());
     }
-    reserve_counted::<E, A>(raw, to)
-}
-
-// The same, after the length is computed. A function of its own, so that a text that fits does not
-// pay for its registers.
-#[inline(never)]
-fn reserve_counted<E: Utf16Order, A: Allocator>(
-    raw: &[u8],
-    to: &mut String<A>,
-) -> Result<(), AllocError>
-    requires { IsUtf16 E.BIG raw.now }
-    ensures bytes { string_bytes to.new ≡ string_bytes to.old }
-    ensures reserved { OnOk result (string_len to.new + length (utf8_of E.BIG raw.now)
-        ≤ string_capacity to.new) }
-    ensures err { OnErr result (string_capacity to.new ≡ string_capacity to.old) }
-    ensures grows { string_capacity to.old ≤ string_capacity to.new }
-    ensures succeeds { string_len to.old + length (utf8_of E.BIG raw.now) ≤ string_capacity to.old
-        → IsOk result }
-{
     to.reserve(len_in_utf8::<E>(raw))
 }
 
-// The length of the text in UTF-8, in bytes.
-#[inline]
+// The length of the text in UTF-8, in bytes. Not inlined, so that a text that fits does not pay for
+// its registers.
+#[inline(never)]
 fn len_in_utf8<E: Utf16Order>(raw: &[u8]) -> usize
     requires { IsUtf16 E.BIG raw.now }
     ensures { result ≡ length (utf8_of E.BIG raw.now) }
 {
-    if raw.len() < TINY_TEXT {
-        few_len::<E>(raw)
-    } else {
-        utf8_len::<E>(raw)
-    }
-}
-
-// The same of a short text, character by character.
-fn few_len<E: Utf16Order>(raw: &[u8]) -> usize
-    requires { IsUtf16 E.BIG raw.now }
-    ensures { result ≡ length (utf8_of E.BIG raw.now) }
-{
-    let mut len = 0;
-    let mut rest = raw;
-    while !rest.is_empty() {
-        let (c, size) = first_char::<E>(rest);
-        len += c.len_utf8();
-        rest = &rest[size..];
-    }
-    len
+    utf8_len::<E>(raw)
 }
