@@ -1,5 +1,4 @@
 pub mod Asked
 pub mod PlainUnits
-pub mod KeptUnits
 pub mod NextChar
 pub mod Retained

@@ -1,26 +1,22 @@
 -- Blocks of units, each of which is a character: their test, their bytes, and those for which a
 -- predicate returns true.
-use Rattle.std.proofs.Common.{◌≡◌, ℕ, ◌+◌, ◌-◌, ◌*◌, ◌/◌, ◌%◌, ◌^◌, ◌<◌, ◌≤◌, Bool, true, false, cond, not, nat_eq, bit_and, List, [], ◌∷◌, ◌++◌, All, get_or, length, map, replicate, take, drop, refl, sym, ap, ap₂, ◌∙◌, subst, arith, append_assoc, length-append, flat_map}
-use Rattle.std.proofs.lemmas.Bool.{eqb-false, false≢true}
-use Rattle.std.proofs.lemmas.Grind.{flat_map-append}
-use Rattle.std.proofs.lemmas.List.{drop-drop, get_or-take, length-drop, length-map, length-take, length-take-le, take-append-drop, take_all, take_at, take_more}
-use Rattle.std.proofs.lemmas.List.Elements.{All-from_get_or, All-head, All-tail}
-use Rattle.std.proofs.lemmas.List.Sums.{prefix_len-le-length, prefix_len_passes}
+use Rattle.std.proofs.Common.{◌≡◌, ℕ, ◌+◌, ◌-◌, ◌*◌, ◌/◌, ◌%◌, ◌^◌, ◌<◌, ◌≤◌, Bool, true, false, cond, nat_eq, bit_and, List, [], ◌∷◌, ◌++◌, All, get_or, length, map, replicate, take, drop, refl, sym, ap, ap₂, ◌∙◌, arith, append-nil, append_assoc, length-append, flat_map}
+use Rattle.std.proofs.lemmas.Bool.{eqb-false}
+use Rattle.std.proofs.lemmas.List.{drop-drop, length-map, length-take-le, take_all, take_more}
+use Rattle.std.proofs.lemmas.List.Elements.{All-cons, All-from_get_or, All-head, All-nil, All-tail}
 use Rattle.std.proofs.lemmas.Nat.Bits.{and_high}
-use Rattle.std.proofs.lemmas.Simd.{Each1-get_or, bitmask_splat, leading_from_mask_l, map-map, trailing_mask_l, zip2_splat}
+use Rattle.std.proofs.lemmas.Simd.{Each1-get_or, bitmask_splat, map-map, none_from_empty_mask, zip2_splat}
 use Rattle.std.specs.Char.{IsScalar}
-use Rattle.std.specs.List.{items_where_true, prefix_len}
+use Rattle.std.specs.List.{items_where_true}
 use mir.Syntax.{w16}
 use mir.Val.{Fits, bool_byte}
 use lib.Lanes.{Each1, mask_l, top, zip2}
-use lib.Count.{count_trailing_zeros}
-use Rattle.utf16_units.specs.Encoding.{Encodes, encode}
-use Rattle.utf16_units.proofs.EncodingLemmas.{encode-cons, encode-nil}
+use Rattle.utf16_units.specs.Encoding.{encode}
+use Rattle.utf16_units.proofs.EncodingLemmas.{encode-append, encode-cons, encode-nil}
 use Rattle.utf16_units.specs.Unit.{unit_bytes}
 use Rattle.utf16_units.proofs.FirstChar.{scalar_unit}
-use Rattle.utf16_retain.proofs.Asked.{All-kept, kept-append}
+use Rattle.utf16_retain.proofs.Asked.{kept-append}
 use Rattle.utf16_units.proofs.CharLemmas.{one_unit_bytes}
-use Rattle.utf16_units.proofs.UnitLemmas.{length-units_bytes}
 
 -- a unit whose upper five bits are not those of a surrogate is a character
 scalar-high : (u : ℕ) → u < 0x1_0000 → nat_eq (bit_and u 0xF800) 0xD800 ≡ false → IsScalar u
@@ -28,10 +24,6 @@ scalar-high u below other =
     let high : bit_and u 0xF800 ≡ u / 2048 % 32 * 2048 = and_high u 5 11 in
     let apart = eqb-false _ _ other in
     scalar_unit u below (λ leading. apart (omega (arith, high, leading.0, leading.1))) (λ trailing. apart (omega (arith, high, trailing.0, trailing.1)))
-
-not-true : (b : Bool) → not b ≡ true → b ≡ false
-not-true true e = absurd (false≢true e)
-not-true false e = refl
 
 -- whether a unit is a surrogate, by its upper five bits
 abbrev is_surrogate : ℕ → Bool
@@ -41,10 +33,6 @@ is_surrogate u = nat_eq (bit_and u 0xF800) 0xD800
 abbrev pub lane_bits : List ℕ → ℕ
 lane_bits units = mask_l (map (top 15) (zip2 (λ a b. cond (nat_eq a b) 65535 0) (zip2 bit_and units (replicate 16 0xF800)) (replicate 16 0xD800))) % 2 ^ 64
 
--- how many units precede the first surrogate
-abbrev pub plain_len : List ℕ → ℕ
-plain_len units = prefix_len (λ u. not (is_surrogate u)) units
-
 module _ (units : List ℕ) (long : length units ≡ 16) where
   bits : lane_bits units ≡ mask_l (map is_surrogate units)
   bits =
@@ -52,20 +40,11 @@ module _ (units : List ℕ) (long : length units ≡ 16) where
       bitmask_splat w16 nat_eq (zip2 bit_and units (replicate 16 0xF800)) 16 0xD800 (ap length upper ∙ length-map units _ ∙ long) (omega arith)
       ∙ ap (λ us. mask_l (map (λ u. nat_eq u 0xD800) us)) upper ∙ ap mask_l (map-map (λ u. nat_eq u 0xD800) (λ u. bit_and u 0xF800) units)
 
-  pub plain_len-none : lane_bits units ≡ 0 → plain_len units ≡ 16
-  plain_len-none none = leading_from_mask_l is_surrogate units (sym bits ∙ none) ∙ long
-
-  pub plain_len-lowest : 0 < lane_bits units → count_trailing_zeros 64 (lane_bits units) ≡ plain_len units
-  plain_len-lowest some = ap (count_trailing_zeros 64) bits ∙ trailing_mask_l is_surrogate 64 units (omega (arith, long)) (subst (λ n. 0 < n) bits some)
-
-  pub plain_len-few : plain_len units ≤ 16
-  plain_len-few = omega (arith, long, prefix_len-le-length (λ u. not (is_surrogate u)) units)
-
-  pub plain_len-characters : Each1 (Fits w16) units → All IsScalar (take (plain_len units) units)
-  plain_len-characters fit = All-from_get_or IsScalar (take (plain_len units) units) 0 (λ i lt.
-      let before : i < plain_len units = omega (arith, lt, length-take (plain_len units) units) in
-      subst IsScalar (sym (get_or-take (plain_len units) units i 0 before))
-      (scalar-high _ (Each1-get_or (Fits w16) units i 0 (omega (arith, long, before, plain_len-few)) fit).fits (not-true _ (prefix_len_passes (λ u. not (is_surrogate u)) units i 0 before))))
+  -- if none is set, each unit is a character
+  pub no_surrogate-scalars : lane_bits units ≡ 0 → Each1 (Fits w16) units → All IsScalar units
+  no_surrogate-scalars none fit = All-from_get_or IsScalar units 0 (λ i lt.
+      let clear : mask_l (map is_surrogate (take 16 units)) ≡ 0 = ap (λ us. mask_l (map is_surrogate us)) (take_all 16 units (omega (arith, long))) ∙ sym bits ∙ none in
+      scalar-high _ (Each1-get_or (Fits w16) units i 0 lt fit).fits (none_from_empty_mask is_surrogate units 0 16 0 (omega (arith, long)) clear i (omega arith) (omega (arith, lt, long))))
 
 -- no more are kept than there are
 length-kept : {X : Type 0} → (answers : List Bool) (items : List X) → length (items_where_true answers items) ≤ length items
@@ -106,27 +85,25 @@ bool_byte-below false = omega arith
 
 -- a step of writing those kept, after what precedes them
 pub written-more : (big : Bool) (front : List ℕ) (answers : List Bool) (units : List ℕ) (i : ℕ) (answer : Bool) → i < length answers → i < length units
-    → get_or answers i false ≡ answer → (old new : List ℕ) → old ≡ front ++ flat_map (unit_bytes big) (items_where_true (take i answers) (take i units))
-    → new ≡ old ++ flat_map (unit_bytes big) (items_where_true (answer ∷ []) (get_or units i 0 ∷ []))
-    → new ≡ front ++ flat_map (unit_bytes big) (items_where_true (take (i + 1) answers) (take (i + 1) units))
+    → get_or answers i false ≡ answer → (old new : List ℕ) → old ≡ front ++ encode big (items_where_true (take i answers) (take i units))
+    → new ≡ old ++ encode big (items_where_true (answer ∷ []) (get_or units i 0 ∷ []))
+    → new ≡ front ++ encode big (items_where_true (take (i + 1) answers) (take (i + 1) units))
 written-more big front answers units i answer long room is old new so_far more =
-    more ∙ ap (λ l. l ++ flat_map (unit_bytes big) (items_where_true (answer ∷ []) (get_or units i 0 ∷ []))) so_far ∙ append_assoc front _ _
-    ∙ ap (λ l. front ++ l) (sym (flat_map-append (unit_bytes big) (items_where_true (take i answers) (take i units)) _))
-    ∙ ap (λ l. front ++ flat_map (unit_bytes big) l) (sym (kept-more answers units i answer long room))
-    ∙ ap (λ l. front ++ flat_map (unit_bytes big) (items_where_true l (take (i + 1) units)))
+    more ∙ ap (λ l. l ++ encode big (items_where_true (answer ∷ []) (get_or units i 0 ∷ []))) so_far ∙ append_assoc front _ _
+    ∙ ap (λ l. front ++ l) (sym (encode-append big (items_where_true (take i answers) (take i units)) _))
+    ∙ ap (λ l. front ++ encode big l) (sym (kept-more answers units i answer long room))
+    ∙ ap (λ l. front ++ encode big (items_where_true l (take (i + 1) units)))
     (ap (λ b. take i answers ++ b ∷ []) (sym is) ∙ sym (take_more answers i false long))
+
+-- none kept are no bytes
+pub encode-none : (big : Bool) (front : List ℕ) → front ≡ front ++ encode big []
+encode-none big front = sym (ap (λ l. front ++ l) (encode-nil big) ∙ append-nil front)
 
 -- lists that agree from one index on agree from each later one on
 pub drop-later : (a b : ℕ) (xs ys : List ℕ) → a ≤ b → drop a xs ≡ drop a ys → drop b xs ≡ drop b ys
 drop-later a b xs ys le same_from =
     let all : a + (b - a) ≡ b = omega arith in
     ap (λ i. drop i xs) (sym all) ∙ sym (drop-drop (b - a) a xs) ∙ ap (drop (b - a)) same_from ∙ drop-drop (b - a) a ys ∙ ap (λ i. drop i ys) all
-
--- the bytes of the first n units are the first 2 * n bytes
-pub units-take : (big : Bool) (units : List ℕ) (n : ℕ) → n ≤ length units → flat_map (unit_bytes big) (take n units) ≡ take (2 * n) (flat_map (unit_bytes big) units)
-units-take big units n le =
-    sym (take_at (flat_map (unit_bytes big) (take n units)) (flat_map (unit_bytes big) (drop n units)) (2 * n) (length-units_bytes big (take n units) ∙ ap (λ m. 2 * m) (length-take-le n units le)))
-    ∙ ap (take (2 * n)) (sym (flat_map-append (unit_bytes big) (take n units) (drop n units)) ∙ ap (flat_map (unit_bytes big)) (take-append-drop n units))
 
 abbrev pub IsUnit : ℕ → Type 0
 IsUnit u = u < 0x1_0000
@@ -137,20 +114,6 @@ encode-units big [] below = encode-nil big
 encode-units big (u ∷ units) below =
     encode-cons big u units ∙ ap₂ (λ x y. x ++ y) (one_unit_bytes big u (All-head IsUnit u units below)) (encode-units big units (All-tail IsUnit u units below))
 
--- the same of those kept
-pub encode-kept : (big : Bool) (answers : List Bool) (units : List ℕ) → All IsUnit units
-    → encode big (items_where_true answers units) ≡ flat_map (unit_bytes big) (items_where_true answers units)
-encode-kept big answers units below =
-    encode-units big (items_where_true answers units) (All-kept IsUnit answers units below)
-
--- the first n units of what was read from an index on encode to the next 2 * n bytes
-pub front-here : (big : Bool) (units bytes : List ℕ) (n read : ℕ) → Encodes big (take n units) (take (2 * n) (take (length bytes - read) (drop read bytes)))
-    → Encodes big (take n units) (take (2 * n) (drop read bytes))
-front-here big units bytes n read e =
-    subst (λ l. Encodes big (take n units) (take (2 * n) l)) (take_all (length bytes - read) (drop read bytes) (omega (arith, length-drop read bytes))) e
-
--- all sixteen encode to the next thirty-two bytes
-pub whole-here : (big : Bool) (units bytes : List ℕ) (read : ℕ) → Encodes big (take 16 units) (take 32 (take (length bytes - read) (drop read bytes)))
-    → length units ≡ 16 → Encodes big units (take 32 (drop read bytes))
-whole-here big units bytes read e long =
-    subst (λ us. Encodes big us (take 32 (drop read bytes))) (take_all 16 units (omega (arith, long))) (front-here big units bytes 16 read e)
+-- those of one character
+pub encode-unit : (big : Bool) (u : ℕ) → IsUnit u → encode big (u ∷ []) ≡ unit_bytes big u
+encode-unit big u below = encode-units big (u ∷ []) (All-cons IsUnit u [] below (All-nil IsUnit)) ∙ append-nil (unit_bytes big u)

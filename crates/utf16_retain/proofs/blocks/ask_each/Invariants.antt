@@ -6,7 +6,7 @@ use Rattle.utf16_retain.proofs.blocks.ask_each.Given as goal
 
 abbrev pub invariant-loop-i : goal.invariant-loop-i
 invariant-loop-i g l = record {
-  long : length l.answers ≡ g.row.N;
+  long : length l.answers ≡ 16;
   asked : ReturnsInTurn (Answers g.F.FnMut) l.initial.keep (take l.i l.answers) (take l.i l.units) l.keep;
   may : MayBeAsked g.F.FnMut l.keep (drop l.i l.units);
   counted : l.many ≡ length (items_where_true (take l.i l.answers) (take l.i l.units));
