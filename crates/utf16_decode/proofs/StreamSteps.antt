@@ -8,7 +8,7 @@ use Rattle.std.specs.List.{flat_map}
 use Rattle.utf16_units.proofs.IllFormedLemmas.{rest_from, take-past}
 use Rattle.utf16_decode.specs.Decodes.{DecodesAs}
 use Rattle.utf16_decode.specs.Decomposition.{Decomposition, IsSplitInChunks, decided}
-use Rattle.utf16_decode.proofs.DecodesSteps.{Decodes-end, Decodes-more, Decodes-then, tail_again, written_for, written_for-append}
+use Rattle.utf16_decode.proofs.DecodesSteps.{Decodes-end, Decodes-more, Decodes-none, Decodes-then, tail_again, written_for, written_for-append}
 use Rattle.utf16_decode.specs.Wrote.{DecodesAsTo}
 use Rattle.utf16_decode.specs.Stops.{StopsLossyAs, TextDoesNotFit}
 use Rattle.utf16_decode.specs.Stream.{FeedsAs, StopsFeedingAs}
@@ -39,6 +39,10 @@ join_drop pending piece at = ⊎_elim
     ap (λ h. h ++ drop (at - length pending) piece) (drop_all at pending behind)
     ∙ sym (drop-append-add pending piece (at - length pending)) ∙ ap (λ k. drop k (pending ++ piece)) same)
     (cases_lt at (length pending))
+
+-- nothing is decoded
+pub DecodesTo-none : (parts : Decomposition) (into : ℕ → List ℕ) (input to : List ℕ) → DecodesAsTo parts into input to 0 0
+DecodesTo-none parts into input to = record { within = omega arith; fits = omega arith; decodes = Decodes-none parts into input [] }
 
 -- the first bytes of the rest were decoded, and what is shown of them appended
 module _ (parts : Decomposition) (into : ℕ → List ℕ) (split : IsSplitInChunks parts) (input old part window next : List ℕ) (read at n w : ℕ)

@@ -11,7 +11,7 @@ ghost use Rattle.utf16_decode.specs.Decodes.{utf16_parts};
 
 use crate::ascii::put_ascii_blocks;
 use crate::lossy_direction::LossyDirection;
-use crate::lossy_whole::transcode_lossy;
+use crate::lossy_transcoding::transcode_lossy;
 use crate::progress::{Progress, Stop, put};
 use crate::utf8::{ToUtf8, to_utf8};
 use crate::well_formed::write_well_formed;
@@ -188,8 +188,14 @@ impl<E: Utf16Order> LossyDirection for ToUtf8<E> {
     fn lossy_laws() {}
 
     #[inline(always)]
-    fn write_decided(input: &[u8], to: &mut [u8]) -> Progress {
-        to_utf8_partial::<E>(input, to)
+    fn write_ill_formed(input: &[u8], len: u8, to: &mut [u8]) -> Option<(usize, usize)> {
+        if to.len() >= BLOCKS_ROOM {
+            return Some(put_copied::<E, COPIED_CLOSE>(input, to));
+        }
+        if to.len() < REPLACEMENT.len() {
+            return None;
+        }
+        Some((len as usize, put(&REPLACEMENT, to, 0)))
     }
 
     #[inline(always)]

@@ -1,27 +1,36 @@
 //! What a direction decides where it goes on after ill-formed sequences: what is pending, and what is
 //! written for each of them.
 
-ghost use Rattle.std.specs.Prelude.{◌≡◌, ◌-◌, ◌<◌, ◌≤◌, [], ◌++◌, ℕ, IfSome, None, drop, length, take};
+ghost use Rattle.std.specs.Prelude.{◌≡◌, ◌-◌, ◌<◌, ◌≤◌, ◌++◌, ℕ, List, IfSome, None, Some, drop, length, take};
 ghost use Rattle.std.specs.List.{flat_map};
-ghost use Rattle.utf16_decode.specs.Decomposition.{Decomposition, IsSplitInChunks};
-ghost use Rattle.utf16_decode.specs.Stops.{StopsLossyAs};
-ghost use Rattle.utf16_decode.specs.Wrote.{DecodesAsTo};
+ghost use Rattle.utf16_decode.specs.Decomposition.{Decomposition, IsSplitInChunks, decided};
+ghost use Rattle.utf16_decode.specs.Stops.{Stops, StopsLossyAs, TextDoesNotFit};
+ghost use Rattle.utf16_decode.specs.Wrote.{DecodesAsTo, Gives, Wrote};
+ghost use Rattle.utf16_decode.specs.declared.progress.Stop.{Stop};
+ghost use Rattle.utf16_decode.specs.declared.progress.Stop.TheVariants.{IllFormed};
 
 use crate::direction::Direction;
-use crate::progress::Progress;
 
 /// A direction that goes on after ill-formed sequences.
 pub trait LossyDirection: Direction {
     // The items of any bytes and their tail, and the code points that are written for these.
     ghost parts: { Decomposition };
 
-    /// Writes what is certain of the bytes to the start of a buffer, as far as whole characters fit.
-    /// A tail that more bytes could change is not read. The bytes of the buffer after those written
-    /// may be overwritten.
-    fn write_decided(input: &[u8], to: &mut [u8]) -> Progress
-        ensures decodes { DecodesAsTo parts Self.into input.now to.new result.read result.written }
-        ensures stop { StopsLossyAs parts Self.into (drop result.read input.now)
-            (length to.new - result.written) result.stop };
+    /// Writes what stands for the ill-formed sequence of `len` bytes that the input begins with to
+    /// the start of a buffer, and perhaps what is certain of the bytes after it. Returns the number
+    /// of bytes read and the number of bytes written; `None` if it does not fit. The bytes of the
+    /// buffer after those written may be overwritten.
+    ///
+    /// # Precondition
+    ///
+    /// There is such a sequence.
+    fn write_ill_formed(input: &[u8], len: u8, to: &mut [u8]) -> Option<(usize, usize)>
+        requires { Self.IsIllFormedAt input.now (Some len) }
+        ensures decodes { IfSome result (λ done.
+            DecodesAsTo parts Self.into input.now to.new done.0 done.1) }
+        ensures advances { IfSome result (λ done. 0 < done.0) }
+        ensures none { result ≡ None
+            → TextDoesNotFit Self.into (decided parts input.now) (length to.new) };
 
     /// Writes what stands for a tail at the end of the input at `at`, and returns where it ends;
     /// `None` if it does not fit. All other bytes of the buffer stay.
@@ -39,9 +48,19 @@ pub trait LossyDirection: Direction {
             → length to.new - at < length (flat_map Self.into (parts.at_end tail.now)) }
         ensures unchanged { result ≡ None → to.new ≡ to.old };
 
-    /// States what the proofs of a stream need, and does nothing: bytes may come in chunks, and a
-    /// character takes at most four bytes.
+    /// States what the proofs of lossy calls and of a stream need, and does nothing: bytes may come
+    /// in chunks; a character takes at most four bytes; a text is decoded as itself; where
+    /// `transcode` stops, a lossy call stops for the same reason, unless it goes on there.
     fn lossy_laws()
         ensures chunks { IsSplitInChunks parts }
-        ensures short { (c : ℕ) → length (Self.into c) ≤ 4 };
+        ensures short { (c : ℕ) → length (Self.into c) ≤ 4 }
+        ensures text { (input to : List ℕ) (n w : ℕ)
+            → Wrote (Gives Self.IsValid Self.other) input to n w
+            → DecodesAsTo parts Self.into input to n w }
+        ensures stops { (input : List ℕ) (n left : ℕ) (stop : Stop)
+            → ((len : ℕ) → ¬ (stop ≡ IllFormed len))
+            → Stops Self.from Self.into Self.IsIllFormed input n left stop
+            → StopsLossyAs parts Self.into (drop n input) left stop }
+        ensures there { (input : List ℕ) (n len : ℕ) → Self.IsIllFormed input n (Some len)
+            → Self.IsIllFormedAt (drop n input) (Some len) };
 }

@@ -10,6 +10,7 @@ ghost use Rattle.utf16_decode.specs.declared.progress.Stop.TheVariants.{Done, No
 
 use crate::joined::{joined_start, rest_of};
 use crate::lossy_direction::LossyDirection;
+use crate::lossy_transcoding::transcode_partial;
 use crate::progress::{Progress, Stop};
 
 /// The pending bytes of a stream between two chunks: its last bytes, at most three, that only more
@@ -159,7 +160,7 @@ fn feed_after<D: LossyDirection>(pending: &[u8], piece: &[u8], to: &mut [u8]) ->
     (done, Stream::holding(&tail[..len]))
 }
 
-// Decodes pending bytes and a chunk after them as `write_decided` does, as if they were contiguous:
+// Decodes pending bytes and a chunk after them as `transcode_partial` does, as if they were contiguous:
 // four bytes at the chunk boundary pass through a buffer on the stack.
 fn decode_joined<D: LossyDirection>(pending: &[u8], piece: &[u8], to: &mut [u8]) -> Progress
     requires { length pending.now ≤ 3 }
@@ -173,7 +174,7 @@ fn decode_joined<D: LossyDirection>(pending: &[u8], piece: &[u8], to: &mut [u8])
     let mut written = 0;
     while read < pending.len() {
         let (joined, len) = joined_start(&pending[read..], piece);
-        let front = D::write_decided(&joined[..len], &mut to[written..]);
+        let front = transcode_partial::<D>(&joined[..len], &mut to[written..]);
         read += front.read;
         written += front.written;
         if front.read == 0 || front.stop == Stop::NoRoom {
@@ -184,7 +185,7 @@ fn decode_joined<D: LossyDirection>(pending: &[u8], piece: &[u8], to: &mut [u8])
             };
         }
     }
-    let rest = D::write_decided(&piece[read - pending.len()..], &mut to[written..]);
+    let rest = transcode_partial::<D>(&piece[read - pending.len()..], &mut to[written..]);
     Progress {
         read: read + rest.read,
         written: written + rest.written,

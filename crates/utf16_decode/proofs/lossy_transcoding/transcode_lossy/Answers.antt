@@ -2,12 +2,12 @@ use Rattle.std.proofs.Common.{◌-◌, ◌<◌, flat_map, length, subst}
 use Rattle.std.proofs.lemmas.List.{take_rest}
 use Rattle.utf16_decode.specs.Stops.{StopsLossyAs}
 use Rattle.utf16_decode.proofs.WholeLemmas.{ShowsWhole-decoded, ShowsWhole-end, end_does_not_fit, stops_whole}
-use Rattle.utf16_decode.proofs.lossy_whole.transcode_lossy.Goals as goal
+use Rattle.utf16_decode.proofs.lossy_transcoding.transcode_lossy.Goals as goal
 
 pub returns-in-None-clause-stop : goal.returns-in-None-clause-stop
 returns-in-None-clause-stop g c =
     let parts = g.D.LossyDirection.parts in
-    let cut = subst (StopsLossyAs parts _ _ _) c.in-Incomplete.is c.write_decided-front.ensures.stop in
+    let cut = subst (StopsLossyAs parts _ _ _) c.in-Incomplete.is c.transcode_partial-front.ensures.stop in
     end_does_not_fit parts _ c.lossy_laws.ensures.chunks _ _ cut.1
-    (subst (λ tail. length c.write_end.new.to - c.write_decided-front.result.written < length (flat_map g.D.Direction.into (parts.at_end tail)))
-    (take_rest c.args.input.now c.write_decided-front.result.read) (c.write_end.ensures.none c.in-None.is))
+    (subst (λ tail. length c.write_end.new.to - c.transcode_partial-front.result.written < length (flat_map g.D.Direction.into (parts.at_end tail)))
+    (take_rest c.args.input.now c.transcode_partial-front.result.read) (c.write_end.ensures.none c.in-None.is))
