@@ -1,36 +1,33 @@
--- Lossy decoding: the text that was written, then U+FFFD for what follows it.
-use Rattle.std.proofs.Common.{◌≡◌, ◌≢◌, ℕ, ◌+◌, ◌-◌, ◌*◌, ◌<◌, ◌≤◌, Bool, List, [], ◌∷◌, ◌++◌, Option, None, Some, length, map, take, drop, encode_utf8_all, refl, sym, ap, ap₂, ◌∙◌, subst, arith, append-nil, append_assoc, length-append, length-drop, length-take-le, take-append-drop, take_all, ⊎_elim}
-use borrow.Rule.Slice.PartMut.{put_mid}
-use Rattle.std.proofs.lemmas.Bool.{cases_lt}
-use Rattle.std.proofs.lemmas.List.{append_cancel_left, drop-drop, drop_all, map-append, take_rest}
+-- Lossy decoding: a text that was written, and U+FFFD for the ill-formed sequence that follows it.
+use Rattle.std.proofs.Common.{◌≡◌, ◌≢◌, ℕ, ◌+◌, ◌*◌, ◌<◌, ◌≤◌, Bool, List, [], ◌∷◌, ◌++◌, Option, None, Some, length, map, take, drop, encode_utf8_all, refl, sym, ap, ap₂, ◌∙◌, subst, arith, append-nil, length-append, length-drop, take-add, take-append-drop, take_at, ⊎_elim}
+use Rattle.std.proofs.lemmas.List.{append_cancel_left, drop_all}
 use Rattle.std.proofs.lemmas.List.Concat.{flat_map-append}
 use Rattle.std.proofs.lemmas.List.Elements.{All-cons, All-nil}
 use Rattle.std.specs.Char.{IsScalar, encode_utf8}
-use Rattle.utf16_units.specs.Encoding.{Encodes, IsUtf16, char_bytes, text_of, utf8_of}
-use Rattle.utf16_units.specs.IllFormed.{IsIncomplete, IsIllFormed, IsUtf16ValidUpTo}
-use Rattle.utf16_units.specs.Split.{Item, whole_lossy_chars, good, lossy_text, lossy_char, lossy_chars, split_items, split_tail}
+use Rattle.utf16_units.specs.Encoding.{Encodes, IsUtf16, char_bytes, char_size, text_of}
+use Rattle.utf16_units.specs.IllFormed.{BeginsWithNoChar, IsErrorLen, IsIllFormedAt, IsIncomplete}
+use Rattle.utf16_units.specs.Split.{Item, whole_lossy_chars, good, lossy_text, lossy_chars, split_items, split_tail}
 use Rattle.utf16_units.specs.Utf16Error.{IsErrorOf, error_len, valid_up_to}
 use Rattle.utf16_units.specs.declared.error.Utf16Error.{Utf16Error}
-use Rattle.utf16_units.proofs.EncodingLemmas.{Encodes-text_of, encode-one}
-use Rattle.utf16_units.proofs.IllFormedLemmas.{IsUtf16ValidUpTo-unique, rest_from}
+use Rattle.utf16_units.proofs.CharLemmas.{char_size_cases, length-char_bytes}
+use Rattle.utf16_units.proofs.EncodingLemmas.{Encodes-text_of, IsUtf16-append, IsUtf16-char, encode-one}
+use Rattle.utf16_units.proofs.IllFormedLemmas.{IsUtf16ValidUpTo-unique}
 use Rattle.utf16_units.proofs.FirstChar.{AreBytes, first_unit}
 use Rattle.utf16_units.proofs.RecipeLemmas.{lossy_char-lone_item, lossy_chars-good, split_text, two}
 use Rattle.utf16_units.proofs.ShownLemmas.{split_within}
 use Rattle.utf16_units.proofs.SplitLemmas.{Split-computed}
-use Rattle.utf16_units.proofs.SplitIllFormed.{AreBytes-drop, AreBytes-take, lone_item, split_items-fault, split_tail-incomplete, split_tail-fault}
+use Rattle.utf16_units.proofs.SplitIllFormed.{lone_item, split_items-fault, split_tail-incomplete, split_tail-fault}
 use Rattle.utf16_units.proofs.SplitJoin.{split_items-text, split_tail-text}
 use Rattle.utf16_decode.specs.Decodes.{Decodes, utf16_parts}
-use Rattle.utf16_decode.proofs.DecodesSteps.{Decodes-then}
-use Rattle.utf16_decode.proofs.ToUtf8Parts.{utf16_chunks, whole_lossy_chars-is}
-use Rattle.utf16_decode.proofs.WholeLemmas.{whole_text}
-use Rattle.utf16_decode.proofs.DecodesLemmas.{cut_off_decides, cut_off_leaves, split_tail-again, undecided_items}
-use Rattle.utf16_decode.proofs.IllFormedDecides.{fault_decides}
-use Rattle.utf16_decode.specs.Shown.{ShowsWhole}
-use Rattle.utf16_decode.specs.Wrote.{DecodesTo, TranscodesToUtf8, Wrote}
+use Rattle.utf16_decode.specs.Wrote.{DecodesTo, TranscodesToUtf8}
 use Rattle.utf16_decode.specs.Stops.{IsIllFormedUtf16, StopsDecoding, StopsLossy, TextDoesNotFit}
 use Rattle.utf16_decode.specs.declared.progress.Stop.{Stop}
 use Rattle.utf16_decode.specs.declared.progress.Stop.TheVariants.{Incomplete, Done, IllFormed, NoRoom}
-use Rattle.utf16_decode.proofs.WroteLemmas.{put_end-long, take-end}
+use Rattle.utf16_decode.proofs.DecodesLemmas.{cut_off_decides, cut_off_leaves, split_tail-again}
+use Rattle.utf16_decode.proofs.DecodesSteps.{Decodes-then}
+use Rattle.utf16_decode.proofs.IllFormedDecides.{fault_decides}
+use Rattle.utf16_decode.proofs.ToUtf8Parts.{utf16_chunks, whole_lossy_chars-is}
+use Rattle.utf16_decode.proofs.WholeLemmas.{whole_text}
 
 -- a text at the start is decoded, and its characters are written
 Decodes-text : (big : Bool) (bytes : List ℕ) (n : ℕ) (old utf8 : List ℕ) → TranscodesToUtf8 big (take n bytes) utf8
@@ -52,166 +49,112 @@ pub DecodesTo-front : (big : Bool) (raw to : List ℕ) (n w : ℕ) → n ≤ len
     → DecodesTo big raw to n w
 DecodesTo-front big raw to n w within fits is = record { within = within; fits = fits; decodes = Decodes-text big raw n [] (take w to) is }
 
--- what follows a prefix
-drop-front : (raw : List ℕ) (read n : ℕ) → drop n (rest_from raw read) ≡ drop (read + n) raw
-drop-front raw read n = ap (drop n) (take_rest raw read) ∙ drop-drop n read raw
+-- why a call stopped, if not at an ill-formed sequence
+pub stops_lossy : (big : Bool) (raw : List ℕ) (n left : ℕ) (stop : Stop) → ((len : ℕ) → ¬ (stop ≡ IllFormed len)) → StopsDecoding big raw n left stop
+    → StopsLossy big (drop n raw) left stop
+stops_lossy big raw n left Done no_fault here = drop_all n raw (omega arith)
+stops_lossy big raw n left (IllFormed len) no_fault here = absurd (no_fault len refl)
+stops_lossy big raw n left Incomplete no_fault here = (
+  (λ none. some_cut_off (drop n raw) none (subst (λ k. IsIncomplete big (drop k raw)) (IsUtf16ValidUpTo-unique big raw _ n here.1.front here.0) here.1.at_front)),
+  subst (λ b. split_tail big b ≡ b) (split_tail-incomplete big raw n here.1 here.0) (split_tail-again big raw),
+) where
+  some_cut_off : (left : List ℕ) → left ≡ [] → IsIncomplete big left → ⊥
+  some_cut_off [] none cut = cut
+  some_cut_off (b ∷ left) none cut = absurd (cc)
+stops_lossy big raw n left NoRoom no_fault here = record {
+  char = here.char;
+  more = lossy_chars (split_items big here.more);
+  begins =
+      ap (λ b. lossy_chars (split_items big b)) here.begins
+      ∙ ap lossy_chars (split_items-text big (here.char ∷ []) (char_bytes big here.char) here.more (record { scalars = All-cons IsScalar here.char [] here.scalar (All-nil IsScalar); spelled = encode-one big here.char }));
+  too_long = here.too_long;
+}
 
--- what is not empty and not an incomplete character has two bytes
-two_bytes_left : (big : Bool) (bytes : List ℕ) → 0 < length bytes → ¬ (IsIncomplete big bytes) → 2 ≤ length bytes
-two_bytes_left big [] some whole = omega arith
-two_bytes_left big (last ∷ []) some whole = absurd (whole tt)
-two_bytes_left big (first ∷ second ∷ bytes) some whole = omega arith
+char_long : (c : ℕ) → 2 ≤ char_size c
+char_long c = ⊎_elim (λ (two : char_size c ≡ 2). omega (arith, two)) (λ (four : char_size c ≡ 4). omega (arith, four)) (char_size_cases c)
 
--- a text was appended to what was written before
-module _ (big : Bool) (raw old part : List ℕ) (read at n w : ℕ) (before : DecodesTo big raw old read at)
-    (front : Wrote (TranscodesToUtf8 big) (rest_from raw read) part n w) (long : length part ≡ length old - at) where
-  abbrev rest : List ℕ
-  rest = rest_from raw read
+-- an ill-formed sequence after a text
+module _ (big : Bool) (raw : List ℕ) (n len : ℕ) (found : IsIllFormedUtf16 big raw n (Some len)) where
+  fault : IsErrorLen big (drop n raw) (Some len)
+  fault = subst (λ k. IsErrorLen big (drop k raw) (Some len)) (IsUtf16ValidUpTo-unique big raw found.1.valid_up_to n found.1.front found.0) found.1.at_front
 
-  abbrev new : List ℕ
-  new = put_mid at (length old - at) old part
+  -- no character begins there
+  pub ill_formed_there : IsIllFormedAt big (drop n raw) (Some len)
+  ill_formed_there = (no_char, fault, λ k is. (let same = fault.0 in cc)) where
+    no_char : BeginsWithNoChar big (drop n raw)
+    no_char c rest scalar is =
+        let k = length (char_bytes big c) in
+        let more : take (n + k) raw ≡ take n raw ++ char_bytes big c = take-add n k raw ∙ ap (λ b. take n raw ++ take k b) is ∙ ap (λ b. take n raw ++ b) (take_at (char_bytes big c) rest k refl) in
+        let text = subst (IsUtf16 big) (sym more) (IsUtf16-append big (take n raw) (char_bytes big c) found.0.valid (IsUtf16-char big c scalar)) in
+        let long = ap length is ∙ length-append (char_bytes big c) rest in
+        absurd (omega (arith, found.0.longest (n + k) (omega (arith, long, length-drop n raw, found.0.within)) text, length-char_bytes big c, char_long c))
 
-  rest_long : length rest ≡ length raw - read
-  rest_long = ap length (take_rest raw read) ∙ length-drop read raw
+  -- two bytes are left
+  two_left : 2 ≤ length (drop n raw)
+  two_left = two (drop n raw) (λ none. found.1.ill_formed (subst (IsUtf16 big) (sym (append-nil (take n raw)) ∙ ap (λ r. take n raw ++ r) (sym none) ∙ take-append-drop n raw) found.0.valid)) fault.1 where
+    two : (rest : List ℕ) → rest ≢ [] → ¬ (IsIncomplete big rest) → 2 ≤ length rest
+    two [] some whole = absurd (some refl)
+    two (last ∷ []) some whole = absurd (whole tt)
+    two (first ∷ second ∷ rest) some whole = omega arith
 
-  pub new_long : length new ≡ length old
-  new_long = put_end-long at old part before.fits long
+  pub some_left : n < length raw
+  some_left = omega (arith, two_left, length-drop n raw)
 
-  new_bytes : take (at + w) new ≡ take at old ++ take w part
-  new_bytes = take-end at w old part before.fits long front.fits
-
-  pub DecodesTo-text : DecodesTo big raw new (read + n) (at + w)
-  DecodesTo-text =
-      let within = before.within in
-      let room = before.fits in
-      let few = front.within in
-      let fits = front.fits in
-      let size = rest_long in
-      let all = new_long in
-      record {
-        within = omega arith;
-        fits = omega arith;
-        decodes =
-            Decodes-then (utf16_parts big) encode_utf8 raw (drop read raw) (drop (read + n) raw) [] (take at old) (take (at + w) new) before.decodes
-            (subst (λ t. Decodes big (drop read raw) (drop (read + n) raw) (take at old) t) (sym new_bytes)
-            (subst (λ b. Decodes big (drop read raw) b (take at old) (take at old ++ take w part)) (drop-drop n read raw)
-            (Decodes-text big (drop read raw) n (take at old) (take w part)
-            (subst (λ r. TranscodesToUtf8 big (take n r) (take w part)) (take_rest raw read) front.gives))));
-      }
-
-  left_over : length part - w ≡ length new - (at + w)
-  left_over = let all = new_long in omega (arith, long)
-
-  -- why it stopped there, if not at an ill-formed sequence
-  pub stops_lossy : (stop : Stop) → ((len : ℕ) → ¬ (stop ≡ IllFormed len)) → StopsDecoding big rest n (length part - w) stop
-      → StopsLossy big (drop (read + n) raw) (length new - (at + w)) stop
-  stops_lossy Done no_fault here = sym (drop-front raw read n) ∙ drop_all n rest (omega arith)
-  stops_lossy (IllFormed len) no_fault here = absurd (no_fault len refl)
-  stops_lossy Incomplete no_fault here = (
-    (λ none. some_cut_off (drop n rest) (drop-front raw read n ∙ none) (subst (λ k. IsIncomplete big (drop k rest)) (IsUtf16ValidUpTo-unique big rest _ n here.1.front here.0) here.1.at_front)),
-    subst (λ b. split_tail big b ≡ b) (split_tail-incomplete big rest n here.1 here.0 ∙ drop-front raw read n) (split_tail-again big rest),
-  ) where
-    some_cut_off : (left : List ℕ) → left ≡ [] → IsIncomplete big left → ⊥
-    some_cut_off [] none cut = cut
-    some_cut_off (b ∷ left) none cut = absurd (cc)
-  stops_lossy NoRoom no_fault here =
-      subst (λ b. TextDoesNotFit encode_utf8 (lossy_chars (split_items big b)) (length new - (at + w))) (drop-front raw read n) (record {
-        char = here.char;
-        more = lossy_chars (split_items big here.more);
-        begins =
-            ap (λ b. lossy_chars (split_items big b)) here.begins
-            ∙ ap lossy_chars (split_items-text big (here.char ∷ []) (char_bytes big here.char) here.more (record { scalars = All-cons IsScalar here.char [] here.scalar (All-nil IsScalar); spelled = encode-one big here.char }));
-        too_long = subst (λ k. k < length (encode_utf8 here.char)) left_over here.too_long;
-      })
-
-  -- an ill-formed sequence after it
-  module _ (are : AreBytes raw) (len : ℕ) (fault : IsIllFormed big rest (Some len)) (ends : IsUtf16ValidUpTo big rest n) where
+  module _ (are : AreBytes raw) where
     abbrev lone : Item
-    lone = lone_item (first_unit big (drop n rest))
+    lone = lone_item (first_unit big (drop n raw))
 
-    are_rest : AreBytes rest
-    are_rest = subst AreBytes (sym (take_rest raw read)) (AreBytes-drop read raw are)
+    encodes : Encodes big (text_of big (take n raw)) (take n raw)
+    encodes = Encodes-text_of big (take n raw) found.0.valid
 
-    encodes : Encodes big (text_of big (take n rest)) (take n rest)
-    encodes = Encodes-text_of big (take n rest) ends.valid
+    whole : take n raw ++ drop n raw ≡ raw
+    whole = take-append-drop n raw
 
-    whole : take n rest ++ drop n rest ≡ rest
-    whole = take-append-drop n rest
+    after : drop (n + 2) raw ≡ drop (n + len) raw
+    after = ap (λ k. drop (n + k) raw) (sym fault.0)
 
-    -- a byte is left
-    some_left : 0 < length (drop n rest)
-    some_left = ⊎_elim
-        (λ (some : n < length rest). omega (arith, length-drop n rest))
-        (λ (all : length rest ≤ n). absurd (fault.ill_formed (subst (IsUtf16 big) (take_all n rest all) ends.valid)))
-        (cases_lt n (length rest))
-
-    not_cut_off : ¬ (IsIncomplete big (drop n rest))
-    not_cut_off cut = fault.at_front.1 (subst (λ k. IsIncomplete big (drop k rest)) (sym (IsUtf16ValidUpTo-unique big rest fault.valid_up_to n fault.front ends)) cut)
-
-    after : drop (n + 2) rest ≡ drop (read + n + len) raw
-    after =
-        ap (λ k. drop (n + k) rest) (sym fault.at_front.0) ∙ sym (drop-drop len n rest) ∙ ap (drop len) (drop-front raw read n)
-        ∙ drop-drop len (read + n) raw
-
-    items_here : split_items big (drop (read + n) raw) ≡ lone ∷ split_items big (drop (read + n + len) raw)
+    items_here : split_items big (drop n raw) ≡ lone ∷ split_items big (drop (n + len) raw)
     items_here =
-        ap (split_items big) (sym (drop-front raw read n))
-        ∙ append_cancel_left (map good (text_of big (take n rest))) _ _
-        (sym (split_items-text big (text_of big (take n rest)) (take n rest) (drop n rest) encodes) ∙ ap (split_items big) whole
-        ∙ split_items-fault big rest n are_rest (two fault) ends)
+        append_cancel_left (map good (text_of big (take n raw))) _ _
+        (sym (split_items-text big (text_of big (take n raw)) (take n raw) (drop n raw) encodes) ∙ ap (split_items big) whole
+        ∙ split_items-fault big raw n are (two found.1) found.0)
         ∙ ap (λ b. lone ∷ split_items big b) after
 
-    tail_here : split_tail big (drop (read + n) raw) ≡ split_tail big (drop (read + n + len) raw)
+    tail_here : split_tail big (drop n raw) ≡ split_tail big (drop (n + len) raw)
     tail_here =
-        ap (split_tail big) (sym (drop-front raw read n))
-        ∙ sym (split_tail-text big (text_of big (take n rest)) (take n rest) (drop n rest) encodes) ∙ ap (split_tail big) whole
-        ∙ split_tail-fault big rest n are_rest (two fault) ends ∙ ap (split_tail big) after
+        sym (split_tail-text big (text_of big (take n raw)) (take n raw) (drop n raw) encodes) ∙ ap (split_tail big) whole
+        ∙ split_tail-fault big raw n are (two found.1) found.0 ∙ ap (split_tail big) after
 
     -- so there is an item
-    pub some_items : split_items big (drop (read + n) raw) ≢ []
+    pub some_items : split_items big (drop n raw) ≢ []
     some_items none = let items = items_here in absurd (cc)
 
-    shown_here : lossy_chars (split_items big (drop (read + n) raw)) ≡ 0xFFFD ∷ lossy_chars (split_items big (drop (read + n + len) raw))
-    shown_here = ap lossy_chars items_here ∙ ap (λ c. c ∷ lossy_chars (split_items big (drop (read + n + len) raw))) (lossy_char-lone_item (first_unit big (drop n rest)))
-
     -- U+FFFD does not fit
-    pub replacement_does_not_fit : length new - (at + w) < 3 → TextDoesNotFit encode_utf8 (lossy_chars (split_items big (drop (read + n) raw))) (length new - (at + w))
+    pub replacement_does_not_fit : (left : ℕ) → left < 3 → TextDoesNotFit encode_utf8 (lossy_chars (split_items big (drop n raw))) left
     unfolding encode_utf8
-    replacement_does_not_fit few = record { char = 0xFFFD; more = _; begins = shown_here; too_long = few }
+    replacement_does_not_fit left few = record {
+      char = 0xFFFD;
+      more = lossy_chars (split_items big (drop (n + len) raw));
+      begins = ap lossy_chars items_here ∙ ap (λ c. c ∷ lossy_chars (split_items big (drop (n + len) raw))) (lossy_char-lone_item (first_unit big (drop n raw)));
+      too_long = few;
+    }
 
-    -- U+FFFD was written
-    pub DecodesTo-replacement : (next : List ℕ) (last : ℕ) → last ≤ length next → take last next ≡ take (at + w) new ++ 0xEF ∷ 0xBF ∷ 0xBD ∷ []
-        → DecodesTo big raw next (read + n + len) last
+    -- the text and U+FFFD were written
+    pub DecodesTo-lone : (mid next : List ℕ) (w last : ℕ) → TranscodesToUtf8 big (take n raw) (take w mid) → last ≤ length next
+        → take last next ≡ take w mid ++ 0xEF ∷ 0xBF ∷ 0xBD ∷ [] → DecodesTo big raw next (n + len) last
     unfolding encode_utf8
-    DecodesTo-replacement next last room bytes =
-        let size = rest_long in
-        let left = length-drop n rest in
-        let within = before.within in
-        let two_left = two_bytes_left big (drop n rest) some_left not_cut_off in
-        let len_is = fault.at_front.0 in
-        record {
-          within = omega arith;
-          fits = room;
-          decodes = Decodes-then (utf16_parts big) encode_utf8 raw (drop (read + n) raw) (drop (read + n + len) raw) [] (take (at + w) new) (take last next) DecodesTo-text.decodes (record {
+    DecodesTo-lone mid next w last text room bytes = record {
+      within = omega (arith, two_left, length-drop n raw, fault.0, found.0.within);
+      fits = room;
+      decodes =
+          Decodes-then (utf16_parts big) encode_utf8 raw (drop n raw) (drop (n + len) raw) [] (take w mid) (take last next) (Decodes-text big raw n [] (take w mid) text)
+          (record {
             taken = lone ∷ [];
             items = items_here;
             tail = tail_here;
-            text = bytes ∙ ap (λ c. take (at + w) new ++ encode_utf8_all (c ∷ [])) (sym (lossy_char-lone_item (first_unit big (drop n rest))));
+            text = bytes ∙ ap (λ c. take w mid ++ encode_utf8_all (c ∷ [])) (sym (lossy_char-lone_item (first_unit big (drop n raw))));
           });
-        }
-
--- a text and U+FFFD for the ill-formed sequence after it were written
-pub DecodesTo-lone : (big : Bool) (raw mid next : List ℕ) (n w len last : ℕ) → AreBytes raw → n ≤ length raw → w ≤ length mid
-    → TranscodesToUtf8 big (take n raw) (take w mid) → IsIllFormedUtf16 big raw n (Some len)
-    → last ≤ length next → take last next ≡ take w mid ++ 0xEF ∷ 0xBF ∷ 0xBD ∷ [] → DecodesTo big raw next (n + len) last
-DecodesTo-lone big raw mid next n w len last are within fits text found room bytes =
-    let whole : rest_from raw 0 ≡ raw = take_rest raw 0 in
-    let nothing : DecodesTo big raw mid 0 0 = record { within = omega arith; fits = omega arith; decodes = record { taken = []; items = refl; tail = refl; text = refl } } in
-    let front : Wrote (TranscodesToUtf8 big) (rest_from raw 0) mid n w = subst (λ r. Wrote (TranscodesToUtf8 big) r mid n w) (sym whole) (record { within = within; fits = fits; gives = text }) in
-    let here = subst (λ r. IsIllFormedUtf16 big r n (Some len)) (sym whole) found in
-    let same : 0 + n + len ≡ n + len = omega arith in
-    subst (λ read. DecodesTo big raw next read last) same
-    (DecodesTo-replacement big raw mid mid 0 0 n w nothing front (omega arith) are len here.1 here.0 next last room (bytes ∙ ap (λ t. t ++ 0xEF ∷ 0xBF ∷ 0xBD ∷ []) (sym (new_bytes big raw mid mid 0 0 n w nothing front (omega arith)))))
+    }
 
 -- ---- the length of the whole text
 
@@ -234,11 +177,6 @@ text_size big rest t =
 -- 2 * the length of the whole text is at most 3 * the number of bytes + 3
 pub most_size : (big : Bool) (raw : List ℕ) → AreBytes raw → 2 * length (encode_utf8_all (lossy_text big raw)) ≤ 3 * length raw + 3
 most_size big raw are = (split_within big raw (split_items big raw) (split_tail big raw) (Split-computed big raw are)).2
-
--- 2 * the length of a text is at most 3 * the number of bytes + 3
-pub text_most : (big : Bool) (raw : List ℕ) (n : ℕ) → AreBytes raw → n ≤ length raw → IsUtf16 big (take n raw) → 2 * length (utf8_of big (take n raw)) ≤ 3 * n + 3
-text_most big raw n are within text =
-    omega (arith, ap (λ t. 2 * length (encode_utf8_all t)) (text_size big (take n raw) text), most_size big (take n raw) (AreBytes-take n raw are), length-take-le n raw within)
 
 module _ (big : Bool) (rest : List ℕ) (e : Utf16Error) (is : IsErrorOf big rest e) (n : ℕ) (at : n ≡ valid_up_to e) where
   pub fault_size : AreBytes rest → (len : ℕ) → error_len e ≡ Some len

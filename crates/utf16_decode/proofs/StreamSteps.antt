@@ -107,6 +107,12 @@ module _ (parts : Decomposition) (into : ℕ → List ℕ) (split : IsSplitInChu
   pub DecodesTo-rest : DecodesAsTo parts into input (put_mid at (length old - at) old part) (read + n) (at + w)
   DecodesTo-rest = DecodesTo-window parts into split input old part (rest_from input read) [] read at n w before joined front long
 
+  -- if nothing of it was decoded, what was written stays
+  pub DecodesTo-kept : n ≡ 0 → w ≡ 0 → DecodesAsTo parts into input (put_mid at (length old - at) old part) read at
+  DecodesTo-kept none nothing =
+      subst (λ k. DecodesAsTo parts into input (put_mid at (length old - at) old part) read k) (omega (arith, nothing))
+      (subst (λ k. DecodesAsTo parts into input (put_mid at (length old - at) old part) k (at + w)) (omega (arith, none)) DecodesTo-rest)
+
   pub stops_rest : (stop : Stop) → StopsLossyAs parts into (drop n (rest_from input read)) (length part - w) stop
       → StopsLossyAs parts into (drop (read + n) input) (length (put_mid at (length old - at) old part) - (at + w)) stop
   stops_rest stop = stops_window parts into split input old part (rest_from input read) [] read at n w before joined front long stop (inr refl)

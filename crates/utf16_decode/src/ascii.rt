@@ -15,16 +15,11 @@ use utf16_units::{Utf16Order, first_char_len};
 // The number of code units of a block.
 const BLOCK: usize = 32;
 
-// Where so many bytes more are written than if one unit in eight were U+FFFD, unpaired surrogates
-// are near one another, and a copy takes less time.
-const NEAR: usize = 8;
-
 // Writes blocks of ASCII to the start of a buffer, with U+FFFD for each unpaired surrogate in them,
-// until another character comes, or unpaired surrogates are near one another. Returns the number of
-// bytes read and the number of bytes written. A function of its own, so that its loop has all
-// registers.
+// until another character comes. Returns the number of bytes read and the number of bytes written.
+// Kept out of line so that its loop has all registers.
 #[inline(never)]
-pub(crate) fn put_ascii_blocks<E: Utf16Order>(raw: &[u8], to: &mut [u8]) -> (usize, usize)
+pub(crate) fn write_ascii_blocks<E: Utf16Order>(raw: &[u8], to: &mut [u8]) -> (usize, usize)
     requires bytes { 66 ≤ length raw.now }
     requires space { 35 ≤ length to.old }
     ensures { DecodesTo E.BIG raw.now to.new result.0 result.1 }
@@ -34,14 +29,11 @@ pub(crate) fn put_ascii_blocks<E: Utf16Order>(raw: &[u8], to: &mut [u8]) -> (usi
     let mut read = 0;
     let mut written = 0;
     while read <= last && written <= most {
-        let Some((len, size)) = put_ascii_block::<E>(&raw[read..], &mut to[written..]) else {
+        let Some((len, size)) = write_ascii_block::<E>(&raw[read..], &mut to[written..]) else {
             break;
         };
         read += len;
         written += size;
-        if len < 2 * BLOCK && written > read / 2 + read / 8 + NEAR {
-            break;
-        }
     }
     (read, written)
 }
@@ -50,13 +42,13 @@ pub(crate) fn put_ascii_blocks<E: Utf16Order>(raw: &[u8], to: &mut [u8]) -> (usi
 // surrogate that follows it. Returns the number of bytes read and the number of bytes written;
 // `None` if another character follows.
 #[inline(always)]
-fn put_ascii_block<E: Utf16Order>(raw: &[u8], to: &mut [u8]) -> Option<(usize, usize)>
+fn write_ascii_block<E: Utf16Order>(raw: &[u8], to: &mut [u8]) -> Option<(usize, usize)>
     requires bytes { 66 ≤ length raw.now }
     requires space { 35 ≤ length to.old }
     ensures decodes { IfSome result (λ done. DecodesTo E.BIG raw.now to.new done.0 done.1) }
     ensures advances { IfSome result (λ done. 0 < done.0) }
 {
-    let len = put_ascii::<E>(raw, to);
+    let len = write_ascii::<E>(raw, to);
     if len == BLOCK {
         return Some((2 * len, len));
     }
@@ -69,7 +61,7 @@ fn put_ascii_block<E: Utf16Order>(raw: &[u8], to: &mut [u8]) -> Option<(usize, u
 // Writes the ASCII at the start of a block to the start of a buffer, and returns the number of its
 // code units. The bytes after them may be overwritten.
 #[inline(always)]
-fn put_ascii<E: Utf16Order>(raw: &[u8], to: &mut [u8]) -> usize
+fn write_ascii<E: Utf16Order>(raw: &[u8], to: &mut [u8]) -> usize
     requires bytes { 64 ≤ length raw.now }
     requires space { 32 ≤ length to.old }
     ensures few { result ≤ 32 }

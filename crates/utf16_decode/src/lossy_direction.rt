@@ -25,7 +25,8 @@ pub trait LossyDirection: Direction {
     ///
     /// There is such a sequence.
     fn write_ill_formed(input: &[u8], len: u8, to: &mut [u8]) -> Option<(usize, usize)>
-        requires { Self.IsIllFormedAt input.now (Some len) }
+        requires some { 0 < length input.now }
+        requires ill_formed { Self.IsIllFormedAt input.now (Some len) }
         ensures decodes { IfSome result (λ done.
             DecodesAsTo parts Self.into input.now to.new done.0 done.1) }
         ensures advances { IfSome result (λ done. 0 < done.0) }
@@ -62,5 +63,5 @@ pub trait LossyDirection: Direction {
             → Stops Self.from Self.into Self.IsIllFormed input n left stop
             → StopsLossyAs parts Self.into (drop n input) left stop }
         ensures there { (input : List ℕ) (n len : ℕ) → Self.IsIllFormed input n (Some len)
-            → Self.IsIllFormedAt (drop n input) (Some len) };
+            → (n < length input) × Self.IsIllFormedAt (drop n input) (Some len) };
 }

@@ -2,14 +2,9 @@ use Rattle.std.proofs.Common.{[], append-nil, rules, ◌∙◌}
 use Rattle.std.proofs.lemmas.List.{take_rest}
 use Rattle.utf16_decode.proofs.StreamSteps.{DecodesTo-window}
 use Rattle.utf16_decode.proofs.ToUtf8Parts.{utf16_chunks}
-use Rattle.utf16_decode.proofs.ascii.put_ascii_blocks.Goals as goal
+use Rattle.utf16_decode.proofs.ascii.write_ascii_blocks.Goals as goal
 
 pub loop-read-preserved : goal.loop-read-preserved
 loop-read-preserved g c =
-    DecodesTo-window _ _ (utf16_chunks g.E.Utf16Order.BIG) _ _ _ _ [] _ _ _ _ c.loop-read.invariant (append-nil _ ∙ take_rest c.args.raw.now c.loop-read.read) c.in-Some.ensures.decodes
-    (search rules)
-
-pub returns-then-written-read : goal.returns-then-written-read
-returns-then-written-read g c =
     DecodesTo-window _ _ (utf16_chunks g.E.Utf16Order.BIG) _ _ _ _ [] _ _ _ _ c.loop-read.invariant (append-nil _ ∙ take_rest c.args.raw.now c.loop-read.read) c.in-Some.ensures.decodes
     (search rules)

@@ -3,7 +3,7 @@ use Rattle.std.proofs.lemmas.Bool.{cases_lt}
 use Rattle.utf16_units.proofs.EncodingLemmas.{Encodes-text_of, Encodes-unique}
 use Rattle.utf16_decode.proofs.DecodesLemmas.{Decodes-decided, some_decided}
 use Rattle.utf16_decode.proofs.WroteLemmas.{enough}
-use Rattle.utf16_decode.proofs.lossy.put_copied.Goals as goal
+use Rattle.utf16_decode.proofs.lossy.write_copied.Goals as goal
 
 pub returns-clause-decodes : goal.returns-clause-decodes
 returns-clause-decodes g c =

@@ -4,7 +4,7 @@ use Rattle.std.specs.Prelude.{min, take}
 use Rattle.utf16_units.specs.Encoding.{units_of}
 use Rattle.utf16_units.specs.Lanes.{HasLanes}
 use Rattle.utf16_decode.proofs.AsciiLemmas.{ascii_is_text, ascii_written}
-use Rattle.utf16_decode.proofs.ascii.put_ascii.Goals as goal
+use Rattle.utf16_decode.proofs.ascii.write_ascii.Goals as goal
 
 pub returns-clause-text : goal.returns-clause-text
 returns-clause-text g c =
