@@ -2,16 +2,15 @@
 //! standard output.
 #![tactic(auto)]
 
-mod program;
-mod run;
-mod words;
+mod decoding;
 
-use crate::program::program;
+use crate::decoding::Decoding;
 use std::process::ExitCode;
+use utf16_program::program;
 use utf16_streams::Watched;
 
 fn main(rt: HostRuntime) -> ExitCode {
     let mut input = Watched::new(rt.stdin());
     let mut output = Watched::new(rt.stdout());
-    program(&rt, &mut input, &mut output, &mut rt.stderr())
+    program::<Decoding, _, _, _, _>(&rt, &mut input, &mut output, &mut rt.stderr())
 }

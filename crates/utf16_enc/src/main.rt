@@ -2,16 +2,15 @@
 //! output.
 #![tactic(auto)]
 
-mod program;
-mod run;
-mod words;
+mod encoding;
 
-use crate::program::program;
+use crate::encoding::Encoding;
 use std::process::ExitCode;
 use utf8_streams::Watched;
+use utf16_program::program;
 
 fn main(rt: HostRuntime) -> ExitCode {
     let mut input = Watched::new(rt.stdin());
     let mut output = Watched::new(rt.stdout());
-    program(&rt, &mut input, &mut output, &mut rt.stderr())
+    program::<Encoding, _, _, _, _>(&rt, &mut input, &mut output, &mut rt.stderr())
 }

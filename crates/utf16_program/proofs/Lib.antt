@@ -1,2 +1,1 @@
-pub mod EndsLemmas
 pub mod WordsLemmas

@@ -1,11 +1,15 @@
-//! What the programs `utf16_cat` and `utf16_enc` share: their arguments, how a run ends, its
-//! message and its exit status.
+//! What the programs `utf16_cat` and `utf16_enc` share: how a run goes and ends, its message and
+//! its exit status.
 #![tactic(auto)]
 
 mod arguments;
+mod choice;
 mod messages;
 mod outcome;
+mod programs;
 
 pub use arguments::words;
-pub use messages::{Messages, ended, report, tell};
+pub use choice::Choice;
+pub use messages::{ended, report, tell};
 pub use outcome::{Outcome, outcome_of};
+pub use programs::{choice_of, program, program_on, run};

@@ -1,45 +1,33 @@
 //! The message of a run's outcome, and its exit status.
 
-ghost use Rattle.std.specs.Prelude.{◌≡◌, [], List, ℕ, OnOk};
+ghost use Rattle.std.specs.Prelude.{◌≡◌, OnOk};
 ghost use Rattle.std.specs.Io.KnownBytes.{Appends, Keeps};
 ghost use Rattle.std.specs.Process.{exit_status};
 ghost use Rattle.utf16_program.specs.Status.{status_of};
-ghost use Rattle.utf16_program.specs.declared.outcome.Outcome.{Outcome};
 
+use crate::choice::Choice;
 use crate::outcome::Outcome;
 use std::io::{self, Write};
 use std::process::ExitCode;
 
-/// The messages of a program.
-pub trait Messages {
-    ghost line_of: { Outcome → List ℕ };
-
-    /// Returns the message of an outcome, a line with its newline; empty for `Done`.
-    fn line(outcome: &Outcome) -> &'static str
-        ensures { result.now ≡ line_of outcome.now };
-
-    // there is nothing to say of a run that did all
-    ghost quiet: { line_of Outcome.Done ≡ [] };
-}
-
 /// Writes the message of an outcome. For `Done` there is none, and nothing is called.
-pub fn tell<M: Messages, W: Write>(outcome: &Outcome, to: &mut W) -> io::Result<()>
+pub fn tell<C: Choice, W: Write>(outcome: &Outcome, to: &mut W) -> io::Result<()>
     ensures line { OnOk result (Appends (W.contents to.old) (W.contents to.new)
-        (M.line_of outcome.now)) }
+        (C.line_of outcome.now)) }
     ensures quiet { outcome.now ≡ Outcome.Done → Keeps (W.contents to.old) (W.contents to.new) }
 {
     if let Outcome::Done = outcome {
         return Ok(());
     }
-    to.write_all(M::line(outcome).as_bytes())
+    to.write_all(C::line(outcome).as_bytes())
 }
 
 /// Writes the message of an outcome, and returns the exit status. A failure to write is ignored.
-pub fn report<M: Messages, W: Write>(outcome: &Outcome, to: &mut W) -> u8
+pub fn report<C: Choice, W: Write>(outcome: &Outcome, to: &mut W) -> u8
     ensures status { result ≡ status_of outcome.now }
     ensures quiet { outcome.now ≡ Outcome.Done → Keeps (W.contents to.old) (W.contents to.new) }
 {
-    let _ = tell::<M, W>(outcome, to);
+    let _ = tell::<C, W>(outcome, to);
     match outcome {
         Outcome::Done => 0,
         Outcome::Read | Outcome::Write | Outcome::Memory | Outcome::Long => 1,
@@ -49,10 +37,10 @@ pub fn report<M: Messages, W: Write>(outcome: &Outcome, to: &mut W) -> u8
 
 /// Writes the message of an outcome, and returns the exit status as a result of `main`. A failure
 /// to write is ignored.
-pub fn ended<M: Messages, W: Write>(outcome: Outcome, errors: &mut W) -> ExitCode
+pub fn ended<C: Choice, W: Write>(outcome: Outcome, errors: &mut W) -> ExitCode
     ensures status { exit_status result ≡ status_of outcome }
     ensures quiet { outcome ≡ Outcome.Done
         → Keeps (W.contents errors.old) (W.contents errors.new) }
 {
-    ExitCode::from(report::<M, W>(&outcome, errors))
+    ExitCode::from(report::<C, W>(&outcome, errors))
 }
