@@ -9,7 +9,7 @@ use std::cmp::Ordering;
 use utf16_append::append_utf8;
 use utf16_case_lines::{Answer, Trouble, Values};
 use utf16_decode::put;
-use utf16_from_utf8::{append_utf16, extend_utf16, write_units};
+use utf16_from_utf8::{append_utf16, extend_utf16, write_text};
 use utf16_to_utf8::{SLACK, utf8_len, write_utf8};
 use utf16_units::compare::compare;
 use utf16_units::ends::{first_char, last_char};
@@ -33,7 +33,7 @@ pub fn call<E: Utf16Order>(
         "write_utf8" => to_buffer::<E>(alloc, values, answer),
         "utf16_len" | "few_len" => of_utf8(alloc, name, values, answer),
         "append_utf16" | "extend_utf16" => to_bytes::<E>(alloc, name, values, answer),
-        "write_units" => units_to_buffer::<E>(alloc, values, answer),
+        "write_text" => text_to_buffer::<E>(alloc, values, answer),
         "put" => at_place(alloc, values, answer),
         _ => Err(Trouble::Call),
     }
@@ -155,24 +155,23 @@ fn to_bytes<E: Utf16Order>(
     Ok(())
 }
 
-// Adds what a chunk of UTF-8 writes after two bytes, at the start of a buffer with one byte more
-// than the call may write.
-fn units_to_buffer<E: Utf16Order>(
+// Adds a text in UTF-8, written in UTF-16 to the start of a buffer with one byte more than the call
+// may write.
+fn text_to_buffer<E: Utf16Order>(
     alloc: Global,
     values: &mut Values,
     answer: &mut Answer,
 ) -> Result<(), Trouble> {
-    let before = values.bytes(alloc, true)?;
-    let piece = values.bytes(alloc, true)?;
-    let [first, second] = before.as_slice() else {
-        return Err(Trouble::Value);
+    let bytes = values.bytes(alloc, true)?;
+    let Ok(text) = str::from_utf8(&bytes) else {
+        return Err(Trouble::Condition);
     };
-    if piece.len() > 1_000_000 {
+    if text.len() > 1_000_000 {
         return Err(Trouble::Condition);
     }
-    let room = 2 * piece.len() + 16;
+    let room = 2 * text.len();
     let mut to = buffer(alloc, room + 1)?;
-    let len = write_units::<E>([*first, *second], &piece, &mut to);
+    let len = write_text::<E>(text.as_bytes(), &mut to);
     add_bytes(answer, &to, len)?;
     add_changed(answer, &to, room)
 }

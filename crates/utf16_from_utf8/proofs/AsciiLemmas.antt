@@ -12,7 +12,7 @@ use Rattle.utf16_units.specs.Encoding.{encode}
 use Rattle.utf16_units.proofs.EncodingLemmas.{encode-append, encode-nil}
 use Rattle.utf16_from_utf8.specs.Added.{added_bytes}
 use Rattle.utf16_from_utf8.specs.Ascii.{IsWritten}
-use Rattle.utf16_from_utf8.proofs.AppendLemmas.{added_bytes-text}
+use Rattle.utf16_from_utf8.proofs.TextLemmas.{added_bytes-text}
 
 -- what is after a vector that was stored stays
 after_chunk : {X : Type 0} (at : ℕ) (out v : List X) (m : ℕ) → at + length v ≤ m → drop m (put_chunk at out v) ≡ drop m out
@@ -48,10 +48,20 @@ pub next-ascii : (bytes : List ℕ) (at : ℕ) → IsAscii (take (at + 16) bytes
 next-ascii bytes at ascii i below =
     omega (arith, ascii (at + i), get_or-take (at + 16) bytes (at + i) 0 (omega (arith, below)), get_or-chunk at 16 bytes i 0 below)
 
+-- sixteen bytes of ASCII are a text, and add its encoding
+block-ascii : (block : List ℕ) → length block ≡ 16 → ((i : ℕ) → i < 16 → slice_index block i < 0x80) → IsAscii block
+block-ascii block long low i = ⊎_elim
+    (λ (a : i < 16). low i a)
+    (λ (a : 16 ≤ i). omega (arith, get_or_past block i 0 (omega (arith, a, long))))
+    (cases_lt i 16)
+
+pub ascii-text : (big : Bool) (block : List ℕ) → length block ≡ 16 → ((i : ℕ) → i < 16 → slice_index block i < 0x80) → added_bytes big 0 0 block ≡ encode big (chars block)
+ascii-text big block long low = added_bytes-text big block (IsUtf8-from_ascii block (block-ascii block long low))
+
 -- the next block was written after the others
 pub block-written : (big : Bool) (bytes before old new : List ℕ) (at to : ℕ) → to ≡ at + 16 → at + 16 ≤ length bytes
     → ((i : ℕ) → i < 16 → slice_index bytes (at + i) < 0x80)
-    → take (2 * at + 32) new ≡ take (2 * at) old ++ added_bytes big 0 0 (chunk at 16 bytes)
+    → take (2 * at + 32) new ≡ take (2 * at) old ++ encode big (chars (chunk at 16 bytes))
     → drop (2 * at + 32) new ≡ drop (2 * at + 32) old
     → IsWritten big bytes before old at → IsWritten big bytes before new to
 block-written big bytes before old new at to is more next wrote rest done = record {
@@ -60,7 +70,7 @@ block-written big bytes before old new at to is more next wrote rest done = reco
   wrote =
       ap (λ n. take n new) end ∙ wrote
       ∙ ap₂ (λ x y. x ++ y) (done.wrote ∙ ap (encode big) (chars-IsAscii (take at bytes) done.ascii))
-      (added_bytes-text big block (IsUtf8-from_ascii block there) ∙ ap (encode big) (chars-IsAscii block there))
+      (ap (encode big) (chars-IsAscii block there))
       ∙ sym (encode-append big (take at bytes) block)
       ∙ ap (encode big) (sym (take-add at 16 bytes) ∙ sym (chars-IsAscii (take (at + 16) bytes) all))
       ∙ ap (λ n. encode big (chars (take n bytes))) (sym is);
@@ -76,10 +86,7 @@ block-written big bytes before old new at to is more next wrote rest done = reco
     all = ascii-more bytes at more done.ascii next
 
     there : IsAscii block
-    there i = ⊎_elim
-        (λ (a : i < 16). next-ascii bytes at all i a)
-        (λ (a : 16 ≤ i). omega (arith, get_or_past block i 0 (omega (arith, a, length-chunk at 16 bytes more))))
-        (cases_lt i 16)
+    there = block-ascii block (length-chunk at 16 bytes more) (next-ascii bytes at all)
 
     end : 2 * to ≡ 2 * at + 32
     end = omega (arith, is)

@@ -1,14 +1,20 @@
 -- What the bytes of a text in UTF-8 add is its UTF-16.
-use Rattle.std.proofs.Common.{◌≡◌, ℕ, ◌+◌, ◌-◌, ◌*◌, ◌/◌, ◌%◌, ◌<◌, ◌≤◌, List, [], ◌∷◌, ◌++◌, All, refl, sym, ap, ap₂, ◌∙◌, ⊎_elim, arith, flat_map, encode_utf8_all}
+use Rattle.std.proofs.Common.{◌≡◌, ℕ, Bool, ◌+◌, ◌-◌, ◌*◌, ◌/◌, ◌%◌, ◌<◌, ◌≤◌, List, [], ◌∷◌, ◌++◌, All, refl, sym, ap, ap₂, ◌∙◌, ⊎_elim, arith, flat_map, encode_utf8_all}
 use Rattle.std.proofs.lemmas.Bool.{cases_lt}
+use Rattle.std.proofs.lemmas.Grind.{flat_map-append}
 use Rattle.std.proofs.lemmas.List.Elements.{All-head, All-tail}
+use Rattle.std.proofs.lemmas.Str.{encodes-chars}
 use Rattle.std.proofs.str.Utf16.{one_unit, two_units}
-use Rattle.std.specs.Char.{IsScalar}
+use Rattle.std.specs.Char.{IsScalar, encode_utf8}
 use Rattle.std.specs.Char.Escape.{encode_utf16}
-use lib.Utf8.{encode}
+use Rattle.std.specs.Str.{IsUtf8, chars}
+use Rattle.utf16_units.specs.Encoding.{encode}
+use Rattle.utf16_units.specs.Unit.{unit_bytes}
 use Rattle.utf16_units.proofs.CharLemmas.{no_surrogate}
+use Rattle.utf16_units.proofs.EncodingLemmas.{encode-cons, encode-nil}
+use Rattle.utf16_units.proofs.SizeLemmas.{scalars-of}
 use Rattle.utf16_units.proofs.Utf8Lemmas.{four_bytes, one_byte, three_bytes, two_bytes}
-use Rattle.utf16_from_utf8.specs.Added.{added, all_added}
+use Rattle.utf16_from_utf8.specs.Added.{added, added_bytes, all_added}
 use Rattle.utf16_from_utf8.proofs.AddedLemmas.{adds-none-behind, adds-none-first, adds-one, all_added-cons, all_added-nil, unit-leading, unit-one, unit-three, unit-trailing, unit-two}
 
 -- what the bytes of a character add, and the two bytes before the next one
@@ -16,7 +22,7 @@ record Adds (b2 b1 c : ℕ) (more : List ℕ) : Type 0 where
   last_but_one : ℕ
   last : ℕ
   below : last < 0xE0
-  units : all_added b2 b1 (encode c ++ more) ≡ encode_utf16 c ++ all_added last_but_one last more
+  units : all_added b2 b1 (encode_utf8 c ++ more) ≡ encode_utf16 c ++ all_added last_but_one last more
 
 adds_one : (b2 b1 c : ℕ) (more : List ℕ) → b1 < 0xE0 → c < 0x80 → Adds b2 b1 c more
 adds_one b2 b1 c more behind a =
@@ -107,3 +113,17 @@ all_added-text b2 b1 [] behind scalars = all_added-nil b2 b1
 all_added-text b2 b1 (c ∷ text) behind scalars =
     let here = adds_char b2 b1 c (encode_utf8_all text) behind (All-head IsScalar c text scalars) in
     here.units ∙ ap (λ units. encode_utf16 c ++ units) (all_added-text here.last_but_one here.last text here.below (All-tail IsScalar c text scalars))
+
+bytes-of-units : (big : Bool) (text : List ℕ) → flat_map (unit_bytes big) (flat_map encode_utf16 text) ≡ encode big text
+bytes-of-units big [] = sym (encode-nil big)
+bytes-of-units big (c ∷ text) =
+    flat_map-append (unit_bytes big) (encode_utf16 c) (flat_map encode_utf16 text)
+    ∙ ap (λ t. flat_map (unit_bytes big) (encode_utf16 c) ++ t) (bytes-of-units big text)
+    ∙ sym (encode-cons big c text)
+
+-- what all bytes of a text add is its encoding
+pub added_bytes-text : (big : Bool) (bytes : List ℕ) → IsUtf8 bytes → added_bytes big 0 0 bytes ≡ encode big (chars bytes)
+added_bytes-text big bytes utf8 =
+    ap (added_bytes big 0 0) (sym (encodes-chars bytes utf8))
+    ∙ ap (flat_map (unit_bytes big)) (all_added-text 0 0 (chars bytes) (omega arith) (scalars-of bytes utf8))
+    ∙ bytes-of-units big (chars bytes)

@@ -1,8 +1,7 @@
 pub mod Added
 pub mod Ascii
-pub mod Cursor
-pub mod Kind
-pub mod LaneBytes
+pub mod Follow
 pub mod Lanes
-pub mod Short
 pub mod Threes
+pub mod UnitLanes
+pub mod Written

@@ -1,13 +1,13 @@
 //! Writes the ASCII at the start of bytes, sixteen or sixty-four at a time.
 
-ghost use Rattle.std.specs.Prelude.{◌≡◌, ◌+◌, ◌*◌, ◌%◌, ◌<◌, ◌≤◌, List, ℕ, drop, length, slice_index, take};
+ghost use Rattle.std.specs.Prelude.{◌≡◌, ◌+◌, ◌*◌, ◌%◌, ◌<◌, ◌≤◌, ◌++◌, ◌↔◌, IsTrue, List, ℕ, drop, length, slice_index, take};
 ghost use Rattle.std.specs.Str.{IsAscii, chars};
 ghost use Rattle.utf16_units.specs.Encoding.{encode};
 ghost use Rattle.utf16_from_utf8.specs.Ascii.{IsWritten};
 
-use crate::blocks::put_ascii;
-use crate::runs::are_ascii;
-use crate::units::is_ascii;
+use crate::lanes::{each, masked, set_bits};
+use crate::limits::{are_below, greatest};
+use crate::pack::paired;
 use std::simd::prelude::*;
 use utf16_units::Utf16Order;
 
@@ -62,7 +62,7 @@ fn put_wide_blocks<E: Utf16Order>(bytes: &[u8], out: &mut [u8]) -> usize
 {
     let mut at = 0;
     while bytes.len() - at >= 64 {
-        if !are_ascii(bytes, at) {
+        if !are_below(greatest(bytes, at), 0x80) {
             break;
         }
         at = put_wide_block::<E>(bytes, out, at);
@@ -120,4 +120,36 @@ fn put_block<E: Utf16Order>(bytes: &[u8], out: &mut [u8], at: usize) -> usize
 {
     put_ascii::<E>(out, 2 * at, u8x16::from_slice(&bytes[at..]));
     at + 16
+}
+
+/// Writes sixteen characters of ASCII at `at`, and returns where they end. The other bytes of `out`
+/// stay as they were.
+///
+/// # Precondition
+///
+/// The bytes are ASCII, and `out` has 32 bytes at `at`.
+///
+/// # Complexity
+///
+/// Constant time.
+#[inline(always)]
+pub fn put_ascii<E: Utf16Order>(out: &mut [u8], at: usize, block: u8x16) -> usize
+    requires space { at + 32 ≤ length out.old }
+    requires ascii { (i : ℕ) → i < 16 → slice_index block i < 0x80 }
+    ensures bytes { take result out.new ≡ take at out.old ++ encode E.BIG (chars block) }
+    ensures rest { drop result out.new ≡ drop result out.old }
+    ensures written_to { result ≡ at + 32 }
+{
+    let (first, second) = paired::<E>(each(0), block);
+    first.copy_to_slice(&mut out[at..]);
+    second.copy_to_slice(&mut out[at + 16..]);
+    at + 32
+}
+
+// Whether all bytes are ASCII.
+#[inline(always)]
+fn is_ascii(block: u8x16) -> bool
+    ensures { IsTrue result ↔ ((i : ℕ) → i < 16 → slice_index block i < 0x80) }
+{
+    set_bits(masked(block, 0x80)) == 0
 }

@@ -1,170 +1,148 @@
-//! The UTF-16 that a block of sixteen bytes adds.
+//! Writes the blocks at the start of bytes, by the kind of their characters.
 
-ghost use Rattle.std.specs.Prelude.{◌≡◌, ◌+◌, ◌-◌, ◌<◌, ◌≤◌, ◌*◌, ◌++◌, ℕ, bit_and, drop, if◌then◌else◌, length, nat_lt, slice_index, take};
-ghost use Rattle.std.specs.Simd.Lanes.{zip2};
-ghost use Rattle.utf16_from_utf8.specs.Added.{added_bytes};
-ghost use Rattle.utf16_from_utf8.specs.Kind.{AreBefore, IsOf};
-ghost use Rattle.utf16_from_utf8.specs.Lanes.{pairs_of};
-ghost use Rattle.utf16_units.specs.Lanes.{HasLanes};
+ghost use Rattle.std.specs.Prelude.{◌≡◌, ◌+◌, ◌*◌, ◌<◌, ◌≤◌, ℕ, length, slice_index};
+ghost use Rattle.utf16_from_utf8.specs.Follow.{AreBelow, IsBlock};
+ghost use Rattle.utf16_from_utf8.specs.Written.{IsWritten};
 
-use crate::lanes::{each, greater, previous_lanes};
-use crate::pack::{put_eight, put_kept};
-use crate::units::{
-    FOURS, Kind, THREES, UPPER, UPPER_OF_FOURS, ended_bits, highs, lows, short_lows, three_highs,
-};
-use std::simd::prelude::*;
+use crate::ascii::write_ascii;
+use crate::block::put_block;
+use crate::fours::put_fours;
+use crate::limits::{are_below, greatest};
+use crate::threes::put_threes;
 use utf16_units::Utf16Order;
 
-/// The two bytes of each unit next to each other, of the first eight units and of the others.
+// The length of a block in bytes.
+const BLOCK_LEN: usize = 64;
+
+// The most bytes that a block takes in UTF-16.
+const BLOCK_SPACE: usize = 128;
+
+/// Writes the blocks at the start of the bytes in UTF-16 to the start of `out`, and validates them
+/// while it writes them. Returns the number of bytes read, which are well formed, and the number of
+/// bytes written. The bytes after those written may be overwritten.
+///
+/// It stops only where the next sixty-four bytes do not begin a well-formed text, or there are
+/// fewer, or `out` has fewer than 128 bytes of space left.
+///
+/// # Complexity
+///
+/// One pass over the bytes that it reads.
 #[inline(always)]
-pub fn paired<E: Utf16Order>(highs: u8x16, lows: u8x16) -> (u8x16, u8x16)
-    ensures pairs { result.0 ++ result.1 ≡ pairs_of E.BIG highs lows }
-    ensures first_len { length result.0 ≡ 16 }
-    ensures second_len { length result.1 ≡ 16 }
+pub fn write_blocks<E: Utf16Order>(bytes: &[u8], out: &mut [u8]) -> (usize, usize)
+    ensures written { IsWritten E.BIG bytes.now out.new result.0 result.1 }
+    ensures stop { IsBlock bytes.now result.0 → length out.new < result.1 + 128 }
 {
-    if E::BIG {
-        highs.interleave(lows)
-    } else {
-        lows.interleave(highs)
+    let most = bytes.len().min(out.len() / 2);
+    let len = write_ascii::<E>(&bytes[..most], out);
+    if bytes.len() - len < BLOCK_LEN {
+        return (len, 2 * len);
     }
-}
-
-/// Writes sixteen characters of one byte.
-#[inline(always)]
-pub fn put_ascii<E: Utf16Order>(out: &mut [u8], at: usize, block: u8x16) -> usize
-    requires space { at + 32 ≤ length out.old }
-    requires ascii { (i : ℕ) → i < 16 → slice_index block i < 0x80 }
-    ensures bytes { (b2 b1 : ℕ) → b1 < 0xE0
-        → take result out.new ≡ take at out.old ++ added_bytes E.BIG b2 b1 block }
-    ensures rest { drop result out.new ≡ drop result out.old }
-    ensures written_to { result ≡ at + 32 }
-{
-    let (first, second) = paired::<E>(each(0), block);
-    first.copy_to_slice(&mut out[at..]);
-    second.copy_to_slice(&mut out[at + 16..]);
-    at + 32
-}
-
-// Writes five characters of three bytes.
-#[inline(always)]
-pub(crate) fn put_threes<E: Utf16Order>(out: &mut [u8], at: usize, block: u8x16) -> usize
-    requires space { at + 16 ≤ length out.old }
-    requires threes { zip2 bit_and block UPPER ≡ THREES }
-    ensures bytes { (b2 b1 : ℕ) → take result out.new ≡ take at out.old
-        ++ added_bytes E.BIG b2 b1 (take 15 block) }
-    ensures written_to { result ≡ at + 10 }
-{
-    let b2 = block.swizzle([0, 3, 6, 9, 12, 0, 0, 0, 0, 0, 0, 0, 0, 0, 0, 0]);
-    let b1 = block.swizzle([1, 4, 7, 10, 13, 0, 0, 0, 0, 0, 0, 0, 0, 0, 0, 0]);
-    let b0 = block.swizzle([2, 5, 8, 11, 14, 0, 0, 0, 0, 0, 0, 0, 0, 0, 0, 0]);
-    let (pairs, _) = paired::<E>(three_highs(b2, b1), short_lows(b1, b0));
-    pairs.copy_to_slice(&mut out[at..]);
-    at + 10
-}
-
-/// Writes four characters of four bytes: two units for each, that of its first three bytes and that
-/// of its last three.
-#[inline(always)]
-pub fn put_fours<E: Utf16Order>(out: &mut [u8], at: usize, block: u8x16) -> usize
-    requires space { at + 16 ≤ length out.old }
-    requires fours { zip2 bit_and block UPPER_OF_FOURS ≡ FOURS }
-    ensures bytes { (b2 b1 : ℕ) → take result out.new ≡ take at out.old
-        ++ added_bytes E.BIG b2 b1 block }
-    ensures written_to { result ≡ at + 16 }
-{
-    let b2 = block.swizzle([0, 1, 4, 5, 8, 9, 12, 13, 0, 0, 0, 0, 0, 0, 0, 0]);
-    let b1 = block.swizzle([1, 2, 5, 6, 9, 10, 13, 14, 0, 0, 0, 0, 0, 0, 0, 0]);
-    let b0 = block.swizzle([2, 3, 6, 7, 10, 11, 14, 15, 0, 0, 0, 0, 0, 0, 0, 0]);
-    let highs = highs(b2, b1, b0, Kind::Four);
-    let (pairs, _) = paired::<E>(highs, lows(b2, b1, b0, Kind::Four));
-    pairs.copy_to_slice(&mut out[at..]);
-    at + 16
-}
-
-/// The byte two before each one of a block, and the one before it.
-#[inline(always)]
-pub fn before(block: u8x16, before2: u8, before1: u8) -> (u8x16, u8x16)
-    ensures { AreBefore before2 before1 block result.0 result.1 }
-{
-    let b1 = previous_lanes(block, before1);
-    (previous_lanes(b1, before2), b1)
-}
-
-/// The same of the block at `at`.
-#[inline(always)]
-pub fn before_at(piece: &[u8], at: usize) -> (u8x16, u8x16)
-    requires some { 2 ≤ at }
-    requires more { at + 16 ≤ length piece.now }
-    ensures { AreBefore (slice_index piece.now (at - 2)) (slice_index piece.now (at - 1))
-        (take 16 (drop at piece.now)) result.0 result.1 }
-{
-    (
-        u8x16::from_slice(&piece[at - 2..]),
-        u8x16::from_slice(&piece[at - 1..]),
-    )
-}
-
-// Writes the UTF-16 that sixteen bytes add after the two before each. The bytes are of a kind.
-#[inline(always)]
-pub(crate) fn put_block<E: Utf16Order>(
-    out: &mut [u8],
-    at: usize,
-    b2: u8x16,
-    b1: u8x16,
-    block: u8x16,
-    kind: Kind,
-) -> usize
-    requires space { at + 32 ≤ length out.old }
-    requires kind { (i : ℕ) → i < 16 → IsOf kind (slice_index b2 i)
-        × IsOf kind (slice_index block i) }
-    ensures bytes { (before2 before1 : ℕ) → AreBefore before2 before1 block b2 b1
-        → take result out.new ≡ take at out.old ++ added_bytes E.BIG before2 before1 block }
-    ensures written_to { result ≤ at + 32 }
-{
-    let (first, second) = paired::<E>(highs(b2, b1, block, kind), lows(b2, b1, block, kind));
-    put_kept(out, at, first, second, ended_bits(b1, block))
-}
-
-// Writes the UTF-16 that the last of sixteen bytes add, those at `from` and after it.
-#[inline(always)]
-pub(crate) fn put_end<E: Utf16Order>(
-    out: &mut [u8],
-    at: usize,
-    b2: u8x16,
-    b1: u8x16,
-    block: u8x16,
-    kind: Kind,
-    from: usize,
-) -> usize
-    requires from { from < 16 }
-    requires space { at + 16 + 2 * (16 - from) ≤ length out.old }
-    requires kind { (i : ℕ) → i < 16 → IsOf kind (slice_index b2 i)
-        × IsOf kind (slice_index block i) }
-    ensures bytes { (before2 before1 : ℕ) → AreBefore before2 before1 block b2 b1
-        → take result out.new ≡ take at out.old ++ added_bytes E.BIG (slice_index b2 from)
-        (slice_index b1 from) (drop from block) }
-    ensures written_to { result ≤ at + 16 + 2 * (16 - from) }
-{
-    let (first, second) = paired::<E>(highs(b2, b1, block, kind), lows(b2, b1, block, kind));
-    let bits = ended_bits(b1, without(block, from));
-    if from < 8 {
-        put_kept(out, at, first, second, bits)
-    } else {
-        put_eight(out, at, second, (bits / 256) as usize)
+    if out.len() - 2 * len < BLOCK_SPACE {
+        return (len, 2 * len);
     }
+    put_blocks::<E>(bytes, out, len)
 }
 
-// A block with the bytes before `from` replaced by some that add nothing.
-#[inline(always)]
-fn without(block: u8x16, from: usize) -> u8x16
-    requires { from < 16 }
-    ensures { HasLanes 16 result (λ i. if nat_lt i from then 0xFF else slice_index block i) }
+// Writes blocks of all kinds after some ASCII. A function of its own, so that short texts do
+// not pay for its registers.
+#[inline(never)]
+fn put_blocks<E: Utf16Order>(bytes: &[u8], out: &mut [u8], len: usize) -> (usize, usize)
+    requires { IsWritten E.BIG bytes.now out.old len (2 * len) }
+    ensures written { IsWritten E.BIG bytes.now out.new result.0 result.1 }
+    ensures stop { IsBlock bytes.now result.0 → length out.new < result.1 + 128 }
 {
-    greater(block, u8x16::from_slice(&EDGE[16 - from..]))
+    let mut read = len;
+    let mut written = 2 * len;
+    while bytes.len() - read >= BLOCK_LEN {
+        if out.len() - written < BLOCK_SPACE {
+            break;
+        }
+        let (next, end) = put_next::<E>(bytes, out, read, written);
+        let stays = next == read;
+        read = next;
+        written = end;
+        if stays {
+            break;
+        }
+    }
+    (read, written)
 }
 
-// Bytes that leave those of a block as they are, after others that replace them.
-static EDGE: [u8; 32] = [
-    0xFF, 0xFF, 0xFF, 0xFF, 0xFF, 0xFF, 0xFF, 0xFF, 0xFF, 0xFF, 0xFF, 0xFF, 0xFF, 0xFF, 0xFF, 0xFF,
-    0, 0, 0, 0, 0, 0, 0, 0, 0, 0, 0, 0, 0, 0, 0, 0,
-];
+// Writes at least the next block, or nothing if it is ill formed. Returns where the bytes after
+// those read begin, and where what was written ends.
+#[inline(always)]
+fn put_next<E: Utf16Order>(
+    bytes: &[u8],
+    out: &mut [u8],
+    read: usize,
+    written: usize,
+) -> (usize, usize)
+    requires space { written + 128 ≤ length out.old }
+    requires more { read + 64 ≤ length bytes.now }
+    requires written { IsWritten E.BIG bytes.now out.old read written }
+    ensures written { IsWritten E.BIG bytes.now out.new result.0 result.1 }
+    ensures advances { read ≤ result.0 }
+    ensures stop { result.0 ≡ read → ¬ (IsBlock bytes.now read) }
+{
+    let greatest = greatest(bytes, read);
+    if are_below(greatest, 0x80) {
+        return put_ascii::<E>(bytes, out, read, written);
+    }
+    if are_below(greatest, 0xE0) {
+        return put_block::<E, 2>(bytes, out, read, written);
+    }
+    let (next, end) = put_run::<E>(bytes, out, read, written);
+    if next > read {
+        return (next, end);
+    }
+    if are_below(greatest, 0xF0) {
+        return put_block::<E, 3>(bytes, out, next, end);
+    }
+    put_block::<E, 4>(bytes, out, next, end)
+}
+
+// Writes the next characters of three or of four bytes, whichever the first has, several at a time.
+#[inline(always)]
+fn put_run<E: Utf16Order>(
+    bytes: &[u8],
+    out: &mut [u8],
+    read: usize,
+    written: usize,
+) -> (usize, usize)
+    requires space { written + 128 ≤ length out.old }
+    requires more { read + 64 ≤ length bytes.now }
+    requires written { IsWritten E.BIG bytes.now out.old read written }
+    ensures written { IsWritten E.BIG bytes.now out.new result.0 result.1 }
+    ensures advances { read ≤ result.0 }
+    ensures stays { result.0 ≡ read → result.1 ≡ written }
+{
+    let first = bytes[read];
+    if first < 0xE0 {
+        return (read, written);
+    }
+    if first < 0xF0 {
+        return put_threes::<E>(bytes, out, read, written);
+    }
+    put_fours::<E>(bytes, out, read, written)
+}
+
+// Writes the next blocks of ASCII.
+#[inline(always)]
+fn put_ascii<E: Utf16Order>(
+    bytes: &[u8],
+    out: &mut [u8],
+    read: usize,
+    written: usize,
+) -> (usize, usize)
+    requires space { written + 128 ≤ length out.old }
+    requires more { read + 64 ≤ length bytes.now }
+    requires ascii { AreBelow 64 bytes.now read 0x80 }
+    requires written { IsWritten E.BIG bytes.now out.old read written }
+    ensures written { IsWritten E.BIG bytes.now out.new result.0 result.1 }
+    ensures advances { read < result.0 }
+{
+    let rest = &bytes[read..];
+    let most = rest.len().min((out.len() - written) / 2);
+    let len = write_ascii::<E>(&rest[..most], &mut out[written..]);
+    (read + len, written + 2 * len)
+}

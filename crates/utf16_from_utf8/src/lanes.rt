@@ -6,65 +6,65 @@ ghost use Rattle.utf16_units.specs.Lanes.{HasLanes};
 use std::simd::prelude::*;
 
 #[inline(always)]
-pub fn each(byte: u8) -> u8x16
+pub(crate) fn each(byte: u8) -> u8x16
     ensures { HasLanes 16 result (λ i. byte) }
 {
     u8x16::splat(byte)
 }
 
 #[inline(always)]
-pub fn masked(v: u8x16, mask: u8) -> u8x16
+pub(crate) fn masked(v: u8x16, mask: u8) -> u8x16
     ensures { HasLanes 16 result (λ i. bit_and (slice_index v i) mask) }
 {
     v & u8x16::splat(mask)
 }
 
 #[inline(always)]
-pub fn sum(a: u8x16, b: u8x16) -> u8x16
+pub(crate) fn sum(a: u8x16, b: u8x16) -> u8x16
     ensures { HasLanes 16 result (λ i. (slice_index a i + slice_index b i) % 2 ^ 8) }
 {
     a + b
 }
 
-/// Shifts the bits right.
+// Shifts the bits right.
 #[inline(always)]
-pub fn down(v: u8x16, by: u8) -> u8x16
+pub(crate) fn down(v: u8x16, by: u8) -> u8x16
     requires { by < 8 }
     ensures { HasLanes 16 result (λ i. slice_index v i / 2 ^ by) }
 {
     v >> u8x16::splat(by)
 }
 
-/// Shifts the bits left, and drops those above a byte.
+// Shifts the bits left, and drops those above a byte.
 #[inline(always)]
-pub fn up(v: u8x16, by: u8) -> u8x16
+pub(crate) fn up(v: u8x16, by: u8) -> u8x16
     requires { by < 8 }
     ensures { HasLanes 16 result (λ i. slice_index v i * 2 ^ by % 2 ^ 8) }
 {
     v << u8x16::splat(by)
 }
 
-/// Selects the lane of `a` if that of `v` is below `limit`, else the lane of `b`.
+// Selects the lane of `a` if that of `v` is below `limit`, else the lane of `b`.
 #[inline(always)]
-pub fn where_below(v: u8x16, limit: u8, a: u8x16, b: u8x16) -> u8x16
+pub(crate) fn where_below(v: u8x16, limit: u8, a: u8x16, b: u8x16) -> u8x16
     ensures { HasLanes 16 result (λ i. if nat_lt (slice_index v i) limit then slice_index a i
         else slice_index b i) }
 {
     v.simd_lt(u8x16::splat(limit)).select(a, b)
 }
 
-/// The greater of the lanes at the same place.
+// The greater of the lanes at the same place.
 #[inline(always)]
-pub fn greater(a: u8x16, b: u8x16) -> u8x16
+pub(crate) fn greater(a: u8x16, b: u8x16) -> u8x16
     ensures { HasLanes 16 result (λ i. if nat_lt (slice_index a i) (slice_index b i)
         then slice_index b i else slice_index a i) }
 {
     a.simd_max(b)
 }
 
-/// The byte before each one; before the first, `before`.
+// The byte before each one; before the first, `before`.
 #[inline(always)]
-pub fn previous_lanes(v: u8x16, before: u8) -> u8x16
+pub(crate) fn previous_lanes(v: u8x16, before: u8) -> u8x16
     ensures { HasLanes 16 result (λ i. slice_index (before ∷ v) i) }
 {
     u8x16::splat(before).shuffle(
@@ -75,9 +75,9 @@ pub fn previous_lanes(v: u8x16, before: u8) -> u8x16
     )
 }
 
-/// A bit for each byte that is not zero.
+// A bit for each byte that is not zero.
 #[inline(always)]
-pub fn set_bits(v: u8x16) -> u64
+pub(crate) fn set_bits(v: u8x16) -> u64
     ensures bits { (i : ℕ) → i < 16 → result / 2 ^ i % 2 ≡ if slice_index v i == 0 then 0 else 1 }
     ensures bound { result < 2 ^ 16 }
 {

@@ -1,22 +1,24 @@
-//! Conversion of UTF-8 to UTF-16 with SIMD, up to sixty-four bytes at a time.
+//! Conversion of UTF-8 to UTF-16 with SIMD. Blocks of sixty-four bytes are validated while they are
+//! written.
 #![tactic(auto)]
 
 mod append;
 mod ascii;
-pub mod blocks;
-mod bytes;
+mod block;
+mod blocks;
+mod faults;
 mod few;
-pub mod lanes;
-pub mod laws;
-pub mod pack;
+mod fours;
+mod lanes;
+mod limits;
+mod pack;
 mod positions;
-mod runs;
-mod short;
-mod steps;
-pub mod threes;
-pub mod units;
-mod write;
+mod sixteen;
+mod text;
+mod threes;
+mod units;
 
-pub use crate::append::{append_utf16, extend_utf16};
-pub use crate::ascii::write_ascii;
-pub use crate::write::write_units;
+pub use crate::append::{FEW_TEXT, SHORT_TEXT, append_utf16, extend_utf16};
+pub use crate::ascii::{put_ascii, write_ascii};
+pub use crate::blocks::write_blocks;
+pub use crate::text::write_text;

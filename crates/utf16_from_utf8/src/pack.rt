@@ -1,10 +1,12 @@
-//! Compaction: of eight pairs of bytes in a vector, those whose bit is set are stored contiguously.
+//! The two bytes of units next to each other, in pairs. Of the pairs in a vector those whose bit is
+//! set are stored contiguously.
 
 ghost use Rattle.std.specs.Prelude.{◌≡◌, ◌+◌, ◌^◌, ◌<◌, ◌≤◌, ◌++◌, length, take};
-ghost use Rattle.utf16_from_utf8.specs.Lanes.{kept_pairs};
+ghost use Rattle.utf16_from_utf8.specs.Lanes.{kept_pairs, pairs_of};
 
 use crate::positions::positions;
 use std::simd::prelude::*;
+use utf16_units::Utf16Order;
 
 // Stores those of eight pairs whose bit is set, starting at `at`, and returns their end. Overwrites
 // sixteen bytes starting at `at`.
@@ -21,9 +23,9 @@ pub(crate) fn put_eight(out: &mut [u8], at: usize, pairs: u8x16, bits: usize) ->
     at + 2 * bits.count_ones() as usize
 }
 
-/// Stores those of all sixteen pairs whose bit is set, starting at `at`, and returns their end.
+// Stores those of all sixteen pairs whose bit is set, starting at `at`, and returns their end.
 #[inline(always)]
-pub fn put_kept(out: &mut [u8], at: usize, first: u8x16, second: u8x16, bits: u64) -> usize
+pub(crate) fn put_kept(out: &mut [u8], at: usize, first: u8x16, second: u8x16, bits: u64) -> usize
     requires bound { bits < 2 ^ 16 }
     requires space { at + 32 ≤ length out.old }
     ensures pairs { take result out.new ≡ take at out.old ++ kept_pairs bits (first ++ second) }
@@ -31,4 +33,18 @@ pub fn put_kept(out: &mut [u8], at: usize, first: u8x16, second: u8x16, bits: u6
 {
     let middle = put_eight(out, at, first, (bits % 256) as usize);
     put_eight(out, middle, second, (bits / 256) as usize)
+}
+
+// The two bytes of each unit next to each other, of the first eight units and of the others.
+#[inline(always)]
+pub(crate) fn paired<E: Utf16Order>(highs: u8x16, lows: u8x16) -> (u8x16, u8x16)
+    ensures pairs { result.0 ++ result.1 ≡ pairs_of E.BIG highs lows }
+    ensures first_len { length result.0 ≡ 16 }
+    ensures second_len { length result.1 ≡ 16 }
+{
+    if E::BIG {
+        highs.interleave(lows)
+    } else {
+        lows.interleave(highs)
+    }
 }

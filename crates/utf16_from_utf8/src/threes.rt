@@ -1,21 +1,74 @@
-//! Forty-eight bytes as sixteen characters of three bytes: 3 and 16 have no common divisor, so that
-//! the first bytes of the characters have different places in their vectors of sixteen, and so
-//! have the second and the third ones.
+//! Characters of three bytes, sixteen at a time: 3 and 16 have no common divisor, so that the first
+//! bytes of the characters have different places in their vectors of sixteen, and so have the second
+//! and the third ones.
 
-ghost use Rattle.std.specs.Prelude.{◌≡◌, ◌+◌, ◌<◌, ◌≤◌, ◌++◌, IsTrue, ℕ, drop, length, slice_index, take};
+ghost use Rattle.std.specs.Prelude.{◌≡◌, ◌+◌, ◌*◌, ◌<◌, ◌≤◌, ◌⊎◌, ◌++◌, IsTrue, ℕ, drop, length, slice_index, take};
 ghost use Rattle.std.specs.Simd.Lanes.{pick_l};
+ghost use Rattle.std.specs.Str.{IsUtf8};
 ghost use Rattle.utf16_from_utf8.specs.Added.{added_bytes};
 ghost use Rattle.utf16_from_utf8.specs.Threes.{IsThree, every_third, woven};
+ghost use Rattle.utf16_from_utf8.specs.Written.{IsWritten};
 
-use crate::blocks::paired;
-use crate::lanes::{each, greater, masked, sum};
-use crate::units::{are_below, short_lows, three_highs};
+use crate::lanes::{each, greater, masked, sum, where_below};
+use crate::limits::are_below;
+use crate::pack::paired;
+use crate::units::{three_highs, three_lows};
 use std::simd::prelude::*;
 use utf16_units::Utf16Order;
 
-/// The first, the second and the third bytes of the next forty-eight.
+// Writes the next characters of three bytes, sixteen at a time.
 #[inline(always)]
-pub fn in_threes(piece: &[u8], at: usize) -> (u8x16, u8x16, u8x16)
+pub(crate) fn put_threes<E: Utf16Order>(
+    bytes: &[u8],
+    out: &mut [u8],
+    from: usize,
+    end: usize,
+) -> (usize, usize)
+    requires { IsWritten E.BIG bytes.now out.old from end }
+    ensures written { IsWritten E.BIG bytes.now out.new result.0 result.1 }
+    ensures advances { from ≤ result.0 }
+    ensures stays { result.0 ≡ from → result.1 ≡ end }
+{
+    let mut read = from;
+    let mut written = end;
+    while bytes.len() - read >= 48 {
+        if out.len() - written < 32 {
+            break;
+        }
+        let (firsts, seconds, thirds) = in_threes(bytes, read);
+        if !are_characters(firsts, seconds, thirds) {
+            break;
+        }
+        written = put_sixteen::<E>(out, written, firsts, seconds, thirds);
+        read += 48;
+    }
+    (read, written)
+}
+
+// Whether the bytes are those of sixteen characters of three bytes.
+#[inline(always)]
+fn are_characters(firsts: u8x16, seconds: u8x16, thirds: u8x16) -> bool
+    ensures well_formed { IsTrue result → IsUtf8 (woven firsts seconds thirds) }
+    ensures threes { IsTrue result → (i : ℕ) → i < 16
+        → IsThree (slice_index firsts i) (slice_index seconds i) (slice_index thirds i) }
+{
+    are_sixteen(firsts, seconds, thirds) && are_scalars(three_highs(firsts, seconds))
+}
+
+// Whether no unit with these high bytes is below U+0800 or a surrogate.
+#[inline(always)]
+fn are_scalars(highs: u8x16) -> bool
+    ensures { IsTrue result → (i : ℕ) → i < 16 → (8 ≤ slice_index highs i)
+        × ((slice_index highs i < 0xD8) ⊎ (0xE0 ≤ slice_index highs i)) }
+{
+    let short = where_below(highs, 8, each(0xFF), each(0));
+    let surrogate = where_below(sum(highs, each(0x28)), 8, each(0xFF), each(0));
+    are_below(greater(short, surrogate), 1)
+}
+
+// The first, the second and the third bytes of the next forty-eight.
+#[inline(always)]
+fn in_threes(piece: &[u8], at: usize) -> (u8x16, u8x16, u8x16)
     requires { at + 48 ≤ length piece.now }
     ensures { take 48 (drop at piece.now) ≡ woven result.0 result.1 result.2 }
 {
@@ -73,9 +126,9 @@ fn thirds(a: u8x16, b: u8x16, c: u8x16) -> u8x16
     all.swizzle([2, 5, 8, 11, 14, 1, 4, 7, 10, 13, 0, 3, 6, 9, 12, 15])
 }
 
-/// Whether they are the bytes of sixteen characters.
+// Whether they are the bytes of sixteen characters.
 #[inline(always)]
-pub fn are_sixteen(firsts: u8x16, seconds: u8x16, thirds: u8x16) -> bool
+fn are_sixteen(firsts: u8x16, seconds: u8x16, thirds: u8x16) -> bool
     ensures { IsTrue result → (i : ℕ) → i < 16
         → IsThree (slice_index firsts i) (slice_index seconds i) (slice_index thirds i) }
 {
@@ -86,9 +139,9 @@ pub fn are_sixteen(firsts: u8x16, seconds: u8x16, thirds: u8x16) -> bool
     are_below(greater(greater(first, second), third), 1)
 }
 
-/// Writes sixteen characters of three bytes.
+// Writes sixteen characters of three bytes.
 #[inline(always)]
-pub fn put_sixteen<E: Utf16Order>(
+fn put_sixteen<E: Utf16Order>(
     out: &mut [u8],
     at: usize,
     firsts: u8x16,
@@ -103,7 +156,7 @@ pub fn put_sixteen<E: Utf16Order>(
     ensures written_to { result ≡ at + 32 }
 {
     let highs = three_highs(firsts, seconds);
-    let (first, second) = paired::<E>(highs, short_lows(seconds, thirds));
+    let (first, second) = paired::<E>(highs, three_lows(seconds, thirds));
     first.copy_to_slice(&mut out[at..]);
     second.copy_to_slice(&mut out[at + 16..]);
     at + 32

@@ -13,7 +13,7 @@ use Rattle.utf16_units.proofs.Utf8Lemmas.{one_byte}
 use Rattle.utf16_transcode.specs.FromUtf8.{TranscodesToUtf16, IsIllFormedUtf8, IsIllFormedUtf8At}
 use Rattle.utf16_decode.specs.Wrote.{Gives, Joins, Wrote}
 
-pub room_grows : (m n : ℕ) → m ≤ n → 2 * m + 16 ≤ 2 * n + 16
+pub room_grows : (m n : ℕ) → m ≤ n → 2 * m ≤ 2 * n
 room_grows m n le = omega arith
 
 pub utf16_joins : (big : Bool) → Joins (TranscodesToUtf16 big)
@@ -49,15 +49,6 @@ ascii-more big bytes old new read written to done more low fits wrote =
           subst (λ b. TranscodesToUtf16 big b (take to new)) (sym (take_more bytes read 0 more))
           (subst (TranscodesToUtf16 big (take read bytes ++ byte ∷ [])) (sym wrote) (utf16_joins big (take read bytes) (byte ∷ []) (take written old) (char_bytes big byte) done.gives next));
     }
-
--- all of them
-pub ascii-all : (big : Bool) (bytes new : List ℕ) → IsAscii bytes → 2 * length bytes ≤ length new → take (2 * length bytes) new ≡ encode big (chars bytes)
-    → Wrote (TranscodesToUtf16 big) bytes new (length bytes) (2 * length bytes)
-ascii-all big bytes new ascii fits wrote = record {
-  within = omega arith;
-  fits = fits;
-  gives = subst (λ b. TranscodesToUtf16 big b (take (2 * length bytes) new)) (sym (take_all (length bytes) bytes (omega arith))) (IsUtf8-from_ascii bytes ascii, wrote);
-}
 
 -- if UTF-8 begins with UTF-8, the rest is UTF-8 too
 pub IsUtf8-behind : (front back : List ℕ) → IsUtf8 front → IsUtf8 (front ++ back) → IsUtf8 back

@@ -9,9 +9,9 @@ ghost use Rattle.utf16_decode.specs.Shown.{ShowsWhole};
 ghost use Rattle.utf16_decode.specs.Stops.{StopsLossyWhole};
 
 use crate::items::{ITEM_LEN, put_items};
-use crate::utf16::{FromUtf8, from_utf8};
-use utf8_blocks::write_blocks;
-use utf16_decode::{LossyDirection, Progress, Stop, put, transcode_lossy};
+use crate::utf16::FromUtf8;
+use utf16_decode::{LossyDirection, Progress, put, transcode_lossy, transcode_partial};
+use utf16_from_utf8::write_blocks;
 use utf16_units::{Utf16Order, utf16_len};
 
 // U+FFFD, the replacement character, and its length in bytes of UTF-16.
@@ -37,30 +37,7 @@ pub fn from_utf8_partial<E: Utf16Order>(text: &[u8], to: &mut [u8]) -> Progress
     ensures stop { StopsLossyUtf8 E.BIG (drop result.read text.now)
         (length to.new - result.written) result.stop }
 {
-    let mut read = 0;
-    let mut written = 0;
-    loop {
-        let front = from_utf8::<E>(&text[read..], &mut to[written..]);
-        read += front.read;
-        written += front.written;
-        let Stop::IllFormed(len) = front.stop else {
-            return Progress {
-                read,
-                written,
-                stop: front.stop,
-            };
-        };
-        if to.len() - written < REPLACEMENT_LEN {
-            return Progress {
-                read,
-                written,
-                stop: Stop::NoRoom,
-            };
-        }
-        let (len, size) = put_ill_formed::<E>(&text[read..], len as usize, &mut to[written..]);
-        read += len;
-        written += size;
-    }
+    transcode_partial::<FromUtf8<E>>(text, to)
 }
 
 // Writes U+FFFD for the ill-formed sequence of `len` bytes that the text begins with, and the text
@@ -137,8 +114,11 @@ impl<E: Utf16Order> LossyDirection for FromUtf8<E> {
     fn lossy_laws() {}
 
     #[inline(always)]
-    fn write_decided(input: &[u8], to: &mut [u8]) -> Progress {
-        from_utf8_partial::<E>(input, to)
+    fn write_ill_formed(input: &[u8], len: u8, to: &mut [u8]) -> Option<(usize, usize)> {
+        if to.len() < REPLACEMENT_LEN {
+            return None;
+        }
+        Some(put_ill_formed::<E>(input, len as usize, to))
     }
 
     #[inline(always)]

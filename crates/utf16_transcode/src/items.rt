@@ -9,7 +9,7 @@ use crate::chars::{char_of_four, char_of_three, char_of_two, is_continuation};
 use crate::utf16::{can_begin, put_char};
 use std::simd::prelude::*;
 use utf16_decode::ascii_len;
-use utf16_from_utf8::blocks::put_ascii;
+use utf16_from_utf8::put_ascii;
 use utf16_units::Utf16Order;
 
 // So many characters in a row, none of them U+FFFD, end the loop over items: what follows is

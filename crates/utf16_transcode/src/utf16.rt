@@ -14,9 +14,8 @@ ghost use Rattle.utf16_decode.specs.Stops.{BeginsWith};
 use crate::chars::{char_of_four, char_of_three, char_of_two, is_continuation};
 use crate::valid::valid_prefix;
 use std::marker::PhantomData;
-use utf8_blocks::{write_blocks, write_few_ascii};
 use utf16_decode::{Direction, Progress, transcode};
-use utf16_from_utf8::write_units;
+use utf16_from_utf8::{write_ascii, write_blocks, write_text};
 use utf16_to_utf8::utf8_len;
 use utf16_units::{Utf16CharExt, Utf16Order, is_trailing_surrogate};
 
@@ -60,7 +59,7 @@ impl<E: Utf16Order> Direction for FromUtf8<E> {
 
     ghost IsIllFormed = { IsIllFormedUtf8 };
 
-    ghost room_for = { λ n. 2 * n + 16 };
+    ghost room_for = { λ n. 2 * n };
 
     #[inline(always)]
     fn laws() {}
@@ -75,17 +74,15 @@ impl<E: Utf16Order> Direction for FromUtf8<E> {
         first_char(rest)
     }
 
-    // Begins with the ASCII at the start; of sixteen bytes or more with all of them, or none.
+    // Begins with the ASCII at the start; of sixteen bytes or more with whole blocks of sixteen.
     #[inline(always)]
     fn begin_short(input: &[u8], to: &mut [u8]) -> Option<(usize, usize)> {
-        let len = input.len();
-        if len < 16 {
+        if input.len() < 16 {
             return Some(put_ascii_chars::<E>(input, to));
         }
-        if len < 32 && len <= to.len() / 2 && write_few_ascii::<E>(input, to) {
-            return Some((len, 2 * len));
-        }
-        Some((0, 0))
+        let most = input.len().min(to.len() / 2);
+        let len = write_ascii::<E>(&input[..most], to);
+        Some((len, 2 * len))
     }
 
     #[inline(always)]
@@ -112,12 +109,12 @@ impl<E: Utf16Order> Direction for FromUtf8<E> {
 
     #[inline(always)]
     fn surely_fit(room: usize) -> usize {
-        room.saturating_sub(16) / 2
+        room / 2
     }
 
     #[inline(always)]
     fn write(text: &[u8], to: &mut [u8]) -> usize {
-        write_units::<E>([0; 2], text, to)
+        write_text::<E>(text, to)
     }
 
     #[inline(always)]

@@ -1,6 +1,6 @@
 //! Strings made from UTF-8, and UTF-8 appended to a string.
 
-ghost use Rattle.std.specs.Prelude.{◌≡◌, ◌+◌, ◌*◌, ◌≤◌, [], length, IfOk, IsOk, OnErr, OnOk};
+ghost use Rattle.std.specs.Prelude.{◌≡◌, ◌+◌, ◌≤◌, [], length, IfOk, IsOk, OnErr, OnOk};
 ghost use Rattle.std.specs.Str.{chars};
 ghost use Rattle.utf16_units.specs.Edit.{push_text};
 ghost use Rattle.utf16_units.specs.Encoding.{size};
@@ -8,22 +8,9 @@ ghost use Rattle.utf16_units.specs.Encoding.{size};
 use super::inserts::put_char;
 use crate::WString;
 use std::alloc::{AllocError, Allocator};
-use utf16_from_utf8::{append_utf16, extend_utf16, write_units};
+use utf16_from_utf8::{FEW_TEXT, SHORT_TEXT, append_utf16, extend_utf16, write_text};
 use utf16_units::size::few_len;
 use utf16_units::{Utf16Order, utf16_len};
-
-// Texts of fewer bytes are converted character by character.
-const TINY_TEXT: usize = 8;
-
-// Texts of at most this many bytes are converted on the stack, in one pass; and those of fewer in a
-// shorter buffer.
-const SHORT_TEXT: usize = 128;
-
-const SHORT_BUFFER: usize = 272;
-
-const FEW_TEXT: usize = 32;
-
-const FEW_BUFFER: usize = 80;
 
 impl<E: Utf16Order, A: Allocator> WString<E, A> {
     ghost use Rattle.utf16string.specs.WString.{IsUnchanged, wstring_bytes, wstring_capacity, wstring_text};
@@ -36,7 +23,7 @@ impl<E: Utf16Order, A: Allocator> WString<E, A> {
     ///
     /// # Complexity
     ///
-    /// One pass over a text of 8 to 128 bytes, else two. Allocates once, for as many bytes as the
+    /// One pass over a text of 9 to 128 bytes, else two. Allocates once, for as many bytes as the
     /// string takes, and not at all for the empty text.
     #[inline]
     pub fn from_str(alloc: A, s: &str) -> Result<Self, AllocError>
@@ -44,12 +31,10 @@ impl<E: Utf16Order, A: Allocator> WString<E, A> {
         ensures nothing { s.now ≡ [] → IsOk result }
         ensures empty { s.now ≡ [] → IfOk result (λ t. wstring_capacity t ≡ 0) }
     {
-        if s.len() < TINY_TEXT {
+        if s.len() <= FEW_TEXT {
             Self::from_few(alloc, s)
-        } else if s.len() <= FEW_TEXT {
-            Self::from_short::<FEW_BUFFER>(alloc, s)
         } else if s.len() <= SHORT_TEXT {
-            Self::from_short::<SHORT_BUFFER>(alloc, s)
+            Self::from_short(alloc, s)
         } else {
             Self::from_long(alloc, s)
         }
@@ -71,13 +56,12 @@ impl<E: Utf16Order, A: Allocator> WString<E, A> {
 
     // The same of a short text, which is converted on the stack before its length is known.
     #[inline(never)]
-    fn from_short<const N: usize>(alloc: A, s: &str) -> Result<Self, AllocError>
-        requires space { 2 * length s.now + 16 ≤ N }
-        requires few { N ≤ SHORT_BUFFER }
+    fn from_short(alloc: A, s: &str) -> Result<Self, AllocError>
+        requires { length s.now ≤ SHORT_TEXT }
         ensures { IfOk result (λ t. wstring_text t ≡ chars s.now) }
     {
-        let mut buf = [0; N];
-        let end = write_units::<E>([0; 2], s.as_bytes(), &mut buf);
+        let mut buf = [0; 2 * SHORT_TEXT];
+        let end = write_text::<E>(s.as_bytes(), &mut buf);
         let mut raw = Vec::with_capacity(alloc, end)?;
         raw.extend_from_slice(&buf[..end])?;
         Ok(Self::from_utf16_unchecked(raw))

@@ -1,17 +1,57 @@
-use Rattle.std.proofs.Common.{◌++◌, length, ap, ◌∙◌, arith}
+use Rattle.std.proofs.Common.{◌++◌, length, length-append, subst, sym, ap, ap₂, ◌∙◌, arith, take-append-drop}
+use Rattle.std.proofs.lemmas.Str.{IsUtf8-drop, IsUtf8-take}
+use Rattle.std.specs.Str.{IsUtf8, chars}
+use Rattle.utf16_units.specs.Encoding.{encode}
 use Rattle.utf16_units.proofs.EncodingLemmas.{length-encode}
-use Rattle.std.specs.Str.{chars}
-use Rattle.utf16_from_utf8.specs.Added.{added_bytes}
-use Rattle.utf16_from_utf8.proofs.AppendLemmas.{added_bytes-text}
+use Rattle.utf16_from_utf8.proofs.AppendLemmas.{piece-some, pieces-done, pieces-room}
 use Rattle.utf16_from_utf8.proofs.append.extend_long.Goals as goal
 
-pub extend_pieces-requires-clause-fits : goal.extend_pieces-requires-clause-fits
-extend_pieces-requires-clause-fits g c =
+pub extend_by-requires-clause-fits : goal.extend_by-requires-clause-fits
+extend_by-requires-clause-fits g c =
     let big = g.E.Utf16Order.BIG in
-    let is = ap (added_bytes big 0 0) c.as_bytes.ensures.value ∙ added_bytes-text big c.args.s.now c.utf8.s in
-    omega (arith, ap length is, length-encode big (chars c.args.s.now), c.requires)
+    let rest = c.loop-rest.rest.now in
+    let parts = c.split_at.ensures in
+    let split = sym (take-append-drop c.floor_char_boundary.result rest) ∙ ap₂ (λ x y. x ++ y) (sym parts.front) (sym parts.back) in
+    let old = c.args.raw.now in
+    let room = pieces-room big c.loop-rest.raw.items (old.items ++ encode big (chars c.args.s.now)) rest c.split_at.result.0.now c.split_at.result.1.now (subst IsUtf8 (sym parts.front) (IsUtf8-take rest c.floor_char_boundary.result c.loop-rest.invariant.text c.floor_char_boundary.ensures.boundary)) split c.loop-rest.invariant.whole c.loop-rest.raw.cap
+    (omega (arith, length-append old.items (encode big (chars c.args.s.now)), length-encode big (chars c.args.s.now), old.ok.0, c.requires.fits, c.loop-rest.invariant.grows)) in
+    omega (arith, room, c.loop-rest.raw.ok.0)
 
-pub returns-clause-items : goal.returns-clause-items
-returns-clause-items g c =
+pub loop-rest-smaller : goal.loop-rest-smaller
+loop-rest-smaller g c =
+    let cut = c.floor_char_boundary in
+    omega (arith, c.split_at.ensures.back_len, piece-some c.loop-rest.rest.now cut.result 2048 c.loop-rest.invariant.text (omega arith) (omega (arith, c.loop-rest-test.true)) cut.ensures.nearest)
+
+pub loop-rest-preserved : goal.loop-rest-preserved
+loop-rest-preserved g c =
     let big = g.E.Utf16Order.BIG in
-    c.extend_pieces.ensures.items ∙ ap (λ t. c.args.raw.now.items ++ t) (ap (added_bytes big 0 0) c.as_bytes.ensures.value ∙ added_bytes-text big c.args.s.now c.utf8.s)
+    let rest = c.loop-rest.rest.now in
+    let cut = c.floor_char_boundary in
+    let parts = c.split_at.ensures in
+    let text = c.loop-rest.invariant.text in
+    let piece = c.split_at.result.0.now in
+    let next = c.split_at.result.1.now in
+    let split = sym (take-append-drop cut.result rest) ∙ ap₂ (λ x y. x ++ y) (sym parts.front) (sym parts.back) in
+    record {
+      text = subst IsUtf8 (sym parts.back) (IsUtf8-drop rest cut.result text cut.ensures.boundary);
+      grows = omega (arith, c.extend_by.ensures.grows, c.loop-rest.invariant.grows);
+      whole = ap (λ t. t ++ encode big (chars next)) c.extend_by.ensures.items
+          ∙ pieces-done big c.loop-rest.raw.items _ rest piece next (subst IsUtf8 (sym parts.front) (IsUtf8-take rest cut.result text cut.ensures.boundary)) split c.loop-rest.invariant.whole;
+    }
+
+pub extend_by-requires-2-clause-fits : goal.extend_by-requires-2-clause-fits
+extend_by-requires-2-clause-fits g c =
+    let big = g.E.Utf16Order.BIG in
+    let old = c.args.raw.now in
+    omega (
+      arith,
+      length-append old.items (encode big (chars c.args.s.now)),
+      length-encode big (chars c.args.s.now),
+      old.ok.0,
+      c.requires.fits,
+      c.loop-rest.invariant.grows,
+      ap length c.loop-rest.invariant.whole,
+      length-append c.loop-rest.raw.items (encode big (chars c.loop-rest.rest.now)),
+      length-encode big (chars c.loop-rest.rest.now),
+      c.loop-rest.raw.ok.0,
+    )

@@ -11,6 +11,6 @@ returns-clause-written g c before done =
     let out = c.put_ascii.new.out in
     let wrote = c.put_ascii.ensures in
     block-written g.E.Utf16Order.BIG c.args.bytes.now before c.args.out.now out c.args.at _ refl c.requires.more c.requires.ascii
-    (ap (λ n. take n out) (sym wrote.written_to) ∙ wrote.bytes 0 0 (omega arith))
+    (ap (λ n. take n out) (sym wrote.written_to) ∙ wrote.bytes)
     (ap (λ n. drop n out) (sym wrote.written_to) ∙ wrote.rest ∙ ap (λ n. drop n c.args.out.now) wrote.written_to)
     done

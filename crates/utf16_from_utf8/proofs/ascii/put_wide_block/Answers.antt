@@ -1,5 +1,5 @@
 use Rattle.std.proofs.Common.{arith}
-use Rattle.utf16_from_utf8.proofs.RunLemmas.{below-further}
+use Rattle.utf16_from_utf8.proofs.LimitLemmas.{below-further}
 use Rattle.utf16_from_utf8.proofs.ascii.put_wide_block.Goals as goal
 
 pub put_block-third-requires-clause-ascii : goal.put_block-third-requires-clause-ascii

@@ -7,3 +7,6 @@ loop-at-init g c = record {
   written = none-written g.E.Utf16Order.BIG c.args.bytes.now c.args.out.now;
   blocks = refl;
 }
+
+pub put_wide_block-at-requires-clause-ascii : goal.put_wide_block-at-requires-clause-ascii
+put_wide_block-at-requires-clause-ascii g c = (c.greatest.ensures 0x80).0 (c.are_below.ensures.0 c.if-not-are_below.false)

@@ -1,16 +1,9 @@
-use Rattle.std.proofs.Common.{◌++◌, take, sym, ap, ◌∙◌, arith}
-use Rattle.utf16_from_utf8.proofs.AsciiLemmas.{after_both}
-use Rattle.utf16_from_utf8.proofs.BlockLemmas.{ascii-added, both_stored}
+use Rattle.std.proofs.Common.{rules}
+use Rattle.utf16_from_utf8.proofs.WrittenLemmas.{ascii-written}
 use Rattle.utf16_from_utf8.proofs.blocks.put_ascii.Goals as goal
 
-pub returns-clause-bytes : goal.returns-clause-bytes
-returns-clause-bytes g c b2 b1 behind =
-    let long = c.fits-block.0 in
-    both_stored c.args.at c.paired.result.0 c.paired.result.1 c.args.out.now c.paired.ensures.first_len c.paired.ensures.second_len c.requires.space
-    ∙ ap (λ t. take c.args.at c.args.out.now ++ t)
-    (c.paired.ensures.pairs
-    ∙ ascii-added g.E.Utf16Order.BIG b2 b1 c.each.result c.args.block (c.each.ensures.len ∙ sym long) behind
-    (λ i below. c.each.ensures.lanes i (omega (arith, long))) (λ i below. c.requires.ascii i (omega (arith, long))))
-
-pub returns-clause-rest : goal.returns-clause-rest
-returns-clause-rest g c = after_both c.args.at c.paired.result.0 c.paired.result.1 c.args.out.now c.paired.ensures.first_len c.paired.ensures.second_len
+pub returns-clause-written : goal.returns-clause-written
+returns-clause-written g c =
+    let ascii = c.write_ascii-len.ensures in
+    ascii-written g.E.Utf16Order.BIG c.args.bytes.now c.args.out.now c.write_ascii-len.new.out c.args.read c.args.written c.min-most.result c.write_ascii-len.result c.requires.written
+    (search rules) (search rules) ascii.within ascii.ascii ascii.bytes

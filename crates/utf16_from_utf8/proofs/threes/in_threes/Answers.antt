@@ -2,7 +2,7 @@ use Rattle.std.proofs.Common.{◌+◌, ◌++◌, take, drop, sym, ap, ap₂, ◌
 use Rattle.std.proofs.lemmas.Simd.{length-chunk}
 use lib.Lanes.{chunk, pick_l}
 use Rattle.utf16_from_utf8.specs.Threes.{every_third, woven}
-use Rattle.utf16_from_utf8.proofs.ThreeLemmas.{planes-woven, three-chunks}
+use Rattle.utf16_from_utf8.proofs.ThreesLemmas.{planes-woven, three-chunks}
 use Rattle.utf16_from_utf8.proofs.threes.in_threes.Goals as goal
 
 pub returns : goal.returns

@@ -1,7 +1,7 @@
 use Rattle.std.proofs.Common.{◌++◌, take, ap, sym, ◌∙◌, arith, Fits, w8}
 use Rattle.std.proofs.lemmas.Simd.{Each1-get_or}
 use Rattle.utf16_from_utf8.proofs.BlockLemmas.{both_stored}
-use Rattle.utf16_from_utf8.proofs.ThreeLemmas.{woven-added}
+use Rattle.utf16_from_utf8.proofs.ThreesLemmas.{woven-added}
 use Rattle.utf16_from_utf8.proofs.threes.put_sixteen.Goals as goal
 
 pub returns-clause-bytes : goal.returns-clause-bytes
@@ -13,7 +13,7 @@ returns-clause-bytes g c b2 b1 =
     let q = c.fits-seconds.0 in
     let r = c.fits-thirds.0 in
     let high = c.three_highs-highs.ensures in
-    let low = c.short_lows.ensures in
+    let low = c.three_lows.ensures in
     both_stored c.args.at c.paired.result.0 c.paired.result.1 c.args.out.now c.paired.ensures.first_len c.paired.ensures.second_len c.requires.space
     ∙ ap (λ t. take c.args.at c.args.out.now ++ t)
     (c.paired.ensures.pairs

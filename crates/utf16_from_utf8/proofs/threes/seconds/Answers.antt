@@ -1,5 +1,5 @@
 use Rattle.std.proofs.Common.{[], ◌∷◌, refl}
-use Rattle.utf16_from_utf8.proofs.ThreeLemmas.{plane}
+use Rattle.utf16_from_utf8.proofs.ThreesLemmas.{plane}
 use Rattle.utf16_from_utf8.proofs.threes.seconds.Goals as goal
 
 pub returns : goal.returns

@@ -1,8 +1,6 @@
 use Rattle.std.proofs.Common.{◌≡◌, ◌*◌, ◌∙◌, ap, arith, length, length-take-le, subst, sym, take, take-take}
 use Rattle.std.proofs.lemmas.List.{get_or-take, length-map}
-use Rattle.std.proofs.lemmas.Str.{IsUtf8-from_ascii}
 use Rattle.std.specs.Str.{IsAscii}
-use Rattle.utf16_from_utf8.proofs.AppendLemmas.{added_bytes-text}
 use Rattle.utf16_decode.proofs.WroteLemmas.{Wrote-none}
 use Rattle.utf16_transcode.proofs.AsciiFront.{ascii-all, front-low, low-ascii, wrote-front}
 use Rattle.utf16_transcode.proofs.FromUtf8Lemmas.{utf16_empty}
@@ -32,7 +30,7 @@ returns-clause-wrote g c =
     let end : 2 * length block ≡ c.put_ascii.result = omega (arith, long, c.put_ascii.ensures.written_to) in
     let front = ap (take n) c.low_bits.ensures ∙ front-low (take 16 text) n (ascii-all _ c.ascii_len-len.ensures.ascii) ∙ take-take n 16 text c.ascii_len-len.ensures.few in
     wrote-front g.E.Utf16Order.BIG text block c.put_ascii.new.out n (omega (arith, c.ascii_len-len.ensures.few)) front (omega (arith, long, c.ascii_len-len.ensures.few)) ascii (omega (arith, long, c.put_ascii.auto.out))
-    (ap (λ k. take k c.put_ascii.new.out) end ∙ c.put_ascii.ensures.bytes 0 0 (omega arith) ∙ added_bytes-text g.E.Utf16Order.BIG block (IsUtf8-from_ascii block ascii))
+    (ap (λ k. take k c.put_ascii.new.out) end ∙ c.put_ascii.ensures.bytes)
 
 pub returns-clause-most : goal.returns-clause-most
 returns-clause-most g c some few =

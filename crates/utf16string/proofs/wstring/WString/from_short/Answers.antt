@@ -9,8 +9,8 @@ use Rattle.utf16string.proofs.wstring.WString.from_short.Goals.{In_ok-extend_fro
 -- what was written on the stack was appended to nothing
 written : (g : Over) (c : In_ok-extend_from_slice g) → c.extend_from_slice.new.self.items ≡ encode g.E.Utf16Order.BIG (chars c.args.s.now)
 written g c =
-    c.in_ok-extend_from_slice.ensures.items ∙ ap (λ bytes. bytes ++ take c.write_units-end.result c.write_units-end.new.out) c.in_ok-raw.ensures.items
-    ∙ c.write_units-end.ensures.text refl refl c.as_bytes.ensures.utf8
+    c.in_ok-extend_from_slice.ensures.items ∙ ap (λ bytes. bytes ++ take c.write_text-end.result c.write_text-end.new.out) c.in_ok-raw.ensures.items
+    ∙ c.write_text-end.ensures.bytes
     ∙ ap (λ bytes. encode g.E.Utf16Order.BIG (chars bytes)) c.as_bytes.ensures.value
 
 pub from_utf16_unchecked-requires : goal.from_utf16_unchecked-requires

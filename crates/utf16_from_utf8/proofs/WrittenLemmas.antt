@@ -1,0 +1,110 @@
+-- More UTF-8 that is well formed, written after what was written.
+use Rattle.std.proofs.Common.{◌≡◌, ℕ, zero, suc, ◌+◌, ◌-◌, ◌*◌, ◌≤◌, Bool, List, ◌++◌, length, length-append, length-drop, length-take, length-take-le, replicate, take, drop, subst, sym, ap, ◌∙◌, arith}
+use borrow.Rule.Slice.PartMut.{put_mid}
+use Rattle.std.proofs.Math.Seq.{take-add, take-append-add}
+use Rattle.std.proofs.lemmas.List.{take-append-drop, take-append-le, take-take, take_at, take_rest}
+use Rattle.std.proofs.lemmas.Str.{IsCharBoundary-from_take, IsUtf8-append, IsUtf8-drop, IsUtf8-from_ascii, chars-IsAscii, chars-append}
+use Rattle.std.specs.Str.{IsAscii, IsUtf8, chars}
+use Rattle.utf16_units.specs.Encoding.{encode, size}
+use Rattle.utf16_units.proofs.CharLemmas.{char_size_two}
+use Rattle.utf16_units.proofs.EncodingLemmas.{encode-append, length-encode, size-cons, size-nil}
+use Rattle.utf16_units.proofs.IllFormedLemmas.{rest_from}
+use Rattle.utf16_from_utf8.specs.Added.{added_bytes}
+use Rattle.utf16_from_utf8.specs.Written.{IsWritten}
+use Rattle.utf16_from_utf8.proofs.TextLemmas.{added_bytes-text}
+
+pub more-written : (big : Bool) (bytes old new : List ℕ) (read written k to : ℕ) → IsWritten big bytes old read written → read + k ≤ length bytes
+    → IsUtf8 (take k (drop read bytes)) → take to new ≡ take written old ++ encode big (chars (take k (drop read bytes))) → to ≤ written + 2 * k → to ≤ length new
+    → IsWritten big bytes new (read + k) to
+more-written big bytes old new read written k to done more utf8 wrote short fits =
+    let front = take read bytes in
+    let back = take k (drop read bytes) in
+    let parts : take (read + k) bytes ≡ front ++ back = take-add read k bytes in
+    record {
+      within = more;
+      well_formed = subst IsUtf8 (sym parts) (IsUtf8-append front back done.well_formed utf8);
+      wrote =
+          wrote ∙ ap (λ t. t ++ encode big (chars back)) done.wrote ∙ sym (encode-append big (chars front) (chars back))
+          ∙ ap (encode big) (sym (chars-append front back done.well_formed) ∙ ap chars (sym parts));
+      short = omega (arith, done.short, short);
+      fits = fits;
+    }
+
+-- ASCII at the start of the first `most` bytes
+module _ (big : Bool) (bytes new : List ℕ) (most len : ℕ) (within : len ≤ length (take most bytes)) (ascii : IsAscii (take len (take most bytes)))
+    (wrote : take (2 * len) new ≡ encode big (chars (take len (take most bytes)))) where
+  len-within : len ≤ length bytes
+  len-within = omega (arith, within, length-take most bytes)
+
+  front : take len (take most bytes) ≡ take len bytes
+  front = take-take len most bytes (omega (arith, within, length-take most bytes))
+
+  front-utf8 : IsUtf8 (take len bytes)
+  front-utf8 = subst IsUtf8 front (IsUtf8-from_ascii _ ascii)
+
+  front-wrote : take (2 * len) new ≡ encode big (chars (take len bytes))
+  front-wrote = wrote ∙ ap (λ t. encode big (chars t)) front
+
+  pub ascii-first : 2 * len ≤ length new → IsWritten big bytes new len (2 * len)
+  ascii-first fits = record { within = len-within; well_formed = front-utf8; wrote = front-wrote; short = omega arith; fits = fits }
+
+-- more ASCII, written to the rest of the buffer
+pub ascii-written : (big : Bool) (bytes old part : List ℕ) (read written most len : ℕ) → IsWritten big bytes old read written → length part ≡ length old - written → 2 * len ≤ length part
+    → len ≤ length (take most (rest_from bytes read)) → IsAscii (take len (take most (rest_from bytes read))) → take (2 * len) part ≡ encode big (chars (take len (take most (rest_from bytes read))))
+    → IsWritten big bytes (put_mid written (length old - written) old part) (read + len) (written + 2 * len)
+ascii-written big bytes old part read written most len done long fits within ascii wrote =
+    let rest : rest_from bytes read ≡ drop read bytes = take_rest bytes read in
+    let start = length-take-le written old done.fits in
+    let after = drop (length old - written) (drop written old) in
+    let more = len-within big (rest_from bytes read) part most len within ascii wrote in
+    more-written big bytes old (put_mid written (length old - written) old part) read written len (written + 2 * len) done
+    (omega (arith, more, ap length rest ∙ length-drop read bytes, done.within))
+    (subst (λ t. IsUtf8 (take len t)) rest (front-utf8 big (rest_from bytes read) part most len within ascii wrote))
+    (ap (λ k. take (k + 2 * len) (take written old ++ (part ++ after))) (sym start) ∙ take-append-add (take written old) (part ++ after) (2 * len)
+    ∙ ap (λ t. take written old ++ t)
+    (take-append-le (2 * len) part after fits ∙ front-wrote big (rest_from bytes read) part most len within ascii wrote ∙ ap (λ t. encode big (chars (take len t))) rest))
+    (omega arith) (omega (arith, fits, start, length-append (take written old) (part ++ after), length-append part after))
+
+-- ---- the rest of a text
+
+pub rest-utf8 : (big : Bool) (text out : List ℕ) (read written : ℕ) → IsUtf8 text → IsWritten big text out read written → IsUtf8 (drop read text)
+rest-utf8 big text out read written utf8 done = IsUtf8-drop text read utf8 (IsCharBoundary-from_take text read utf8 done.within done.well_formed)
+
+pub rest-written : (big : Bool) (text old new : List ℕ) (read written to : ℕ) → IsWritten big text old read written → take to new ≡ take written old ++ encode big (chars (drop read text))
+    → take to new ≡ encode big (chars text)
+rest-written big text old new read written to done wrote =
+    let front = take read text in
+    let back = drop read text in
+    wrote ∙ ap (λ t. t ++ encode big (chars back)) done.wrote ∙ sym (encode-append big (chars front) (chars back))
+    ∙ ap (encode big) (sym (chars-append front back done.well_formed) ∙ ap chars (take-append-drop read text))
+
+-- ---- a text and zeros after it
+
+zeros-ascii : (k : ℕ) → IsAscii (replicate k 0)
+zeros-ascii zero i = omega arith
+zeros-ascii (suc k) zero = omega arith
+zeros-ascii (suc k) (suc i) = zeros-ascii k i
+
+size-zeros : (k : ℕ) → size (replicate k 0) ≡ 2 * k
+size-zeros zero = size-nil
+size-zeros (suc k) = size-cons 0 (replicate k 0) ∙ omega (arith, char_size_two 0 (omega arith), size-zeros k)
+
+pub padded-utf8 : (text : List ℕ) (k : ℕ) → IsUtf8 text → IsUtf8 (text ++ replicate k 0)
+padded-utf8 text k utf8 = IsUtf8-append text (replicate k 0) utf8 (IsUtf8-from_ascii (replicate k 0) (zeros-ascii k))
+
+module _ (big : Bool) (text units : List ℕ) (k end : ℕ) (utf8 : IsUtf8 text) (fits : end ≤ length units) (wrote : take end units ≡ added_bytes big 0 0 (text ++ replicate k 0)) where
+  both : take end units ≡ encode big (chars text) ++ encode big (replicate k 0)
+  both =
+      wrote ∙ added_bytes-text big (text ++ replicate k 0) (padded-utf8 text k utf8)
+      ∙ ap (encode big) (chars-append text (replicate k 0) utf8 ∙ ap (λ t. chars text ++ t) (chars-IsAscii (replicate k 0) (zeros-ascii k)))
+      ∙ encode-append big (chars text) (replicate k 0)
+
+  pub padded-len : length (encode big (chars text)) + 2 * k ≡ end
+  padded-len =
+      let zero_len = length-encode big (replicate k 0) ∙ size-zeros k in
+      omega (arith, zero_len, sym (length-take-le end units fits) ∙ ap length both ∙ length-append (encode big (chars text)) (encode big (replicate k 0)))
+
+  pub padded-front : (len : ℕ) → len ≡ end - 2 * k → take len units ≡ encode big (chars text)
+  padded-front len is =
+      sym (take-take len end units (omega (arith, is))) ∙ ap (take len) both
+      ∙ take_at (encode big (chars text)) (encode big (replicate k 0)) len (omega (arith, is, padded-len))

@@ -1,0 +1,105 @@
+//! Characters of four bytes, four at a time.
+
+ghost use Rattle.std.specs.Prelude.{◌≡◌, ◌+◌, ◌*◌, ◌/◌, ◌%◌, ◌<◌, ◌≤◌, ◌++◌, IsTrue, ℕ, bit_and, length, slice_index, take};
+ghost use Rattle.std.specs.Simd.Lanes.{zip2};
+ghost use Rattle.std.specs.Str.{IsUtf8};
+ghost use Rattle.utf16_from_utf8.specs.Added.{added_bytes};
+ghost use Rattle.utf16_from_utf8.specs.Written.{IsWritten};
+
+use crate::lanes::{down, each, masked, sum, up};
+use crate::limits::are_below;
+use crate::pack::paired;
+use crate::units::four_bytes;
+use std::simd::prelude::*;
+use utf16_units::Utf16Order;
+
+// The upper bits of each byte in four characters of four bytes, and the mask of these bits.
+const FOURS: [u8; 16] = [
+    0xF0, 0x80, 0x80, 0x80, 0xF0, 0x80, 0x80, 0x80, 0xF0, 0x80, 0x80, 0x80, 0xF0, 0x80, 0x80, 0x80,
+];
+
+const UPPER_OF_FOURS: [u8; 16] = [
+    0xF8, 0xC0, 0xC0, 0xC0, 0xF8, 0xC0, 0xC0, 0xC0, 0xF8, 0xC0, 0xC0, 0xC0, 0xF8, 0xC0, 0xC0, 0xC0,
+];
+
+// Writes the next characters of four bytes, four at a time.
+#[inline(always)]
+pub(crate) fn put_fours<E: Utf16Order>(
+    bytes: &[u8],
+    out: &mut [u8],
+    from: usize,
+    end: usize,
+) -> (usize, usize)
+    requires { IsWritten E.BIG bytes.now out.old from end }
+    ensures written { IsWritten E.BIG bytes.now out.new result.0 result.1 }
+    ensures advances { from ≤ result.0 }
+    ensures stays { result.0 ≡ from → result.1 ≡ end }
+{
+    // Four characters of four bytes take as many bytes in UTF-16.
+    let most = (bytes.len() - from).min(out.len() - end);
+    let last = from + most / 16 * 16;
+    let mut read = from;
+    let mut written = end;
+    while read < last {
+        let block = u8x16::from_slice(&bytes[read..]);
+        if !are_characters(block) {
+            break;
+        }
+        written = put_fours_block::<E>(out, written, block);
+        read += 16;
+    }
+    (read, written)
+}
+
+// Writes four characters of four bytes: two units for each, that of its first three bytes and that
+// of its last three.
+#[inline(always)]
+fn put_fours_block<E: Utf16Order>(out: &mut [u8], at: usize, block: u8x16) -> usize
+    requires space { at + 16 ≤ length out.old }
+    requires well_formed { IsUtf8 block }
+    requires fours { zip2 bit_and block UPPER_OF_FOURS ≡ FOURS }
+    ensures bytes { take result out.new ≡ take at out.old ++ added_bytes E.BIG 0 0 block }
+    ensures written_to { result ≡ at + 16 }
+{
+    let b2 = block.swizzle([0, 1, 4, 5, 8, 9, 12, 13, 0, 0, 0, 0, 0, 0, 0, 0]);
+    let b1 = block.swizzle([1, 2, 5, 6, 9, 10, 13, 14, 0, 0, 0, 0, 0, 0, 0, 0]);
+    let b0 = block.swizzle([2, 3, 6, 7, 10, 11, 14, 15, 0, 0, 0, 0, 0, 0, 0, 0]);
+    let (highs, lows) = four_bytes(b2, b1, b0);
+    let (pairs, _) = paired::<E>(highs, lows);
+    pairs.copy_to_slice(&mut out[at..]);
+    at + 16
+}
+
+// Whether the bytes are those of four characters of four bytes.
+#[inline(always)]
+fn are_characters(block: u8x16) -> bool
+    ensures well_formed { IsTrue result → IsUtf8 block }
+    ensures fours { IsTrue result → zip2 bit_and block UPPER_OF_FOURS ≡ FOURS }
+{
+    are_fours(block) && are_in_range(block)
+}
+
+// Whether the planes that the first two bytes of each character name are 1 to 16 (Unicode, section
+// 2.8).
+#[inline(always)]
+fn are_in_range(block: u8x16) -> bool
+    ensures { IsTrue result → (i : ℕ) → i < 4
+        → (1 ≤ slice_index block (4 * i) % 8 * 4 + slice_index block (4 * i + 1) / 16 % 4)
+        × (slice_index block (4 * i) % 8 * 4 + slice_index block (4 * i + 1) / 16 % 4 ≤ 16) }
+{
+    let firsts = block.swizzle([0, 4, 8, 12, 0, 4, 8, 12, 0, 4, 8, 12, 0, 4, 8, 12]);
+    let seconds = block.swizzle([1, 5, 9, 13, 1, 5, 9, 13, 1, 5, 9, 13, 1, 5, 9, 13]);
+    let planes = sum(up(masked(firsts, 7), 2), masked(down(seconds, 4), 3));
+    are_below(sum(planes, each(0xFF)), 0x10)
+}
+
+// Whether the upper bits are those of four characters of four bytes.
+#[inline(always)]
+fn are_fours(block: u8x16) -> bool
+    ensures { IsTrue result → zip2 bit_and block UPPER_OF_FOURS ≡ FOURS }
+{
+    (block & u8x16::from_array(UPPER_OF_FOURS))
+        .simd_ne(u8x16::from_array(FOURS))
+        .to_bitmask()
+        == 0
+}

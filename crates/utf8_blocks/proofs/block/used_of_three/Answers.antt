@@ -1,5 +1,0 @@
-use Rattle.std.proofs.Common.{rules}
-use Rattle.utf8_blocks.proofs.block.used_of_three.Goals as goal
-
-pub returns-then-bytes-at-ge224 : goal.returns-then-bytes-at-ge224
-returns-then-bytes-at-ge224 c = search rules
