@@ -8,7 +8,7 @@ use Rattle.std.specs.Str.{StartsWithNoChar, chars}
 use Rattle.std.specs.Str.Lossy.{utf8_error_len}
 use Rattle.utf16_units.specs.Encoding.{char_bytes, encode}
 use Rattle.utf16_units.proofs.IllFormedLemmas.{rest_from}
-use Rattle.utf8_split.specs.Split.{IsTail, Item, good, ill, item_bytes, items_bytes, lossy_char, lossy_chars, split_items, split_tail}
+use Rattle.utf8_split.specs.Split.{IsTail, Item, good, ill, item_bytes, items_bytes, lossy_chars, split_items, split_tail}
 use Rattle.utf8_split.proofs.PartLemmas.{subpart_at}
 use Rattle.utf8_split.proofs.ShownLemmas.{length-IsTail}
 use Rattle.utf8_split.proofs.SplitIllFormed.{split_items-subpart, split_tail-subpart, split_undecided}

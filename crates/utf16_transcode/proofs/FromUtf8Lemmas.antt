@@ -1,10 +1,10 @@
 -- From UTF-8 to UTF-16: texts one after another, characters, and the place of an error.
-use Rattle.std.proofs.Common.{◌≡◌, ℕ, zero, suc, replicate, ◌+◌, ◌-◌, ◌*◌, ◌<◌, ◌≤◌, Bool, true, List, [], ◌∷◌, ◌++◌, Option, drop_at, length, take, drop, encode_utf8_all, refl, sym, ap, ap₂, ◌∙◌, subst, arith, append-nil, append_assoc, length-append, length-drop, length-take, take_all, take_at, take-add, take-append-drop, slice_index}
+use Rattle.std.proofs.Common.{◌≡◌, ℕ, zero, suc, replicate, ◌+◌, ◌-◌, ◌*◌, ◌<◌, ◌≤◌, Bool, true, List, [], ◌∷◌, ◌++◌, Option, drop_at, length, take, drop, encode_utf8_all, refl, sym, ap, ap₂, ◌∙◌, subst, arith, append-nil, append_assoc, length-append, length-drop, length-take, take_at, take-add, take-append-drop, slice_index}
 use Rattle.std.proofs.lemmas.List.{take_more, take_rest}
 use Rattle.std.proofs.lemmas.List.Elements.{All-cons, All-head, All-nil}
-use Rattle.std.proofs.lemmas.Str.{IsCharBoundary-at_seam, IsCharBoundary-from_take, IsUtf8-append, IsUtf8-drop, IsUtf8-encode, IsUtf8-from_ascii, IsUtf8-nil, IsUtf8-take, chars-append, chars-nil, chars-encodes}
+use Rattle.std.proofs.lemmas.Str.{IsCharBoundary-at_seam, IsCharBoundary-from_take, IsUtf8-append, IsUtf8-drop, IsUtf8-encode, IsUtf8-nil, IsUtf8-take, chars-append, chars-nil, chars-encodes}
 use Rattle.std.specs.Char.{IsScalar, encode_utf8}
-use Rattle.std.specs.Str.{IsAscii, IsUtf8, IsValidUpTo, StartsWithNoChar, all_scalars, chars}
+use Rattle.std.specs.Str.{IsUtf8, IsValidUpTo, StartsWithNoChar, all_scalars, chars}
 use Rattle.utf16_units.specs.Encoding.{char_bytes, encode}
 use Rattle.utf16_units.proofs.EncodingLemmas.{All-from_all_scalars, all_scalars-from_All, encode-append, encode-nil, encode-one}
 use Rattle.utf16_units.proofs.IllFormedLemmas.{rest_from}

@@ -1,5 +1,3 @@
-use Rattle.std.proofs.Common.{◌≢◌, subst}
-use Rattle.utf16_decode.specs.declared.progress.Stop.TheVariants.{Done, IllFormed, Incomplete, NoRoom}
 use Rattle.utf16_transcode.proofs.DecodedText.{between-lossy}
 use Rattle.utf16_transcode.proofs.encode.from_utf8_lossy.Goals as goal
 

@@ -3,7 +3,6 @@ use Rattle.utf8_split.specs.Split.{decided_text}
 use Rattle.utf16_decode.specs.Stream.{stream_pending}
 use Rattle.utf16_decode.specs.declared.progress.Stop.TheVariants.{Done}
 use Rattle.utf16_transcode.proofs.FeedsUtf8.{enough_after_any, enough_after_tail, flat_size, leaves_tail}
-use Rattle.utf16_transcode.proofs.stream.feed_utf8.Given.{Over}
 use Rattle.utf16_transcode.proofs.stream.feed_utf8.Goals as goal
 
 pub returns-clause-done : goal.returns-clause-done

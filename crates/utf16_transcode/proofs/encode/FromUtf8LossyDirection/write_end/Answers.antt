@@ -1,4 +1,4 @@
-use Rattle.std.proofs.Common.{◌≡◌, ◌<◌, ◌++◌, ◌∙◌, flat_map, length, take, sym, ap, arith, append-nil, rules}
+use Rattle.std.proofs.Common.{◌<◌, ◌++◌, ◌∙◌, flat_map, length, take, sym, ap, arith, append-nil, rules}
 use Rattle.utf16_units.specs.Encoding.{char_bytes}
 use Rattle.utf16_units.proofs.CharLemmas.{one_unit_bytes}
 use Rattle.utf16_units.proofs.UnitLemmas.{length-unit_bytes}
