@@ -7,7 +7,7 @@
 # bench/out/short.md.
 set -eu
 . "$(dirname "$0")/program.sh"
-build short utf16_transcode utf16_decode utf16_units
+build short utf16_encode utf16_decode utf16_units
 # The program is linked at two places, 16 bytes apart: a branch that lies across 32 bytes at one of
 # them does not at the other.
 kit=$(dirname "$(rt doc)")

@@ -52,7 +52,7 @@ library_over_ci() {
     for below in ../*/out/rlib; do
         words+=(-L "dependency=$below")
     done
-    for below in utf16_transcode utf16_decode utf8_split utf16_boundaries utf16_bytes utf16_units; do
+    for below in utf16_encode utf16_decode utf8_bytes utf16_bytes utf16_units; do
         words+=(--extern "$below=../$below/out/rlib/$below.rlib")
     done
     words+=(--extern "std=$kit/rlibs/std.rlib" -L "dependency=$kit/rlibs" --toolchain "$kit/toolchain")

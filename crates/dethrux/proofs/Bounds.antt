@@ -12,7 +12,7 @@ use Rattle.utf16_decode.specs.Shown.{ShowsWhole}
 use Rattle.utf16_decode.specs.Stops.{StopsLossyWhole}
 use Rattle.utf16_decode.specs.declared.progress.Stop.{Stop}
 use Rattle.utf16_decode.specs.declared.progress.Stop.TheVariants.{Incomplete, Done, IllFormed, NoRoom}
-use Rattle.utf16_transcode.proofs.LossyLemmas.{chunk-most}
+use Rattle.utf16_encode.proofs.LossyLemmas.{chunk-most}
 use Rattle.utf16_units.specs.Encoding.{size}
 use Rattle.utf16_units.specs.Split.{Item, whole_lossy_chars, good, item_bytes, items_bytes, lone_lead, lone_trail, lossy_text, lossy_char, lossy_chars, split_items, split_tail}
 use Rattle.utf16_units.proofs.CharLemmas.{char_size_four, char_size_two, length-char_bytes}

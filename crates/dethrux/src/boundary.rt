@@ -1,13 +1,13 @@
 //! Boundaries between characters.
 
 ghost use Rattle.std.specs.Prelude.{◌≡◌, ◌↔◌, ◌+◌, ◌≤◌, ◌⊎◌, IsTrue, length};
-ghost use Rattle.utf16_boundaries.specs.Boundary.{IsCut, IsLastCut};
-ghost use Rattle.utf16_boundaries.specs.File.{IsLastCutAround, IsLastCutOfFile, around_start};
-ghost use Rattle.utf16_boundaries.specs.Shards.{shard_start};
+ghost use Rattle.utf16_bytes.specs.Boundary.{IsCut, IsLastCut};
+ghost use Rattle.utf16_bytes.specs.File.{IsLastCutAround, IsLastCutOfFile, around_start};
+ghost use Rattle.utf16_bytes.specs.Shards.{shard_start};
 ghost use Rattle.dethrux.specs.Numbers.{is_big};
 
 use crate::byte_order::is_big_endian;
-use utf16_boundaries::{
+use utf16_bytes::{
     floor_char_boundary, floor_char_boundary_around, is_char_boundary, shard_offset,
 };
 use utf16_units::{BE, LE};

@@ -1,5 +1,5 @@
 //! UTF-16 for callers in C, and in any language that can call C; `include/dethrux.h` documents the
-//! calls. Each makes a call of `utf16_transcode` in the byte order that it is passed. A slice is a
+//! calls. Each makes a call of `utf16_encode` in the byte order that it is passed. A slice is a
 //! pointer and a length in bytes in C. No call allocates, and none has a precondition on the bytes.
 #![tactic(auto)]
 
@@ -22,7 +22,7 @@ ghost use Rattle.std.specs.Str.Lossy.{utf8_valid_len};
 ghost use Rattle.utf16_units.specs.Encoding.{IsUtf16, char_bytes, size, text_of, units_of};
 ghost use Rattle.utf16_units.specs.IllFormed.{IsUtf16ValidUpTo};
 ghost use Rattle.utf16_units.specs.Split.{lossy_text};
-ghost use Rattle.utf16_transcode.specs.FromUtf8.{TranscodesToUtf16, StopsEncoding, text_of_utf8};
+ghost use Rattle.utf16_encode.specs.FromUtf8.{TranscodesToUtf16, StopsEncoding, text_of_utf8};
 ghost use Rattle.utf16_decode.specs.Shown.{ShowsWhole};
 ghost use Rattle.utf16_decode.specs.Stops.{StopsDecoding, StopsLossy, StopsLossyWhole};
 ghost use Rattle.utf16_decode.specs.Wrote.{DecodesTo, TranscodesToUtf8, Wrote};
@@ -31,7 +31,7 @@ ghost use Rattle.utf16_decode.specs.declared.progress.Stop.TheVariants.{Done, No
 
 use crate::byte_order::is_big_endian;
 use crate::results::{Conversion, Validity, conversion_of, validity_of};
-use utf16_transcode::{
+use utf16_encode::{
     count_chars, from_utf8, from_utf8_len, from_utf8_lossy, from_utf8_lossy_len, is_ascii, to_utf8,
     to_utf8_lossy, to_utf8_lossy_len, to_utf8_partial,
 };

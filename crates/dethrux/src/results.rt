@@ -3,7 +3,7 @@
 ghost use Rattle.std.specs.Prelude.{◌≡◌};
 ghost use Rattle.dethrux.specs.Numbers.{AreNumbers, stop_of, validity_stop, validity_up_to};
 
-use utf16_transcode::{Progress, Stop};
+use utf16_encode::{Progress, Stop};
 use utf16_units::Utf16Error;
 
 const DONE: u32 = 0;

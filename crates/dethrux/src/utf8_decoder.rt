@@ -2,15 +2,15 @@
 
 ghost use Rattle.std.specs.Prelude.{◌≡◌, ◌≢◌, ◌↔◌, ◌+◌, ◌-◌, ◌*◌, ◌<◌, ◌≤◌, [], ◌++◌, drop, length, take};
 ghost use Rattle.utf16_units.specs.Encoding.{encode, size};
-ghost use Rattle.utf8_split.specs.Split.{IsTail, decided_text, whole_lossy_chars};
+ghost use Rattle.utf8_bytes.specs.Split.{IsTail, decided_text, whole_lossy_chars};
 ghost use Rattle.utf16_decode.specs.Stream.{stream_pending};
-ghost use Rattle.utf16_transcode.specs.Utf8Stream.{FeedsUtf8, StopsFeedingUtf8};
+ghost use Rattle.utf16_encode.specs.Utf8Stream.{FeedsUtf8, StopsFeedingUtf8};
 ghost use Rattle.utf16_decode.specs.declared.progress.Stop.TheVariants.{Done, NoRoom};
 ghost use Rattle.dethrux.specs.Numbers.{AreNumbers, is_big, stop_of};
 
 use crate::byte_order::is_big_endian;
 use crate::results::{Conversion, conversion_of};
-use utf16_transcode::{Stream, feed_utf8, finish_utf8};
+use utf16_encode::{Stream, feed_utf8, finish_utf8};
 use utf16_units::{BE, LE};
 
 /// Decodes the next chunk of a stream of UTF-8 and writes its text in UTF-16, as far as whole

@@ -15,3 +15,4 @@ pub mod Window
 pub mod WStr
 pub mod WStrMut
 pub mod Common
+pub mod Append

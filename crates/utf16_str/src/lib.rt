@@ -1,7 +1,9 @@
-//! Views of UTF-16 strings in either byte order: what `&str` and `&mut str` are to UTF-8.
+//! Views of UTF-16 strings in either byte order: what `&str` and `&mut str` are to UTF-8. Also a text
+//! in UTF-8, as a new `String` or appended to one.
 #![tactic(auto)]
 
 mod affixes;
+mod append;
 mod iters;
 mod parts;
 mod slicing;
@@ -10,6 +12,7 @@ mod utf8;
 mod wstr;
 mod wstr_mut;
 
+pub use crate::append::{append_utf8, to_utf8};
 pub use crate::iters::{WStrCharIndices, WStrChars};
 pub use crate::slicing::SliceIndex;
 pub use crate::split::WStrSplit;

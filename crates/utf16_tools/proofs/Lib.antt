@@ -4,3 +4,8 @@ pub use Rattle.utf16_streams.proofs.IllFormedDecides
 pub use Rattle.utf16_streams.proofs.DecodesSteps
 pub use Rattle.utf16_streams.proofs.StreamLemmas
 pub mod StreamRules
+pub mod Steps
+pub mod Runs
+pub mod EditedLemmas
+pub mod Rows
+pub mod Served

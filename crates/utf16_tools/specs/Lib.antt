@@ -1,9 +1,11 @@
 pub use Rattle.utf16_streams.specs.Split
-pub use Rattle.utf16_edits.specs.Step
-pub use Rattle.utf16_edits.specs.Edited
+pub use Rattle.utf16_tools.specs.Step
+pub use Rattle.utf16_tools.specs.Edited
 pub use Rattle.utf16_streams.specs.Bom
 pub use Rattle.utf16_streams.specs.Watched
 pub use Rattle.utf16_streams.specs.Lossy
 pub use Rattle.utf16_streams.specs.AnyLossy
 pub use Rattle.utf16_streams.specs.Filter
 pub use Rattle.utf16_streams.specs.Decodes
+pub mod Step
+pub mod Edited

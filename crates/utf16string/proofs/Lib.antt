@@ -4,3 +4,7 @@ pub mod Predicates
 pub mod PrefixRules
 pub mod Removed
 pub mod Views
+pub mod Asked
+pub mod PlainUnits
+pub mod NextChar
+pub mod Retained

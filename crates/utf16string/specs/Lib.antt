@@ -13,5 +13,7 @@ pub use Rattle.utf16_str.specs.Offsets
 pub use Rattle.utf16_str.specs.Window
 pub use Rattle.utf16_str.specs.WStr
 pub use Rattle.utf16_str.specs.WStrMut
-pub use Rattle.utf16_retain.specs.Retain
+pub use Rattle.utf16string.specs.Retain
 pub mod WString
+pub mod Retain
+pub mod Kept

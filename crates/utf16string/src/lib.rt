@@ -5,6 +5,8 @@
 //! a user names this crate alone.
 #![tactic(auto)]
 
+mod retain;
+mod retain_blocks;
 mod swap_byte_order;
 mod wstring;
 

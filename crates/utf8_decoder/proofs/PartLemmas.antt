@@ -5,16 +5,16 @@ use Rattle.std.proofs.lemmas.List.Elements.{All-cons, All-nil}
 use Rattle.std.specs.Char.{IsScalar}
 use Rattle.utf16_units.specs.Encoding.{Encodes, char_bytes, size}
 use Rattle.utf16_units.proofs.EncodingLemmas.{size-append}
-use Rattle.utf8_split.specs.Split.{AreItems, IsItem, IsTail, Item, decided_text, good, ill, items_bytes, lossy_char, lossy_chars, split_items, split_tail}
-use Rattle.utf8_split.proofs.LawProofs.{cut_anywhere, split_extends}
-use Rattle.utf8_split.proofs.ResumesLemmas.{split_of_tail, tail_ends}
-use Rattle.utf8_split.proofs.ShownLemmas.{length-IsTail}
-use Rattle.utf8_split.proofs.SplitLemmas.{Split-computed}
+use Rattle.utf8_bytes.specs.Split.{AreItems, IsItem, IsTail, Item, decided_text, good, ill, items_bytes, lossy_char, lossy_chars, split_items, split_tail}
+use Rattle.utf8_bytes.proofs.LawProofs.{cut_anywhere, split_extends}
+use Rattle.utf8_bytes.proofs.ResumesLemmas.{split_of_tail, tail_ends}
+use Rattle.utf8_bytes.proofs.ShownLemmas.{length-IsTail}
+use Rattle.utf8_bytes.proofs.SplitLemmas.{Split-computed}
 use Rattle.utf16_decode.specs.declared.progress.Stop.TheVariants.{Done}
 use Rattle.utf16_decode.proofs.StreamSteps.{fed_text}
-use Rattle.utf16_transcode.specs.Utf8Stream.{FeedsUtf8, StopsFeedingUtf8, utf8_parts}
-use Rattle.utf16_transcode.proofs.DecodesUtf8.{flat_encode}
-use Rattle.utf16_transcode.proofs.FeedsUtf8.{utf8_chunks}
+use Rattle.utf16_encode.specs.Utf8Stream.{FeedsUtf8, StopsFeedingUtf8, utf8_parts}
+use Rattle.utf16_encode.proofs.DecodesUtf8.{flat_encode}
+use Rattle.utf16_encode.proofs.FeedsUtf8.{utf8_chunks}
 
 item_scalar : (item : Item) (rest : List ℕ) → IsItem item rest → IsScalar (lossy_char item)
 item_scalar (good c) rest is = is

@@ -3,9 +3,9 @@ use Rattle.std.proofs.Common.{◌≡◌, ◌≢◌, ℕ, ◌+◌, ◌<◌, ◌�
 use Rattle.std.proofs.lemmas.List.Concat.{flat_map-append}
 use Rattle.std.specs.List.{flat_map}
 use Rattle.std.specs.Str.Lossy.{utf8_lossy}
-use Rattle.utf8_split.specs.Split.{decided_text, split_items, split_tail, whole_lossy_chars}
-use Rattle.utf8_split.proofs.LawProofs.{cut_anywhere, split_extends}
-use Rattle.utf8_split.proofs.LossyLemmas.{lossy_text-is}
+use Rattle.utf8_bytes.specs.Split.{decided_text, split_items, split_tail, whole_lossy_chars}
+use Rattle.utf8_bytes.proofs.LawProofs.{cut_anywhere, split_extends}
+use Rattle.utf8_bytes.proofs.LossyLemmas.{lossy_text-is}
 use Rattle.utf16_decode.proofs.StreamLemmas.{joined-more}
 
 front-nil : (front back : List ℕ) → front ++ back ≡ [] → front ≡ []

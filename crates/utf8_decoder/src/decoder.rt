@@ -3,13 +3,13 @@
 ghost use Rattle.std.specs.Prelude.{◌≡◌, ◌≢◌, ◌↔◌, ◌+◌, ◌*◌, ◌<◌, ◌≤◌, [], ◌++◌, All, None, Some, IsOk, OnErr, OnOk, length};
 ghost use Rattle.utf16_units.specs.Edit.{push_text};
 ghost use Rattle.utf16_units.specs.Encoding.{size};
-ghost use Rattle.utf8_split.specs.Split.{decided_text, IsTail, split_tail};
+ghost use Rattle.utf8_bytes.specs.Split.{decided_text, IsTail, split_tail};
 ghost use Rattle.utf16_decode.specs.Stream.{stream_pending};
 
 use crate::parts::{are_bytes, feed};
 use std::alloc::{AllocError, Allocator};
 use std::marker::PhantomData;
-use utf16_transcode::Stream;
+use utf16_encode::Stream;
 use utf16string::{Utf16Order, WString};
 
 /// A decoder of UTF-8 that comes in chunks, cut anywhere, into a UTF-16 string in the byte order

@@ -3,13 +3,13 @@
 ghost use Rattle.std.specs.Prelude.{◌≡◌, ◌+◌, ◌*◌, ◌<◌, ◌≤◌, [], ◌++◌, All, IfOk, IsOk, OnErr, OnOk, length};
 ghost use Rattle.utf16_units.specs.Edit.{push_text};
 ghost use Rattle.utf16_units.specs.Encoding.{size};
-ghost use Rattle.utf8_split.specs.Split.{decided_text, split_tail};
+ghost use Rattle.utf8_bytes.specs.Split.{decided_text, split_tail};
 ghost use Rattle.utf16_decode.specs.Stream.{stream_pending};
 ghost use Rattle.utf16string.specs.WStr.{wstr_bytes, wstr_text};
 ghost use Rattle.utf16string.specs.WString.{IsUnchanged, wstring_bytes, wstring_capacity, wstring_text};
 
 use std::alloc::{AllocError, Allocator};
-use utf16_transcode::{Stream, feed_utf8};
+use utf16_encode::{Stream, feed_utf8};
 use utf16string::{Utf16Order, WStr, WString};
 
 // A chunk of at most `SHORT_CHUNK` bytes is decoded at once, and capacity is reserved for its text

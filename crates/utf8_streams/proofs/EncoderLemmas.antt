@@ -5,15 +5,15 @@ use Rattle.std.proofs.lemmas.List.{drop_all, length-map, nil_from_length}
 use Rattle.utf16_units.specs.Encoding.{char_bytes, char_size, encode, size}
 use Rattle.utf16_units.proofs.CharLemmas.{char_size_cases}
 use Rattle.utf16_units.proofs.EncodingLemmas.{encode-append, encode-nil, length-encode, size-cons, size-nil}
-use Rattle.utf8_split.specs.Split.{IsTail, decided_text, items_bytes, lossy_char, lossy_chars, lossy_text, split_items, split_tail, whole_lossy_chars}
-use Rattle.utf8_split.proofs.LawProofs.{cut_anywhere, shown_after, split_extends, whole_is_lossy}
-use Rattle.utf8_split.proofs.ShownLemmas.{length-IsTail, replacement_size}
-use Rattle.utf8_split.proofs.SplitLemmas.{Split-computed}
+use Rattle.utf8_bytes.specs.Split.{IsTail, decided_text, items_bytes, lossy_char, lossy_chars, lossy_text, split_items, split_tail, whole_lossy_chars}
+use Rattle.utf8_bytes.proofs.LawProofs.{cut_anywhere, shown_after, split_extends, whole_is_lossy}
+use Rattle.utf8_bytes.proofs.ShownLemmas.{length-IsTail, replacement_size}
+use Rattle.utf8_bytes.proofs.SplitLemmas.{Split-computed}
 use Rattle.utf16_decode.specs.declared.progress.Stop.TheVariants.{Done}
 use Rattle.utf16_decode.proofs.StreamSteps.{fed_text as fed_flat}
-use Rattle.utf16_transcode.specs.Utf8Stream.{FeedsUtf8, StopsFeedingUtf8, utf8_parts}
-use Rattle.utf16_transcode.proofs.DecodesUtf8.{flat_encode, undecided_items}
-use Rattle.utf16_transcode.proofs.FeedsUtf8.{utf8_chunks}
+use Rattle.utf16_encode.specs.Utf8Stream.{FeedsUtf8, StopsFeedingUtf8, utf8_parts}
+use Rattle.utf16_encode.proofs.DecodesUtf8.{flat_encode, undecided_items}
+use Rattle.utf16_encode.proofs.FeedsUtf8.{utf8_chunks}
 use Rattle.utf16_streams.specs.Continues.{Continues}
 use Rattle.utf16_streams.specs.Filter.{FiltersBy}
 use Rattle.utf16_streams.specs.declared.filters.FilterFault.{FilterFault}

@@ -4,7 +4,7 @@ use Rattle.std.specs.Prelude.{ℕ, Bool, List, [], ◌∷◌, ◌++◌, Option, 
 use Rattle.std.specs.Str.Lossy.{utf8_lossy}
 use Rattle.utf16_units.specs.Encoding.{encode}
 use Rattle.utf16_units.specs.Unit.{unit_bytes}
-use Rattle.utf8_split.specs.Split.{decided_text}
+use Rattle.utf8_bytes.specs.Split.{decided_text}
 use Rattle.utf16_streams.specs.Bom.{begins_with}
 use Rattle.utf16_streams.specs.Filter.{FiltersBy}
 use Rattle.utf16_streams.specs.declared.filters.FilterFault.{FilterFault}

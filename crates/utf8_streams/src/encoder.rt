@@ -1,14 +1,14 @@
 //! A transcoder from UTF-8 to UTF-16.
 
 ghost use Rattle.std.specs.Prelude.{◌≡◌, ◌+◌, ◌*◌, ◌≤◌, [], ◌++◌, length, take};
-ghost use Rattle.utf8_split.specs.Split.{split_tail};
+ghost use Rattle.utf8_bytes.specs.Split.{split_tail};
 ghost use Rattle.utf16_decode.specs.Stream.{stream_pending};
 ghost use Rattle.utf8_streams.specs.Utf16.{certain, decided_utf16, entire, with_bom};
 
 use std::marker::PhantomData;
 use utf16_decode::put;
 use utf16_streams::Transcoder;
-use utf16_transcode::{Stream, feed_utf8, finish_utf8};
+use utf16_encode::{Stream, feed_utf8, finish_utf8};
 use utf16_units::Utf16Order;
 
 // U+FEFF, the BOM (byte order mark).

@@ -1,11 +1,11 @@
 //! The characters of a string that a predicate keeps.
 
 ghost use Rattle.std.specs.Prelude.{◌≡◌};
-ghost use Rattle.utf16_retain.specs.Retain.{IsAskable, Retains, RetainsTo};
+ghost use Rattle.utf16string.specs.Retain.{IsAskable, Retains, RetainsTo};
 
 use crate::WString;
 use std::alloc::Allocator;
-use utf16_retain::retain_in_place;
+use crate::retain::retain_in_place;
 use utf16_units::Utf16Order;
 
 impl<E: Utf16Order, A: Allocator> WString<E, A> {

@@ -1,11 +1,11 @@
 use Rattle.std.proofs.Common.{◌≡◌, ◌-◌, ◌++◌, length, take, sym, ap, ◌∙◌, subst, arith, rules}
 use Rattle.utf16_units.specs.Encoding.{Encodes, text_of}
 use Rattle.utf16_units.proofs.EncodingLemmas.{IsUtf16-from_Encodes, length-encode, text_of-Encodes}
-use Rattle.utf8_split.specs.Split.{decided_text}
+use Rattle.utf8_bytes.specs.Split.{decided_text}
 use Rattle.utf16_decode.specs.declared.progress.Stop.TheVariants.{Done}
 use Rattle.utf16_decode.specs.Stream.{stream_pending}
-use Rattle.utf16_transcode.specs.Utf8Stream.{StopsFeedingUtf8}
-use Rattle.utf16_transcode.proofs.FeedsUtf8.{enough_after_tail}
+use Rattle.utf16_encode.specs.Utf8Stream.{StopsFeedingUtf8}
+use Rattle.utf16_encode.proofs.FeedsUtf8.{enough_after_tail}
 use Rattle.utf8_decoder.proofs.PartLemmas.{IsTail-pending, fed_encodes}
 use Rattle.utf8_decoder.proofs.parts.decode_part.Given.{Over}
 use Rattle.utf8_decoder.proofs.parts.decode_part.Goals as goal

@@ -2,7 +2,7 @@ use Rattle.std.proofs.Common.{◌++◌, refl, sym, ap, ◌∙◌, arith, rules, 
 use Rattle.std.proofs.lemmas.List.{nil_from_length}
 use Rattle.utf16_units.specs.Encoding.{size}
 use Rattle.utf16_units.proofs.EncodingLemmas.{size-nil}
-use Rattle.utf8_split.specs.Split.{split_tail}
+use Rattle.utf8_bytes.specs.Split.{split_tail}
 use Rattle.utf16_decode.specs.Stream.{stream_pending}
 use Rattle.utf8_decoder.proofs.PartLemmas.{Leaves-end, Leaves-part, decided_text-end, size-part, split_tail-again, two_parts}
 use Rattle.utf8_decoder.proofs.parts.decode_parts.Goals as goal

@@ -1,6 +1,6 @@
 use Rattle.std.proofs.Common.{◌≡◌, ◌+◌, ◌≤◌, ◌++◌, length}
 use Rattle.utf16_units.specs.Encoding.{size}
-use Rattle.utf8_split.specs.Split.{decided_text, split_tail}
+use Rattle.utf8_bytes.specs.Split.{decided_text, split_tail}
 use Rattle.utf16_decode.specs.Stream.{stream_pending}
 use Rattle.utf16string.specs.WString.{wstring_bytes, wstring_capacity, wstring_text}
 use Rattle.utf8_decoder.proofs.PartLemmas.{Leaves}

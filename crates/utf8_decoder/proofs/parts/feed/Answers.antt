@@ -1,6 +1,6 @@
 use Rattle.std.proofs.Common.{◌+◌, ◌*◌, ◌++◌, length, length-append, arith}
 use Rattle.utf16_decode.specs.Stream.{stream_pending}
-use Rattle.utf16_transcode.proofs.FeedsUtf8.{enough_after_tail}
+use Rattle.utf16_encode.proofs.FeedsUtf8.{enough_after_tail}
 use Rattle.utf8_decoder.proofs.PartLemmas.{IsTail-pending, few_undecided}
 use Rattle.utf8_decoder.proofs.parts.feed.Goals as goal
 

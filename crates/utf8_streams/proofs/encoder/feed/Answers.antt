@@ -1,10 +1,10 @@
 use Rattle.std.proofs.Common.{◌≡◌, ◌-◌, ◌++◌, length, take, sym, ap, ◌∙◌, subst, arith}
 use Rattle.std.proofs.lemmas.List.{length-take-le}
 use Rattle.utf16_units.proofs.EncodingLemmas.{length-encode}
-use Rattle.utf8_split.specs.Split.{decided_text, split_tail}
+use Rattle.utf8_bytes.specs.Split.{decided_text, split_tail}
 use Rattle.utf16_decode.specs.declared.progress.Stop.TheVariants.{Done}
 use Rattle.utf16_decode.specs.Stream.{stream_pending}
-use Rattle.utf16_transcode.specs.Utf8Stream.{StopsFeedingUtf8}
+use Rattle.utf16_encode.specs.Utf8Stream.{StopsFeedingUtf8}
 use Rattle.utf8_streams.specs.Utf16.{decided_utf16}
 use Rattle.utf8_streams.proofs.EncoderLemmas.{fed_text, split_tail-again, text_short}
 use Rattle.utf8_streams.proofs.encoder.feed.Given.{Over}

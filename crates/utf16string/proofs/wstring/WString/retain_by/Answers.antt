@@ -3,7 +3,7 @@ use Rattle.utf16_units.specs.Encoding.{IsUtf16, is_utf16, text_of}
 use Rattle.utf16_units.proofs.EncodingLemmas.{IsUtf16-from_is_utf16, is_utf16-from_IsUtf16}
 use Rattle.utf16string.specs.Retain.{IsAskable, RetainsTo}
 use Rattle.utf16string.proofs.Edited.{written_back}
-use Rattle.utf16_retain.proofs.Asked.{MayBeAsked-askable}
+use Rattle.utf16string.proofs.Asked.{MayBeAsked-askable}
 use Rattle.utf16string.proofs.wstring.WString.retain_by.Given.{Over}
 use Rattle.utf16string.proofs.wstring.WString.retain_by.Goals.{After-truncate}
 use Rattle.utf16string.proofs.wstring.WString.retain_by.Goals as goal

@@ -1,6 +1,6 @@
 use Rattle.std.proofs.Common.{◌<◌, ℕ, All, arith, sym, ap, ◌∙◌, subst}
 use Rattle.std.proofs.lemmas.List.Elements.{All-append, All-from_get_or}
-use Rattle.utf8_split.specs.Split.{split_tail}
+use Rattle.utf8_bytes.specs.Split.{split_tail}
 use Rattle.utf8_decoder.proofs.PartLemmas.{split_tail-again}
 use Rattle.utf8_decoder.proofs.decoder.Utf8Decoder.feed.Goals as goal
 

@@ -1,5 +1,5 @@
 use Rattle.std.proofs.Common.{sym, ap, ◌∙◌}
-use Rattle.utf8_split.specs.Split.{split_tail}
+use Rattle.utf8_bytes.specs.Split.{split_tail}
 use Rattle.utf8_decoder.proofs.decoder.Utf8Decoder.new.Goals as goal
 
 pub invariant_of-result : goal.invariant_of-result

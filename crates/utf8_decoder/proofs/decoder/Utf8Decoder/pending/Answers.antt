@@ -1,5 +1,5 @@
 use Rattle.std.proofs.Common.{◌∙◌, ap, sym}
-use Rattle.utf8_split.specs.Split.{split_tail}
+use Rattle.utf8_bytes.specs.Split.{split_tail}
 use Rattle.utf8_decoder.proofs.PartLemmas.{IsTail-pending}
 use Rattle.utf8_decoder.proofs.decoder.Utf8Decoder.pending.Goals as goal
 

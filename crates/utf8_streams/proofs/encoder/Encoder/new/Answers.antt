@@ -1,5 +1,5 @@
 use Rattle.std.proofs.Common.{sym, ap, ◌∙◌}
-use Rattle.utf8_split.specs.Split.{split_tail}
+use Rattle.utf8_bytes.specs.Split.{split_tail}
 use Rattle.utf8_streams.proofs.EncoderLemmas.{nothing_waits}
 use Rattle.utf8_streams.proofs.encoder.Encoder.new.Goals as goal
 

@@ -1,7 +1,7 @@
 use Rattle.std.proofs.Common.{◌≡◌, ◌+◌, ◌≤◌, [], ◌++◌, length, take, sym, ap, ◌∙◌, arith}
 use Rattle.std.proofs.lemmas.List.{length-take-le}
 use Rattle.utf16_units.proofs.EncodingLemmas.{length-encode}
-use Rattle.utf8_split.specs.Split.{whole_lossy_chars}
+use Rattle.utf8_bytes.specs.Split.{whole_lossy_chars}
 use Rattle.utf16_decode.specs.declared.progress.Stop.TheVariants.{Done}
 use Rattle.utf16_decode.specs.Stream.{stream_pending}
 use Rattle.utf8_streams.specs.Utf16.{entire, whole_utf16, with_bom}

@@ -1,0 +1,59 @@
+//! The calls of `utf16_encode` over buffers of the caller's, and those below it and below
+//! strings, as cases name them.
+mod buffers;
+mod bytes;
+mod conversions;
+mod questions;
+mod streams;
+mod texts;
+mod utf8;
+mod well_formed;
+
+use crate::buffers::conversions::Conversion;
+use std::alloc::Global;
+use tests_case_lines::{Answer, Trouble, Values};
+use utf16_encode::{FromUtf8, ToUtf8};
+use utf16_units::Utf16Order;
+
+/// Makes a call on these values and adds its result. `Call` if no call over buffers has this name;
+/// then no value was taken.
+pub fn call<E: Utf16Order>(
+    alloc: Global,
+    name: &str,
+    values: &mut Values,
+    answer: &mut Answer,
+) -> Result<(), Trouble> {
+    if let Some(conversion) = Conversion::named(name) {
+        return conversions::convert::<E>(alloc, conversion, values, answer);
+    }
+    match name {
+        "every_room" => conversions::every_room::<E>(alloc, values, answer),
+        "write_well_formed" => well_formed::write_well_formed::<E>(alloc, values, answer),
+        "Stream::new" => {
+            streams::new(answer);
+            Ok(())
+        }
+        "Stream::pending" => streams::pending(alloc, values, answer),
+        "Stream::feed" => streams::feed::<E, ToUtf8<E>>(alloc, values, answer, true),
+        "feed_utf8" => streams::feed::<E, FromUtf8<E>>(alloc, values, answer, false),
+        "count_chars"
+        | "is_ascii"
+        | "to_utf8_lossy_len"
+        | "from_utf8_len"
+        | "from_utf8_lossy_len"
+        | "has_ascii_units"
+        | "trailing_units"
+        | "first_char_len" => { questions::call::<E>(alloc, name, values, answer) }
+        "swap_byte_order"
+        | "make_well_formed"
+        | "bytes::compare"
+        | "bytes::is_char_boundary"
+        | "bytes::floor_char_boundary"
+        | "bytes::floor_char_boundary_around" => bytes::call::<E>(alloc, name, values, answer),
+        "shard_offset" => bytes::shard(values, answer),
+        "utf8::is_char_boundary" | "utf8::floor_char_boundary" => {
+            utf8::call::<E>(alloc, name, values, answer)
+        }
+        _ => texts::call::<E>(alloc, name, values, answer),
+    }
+}

@@ -1,0 +1,113 @@
+//! Filters from a reader to a writer.
+
+use crate::streams::devices::manner;
+use crate::streams::memory::{add_kept, heap};
+use std::alloc::Global;
+use utf8_streams::{encode_stream, encode_stream_with_bom};
+use tests_case_lines::{Answer, How, Trouble, Values};
+use utf16_streams::{FilterFault, Utf16Order, Watched, filter_auto};
+use tests_support::refusing::Refusing;
+use tests_support::stepped::{Giver, Taker};
+
+/// The calls of filters.
+#[derive(Clone, Copy, Drop)]
+pub enum FilterCall {
+    Decode,
+    DecodeAuto,
+    Encode,
+    EncodeWithBom,
+}
+
+/// How a run of a filter ended.
+#[derive(Drop)]
+pub struct Ended {
+    pub result: Result<(), FilterFault>,
+    pub taken: Vec<u8>,
+    pub reads: usize,
+    pub writes: usize,
+    pub flushes: usize,
+    pub read_faults: u64,
+    pub write_faults: u64,
+}
+
+/// Runs a filter over the bytes, with a reader and a writer that do something else at these calls.
+pub fn run<E: Utf16Order>(
+    alloc: Global,
+    heap: &Refusing<Global>,
+    how: &How,
+    bytes: &[u8],
+    filter: FilterCall,
+    odd: (usize, usize),
+) -> Ended {
+    let mut reader = Watched::new(Giver::new(bytes, manner(&how.reads, odd.0)));
+    let mut writer = Watched::new(Taker::new(alloc, manner(&how.writes, odd.1)));
+    let result = match filter {
+        FilterCall::Decode => utf16_streams::filter::<E, _, _, _>(heap, &mut reader, &mut writer),
+        FilterCall::DecodeAuto => filter_auto(heap, &mut reader, &mut writer),
+        FilterCall::Encode => encode_stream::<E, _, _, _>(heap, &mut reader, &mut writer),
+        FilterCall::EncodeWithBom => {
+            encode_stream_with_bom::<E, _, _, _>(heap, &mut reader, &mut writer)
+        }
+    };
+    let (read_faults, write_faults) = (reader.faults(), writer.faults());
+    let (giver, taker) = (reader.into_inner(), writer.into_inner());
+    Ended {
+        result,
+        reads: giver.calls,
+        writes: taker.calls.saturating_sub(taker.flushes),
+        flushes: taker.flushes,
+        taken: taker.taken,
+        read_faults,
+        write_faults,
+    }
+}
+
+/// Adds the result.
+pub fn add_result(answer: &mut Answer, found: Result<(), FilterFault>) {
+    answer.word(match found {
+        Ok(()) => "done",
+        Err(FilterFault::Read) => "read",
+        Err(FilterFault::Write) => "write",
+        Err(FilterFault::Memory) => "memory",
+        Err(FilterFault::Long) => "long",
+    });
+}
+
+/// Adds the result and what was written, and if a case counts them the calls of the reader and the
+/// writer and their I/O errors. If memory was not freed, adds that too.
+pub fn filter<E: Utf16Order>(
+    alloc: Global,
+    how: &How,
+    values: &mut Values,
+    answer: &mut Answer,
+    filter: FilterCall,
+) -> Result<(), Trouble> {
+    let bytes = values.bytes(alloc, E::BIG)?;
+    let heap = heap(alloc, how);
+    let odd = (how.reads.odd_at, how.writes.odd_at);
+    let ended = run::<E>(alloc, &heap, how, &bytes, filter, odd);
+    add_result(answer, ended.result);
+    match filter {
+        FilterCall::Decode | FilterCall::DecodeAuto => answer.text_or_bytes(&ended.taken, true),
+        FilterCall::Encode | FilterCall::EncodeWithBom => answer.bytes(&ended.taken),
+    }
+    if how.counted {
+        add_counts(answer, &ended);
+    }
+    add_kept(&heap, answer);
+    Ok(())
+}
+
+// Adds the numbers of reads, writes and flushes, and the counted I/O errors of the reader and of
+// the writer.
+fn add_counts(answer: &mut Answer, ended: &Ended) {
+    answer.word("reads");
+    answer.number(ended.reads);
+    answer.word("writes");
+    answer.number(ended.writes);
+    answer.word("flushes");
+    answer.number(ended.flushes);
+    answer.word("faults");
+    answer.number(ended.read_faults as usize);
+    answer.number(ended.write_faults as usize);
+}

@@ -1,0 +1,25 @@
+//! The calls of `WString`, as cases name them. The strings are made over an allocator that fails as
+//! the case says, and counts.
+mod bench;
+mod compared;
+mod cut;
+mod grown;
+mod made;
+mod parts;
+mod read;
+mod retained;
+mod taken;
+
+pub use crate::strings::bench::{Heap, left, part, string};
+use tests_case_lines::Run;
+use utf16string::Utf16Order;
+
+/// Makes a call and adds what it gave. Returns whether a call of strings has this name; where none
+/// has, no value was taken. Each module hands a name that it does not know on to the next one.
+pub fn call<E: Utf16Order>(run: &mut Run, name: &str) -> bool {
+    match name.strip_prefix("WString::") {
+        Some(name) => made::call::<E>(run, name),
+        None if name == "Extend::extend" => made::on_string::<E>(run, name),
+        None => false,
+    }
+}

@@ -1,0 +1,37 @@
+//! Strings shortened and overwritten.
+
+use crate::strings::bench::{Heap, part};
+use crate::strings::retained::retain;
+use tests_case_lines::Run;
+use utf16string::{Utf16Order, WString};
+
+/// Makes a call that is always done. Returns whether one has this name.
+pub fn call<E: Utf16Order>(run: &mut Run, string: &mut WString<E, Heap>, name: &str) -> bool {
+    match name {
+        "clear" => string.clear(),
+        "truncate" => truncate(run, string),
+        "overwrite" => overwrite(run, string),
+        "retain" => retain(run, string),
+        _ => return false,
+    }
+    true
+}
+
+fn truncate<E: Utf16Order>(run: &mut Run, string: &mut WString<E, Heap>) {
+    let at = run.number();
+    if at >= string.len() || string.is_char_boundary(at) {
+        string.truncate(at);
+    } else {
+        run.unmet();
+    }
+}
+
+fn overwrite<E: Utf16Order>(run: &mut Run, string: &mut WString<E, Heap>) {
+    let idx = run.number();
+    let text = part::<E>(run);
+    if string.fits(idx, text.as_wstr()) {
+        string.overwrite(idx, text.as_wstr());
+    } else {
+        run.unmet();
+    }
+}

@@ -1,0 +1,99 @@
+//! Calls that read a string.
+
+use crate::strings::bench::{Heap, made, part, refused};
+use crate::strings::{compared, parts};
+use tests_case_lines::{Answer, By, Run, Trouble, add_written};
+use utf16string::{Utf16Order, WString};
+
+/// Makes a call that reads a string, or any other, by `asked`.
+pub fn call<'a, E: Utf16Order>(
+    run: &mut Run<'a>,
+    string: &WString<E, Heap<'a>>,
+    name: &str,
+) -> bool {
+    match name {
+        "capacity" | "len" | "is_empty" | "is_ascii" | "as_bytes" | "as_wstr" => {
+            shown(&mut run.answer, string, name);
+        }
+        "clone" => made(run, string.clone()),
+        "to_utf8" => to_utf8(run, string),
+        "chars" => chars(run, string),
+        "char_indices" => char_indices(&mut run.answer, string),
+        _ => return asked(run, string, name),
+    }
+    true
+}
+
+// Makes a call that asks a string about values or takes a part, or any other, by `compared`.
+fn asked<'a, E: Utf16Order>(run: &mut Run<'a>, string: &WString<E, Heap<'a>>, name: &str) -> bool {
+    match name {
+        "is_char_boundary" => is_char_boundary(run, string),
+        "fits" => fits(run, string),
+        "get" => parts::part(run, string, By::Get),
+        "get_unchecked" => parts::part(run, string, By::GetUnchecked),
+        "index" => parts::part(run, string, By::Index),
+        "fmt" => fmt(run, string),
+        _ => return compared::call(run, string, name),
+    }
+    true
+}
+
+// What a string shows where nothing more is asked.
+fn shown<E: Utf16Order>(answer: &mut Answer, string: &WString<E, Heap>, name: &str) {
+    match name {
+        "capacity" => answer.number(string.capacity()),
+        "len" => answer.number(string.len()),
+        "is_empty" => answer.truth(string.is_empty()),
+        "is_ascii" => answer.truth(string.is_ascii()),
+        "as_bytes" => answer.bytes(string.as_bytes()),
+        _ => answer.bytes(string.as_wstr().as_bytes()),
+    }
+}
+
+fn to_utf8<E: Utf16Order>(run: &mut Run, string: &WString<E, Heap>) {
+    match string.to_utf8(run.heap) {
+        Ok(text) => {
+            run.answer.text(text.as_str());
+            run.requests();
+        }
+        Err(_) => refused(run),
+    }
+}
+
+// The characters are shown as one text.
+fn chars<E: Utf16Order>(run: &mut Run, string: &WString<E, Heap>) {
+    let mut text = String::new(run.alloc);
+    for c in string.chars() {
+        if text.push(c).is_err() {
+            run.refuse(Trouble::Memory);
+        }
+    }
+    run.answer.text(text.as_str());
+}
+
+// Each offset and its character, or `none` where there is no character.
+fn char_indices<E: Utf16Order>(answer: &mut Answer, string: &WString<E, Heap>) {
+    for (offset, c) in string.char_indices() {
+        answer.number(offset);
+        answer.character(c);
+    }
+    if answer.is_empty() {
+        answer.word("none");
+    }
+}
+
+fn is_char_boundary<E: Utf16Order>(run: &mut Run, string: &WString<E, Heap>) {
+    let idx = run.number();
+    run.answer.truth(string.is_char_boundary(idx));
+}
+
+fn fits<E: Utf16Order>(run: &mut Run, string: &WString<E, Heap>) {
+    let idx = run.number();
+    let text = part::<E>(run);
+    run.answer.truth(string.fits(idx, text.as_wstr()));
+}
+
+fn fmt<E: Utf16Order>(run: &mut Run, string: &WString<E, Heap>) {
+    let format = run.word();
+    run.written(string, format);
+}

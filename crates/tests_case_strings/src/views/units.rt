@@ -1,0 +1,105 @@
+//! Code units, byte orders, single characters and errors.
+
+use crate::views::made;
+use tests_case_lines::{Run, Trouble};
+use utf16_units::{
+    Utf16CharExt, decode_surrogates, is_leading_surrogate, is_trailing_surrogate,
+    validate_raw_utf16,
+};
+use utf16string::{Utf16Order, WStr};
+
+/// Makes a call on units or on an order, or any other, by `by_character`.
+pub fn call<E: Utf16Order>(run: &mut Run, name: &str) -> bool {
+    match name {
+        "is_leading_surrogate" | "is_trailing_surrogate" | "Utf16Order::write_unit" => {
+            of_unit::<E>(run, name);
+        }
+        "decode_surrogates" => pair(run),
+        "Utf16Order::read_unit" => read_unit::<E>(run),
+        _ => return by_character::<E>(run, name),
+    }
+    true
+}
+
+// Makes a call on one character, on bytes or on an error. Returns whether one has this name.
+fn by_character<E: Utf16Order>(run: &mut Run, name: &str) -> bool {
+    match name {
+        "Utf16CharExt::encoded_utf16_len" => encoded_utf16_len(run),
+        "Utf16CharExt::encode_utf16_into" => encode_utf16_into::<E>(run),
+        "validate_raw_utf16" => validate::<E>(run),
+        "Utf16Error::fmt" => fmt::<E>(run),
+        _ => return false,
+    }
+    true
+}
+
+// A code unit.
+fn unit(run: &mut Run) -> u16 {
+    match u16::try_from(run.number()) {
+        Ok(unit) => unit,
+        Err(_) => {
+            run.refuse(Trouble::Value);
+            0
+        }
+    }
+}
+
+fn of_unit<E: Utf16Order>(run: &mut Run, name: &str) {
+    let unit = unit(run);
+    match name {
+        "is_leading_surrogate" => run.answer.truth(is_leading_surrogate(unit)),
+        "is_trailing_surrogate" => run.answer.truth(is_trailing_surrogate(unit)),
+        _ => run.answer.bytes(&E::write_unit(unit)),
+    }
+}
+
+fn pair(run: &mut Run) {
+    let leading = unit(run);
+    let trailing = unit(run);
+    if is_leading_surrogate(leading) && is_trailing_surrogate(trailing) {
+        run.answer.character(decode_surrogates(leading, trailing));
+    } else {
+        run.unmet();
+    }
+}
+
+fn read_unit<E: Utf16Order>(run: &mut Run) {
+    match run.bytes().as_slice() {
+        [first, second] => run.answer.number(E::read_unit([*first, *second]) as usize),
+        _ => run.refuse(Trouble::Value),
+    }
+}
+
+fn encoded_utf16_len(run: &mut Run) {
+    let c = run.character();
+    run.answer.number(c.encoded_utf16_len());
+}
+
+// The buffer as the call leaves it, after the number of bytes that were written.
+fn encode_utf16_into<E: Utf16Order>(run: &mut Run) {
+    let c = run.character();
+    let mut buf = run.bytes();
+    if buf.len() < c.encoded_utf16_len() {
+        return run.unmet();
+    }
+    run.answer.number(c.encode_utf16_into::<E>(&mut buf));
+    run.answer.bytes(&buf);
+}
+
+fn validate<E: Utf16Order>(run: &mut Run) {
+    let bytes = run.bytes();
+    match validate_raw_utf16::<E>(&bytes) {
+        Ok(()) => run.answer.word("done"),
+        Err(error) => made::refused(&mut run.answer, error),
+    }
+}
+
+// What a format writes of the error of ill-formed bytes.
+fn fmt<E: Utf16Order>(run: &mut Run) {
+    let raw = run.bytes();
+    let format = run.word();
+    match validate_raw_utf16::<E>(&raw) {
+        Ok(()) => run.unmet(),
+        Err(error) => run.written(&error, format),
+    }
+}

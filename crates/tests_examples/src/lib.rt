@@ -1,0 +1,18 @@
+//! Tests of the examples: records, transcoders, tables of texts and of names, and how much memory a
+//! name requests.
+#![tactic(auto)]
+
+#[cfg(test)]
+mod checks;
+#[cfg(test)]
+mod interner;
+#[cfg(test)]
+mod multi_sz;
+#[cfg(test)]
+mod names;
+#[cfg(test)]
+mod records;
+#[cfg(test)]
+mod splits;
+#[cfg(test)]
+mod transcode;

@@ -1,0 +1,3 @@
+pub mod Given
+pub mod OneSplit
+pub mod Utf8Parts

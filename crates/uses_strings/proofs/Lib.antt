@@ -1,0 +1,4 @@
+pub mod Tests
+pub mod KeyCut
+mod Ordered
+pub mod Fronts

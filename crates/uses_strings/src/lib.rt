@@ -1,0 +1,20 @@
+//! Proved callers of the strings, by public calls alone: iteration, edits, ranges, parts, copies and
+//! the ordering, the laws, and the examples.
+#![tactic(auto)]
+
+pub mod copies;
+pub mod edited;
+pub mod edits;
+pub mod laws;
+pub mod made;
+pub mod order_laws;
+pub mod parts;
+pub mod ranges;
+pub mod readme;
+pub mod retains;
+pub mod scripts;
+pub mod searches;
+pub mod sorted;
+pub mod tables;
+pub mod users;
+pub mod walks;

@@ -1,5 +1,0 @@
-pub mod CutLemmas
-pub mod FloorLemmas
-pub mod PartsLemmas
-pub mod ShardLemmas
-pub mod WindowLemmas

@@ -1,0 +1,49 @@
+//! Boundaries between characters in any bytes of UTF-16.
+
+ghost use Rattle.std.specs.Prelude.{◌↔◌, ◌+◌, ◌≤◌, ◌⊎◌, IsTrue, length};
+ghost use Rattle.utf16_bytes.specs.Boundary.{IsCut, IsLastCut};
+
+use utf16_units::{Utf16Order, is_leading_surrogate, is_trailing_surrogate};
+
+/// Returns whether an offset is a boundary between characters: the end of the bytes, or an offset
+/// between two code units that are no surrogate pair. Any bytes are allowed: each unpaired
+/// surrogate counts as a character, and so does an incomplete one at the end, of 1 to 3 bytes.
+///
+/// # Complexity
+///
+/// Constant time: reads at most two bytes before the offset and two from it on.
+pub fn is_char_boundary<E: Utf16Order>(utf16: &[u8], at: usize) -> bool
+    ensures { IsTrue result ↔ IsCut E.BIG utf16.now at }
+{
+    if at >= utf16.len() {
+        return at == utf16.len();
+    }
+    if at % 2 != 0 {
+        return false;
+    }
+    if at < 2 || !is_leading_surrogate(E::read_unit([utf16[at - 2], utf16[at - 1]])) {
+        return true;
+    }
+    at + 2 <= utf16.len() && !is_trailing_surrogate(E::read_unit([utf16[at], utf16[at + 1]]))
+}
+
+/// Returns the greatest boundary at or before an offset, as `is_char_boundary` has them: at most
+/// three bytes before the smaller of the offset and the length.
+///
+/// # Complexity
+///
+/// Constant time, as `is_char_boundary`.
+pub fn floor_char_boundary<E: Utf16Order>(utf16: &[u8], at: usize) -> usize
+    ensures last { IsLastCut E.BIG utf16.now at result }
+    ensures near { (at ≤ result + 3) ⊎ (length utf16.now ≤ result + 3) }
+{
+    if at >= utf16.len() {
+        return utf16.len();
+    }
+    let even = at / 2 * 2;
+    if is_char_boundary::<E>(utf16, even) {
+        even
+    } else {
+        even - 2
+    }
+}

@@ -1,0 +1,24 @@
+//! Boundaries of a file, from a few of its bytes.
+
+ghost use Rattle.std.specs.Prelude.{◌+◌, ◌≤◌};
+ghost use Rattle.utf16_bytes.specs.File.{IsLastCutAround, IsLastCutOfFile, around_start};
+
+use crate::boundary::floor_char_boundary;
+use utf16_units::Utf16Order;
+
+/// Returns the greatest boundary at or before an offset of a file, from the bytes around it alone:
+/// the four from `(at / 2 * 2).saturating_sub(2)` on, or as many as the file has. Where they are
+/// that and the offset is at most the file's length, it is that of `floor_char_boundary` over the
+/// whole file; at most three bytes before the offset for any bytes.
+///
+/// # Complexity
+///
+/// Constant time, as `floor_char_boundary`.
+pub fn floor_char_boundary_around<E: Utf16Order>(around: &[u8], at: u64) -> u64
+    ensures near { (around_start at ≤ result) × (result ≤ at) × (at ≤ result + 3) }
+    ensures around { IsLastCutAround E.BIG around.now at result }
+    ensures file { IsLastCutOfFile E.BIG around.now at result }
+{
+    let start = (at / 2 * 2).saturating_sub(2);
+    start + floor_char_boundary::<E>(around, (at - start) as usize) as u64
+}

@@ -1,0 +1,27 @@
+//! Parts of a file about equal.
+
+ghost use Rattle.std.specs.Prelude.{◌≡◌, ◌+◌, ◌*◌, ◌%◌, ◌<◌, ◌≤◌, ◌⊎◌};
+ghost use Rattle.utf16_bytes.specs.Shards.{shard_len, shard_start, units_each};
+
+/// Returns the offset where part `index` of `count` parts begins in a file of `len` bytes: 0 for
+/// part 0, and `len` for `index >= count`. Each part has `len / 2 / count` code units or one more,
+/// and the last one has an odd byte at the end too. The offset is even or the end, and no boundary
+/// yet: move it there by `floor_char_boundary_around`.
+///
+/// # Complexity
+///
+/// Constant time.
+pub fn shard_offset(len: u64, count: u64, index: u64) -> u64
+    ensures value { result ≡ shard_start len count index }
+    ensures within { result ≤ len }
+    ensures even { index < count → result % 2 ≡ 0 }
+    ensures ascending { result ≤ shard_start len count (index + 1) }
+    ensures least { index < count → 2 * units_each len count ≤ shard_len len count index }
+    ensures most { index < count → shard_len len count index ≤ 2 * units_each len count + 2 }
+{
+    if index >= count {
+        return len;
+    }
+    let units = len / 2;
+    2 * (index * (units / count) + index.min(units % count))
+}

@@ -1,5 +1,0 @@
-pub mod Steps
-pub mod Runs
-pub mod EditedLemmas
-pub mod Rows
-pub mod Served

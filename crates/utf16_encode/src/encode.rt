@@ -1,0 +1,154 @@
+//! UTF-8 to UTF-16, lossy: with U+FFFD for each ill-formed sequence.
+
+ghost use Rattle.std.specs.Prelude.{◌≡◌, ◌-◌, ◌*◌, ◌<◌, ◌≤◌, length, take, drop};
+ghost use Rattle.std.specs.List.{flat_map};
+ghost use Rattle.utf16_units.specs.Encoding.{char_bytes, size};
+ghost use Rattle.utf16_encode.specs.FromUtf8.{text_of_utf8};
+ghost use Rattle.utf16_encode.specs.Utf8Stream.{DecodesUtf8To, FirstItem, StopsLossyUtf8, utf8_parts};
+ghost use Rattle.utf16_decode.specs.Shown.{ShowsWhole};
+ghost use Rattle.utf16_decode.specs.Stops.{StopsLossyWhole};
+
+use crate::items::{ITEM_LEN, put_items};
+use crate::utf16::FromUtf8;
+use utf16_decode::{LossyDirection, Progress, put, transcode_lossy, transcode_partial};
+use utf16_from_utf8::write_blocks;
+use utf16_units::{Utf16Order, utf16_len};
+
+// U+FFFD, the replacement character, and its length in bytes of UTF-16.
+const REPLACEMENT: u16 = 0xFFFD;
+
+const REPLACEMENT_LEN: usize = 2;
+
+// The length in bytes of a block, and the space that it may take.
+const BLOCK_LEN: usize = 64;
+
+const BLOCK_SPACE: usize = 128;
+
+/// Writes the text of UTF-8 in UTF-16 to the start of a buffer, as far as whole characters fit: the
+/// characters, and U+FFFD for each ill-formed sequence, one for each maximal subpart. An incomplete
+/// character at the end is not read. Any bytes are allowed. Bytes of the buffer after the written
+/// ones may have been overwritten.
+///
+/// # Complexity
+///
+/// Linear time in the number of bytes read.
+pub fn from_utf8_partial<E: Utf16Order>(text: &[u8], to: &mut [u8]) -> Progress
+    ensures decodes { DecodesUtf8To E.BIG text.now to.new result.read result.written }
+    ensures stop { StopsLossyUtf8 E.BIG (drop result.read text.now)
+        (length to.new - result.written) result.stop }
+{
+    transcode_partial::<FromUtf8<E>>(text, to)
+}
+
+// Writes U+FFFD for the ill-formed sequence of `len` bytes that the text begins with, and the text
+// of bytes after it; returns the number of bytes read and the number of bytes written.
+fn put_ill_formed<E: Utf16Order>(text: &[u8], len: usize, to: &mut [u8]) -> (usize, usize)
+    requires ill_formed { FirstItem text.now 0xFFFD len }
+    requires space { 2 ≤ length to.old }
+    ensures decodes { DecodesUtf8To E.BIG text.now to.new result.0 result.1 }
+    ensures some { 0 < result.0 }
+{
+    let written = put(&E::write_unit(REPLACEMENT), to, 0);
+    let (read, size) = put_behind::<E>(&text[len..], &mut to[written..]);
+    (len + read, written + size)
+}
+
+// Writes the text of bytes that follow an ill-formed sequence: items, up to some well-formed
+// characters, and then blocks, up to the next ill-formed sequence, in turn while a block may
+// follow.
+fn put_behind<E: Utf16Order>(text: &[u8], to: &mut [u8]) -> (usize, usize)
+    ensures { DecodesUtf8To E.BIG text.now to.new result.0 result.1 }
+{
+    let (mut read, mut written) = put_items::<E>(text, to);
+    while text.len() - read >= BLOCK_LEN && to.len() - written >= BLOCK_SPACE {
+        let (len, size) = put_text_blocks::<E>(&text[read..], &mut to[written..]);
+        read += len;
+        written += size;
+        if text.len() - read < ITEM_LEN || to.len() - written < ITEM_LEN {
+            break;
+        }
+        let (len, size) = put_items::<E>(&text[read..], &mut to[written..]);
+        read += len;
+        written += size;
+    }
+    (read, written)
+}
+
+// Writes blocks of text, up to an ill-formed sequence.
+#[inline(always)]
+fn put_text_blocks<E: Utf16Order>(text: &[u8], to: &mut [u8]) -> (usize, usize)
+    ensures { DecodesUtf8To E.BIG text.now to.new result.0 result.1 }
+{
+    write_blocks::<E>(text, to)
+}
+
+/// Writes the whole text of UTF-8 in UTF-16 to the start of a buffer, as far as whole characters
+/// fit, with U+FFFD for each ill-formed sequence: one for each maximal subpart, and one for an
+/// incomplete character at the end. Any bytes are allowed. It stops at the end of the input, or
+/// with `NoRoom` if the buffer has fewer bytes left than the next character or U+FFFD takes: call
+/// again with the input after `read` and another buffer. Bytes of the buffer after the written ones
+/// may have been overwritten.
+///
+/// # Complexity
+///
+/// Linear time in the number of bytes read.
+///
+/// # Source
+///
+/// `String::from_utf8_lossy` replaces the same sequences.
+pub fn from_utf8_lossy<E: Utf16Order>(text: &[u8], to: &mut [u8]) -> Progress
+    ensures shown { ShowsWhole text_of_utf8 (char_bytes E.BIG) text.now to.new result.read
+        result.written }
+    ensures stop { StopsLossyWhole text_of_utf8 (char_bytes E.BIG) (drop result.read text.now)
+        (length to.new - result.written) result.stop }
+    ensures between { take result.written to.new
+        ≡ flat_map (char_bytes E.BIG) (text_of_utf8 (take result.read text.now)) }
+{
+    transcode_lossy::<FromUtf8<E>>(text, to)
+}
+
+impl<E: Utf16Order> LossyDirection for FromUtf8<E> {
+    ghost parts = { utf8_parts };
+
+    #[inline(always)]
+    fn lossy_laws() {}
+
+    #[inline(always)]
+    fn write_ill_formed(input: &[u8], len: u8, to: &mut [u8]) -> Option<(usize, usize)> {
+        if to.len() < REPLACEMENT_LEN {
+            return None;
+        }
+        Some(put_ill_formed::<E>(input, len as usize, to))
+    }
+
+    #[inline(always)]
+    fn write_end(tail: &[u8], to: &mut [u8], at: usize) -> Option<usize> {
+        if tail.is_empty() {
+            return Some(at);
+        }
+        if to.len() - at < REPLACEMENT_LEN {
+            return None;
+        }
+        Some(put(&E::write_unit(REPLACEMENT), to, at))
+    }
+}
+
+/// Returns the length in bytes of the output of `from_utf8_lossy` for the whole input, in either
+/// byte order: at most two for each byte of input. Any bytes are allowed.
+///
+/// # Complexity
+///
+/// Two passes.
+pub fn from_utf8_lossy_len(text: &[u8]) -> usize
+    ensures size { result ≡ size (text_of_utf8 text.now) }
+    ensures most { result ≤ 2 * length text.now }
+{
+    let mut size = 0;
+    for chunk in text.utf8_chunks() {
+        size += utf16_len(chunk.valid());
+        if !chunk.invalid().is_empty() {
+            size += REPLACEMENT_LEN;
+        }
+    }
+    size
+}

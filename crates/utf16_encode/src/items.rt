@@ -1,0 +1,139 @@
+//! UTF-8 item by item: a character, or a maximal subpart of an ill-formed subsequence, at a time.
+
+ghost use Rattle.std.specs.Prelude.{◌≡◌, ◌*◌, ◌<◌, ◌≤◌, [], ◌∷◌, bit_and, length, map, slice_index};
+ghost use Rattle.utf16_decode.specs.Wrote.{Wrote};
+ghost use Rattle.utf16_encode.specs.FromUtf8.{TranscodesToUtf16};
+ghost use Rattle.utf16_encode.specs.Utf8Stream.{DecodesUtf8To, FirstItem};
+
+use crate::chars::{char_of_four, char_of_three, char_of_two, is_continuation};
+use crate::utf16::{can_begin, put_char};
+use std::simd::prelude::*;
+use utf16_decode::ascii_len;
+use utf16_from_utf8::put_ascii;
+use utf16_units::Utf16Order;
+
+// So many characters in a row, none of them U+FFFD, end the loop over items: what follows is
+// probably well formed too, and many at once take less time. ASCII that is written at once counts
+// as two.
+const RUN: usize = 16;
+
+const ASCII_RUN: usize = 2;
+
+const FEW_ASCII: usize = 4;
+
+/// The most bytes of an item, in either encoding.
+pub(crate) const ITEM_LEN: usize = 4;
+
+/// Writes the text of the next bytes of UTF-8 in UTF-16 to the start of a buffer, with U+FFFD for
+/// each ill-formed sequence; returns the number of bytes read and the number of bytes written. It
+/// ends after some well-formed characters, or where fewer than four bytes are left of the input or
+/// of the buffer.
+pub(crate) fn put_items<E: Utf16Order>(text: &[u8], to: &mut [u8]) -> (usize, usize)
+    ensures decodes { DecodesUtf8To E.BIG text.now to.new result.0 result.1 }
+    ensures advances { ITEM_LEN ≤ length text.now → ITEM_LEN ≤ length to.old → 0 < result.0 }
+{
+    let mut read = 0;
+    let mut written = 0;
+    let mut run = 0;
+    while run < RUN && text.len() - read >= ITEM_LEN && to.len() - written >= ITEM_LEN {
+        let step = put_step::<E>(&text[read..], &mut to[written..]);
+        read += step.read;
+        written += step.written;
+        run = if step.run == 0 { 0 } else { run + step.run };
+    }
+    (read, written)
+}
+
+// How many bytes a step read and wrote, and what it adds to the run: nothing if it wrote U+FFFD,
+// which ends the run.
+#[derive(Clone, Copy)]
+struct Step {
+    read: usize,
+    written: usize,
+    run: usize,
+}
+
+// Writes the ASCII at the start of the bytes in UTF-16 to the start of a buffer, of sixteen bytes
+// at most, or the first item.
+#[inline(always)]
+fn put_step<E: Utf16Order>(text: &[u8], to: &mut [u8]) -> Step
+    requires bytes { ITEM_LEN ≤ length text.now }
+    requires space { ITEM_LEN ≤ length to.old }
+    ensures decodes { DecodesUtf8To E.BIG text.now to.new result.read result.written }
+    ensures advances { 0 < result.read }
+    ensures run { result.run ≤ ASCII_RUN }
+{
+    let ascii = put_ascii_front::<E>(text, to);
+    if ascii > 0 {
+        return Step {
+            read: ascii,
+            written: 2 * ascii,
+            run: ASCII_RUN,
+        };
+    }
+    let (c, len) = first_item(text[0], text[1], text[2], text[3]);
+    Step {
+        read: len,
+        written: put_char::<E>(c, to, 0),
+        run: (c != char::REPLACEMENT_CHARACTER) as usize,
+    }
+}
+
+// Writes all ASCII at the start of the first sixteen bytes in UTF-16 to the start of a buffer, and
+// returns how many bytes it read; none if fewer than four are, there are fewer bytes, or less than
+// twice as much space. The bytes of the buffer after those written may be overwritten.
+#[inline(always)]
+fn put_ascii_front<E: Utf16Order>(text: &[u8], to: &mut [u8]) -> usize
+    ensures wrote { Wrote (TranscodesToUtf16 E.BIG) text.now to.new result (2 * result) }
+    ensures most { 0 < result → result < 16 → 0x80 ≤ slice_index text.now result }
+    ensures len { length to.new ≡ length to.old }
+{
+    if text.len() < 16 || to.len() < 32 {
+        return 0;
+    }
+    let block = u8x16::from_slice(text);
+    let len = ascii_len(block);
+    // In random bytes every other one is ASCII, and few are at once.
+    if len < FEW_ASCII {
+        return 0;
+    }
+    put_ascii::<E>(to, 0, low_bits(block));
+    len
+}
+
+// The low seven bits of each byte: of ASCII the byte itself.
+#[inline(always)]
+fn low_bits(block: u8x16) -> u8x16
+    ensures { result ≡ map (λ byte. bit_and byte 0x7F) block }
+{
+    block & u8x16::splat(0x7F)
+}
+
+// Returns the first item of these bytes, which decide it, and its length: a character, or U+FFFD
+// for an ill-formed subpart (Unicode Standard, table 3-7).
+#[inline(always)]
+fn first_item(lead: u8, second: u8, third: u8, fourth: u8) -> (char, usize)
+    ensures { FirstItem (lead ∷ second ∷ third ∷ fourth ∷ []) result.0 result.1 }
+{
+    if !can_begin(lead, second) {
+        let c = if lead < 0x80 {
+            lead as char
+        } else {
+            char::REPLACEMENT_CHARACTER
+        };
+        return (c, 1);
+    }
+    if lead < 0xE0 {
+        return (char_of_two(lead, second), 2);
+    }
+    if !is_continuation(third) {
+        return (char::REPLACEMENT_CHARACTER, 2);
+    }
+    if lead < 0xF0 {
+        return (char_of_three(lead, second, third), 3);
+    }
+    if !is_continuation(fourth) {
+        return (char::REPLACEMENT_CHARACTER, 3);
+    }
+    (char_of_four(lead, second, third, fourth), 4)
+}

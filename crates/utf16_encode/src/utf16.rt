@@ -1,0 +1,280 @@
+//! UTF-8 to UTF-16, up to the first ill-formed sequence.
+
+ghost use Rattle.std.specs.Prelude.{◌≡◌, ◌&&◌, ◌+◌, ◌-◌, ◌*◌, ◌<◌, ◌≤◌, [], ◌∷◌, ◌++◌, IfErr, IfOk, IfSome, length, take};
+ghost use Rattle.std.specs.Char.{encode_utf8};
+ghost use Rattle.std.specs.Int.{is_in_range};
+ghost use Rattle.std.specs.Str.{IsUtf8, chars};
+ghost use Rattle.std.specs.Str.Lossy.{second_byte_max, second_byte_min};
+ghost use Rattle.utf16_units.specs.Boundary.{IsBoundary};
+ghost use Rattle.utf16_units.specs.Encoding.{IsUtf16, char_bytes, char_size, encode, text_of};
+ghost use Rattle.utf16_encode.specs.FromUtf8.{TranscodesToUtf16, IsIllFormedUtf8, IsIllFormedUtf8At, StopsEncoding};
+ghost use Rattle.utf16_decode.specs.Wrote.{Wrote};
+ghost use Rattle.utf16_decode.specs.Stops.{BeginsWith};
+
+use crate::chars::{char_of_four, char_of_three, char_of_two, is_continuation};
+use crate::valid::valid_prefix;
+use std::marker::PhantomData;
+use utf16_decode::{Direction, Progress, transcode};
+use utf16_from_utf8::{write_ascii, write_blocks, write_text};
+use utf16_to_utf8::utf8_len;
+use utf16_units::{Utf16CharExt, Utf16Order, is_trailing_surrogate};
+
+// The number of bytes that are validated first. Validation of 64 bytes or more goes to their end
+// before it looks for the error; that of fewer stops at the error.
+const FIRST: usize = 63;
+
+/// Writes UTF-8 in UTF-16 to the start of a buffer, up to the first ill-formed sequence or as far
+/// as whole characters fit. Any bytes are allowed. Bytes of the buffer after the written ones may
+/// have been overwritten.
+///
+/// # Complexity
+///
+/// Linear time in the number of bytes read.
+#[inline(always)]
+pub fn from_utf8<E: Utf16Order>(text: &[u8], to: &mut [u8]) -> Progress
+    ensures wrote { Wrote (TranscodesToUtf16 E.BIG) text.now to.new result.read result.written }
+    ensures stop { StopsEncoding E.BIG text.now result.read (length to.new - result.written)
+        result.stop }
+{
+    transcode::<FromUtf8<E>>(text, to)
+}
+
+/// From UTF-8 to UTF-16 in byte order `E`, with U+FFFD for each ill-formed subpart.
+pub struct FromUtf8<E: Utf16Order>(PhantomData<E>);
+
+impl<E: Utf16Order> Direction for FromUtf8<E> {
+    const SHORT_LEN: usize = 32;
+
+    const FRONT_LEN: usize = 16;
+
+    ghost from = { encode_utf8 };
+
+    ghost into = { char_bytes E.BIG };
+
+    ghost IsValid = { IsUtf8 };
+
+    ghost other = { λ text. encode E.BIG (chars text) };
+
+    ghost IsIllFormedAt = { IsIllFormedUtf8At };
+
+    ghost IsIllFormed = { IsIllFormedUtf8 };
+
+    ghost room_for = { λ n. 2 * n };
+
+    #[inline(always)]
+    fn laws() {}
+
+    #[inline(always)]
+    fn valid_len(bytes: &[u8]) -> usize {
+        valid_len(bytes)
+    }
+
+    #[inline(always)]
+    fn first_char(rest: &[u8]) -> Result<(char, usize), Option<u8>> {
+        first_char(rest)
+    }
+
+    // Begins with the ASCII at the start; of sixteen bytes or more with whole blocks of sixteen.
+    #[inline(always)]
+    fn begin_short(input: &[u8], to: &mut [u8]) -> Option<(usize, usize)> {
+        if input.len() < 16 {
+            return Some(put_ascii_chars::<E>(input, to));
+        }
+        let most = input.len().min(to.len() / 2);
+        let len = write_ascii::<E>(&input[..most], to);
+        Some((len, 2 * len))
+    }
+
+    #[inline(always)]
+    fn usual_char(rest: &[u8]) -> Option<(char, usize)> {
+        if rest.is_empty() {
+            return None;
+        }
+        first_char(rest).ok()
+    }
+
+    #[inline(always)]
+    fn put_char(c: char, to: &mut [u8], at: usize) -> Option<usize> {
+        if to.len() - at < c.encoded_utf16_len() {
+            return None;
+        }
+        Some(put_char::<E>(c, to, at))
+    }
+
+    #[inline(always)]
+    fn fitting_prefix(_text: &[u8], written: &[u8], room: usize) -> (usize, usize) {
+        let end = last_boundary::<E>(written, room);
+        (utf8_len::<E>(&written[..end]), end)
+    }
+
+    #[inline(always)]
+    fn surely_fit(room: usize) -> usize {
+        room / 2
+    }
+
+    #[inline(always)]
+    fn write(text: &[u8], to: &mut [u8]) -> usize {
+        write_text::<E>(text, to)
+    }
+
+    #[inline(always)]
+    fn write_front(rest: &[u8], to: &mut [u8]) -> (usize, usize) {
+        write_blocks::<E>(rest, to)
+    }
+}
+
+// Returns the last boundary between characters of a text at or before an offset.
+#[inline(always)]
+fn last_boundary<E: Utf16Order>(utf16: &[u8], at: usize) -> usize
+    requires text { IsUtf16 E.BIG utf16.now }
+    requires inside { at < length utf16.now }
+    ensures boundary { IsBoundary (text_of E.BIG utf16.now) result }
+    ensures before { result ≤ at }
+    ensures near { at < result + 4 }
+{
+    let whole = at / 2 * 2;
+    if is_trailing_surrogate(E::read_unit([utf16[whole], utf16[whole + 1]])) {
+        return whole - 2;
+    }
+    whole
+}
+
+// Writes the ASCII at the start of the bytes character by character, as far as it fits, and returns
+// the number of bytes read and the number of bytes written.
+#[inline(always)]
+fn put_ascii_chars<E: Utf16Order>(bytes: &[u8], to: &mut [u8]) -> (usize, usize)
+    ensures { Wrote (TranscodesToUtf16 E.BIG) bytes.now to.new result.0 result.1 }
+{
+    let most = bytes.len().min(to.len() / 2);
+    let mut len = 0;
+    let mut end = 0;
+    while len < most && bytes[len] < 0x80 {
+        end = put_char::<E>(bytes[len] as char, to, end);
+        len += 1;
+    }
+    (len, end)
+}
+
+// Writes a character that fits at `at`, and returns where it ends.
+#[inline(always)]
+pub(crate) fn put_char<E: Utf16Order>(c: char, to: &mut [u8], at: usize) -> usize
+    requires { at + char_size c ≤ length to.old }
+    ensures within { result ≤ length to.new }
+    ensures end { result ≡ at + char_size c }
+    ensures bytes { take result to.new ≡ take at to.old ++ char_bytes E.BIG c }
+{
+    at + c.encode_utf16_into::<E>(&mut to[at..])
+}
+
+// Returns the length of the longest valid prefix.
+fn valid_len(text: &[u8]) -> usize
+    ensures within { result ≤ length text.now }
+    ensures well_formed { IsUtf8 (take result text.now) }
+{
+    if text.len() <= FIRST {
+        return valid_prefix(text);
+    }
+    let first = first_len(text);
+    let len = valid_prefix(&text[..first]);
+    if len < first {
+        return len;
+    }
+    len + valid_prefix(&text[len..])
+}
+
+// Returns how many bytes to validate first: without the last character, which may be incomplete and
+// is left for the next ones.
+fn first_len(text: &[u8]) -> usize
+    requires { FIRST < length text.now }
+    ensures { result ≤ length text.now }
+{
+    let mut len = FIRST;
+    while len > FIRST - 3 && text[len - 1] & 0xC0 == 0x80 {
+        len -= 1;
+    }
+    if text[len - 1] < 0xC0 { len } else { len - 1 }
+}
+
+// Whether a character of two bytes or more can begin with these two (Unicode Standard, table 3-7).
+#[inline(always)]
+pub(crate) fn can_begin(lead: u8, second: u8) -> bool
+    ensures { result ≡ (is_in_range 0xC2 0xF4 lead
+        && is_in_range (second_byte_min lead) (second_byte_max lead) second) }
+{
+    // The upper two bits of both bytes, in one test that few other pairs pass.
+    if lead / 0x40 * 4 + second / 0x40 != 0b1110 {
+        return false;
+    }
+    // The frequent ones, by few comparisons.
+    if (0xE1..=0xEC).contains(&lead) || (0xC2..=0xDF).contains(&lead) {
+        return true;
+    }
+    let (least, most) = match lead {
+        0xE0 => (0xA0, 0xBF),
+        0xED => (0x80, 0x9F),
+        0xF0 => (0x90, 0xBF),
+        0xF4 => (0x80, 0x8F),
+        _ => (0x80, 0xBF),
+    };
+    (0xC2..=0xF4).contains(&lead) && (least..=most).contains(&second)
+}
+
+// Returns the first character and its length in bytes, or the `error_len` of what is there instead
+// (Unicode Standard, table 3-7).
+#[inline(always)]
+fn first_char(rest: &[u8]) -> Result<(char, usize), Option<u8>>
+    requires { 0 < length rest.now }
+    ensures char { IfOk result (λ first. BeginsWith encode_utf8 rest.now first.0 first.1) }
+    ensures ill_formed { IfErr result (IsIllFormedUtf8At rest.now) }
+{
+    let lead = rest[0];
+    if lead < 0x80 {
+        return Ok((lead as char, 1));
+    }
+    // Most characters of three bytes, by the fewest tests.
+    if rest.len() >= 3
+        && (0xE1..=0xEC).contains(&lead)
+        && is_continuation(rest[1])
+        && is_continuation(rest[2])
+    {
+        return Ok((char_of_three(lead, rest[1], rest[2]), 3));
+    }
+    if rest.len() < 2 {
+        return Err(error_len_of_one(lead));
+    }
+    if !can_begin(lead, rest[1]) {
+        return Err(Some(1));
+    }
+    if lead < 0xE0 {
+        return Ok((char_of_two(lead, rest[1]), 2));
+    }
+    if rest.len() < 3 {
+        return Err(None);
+    }
+    if !is_continuation(rest[2]) {
+        return Err(Some(2));
+    }
+    if lead < 0xF0 {
+        return Ok((char_of_three(lead, rest[1], rest[2]), 3));
+    }
+    if rest.len() < 4 {
+        return Err(None);
+    }
+    if !is_continuation(rest[3]) {
+        return Err(Some(3));
+    }
+    Ok((char_of_four(lead, rest[1], rest[2], rest[3]), 4))
+}
+
+// Returns the `error_len` of a single byte that is not ASCII: `None` if it can begin a character.
+#[inline(always)]
+fn error_len_of_one(lead: u8) -> Option<u8>
+    requires { 0x80 ≤ lead }
+    ensures { IsIllFormedUtf8At (lead ∷ []) result }
+{
+    if (0xC2..=0xF4).contains(&lead) {
+        None
+    } else {
+        Some(1)
+    }
+}

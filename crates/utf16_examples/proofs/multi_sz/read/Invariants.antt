@@ -1,8 +1,0 @@
-use Rattle.std.proofs.Common.{◌≡◌, ◌++◌, map}
-use Rattle.utf16_examples.specs.MultiSz.{texts_in}
-use Rattle.utf16string.specs.WStr.{wstr_text}
-use Rattle.utf16_examples.proofs.multi_sz.read.Given as goal
-
--- the texts found and those left are all of them
-abbrev pub invariant-loop-text : goal.invariant-loop-text
-invariant-loop-text g l = map wstr_text l.found.items ++ l.text-iterator ≡ texts_in (wstr_text l.table)

@@ -1,4 +1,0 @@
-pub mod Asked
-pub mod PlainUnits
-pub mod NextChar
-pub mod Retained

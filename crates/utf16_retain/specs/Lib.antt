@@ -1,2 +1,0 @@
-pub mod Retain
-pub mod Kept

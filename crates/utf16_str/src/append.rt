@@ -1,0 +1,266 @@
+//! A text in UTF-8, as a new `String` or appended to one.
+
+ghost use Rattle.std.specs.Prelude.{◌≡◌, ◌+◌, ◌*◌, ◌/◌, ◌<◌, ◌≤◌, [], ◌++◌, length, IfOk, IsOk, OnErr, OnOk, string_bytes};
+ghost use Rattle.std.specs.String.{string_capacity, string_len};
+ghost use Rattle.utf16_units.specs.Boundary.{IsBoundary};
+ghost use Rattle.utf16_units.specs.Encoding.{IsUtf16, text_of, utf8_of};
+ghost use Rattle.utf16_str.specs.Append.{IsPut};
+
+use std::alloc::{AllocError, Allocator};
+use utf16_to_utf8::{SLACK, utf8_len, write_utf8};
+use utf16_units::ends::first_char;
+use utf16_units::{Utf16Order, is_trailing_surrogate};
+
+// Texts of fewer bytes are appended character by character, and so is a new `String` made of at most
+// two code units.
+const BY_CHARS: usize = 8;
+
+const TWO_UNITS: usize = 4;
+
+// Texts of at most this many bytes are written at once, through a buffer on the stack.
+const AT_ONCE: usize = 128;
+
+// Longer ones are written in chunks of at most this many bytes.
+const CHUNK: usize = 1024;
+
+// The least capacity of a new `String`, unless its text is empty.
+const LEAST_CAPACITY: usize = 8;
+
+/// Returns a text, in UTF-8, as a new `String`.
+///
+/// # Errors
+///
+/// `AllocError`, only if allocation fails. It does not fail for the empty text.
+///
+/// # Precondition
+///
+/// `raw` is well-formed UTF-16 in the byte order `E` (check with
+/// `utf16_units::validate_raw_utf16`).
+///
+/// # Complexity
+///
+/// One pass over a text of at most 128 bytes, else two. Allocates once, for as many bytes as the
+/// characters take or for eight, and not at all for the empty text.
+pub fn to_utf8<E: Utf16Order, A: Allocator>(raw: &[u8], alloc: A) -> Result<String<A>, AllocError>
+    requires { IsUtf16 E.BIG raw.now }
+    ensures text { IfOk result (λ s. string_bytes s ≡ utf8_of E.BIG raw.now) }
+    ensures nothing { raw.now ≡ [] → IsOk result }
+{
+    if raw.len() > TWO_UNITS {
+        return make_text::<E, A>(raw, alloc);
+    }
+    // Two code units take at most six bytes.
+    let capacity = if raw.is_empty() { 0 } else { LEAST_CAPACITY };
+    let mut utf8 = String::with_capacity(alloc, capacity)?;
+    put_few::<E, A>(raw, &mut utf8)?;
+    Ok(utf8)
+}
+
+// The same of a text that is not written character by character.
+#[inline(never)]
+fn make_text<E: Utf16Order, A: Allocator>(raw: &[u8], alloc: A) -> Result<String<A>, AllocError>
+    requires { IsUtf16 E.BIG raw.now }
+    ensures { IfOk result (λ s. string_bytes s ≡ utf8_of E.BIG raw.now) }
+{
+    if raw.len() <= AT_ONCE {
+        return make_piece::<E, A>(raw, &mut [0; AT_ONCE / 2 * 3 + SLACK], alloc);
+    }
+    let mut utf8 = String::with_capacity(alloc, utf8_len::<E>(raw))?;
+    put_pieces::<E, A>(raw, &mut utf8)?;
+    Ok(utf8)
+}
+
+// Returns a new `String` with the text, which is written through a buffer before its length is
+// known.
+#[inline]
+fn make_piece<E: Utf16Order, A: Allocator>(
+    raw: &[u8],
+    buf: &mut [u8],
+    alloc: A,
+) -> Result<String<A>, AllocError>
+    requires well_formed { IsUtf16 E.BIG raw.now }
+    requires space { length raw.now / 2 * 3 + SLACK ≤ length buf.old }
+    ensures { IfOk result (λ s. string_bytes s ≡ utf8_of E.BIG raw.now) }
+{
+    let len = write_utf8::<E>(raw, buf);
+    let mut utf8 = String::with_capacity(alloc, len.max(LEAST_CAPACITY))?;
+    utf8.push_str(unsafe { str::from_utf8_unchecked(&buf[..len]) })?;
+    Ok(utf8)
+}
+
+/// Appends a text, in UTF-8, to a `String`.
+///
+/// # Errors
+///
+/// `AllocError`, only if allocation fails. `to` is unchanged.
+///
+/// # Precondition
+///
+/// `raw` is well-formed UTF-16 in the byte order `E` (check with
+/// `utf16_units::validate_raw_utf16`).
+///
+/// # Complexity
+///
+/// One pass over a text of 8 to 128 bytes, or if `to` has spare capacity of three bytes per code
+/// unit, else two. Allocates once, and not at all if the spare capacity suffices.
+#[inline]
+pub fn append_utf8<E: Utf16Order, A: Allocator>(
+    raw: &[u8],
+    to: &mut String<A>,
+) -> Result<(), AllocError>
+    requires { IsUtf16 E.BIG raw.now }
+    ensures text { OnOk result (string_bytes to.new ≡ string_bytes to.old
+        ++ utf8_of E.BIG raw.now) }
+    ensures err { OnErr result ((string_bytes to.new ≡ string_bytes to.old)
+        × (string_capacity to.new ≡ string_capacity to.old)) }
+    ensures grows { string_capacity to.old ≤ string_capacity to.new }
+    ensures succeeds { string_len to.old + length (utf8_of E.BIG raw.now) ≤ string_capacity to.old
+        → IsOk result }
+{
+    if raw.len() >= BY_CHARS && raw.len() <= AT_ONCE {
+        return put_short::<E, A>(raw, to);
+    }
+    reserve_utf8::<E, A>(raw, to)?;
+    if raw.len() < BY_CHARS {
+        put_few::<E, A>(raw, to)
+    } else {
+        put_pieces::<E, A>(raw, to)
+    }
+}
+
+// The same of a short text, which is written at once.
+#[inline(never)]
+fn put_short<E: Utf16Order, A: Allocator>(raw: &[u8], to: &mut String<A>) -> Result<(), AllocError>
+    requires well_formed { IsUtf16 E.BIG raw.now }
+    requires short { length raw.now ≤ AT_ONCE }
+    ensures text { OnOk result (string_bytes to.new ≡ string_bytes to.old
+        ++ utf8_of E.BIG raw.now) }
+    ensures err { OnErr result ((string_bytes to.new ≡ string_bytes to.old)
+        × (string_capacity to.new ≡ string_capacity to.old)) }
+    ensures grows { string_capacity to.old ≤ string_capacity to.new }
+    ensures succeeds { string_len to.old + length (utf8_of E.BIG raw.now) ≤ string_capacity to.old
+        → IsOk result }
+{
+    put_piece::<E, A>(raw, &mut [0; AT_ONCE / 2 * 3 + SLACK], to)
+}
+
+// Appends the characters one by one to a string with enough capacity.
+fn put_few<E: Utf16Order, A: Allocator>(raw: &[u8], to: &mut String<A>) -> Result<(), AllocError>
+    requires well_formed { IsUtf16 E.BIG raw.now }
+    requires fits { string_len to.old + length (utf8_of E.BIG raw.now) ≤ string_capacity to.old }
+    ensures ok { IsOk result }
+    ensures appended { IsPut (text_of E.BIG raw.now) (string_bytes to.old) (string_bytes to.new)
+        (string_capacity to.old) (string_capacity to.new) }
+{
+    let mut rest = raw;
+    while !rest.is_empty() {
+        let (c, size) = first_char::<E>(rest);
+        to.push(c)?;
+        rest = &rest[size..];
+    }
+    Ok(())
+}
+
+// The same chunk by chunk.
+#[inline(never)]
+fn put_pieces<E: Utf16Order, A: Allocator>(raw: &[u8], to: &mut String<A>) -> Result<(), AllocError>
+    requires well_formed { IsUtf16 E.BIG raw.now }
+    requires fits { string_len to.old + length (utf8_of E.BIG raw.now) ≤ string_capacity to.old }
+    ensures ok { IsOk result }
+    ensures appended { IsPut (text_of E.BIG raw.now) (string_bytes to.old) (string_bytes to.new)
+        (string_capacity to.old) (string_capacity to.new) }
+{
+    let mut buf = [0; CHUNK / 2 * 3 + SLACK];
+    let mut rest = raw;
+    while !rest.is_empty() {
+        let (piece, next) = cut_piece::<E>(rest);
+        put_piece::<E, A>(piece, &mut buf, to)?;
+        rest = next;
+    }
+    Ok(())
+}
+
+// Appends the text at once, through a buffer.
+#[inline]
+fn put_piece<E: Utf16Order, A: Allocator>(
+    raw: &[u8],
+    buf: &mut [u8],
+    to: &mut String<A>,
+) -> Result<(), AllocError>
+    requires well_formed { IsUtf16 E.BIG raw.now }
+    requires space { length raw.now / 2 * 3 + SLACK ≤ length buf.old }
+    ensures text { OnOk result (string_bytes to.new ≡ string_bytes to.old
+        ++ utf8_of E.BIG raw.now) }
+    ensures err { OnErr result ((string_bytes to.new ≡ string_bytes to.old)
+        × (string_capacity to.new ≡ string_capacity to.old)) }
+    ensures grows { string_capacity to.old ≤ string_capacity to.new }
+    ensures succeeds { string_len to.old + length (utf8_of E.BIG raw.now) ≤ string_capacity to.old
+        → IsOk result }
+{
+    let len = write_utf8::<E>(raw, buf);
+    to.reserve(len)?;
+    to.push_str(unsafe { str::from_utf8_unchecked(&buf[..len]) })
+}
+
+// The first chunk of a text, and the text after it.
+#[inline]
+fn cut_piece<E: Utf16Order>(raw: &[u8]) -> (&[u8], &[u8])
+    requires { IsUtf16 E.BIG raw.now }
+    ensures first_well_formed { IsUtf16 E.BIG result.0.now }
+    ensures second_well_formed { IsUtf16 E.BIG result.1.now }
+    ensures joined { text_of E.BIG raw.now ≡ text_of E.BIG result.0.now
+        ++ text_of E.BIG result.1.now }
+    ensures few { length result.0.now ≤ CHUNK }
+    ensures shorter { 0 < length raw.now → length result.1.now < length raw.now }
+{
+    raw.split_at(piece_end::<E>(raw))
+}
+
+// The end of the first chunk of a text, which is a character boundary.
+#[inline]
+fn piece_end<E: Utf16Order>(raw: &[u8]) -> usize
+    requires { IsUtf16 E.BIG raw.now }
+    ensures boundary { IsBoundary (text_of E.BIG raw.now) result }
+    ensures few { result ≤ CHUNK }
+    ensures advances { 0 < length raw.now → 0 < result }
+{
+    if raw.len() <= CHUNK {
+        raw.len()
+    } else if is_trailing_surrogate(E::read_unit([raw[CHUNK], raw[CHUNK + 1]])) {
+        CHUNK - 2
+    } else {
+        CHUNK
+    }
+}
+
+// Reserves capacity for the text in UTF-8. Its length is computed only if there is no spare
+// capacity of three bytes per code unit.
+#[inline]
+fn reserve_utf8<E: Utf16Order, A: Allocator>(
+    raw: &[u8],
+    to: &mut String<A>,
+) -> Result<(), AllocError>
+    requires { IsUtf16 E.BIG raw.now }
+    ensures bytes { string_bytes to.new ≡ string_bytes to.old }
+    ensures reserved { OnOk result (string_len to.new + length (utf8_of E.BIG raw.now)
+        ≤ string_capacity to.new) }
+    ensures err { OnErr result (string_capacity to.new ≡ string_capacity to.old) }
+    ensures grows { string_capacity to.old ≤ string_capacity to.new }
+    ensures succeeds { string_len to.old + length (utf8_of E.BIG raw.now) ≤ string_capacity to.old
+        → IsOk result }
+{
+    if raw.len() / 2 * 3 <= to.capacity() - to.len() {
+        return Ok(());
+    }
+    to.reserve(len_in_utf8::<E>(raw))
+}
+
+// The length of the text in UTF-8, in bytes. Not inlined, so that a text that fits does not pay for
+// its registers.
+#[inline(never)]
+fn len_in_utf8<E: Utf16Order>(raw: &[u8]) -> usize
+    requires { IsUtf16 E.BIG raw.now }
+    ensures { result ≡ length (utf8_of E.BIG raw.now) }
+{
+    utf8_len::<E>(raw)
+}

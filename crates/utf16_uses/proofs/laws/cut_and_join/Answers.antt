@@ -1,5 +1,0 @@
-use Rattle.std.proofs.Common.{rules}
-use Rattle.utf16_uses.proofs.laws.cut_and_join.Goals as goal
-
-pub returns : goal.returns
-returns g c = search rules

@@ -1,2 +1,0 @@
-mod JoinedLemmas
-mod StartsLemmas

@@ -1,7 +1,0 @@
-use Rattle.std.proofs.Common.{string_bytes}
-use Rattle.utf16_uses_cuts.proofs.JoinedLemmas.{Joined}
-use Rattle.utf16_uses_cuts.proofs.decode_parts.Given as goal
-
--- the text is that of the parts so far
-abbrev pub invariant-loop-to : goal.invariant-loop-to
-invariant-loop-to g l = Joined g.E.Utf16Order.BIG l.file l.starts l.to-index l.from (string_bytes l.text)

@@ -1,2 +1,0 @@
-mod Ordered
-pub mod Fronts

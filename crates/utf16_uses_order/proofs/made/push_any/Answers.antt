@@ -1,9 +1,0 @@
-use Rattle.std.proofs.Common.{Some, drop, length, ◌∙◌}
-use Rattle.utf16string.specs.WStr.{wstr_text}
-use Rattle.utf16_uses_order.proofs.Fronts.{err_so, front_given}
-use Rattle.utf16_uses_order.proofs.made.push_any.Goals as goal
-
-pub returns-clause-err : goal.returns-clause-err
-returns-clause-err g c =
-    err_so c.extend.result c.extend.ensures.err
-    (λ full. (full.1, drop (length full.1) (wstr_text c.args.text), front_given _ _ _ full.3 (Some full.2) (full.4 ∙ c.chars.ensures.text) full.5, full.6))

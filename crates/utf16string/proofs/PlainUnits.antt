@@ -1,0 +1,119 @@
+-- Blocks of units, each of which is a character: their test, their bytes, and those for which a
+-- predicate returns true.
+use Rattle.std.proofs.Common.{◌≡◌, ℕ, ◌+◌, ◌-◌, ◌*◌, ◌/◌, ◌%◌, ◌^◌, ◌<◌, ◌≤◌, Bool, true, false, cond, nat_eq, bit_and, List, [], ◌∷◌, ◌++◌, All, get_or, length, map, replicate, take, drop, refl, sym, ap, ap₂, ◌∙◌, arith, append-nil, append_assoc, length-append, flat_map}
+use Rattle.std.proofs.lemmas.Bool.{eqb-false}
+use Rattle.std.proofs.lemmas.List.{drop-drop, length-map, length-take-le, take_all, take_more}
+use Rattle.std.proofs.lemmas.List.Elements.{All-cons, All-from_get_or, All-head, All-nil, All-tail}
+use Rattle.std.proofs.lemmas.Nat.Bits.{and_high}
+use Rattle.std.proofs.lemmas.Simd.{Each1-get_or, bitmask_splat, map-map, none_from_empty_mask, zip2_splat}
+use Rattle.std.specs.Char.{IsScalar}
+use Rattle.std.specs.List.{items_where_true}
+use mir.Syntax.{w16}
+use mir.Val.{Fits, bool_byte}
+use lib.Lanes.{Each1, mask_l, top, zip2}
+use Rattle.utf16_units.specs.Encoding.{encode}
+use Rattle.utf16_units.proofs.EncodingLemmas.{encode-append, encode-cons, encode-nil}
+use Rattle.utf16_units.specs.Unit.{unit_bytes}
+use Rattle.utf16_units.proofs.FirstChar.{scalar_unit}
+use Rattle.utf16string.proofs.Asked.{kept-append}
+use Rattle.utf16_units.proofs.CharLemmas.{one_unit_bytes}
+
+-- a unit whose upper five bits are not those of a surrogate is a character
+scalar-high : (u : ℕ) → u < 0x1_0000 → nat_eq (bit_and u 0xF800) 0xD800 ≡ false → IsScalar u
+scalar-high u below other =
+    let high : bit_and u 0xF800 ≡ u / 2048 % 32 * 2048 = and_high u 5 11 in
+    let apart = eqb-false _ _ other in
+    scalar_unit u below (λ leading. apart (omega (arith, high, leading.0, leading.1))) (λ trailing. apart (omega (arith, high, trailing.0, trailing.1)))
+
+-- whether a unit is a surrogate, by its upper five bits
+abbrev is_surrogate : ℕ → Bool
+is_surrogate u = nat_eq (bit_and u 0xF800) 0xD800
+
+-- the bits of the surrogates of sixteen units, as lanes compute them
+abbrev pub lane_bits : List ℕ → ℕ
+lane_bits units = mask_l (map (top 15) (zip2 (λ a b. cond (nat_eq a b) 65535 0) (zip2 bit_and units (replicate 16 0xF800)) (replicate 16 0xD800))) % 2 ^ 64
+
+module _ (units : List ℕ) (long : length units ≡ 16) where
+  bits : lane_bits units ≡ mask_l (map is_surrogate units)
+  bits =
+      let upper = zip2_splat bit_and units 16 0xF800 long in
+      bitmask_splat w16 nat_eq (zip2 bit_and units (replicate 16 0xF800)) 16 0xD800 (ap length upper ∙ length-map units _ ∙ long) (omega arith)
+      ∙ ap (λ us. mask_l (map (λ u. nat_eq u 0xD800) us)) upper ∙ ap mask_l (map-map (λ u. nat_eq u 0xD800) (λ u. bit_and u 0xF800) units)
+
+  -- if none is set, each unit is a character
+  pub no_surrogate-scalars : lane_bits units ≡ 0 → Each1 (Fits w16) units → All IsScalar units
+  no_surrogate-scalars none fit = All-from_get_or IsScalar units 0 (λ i lt.
+      let clear : mask_l (map is_surrogate (take 16 units)) ≡ 0 = ap (λ us. mask_l (map is_surrogate us)) (take_all 16 units (omega (arith, long))) ∙ sym bits ∙ none in
+      scalar-high _ (Each1-get_or (Fits w16) units i 0 lt fit).fits (none_from_empty_mask is_surrogate units 0 16 0 (omega (arith, long)) clear i (omega arith) (omega (arith, lt, long))))
+
+-- no more are kept than there are
+length-kept : {X : Type 0} → (answers : List Bool) (items : List X) → length (items_where_true answers items) ≤ length items
+length-kept [] items = omega arith
+length-kept (b ∷ answers) [] = elim b [ true ↦ omega arith | false ↦ omega arith ]
+length-kept (true ∷ answers) (d ∷ items) = omega (arith, length-kept answers items)
+length-kept (false ∷ answers) (d ∷ items) = omega (arith, length-kept answers items)
+
+-- if as many are kept as there are, all are
+pub kept-all : {X : Type 0} → (answers : List Bool) (items : List X) → length (items_where_true answers items) ≡ length items → items_where_true answers items ≡ items
+kept-all [] [] many = refl
+kept-all [] (d ∷ items) many = absurd (omega (arith, many))
+kept-all (true ∷ answers) [] many = refl
+kept-all (false ∷ answers) [] many = refl
+kept-all (true ∷ answers) (d ∷ items) many = ap (λ l. d ∷ l) (kept-all answers items (omega (arith, many)))
+kept-all (false ∷ answers) (d ∷ items) many = absurd (omega (arith, many, length-kept answers items))
+
+-- what is kept of the first units and one more, for which the result is known
+module _ (answers : List Bool) (units : List ℕ) (i : ℕ) (answer : Bool) (long : i < length answers) (room : i < length units) where
+  same : length (take i answers) ≡ length (take i units)
+  same = length-take-le i answers (omega arith) ∙ sym (length-take-le i units (omega arith))
+
+  pub kept-more : items_where_true (take i answers ++ answer ∷ []) (take (i + 1) units)
+      ≡ items_where_true (take i answers) (take i units) ++ items_where_true (answer ∷ []) (get_or units i 0 ∷ [])
+  kept-more = ap (items_where_true (take i answers ++ answer ∷ [])) (take_more units i 0 room) ∙ kept-append (take i answers) (answer ∷ []) (take i units) _ same
+
+  pub length-kept-more : length (items_where_true (take i answers ++ answer ∷ []) (take (i + 1) units))
+      ≡ length (items_where_true (take i answers) (take i units)) + bool_byte answer
+  length-kept-more = ap length kept-more ∙ length-append (items_where_true (take i answers) (take i units)) _ ∙ ap (λ n. length (items_where_true (take i answers) (take i units)) + n) (one answer)
+    where
+      one : (b : Bool) → length (items_where_true (b ∷ []) (get_or units i 0 ∷ [])) ≡ bool_byte b
+      one true = refl
+      one false = refl
+
+pub bool_byte-below : (b : Bool) → bool_byte b ≤ 1
+bool_byte-below true = omega arith
+bool_byte-below false = omega arith
+
+-- a step of writing those kept, after what precedes them
+pub written-more : (big : Bool) (front : List ℕ) (answers : List Bool) (units : List ℕ) (i : ℕ) (answer : Bool) → i < length answers → i < length units
+    → get_or answers i false ≡ answer → (old new : List ℕ) → old ≡ front ++ encode big (items_where_true (take i answers) (take i units))
+    → new ≡ old ++ encode big (items_where_true (answer ∷ []) (get_or units i 0 ∷ []))
+    → new ≡ front ++ encode big (items_where_true (take (i + 1) answers) (take (i + 1) units))
+written-more big front answers units i answer long room is old new so_far more =
+    more ∙ ap (λ l. l ++ encode big (items_where_true (answer ∷ []) (get_or units i 0 ∷ []))) so_far ∙ append_assoc front _ _
+    ∙ ap (λ l. front ++ l) (sym (encode-append big (items_where_true (take i answers) (take i units)) _))
+    ∙ ap (λ l. front ++ encode big l) (sym (kept-more answers units i answer long room))
+    ∙ ap (λ l. front ++ encode big (items_where_true l (take (i + 1) units)))
+    (ap (λ b. take i answers ++ b ∷ []) (sym is) ∙ sym (take_more answers i false long))
+
+-- none kept are no bytes
+pub encode-none : (big : Bool) (front : List ℕ) → front ≡ front ++ encode big []
+encode-none big front = sym (ap (λ l. front ++ l) (encode-nil big) ∙ append-nil front)
+
+-- lists that agree from one index on agree from each later one on
+pub drop-later : (a b : ℕ) (xs ys : List ℕ) → a ≤ b → drop a xs ≡ drop a ys → drop b xs ≡ drop b ys
+drop-later a b xs ys le same_from =
+    let all : a + (b - a) ≡ b = omega arith in
+    ap (λ i. drop i xs) (sym all) ∙ sym (drop-drop (b - a) a xs) ∙ ap (drop (b - a)) same_from ∙ drop-drop (b - a) a ys ∙ ap (λ i. drop i ys) all
+
+abbrev pub IsUnit : ℕ → Type 0
+IsUnit u = u < 0x1_0000
+
+-- the bytes of characters of one unit each are those of the units
+pub encode-units : (big : Bool) (units : List ℕ) → All IsUnit units → encode big units ≡ flat_map (unit_bytes big) units
+encode-units big [] below = encode-nil big
+encode-units big (u ∷ units) below =
+    encode-cons big u units ∙ ap₂ (λ x y. x ++ y) (one_unit_bytes big u (All-head IsUnit u units below)) (encode-units big units (All-tail IsUnit u units below))
+
+-- those of one character
+pub encode-unit : (big : Bool) (u : ℕ) → IsUnit u → encode big (u ∷ []) ≡ unit_bytes big u
+encode-unit big u below = encode-units big (u ∷ []) (All-cons IsUnit u [] below (All-nil IsUnit)) ∙ append-nil (unit_bytes big u)

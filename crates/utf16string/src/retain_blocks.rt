@@ -1,0 +1,169 @@
+//! Blocks of sixteen characters of one unit each, of which a predicate keeps some.
+
+ghost use Rattle.std.specs.Prelude.{◌≡◌, ◌+◌, ◌≤◌, [], ◌∷◌, ◌++◌, All, IfSome, IsTrue, length, take, drop};
+ghost use Rattle.std.specs.Char.{IsScalar};
+ghost use Rattle.std.specs.List.{items_where_true};
+ghost use Rattle.utf16_units.specs.Encoding.{Encodes, encode};
+ghost use Rattle.utf16string.specs.Kept.{KeepsNext};
+ghost use Rattle.utf16string.specs.Retain.{MayBeAsked, RetainsTo};
+
+use std::simd::prelude::*;
+use utf16_units::Utf16Order;
+use utf16_units::blocks::units16;
+
+/// The number of units of a block.
+const UNITS: usize = 16;
+
+/// The number of bytes of a block.
+pub(crate) const BLOCK_BYTES: usize = 2 * UNITS;
+
+// The units of the next block, if the bytes have one there and none of its units is a surrogate:
+// each is a character.
+#[inline]
+pub(crate) fn plain_block<E: Utf16Order>(bytes: &[u8], at: usize) -> Option<[u16; UNITS]>
+    requires { at ≤ length bytes.now }
+    ensures within { IfSome result (λ _. at + BLOCK_BYTES ≤ length bytes.now) }
+    ensures here { IfSome result (λ units. Encodes E.BIG units
+        (take BLOCK_BYTES (drop at bytes.now))) }
+{
+    if bytes.len() - at < BLOCK_BYTES {
+        return None;
+    }
+    let units = units16::<E>(u8x32::from_slice(&bytes[at..]));
+    if !is_plain(units) {
+        return None;
+    }
+    Some(units.to_array())
+}
+
+// Whether none of the units is a surrogate, so that each is a character.
+#[inline(always)]
+fn is_plain(units: u16x16) -> bool
+    ensures { IsTrue result → All IsScalar units }
+{
+    let surrogates = (units & Simd::splat(0xF800)).simd_eq(Simd::splat(0xD800));
+    surrogates.to_bitmask() == 0
+}
+
+// Calls the predicate on each character of a block, in turn, and moves those kept down. Returns the
+// end of those kept.
+#[inline(always)]
+pub(crate) fn keep_block<E: Utf16Order, F: FnMut(char) -> bool>(
+    bytes: &mut [u8],
+    keep: &mut F,
+    kept: usize,
+    read: usize,
+    units: &[u16; UNITS],
+) -> usize
+    requires down { kept ≤ read }
+    requires within { read + BLOCK_BYTES ≤ length bytes.old }
+    requires here { Encodes E.BIG units.now (take BLOCK_BYTES (drop read bytes.old)) }
+    requires askable { MayBeAsked F.FnMut keep.old units.now }
+    ensures retained { KeepsNext F.FnMut E.BIG keep.old bytes.old kept read
+        keep.new bytes.new result (read + BLOCK_BYTES) }
+    ensures down { result ≤ read + BLOCK_BYTES }
+{
+    let (answers, many) = ask_each(keep, units);
+    move_block::<E>(bytes, kept, read, units, &answers, many)
+}
+
+// Calls the predicate on each character of a block, in turn, and counts those kept.
+#[inline]
+fn ask_each<F: FnMut(char) -> bool>(keep: &mut F, units: &[u16; UNITS]) -> ([bool; UNITS], usize)
+    requires scalars { All IsScalar units.now }
+    requires askable { MayBeAsked F.FnMut keep.old units.now }
+    ensures asked { RetainsTo F.FnMut keep.old units.now (items_where_true result.0 units.now)
+        keep.new }
+    ensures many { result.1 ≡ length (items_where_true result.0 units.now) }
+{
+    let mut answers = [false; UNITS];
+    let mut many = 0;
+    for i in 0..UNITS {
+        let stays = keep(unsafe { char::from_u32_unchecked(units[i] as u32) });
+        answers[i] = stays;
+        many += stays as usize;
+    }
+    (answers, many)
+}
+
+// Moves the characters of a block that are kept down; if all are kept, by one move. Returns their
+// end.
+#[inline(always)]
+fn move_block<E: Utf16Order>(
+    bytes: &mut [u8],
+    to: usize,
+    start: usize,
+    units: &[u16; UNITS],
+    answers: &[bool; UNITS],
+    many: usize,
+) -> usize
+    requires down { to ≤ start }
+    requires within { start + BLOCK_BYTES ≤ length bytes.old }
+    requires here { Encodes E.BIG units.now (take BLOCK_BYTES (drop start bytes.old)) }
+    requires many { many ≡ length (items_where_true answers.now units.now) }
+    ensures moved { take result bytes.new ≡ take to bytes.old
+        ++ encode E.BIG (items_where_true answers.now units.now) }
+    ensures rest { drop (start + BLOCK_BYTES) bytes.new ≡ drop (start + BLOCK_BYTES) bytes.old }
+    ensures down { result ≤ start + BLOCK_BYTES }
+{
+    if many == UNITS {
+        move_all(bytes, to, start);
+        return to + BLOCK_BYTES;
+    }
+    if many == 0 {
+        return to;
+    }
+    write_some::<E>(bytes, to, start, units, answers)
+}
+
+// Moves a whole block down, if it is not in place.
+#[inline]
+fn move_all(bytes: &mut [u8], to: usize, start: usize)
+    requires down { to ≤ start }
+    requires within { start + BLOCK_BYTES ≤ length bytes.old }
+    ensures moved { take (to + BLOCK_BYTES) bytes.new ≡ take to bytes.old
+        ++ take BLOCK_BYTES (drop start bytes.old) }
+    ensures rest { drop (start + BLOCK_BYTES) bytes.new ≡ drop (start + BLOCK_BYTES) bytes.old }
+{
+    if to < start {
+        bytes.copy_within(start..start + BLOCK_BYTES, to);
+    }
+}
+
+// Writes the units that are kept one after another; no byte after their block changes.
+#[inline]
+fn write_some<E: Utf16Order>(
+    bytes: &mut [u8],
+    to: usize,
+    start: usize,
+    units: &[u16; UNITS],
+    answers: &[bool; UNITS],
+) -> usize
+    requires down { to ≤ start }
+    requires within { start + BLOCK_BYTES ≤ length bytes.old }
+    ensures moved { take result bytes.new ≡ take to bytes.old
+        ++ encode E.BIG (items_where_true answers.now units.now) }
+    ensures rest { drop (start + BLOCK_BYTES) bytes.new ≡ drop (start + BLOCK_BYTES) bytes.old }
+    ensures down { result ≤ start + BLOCK_BYTES }
+{
+    let mut end = to;
+    for i in 0..UNITS {
+        if answers[i] {
+            write_unit::<E>(bytes, end, units[i]);
+            end += 2;
+        }
+    }
+    end
+}
+
+// Writes a character of one unit at an index.
+#[inline]
+fn write_unit<E: Utf16Order>(bytes: &mut [u8], at: usize, unit: u16)
+    requires { at + 2 ≤ length bytes.old }
+    ensures bytes { take (at + 2) bytes.new ≡ take at bytes.old ++ encode E.BIG (unit ∷ []) }
+    ensures rest { drop (at + 2) bytes.new ≡ drop (at + 2) bytes.old }
+{
+    let two = E::write_unit(unit);
+    bytes[at] = two[0];
+    bytes[at + 1] = two[1];
+}

@@ -1,6 +1,0 @@
-pub mod CharLemmas
-pub mod TailLemmas
-pub mod CutLemmas
-pub mod PartsLemmas
-pub mod WellFormedLemmas
-pub mod LawProofs

@@ -1,0 +1,70 @@
+//! Boundaries between characters in any bytes of UTF-8.
+
+ghost use Rattle.std.specs.Prelude.{◌≡◌, ◌↔◌, ◌+◌, ◌<◌, ◌≤◌, ◌⊎◌, ℕ, IsTrue, length};
+ghost use Rattle.utf8_bytes.specs.Boundary.{FollowsThree, IsContinuation, IsCut};
+
+/// Returns whether a byte is a continuation byte, 0x80 to 0xBF.
+fn is_continuation(byte: u8) -> bool
+    ensures { IsTrue result ↔ IsContinuation byte }
+{
+    byte >= 0x80 && byte < 0xC0
+}
+
+/// Returns whether the three bytes before an offset are continuation bytes.
+///
+/// # Precondition
+///
+/// The offset is at most the length.
+fn follows_three(utf8: &[u8], at: usize) -> bool
+    requires within { at ≤ length utf8.now }
+    ensures { IsTrue result ↔ FollowsThree utf8.now at }
+{
+    at >= 3
+        && is_continuation(utf8[at - 3])
+        && is_continuation(utf8[at - 2])
+        && is_continuation(utf8[at - 1])
+}
+
+/// Returns whether an offset is a boundary between characters: the start or the end of the bytes,
+/// or an offset of a byte that is no continuation byte, or one that follows three continuation
+/// bytes. Any bytes are allowed. In well-formed UTF-8 these are the boundaries of
+/// `str::is_char_boundary`, by the law `text_boundaries`.
+///
+/// # Complexity
+///
+/// Constant time: reads at most the byte at the offset and three before it.
+pub fn is_char_boundary(utf8: &[u8], at: usize) -> bool
+    ensures { IsTrue result ↔ IsCut utf8.now at }
+{
+    if at == 0 || at >= utf8.len() {
+        return at <= utf8.len();
+    }
+    !is_continuation(utf8[at]) || follows_three(utf8, at)
+}
+
+/// Returns the greatest boundary at or before an offset, as `is_char_boundary` has them: the length
+/// if the offset is greater, and else at most three bytes before the offset. In well-formed UTF-8
+/// it is that of `str::floor_char_boundary`.
+///
+/// # Complexity
+///
+/// Constant time, as `is_char_boundary`.
+pub fn floor_char_boundary(utf8: &[u8], at: usize) -> usize
+    ensures bound { result ≤ at }
+    ensures within { result ≤ length utf8.now }
+    ensures boundary { IsCut utf8.now result }
+    ensures nearest { (i : ℕ) → result < i → i ≤ at → ¬ (IsCut utf8.now i) }
+    ensures near { (at ≤ result + 3) ⊎ (result ≡ length utf8.now) }
+{
+    if at >= utf8.len() {
+        utf8.len()
+    } else if is_char_boundary(utf8, at) {
+        at
+    } else if is_char_boundary(utf8, at - 1) {
+        at - 1
+    } else if is_char_boundary(utf8, at - 2) {
+        at - 2
+    } else {
+        at - 3
+    }
+}

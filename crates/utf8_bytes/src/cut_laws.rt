@@ -1,0 +1,23 @@
+//! The laws of boundaries, each proved as the contract of a function that does nothing.
+//!
+//! The body of a function cites a law by a call of its function, a proof file by the lemma of that
+//! name in the module `Rattle.utf8_bytes.proofs.CutLawProofs`.
+
+ghost use Rattle.utf8_bytes.specs.CutLaws.{CutText, CutsText, TextBoundaries};
+
+/// The lossy text of bytes is that of the bytes before a boundary, and then that of the bytes from
+/// it on, for any bytes: each part can be decoded alone.
+pub fn cut_text()
+    ensures { CutText }
+{}
+
+/// The lossy text of bytes is that of their parts between ascending boundaries, one after another,
+/// for any bytes.
+pub fn cuts_text()
+    ensures { CutsText }
+{}
+
+/// In well-formed UTF-8 the boundaries are those of `str::is_char_boundary`.
+pub fn text_boundaries()
+    ensures { TextBoundaries }
+{}

@@ -1,0 +1,9 @@
+//! Any bytes as UTF-8: their split into characters, ill-formed subparts and a tail, and where they
+//! may be cut so that the parts decode to the parts of the text.
+#![tactic(auto)]
+
+mod boundary;
+pub mod cut_laws;
+pub mod laws;
+
+pub use crate::boundary::{floor_char_boundary, is_char_boundary};

@@ -1,5 +1,0 @@
-use Rattle.utf8_split.proofs.LawProofs.{shown_within}
-use Rattle.utf8_split.proofs.laws.shown_within.Goals as goal
-
-pub returns : goal.returns
-returns c = shown_within

@@ -1,5 +1,0 @@
-use Rattle.utf8_split.proofs.LawProofs.{split_extends}
-use Rattle.utf8_split.proofs.laws.split_extends.Goals as goal
-
-pub returns : goal.returns
-returns c = split_extends

@@ -1,5 +1,0 @@
-use Rattle.utf8_split.proofs.LawProofs.{split_unique}
-use Rattle.utf8_split.proofs.laws.split_unique.Goals as goal
-
-pub returns : goal.returns
-returns c = split_unique

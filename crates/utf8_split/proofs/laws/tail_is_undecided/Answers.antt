@@ -1,5 +1,0 @@
-use Rattle.utf8_split.proofs.LawProofs.{tail_is_undecided}
-use Rattle.utf8_split.proofs.laws.tail_is_undecided.Goals as goal
-
-pub returns : goal.returns
-returns c = tail_is_undecided

@@ -1,5 +1,0 @@
-use Rattle.utf8_split.proofs.LawProofs.{text_is_shown}
-use Rattle.utf8_split.proofs.laws.text_is_shown.Goals as goal
-
-pub returns : goal.returns
-returns c = text_is_shown

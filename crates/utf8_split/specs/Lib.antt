@@ -1,3 +1,0 @@
-pub mod Split
-pub mod Laws
-pub mod Recipe

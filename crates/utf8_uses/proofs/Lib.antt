@@ -1,4 +1,0 @@
-mod BothLemmas
-mod CutLemmas
-mod EndsLemmas
-mod JoinedLemmas
