@@ -4,6 +4,7 @@ pub mod PrefixLemmas
 pub mod CutLemmas
 pub mod DecodesUtf8
 pub mod ItemLemmas
+pub mod FirstBytes
 pub mod DecodedText
 pub mod FeedsUtf8
 pub mod AsciiFront

@@ -7,7 +7,7 @@ use Rattle.utf8_bytes.specs.Split.{IsSubpart, IsTail}
 use Rattle.utf8_bytes.proofs.PartLemmas.{tail_undecided}
 use Rattle.utf8_bytes.proofs.TableLemmas.{bad_first, bad_fourth, bad_third, tail_four, tail_four_one, tail_four_two, tail_three, tail_three_one, tail_two}
 use Rattle.utf16_encode.specs.FromUtf8.{IsIllFormedUtf8At}
-use Rattle.utf16_encode.proofs.ItemLemmas.{begins_two, follows, follows_not, from, not_begun, second, to}
+use Rattle.utf16_encode.proofs.FirstBytes.{begins_two, follows, follows_not, not_begun, second, to}
 
 -- an ill-formed subpart
 subpart_at : (part rest : List ℕ) → IsSubpart part rest → IsIllFormedUtf8At (part ++ rest) (Some (length part))
@@ -53,15 +53,15 @@ not_begun_at [] long high bad = absurd (omega arith)
 not_begun_at (x ∷ []) long high bad = absurd (omega arith)
 not_begun_at (x ∷ y ∷ rest) long high bad = subpart_at (x ∷ []) (y ∷ rest) (not_begun x y rest high bad)
 
-pub cut_behind_two : (bytes : List ℕ) → length bytes ≡ 2 → begins_two (slice_index bytes 0) (slice_index bytes 1) ≡ true → 0xE0 ≤ slice_index bytes 0
+pub cut_after_two : (bytes : List ℕ) → length bytes ≡ 2 → begins_two (slice_index bytes 0) (slice_index bytes 1) ≡ true → 0xE0 ≤ slice_index bytes 0
     → IsIllFormedUtf8At bytes None
-cut_behind_two [] two begins long = absurd (omega arith)
-cut_behind_two (x ∷ []) two begins long = absurd (omega arith)
-cut_behind_two (x ∷ y ∷ []) two begins long = cut_at (x ∷ y ∷ []) (⊎_elim
-    (λ (three : x < 0xF0). tail_three x y long three (second x y 0 0 begins))
-    (λ (four : 0xF0 ≤ x). tail_four_two x y four (to x y 0 0 begins) (second x y 0 0 begins))
+cut_after_two [] two begins long = absurd (omega arith)
+cut_after_two (x ∷ []) two begins long = absurd (omega arith)
+cut_after_two (x ∷ y ∷ []) two begins long = cut_at (x ∷ y ∷ []) (⊎_elim
+    (λ (three : x < 0xF0). tail_three x y long three (second x y begins))
+    (λ (four : 0xF0 ≤ x). tail_four_two x y four (to x y begins) (second x y begins))
     (cases_lt x 0xF0))
-cut_behind_two (x ∷ y ∷ z ∷ more) two begins long = absurd (omega arith)
+cut_after_two (x ∷ y ∷ z ∷ more) two begins long = absurd (omega arith)
 
 pub no_third_at : (bytes : List ℕ) → 3 ≤ length bytes → begins_two (slice_index bytes 0) (slice_index bytes 1) ≡ true → 0xE0 ≤ slice_index bytes 0
     → is_in_range 0x80 0xBF (slice_index bytes 2) ≡ false → IsIllFormedUtf8At bytes (Some 2)
@@ -69,16 +69,16 @@ no_third_at [] size begins long bad = absurd (omega arith)
 no_third_at (x ∷ []) size begins long bad = absurd (omega arith)
 no_third_at (x ∷ y ∷ []) size begins long bad = absurd (omega arith)
 no_third_at (x ∷ y ∷ z ∷ rest) size begins long bad =
-    subpart_at (x ∷ y ∷ []) (z ∷ rest) (bad_third x y z rest long (to x y 0 0 begins) (second x y 0 0 begins) (follows_not z bad))
+    subpart_at (x ∷ y ∷ []) (z ∷ rest) (bad_third x y z rest long (to x y begins) (second x y begins) (follows_not z bad))
 
-pub cut_behind_three : (bytes : List ℕ) → length bytes ≡ 3 → begins_two (slice_index bytes 0) (slice_index bytes 1) ≡ true → 0xF0 ≤ slice_index bytes 0
+pub cut_after_three : (bytes : List ℕ) → length bytes ≡ 3 → begins_two (slice_index bytes 0) (slice_index bytes 1) ≡ true → 0xF0 ≤ slice_index bytes 0
     → is_in_range 0x80 0xBF (slice_index bytes 2) ≡ true → IsIllFormedUtf8At bytes None
-cut_behind_three [] three begins long third = absurd (omega arith)
-cut_behind_three (x ∷ []) three begins long third = absurd (omega arith)
-cut_behind_three (x ∷ y ∷ []) three begins long third = absurd (omega arith)
-cut_behind_three (x ∷ y ∷ z ∷ []) three begins long third =
-    cut_at (x ∷ y ∷ z ∷ []) (tail_four x y z long (to x y 0 0 begins) (second x y 0 0 begins) (follows z third))
-cut_behind_three (x ∷ y ∷ z ∷ w ∷ more) three begins long third = absurd (omega arith)
+cut_after_three [] three begins long third = absurd (omega arith)
+cut_after_three (x ∷ []) three begins long third = absurd (omega arith)
+cut_after_three (x ∷ y ∷ []) three begins long third = absurd (omega arith)
+cut_after_three (x ∷ y ∷ z ∷ []) three begins long third =
+    cut_at (x ∷ y ∷ z ∷ []) (tail_four x y z long (to x y begins) (second x y begins) (follows z third))
+cut_after_three (x ∷ y ∷ z ∷ w ∷ more) three begins long third = absurd (omega arith)
 
 pub no_fourth_at : (bytes : List ℕ) → 4 ≤ length bytes → begins_two (slice_index bytes 0) (slice_index bytes 1) ≡ true → 0xF0 ≤ slice_index bytes 0
     → is_in_range 0x80 0xBF (slice_index bytes 2) ≡ true → is_in_range 0x80 0xBF (slice_index bytes 3) ≡ false → IsIllFormedUtf8At bytes (Some 3)
@@ -87,4 +87,4 @@ no_fourth_at (x ∷ []) size begins long third bad = absurd (omega arith)
 no_fourth_at (x ∷ y ∷ []) size begins long third bad = absurd (omega arith)
 no_fourth_at (x ∷ y ∷ z ∷ []) size begins long third bad = absurd (omega arith)
 no_fourth_at (x ∷ y ∷ z ∷ w ∷ rest) size begins long third bad =
-    subpart_at (x ∷ y ∷ z ∷ []) (w ∷ rest) (bad_fourth x y z w rest long (to x y 0 0 begins) (second x y 0 0 begins) (follows z third) (follows_not w bad))
+    subpart_at (x ∷ y ∷ z ∷ []) (w ∷ rest) (bad_fourth x y z w rest long (to x y begins) (second x y begins) (follows z third) (follows_not w bad))

@@ -5,8 +5,7 @@ ghost use Rattle.utf16_decode.specs.Wrote.{Wrote};
 ghost use Rattle.utf16_encode.specs.FromUtf8.{TranscodesToUtf16};
 ghost use Rattle.utf16_encode.specs.Utf8Stream.{DecodesUtf8To, FirstItem};
 
-use crate::chars::{char_of_four, char_of_three, char_of_two, is_continuation};
-use crate::utf16::{can_begin, put_char};
+use crate::utf16::{first_char, put_char};
 use std::simd::prelude::*;
 use utf16_decode::ascii_len;
 use utf16_from_utf8::put_ascii;
@@ -71,7 +70,7 @@ fn put_step<E: Utf16Order>(text: &[u8], to: &mut [u8]) -> Step
             run: ASCII_RUN,
         };
     }
-    let (c, len) = first_item(text[0], text[1], text[2], text[3]);
+    let (c, len) = first_item(text);
     Step {
         read: len,
         written: put_char::<E>(c, to, 0),
@@ -109,31 +108,17 @@ fn low_bits(block: u8x16) -> u8x16
     block & u8x16::splat(0x7F)
 }
 
-// Returns the first item of these bytes, which decide it, and its length: a character, or U+FFFD
-// for an ill-formed subpart (Unicode Standard, table 3-7).
+// Returns the first item of the bytes, which decide it, and its length: a character, or U+FFFD for an
+// ill-formed subpart.
 #[inline(always)]
-fn first_item(lead: u8, second: u8, third: u8, fourth: u8) -> (char, usize)
-    ensures { FirstItem (lead ∷ second ∷ third ∷ fourth ∷ []) result.0 result.1 }
+fn first_item(text: &[u8]) -> (char, usize)
+    requires { ITEM_LEN ≤ length text.now }
+    ensures { FirstItem text.now result.0 result.1 }
 {
-    if !can_begin(lead, second) {
-        let c = if lead < 0x80 {
-            lead as char
-        } else {
-            char::REPLACEMENT_CHARACTER
-        };
-        return (c, 1);
+    match first_char(text) {
+        Ok(first) => first,
+        Err(Some(len)) => (char::REPLACEMENT_CHARACTER, len as usize),
+        // Four bytes never end too early.
+        Err(None) => (char::REPLACEMENT_CHARACTER, 1),
     }
-    if lead < 0xE0 {
-        return (char_of_two(lead, second), 2);
-    }
-    if !is_continuation(third) {
-        return (char::REPLACEMENT_CHARACTER, 2);
-    }
-    if lead < 0xF0 {
-        return (char_of_three(lead, second, third), 3);
-    }
-    if !is_continuation(fourth) {
-        return (char::REPLACEMENT_CHARACTER, 3);
-    }
-    (char_of_four(lead, second, third, fourth), 4)
 }

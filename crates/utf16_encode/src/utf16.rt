@@ -197,7 +197,7 @@ fn first_len(text: &[u8]) -> usize
 
 // Whether a character of two bytes or more can begin with these two (Unicode Standard, table 3-7).
 #[inline(always)]
-pub(crate) fn can_begin(lead: u8, second: u8) -> bool
+fn can_begin(lead: u8, second: u8) -> bool
     ensures { result ≡ (is_in_range 0xC2 0xF4 lead
         && is_in_range (second_byte_min lead) (second_byte_max lead) second) }
 {
@@ -222,7 +222,7 @@ pub(crate) fn can_begin(lead: u8, second: u8) -> bool
 // Returns the first character and its length in bytes, or the `error_len` of what is there instead
 // (Unicode Standard, table 3-7).
 #[inline(always)]
-fn first_char(rest: &[u8]) -> Result<(char, usize), Option<u8>>
+pub(crate) fn first_char(rest: &[u8]) -> Result<(char, usize), Option<u8>>
     requires { 0 < length rest.now }
     ensures char { IfOk result (λ first. BeginsWith encode_utf8 rest.now first.0 first.1) }
     ensures ill_formed { IfErr result (IsIllFormedUtf8At rest.now) }

@@ -1,7 +1,6 @@
 use Rattle.std.proofs.Common.{◌≡◌, ◌+◌, arith, subst}
 use Rattle.utf16_encode.specs.Utf8Stream.{DecodesUtf8To}
 use Rattle.utf16_encode.proofs.DecodesUtf8.{DecodesUtf8To-item, DecodesUtf8To-none, DecodesUtf8To-text}
-use Rattle.utf16_encode.proofs.ItemLemmas.{first_at}
 use Rattle.utf16_encode.proofs.items.put_step.Goals as goal
 
 pub returns-then-ascii-gt0-clause-decodes : goal.returns-then-ascii-gt0-clause-decodes
@@ -13,4 +12,4 @@ returns-clause-decodes g c =
     let before = DecodesUtf8To-none g.E.Utf16Order.BIG text c.put_ascii_front-ascii.new.to in
     let all : 0 + c.first_item-c.result.1 ≡ c.first_item-c.result.1 = omega arith in
     subst (λ read. DecodesUtf8To g.E.Utf16Order.BIG text c.put_char.new.to read c.put_char.result) all
-    (DecodesUtf8To-item _ text _ _ 0 0 _ _ _ before (first_at text 0 _ _ c.requires.bytes c.first_item-c.ensures) c.put_char.ensures.within c.put_char.ensures.bytes)
+    (DecodesUtf8To-item _ text _ _ 0 0 _ _ _ before c.first_item-c.ensures c.put_char.ensures.within c.put_char.ensures.bytes)

@@ -1,6 +1,6 @@
 use Rattle.std.proofs.Common.{sym, subst, ◌∙◌, arith}
 use Rattle.utf16_encode.specs.FromUtf8.{IsIllFormedUtf8At}
-use Rattle.utf16_encode.proofs.NoCharLemmas.{cut_behind_three, cut_behind_two, no_fourth_at, no_third_at, not_begun_at, one_byte_is}
+use Rattle.utf16_encode.proofs.NoCharLemmas.{cut_after_three, cut_after_two, no_fourth_at, no_third_at, not_begun_at, one_byte_is}
 use Rattle.utf16_encode.proofs.utf16.first_char.Goals as goal
 
 pub returns-then-rest-lt2-clause-ill_formed : goal.returns-then-rest-lt2-clause-ill_formed
@@ -14,7 +14,7 @@ returns-then-not-can_begin-clause-ill_formed c =
 pub returns-then-rest-lt3-clause-ill_formed : goal.returns-then-rest-lt3-clause-ill_formed
 returns-then-rest-lt3-clause-ill_formed c =
     let begins = sym c.can_begin.ensures ∙ c.if-not-can_begin.false in
-    cut_behind_two c.args.rest.now (omega (arith, c.if-rest-lt2.false, c.if-rest-lt3.true)) begins c.if-lead-lt224.false
+    cut_after_two c.args.rest.now (omega (arith, c.if-rest-lt2.false, c.if-rest-lt3.true)) begins c.if-lead-lt224.false
 
 pub returns-then-not-is_continuation-clause-ill_formed : goal.returns-then-not-is_continuation-clause-ill_formed
 returns-then-not-is_continuation-clause-ill_formed c =
@@ -26,7 +26,7 @@ pub returns-then-rest-lt4-clause-ill_formed : goal.returns-then-rest-lt4-clause-
 returns-then-rest-lt4-clause-ill_formed c =
     let begins = sym c.can_begin.ensures ∙ c.if-not-can_begin.false in
     let third = sym c.is_continuation-2.ensures ∙ c.if-not-is_continuation.false in
-    cut_behind_three c.args.rest.now (omega (arith, c.if-rest-lt3.false, c.if-rest-lt4.true)) begins c.if-lead-lt240.false third
+    cut_after_three c.args.rest.now (omega (arith, c.if-rest-lt3.false, c.if-rest-lt4.true)) begins c.if-lead-lt240.false third
 
 pub returns-then-not-is_continuation-2-clause-ill_formed : goal.returns-then-not-is_continuation-2-clause-ill_formed
 returns-then-not-is_continuation-2-clause-ill_formed c =
