@@ -19,7 +19,7 @@ pub const FEED_SLACK: usize = 640;
 
 /// The length, in bytes, of the buffer that decoded text is written to: it has capacity for the
 /// text of 4,096 bytes, three bytes for each code unit, and `FEED_SLACK` more.
-pub const BUFFER_LEN: usize = 6784;
+pub const BUFFER_LEN: usize = 3 * (4096 / 2) + FEED_SLACK;
 
 // A chunk of at most `SHORT_CHUNK` bytes is decoded through a smaller buffer.
 const SHORT_CHUNK: usize = 512;

@@ -6,7 +6,7 @@ ghost use Rattle.utf16_streams.specs.Filter.{AppendsPrefix, FiltersAs, FiltersAu
 ghost use Rattle.utf16_streams.specs.Watched.{CountsFaults, watched_faults, watched_inner};
 
 use crate::any_lossy::AnyLossy;
-use crate::decoder::ToUtf8;
+use crate::decoder::{FEED_SLACK, ToUtf8};
 use crate::lossy::Lossy;
 use crate::transcoder::Transcoder;
 use crate::watched::{DeviceFault, Watched};
@@ -25,7 +25,7 @@ const SHORT_OUTPUT: usize = 24;
 
 // The length of the buffer for the output of longer chunks: two bytes for each byte read and eight
 // more, as `Transcoder::feed_to` requires, and `FEED_SLACK` bytes.
-const OUTPUT_LEN: usize = 8840;
+const OUTPUT_LEN: usize = 2 * READ_LEN + 8 + FEED_SLACK;
 
 /// Why a filter stopped before the end of its input. The text of some bytes is the output that is
 /// certain for them.

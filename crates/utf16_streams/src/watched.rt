@@ -51,6 +51,18 @@ impl<T> Watched<T> {
     {
         self.faults
     }
+
+    // Counts an I/O error.
+    #[inline]
+    fn fault(&mut self) -> DeviceFault
+        requires { watched_faults self.old < 2 ^ 64 - 1 }
+        ensures inner { watched_inner self.new ≡ watched_inner self.old }
+        ensures faults { watched_faults self.new ≡ watched_faults self.old + 1 }
+    {
+        let Watched { inner: _, faults } = self;
+        *faults += 1;
+        DeviceFault
+    }
 }
 
 impl<R: Read> Watched<R> {
@@ -124,19 +136,5 @@ impl<W: Write> Watched<W> {
             Ok(()) => Ok(()),
             Err(_) => Err(self.fault()),
         }
-    }
-}
-
-impl<T> Watched<T> {
-    // Counts an I/O error.
-    #[inline]
-    fn fault(&mut self) -> DeviceFault
-        requires { watched_faults self.old < 2 ^ 64 - 1 }
-        ensures inner { watched_inner self.new ≡ watched_inner self.old }
-        ensures faults { watched_faults self.new ≡ watched_faults self.old + 1 }
-    {
-        let Watched { inner: _, faults } = self;
-        *faults += 1;
-        DeviceFault
     }
 }

@@ -7,7 +7,6 @@
 
 mod retain;
 mod retain_blocks;
-mod swap_byte_order;
 mod wstring;
 
 pub use crate::wstring::WString;

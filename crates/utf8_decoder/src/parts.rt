@@ -17,12 +17,12 @@ use utf16string::{Utf16Order, WStr, WString};
 // more, with which SIMD writes to the end.
 const SHORT_CHUNK: usize = 512;
 
-const SHORT_BUFFER: usize = 1042;
+const SHORT_BUFFER: usize = 2 * SHORT_CHUNK + 2 + 16;
 
 // A longer chunk is decoded in parts of as many bytes, through a larger buffer.
 const PART_LEN: usize = 4096;
 
-const PART_BUFFER: usize = 8210;
+const PART_BUFFER: usize = 2 * PART_LEN + 2 + 16;
 
 /// Decodes the next chunk of a stream, appends its text, and returns the stream with the bytes that
 /// are pending then.

@@ -5,8 +5,8 @@ ghost use Rattle.std.specs.Vec.{vec_allocator};
 ghost use Rattle.utf16_units.specs.Encoding.{Encodes};
 
 use crate::WString;
-use crate::swap_byte_order::swap_byte_order;
 use std::alloc::Allocator;
+use utf16_bytes::swap_byte_order;
 use utf16_units::Utf16Order;
 
 impl<E: Utf16Order, A: Allocator> WString<E, A> {
@@ -27,7 +27,9 @@ impl<E: Utf16Order, A: Allocator> WString<E, A> {
         ensures allocator { vec_allocator (wstring_vec result) ≡ vec_allocator (wstring_vec self) }
     {
         let mut raw = self.raw;
-        swap_byte_order::<E, F>(raw.as_mut_slice());
+        if E::BIG != F::BIG {
+            swap_byte_order(raw.as_mut_slice());
+        }
         WString::<F, A>::from_utf16_unchecked(raw)
     }
 }
