@@ -80,11 +80,11 @@ pub fn next_field<E: Utf16Order>(bytes: &[u8]) -> Result<(WStr<'_, E>, &[u8]), F
         return Err(FieldErrorKind::NoCount);
     }
     let len = 2 * usize::from(LittleEndian::read_u16(bytes));
-    let behind = &bytes[2..];
-    if behind.len() < len {
+    let after = &bytes[2..];
+    if after.len() < len {
         return Err(FieldErrorKind::Short);
     }
-    let (text, rest) = behind.split_at(len);
+    let (text, rest) = after.split_at(len);
     match WStr::from_utf16(text) {
         Ok(field) => Ok((field, rest)),
         Err(e) => Err(FieldErrorKind::NoText(e)),
@@ -140,9 +140,9 @@ impl<'a, E: Utf16Order> Iterator for Fields<'a, E> {
             return None;
         }
         match next_field(self.rest) {
-            Ok((field, behind)) => {
-                self.offset += self.rest.len() - behind.len();
-                self.rest = behind;
+            Ok((field, after)) => {
+                self.offset += self.rest.len() - after.len();
+                self.rest = after;
                 Some(Ok(field))
             }
             Err(fault) => {
@@ -162,14 +162,14 @@ fn error_at<E: Utf16Order>(offset: usize, rest: &[u8], fault: FieldErrorKind) ->
     requires error { IsFieldErrorKind E.BIG rest.now fault }
     ensures { IsFieldError E.BIG offset rest.now result }
 {
-    let behind = match fault {
+    let after = match fault {
         FieldErrorKind::NoCount => 0,
         FieldErrorKind::Short => 2,
         FieldErrorKind::NoText(e) => 2 + e.valid_up_to(),
     };
     FieldError {
         field: offset,
-        place: offset + behind,
+        place: offset + after,
         fault,
     }
 }

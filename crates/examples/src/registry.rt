@@ -19,11 +19,11 @@ pub fn entry<'a, E: Utf16Order>(line: WStr<'a, E>) -> Option<(WStr<'a, E>, WStr<
     let name = parts.next()?;
     let equals = parts.next()?;
     let value = parts.next()?;
-    let behind = parts.next()?;
+    let after = parts.next()?;
     if parts.next().is_some() {
         return None;
     }
-    if before.is_empty() && is_equals_sign(equals) && behind.is_empty() {
+    if before.is_empty() && is_equals_sign(equals) && after.is_empty() {
         Some((name, value))
     } else {
         None

@@ -2,8 +2,7 @@
 
 use std::alloc::Global;
 use std::io;
-use tests_case_lines::{Answer, How, Run, Trouble};
-use tests_case_lines::Case;
+use tests_case_lines::{Answer, Case, How, Run, Trouble};
 use tests_support::refusing::Refusing;
 use utf16string::{BigEndian, LittleEndian, Utf16Order};
 

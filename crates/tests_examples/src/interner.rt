@@ -1,9 +1,9 @@
 //! Names under numbers: added again, found, sorted, and with allocations that fail.
 
 use crate::checks::{equal, holds, string};
+use examples::interner::Interner;
 use std::alloc::Allocator;
 use std::process::Abort;
-use examples::interner::Interner;
 use tests_support::refusing::Refusing;
 use utf16string::{BE, LE, Utf16Order, WString};
 

@@ -1,9 +1,9 @@
 //! Tables of texts: read as the registry stores them, whole and truncated, and written.
 
 use crate::checks::{equal, holds, string};
+use examples::multi_sz::{WriteError, read, texts, write};
 use std::alloc::Allocator;
 use std::process::Abort;
-use examples::multi_sz::{WriteError, read, texts, write};
 use tests_support::refusing::Refusing;
 use utf16string::{BE, LE, Utf16Order, WStr, WString};
 

@@ -1,10 +1,10 @@
 //! How much memory a name under a number requests.
 
 use crate::checks::{equal, holds};
+use examples::interner::Interner;
 use std::alloc::Global;
 use std::ops::Range;
 use std::process::Abort;
-use examples::interner::Interner;
 use tests_support::refusing::Refusing;
 use utf16string::{BE, LE, Utf16Order, WString};
 

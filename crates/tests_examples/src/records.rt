@@ -6,8 +6,8 @@
 //! ```
 
 use crate::checks::equal;
-use std::process::Abort;
 use examples::records::{FieldErrorKind, Fields, ReadError, next_field, read_fields};
+use std::process::Abort;
 use tests_support::refusing::Refusing;
 use utf16string::{BE, LE, Utf16Order};
 
@@ -26,18 +26,18 @@ fn field_is<E: Utf16Order>(
     rt: &(impl Abort + AllocGlobal),
     fields: &mut Fields<E>,
     wanted: &str,
-    behind: usize,
+    place: usize,
 ) {
     let field = fields.next().expect(rt, "field").expect(rt, "text");
     let text = field.to_utf8(rt.alloc()).expect(rt, "memory");
     equal(rt, text.as_str() == wanted, true);
-    equal(rt, fields.offset(), behind);
+    equal(rt, fields.offset(), place);
 }
 
 fn read<E: Utf16Order>(rt: &(impl Abort + AllocGlobal), record: &[u8]) {
     let mut fields = Fields::<E>::new(record);
-    for (wanted, behind) in [("Grüße", 12), ("", 14), ("★\u{1F600}", 22)] {
-        field_is(rt, &mut fields, wanted, behind);
+    for (wanted, place) in [("Grüße", 12), ("", 14), ("★\u{1F600}", 22)] {
+        field_is(rt, &mut fields, wanted, place);
     }
     equal(rt, fields.next().is_none(), true);
     let all = read_fields::<E, _>(rt.alloc(), record).expect(rt, "fields");

@@ -1,11 +1,11 @@
 //! Texts from one encoding to another.
 
 use crate::checks::{equal, holds};
-use std::process::Abort;
 use examples::transcode::{
     ByteOrder, TranscodeError, from_utf8, from_utf8_in, pieces_to_utf8, swap_byte_order, to_utf8,
     to_utf8_in, to_utf8_lossy, to_utf8_lossy_in, utf8_round_trip, utf16_round_trip,
 };
+use std::process::Abort;
 use tests_support::refusing::Refusing;
 use tests_support::texts::{MIXED, MIXED_BE, faults};
 use utf16string::{BE, LE, Utf16Order};

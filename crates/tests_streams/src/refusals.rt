@@ -3,8 +3,8 @@
 use std::alloc::Global;
 use std::process::Abort;
 use std::test::Fail;
-use utf8_decoder::{Utf8Decoder, decode_pieces};
 use tests_support::refusing::Refusing;
+use utf8_decoder::{Utf8Decoder, decode_pieces};
 use utf16string::{BE, LE, Utf16Order, WString};
 
 type Heap<'a> = &'a Refusing<Global>;

@@ -5,8 +5,8 @@ use crate::checks::{equal, holds};
 use std::alloc::{AllocError, Global};
 use std::fmt::Debug;
 use std::process::Abort;
-use utf16_decode::{Progress, Stop, Stream};
 use tests_support::refusing::Refusing;
+use utf16_decode::{Progress, Stop, Stream};
 use utf16_tools::{AnyLossy, DeviceFault, FilterFault, Lossy};
 use utf16string::{BE, LE, Utf16Order};
 

@@ -4,8 +4,8 @@
 use crate::checks::equal;
 use std::process::Abort;
 use tests_support::plain::decode;
-use utf16_tools::{Lossy, decode_pieces};
 use uses_streams::headline::resume;
+use utf16_tools::{Lossy, decode_pieces};
 use utf16string::{BE, LE, Utf16Order};
 
 // Zero, a letter, the first and the last high byte of a leading and of a trailing surrogate, and

@@ -24,7 +24,7 @@ fn chars_are<E: Utf16Order>(rt: &(impl Abort + AllocGlobal), raw: &[u8], wanted:
 // A bug that it would catch: an adapter of std goes wrong over an iterator of another crate in the
 // built code.
 #[test]
-fn characters_behind_adapters(rt: HostRuntime) {
+fn characters_through_adapters(rt: HostRuntime) {
     chars_are::<LE>(&rt, &PX, &['\u{10000}', 'x']);
     chars_are::<BE>(&rt, &APZ_BE, &['a', '\u{10000}', 'z']);
 }
@@ -44,7 +44,7 @@ fn indices_are<E: Utf16Order>(
 
 // The same for characters with their offsets.
 #[test]
-fn offsets_behind_adapters(rt: HostRuntime) {
+fn offsets_through_adapters(rt: HostRuntime) {
     indices_are::<LE>(&rt, &PX, &[(0, '\u{10000}'), (4, 'x')]);
     indices_are::<BE>(&rt, &APZ_BE, &[(0, 'a'), (2, '\u{10000}'), (6, 'z')]);
 }

@@ -111,7 +111,7 @@ fn is_refused<E: Utf16Order>(
     rt: &(impl Abort + AllocGlobal),
     commands: &[Command],
     request: u64,
-    and_all_behind: bool,
+    and_all_after: bool,
 ) -> bool {
     let heap = Refusing::<Global>::new(rt.alloc());
     let mut edits = Vec::new(rt.alloc());
@@ -121,7 +121,7 @@ fn is_refused<E: Utf16Order>(
             .expect(rt, "memory");
     }
     let mut text = string::<E>(rt, &heap, "");
-    if and_all_behind {
+    if and_all_after {
         heap.refuse_from(request);
     } else {
         heap.refuse_one(request);
@@ -143,10 +143,10 @@ fn is_refused<E: Utf16Order>(
 fn in_turn<E: Utf16Order>(
     rt: &(impl Abort + AllocGlobal),
     commands: &[Command],
-    and_all_behind: bool,
+    and_all_after: bool,
 ) -> u64 {
     for request in 0..20 {
-        if !is_refused::<E>(rt, commands, request, and_all_behind) {
+        if !is_refused::<E>(rt, commands, request, and_all_after) {
             return request;
         }
     }
@@ -154,9 +154,9 @@ fn in_turn<E: Utf16Order>(
 }
 
 fn lists_in_turn<E: Utf16Order>(rt: &(impl Abort + AllocGlobal)) {
-    for and_all_behind in [false, true] {
-        assert!(rt; 3 <= in_turn::<E>(rt, &FIRST, and_all_behind));
-        assert!(rt; 6 <= in_turn::<E>(rt, &GROWING, and_all_behind));
+    for and_all_after in [false, true] {
+        assert!(rt; 3 <= in_turn::<E>(rt, &FIRST, and_all_after));
+        assert!(rt; 6 <= in_turn::<E>(rt, &GROWING, and_all_after));
     }
 }
 

@@ -29,15 +29,15 @@ pub fn decode<A: Allocator>(
     to: &mut String<A>,
 ) -> Result<usize, AllocError> {
     let mut rest = bytes;
-    while let [one, two, behind @ ..] = rest {
+    while let [one, two, next @ ..] = rest {
         let first = unit(big, [*one, *two]);
         let is_leading = 0xD800 <= first && first < 0xDC00;
-        let [three, four, after @ ..] = behind else {
+        let [three, four, after @ ..] = next else {
             if is_leading {
                 return Ok(rest.len());
             }
             to.push(char::from_u32(first).unwrap_or(REPLACEMENT))?;
-            rest = behind;
+            rest = next;
             continue;
         };
         match pair(first, unit(big, [*three, *four])) {
@@ -47,7 +47,7 @@ pub fn decode<A: Allocator>(
             }
             None => {
                 to.push(char::from_u32(first).unwrap_or(REPLACEMENT))?;
-                rest = behind;
+                rest = next;
             }
         }
     }

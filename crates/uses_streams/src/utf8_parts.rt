@@ -10,8 +10,8 @@ ghost use Rattle.uses_streams.specs.Utf8Parts.{IsLastCut};
 ghost use Rattle.utf16string.specs.WString.{wstring_text};
 
 use std::alloc::{AllocError, Allocator};
-use utf8_bytes::floor_char_boundary;
 use utf8_bytes::cut_laws::{cut_text, cuts_text, text_boundaries};
+use utf8_bytes::floor_char_boundary;
 use utf8_decoder::Utf8Decoder;
 use utf16string::{Utf16Order, WString};
 

@@ -7,8 +7,8 @@ ghost use Rattle.utf8_decoder.specs.Utf8Decoder.{utf8_decoder_pending};
 ghost use Rattle.utf16string.specs.WString.{wstring_text};
 
 use std::alloc::{AllocError, Allocator};
-use utf8_decoder::Utf8Decoder;
 use utf8_bytes::laws::{cut_anywhere, split_extends};
+use utf8_decoder::Utf8Decoder;
 use utf16string::{Utf16Order, WString};
 
 /// Feeds two chunks: the string has what a decoder that is fed the two joined appends, and the same

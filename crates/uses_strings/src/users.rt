@@ -9,11 +9,11 @@ ghost use Rattle.examples.specs.Transcode.{IsTranscodeError};
 ghost use Rattle.utf16string.specs.Encoding.{Encodes};
 ghost use Rattle.utf16string.specs.WStr.{wstr_text};
 
-use std::alloc::{AllocError, Global};
 use examples::interner::Interner;
 use examples::multi_sz::{WriteError, write};
 use examples::records::{ReadError, next_field, read_fields};
 use examples::transcode::{TranscodeError, from_utf8, to_utf8};
+use std::alloc::{AllocError, Global};
 use utf16string::{BE, LE, WStr};
 
 /// Returns the number of fields that a buffer holds.

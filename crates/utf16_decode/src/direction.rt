@@ -59,7 +59,7 @@ pub trait Direction {
 
     /// Returns the first character and its length in bytes, perhaps `None`: a call that makes no
     /// other calls, for the characters that are frequent.
-    fn usual_char(rest: &[u8]) -> Option<(char, usize)>
+    fn quick_first_char(rest: &[u8]) -> Option<(char, usize)>
         ensures { IfSome result (λ first. BeginsWith from rest.now first.0 first.1) };
 
     /// Writes a character in the second encoding at `at`, and returns where it ends; `None` if it

@@ -37,7 +37,7 @@ pub fn transcode<D: Direction>(input: &[u8], to: &mut [u8]) -> Progress
         (length to.new - result.written) result.stop }
 {
     if input.len() < D::SHORT_LEN
-        && let Some(written) = put_usual::<D>(input, to)
+        && let Some(written) = write_quick_chars::<D>(input, to)
     {
         return Progress {
             read: input.len(),
@@ -51,13 +51,13 @@ pub fn transcode<D: Direction>(input: &[u8], to: &mut [u8]) -> Progress
 // Writes the whole input character by character, and returns where the written bytes end; `None` if
 // it is not all usual characters that fit.
 #[inline(always)]
-fn put_usual<D: Direction>(input: &[u8], to: &mut [u8]) -> Option<usize>
+fn write_quick_chars<D: Direction>(input: &[u8], to: &mut [u8]) -> Option<usize>
     ensures { IfSome result (Wrote (Gives D.IsValid D.other) input.now to.new (length input.now)) }
 {
     D::laws();
     let (mut read, mut written) = D::begin_short(input, to)?;
     while read < input.len() {
-        let (c, len) = D::usual_char(&input[read..])?;
+        let (c, len) = D::quick_first_char(&input[read..])?;
         written = D::put_char(c, to, written)?;
         read += len;
     }
@@ -72,7 +72,7 @@ fn transcode_many<D: Direction>(input: &[u8], to: &mut [u8]) -> Progress
         (length to.new - result.written) result.stop }
 {
     D::laws();
-    // Behind an ill-formed sequence there is often another.
+    // After an ill-formed sequence there is often another.
     if !input.is_empty()
         && let Err(stop) = first_char::<D>(input)
     {
@@ -85,7 +85,7 @@ fn transcode_many<D: Direction>(input: &[u8], to: &mut [u8]) -> Progress
     let mut read = 0;
     let mut written = 0;
     while read < input.len() {
-        let (len, end) = put_piece::<D>(&input[read..], to, written);
+        let (len, end) = write_piece::<D>(&input[read..], to, written);
         read += len;
         written = end;
         if read == input.len() {
@@ -115,22 +115,22 @@ fn transcode_many<D: Direction>(input: &[u8], to: &mut [u8]) -> Progress
 // Writes a valid prefix of the bytes, perhaps an empty one, at `at`; returns how many bytes of it
 // were read, and where the written bytes end. The bytes are validated while they are written, as
 // far as possible; a few after these are validated first.
-fn put_piece<D: Direction>(rest: &[u8], to: &mut [u8], at: usize) -> (usize, usize)
+fn write_piece<D: Direction>(rest: &[u8], to: &mut [u8], at: usize) -> (usize, usize)
     requires { at ≤ length to.old }
     ensures { Puts (Gives D.IsValid D.other) rest.now to.old to.new at result.0 result.1 }
 {
     D::laws();
-    let (read, written) = put_front::<D>(rest, to, at);
+    let (read, written) = write_validating::<D>(rest, to, at);
     if read == rest.len() {
         return (read, written);
     }
-    let (len, end) = put_left::<D>(&rest[read..], to, written);
+    let (len, end) = write_validated_tail::<D>(&rest[read..], to, written);
     (read + len, end)
 }
 
 // Does the same, and validates the bytes while it writes them.
 #[inline(always)]
-fn put_front<D: Direction>(rest: &[u8], to: &mut [u8], at: usize) -> (usize, usize)
+fn write_validating<D: Direction>(rest: &[u8], to: &mut [u8], at: usize) -> (usize, usize)
     requires { at ≤ length to.old }
     ensures { Puts (Gives D.IsValid D.other) rest.now to.old to.new at result.0 result.1 }
 {
@@ -144,24 +144,24 @@ fn put_front<D: Direction>(rest: &[u8], to: &mut [u8], at: usize) -> (usize, usi
 
 // Does the same for a few bytes, and validates them before it writes them: directly to their place
 // if they surely fit there.
-fn put_left<D: Direction>(rest: &[u8], to: &mut [u8], at: usize) -> (usize, usize)
+fn write_validated_tail<D: Direction>(rest: &[u8], to: &mut [u8], at: usize) -> (usize, usize)
     requires { at ≤ length to.old }
     ensures { Puts (Gives D.IsValid D.other) rest.now to.old to.new at result.0 result.1 }
 {
     D::laws();
     if rest.len() < VERY_FEW {
-        return put_chars::<D>(rest, to, at);
+        return write_chars::<D>(rest, to, at);
     }
     let len = rest.len().min(LEFT_LEN);
     if len <= D::surely_fit(to.len() - at) {
-        return put_valid::<D>(&rest[..len], to, at);
+        return write_valid::<D>(&rest[..len], to, at);
     }
-    put_few::<D>(rest, to, at)
+    write_last_bytes::<D>(rest, to, at)
 }
 
 // Does the same for bytes that surely fit.
 #[inline(always)]
-fn put_valid<D: Direction>(rest: &[u8], to: &mut [u8], at: usize) -> (usize, usize)
+fn write_valid<D: Direction>(rest: &[u8], to: &mut [u8], at: usize) -> (usize, usize)
     requires { at + D.room_for (length rest.now) ≤ length to.old }
     ensures { Puts (Gives D.IsValid D.other) rest.now to.old to.new at result.0 result.1 }
 {
@@ -176,32 +176,32 @@ fn put_valid<D: Direction>(rest: &[u8], to: &mut [u8], at: usize) -> (usize, usi
 
 // Does the same for bytes that may not all fit; one by one if there is little space, or an
 // ill-formed sequence is near, where a block would stop.
-fn put_few<D: Direction>(rest: &[u8], to: &mut [u8], at: usize) -> (usize, usize)
+fn write_last_bytes<D: Direction>(rest: &[u8], to: &mut [u8], at: usize) -> (usize, usize)
     requires some { 0 < length rest.now }
     requires within { at ≤ length to.old }
     ensures { Puts (Gives D.IsValid D.other) rest.now to.old to.new at result.0 result.1 }
 {
     D::laws();
     if to.len() - at < BY_CHARS {
-        return put_chars::<D>(rest, to, at);
+        return write_chars::<D>(rest, to, at);
     }
     let mut buf = [0; BUFFER_LEN];
     if rest.len() < FEW_LEN {
-        return put_text::<D>(rest, &mut buf, to, at);
+        return write_short_text::<D>(rest, &mut buf, to, at);
     }
     if is_near_ill_formed::<D>(rest) {
-        return put_chars::<D>(rest, to, at);
+        return write_chars::<D>(rest, to, at);
     }
-    let (read, written) = put_blocks::<D>(rest, &mut buf, to, at);
+    let (read, written) = write_one_or_two_blocks::<D>(rest, &mut buf, to, at);
     if read > 0 && !is_for_text(rest.len() - read, to.len() - written) {
         return (read, written);
     }
-    let (len, end) = put_text::<D>(&rest[read..], &mut buf, to, written);
+    let (len, end) = write_short_text::<D>(&rest[read..], &mut buf, to, written);
     (read + len, end)
 }
 
-// Whether so many bytes, with so much space, are for `put_text`: too few for a block, and neither
-// bytes nor space so few that `put_chars` is faster. Any answer is right.
+// Whether so many bytes, with so much space, are for `write_short_text`: too few for a block, and neither
+// bytes nor space so few that `write_chars` is faster. Any answer is right.
 #[inline(always)]
 fn is_for_text(len: usize, space: usize) -> bool {
     VERY_FEW <= len && len < FEW_LEN && BY_CHARS <= space
@@ -221,7 +221,12 @@ fn is_near_ill_formed<D: Direction>(rest: &[u8]) -> bool
 // Does the same through a buffer for a block or two, as many as may fit on average, and validates
 // them while it writes them.
 #[inline(always)]
-fn put_blocks<D: Direction>(rest: &[u8], buf: &mut [u8], to: &mut [u8], at: usize) -> (usize, usize)
+fn write_one_or_two_blocks<D: Direction>(
+    rest: &[u8],
+    buf: &mut [u8],
+    to: &mut [u8],
+    at: usize,
+) -> (usize, usize)
     requires { at ≤ length to.old }
     ensures { Puts (Gives D.IsValid D.other) rest.now to.old to.new at result.0 result.1 }
 {
@@ -231,11 +236,16 @@ fn put_blocks<D: Direction>(rest: &[u8], buf: &mut [u8], to: &mut [u8], at: usiz
         TWO_BLOCKS_LEN
     };
     let (len, end) = D::write_front(&rest[..most.min(rest.len())], buf);
-    put_fitting::<D>(&rest[..len], &buf[..end], to, at)
+    write_fitting::<D>(&rest[..len], &buf[..end], to, at)
 }
 
 // Does the same through a buffer for a few bytes, and validates them before it writes them.
-fn put_text<D: Direction>(rest: &[u8], buf: &mut [u8], to: &mut [u8], at: usize) -> (usize, usize)
+fn write_short_text<D: Direction>(
+    rest: &[u8],
+    buf: &mut [u8],
+    to: &mut [u8],
+    at: usize,
+) -> (usize, usize)
     requires space { BUFFER_LEN ≤ length buf.old }
     requires within { at ≤ length to.old }
     ensures { Puts (Gives D.IsValid D.other) rest.now to.old to.new at result.0 result.1 }
@@ -243,13 +253,13 @@ fn put_text<D: Direction>(rest: &[u8], buf: &mut [u8], to: &mut [u8], at: usize)
     D::laws();
     let len = D::valid_len(&rest[..rest.len().min(FEW_LEN)]);
     let end = D::write(&rest[..len], buf);
-    put_fitting::<D>(&rest[..len], &buf[..end], to, at)
+    write_fitting::<D>(&rest[..len], &buf[..end], to, at)
 }
 
 // Copies a text in the second encoding, as far as it fits, and returns how many bytes of the text
 // these are, and where the copied bytes end.
 #[inline(always)]
-fn put_fitting<D: Direction>(
+fn write_fitting<D: Direction>(
     text: &[u8],
     written: &[u8],
     to: &mut [u8],
@@ -282,12 +292,12 @@ fn prefix_for<D: Direction>(text: &[u8], written: &[u8], room: usize) -> (usize,
 
 // Writes the valid characters at the start of the bytes as far as they fit: one by one, after what
 // `begin_short` writes at once.
-fn put_chars<D: Direction>(rest: &[u8], to: &mut [u8], at: usize) -> (usize, usize)
+fn write_chars<D: Direction>(rest: &[u8], to: &mut [u8], at: usize) -> (usize, usize)
     requires { at ≤ length to.old }
     ensures { Puts (Gives D.IsValid D.other) rest.now to.old to.new at result.0 result.1 }
 {
     D::laws();
-    let (mut read, mut written) = put_begin::<D>(rest, to, at);
+    let (mut read, mut written) = write_short_start::<D>(rest, to, at);
     while read < rest.len() {
         let Ok((len, end)) = put_char::<D>(&rest[read..], to, written) else {
             break;
@@ -300,7 +310,7 @@ fn put_chars<D: Direction>(rest: &[u8], to: &mut [u8], at: usize) -> (usize, usi
 
 // Writes what `begin_short` does of the bytes at `at`, perhaps nothing.
 #[inline(always)]
-fn put_begin<D: Direction>(rest: &[u8], to: &mut [u8], at: usize) -> (usize, usize)
+fn write_short_start<D: Direction>(rest: &[u8], to: &mut [u8], at: usize) -> (usize, usize)
     requires { at ≤ length to.old }
     ensures { Puts (Gives D.IsValid D.other) rest.now to.old to.new at result.0 result.1 }
 {

@@ -80,7 +80,7 @@ impl<E: Utf16Order> Direction for ToUtf8<E> {
     }
 
     #[inline(always)]
-    fn usual_char(rest: &[u8]) -> Option<(char, usize)> {
+    fn quick_first_char(rest: &[u8]) -> Option<(char, usize)> {
         if rest.len() < 2 {
             return None;
         }

@@ -8,7 +8,7 @@ ghost use Rattle.utf16_encode.specs.Utf8Stream.{DecodesUtf8To, FirstItem, StopsL
 ghost use Rattle.utf16_decode.specs.Shown.{ShowsWhole};
 ghost use Rattle.utf16_decode.specs.Stops.{StopsLossyWhole};
 
-use crate::items::{ITEM_LEN, put_items};
+use crate::items::{ITEM_LEN, write_items};
 use crate::utf16::FromUtf8;
 use utf16_decode::{LossyDirection, Progress, put, transcode_lossy, transcode_partial};
 use utf16_from_utf8::write_blocks;
@@ -42,24 +42,28 @@ pub fn from_utf8_partial<E: Utf16Order>(text: &[u8], to: &mut [u8]) -> Progress
 
 // Writes U+FFFD for the ill-formed sequence of `len` bytes that the text begins with, and the text
 // of bytes after it; returns the number of bytes read and the number of bytes written.
-fn put_ill_formed<E: Utf16Order>(text: &[u8], len: usize, to: &mut [u8]) -> (usize, usize)
+fn write_replacement_and_more<E: Utf16Order>(
+    text: &[u8],
+    len: usize,
+    to: &mut [u8],
+) -> (usize, usize)
     requires ill_formed { FirstItem text.now 0xFFFD len }
     requires space { 2 ≤ length to.old }
     ensures decodes { DecodesUtf8To E.BIG text.now to.new result.0 result.1 }
     ensures some { 0 < result.0 }
 {
     let written = put(&E::write_unit(REPLACEMENT), to, 0);
-    let (read, size) = put_behind::<E>(&text[len..], &mut to[written..]);
+    let (read, size) = write_after_ill_formed::<E>(&text[len..], &mut to[written..]);
     (len + read, written + size)
 }
 
 // Writes the text of bytes that follow an ill-formed sequence: items, up to some well-formed
 // characters, and then blocks, up to the next ill-formed sequence, in turn while a block may
 // follow.
-fn put_behind<E: Utf16Order>(text: &[u8], to: &mut [u8]) -> (usize, usize)
+fn write_after_ill_formed<E: Utf16Order>(text: &[u8], to: &mut [u8]) -> (usize, usize)
     ensures { DecodesUtf8To E.BIG text.now to.new result.0 result.1 }
 {
-    let (mut read, mut written) = put_items::<E>(text, to);
+    let (mut read, mut written) = write_items::<E>(text, to);
     while text.len() - read >= BLOCK_LEN && to.len() - written >= BLOCK_SPACE {
         let (len, size) = put_text_blocks::<E>(&text[read..], &mut to[written..]);
         read += len;
@@ -67,7 +71,7 @@ fn put_behind<E: Utf16Order>(text: &[u8], to: &mut [u8]) -> (usize, usize)
         if text.len() - read < ITEM_LEN || to.len() - written < ITEM_LEN {
             break;
         }
-        let (len, size) = put_items::<E>(&text[read..], &mut to[written..]);
+        let (len, size) = write_items::<E>(&text[read..], &mut to[written..]);
         read += len;
         written += size;
     }
@@ -118,7 +122,7 @@ impl<E: Utf16Order> LossyDirection for FromUtf8<E> {
         if to.len() < REPLACEMENT_LEN {
             return None;
         }
-        Some(put_ill_formed::<E>(input, len as usize, to))
+        Some(write_replacement_and_more::<E>(input, len as usize, to))
     }
 
     #[inline(always)]

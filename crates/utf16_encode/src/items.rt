@@ -27,7 +27,7 @@ pub(crate) const ITEM_LEN: usize = 4;
 /// each ill-formed sequence; returns the number of bytes read and the number of bytes written. It
 /// ends after some well-formed characters, or where fewer than four bytes are left of the input or
 /// of the buffer.
-pub(crate) fn put_items<E: Utf16Order>(text: &[u8], to: &mut [u8]) -> (usize, usize)
+pub(crate) fn write_items<E: Utf16Order>(text: &[u8], to: &mut [u8]) -> (usize, usize)
     ensures decodes { DecodesUtf8To E.BIG text.now to.new result.0 result.1 }
     ensures advances { ITEM_LEN ≤ length text.now → ITEM_LEN ≤ length to.old → 0 < result.0 }
 {
@@ -35,7 +35,7 @@ pub(crate) fn put_items<E: Utf16Order>(text: &[u8], to: &mut [u8]) -> (usize, us
     let mut written = 0;
     let mut run = 0;
     while run < RUN && text.len() - read >= ITEM_LEN && to.len() - written >= ITEM_LEN {
-        let step = put_step::<E>(&text[read..], &mut to[written..]);
+        let step = write_items_once::<E>(&text[read..], &mut to[written..]);
         read += step.read;
         written += step.written;
         run = if step.run == 0 { 0 } else { run + step.run };
@@ -55,14 +55,14 @@ struct Step {
 // Writes the ASCII at the start of the bytes in UTF-16 to the start of a buffer, of sixteen bytes
 // at most, or the first item.
 #[inline(always)]
-fn put_step<E: Utf16Order>(text: &[u8], to: &mut [u8]) -> Step
+fn write_items_once<E: Utf16Order>(text: &[u8], to: &mut [u8]) -> Step
     requires bytes { ITEM_LEN ≤ length text.now }
     requires space { ITEM_LEN ≤ length to.old }
     ensures decodes { DecodesUtf8To E.BIG text.now to.new result.read result.written }
     ensures advances { 0 < result.read }
     ensures run { result.run ≤ ASCII_RUN }
 {
-    let ascii = put_ascii_front::<E>(text, to);
+    let ascii = write_some_ascii::<E>(text, to);
     if ascii > 0 {
         return Step {
             read: ascii,
@@ -82,7 +82,7 @@ fn put_step<E: Utf16Order>(text: &[u8], to: &mut [u8]) -> Step
 // returns how many bytes it read; none if fewer than four are, there are fewer bytes, or less than
 // twice as much space. The bytes of the buffer after those written may be overwritten.
 #[inline(always)]
-fn put_ascii_front<E: Utf16Order>(text: &[u8], to: &mut [u8]) -> usize
+fn write_some_ascii<E: Utf16Order>(text: &[u8], to: &mut [u8]) -> usize
     ensures wrote { Wrote (TranscodesToUtf16 E.BIG) text.now to.new result (2 * result) }
     ensures most { 0 < result → result < 16 → 0x80 ≤ slice_index text.now result }
     ensures len { length to.new ≡ length to.old }

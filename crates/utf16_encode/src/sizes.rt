@@ -26,10 +26,10 @@ pub fn to_utf8_lossy_len<E: Utf16Order>(raw: &[u8]) -> usize
             Ok(()) => return size + utf8_len::<E>(rest),
             Err(error) => error,
         };
-        let (front, behind) = rest.split_at(error.valid_up_to());
+        let (front, next) = rest.split_at(error.valid_up_to());
         size += utf8_len::<E>(front) + REPLACEMENT.len();
         match error.error_len() {
-            Some(len) => rest = &behind[len..],
+            Some(len) => rest = &next[len..],
             None => return size,
         }
     }

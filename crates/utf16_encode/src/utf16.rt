@@ -78,7 +78,7 @@ impl<E: Utf16Order> Direction for FromUtf8<E> {
     #[inline(always)]
     fn begin_short(input: &[u8], to: &mut [u8]) -> Option<(usize, usize)> {
         if input.len() < 16 {
-            return Some(put_ascii_chars::<E>(input, to));
+            return Some(write_ascii_chars::<E>(input, to));
         }
         let most = input.len().min(to.len() / 2);
         let len = write_ascii::<E>(&input[..most], to);
@@ -86,7 +86,7 @@ impl<E: Utf16Order> Direction for FromUtf8<E> {
     }
 
     #[inline(always)]
-    fn usual_char(rest: &[u8]) -> Option<(char, usize)> {
+    fn quick_first_char(rest: &[u8]) -> Option<(char, usize)> {
         if rest.is_empty() {
             return None;
         }
@@ -142,7 +142,7 @@ fn last_boundary<E: Utf16Order>(utf16: &[u8], at: usize) -> usize
 // Writes the ASCII at the start of the bytes character by character, as far as it fits, and returns
 // the number of bytes read and the number of bytes written.
 #[inline(always)]
-fn put_ascii_chars<E: Utf16Order>(bytes: &[u8], to: &mut [u8]) -> (usize, usize)
+fn write_ascii_chars<E: Utf16Order>(bytes: &[u8], to: &mut [u8]) -> (usize, usize)
     ensures { Wrote (TranscodesToUtf16 E.BIG) bytes.now to.new result.0 result.1 }
 {
     let most = bytes.len().min(to.len() / 2);

@@ -52,7 +52,7 @@ pub fn to_utf8<E: Utf16Order, A: Allocator>(raw: &[u8], alloc: A) -> Result<Stri
     // Two code units take at most six bytes.
     let capacity = if raw.is_empty() { 0 } else { LEAST_CAPACITY };
     let mut utf8 = String::with_capacity(alloc, capacity)?;
-    put_few::<E, A>(raw, &mut utf8)?;
+    write_few::<E, A>(raw, &mut utf8)?;
     Ok(utf8)
 }
 
@@ -66,7 +66,7 @@ fn make_text<E: Utf16Order, A: Allocator>(raw: &[u8], alloc: A) -> Result<String
         return make_piece::<E, A>(raw, &mut [0; AT_ONCE / 2 * 3 + SLACK], alloc);
     }
     let mut utf8 = String::with_capacity(alloc, utf8_len::<E>(raw))?;
-    put_pieces::<E, A>(raw, &mut utf8)?;
+    write_pieces::<E, A>(raw, &mut utf8)?;
     Ok(utf8)
 }
 
@@ -118,19 +118,22 @@ pub fn append_utf8<E: Utf16Order, A: Allocator>(
         → IsOk result }
 {
     if raw.len() >= BY_CHARS && raw.len() <= AT_ONCE {
-        return put_short::<E, A>(raw, to);
+        return write_short::<E, A>(raw, to);
     }
     reserve_utf8::<E, A>(raw, to)?;
     if raw.len() < BY_CHARS {
-        put_few::<E, A>(raw, to)
+        write_few::<E, A>(raw, to)
     } else {
-        put_pieces::<E, A>(raw, to)
+        write_pieces::<E, A>(raw, to)
     }
 }
 
 // The same of a short text, which is written at once.
 #[inline(never)]
-fn put_short<E: Utf16Order, A: Allocator>(raw: &[u8], to: &mut String<A>) -> Result<(), AllocError>
+fn write_short<E: Utf16Order, A: Allocator>(
+    raw: &[u8],
+    to: &mut String<A>,
+) -> Result<(), AllocError>
     requires well_formed { IsUtf16 E.BIG raw.now }
     requires short { length raw.now ≤ AT_ONCE }
     ensures text { OnOk result (string_bytes to.new ≡ string_bytes to.old
@@ -141,11 +144,11 @@ fn put_short<E: Utf16Order, A: Allocator>(raw: &[u8], to: &mut String<A>) -> Res
     ensures succeeds { string_len to.old + length (utf8_of E.BIG raw.now) ≤ string_capacity to.old
         → IsOk result }
 {
-    put_piece::<E, A>(raw, &mut [0; AT_ONCE / 2 * 3 + SLACK], to)
+    write_piece::<E, A>(raw, &mut [0; AT_ONCE / 2 * 3 + SLACK], to)
 }
 
 // Appends the characters one by one to a string with enough capacity.
-fn put_few<E: Utf16Order, A: Allocator>(raw: &[u8], to: &mut String<A>) -> Result<(), AllocError>
+fn write_few<E: Utf16Order, A: Allocator>(raw: &[u8], to: &mut String<A>) -> Result<(), AllocError>
     requires well_formed { IsUtf16 E.BIG raw.now }
     requires fits { string_len to.old + length (utf8_of E.BIG raw.now) ≤ string_capacity to.old }
     ensures ok { IsOk result }
@@ -163,7 +166,10 @@ fn put_few<E: Utf16Order, A: Allocator>(raw: &[u8], to: &mut String<A>) -> Resul
 
 // The same chunk by chunk.
 #[inline(never)]
-fn put_pieces<E: Utf16Order, A: Allocator>(raw: &[u8], to: &mut String<A>) -> Result<(), AllocError>
+fn write_pieces<E: Utf16Order, A: Allocator>(
+    raw: &[u8],
+    to: &mut String<A>,
+) -> Result<(), AllocError>
     requires well_formed { IsUtf16 E.BIG raw.now }
     requires fits { string_len to.old + length (utf8_of E.BIG raw.now) ≤ string_capacity to.old }
     ensures ok { IsOk result }
@@ -174,7 +180,7 @@ fn put_pieces<E: Utf16Order, A: Allocator>(raw: &[u8], to: &mut String<A>) -> Re
     let mut rest = raw;
     while !rest.is_empty() {
         let (piece, next) = cut_piece::<E>(rest);
-        put_piece::<E, A>(piece, &mut buf, to)?;
+        write_piece::<E, A>(piece, &mut buf, to)?;
         rest = next;
     }
     Ok(())
@@ -182,7 +188,7 @@ fn put_pieces<E: Utf16Order, A: Allocator>(raw: &[u8], to: &mut String<A>) -> Re
 
 // Appends the text at once, through a buffer.
 #[inline]
-fn put_piece<E: Utf16Order, A: Allocator>(
+fn write_piece<E: Utf16Order, A: Allocator>(
     raw: &[u8],
     buf: &mut [u8],
     to: &mut String<A>,

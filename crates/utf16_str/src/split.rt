@@ -34,11 +34,11 @@ impl<'a, E: Utf16Order> Iterator for WStrSplit<'a, E> {
 
     fn next(&mut self) -> Option<WStr<'a, E>> {
         let rest = self.rest?;
-        let Some((part, behind)) = rest.split_once(self.delimiter) else {
+        let Some((part, after)) = rest.split_once(self.delimiter) else {
             self.rest = None;
             return Some(rest);
         };
-        self.rest = Some(behind);
+        self.rest = Some(after);
         Some(part)
     }
 }

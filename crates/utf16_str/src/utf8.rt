@@ -4,9 +4,8 @@ ghost use Rattle.std.specs.Prelude.{◌≡◌, ◌+◌, ◌≤◌, [], ◌++◌,
 ghost use Rattle.std.specs.String.{string_capacity, string_len};
 ghost use Rattle.utf16_str.specs.WStr.{wstr_text};
 
-use crate::WStr;
+use crate::{WStr, append_utf8};
 use std::alloc::{AllocError, Allocator};
-use crate::append_utf8;
 use utf16_units::Utf16Order;
 
 impl<'a, E: Utf16Order> WStr<'a, E> {

@@ -17,26 +17,26 @@ fn two_bytes(marks: u16x8, bits: u16x8) -> u16x8
 
 // The payload bits of the two bytes of surrogates, with the tag bits of the first byte above them.
 #[inline(always)]
-fn surrogate_bits(behind: u16x8, units: u16x8) -> u16x8
+fn surrogate_bits(preceding: u16x8, units: u16x8) -> u16x8
     ensures { HasLanes 8 result
-        (λ i. surrogate_bits (slice_index behind i) (slice_index units i)) }
+        (λ i. surrogate_bits (slice_index preceding i) (slice_index units i)) }
 {
     let leading = down(sum(units, each(0x1840)), 2);
-    let trailing = sum(raised(masked(behind, 3), 10), sum(units, each(0x4400)));
+    let trailing = sum(raised(masked(preceding, 3), 10), sum(units, each(0x4400)));
     where_below(units, 0xDC00, leading, trailing)
 }
 
 // The two bytes of units that add at most two; unspecified for other units.
 #[inline(always)]
-pub(crate) fn narrow(behind: u16x8, units: u16x8, surrogates: bool) -> u16x8
+pub(crate) fn narrow(preceding: u16x8, units: u16x8, surrogates: bool) -> u16x8
     requires { surrogates ≡ false → (i : ℕ) → i < 8 → slice_index units i < 0x800 }
-    ensures { HasLanes 8 result (λ i. narrow (slice_index behind i) (slice_index units i)) }
+    ensures { HasLanes 8 result (λ i. narrow (slice_index preceding i) (slice_index units i)) }
 {
     if !surrogates {
         return where_below(units, 0x80, units, two_bytes(each(0x80C0), units));
     }
     let letters = sum(units, each(0x3000));
-    let bits = where_below(units, 0x8000, letters, surrogate_bits(behind, units));
+    let bits = where_below(units, 0x8000, letters, surrogate_bits(preceding, units));
     where_below(units, 0x80, units, two_bytes(each(0x8000), bits))
 }
 
@@ -50,9 +50,9 @@ pub(crate) fn wide(units: u16x8) -> u16x8
 
 // The payload bits of the first two bytes of units from U+0080 on, with the tag bits of the first.
 #[inline(always)]
-fn front_bits(behind: u16x8, units: u16x8, surrogates: bool) -> u16x8
+fn front_bits(preceding: u16x8, units: u16x8, surrogates: bool) -> u16x8
     requires { surrogates ≡ false → (i : ℕ) → i < 8 → is_surrogate (slice_index units i) ≡ false }
-    ensures { HasLanes 8 result (λ i. front_bits (slice_index behind i) (slice_index units i)) }
+    ensures { HasLanes 8 result (λ i. front_bits (slice_index preceding i) (slice_index units i)) }
 {
     let letters = sum(units, each(0x3000));
     let others = sum(down(units, 6), each(0x3800));
@@ -60,16 +60,16 @@ fn front_bits(behind: u16x8, units: u16x8, surrogates: bool) -> u16x8
     if !surrogates {
         return bits;
     }
-    where_surrogate(units, surrogate_bits(behind, units), bits)
+    where_surrogate(units, surrogate_bits(preceding, units), bits)
 }
 
 // The first two bytes of any units.
 #[inline(always)]
-pub(crate) fn fronts(behind: u16x8, units: u16x8, surrogates: bool) -> u16x8
+pub(crate) fn fronts(preceding: u16x8, units: u16x8, surrogates: bool) -> u16x8
     requires { surrogates ≡ false → (i : ℕ) → i < 8 → is_surrogate (slice_index units i) ≡ false }
-    ensures { HasLanes 8 result (λ i. front (slice_index behind i) (slice_index units i)) }
+    ensures { HasLanes 8 result (λ i. front (slice_index preceding i) (slice_index units i)) }
 {
-    let bits = front_bits(behind, units, surrogates);
+    let bits = front_bits(preceding, units, surrogates);
     where_below(units, 0x80, units, two_bytes(each(0x8000), bits))
 }
 

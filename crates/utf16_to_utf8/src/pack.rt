@@ -164,8 +164,8 @@ pub(crate) fn put_any(
         units }
     ensures written_to { result ≤ at + 24 }
 {
-    let behind = previous_lanes(previous, units);
-    let fronts = lane_bytes(fronts(behind, units, surrogates));
+    let preceding = previous_lanes(previous, units);
+    let fronts = lane_bytes(fronts(preceding, units, surrogates));
     let thirds = lane_bytes(thirds(units));
     let absent = upper_bits(lane_bytes(absences(units, surrogates)));
     let end = put_words(out, at, low_words(fronts, thirds), absent % 256);

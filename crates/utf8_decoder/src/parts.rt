@@ -78,12 +78,12 @@ fn decode_parts<E: Utf16Order, A: Allocator>(
     let mut stream = stream;
     let mut rest = piece;
     while !rest.is_empty() {
-        let (part, behind) = rest.split_at(rest.len().min(PART_LEN));
+        let (part, next) = rest.split_at(rest.len().min(PART_LEN));
         let Ok(fed) = append_part(stream, part, &mut buffer, to) else {
             unreachable!()
         };
         stream = fed;
-        rest = behind;
+        rest = next;
     }
     stream
 }

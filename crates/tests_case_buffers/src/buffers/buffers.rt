@@ -18,8 +18,8 @@ pub fn buffer(alloc: Global, room: usize) -> Result<Vec<u8>, AllocError>
 
 /// Adds `changed` if a byte after the first `written` of a buffer is not as it was before the call.
 pub fn add_changed(answer: &mut Answer, to: &[u8], written: usize) -> Result<(), Trouble> {
-    let behind = to.get(written..).ok_or(Trouble::Condition)?;
-    if behind.iter().any(|byte| *byte != BEFORE) {
+    let after = to.get(written..).ok_or(Trouble::Condition)?;
+    if after.iter().any(|byte| *byte != BEFORE) {
         answer.word("changed");
     }
     Ok(())

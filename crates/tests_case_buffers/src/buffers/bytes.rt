@@ -2,11 +2,11 @@
 
 use std::alloc::Global;
 use std::cmp::Ordering;
-use utf16_bytes::{
-    floor_char_boundary, floor_char_boundary_around, is_char_boundary, shard_offset,
-};
-use utf16_bytes::{compare, swap_byte_order};
 use tests_case_lines::{Answer, Trouble, Values};
+use utf16_bytes::{
+    compare, floor_char_boundary, floor_char_boundary_around, is_char_boundary, shard_offset,
+    swap_byte_order,
+};
 use utf16_decode::make_well_formed;
 use utf16_units::{BE, LE, Utf16Order};
 

@@ -2,9 +2,7 @@
 
 use std::alloc::Global;
 use tests_case_lines::{Answer, Trouble, Values};
-use utf16_encode::{
-    count_chars, from_utf8_len, from_utf8_lossy_len, is_ascii, to_utf8_lossy_len,
-};
+use utf16_encode::{count_chars, from_utf8_len, from_utf8_lossy_len, is_ascii, to_utf8_lossy_len};
 use utf16_units::text::{has_ascii_units, trailing_units};
 use utf16_units::{Utf16Order, first_char_len};
 

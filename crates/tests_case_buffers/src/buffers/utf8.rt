@@ -1,8 +1,8 @@
 //! Calls on any bytes of UTF-8 as they are.
 
 use std::alloc::Global;
-use utf8_bytes::{floor_char_boundary, is_char_boundary};
 use tests_case_lines::{Answer, Trouble, Values};
+use utf8_bytes::{floor_char_boundary, is_char_boundary};
 use utf16_units::Utf16Order;
 
 /// Makes the call of this name.

@@ -3,8 +3,8 @@
 use crate::streams::pieces::pieces;
 use std::alloc::Global;
 use tests_case_lines::{Answer, Device, How, Odd, Trouble, Values};
-use utf16_streams::{DeviceFault, Utf16Order, Watched};
 use tests_support::stepped::{Giver, Manner, Oddity, Taker};
+use utf16_streams::{DeviceFault, Utf16Order, Watched};
 
 /// Returns how the reader or the writer of a case behaves, with something else at that call.
 pub fn manner(device: &Device, odd_at: usize) -> Manner<'_> {

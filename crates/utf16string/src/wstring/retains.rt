@@ -4,8 +4,8 @@ ghost use Rattle.std.specs.Prelude.{◌≡◌};
 ghost use Rattle.utf16string.specs.Retain.{IsAskable, Retains, RetainsTo};
 
 use crate::WString;
-use std::alloc::Allocator;
 use crate::retain::retain_in_place;
+use std::alloc::Allocator;
 use utf16_units::Utf16Order;
 
 impl<E: Utf16Order, A: Allocator> WString<E, A> {

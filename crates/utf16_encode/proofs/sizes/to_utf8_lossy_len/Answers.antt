@@ -47,7 +47,7 @@ loop-error-preserved g c =
     let size = fault_size _ _ _ c.in-Err.ensures.error _ c.valid_up_to.ensures are c.in-Some.len (sym c.error_len.ensures ∙ c.in-Some.is) in
     let len = c.utf8_len-in-loop-error.ensures ∙ ap (λ b. length (encode_utf8_all (text_of big b))) c.split_at.ensures.front in
     let left = take_rest c.split_at.result.1.now c.in-Some.len ∙ ap (drop c.in-Some.len) c.split_at.ensures.back in
-    let behind = ap (λ b. length (encode_utf8_all (lossy_text big b))) left in
+    let next = ap (λ b. length (encode_utf8_all (lossy_text big b))) left in
     (omega (arith, c.loop-error.invariant.0), subst AreBytes (sym left) (AreBytes-drop c.in-Some.len _ (AreBytes-drop c.valid_up_to.result rest are)))
 
 pub returns-in-None : goal.returns-in-None

@@ -6,8 +6,8 @@ use Rattle.utf16_units.proofs.PieceLemmas.{encodes-le-size}
 use Rattle.utf16_str.proofs.append.to_utf8.Goals as goal
 use Rattle.utf16_str.proofs.append.to_utf8.Goals.{then-is_empty, else-is_empty}
 
-pub put_few-requires-clause-fits : goal.put_few-requires-clause-fits
-put_few-requires-clause-fits g c =
+pub write_few-requires-clause-fits : goal.write_few-requires-clause-fits
+write_few-requires-clause-fits g c =
     let raw = c.args.raw.now in
     let text = text_of g.E.Utf16Order.BIG raw in
     let three = encodes-le-size text in

@@ -36,7 +36,7 @@ returns-clause-bytes c =
     let first = c.lane_bytes-fronts.ensures.bytes i lt8 in
     let third = c.lane_bytes-thirds.ensures.bytes i lt8 in
     let flag = c.lane_bytes.ensures.bytes i lt8 in
-    let lane = c.fronts.ensures.lanes i lt8 ∙ ap (λ p. front p unit) (c.previous_lanes-behind.ensures.lanes i lt8) in
+    let lane = c.fronts.ensures.lanes i lt8 ∙ ap (λ p. front p unit) (c.previous_lanes-preceding.ensures.lanes i lt8) in
     let lane' = c.thirds.ensures.lanes i lt8 in
     let lane'' = c.absences.ensures.lanes i lt8 in
     kept-by fronts thirds absent i _ _ _ _ _ c.lane_bytes-fronts.ensures.len c.lane_bytes.ensures.len lt8 (first.0 ∙ ap (λ n. n % 256) lane) (first.1 ∙ ap (λ n. n / 256 % 256) lane) (third.0 ∙ ap (λ n. n % 256) lane')

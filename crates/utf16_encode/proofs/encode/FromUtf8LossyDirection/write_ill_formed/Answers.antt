@@ -17,5 +17,5 @@ returns-then-to-lt-REPLACEMENT_LEN-clause-none g c none =
     first_does_not_fit _ _ _ (subpart g (goal.at.returns-then-to-lt-REPLACEMENT_LEN-clause-none g c).Start) big _
     (omega (arith, c.if-to-lt-REPLACEMENT_LEN.true, ap length (one_unit_bytes big 0xFFFD (omega arith)), length-unit_bytes big 0xFFFD))
 
-pub put_ill_formed-requires-clause-ill_formed : goal.put_ill_formed-requires-clause-ill_formed
-put_ill_formed-requires-clause-ill_formed g c = subpart g (goal.at.put_ill_formed-requires-clause-ill_formed g c).Start
+pub write_replacement_and_more-requires-clause-ill_formed : goal.write_replacement_and_more-requires-clause-ill_formed
+write_replacement_and_more-requires-clause-ill_formed g c = subpart g (goal.at.write_replacement_and_more-requires-clause-ill_formed g c).Start
