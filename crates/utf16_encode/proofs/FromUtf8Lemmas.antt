@@ -10,6 +10,7 @@ use Rattle.utf16_units.proofs.EncodingLemmas.{All-from_all_scalars, all_scalars-
 use Rattle.utf16_units.proofs.IllFormedLemmas.{rest_from}
 use lib.Utf8.{low_scalar}
 use Rattle.utf16_units.proofs.Utf8Lemmas.{one_byte}
+use Rattle.utf16_from_utf8.specs.Written.{IsWritten}
 use Rattle.utf16_encode.specs.FromUtf8.{TranscodesToUtf16, IsIllFormedUtf8, IsIllFormedUtf8At}
 use Rattle.utf16_decode.specs.Wrote.{Gives, Joins, Wrote}
 
@@ -111,3 +112,7 @@ valid_before_zeros text n whole =
     let zeros = replicate n 0 in
     subst IsUtf8 (take_at text zeros (length text) refl)
     (IsUtf8-take (text ++ zeros) (length text) whole (IsCharBoundary-at_seam (text ++ zeros) text zeros refl (zeros_valid n)))
+
+-- what a writer of blocks wrote
+pub wrote_blocks : {big : Bool} {utf8 to : List ℕ} {n w : ℕ} → IsWritten big utf8 to n w → Wrote (TranscodesToUtf16 big) utf8 to n w
+wrote_blocks wrote = record { within = wrote.within; fits = wrote.fits; gives = (wrote.well_formed, wrote.wrote) }

@@ -65,7 +65,7 @@ fn write_after_ill_formed<E: Utf16Order>(text: &[u8], to: &mut [u8]) -> (usize, 
 {
     let (mut read, mut written) = write_items::<E>(text, to);
     while text.len() - read >= BLOCK_LEN && to.len() - written >= BLOCK_SPACE {
-        let (len, size) = put_text_blocks::<E>(&text[read..], &mut to[written..]);
+        let (len, size) = write_blocks::<E>(&text[read..], &mut to[written..]);
         read += len;
         written += size;
         if text.len() - read < ITEM_LEN || to.len() - written < ITEM_LEN {
@@ -76,14 +76,6 @@ fn write_after_ill_formed<E: Utf16Order>(text: &[u8], to: &mut [u8]) -> (usize, 
         written += size;
     }
     (read, written)
-}
-
-// Writes blocks of text, up to an ill-formed sequence.
-#[inline(always)]
-fn put_text_blocks<E: Utf16Order>(text: &[u8], to: &mut [u8]) -> (usize, usize)
-    ensures { DecodesUtf8To E.BIG text.now to.new result.0 result.1 }
-{
-    write_blocks::<E>(text, to)
 }
 
 /// Writes the whole text of UTF-8 in UTF-16 to the start of a buffer, as far as whole characters

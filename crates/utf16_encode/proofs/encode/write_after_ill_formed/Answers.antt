@@ -1,16 +1,18 @@
 use Rattle.std.proofs.Common.{rules}
 use Rattle.utf16_decode.proofs.StreamSteps.{DecodesTo-rest}
 use Rattle.utf16_encode.specs.Utf8Stream.{utf8_parts}
+use Rattle.utf16_encode.proofs.DecodesUtf8.{DecodesUtf8To-text}
 use Rattle.utf16_encode.proofs.FeedsUtf8.{utf8_chunks}
+use Rattle.utf16_encode.proofs.FromUtf8Lemmas.{wrote_blocks}
 use Rattle.utf16_encode.proofs.encode.write_after_ill_formed.Goals as goal
 
 pub loop-read-init : goal.loop-read-init
 loop-read-init g c = c.write_items-read.ensures.decodes
 
 pub returns-then-text-read-lt-ITEM_LEN : goal.returns-then-text-read-lt-ITEM_LEN
-returns-then-text-read-lt-ITEM_LEN g c = DecodesTo-rest utf8_parts _ utf8_chunks _ _ _ _ _ _ _ c.loop-read.invariant c.put_text_blocks-len.ensures (search rules)
+returns-then-text-read-lt-ITEM_LEN g c = DecodesTo-rest utf8_parts _ utf8_chunks _ _ _ _ _ _ _ c.loop-read.invariant (DecodesUtf8To-text _ _ _ _ _ (wrote_blocks c.write_blocks-len.ensures.written)) (search rules)
 
 pub loop-read-preserved : goal.loop-read-preserved
 loop-read-preserved g c =
-    let blocks = DecodesTo-rest utf8_parts _ utf8_chunks _ _ _ _ _ _ _ c.loop-read.invariant c.put_text_blocks-len.ensures (search rules) in
+    let blocks = DecodesTo-rest utf8_parts _ utf8_chunks _ _ _ _ _ _ _ c.loop-read.invariant (DecodesUtf8To-text _ _ _ _ _ (wrote_blocks c.write_blocks-len.ensures.written)) (search rules) in
     DecodesTo-rest utf8_parts _ utf8_chunks _ _ _ _ _ _ _ blocks c.write_items-len.ensures.decodes (search rules)

@@ -1,13 +1,9 @@
 use Rattle.std.proofs.Common.{rules}
 use Rattle.utf16_from_utf8.proofs.WrittenLemmas.{ascii-first}
+use Rattle.utf16_encode.proofs.FromUtf8Lemmas.{wrote_blocks}
 use Rattle.utf16_encode.proofs.utf16.FromUtf8Direction.begin_short.Goals as goal
 
 pub returns : goal.returns
 returns g c =
     let ascii = c.write_ascii-len.ensures in
-    let wrote = ascii-first g.E.Utf16Order.BIG c.args.input.now c.write_ascii-len.new.out c.min-most.result c.write_ascii-len.result ascii.within ascii.ascii ascii.bytes (search rules) in
-    record {
-      within = wrote.within;
-      fits = wrote.fits;
-      gives = (wrote.well_formed, wrote.wrote);
-    }
+    wrote_blocks (ascii-first g.E.Utf16Order.BIG c.args.input.now c.write_ascii-len.new.out c.min-most.result c.write_ascii-len.result ascii.within ascii.ascii ascii.bytes (search rules))

@@ -1,10 +1,5 @@
+use Rattle.utf16_encode.proofs.FromUtf8Lemmas.{wrote_blocks}
 use Rattle.utf16_encode.proofs.utf16.FromUtf8Direction.write_front.Goals as goal
 
 pub returns : goal.returns
-returns g c =
-    let wrote = c.write_blocks.ensures.written in
-    record {
-      within = wrote.within;
-      fits = wrote.fits;
-      gives = (wrote.well_formed, wrote.wrote);
-    }
+returns g c = wrote_blocks c.write_blocks.ensures.written
