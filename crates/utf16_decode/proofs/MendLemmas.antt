@@ -23,7 +23,7 @@ unfolding lone_items
 lone_items-good [] items = refl
 lone_items-good (c ∷ text) items = lone_items-good text items
 
--- an unpaired surrogate counts as one, and its character is U+FFFD
+-- an unpaired surrogate counts as one
 lone_items-lone : (unit : ℕ) (items : List Item) → lone_items (lone_item unit ∷ items) ≡ suc (lone_items items)
 unfolding lone_items
 lone_items-lone unit items = by_class (is_high_surrogate unit) where
