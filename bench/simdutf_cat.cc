@@ -1,6 +1,7 @@
-// What `utf16_cat` is compared with: `simdutf_cat le` and `simdutf_cat be` decode standard input by
-// simdutf in chunks of 4 KiB, with U+FFFD for each ill-formed sequence, and write the text of each
-// chunk. The status is 1 where a read or a write fails.
+// What `utf16_cat` and `utf16_enc` are compared with. `simdutf_cat le` and `simdutf_cat be` decode
+// standard input by simdutf in chunks of 4 KiB, with U+FFFD for each ill-formed sequence, and write
+// the text of each chunk. `enc-le` and `enc-be` encode well-formed UTF-8. The status is 1 if a read
+// or a write fails, or UTF-8 is ill formed.
 #include <cstring>
 #include <unistd.h>
 #include "simdutf.h"
@@ -20,22 +21,39 @@ static size_t replacement(char *to) {
     return 3;
 }
 
-static bool write_all(size_t len) {
+static bool write_all(const char *from, size_t len) {
     for (size_t at = 0; at < len;) {
-        ssize_t written = write(1, text + at, len - at);
+        ssize_t written = write(1, from + at, len - at);
         if (written <= 0) return false;
         at += written;
     }
     return true;
 }
 
+static int encode(bool big) {
+    static char bytes[PIECE + 4];
+    static char16_t units[PIECE + 4];
+    for (size_t kept = 0;;) {
+        ssize_t read_len = read(0, bytes + kept, PIECE);
+        if (read_len <= 0) return read_len < 0 || kept > 0;
+        // Without the bytes of a character that the chunk cuts.
+        size_t len = kept + read_len, whole = simdutf::trim_partial_utf8(bytes, len);
+        simdutf::result answer = big ? simdutf::convert_utf8_to_utf16be_with_errors(bytes, whole, units)
+                                     : simdutf::convert_utf8_to_utf16le_with_errors(bytes, whole, units);
+        if (answer.error || !write_all((const char *)units, 2 * answer.count)) return 1;
+        kept = len - whole;
+        memmove(bytes, bytes + whole, kept);
+    }
+}
+
 int main(int count, char **words) {
+    if (count == 2 && strncmp(words[1], "enc-", 4) == 0) return encode(strcmp(words[1], "enc-be") == 0);
     bool big = count == 2 && strcmp(words[1], "be") == 0;
     for (size_t kept = 0;;) {
         ssize_t read_len = read(0, (char *)input + kept, PIECE);
         if (read_len < 0) return 1;
         // At the end of the input no more than one character is left, and it is not complete.
-        if (read_len == 0) return !write_all(kept ? replacement(text) : 0);
+        if (read_len == 0) return !write_all(text, kept ? replacement(text) : 0);
         size_t bytes = kept + read_len, units = bytes / 2, at = 0, written = 0;
         while (at < units) {
             const char16_t *from = input + at;
@@ -53,7 +71,7 @@ int main(int count, char **words) {
             written += replacement(text + written);
             at += 1;
         }
-        if (!write_all(written)) return 1;
+        if (!write_all(text, written)) return 1;
         kept = bytes - 2 * at;
         memmove(input, input + at, kept);
     }

@@ -1,0 +1,225 @@
+//! Times the library's calls, and simdutf's, on real texts: `real FOLDER` takes each file `NAME.txt`
+//! there, in UTF-8. A line for each call, text, form, byte order and decoder has GB/s of UTF-16. The
+//! forms are the lines of a text, one call each, and pieces of 4 and of 64 KiB of UTF-16. First all
+//! results are compared.
+#[allow(dead_code)]
+mod simdutf;
+
+use std::hint::black_box;
+use std::ops::Range;
+use std::time::Instant;
+
+const ROUNDS: usize = 9;
+
+// The most bytes of UTF-16 that are taken of a text.
+const MOST: usize = 1 << 20;
+
+const FORMS: [(&str, usize); 3] = [("lines", 0), ("4 KiB", 4096), ("64 KiB", 65536)];
+
+// Converts or tests an input; returns a number that decoders have in common.
+type Call = fn(bool, &[u8], &mut [u8]) -> usize;
+
+#[repr(C)]
+struct Progress {
+    read: usize,
+    written: usize,
+    status: u32,
+    error_len: u32,
+}
+
+#[repr(C)]
+struct Validity {
+    valid_up_to: usize,
+    status: u32,
+    error_len: u32,
+}
+
+// The calls of `dethrux.h`, in the library of this tree and, by other names, in that of another
+// build.
+macro_rules! library {
+    ($name:ident, $validate:literal, $to_utf8:literal, $from_utf8:literal) => {
+        mod $name {
+            use super::{Progress, Validity};
+
+            unsafe extern "C" {
+                #[link_name = $validate]
+                fn validate(order: u32, utf16: *const u8, len: usize) -> Validity;
+                #[link_name = $to_utf8]
+                fn to_utf8(order: u32, utf16: *const u8, len: usize, to: *mut u8, capacity: usize) -> Progress;
+                #[link_name = $from_utf8]
+                fn from_utf8(order: u32, utf8: *const u8, len: usize, to: *mut u8, capacity: usize) -> Progress;
+            }
+
+            pub fn valid_up_to(big: bool, raw: &[u8], _: &mut [u8]) -> usize {
+                unsafe { validate(big.into(), raw.as_ptr(), raw.len()) }.valid_up_to
+            }
+
+            pub fn decoded(big: bool, raw: &[u8], to: &mut [u8]) -> usize {
+                unsafe { to_utf8(big.into(), raw.as_ptr(), raw.len(), to.as_mut_ptr(), to.len()) }.written
+            }
+
+            pub fn encoded(big: bool, text: &[u8], to: &mut [u8]) -> usize {
+                unsafe { from_utf8(big.into(), text.as_ptr(), text.len(), to.as_mut_ptr(), to.len()) }.written
+            }
+        }
+    };
+}
+
+library!(here, "dethrux_validate", "dethrux_to_utf8", "dethrux_from_utf8");
+#[cfg(before)]
+library!(before, "before_validate", "before_to_utf8", "before_from_utf8");
+
+fn units(raw: &[u8]) -> &[u16] {
+    let (start, units, end) = unsafe { raw.align_to() };
+    assert!(start.is_empty() && end.is_empty());
+    units
+}
+
+const VALIDATE: &[(&str, Call)] = &[
+    ("here", here::valid_up_to),
+    #[cfg(before)]
+    ("before", before::valid_up_to),
+    ("simdutf westmere", |big, raw, _| 2 * simdutf::westmere::valid_up_to(big, units(raw))),
+    ("simdutf haswell", |big, raw, _| 2 * simdutf::haswell::valid_up_to(big, units(raw))),
+];
+
+const TO_UTF8: &[(&str, Call)] = &[
+    ("here", here::decoded),
+    #[cfg(before)]
+    ("before", before::decoded),
+    ("simdutf westmere", |big, raw, to| simdutf::westmere::to_utf8(big, units(raw), to)),
+    ("simdutf haswell", |big, raw, to| simdutf::haswell::to_utf8(big, units(raw), to)),
+];
+
+const FROM_UTF8: &[(&str, Call)] = &[
+    ("here", here::encoded),
+    #[cfg(before)]
+    ("before", before::encoded),
+    ("simdutf westmere", |big, text, to| 2 * simdutf::westmere::from_utf8(big, text, to)),
+    ("simdutf haswell", |big, text, to| 2 * simdutf::haswell::from_utf8(big, text, to)),
+];
+
+// A text, in UTF-8, of at most `MOST` bytes of UTF-16.
+fn text_of(path: &std::path::Path) -> String {
+    let mut text = std::fs::read_to_string(path).unwrap();
+    let mut left = MOST;
+    let end = text.char_indices().find(|(_, c)| {
+        let size = 2 * c.len_utf16();
+        let full = size > left;
+        left = left.saturating_sub(size);
+        full
+    });
+    if let Some((at, _)) = end {
+        text.truncate(at);
+    }
+    text
+}
+
+// The parts of a text in a form, as ranges of its UTF-8: lines without their ends, or pieces of
+// about so many bytes of UTF-16.
+fn parts_of(text: &str, len: usize) -> Vec<Range<usize>> {
+    let mut parts = Vec::new();
+    let (mut start, mut size) = (0, 0);
+    for (at, c) in text.char_indices() {
+        if len == 0 && c == '\n' {
+            parts.push(start..at);
+            start = at + 1;
+        } else if len > 0 && size + 2 * c.len_utf16() > len {
+            parts.push(start..at);
+            (start, size) = (at, 0);
+        }
+        size += 2 * c.len_utf16();
+    }
+    parts.push(start..text.len());
+    parts.retain(|part| !part.is_empty());
+    parts
+}
+
+struct Case {
+    name: String,
+    inputs: Vec<&'static [u8]>,
+    to: Vec<u8>,
+    big: bool,
+    call: Call,
+    size: f64,
+    times: usize,
+    best: f64,
+}
+
+impl Case {
+    // The seconds of one run over all inputs.
+    fn time(&mut self) -> f64 {
+        let start = Instant::now();
+        for _ in 0..self.times {
+            for input in black_box(&self.inputs) {
+                black_box((self.call)(self.big, input, &mut self.to));
+            }
+        }
+        start.elapsed().as_secs_f64() / self.times as f64
+    }
+}
+
+// Adds a case for each decoder that this machine can run. What they answer and write is equal.
+fn add(all: &mut Vec<Case>, name: &str, big: bool, inputs: &[&'static [u8]], size: usize, decoders: &[(&str, Call)]) {
+    let longest = inputs.iter().map(|input| input.len()).max().unwrap_or(0);
+    let mut wanted = None;
+    for (decoder, call) in decoders {
+        if *decoder == "simdutf haswell" && !is_x86_feature_detected!("avx2") {
+            continue;
+        }
+        let mut to = vec![0; 4 * longest + 64];
+        let found: Vec<_> = inputs
+            .iter()
+            .map(|input| {
+                let len = call(big, input, &mut to);
+                (len, if name.starts_with("validate") { Vec::new() } else { to[..len].to_vec() })
+            })
+            .collect();
+        assert!(*wanted.get_or_insert_with(|| found.clone()) == found, "{name}: {decoder} differs");
+        let name = format!("{name}\t{}\t{decoder}", if big { "be" } else { "le" });
+        all.push(Case { name, inputs: inputs.to_vec(), to, big, call: *call, size: size as f64 / 1e9, times: 1, best: f64::MAX });
+    }
+}
+
+// Bytes of UTF-16 at an even address.
+fn utf16(text: &str, big: bool) -> &'static [u8] {
+    let units: Vec<u16> = text.encode_utf16().map(|unit| if big { unit.to_be() } else { unit.to_le() }).collect();
+    unsafe { units.leak().align_to().1 }
+}
+
+fn main() {
+    simdutf::choose();
+    let folder = std::env::args().nth(1).expect("a folder of texts");
+    let mut files: Vec<_> = std::fs::read_dir(folder).unwrap().map(|file| file.unwrap().path()).collect();
+    files.retain(|path| path.extension().is_some_and(|ending| ending == "txt"));
+    files.sort();
+    let mut all = Vec::new();
+    for path in &files {
+        let text: &'static str = text_of(path).leak();
+        let name = path.file_stem().unwrap().to_str().unwrap();
+        for (form, len) in FORMS {
+            let utf8: Vec<&'static str> = parts_of(text, len).into_iter().map(|part| &text[part]).collect();
+            let bytes: Vec<&'static [u8]> = utf8.iter().map(|part| part.as_bytes()).collect();
+            for big in [false, true] {
+                let raw: Vec<&'static [u8]> = utf8.iter().map(|part| utf16(part, big)).collect();
+                let size = raw.iter().map(|part| part.len()).sum();
+                for (call, inputs, decoders) in
+                    [("validate", &raw, VALIDATE), ("to_utf8", &raw, TO_UTF8), ("from_utf8", &bytes, FROM_UTF8)]
+                {
+                    add(&mut all, &format!("{call}\t{name}\t{form}"), big, inputs, size, decoders);
+                }
+            }
+        }
+    }
+    for case in &mut all {
+        case.times = (1e-3 / case.time()).ceil() as usize;
+    }
+    for _ in 0..ROUNDS {
+        for case in &mut all {
+            case.best = case.best.min(case.time());
+        }
+    }
+    for Case { name, size, best, .. } in &all {
+        println!("{name}\t{:.3}", size / best);
+    }
+}
