@@ -14,7 +14,7 @@ use Rattle.utf16_from_utf8.specs.Written.{IsWritten}
 use Rattle.utf16_encode.specs.FromUtf8.{TranscodesToUtf16, IsIllFormedUtf8, IsIllFormedUtf8At}
 use Rattle.utf16_decode.specs.Wrote.{Gives, Joins, Wrote}
 
-pub room_grows : (m n : ℕ) → m ≤ n → 2 * m ≤ 2 * n
+pub room_grows : (m n : ℕ) → m ≤ n → 2 * m + 16 ≤ 2 * n + 16
 room_grows m n le = omega arith
 
 pub utf16_joins : (big : Bool) → Joins (TranscodesToUtf16 big)

@@ -15,7 +15,7 @@ use crate::chars::{char_of_four, char_of_three, char_of_two, is_continuation};
 use crate::valid::valid_prefix;
 use std::marker::PhantomData;
 use utf16_decode::{Direction, Progress, transcode};
-use utf16_from_utf8::{write_ascii, write_blocks, write_text};
+use utf16_from_utf8::{SLACK, write_ascii, write_blocks, write_text};
 use utf16_to_utf8::utf8_len;
 use utf16_units::{Utf16CharExt, Utf16Order, is_trailing_surrogate};
 
@@ -59,7 +59,7 @@ impl<E: Utf16Order> Direction for FromUtf8<E> {
 
     ghost IsIllFormed = { IsIllFormedUtf8 };
 
-    ghost room_for = { λ n. 2 * n };
+    ghost room_for = { λ n. 2 * n + 16 };
 
     #[inline(always)]
     fn laws() {}
@@ -74,15 +74,12 @@ impl<E: Utf16Order> Direction for FromUtf8<E> {
         first_char(rest)
     }
 
-    // Begins with the ASCII at the start; of sixteen bytes or more with whole blocks of sixteen.
+    // Begins with the ASCII at the start: whole blocks of sixteen bytes, and then one by one.
     #[inline(always)]
     fn begin_short(input: &[u8], to: &mut [u8]) -> Option<(usize, usize)> {
-        if input.len() < 16 {
-            return Some(write_ascii_chars::<E>(input, to));
-        }
         let most = input.len().min(to.len() / 2);
         let len = write_ascii::<E>(&input[..most], to);
-        Some((len, 2 * len))
+        Some(write_ascii_chars::<E>(input, to, len))
     }
 
     #[inline(always)]
@@ -109,7 +106,7 @@ impl<E: Utf16Order> Direction for FromUtf8<E> {
 
     #[inline(always)]
     fn surely_fit(room: usize) -> usize {
-        room / 2
+        room.saturating_sub(SLACK) / 2
     }
 
     #[inline(always)]
@@ -139,15 +136,16 @@ fn last_boundary<E: Utf16Order>(utf16: &[u8], at: usize) -> usize
     whole
 }
 
-// Writes the ASCII at the start of the bytes character by character, as far as it fits, and returns
-// the number of bytes read and the number of bytes written.
+// Writes the ASCII after the first bytes, which were written and are ASCII too, character by
+// character, as far as it fits. Returns the number of bytes read and the number of bytes written.
 #[inline(always)]
-fn write_ascii_chars<E: Utf16Order>(bytes: &[u8], to: &mut [u8]) -> (usize, usize)
+fn write_ascii_chars<E: Utf16Order>(bytes: &[u8], to: &mut [u8], from: usize) -> (usize, usize)
+    requires { Wrote (TranscodesToUtf16 E.BIG) bytes.now to.old from (2 * from) }
     ensures { Wrote (TranscodesToUtf16 E.BIG) bytes.now to.new result.0 result.1 }
 {
     let most = bytes.len().min(to.len() / 2);
-    let mut len = 0;
-    let mut end = 0;
+    let mut len = from;
+    let mut end = 2 * from;
     while len < most && bytes[len] < 0x80 {
         end = put_char::<E>(bytes[len] as char, to, end);
         len += 1;

@@ -1,17 +1,14 @@
 -- More UTF-8 that is well formed, written after what was written.
-use Rattle.std.proofs.Common.{◌≡◌, ℕ, zero, suc, ◌+◌, ◌-◌, ◌*◌, ◌≤◌, Bool, List, ◌++◌, length, length-append, length-drop, length-take, length-take-le, replicate, take, drop, subst, sym, ap, ◌∙◌, arith}
+use Rattle.std.proofs.Common.{◌≡◌, ℕ, ◌+◌, ◌-◌, ◌*◌, ◌≤◌, Bool, List, ◌++◌, length, length-append, length-drop, length-take, length-take-le, take, drop, subst, sym, ap, ◌∙◌, arith}
 use borrow.Rule.Slice.PartMut.{put_mid}
 use Rattle.std.proofs.Math.Seq.{take-add, take-append-add}
-use Rattle.std.proofs.lemmas.List.{take-append-drop, take-append-le, take-take, take_at, take_rest}
-use Rattle.std.proofs.lemmas.Str.{IsCharBoundary-from_take, IsUtf8-append, IsUtf8-drop, IsUtf8-from_ascii, chars-IsAscii, chars-append}
+use Rattle.std.proofs.lemmas.List.{take-append-drop, take-append-le, take-take, take_rest}
+use Rattle.std.proofs.lemmas.Str.{IsCharBoundary-from_take, IsUtf8-append, IsUtf8-drop, IsUtf8-from_ascii, chars-append}
 use Rattle.std.specs.Str.{IsAscii, IsUtf8, chars}
-use Rattle.utf16_units.specs.Encoding.{encode, size}
-use Rattle.utf16_units.proofs.CharLemmas.{char_size_two}
-use Rattle.utf16_units.proofs.EncodingLemmas.{encode-append, length-encode, size-cons, size-nil}
+use Rattle.utf16_units.specs.Encoding.{encode}
+use Rattle.utf16_units.proofs.EncodingLemmas.{encode-append}
 use Rattle.utf16_units.proofs.IllFormedLemmas.{rest_from}
-use Rattle.utf16_from_utf8.specs.Added.{added_bytes}
 use Rattle.utf16_from_utf8.specs.Written.{IsWritten}
-use Rattle.utf16_from_utf8.proofs.TextLemmas.{added_bytes-text}
 
 pub more-written : (big : Bool) (bytes old new : List ℕ) (read written k to : ℕ) → IsWritten big bytes old read written → read + k ≤ length bytes
     → IsUtf8 (take k (drop read bytes)) → take to new ≡ take written old ++ encode big (chars (take k (drop read bytes))) → to ≤ written + 2 * k → to ≤ length new
@@ -77,34 +74,3 @@ rest-written big text old new read written to done wrote =
     let back = drop read text in
     wrote ∙ ap (λ t. t ++ encode big (chars back)) done.wrote ∙ sym (encode-append big (chars front) (chars back))
     ∙ ap (encode big) (sym (chars-append front back done.well_formed) ∙ ap chars (take-append-drop read text))
-
--- ---- a text and zeros after it
-
-zeros-ascii : (k : ℕ) → IsAscii (replicate k 0)
-zeros-ascii zero i = omega arith
-zeros-ascii (suc k) zero = omega arith
-zeros-ascii (suc k) (suc i) = zeros-ascii k i
-
-size-zeros : (k : ℕ) → size (replicate k 0) ≡ 2 * k
-size-zeros zero = size-nil
-size-zeros (suc k) = size-cons 0 (replicate k 0) ∙ omega (arith, char_size_two 0 (omega arith), size-zeros k)
-
-pub padded-utf8 : (text : List ℕ) (k : ℕ) → IsUtf8 text → IsUtf8 (text ++ replicate k 0)
-padded-utf8 text k utf8 = IsUtf8-append text (replicate k 0) utf8 (IsUtf8-from_ascii (replicate k 0) (zeros-ascii k))
-
-module _ (big : Bool) (text units : List ℕ) (k end : ℕ) (utf8 : IsUtf8 text) (fits : end ≤ length units) (wrote : take end units ≡ added_bytes big 0 0 (text ++ replicate k 0)) where
-  both : take end units ≡ encode big (chars text) ++ encode big (replicate k 0)
-  both =
-      wrote ∙ added_bytes-text big (text ++ replicate k 0) (padded-utf8 text k utf8)
-      ∙ ap (encode big) (chars-append text (replicate k 0) utf8 ∙ ap (λ t. chars text ++ t) (chars-IsAscii (replicate k 0) (zeros-ascii k)))
-      ∙ encode-append big (chars text) (replicate k 0)
-
-  pub padded-len : length (encode big (chars text)) + 2 * k ≡ end
-  padded-len =
-      let zero_len = length-encode big (replicate k 0) ∙ size-zeros k in
-      omega (arith, zero_len, sym (length-take-le end units fits) ∙ ap length both ∙ length-append (encode big (chars text)) (encode big (replicate k 0)))
-
-  pub padded-front : (len : ℕ) → len ≡ end - 2 * k → take len units ≡ encode big (chars text)
-  padded-front len is =
-      sym (take-take len end units (omega (arith, is))) ∙ ap (take len) both
-      ∙ take_at (encode big (chars text)) (encode big (replicate k 0)) len (omega (arith, is, padded-len))

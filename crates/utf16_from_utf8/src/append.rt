@@ -6,7 +6,7 @@ ghost use Rattle.std.specs.Vec.{VecUnchanged, vec_capacity, vec_len};
 ghost use Rattle.utf16_units.specs.Encoding.{encode, size};
 
 use crate::few::extend_few;
-use crate::text::write_text;
+use crate::text::{SLACK, write_text};
 use std::alloc::{AllocError, Allocator};
 use utf16_units::{Utf16Order, utf16_len};
 
@@ -82,7 +82,7 @@ fn extend_short<E: Utf16Order, A: Allocator>(
     ensures ok { IsOk result }
     ensures grows { vec_capacity raw.old ≤ vec_capacity raw.new }
 {
-    extend_by::<E, A>(raw, s, &mut [0; 2 * SHORT_TEXT])
+    extend_by::<E, A>(raw, s, &mut [0; 2 * SHORT_TEXT + SLACK])
 }
 
 // Appends a text that is converted piece by piece. Kept out of line so that shorter ones do not pay
@@ -94,7 +94,7 @@ fn extend_long<E: Utf16Order, A: Allocator>(raw: &mut Vec<u8, A>, s: &str) -> Re
     ensures ok { IsOk result }
     ensures grows { vec_capacity raw.old ≤ vec_capacity raw.new }
 {
-    let mut buf = [0; 2 * PIECE_LEN];
+    let mut buf = [0; 2 * PIECE_LEN + SLACK];
     let mut rest = s;
     while rest.len() > PIECE_LEN {
         let (piece, next) = rest.split_at(rest.floor_char_boundary(PIECE_LEN));
@@ -111,7 +111,7 @@ fn extend_by<E: Utf16Order, A: Allocator>(
     buf: &mut [u8],
 ) -> Result<(), AllocError>
     requires fits { vec_len raw.old + size (chars s.now) ≤ vec_capacity raw.old }
-    requires space { 2 * length s.now ≤ length buf.old }
+    requires space { 2 * length s.now + SLACK ≤ length buf.old }
     ensures items { raw.new.items ≡ raw.old.items ++ encode E.BIG (chars s.now) }
     ensures ok { IsOk result }
     ensures grows { vec_capacity raw.old ≤ vec_capacity raw.new }

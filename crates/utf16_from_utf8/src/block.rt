@@ -141,7 +141,7 @@ pub(crate) fn put_all<E: Utf16Order, const MOST: usize, const LEN: usize>(
 
 // The byte two before each one of a block, and the one before it.
 #[inline(always)]
-fn before(block: u8x16, before2: u8, before1: u8) -> (u8x16, u8x16)
+pub(crate) fn before(block: u8x16, before2: u8, before1: u8) -> (u8x16, u8x16)
     ensures { AreBefore before2 before1 block result.0 result.1 }
 {
     let b1 = previous_lanes(block, before1);

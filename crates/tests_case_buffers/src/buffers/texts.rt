@@ -169,7 +169,7 @@ fn text_to_buffer<E: Utf16Order>(
     if text.len() > 1_000_000 {
         return Err(Trouble::Condition);
     }
-    let room = 2 * text.len();
+    let room = 2 * text.len() + utf16_from_utf8::SLACK;
     let mut to = buffer(alloc, room + 1)?;
     let len = write_text::<E>(text.as_bytes(), &mut to);
     add_bytes(answer, &to, len)?;

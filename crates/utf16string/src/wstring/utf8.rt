@@ -8,7 +8,7 @@ ghost use Rattle.utf16_units.specs.Encoding.{size};
 use super::inserts::put_char;
 use crate::WString;
 use std::alloc::{AllocError, Allocator};
-use utf16_from_utf8::{FEW_TEXT, SHORT_TEXT, append_utf16, extend_utf16, write_text};
+use utf16_from_utf8::{FEW_TEXT, SHORT_TEXT, SLACK, append_utf16, extend_utf16, write_text};
 use utf16_units::size::few_len;
 use utf16_units::{Utf16Order, utf16_len};
 
@@ -60,7 +60,7 @@ impl<E: Utf16Order, A: Allocator> WString<E, A> {
         requires { length s.now ≤ SHORT_TEXT }
         ensures { IfOk result (λ t. wstring_text t ≡ chars s.now) }
     {
-        let mut buf = [0; 2 * SHORT_TEXT];
+        let mut buf = [0; 2 * SHORT_TEXT + SLACK];
         let end = write_text::<E>(s.as_bytes(), &mut buf);
         let mut raw = Vec::with_capacity(alloc, end)?;
         raw.extend_from_slice(&buf[..end])?;

@@ -1,14 +1,9 @@
-use Rattle.std.proofs.Common.{◌++◌, subst, sym, take, ap, ◌∙◌, arith}
+use Rattle.std.proofs.Common.{◌++◌, subst, sym, take, ap, ◌∙◌}
 use Rattle.std.proofs.lemmas.List.{take_rest}
 use Rattle.std.specs.Str.{IsUtf8, chars}
 use Rattle.utf16_units.specs.Encoding.{encode}
-use Rattle.utf16_from_utf8.proofs.WellFormedLemmas.{text-follows}
 use Rattle.utf16_from_utf8.proofs.WrittenLemmas.{rest-utf8, rest-written}
 use Rattle.utf16_from_utf8.proofs.text.put_rest.Goals as goal
-
-pub put_well_formed-next-requires-clause-follow : goal.put_well_formed-next-requires-clause-follow
-put_well_formed-next-requires-clause-follow g c =
-    text-follows c.args.text.now c.loop-read.read 16 (rest-utf8 g.E.Utf16Order.BIG _ _ _ _ c.requires.well_formed c.loop-read.invariant) (omega (arith, c.loop-read-test.true, c.loop-read.invariant.within))
 
 pub put_last-requires-clause-well_formed : goal.put_last-requires-clause-well_formed
 put_last-requires-clause-well_formed g c =
