@@ -40,6 +40,14 @@ pub fn retain_in_place<E: Utf16Order, F: FnMut(char) -> bool>(
     // Where a block is tried next. The characters of one that has a surrogate go one by one.
     let mut next_block = 0;
     while read < bytes.len() {
+        // A pair has its own branch, so that the next index does not wait for a size that is
+        // computed from what was read.
+        let Some(c) = single_at::<E>(bytes, read) else {
+            let (c, size) = char_from::<E>(bytes, read);
+            kept = keep_char::<E, F>(bytes, keep, kept, read, c, size);
+            read += size;
+            continue;
+        };
         if next_block <= read {
             if let Some(units) = plain_block::<E>(bytes, read) {
                 kept = keep_block::<E, F>(bytes, keep, kept, read, &units);
@@ -48,16 +56,8 @@ pub fn retain_in_place<E: Utf16Order, F: FnMut(char) -> bool>(
             }
             next_block = read + BLOCK_BYTES;
         }
-        // A character of one unit has its own branch, so that the next index does not wait for a
-        // size that is computed from what was read.
-        if let Some(c) = single_at::<E>(bytes, read) {
-            kept = keep_char::<E, F>(bytes, keep, kept, read, c, 2);
-            read += 2;
-        } else {
-            let (c, size) = char_from::<E>(bytes, read);
-            kept = keep_char::<E, F>(bytes, keep, kept, read, c, size);
-            read += size;
-        }
+        kept = keep_char::<E, F>(bytes, keep, kept, read, c, 2);
+        read += 2;
     }
     kept
 }
