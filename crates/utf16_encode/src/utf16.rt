@@ -74,7 +74,7 @@ impl<E: Utf16Order> Direction for FromUtf8<E> {
         first_char(rest)
     }
 
-    // Begins with the ASCII at the start: whole blocks of sixteen bytes, and then one by one.
+    // Begins with the ASCII at the start: as `write_ascii` does, and then one by one.
     #[inline(always)]
     fn begin_short(input: &[u8], to: &mut [u8]) -> Option<(usize, usize)> {
         let most = input.len().min(to.len() / 2);

@@ -1,15 +1,16 @@
 -- ASCII at the start of bytes, written in UTF-16 block by block.
 use Rattle.std.proofs.Common.{◌-◌, drop-drop, zero, suc, ◌≡◌, ℕ, ◌+◌, ◌*◌, ◌<◌, ◌≤◌, Bool, List, [], ◌∷◌, ◌++◌, length, length-take-le, take, drop, slice_index, subst, refl, sym, ap, ap₂, ◌∙◌, ⊎_elim, arith}
-use Rattle.std.proofs.Math.Seq.{take-add}
+use Rattle.std.proofs.Math.Seq.{take-add, take-length}
 use Rattle.std.proofs.lemmas.Bool.{cases_lt}
-use Rattle.std.proofs.lemmas.List.{get_or-take, get_or_past}
+use Rattle.std.proofs.lemmas.List.{get_or-take, get_or_past, take-take, take_at}
 use Rattle.std.proofs.lemmas.Simd.{get_or-chunk, length-chunk}
 use Rattle.std.proofs.lemmas.Str.{IsUtf8-from_ascii, chars-IsAscii}
 use Rattle.std.proofs.lemmas.Str.Ascii.{IsAscii-nil}
 use Rattle.std.specs.Simd.Lanes.{chunk, put_chunk}
 use Rattle.std.specs.Str.{IsAscii, chars}
-use Rattle.utf16_units.specs.Encoding.{encode}
-use Rattle.utf16_units.proofs.EncodingLemmas.{encode-append, encode-nil}
+use Rattle.utf16_units.specs.Encoding.{encode, size}
+use Rattle.utf16_units.proofs.CharLemmas.{char_size_two}
+use Rattle.utf16_units.proofs.EncodingLemmas.{encode-append, encode-nil, length-encode, size-cons, size-nil}
 use Rattle.utf16_from_utf8.specs.Added.{added_bytes}
 use Rattle.utf16_from_utf8.specs.Ascii.{IsWritten}
 use Rattle.utf16_from_utf8.proofs.TextLemmas.{added_bytes-text}
@@ -98,3 +99,75 @@ none-written big bytes out = record {
   wrote = sym (ap (encode big) (chars-IsAscii [] IsAscii-nil) ∙ encode-nil big);
   rest = refl;
 }
+
+-- ---- the last block, some of which was written before
+
+size-ascii : (text : List ℕ) → IsAscii text → size text ≡ 2 * length text
+size-ascii [] ascii = size-nil
+size-ascii (c ∷ text) ascii =
+    let low : c < 0x80 = ascii 0 in
+    let two = char_size_two c (omega (arith, low)) in
+    size-cons c text ∙ omega (arith, two, size-ascii text (λ i. ascii (suc i)))
+
+-- ASCII up to an earlier place
+ascii-less : (bytes : List ℕ) (m n : ℕ) → m ≤ n → n ≤ length bytes → IsAscii (take n bytes) → IsAscii (take m bytes)
+ascii-less bytes m n less within ascii i = ⊎_elim
+    (λ (a : i < m). omega (arith, ascii i, get_or-take m bytes i 0 a, get_or-take n bytes i 0 (omega (arith, a, less))))
+    (λ (a : m ≤ i). omega (arith, get_or_past (take m bytes) i 0 (omega (arith, a, length-take-le m bytes (omega (arith, less, within))))))
+    (cases_lt i m)
+
+-- what was written is there up to an earlier place
+less-written : (big : Bool) (bytes before new : List ℕ) (at m : ℕ) → m ≤ at → IsWritten big bytes before new at → IsWritten big bytes new new m
+less-written big bytes before new at m less done = record {
+  within = omega (arith, less, done.within);
+  ascii = front-ascii;
+  wrote =
+      sym (take-take (2 * m) (2 * at) new (omega (arith, less)))
+      ∙ ap (take (2 * m)) (done.wrote ∙ ap (encode big) (chars-IsAscii (take at bytes) done.ascii ∙ split) ∙ encode-append big front next)
+      ∙ take_at (encode big front) (encode big next) (2 * m) long
+      ∙ ap (encode big) (sym (chars-IsAscii front front-ascii));
+  rest = refl;
+}
+  where
+    front : List ℕ
+    front = take m bytes
+
+    next : List ℕ
+    next = take (at - m) (drop m bytes)
+
+    front-ascii : IsAscii front
+    front-ascii = ascii-less bytes m at less done.within done.ascii
+
+    on : at ≡ m + (at - m)
+    on = omega (arith, less)
+
+    split : take at bytes ≡ front ++ next
+    split = ap (λ k. take k bytes) on ∙ take-add m (at - m) bytes
+
+    long : length (encode big front) ≡ 2 * m
+    long = length-encode big front ∙ size-ascii front front-ascii ∙ ap (λ n. 2 * n) (length-take-le m bytes (omega (arith, less, done.within)))
+
+-- what stays after a place stays after a later one
+drop-further : (m n : ℕ) (xs ys : List ℕ) → m ≤ n → drop m xs ≡ drop m ys → drop n xs ≡ drop n ys
+drop-further m n xs ys later same =
+    let on : n ≡ m + (n - m) = omega (arith, later) in
+    ap (λ k. drop k xs) on ∙ sym (drop-drop (n - m) m xs) ∙ ap (drop (n - m)) same ∙ drop-drop (n - m) m ys ∙ ap (λ k. drop k ys) (sym on)
+
+pub last-written : (big : Bool) (bytes before old new : List ℕ) (at last to : ℕ) → last ≤ at → at ≤ to
+    → (IsWritten big bytes old old last → IsWritten big bytes old new to) → IsWritten big bytes before old at → IsWritten big bytes before new to
+last-written big bytes before old new at last to less later write done =
+    let wrote = write (less-written big bytes before old at last less done) in
+    record {
+      within = wrote.within;
+      ascii = wrote.ascii;
+      wrote = wrote.wrote;
+      rest = wrote.rest ∙ drop-further (2 * at) (2 * to) old before (omega (arith, later)) done.rest;
+    }
+
+-- ASCII in a block of ASCII
+pub chunk-ascii : (bytes : List ℕ) (at : ℕ) → IsAscii bytes → (i : ℕ) → i < 16 → slice_index (chunk at 16 bytes) i < 0x80
+chunk-ascii bytes at ascii i below = omega (arith, ascii (at + i), get_or-chunk at 16 bytes i 0 below)
+
+-- the bytes of ASCII up to a place are ASCII
+pub take-ascii : (bytes : List ℕ) (n : ℕ) → n ≤ length bytes → IsAscii bytes → IsAscii (take n bytes)
+take-ascii bytes n within ascii = ascii-less bytes n (length bytes) within (omega arith) (subst (λ b. IsAscii b) (sym (take-length bytes)) ascii)

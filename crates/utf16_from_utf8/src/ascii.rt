@@ -1,6 +1,6 @@
 //! Writes the ASCII at the start of bytes, sixteen or sixty-four at a time.
 
-ghost use Rattle.std.specs.Prelude.{◌≡◌, ◌+◌, ◌*◌, ◌%◌, ◌<◌, ◌≤◌, ◌++◌, ◌↔◌, IsTrue, List, ℕ, drop, length, slice_index, take};
+ghost use Rattle.std.specs.Prelude.{◌≡◌, ◌⊎◌, ◌+◌, ◌*◌, ◌%◌, ◌<◌, ◌≤◌, ◌++◌, ◌↔◌, IsTrue, List, ℕ, drop, length, slice_index, take};
 ghost use Rattle.std.specs.Str.{IsAscii, chars};
 ghost use Rattle.utf16_units.specs.Encoding.{encode};
 ghost use Rattle.utf16_from_utf8.specs.Ascii.{IsWritten};
@@ -14,9 +14,9 @@ use utf16_units::Utf16Order;
 /// Writes the ASCII at the start of the bytes in UTF-16 to the start of `out`, and returns how many
 /// bytes it read. For each of them it wrote two bytes.
 ///
-/// It reads whole blocks of sixteen bytes, and stops before the first that has a byte of another
-/// character. Fewer than sixteen bytes at the end are not read. The other bytes of `out` stay as
-/// they were.
+/// Sixteen bytes or more are written as a whole if all are ASCII. Otherwise it writes whole blocks of
+/// sixteen bytes, and stops before the first that has a byte of another character. The other bytes of
+/// `out` stay as they were.
 ///
 /// # Precondition
 ///
@@ -32,7 +32,8 @@ pub fn write_ascii<E: Utf16Order>(bytes: &[u8], out: &mut [u8]) -> usize
     ensures ascii { IsAscii (take result bytes.now) }
     ensures bytes { take (2 * result) out.new ≡ encode E.BIG (chars (take result bytes.now)) }
     ensures rest { drop (2 * result) out.new ≡ drop (2 * result) out.old }
-    ensures blocks { result % 16 ≡ 0 }
+    ensures whole { 16 ≤ length bytes.now → IsAscii bytes.now → result ≡ length bytes.now }
+    ensures blocks { result < length bytes.now → result % 16 ≡ 0 }
     ensures stop { result + 16 ≤ length bytes.now → ¬ (IsAscii (take (result + 16) bytes.now)) }
 {
     if bytes.len() < 16 || !is_ascii(u8x16::from_slice(bytes)) {
@@ -44,13 +45,39 @@ pub fn write_ascii<E: Utf16Order>(bytes: &[u8], out: &mut [u8]) -> usize
 // Does the same. A function of its own, so that other texts do not pay for a call.
 #[inline(never)]
 fn put_front<E: Utf16Order>(bytes: &[u8], out: &mut [u8]) -> usize
-    requires { 2 * length bytes.now ≤ length out.old }
+    requires space { 2 * length bytes.now ≤ length out.old }
+    requires some { 16 ≤ length bytes.now }
     ensures written { IsWritten E.BIG bytes.now out.old out.new result }
-    ensures blocks { result % 16 ≡ 0 }
+    ensures whole { IsAscii bytes.now → result ≡ length bytes.now }
+    ensures blocks { result < length bytes.now → result % 16 ≡ 0 }
     ensures stop { result + 16 ≤ length bytes.now → ¬ (IsAscii (take (result + 16) bytes.now)) }
 {
     let at = put_wide_blocks::<E>(bytes, out);
-    put_blocks::<E>(bytes, out, at)
+    let at = put_blocks::<E>(bytes, out, at);
+    if bytes.len() - at >= 16 {
+        return at;
+    }
+    put_last::<E>(bytes, out, at)
+}
+
+// Writes the last bytes, fewer than a block, if they are ASCII: with those before them that make a
+// block, and are written again.
+#[inline(always)]
+fn put_last<E: Utf16Order>(bytes: &[u8], out: &mut [u8], at: usize) -> usize
+    requires space { 2 * length bytes.now ≤ length out.old }
+    requires some { 16 ≤ length bytes.now }
+    requires few { length bytes.now < at + 16 }
+    requires within { at ≤ length bytes.now }
+    ensures written { (before : List ℕ) → IsWritten E.BIG bytes.now before out.old at
+        → IsWritten E.BIG bytes.now before out.new result }
+    ensures whole { IsAscii bytes.now → result ≡ length bytes.now }
+    ensures either { (result ≡ at) ⊎ (result ≡ length bytes.now) }
+{
+    let last = bytes.len() - 16;
+    if !is_ascii(u8x16::from_slice(&bytes[last..])) {
+        return at;
+    }
+    put_block::<E>(bytes, out, last)
 }
 
 // Writes blocks of sixty-four characters of one byte.
