@@ -3,8 +3,10 @@
 # and 256 bits: `SIMDUTF=FOLDER real.sh TEXTS`. SIMDUTF has simdutf.cpp and simdutf.h; TEXTS has a
 # file NAME.txt in UTF-8 for each text, of which at most 1 MiB of UTF-16 is taken. A text is
 # converted line by line, and in pieces of 4 and of 64 KiB. BEFORE may name another checkout of this
-# repository whose libraries and programs are built: they are timed in the same run. The table, with
-# the ratio to each kernel and to `before`, stays in bench/out/real.md.
+# repository whose libraries and programs are built: they are timed in the same run. All is linked at
+# two places, 16 bytes apart, and timed at the better one: a branch that lies across 32 bytes at one
+# of them does not at the other. The table, with the ratio to each kernel and to `before`, stays in
+# bench/out/real.md.
 set -eu
 usage() { echo "usage: SIMDUTF=FOLDER [BEFORE=CHECKOUT] real.sh TEXTS" >&2; exit 2; }
 [ $# = 1 ] && [ -n "${SIMDUTF:-}" ] || usage
@@ -52,21 +54,27 @@ rust --edition 2018 --crate-type rlib --cap-lints allow --crate-name encoding_rs
 rust --edition 2024 cat.rs --extern encoding_rs="$room/libencoding_rs.rlib"
 rust --edition 2024 real_programs.rs
 wait
-rust --edition 2024 real.rs ${before:+--cfg before} \
-    -C link-args="${objects[*]} -lstdc++ $PWD/../crates/dethrux/out/libdethrux.a $kit/c/liblibc_c.a"
-
-"$room/real" "$texts" > "$room/lines"
-builds=()
-for checkout in .. ${before:+"$before"}; do
-    builds+=("$(realpath "$checkout/crates/utf16_cat/out/utf16_cat")" "$(realpath "$checkout/crates/utf16_enc/out/utf16_enc")")
+for space in 16 32; do
+    printf '.section .text.pad,"axR",@progbits\n.balign 16\n.skip %s\n.section .note.GNU-stack,"",@progbits\n' $space |
+        gcc -c -x assembler -o "$room/pad.o" -
+    rust --edition 2024 real.rs ${before:+--cfg before} \
+        -C link-args="$room/pad.o ${objects[*]} -lstdc++ $PWD/../crates/dethrux/out/libdethrux.a $kit/c/liblibc_c.a"
+    "$room/real" "$texts" >> "$room/lines"
+    programs=()
+    for checkout in .. ${before:+"$before"}; do
+        for program in utf16_cat utf16_enc; do
+            programs+=("$room/${#programs[@]}")
+            gcc "$room/pad.o" "$checkout/crates/$program/out/$program.o" "$kit/c/libos_c.a" "$kit/c/liblibc_c.a" -o "${programs[-1]}"
+        done
+    done
+    "$room/real_programs" "$texts" "$room" "$room" "${programs[@]}" >> "$room/lines"
 done
-"$room/real_programs" "$texts" "$room" "$room" "${builds[@]}" >> "$room/lines"
 
 awk -F '\t' '
 {
     row = $1 FS $2 FS $3
     if (!(row in seen)) { seen[row] = 1; rows[++n] = row }
-    speed[row, $4, $5] = $6
+    if ($6 > speed[row, $4, $5]) speed[row, $4, $5] = $6
 }
 # The speed in a byte order, and its ratio to each of the others.
 function cells(row, order,    d, other, line) {
