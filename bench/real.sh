@@ -26,7 +26,6 @@ for program in utf16_cat utf16_enc; do
     (cd ../crates/$program && rt run -- le < /dev/null > "$room/said" 2>&1) || { cat "$room/said" >&2; exit 1; }
 done
 # The three calls of another build, by other names; all else of it stays its own.
-objects=()
 if [ -n "$before" ]; then
     ld -r -o "$room/whole.o" --whole-archive "$before/crates/dethrux/out/libdethrux.a"
     renamed=()
@@ -34,7 +33,6 @@ if [ -n "$before" ]; then
         renamed+=(--redefine-sym "dethrux_$call=before_$call" --keep-global-symbol "before_$call")
     done
     objcopy "${renamed[@]}" "$room/whole.o" "$room/before.o"
-    objects=("$room/before.o")
 fi
 
 level=x86-64-v2
@@ -43,9 +41,10 @@ rust() {
     rustc --check-cfg 'cfg(before)' -C opt-level=3 -C target-cpu=$level \
         -C llvm-args=-x86-branches-within-32B-boundaries --out-dir "$room" -L "$room" "$@"
 }
+kernels=()
 for kernel in westmere haswell; do
     cxx -Dsimdutf=simdutf_$kernel -DKERNEL=$kernel -c simdutf_calls.cc -o "$room/simdutf_$kernel.o" &
-    objects+=("$room/simdutf_$kernel.o")
+    kernels+=("$room/simdutf_$kernel.o")
 done
 cxx -static simdutf_cat.cc "$simdutf/simdutf.cpp" -o "$room/simdutf_cat" &
 rust --edition 2018 --crate-type rlib --cap-lints allow --crate-name cfg_if $registry/cfg-if-*/src/lib.rs
@@ -57,8 +56,9 @@ wait
 for space in 16 32; do
     printf '.section .text.pad,"axR",@progbits\n.balign 16\n.skip %s\n.section .note.GNU-stack,"",@progbits\n' $space |
         gcc -c -x assembler -o "$room/pad.o" -
-    rust --edition 2024 real.rs ${before:+--cfg before} \
-        -C link-args="$room/pad.o ${objects[*]} -lstdc++ $PWD/../crates/dethrux/out/libdethrux.a $kit/c/liblibc_c.a"
+    # simdutf's sections are aligned to 32 bytes, so they are before the space.
+    rust --edition 2024 real.rs ${before:+--cfg before} -C link-args="${kernels[*]} -lstdc++ $room/pad.o \
+        ${before:+$room/before.o} $PWD/../crates/dethrux/out/libdethrux.a $kit/c/liblibc_c.a"
     "$room/real" "$texts" >> "$room/lines"
     programs=()
     for checkout in .. ${before:+"$before"}; do
