@@ -7,8 +7,8 @@ ghost use Rattle.utf8_streams.specs.Utf16.{certain, decided_utf16, entire, with_
 
 use std::marker::PhantomData;
 use utf16_decode::put;
-use utf16_streams::Transcoder;
 use utf16_encode::{Stream, feed_utf8, finish_utf8};
+use utf16_streams::Transcoder;
 use utf16_units::Utf16Order;
 
 // U+FEFF, the BOM (byte order mark).

@@ -9,7 +9,7 @@ returns-then-bytes-lt16-clause-bytes g c = (none-written g.E.Utf16Order.BIG [] c
 
 pub returns-then-bytes-lt16-clause-whole : goal.returns-then-bytes-lt16-clause-whole
 returns-then-bytes-lt16-clause-whole g c some ascii = elim c.then-bytes-lt16.branch [
-  then-bytes-lt16-via-then-bytes-lt16 w ↦ absurd (omega (arith, w.if-bytes-lt16.true, some))
-    | then-bytes-lt16-via-else-bytes-lt16+then-not-is_ascii w ↦
-    absurd (true≢false (sym (w.is_ascii.ensures.1 (λ i below. omega (arith, ascii i, get_or-take 16 c.args.bytes.now i 0 below))) ∙ w.if-not-is_ascii.true))
-  ]
+  | then-bytes-lt16-via-then-bytes-lt16 w ↦ absurd (omega (arith, w.if-bytes-lt16.true, some))
+  | then-bytes-lt16-via-else-bytes-lt16+then-not-is_ascii w ↦
+      absurd (true≢false (sym (w.is_ascii.ensures.1 (λ i below. omega (arith, ascii i, get_or-take 16 c.args.bytes.now i 0 below))) ∙ w.if-not-is_ascii.true))
+]
