@@ -68,7 +68,7 @@ pub trait Direction {
     /// # Precondition
     ///
     /// `at` is at most the length of the buffer.
-    fn put_char(c: char, to: &mut [u8], at: usize) -> Option<usize>
+    fn write_char(c: char, to: &mut [u8], at: usize) -> Option<usize>
         requires { at ≤ length to.old }
         ensures within { IfSome result (λ end. end ≤ length to.new) }
         ensures bytes { IfSome result (λ end. take end to.new ≡ take at to.old ++ into c) }

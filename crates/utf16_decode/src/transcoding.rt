@@ -58,7 +58,7 @@ fn write_quick_chars<D: Direction>(input: &[u8], to: &mut [u8]) -> Option<usize>
     let (mut read, mut written) = D::begin_short(input, to)?;
     while read < input.len() {
         let (c, len) = D::quick_first_char(&input[read..])?;
-        written = D::put_char(c, to, written)?;
+        written = D::write_next_char(c, to, written)?;
         read += len;
     }
     Some(written)
@@ -91,7 +91,7 @@ fn transcode_many<D: Direction>(input: &[u8], to: &mut [u8]) -> Progress
         if read == input.len() {
             break;
         }
-        match put_char::<D>(&input[read..], to, written) {
+        match write_next_char::<D>(&input[read..], to, written) {
             Ok((len, end)) => {
                 read += len;
                 written = end;
@@ -299,7 +299,7 @@ fn write_chars<D: Direction>(rest: &[u8], to: &mut [u8], at: usize) -> (usize, u
     D::laws();
     let (mut read, mut written) = write_short_start::<D>(rest, to, at);
     while read < rest.len() {
-        let Ok((len, end)) = put_char::<D>(&rest[read..], to, written) else {
+        let Ok((len, end)) = write_next_char::<D>(&rest[read..], to, written) else {
             break;
         };
         read += len;
@@ -323,7 +323,7 @@ fn write_short_start<D: Direction>(rest: &[u8], to: &mut [u8], at: usize) -> (us
 
 // Writes the first character at `at`, or returns why it cannot.
 #[inline(always)]
-fn put_char<D: Direction>(rest: &[u8], to: &mut [u8], at: usize) -> Result<(usize, usize), Stop>
+fn write_next_char<D: Direction>(rest: &[u8], to: &mut [u8], at: usize) -> Result<(usize, usize), Stop>
     requires not_empty { 0 < length rest.now }
     requires within { at ≤ length to.old }
     ensures wrote { IfOk result (λ r.
@@ -335,7 +335,7 @@ fn put_char<D: Direction>(rest: &[u8], to: &mut [u8], at: usize) -> Result<(usiz
 {
     D::laws();
     let (c, len) = first_char::<D>(rest)?;
-    match D::put_char(c, to, at) {
+    match D::write_next_char(c, to, at) {
         Some(end) => Ok((len, end)),
         None => Err(Stop::NoRoom),
     }

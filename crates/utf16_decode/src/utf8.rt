@@ -72,7 +72,7 @@ impl<E: Utf16Order> Direction for ToUtf8<E> {
         if input.len() < 16 {
             return Some((0, 0));
         }
-        let (read, written) = put_ascii_from::<E>(input, to, 0, 0);
+        let (read, written) = write_ascii_from::<E>(input, to, 0, 0);
         if read == 0 {
             return None;
         }
@@ -92,8 +92,8 @@ impl<E: Utf16Order> Direction for ToUtf8<E> {
     }
 
     #[inline(always)]
-    fn put_char(c: char, to: &mut [u8], at: usize) -> Option<usize> {
-        put_utf8(c, to, at)
+    fn write_char(c: char, to: &mut [u8], at: usize) -> Option<usize> {
+        write_char_at(c, to, at)
     }
 
     #[inline(always)]
@@ -116,14 +116,14 @@ impl<E: Utf16Order> Direction for ToUtf8<E> {
     #[inline(always)]
     fn write_front(rest: &[u8], to: &mut [u8]) -> (usize, usize) {
         let (read, written) = write_blocks::<E>(rest, to);
-        put_ascii_from::<E>(rest, to, read, written)
+        write_ascii_from::<E>(rest, to, read, written)
     }
 }
 
 // Goes on with ASCII after what was written, eight code units at a time, which need no more space
 // than they take.
 #[inline(always)]
-fn put_ascii_from<E: Utf16Order>(
+fn write_ascii_from<E: Utf16Order>(
     raw: &[u8],
     to: &mut [u8],
     from: usize,
@@ -160,7 +160,7 @@ pub(crate) fn valid_up_to<E: Utf16Order>(bytes: &[u8]) -> usize
 // Writes a character in UTF-8 at `at`, and returns where it ends; `None` if it does not fit. Unlike
 // `char::encode_utf8` it says what stays.
 #[inline(always)]
-fn put_utf8(c: char, to: &mut [u8], at: usize) -> Option<usize>
+fn write_char_at(c: char, to: &mut [u8], at: usize) -> Option<usize>
     requires { at ≤ length to.old }
     ensures within { IfSome result (λ end. end ≤ length to.new) }
     ensures bytes { IfSome result (λ end. take end to.new ≡ take at to.old ++ encode_utf8 c) }
@@ -170,22 +170,22 @@ fn put_utf8(c: char, to: &mut [u8], at: usize) -> Option<usize>
     let code = c as u32;
     let last = (0x80 + code % 64) as u8;
     if code < 0x80 {
-        put_bytes(&[code as u8], to, at)
+        write_if_fits(&[code as u8], to, at)
     } else if code < 0x800 {
-        put_bytes(&[(0xC0 + code / 64) as u8, last], to, at)
+        write_if_fits(&[(0xC0 + code / 64) as u8, last], to, at)
     } else if code < 0x1_0000 {
         let middle = (0x80 + code / 64 % 64) as u8;
-        put_bytes(&[(0xE0 + code / 4096) as u8, middle, last], to, at)
+        write_if_fits(&[(0xE0 + code / 4096) as u8, middle, last], to, at)
     } else {
         let (second, third) = (0x80 + code / 4096 % 64, 0x80 + code / 64 % 64);
         let first = 0xF0 + code / 262144;
-        put_bytes(&[first as u8, second as u8, third as u8, last], to, at)
+        write_if_fits(&[first as u8, second as u8, third as u8, last], to, at)
     }
 }
 
 // Writes bytes at `at`, and returns where they end; `None` if they do not fit.
 #[inline(always)]
-fn put_bytes(bytes: &[u8], to: &mut [u8], at: usize) -> Option<usize>
+fn write_if_fits(bytes: &[u8], to: &mut [u8], at: usize) -> Option<usize>
     requires { at ≤ length to.old }
     ensures within { IfSome result (λ end. end ≤ length to.new) }
     ensures bytes { IfSome result (λ end. take end to.new ≡ take at to.old ++ bytes.now) }

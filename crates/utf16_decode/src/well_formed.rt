@@ -85,7 +85,7 @@ fn mend<E: Utf16Order>(utf16: &mut [u8]) -> usize
         match first_char_len::<E>(&utf16[at..]) {
             Ok(len) => at += len + valid_up_to::<E>(&utf16[at + len..]),
             Err(_) => {
-                put_unit(utf16, at, replacement);
+                write_unit(utf16, at, replacement);
                 at += 2;
                 count += 1;
             }
@@ -96,7 +96,7 @@ fn mend<E: Utf16Order>(utf16: &mut [u8]) -> usize
 
 // Writes the two bytes of a code unit at `at`.
 #[inline]
-fn put_unit(utf16: &mut [u8], at: usize, unit: [u8; 2])
+fn write_unit(utf16: &mut [u8], at: usize, unit: [u8; 2])
     requires { at + 2 ≤ length utf16.old }
     ensures put { take (at + 2) utf16.new ≡ take at utf16.old ++ unit }
     ensures rest { drop (at + 2) utf16.new ≡ drop (at + 2) utf16.old }

@@ -5,10 +5,10 @@ ghost use Rattle.utf16_decode.specs.Wrote.{Wrote};
 ghost use Rattle.utf16_encode.specs.FromUtf8.{TranscodesToUtf16};
 ghost use Rattle.utf16_encode.specs.Utf8Stream.{DecodesUtf8To, FirstItem};
 
-use crate::utf16::{first_char, put_char};
+use crate::utf16::{first_char, write_char};
 use std::simd::prelude::*;
 use utf16_decode::ascii_len;
-use utf16_from_utf8::put_ascii;
+use utf16_from_utf8::write_ascii_block;
 use utf16_units::Utf16Order;
 
 // So many characters in a row, none of them U+FFFD, end the loop over items: what follows is
@@ -73,7 +73,7 @@ fn write_items_once<E: Utf16Order>(text: &[u8], to: &mut [u8]) -> Step
     let (c, len) = first_item(text);
     Step {
         read: len,
-        written: put_char::<E>(c, to, 0),
+        written: write_char::<E>(c, to, 0),
         run: (c != char::REPLACEMENT_CHARACTER) as usize,
     }
 }
@@ -96,7 +96,7 @@ fn write_some_ascii<E: Utf16Order>(text: &[u8], to: &mut [u8]) -> usize
     if len < FEW_ASCII {
         return 0;
     }
-    put_ascii::<E>(to, 0, low_bits(block));
+    write_ascii_block::<E>(to, 0, low_bits(block));
     len
 }
 

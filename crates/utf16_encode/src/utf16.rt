@@ -91,11 +91,11 @@ impl<E: Utf16Order> Direction for FromUtf8<E> {
     }
 
     #[inline(always)]
-    fn put_char(c: char, to: &mut [u8], at: usize) -> Option<usize> {
+    fn write_char(c: char, to: &mut [u8], at: usize) -> Option<usize> {
         if to.len() - at < c.encoded_utf16_len() {
             return None;
         }
-        Some(put_char::<E>(c, to, at))
+        Some(write_char::<E>(c, to, at))
     }
 
     #[inline(always)]
@@ -147,7 +147,7 @@ fn write_ascii_chars<E: Utf16Order>(bytes: &[u8], to: &mut [u8], from: usize) ->
     let mut len = from;
     let mut end = 2 * from;
     while len < most && bytes[len] < 0x80 {
-        end = put_char::<E>(bytes[len] as char, to, end);
+        end = write_char::<E>(bytes[len] as char, to, end);
         len += 1;
     }
     (len, end)
@@ -155,7 +155,7 @@ fn write_ascii_chars<E: Utf16Order>(bytes: &[u8], to: &mut [u8], from: usize) ->
 
 // Writes a character that fits at `at`, and returns where it ends.
 #[inline(always)]
-pub(crate) fn put_char<E: Utf16Order>(c: char, to: &mut [u8], at: usize) -> usize
+pub(crate) fn write_char<E: Utf16Order>(c: char, to: &mut [u8], at: usize) -> usize
     requires { at + char_size c ≤ length to.old }
     ensures within { result ≤ length to.new }
     ensures end { result ≡ at + char_size c }

@@ -39,12 +39,12 @@ pub fn write_ascii<E: Utf16Order>(bytes: &[u8], out: &mut [u8]) -> usize
     if bytes.len() < 16 || !is_ascii(u8x16::from_slice(bytes)) {
         return 0;
     }
-    put_front::<E>(bytes, out)
+    write_front::<E>(bytes, out)
 }
 
 // Does the same. A function of its own, so that other texts do not pay for a call.
 #[inline(never)]
-fn put_front<E: Utf16Order>(bytes: &[u8], out: &mut [u8]) -> usize
+fn write_front<E: Utf16Order>(bytes: &[u8], out: &mut [u8]) -> usize
     requires space { 2 * length bytes.now ≤ length out.old }
     requires some { 16 ≤ length bytes.now }
     ensures written { IsWritten E.BIG bytes.now out.old out.new result }
@@ -52,18 +52,18 @@ fn put_front<E: Utf16Order>(bytes: &[u8], out: &mut [u8]) -> usize
     ensures blocks { result < length bytes.now → result % 16 ≡ 0 }
     ensures stop { result + 16 ≤ length bytes.now → ¬ (IsAscii (take (result + 16) bytes.now)) }
 {
-    let at = put_wide_blocks::<E>(bytes, out);
-    let at = put_blocks::<E>(bytes, out, at);
+    let at = write_wide_blocks::<E>(bytes, out);
+    let at = write_narrow_blocks::<E>(bytes, out, at);
     if bytes.len() - at >= 16 {
         return at;
     }
-    put_last::<E>(bytes, out, at)
+    write_last_block::<E>(bytes, out, at)
 }
 
 // Writes the last bytes, fewer than a block, if they are ASCII: with those before them that make a
 // block, and are written again.
 #[inline(always)]
-fn put_last<E: Utf16Order>(bytes: &[u8], out: &mut [u8], at: usize) -> usize
+fn write_last_block<E: Utf16Order>(bytes: &[u8], out: &mut [u8], at: usize) -> usize
     requires space { 2 * length bytes.now ≤ length out.old }
     requires some { 16 ≤ length bytes.now }
     requires few { length bytes.now < at + 16 }
@@ -77,12 +77,12 @@ fn put_last<E: Utf16Order>(bytes: &[u8], out: &mut [u8], at: usize) -> usize
     if !is_ascii(u8x16::from_slice(&bytes[last..])) {
         return at;
     }
-    put_block::<E>(bytes, out, last)
+    write_narrow_block::<E>(bytes, out, last)
 }
 
 // Writes blocks of sixty-four characters of one byte.
 #[inline(always)]
-fn put_wide_blocks<E: Utf16Order>(bytes: &[u8], out: &mut [u8]) -> usize
+fn write_wide_blocks<E: Utf16Order>(bytes: &[u8], out: &mut [u8]) -> usize
     requires { 2 * length bytes.now ≤ length out.old }
     ensures written { IsWritten E.BIG bytes.now out.old out.new result }
     ensures blocks { result % 16 ≡ 0 }
@@ -92,14 +92,14 @@ fn put_wide_blocks<E: Utf16Order>(bytes: &[u8], out: &mut [u8]) -> usize
         if !are_below(greatest(bytes, at), 0x80) {
             break;
         }
-        at = put_wide_block::<E>(bytes, out, at);
+        at = write_wide_block::<E>(bytes, out, at);
     }
     at
 }
 
 // Writes blocks of sixteen characters of one byte, after those that were written.
 #[inline(always)]
-fn put_blocks<E: Utf16Order>(bytes: &[u8], out: &mut [u8], from: usize) -> usize
+fn write_narrow_blocks<E: Utf16Order>(bytes: &[u8], out: &mut [u8], from: usize) -> usize
     requires space { 2 * length bytes.now ≤ length out.old }
     requires within { from ≤ length bytes.now }
     requires blocks { from % 16 ≡ 0 }
@@ -114,14 +114,14 @@ fn put_blocks<E: Utf16Order>(bytes: &[u8], out: &mut [u8], from: usize) -> usize
         if !is_ascii(u8x16::from_slice(&bytes[at..])) {
             break;
         }
-        at = put_block::<E>(bytes, out, at);
+        at = write_narrow_block::<E>(bytes, out, at);
     }
     at
 }
 
 // Writes the next sixty-four bytes, and returns where the bytes after them begin.
 #[inline(always)]
-fn put_wide_block<E: Utf16Order>(bytes: &[u8], out: &mut [u8], at: usize) -> usize
+fn write_wide_block<E: Utf16Order>(bytes: &[u8], out: &mut [u8], at: usize) -> usize
     requires space { 2 * length bytes.now ≤ length out.old }
     requires more { at + 64 ≤ length bytes.now }
     requires ascii { (i : ℕ) → i < 64 → slice_index bytes.now (at + i) < 0x80 }
@@ -129,15 +129,15 @@ fn put_wide_block<E: Utf16Order>(bytes: &[u8], out: &mut [u8], at: usize) -> usi
         → IsWritten E.BIG bytes.now before out.new result }
     ensures at { result ≡ at + 64 }
 {
-    let second = put_block::<E>(bytes, out, at);
-    let third = put_block::<E>(bytes, out, second);
-    let fourth = put_block::<E>(bytes, out, third);
-    put_block::<E>(bytes, out, fourth)
+    let second = write_narrow_block::<E>(bytes, out, at);
+    let third = write_narrow_block::<E>(bytes, out, second);
+    let fourth = write_narrow_block::<E>(bytes, out, third);
+    write_narrow_block::<E>(bytes, out, fourth)
 }
 
 // Writes the next sixteen bytes, and returns where the bytes after them begin.
 #[inline(always)]
-fn put_block<E: Utf16Order>(bytes: &[u8], out: &mut [u8], at: usize) -> usize
+fn write_narrow_block<E: Utf16Order>(bytes: &[u8], out: &mut [u8], at: usize) -> usize
     requires space { 2 * length bytes.now ≤ length out.old }
     requires more { at + 16 ≤ length bytes.now }
     requires ascii { (i : ℕ) → i < 16 → slice_index bytes.now (at + i) < 0x80 }
@@ -145,7 +145,7 @@ fn put_block<E: Utf16Order>(bytes: &[u8], out: &mut [u8], at: usize) -> usize
         → IsWritten E.BIG bytes.now before out.new result }
     ensures at { result ≡ at + 16 }
 {
-    put_ascii::<E>(out, 2 * at, u8x16::from_slice(&bytes[at..]));
+    write_ascii_block::<E>(out, 2 * at, u8x16::from_slice(&bytes[at..]));
     at + 16
 }
 
@@ -160,7 +160,7 @@ fn put_block<E: Utf16Order>(bytes: &[u8], out: &mut [u8], at: usize) -> usize
 ///
 /// Constant time.
 #[inline(always)]
-pub fn put_ascii<E: Utf16Order>(out: &mut [u8], at: usize, block: u8x16) -> usize
+pub fn write_ascii_block<E: Utf16Order>(out: &mut [u8], at: usize, block: u8x16) -> usize
     requires space { at + 32 ≤ length out.old }
     requires ascii { (i : ℕ) → i < 16 → slice_index block i < 0x80 }
     ensures bytes { take result out.new ≡ take at out.old ++ encode E.BIG (chars block) }

@@ -9,14 +9,14 @@ ghost use Rattle.utf16_from_utf8.specs.Written.{IsWritten};
 use crate::faults::faults;
 use crate::lanes::{greater, previous_lanes};
 use crate::limits::are_below;
-use crate::sixteen::put_sixteen;
+use crate::sixteen::write_sixteen;
 use std::simd::prelude::*;
 use utf16_units::Utf16Order;
 
 // Writes the next sixty-four bytes, of characters of at most `MOST` bytes, but not those at the end
 // that begin a character and do not end it. Writes nothing if they are ill formed.
 #[inline(always)]
-pub(crate) fn put_block<E: Utf16Order, const MOST: usize>(
+pub(crate) fn write_block<E: Utf16Order, const MOST: usize>(
     bytes: &[u8],
     out: &mut [u8],
     read: usize,
@@ -33,13 +33,13 @@ pub(crate) fn put_block<E: Utf16Order, const MOST: usize>(
     if !are_well_formed::<MOST>(bytes, read) {
         return (read, written);
     }
-    put_well_formed::<E, MOST, 64>(bytes, out, read, written)
+    write_well_formed::<E, MOST, 64>(bytes, out, read, written)
 }
 
 // Writes the next `LEN` bytes, which begin a well-formed text, but not those at the end that begin
 // a character and do not end it.
 #[inline(always)]
-pub(crate) fn put_well_formed<E: Utf16Order, const MOST: usize, const LEN: usize>(
+pub(crate) fn write_well_formed<E: Utf16Order, const MOST: usize, const LEN: usize>(
     bytes: &[u8],
     out: &mut [u8],
     read: usize,
@@ -54,7 +54,7 @@ pub(crate) fn put_well_formed<E: Utf16Order, const MOST: usize, const LEN: usize
     ensures written { IsWritten E.BIG bytes.now out.new result.0 result.1 }
     ensures advances { read < result.0 }
 {
-    let end = put_all::<E, MOST, LEN>(bytes, out, read, written);
+    let end = write_all::<E, MOST, LEN>(bytes, out, read, written);
     let used = used::<MOST, LEN>(bytes, read);
     if used + 3 == LEN {
         // Three bytes of a character have added its leading surrogate.
@@ -111,7 +111,7 @@ fn faults_at<const MOST: usize>(bytes: &[u8], at: usize) -> u8x16
 
 // Writes all that the next `LEN` bytes add, which begin a well-formed text.
 #[inline(always)]
-pub(crate) fn put_all<E: Utf16Order, const MOST: usize, const LEN: usize>(
+pub(crate) fn write_all<E: Utf16Order, const MOST: usize, const LEN: usize>(
     bytes: &[u8],
     out: &mut [u8],
     read: usize,
@@ -128,12 +128,12 @@ pub(crate) fn put_all<E: Utf16Order, const MOST: usize, const LEN: usize>(
 {
     let first = u8x16::from_slice(&bytes[read..]);
     let (b2, b1) = before(first, 0, 0);
-    let mut end = put_sixteen::<E, MOST>(out, written, b2, b1, first);
+    let mut end = write_sixteen::<E, MOST>(out, written, b2, b1, first);
     let mut k = 16;
     while k < LEN {
         let (b2, b1) = before_at(bytes, read + k);
         let block = u8x16::from_slice(&bytes[read + k..]);
-        end = put_sixteen::<E, MOST>(out, end, b2, b1, block);
+        end = write_sixteen::<E, MOST>(out, end, b2, b1, block);
         k += 16;
     }
     end

@@ -5,10 +5,10 @@ ghost use Rattle.utf16_from_utf8.specs.Follow.{AreBelow, IsBlock};
 ghost use Rattle.utf16_from_utf8.specs.Written.{IsWritten};
 
 use crate::ascii::write_ascii;
-use crate::block::put_block;
-use crate::fours::put_fours;
+use crate::block::write_block;
+use crate::fours::write_fours;
 use crate::limits::{are_below, greatest};
-use crate::threes::put_threes;
+use crate::threes::write_threes;
 use utf16_units::Utf16Order;
 
 // The length of a block in bytes.
@@ -40,13 +40,13 @@ pub fn write_blocks<E: Utf16Order>(bytes: &[u8], out: &mut [u8]) -> (usize, usiz
     if out.len() - 2 * len < BLOCK_SPACE {
         return (len, 2 * len);
     }
-    put_blocks::<E>(bytes, out, len)
+    write_mixed_blocks::<E>(bytes, out, len)
 }
 
 // Writes blocks of all kinds after some ASCII. A function of its own, so that short texts do
 // not pay for its registers.
 #[inline(never)]
-fn put_blocks<E: Utf16Order>(bytes: &[u8], out: &mut [u8], len: usize) -> (usize, usize)
+fn write_mixed_blocks<E: Utf16Order>(bytes: &[u8], out: &mut [u8], len: usize) -> (usize, usize)
     requires { IsWritten E.BIG bytes.now out.old len (2 * len) }
     ensures written { IsWritten E.BIG bytes.now out.new result.0 result.1 }
     ensures stop { IsBlock bytes.now result.0 → length out.new < result.1 + 128 }
@@ -57,7 +57,7 @@ fn put_blocks<E: Utf16Order>(bytes: &[u8], out: &mut [u8], len: usize) -> (usize
         if out.len() - written < BLOCK_SPACE {
             break;
         }
-        let (next, end) = put_next::<E>(bytes, out, read, written);
+        let (next, end) = write_next::<E>(bytes, out, read, written);
         let stays = next == read;
         read = next;
         written = end;
@@ -71,7 +71,7 @@ fn put_blocks<E: Utf16Order>(bytes: &[u8], out: &mut [u8], len: usize) -> (usize
 // Writes at least the next block, or nothing if it is ill formed. Returns where the bytes after
 // those read begin, and where what was written ends.
 #[inline(always)]
-fn put_next<E: Utf16Order>(
+fn write_next<E: Utf16Order>(
     bytes: &[u8],
     out: &mut [u8],
     read: usize,
@@ -86,24 +86,24 @@ fn put_next<E: Utf16Order>(
 {
     let greatest = greatest(bytes, read);
     if are_below(greatest, 0x80) {
-        return put_ascii::<E>(bytes, out, read, written);
+        return write_ascii_run::<E>(bytes, out, read, written);
     }
     if are_below(greatest, 0xE0) {
-        return put_block::<E, 2>(bytes, out, read, written);
+        return write_block::<E, 2>(bytes, out, read, written);
     }
-    let (next, end) = put_run::<E>(bytes, out, read, written);
+    let (next, end) = write_run::<E>(bytes, out, read, written);
     if next > read {
         return (next, end);
     }
     if are_below(greatest, 0xF0) {
-        return put_block::<E, 3>(bytes, out, next, end);
+        return write_block::<E, 3>(bytes, out, next, end);
     }
-    put_block::<E, 4>(bytes, out, next, end)
+    write_block::<E, 4>(bytes, out, next, end)
 }
 
 // Writes the next characters of three or of four bytes, whichever the first has, several at a time.
 #[inline(always)]
-fn put_run<E: Utf16Order>(
+fn write_run<E: Utf16Order>(
     bytes: &[u8],
     out: &mut [u8],
     read: usize,
@@ -121,14 +121,14 @@ fn put_run<E: Utf16Order>(
         return (read, written);
     }
     if first < 0xF0 {
-        return put_threes::<E>(bytes, out, read, written);
+        return write_threes::<E>(bytes, out, read, written);
     }
-    put_fours::<E>(bytes, out, read, written)
+    write_fours::<E>(bytes, out, read, written)
 }
 
 // Writes the next blocks of ASCII.
 #[inline(always)]
-fn put_ascii<E: Utf16Order>(
+fn write_ascii_run<E: Utf16Order>(
     bytes: &[u8],
     out: &mut [u8],
     read: usize,

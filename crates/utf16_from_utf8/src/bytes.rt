@@ -7,7 +7,7 @@ use utf16_units::Utf16Order;
 
 // Writes what some bytes add at `at`, and returns where it ends.
 #[inline(always)]
-pub(crate) fn put_bytes<E: Utf16Order>(bytes: &[u8], out: &mut [u8], at: usize) -> usize
+pub(crate) fn write_bytes<E: Utf16Order>(bytes: &[u8], out: &mut [u8], at: usize) -> usize
     requires { at + 2 * length bytes.now ≤ length out.old }
     ensures bytes { take result out.new ≡ take at out.old ++ added_bytes E.BIG 0 0 bytes.now }
     ensures written_to { result ≤ at + 2 * length bytes.now }
@@ -18,7 +18,7 @@ pub(crate) fn put_bytes<E: Utf16Order>(bytes: &[u8], out: &mut [u8], at: usize) 
     let mut b1 = 0;
     while read < bytes.len() {
         let b0 = bytes[read];
-        end = put_byte::<E>(out, end, b2, b1, b0);
+        end = write_byte::<E>(out, end, b2, b1, b0);
         b2 = b1;
         b1 = b0;
         read += 1;
@@ -28,7 +28,7 @@ pub(crate) fn put_bytes<E: Utf16Order>(bytes: &[u8], out: &mut [u8], at: usize) 
 
 // Writes the UTF-16 that one byte adds after two others.
 #[inline(always)]
-fn put_byte<E: Utf16Order>(out: &mut [u8], at: usize, b2: u8, b1: u8, b0: u8) -> usize
+fn write_byte<E: Utf16Order>(out: &mut [u8], at: usize, b2: u8, b1: u8, b0: u8) -> usize
     requires space { at + 2 ≤ length out.old }
     ensures bytes { take result out.new ≡ take at out.old ++ added_bytes E.BIG b2 b1 (b0 ∷ []) }
     ensures written_to { result ≤ at + 2 }

@@ -24,7 +24,7 @@ const UPPER_OF_FOURS: [u8; 16] = [
 
 // Writes the next characters of four bytes, four at a time.
 #[inline(always)]
-pub(crate) fn put_fours<E: Utf16Order>(
+pub(crate) fn write_fours<E: Utf16Order>(
     bytes: &[u8],
     out: &mut [u8],
     from: usize,
@@ -45,7 +45,7 @@ pub(crate) fn put_fours<E: Utf16Order>(
         if !are_characters(block) {
             break;
         }
-        written = put_fours_block::<E>(out, written, block);
+        written = write_fours_block::<E>(out, written, block);
         read += 16;
     }
     (read, written)
@@ -54,7 +54,7 @@ pub(crate) fn put_fours<E: Utf16Order>(
 // Writes four characters of four bytes: two units for each, that of its first three bytes and that
 // of its last three.
 #[inline(always)]
-fn put_fours_block<E: Utf16Order>(out: &mut [u8], at: usize, block: u8x16) -> usize
+fn write_fours_block<E: Utf16Order>(out: &mut [u8], at: usize, block: u8x16) -> usize
     requires space { at + 16 ≤ length out.old }
     requires well_formed { IsUtf8 block }
     requires fours { zip2 bit_and block UPPER_OF_FOURS ≡ FOURS }

@@ -11,7 +11,7 @@ use utf16_units::Utf16Order;
 // Stores those of eight pairs whose bit is set, starting at `at`, and returns their end. Overwrites
 // sixteen bytes starting at `at`.
 #[inline(always)]
-pub(crate) fn put_eight(out: &mut [u8], at: usize, pairs: u8x16, bits: usize) -> usize
+pub(crate) fn write_eight(out: &mut [u8], at: usize, pairs: u8x16, bits: usize) -> usize
     requires bound { bits < 256 }
     requires space { at + 16 ≤ length out.old }
     ensures pairs { take result out.new ≡ take at out.old ++ kept_pairs bits pairs }
@@ -25,14 +25,14 @@ pub(crate) fn put_eight(out: &mut [u8], at: usize, pairs: u8x16, bits: usize) ->
 
 // Stores those of all sixteen pairs whose bit is set, starting at `at`, and returns their end.
 #[inline(always)]
-pub(crate) fn put_kept(out: &mut [u8], at: usize, first: u8x16, second: u8x16, bits: u64) -> usize
+pub(crate) fn write_kept(out: &mut [u8], at: usize, first: u8x16, second: u8x16, bits: u64) -> usize
     requires bound { bits < 2 ^ 16 }
     requires space { at + 32 ≤ length out.old }
     ensures pairs { take result out.new ≡ take at out.old ++ kept_pairs bits (first ++ second) }
     ensures written_to { result ≤ at + 32 }
 {
-    let middle = put_eight(out, at, first, (bits % 256) as usize);
-    put_eight(out, middle, second, (bits / 256) as usize)
+    let middle = write_eight(out, at, first, (bits % 256) as usize);
+    write_eight(out, middle, second, (bits / 256) as usize)
 }
 
 // The two bytes of each unit next to each other, of the first eight units and of the others.

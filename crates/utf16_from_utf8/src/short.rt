@@ -8,14 +8,14 @@ ghost use Rattle.utf16_units.specs.Lanes.{HasLanes};
 
 use crate::block::before;
 use crate::lanes::greater;
-use crate::pack::{paired, put_kept};
+use crate::pack::{paired, write_kept};
 use crate::units::{ended_bits, four_bytes};
 use std::simd::prelude::*;
 use utf16_units::Utf16Order;
 
 // Writes what a text of eight to fifteen bytes adds at `at`, and returns where it ends.
 #[inline(always)]
-pub(crate) fn put_short<E: Utf16Order>(text: &[u8], out: &mut [u8], at: usize) -> usize
+pub(crate) fn write_short<E: Utf16Order>(text: &[u8], out: &mut [u8], at: usize) -> usize
     requires well_formed { IsUtf8 text.now }
     requires some { 8 ≤ length text.now }
     requires few { length text.now < 16 }
@@ -27,7 +27,7 @@ pub(crate) fn put_short<E: Utf16Order>(text: &[u8], out: &mut [u8], at: usize) -
     let (b2, b1) = before(block, 0, 0);
     let (highs, lows) = four_bytes(b2, b1, block);
     let (first, second) = paired::<E>(highs, lows);
-    put_kept(out, at, first, second, ended_bits(b1, block))
+    write_kept(out, at, first, second, ended_bits(b1, block))
 }
 
 // A block that begins with the bytes. Its first half and its second one are the first and the last

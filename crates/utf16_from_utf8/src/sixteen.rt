@@ -6,7 +6,7 @@ ghost use Rattle.utf16_from_utf8.specs.Follow.{AreBefore, FollowAnyLanes, Follow
 ghost use Rattle.utf16_units.specs.Lanes.{HasLanes};
 
 use crate::lanes::{down, each, greater, masked, set_bits, sum, up, where_below};
-use crate::pack::{paired, put_kept};
+use crate::pack::{paired, write_kept};
 use crate::units::{ended_bits, four_bytes, high_bytes, low_bytes, previous_bytes};
 use std::simd::prelude::*;
 use utf16_units::Utf16Order;
@@ -14,7 +14,7 @@ use utf16_units::Utf16Order;
 // Writes sixteen bytes of characters of at most `MOST` bytes, each of which may follow the one
 // before it in `b1` and the one before that in `b2`.
 #[inline(always)]
-pub(crate) fn put_sixteen<E: Utf16Order, const MOST: usize>(
+pub(crate) fn write_sixteen<E: Utf16Order, const MOST: usize>(
     out: &mut [u8],
     at: usize,
     b2: u8x16,
@@ -29,16 +29,16 @@ pub(crate) fn put_sixteen<E: Utf16Order, const MOST: usize>(
     ensures written_to { result ≤ at + 32 }
 {
     if MOST == 2 {
-        return put_two::<E>(out, at, b1, block);
+        return write_two::<E>(out, at, b1, block);
     }
     if MOST == 3 {
-        return put_three::<E>(out, at, b2, b1, block);
+        return write_three::<E>(out, at, b2, b1, block);
     }
-    put_four::<E>(out, at, b2, b1, block)
+    write_four::<E>(out, at, b2, b1, block)
 }
 
 #[inline(always)]
-fn put_two<E: Utf16Order>(out: &mut [u8], at: usize, b1: u8x16, block: u8x16) -> usize
+fn write_two<E: Utf16Order>(out: &mut [u8], at: usize, b1: u8x16, block: u8x16) -> usize
     requires space { at + 32 ≤ length out.old }
     requires follow { (i : ℕ) → i < 16
         → FollowsTwo 0xE0 0 (slice_index b1 i) (slice_index block i) }
@@ -52,11 +52,11 @@ fn put_two<E: Utf16Order>(out: &mut [u8], at: usize, b1: u8x16, block: u8x16) ->
     let lows = sum(masked(block, 0x7F), up(lead, 6));
     let (first, second) = paired::<E>(down(lead, 2), lows);
     let ended = where_below(block, 0xC0, each(0xFF), each(0));
-    put_kept(out, at, first, second, set_bits(ended))
+    write_kept(out, at, first, second, set_bits(ended))
 }
 
 #[inline(always)]
-fn put_three<E: Utf16Order>(out: &mut [u8], at: usize, b2: u8x16, b1: u8x16, block: u8x16) -> usize
+fn write_three<E: Utf16Order>(out: &mut [u8], at: usize, b2: u8x16, b1: u8x16, block: u8x16) -> usize
     requires space { at + 32 ≤ length out.old }
     requires follow { FollowLanes 0xF0 b2 b1 block }
     ensures bytes { (before2 before1 : ℕ) → AreBefore before2 before1 block b2 b1
@@ -65,11 +65,11 @@ fn put_three<E: Utf16Order>(out: &mut [u8], at: usize, b2: u8x16, b1: u8x16, blo
 {
     let previous = previous_bytes(b1, block);
     let (first, second) = paired::<E>(high_bytes(b2, previous), low_bytes(previous, block));
-    put_kept(out, at, first, second, ended_bits(b1, block))
+    write_kept(out, at, first, second, ended_bits(b1, block))
 }
 
 #[inline(always)]
-fn put_four<E: Utf16Order>(out: &mut [u8], at: usize, b2: u8x16, b1: u8x16, block: u8x16) -> usize
+fn write_four<E: Utf16Order>(out: &mut [u8], at: usize, b2: u8x16, b1: u8x16, block: u8x16) -> usize
     requires space { at + 32 ≤ length out.old }
     requires follow { FollowAnyLanes b2 b1 block }
     ensures bytes { (before2 before1 : ℕ) → AreBefore before2 before1 block b2 b1
@@ -78,5 +78,5 @@ fn put_four<E: Utf16Order>(out: &mut [u8], at: usize, b2: u8x16, b1: u8x16, bloc
 {
     let (highs, lows) = four_bytes(b2, b1, block);
     let (first, second) = paired::<E>(highs, lows);
-    put_kept(out, at, first, second, ended_bits(b1, block))
+    write_kept(out, at, first, second, ended_bits(b1, block))
 }

@@ -5,12 +5,12 @@ ghost use Rattle.std.specs.Str.{IsUtf8, chars};
 ghost use Rattle.utf16_units.specs.Encoding.{encode};
 ghost use Rattle.utf16_from_utf8.specs.Written.{IsWritten};
 
-use crate::block::put_well_formed;
+use crate::block::write_well_formed;
 use crate::blocks::write_blocks;
-use crate::bytes::put_bytes;
+use crate::bytes::write_bytes;
 use crate::limits::are_below;
-use crate::short::put_short;
-use crate::threes::put_threes;
+use crate::short::write_short;
+use crate::threes::write_threes;
 use std::simd::prelude::*;
 use utf16_units::Utf16Order;
 
@@ -40,12 +40,12 @@ pub fn write_text<E: Utf16Order>(text: &[u8], out: &mut [u8]) -> usize
         ≡ drop (2 * length text.now + SLACK) out.old }
 {
     let room = 2 * text.len() + SLACK;
-    put_text::<E>(text, &mut out[..room])
+    write_whole::<E>(text, &mut out[..room])
 }
 
 // Writes a text. All bytes after those written may be overwritten.
 #[inline(always)]
-fn put_text<E: Utf16Order>(text: &[u8], out: &mut [u8]) -> usize
+fn write_whole<E: Utf16Order>(text: &[u8], out: &mut [u8]) -> usize
     requires well_formed { IsUtf8 text.now }
     requires space { 2 * length text.now + SLACK ≤ length out.old }
     ensures bytes { take result out.new ≡ encode E.BIG (chars text.now) }
@@ -55,32 +55,32 @@ fn put_text<E: Utf16Order>(text: &[u8], out: &mut [u8]) -> usize
     if read == text.len() {
         return written;
     }
-    put_rest::<E>(text, out, read, written)
+    write_rest::<E>(text, out, read, written)
 }
 
 // Writes the rest of a text, after what was written of it: sixteen characters of three bytes or
 // sixteen bytes at a time, and then the last bytes.
 #[inline(never)]
-fn put_rest<E: Utf16Order>(text: &[u8], out: &mut [u8], from: usize, end: usize) -> usize
+fn write_rest<E: Utf16Order>(text: &[u8], out: &mut [u8], from: usize, end: usize) -> usize
     requires well_formed { IsUtf8 text.now }
     requires space { 2 * length text.now + SLACK ≤ length out.old }
     requires written { IsWritten E.BIG text.now out.old from end }
     ensures bytes { take result out.new ≡ encode E.BIG (chars text.now) }
     ensures written_to { result ≤ 2 * length text.now }
 {
-    let (mut read, mut written) = put_threes::<E>(text, out, from, end);
+    let (mut read, mut written) = write_threes::<E>(text, out, from, end);
     while text.len() - read >= BLOCK_LEN {
-        let (next, end) = put_next::<E>(text, out, read, written);
+        let (next, end) = write_next::<E>(text, out, read, written);
         read = next;
         written = end;
     }
-    put_last::<E>(&text[read..], out, written)
+    write_last_bytes::<E>(&text[read..], out, written)
 }
 
 // Writes the next sixteen bytes of a text, but not those at the end that begin a character and do
 // not end it.
 #[inline(always)]
-fn put_next<E: Utf16Order>(
+fn write_next<E: Utf16Order>(
     text: &[u8],
     out: &mut [u8],
     read: usize,
@@ -94,14 +94,14 @@ fn put_next<E: Utf16Order>(
     ensures advances { read < result.0 }
 {
     if are_below(u8x16::from_slice(&text[read..]), 0xF0) {
-        return put_well_formed::<E, 3, 16>(text, out, read, written);
+        return write_well_formed::<E, 3, 16>(text, out, read, written);
     }
-    put_well_formed::<E, 4, 16>(text, out, read, written)
+    write_well_formed::<E, 4, 16>(text, out, read, written)
 }
 
 // Writes a text of fewer bytes than a block at `at`, and returns where it ends.
 #[inline(always)]
-fn put_last<E: Utf16Order>(text: &[u8], out: &mut [u8], at: usize) -> usize
+fn write_last_bytes<E: Utf16Order>(text: &[u8], out: &mut [u8], at: usize) -> usize
     requires well_formed { IsUtf8 text.now }
     requires few { length text.now < BLOCK_LEN }
     requires space { at + 2 * length text.now + SLACK ≤ length out.old }
@@ -109,8 +109,8 @@ fn put_last<E: Utf16Order>(text: &[u8], out: &mut [u8], at: usize) -> usize
     ensures written_to { result ≤ at + 2 * length text.now }
 {
     if text.len() < 8 {
-        put_bytes::<E>(text, out, at)
+        write_bytes::<E>(text, out, at)
     } else {
-        put_short::<E>(text, out, at)
+        write_short::<E>(text, out, at)
     }
 }

@@ -18,7 +18,7 @@ use utf16_units::Utf16Order;
 
 // Writes the next characters of three bytes, sixteen at a time.
 #[inline(always)]
-pub(crate) fn put_threes<E: Utf16Order>(
+pub(crate) fn write_threes<E: Utf16Order>(
     bytes: &[u8],
     out: &mut [u8],
     from: usize,
@@ -39,7 +39,7 @@ pub(crate) fn put_threes<E: Utf16Order>(
         if !are_characters(firsts, seconds, thirds) {
             break;
         }
-        written = put_sixteen::<E>(out, written, firsts, seconds, thirds);
+        written = write_sixteen::<E>(out, written, firsts, seconds, thirds);
         read += 48;
     }
     (read, written)
@@ -141,7 +141,7 @@ fn are_sixteen(firsts: u8x16, seconds: u8x16, thirds: u8x16) -> bool
 
 // Writes sixteen characters of three bytes.
 #[inline(always)]
-fn put_sixteen<E: Utf16Order>(
+fn write_sixteen<E: Utf16Order>(
     out: &mut [u8],
     at: usize,
     firsts: u8x16,

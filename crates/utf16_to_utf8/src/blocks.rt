@@ -219,7 +219,7 @@ pub(crate) fn are_of(units: u16x32, kind: Kind) -> bool
 
 // Writes the UTF-8 that a block of a kind adds.
 #[inline(always)]
-pub(crate) fn put_block(
+pub(crate) fn write_block(
     out: &mut [u8],
     at: usize,
     previous: u16x8,
@@ -234,18 +234,18 @@ pub(crate) fn put_block(
     ensures ascii { kind ≡ Ascii → result ≤ at + 32 }
 {
     match kind {
-        Kind::Ascii => put_ascii(out, at, units),
-        Kind::Letters => put_groups::<LettersWriter>(out, at, previous, units),
-        Kind::Pairs => put_groups::<PairsWriter>(out, at, previous, units),
-        Kind::Wide => put_groups::<WideWriter>(out, at, previous, units),
-        Kind::Basic => put_groups::<BasicWriter>(out, at, previous, units),
-        Kind::Mixed => put_groups::<MixedWriter>(out, at, previous, units),
+        Kind::Ascii => write_ascii(out, at, units),
+        Kind::Letters => write_groups::<LettersWriter>(out, at, previous, units),
+        Kind::Pairs => write_groups::<PairsWriter>(out, at, previous, units),
+        Kind::Wide => write_groups::<WideWriter>(out, at, previous, units),
+        Kind::Basic => write_groups::<BasicWriter>(out, at, previous, units),
+        Kind::Mixed => write_groups::<MixedWriter>(out, at, previous, units),
     }
 }
 
 // Writes the low byte of each unit of a block.
 #[inline(always)]
-fn put_ascii(out: &mut [u8], at: usize, units: u16x32) -> usize
+fn write_ascii(out: &mut [u8], at: usize, units: u16x32) -> usize
     requires space { at + 32 ≤ length out.old }
     requires ascii { AreOfKind Ascii units }
     ensures bytes { (before : ℕ) → take result out.new ≡ take at out.old
@@ -274,7 +274,7 @@ pub(crate) fn eights(units: u16x32) -> (u16x8, u16x8, u16x8, u16x8)
 
 // Writes the UTF-8 that a block adds, group by group.
 #[inline]
-fn put_groups<W: Writer>(out: &mut [u8], at: usize, previous: u16x8, units: u16x32) -> usize
+fn write_groups<W: Writer>(out: &mut [u8], at: usize, previous: u16x8, units: u16x32) -> usize
     requires space { at + 104 ≤ length out.old }
     requires kind { AreOfKind W.KIND units }
     ensures bytes { take result out.new ≡ take at out.old ++ units_utf8 (slice_index previous 7)
@@ -282,8 +282,8 @@ fn put_groups<W: Writer>(out: &mut [u8], at: usize, previous: u16x8, units: u16x
     ensures written_to { result ≤ at + 96 }
 {
     let (first, second, third, fourth) = eights(units);
-    let one = W::put_group(out, at, previous, first);
-    let two = W::put_group(out, one, first, second);
-    let three = W::put_group(out, two, second, third);
-    W::put_group(out, three, third, fourth)
+    let one = W::write_group(out, at, previous, first);
+    let two = W::write_group(out, one, first, second);
+    let three = W::write_group(out, two, second, third);
+    W::write_group(out, three, third, fourth)
 }

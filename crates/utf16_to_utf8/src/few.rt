@@ -11,7 +11,7 @@ ghost use Rattle.utf16_to_utf8.specs.declared.blocks.Kind.TheVariants.{Ascii};
 
 use crate::blocks::{lanes_below, lanes_from};
 use crate::lanes::{each, smaller, sum};
-use crate::pack::{put_any, put_narrow, put_wide};
+use crate::pack::{write_any, write_narrow, write_wide};
 use crate::padded::{moved_front, units8};
 use crate::runs::Cursor;
 use crate::write::SLACK;
@@ -44,13 +44,13 @@ pub fn write_eight_ascii<E: Utf16Order>(raw: &[u8], to: &mut [u8]) -> bool
     if !lanes_below(units, 0x80) {
         return false;
     }
-    put_ascii_eight(&mut to[..8], 0, units);
+    write_ascii_units(&mut to[..8], 0, units);
     true
 }
 
 // Writes the low byte of each of eight units.
 #[inline(always)]
-fn put_ascii_eight(out: &mut [u8], at: usize, units: u16x8) -> usize
+fn write_ascii_units(out: &mut [u8], at: usize, units: u16x8) -> usize
     requires space { at + 8 ≤ length out.old }
     requires ascii { AreOfKind Ascii units }
     ensures bytes { (before : ℕ) → take result out.new ≡ take at out.old
@@ -71,7 +71,7 @@ fn folded_eight(units: u16x8) -> u16x8
 
 // Writes the UTF-8 of eight units.
 #[inline(always)]
-fn put_eight_units(out: &mut [u8], at: usize, previous: u16x8, units: u16x8) -> usize
+fn write_eight_units(out: &mut [u8], at: usize, previous: u16x8, units: u16x8) -> usize
     requires space { at + 32 ≤ length out.old }
     ensures bytes { take result out.new ≡ take at out.old ++ units_utf8 (slice_index previous 7)
         units }
@@ -79,21 +79,21 @@ fn put_eight_units(out: &mut [u8], at: usize, previous: u16x8, units: u16x8) -> 
 {
     let folded = folded_eight(units);
     if lanes_below(units, 0x80) {
-        put_ascii_eight(out, at, units)
+        write_ascii_units(out, at, units)
     } else if lanes_below(units, 0x800) {
-        put_narrow(out, at, previous, units, false)
+        write_narrow(out, at, previous, units, false)
     } else if lanes_from(folded, 0x800) {
-        put_wide(out, at, units)
+        write_wide(out, at, units)
     } else if lanes_below(folded, 0x800) {
-        put_narrow(out, at, previous, units, true)
+        write_narrow(out, at, previous, units, true)
     } else {
-        put_any(out, at, previous, units, true)
+        write_any(out, at, previous, units, true)
     }
 }
 
 // Writes the next eight units.
 #[inline(always)]
-pub(crate) fn put_next_eight<E: Utf16Order>(raw: &[u8], out: &mut [u8], from: Cursor) -> Cursor
+pub(crate) fn write_next_eight<E: Utf16Order>(raw: &[u8], out: &mut [u8], from: Cursor) -> Cursor
     requires space { length raw.now / 2 * 3 + SLACK ≤ length out.old }
     requires more { from.at + 16 ≤ length raw.now }
     requires reached { Reached E.BIG raw.now out.old from }
@@ -101,7 +101,7 @@ pub(crate) fn put_next_eight<E: Utf16Order>(raw: &[u8], out: &mut [u8], from: Cu
     ensures at { result.at ≡ from.at + 16 }
 {
     let units = units8::<E>(u8x16::from_slice(&raw[from.at..]));
-    let end = put_eight_units(out, from.end, from.previous, units);
+    let end = write_eight_units(out, from.end, from.previous, units);
     Cursor {
         at: from.at + 16,
         end,
@@ -112,7 +112,7 @@ pub(crate) fn put_next_eight<E: Utf16Order>(raw: &[u8], out: &mut [u8], from: Cu
 // Writes the UTF-8 of at most eight units, whose bytes are padded with zeros: each zero unit adds a
 // byte, which is taken back.
 #[inline(always)]
-pub(crate) fn put_padded<E: Utf16Order>(
+pub(crate) fn write_padded<E: Utf16Order>(
     padded: u8x16,
     len: usize,
     out: &mut [u8],
@@ -127,13 +127,13 @@ pub(crate) fn put_padded<E: Utf16Order>(
         (units_of E.BIG (take len padded)) }
     ensures written_to { result ≤ at + 24 }
 {
-    let end = put_eight_units(out, at, previous, units8::<E>(padded));
+    let end = write_eight_units(out, at, previous, units8::<E>(padded));
     end - (8 - len / 2)
 }
 
 // Writes the last units of a text, which are fewer than eight.
 #[inline(always)]
-pub(crate) fn put_last_units<E: Utf16Order>(raw: &[u8], out: &mut [u8], from: Cursor) -> usize
+pub(crate) fn write_last_units<E: Utf16Order>(raw: &[u8], out: &mut [u8], from: Cursor) -> usize
     requires even { length raw.now % 2 ≡ 0 }
     requires many { 16 ≤ length raw.now }
     requires few { length raw.now ≤ from.at + 16 }
@@ -144,5 +144,5 @@ pub(crate) fn put_last_units<E: Utf16Order>(raw: &[u8], out: &mut [u8], from: Cu
 {
     let len = raw.len() - from.at;
     let last = u8x16::from_slice(&raw[raw.len() - 16..]);
-    put_padded::<E>(moved_front(last, len), len, out, from.end, from.previous)
+    write_padded::<E>(moved_front(last, len), len, out, from.end, from.previous)
 }

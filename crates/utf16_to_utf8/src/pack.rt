@@ -23,7 +23,7 @@ fn lane_bytes(lanes: u16x8) -> u8x16
 
 // Writes sixteen bytes, two per unit, without the second byte of units with a bit in `one`.
 #[inline(always)]
-fn put_eight(out: &mut [u8], at: usize, pairs: u8x16, one: usize) -> usize
+fn write_eight(out: &mut [u8], at: usize, pairs: u8x16, one: usize) -> usize
     requires space { at + 16 ≤ length out.old }
     requires bound { one < 256 }
     ensures bytes { (flags : List Bool) → length flags ≡ 8 → one ≡ mask_l flags
@@ -46,7 +46,7 @@ fn ascii_bits(units: u16x8) -> usize
 
 // Writes the UTF-8 of eight units that add at most two bytes each.
 #[inline(always)]
-pub(crate) fn put_narrow(
+pub(crate) fn write_narrow(
     out: &mut [u8],
     at: usize,
     previous: u16x8,
@@ -62,7 +62,7 @@ pub(crate) fn put_narrow(
     ensures written_to { result ≤ at + 16 }
 {
     let pairs = lane_bytes(narrow(previous_lanes(previous, units), units, surrogates));
-    put_eight(out, at, pairs, ascii_bits(units))
+    write_eight(out, at, pairs, ascii_bits(units))
 }
 
 // The first sixteen bytes of eight units that add three bytes each, from the first two bytes of
@@ -87,7 +87,7 @@ fn last_threes(fronts: u8x16, thirds: u8x16) -> u8x8
 
 // Writes the UTF-8 of eight units that add three bytes each.
 #[inline(always)]
-pub(crate) fn put_wide(out: &mut [u8], at: usize, units: u16x8) -> usize
+pub(crate) fn write_wide(out: &mut [u8], at: usize, units: u16x8) -> usize
     requires space { at + 24 ≤ length out.old }
     requires wide { (i : ℕ) → i < 8 → added_len (slice_index units i) ≡ 3 }
     ensures bytes { (before : ℕ) → take result out.new ≡ take at out.old
@@ -136,7 +136,7 @@ fn upper_bits(bytes: u8x16) -> usize
 // Writes the first three bytes of four words of four, but for those that `absent` leaves out: its
 // two bits for each word are for the second byte and for the third.
 #[inline(always)]
-fn put_words(out: &mut [u8], at: usize, words: u8x16, absent: usize) -> usize
+fn write_words(out: &mut [u8], at: usize, words: u8x16, absent: usize) -> usize
     requires space { at + 16 ≤ length out.old }
     requires bound { absent < 256 }
     ensures bytes { (flags : List Bool) → length flags ≡ 8 → absent ≡ mask_l flags
@@ -150,7 +150,7 @@ fn put_words(out: &mut [u8], at: usize, words: u8x16, absent: usize) -> usize
 
 // Writes the UTF-8 of any eight units.
 #[inline(always)]
-pub(crate) fn put_any(
+pub(crate) fn write_any(
     out: &mut [u8],
     at: usize,
     previous: u16x8,
@@ -168,6 +168,6 @@ pub(crate) fn put_any(
     let fronts = lane_bytes(fronts(preceding, units, surrogates));
     let thirds = lane_bytes(thirds(units));
     let absent = upper_bits(lane_bytes(absences(units, surrogates)));
-    let end = put_words(out, at, low_words(fronts, thirds), absent % 256);
-    put_words(out, end, high_words(fronts, thirds), absent / 256)
+    let end = write_words(out, at, low_words(fronts, thirds), absent % 256);
+    write_words(out, end, high_words(fronts, thirds), absent / 256)
 }

@@ -8,7 +8,7 @@ ghost use Rattle.utf16_to_utf8.specs.Block.{AreOfKind};
 ghost use Rattle.utf16_to_utf8.specs.Cursor.{Advanced, Reached};
 ghost use Rattle.utf16_to_utf8.specs.declared.blocks.Kind.TheVariants.{Ascii, Basic};
 
-use crate::blocks::{Kind, are_both_ascii, are_of, eights, is_plain, kind_of, paired, put_block};
+use crate::blocks::{Kind, are_both_ascii, are_of, eights, is_plain, kind_of, paired, write_block};
 use crate::write::SLACK;
 use std::simd::prelude::*;
 use utf16_units::Utf16Order;
@@ -36,7 +36,7 @@ fn next_units<E: Utf16Order>(raw: &[u8], at: usize) -> u16x32
 // Writes the next block, and if it is ASCII, wide or of pairs also the blocks of its kind that
 // follow it.
 #[inline(always)]
-pub(crate) fn put_next<E: Utf16Order>(raw: &[u8], out: &mut [u8], from: Cursor) -> Cursor
+pub(crate) fn write_next<E: Utf16Order>(raw: &[u8], out: &mut [u8], from: Cursor) -> Cursor
     requires space { length raw.now / 2 * 3 + SLACK ≤ length out.old }
     requires more { from.at + 64 ≤ length raw.now }
     requires reached { Reached E.BIG raw.now out.old from }
@@ -44,7 +44,7 @@ pub(crate) fn put_next<E: Utf16Order>(raw: &[u8], out: &mut [u8], from: Cursor) 
     ensures advances { from.at < result.at }
 {
     let units = next_units::<E>(raw, from.at);
-    put_known::<E, true>(raw, out, from, units, kind_of(units))
+    write_known::<E, true>(raw, out, from, units, kind_of(units))
 }
 
 // How far a text was written that was tested too, and whether the last unit is a leading surrogate,
@@ -57,7 +57,7 @@ pub(crate) struct Tested {
 
 // Writes the blocks at the start whose surrogates are paired, as far as they fit.
 #[inline(never)]
-pub(crate) fn put_paired<E: Utf16Order>(raw: &[u8], out: &mut [u8]) -> Tested
+pub(crate) fn write_paired<E: Utf16Order>(raw: &[u8], out: &mut [u8]) -> Tested
     ensures reached { Reached E.BIG raw.now out.new result.cursor }
     ensures paired { PairedTo E.BIG raw.now result.cursor.at result.leading }
     ensures stop { BlocksStopAt 64 E.BIG raw.now result.cursor.at result.leading
@@ -74,13 +74,13 @@ pub(crate) fn put_paired<E: Utf16Order>(raw: &[u8], out: &mut [u8]) -> Tested
     }
     while cursor.at <= raw.len() - 64 {
         if !leading {
-            cursor = put_plain::<E>(raw, out, cursor);
+            cursor = write_plain::<E>(raw, out, cursor);
         }
         if cursor.at > raw.len() - 64 || cursor.end > out.len() - SLACK {
             break;
         }
         let units = next_units::<E>(raw, cursor.at);
-        let Some(next) = put_surrogates::<E>(raw, out, Tested { cursor, leading }, units) else {
+        let Some(next) = write_surrogates::<E>(raw, out, Tested { cursor, leading }, units) else {
             break;
         };
         cursor = next.cursor;
@@ -91,7 +91,7 @@ pub(crate) fn put_paired<E: Utf16Order>(raw: &[u8], out: &mut [u8]) -> Tested
 
 // Writes the next blocks that have no surrogate, as far as they fit.
 #[inline(always)]
-fn put_plain<E: Utf16Order>(raw: &[u8], out: &mut [u8], from: Cursor) -> Cursor
+fn write_plain<E: Utf16Order>(raw: &[u8], out: &mut [u8], from: Cursor) -> Cursor
     requires many { 64 ≤ length raw.now }
     requires space { SLACK ≤ length out.old }
     requires reached { Reached E.BIG raw.now out.old from }
@@ -109,7 +109,7 @@ fn put_plain<E: Utf16Order>(raw: &[u8], out: &mut [u8], from: Cursor) -> Cursor
         if !is_plain(kind) {
             break;
         }
-        cursor = put_known::<E, false>(raw, out, cursor, units, kind);
+        cursor = write_known::<E, false>(raw, out, cursor, units, kind);
     }
     cursor
 }
@@ -117,7 +117,7 @@ fn put_plain<E: Utf16Order>(raw: &[u8], out: &mut [u8], from: Cursor) -> Cursor
 // Writes the next block if its surrogates are paired, and if it has pairs and letters alone also
 // the blocks of these that follow it, as far as they fit.
 #[inline(always)]
-fn put_surrogates<E: Utf16Order>(
+fn write_surrogates<E: Utf16Order>(
     raw: &[u8],
     out: &mut [u8],
     from: Tested,
@@ -136,10 +136,10 @@ fn put_surrogates<E: Utf16Order>(
 {
     let leading = paired(units, from.leading)?;
     if !are_of(units, Kind::Pairs) {
-        let cursor = put_units::<E>(raw, out, from.cursor, units, Kind::Mixed);
+        let cursor = write_block_units::<E>(raw, out, from.cursor, units, Kind::Mixed);
         return Some(Tested { cursor, leading });
     }
-    let cursor = put_units::<E>(raw, out, from.cursor, units, Kind::Pairs);
+    let cursor = write_block_units::<E>(raw, out, from.cursor, units, Kind::Pairs);
     let mut done = Tested { cursor, leading };
     while done.cursor.at <= raw.len() - 64 {
         if done.cursor.end > out.len() - SLACK {
@@ -152,7 +152,7 @@ fn put_surrogates<E: Utf16Order>(
         let Some(leading) = paired(units, done.leading) else {
             break;
         };
-        let cursor = put_units::<E>(raw, out, done.cursor, units, Kind::Pairs);
+        let cursor = write_block_units::<E>(raw, out, done.cursor, units, Kind::Pairs);
         done = Tested { cursor, leading };
     }
     Some(done)
@@ -162,7 +162,7 @@ fn put_surrogates<E: Utf16Order>(
 // also the blocks of its kind that follow it and fit. A function for each caller, so that it is
 // compiled into both.
 #[inline(always)]
-fn put_known<E: Utf16Order, const PAIRS: bool>(
+fn write_known<E: Utf16Order, const PAIRS: bool>(
     raw: &[u8],
     out: &mut [u8],
     from: Cursor,
@@ -177,11 +177,11 @@ fn put_known<E: Utf16Order, const PAIRS: bool>(
     ensures advanced { Advanced E.BIG kind raw.now out.new from result }
     ensures some { from.at < result.at }
 {
-    let next = put_units::<E>(raw, out, from, units, kind);
+    let next = write_block_units::<E>(raw, out, from, units, kind);
     match kind {
-        Kind::Ascii => put_ascii_run::<E>(raw, out, next),
-        Kind::Wide => put_run::<E>(raw, out, next, Kind::Wide),
-        Kind::Pairs if PAIRS => put_run::<E>(raw, out, next, Kind::Pairs),
+        Kind::Ascii => write_ascii_run::<E>(raw, out, next),
+        Kind::Wide => write_run::<E>(raw, out, next, Kind::Wide),
+        Kind::Pairs if PAIRS => write_run::<E>(raw, out, next, Kind::Pairs),
         Kind::Letters | Kind::Basic | Kind::Pairs | Kind::Mixed => next,
     }
 }
@@ -189,7 +189,7 @@ fn put_known<E: Utf16Order, const PAIRS: bool>(
 // Writes the ASCII blocks from the cursor on that fit: the first alone, and those after it two at a
 // time.
 #[inline(always)]
-fn put_ascii_run<E: Utf16Order>(raw: &[u8], out: &mut [u8], from: Cursor) -> Cursor
+fn write_ascii_run<E: Utf16Order>(raw: &[u8], out: &mut [u8], from: Cursor) -> Cursor
     requires many { 64 ≤ length raw.now }
     requires space { SLACK ≤ length out.old }
     requires reached { Reached E.BIG raw.now out.old from }
@@ -206,15 +206,15 @@ fn put_ascii_run<E: Utf16Order>(raw: &[u8], out: &mut [u8], from: Cursor) -> Cur
         if !are_of(units, Kind::Ascii) {
             break;
         }
-        let next = put_units::<E>(raw, out, cursor, units, Kind::Ascii);
-        cursor = put_ascii_pairs::<E>(raw, out, next);
+        let next = write_block_units::<E>(raw, out, cursor, units, Kind::Ascii);
+        cursor = write_ascii_pairs::<E>(raw, out, next);
     }
     cursor
 }
 
 // Writes the ASCII blocks from the cursor on that fit, two at a time.
 #[inline(always)]
-fn put_ascii_pairs<E: Utf16Order>(raw: &[u8], out: &mut [u8], from: Cursor) -> Cursor
+fn write_ascii_pairs<E: Utf16Order>(raw: &[u8], out: &mut [u8], from: Cursor) -> Cursor
     requires reached { Reached E.BIG raw.now out.old from }
     ensures advanced { Advanced E.BIG Ascii raw.now out.new from result }
 {
@@ -232,15 +232,15 @@ fn put_ascii_pairs<E: Utf16Order>(raw: &[u8], out: &mut [u8], from: Cursor) -> C
         if !are_both_ascii(first, second) {
             break;
         }
-        let next = put_units::<E>(raw, out, cursor, first, Kind::Ascii);
-        cursor = put_units::<E>(raw, out, next, second, Kind::Ascii);
+        let next = write_block_units::<E>(raw, out, cursor, first, Kind::Ascii);
+        cursor = write_block_units::<E>(raw, out, next, second, Kind::Ascii);
     }
     cursor
 }
 
 // Writes the blocks of a kind from the cursor on that fit.
 #[inline(always)]
-fn put_run<E: Utf16Order>(raw: &[u8], out: &mut [u8], from: Cursor, kind: Kind) -> Cursor
+fn write_run<E: Utf16Order>(raw: &[u8], out: &mut [u8], from: Cursor, kind: Kind) -> Cursor
     requires many { 64 ≤ length raw.now }
     requires space { SLACK ≤ length out.old }
     requires reached { Reached E.BIG raw.now out.old from }
@@ -257,14 +257,14 @@ fn put_run<E: Utf16Order>(raw: &[u8], out: &mut [u8], from: Cursor, kind: Kind) 
         if !are_of(units, kind) {
             break;
         }
-        cursor = put_units::<E>(raw, out, cursor, units, kind);
+        cursor = write_block_units::<E>(raw, out, cursor, units, kind);
     }
     cursor
 }
 
 // Writes the next block, which is of a kind.
 #[inline(always)]
-fn put_units<E: Utf16Order>(
+fn write_block_units<E: Utf16Order>(
     raw: &[u8],
     out: &mut [u8],
     from: Cursor,
@@ -283,7 +283,7 @@ fn put_units<E: Utf16Order>(
     ensures pairs { (before after : Bool) → PairedTo E.BIG raw.now from.at before
         → Paired before units after → PairedTo E.BIG raw.now result.at after }
 {
-    let end = put_block(out, from.end, from.previous, units, kind);
+    let end = write_block(out, from.end, from.previous, units, kind);
     Cursor {
         at: from.at + 64,
         end,

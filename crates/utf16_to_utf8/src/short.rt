@@ -8,7 +8,7 @@ use utf16_units::{Utf16Order, is_leading_surrogate, is_trailing_surrogate};
 
 // Writes the UTF-8 that the units add after the unit `previous`.
 #[inline(always)]
-pub(crate) fn put_each<E: Utf16Order>(raw: &[u8], out: &mut [u8], at: usize, previous: u16) -> usize
+pub(crate) fn write_each<E: Utf16Order>(raw: &[u8], out: &mut [u8], at: usize, previous: u16) -> usize
     requires even { length raw.now % 2 ≡ 0 }
     requires space { at + length raw.now / 2 * 3 ≤ length out.old }
     ensures bytes { take result out.new ≡ take at out.old ++ units_utf8 previous
@@ -20,7 +20,7 @@ pub(crate) fn put_each<E: Utf16Order>(raw: &[u8], out: &mut [u8], at: usize, pre
     let mut before = previous;
     while read < raw.len() {
         let unit = E::read_unit([raw[read], raw[read + 1]]);
-        end = put_unit(out, end, before, unit);
+        end = write_unit(out, end, before, unit);
         before = unit;
         read += 2;
     }
@@ -29,34 +29,34 @@ pub(crate) fn put_each<E: Utf16Order>(raw: &[u8], out: &mut [u8], at: usize, pre
 
 // Writes what a unit adds after the unit `before` it, one to three bytes.
 #[inline(always)]
-fn put_unit(out: &mut [u8], at: usize, before: u16, unit: u16) -> usize
+fn write_unit(out: &mut [u8], at: usize, before: u16, unit: u16) -> usize
     requires space { at + 3 ≤ length out.old }
     ensures bytes { take result out.new ≡ take at out.old ++ unit_utf8 before unit }
     ensures written_to { result ≤ at + 3 }
 {
     if unit < 0x80 {
-        put_one(out, at, unit)
+        write_one(out, at, unit)
     } else if unit < 0x800 {
-        put_two(out, at, 0xC0 + unit / 64, unit)
+        write_two(out, at, 0xC0 + unit / 64, unit)
     } else if is_leading_surrogate(unit) {
         let bits = unit - 0xD7C0;
-        put_two(out, at, 0xF0 + bits / 256, bits / 4)
+        write_two(out, at, 0xF0 + bits / 256, bits / 4)
     } else if is_trailing_surrogate(unit) {
-        put_two(
+        write_two(
             out,
             at,
             0x80 + (before % 4 * 16 + unit % 1024 / 64) % 64,
             unit,
         )
     } else {
-        let next = put_one(out, at, 0xE0 + unit / 4096);
-        put_two(out, next, 0x80 + unit / 64 % 64, unit)
+        let next = write_one(out, at, 0xE0 + unit / 4096);
+        write_two(out, next, 0x80 + unit / 64 % 64, unit)
     }
 }
 
 // Writes a byte.
 #[inline(always)]
-fn put_one(out: &mut [u8], at: usize, byte: u16) -> usize
+fn write_one(out: &mut [u8], at: usize, byte: u16) -> usize
     requires space { at + 1 ≤ length out.old }
     requires bound { byte < 256 }
     ensures bytes { take result out.new ≡ take at out.old ++ byte ∷ [] }
@@ -68,7 +68,7 @@ fn put_one(out: &mut [u8], at: usize, byte: u16) -> usize
 
 // Writes a byte and a continuation byte with the low six bits of `bits`.
 #[inline(always)]
-fn put_two(out: &mut [u8], at: usize, first: u16, bits: u16) -> usize
+fn write_two(out: &mut [u8], at: usize, first: u16, bits: u16) -> usize
     requires space { at + 2 ≤ length out.old }
     requires bound { first < 256 }
     ensures bytes { take result out.new ≡ take at out.old ++ first ∷ continuation bits ∷ [] }

@@ -6,10 +6,10 @@ ghost use Rattle.utf16_units.specs.Lanes.{BlocksStopAt, PairedTo};
 ghost use Rattle.utf16_to_utf8.specs.Utf8.{units_utf8};
 ghost use Rattle.utf16_to_utf8.specs.Cursor.{Reached};
 
-use crate::few::{put_last_units, put_next_eight, put_padded};
+use crate::few::{write_last_units, write_next_eight, write_padded};
 use crate::padded::few_bytes;
-use crate::runs::{Cursor, Tested, put_next, put_paired};
-use crate::short::put_each;
+use crate::runs::{Cursor, Tested, write_next, write_paired};
+use crate::short::write_each;
 use std::simd::prelude::*;
 use utf16_units::Utf16Order;
 
@@ -65,7 +65,7 @@ pub fn write_blocks<E: Utf16Order>(raw: &[u8], to: &mut [u8]) -> (usize, usize)
 {
     let room = to.len().min(raw.len() / 2 * 3 + SLACK);
     let out = &mut to[..room];
-    let done = put_paired::<E>(raw, out);
+    let done = write_paired::<E>(raw, out);
     whole_chars::<E>(raw, out, done)
 }
 
@@ -99,10 +99,10 @@ fn write_units<E: Utf16Order>(raw: &[u8], out: &mut [u8]) -> usize
     ensures written_to { result ≤ length out.old }
 {
     if raw.len() < 8 {
-        return put_each::<E>(raw, out, 0, 0);
+        return write_each::<E>(raw, out, 0, 0);
     }
     if raw.len() < 16 {
-        return put_padded::<E>(few_bytes(raw), raw.len(), out, 0, u16x8::splat(0));
+        return write_padded::<E>(few_bytes(raw), raw.len(), out, 0, u16x8::splat(0));
     }
     write_many::<E>(raw, out)
 }
@@ -122,17 +122,17 @@ fn write_many<E: Utf16Order>(raw: &[u8], out: &mut [u8]) -> usize
         previous: u16x8::splat(0),
     };
     while raw.len() - cursor.at >= 64 {
-        cursor = put_next::<E>(raw, out, cursor);
+        cursor = write_next::<E>(raw, out, cursor);
     }
     if cursor.at == raw.len() {
         return cursor.end;
     }
-    put_rest::<E>(raw, out, cursor)
+    write_rest::<E>(raw, out, cursor)
 }
 
 // Writes the units after the last block, eight at a time.
 #[inline(always)]
-fn put_rest<E: Utf16Order>(raw: &[u8], out: &mut [u8], from: Cursor) -> usize
+fn write_rest<E: Utf16Order>(raw: &[u8], out: &mut [u8], from: Cursor) -> usize
     requires even { length raw.now % 2 ≡ 0 }
     requires many { 16 ≤ length raw.now }
     requires space { length raw.now / 2 * 3 + SLACK ≤ length out.old }
@@ -142,10 +142,10 @@ fn put_rest<E: Utf16Order>(raw: &[u8], out: &mut [u8], from: Cursor) -> usize
 {
     let mut cursor = from;
     while raw.len() - cursor.at >= 16 {
-        cursor = put_next_eight::<E>(raw, out, cursor);
+        cursor = write_next_eight::<E>(raw, out, cursor);
     }
     if cursor.at == raw.len() {
         return cursor.end;
     }
-    put_last_units::<E>(raw, out, cursor)
+    write_last_units::<E>(raw, out, cursor)
 }

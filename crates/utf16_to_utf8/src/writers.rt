@@ -6,7 +6,7 @@ ghost use Rattle.utf16_to_utf8.specs.Utf8.{units_utf8};
 ghost use Rattle.utf16_to_utf8.specs.declared.blocks.Kind.{Kind};
 ghost use Rattle.utf16_to_utf8.specs.declared.blocks.Kind.TheVariants.{Basic, Letters, Mixed, Pairs, Wide};
 
-use crate::pack::{put_any, put_narrow, put_wide};
+use crate::pack::{write_any, write_narrow, write_wide};
 use std::simd::prelude::*;
 
 // Writes groups of eight units of one kind.
@@ -14,7 +14,7 @@ pub(crate) trait Writer {
     ghost KIND: { Kind };
 
     // Writes the UTF-8 that a group adds.
-    fn put_group(out: &mut [u8], at: usize, previous: u16x8, units: u16x8) -> usize
+    fn write_group(out: &mut [u8], at: usize, previous: u16x8, units: u16x8) -> usize
         requires space { at + 32 ≤ length out.old }
         requires kind { AreOfKind KIND units }
         ensures bytes { take result out.new ≡ take at out.old ++ units_utf8 (slice_index previous 7)
@@ -28,8 +28,8 @@ impl Writer for LettersWriter {
     ghost KIND = { Letters };
 
     #[inline(always)]
-    fn put_group(out: &mut [u8], at: usize, previous: u16x8, units: u16x8) -> usize {
-        put_narrow(out, at, previous, units, false)
+    fn write_group(out: &mut [u8], at: usize, previous: u16x8, units: u16x8) -> usize {
+        write_narrow(out, at, previous, units, false)
     }
 }
 
@@ -39,8 +39,8 @@ impl Writer for PairsWriter {
     ghost KIND = { Pairs };
 
     #[inline(always)]
-    fn put_group(out: &mut [u8], at: usize, previous: u16x8, units: u16x8) -> usize {
-        put_narrow(out, at, previous, units, true)
+    fn write_group(out: &mut [u8], at: usize, previous: u16x8, units: u16x8) -> usize {
+        write_narrow(out, at, previous, units, true)
     }
 }
 
@@ -50,8 +50,8 @@ impl Writer for WideWriter {
     ghost KIND = { Wide };
 
     #[inline(always)]
-    fn put_group(out: &mut [u8], at: usize, _previous: u16x8, units: u16x8) -> usize {
-        put_wide(out, at, units)
+    fn write_group(out: &mut [u8], at: usize, _previous: u16x8, units: u16x8) -> usize {
+        write_wide(out, at, units)
     }
 }
 
@@ -61,8 +61,8 @@ impl Writer for BasicWriter {
     ghost KIND = { Basic };
 
     #[inline(always)]
-    fn put_group(out: &mut [u8], at: usize, previous: u16x8, units: u16x8) -> usize {
-        put_any(out, at, previous, units, false)
+    fn write_group(out: &mut [u8], at: usize, previous: u16x8, units: u16x8) -> usize {
+        write_any(out, at, previous, units, false)
     }
 }
 
@@ -72,7 +72,7 @@ impl Writer for MixedWriter {
     ghost KIND = { Mixed };
 
     #[inline(always)]
-    fn put_group(out: &mut [u8], at: usize, previous: u16x8, units: u16x8) -> usize {
-        put_any(out, at, previous, units, true)
+    fn write_group(out: &mut [u8], at: usize, previous: u16x8, units: u16x8) -> usize {
+        write_any(out, at, previous, units, true)
     }
 }

@@ -55,14 +55,14 @@ impl<E: Utf16Order> Transcoder for Encoder<E> {
             return 0;
         }
         self.bom_due = false;
-        put_bom::<E>(to, len)
+        write_bom::<E>(to, len)
     }
 
     fn finish_to(self, to: &mut [u8]) -> usize {
         let mut stream = self.stream;
         let len = finish_utf8::<E>(&mut stream, to).written;
         if self.bom_due {
-            put_bom::<E>(to, len)
+            write_bom::<E>(to, len)
         } else {
             len
         }
@@ -90,7 +90,7 @@ fn feed<E: Utf16Order>(stream: &mut Stream, piece: &[u8], to: &mut [u8]) -> usiz
 
 // Inserts a BOM before the first `len` bytes of a buffer, unless they begin with one, and returns
 // the length with it.
-fn put_bom<E: Utf16Order>(to: &mut [u8], len: usize) -> usize
+fn write_bom<E: Utf16Order>(to: &mut [u8], len: usize) -> usize
     requires { len + 2 ≤ length to.old }
     ensures within { result ≤ length to.new }
     ensures bytes { take result to.new ≡ with_bom E.BIG (take len to.old) }

@@ -141,14 +141,14 @@ fn push_char<E: Utf16Order, A: Allocator>(raw: &mut Vec<u8, A>, ch: char) -> Res
 
 // Appends the bytes of a character to a vector with enough capacity.
 #[inline]
-pub(super) fn put_char<E: Utf16Order, A: Allocator>(raw: &mut Vec<u8, A>, ch: char)
+pub(super) fn write_char<E: Utf16Order, A: Allocator>(raw: &mut Vec<u8, A>, ch: char)
     requires { vec_len raw.old + char_size ch ≤ vec_capacity raw.old }
     ensures items { raw.new.items ≡ raw.old.items ++ char_bytes E.BIG ch }
     ensures capacity { vec_capacity raw.new ≡ vec_capacity raw.old }
 {
     let mut bytes = [0; 4];
     let len = ch.encode_utf16_into::<E>(&mut bytes);
-    put_units(raw, bytes, len);
+    write_units(raw, bytes, len);
 }
 
 // Appends the first two or all four bytes. Where they fit, the capacity stays.
@@ -168,13 +168,13 @@ fn push_units<A: Allocator>(
     ensures grows { vec_capacity raw.old ≤ vec_capacity raw.new }
 {
     reserve_bytes(raw, len)?;
-    put_units(raw, units, len);
+    write_units(raw, units, len);
     Ok(())
 }
 
 // The same to a vector with enough capacity.
 #[inline]
-fn put_units<A: Allocator>(raw: &mut Vec<u8, A>, units: [u8; 4], len: usize)
+fn write_units<A: Allocator>(raw: &mut Vec<u8, A>, units: [u8; 4], len: usize)
     requires width { (len ≡ 2) ⊎ (len ≡ 4) }
     requires fits { vec_len raw.old + len ≤ vec_capacity raw.old }
     ensures items { raw.new.items ≡ raw.old.items ++ take len units }

@@ -5,7 +5,7 @@ ghost use Rattle.std.specs.Str.{chars};
 ghost use Rattle.utf16_units.specs.Edit.{push_text};
 ghost use Rattle.utf16_units.specs.Encoding.{size};
 
-use super::inserts::put_char;
+use super::inserts::write_char;
 use crate::WString;
 use std::alloc::{AllocError, Allocator};
 use utf16_from_utf8::{FEW_TEXT, SHORT_TEXT, SLACK, append_utf16, extend_utf16, write_text};
@@ -49,7 +49,7 @@ impl<E: Utf16Order, A: Allocator> WString<E, A> {
     {
         let mut raw = Vec::with_capacity(alloc, few_len(s))?;
         for c in s.chars() {
-            put_char::<E, A>(&mut raw, c);
+            write_char::<E, A>(&mut raw, c);
         }
         Ok(Self::from_utf16_unchecked(raw))
     }

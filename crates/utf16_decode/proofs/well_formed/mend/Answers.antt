@@ -13,8 +13,8 @@ loop-at-preserved-in-Ok g c =
 
 pub loop-at-preserved : goal.loop-at-preserved
 loop-at-preserved g c =
-    Mended-lone _ _ _ _ _ c.loop-at.invariant _ c.in-Err.field-0 c.are_bytes.ensures (omega (arith, c.loop-at-test.true, c.loop-at.invariant.long)) c.in-Err.ensures.ill_formed c.put_unit.auto.utf16
-    (c.put_unit.ensures.put ∙ ap (λ b. take c.loop-at.at c.loop-at.utf16 ++ b) c.write_unit-replacement.ensures) c.put_unit.ensures.rest
+    Mended-lone _ _ _ _ _ c.loop-at.invariant _ c.in-Err.field-0 c.are_bytes.ensures (omega (arith, c.loop-at-test.true, c.loop-at.invariant.long)) c.in-Err.ensures.ill_formed c.write_unit.auto.utf16
+    (c.write_unit.ensures.put ∙ ap (λ b. take c.loop-at.at c.loop-at.utf16 ++ b) c.write_unit-replacement.ensures) c.write_unit.ensures.rest
 
 pub returns-clause-bytes : goal.returns-clause-bytes
 returns-clause-bytes g c = mended_bytes _ _ _ _ _ c.loop-at.invariant (omega arith)

@@ -11,5 +11,5 @@ returns-clause-decodes g c =
     let text = c.args.text.now in
     let before = DecodesUtf8To-none g.E.Utf16Order.BIG text c.write_some_ascii-ascii.new.to in
     let all : 0 + c.first_item-c.result.1 ≡ c.first_item-c.result.1 = omega arith in
-    subst (λ read. DecodesUtf8To g.E.Utf16Order.BIG text c.put_char.new.to read c.put_char.result) all
-    (DecodesUtf8To-item _ text _ _ 0 0 _ _ _ before c.first_item-c.ensures c.put_char.ensures.within c.put_char.ensures.bytes)
+    subst (λ read. DecodesUtf8To g.E.Utf16Order.BIG text c.write_char.new.to read c.write_char.result) all
+    (DecodesUtf8To-item _ text _ _ 0 0 _ _ _ before c.first_item-c.ensures c.write_char.ensures.within c.write_char.ensures.bytes)

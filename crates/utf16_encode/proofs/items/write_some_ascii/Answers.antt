@@ -17,8 +17,8 @@ returns-then-len-lt-FEW_ASCII-clause-wrote g c = Wrote-none (utf16_empty g.E.Utf
 low : (g : Over) (c : After-low_bits g) → IsAscii c.low_bits.result
 low g c = subst (λ b. IsAscii b) (sym c.low_bits.ensures) (low-ascii (take 16 c.args.text.now))
 
-pub put_ascii-requires-clause-ascii : goal.put_ascii-requires-clause-ascii
-put_ascii-requires-clause-ascii g c i below = low g c i
+pub write_ascii_block-requires-clause-ascii : goal.write_ascii_block-requires-clause-ascii
+write_ascii_block-requires-clause-ascii g c i below = low g c i
 
 pub returns-clause-wrote : goal.returns-clause-wrote
 returns-clause-wrote g c =
@@ -27,10 +27,10 @@ returns-clause-wrote g c =
     let n = c.ascii_len-len.result in
     let ascii = low g (goal.at.returns-clause-wrote g c).After-low_bits in
     let long : length block ≡ 16 = ap length c.low_bits.ensures ∙ length-map (take 16 text) _ ∙ length-take-le 16 text (omega arith) in
-    let end : 2 * length block ≡ c.put_ascii.result = omega (arith, long, c.put_ascii.ensures.written_to) in
+    let end : 2 * length block ≡ c.write_ascii_block.result = omega (arith, long, c.write_ascii_block.ensures.written_to) in
     let front = ap (take n) c.low_bits.ensures ∙ front-low (take 16 text) n (ascii-all _ c.ascii_len-len.ensures.ascii) ∙ take-take n 16 text c.ascii_len-len.ensures.few in
-    wrote-front g.E.Utf16Order.BIG text block c.put_ascii.new.out n (omega (arith, c.ascii_len-len.ensures.few)) front (omega (arith, long, c.ascii_len-len.ensures.few)) ascii (omega (arith, long, c.put_ascii.auto.out))
-    (ap (λ k. take k c.put_ascii.new.out) end ∙ c.put_ascii.ensures.bytes)
+    wrote-front g.E.Utf16Order.BIG text block c.write_ascii_block.new.out n (omega (arith, c.ascii_len-len.ensures.few)) front (omega (arith, long, c.ascii_len-len.ensures.few)) ascii (omega (arith, long, c.write_ascii_block.auto.out))
+    (ap (λ k. take k c.write_ascii_block.new.out) end ∙ c.write_ascii_block.ensures.bytes)
 
 pub returns-clause-most : goal.returns-clause-most
 returns-clause-most g c some few =

@@ -13,7 +13,7 @@ loop-len-init g c = record {
 pub loop-len-preserved : goal.loop-len-preserved
 loop-len-preserved g c =
     let now = c.loop-len.invariant in
-    let next = c.put_char-end in
+    let next = c.write_char-end in
     let low = c.if-bytes-len-lt128.true in
     let two = char_size_two (slice_index c.args.bytes.now c.loop-len.len) (omega (arith, low)) in
     record {

@@ -7,16 +7,16 @@ use Rattle.utf16_to_utf8.proofs.write.write_blocks.Goals as goal
 pub returns-clause-utf8 : goal.returns-clause-utf8
 returns-clause-utf8 g c =
     let whole = c.whole_chars in
-    take-append-le whole.result.1 c.put_paired-done.new.out (drop c.min-room.result c.args.to.now) whole.ensures.fits ∙ whole.ensures.utf8
+    take-append-le whole.result.1 c.write_paired-done.new.out (drop c.min-room.result c.args.to.now) whole.ensures.fits ∙ whole.ensures.utf8
 
 pub returns-clause-len : goal.returns-clause-len
 returns-clause-len g c =
     let whole = c.whole_chars in
-    sym (length-take-le whole.result.1 c.put_paired-done.new.out whole.ensures.fits) ∙ ap length whole.ensures.utf8
+    sym (length-take-le whole.result.1 c.write_paired-done.new.out whole.ensures.fits) ∙ ap length whole.ensures.utf8
 
 pub returns-clause-stop : goal.returns-clause-stop
 returns-clause-stop g c =
-    let done = c.put_paired-done in
+    let done = c.write_paired-done in
     let reached = done.ensures.reached in
     let end = done.result.cursor.end in
     let room = c.min-room.result in
@@ -31,7 +31,7 @@ returns-clause-stop g c =
     c.whole_chars.ensures.stop
 
 pub whole_chars-requires-clause-reached : goal.whole_chars-requires-clause-reached
-whole_chars-requires-clause-reached g c = c.put_paired-done.ensures.reached
+whole_chars-requires-clause-reached g c = c.write_paired-done.ensures.reached
 
 pub whole_chars-requires-clause-stop : goal.whole_chars-requires-clause-stop
-whole_chars-requires-clause-stop g c = c.put_paired-done.ensures.stop
+whole_chars-requires-clause-stop g c = c.write_paired-done.ensures.stop

@@ -1,8 +1,8 @@
 use Rattle.utf16_decode.proofs.WroteLemmas.{enough}
 use Rattle.utf16_decode.proofs.utf8.ToUtf8Direction.write_front.Goals as goal
 
-pub put_ascii_from-requires : goal.put_ascii_from-requires
-put_ascii_from-requires g c =
+pub write_ascii_from-requires : goal.write_ascii_from-requires
+write_ascii_from-requires g c =
     let wrote = c.write_blocks-read in
     record {
       within = wrote.ensures.within;

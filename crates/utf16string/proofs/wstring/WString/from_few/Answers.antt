@@ -19,8 +19,8 @@ returns-in_err-raw-clause-nothing g c none =
 pub loop-c-init : goal.loop-c-init
 loop-c-init g c = record { begins = refl; written = c.in_ok-raw.ensures.items ∙ sym (encode-nil g.E.Utf16Order.BIG); exact = c.in_ok-raw.ensures.exact ∙ c.few_len.ensures }
 
-pub put_char-requires : goal.put_char-requires
-put_char-requires g c =
+pub write_char-requires : goal.write_char-requires
+write_char-requires g c =
     let turn = YieldsList-turn (YieldsList-from_chars c.args.s.now c.utf8.s cc) c.loop-c.yielded _ c.loop-c.yielded_by _ _ c.in-Some.c c.in-Some.is c.next.ensures.steps in
     let more = size-prefix _ _ (prefix-more c.loop-c.yielded (chars c.args.s.now) c.in-Some.c c.loop-c.invariant.begins turn) in
     let done = ap length c.loop-c.invariant.written ∙ length-encode g.E.Utf16Order.BIG c.loop-c.yielded in
@@ -31,8 +31,8 @@ loop-c-preserved g c =
     let turn = YieldsList-turn (YieldsList-from_chars c.args.s.now c.utf8.s cc) c.loop-c.yielded _ c.loop-c.yielded_by _ _ c.in-Some.c c.in-Some.is c.next.ensures.steps in
     record {
       begins = prefix-more c.loop-c.yielded (chars c.args.s.now) c.in-Some.c c.loop-c.invariant.begins turn;
-      written = c.put_char.ensures.items ∙ encode-push g.E.Utf16Order.BIG c.loop-c.raw.items c.loop-c.yielded c.in-Some.c c.loop-c.invariant.written;
-      exact = c.put_char.ensures.capacity ∙ c.loop-c.invariant.exact;
+      written = c.write_char.ensures.items ∙ encode-push g.E.Utf16Order.BIG c.loop-c.raw.items c.loop-c.yielded c.in-Some.c c.loop-c.invariant.written;
+      exact = c.write_char.ensures.capacity ∙ c.loop-c.invariant.exact;
     }
 
 -- all characters were written

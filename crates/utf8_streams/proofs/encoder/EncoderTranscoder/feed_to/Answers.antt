@@ -41,7 +41,7 @@ returns-then-len-eq0-clause-continues g c =
 pub returns-clause-bytes : goal.returns-clause-bytes
 returns-clause-bytes g c =
     let due : c.args.self.now.bom_due ≡ true = search rules in
-    c.put_bom.ensures.bytes ∙ ap (with_bom g.E.Utf16Order.BIG) c.feed-len.ensures.bytes ∙ certain-begun g.E.Utf16Order.BIG c.args.self.now.bom_due (stream_pending c.args.self.now.stream) c.args.piece.now _ c.feed-len.ensures.pending due
+    c.write_bom.ensures.bytes ∙ ap (with_bom g.E.Utf16Order.BIG) c.feed-len.ensures.bytes ∙ certain-begun g.E.Utf16Order.BIG c.args.self.now.bom_due (stream_pending c.args.self.now.stream) c.args.piece.now _ c.feed-len.ensures.pending due
     (λ none. c.if-len-eq0.false (sym (long g (goal.at.returns-clause-bytes g c).After-feed-len) ∙ ap length none))
 
 pub returns-clause-continues : goal.returns-clause-continues

@@ -23,13 +23,13 @@ module _ (g : Over) (c : After-finish_utf8-len g) where
       let done : c.finish_utf8-len.result.stop ≡ Done = c.finish_utf8-len.ensures.done.1 (omega arith) in
       omega (arith, short, length-encode g.E.Utf16Order.BIG (whole_lossy_chars [] (stream_pending c.args.self.stream)), ap length (c.finish_utf8-len.ensures.text done), length-take-le c.finish_utf8-len.result.written c.finish_utf8-len.new.to c.finish_utf8-len.ensures.within)
 
-pub put_bom-requires : goal.put_bom-requires
-put_bom-requires g c = fits g (goal.at.put_bom-requires g c).After-finish_utf8-len
+pub write_bom-requires : goal.write_bom-requires
+write_bom-requires g c = fits g (goal.at.write_bom-requires g c).After-finish_utf8-len
 
 pub returns-then-self-clause-bytes : goal.returns-then-self-clause-bytes
 returns-then-self-clause-bytes g c =
     let bytes = stream_pending c.args.self.stream ++ [] in
-    c.put_bom.ensures.bytes ∙ ap (with_bom g.E.Utf16Order.BIG) (text g (goal.at.returns-then-self-clause-bytes g c).After-finish_utf8-len)
+    c.write_bom.ensures.bytes ∙ ap (with_bom g.E.Utf16Order.BIG) (text g (goal.at.returns-then-self-clause-bytes g c).After-finish_utf8-len)
     ∙ ap (λ due. entire due g.E.Utf16Order.BIG bytes) (sym c.if-self.true)
 
 pub returns-else-self-clause-bytes : goal.returns-else-self-clause-bytes

@@ -1,9 +1,0 @@
-use Rattle.std.proofs.Common.{rules}
-use Rattle.utf16_from_utf8.proofs.WrittenLemmas.{ascii-written}
-use Rattle.utf16_from_utf8.proofs.blocks.put_ascii.Goals as goal
-
-pub returns-clause-written : goal.returns-clause-written
-returns-clause-written g c =
-    let ascii = c.write_ascii-len.ensures in
-    ascii-written g.E.Utf16Order.BIG c.args.bytes.now c.args.out.now c.write_ascii-len.new.out c.args.read c.args.written c.min-most.result c.write_ascii-len.result c.requires.written
-    (search rules) (search rules) ascii.within ascii.ascii ascii.bytes

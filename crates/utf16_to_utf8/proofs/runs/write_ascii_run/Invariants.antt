@@ -1,0 +1,12 @@
+use Rattle.std.proofs.Common.{◌-◌, length}
+use Rattle.utf16_to_utf8.specs.Cursor.{Advanced}
+use Rattle.utf16_to_utf8.specs.declared.blocks.Kind.TheVariants.{Ascii}
+use Rattle.utf16_to_utf8.proofs.runs.write_ascii_run.Given as goal
+
+abbrev pub invariant-loop-cursor : goal.invariant-loop-cursor
+invariant-loop-cursor g l = record {
+  advanced : Advanced g.E.Utf16Order.BIG Ascii l.raw l.out l.fn.from l.cursor;
+}
+
+abbrev pub decreases-loop-cursor : goal.decreases-loop-cursor
+decreases-loop-cursor g l = length l.raw - l.cursor.at
