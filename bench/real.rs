@@ -1,7 +1,7 @@
-//! Times the library's calls, and simdutf's, on real texts: `real FOLDER` takes each file `NAME.txt`
-//! there, in UTF-8. A line for each call, text, form, byte order and decoder has GB/s of UTF-16. The
-//! forms are the lines of a text, one call each, and pieces of 4 and of 64 KiB of UTF-16. First all
-//! results are compared.
+//! Times the library's calls and simdutf's on real texts: `real FOLDER` reads each file `NAME.txt`
+//! there, in UTF-8. It prints a line for each call, text, form, byte order and decoder, with the
+//! throughput in GB/s of UTF-16. The forms are the lines of a text, one call each, and pieces of 4
+//! and of 64 KiB of UTF-16. All results are compared first.
 #[allow(dead_code)]
 mod simdutf;
 
@@ -11,7 +11,7 @@ use std::time::Instant;
 
 const ROUNDS: usize = 9;
 
-// The most bytes of UTF-16 that are taken of a text.
+// The most bytes of UTF-16 that are read of a text.
 const MOST: usize = 1 << 20;
 
 const FORMS: [(&str, usize); 3] = [("lines", 0), ("4 KiB", 4096), ("64 KiB", 65536)];
@@ -34,8 +34,7 @@ struct Validity {
     error_len: u32,
 }
 
-// The calls of `dethrux.h`, in the library of this tree and, by other names, in that of another
-// build.
+// The calls of `dethrux.h`, in this tree's library and, under other names, in another build's.
 macro_rules! library {
     ($name:ident, $validate:literal, $to_utf8:literal, $from_utf8:literal) => {
         mod $name {
@@ -115,8 +114,8 @@ fn text_of(path: &std::path::Path) -> String {
     text
 }
 
-// The parts of a text in a form, as ranges of its UTF-8: lines without their ends, or pieces of
-// about so many bytes of UTF-16.
+// The parts of a text in a form, as ranges of its UTF-8: lines without their ends if `len` is 0, and
+// otherwise pieces of at most `len` bytes of UTF-16.
 fn parts_of(text: &str, len: usize) -> Vec<Range<usize>> {
     let mut parts = Vec::new();
     let (mut start, mut size) = (0, 0);
@@ -153,8 +152,8 @@ impl Case {
         }
     }
 
-    // The seconds of one run over all inputs. A run before it brings them into the cache, whichever
-    // decoder is first.
+    // The seconds of one run over all inputs. An untimed run first brings them into the cache, so
+    // that no decoder gains from its place in the order.
     fn time(&mut self) -> f64 {
         self.run();
         let start = Instant::now();
@@ -165,7 +164,8 @@ impl Case {
     }
 }
 
-// Adds a case for each decoder that this machine can run. What they answer and write is equal.
+// Adds a case for each decoder that this machine can run, after testing that they return and write
+// the same.
 fn add(all: &mut Vec<Case>, name: &str, big: bool, inputs: &[&'static [u8]], size: usize, decoders: &[(&str, Call)]) {
     let longest = inputs.iter().map(|input| input.len()).max().unwrap_or(0);
     let mut wanted = None;

@@ -1,12 +1,12 @@
 #!/usr/bin/env bash
-# Times the calls of the C library and both programs on real texts beside simdutf's kernels for 128
-# and 256 bits: `SIMDUTF=FOLDER real.sh TEXTS`. SIMDUTF has simdutf.cpp and simdutf.h; TEXTS has a
-# file NAME.txt in UTF-8 for each text, of which at most 1 MiB of UTF-16 is taken. A text is
+# Times the calls of the C library and both programs on real texts, next to simdutf's kernels for
+# 128 and 256 bits: `SIMDUTF=FOLDER real.sh TEXTS`. SIMDUTF has simdutf.cpp and simdutf.h; TEXTS has
+# a file NAME.txt in UTF-8 for each text, of which at most 1 MiB of UTF-16 is read. A text is
 # converted line by line, and in pieces of 4 and of 64 KiB. BEFORE may name another checkout of this
-# repository whose libraries and programs are built: they are timed in the same run. All is linked at
-# two places, 16 bytes apart, and timed at the better one: a branch that lies across 32 bytes at one
-# of them does not at the other. The table, with the ratio to each kernel and to `before`, stays in
-# bench/out/real.md.
+# repository, with its libraries and programs built: they are timed in the same run. Everything is
+# linked at two places, 16 bytes apart, and the better one counts: a branch that crosses a 32-byte
+# boundary at one of them does not at the other. The table, with the ratio to each kernel and to
+# `before`, is written to bench/out/real.md.
 set -eu
 usage() { echo "usage: SIMDUTF=FOLDER [BEFORE=CHECKOUT] real.sh TEXTS" >&2; exit 2; }
 [ $# = 1 ] && [ -n "${SIMDUTF:-}" ] || usage
@@ -25,7 +25,7 @@ mkdir -p out
 for program in utf16_cat utf16_enc; do
     (cd ../crates/$program && rt run -- le < /dev/null > "$room/said" 2>&1) || { cat "$room/said" >&2; exit 1; }
 done
-# The three calls of another build, by other names; all else of it stays its own.
+# The three calls of another build, under other names; its other symbols become local.
 if [ -n "$before" ]; then
     ld -r -o "$room/whole.o" --whole-archive "$before/crates/dethrux/out/libdethrux.a"
     renamed=()

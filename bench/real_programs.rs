@@ -1,8 +1,9 @@
-//! Times `utf16_cat`, `utf16_enc` and programs over simdutf on real texts: `real_programs FOLDER
-//! ROOM BIN CAT ENC [CAT ENC]` takes each file `NAME.txt` of a folder, in UTF-8, repeats it to 32 MiB
-//! in ROOM, and times each program from that file to the null device. BIN has the programs `cat` and
-//! `simdutf_cat`; a second pair is of another build. A line for each program, text, byte order and
-//! decoder has GB/s of input. What the programs write is compared first.
+//! Times `utf16_cat`, `utf16_enc` and programs that use simdutf on real texts: `real_programs FOLDER
+//! ROOM BIN CAT ENC [CAT ENC]` reads each file `NAME.txt` of a folder, in UTF-8, repeats it to
+//! 32 MiB in ROOM, and times each program from that file to the null device. BIN has the programs
+//! `cat` and `simdutf_cat`; a second pair belongs to another build. It prints a line for each
+//! program, text, byte order and decoder, with the throughput in GB/s of input. What the programs
+//! write is compared first.
 use std::fs::File;
 use std::process::{Command, Stdio};
 use std::time::Instant;

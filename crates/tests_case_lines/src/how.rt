@@ -25,7 +25,7 @@ pub enum Odd {
 pub struct Device {
     /// The most bytes that it moves, call by call, over and over. With an empty list it moves all.
     pub sizes: Vec<usize>,
-    /// The call at which it does something else, counted from 1; 0 for none.
+    /// The call at which it misbehaves, counted from 1; 0 for none.
     pub odd_at: usize,
     /// What it does there.
     pub odd: Odd,

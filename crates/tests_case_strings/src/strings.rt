@@ -1,16 +1,16 @@
 //! The calls of `WString`, as cases name them. The strings are made over an allocator that fails as
 //! the case says, and counts.
-mod bench;
 mod compared;
 mod cut;
 mod grown;
+mod held;
 mod made;
 mod parts;
 mod read;
 mod retained;
 mod taken;
 
-pub use crate::strings::bench::{Heap, left, part, string};
+pub use crate::strings::held::{Heap, left, part, string};
 use tests_case_lines::Run;
 use utf16string::Utf16Order;
 

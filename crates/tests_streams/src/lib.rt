@@ -1,6 +1,6 @@
-//! Tests of decoders and filters that no line of a table can express: readers and writers that do
-//! something else at each of their calls, each allocation failing in turn, how much memory is
-//! requested, and the headline's loop beside the decoder.
+//! Tests of decoders and filters that no line of a table can express: readers and writers that
+//! misbehave at each of their calls, each allocation failing in turn, how much memory is requested,
+//! and the headline's loop compared with the decoder.
 #![tactic(auto)]
 
 #[cfg(test)]

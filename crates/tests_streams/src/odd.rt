@@ -118,7 +118,7 @@ fn write_failed(rt: &(impl Abort + AllocGlobal), stream: Stream, odd: Odd, ended
     equal(rt, taker.taken.len() == text.len(), taker.flushes == 1);
 }
 
-// The reader does something else at a call, if it makes that call.
+// The reader misbehaves at a call, if it makes that call.
 fn odd_read(rt: &(impl Abort + AllocGlobal), stream: Stream, odd: Odd) -> bool {
     let ended = filtered(rt, stream, odd, NOWHERE);
     let is_met = odd.at <= ended.1.calls;
@@ -131,7 +131,7 @@ fn odd_read(rt: &(impl Abort + AllocGlobal), stream: Stream, odd: Odd) -> bool {
     is_met
 }
 
-// The writer does something else at a call, if it makes that call. A flush moves nothing anyway.
+// The writer misbehaves at a call, if it makes that call. A flush moves nothing anyway.
 fn odd_write(rt: &(impl Abort + AllocGlobal), stream: Stream, odd: Odd) -> bool {
     let ended = filtered(rt, stream, NOWHERE, odd);
     let is_met = odd.at <= ended.2.calls;
@@ -145,7 +145,7 @@ fn odd_write(rt: &(impl Abort + AllocGlobal), stream: Stream, odd: Odd) -> bool 
     is_met
 }
 
-// Each call of the reader in turn does something else, until a run does not make that call, and
+// Each call of the reader in turn misbehaves, until a run does not make that call, and
 // then each of the writer.
 fn at_each_call(rt: &(impl Abort + AllocGlobal), stream: Stream, oddity: Oddity) {
     for at in 1..100 {

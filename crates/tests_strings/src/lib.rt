@@ -1,6 +1,6 @@
-//! Tests of strings that no line of a table can express: iterators under adapters, texts of more than
-//! a million bytes, lists of edits, each allocation failing in turn, how much memory is requested, and
-//! what `Debug` writes.
+//! Tests of strings that no line of a table can express: iterators under adapters, texts of more
+//! than a million bytes, lists of edits, each allocation failing in turn, how much memory is
+//! requested, and what `Debug` writes.
 #![tactic(auto)]
 
 #[cfg(test)]

@@ -1,5 +1,5 @@
 //! A reader and a writer for tests that move as many bytes at each call as a list says, over and
-//! over, do something else at one call and would continue after it, and count their calls.
+//! over, misbehave at one call and would continue after it, and count their calls.
 
 ghost use Rattle.std.specs.Prelude.{◌≤◌, IfOk};
 
@@ -20,7 +20,7 @@ pub enum Oddity {
 pub struct Manner<'a> {
     /// The most bytes that it moves, call by call, over and over. With an empty list it moves all.
     pub sizes: &'a [usize],
-    /// The call at which it does something else; 0 for none.
+    /// The call at which it misbehaves; 0 for none.
     pub odd_at: usize,
     /// What it does there.
     pub oddity: Oddity,

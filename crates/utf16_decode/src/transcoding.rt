@@ -323,7 +323,11 @@ fn write_short_start<D: Direction>(rest: &[u8], to: &mut [u8], at: usize) -> (us
 
 // Writes the first character at `at`, or returns why it cannot.
 #[inline(always)]
-fn write_next_char<D: Direction>(rest: &[u8], to: &mut [u8], at: usize) -> Result<(usize, usize), Stop>
+fn write_next_char<D: Direction>(
+    rest: &[u8],
+    to: &mut [u8],
+    at: usize,
+) -> Result<(usize, usize), Stop>
     requires not_empty { 0 < length rest.now }
     requires within { at ≤ length to.old }
     ensures wrote { IfOk result (λ r.

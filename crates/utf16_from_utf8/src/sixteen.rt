@@ -56,7 +56,13 @@ fn write_two<E: Utf16Order>(out: &mut [u8], at: usize, b1: u8x16, block: u8x16) 
 }
 
 #[inline(always)]
-fn write_three<E: Utf16Order>(out: &mut [u8], at: usize, b2: u8x16, b1: u8x16, block: u8x16) -> usize
+fn write_three<E: Utf16Order>(
+    out: &mut [u8],
+    at: usize,
+    b2: u8x16,
+    b1: u8x16,
+    block: u8x16,
+) -> usize
     requires space { at + 32 ≤ length out.old }
     requires follow { FollowLanes 0xF0 b2 b1 block }
     ensures bytes { (before2 before1 : ℕ) → AreBefore before2 before1 block b2 b1

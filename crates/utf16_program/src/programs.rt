@@ -19,8 +19,8 @@ use std::process::ExitCode;
 use utf16_streams::Watched;
 
 /// Runs a program on the arguments of the environment, writes the message of its outcome to
-/// `errors`, and returns the exit status: 0 if the whole input was filtered, 2 if the arguments name
-/// no choice, and 1 otherwise.
+/// `errors`, and returns the exit status: 0 if the whole input was filtered, 2 if the arguments
+/// name no choice, and 1 otherwise.
 ///
 /// # Precondition
 ///

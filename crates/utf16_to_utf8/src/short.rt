@@ -8,7 +8,12 @@ use utf16_units::{Utf16Order, is_leading_surrogate, is_trailing_surrogate};
 
 // Writes the UTF-8 that the units add after the unit `previous`.
 #[inline(always)]
-pub(crate) fn write_each<E: Utf16Order>(raw: &[u8], out: &mut [u8], at: usize, previous: u16) -> usize
+pub(crate) fn write_each<E: Utf16Order>(
+    raw: &[u8],
+    out: &mut [u8],
+    at: usize,
+    previous: u16,
+) -> usize
     requires even { length raw.now % 2 ≡ 0 }
     requires space { at + length raw.now / 2 * 3 ≤ length out.old }
     ensures bytes { take result out.new ≡ take at out.old ++ units_utf8 previous

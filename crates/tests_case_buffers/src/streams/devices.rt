@@ -6,7 +6,7 @@ use tests_case_lines::{Answer, Device, How, Odd, Trouble, Values};
 use tests_support::stepped::{Giver, Manner, Oddity, Taker};
 use utf16_streams::{DeviceFault, Utf16Order, Watched};
 
-/// Returns how the reader or the writer of a case behaves, with something else at that call.
+/// Returns how the reader or the writer of a case behaves, and that it misbehaves at that call.
 pub fn manner(device: &Device, odd_at: usize) -> Manner<'_> {
     Manner {
         sizes: &device.sizes,

@@ -30,7 +30,7 @@ pub struct Ended {
     pub write_faults: u64,
 }
 
-/// Runs a filter over the bytes, with a reader and a writer that do something else at these calls.
+/// Runs a filter over the bytes, with a reader and a writer that misbehave at the given calls.
 pub fn run<E: Utf16Order>(
     alloc: Global,
     heap: &Refusing<Global>,

@@ -1,4 +1,4 @@
-//! Filters whose reader or writer does something else at one call, at each in turn.
+//! Filters whose reader or writer misbehaves at one call, at each in turn.
 
 use crate::streams::filtered::{Ended, FilterCall, add_result, run};
 use crate::streams::memory::heap;
@@ -17,43 +17,39 @@ pub fn each_read<E: Utf16Order>(
     values: &mut Values,
     answer: &mut Answer,
 ) -> Result<(), Trouble> {
-    let bytes = values.bytes(alloc, E::BIG)?;
-    for at in 1..MOST {
-        let ended = run::<E>(
-            alloc,
-            &heap(alloc, how),
-            how,
-            &bytes,
-            FilterCall::Decode,
-            (at, 0),
-        );
-        add(answer, &ended);
-        if ended.reads < at {
-            break;
-        }
-    }
-    Ok(())
+    each_call::<E>(alloc, how, values, answer, true)
 }
 
-/// Does the same for each call of the writer, flushes included.
+/// The same for each call of the writer, flushes included.
 pub fn each_write<E: Utf16Order>(
     alloc: Global,
     how: &How,
     values: &mut Values,
     answer: &mut Answer,
 ) -> Result<(), Trouble> {
+    each_call::<E>(alloc, how, values, answer, false)
+}
+
+// Runs the filter once for each call, of the reader or of the writer, that misbehaves.
+fn each_call<E: Utf16Order>(
+    alloc: Global,
+    how: &How,
+    values: &mut Values,
+    answer: &mut Answer,
+    of_reader: bool,
+) -> Result<(), Trouble> {
     let bytes = values.bytes(alloc, E::BIG)?;
     for at in 1..MOST {
-        let ended = run::<E>(
-            alloc,
-            &heap(alloc, how),
-            how,
-            &bytes,
-            FilterCall::Decode,
-            (0, at),
-        );
+        let odd = if of_reader { (at, 0) } else { (0, at) };
+        let heap = heap(alloc, how);
+        let ended = run::<E>(alloc, &heap, how, &bytes, FilterCall::Decode, odd);
         add(answer, &ended);
-        if ended.writes.saturating_add(ended.flushes) < at {
+        let made = if of_reader {
+            ended.reads
+        } else {
+            ended.writes.saturating_add(ended.flushes)
+        };
+        if made < at {
             break;
         }
     }

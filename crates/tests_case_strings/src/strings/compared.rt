@@ -1,6 +1,6 @@
 //! Two strings compared.
 
-use crate::strings::bench::{Heap, part, string};
+use crate::strings::held::{Heap, part, string};
 use std::cmp::Ordering;
 use std::hash::{FoldHasher, Hash, Hasher};
 use tests_case_lines::{Answer, Run};

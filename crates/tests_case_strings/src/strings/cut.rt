@@ -1,6 +1,6 @@
 //! Strings shortened and overwritten.
 
-use crate::strings::bench::{Heap, part};
+use crate::strings::held::{Heap, part};
 use crate::strings::retained::retain;
 use tests_case_lines::Run;
 use utf16string::{Utf16Order, WString};

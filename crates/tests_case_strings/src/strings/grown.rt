@@ -1,7 +1,7 @@
 //! Strings that grow.
 
-use crate::strings::bench::{Heap, part};
 use crate::strings::cut;
+use crate::strings::held::{Heap, part};
 use std::alloc::AllocError;
 use tests_case_lines::Run;
 use utf16string::{Utf16Order, WString};

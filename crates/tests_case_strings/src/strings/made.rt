@@ -3,7 +3,7 @@
 ghost use Rattle.std.specs.Prelude.{IfSome};
 ghost use Rattle.utf16string.specs.Encoding.{IsUtf16};
 
-use crate::strings::bench::{Heap, left, made, part, string};
+use crate::strings::held::{Heap, left, made, part, string};
 use crate::strings::{grown, read, taken};
 use std::alloc::AllocError;
 use tests_case_lines::{Answer, Run, Trouble};

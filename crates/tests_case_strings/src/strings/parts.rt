@@ -1,6 +1,6 @@
 //! The substrings of a string, by each kind of range.
 
-use crate::strings::bench::Heap;
+use crate::strings::held::Heap;
 use tests_case_lines::{By, Run, Span};
 use utf16string::{Utf16Order, WStr, WString};
 

@@ -1,6 +1,6 @@
 //! Calls that read a string.
 
-use crate::strings::bench::{Heap, made, part, refused};
+use crate::strings::held::{Heap, made, part, refused};
 use crate::strings::{compared, parts};
 use tests_case_lines::{Answer, By, Run, Trouble, add_written};
 use utf16string::{Utf16Order, WString};

@@ -1,6 +1,6 @@
 //! Characters kept by a predicate, whose results the case gives one by one.
 
-use crate::strings::bench::Heap;
+use crate::strings::held::Heap;
 use tests_case_lines::{Run, Trouble};
 use utf16string::{Utf16Order, WString};
 

@@ -1,6 +1,6 @@
 //! Strings of which something is taken, and those that say how they were changed.
 
-use crate::strings::bench::Heap;
+use crate::strings::held::Heap;
 use crate::strings::retained::retain_by;
 use tests_case_lines::Run;
 use utf16string::{Utf16Order, WString};
