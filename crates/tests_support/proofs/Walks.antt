@@ -1,14 +1,16 @@
 -- What the walks of `allocate` and `deallocate` share. Assumes `Logic`.
 --     Heap, args, self     the allocator's type, the type arguments of both functions, and their
 --                          first parameter, a `&` to it
+--     kept                 the parameters that `allocate` keeps
 --     inner_at, plan_at, live_blocks_at    where its fields lie. The plan takes 40 bytes
 --     Self, Plans, Blocks  what that `&` owns, and a `&` to the plan and to the count
 --     starts               a proof's step, the first of both: what the bound says of a lifetime,
 --                          and the `&` as a `&` to each field
-use Rattle.tests_support.proofs.Steps.{ℕ, ◌+◌, List, [], ◌∷◌, Bor, Ura, Args, a_type, dnil, dcons, ent, Lft, Share, Fml, ftrue, fsep, flft, size, align, up, Logic, sem, Item, Goal, Seq, ‵, raw, ◌⊛◌, mean, ◌$◌, ◌∵◌, !, qed, move, keep, drop, use1, split, split3, fsplit, done, ◌⊑◌, fact, u64, RefOf, hidden_shr, unhide, bounded, param, RattleType, shr_vals, Slot, plain, type_at, heard, Al, α, seen}
+use Rattle.tests_support.proofs.Steps.{Stays, stay_dropped, usize, yes, ℕ, ◌+◌, List, [], ◌∷◌, Bor, Ura, Args, a_type, dnil, dcons, ent, Lft, Share, Fml, ftrue, fsep, flft, size, align, up, Logic, sem, Item, Goal, Seq, ‵, raw, ◌⊛◌, mean, ◌$◌, ◌∵◌, !, qed, move, keep, drop, use1, split, split3, fsplit, done, ◌⊑◌, fact, u64, RefOf, hidden_shr, unhide, bounded, param, RattleType, shr_vals, Slot, plain, type_at, heard, Al, α, seen}
 use Rattle.std.specs.contracts.cell.Cell as CE
 use Rattle.tests_support.specs.contracts.refusing.Plan as PL
 use Rattle.tests_support.specs.contracts.refusing.Refusing as wrapper
+use Rattle.tests_support.specs.contracts.refusing.RefusingAllocator.allocate as F
 
 module _ (Z : Al) where
   abbrev pub args : Args
@@ -19,6 +21,10 @@ module _ (Z : Al) where
 
   abbrev pub self : Slot 2
   self = RefOf (0 ∷ []) tt (plain (λ _. Heap)) (λ _. tt)
+
+  -- of `allocate`
+  abbrev pub kept : Stays (F.signature Z.row).params (F.ended Z.row Z.g Z.d Z.drops).kept
+  kept = (stay_dropped self yes, (stay_dropped (plain (λ _. usize)) yes, (stay_dropped (plain (λ _. usize)) yes, tt)))
 
   abbrev pub inner_at : ℕ × ℕ → ℕ × ℕ
   inner_at p = (p.0, p.1 + up (align (α Z)) 0)

@@ -1,4 +1,4 @@
--- The names of the logic and of `std` that the walks of the checked constructors cite.
+-- The names that the walks of the checked constructors cite: of the logic, of `std` and of texts.
 pub use Rattle.std.proofs.Common.{◌≡◌, ℕ, List, [], ◌∷◌, length, sym, refl, subst, lit<, MutBor, Ok, Err, Result, ap}
 pub use Rattle.std.proofs.VecSteps.Shapes.{after, front, arm_body}
 pub use Rattle.std.proofs.raw_atomic.Walks.{proved}
@@ -38,3 +38,10 @@ pub use types.Match.{live, vrt, in_variant}
 pub use types.Part.{whole, sub, agg}
 pub use types.Run.{stop, fld, hop, from, addr, enter, lit, of_opd, first, switches_on, exec, returns, and_then, no_more}
 pub use types.Tokens.{lft_new}
+pub use Rattle.utf16_units.proofs.EncodingLemmas.{Encodes-text_of, is_utf16-from_IsUtf16}
+pub use Rattle.utf16_units.specs.Encoding.{Encodes, IsUtf16, is_utf16, text_of}
+pub use Rattle.utf16_units.specs.Utf16Error.{IsErrorOf}
+pub use Rattle.utf16_units.specs.declared.byte_order.Utf16Order.{Ghosts}
+pub use Rattle.utf16_units.specs.declared.error.Utf16Error.{Utf16Error}
+pub use Rattle.utf16_str.specs.WStrMut.{wstr_mut_lent, wstr_mut_text}
+pub use Rattle.utf16_str.specs.declared.wstr_mut.WStrMut.{WStrMut}

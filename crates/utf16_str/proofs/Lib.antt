@@ -9,3 +9,4 @@ pub mod PrefixRules
 mod Lent
 mod LentSteps
 mod LentValues
+mod LentAnswers

@@ -1,16 +1,12 @@
 -- It passes the bytes on, and returns the result. Assumes `Logic`.
-use Rattle.utf16_str.proofs.LentSteps.{[], ◌∷◌, length, refl, ap, proved, named, ty_enum, ttnil, full_share, Lft, ftrue, flft, id⊢, ⊑_static, Lfts, tables, ‵, raw, ◌⊛◌, some, later, ◌$◌, ◌∵◌, !, qed, move, keep, drop, split, join, fjoin, group, use1, use2, await, pick, suffices, done, whole, sub, agg, stop, fld, hop, from, addr, enter, returns, and_then, no_more, alloc_all, pass_all, free_all, look_at, look_in_at, get, get_in, sets, lands_as, lft_new, u8, SliceRefMutOf, no, arg, param, Laws, arg_laws, param_laws, RattleType, owns, plain, MutSlice, Room, mut_slice_vals, mut_slice_Tells, nothing, only, calls_at, lasts, at_exit, triple_of, framed, Stays, stay_dropped, walk_of, ends_at, Goes-spent_slice}
-use Rattle.std.specs.contracts.result.Result as RS
-use Rattle.std.proofs.result.Result.TheLaws.{the_row_laws as the_result_laws}
-use Rattle.utf16_units.specs.contracts.error.Utf16Error as Error
-use Rattle.utf16_units.proofs.error.Utf16Error.TheLaws.{the_row_laws as the_error_laws}
+use Rattle.utf16_str.proofs.LentSteps.{[], ◌∷◌, length, refl, ap, proved, named, ty_enum, ttnil, full_share, ftrue, flft, id⊢, ⊑_static, Lfts, tables, ‵, raw, ◌⊛◌, some, later, ◌$◌, ◌∵◌, !, qed, move, keep, drop, split, join, fjoin, group, use1, use2, await, pick, suffices, done, whole, sub, agg, stop, fld, hop, from, addr, enter, returns, and_then, no_more, alloc_all, pass_all, free_all, look_at, look_in_at, get, get_in, sets, lands_as, lft_new, u8, SliceRefMutOf, no, arg, Laws, arg_laws, RattleType, owns, plain, MutSlice, Room, mut_slice_vals, mut_slice_Tells, nothing, only, calls_at, lasts, at_exit, triple_of, framed, Stays, stay_dropped, walk_of, ends_at, Goes-spent_slice}
 use Rattle.utf16_units.specs.contracts.LittleEndian as Order
 use Rattle.utf16_units.proofs.LittleEndian.TheLaws.{the_row_laws as the_order_laws}
 use Rattle.utf16_units.specs.contracts.byte_order.LittleEndianUtf16Order.TheImpl.{ghosts, dict}
 use Rattle.utf16_units.proofs.byte_order.LittleEndianUtf16Order.TheImpl.Met.{passed}
-use Rattle.utf16_str.proofs.Lent.{Answer, View}
+use Rattle.utf16_str.proofs.Lent.{Answer}
+use Rattle.utf16_str.proofs.LentAnswers.{Ans, Ans-laws}
 use Rattle.utf16_str.proofs.LentValues.{known, one_tells}
-use Rattle.utf16_str.proofs.wstr_mut.WStrMut.TheLaws.{the_row_laws as the_view_laws}
 use Rattle.utf16_str.specs.contracts.wstr_mut.WStrMut+LittleEndian.from_utf16le as F
 use Rattle.utf16_str.specs.contracts.wstr_mut.WStrMut+LittleEndian.from_utf16le.Key as key
 use Rattle.utf16_str.proofs.wstr_mut.WStrMut+LittleEndian.from_utf16le.Statement as stated
@@ -26,12 +22,6 @@ Y-laws = arg_laws (ty_enum [] ttnil) no Order.the_row the_order_laws refl
 
 abbrev stayed : Stays F.signature.params F.ended.kept
 stayed = (stay_dropped (SliceRefMutOf (0 ∷ []) tt (plain (λ _. u8)) (λ _. tt)) no, tt)
-
-abbrev Ans : Lft → RattleType
-Ans κ = RS.the_row (View Y ghosts κ) Error.the_row
-
-Ans-laws : (κ : Lft) → Laws (Ans κ)
-Ans-laws κ = the_result_laws (View Y ghosts κ) Error.the_row (the_view_laws (record { mir = named 0; lft = κ }) (param 0 Y) ghosts (param_laws 0 Y Y-laws)) the_error_laws
 
 pub from_utf16le_spec : {M : Type 1} → stated.statement M
 from_utf16le_spec 𝓤 𝓛 𝓜 𝓡 wired =
@@ -53,10 +43,10 @@ from_utf16le_spec 𝓤 𝓛 𝓜 𝓡 wired =
     (passed 𝓡.env (code.calls-utf16_units::byte_order::LittleEndianUtf16Order::BIG 𝓡.env wired) (code.calls-utf16_units::byte_order::LittleEndianUtf16Order::read_unit 𝓡.env wired) (code.calls-utf16_units::byte_order::LittleEndianUtf16Order::write_unit 𝓡.env wired) _ 𝓤 𝓛 𝓜 𝓡)) z
     (and_then ! (get ! refl) (no_more !)) (λ v.
     let Ends = λ (x : Answer Y ghosts). raw ((c κs a).ensures tt x (at_exit F.ended κs a (tt, tt))) in
-    use1 𝓛 (later (some (λ (x : Answer Y ghosts). ((‵ (flft κ qs.0) ⊛ ‵ (flft (α ∷ []) full_share) ⊛ ‵ ftrue) ⊛ ‵ ((Ans κ).own_val x (v ∷ []))) ⊛
+    use1 𝓛 (later (some (λ (x : Answer Y ghosts). ((‵ (flft κ qs.0) ⊛ ‵ (flft (α ∷ []) full_share) ⊛ ‵ ftrue) ⊛ ‵ ((Ans Y ghosts κ).own_val x (v ∷ []))) ⊛
     some (λ (ws : Unit {0} × Unit {0}). ‵ (lasts (g.ended Y ghosts dict) ρs a ws) ⊛ Ends x)))) (id⊢ 𝓤 _) $ await ! tt $ pick ! (λ x. split ! $ split ! $
     -- [the tokens; the result; what it says]
-    move ! (1 ∷ []) $ one_tells ! (Ans κ) (Ans-laws κ) x (v ∷ []) (λ w is typed. lands_as ! (ap only is) refl typed $ returns ! (look_at ! 0 refl) $ free_all ! refl $
+    move ! (1 ∷ []) $ one_tells ! (Ans Y ghosts κ) (Ans-laws Y ghosts Y-laws κ) x (v ∷ []) (λ w is typed. lands_as ! (ap only is) refl typed $ returns ! (look_at ! 0 refl) $ free_all ! refl $
     move ! (2 ∷ []) $ pick ! (λ ws. split ! $ drop ! $ move ! (2 ∷ []) $ split ! $ nothing ! $ move ! (1 ∷ 0 ∷ []) $ join ! $ keep ! (3 ∷ 0 ∷ 2 ∷ []) $
     nothing ! $ nothing ! $ fjoin ! $ join ! $ move ! (1 ∷ []) $ join ! $
     suffices ! _ (ends_at 𝓛 F.ended stayed c y w x (tt, tt) (tt, tt)) $ done !)))))))
