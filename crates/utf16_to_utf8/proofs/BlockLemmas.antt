@@ -1,44 +1,30 @@
 -- The units of a block, and what the bits of its classes mean.
-use Rattle.std.proofs.Common.{◌≡◌, ℕ, zero, suc, ◌+◌, ◌*◌, ◌/◌, ◌%◌, ◌^◌, ◌<◌, ◌≤◌, ◌⊎◌, Bool, true, false, cond, eqb, ltb, inl, inr, List, [], ◌∷◌, ◌++◌, All, length, map, slice_index, drop, replicate, bit_and, refl, sym, ap, ap₂, ◌∙◌, subst, ⊎_elim, arith, w16, eqb-true, eq-eqb, lt-ltb, le-ltb, append-nil, append_assoc, length-drop, take_all}
-use Rattle.std.proofs.lemmas.Bool.{cases_lt, false_from_ne_true, true≢false}
-use Rattle.std.proofs.lemmas.List.{length-map}
+use Rattle.std.proofs.Common.{◌≡◌, ℕ, zero, suc, ◌+◌, ◌*◌, ◌/◌, ◌%◌, ◌<◌, ◌≤◌, ◌⊎◌, Bool, true, false, cond, eqb, ltb, inl, inr, List, [], ◌∷◌, ◌++◌, All, length, slice_index, drop, bit_and, refl, sym, ap, ap₂, ◌∙◌, subst, ⊎_elim, arith, eqb-true, eq-eqb, lt-ltb, le-ltb, append-nil, append_assoc, length-drop, take_all}
+use Rattle.std.proofs.lemmas.Bool.{cases_Bool, cases_lt, eqb-false, false_from_ne_true, true≢false}
 use Rattle.std.proofs.lemmas.List.Elements.{All-head, All-tail}
 use Rattle.std.proofs.lemmas.Nat.Bits.{and_high}
-use Rattle.std.proofs.lemmas.Simd.{bitmask_splat, chunk-drop, get_or-chunk, length-chunk, length-zip2, map-map, mask_l-lt, zip2_splat}
-use lib.Lanes.{chunk, mask_l, top, zip2}
+use Rattle.std.proofs.lemmas.Simd.{chunk-drop, get_or-chunk, length-chunk}
+use lib.Lanes.{chunk}
+use Rattle.utf16_units.specs.Lanes.{high_byte}
 use Rattle.utf16_to_utf8.specs.Lanes.{added_len, is_surrogate}
 use Rattle.utf16_to_utf8.specs.Utf8.{unit_utf8, units_utf8}
 use Rattle.utf16_to_utf8.proofs.ListLemmas.{units-cons, units-nil}
 use Rattle.utf16_to_utf8.proofs.UnitLemmas.{unit-one}
 
--- ---- bits of a class
-
-pub class-mask : (units : List ℕ) (mask class : ℕ) → length units ≡ 32
-    → mask_l (map (top 15) (zip2 (λ a b. cond (eqb a b) 65535 0) (zip2 bit_and units (replicate 32 mask)) (replicate 32 class))) % 2 ^ 64
-    ≡ mask_l (map (λ unit. eqb (bit_and unit mask) class) units)
-class-mask units mask class long =
-    let masked = zip2 bit_and units (replicate 32 mask) in
-    bitmask_splat w16 eqb masked 32 class (length-zip2 bit_and units (replicate 32 mask) long ∙ long) (omega arith)
-    ∙ ap (λ us. mask_l (map (λ unit. eqb unit class) us)) (zip2_splat bit_and units 32 mask long)
-    ∙ ap mask_l (map-map (λ unit. eqb unit class) (λ unit. bit_and unit mask) units)
-
-pub bits-below : (p : ℕ → Bool) (units : List ℕ) → length units ≡ 32 → mask_l (map p units) < 0x1_0000_0000
-bits-below p units long = subst (λ n. mask_l (map p units) < 2 ^ n) (length-map units p ∙ long) (mask_l-lt (map p units))
-
--- ---- how many bytes a unit adds, by its upper five bits
+-- ---- how many bytes a unit adds, by the upper five bits of its high byte
 
 abbrev pub is_low : ℕ → Bool
-is_low unit = eqb (bit_and unit 0xF800) 0
+is_low unit = eqb (bit_and (high_byte unit) 0xF8) 0
 
 low-below : (u : ℕ) → u < 0x1_0000 → is_low u ≡ true → u < 0x800
 low-below u below e =
-    let high : bit_and u 0xF800 ≡ u / 2048 % 32 * 2048 = and_high u 5 11 in
+    let high : bit_and (u / 256) 0xF8 ≡ u / 256 / 8 % 32 * 8 = and_high (u / 256) 5 3 in
     let is = eqb-true _ _ e in
     omega (arith, high, is)
 
 pub low-is : (u : ℕ) → u < 0x800 → is_low u ≡ true
 low-is u a =
-    let high : bit_and u 0xF800 ≡ u / 2048 % 32 * 2048 = and_high u 5 11 in
+    let high : bit_and (u / 256) 0xF8 ≡ u / 256 / 8 % 32 * 8 = and_high (u / 256) 5 3 in
     eq-eqb _ _ (omega (arith, high, a))
 
 pub low-no : (u : ℕ) → u < 0x1_0000 → 0x800 ≤ u → is_low u ≡ false
@@ -50,6 +36,24 @@ low-above u below e = ⊎_elim
     absurd (true≢false (sym (low-is u a) ∙ e)))
     (λ (b : 0x800 ≤ u). b)
     (cases_lt u 0x800)
+
+abbrev pub has_surrogate_byte : ℕ → Bool
+has_surrogate_byte unit = eqb (bit_and (high_byte unit) 0xF8) 0xD8
+
+-- the upper five bits of a unit are those of its high byte
+pub surrogate_byte : (u : ℕ) → has_surrogate_byte u ≡ is_surrogate u
+surrogate_byte u =
+    let high : bit_and (u / 256) 0xF8 ≡ u / 256 / 8 % 32 * 8 = and_high (u / 256) 5 3 in
+    let upper : bit_and u 0xF800 ≡ u / 2048 % 32 * 2048 = and_high u 5 11 in
+    ⊎_elim
+    (λ (yes : has_surrogate_byte u ≡ true).
+    let is = eqb-true _ _ yes in
+    yes ∙ sym (eq-eqb (bit_and u 0xF800) 0xD800 (omega (arith, high, upper, is))))
+    (λ (no : has_surrogate_byte u ≡ false).
+    no ∙ sym (false_from_ne_true (is_surrogate u) (λ e.
+    let is = eqb-true _ _ e in
+    eqb-false (bit_and (high_byte u) 0xF8) 0xD8 no (omega (arith, high, upper, is)))))
+    (cases_Bool (has_surrogate_byte u))
 
 two_at_most : (a b c : Bool) → (b ≡ true) ⊎ (c ≡ true) → cond a 1 (cond b 2 (cond c 2 3)) ≤ 2
 two_at_most true b c s = omega arith

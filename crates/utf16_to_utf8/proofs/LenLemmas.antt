@@ -9,7 +9,7 @@ use Rattle.utf16_units.specs.Encoding.{IsUtf16, text_of, units_of}
 use Rattle.utf16_to_utf8.specs.Lanes.{added_len, is_surrogate}
 use Rattle.utf16_to_utf8.specs.Utf8.{unit_utf8, units_utf8}
 use Rattle.utf16_to_utf8.proofs.AddedLemmas.{added_len-le, length-unit, surrogate-no}
-use Rattle.utf16_to_utf8.proofs.BlockLemmas.{is_low, low-is, low-no}
+use Rattle.utf16_to_utf8.proofs.BlockLemmas.{has_surrogate_byte, is_low, low-is, low-no, surrogate_byte}
 use Rattle.utf16_to_utf8.proofs.ListLemmas.{units-cons, units-nil}
 use Rattle.utf16_to_utf8.proofs.TextLemmas.{bytes-utf8}
 
@@ -40,10 +40,10 @@ length-utf8 big bytes fit t =
 
 -- each unit adds three bytes, less one for each of these classes that it is in
 abbrev less : ℕ → ℕ
-less u = cond (is_low u) 1 0 + cond (is_surrogate u) 1 0 + cond (ltb u 0x80) 1 0
+less u = cond (is_low u) 1 0 + cond (has_surrogate_byte u) 1 0 + cond (ltb u 0x80) 1 0
 
 by_three : (u : ℕ) → u < 0x1_0000 → added_len u + less u ≡ 3
-by_three u below = ⊎_elim
+by_three u below = ap (λ s. added_len u + (cond (is_low u) 1 0 + cond s 1 0 + cond (ltb u 0x80) 1 0)) (surrogate_byte u) ∙ ⊎_elim
     (λ (a : u < 0x800).
     let low = low-is u a in
     let no = surrogate-no u below (inl (omega (arith, a))) in
@@ -61,7 +61,7 @@ by_three u below = ⊎_elim
     (cases_lt u 0x800)
 
 pub added-counted : (units : List ℕ) → Each1 (Fits w16) units
-    → sum_by added_len units + count_by is_low units + count_by is_surrogate units + count_by (λ u. ltb u 0x80) units ≡ 3 * length units
+    → sum_by added_len units + count_by is_low units + count_by has_surrogate_byte units + count_by (λ u. ltb u 0x80) units ≡ 3 * length units
 added-counted [] fit = refl
 added-counted (u ∷ units) fit = omega (
   arith,
@@ -69,7 +69,7 @@ added-counted (u ∷ units) fit = omega (
   added-counted units fit.1,
   sum_by-cons added_len u units,
   sum_by-cons (λ v. cond (is_low v) 1 0) u units,
-  sum_by-cons (λ v. cond (is_surrogate v) 1 0) u units,
+  sum_by-cons (λ v. cond (has_surrogate_byte v) 1 0) u units,
   sum_by-cons (λ v. cond (ltb v 0x80) 1 0) u units,
 )
 

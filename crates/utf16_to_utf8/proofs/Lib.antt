@@ -11,5 +11,4 @@ mod LenLemmas
 mod WriterLemmas
 mod BoundLemmas
 mod PlainLemmas
-mod PairedLemmas
 mod LeadingLemmas

@@ -1,9 +1,9 @@
 //! A block of thirty-two code units: its kind, and the UTF-8 that it adds.
 
-ghost use Rattle.std.specs.Prelude.{◌≡◌, ◌↔◌, ◌+◌, ◌-◌, ◌/◌, ◌%◌, ◌<◌, ◌≤◌, ◌++◌, ◌==◌, ℕ, All, IfNone, IfSome, IsTrue, bit_and, length, map, replicate, slice_index, take};
-ghost use Rattle.std.specs.Simd.Lanes.{chunk, mask_l};
+ghost use Rattle.std.specs.Prelude.{◌≡◌, ◌↔◌, ◌+◌, ◌-◌, ◌/◌, ◌%◌, ◌<◌, ◌≤◌, ◌++◌, ℕ, All, IsTrue, length, replicate, slice_index, take};
+ghost use Rattle.std.specs.Simd.Lanes.{chunk};
 ghost use Rattle.utf16_units.specs.Encoding.{units_of};
-ghost use Rattle.utf16_units.specs.Lanes.{HasLanes, Paired, Unpaired};
+ghost use Rattle.utf16_units.specs.Lanes.{HasLanes};
 ghost use Rattle.utf16_to_utf8.specs.Block.{AreOfKind, IsPlain};
 ghost use Rattle.utf16_to_utf8.specs.Lanes.{folded, plus};
 ghost use Rattle.utf16_to_utf8.specs.Utf8.{units_utf8};
@@ -138,34 +138,8 @@ fn folded(units: u16x32) -> u16x32
     units.simd_min(raised(units))
 }
 
-// A bit for each unit that has the bits of `class` in those of `mask`.
-#[inline(always)]
-pub(crate) fn class_bits(units: u16x32, mask: u16, class: u16) -> u64
-    ensures bits { result ≡ mask_l (map (λ unit. bit_and unit mask == class) units) }
-    ensures below { result < 0x1_0000_0000 }
-{
-    (units & u16x32::splat(mask))
-        .simd_eq(u16x32::splat(class))
-        .to_bitmask()
-}
-
-// `Some` if the surrogates are paired: a unit is trailing exactly if the one before it is leading.
-// `before` says whether the unit before the block is leading, the result whether the last unit is.
-#[inline(always)]
-pub(crate) fn paired(units: u16x32, before: bool) -> Option<bool>
-    ensures some { IfSome result (λ after. Paired before units after) }
-    ensures none { IfNone result (Unpaired before units) }
-{
-    let leading = class_bits(units, 0xFC00, 0xD800);
-    let trailing = class_bits(units, 0xFC00, 0xDC00);
-    let expected = 2 * leading + before as u64;
-    if trailing == expected % 0x1_0000_0000 {
-        Some(expected >= 0x1_0000_0000)
-    } else {
-        None
-    }
-}
-
+// The kind of the units of a block. A kind is tested after those that it includes, because they are
+// written faster: ASCII units are also letters, and those of the first three kinds are also basic.
 #[inline(always)]
 pub(crate) fn kind_of(units: u16x32) -> Kind
     ensures { AreOfKind result units }

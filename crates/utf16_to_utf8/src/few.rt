@@ -12,11 +12,12 @@ ghost use Rattle.utf16_to_utf8.specs.declared.blocks.Kind.TheVariants.{Ascii};
 use crate::blocks::{lanes_below, lanes_from};
 use crate::lanes::{each, smaller, sum};
 use crate::pack::{write_any, write_narrow, write_wide};
-use crate::padded::{moved_front, units8};
+use crate::padded::moved_front;
 use crate::runs::Cursor;
 use crate::write::SLACK;
 use std::simd::prelude::*;
 use utf16_units::Utf16Order;
+use utf16_units::blocks::units8;
 
 /// Writes the first eight code units in UTF-8 to the start of `to` if they are ASCII, and returns
 /// whether they are.

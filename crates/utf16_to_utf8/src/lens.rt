@@ -5,10 +5,11 @@ ghost use Rattle.std.specs.Simd.Lanes.{mask_l};
 ghost use Rattle.utf16_units.specs.Encoding.{IsUtf16, units_of, utf8_of};
 ghost use Rattle.utf16_to_utf8.specs.Lanes.{added_len};
 
-use crate::blocks::{are_below, class_bits, filled_units};
+use crate::blocks::{are_below, filled_units};
 use std::simd::prelude::*;
 use utf16_units::Utf16Order;
 use utf16_units::blocks::units32;
+use utf16_units::surrogates::class_bits;
 
 /// Returns the length of the text in UTF-8, in bytes.
 ///
@@ -60,8 +61,8 @@ fn block_len(units: u16x32) -> usize
     if are_below(units, 0x80) {
         return 32;
     }
-    let low = class_bits(units, 0xF800, 0).count_ones() as usize;
-    let surrogates = class_bits(units, 0xF800, 0xD800).count_ones() as usize;
+    let low = class_bits(units, 0xF8, 0).count_ones() as usize;
+    let surrogates = class_bits(units, 0xF8, 0xD8).count_ones() as usize;
     96 - low - surrogates - ascii_bits(units).count_ones() as usize
 }
 

@@ -2,23 +2,8 @@
 
 ghost use Rattle.std.specs.Prelude.{◌≡◌, ◌-◌, ◌≤◌, ◌++◌, drop, length, replicate, take};
 ghost use Rattle.std.specs.List.{range_with_len};
-ghost use Rattle.utf16_units.specs.Encoding.{units_of};
 
 use std::simd::prelude::*;
-use utf16_units::Utf16Order;
-
-// The eight units of sixteen bytes.
-#[inline(always)]
-pub(crate) fn units8<E: Utf16Order>(bytes: u8x16) -> u16x8
-    ensures len { length result ≡ 8 }
-    ensures units { result ≡ units_of E.BIG bytes }
-{
-    let units = u16x8::from_le_bytes(bytes);
-    if E::BIG {
-        return (units << u16x8::splat(8)) + (units >> u16x8::splat(8));
-    }
-    units
-}
 
 // The last bytes of sixteen, moved to the front, and zeros after them.
 #[inline(always)]

@@ -8,11 +8,12 @@ ghost use Rattle.utf16_to_utf8.specs.Block.{AreOfKind};
 ghost use Rattle.utf16_to_utf8.specs.Cursor.{Advanced, Reached};
 ghost use Rattle.utf16_to_utf8.specs.declared.blocks.Kind.TheVariants.{Ascii, Basic};
 
-use crate::blocks::{Kind, are_both_ascii, are_of, eights, is_plain, kind_of, paired, write_block};
+use crate::blocks::{Kind, are_both_ascii, are_of, eights, is_plain, kind_of, write_block};
 use crate::write::SLACK;
 use std::simd::prelude::*;
 use utf16_units::Utf16Order;
 use utf16_units::blocks::units32;
+use utf16_units::surrogates::paired;
 
 // How far a text was written: the number of bytes read and the number of bytes written, and the
 // eight units before the next.

@@ -29,7 +29,7 @@ pub mod PartsEnded
 pub mod DelimitedLemmas
 pub mod PutBetween
 pub mod Tests
-pub mod LaneLemmas
+pub mod SurrogateLemmas
 pub mod UnitsUpTo
 pub mod BlockUnits
 pub mod LanesByIndex

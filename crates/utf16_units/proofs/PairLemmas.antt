@@ -12,7 +12,7 @@ use Rattle.utf16_units.specs.Lanes.{Paired, PairedTo, PassedTo, BlocksStopAt}
 use Rattle.utf16_units.proofs.ContinuedLemmas.{four_bytes_text, two_bytes_text}
 use Rattle.utf16_units.proofs.EncodingLemmas.{IsUtf16-append, IsUtf16-nil}
 use Rattle.utf16_units.proofs.IllFormedLemmas.{take-past}
-use Rattle.utf16_units.proofs.LaneLemmas.{in_class}
+use Rattle.utf16_units.proofs.SurrogateLemmas.{in_class}
 use Rattle.utf16_units.proofs.UnitsUpTo.{units_of-next}
 
 -- paired units in one block and then in the next
@@ -48,7 +48,7 @@ is_of m unit e =
     let below = ltb-true _ _ parts.1 in
     (leb-true _ _ parts.0, omega arith)
 
-is_not_of : (m unit : ℕ) → in_class m unit ≡ false → ¬ ((1024 * m ≤ unit) × (unit ≤ 1024 * m + 1023))
+pub is_not_of : (m unit : ℕ) → in_class m unit ≡ false → ¬ ((1024 * m ≤ unit) × (unit ≤ 1024 * m + 1023))
 is_not_of m unit e is =
     let upper = is.1 in
     false≢true (sym e ∙ and_from _ _ (le-leb _ _ is.0) (lt-ltb unit (1024 * m + 1024) (omega arith)))

@@ -3,7 +3,8 @@
 
 ghost use Rattle.std.specs.Prelude.{IsTrue};
 
-use crate::lanes::{high_bytes16, high_bytes32, is_ascii_block, paired, trailing_bits};
+use crate::blocks::{is_ascii_block, units16, units32};
+use crate::surrogates::{paired, trailing_bits};
 use crate::validate::valid_len_from;
 use crate::{BE, LE, Utf16Error, Utf16Order, validate_raw_utf16};
 use std::process::Abort;
@@ -43,14 +44,14 @@ fn block<E: Utf16Order>(first: u16, second: u16) -> [u8; 64] {
 
 // The result for the whole block, and for its first half.
 fn is_paired<E: Utf16Order>(raw: &[u8; 64]) -> [Option<bool>; 2] {
-    let whole = high_bytes32::<E>(u8x64::from_array(*raw));
-    let half = high_bytes16::<E>(u8x32::from_slice(raw));
+    let whole = units32::<E>(u8x64::from_array(*raw));
+    let half = units16::<E>(u8x32::from_slice(raw));
     [paired(whole, false), paired(half, false)]
 }
 
 fn counts<E: Utf16Order>(raw: [u8; 64]) -> (u32, bool) {
     let block = u8x64::from_array(raw);
-    let bits = trailing_bits(high_bytes32::<E>(block));
+    let bits = trailing_bits(units32::<E>(block));
     (bits.count_ones(), is_ascii_block::<E>(block))
 }
 

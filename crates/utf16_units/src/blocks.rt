@@ -1,6 +1,6 @@
 //! Blocks of bytes read as code units with SIMD, and blocks of code units written as bytes.
 
-ghost use Rattle.std.specs.Prelude.{◌≡◌, if◌then◌else◌, length, map};
+ghost use Rattle.std.specs.Prelude.{◌≡◌, ◌↔◌, ◌<◌, All, IsTrue, if◌then◌else◌, length, map};
 ghost use Rattle.std.specs.List.{flat_map};
 ghost use Rattle.utf16_units.specs.Encoding.{units_of};
 ghost use Rattle.utf16_units.specs.Lanes.{swapped};
@@ -8,6 +8,24 @@ ghost use Rattle.utf16_units.specs.Unit.{unit_bytes};
 
 use crate::Utf16Order;
 use std::simd::prelude::*;
+
+// The four code units of a block of 8 bytes.
+#[inline(always)]
+pub(crate) fn units4<E: Utf16Order>(block: u8x8) -> u16x4
+    ensures len { length result ≡ 4 }
+    ensures units { result ≡ units_of E.BIG block }
+{
+    in_order::<E, 4>(u16x4::from_le_bytes(block))
+}
+
+/// Returns the eight code units of a block of 16 bytes.
+#[inline(always)]
+pub fn units8<E: Utf16Order>(block: u8x16) -> u16x8
+    ensures len { length result ≡ 8 }
+    ensures units { result ≡ units_of E.BIG block }
+{
+    in_order::<E, 8>(u16x8::from_le_bytes(block))
+}
 
 /// Returns the sixteen code units of a block of 32 bytes.
 #[inline(always)]
@@ -34,6 +52,16 @@ pub fn bytes16<E: Utf16Order>(units: u16x16) -> u8x32
     ensures bytes { result ≡ flat_map (unit_bytes E.BIG) units }
 {
     in_order::<E, 16>(units).to_le_bytes()
+}
+
+// Whether thirty-two code units are ASCII: no byte is above the byte of U+007F at its position.
+#[inline(always)]
+pub(crate) fn is_ascii_block<E: Utf16Order>(block: u8x64) -> bool
+    ensures { IsTrue result ↔ All (λ unit. unit < 0x80) (units_of E.BIG block) }
+{
+    let last = E::write_unit(0x7F);
+    let (limits, _) = u8x64::splat(last[0]).interleave(u8x64::splat(last[1]));
+    block.simd_gt(limits).to_bitmask() == 0
 }
 
 // Converts code units read in little endian to those of the byte order `E`, or back.

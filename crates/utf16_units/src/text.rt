@@ -4,8 +4,9 @@ ghost use Rattle.std.specs.Prelude.{◌≡◌, ◌↔◌, ◌<◌, All, IsTrue, 
 ghost use Rattle.std.specs.Char.Utf16.{is_low_surrogate};
 ghost use Rattle.utf16_units.specs.Encoding.{IsUtf16, text_of, units_of};
 
+use crate::blocks::{is_ascii_block, units32};
 use crate::ends::first_char;
-use crate::lanes::{high_bytes32, is_ascii_block, trailing_bits};
+use crate::surrogates::trailing_bits;
 use crate::{Utf16Order, is_trailing_surrogate};
 use std::simd::prelude::*;
 
@@ -59,7 +60,7 @@ pub fn trailing_units<E: Utf16Order>(raw: &[u8]) -> usize
     let mut trailing: usize = 0;
     while raw.len() - at >= 64 {
         let block = u8x64::from_slice(&raw[at..]);
-        trailing += trailing_bits(high_bytes32::<E>(block)).count_ones() as usize;
+        trailing += trailing_bits(units32::<E>(block)).count_ones() as usize;
         at += 64;
     }
     while raw.len() - at >= 2 {

@@ -7,10 +7,8 @@ ghost use Rattle.utf16_units.specs.Lanes.{HasNoSurrogate, IsNoSurrogate, PairedT
 ghost use Rattle.utf16_units.specs.Unit.{unit_of};
 ghost use Rattle.utf16_units.specs.Utf16Error.{IsErrorOf};
 
-use crate::lanes::{
-    has_no_surrogate, high_bytes4, high_bytes8, high_bytes16, high_bytes32, leading_bits, paired,
-    plain_len,
-};
+use crate::blocks::{units4, units8, units16, units32};
+use crate::surrogates::{has_no_surrogate, leading_bits, paired, plain_len};
 use crate::{Utf16Error, Utf16Order, is_trailing_surrogate};
 use std::simd::prelude::*;
 
@@ -95,7 +93,7 @@ pub fn plain_prefix_len<E: Utf16Order>(raw: &[u8]) -> usize
     if raw.len() < 64 {
         return 0;
     }
-    2 * plain_len(high_bytes32::<E>(u8x64::from_slice(raw)))
+    2 * plain_len(units32::<E>(u8x64::from_slice(raw)))
 }
 
 /// Returns whether at most sixty-four bytes are whole code units of which none is a surrogate; no
@@ -133,14 +131,14 @@ fn has_no_surrogate_short<E: Utf16Order>(raw: &[u8]) -> bool
 {
     let len = raw.len();
     if len < 16 {
-        has_no_surrogate(high_bytes4::<E>(u8x8::from_slice(raw)))
-            && has_no_surrogate(high_bytes4::<E>(u8x8::from_slice(&raw[len - 8..])))
+        has_no_surrogate(units4::<E>(u8x8::from_slice(raw)))
+            && has_no_surrogate(units4::<E>(u8x8::from_slice(&raw[len - 8..])))
     } else if len < 32 {
-        has_no_surrogate(high_bytes8::<E>(u8x16::from_slice(raw)))
-            && has_no_surrogate(high_bytes8::<E>(u8x16::from_slice(&raw[len - 16..])))
+        has_no_surrogate(units8::<E>(u8x16::from_slice(raw)))
+            && has_no_surrogate(units8::<E>(u8x16::from_slice(&raw[len - 16..])))
     } else {
-        has_no_surrogate(high_bytes16::<E>(u8x32::from_slice(raw)))
-            && has_no_surrogate(high_bytes16::<E>(u8x32::from_slice(&raw[len - 32..])))
+        has_no_surrogate(units16::<E>(u8x32::from_slice(raw)))
+            && has_no_surrogate(units16::<E>(u8x32::from_slice(&raw[len - 32..])))
     }
 }
 
@@ -199,13 +197,13 @@ fn paired_blocks<E: Utf16Order>(raw: &[u8], from: usize) -> (usize, bool)
     let mut at = from;
     let mut leading = false;
     while raw.len() - at >= 64 {
-        let highs = high_bytes32::<E>(u8x64::from_slice(&raw[at..]));
-        let Some(last) = paired(highs, leading) else {
+        let units = units32::<E>(u8x64::from_slice(&raw[at..]));
+        let Some(last) = paired(units, leading) else {
             break;
         };
         leading = last;
         at += 64;
-        if at % PLAIN_EVERY == 0 && leading_bits(highs) == 0 && !leading {
+        if at % PLAIN_EVERY == 0 && leading_bits(units) == 0 && !leading {
             at = plain_blocks::<E>(raw, at);
         }
     }
@@ -253,7 +251,7 @@ fn plain_pairs<E: Utf16Order>(raw: &[u8], from: usize) -> usize
 fn is_plain<E: Utf16Order>(block: u8x64) -> bool
     ensures { IsTrue result → HasNoSurrogate (units_of E.BIG block) }
 {
-    has_no_surrogate(high_bytes32::<E>(block))
+    has_no_surrogate(units32::<E>(block))
 }
 
 // The end of the blocks of 64 bytes from `from` on that have no surrogate.
@@ -284,7 +282,7 @@ fn paired_half_block<E: Utf16Order>(raw: &[u8], at: usize, leading: bool) -> (us
         return (at, leading);
     }
     let block = u8x32::from_slice(&raw[at..]);
-    match paired(high_bytes16::<E>(block), leading) {
+    match paired(units16::<E>(block), leading) {
         Some(last) => (at + 32, last),
         None => (at, leading),
     }

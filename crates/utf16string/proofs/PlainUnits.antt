@@ -1,50 +1,30 @@
--- Blocks of units, each of which is a character: their test, their bytes, and those for which a
--- predicate returns true.
-use Rattle.std.proofs.Common.{◌≡◌, ℕ, ◌+◌, ◌-◌, ◌*◌, ◌/◌, ◌%◌, ◌^◌, ◌<◌, ◌≤◌, Bool, true, false, cond, nat_eq, bit_and, List, [], ◌∷◌, ◌++◌, All, get_or, length, map, replicate, take, drop, refl, sym, ap, ap₂, ◌∙◌, arith, append-nil, append_assoc, length-append, flat_map}
-use Rattle.std.proofs.lemmas.Bool.{eqb-false}
-use Rattle.std.proofs.lemmas.List.{drop-drop, length-map, length-take-le, take_all, take_more}
-use Rattle.std.proofs.lemmas.List.Elements.{All-cons, All-from_get_or, All-head, All-nil, All-tail}
-use Rattle.std.proofs.lemmas.Nat.Bits.{and_high}
-use Rattle.std.proofs.lemmas.Simd.{Each1-get_or, bitmask_splat, map-map, none_from_empty_mask, zip2_splat}
+-- Blocks of units, each of which is a character: their bytes, and those for which a predicate
+-- returns true.
+use Rattle.std.proofs.Common.{◌≡◌, ℕ, ◌+◌, ◌-◌, ◌<◌, ◌≤◌, Bool, true, false, List, [], ◌∷◌, ◌++◌, All, get_or, length, take, drop, refl, sym, ap, ap₂, ◌∙◌, arith, append-nil, append_assoc, length-append, flat_map}
+use Rattle.std.proofs.lemmas.List.{drop-drop, length-take-le, take_more}
+use Rattle.std.proofs.lemmas.List.Elements.{All-cons, All-head, All-nil, All-tail}
 use Rattle.std.specs.Char.{IsScalar}
 use Rattle.std.specs.List.{items_where_true}
-use mir.Syntax.{w16}
-use mir.Val.{Fits, bool_byte}
-use lib.Lanes.{Each1, mask_l, top, zip2}
+use mir.Val.{bool_byte}
 use Rattle.utf16_units.specs.Encoding.{encode}
 use Rattle.utf16_units.proofs.EncodingLemmas.{encode-append, encode-cons, encode-nil}
+use Rattle.utf16_units.specs.Lanes.{HasNoSurrogate, IsNoSurrogate}
 use Rattle.utf16_units.specs.Unit.{unit_bytes}
 use Rattle.utf16_units.proofs.FirstChar.{scalar_unit}
+use Rattle.utf16_units.proofs.PairLemmas.{is_not_of}
 use Rattle.utf16string.proofs.Asked.{kept-append}
 use Rattle.utf16_units.proofs.CharLemmas.{one_unit_bytes}
 
--- a unit whose upper five bits are not those of a surrogate is a character
-scalar-high : (u : ℕ) → u < 0x1_0000 → nat_eq (bit_and u 0xF800) 0xD800 ≡ false → IsScalar u
-scalar-high u below other =
-    let high : bit_and u 0xF800 ≡ u / 2048 % 32 * 2048 = and_high u 5 11 in
-    let apart = eqb-false _ _ other in
-    scalar_unit u below (λ leading. apart (omega (arith, high, leading.0, leading.1))) (λ trailing. apart (omega (arith, high, trailing.0, trailing.1)))
+abbrev pub IsUnit : ℕ → Type 0
+IsUnit u = u < 0x1_0000
 
--- whether a unit is a surrogate, by its upper five bits
-abbrev is_surrogate : ℕ → Bool
-is_surrogate u = nat_eq (bit_and u 0xF800) 0xD800
-
--- the bits of the surrogates of sixteen units, as lanes compute them
-abbrev pub lane_bits : List ℕ → ℕ
-lane_bits units = mask_l (map (top 15) (zip2 (λ a b. cond (nat_eq a b) 65535 0) (zip2 bit_and units (replicate 16 0xF800)) (replicate 16 0xD800))) % 2 ^ 64
-
-module _ (units : List ℕ) (long : length units ≡ 16) where
-  bits : lane_bits units ≡ mask_l (map is_surrogate units)
-  bits =
-      let upper = zip2_splat bit_and units 16 0xF800 long in
-      bitmask_splat w16 nat_eq (zip2 bit_and units (replicate 16 0xF800)) 16 0xD800 (ap length upper ∙ length-map units _ ∙ long) (omega arith)
-      ∙ ap (λ us. mask_l (map (λ u. nat_eq u 0xD800) us)) upper ∙ ap mask_l (map-map (λ u. nat_eq u 0xD800) (λ u. bit_and u 0xF800) units)
-
-  -- if none is set, each unit is a character
-  pub no_surrogate-scalars : lane_bits units ≡ 0 → Each1 (Fits w16) units → All IsScalar units
-  no_surrogate-scalars none fit = All-from_get_or IsScalar units 0 (λ i lt.
-      let clear : mask_l (map is_surrogate (take 16 units)) ≡ 0 = ap (λ us. mask_l (map is_surrogate us)) (take_all 16 units (omega (arith, long))) ∙ sym bits ∙ none in
-      scalar-high _ (Each1-get_or (Fits w16) units i 0 lt fit).fits (none_from_empty_mask is_surrogate units 0 16 0 (omega (arith, long)) clear i (omega arith) (omega (arith, lt, long))))
+-- a unit that is no surrogate is a character
+pub no_surrogate-scalars : (units : List ℕ) → All IsUnit units → HasNoSurrogate units → All IsScalar units
+no_surrogate-scalars [] below plain = All-nil IsScalar
+no_surrogate-scalars (u ∷ units) below plain =
+    let here = All-head IsNoSurrogate u units plain in
+    All-cons IsScalar u units (scalar_unit u (All-head IsUnit u units below) (is_not_of 54 u here.0) (is_not_of 55 u here.1))
+    (no_surrogate-scalars units (All-tail IsUnit u units below) (All-tail IsNoSurrogate u units plain))
 
 -- no more are kept than there are
 length-kept : {X : Type 0} → (answers : List Bool) (items : List X) → length (items_where_true answers items) ≤ length items
@@ -104,9 +84,6 @@ pub drop-later : (a b : ℕ) (xs ys : List ℕ) → a ≤ b → drop a xs ≡ dr
 drop-later a b xs ys le same_from =
     let all : a + (b - a) ≡ b = omega arith in
     ap (λ i. drop i xs) (sym all) ∙ sym (drop-drop (b - a) a xs) ∙ ap (drop (b - a)) same_from ∙ drop-drop (b - a) a ys ∙ ap (λ i. drop i ys) all
-
-abbrev pub IsUnit : ℕ → Type 0
-IsUnit u = u < 0x1_0000
 
 -- the bytes of characters of one unit each are those of the units
 pub encode-units : (big : Bool) (units : List ℕ) → All IsUnit units → encode big units ≡ flat_map (unit_bytes big) units

@@ -1,6 +1,6 @@
 //! Blocks of sixteen characters of one unit each, of which a predicate keeps some.
 
-ghost use Rattle.std.specs.Prelude.{◌≡◌, ◌+◌, ◌≤◌, [], ◌∷◌, ◌++◌, All, IfSome, IsTrue, length, take, drop};
+ghost use Rattle.std.specs.Prelude.{◌≡◌, ◌+◌, ◌≤◌, [], ◌∷◌, ◌++◌, All, IfSome, length, take, drop};
 ghost use Rattle.std.specs.Char.{IsScalar};
 ghost use Rattle.std.specs.List.{items_where_true};
 ghost use Rattle.utf16_units.specs.Encoding.{Encodes, encode};
@@ -10,6 +10,7 @@ ghost use Rattle.utf16string.specs.Retain.{MayBeAsked, RetainsTo};
 use std::simd::prelude::*;
 use utf16_units::Utf16Order;
 use utf16_units::blocks::units16;
+use utf16_units::surrogates::has_no_surrogate;
 
 /// The number of units of a block.
 const UNITS: usize = 16;
@@ -30,19 +31,10 @@ pub(crate) fn plain_block<E: Utf16Order>(bytes: &[u8], at: usize) -> Option<[u16
         return None;
     }
     let units = units16::<E>(u8x32::from_slice(&bytes[at..]));
-    if !is_plain(units) {
+    if !has_no_surrogate(units) {
         return None;
     }
     Some(units.to_array())
-}
-
-// Whether none of the units is a surrogate, so that each is a character.
-#[inline(always)]
-fn is_plain(units: u16x16) -> bool
-    ensures { IsTrue result → All IsScalar units }
-{
-    let surrogates = (units & Simd::splat(0xF800)).simd_eq(Simd::splat(0xD800));
-    surrogates.to_bitmask() == 0
 }
 
 // Calls the predicate on each character of a block, in turn, and moves those kept down. Returns the

@@ -1,4 +1,6 @@
-use Rattle.std.proofs.Common.{IsTrue, ◌↔◌, arith, subst, sym}
+use Rattle.std.proofs.Common.{IsTrue, ◌↔◌, ap, ◌∙◌, arith, map, subst}
+use lib.Lanes.{mask_l}
+use Rattle.std.specs.Char.Utf16.{is_low_surrogate}
 use Rattle.utf16_units.specs.Unit.{IsTrailing}
 use Rattle.utf16_units.proofs.CountLemmas.{CountedTo-all, CountedTo-block, CountedTo-few, CountedTo-none, CountedTo-unit}
 use Rattle.utf16_units.proofs.text.trailing_units.Goals as goal
@@ -9,7 +11,7 @@ loop-at-init g c = CountedTo-none g.E.Utf16Order.BIG c.args.raw.now
 pub loop-at-preserved : goal.loop-at-preserved
 loop-at-preserved g c =
     CountedTo-block g.E.Utf16Order.BIG c.args.raw.now c.loop-at.at c.loop-at.trailing c.trailing_bits.result c.loop-at.invariant (omega arith)
-    (c.trailing_bits.ensures _ (sym c.high_bytes32.ensures))
+    (c.trailing_bits.ensures ∙ ap (λ us. mask_l (map is_low_surrogate us)) c.units32.ensures.units)
 
 pub overflow_add-trailing : goal.overflow_add-trailing
 overflow_add-trailing g c = record { fits = omega (arith, CountedTo-few g.E.Utf16Order.BIG c.args.raw.now _ _ (loop-at-preserved g c)) }

@@ -1,5 +1,5 @@
-use Rattle.std.proofs.Common.{arith, refl, subst, sym}
-use Rattle.utf16_units.specs.Lanes.{PairedTo}
+use Rattle.std.proofs.Common.{arith, refl, subst}
+use Rattle.utf16_units.specs.Lanes.{Paired, PairedTo}
 use Rattle.utf16_units.proofs.PairLemmas.{PairedTo-next}
 use Rattle.utf16_units.proofs.validate.paired_blocks.Goals as goal
 
@@ -7,9 +7,9 @@ pub plain_blocks-at-requires : goal.plain_blocks-at-requires
 plain_blocks-at-requires g c =
     subst (PairedTo g.E.Utf16Order.BIG c.args.raw.now _) c.if-not-leading.true
     (PairedTo-next g.E.Utf16Order.BIG c.args.raw.now c.loop-at.at 64 c.loop-at.leading c.in-Some.last c.loop-at.invariant refl (omega arith)
-    (c.in-Some.ensures.some _ (sym c.high_bytes32-highs.ensures)))
+    (subst (λ us. Paired c.loop-at.leading us c.in-Some.last) c.units32-units.ensures.units c.in-Some.ensures.some))
 
 pub loop-at-preserved : goal.loop-at-preserved
 loop-at-preserved g c =
     PairedTo-next g.E.Utf16Order.BIG c.args.raw.now c.loop-at.at 64 c.loop-at.leading c.in-Some.last c.loop-at.invariant refl (omega arith)
-    (c.in-Some.ensures.some _ (sym c.high_bytes32-highs.ensures))
+    (subst (λ us. Paired c.loop-at.leading us c.in-Some.last) c.units32-units.ensures.units c.in-Some.ensures.some)

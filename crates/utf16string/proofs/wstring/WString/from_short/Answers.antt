@@ -1,4 +1,4 @@
-use Rattle.std.proofs.Common.{◌≡◌, ◌++◌, ◌∙◌, ap, refl, take}
+use Rattle.std.proofs.Common.{◌≡◌, ◌++◌, ◌∙◌, ap, take}
 use Rattle.std.specs.Str.{chars}
 use Rattle.utf16_units.specs.Encoding.{encode, text_of}
 use Rattle.utf16string.proofs.Converted.{converted-IsUtf16, converted-text}

@@ -1,5 +1,5 @@
--- The lanes of a block: the high bytes of its units, and the bits of its surrogates.
-use Rattle.std.proofs.Common.{◌≡◌, ℕ, zero, suc, ◌+◌, ◌-◌, ◌*◌, ◌/◌, ◌%◌, ◌^◌, ◌<◌, ◌≤◌, ◌&&◌, Bool, true, false, cond, eqb, leb, ltb, List, [], ◌∷◌, ◌++◌, map, length, get_or, replicate, bit_and, refl, sym, ap, ap₂, ◌∙◌, subst, ⊎_elim, arith, Fits, w8, length-append, true≢false}
+-- The surrogates of a block of units, by their high bytes and as bits.
+use Rattle.std.proofs.Common.{◌≡◌, ℕ, ◌+◌, ◌-◌, ◌*◌, ◌/◌, ◌%◌, ◌^◌, ◌<◌, ◌≤◌, ◌&&◌, Bool, true, false, cond, eqb, leb, ltb, List, [], ◌∷◌, ◌++◌, map, length, replicate, bit_and, refl, sym, ap, ap₂, ◌∙◌, subst, ⊎_elim, arith, Fits, w8, w16, length-append, true≢false}
 use Rattle.std.proofs.lemmas.Bool.{and_parts, cases_Bool, cases_lt, eqb-false, eqb-true, false_from_ne_true, le-leb, leb-true, lt-leb, lt-ltb, ltb-true}
 use Rattle.std.proofs.lemmas.List.{length-map}
 use Rattle.std.proofs.lemmas.List.Elements.{All-cons, All-nil, All-head, All-tail}
@@ -8,48 +8,37 @@ use Rattle.std.proofs.lemmas.Nat.Bits.{and_high}
 use Rattle.std.proofs.lemmas.Simd.{bitmask_splat, map-map, mask_l-lt, zip2_splat}
 use Rattle.std.proofs.Math.Nat.{mod-eq_of_lt, pow-le-pow_right, two-pow-succ}
 use Rattle.std.specs.Char.Utf16.{is_high_surrogate, is_low_surrogate}
-use lib.Lanes.{Each1, mask_l, pick_l, top, zip2}
+use lib.Lanes.{Each1, mask_l, top, zip2}
 use mir.Val.{bool_byte}
-use Rattle.utf16_units.specs.Encoding.{units_of}
 use Rattle.utf16_units.specs.Lanes.{HasNoSurrogate, IsNoSurrogate, Paired, high_byte}
 
--- every second position, from i on
-abbrev pub positions : ℕ → ℕ → List ℕ
-positions i zero = []
-positions i (suc n) = i ∷ positions (suc (suc i)) n
+-- the high bytes of units, as lanes compute them: each fits into a byte
+high_bytes-fit : (units : List ℕ) → Each1 (Fits w16) units → Each1 (Fits w8) (map high_byte units)
+high_bytes-fit [] fit = tt
+high_bytes-fit (unit ∷ units) fit = let below = fit.0.fits in (record { fits = omega (arith, below) }, high_bytes-fit units fit.1)
 
--- the index of the high byte of the first unit
-abbrev pub high_at : Bool → ℕ
-high_at big = cond big 0 1
+module _ (units : List ℕ) (n : ℕ) (long : length units ≡ n) where
+  shifted : zip2 (λ (u bits : ℕ). u / 2 ^ bits) units (replicate n 8) ≡ map high_byte units
+  shifted = zip2_splat (λ (u bits : ℕ). u / 2 ^ bits) units n 8 long
 
-positions-past : (x y i n : ℕ) (bytes : List ℕ) → pick_l 0 (x ∷ y ∷ bytes) (positions (suc (suc i)) n) ≡ pick_l 0 bytes (positions i n)
-positions-past x y i zero bytes = refl
-positions-past x y i (suc n) bytes = ap (λ t. get_or bytes i 0 ∷ t) (positions-past x y (suc (suc i)) n bytes)
+  pub high_bytes-lanes : map (λ (u : ℕ). u) (zip2 (λ (u bits : ℕ). u / 2 ^ bits) units (replicate n 8)) ≡ map high_byte units
+  high_bytes-lanes = ap (map (λ (u : ℕ). u)) shifted ∙ map-map (λ (u : ℕ). u) high_byte units
 
--- every second byte is the high byte of a unit
-pub high_bytes-picked : (big : Bool) (n : ℕ) (bytes more : List ℕ) → length bytes ≡ n + n → Each1 (Fits w8) bytes
-    → pick_l 0 (bytes ++ more) (positions (high_at big) n) ≡ map high_byte (units_of big bytes)
-unfolding units_of
-high_bytes-picked big zero [] more long fit = refl
-high_bytes-picked big zero (x ∷ bytes) more long fit = absurd (omega arith)
-high_bytes-picked big (suc n) [] more long fit = absurd (omega arith)
-high_bytes-picked big (suc n) (x ∷ []) more long fit = absurd (omega arith)
-high_bytes-picked true (suc n) (x ∷ y ∷ bytes) more long fit =
-    let here : (256 * x + y) / 256 ≡ x = omega (arith, fit.1.0.fits) in
-    ap₂ (λ b t. b ∷ t) (sym here) (positions-past x y 0 n (bytes ++ more) ∙ high_bytes-picked true n bytes more (omega arith) fit.1.1)
-high_bytes-picked false (suc n) (x ∷ y ∷ bytes) more long fit =
-    let here : (256 * y + x) / 256 ≡ y = omega (arith, fit.0.fits) in
-    ap₂ (λ b t. b ∷ t) (sym here) (positions-past x y 1 n (bytes ++ more) ∙ high_bytes-picked false n bytes more (omega arith) fit.1.1)
+  pub high_bytes-lanes_fit : Each1 (Fits w16) units → Each1 (Fits w8) (zip2 (λ (u bits : ℕ). u / 2 ^ bits) units (replicate n 8))
+  high_bytes-lanes_fit fit = subst (Each1 (Fits w8)) (sym shifted) (high_bytes-fit units fit)
 
--- the bits of the bytes that a mask makes equal to a class
-pub class_bits-mask_l : (highs : List ℕ) (n mask class : ℕ) → length highs ≡ n → n ≤ 64
+-- the bits of the units whose high bytes a mask makes equal to a class
+pub class_bits-mask_l : (units highs : List ℕ) (n mask class : ℕ) → length units ≡ n → n ≤ 64 → highs ≡ map high_byte units
     → mask_l (map (top 7) (zip2 (λ a b. cond (eqb a b) 255 0) (zip2 bit_and highs (replicate n mask)) (replicate n class))) % 2 ^ 64
-    ≡ mask_l (map (λ high. eqb (bit_and high mask) class) highs)
-class_bits-mask_l highs n mask class long few =
+    ≡ mask_l (map (λ unit. eqb (bit_and (high_byte unit) mask) class) units)
+class_bits-mask_l units highs n mask class many few are =
+    let long = ap length are ∙ length-map units high_byte ∙ many in
     let masked = zip2_splat bit_and highs n mask long in
     bitmask_splat w8 eqb (zip2 bit_and highs (replicate n mask)) n class (ap length masked ∙ length-map highs _ ∙ long) few
     ∙ ap (λ bs. mask_l (map (λ b. eqb b class) bs)) masked
     ∙ ap mask_l (map-map (λ b. eqb b class) (λ high. bit_and high mask) highs)
+    ∙ ap (λ hs. mask_l (map (λ high. eqb (bit_and high mask) class) hs)) are
+    ∙ ap mask_l (map-map (λ high. eqb (bit_and high mask) class) high_byte units)
 
 -- ---- the two classes of surrogates, each of 1024 units: at 54 the leading ones, at 55 the
 -- trailing ones
@@ -69,27 +58,16 @@ class_by m unit x y within same = ⊎_elim
     eqb-false x y no (same (leb-true _ _ parts.0) (ltb-true _ _ parts.1)))))
     (cases_Bool (eqb x y))
 
-class_of_high : (m unit : ℕ) → unit / 256 < 256 → m < 64 → eqb (bit_and (high_byte unit) 0xFC) (4 * m) ≡ in_class m unit
-class_of_high m unit byte few =
+class_of_high : (m unit : ℕ) → unit < 0x1_0000 → m < 64 → eqb (bit_and (high_byte unit) 0xFC) (4 * m) ≡ in_class m unit
+class_of_high m unit small few =
     let upper : bit_and (unit / 256) 0xFC ≡ unit / 256 / 4 % 64 * 4 = and_high (unit / 256) 6 2 in
     class_by m unit (bit_and (unit / 256) 0xFC) (4 * m) (λ same. (omega arith, omega arith)) (λ from below. omega arith)
 
-classes_of_highs : (m : ℕ) (units : List ℕ) → m < 64 → Each1 (Fits w8) (map high_byte units)
-    → map (λ high. eqb (bit_and high 0xFC) (4 * m)) (map high_byte units) ≡ map (in_class m) units
-classes_of_highs m [] few fit = refl
-classes_of_highs m (unit ∷ units) few fit = ap₂ (λ b bs. b ∷ bs) (class_of_high m unit fit.0.fits few) (classes_of_highs m units few fit.1)
-
--- the bits of a class, for the units that have these high bytes
-pub class_bits-units : (m : ℕ) (units highs : List ℕ) → m < 64 → Each1 (Fits w8) highs → map high_byte units ≡ highs
-    → mask_l (map (λ high. eqb (bit_and high 0xFC) (4 * m)) highs) ≡ mask_l (map (in_class m) units)
-class_bits-units m units highs few fit e =
-    ap (λ hs. mask_l (map (λ high. eqb (bit_and high 0xFC) (4 * m)) hs)) (sym e)
-    ∙ ap mask_l (classes_of_highs m units few (subst (Each1 (Fits w8)) (sym e) fit))
-
--- each list of bytes is the high bytes of some units
-pub some_units : (highs : List ℕ) → map high_byte (map (λ high. 256 * high) highs) ≡ highs
-some_units [] = refl
-some_units (high ∷ highs) = ap₂ (λ h hs. h ∷ hs) (omega arith) (some_units highs)
+-- the bits of a class
+pub class_bits-units : (m : ℕ) (units : List ℕ) → m < 64 → Each1 (Fits w16) units
+    → mask_l (map (λ unit. eqb (bit_and (high_byte unit) 0xFC) (4 * m)) units) ≡ mask_l (map (in_class m) units)
+class_bits-units m [] few fit = refl
+class_bits-units m (unit ∷ units) few fit = ap₂ (λ b bits. cond b 1 0 + 2 * bits) (class_of_high m unit fit.0.fits few) (class_bits-units m units few fit.1)
 
 -- ---- pairs, by bits
 
@@ -139,16 +117,14 @@ bit-below : (b : Bool) → cond b 1 0 < 2
 bit-below true = omega arith
 bit-below false = omega arith
 
-module _ (highs : List ℕ) (n leading : ℕ) (long : length highs ≡ n)
-    (bits : (units : List ℕ) → map high_byte units ≡ highs → leading ≡ mask_l (map is_high_surrogate units)) where
-  count : {A : Type 0} (f : ℕ → A) (units : List ℕ) → map high_byte units ≡ highs → length (map f units) ≡ n
-  count f units e = length-map units f ∙ sym (length-map units high_byte) ∙ ap length e ∙ long
+module _ (units : List ℕ) (n leading : ℕ) (long : length units ≡ n) (bits : leading ≡ mask_l (map is_high_surrogate units)) where
+  count : {A : Type 0} (f : ℕ → A) → length (map f units) ≡ n
+  count f = length-map units f ∙ long
 
   leading-below : leading < 2 ^ n
   leading-below =
-      let units = map (λ high. 256 * high) highs in
-      subst (λ k. leading < 2 ^ k) (count is_high_surrogate units (some_units highs))
-      (subst (λ l. l < 2 ^ length (map is_high_surrogate units)) (sym (bits units (some_units highs))) (mask_l-lt (map is_high_surrogate units)))
+      subst (λ k. leading < 2 ^ k) (count is_high_surrogate)
+      (subst (λ l. l < 2 ^ length (map is_high_surrogate units)) (sym bits) (mask_l-lt (map is_high_surrogate units)))
 
   pub expected-fits : (before : Bool) → n ≤ 32 → 2 * leading + bool_byte before < 2 ^ 34
   expected-fits before few =
@@ -157,33 +133,33 @@ module _ (highs : List ℕ) (n leading : ℕ) (long : length highs ≡ n)
 
   -- if the trailing units are the leading ones shifted by one, the surrogates are paired, and the
   -- bit above says whether the last unit is leading
-  pub paired_by_bits : (before : Bool) (units : List ℕ) → n ≤ 32 → map high_byte units ≡ highs
+  pub paired_by_bits : (before : Bool) → n ≤ 32
       → mask_l (map is_low_surrogate units) ≡ (2 * leading + bool_byte before) % (1 * 2 ^ n % 2 ^ 64)
       → Paired before units (leb (1 * 2 ^ n % 2 ^ 64) (2 * leading + bool_byte before))
-  paired_by_bits before units few have e =
+  paired_by_bits before few e =
       let expected = 2 * leading + bool_byte before in
       let power : 1 * 2 ^ n % 2 ^ 64 ≡ 2 ^ n = one_shl n 64 (omega arith) in
       let after = leb (1 * 2 ^ n % 2 ^ 64) expected in
       let lows = map is_low_surrogate units in
-      let low_count = count is_low_surrogate units have in
+      let low_count = count is_low_surrogate in
       mask_l-injective (lows ++ after ∷ []) (before ∷ map is_high_surrogate units)
-      (omega (arith, length-append lows (after ∷ []), low_count, count is_high_surrogate units have))
+      (omega (arith, length-append lows (after ∷ []), low_count, count is_high_surrogate))
       (mask_l-last lows after ∙ ap (λ k. mask_l lows + cond after (2 ^ k) 0) low_count
       ∙ ap₂ (λ m b. m + cond b (2 ^ n) 0) (e ∙ ap (λ p. expected % p) power) (ap (λ p. leb p expected) power)
       ∙ halves expected n (omega (arith, leading-below, byte-cond before, bit-below before))
-      ∙ omega (arith, bits units have, byte-cond before))
+      ∙ omega (arith, bits, byte-cond before))
 
   -- if the surrogates are paired, the trailing units are the leading ones shifted by one
-  pub bits_by_paired : (before after : Bool) (units : List ℕ) → n ≤ 32 → map high_byte units ≡ highs → Paired before units after
+  pub bits_by_paired : (before after : Bool) → n ≤ 32 → Paired before units after
       → mask_l (map is_low_surrogate units) ≡ (2 * leading + bool_byte before) % (1 * 2 ^ n % 2 ^ 64)
-  bits_by_paired before after units few have p =
+  bits_by_paired before after few p =
       let lows = map is_low_surrogate units in
-      let low_count = count is_low_surrogate units have in
+      let low_count = count is_low_surrogate in
       let power : 1 * 2 ^ n % 2 ^ 64 ≡ 2 ^ n = one_shl n 64 (omega arith) in
       let below : mask_l lows < 2 ^ n = subst (λ k. mask_l lows < 2 ^ k) low_count (mask_l-lt lows) in
       let last : mask_l (before ∷ map is_high_surrogate units) ≡ mask_l lows + cond after (2 ^ n) 0 =
       sym (ap mask_l p) ∙ mask_l-last lows after ∙ ap (λ k. mask_l lows + cond after (2 ^ k) 0) low_count in
-      let whole : mask_l lows + cond after (2 ^ n) 0 ≡ 2 * leading + bool_byte before = sym last ∙ omega (arith, bits units have, byte-cond before) in
+      let whole : mask_l lows + cond after (2 ^ n) 0 ≡ 2 * leading + bool_byte before = sym last ∙ omega (arith, bits, byte-cond before) in
       sym (low_part after n (mask_l lows) below) ∙ ap (λ m. m % 2 ^ n) whole ∙ ap (λ p. (2 * leading + bool_byte before) % p) (sym power)
 
 -- the upper five bits of a surrogate's high byte are its own
@@ -198,17 +174,14 @@ no_surrogate_here unit other =
     eqb-false (bit_and (high_byte unit) 0xF8) 0xD8 other (omega arith)) in
     (outside 54 (omega arith) (omega arith), outside 55 (omega arith) (omega arith))
 
-plain_units : (units : List ℕ) → mask_l (map (λ high. eqb (bit_and high 0xF8) 0xD8) (map high_byte units)) ≡ 0 → HasNoSurrogate units
-plain_units [] none = All-nil IsNoSurrogate
-plain_units (unit ∷ units) none =
+-- no unit has these bits: none is a surrogate
+pub no_surrogate_by_bits : (units : List ℕ) → mask_l (map (λ unit. eqb (bit_and (high_byte unit) 0xF8) 0xD8) units) ≡ 0 → HasNoSurrogate units
+no_surrogate_by_bits [] none = All-nil IsNoSurrogate
+no_surrogate_by_bits (unit ∷ units) none =
     let here = same_bit (eqb (bit_and (high_byte unit) 0xF8) 0xD8) false _ 0 none in
-    All-cons IsNoSurrogate unit units (no_surrogate_here unit here.0) (plain_units units here.1)
+    All-cons IsNoSurrogate unit units (no_surrogate_here unit here.0) (no_surrogate_by_bits units here.1)
 
--- none of the high bytes has these bits: no unit is a surrogate
-pub no_surrogate_by_bits : (units highs : List ℕ) → map high_byte units ≡ highs → mask_l (map (λ high. eqb (bit_and high 0xF8) 0xD8) highs) ≡ 0 → HasNoSurrogate units
-no_surrogate_by_bits units highs same none = plain_units units (ap (λ hs. mask_l (map (λ high. eqb (bit_and high 0xF8) 0xD8) hs)) same ∙ none)
-
-pub surrogate_there : (unit : ℕ) → unit / 256 < 256 → IsNoSurrogate unit → eqb (bit_and (high_byte unit) 0xF8) 0xD8 ≡ false
+pub surrogate_there : (unit : ℕ) → unit < 0x1_0000 → IsNoSurrogate unit → eqb (bit_and (high_byte unit) 0xF8) 0xD8 ≡ false
 surrogate_there unit small plain =
     let upper : bit_and (unit / 256) 0xF8 ≡ unit / 256 / 8 % 32 * 8 = and_high (unit / 256) 5 3 in
     let inside : (m : ℕ) → 1024 * m ≤ unit → unit < 1024 * m + 1024 → in_class m unit ≡ true = λ m from to.
@@ -220,12 +193,9 @@ surrogate_there unit small plain =
     (λ (high : 0xDC00 ≤ unit). true≢false (sym (inside 55 (omega arith) (omega arith)) ∙ plain.1))
     (cases_lt unit 0xDC00))
 
-plain_bits : (units : List ℕ) → Each1 (Fits w8) (map high_byte units) → HasNoSurrogate units → mask_l (map (λ high. eqb (bit_and high 0xF8) 0xD8) (map high_byte units)) ≡ 0
-plain_bits [] fit plain = refl
-plain_bits (unit ∷ units) fit plain =
-    ap₂ (λ bit rest. cond bit 1 0 + 2 * rest) (surrogate_there unit fit.0.fits (All-head IsNoSurrogate unit units plain)) (plain_bits units fit.1 (All-tail IsNoSurrogate unit units plain))
-
--- and none has them if no unit is a surrogate
-pub bits_of_no_surrogate : (units highs : List ℕ) → map high_byte units ≡ highs → Each1 (Fits w8) highs → HasNoSurrogate units → mask_l (map (λ high. eqb (bit_and high 0xF8) 0xD8) highs) ≡ 0
-bits_of_no_surrogate units highs same fit plain =
-    ap (λ hs. mask_l (map (λ high. eqb (bit_and high 0xF8) 0xD8) hs)) (sym same) ∙ plain_bits units (subst (Each1 (Fits w8)) (sym same) fit) plain
+-- and none has them if none is a surrogate
+pub bits_of_no_surrogate : (units : List ℕ) → Each1 (Fits w16) units → HasNoSurrogate units → mask_l (map (λ unit. eqb (bit_and (high_byte unit) 0xF8) 0xD8) units) ≡ 0
+bits_of_no_surrogate [] fit plain = refl
+bits_of_no_surrogate (unit ∷ units) fit plain =
+    ap₂ (λ bit rest. cond bit 1 0 + 2 * rest) (surrogate_there unit fit.0.fits (All-head IsNoSurrogate unit units plain))
+    (bits_of_no_surrogate units fit.1 (All-tail IsNoSurrogate unit units plain))
