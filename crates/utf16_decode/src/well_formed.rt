@@ -1,11 +1,12 @@
 //! Unpaired surrogates replaced by U+FFFD, which has the same length: in place, and in a copy.
 
-ghost use Rattle.std.specs.Prelude.{◌≡◌, ◌+◌, ◌*◌, ◌/◌, ◌%◌, ◌<◌, ◌≤◌, ◌++◌, ℕ, length, slice_index, take, drop};
+ghost use Rattle.std.specs.Prelude.{◌≡◌, ◌+◌, ◌*◌, ◌/◌, ◌%◌, ◌≤◌, ◌++◌, length, take, drop};
 ghost use Rattle.utf16_units.specs.Encoding.{Encodes, IsUtf16, encode};
 ghost use Rattle.utf16_units.specs.Split.{lossy_chars, lossy_text, split_items, split_tail};
 ghost use Rattle.utf16_decode.specs.Unpaired.{unpaired};
 
 use crate::utf8::valid_up_to;
+use utf16_units::laws::are_bytes;
 use utf16_units::{Utf16Order, first_char_len, is_leading_surrogate};
 
 // U+FFFD, the replacement character.
@@ -104,10 +105,3 @@ fn write_unit(utf16: &mut [u8], at: usize, unit: [u8; 2])
     utf16[at] = unit[0];
     utf16[at + 1] = unit[1];
 }
-
-// States that bytes are below 256, as the type of their slice says. It does nothing: a proof cites
-// it by a call.
-#[inline(always)]
-fn are_bytes(bytes: &[u8])
-    ensures { (k : ℕ) → slice_index bytes.now k < 256 }
-{}

@@ -7,9 +7,10 @@ ghost use Rattle.utf16_streams.specs.AnyLossy.{any_byte_order, any_pending, stat
 ghost use Rattle.utf16_streams.specs.Bom.{big_in, items_in, byte_order_after, tail_in};
 ghost use Rattle.utf16_streams.specs.Filter.{decided_utf8};
 
-use crate::decoder::{Decoder, LEAST_BUFFER, are_bytes, feed};
+use crate::decoder::{Decoder, LEAST_BUFFER, feed};
 use crate::lossy::Lossy;
 use std::alloc::{AllocError, Allocator};
+use utf16_units::laws::are_bytes;
 use utf16_units::{BE, LE};
 
 /// A decoder of UTF-16 that comes in chunks, cut anywhere, in the byte order that its BOM gives. A

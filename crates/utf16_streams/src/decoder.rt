@@ -1,6 +1,6 @@
 //! Decoding of a stream that comes in chunks.
 
-ghost use Rattle.std.specs.Prelude.{◌≡◌, ◌≢◌, ◌↔◌, ℕ, Bool, List, Option, [], ◌++◌, ◌+◌, ◌*◌, ◌<◌, ◌≤◌, All, None, Some, IfOk, IsOk, OnErr, OnOk, encode_utf8_all, length, string_bytes, take};
+ghost use Rattle.std.specs.Prelude.{◌≡◌, ◌≢◌, ◌↔◌, ℕ, Bool, List, Option, [], ◌++◌, ◌+◌, ◌*◌, ◌≤◌, None, Some, IfOk, IsOk, OnErr, OnOk, encode_utf8_all, length, string_bytes, take};
 ghost use Rattle.utf16_units.specs.Split.{lossy_chars};
 ghost use Rattle.utf16_streams.specs.Bom.{items_in, byte_order_after, tail_in};
 ghost use Rattle.utf16_streams.specs.Filter.{decided_utf8, whole_utf8};
@@ -148,10 +148,3 @@ pub fn feed<D: Decoder, A: Allocator>(
     }
     Ok(text)
 }
-
-/// States that bytes are below 256, as the type of their slice says. It does nothing: a proof cites
-/// it by a call.
-#[inline]
-pub fn are_bytes(bytes: &[u8])
-    ensures { All (λ b. b < 256) bytes.now }
-{}

@@ -10,11 +10,12 @@ ghost use Rattle.utf16_units.specs.Split.{decided_text, IsTail, lossy_text, spli
 ghost use Rattle.utf16_decode.specs.Decodes.{Decodes};
 ghost use Rattle.utf16_decode.specs.Stream.{stream_pending};
 
-use crate::decoder::{BUFFER_LEN, Decoder, FEED_SLACK, LEAST_BUFFER, are_bytes, feed};
+use crate::decoder::{BUFFER_LEN, Decoder, FEED_SLACK, LEAST_BUFFER, feed};
 use std::alloc::{AllocError, Allocator};
 use std::marker::PhantomData;
 use utf16_decode::{Stream, ToUtf8};
 use utf16_units::Utf16Order;
+use utf16_units::laws::are_bytes;
 
 /// A decoder of UTF-16 in the byte order `E` that comes in chunks, cut anywhere. Ill-formed
 /// sequences become U+FFFD, the replacement character: one for each unpaired surrogate. At most

@@ -6,6 +6,7 @@
 //! `specs/Laws.antt`: they are about the definitions alone, for all texts, all bytes and both byte
 //! orders.
 
+ghost use Rattle.std.specs.Prelude.{◌<◌, All};
 ghost use Rattle.utf16_units.specs.Laws.{BeforeFollows, BeforeTotal, BoundaryCuts, CutAnywhere, EncodedText, FoundAligned, FoundExactly, InsertThenRemove, ItemsStay, JoinedText, MoreAfter, NoneContinues, RecipeIsSplit, ResumesIsSplit, ShownWithin, SplitExists, SplitExtends, SplitThenPush, SplitUnique, SwappedOrders, TextIsShown, TwoNeverContinues, UniqueText, Utf8Back};
 
 /// Two texts with equal encodings in one byte order are equal.
@@ -144,4 +145,10 @@ pub fn found_exactly()
 /// Bytes that encode a text are well formed, decode to that text, and are as long as its size.
 pub fn encoded_text()
     ensures { EncodedText }
+{}
+
+/// Bytes are below 256, as the type of their slice says.
+#[inline(always)]
+pub fn are_bytes(bytes: &[u8])
+    ensures { All (λ b. b < 256) bytes.now }
 {}

@@ -6,10 +6,11 @@ ghost use Rattle.utf16_units.specs.Encoding.{size};
 ghost use Rattle.utf8_bytes.specs.Split.{decided_text, IsTail, split_tail};
 ghost use Rattle.utf16_decode.specs.Stream.{stream_pending};
 
-use crate::parts::{are_bytes, feed};
+use crate::parts::feed;
 use std::alloc::{AllocError, Allocator};
 use std::marker::PhantomData;
 use utf16_encode::Stream;
+use utf16_units::laws::are_bytes;
 use utf16string::{Utf16Order, WString};
 
 /// A decoder of UTF-8 that comes in chunks, cut anywhere, into a UTF-16 string in the byte order

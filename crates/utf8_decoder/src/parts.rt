@@ -1,6 +1,6 @@
 //! A chunk of UTF-8 decoded part by part, through a buffer.
 
-ghost use Rattle.std.specs.Prelude.{◌≡◌, ◌+◌, ◌*◌, ◌<◌, ◌≤◌, [], ◌++◌, All, IfOk, IsOk, OnErr, OnOk, length};
+ghost use Rattle.std.specs.Prelude.{◌≡◌, ◌+◌, ◌*◌, ◌≤◌, [], ◌++◌, IfOk, IsOk, OnErr, OnOk, length};
 ghost use Rattle.utf16_units.specs.Edit.{push_text};
 ghost use Rattle.utf16_units.specs.Encoding.{size};
 ghost use Rattle.utf8_bytes.specs.Split.{decided_text, split_tail};
@@ -138,10 +138,3 @@ fn decode_part<'a, E: Utf16Order>(
     let written = feed_utf8::<E>(&mut stream, part, buffer).written;
     (stream, WStr::from_utf16_unchecked(&buffer[..written]))
 }
-
-/// States that bytes are below 256, as the type of their slice says. It does nothing: a proof cites
-/// it by a call.
-#[inline]
-pub fn are_bytes(bytes: &[u8])
-    ensures { All (λ b. b < 256) bytes.now }
-{}

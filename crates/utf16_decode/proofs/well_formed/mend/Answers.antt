@@ -1,4 +1,5 @@
 use Rattle.std.proofs.Common.{◌++◌, take, arith, ap, ◌∙◌, subst}
+use Rattle.utf16_units.proofs.FirstChar.{AreBytes-from_All}
 use Rattle.utf16_decode.proofs.MendLemmas.{Mended, Mended-char, Mended-lone, Mended-none, Mended-text, mended_bytes, mended_count}
 use Rattle.utf16_decode.proofs.well_formed.mend.Goals as goal
 
@@ -13,7 +14,7 @@ loop-at-preserved-in-Ok g c =
 
 pub loop-at-preserved : goal.loop-at-preserved
 loop-at-preserved g c =
-    Mended-lone _ _ _ _ _ c.loop-at.invariant _ c.in-Err.field-0 c.are_bytes.ensures (omega (arith, c.loop-at-test.true, c.loop-at.invariant.long)) c.in-Err.ensures.ill_formed c.write_unit.auto.utf16
+    Mended-lone _ _ _ _ _ c.loop-at.invariant _ c.in-Err.field-0 (AreBytes-from_All _ c.are_bytes.ensures) (omega (arith, c.loop-at-test.true, c.loop-at.invariant.long)) c.in-Err.ensures.ill_formed c.write_unit.auto.utf16
     (c.write_unit.ensures.put ∙ ap (λ b. take c.loop-at.at c.loop-at.utf16 ++ b) c.write_unit-replacement.ensures) c.write_unit.ensures.rest
 
 pub returns-clause-bytes : goal.returns-clause-bytes
