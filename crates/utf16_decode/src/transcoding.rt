@@ -58,7 +58,7 @@ fn write_quick_chars<D: Direction>(input: &[u8], to: &mut [u8]) -> Option<usize>
     let (mut read, mut written) = D::begin_short(input, to)?;
     while read < input.len() {
         let (c, len) = D::quick_first_char(&input[read..])?;
-        written = D::write_next_char(c, to, written)?;
+        written = D::write_char(c, to, written)?;
         read += len;
     }
     Some(written)
@@ -339,7 +339,7 @@ fn write_next_char<D: Direction>(
 {
     D::laws();
     let (c, len) = first_char::<D>(rest)?;
-    match D::write_next_char(c, to, at) {
+    match D::write_char(c, to, at) {
         Some(end) => Ok((len, end)),
         None => Err(Stop::NoRoom),
     }

@@ -17,7 +17,7 @@ returns-in-Some-clause-wrote g c =
 
 pub returns-in-None-clause-stop : goal.returns-in-None-clause-stop
 returns-in-None-clause-stop g c =
-    first_does_not_fit g.D.Direction.from g.D.Direction.into _ _ _ c.in_ok-c.ensures.char _ (c.write_next_char.ensures.none c.in-None.is)
+    first_does_not_fit g.D.Direction.from g.D.Direction.into _ _ _ c.in_ok-c.ensures.char _ (c.write_char.ensures.none c.in-None.is)
 
 pub returns-in_err-c-clause-stop : goal.returns-in_err-c-clause-stop
 returns-in_err-c-clause-stop g c =
