@@ -35,7 +35,8 @@ use utf16_encode::{
     count_chars, from_utf8, from_utf8_len, from_utf8_lossy, from_utf8_lossy_len, is_ascii, to_utf8,
     to_utf8_lossy, to_utf8_lossy_len, to_utf8_partial,
 };
-use utf16_units::{BE, LE, Utf16Order, is_short_plain, validate_raw_utf16};
+use utf16_units::plain::is_short_plain;
+use utf16_units::{BE, LE, Utf16Order, validate_raw_utf16};
 
 /// Returns the length of the longest well-formed prefix, and what follows it: nothing, an unpaired
 /// surrogate, or an incomplete character at the end. One pass, up to the first error.

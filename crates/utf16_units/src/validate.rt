@@ -1,14 +1,14 @@
 //! Validation of UTF-16.
 
-ghost use Rattle.std.specs.Prelude.{◌≡◌, ◌≢◌, ◌↔◌, ◌⊎◌, ◌+◌, ◌%◌, ◌<◌, ◌≤◌, false, length, slice_index, take, IsOk, IfOk, IfErr, IsTrue};
+ghost use Rattle.std.specs.Prelude.{◌≡◌, ◌↔◌, ◌+◌, ◌<◌, ◌≤◌, false, length, take, IsOk, IfOk, IfErr, IsTrue};
 ghost use Rattle.utf16_units.specs.Encoding.{IsUtf16, units_of};
 ghost use Rattle.utf16_units.specs.IllFormed.{BeginsWithChar, BeginsWithNoChar, IsIllFormedAt, IsTextUpTo};
-ghost use Rattle.utf16_units.specs.Lanes.{HasNoSurrogate, IsNoSurrogate, PairedTo, PassedTo, BlocksStopAt};
-ghost use Rattle.utf16_units.specs.Unit.{unit_of};
+ghost use Rattle.utf16_units.specs.Lanes.{HasNoSurrogate, PairedTo, PassedTo, BlocksStopAt};
 ghost use Rattle.utf16_units.specs.Utf16Error.{IsErrorOf};
 
-use crate::blocks::{units4, units8, units16, units32};
-use crate::surrogates::{has_no_surrogate, leading_bits, paired, plain_len};
+use crate::blocks::{units16, units32};
+use crate::plain::{is_short_plain, plain_prefix_len};
+use crate::surrogates::{has_no_surrogate, leading_bits, paired};
 use crate::{Utf16Error, Utf16Order, is_trailing_surrogate};
 use std::simd::prelude::*;
 
@@ -73,102 +73,6 @@ fn valid_len<E: Utf16Order>(raw: &[u8]) -> usize
     valid_len_from::<E>(raw, passed + plain)
 }
 
-/// Returns the number of bytes before the first surrogate of the first sixty-four bytes: 64 if they
-/// have none, and 0 if there are fewer bytes.
-///
-/// # Complexity
-///
-/// Constant time.
-#[inline(always)]
-pub fn plain_prefix_len<E: Utf16Order>(raw: &[u8]) -> usize
-    ensures within { result ≤ length raw.now }
-    ensures most { result ≤ 64 }
-    ensures plain { HasNoSurrogate (units_of E.BIG (take result raw.now)) }
-    ensures text { IsUtf16 E.BIG (take result raw.now) }
-    ensures stop { 64 ≤ length raw.now → (result ≡ 64)
-        ⊎ (¬ IsNoSurrogate (unit_of E.BIG (slice_index raw.now result)
-        (slice_index raw.now (result + 1)))) }
-    ensures few { length raw.now < 64 → result ≡ 0 }
-{
-    if raw.len() < 64 {
-        return 0;
-    }
-    2 * plain_len(units32::<E>(u8x64::from_slice(raw)))
-}
-
-/// Returns whether at most sixty-four bytes are whole code units of which none is a surrogate; no
-/// longer text is tested. Of eight bytes or more it reads the first and the last, which overlap.
-///
-/// # Complexity
-///
-/// Constant time.
-#[inline(always)]
-pub fn is_short_plain<E: Utf16Order>(raw: &[u8]) -> bool
-    ensures plain { IsTrue result ↔ ((length raw.now ≤ 64) × (length raw.now % 2 ≡ 0)
-        × HasNoSurrogate (units_of E.BIG raw.now)) }
-    ensures text { IsTrue result → IsUtf16 E.BIG raw.now }
-{
-    // One unit is tested before all else: it is the shortest text, and any other test would show.
-    if raw.len() == 2 {
-        return is_no_surrogate::<E>([raw[0], raw[1]]);
-    }
-    if raw.len() < 8 {
-        return is_plain_few::<E>(raw);
-    }
-    if raw.len() > 64 {
-        return false;
-    }
-    raw.len() % 2 == 0 && has_no_surrogate_short::<E>(raw)
-}
-
-// Whether none of four to thirty-two units is a surrogate.
-#[inline(always)]
-fn has_no_surrogate_short<E: Utf16Order>(raw: &[u8]) -> bool
-    requires some { 8 ≤ length raw.now }
-    requires short { length raw.now ≤ 64 }
-    requires even { length raw.now % 2 ≡ 0 }
-    ensures { IsTrue result ↔ HasNoSurrogate (units_of E.BIG raw.now) }
-{
-    let len = raw.len();
-    if len < 16 {
-        has_no_surrogate(units4::<E>(u8x8::from_slice(raw)))
-            && has_no_surrogate(units4::<E>(u8x8::from_slice(&raw[len - 8..])))
-    } else if len < 32 {
-        has_no_surrogate(units8::<E>(u8x16::from_slice(raw)))
-            && has_no_surrogate(units8::<E>(u8x16::from_slice(&raw[len - 16..])))
-    } else {
-        has_no_surrogate(units16::<E>(u8x32::from_slice(raw)))
-            && has_no_surrogate(units16::<E>(u8x32::from_slice(&raw[len - 32..])))
-    }
-}
-
-// Whether fewer than eight bytes, and not two, are whole code units of which none is a surrogate.
-#[inline(always)]
-fn is_plain_few<E: Utf16Order>(raw: &[u8]) -> bool
-    requires short { length raw.now < 8 }
-    requires other { length raw.now ≢ 2 }
-    ensures { IsTrue result ↔ ((length raw.now % 2 ≡ 0) × HasNoSurrogate (units_of E.BIG raw.now)) }
-{
-    if raw.len() == 4 {
-        return is_no_surrogate::<E>([raw[0], raw[1]]) & is_no_surrogate::<E>([raw[2], raw[3]]);
-    }
-    if raw.len() == 6 {
-        return is_no_surrogate::<E>([raw[0], raw[1]])
-            & is_no_surrogate::<E>([raw[2], raw[3]])
-            & is_no_surrogate::<E>([raw[4], raw[5]]);
-    }
-    raw.is_empty()
-}
-
-// Whether a unit is no surrogate: the surrogates are the units from 0xD800 to 0xDFFF.
-#[inline(always)]
-fn is_no_surrogate<E: Utf16Order>(unit: [u8; 2]) -> bool
-    ensures { IsTrue result ↔ IsNoSurrogate (unit_of E.BIG (slice_index unit 0)
-        (slice_index unit 1)) }
-{
-    E::read_unit(unit) / 0x800 != 0x1B
-}
-
 // The length of a well-formed prefix, as far as whole blocks reach from an offset on.
 fn passed_blocks<E: Utf16Order>(raw: &[u8], from: usize) -> usize
     requires { PairedTo E.BIG raw.now from false }
@@ -181,10 +85,10 @@ fn passed_blocks<E: Utf16Order>(raw: &[u8], from: usize) -> usize
     if leading { at - 2 } else { at }
 }
 
-// At each multiple of so many bytes, blocks without a surrogate are tried again.
+// At each multiple of this many bytes, blocks without a surrogate are tried again.
 const PLAIN_EVERY: usize = 512;
 
-// Behind so many bytes without a surrogate at the front, blocks are passed two at a time.
+// After this many bytes without a surrogate at the front, blocks are passed two at a time.
 const MANY_PLAIN: usize = 256;
 
 // The end of the blocks of 64 bytes from `from` on whose surrogates are paired, and whether the

@@ -3,7 +3,7 @@ use Rattle.std.proofs.lemmas.Bool.{cases_lt}
 use Rattle.utf16_units.specs.Lanes.{HasNoSurrogate, IsNoSurrogate}
 use Rattle.utf16_units.proofs.EncodingLemmas.{IsUtf16-nil}
 use Rattle.utf16_units.proofs.PlainLemmas.{IsUtf16-plain_front, no_surrogate-plain_front, plain-nil, unit-in_front}
-use Rattle.utf16_units.proofs.validate.plain_prefix_len.Goals as goal
+use Rattle.utf16_units.proofs.plain.plain_prefix_len.Goals as goal
 
 pub returns-then-raw-lt64-clause-text : goal.returns-then-raw-lt64-clause-text
 returns-then-raw-lt64-clause-text g c = IsUtf16-nil g.E.Utf16Order.BIG

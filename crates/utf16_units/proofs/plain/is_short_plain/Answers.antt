@@ -1,6 +1,6 @@
 use Rattle.std.proofs.Common.{arith}
 use Rattle.utf16_units.proofs.PlainLemmas.{IsUtf16-plain, no_surrogate-one}
-use Rattle.utf16_units.proofs.validate.is_short_plain.Goals as goal
+use Rattle.utf16_units.proofs.plain.is_short_plain.Goals as goal
 
 pub returns-then-raw-eq2-clause-plain : goal.returns-then-raw-eq2-clause-plain
 returns-then-raw-eq2-clause-plain g c =

@@ -2,7 +2,7 @@ use Rattle.std.proofs.Common.{◌≡◌, ◌∙◌, ◌&&◌, ◌↔◌, ◌%◌
 use Rattle.std.proofs.lemmas.Bool.{eq-eqb, eqb-true}
 use Rattle.std.specs.Cmp.Derive.{both_true}
 use Rattle.utf16_units.proofs.PlainLemmas.{no_surrogate-none, no_surrogate-three, no_surrogate-two}
-use Rattle.utf16_units.proofs.validate.is_plain_few.Goals as goal
+use Rattle.utf16_units.proofs.plain.is_plain_few.Goals as goal
 
 both : (a b : Bool) → (a && b) ≡ true → (a ≡ true) × (b ≡ true)
 both true b e = (refl, e)

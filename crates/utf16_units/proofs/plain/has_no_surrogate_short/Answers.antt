@@ -1,7 +1,7 @@
 use Rattle.std.proofs.Common.{◌≡◌, ◌↔◌, ℕ, Bool, List, IsTrue, subst, sym, refl, ◌∙◌, arith, true≢false}
 use Rattle.utf16_units.specs.Lanes.{HasNoSurrogate}
 use Rattle.utf16_units.proofs.PlainLemmas.{no_surrogate-ends}
-use Rattle.utf16_units.proofs.validate.has_no_surrogate_short.Goals as goal
+use Rattle.utf16_units.proofs.plain.has_no_surrogate_short.Goals as goal
 
 of_units : {pass : Bool} {units read : List ℕ} → units ≡ read → IsTrue pass ↔ HasNoSurrogate units → IsTrue pass ↔ HasNoSurrogate read
 of_units {pass} e test = subst (λ us. IsTrue pass ↔ HasNoSurrogate us) e test
