@@ -12,9 +12,6 @@ use std::simd::prelude::*;
 use utf16_units::blocks::units32;
 use utf16_units::{Utf16Order, first_char_len};
 
-// The number of code units of a block.
-const BLOCK: usize = 32;
-
 // Writes blocks of ASCII to the start of a buffer, with U+FFFD for each unpaired surrogate in them,
 // until another character comes. Returns the number of bytes read and the number of bytes written.
 // Kept out of line so that its loop has all registers.
@@ -49,7 +46,7 @@ fn write_ascii_block<E: Utf16Order>(raw: &[u8], to: &mut [u8]) -> Option<(usize,
     ensures advances { IfSome result (λ done. 0 < done.0) }
 {
     let len = write_ascii::<E>(raw, to);
-    if len == BLOCK {
+    if len == 32 {
         return Some((2 * len, len));
     }
     match first_char_len::<E>(&raw[2 * len..]) {

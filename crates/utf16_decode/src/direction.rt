@@ -5,13 +5,16 @@ ghost use Rattle.std.specs.Char.{IsScalar};
 ghost use Rattle.utf16_decode.specs.Stops.{BeginsWith};
 ghost use Rattle.utf16_decode.specs.Wrote.{Gives, Joins, Wrote};
 
+/// The number of bytes that pass through a buffer on the stack at once.
+pub const BLOCK_LEN: usize = 64;
+
+/// The length of that buffer: the space that `Direction::write` needs for `BLOCK_LEN` bytes.
+pub const BLOCK_ROOM: usize = 224;
+
 /// One of the two directions: how the bytes of one encoding are validated, and how a text is
 /// written in the other.
 pub trait Direction {
-    /// Inputs of fewer bytes than this are first tried character by character.
-    const SHORT_LEN: usize;
-
-    /// At least so many bytes are validated while they are written, as far as that goes.
+    /// The least number of bytes that are validated while they are written.
     const FRONT_LEN: usize;
 
     // The bytes of a character in the first encoding, and in the second.
@@ -30,7 +33,7 @@ pub trait Direction {
 
     ghost IsIllFormed: { List ℕ → ℕ → Option ℕ → Type 0 };
 
-    // How many bytes of space `write` needs for so many bytes of input.
+    // The number of bytes of space that `write` needs for this many bytes of input.
     ghost room_for: { ℕ → ℕ };
 
     /// Returns the length in bytes of a valid prefix: the bytes before the first ill-formed
@@ -113,11 +116,11 @@ pub trait Direction {
         ensures { Wrote (Gives IsValid other) rest.now to.new result.0 result.1 };
 
     /// States what the proof of `transcode` needs, and does nothing: fewer bytes need no more
-    /// space, and a few fit in the buffer on the stack; two texts together are a text, and so is
+    /// space, and a block fits in the buffer on the stack; two texts together are a text, and so is
     /// each character; an ill-formed sequence after a text is one of the whole input.
     fn laws()
         ensures monotone { (m n : ℕ) → m ≤ n → room_for m ≤ room_for n }
-        ensures buffered { room_for 64 ≤ 260 }
+        ensures buffered { room_for BLOCK_LEN ≤ BLOCK_ROOM }
         ensures of_nothing { Gives IsValid other [] [] }
         ensures joins { Joins (Gives IsValid other) }
         ensures each_char { (c : ℕ) → IsScalar c → Gives IsValid other (from c) (into c) }

@@ -15,7 +15,7 @@ mod utf8;
 mod well_formed;
 
 pub use crate::ascii::ascii_len;
-pub use crate::direction::Direction;
+pub use crate::direction::{BLOCK_LEN, BLOCK_ROOM, Direction};
 pub use crate::joined::{joined_start, rest_of};
 pub use crate::lossy::{REPLACEMENT, to_utf8_lossy, to_utf8_partial};
 pub use crate::lossy_direction::LossyDirection;

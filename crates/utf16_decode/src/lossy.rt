@@ -25,9 +25,6 @@ const MANY_ROOM: usize = 512;
 // copy.
 const ASCII_LEN: usize = 128;
 
-// The most bytes that are copied at once.
-const COPIED: usize = 1024;
-
 /// U+FFFD, the replacement character, in UTF-8.
 pub const REPLACEMENT: [u8; 3] = [0xEF, 0xBF, 0xBD];
 
@@ -112,16 +109,16 @@ fn write_with_replacements<E: Utf16Order>(raw: &[u8], to: &mut [u8]) -> (usize, 
 }
 
 // Writes the text of the next bytes to the start of a buffer, of as many bytes as surely fit and at
-// most `COPIED`, from a copy of them on the stack with U+FFFD for each unpaired surrogate. Returns
-// the number of bytes read and the number of bytes written.
+// most 1,024, from a copy of them on the stack with U+FFFD for each unpaired surrogate. Returns the
+// number of bytes read and the number of bytes written.
 #[inline(never)]
 fn write_copied<E: Utf16Order>(raw: &[u8], to: &mut [u8]) -> (usize, usize)
     requires space { MANY_ROOM ≤ length to.old }
     ensures decodes { DecodesTo E.BIG raw.now to.new result.0 result.1 }
     ensures advances { split_items E.BIG raw.now ≢ [] → 0 < result.0 }
 {
-    let mut copy = [0; COPIED];
-    let most = ((to.len() - SLACK) / 3 * 2).min(COPIED).min(raw.len());
+    let mut copy = [0; 1024];
+    let most = ((to.len() - SLACK) / 3 * 2).min(copy.len()).min(raw.len());
     let len = write_well_formed::<E>(&raw[..most], &mut copy);
     (len, write_utf8::<E>(&copy[..len], to))
 }

@@ -5,28 +5,14 @@ ghost use Rattle.std.specs.Prelude.{◌≡◌, ◌≤◌, ◌<◌, ◌+◌, ◌-
 ghost use Rattle.utf16_decode.specs.Stops.{BeginsWith, Stops, StopsHere};
 ghost use Rattle.utf16_decode.specs.Wrote.{Gives, Puts, Wrote};
 
-use crate::direction::Direction;
+use crate::direction::{BLOCK_LEN, BLOCK_ROOM, Direction};
 use crate::progress::{Progress, Stop, put};
 
-// The most bytes that are validated and then written straight to their place, and through a buffer;
-// fewer than these have no block.
-const LEFT_LEN: usize = 256;
+// Inputs of fewer bytes than this are first tried character by character.
+const SHORT_LEN: usize = 32;
 
-const FEW_LEN: usize = 64;
-
-// How many bytes have a block in both directions, and two blocks; and the length of a buffer on the
-// stack for what they take, or for what `write` needs for a few.
-const BLOCK_LEN: usize = 66;
-
-const TWO_BLOCKS_LEN: usize = 130;
-
-const BUFFER_LEN: usize = 260;
-
-// Fewer bytes than these are written character by character, and so are bytes for which there is
-// less space than this.
+// Fewer bytes than this are written character by character.
 const VERY_FEW: usize = 8;
-
-const BY_CHARS: usize = 24;
 
 /// Writes the longest valid prefix in the second encoding to the start of a buffer, as far as whole
 /// characters fit.
@@ -36,7 +22,7 @@ pub fn transcode<D: Direction>(input: &[u8], to: &mut [u8]) -> Progress
     ensures stop { Stops D.from D.into D.IsIllFormed input.now result.read
         (length to.new - result.written) result.stop }
 {
-    if input.len() < D::SHORT_LEN
+    if input.len() < SHORT_LEN
         && let Some(written) = write_quick_chars::<D>(input, to)
     {
         return Progress {
@@ -152,7 +138,7 @@ fn write_validated_tail<D: Direction>(rest: &[u8], to: &mut [u8], at: usize) -> 
     if rest.len() < VERY_FEW {
         return write_chars::<D>(rest, to, at);
     }
-    let len = rest.len().min(LEFT_LEN);
+    let len = rest.len().min(2 * BLOCK_LEN);
     if len <= D::surely_fit(to.len() - at) {
         return write_valid::<D>(&rest[..len], to, at);
     }
@@ -182,29 +168,22 @@ fn write_last_bytes<D: Direction>(rest: &[u8], to: &mut [u8], at: usize) -> (usi
     ensures { Puts (Gives D.IsValid D.other) rest.now to.old to.new at result.0 result.1 }
 {
     D::laws();
-    if to.len() - at < BY_CHARS {
+    if to.len() - at < 3 * VERY_FEW {
         return write_chars::<D>(rest, to, at);
     }
-    let mut buf = [0; BUFFER_LEN];
-    if rest.len() < FEW_LEN {
+    let mut buf = [0; BLOCK_ROOM];
+    if rest.len() < BLOCK_LEN {
         return write_short_text::<D>(rest, &mut buf, to, at);
     }
     if is_near_ill_formed::<D>(rest) {
         return write_chars::<D>(rest, to, at);
     }
-    let (read, written) = write_one_or_two_blocks::<D>(rest, &mut buf, to, at);
-    if read > 0 && !is_for_text(rest.len() - read, to.len() - written) {
+    let (read, written) = write_block::<D>(rest, &mut buf, to, at);
+    if read > 0 {
         return (read, written);
     }
     let (len, end) = write_short_text::<D>(&rest[read..], &mut buf, to, written);
     (read + len, end)
-}
-
-// Whether so many bytes, with so much space, are for `write_short_text`: too few for a block, and neither
-// bytes nor space so few that `write_chars` is faster. Any answer is right.
-#[inline(always)]
-fn is_for_text(len: usize, space: usize) -> bool {
-    VERY_FEW <= len && len < FEW_LEN && BY_CHARS <= space
 }
 
 // Whether the first or the second character is missing or ill formed. Any answer is right.
@@ -218,10 +197,10 @@ fn is_near_ill_formed<D: Direction>(rest: &[u8]) -> bool
     }
 }
 
-// Does the same through a buffer for a block or two, as many as may fit on average, and validates
-// them while it writes them.
+// Does the same through a buffer for a block, and validates it while it writes it. A block of
+// UTF-16 needs the code unit after it.
 #[inline(always)]
-fn write_one_or_two_blocks<D: Direction>(
+fn write_block<D: Direction>(
     rest: &[u8],
     buf: &mut [u8],
     to: &mut [u8],
@@ -230,12 +209,7 @@ fn write_one_or_two_blocks<D: Direction>(
     requires { at ≤ length to.old }
     ensures { Puts (Gives D.IsValid D.other) rest.now to.old to.new at result.0 result.1 }
 {
-    let most = if to.len() - at <= FEW_LEN {
-        BLOCK_LEN
-    } else {
-        TWO_BLOCKS_LEN
-    };
-    let (len, end) = D::write_front(&rest[..most.min(rest.len())], buf);
+    let (len, end) = D::write_front(&rest[..rest.len().min(BLOCK_LEN + 2)], buf);
     write_fitting::<D>(&rest[..len], &buf[..end], to, at)
 }
 
@@ -246,12 +220,12 @@ fn write_short_text<D: Direction>(
     to: &mut [u8],
     at: usize,
 ) -> (usize, usize)
-    requires space { BUFFER_LEN ≤ length buf.old }
+    requires space { BLOCK_ROOM ≤ length buf.old }
     requires within { at ≤ length to.old }
     ensures { Puts (Gives D.IsValid D.other) rest.now to.old to.new at result.0 result.1 }
 {
     D::laws();
-    let len = D::valid_len(&rest[..rest.len().min(FEW_LEN)]);
+    let len = D::valid_len(&rest[..rest.len().min(BLOCK_LEN)]);
     let end = D::write(&rest[..len], buf);
     write_fitting::<D>(&rest[..len], &buf[..end], to, at)
 }

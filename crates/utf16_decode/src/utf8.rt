@@ -35,8 +35,6 @@ pub fn to_utf8<E: Utf16Order>(raw: &[u8], to: &mut [u8]) -> Progress
 pub struct ToUtf8<E: Utf16Order>(PhantomData<E>);
 
 impl<E: Utf16Order> Direction for ToUtf8<E> {
-    const SHORT_LEN: usize = 32;
-
     const FRONT_LEN: usize = 128;
 
     ghost from = { char_bytes E.BIG };

@@ -10,19 +10,15 @@ ghost use Rattle.utf16_decode.specs.Stops.{StopsLossyWhole};
 
 use crate::items::{ITEM_LEN, write_items};
 use crate::utf16::FromUtf8;
-use utf16_decode::{LossyDirection, Progress, put, transcode_lossy, transcode_partial};
+use utf16_decode::{BLOCK_LEN, LossyDirection, Progress, put, transcode_lossy, transcode_partial};
 use utf16_from_utf8::write_blocks;
 use utf16_units::{Utf16Order, utf16_len};
 
-// U+FFFD, the replacement character, and its length in bytes of UTF-16.
+// U+FFFD, the replacement character.
 const REPLACEMENT: u16 = 0xFFFD;
 
+// The length of U+FFFD in bytes of UTF-16.
 const REPLACEMENT_LEN: usize = 2;
-
-// The length in bytes of a block, and the space that it may take.
-const BLOCK_LEN: usize = 64;
-
-const BLOCK_SPACE: usize = 128;
 
 /// Writes the text of UTF-8 in UTF-16 to the start of a buffer, as far as whole characters fit: the
 /// characters, and U+FFFD for each ill-formed sequence, one for each maximal subpart. An incomplete
@@ -64,7 +60,7 @@ fn write_after_ill_formed<E: Utf16Order>(text: &[u8], to: &mut [u8]) -> (usize, 
     ensures { DecodesUtf8To E.BIG text.now to.new result.0 result.1 }
 {
     let (mut read, mut written) = write_items::<E>(text, to);
-    while text.len() - read >= BLOCK_LEN && to.len() - written >= BLOCK_SPACE {
+    while text.len() - read >= BLOCK_LEN && to.len() - written >= 2 * BLOCK_LEN {
         let (len, size) = write_blocks::<E>(&text[read..], &mut to[written..]);
         read += len;
         written += size;

@@ -11,14 +11,10 @@ use utf16_decode::ascii_len;
 use utf16_from_utf8::write_ascii_block;
 use utf16_units::Utf16Order;
 
-// So many characters in a row, none of them U+FFFD, end the loop over items: what follows is
-// probably well formed too, and many at once take less time. ASCII that is written at once counts
-// as two.
+// The number of characters in a row, none of them U+FFFD, that ends the loop over items: what
+// follows is probably well formed too, and many at once take less time. ASCII that is written at
+// once counts as two.
 const RUN: usize = 16;
-
-const ASCII_RUN: usize = 2;
-
-const FEW_ASCII: usize = 4;
 
 /// The most bytes of an item, in either encoding.
 pub(crate) const ITEM_LEN: usize = 4;
@@ -60,14 +56,14 @@ fn write_items_once<E: Utf16Order>(text: &[u8], to: &mut [u8]) -> Step
     requires space { ITEM_LEN ≤ length to.old }
     ensures decodes { DecodesUtf8To E.BIG text.now to.new result.read result.written }
     ensures advances { 0 < result.read }
-    ensures run { result.run ≤ ASCII_RUN }
+    ensures run { result.run ≤ 2 }
 {
     let ascii = write_some_ascii::<E>(text, to);
     if ascii > 0 {
         return Step {
             read: ascii,
             written: 2 * ascii,
-            run: ASCII_RUN,
+            run: 2,
         };
     }
     let (c, len) = first_item(text);
@@ -93,7 +89,7 @@ fn write_some_ascii<E: Utf16Order>(text: &[u8], to: &mut [u8]) -> usize
     let block = u8x16::from_slice(text);
     let len = ascii_len(block);
     // In random bytes every other one is ASCII, and few are at once.
-    if len < FEW_ASCII {
+    if len < 4 {
         return 0;
     }
     write_ascii_block::<E>(to, 0, low_bits(block));
@@ -108,8 +104,8 @@ fn low_bits(block: u8x16) -> u8x16
     block & u8x16::splat(0x7F)
 }
 
-// Returns the first item of the bytes, which decide it, and its length: a character, or U+FFFD for an
-// ill-formed subpart.
+// Returns the first item of the bytes, which decide it, and its length: a character, or U+FFFD for
+// an ill-formed subpart.
 #[inline(always)]
 fn first_item(text: &[u8]) -> (char, usize)
     requires { ITEM_LEN ≤ length text.now }

@@ -14,14 +14,10 @@ ghost use Rattle.utf16_decode.specs.Stops.{BeginsWith};
 use crate::chars::{char_of_four, char_of_three, char_of_two, is_continuation};
 use crate::valid::valid_prefix;
 use std::marker::PhantomData;
-use utf16_decode::{Direction, Progress, transcode};
+use utf16_decode::{BLOCK_LEN, Direction, Progress, transcode};
 use utf16_from_utf8::{SLACK, write_ascii, write_blocks, write_text};
 use utf16_to_utf8::utf8_len;
 use utf16_units::{Utf16CharExt, Utf16Order, is_trailing_surrogate};
-
-// The number of bytes that are validated first. Validation of 64 bytes or more goes to their end
-// before it looks for the error; that of fewer stops at the error.
-const FIRST: usize = 63;
 
 /// Writes UTF-8 in UTF-16 to the start of a buffer, up to the first ill-formed sequence or as far
 /// as whole characters fit. Any bytes are allowed. Bytes of the buffer after the written ones may
@@ -43,8 +39,6 @@ pub fn from_utf8<E: Utf16Order>(text: &[u8], to: &mut [u8]) -> Progress
 pub struct FromUtf8<E: Utf16Order>(PhantomData<E>);
 
 impl<E: Utf16Order> Direction for FromUtf8<E> {
-    const SHORT_LEN: usize = 32;
-
     const FRONT_LEN: usize = 16;
 
     ghost from = { encode_utf8 };
@@ -164,12 +158,14 @@ pub(crate) fn write_char<E: Utf16Order>(c: char, to: &mut [u8], at: usize) -> us
     at + c.encode_utf16_into::<E>(&mut to[at..])
 }
 
-// Returns the length of the longest valid prefix.
+// Returns the length of the longest valid prefix. Validation of a block or more goes to its end
+// before it looks for the error, and validation of fewer bytes stops at the error: so a few bytes
+// are validated first.
 fn valid_len(text: &[u8]) -> usize
     ensures within { result ≤ length text.now }
     ensures well_formed { IsUtf8 (take result text.now) }
 {
-    if text.len() <= FIRST {
+    if text.len() < BLOCK_LEN {
         return valid_prefix(text);
     }
     let first = first_len(text);
@@ -183,11 +179,11 @@ fn valid_len(text: &[u8]) -> usize
 // Returns how many bytes to validate first: without the last character, which may be incomplete and
 // is left for the next ones.
 fn first_len(text: &[u8]) -> usize
-    requires { FIRST < length text.now }
+    requires { BLOCK_LEN ≤ length text.now }
     ensures { result ≤ length text.now }
 {
-    let mut len = FIRST;
-    while len > FIRST - 3 && text[len - 1] & 0xC0 == 0x80 {
+    let mut len = BLOCK_LEN - 1;
+    while len > BLOCK_LEN - 4 && text[len - 1] & 0xC0 == 0x80 {
         len -= 1;
     }
     if text[len - 1] < 0xC0 { len } else { len - 1 }

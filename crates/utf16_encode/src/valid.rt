@@ -5,19 +5,15 @@ ghost use Rattle.std.specs.Str.{IsUtf8};
 
 use simdutf8::Checker;
 use std::simd::prelude::*;
+use utf16_decode::BLOCK_LEN;
 
-// Chunks of at least this many bytes and less than a block are validated as a block, with zeros
-// after them.
-const PADDED_LEN: usize = 16;
-
-const BLOCK: usize = 64;
-
-// Returns the length of a valid prefix, the longest one.
+// Returns the length of a valid prefix, the longest one. Chunks of at least sixteen bytes and less
+// than a block are validated as a block, with zeros after them.
 pub(crate) fn valid_prefix(text: &[u8]) -> usize
     ensures within { result ≤ length text.now }
     ensures well_formed { IsUtf8 (take result text.now) }
 {
-    if text.len() >= PADDED_LEN && text.len() < BLOCK && is_utf8_block(text) {
+    if (16..BLOCK_LEN).contains(&text.len()) && is_utf8_block(text) {
         return text.len();
     }
     match simdutf8::compat::from_utf8(text) {
@@ -29,7 +25,7 @@ pub(crate) fn valid_prefix(text: &[u8]) -> usize
 // Returns whether fewer bytes than a block are UTF-8, which they are if they are with zeros after
 // them.
 fn is_utf8_block(text: &[u8]) -> bool
-    requires { length text.now < BLOCK }
+    requires { length text.now < BLOCK_LEN }
     ensures { IsTrue result → IsUtf8 text.now }
 {
     let checker = Checker::new().step(u8x64::from_array(padded(text)));
@@ -38,11 +34,11 @@ fn is_utf8_block(text: &[u8]) -> bool
 
 // Returns the bytes with zeros after them, a block.
 #[inline(always)]
-fn padded(text: &[u8]) -> [u8; BLOCK]
-    requires { length text.now < BLOCK }
-    ensures { result ≡ text.now ++ replicate (BLOCK - length text.now) 0 }
+fn padded(text: &[u8]) -> [u8; BLOCK_LEN]
+    requires { length text.now < BLOCK_LEN }
+    ensures { result ≡ text.now ++ replicate (BLOCK_LEN - length text.now) 0 }
 {
-    let mut block = [0; BLOCK];
+    let mut block = [0; BLOCK_LEN];
     block[..text.len()].copy_from_slice(text);
     block
 }

@@ -5,8 +5,8 @@ use Rattle.utf16_units.proofs.IllFormedLemmas.{faults, rest_from}
 use Rattle.utf16_decode.proofs.LossyLemmas.{DecodesTo-front, DecodesTo-lone}
 use Rattle.utf16_decode.proofs.ascii.write_ascii_block.Goals as goal
 
-pub returns-then-len-eq-BLOCK-clause-decodes : goal.returns-then-len-eq-BLOCK-clause-decodes
-returns-then-len-eq-BLOCK-clause-decodes g c =
+pub returns-then-len-eq32-clause-decodes : goal.returns-then-len-eq32-clause-decodes
+returns-then-len-eq32-clause-decodes g c =
     let put = c.write_ascii-len in
     DecodesTo-front _ _ _ _ _ (omega (arith, put.ensures.few, c.requires.bytes)) (omega (arith, put.ensures.few, put.auto.to, c.requires.space)) put.ensures.text
 

@@ -11,8 +11,8 @@ use Rattle.utf16_encode.proofs.items.write_some_ascii.Goals.{After-low_bits}
 pub returns-then-text-lt16-clause-wrote : goal.returns-then-text-lt16-clause-wrote
 returns-then-text-lt16-clause-wrote g c = Wrote-none (utf16_empty g.E.Utf16Order.BIG) _ _
 
-pub returns-then-len-lt-FEW_ASCII-clause-wrote : goal.returns-then-len-lt-FEW_ASCII-clause-wrote
-returns-then-len-lt-FEW_ASCII-clause-wrote g c = Wrote-none (utf16_empty g.E.Utf16Order.BIG) _ _
+pub returns-then-len-lt4-clause-wrote : goal.returns-then-len-lt4-clause-wrote
+returns-then-len-lt4-clause-wrote g c = Wrote-none (utf16_empty g.E.Utf16Order.BIG) _ _
 
 low : (g : Over) (c : After-low_bits g) → IsAscii c.low_bits.result
 low g c = subst (λ b. IsAscii b) (sym c.low_bits.ensures) (low-ascii (take 16 c.args.text.now))
