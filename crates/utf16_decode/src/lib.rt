@@ -21,7 +21,7 @@ pub use crate::lossy::{REPLACEMENT, to_utf8_lossy, to_utf8_partial};
 pub use crate::lossy_direction::LossyDirection;
 pub use crate::lossy_transcoding::{transcode_lossy, transcode_partial};
 pub use crate::progress::{Progress, Stop, put};
-pub use crate::stream::Stream;
+pub use crate::stream::{CHUNK_LEN, FEED_SLACK, SHORT_CHUNK, Stream};
 pub use crate::transcoding::transcode;
 pub use crate::utf8::{ToUtf8, to_utf8};
 pub use crate::well_formed::{make_well_formed, write_well_formed};

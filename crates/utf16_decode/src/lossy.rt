@@ -13,13 +13,11 @@ use crate::ascii::write_ascii_blocks;
 use crate::lossy_direction::LossyDirection;
 use crate::lossy_transcoding::{transcode_lossy, transcode_partial};
 use crate::progress::{Progress, put};
+use crate::stream::FEED_SLACK;
 use crate::utf8::ToUtf8;
 use crate::well_formed::write_well_formed;
 use utf16_to_utf8::{SLACK, write_utf8};
 use utf16_units::Utf16Order;
-
-// The least space in which the bytes from an ill-formed sequence on are written many at once.
-const MANY_ROOM: usize = 512;
 
 // The least number of bytes of ASCII with ill-formed sequences in it that are written without a
 // copy.
@@ -70,7 +68,7 @@ impl<E: Utf16Order> LossyDirection for ToUtf8<E> {
 
     #[inline(always)]
     fn write_ill_formed(input: &[u8], len: u8, to: &mut [u8]) -> Option<(usize, usize)> {
-        if to.len() >= MANY_ROOM {
+        if to.len() >= FEED_SLACK {
             return Some(write_with_replacements::<E>(input, to));
         }
         if to.len() < REPLACEMENT.len() {
@@ -95,7 +93,7 @@ impl<E: Utf16Order> LossyDirection for ToUtf8<E> {
 // of a copy, since an ill-formed sequence is often followed by others. Returns the number of bytes
 // read and the number of bytes written.
 fn write_with_replacements<E: Utf16Order>(raw: &[u8], to: &mut [u8]) -> (usize, usize)
-    requires space { MANY_ROOM ≤ length to.old }
+    requires space { FEED_SLACK ≤ length to.old }
     ensures decodes { DecodesTo E.BIG raw.now to.new result.0 result.1 }
     ensures advances { split_items E.BIG raw.now ≢ [] → 0 < result.0 }
 {
@@ -113,7 +111,7 @@ fn write_with_replacements<E: Utf16Order>(raw: &[u8], to: &mut [u8]) -> (usize, 
 // number of bytes read and the number of bytes written.
 #[inline(never)]
 fn write_copied<E: Utf16Order>(raw: &[u8], to: &mut [u8]) -> (usize, usize)
-    requires space { MANY_ROOM ≤ length to.old }
+    requires space { FEED_SLACK ≤ length to.old }
     ensures decodes { DecodesTo E.BIG raw.now to.new result.0 result.1 }
     ensures advances { split_items E.BIG raw.now ≢ [] → 0 < result.0 }
 {

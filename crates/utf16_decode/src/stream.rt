@@ -13,6 +13,17 @@ use crate::lossy_direction::LossyDirection;
 use crate::lossy_transcoding::transcode_partial;
 use crate::progress::{Progress, Stop};
 
+/// The number of bytes of a buffer beyond the longest text of a chunk with which `Stream::feed` writes
+/// many bytes at once up to the end of the text, in either direction.
+pub const FEED_SLACK: usize = 512;
+
+/// The most bytes of a chunk that pass through a buffer at once.
+pub const CHUNK_LEN: usize = 4096;
+
+/// The length of a short chunk: one of at most this many bytes passes through a smaller buffer, which
+/// costs less to fill with zeros.
+pub const SHORT_CHUNK: usize = 512;
+
 /// The pending bytes of a stream between two chunks: its last bytes, at most three, that only more
 /// bytes can decide. Any values are allowed in the fields: a `len` above three is read as three,
 /// and no `feed` leaves one. The value of all zeros is a stream at its beginning.

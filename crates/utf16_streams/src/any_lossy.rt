@@ -7,7 +7,7 @@ ghost use Rattle.utf16_streams.specs.AnyLossy.{any_byte_order, any_pending, stat
 ghost use Rattle.utf16_streams.specs.Bom.{big_in, items_in, byte_order_after, tail_in};
 ghost use Rattle.utf16_streams.specs.Filter.{decided_utf8};
 
-use crate::decoder::{Decoder, LEAST_BUFFER, feed};
+use crate::decoder::{Decoder, SHORT_BUFFER, feed};
 use crate::lossy::Lossy;
 use std::alloc::{AllocError, Allocator};
 use utf16_units::laws::are_bytes;
@@ -173,7 +173,7 @@ impl State {
         to: &mut String<A>,
     ) -> Result<(), AllocError>
         requires decided { state_byte_order self.old ≡ None → piece.now ≡ [] }
-        requires space { LEAST_BUFFER ≤ length buffer.old }
+        requires space { SHORT_BUFFER ≤ length buffer.old }
         ensures text { OnOk result (string_bytes to.new ≡ string_bytes to.old
             ++ decided_utf8 (state_byte_order self.old) (state_pending self.old ++ piece.now)) }
         ensures pending { OnOk result (state_pending self.new

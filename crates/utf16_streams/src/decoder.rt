@@ -7,24 +7,14 @@ ghost use Rattle.utf16_streams.specs.Filter.{decided_utf8, whole_utf8};
 
 use crate::transcoder::Transcoder;
 use std::alloc::{AllocError, Allocator};
-use utf16_decode::{REPLACEMENT, put};
+use utf16_decode::{CHUNK_LEN, FEED_SLACK, REPLACEMENT, SHORT_CHUNK, put};
 
-// The least length, in bytes, of the buffer that decoded text is written to: it has capacity for
-// the text of the pending bytes and one code unit.
-pub const LEAST_BUFFER: usize = 646;
+/// The length, in bytes, of the buffer that decoded text is written to: three bytes for each code
+/// unit of `CHUNK_LEN` bytes, and `FEED_SLACK` more.
+pub const BUFFER_LEN: usize = 3 * (CHUNK_LEN / 2) + FEED_SLACK;
 
-// As long as the buffer has this many bytes left after what was written, `Stream::feed` writes with
-// SIMD.
-pub const FEED_SLACK: usize = 640;
-
-/// The length, in bytes, of the buffer that decoded text is written to: it has capacity for the
-/// text of 4,096 bytes, three bytes for each code unit, and `FEED_SLACK` more.
-pub const BUFFER_LEN: usize = 3 * (4096 / 2) + FEED_SLACK;
-
-// A chunk of at most `SHORT_CHUNK` bytes is decoded through a smaller buffer.
-const SHORT_CHUNK: usize = 512;
-
-const SHORT_BUFFER: usize = 1408;
+/// The length, in bytes, of the buffer for a chunk of at most `SHORT_CHUNK` bytes: the least.
+pub const SHORT_BUFFER: usize = 3 * (SHORT_CHUNK / 2) + FEED_SLACK;
 
 /// A decoder of a stream that comes in chunks, in a given byte order or in the one that the BOM
 /// gives.
@@ -45,14 +35,14 @@ pub trait Decoder: Drop {
     ///
     /// # Precondition
     ///
-    /// The buffer has at least `LEAST_BUFFER` bytes.
+    /// The buffer has at least `SHORT_BUFFER` bytes.
     fn feed_into<A: Allocator>(
         &mut self,
         piece: &[u8],
         buffer: &mut [u8],
         to: &mut String<A>,
     ) -> Result<(), AllocError>
-        requires { LEAST_BUFFER ≤ length buffer.old }
+        requires { SHORT_BUFFER ≤ length buffer.old }
         ensures text { OnOk result (string_bytes to.new ≡ string_bytes to.old
             ++ encode_utf8_all
             (lossy_chars (items_in (order self.old) (pending self.old ++ piece.now)))) }

@@ -6,26 +6,21 @@ ghost use Rattle.utf16_streams.specs.Filter.{AppendsPrefix, FiltersAs, FiltersAu
 ghost use Rattle.utf16_streams.specs.Watched.{CountsFaults, watched_faults, watched_inner};
 
 use crate::any_lossy::AnyLossy;
-use crate::decoder::{FEED_SLACK, ToUtf8};
+use crate::decoder::ToUtf8;
 use crate::lossy::Lossy;
 use crate::transcoder::Transcoder;
 use crate::watched::{DeviceFault, Watched};
 use std::alloc::{AllocError, Allocator};
 use std::io::{Read, Write};
+use utf16_decode::{CHUNK_LEN, FEED_SLACK};
 use utf16_units::Utf16Order;
 
-/// The most bytes that are read at a time.
-const READ_LEN: usize = 4096;
-
-// A chunk of at least this many bytes always adds to the output. A shorter one is transcoded into a
-// buffer on the stack of `SHORT_OUTPUT` bytes.
+// A chunk of at least this many bytes always adds to the output.
 const LONG_CHUNK: usize = 8;
 
-const SHORT_OUTPUT: usize = 24;
-
-// The length of the buffer for the output of longer chunks: two bytes for each byte read and eight
-// more, as `Transcoder::feed_to` requires, and `FEED_SLACK` bytes.
-const OUTPUT_LEN: usize = 2 * READ_LEN + 8 + FEED_SLACK;
+// The length of the buffer on the stack for the output of a shorter chunk: two bytes for each byte
+// of the chunk and eight more, as `Transcoder::feed_to` requires.
+const SHORT_OUTPUT: usize = 2 * LONG_CHUNK + 8;
 
 /// Why a filter stopped before the end of its input. The text of some bytes is the output that is
 /// certain for them.
@@ -135,7 +130,7 @@ pub fn filter_by<T: Transcoder, R: Read, W: Write, A: Allocator>(
 {
     transcoder.laws();
     let mut transcoder = transcoder;
-    let mut block = [0; READ_LEN];
+    let mut block = [0; CHUNK_LEN];
     let mut short = [0; SHORT_OUTPUT];
     let mut long = Vec::new(alloc);
     for _ in 0..u64::MAX {
@@ -167,14 +162,15 @@ fn space_for<'a, A: Allocator>(
     short: &'a mut [u8; SHORT_OUTPUT],
     long: &'a mut Vec<u8, A>,
 ) -> Result<&'a mut [u8], AllocError>
-    requires { count ≤ READ_LEN }
+    requires { count ≤ CHUNK_LEN }
     ensures space { IfOk result (λ to. 2 * count + 8 ≤ length to.now) }
     ensures err { OnErr result (8 ≤ count) }
 {
     if count < LONG_CHUNK {
         return Ok(short);
     }
-    long.resize(OUTPUT_LEN, 0)?;
+    // `feed_to` requires eight bytes beyond two for each byte of the chunk; with more it is faster.
+    long.resize(2 * CHUNK_LEN + FEED_SLACK, 0)?;
     Ok(long)
 }
 

@@ -10,10 +10,10 @@ ghost use Rattle.utf16_units.specs.Split.{decided_text, IsTail, lossy_text, spli
 ghost use Rattle.utf16_decode.specs.Decodes.{Decodes};
 ghost use Rattle.utf16_decode.specs.Stream.{stream_pending};
 
-use crate::decoder::{BUFFER_LEN, Decoder, FEED_SLACK, LEAST_BUFFER, feed};
+use crate::decoder::{BUFFER_LEN, Decoder, SHORT_BUFFER, feed};
 use std::alloc::{AllocError, Allocator};
 use std::marker::PhantomData;
-use utf16_decode::{Stream, ToUtf8};
+use utf16_decode::{FEED_SLACK, Stream, ToUtf8};
 use utf16_units::Utf16Order;
 use utf16_units::laws::are_bytes;
 
@@ -227,7 +227,7 @@ fn decode_parts<E: Utf16Order, A: Allocator>(
     to: &mut String<A>,
 ) -> Result<Stream, AllocError>
     requires undecided { split_tail E.BIG (stream_pending stream) ≡ stream_pending stream }
-    requires space { LEAST_BUFFER ≤ length buffer.old }
+    requires space { SHORT_BUFFER ≤ length buffer.old }
     ensures text { OnOk result (string_bytes to.new ≡ string_bytes to.old
         ++ encode_utf8_all (decided_text E.BIG (stream_pending stream ++ piece.now))) }
     ensures tail { IfOk result (λ fed.
@@ -251,7 +251,7 @@ fn decode_part<'a, E: Utf16Order, A: Allocator>(
     to: &mut String<A>,
 ) -> Result<(Stream, &'a [u8]), AllocError>
     requires not_empty { 0 < length piece.now }
-    requires space { LEAST_BUFFER ≤ length buffer.old }
+    requires space { SHORT_BUFFER ≤ length buffer.old }
     ensures decoded { IfOk result (λ left.
         Decodes E.BIG (stream_pending stream ++ piece.now) (stream_pending left.0 ++ left.1.now)
         (string_bytes to.old) (string_bytes to.new)) }
@@ -276,7 +276,7 @@ fn part_that_fits<'a, E: Utf16Order>(
     room: usize,
 ) -> (&'a [u8], &'a [u8])
     requires few { length pending.now ≤ 3 }
-    requires space { LEAST_BUFFER ≤ room }
+    requires space { SHORT_BUFFER ≤ room }
     ensures joined { piece.now ≡ result.0.now ++ result.1.now }
     ensures advances { 0 < length piece.now → 0 < length result.0.now }
     ensures utf8 { IsUtf8 (encode_utf8_all (decided_text E.BIG (pending.now ++ result.0.now))) }

@@ -11,9 +11,9 @@ use Rattle.utf16_decode.proofs.lossy.ToUtf8LossyDirection.write_ill_formed.Goals
 found : (g : Over) (c : Start g) → IsIllFormedUtf16 g.E.Utf16Order.BIG c.args.input.now 0 (Some c.args.len)
 found g c = faults_there g.E.Utf16Order.BIG c.args.input.now 0 (Some c.args.len) c.requires.some (IsUtf16-nil g.E.Utf16Order.BIG) c.requires.ill_formed
 
-pub returns-then-to-ge-MANY_ROOM-clause-advances : goal.returns-then-to-ge-MANY_ROOM-clause-advances
-returns-then-to-ge-MANY_ROOM-clause-advances g c =
-    let here = found g (goal.at.returns-then-to-ge-MANY_ROOM-clause-advances g c).Start in
+pub returns-then-to-ge-FEED_SLACK-clause-advances : goal.returns-then-to-ge-FEED_SLACK-clause-advances
+returns-then-to-ge-FEED_SLACK-clause-advances g c =
+    let here = found g (goal.at.returns-then-to-ge-FEED_SLACK-clause-advances g c).Start in
     c.write_with_replacements.ensures.advances (some_items _ _ _ _ here (λ k. omega (arith, c.type_inv.input k)))
 
 pub returns-then-to-lt3-clause-none : goal.returns-then-to-lt3-clause-none
