@@ -1,4 +1,4 @@
--- The BOM computed for known streams: each row is checked by evaluation alone.
+-- The BOM computed for known streams: each row is checked only by evaluation.
 use Rattle.std.proofs.Common.{◌≡◌, ℕ, Bool, true, false, List, [], ◌∷◌, None, Some, refl}
 use Rattle.utf16_streams.specs.Bom.{big_in, byte_order_after, text_in}
 

@@ -1,5 +1,5 @@
 -- What a filter has read and written so far, and at each of its exits.
-use Rattle.std.proofs.Common.{◌≡◌, ◌≢◌, ℕ, ◌+◌, ◌<◌, ◌≤◌, List, [], ◌++◌, Option, length, take, drop, sym, ap, ◌∙◌, subst, arith, append-nil, append_assoc, length-append, take_at, take-append-drop, refl}
+use Rattle.std.proofs.Common.{◌≡◌, ◌≢◌, ℕ, ◌+◌, ◌<◌, ◌≤◌, List, [], ◌++◌, Option, length, take, drop, sym, ap, ◌∙◌, subst, arith, append_assoc, length-append, take_at, take-append-drop, refl}
 use Rattle.std.proofs.lemmas.List.{nil_from_length}
 use Rattle.std.specs.Io.{StartsWith}
 use Rattle.std.specs.Io.KnownBytes.{Appends, Consumes, IsAtEnd, Keeps}
@@ -25,8 +25,8 @@ Continues-more decided whole mid mid_whole last last_whole front piece first sec
   regroup : (more : List ℕ) → decided front ++ (mid piece ++ more) ≡ decided (front ++ piece) ++ more
   regroup more = sym (append_assoc (decided front) (mid piece) more) ∙ ap (λ d. d ++ more) (sym (first.certain piece))
 
--- so many reads returned bytes; the output that is certain of them was written, and the transcoder
--- goes on from there
+-- `reads` reads returned bytes; the output that is certain of these was written, and the transcoder
+-- continues from there
 pub record Filtering (decided whole : List ℕ → List ℕ) (input left old new : Option (List ℕ)) (decided_then whole_then : List ℕ → List ℕ) (reads : ℕ) : Type 0 where
   bytes : List ℕ
   consumed : Consumes input left bytes

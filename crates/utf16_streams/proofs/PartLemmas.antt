@@ -1,7 +1,7 @@
 -- The text of a part of a chunk: it is UTF-8, its length is bounded, and it is a step of decoding.
-use Rattle.std.proofs.Common.{◌≡◌, ℕ, ◌-◌, ◌*◌, ◌<◌, ◌≤◌, Bool, List, [], ◌∷◌, ◌++◌, length, take, drop, refl, sym, ap, ◌∙◌, subst, ⊎_elim, arith, append-nil, append_assoc}
+use Rattle.std.proofs.Common.{◌≡◌, ℕ, ◌-◌, ◌*◌, ◌<◌, ◌≤◌, Bool, List, [], ◌∷◌, ◌++◌, length, refl, sym, ap, ◌∙◌, subst, ⊎_elim, append_assoc}
 use Rattle.std.proofs.lemmas.Bool.{cases_lt}
-use Rattle.std.proofs.lemmas.List.{drop_all, get_or-append_right, get_or_append_left}
+use Rattle.std.proofs.lemmas.List.{get_or-append_right, get_or_append_left}
 use Rattle.std.specs.Str.{IsUtf8}
 use Rattle.utf16_units.specs.Split.{Item, lossy_chars, split_items, split_tail}
 use Rattle.utf16_units.proofs.EncodingLemmas.{all_scalars-from_All}

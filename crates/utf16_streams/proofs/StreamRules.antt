@@ -115,7 +115,7 @@ module _ (big : Bool) (bytes kept : List ℕ) (Of : List ℕ → Type 0) (so_far
     by_tail [] left = absurd (left refl)
     by_tail (first ∷ after) left = step (lossy_chars (split_items big bytes)) so_far.text
 
--- the same of a list of chunks, of which so many were read
+-- the same for a list of chunks, of which the first `i` were read
 module _ {X : Type 0} (of : X → List ℕ) (pieces : List X) (i : ℕ) (big : Bool) (kept : List ℕ) (Of : List ℕ → Type 0) (so_far : Reads big (flat_map of (take i pieces)) kept Of) where
   pub Reads-more : (piece : X) (given left : List ℕ) (Next : List ℕ → Type 0) → i < length pieces → piece ≡ get_or pieces i piece → given ≡ of piece
       → ((text : List ℕ) → Of text → Next (text ++ lossy_chars (split_items big (kept ++ given)))) → left ≡ split_tail big (kept ++ given)
@@ -127,7 +127,7 @@ module _ {X : Type 0} (of : X → List ℕ) (pieces : List X) (i : ℕ) (big : B
   pub Reads-all : length pieces ≤ i → Reads big (flat_map of pieces) kept Of
   Reads-all past = subst (λ p. Reads big (flat_map of p) kept Of) (take_all i pieces past) so_far
 
--- and of those of which a `Lossy` was given so many
+-- the same for a list of chunks, of which a `Lossy` was given the first `i`
 module _ {E Z : Type 0} {order : Ghosts E} where
   abbrev pub ReadsPieces : List (Vec ℕ Z) → ℕ → Lossy E order → (List ℕ → Type 0) → Type 0
   ReadsPieces pieces i decoder Of = Reads order.BIG (flat_map vec_items (take i pieces)) (lossy_pending decoder) Of

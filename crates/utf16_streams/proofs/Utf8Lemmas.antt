@@ -5,8 +5,7 @@ use Rattle.std.proofs.lemmas.Str.{length-le-encodes}
 use Rattle.std.specs.Char.{encode_utf8}
 use Rattle.utf16_units.specs.Split.{Item, lossy_char, lossy_chars, whole_lossy_chars, split_items, split_tail}
 use Rattle.utf16_streams.specs.Bom.{has_bom, is_big, items_in, byte_order_after, tail_in}
-use Rattle.utf16_streams.specs.Continues.{Continues}
-use Rattle.utf16_streams.specs.Filter.{FiltersBy, FiltersIn, decided_utf8, whole_utf8}
+use Rattle.utf16_streams.specs.Filter.{ContinuesUtf8, FiltersBy, FiltersIn, decided_utf8, whole_utf8}
 use Rattle.utf16_streams.specs.declared.filters.FilterFault.{FilterFault}
 use Rattle.utf16_decode.proofs.DecodesLemmas.{four_decide, length-split_tail-le, shown, shown-append, undecided_items}
 use Rattle.utf16_decode.proofs.StreamLemmas.{whole_lossy_chars-some, whole_lossy_chars-none}
@@ -43,7 +42,7 @@ module _ (order : Option Bool) (front back : List ℕ) where
 
 -- one more chunk after pending bytes
 pub Continues-utf8 : (order now : Option Bool) (pending piece kept : List ℕ) → now ≡ byte_order_after order (pending ++ piece) → kept ≡ tail_in order (pending ++ piece)
-    → Continues (λ b. decided_utf8 order (pending ++ b)) (λ b. whole_utf8 order (pending ++ b)) (λ b. decided_utf8 now (kept ++ b)) (λ b. whole_utf8 now (kept ++ b)) piece
+    → ContinuesUtf8 order pending now kept piece
 Continues-utf8 order now pending piece kept told tail = record {
   certain = λ back. ap (decided_utf8 order) (sym (append_assoc pending piece back)) ∙ decided_utf8-append order (pending ++ piece) back
       ∙ ap₂ (λ o t. decided_utf8 order (pending ++ piece) ++ decided_utf8 o (t ++ back)) (sym told) (sym tail);

@@ -1,10 +1,11 @@
 -- What a filter did to the bytes that remain in its reader and to those that its writer holds, if
 -- these are known.
-use Rattle.std.specs.Prelude.{◌≢◌, ℕ, ◌+◌, ◌-◌, ◌<◌, ◌≤◌, ◌^◌, Bool, List, Option, Some, None, Result, Ok, Err, encode_utf8_all, length, take}
+use Rattle.std.specs.Prelude.{◌≢◌, ℕ, ◌+◌, ◌-◌, ◌≤◌, ◌^◌, Bool, List, ◌++◌, Option, Some, None, Result, Ok, Err, encode_utf8_all, length, take}
 use Rattle.std.specs.Io.{StartsWith}
 use Rattle.std.specs.Io.KnownBytes.{Appends, Consumes, IsAtEnd}
 use Rattle.utf16_units.specs.Split.{whole_lossy_chars, lossy_chars}
 use Rattle.utf16_streams.specs.Bom.{items_in, tail_in}
+use Rattle.utf16_streams.specs.Continues.{Continues}
 use Rattle.utf16_streams.specs.declared.filters.FilterFault.{FilterFault}
 use Rattle.utf16_streams.specs.declared.filters.FilterFault.TheVariants.{Long, Memory, Read, Write}
 
@@ -16,6 +17,13 @@ decided_utf8 order bytes = encode_utf8_all (lossy_chars (items_in order bytes))
 abbrev pub whole_utf8 : Option Bool → List ℕ → List ℕ
 whole_utf8 order bytes =
     encode_utf8_all (whole_lossy_chars (items_in order bytes) (tail_in order bytes))
+
+-- once a chunk has come after pending bytes, other bytes are pending, and what more bytes add is
+-- their text
+abbrev pub ContinuesUtf8 : Option Bool → List ℕ → Option Bool → List ℕ → List ℕ → Type 0
+ContinuesUtf8 order pending now kept piece = Continues (λ b. decided_utf8 order (pending ++ b))
+    (λ b. whole_utf8 order (pending ++ b)) (λ b. decided_utf8 now (kept ++ b))
+    (λ b. whole_utf8 now (kept ++ b)) piece
 
 -- a prefix of the bytes was written, possibly none or all of them
 abbrev pub AppendsPrefix : Option (List ℕ) → Option (List ℕ) → List ℕ → Type 0
@@ -33,7 +41,7 @@ module _ (decided whole : List ℕ → List ℕ) (input left old new : Option (L
   FiltersAll = (bytes : List ℕ)
       × Consumes input left bytes × IsAtEnd left × Appends old new (whole bytes)
 
-  -- at least so many bytes were read, and the output that is certain of them was written
+  -- at least `least` bytes were read, and the output that is certain of them was written
   abbrev pub FiltersSome : ℕ → Type 0
   FiltersSome least = (bytes : List ℕ)
       × Consumes input left bytes × (least ≤ length bytes) × Appends old new (decided bytes)

@@ -5,11 +5,13 @@ ghost use Rattle.std.specs.Option.{option_to_list};
 ghost use Rattle.utf16_units.specs.Split.{IsTail, lossy_chars};
 ghost use Rattle.utf16_streams.specs.AnyLossy.{any_byte_order, any_pending, state_byte_order, state_pending};
 ghost use Rattle.utf16_streams.specs.Bom.{big_in, items_in, byte_order_after, tail_in};
-ghost use Rattle.utf16_streams.specs.Filter.{decided_utf8};
+ghost use Rattle.utf16_streams.specs.Filter.{decided_utf8, whole_utf8};
 
 use crate::decoder::{Decoder, SHORT_BUFFER, feed};
 use crate::lossy::Lossy;
+use crate::transcoder::Transcoder;
 use std::alloc::{AllocError, Allocator};
+use utf16_decode::{REPLACEMENT, put};
 use utf16_units::laws::are_bytes;
 use utf16_units::{BE, LE};
 
@@ -142,6 +144,12 @@ impl Decoder for AnyLossy {
             decided => decided.feed_into(piece, buffer, to),
         }
     }
+}
+
+impl Transcoder for AnyLossy {
+    ghost decided = { λ it bytes. decided_utf8 (any_byte_order it) (any_pending it ++ bytes) };
+
+    ghost whole = { λ it bytes. whole_utf8 (any_byte_order it) (any_pending it ++ bytes) };
 
     fn feed_to(&mut self, piece: &[u8], to: &mut [u8]) -> usize {
         match &mut self.state {
@@ -155,8 +163,12 @@ impl Decoder for AnyLossy {
         }
     }
 
-    fn finish(self) -> Option<char> {
-        AnyLossy::finish(self)
+    fn finish_to(self, to: &mut [u8]) -> usize {
+        let _ = self.pending();
+        match self.finish() {
+            Some(_) => put(&REPLACEMENT, to, 0),
+            None => 0,
+        }
     }
 
     fn laws(&self) {
@@ -192,7 +204,7 @@ impl State {
         }
     }
 
-    // Decodes a chunk, as `Decoder::feed_to` does.
+    // Decodes a chunk, as `Transcoder::feed_to` does.
     fn feed_to(&mut self, piece: &[u8], to: &mut [u8]) -> usize
         requires decided { state_byte_order self.old ≡ None → piece.now ≡ [] }
         requires space { 2 * length piece.now + 8 ≤ length to.old }

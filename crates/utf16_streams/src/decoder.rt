@@ -1,13 +1,11 @@
 //! Decoding of a stream that comes in chunks.
 
-ghost use Rattle.std.specs.Prelude.{◌≡◌, ◌≢◌, ◌↔◌, ℕ, Bool, List, Option, [], ◌++◌, ◌+◌, ◌*◌, ◌≤◌, None, Some, IfOk, IsOk, OnErr, OnOk, encode_utf8_all, length, string_bytes, take};
+ghost use Rattle.std.specs.Prelude.{◌≡◌, ℕ, Bool, List, Option, [], ◌++◌, ◌≤◌, IfOk, IsOk, OnErr, OnOk, encode_utf8_all, length, string_bytes};
 ghost use Rattle.utf16_units.specs.Split.{lossy_chars};
 ghost use Rattle.utf16_streams.specs.Bom.{items_in, byte_order_after, tail_in};
-ghost use Rattle.utf16_streams.specs.Filter.{decided_utf8, whole_utf8};
 
-use crate::transcoder::Transcoder;
 use std::alloc::{AllocError, Allocator};
-use utf16_decode::{CHUNK_LEN, FEED_SLACK, REPLACEMENT, SHORT_CHUNK, put};
+use utf16_decode::{CHUNK_LEN, FEED_SLACK, SHORT_CHUNK};
 
 /// The length, in bytes, of the buffer that decoded text is written to: three bytes for each code
 /// unit of `CHUNK_LEN` bytes, and `FEED_SLACK` more.
@@ -54,57 +52,6 @@ pub trait Decoder: Drop {
             × (order self.new ≡ order self.old)) }
         ensures nothing { items_in (order self.old) (pending self.old ++ piece.now) ≡ []
             → IsOk result };
-
-    /// Decodes the next chunk, writes the text that is now certain to the start of a buffer in
-    /// UTF-8, and returns its length in bytes.
-    ///
-    /// # Precondition
-    ///
-    /// The buffer has at least two bytes for each byte of the chunk, and eight more.
-    fn feed_to(&mut self, piece: &[u8], to: &mut [u8]) -> usize
-        requires { 2 * length piece.now + 8 ≤ length to.old }
-        ensures within { result ≤ length to.new }
-        ensures text { take result to.new ≡ decided_utf8 (order self.old)
-            (pending self.old ++ piece.now) }
-        ensures pending { pending self.new
-            ≡ tail_in (order self.old) (pending self.old ++ piece.now) }
-        ensures byte_order { order self.new
-            ≡ byte_order_after (order self.old) (pending self.old ++ piece.now) };
-
-    /// Ends the stream: returns U+FFFD if bytes are pending, and `None` if not.
-    fn finish(self) -> Option<char>
-        ensures none { (result ≡ None) ↔ (pending self ≡ []) }
-        ensures replacement { (result ≡ Some 0xFFFD) ↔ (pending self ≢ []) };
-
-    /// States that the pending bytes decode to nothing, and does nothing.
-    fn laws(&self)
-        ensures { tail_in (order self.now) (pending self.now) ≡ pending self.now };
-}
-
-// A decoder as a transcoder to UTF-8.
-#[derive(Drop)]
-pub struct ToUtf8<D: Decoder>(pub D);
-
-impl<D: Decoder> Transcoder for ToUtf8<D> {
-    ghost decided = { λ it bytes. decided_utf8 (D.order it.0) (D.pending it.0 ++ bytes) };
-
-    ghost whole = { λ it bytes. whole_utf8 (D.order it.0) (D.pending it.0 ++ bytes) };
-
-    fn feed_to(&mut self, piece: &[u8], to: &mut [u8]) -> usize {
-        self.0.feed_to(piece, to)
-    }
-
-    fn finish_to(self, to: &mut [u8]) -> usize {
-        self.0.laws();
-        match self.0.finish() {
-            Some(_) => put(&REPLACEMENT, to, 0),
-            None => 0,
-        }
-    }
-
-    fn laws(&self) {
-        self.0.laws();
-    }
 }
 
 /// Decodes the next chunk, and returns the text that is now certain.

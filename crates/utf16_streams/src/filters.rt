@@ -6,7 +6,6 @@ ghost use Rattle.utf16_streams.specs.Filter.{AppendsPrefix, FiltersAs, FiltersAu
 ghost use Rattle.utf16_streams.specs.Watched.{CountsFaults, watched_faults, watched_inner};
 
 use crate::any_lossy::AnyLossy;
-use crate::decoder::ToUtf8;
 use crate::lossy::Lossy;
 use crate::transcoder::Transcoder;
 use crate::watched::{DeviceFault, Watched};
@@ -68,7 +67,7 @@ pub fn filter<E: Utf16Order, R: Read, W: Write, A: Allocator>(
     ensures reads { watched_faults reader.new ≡ watched_faults reader.old + read_faults result }
     ensures writes { watched_faults writer.new ≡ watched_faults writer.old + write_faults result }
 {
-    filter_by(alloc, ToUtf8(Lossy::<E>::new()), reader, writer)
+    filter_by(alloc, Lossy::<E>::new(), reader, writer)
 }
 
 /// Decodes a reader in the byte order that its BOM gives and writes the text to a writer in UTF-8,
@@ -95,7 +94,7 @@ pub fn filter_auto<R: Read, W: Write, A: Allocator>(
     ensures reads { watched_faults reader.new ≡ watched_faults reader.old + read_faults result }
     ensures writes { watched_faults writer.new ≡ watched_faults writer.old + write_faults result }
 {
-    filter_by(alloc, ToUtf8(AnyLossy::new()), reader, writer)
+    filter_by(alloc, AnyLossy::new(), reader, writer)
 }
 
 /// Transcodes a reader and writes the output to a writer. It reads chunks of up to 4,096 bytes

@@ -1,6 +1,6 @@
 //! UTF-16 that comes in chunks: decoders, filters from a reader to a writer, and readers and
-//! writers whose I/O errors are counted. The byte orders are re-exported, so that a user names this
-//! crate alone.
+//! writers whose I/O errors are counted. The byte orders are re-exported, so that a user names only
+//! this crate.
 #![tactic(auto)]
 
 mod any_lossy;

@@ -1,6 +1,6 @@
 //! A decoder of UTF-16 that comes in chunks.
 
-ghost use Rattle.std.specs.Prelude.{◌≡◌, ◌≢◌, ◌↔◌, ◌+◌, ◌*◌, ◌<◌, ◌≤◌, [], ◌++◌, All, None, Some, IfOk, IsOk, OnErr, OnOk, chars, encode_utf8_all, length, string_bytes};
+ghost use Rattle.std.specs.Prelude.{◌≡◌, ◌≢◌, ◌↔◌, ◌+◌, ◌*◌, ◌<◌, ◌≤◌, [], ◌++◌, All, None, Some, IfOk, IsOk, OnErr, OnOk, chars, encode_utf8_all, length, string_bytes, take};
 ghost use Rattle.std.specs.List.{flat_map};
 ghost use Rattle.std.specs.Option.{option_to_list};
 ghost use Rattle.std.specs.Str.{IsUtf8};
@@ -9,11 +9,13 @@ ghost use Rattle.std.specs.Vec.{vec_items};
 ghost use Rattle.utf16_units.specs.Split.{decided_text, IsTail, lossy_text, split_items, split_tail};
 ghost use Rattle.utf16_decode.specs.Decodes.{Decodes};
 ghost use Rattle.utf16_decode.specs.Stream.{stream_pending};
+ghost use Rattle.utf16_streams.specs.Filter.{ContinuesUtf8, decided_utf8, whole_utf8};
 
 use crate::decoder::{BUFFER_LEN, Decoder, SHORT_BUFFER, feed};
+use crate::transcoder::Transcoder;
 use std::alloc::{AllocError, Allocator};
 use std::marker::PhantomData;
-use utf16_decode::{FEED_SLACK, Stream, ToUtf8};
+use utf16_decode::{FEED_SLACK, REPLACEMENT, Stream, ToUtf8, put};
 use utf16_units::Utf16Order;
 use utf16_units::laws::are_bytes;
 
@@ -135,14 +137,34 @@ impl<E: Utf16Order> Decoder for Lossy<E> {
         self.stream = decode_parts::<E, A>(self.stream, piece, buffer, to)?;
         Ok(())
     }
+}
 
-    fn feed_to(&mut self, piece: &[u8], to: &mut [u8]) -> usize {
+impl<E: Utf16Order> Transcoder for Lossy<E> {
+    ghost use Rattle.utf16_streams.specs.Lossy.{lossy_pending};
+
+    ghost decided = { λ it bytes. decided_utf8 (Some E.BIG) (lossy_pending it ++ bytes) };
+
+    ghost whole = { λ it bytes. whole_utf8 (Some E.BIG) (lossy_pending it ++ bytes) };
+
+    fn feed_to(&mut self, piece: &[u8], to: &mut [u8]) -> usize
+        requires { 2 * length piece.now + 8 ≤ length to.old }
+        ensures within { result ≤ length to.new }
+        ensures bytes { take result to.new
+            ≡ decided_utf8 (Some E.BIG) (lossy_pending self.old ++ piece.now) }
+        ensures continues { ContinuesUtf8 (Some E.BIG) (lossy_pending self.old) (Some E.BIG)
+            (lossy_pending self.new) piece.now }
+        ensures pending { lossy_pending self.new
+            ≡ split_tail E.BIG (lossy_pending self.old ++ piece.now) }
+    {
         are_bytes(self.stream.pending());
         self.stream.feed::<ToUtf8<E>>(piece, to).written
     }
 
-    fn finish(self) -> Option<char> {
-        Lossy::finish(self)
+    fn finish_to(self, to: &mut [u8]) -> usize {
+        match self.finish() {
+            Some(_) => put(&REPLACEMENT, to, 0),
+            None => 0,
+        }
     }
 
     fn laws(&self) {}

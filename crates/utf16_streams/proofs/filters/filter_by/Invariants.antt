@@ -3,7 +3,7 @@ use Rattle.utf16_streams.specs.Watched.{watched_faults, watched_inner}
 use Rattle.utf16_streams.proofs.FilterLemmas.{Filtering}
 use Rattle.utf16_streams.proofs.filters.filter_by.Given as goal
 
--- what was read and written by so many reads, without an I/O error
+-- what was read and written by `counter` reads, without an I/O error
 abbrev pub invariant-loop : goal.invariant-loop
 invariant-loop g l =
     let t = g.T.Transcoder in let remaining = g.R.Read.remaining in let contents = g.W.Write.contents in

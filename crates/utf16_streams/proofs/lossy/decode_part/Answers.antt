@@ -22,11 +22,10 @@ module _ (g : Over) (c : After-feed-written g) where
   decided : shown (split_items g.E.Utf16Order.BIG (c.pending.result.now ++ part)) ≡ shown (split_items g.E.Utf16Order.BIG (pending ++ part))
   decided = ap (λ h. shown (split_items g.E.Utf16Order.BIG (h ++ part))) c.pending.ensures.bytes
 
-  long : length c.feed-written.new.to ≡ length c.args.buffer.now
-  long = search rules
-
   done : c.feed-written.result.stop ≡ Done
-  done = c.feed-written.ensures.done.1 (omega (arith, ap length decided, long, c.part_that_fits.ensures.within))
+  done =
+      let long : length c.feed-written.new.to ≡ length c.args.buffer.now = search rules in
+      c.feed-written.ensures.done.1 (omega (arith, ap length decided, long, c.part_that_fits.ensures.within))
 
   took : StopsFeeding g.E.Utf16Order.BIG pending part (stream_pending c.feed-written.new.self) c.feed-written.result.read
       (length c.feed-written.new.to - c.feed-written.result.written) Done
