@@ -1,4 +1,5 @@
--- Unpaired surrogates replaced one after another: the text and the number of those before an offset.
+-- Unpaired surrogates replaced one after another: the text and the number of these before an
+-- offset.
 use Rattle.std.proofs.Common.{◌≡◌, ℕ, suc, ◌+◌, ◌-◌, ◌*◌, ◌%◌, ◌<◌, ◌≤◌, Bool, true, false, List, [], ◌∷◌, ◌++◌, Option, None, Some, length, map, take, drop, refl, sym, ap, ap₂, ◌∙◌, subst, arith, append-nil, append_assoc, length-drop, length-take-le, take-add, take_all, take-append-drop, if◌then◌else◌}
 use Rattle.std.specs.Char.Utf16.{is_high_surrogate}
 use Rattle.std.proofs.lemmas.List.{drop-drop, drop_all, take_rest}

@@ -16,6 +16,10 @@ use Rattle.utf16_decode.specs.declared.progress.Stop.{Stop}
 use Rattle.utf16_decode.specs.declared.progress.Stop.TheVariants.{Incomplete, Done, IllFormed, NoRoom}
 use Rattle.utf16_decode.proofs.WroteLemmas.{put_end-long, take-end}
 
+-- the rest after more bytes
+pub rest_after : (input : List ℕ) (read n : ℕ) → drop n (rest_from input read) ≡ rest_from input (read + n)
+rest_after input read n = ap (drop n) (take_rest input read) ∙ drop-drop n read input ∙ sym (take_rest input (read + n))
+
 -- the first four bytes of pending bytes and a chunk
 pub start_bytes : (pending piece : List ℕ) (n : ℕ) → length pending ≤ 4 → n ≤ 4 - length pending → (length piece ≤ n) ⊎ (4 - length pending ≤ n)
     → pending ++ take n piece ≡ take 4 (pending ++ piece)

@@ -16,8 +16,8 @@ pub record Decomposition : Type 1 where
 abbrev pub decided : Decomposition → List ℕ → List ℕ
 decided parts bytes = map parts.shown (parts.items bytes)
 
--- bytes may come in chunks: the items of the first ones stay, and what follows depends on their tail
--- alone; a tail has at most three bytes and no item
+-- bytes may come in chunks: the items of the first ones stay, and what follows depends only on
+-- their tail; a tail has at most three bytes and no item
 pub record IsSplitInChunks (parts : Decomposition) : Type 0 where
   pub items : (front back : List ℕ)
       → parts.items (front ++ back) ≡ parts.items front ++ parts.items (parts.tail front ++ back)

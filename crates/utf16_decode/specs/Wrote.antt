@@ -32,7 +32,8 @@ pub record Puts (Gives : List ℕ → List ℕ → Type 0) (rest old new : List 
   pub gives : Gives (take len rest) added
   pub bytes : take last new ≡ take at old ++ added
 
--- the first bytes of the input were decoded, and what is shown of them is at the start of the buffer
+-- the first bytes of the input were decoded, and what is shown of them is at the start of the
+-- buffer
 pub record DecodesAsTo (parts : Decomposition) (into : ℕ → List ℕ) (input to : List ℕ) (read written : ℕ) : Type 0 where
   pub within : read ≤ length input
   pub fits : written ≤ length to

@@ -91,8 +91,7 @@ pub trait Direction {
         ensures fits { result.1 ≤ room }
         ensures most { room < result.1 + 4 };
 
-    /// Returns how many bytes surely fit in `room` bytes in the second encoding, with what `write`
-    /// needs beside them, perhaps none.
+    /// Returns a number of bytes, perhaps 0, for which `write` needs at most `room` bytes of space.
     fn surely_fit(room: usize) -> usize
         ensures fits { 0 < result → room_for result ≤ room }
         ensures most { room < room_for (result + 2) };

@@ -1,4 +1,4 @@
-//! What a direction decides where it goes on after ill-formed sequences: what is pending, and what is
+//! What a direction decides to continue after ill-formed sequences: what is pending, and what is
 //! written for each of them.
 
 ghost use Rattle.std.specs.Prelude.{◌≡◌, ◌-◌, ◌<◌, ◌≤◌, ◌++◌, ℕ, List, IfSome, None, Some, drop, length, take};
@@ -11,19 +11,19 @@ ghost use Rattle.utf16_decode.specs.declared.progress.Stop.TheVariants.{IllForme
 
 use crate::direction::Direction;
 
-/// A direction that goes on after ill-formed sequences.
+/// A direction that continues after ill-formed sequences.
 pub trait LossyDirection: Direction {
     // The items of any bytes and their tail, and the code points that are written for these.
     ghost parts: { Decomposition };
 
-    /// Writes what stands for the ill-formed sequence of `len` bytes that the input begins with to
-    /// the start of a buffer, and perhaps what is certain of the bytes after it. Returns the number
-    /// of bytes read and the number of bytes written; `None` if it does not fit. The bytes of the
-    /// buffer after those written may be overwritten.
+    /// Writes to the start of a buffer what stands for the first `len` bytes of the input, an
+    /// ill-formed sequence, and perhaps what is certain of the bytes after it. Returns the number
+    /// of bytes read and the number of bytes written; `None` if the first character does not fit.
+    /// The bytes of the buffer after the written ones may be overwritten.
     ///
     /// # Precondition
     ///
-    /// There is such a sequence.
+    /// The input begins with an ill-formed sequence of `len` bytes.
     fn write_ill_formed(input: &[u8], len: u8, to: &mut [u8]) -> Option<(usize, usize)>
         requires some { 0 < length input.now }
         requires ill_formed { Self.IsIllFormedAt input.now (Some len) }
@@ -50,8 +50,8 @@ pub trait LossyDirection: Direction {
         ensures unchanged { result ≡ None → to.new ≡ to.old };
 
     /// States what the proofs of lossy calls and of a stream need, and does nothing: bytes may come
-    /// in chunks; a character takes at most four bytes; a text is decoded as itself; where
-    /// `transcode` stops, a lossy call stops for the same reason, unless it goes on there.
+    /// in chunks; a character takes at most four bytes; a text is decoded as itself; if `transcode`
+    /// stops for another reason than an ill-formed sequence, a lossy call stops for the same one.
     fn lossy_laws()
         ensures chunks { IsSplitInChunks parts }
         ensures short { (c : ℕ) → length (Self.into c) ≤ 4 }

@@ -13,15 +13,15 @@ use crate::lossy_direction::LossyDirection;
 use crate::lossy_transcoding::transcode_partial;
 use crate::progress::{Progress, Stop};
 
-/// The number of bytes of a buffer beyond the longest text of a chunk with which `Stream::feed` writes
-/// many bytes at once up to the end of the text, in either direction.
+/// The space beyond the longest text of a chunk, in bytes, with which `Stream::feed` writes many
+/// bytes at once up to the end of the text, in either direction.
 pub const FEED_SLACK: usize = 512;
 
 /// The most bytes of a chunk that pass through a buffer at once.
 pub const CHUNK_LEN: usize = 4096;
 
-/// The length of a short chunk: one of at most this many bytes passes through a smaller buffer, which
-/// costs less to fill with zeros.
+/// The most bytes of a short chunk, which passes through a smaller buffer: that one takes less time
+/// to fill with zeros.
 pub const SHORT_CHUNK: usize = 512;
 
 /// The pending bytes of a stream between two chunks: its last bytes, at most three, that only more
@@ -171,8 +171,8 @@ fn feed_after<D: LossyDirection>(pending: &[u8], piece: &[u8], to: &mut [u8]) ->
     (done, Stream::holding(&tail[..len]))
 }
 
-// Decodes pending bytes and a chunk after them as `transcode_partial` does, as if they were contiguous:
-// four bytes at the chunk boundary pass through a buffer on the stack.
+// Decodes pending bytes and a chunk after them as `transcode_partial` does, as if they were
+// contiguous: four bytes at the chunk boundary pass through a buffer on the stack.
 fn decode_joined<D: LossyDirection>(pending: &[u8], piece: &[u8], to: &mut [u8]) -> Progress
     requires { length pending.now ≤ 3 }
     ensures decodes { DecodesAsTo D.parts D.into (pending.now ++ piece.now) to.new result.read

@@ -118,8 +118,8 @@ impl<E: Utf16Order> Direction for ToUtf8<E> {
     }
 }
 
-// Goes on with ASCII after what was written, eight code units at a time, which need no more space
-// than they take.
+// Writes the ASCII that follows what was written, eight code units at a time, which need no more
+// space than they take.
 #[inline(always)]
 fn write_ascii_from<E: Utf16Order>(
     raw: &[u8],
@@ -142,8 +142,8 @@ fn write_ascii_from<E: Utf16Order>(
     (read, written)
 }
 
-// Returns the length of the longest valid prefix. A function of its own, so that the writer does
-// not pay for its registers.
+// Returns the length of the longest valid prefix. Kept out of line so that the writer does not pay
+// for its registers.
 #[inline(never)]
 pub(crate) fn valid_up_to<E: Utf16Order>(bytes: &[u8]) -> usize
     ensures within { result ≤ length bytes.now }

@@ -30,7 +30,7 @@ pub fn make_well_formed<E: Utf16Order>(utf16: &mut [u8]) -> usize
     mend::<E>(&mut utf16[..whole])
 }
 
-/// Copies UTF-16 to the start of a buffer with U+FFFD in place of each unpaired surrogate, and
+/// Copies UTF-16 to the start of a buffer with U+FFFD instead of each unpaired surrogate, and
 /// returns the number of bytes written: all but an incomplete character at the end (an odd byte, or
 /// a leading surrogate and at most one byte after it). The written bytes are well formed, and each
 /// of their characters is at the offset of the character or surrogate that it stands for. The bytes

@@ -1,5 +1,5 @@
--- UTF-8 that is written in UTF-16, with U+FFFD for each ill-formed subpart: what a call decoded, why it
--- stopped, and what a chunk of a stream adds.
+-- UTF-8 that is written in UTF-16, with U+FFFD for each ill-formed subpart: what a call decoded,
+-- why it stopped, and what a chunk of a stream adds.
 use Rattle.std.specs.Prelude.{◌≡◌, ℕ, ◌<◌, ◌≤◌, Bool, List, [], ◌∷◌, length, drop}
 use Rattle.utf16_units.specs.Encoding.{char_bytes}
 use Rattle.utf8_bytes.specs.Split.{Item, lossy_char, split_items, split_tail, whole_lossy_chars}

@@ -1,11 +1,10 @@
-use Rattle.std.proofs.Common.{◌≡◌, ℕ, ◌+◌, ◌-◌, List, Some, drop, length, length-drop, arith, rules, refl, sym, ap, ◌∙◌, subst}
+use Rattle.std.proofs.Common.{◌+◌, ◌-◌, Some, length, length-drop, arith, rules, refl, ap, subst}
 use Rattle.utf16_units.proofs.IllFormedLemmas.{rest_from}
 use borrow.Rule.Slice.PartMut.{put_mid}
-use Rattle.std.proofs.lemmas.List.{drop-drop, take_rest}
 use Rattle.utf16_decode.specs.Decomposition.{decided}
 use Rattle.utf16_decode.specs.Stops.{Stops, TextDoesNotFit}
 use Rattle.utf16_decode.specs.Wrote.{DecodesAsTo}
-use Rattle.utf16_decode.proofs.StreamSteps.{DecodesTo-kept, DecodesTo-none, DecodesTo-rest, stops_rest}
+use Rattle.utf16_decode.proofs.StreamSteps.{DecodesTo-kept, DecodesTo-none, DecodesTo-rest, rest_after, stops_rest}
 use Rattle.utf16_decode.proofs.lossy_transcoding.transcode_partial.Given.{Over}
 use Rattle.utf16_decode.proofs.lossy_transcoding.transcode_partial.Goals as goal
 use Rattle.utf16_decode.proofs.lossy_transcoding.transcode_partial.Goals.{After-transcode-front, In-IllFormed}
@@ -37,17 +36,14 @@ found g c =
     subst (Stops g.D.Direction.from g.D.Direction.into g.D.Direction.IsIllFormed (rest_from c.args.input.now c.loop-len.read) c.transcode-front.result.read
     (length c.transcode-front.new.to - c.transcode-front.result.written)) c.in-IllFormed.is c.transcode-front.ensures.stop
 
-rest_is : (input : List ℕ) (read n : ℕ) → drop n (rest_from input read) ≡ rest_from input (read + n)
-rest_is input read n = ap (drop n) (take_rest input read) ∙ drop-drop n read input ∙ sym (take_rest input (read + n))
-
 pub write_ill_formed-requires-clause-some : goal.write_ill_formed-requires-clause-some
 write_ill_formed-requires-clause-some g c =
     let here = (c.lossy_laws.ensures.there _ _ _ (found g (goal.at.write_ill_formed-requires-clause-some g c).In-IllFormed)).0 in
-    omega (arith, here, length-drop c.transcode-front.result.read (rest_from c.args.input.now c.loop-len.read), ap length (rest_is c.args.input.now c.loop-len.read c.transcode-front.result.read))
+    omega (arith, here, length-drop c.transcode-front.result.read (rest_from c.args.input.now c.loop-len.read), ap length (rest_after c.args.input.now c.loop-len.read c.transcode-front.result.read))
 
 pub write_ill_formed-requires-clause-ill_formed : goal.write_ill_formed-requires-clause-ill_formed
 write_ill_formed-requires-clause-ill_formed g c =
-    subst (λ b. g.D.Direction.IsIllFormedAt b (Some c.in-IllFormed.len)) (rest_is c.args.input.now c.loop-len.read c.transcode-front.result.read)
+    subst (λ b. g.D.Direction.IsIllFormedAt b (Some c.in-IllFormed.len)) (rest_after c.args.input.now c.loop-len.read c.transcode-front.result.read)
     (c.lossy_laws.ensures.there _ _ _ (found g (goal.at.write_ill_formed-requires-clause-ill_formed g c).In-IllFormed)).1
 
 pub returns-in_default-write_ill_formed-clause-decodes : goal.returns-in_default-write_ill_formed-clause-decodes
