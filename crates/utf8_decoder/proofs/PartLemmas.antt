@@ -32,7 +32,7 @@ IsTail-pending pending same = subst IsTail same (tail_ends pending)
 pub split_tail-again : (bytes : List ℕ) → split_tail (split_tail bytes) ≡ split_tail bytes
 split_tail-again bytes = (split_of_tail (split_tail bytes) (tail_ends bytes)).1
 
--- alone they decide nothing
+-- without more bytes they decide nothing
 pub decided_text-pending : (pending : List ℕ) → split_tail pending ≡ pending → decided_text pending ≡ []
 decided_text-pending pending same = ap lossy_chars (split_of_tail pending (IsTail-pending pending same)).0
 

@@ -9,23 +9,13 @@ ghost use Rattle.utf16string.specs.WStr.{wstr_bytes, wstr_text};
 ghost use Rattle.utf16string.specs.WString.{IsUnchanged, wstring_bytes, wstring_capacity, wstring_text};
 
 use std::alloc::{AllocError, Allocator};
+use utf16_decode::{CHUNK_LEN, FEED_SLACK, SHORT_CHUNK};
 use utf16_encode::{Stream, feed_utf8};
 use utf16string::{Utf16Order, WStr, WString};
 
-// A chunk of at most `SHORT_CHUNK` bytes is decoded at once, and capacity is reserved for its text
-// alone. The buffer has two bytes for each byte of the chunk, two for the pending bytes, and 16
-// more, with which SIMD writes to the end.
-const SHORT_CHUNK: usize = 512;
-
-const SHORT_BUFFER: usize = 2 * SHORT_CHUNK + 2 + 16;
-
-// A longer chunk is decoded in parts of as many bytes, through a larger buffer.
-const PART_LEN: usize = 4096;
-
-const PART_BUFFER: usize = 2 * PART_LEN + 2 + 16;
-
 /// Decodes the next chunk of a stream, appends its text, and returns the stream with the bytes that
-/// are pending then.
+/// are pending then. Capacity is reserved for the text of a short chunk only, and for a longer one
+/// for the longest possible text.
 ///
 /// # Errors
 ///
@@ -50,7 +40,7 @@ pub fn feed<E: Utf16Order, A: Allocator>(
     ensures grows { wstring_capacity to.old ≤ wstring_capacity to.new }
 {
     if piece.len() <= SHORT_CHUNK {
-        return append_part(stream, piece, &mut [0; SHORT_BUFFER], to);
+        return append_part(stream, piece, &mut [0; 2 * SHORT_CHUNK + FEED_SLACK], to);
     }
     to.reserve(piece.len().saturating_mul(2).saturating_add(2))?;
     Ok(decode_parts(stream, piece, to))
@@ -74,11 +64,11 @@ fn decode_parts<E: Utf16Order, A: Allocator>(
         ≡ split_tail (stream_pending stream ++ piece.now) }
     ensures grows { wstring_capacity to.old ≤ wstring_capacity to.new }
 {
-    let mut buffer = [0; PART_BUFFER];
+    let mut buffer = [0; 2 * CHUNK_LEN + FEED_SLACK];
     let mut stream = stream;
     let mut rest = piece;
     while !rest.is_empty() {
-        let (part, next) = rest.split_at(rest.len().min(PART_LEN));
+        let (part, next) = rest.split_at(rest.len().min(CHUNK_LEN));
         let Ok(fed) = append_part(stream, part, &mut buffer, to) else {
             unreachable!()
         };
