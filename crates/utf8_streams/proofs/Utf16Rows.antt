@@ -1,4 +1,4 @@
--- What the filters to UTF-16 write for known texts: each row is checked by evaluation alone.
+-- What the filters to UTF-16 write for known texts: each row is checked only by evaluation.
 use Rattle.std.proofs.Common.{◌≡◌, ℕ, Bool, true, false, List, [], ◌∷◌, refl}
 use Rattle.utf16_units.specs.Encoding.{encode}
 use Rattle.utf8_streams.specs.Utf16.{with_bom}
@@ -28,7 +28,7 @@ two_boms : IsWritten true (0xFEFF ∷ 0xFEFF ∷ []) (0xFE ∷ 0xFF ∷ 0xFE ∷
 unfolding encode
 two_boms = (refl, refl)
 
--- U+FFFE is no BOM
+-- U+FFFE is not a BOM
 other_order : IsWritten true (0xFFFE ∷ []) (0xFF ∷ 0xFE ∷ []) (0xFE ∷ 0xFF ∷ 0xFF ∷ 0xFE ∷ [])
 unfolding encode
 other_order = (refl, refl)

@@ -1,4 +1,4 @@
--- The law of both filters, a statement about the definitions alone, for all bytes.
+-- The law of both filters, a statement only about the definitions, for all bytes.
 use Rattle.std.specs.Prelude.{◌≡◌, ℕ, Bool, List, Some}
 use Rattle.std.specs.Str.{IsUtf8}
 use Rattle.utf16_units.specs.Encoding.{IsUtf16}

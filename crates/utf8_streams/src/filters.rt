@@ -32,8 +32,8 @@ use utf16_units::Utf16Order;
 ///
 /// # Source
 ///
-/// Unicode, section 3.9, "U+FFFD Substitution of Maximal Subparts"; the text is that of
-/// `String::from_utf8_lossy`.
+/// Unicode, section 3.9, "U+FFFD Substitution of Maximal Subparts"; `String::from_utf8_lossy` gives
+/// the same text.
 pub fn encode_stream<E: Utf16Order, R: Read, W: Write, A: Allocator>(
     alloc: A,
     reader: &mut Watched<R>,

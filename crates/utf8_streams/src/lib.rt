@@ -1,5 +1,5 @@
 //! Filters from UTF-8 to UTF-16, from a reader to a writer. The byte orders, and what a filter
-//! takes and returns, are re-exported, so that a user names this crate alone.
+//! takes and returns, are re-exported, so that a user names only this crate.
 #![tactic(auto)]
 
 mod encoder;
