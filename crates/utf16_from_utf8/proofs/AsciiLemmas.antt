@@ -2,7 +2,7 @@
 use Rattle.std.proofs.Common.{◌-◌, drop-drop, zero, suc, ◌≡◌, ℕ, ◌+◌, ◌*◌, ◌<◌, ◌≤◌, Bool, List, [], ◌∷◌, ◌++◌, length, length-take-le, take, drop, slice_index, subst, refl, sym, ap, ap₂, ◌∙◌, ⊎_elim, arith}
 use Rattle.std.proofs.Math.Seq.{take-add, take-length}
 use Rattle.std.proofs.lemmas.Bool.{cases_lt}
-use Rattle.std.proofs.lemmas.List.{get_or-take, get_or_past, take-take, take_at}
+use Rattle.std.proofs.lemmas.List.{get_or-take, get_or_past, take-take, take_all, take_at}
 use Rattle.std.proofs.lemmas.Simd.{get_or-chunk, length-chunk}
 use Rattle.std.proofs.lemmas.Str.{IsUtf8-from_ascii, chars-IsAscii}
 use Rattle.std.proofs.lemmas.Str.Ascii.{IsAscii-nil}
@@ -146,6 +146,18 @@ less-written big bytes before new at m less done = record {
 
     long : length (encode big front) ≡ 2 * m
     long = length-encode big front ∙ size-ascii front front-ascii ∙ ap (λ n. 2 * n) (length-take-le m bytes (omega (arith, less, done.within)))
+
+-- the first of sixteen characters that were written
+pub front-written : (big : Bool) (block new : List ℕ) (n : ℕ) → length block ≡ 16 → ((i : ℕ) → i < 16 → slice_index block i < 0x80) → n ≤ 16
+    → take 32 new ≡ encode big (chars block) → take (2 * n) new ≡ encode big (chars (take n block))
+front-written big block new n long low few wrote =
+    let all : take 16 block ≡ block = take_all 16 block (omega (arith, long)) in
+    (less-written big block new new 16 n few record {
+      within = omega (arith, long);
+      ascii = subst (λ b. IsAscii b) (sym all) (block-ascii block long low);
+      wrote = wrote ∙ ap (λ b. encode big (chars b)) (sym all);
+      rest = refl;
+    }).wrote
 
 -- what stays after a place stays after a later one
 drop-further : (m n : ℕ) (xs ys : List ℕ) → m ≤ n → drop m xs ≡ drop m ys → drop n xs ≡ drop n ys

@@ -1,7 +1,6 @@
 -- What the lanes of a block hold is what its bytes add.
-use Rattle.std.proofs.Common.{drop, drop-cons, replicate, set, ◌≡◌, ℕ, zero, suc, ◌+◌, ◌*◌, ◌/◌, ◌%◌, ◌^◌, ◌<◌, ◌≤◌, ◌&&◌, ◌==◌, Bool, true, false, cond, ltb, List, [], ◌∷◌, ◌++◌, length, take, slice_index, append_assoc, bit_and, refl, sym, ap, ap₂, ◌∙◌, ⊎_elim, length-take-le, arith, append-nil, flat_map, lt-ltb, le-ltb, length-append}
+use Rattle.std.proofs.Common.{replicate, ◌≡◌, ℕ, zero, suc, ◌+◌, ◌*◌, ◌/◌, ◌%◌, ◌^◌, ◌<◌, ◌≤◌, ◌&&◌, ◌==◌, Bool, true, false, cond, ltb, List, [], ◌∷◌, ◌++◌, length, take, slice_index, append_assoc, bit_and, refl, sym, ap, ap₂, ◌∙◌, ⊎_elim, length-take-le, arith, append-nil, flat_map, lt-ltb, le-ltb, length-append}
 use Rattle.std.proofs.lemmas.Bool.{cases_lt}
-use Rattle.std.proofs.lemmas.List.{drop_all, length-set, take_more_set}
 use Rattle.std.proofs.lemmas.Nat.Bits.{and_high}
 use Rattle.std.proofs.lemmas.Simd.{length-put_chunk, take_more_put_chunk}
 use Rattle.std.proofs.Math.Nat.{div-div-eq-div-mul, two-pow-succ}
@@ -11,7 +10,7 @@ use Rattle.utf16_from_utf8.specs.Added.{added_bytes, ends_unit, unit_after}
 use Rattle.utf16_from_utf8.specs.Follow.{AreBefore}
 use Rattle.utf16_from_utf8.specs.Lanes.{kept_pairs, pair_bytes, pairs_of}
 use Rattle.utf16_from_utf8.specs.UnitLanes.{short_low, three_high}
-use Rattle.utf16_from_utf8.proofs.AddedLemmas.{added_bytes-append, added_bytes-cons, added_bytes-nil, adds-none-behind, adds-none-first, adds-one, byte_adds, unit-one, unit-three}
+use Rattle.utf16_from_utf8.proofs.AddedLemmas.{added_bytes-cons, added_bytes-nil, adds-none-behind, adds-none-first, adds-one, byte_adds, unit-one, unit-three}
 use Rattle.utf16_from_utf8.proofs.LaneByteLemmas.{AreBytes, pair-unit, three-bytes}
 
 -- ---- one byte
@@ -177,42 +176,6 @@ pub added-bound : (big : Bool) (b2 b1 : ℕ) (out out' bytes : List ℕ) (end en
 added-bound big b2 b1 out out' bytes end end' old new wrote =
     let added = added_bytes big b2 b1 bytes in
     omega (arith, ap length wrote ∙ length-append (take end out) added, added-short big b2 b1 bytes, length-take-le end' out' new, length-take-le end out old)
-
--- ---- two bytes stored one by one
-
-pub two_stored : (big : Bool) (at : ℕ) (two : List ℕ) (unit : ℕ) (out : List ℕ) → at + 2 ≤ length out → two ≡ unit_bytes big unit
-    → take (at + 2) (set (set out at (slice_index two 0)) (at + 1) (slice_index two 1)) ≡ take at out ++ unit_bytes big unit
-two_stored big at two unit out room is =
-    let once = set out at (slice_index two 0) in
-    let next : at + 2 ≡ at + 1 + 1 = omega arith in
-    ap (λ n. take n (set once (at + 1) (slice_index two 1))) next
-    ∙ take_more_set once (at + 1) (slice_index two 1) (omega (arith, length-set out at (slice_index two 0)))
-    ∙ ap (λ t. t ++ slice_index two 1 ∷ []) (take_more_set out at (slice_index two 0) (omega arith))
-    ∙ append_assoc (take at out) (slice_index two 0 ∷ []) (slice_index two 1 ∷ [])
-    ∙ ap (λ l. take at out ++ slice_index l 0 ∷ slice_index l 1 ∷ []) is
-    ∙ ap (λ t. take at out ++ t) (spelled big unit)
-  where
-    spelled : (big : Bool) (unit : ℕ) → slice_index (unit_bytes big unit) 0 ∷ slice_index (unit_bytes big unit) 1 ∷ [] ≡ unit_bytes big unit
-    spelled true unit = refl
-    spelled false unit = refl
-
--- ---- one byte after another
-
-pub added-step-one : (big : Bool) (done done' all piece : List ℕ) (at b2 b1 : ℕ) → at < length piece
-    → done' ≡ done ++ added_bytes big b2 b1 (slice_index piece at ∷ []) → done ++ added_bytes big b2 b1 (drop at piece) ≡ all
-    → done' ++ added_bytes big b1 (slice_index piece at) (drop (at + 1) piece) ≡ all
-added-step-one big done done' all piece at b2 b1 room wrote e =
-    let b0 = slice_index piece at in
-    let next : suc at ≡ at + 1 = omega arith in
-    let rest = drop (at + 1) piece in
-    ap (λ t. t ++ added_bytes big b1 b0 rest) wrote
-    ∙ append_assoc done (added_bytes big b2 b1 (b0 ∷ [])) (added_bytes big b1 b0 rest)
-    ∙ ap (λ t. done ++ t) (sym (ap (added_bytes big b2 b1) (drop-cons piece at 0 room ∙ ap (λ n. b0 ∷ drop n piece) next) ∙ added_bytes-append big b2 b1 (b0 ∷ []) rest))
-    ∙ e
-
-pub added-all : (big : Bool) (done all piece : List ℕ) (at b2 b1 : ℕ) → length piece ≤ at → done ++ added_bytes big b2 b1 (drop at piece) ≡ all → done ≡ all
-added-all big done all piece at b2 b1 end e =
-    sym (append-nil done) ∙ ap (λ t. done ++ t) (sym (ap (added_bytes big b2 b1) (drop_all at piece end) ∙ added_bytes-nil big b2 b1)) ∙ e
 
 -- ---- a last block, filled
 

@@ -1,4 +1,4 @@
--- Texts of eight to fifteen bytes.
+-- Texts of eight to sixteen bytes.
 use Rattle.std.proofs.Common.{◌≡◌, ℕ, zero, suc, ◌+◌, ◌-◌, ◌<◌, ◌≤◌, true, cond, ltb, List, [], ◌∷◌, ◌++◌, length, take, drop, get_or, get_or-drop, slice_index, map, refl, sym, ap, ap₂, ◌∙◌, ⊎_elim, arith, lt-ltb, le-ltb, Fits, w8, replicate, subst, length-append, length-take-le}
 use Rattle.std.proofs.lemmas.Bool.{cases_lt}
 use Rattle.std.proofs.lemmas.List.{length-map, get_or-take, get_or_append_left, get_or-append_right, get_or-map}
@@ -33,10 +33,10 @@ same-by-index (x ∷ xs) (y ∷ ys) long each = ap₂ (λ z zs. z ∷ zs) (each 
 abbrev row : ℕ → List ℕ
 row len = map (place len) (range_with_len 0 16)
 
-is-row : (k : ℕ) → k < 8 → IsOrder (8 + k) (get_or ORDER k [])
+is-row : (k : ℕ) → k < 9 → IsOrder (8 + k) (get_or ORDER k [])
 is-row k below = record { places = λ i b. ap (λ r. slice_index r i) (table k below) ∙ get_or-map-range_with_len (place (8 + k)) 0 16 i i 0 b (omega arith); length = ap length (table k below); below = small k below }
   where
-    table : (k : ℕ) → k < 8 → get_or ORDER k [] ≡ row (8 + k)
+    table : (k : ℕ) → k < 9 → get_or ORDER k [] ≡ row (8 + k)
     table zero b = refl
     table (suc zero) b = refl
     table (suc (suc zero)) b = refl
@@ -45,9 +45,10 @@ is-row k below = record { places = λ i b. ap (λ r. slice_index r i) (table k b
     table (suc (suc (suc (suc (suc zero))))) b = refl
     table (suc (suc (suc (suc (suc (suc zero)))))) b = refl
     table (suc (suc (suc (suc (suc (suc (suc zero))))))) b = refl
-    table (suc (suc (suc (suc (suc (suc (suc (suc k)))))))) b = absurd (omega arith)
+    table (suc (suc (suc (suc (suc (suc (suc (suc zero)))))))) b = refl
+    table (suc (suc (suc (suc (suc (suc (suc (suc (suc k))))))))) b = absurd (omega arith)
 
-    small : (k : ℕ) → k < 8 → all_below 16 (get_or ORDER k []) ≡ true
+    small : (k : ℕ) → k < 9 → all_below 16 (get_or ORDER k []) ≡ true
     small zero b = refl
     small (suc zero) b = refl
     small (suc (suc zero)) b = refl
@@ -56,9 +57,10 @@ is-row k below = record { places = λ i b. ap (λ r. slice_index r i) (table k b
     small (suc (suc (suc (suc (suc zero))))) b = refl
     small (suc (suc (suc (suc (suc (suc zero)))))) b = refl
     small (suc (suc (suc (suc (suc (suc (suc zero))))))) b = refl
-    small (suc (suc (suc (suc (suc (suc (suc (suc k)))))))) b = absurd (omega arith)
+    small (suc (suc (suc (suc (suc (suc (suc (suc zero)))))))) b = refl
+    small (suc (suc (suc (suc (suc (suc (suc (suc (suc k))))))))) b = absurd (omega arith)
 
-pub is-order : (len : ℕ) → 8 ≤ len → len < 16 → IsOrder len (get_or ORDER (len - 8) [])
+pub is-order : (len : ℕ) → 8 ≤ len → len ≤ 16 → IsOrder len (get_or ORDER (len - 8) [])
 is-order len some few = subst (λ n. IsOrder n (get_or ORDER (len - 8) [])) (omega arith) (is-row (len - 8) (omega arith))
 
 pub order-fits : (len : ℕ) (order : List ℕ) → IsOrder len order → SwzOk w8 16 16 0 order
@@ -66,7 +68,7 @@ order-fits len order is = SwzOk-from_below w8 16 1 16 0 order refl (omega (arith
 
 -- ---- the bytes put in order
 
-module _ (piece order : List ℕ) (some : 8 ≤ length piece) (few : length piece < 16) (is : IsOrder (length piece) order) where
+module _ (piece order : List ℕ) (some : 8 ≤ length piece) (few : length piece ≤ 16) (is : IsOrder (length piece) order) where
   abbrev pub first : List ℕ
   first = chunk 0 8 piece
 
@@ -119,7 +121,7 @@ fill j below = ap (λ t. get_or t j 0) parts ∙ ⊎_elim
     parts : FILL ≡ replicate 16 0 ++ replicate 16 0xFF
     parts = refl
 
-pub filled-lanes : (len : ℕ) (block v : List ℕ) → len < 16 → length block ≡ 16 → Each1 (Fits w8) block → (e : List ℕ) → ((i : ℕ) → i < 16 → slice_index e i ≡ slice_index FILL (16 - len + i))
+pub filled-lanes : (len : ℕ) (block v : List ℕ) → len ≤ 16 → length block ≡ 16 → Each1 (Fits w8) block → (e : List ℕ) → ((i : ℕ) → i < 16 → slice_index e i ≡ slice_index FILL (16 - len + i))
     → HasLanes 16 v (λ i. cond (ltb (slice_index block i) (slice_index e i)) (slice_index e i) (slice_index block i))
     → HasLanes 16 v (λ i. cond (ltb i len) (slice_index block i) 0xFF)
 filled-lanes len block v few long fits e from is = record {
@@ -139,7 +141,7 @@ filled-lanes len block v few long fits e from is = record {
 }
 
 -- the bytes and those that fill the block
-pub filled-whole : (piece block v : List ℕ) → length piece < 16 → length block ≡ 16 → take (length piece) block ≡ piece → HasLanes 16 v (λ i. cond (ltb i (length piece)) (slice_index block i) 0xFF)
+pub filled-whole : (piece block v : List ℕ) → length piece ≤ 16 → length block ≡ 16 → take (length piece) block ≡ piece → HasLanes 16 v (λ i. cond (ltb i (length piece)) (slice_index block i) 0xFF)
     → v ≡ piece ++ replicate (16 - length piece) 0xFF
 filled-whole piece block v few long is lanes = same-by-index v (piece ++ replicate (16 - length piece) 0xFF)
     (omega (arith, lanes.len, length-append piece (replicate (16 - length piece) 0xFF), length-replicate {A = ℕ} (16 - length piece) 0xFF))
@@ -163,7 +165,7 @@ part-index m n xs i below there =
 
 -- ---- the lanes where a unit ends are of the text
 
-pub filled-units : (text block b2 b1 highs lows : List ℕ) → IsUtf8 text → length text < 16 → block ≡ text ++ replicate (16 - length text) 0xFF → AreBefore 0 0 block b2 b1
+pub filled-units : (text block b2 b1 highs lows : List ℕ) → IsUtf8 text → length text ≤ 16 → block ≡ text ++ replicate (16 - length text) 0xFF → AreBefore 0 0 block b2 b1
     → HasLanes 16 highs (λ i. four_high (slice_index b2 i) (slice_index b1 i) (slice_index block i)) → HasLanes 16 lows (λ i. four_low (slice_index b2 i) (slice_index b1 i) (slice_index block i))
     → AreUnits b2 b1 block highs lows
 filled-units text block b2 b1 highs lows utf8 few whole before h l i b low one = ⊎_elim

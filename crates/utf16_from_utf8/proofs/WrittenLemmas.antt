@@ -2,8 +2,8 @@
 use Rattle.std.proofs.Common.{◌≡◌, ℕ, ◌+◌, ◌-◌, ◌*◌, ◌≤◌, Bool, List, ◌++◌, length, length-append, length-drop, length-take, length-take-le, take, drop, subst, sym, ap, ◌∙◌, arith}
 use borrow.Rule.Slice.PartMut.{put_mid}
 use Rattle.std.proofs.Math.Seq.{take-add, take-append-add}
-use Rattle.std.proofs.lemmas.List.{take-append-drop, take-append-le, take-take, take_rest}
-use Rattle.std.proofs.lemmas.Str.{IsCharBoundary-from_take, IsUtf8-append, IsUtf8-drop, IsUtf8-from_ascii, chars-append}
+use Rattle.std.proofs.lemmas.List.{take-append-le, take-take, take_rest}
+use Rattle.std.proofs.lemmas.Str.{IsUtf8-append, IsUtf8-from_ascii, chars-append}
 use Rattle.std.specs.Str.{IsAscii, IsUtf8, chars}
 use Rattle.utf16_units.specs.Encoding.{encode}
 use Rattle.utf16_units.proofs.EncodingLemmas.{encode-append}
@@ -61,16 +61,3 @@ ascii-written big bytes old part read written most len done long fits within asc
     ∙ ap (λ t. take written old ++ t)
     (take-append-le (2 * len) part after fits ∙ front-wrote big (rest_from bytes read) part most len within ascii wrote ∙ ap (λ t. encode big (chars (take len t))) rest))
     (omega arith) (omega (arith, fits, start, length-append (take written old) (part ++ after), length-append part after))
-
--- ---- the rest of a text
-
-pub rest-utf8 : (big : Bool) (text out : List ℕ) (read written : ℕ) → IsUtf8 text → IsWritten big text out read written → IsUtf8 (drop read text)
-rest-utf8 big text out read written utf8 done = IsUtf8-drop text read utf8 (IsCharBoundary-from_take text read utf8 done.within done.well_formed)
-
-pub rest-written : (big : Bool) (text old new : List ℕ) (read written to : ℕ) → IsWritten big text old read written → take to new ≡ take written old ++ encode big (chars (drop read text))
-    → take to new ≡ encode big (chars text)
-rest-written big text old new read written to done wrote =
-    let front = take read text in
-    let back = drop read text in
-    wrote ∙ ap (λ t. t ++ encode big (chars back)) done.wrote ∙ sym (encode-append big (chars front) (chars back))
-    ∙ ap (encode big) (sym (chars-append front back done.well_formed) ∙ ap chars (take-append-drop read text))

@@ -175,7 +175,7 @@ pub fn write_ascii_block<E: Utf16Order>(out: &mut [u8], at: usize, block: u8x16)
 
 // Whether all bytes are ASCII.
 #[inline(always)]
-fn is_ascii(block: u8x16) -> bool
+pub(crate) fn is_ascii(block: u8x16) -> bool
     ensures { IsTrue result ↔ ((i : ℕ) → i < 16 → slice_index block i < 0x80) }
 {
     set_bits(masked(block, 0x80)) == 0

@@ -150,7 +150,7 @@ pub(crate) fn before(block: u8x16, before2: u8, before1: u8) -> (u8x16, u8x16)
 
 // Those of the block at `at`.
 #[inline(always)]
-fn before_at(bytes: &[u8], at: usize) -> (u8x16, u8x16)
+pub(crate) fn before_at(bytes: &[u8], at: usize) -> (u8x16, u8x16)
     requires some { 2 ≤ at }
     requires more { at + 16 ≤ length bytes.now }
     ensures { AreBefore (slice_index bytes.now (at - 2)) (slice_index bytes.now (at - 1))

@@ -11,7 +11,7 @@ use utf16_units::{Utf16CharExt, Utf16Order};
 
 // Writes the characters to the start of a buffer that has space for them, and returns the number of
 // bytes written.
-fn write_few<E: Utf16Order>(s: &str, buf: &mut [u8]) -> usize
+pub(crate) fn write_few<E: Utf16Order>(s: &str, buf: &mut [u8]) -> usize
     requires { size (chars s.now) ≤ length buf.old }
     ensures bytes { take result buf.new ≡ encode E.BIG (chars s.now) }
     ensures written_to { result ≡ size (chars s.now) }

@@ -16,6 +16,7 @@ pub(crate) fn write_eight(out: &mut [u8], at: usize, pairs: u8x16, bits: usize) 
     requires space { at + 16 ≤ length out.old }
     ensures pairs { take result out.new ≡ take at out.old ++ kept_pairs bits pairs }
     ensures written_to { result ≤ at + 16 }
+    ensures within { result ≤ length out.new }
 {
     pairs
         .swizzle_dyn(positions(bits))

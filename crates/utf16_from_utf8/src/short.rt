@@ -1,11 +1,12 @@
-//! Texts of eight to fifteen bytes.
+//! Texts of eight to sixteen bytes.
 
-ghost use Rattle.std.specs.Prelude.{◌≡◌, ◌+◌, ◌*◌, ◌-◌, ◌<◌, ◌≤◌, ◌++◌, if◌then◌else◌, length, nat_lt, slice_index, take};
-ghost use Rattle.std.specs.Str.{IsUtf8};
-ghost use Rattle.utf16_from_utf8.specs.Added.{added_bytes};
+ghost use Rattle.std.specs.Prelude.{◌≡◌, ◌*◌, ◌<◌, ◌≤◌, if◌then◌else◌, length, nat_lt, slice_index, take};
+ghost use Rattle.std.specs.Str.{IsUtf8, chars};
+ghost use Rattle.utf16_units.specs.Encoding.{encode};
 ghost use Rattle.utf16_from_utf8.specs.Short.{IsOrder};
 ghost use Rattle.utf16_units.specs.Lanes.{HasLanes};
 
+use crate::ascii::{is_ascii, write_ascii_block};
 use crate::block::before;
 use crate::lanes::greater;
 use crate::pack::{paired, write_kept};
@@ -13,21 +14,26 @@ use crate::units::{ended_bits, four_bytes};
 use std::simd::prelude::*;
 use utf16_units::Utf16Order;
 
-// Writes what a text of eight to fifteen bytes adds at `at`, and returns where it ends.
+// Writes a text of eight to sixteen bytes to the start of `out`, and returns where it ends.
 #[inline(always)]
-pub(crate) fn write_short<E: Utf16Order>(text: &[u8], out: &mut [u8], at: usize) -> usize
+pub(crate) fn write_short<E: Utf16Order>(text: &[u8], out: &mut [u8]) -> usize
     requires well_formed { IsUtf8 text.now }
     requires some { 8 ≤ length text.now }
-    requires few { length text.now < 16 }
-    requires space { at + 32 ≤ length out.old }
-    ensures bytes { take result out.new ≡ take at out.old ++ added_bytes E.BIG 0 0 text.now }
-    ensures written_to { result ≤ at + 2 * length text.now }
+    requires few { length text.now ≤ 16 }
+    requires space { 32 ≤ length out.old }
+    ensures bytes { take result out.new ≡ encode E.BIG (chars text.now) }
+    ensures written_to { result ≤ 2 * length text.now }
 {
-    let block = filled(spread(text), text.len());
+    let block = spread(text);
+    if is_ascii(block) {
+        write_ascii_block::<E>(out, 0, block);
+        return 2 * text.len();
+    }
+    let block = filled(block, text.len());
     let (b2, b1) = before(block, 0, 0);
     let (highs, lows) = four_bytes(b2, b1, block);
     let (first, second) = paired::<E>(highs, lows);
-    write_kept(out, at, first, second, ended_bits(b1, block))
+    write_kept(out, 0, first, second, ended_bits(b1, block))
 }
 
 // A block that begins with the bytes. Its first half and its second one are the first and the last
@@ -35,7 +41,7 @@ pub(crate) fn write_short<E: Utf16Order>(text: &[u8], out: &mut [u8], at: usize)
 #[inline(always)]
 fn spread(text: &[u8]) -> u8x16
     requires some { 8 ≤ length text.now }
-    requires few { length text.now < 16 }
+    requires few { length text.now ≤ 16 }
     ensures len { length result ≡ 16 }
     ensures text { take (length text.now) result ≡ text.now }
 {
@@ -50,13 +56,13 @@ fn spread(text: &[u8]) -> u8x16
 #[inline(always)]
 fn order(len: usize) -> u8x16
     requires some { 8 ≤ len }
-    requires few { len < 16 }
+    requires few { len ≤ 16 }
     ensures { IsOrder len result }
 {
     u8x16::from_array(ORDER[len - 8])
 }
 
-static ORDER: [[u8; 16]; 8] = [
+static ORDER: [[u8; 16]; 9] = [
     [0, 1, 2, 3, 4, 5, 6, 7, 0, 0, 0, 0, 0, 0, 0, 0],
     [0, 1, 2, 3, 4, 5, 6, 7, 15, 0, 0, 0, 0, 0, 0, 0],
     [0, 1, 2, 3, 4, 5, 6, 7, 14, 15, 0, 0, 0, 0, 0, 0],
@@ -65,12 +71,13 @@ static ORDER: [[u8; 16]; 8] = [
     [0, 1, 2, 3, 4, 5, 6, 7, 11, 12, 13, 14, 15, 0, 0, 0],
     [0, 1, 2, 3, 4, 5, 6, 7, 10, 11, 12, 13, 14, 15, 0, 0],
     [0, 1, 2, 3, 4, 5, 6, 7, 9, 10, 11, 12, 13, 14, 15, 0],
+    [0, 1, 2, 3, 4, 5, 6, 7, 8, 9, 10, 11, 12, 13, 14, 15],
 ];
 
 // A block with bytes from `len` on that add nothing.
 #[inline(always)]
 fn filled(block: u8x16, len: usize) -> u8x16
-    requires { len < 16 }
+    requires { len ≤ 16 }
     ensures { HasLanes 16 result (λ i. if nat_lt i len then slice_index block i else 0xFF) }
 {
     greater(block, u8x16::from_slice(&FILL[16 - len..]))

@@ -1,0 +1,153 @@
+//! The rest of a text, after its first blocks: sixteen bytes at a time, wherever characters begin.
+
+ghost use Rattle.std.specs.Prelude.{◌≡◌, ◌+◌, ◌-◌, ◌*◌, ◌<◌, ◌≤◌, ◌++◌, ℕ, drop, length, slice_index, take};
+ghost use Rattle.std.specs.Str.{IsUtf8, chars};
+ghost use Rattle.utf16_units.specs.Encoding.{encode};
+ghost use Rattle.utf16_from_utf8.specs.Added.{added_bytes};
+ghost use Rattle.utf16_from_utf8.specs.Follow.{AreBefore, FollowAnyLanes, Follows};
+ghost use Rattle.utf16_from_utf8.specs.Written.{IsWritten};
+
+use crate::block::{before, before_at};
+use crate::lanes::{greater, previous_lanes};
+use crate::limits::are_below;
+use crate::pack::{paired, write_eight};
+use crate::sixteen::write_sixteen;
+use crate::text::SLACK;
+use crate::threes::write_threes;
+use crate::units::{ended_bits, four_bytes};
+use std::simd::prelude::*;
+use utf16_units::Utf16Order;
+
+// Writes the rest of a text of more than sixteen bytes, after what was written of it.
+#[inline(never)]
+pub(crate) fn write_rest<E: Utf16Order>(
+    text: &[u8],
+    out: &mut [u8],
+    from: usize,
+    end: usize,
+) -> usize
+    requires well_formed { IsUtf8 text.now }
+    requires some { 16 < length text.now }
+    requires space { 2 * length text.now + SLACK ≤ length out.old }
+    requires written { IsWritten E.BIG text.now out.old from end }
+    ensures bytes { take result out.new ≡ encode E.BIG (chars text.now) }
+    ensures written_to { result ≤ 2 * length text.now }
+{
+    let (mut read, mut written) = write_begun::<E>(text, out, from, end);
+    while text.len() - read >= 16 {
+        written = write_next::<E>(text, out, read, written);
+        read += 16;
+    }
+    if read == text.len() {
+        return written;
+    }
+    write_last::<E>(text, out, read, written)
+}
+
+// Goes on with characters of three bytes, until at least sixteen bytes are written.
+#[inline(always)]
+fn write_begun<E: Utf16Order>(
+    text: &[u8],
+    out: &mut [u8],
+    from: usize,
+    end: usize,
+) -> (usize, usize)
+    requires well_formed { IsUtf8 text.now }
+    requires some { 16 < length text.now }
+    requires space { 2 * length text.now + SLACK ≤ length out.old }
+    requires written { IsWritten E.BIG text.now out.old from end }
+    ensures bytes { take result.1 out.new ≡ added_bytes E.BIG 0 0 (take result.0 text.now) }
+    ensures some { 16 ≤ result.0 }
+    ensures within { result.0 ≤ length text.now }
+    ensures written_to { result.1 ≤ 2 * result.0 }
+{
+    let (read, written) = write_threes::<E>(text, out, from, end);
+    if read >= 16 {
+        return (read, written);
+    }
+    (16, write_first::<E>(text, out))
+}
+
+// Writes the first sixteen bytes, and returns where what was written ends.
+#[inline(always)]
+fn write_first<E: Utf16Order>(text: &[u8], out: &mut [u8]) -> usize
+    requires well_formed { IsUtf8 text.now }
+    requires some { 16 ≤ length text.now }
+    requires space { 32 ≤ length out.old }
+    ensures bytes { take result out.new ≡ added_bytes E.BIG 0 0 (take 16 text.now) }
+    ensures written_to { result ≤ 32 }
+{
+    let block = u8x16::from_slice(text);
+    let (b2, b1) = before(block, 0, 0);
+    write_shortest::<E>(out, 0, previous_lanes(b2, 0), b2, b1, block)
+}
+
+// Writes the next sixteen bytes, and returns where what was written ends.
+#[inline(always)]
+fn write_next<E: Utf16Order>(text: &[u8], out: &mut [u8], at: usize, end: usize) -> usize
+    requires well_formed { IsUtf8 text.now }
+    requires some { 16 ≤ at }
+    requires more { at + 16 ≤ length text.now }
+    requires space { end + 32 ≤ length out.old }
+    ensures bytes { take result out.new ≡ take end out.old
+        ++ added_bytes E.BIG (slice_index text.now (at - 2)) (slice_index text.now (at - 1))
+        (take 16 (drop at text.now)) }
+    ensures written_to { result ≤ end + 32 }
+{
+    let block = u8x16::from_slice(&text[at..]);
+    let (b2, b1) = before_at(text, at);
+    write_shortest::<E>(out, end, u8x16::from_slice(&text[at - 3..]), b2, b1, block)
+}
+
+// Writes sixteen bytes by the length of their characters: three of them lead to fewer steps than
+// four.
+#[inline(always)]
+fn write_shortest<E: Utf16Order>(
+    out: &mut [u8],
+    at: usize,
+    b3: u8x16,
+    b2: u8x16,
+    b1: u8x16,
+    block: u8x16,
+) -> usize
+    requires space { at + 32 ≤ length out.old }
+    requires follow { (i : ℕ) → i < 16 → Follows (slice_index b3 i) (slice_index b2 i)
+        (slice_index b1 i) (slice_index block i) }
+    requires follow_any { FollowAnyLanes b2 b1 block }
+    ensures bytes { (before2 before1 : ℕ) → AreBefore before2 before1 block b2 b1
+        → take result out.new ≡ take at out.old ++ added_bytes E.BIG before2 before1 block }
+    ensures written_to { result ≤ at + 32 }
+{
+    let greatest = greater(greater(b3, b2), greater(b1, block));
+    if are_below(greatest, 0xF0) {
+        return write_sixteen::<E, 3>(out, at, b2, b1, block);
+    }
+    write_sixteen::<E, 4>(out, at, b2, b1, block)
+}
+
+// Writes the last bytes, fewer than sixteen, and returns where what was written ends. They are read
+// with those before them that make a block, of which no unit is written again.
+#[inline(always)]
+fn write_last<E: Utf16Order>(text: &[u8], out: &mut [u8], read: usize, end: usize) -> usize
+    requires well_formed { IsUtf8 text.now }
+    requires some { 16 ≤ read }
+    requires many { 16 < length text.now }
+    requires few { length text.now < read + 16 }
+    requires within { read ≤ length text.now }
+    requires space { end + 2 * (length text.now - read) + SLACK ≤ length out.old }
+    ensures bytes { take result out.new ≡ take end out.old
+        ++ added_bytes E.BIG (slice_index text.now (read - 2)) (slice_index text.now (read - 1))
+        (drop read text.now) }
+    ensures written_to { result ≤ end + 2 * (length text.now - read) }
+{
+    let at = text.len() - 16;
+    let block = u8x16::from_slice(&text[at..]);
+    let b1 = u8x16::from_slice(&text[at - 1..]);
+    let b2 = previous_lanes(b1, 0);
+    let (highs, lows) = four_bytes(b2, b1, block);
+    let (first, second) = paired::<E>(highs, lows);
+    let done = read - at;
+    let bits = ended_bits(b1, block) >> done << done;
+    let middle = write_eight(out, end, first, (bits % 256) as usize);
+    write_eight(out, middle, second, (bits / 256) as usize)
+}
