@@ -1,11 +1,17 @@
 -- A text appended to bytes, piece by piece.
-use Rattle.std.proofs.Common.{◌≡◌, ℕ, ◌+◌, ◌<◌, ◌≤◌, Bool, List, [], ◌∷◌, ◌++◌, append_assoc, encode_utf8_all, length, length-append, sym, ap, ◌∙◌, ⊎_elim, arith}
-use Rattle.std.proofs.lemmas.Bool.{cases_lt}
+use Rattle.std.proofs.Common.{Err, Ok, Result, ◌≡◌, ℕ, ◌+◌, ◌<◌, ◌≤◌, Bool, List, [], ◌∷◌, ◌++◌, append_assoc, encode_utf8_all, length, length-append, sym, ap, ◌∙◌, ⊎_elim, arith}
+use Rattle.std.proofs.lemmas.Bool.{cases_lt, false≢true}
 use Rattle.std.proofs.lemmas.Str.{IsCharBoundary-past_char, chars-append, len_utf8_bounds}
 use Rattle.std.specs.Char.{len_utf8}
+use Rattle.std.specs.Result.{IsOk, OnOk}
 use Rattle.std.specs.Str.{IsCharBoundary, IsUtf8, chars}
 use Rattle.utf16_units.specs.Encoding.{encode, size}
 use Rattle.utf16_units.proofs.EncodingLemmas.{encode-append, length-encode}
+
+-- what holds of a value, if there is one
+pub when-ok : {T E P : Type 0} (r : Result T E) → IsOk r → OnOk r P → P
+when-ok (Ok x) is holds = holds
+when-ok (Err e) is holds = absurd (false≢true is)
 
 -- the last boundary up to a place is not the start, since the first character ends before it
 pub piece-some : (bytes : List ℕ) (n most : ℕ) → IsUtf8 bytes → 4 ≤ most → 0 < length bytes → ((i : ℕ) → n < i → i ≤ most → ¬ (IsCharBoundary bytes i)) → 0 < n

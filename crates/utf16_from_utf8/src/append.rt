@@ -5,7 +5,6 @@ ghost use Rattle.std.specs.Str.{chars};
 ghost use Rattle.std.specs.Vec.{VecUnchanged, vec_capacity, vec_len};
 ghost use Rattle.utf16_units.specs.Encoding.{encode, size};
 
-use crate::few::extend_few;
 use crate::text::{SLACK, write_text};
 use std::alloc::{AllocError, Allocator};
 use utf16_units::{Utf16Order, utf16_len};
@@ -37,10 +36,8 @@ pub fn extend_utf16<E: Utf16Order, A: Allocator>(
     ensures ok { IsOk result }
     ensures grows { vec_capacity raw.old ≤ vec_capacity raw.new }
 {
-    if s.len() <= FEW_TEXT {
-        extend_few::<E, A>(raw, s)
-    } else if s.len() <= SHORT_TEXT {
-        extend_short::<E, A>(raw, s)
+    if s.len() <= SHORT_TEXT {
+        append_short::<E, A>(raw, s)
     } else {
         extend_long::<E, A>(raw, s)
     }
@@ -65,31 +62,54 @@ pub fn append_utf16<E: Utf16Order, A: Allocator>(
     ensures succeeds { vec_len raw.old + size (chars s.now) ≤ vec_capacity raw.old → IsOk result }
     ensures grows { vec_capacity raw.old ≤ vec_capacity raw.new }
 {
+    if s.len() <= SHORT_TEXT {
+        return append_short::<E, A>(raw, s);
+    }
     raw.reserve(utf16_len(s))?;
-    extend_utf16::<E, A>(raw, s)
+    extend_long::<E, A>(raw, s)
 }
 
-// Appends a text that is converted at once. Kept out of line so that a few characters do not pay
-// for its buffer.
-#[inline(never)]
-fn extend_short<E: Utf16Order, A: Allocator>(
+// Appends a text that is converted before its length is known.
+#[inline(always)]
+fn append_short<E: Utf16Order, A: Allocator>(
     raw: &mut Vec<u8, A>,
     s: &str,
 ) -> Result<(), AllocError>
-    requires short { length s.now ≤ SHORT_TEXT }
-    requires fits { vec_len raw.old + size (chars s.now) ≤ vec_capacity raw.old }
-    ensures items { raw.new.items ≡ raw.old.items ++ encode E.BIG (chars s.now) }
-    ensures ok { IsOk result }
+    requires { length s.now ≤ SHORT_TEXT }
+    ensures items { OnOk result (raw.new.items ≡ raw.old.items ++ encode E.BIG (chars s.now)) }
+    ensures err { OnErr result (VecUnchanged raw.old raw.new
+        × (vec_capacity raw.new ≡ vec_capacity raw.old)) }
+    ensures succeeds { vec_len raw.old + size (chars s.now) ≤ vec_capacity raw.old → IsOk result }
     ensures grows { vec_capacity raw.old ≤ vec_capacity raw.new }
 {
-    extend_by::<E, A>(raw, s, &mut [0; 2 * SHORT_TEXT + SLACK])
+    if s.len() <= FEW_TEXT {
+        append_by::<E, A>(raw, s, &mut [0; 2 * FEW_TEXT + SLACK])
+    } else {
+        append_at_once::<E, A>(raw, s)
+    }
+}
+
+// The same of any short text. Kept out of line so that a few characters do not pay for its buffer.
+#[inline(never)]
+fn append_at_once<E: Utf16Order, A: Allocator>(
+    raw: &mut Vec<u8, A>,
+    s: &str,
+) -> Result<(), AllocError>
+    requires { length s.now ≤ SHORT_TEXT }
+    ensures items { OnOk result (raw.new.items ≡ raw.old.items ++ encode E.BIG (chars s.now)) }
+    ensures err { OnErr result (VecUnchanged raw.old raw.new
+        × (vec_capacity raw.new ≡ vec_capacity raw.old)) }
+    ensures succeeds { vec_len raw.old + size (chars s.now) ≤ vec_capacity raw.old → IsOk result }
+    ensures grows { vec_capacity raw.old ≤ vec_capacity raw.new }
+{
+    append_by::<E, A>(raw, s, &mut [0; 2 * SHORT_TEXT + SLACK])
 }
 
 // Appends a text that is converted piece by piece. Kept out of line so that shorter ones do not pay
 // for its buffer.
 #[inline(never)]
 fn extend_long<E: Utf16Order, A: Allocator>(raw: &mut Vec<u8, A>, s: &str) -> Result<(), AllocError>
-    requires fits { vec_len raw.old + size (chars s.now) ≤ vec_capacity raw.old }
+    requires { vec_len raw.old + size (chars s.now) ≤ vec_capacity raw.old }
     ensures items { raw.new.items ≡ raw.old.items ++ encode E.BIG (chars s.now) }
     ensures ok { IsOk result }
     ensures grows { vec_capacity raw.old ≤ vec_capacity raw.new }
@@ -98,24 +118,27 @@ fn extend_long<E: Utf16Order, A: Allocator>(raw: &mut Vec<u8, A>, s: &str) -> Re
     let mut rest = s;
     while rest.len() > PIECE_LEN {
         let (piece, next) = rest.split_at(rest.floor_char_boundary(PIECE_LEN));
-        extend_by::<E, A>(raw, piece, &mut buf)?;
+        append_by::<E, A>(raw, piece, &mut buf)?;
         rest = next;
     }
-    extend_by::<E, A>(raw, rest, &mut buf)
+    append_by::<E, A>(raw, rest, &mut buf)
 }
 
 // Appends a text that is converted in a buffer.
-fn extend_by<E: Utf16Order, A: Allocator>(
+#[inline(always)]
+fn append_by<E: Utf16Order, A: Allocator>(
     raw: &mut Vec<u8, A>,
     s: &str,
     buf: &mut [u8],
 ) -> Result<(), AllocError>
-    requires fits { vec_len raw.old + size (chars s.now) ≤ vec_capacity raw.old }
-    requires space { 2 * length s.now + SLACK ≤ length buf.old }
-    ensures items { raw.new.items ≡ raw.old.items ++ encode E.BIG (chars s.now) }
-    ensures ok { IsOk result }
+    requires { 2 * length s.now + SLACK ≤ length buf.old }
+    ensures items { OnOk result (raw.new.items ≡ raw.old.items ++ encode E.BIG (chars s.now)) }
+    ensures err { OnErr result (VecUnchanged raw.old raw.new
+        × (vec_capacity raw.new ≡ vec_capacity raw.old)) }
+    ensures succeeds { vec_len raw.old + size (chars s.now) ≤ vec_capacity raw.old → IsOk result }
     ensures grows { vec_capacity raw.old ≤ vec_capacity raw.new }
 {
     let end = write_text::<E>(s.as_bytes(), buf);
+    raw.reserve(end)?;
     raw.extend_from_slice(&buf[..end])
 }

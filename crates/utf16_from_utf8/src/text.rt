@@ -4,6 +4,7 @@ ghost use Rattle.std.specs.Prelude.{◌≡◌, ◌+◌, ◌*◌, ◌≤◌, drop
 ghost use Rattle.std.specs.Str.{IsUtf8, chars};
 ghost use Rattle.utf16_units.specs.Encoding.{encode};
 
+use crate::append::FEW_TEXT;
 use crate::blocks::write_blocks;
 use crate::few::write_few;
 use crate::rest::write_rest;
@@ -44,7 +45,7 @@ fn write_whole<E: Utf16Order>(text: &[u8], out: &mut [u8]) -> usize
     ensures bytes { take result out.new ≡ encode E.BIG (chars text.now) }
     ensures written_to { result ≤ 2 * length text.now }
 {
-    if text.len() < 8 {
+    if text.len() <= FEW_TEXT {
         return write_few::<E>(unsafe { str::from_utf8_unchecked(text) }, out);
     }
     if text.len() <= 16 {

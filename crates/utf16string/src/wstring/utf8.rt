@@ -85,8 +85,8 @@ impl<E: Utf16Order, A: Allocator> WString<E, A> {
     ///
     /// # Complexity
     ///
-    /// Two passes over the text. Allocates at most once, and not at all if the text fits in the
-    /// capacity.
+    /// One pass over a text of at most 128 bytes, else two. Allocates at most once, and not at all
+    /// if the text fits in the capacity.
     pub fn push_str(&mut self, string: &str) -> Result<(), AllocError>
         ensures text { OnOk result (wstring_text self.new
             ≡ push_text (wstring_text self.old) (chars string.now)) }
