@@ -212,21 +212,7 @@ impl<'a, E: Utf16Order> WStr<'a, E> {
     pub fn is_ascii(&self) -> bool
         ensures { IsTrue result ↔ All (λ c. c < 0x80) (wstr_text self.now) }
     {
-        let raw = self.as_bytes();
-        if raw.len() < 64 {
-            self.is_ascii_few()
-        } else {
-            text::is_ascii::<E>(raw)
-        }
-    }
-
-    // `is_ascii` of a short text, character by character. Not inlined, so that the loop is
-    // optimized on its own.
-    #[inline(never)]
-    fn is_ascii_few(self) -> bool
-        ensures { IsTrue result ↔ All (λ c. c < 0x80) (wstr_text self.entry) }
-    {
-        self.chars().all(|c| (c as u32) < 0x80)
+        text::is_ascii::<E>(self.as_bytes())
     }
 }
 

@@ -104,6 +104,14 @@ ascii_next big bytes at n a even long all =
     let front = ascii_left (units_of big (take (at + n) bytes)) _ (subst (All is_ascii) (units_of-split big bytes (at + n) (omega arith) long) all) in
     ascii_right (units_of big (take at bytes)) _ (subst (All is_ascii) (units_of-next big bytes at n a.even a.within) front)
 
+-- all units are ASCII if those of the rest are
+pub ascii_rest : (big : Bool) (bytes : List ℕ) (at : ℕ) → AsciiTo big bytes at → All is_ascii (units_of big (drop at bytes)) ↔ All is_ascii (units_of big bytes)
+ascii_rest big bytes at a =
+    let split = units_of-split big bytes at a.even a.within in (
+      λ rest. subst (All is_ascii) (sym split) (All-append is_ascii _ _ a.ascii rest),
+      λ all. ascii_right (units_of big (take at bytes)) _ (subst (All is_ascii) split all),
+    )
+
 -- the next unit alone
 pub ascii_unit : (big : Bool) (bytes : List ℕ) (at unit : ℕ) → at + 2 ≤ length bytes → unit ≡ unit_of big (slice_index bytes at) (slice_index bytes (at + 1))
     → All is_ascii (units_of big (take 2 (drop at bytes))) ↔ (unit < 0x80)

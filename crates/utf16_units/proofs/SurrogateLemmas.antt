@@ -27,16 +27,22 @@ module _ (units : List ℕ) (n : ℕ) (long : length units ≡ n) where
   pub high_bytes-lanes_fit : Each1 (Fits w16) units → Each1 (Fits w8) (zip2 (λ (u bits : ℕ). u / 2 ^ bits) units (replicate n 8))
   high_bytes-lanes_fit fit = subst (Each1 (Fits w8)) (sym shifted) (high_bytes-fit units fit)
 
--- the bits of the units whose high bytes a mask makes equal to a class
-pub class_bits-mask_l : (units highs : List ℕ) (n mask class : ℕ) → length units ≡ n → n ≤ 64 → highs ≡ map high_byte units
+-- the bits of the bytes that a mask makes equal to a class
+pub class_bits-mask_l : (bytes : List ℕ) (n mask class : ℕ) → length bytes ≡ n → n ≤ 64
+    → mask_l (map (top 7) (zip2 (λ a b. cond (eqb a b) 255 0) (zip2 bit_and bytes (replicate n mask)) (replicate n class))) % 2 ^ 64
+    ≡ mask_l (map (λ byte. eqb (bit_and byte mask) class) bytes)
+class_bits-mask_l bytes n mask class long few =
+    let masked = zip2_splat bit_and bytes n mask long in
+    bitmask_splat w8 eqb (zip2 bit_and bytes (replicate n mask)) n class (ap length masked ∙ length-map bytes _ ∙ long) few
+    ∙ ap (λ bs. mask_l (map (λ b. eqb b class) bs)) masked
+    ∙ ap mask_l (map-map (λ b. eqb b class) (λ byte. bit_and byte mask) bytes)
+
+-- the bits of the units whose high bytes it makes equal to it
+pub class_bits-highs : (units highs : List ℕ) (n mask class : ℕ) → length units ≡ n → n ≤ 64 → highs ≡ map high_byte units
     → mask_l (map (top 7) (zip2 (λ a b. cond (eqb a b) 255 0) (zip2 bit_and highs (replicate n mask)) (replicate n class))) % 2 ^ 64
     ≡ mask_l (map (λ unit. eqb (bit_and (high_byte unit) mask) class) units)
-class_bits-mask_l units highs n mask class many few are =
-    let long = ap length are ∙ length-map units high_byte ∙ many in
-    let masked = zip2_splat bit_and highs n mask long in
-    bitmask_splat w8 eqb (zip2 bit_and highs (replicate n mask)) n class (ap length masked ∙ length-map highs _ ∙ long) few
-    ∙ ap (λ bs. mask_l (map (λ b. eqb b class) bs)) masked
-    ∙ ap mask_l (map-map (λ b. eqb b class) (λ high. bit_and high mask) highs)
+class_bits-highs units highs n mask class many few are =
+    class_bits-mask_l highs n mask class (ap length are ∙ length-map units high_byte ∙ many) few
     ∙ ap (λ hs. mask_l (map (λ high. eqb (bit_and high mask) class) hs)) are
     ∙ ap mask_l (map-map (λ high. eqb (bit_and high mask) class) high_byte units)
 

@@ -20,7 +20,7 @@ pub fn utf16_len(s: &str) -> usize
     ensures { result ≡ size (chars s.now) }
 {
     if s.len() < FEW {
-        return few_len(s);
+        return utf16_len_by_chars(s);
     }
     2 * units(s.as_bytes())
 }
@@ -32,7 +32,7 @@ pub fn utf16_len(s: &str) -> usize
 ///
 /// One pass, character by character.
 #[inline]
-pub fn few_len(s: &str) -> usize
+pub fn utf16_len_by_chars(s: &str) -> usize
     ensures { result ≡ size (chars s.now) }
 {
     let mut len = 0;

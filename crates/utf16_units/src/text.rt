@@ -10,6 +10,9 @@ use crate::surrogates::trailing_bits;
 use crate::{Utf16Order, is_trailing_surrogate};
 use std::simd::prelude::*;
 
+// The number of bytes of a block. Texts with fewer have loops of their own, without SIMD.
+const BLOCK: usize = 64;
+
 /// Returns the number of characters that `raw` encodes.
 ///
 /// # Precondition
@@ -23,7 +26,7 @@ pub fn count_chars<E: Utf16Order>(raw: &[u8]) -> usize
     requires { IsUtf16 E.BIG raw.now }
     ensures { result ≡ length (text_of E.BIG raw.now) }
 {
-    if raw.len() < 64 {
+    if raw.len() < BLOCK {
         count_few::<E>(raw)
     } else {
         raw.len() / 2 - trailing_units::<E>(raw)
@@ -58,10 +61,10 @@ pub fn trailing_units<E: Utf16Order>(raw: &[u8]) -> usize
 {
     let mut at = 0;
     let mut trailing: usize = 0;
-    while raw.len() - at >= 64 {
+    while raw.len() - at >= BLOCK {
         let block = u8x64::from_slice(&raw[at..]);
         trailing += trailing_bits(units32::<E>(block)).count_ones() as usize;
-        at += 64;
+        at += BLOCK;
     }
     while raw.len() - at >= 2 {
         trailing += is_trailing_surrogate(E::read_unit([raw[at], raw[at + 1]])) as usize;
@@ -83,7 +86,11 @@ pub fn is_ascii<E: Utf16Order>(raw: &[u8]) -> bool
     requires { IsUtf16 E.BIG raw.now }
     ensures { IsTrue result ↔ All (λ c. c < 0x80) (text_of E.BIG raw.now) }
 {
-    has_ascii_units::<E>(raw)
+    if raw.len() < BLOCK {
+        has_few_ascii_units::<E>(raw)
+    } else {
+        has_ascii_units::<E>(raw)
+    }
 }
 
 /// Returns `true` if every code unit is ASCII, in any bytes. A last odd byte belongs to no code
@@ -96,12 +103,21 @@ pub fn has_ascii_units<E: Utf16Order>(raw: &[u8]) -> bool
     ensures { IsTrue result ↔ All (λ unit. unit < 0x80) (units_of E.BIG raw.now) }
 {
     let mut at = 0;
-    while raw.len() - at >= 64 {
+    while raw.len() - at >= BLOCK {
         if !is_ascii_block::<E>(u8x64::from_slice(&raw[at..])) {
             return false;
         }
-        at += 64;
+        at += BLOCK;
     }
+    has_few_ascii_units::<E>(&raw[at..])
+}
+
+// The same unit by unit. Not inlined, so that the loop is optimized on its own.
+#[inline(never)]
+fn has_few_ascii_units<E: Utf16Order>(raw: &[u8]) -> bool
+    ensures { IsTrue result ↔ All (λ unit. unit < 0x80) (units_of E.BIG raw.now) }
+{
+    let mut at = 0;
     while raw.len() - at >= 2 {
         if E::read_unit([raw[at], raw[at + 1]]) >= 0x80 {
             return false;

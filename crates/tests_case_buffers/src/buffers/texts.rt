@@ -13,7 +13,7 @@ use utf16_str::append_utf8;
 use utf16_to_utf8::{SLACK, utf8_len, write_utf8};
 use utf16_units::compare::compare;
 use utf16_units::ends::{first_char, last_char};
-use utf16_units::size::few_len;
+use utf16_units::size::utf16_len_by_chars;
 use utf16_units::text::{count_chars, is_ascii};
 use utf16_units::{Utf16Order, utf16_len, validate_raw_utf16};
 
@@ -31,7 +31,7 @@ pub fn call<E: Utf16Order>(
         "compare" => compared::<E>(alloc, values, answer),
         "append_utf8" => to_string::<E>(alloc, values, answer),
         "write_utf8" => to_buffer::<E>(alloc, values, answer),
-        "utf16_len" | "few_len" => of_utf8(alloc, name, values, answer),
+        "utf16_len" | "utf16_len_by_chars" => of_utf8(alloc, name, values, answer),
         "append_utf16" | "extend_utf16" => to_bytes::<E>(alloc, name, values, answer),
         "write_text" => text_to_buffer::<E>(alloc, values, answer),
         "put" => at_place(alloc, values, answer),
@@ -128,8 +128,8 @@ fn of_utf8(
     answer: &mut Answer,
 ) -> Result<(), Trouble> {
     let text = values.text(alloc)?;
-    if name == "few_len" {
-        answer.number(few_len(text.as_str()));
+    if name == "utf16_len_by_chars" {
+        answer.number(utf16_len_by_chars(text.as_str()));
     } else {
         answer.number(utf16_len(text.as_str()));
     }

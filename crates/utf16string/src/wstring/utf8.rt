@@ -9,7 +9,7 @@ use super::inserts::write_char;
 use crate::WString;
 use std::alloc::{AllocError, Allocator};
 use utf16_from_utf8::{FEW_TEXT, SHORT_TEXT, SLACK, append_utf16, extend_utf16, write_text};
-use utf16_units::size::few_len;
+use utf16_units::size::utf16_len_by_chars;
 use utf16_units::{Utf16Order, utf16_len};
 
 impl<E: Utf16Order, A: Allocator> WString<E, A> {
@@ -47,7 +47,7 @@ impl<E: Utf16Order, A: Allocator> WString<E, A> {
         ensures nothing { s.now ≡ [] → IsOk result }
         ensures exact { IfOk result (λ t. wstring_capacity t ≡ size (chars s.now)) }
     {
-        let mut raw = Vec::with_capacity(alloc, few_len(s))?;
+        let mut raw = Vec::with_capacity(alloc, utf16_len_by_chars(s))?;
         for c in s.chars() {
             write_char::<E, A>(&mut raw, c);
         }

@@ -1,4 +1,4 @@
-use Rattle.utf16_units.proofs.LaneLemmas.{class_bits-mask_l}
+use Rattle.utf16_units.proofs.SurrogateLemmas.{class_bits-mask_l}
 use Rattle.utf16_decode.proofs.ascii.high_bits.Goals as goal
 
 pub returns : goal.returns

@@ -5,5 +5,5 @@ use Rattle.utf16_units.proofs.text.count_chars.Goals as goal
 pub overflow_sub-result : goal.overflow_sub-result
 overflow_sub-result g c = omega (arith, c.trailing_units.ensures, counted_bytes g.E.Utf16Order.BIG c.args.raw.now c.requires)
 
-pub returns-else-raw-lt64 : goal.returns-else-raw-lt64
-returns-else-raw-lt64 g c = omega (arith, c.trailing_units.ensures, counted_bytes g.E.Utf16Order.BIG c.args.raw.now c.requires)
+pub returns-else-raw-lt-BLOCK : goal.returns-else-raw-lt-BLOCK
+returns-else-raw-lt-BLOCK g c = omega (arith, c.trailing_units.ensures, counted_bytes g.E.Utf16Order.BIG c.args.raw.now c.requires)

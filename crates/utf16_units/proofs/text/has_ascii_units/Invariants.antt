@@ -7,9 +7,3 @@ invariant-loop-at g l = AsciiTo g.E.Utf16Order.BIG l.raw l.at
 
 abbrev pub decreases-loop-at : goal.decreases-loop-at
 decreases-loop-at g l = length l.raw - l.at
-
-abbrev pub invariant-loop-at-2 : goal.invariant-loop-at-2
-invariant-loop-at-2 g l = AsciiTo g.E.Utf16Order.BIG l.raw l.at
-
-abbrev pub decreases-loop-at-2 : goal.decreases-loop-at-2
-decreases-loop-at-2 g l = length l.raw - l.at

@@ -14,10 +14,10 @@ use Rattle.utf16string.proofs.wstring.WString.from_few.Goals.{In-None}
 pub returns-in_err-raw-clause-nothing : goal.returns-in_err-raw-clause-nothing
 unfolding chars
 returns-in_err-raw-clause-nothing g c none =
-    absurd (false≢true (c.in_err-raw.ensures.succeeds (c.few_len.ensures ∙ ap (λ s. size (chars s)) none ∙ size-nil)))
+    absurd (false≢true (c.in_err-raw.ensures.succeeds (c.utf16_len_by_chars.ensures ∙ ap (λ s. size (chars s)) none ∙ size-nil)))
 
 pub loop-c-init : goal.loop-c-init
-loop-c-init g c = record { begins = refl; written = c.in_ok-raw.ensures.items ∙ sym (encode-nil g.E.Utf16Order.BIG); exact = c.in_ok-raw.ensures.exact ∙ c.few_len.ensures }
+loop-c-init g c = record { begins = refl; written = c.in_ok-raw.ensures.items ∙ sym (encode-nil g.E.Utf16Order.BIG); exact = c.in_ok-raw.ensures.exact ∙ c.utf16_len_by_chars.ensures }
 
 pub write_char-requires : goal.write_char-requires
 write_char-requires g c =

@@ -6,7 +6,7 @@ use Rattle.utf16_units.specs.Encoding.{size}
 use Rattle.utf16_units.proofs.EncodingLemmas.{size-nil}
 use Rattle.utf16_units.proofs.PrefixLemmas.{prefix-more, size-prefix, size-push}
 use Rattle.utf16_units.proofs.SizeLemmas.{size-le}
-use Rattle.utf16_units.proofs.size.few_len.Goals as goal
+use Rattle.utf16_units.proofs.size.utf16_len_by_chars.Goals as goal
 
 pub loop-c-init : goal.loop-c-init
 loop-c-init c = record { begins = refl; counted = sym size-nil }
