@@ -8,8 +8,8 @@ ghost use Rattle.utf16_units.specs.Sizes.{units_begun};
 use crate::Utf16CharExt;
 use std::simd::prelude::*;
 
-// Texts of fewer bytes than this, a small SIMD block, are counted character by character.
-const FEW: usize = 16;
+// The number of bytes of a small block. Texts with fewer are counted character by character.
+const BLOCK: usize = 16;
 
 /// Returns the length of a text in UTF-16, in bytes.
 ///
@@ -19,7 +19,7 @@ const FEW: usize = 16;
 pub fn utf16_len(s: &str) -> usize
     ensures { result ≡ size (chars s.now) }
 {
-    if s.len() < FEW {
+    if s.len() < BLOCK {
         return utf16_len_by_chars(s);
     }
     2 * units(s.as_bytes())
@@ -44,7 +44,7 @@ pub fn utf16_len_by_chars(s: &str) -> usize
 
 // The number of code units of the characters that begin in the bytes.
 fn units(bytes: &[u8]) -> usize
-    requires { FEW ≤ length bytes.now }
+    requires { BLOCK ≤ length bytes.now }
     ensures { result ≡ units_begun bytes.now }
 {
     let mut at = 0;
@@ -53,14 +53,14 @@ fn units(bytes: &[u8]) -> usize
         units += units_after(u8x64::from_slice(&bytes[at..]), 0);
         at += 64;
     }
-    while bytes.len() - at >= 16 {
+    while bytes.len() - at >= BLOCK {
         units += units_after(u8x16::from_slice(&bytes[at..]), 0);
-        at += 16;
+        at += BLOCK;
     }
-    // Of the last sixteen bytes those that were not counted.
+    // Of the last block those bytes that were not counted.
     let left = bytes.len() - at;
-    let last = u8x16::from_slice(&bytes[bytes.len() - 16..]);
-    units + units_after(last, 16 - left)
+    let last = u8x16::from_slice(&bytes[bytes.len() - BLOCK..]);
+    units + units_after(last, BLOCK - left)
 }
 
 // The same for at most sixty-four bytes, without the first `skip`: the first byte of a character

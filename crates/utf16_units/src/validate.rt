@@ -85,11 +85,9 @@ fn passed_blocks<E: Utf16Order>(raw: &[u8], from: usize) -> usize
     if leading { at - 2 } else { at }
 }
 
-// At each multiple of this many bytes, blocks without a surrogate are tried again.
-const PLAIN_EVERY: usize = 512;
-
-// After this many bytes without a surrogate at the front, blocks are passed two at a time.
-const MANY_PLAIN: usize = 256;
+// At each multiple of this many bytes, blocks without a surrogate are tried again; after as many at
+// the front, such blocks are passed two at a time.
+const PLAIN_EVERY: usize = 256;
 
 // The end of the blocks of 64 bytes from `from` on whose surrogates are paired, and whether the
 // last unit is leading. Blocks without a surrogate are passed by a loop that looks for no pairs.
@@ -126,7 +124,7 @@ fn plain_front<E: Utf16Order>(raw: &[u8]) -> usize
             break;
         }
         at += 64;
-        if at == MANY_PLAIN {
+        if at == PLAIN_EVERY {
             at = plain_pairs::<E>(raw, at);
         }
     }
