@@ -7,16 +7,8 @@ ghost use Rattle.utf16_units.specs.Encoding.{encode, size};
 
 use crate::text::{SLACK, write_text};
 use std::alloc::{AllocError, Allocator};
+use utf16_units::ladder::{FEW_TEXT, PIECE_LEN, SHORT_TEXT};
 use utf16_units::{Utf16Order, utf16_len};
-
-/// Texts of at most this many bytes are converted character by character.
-pub const FEW_TEXT: usize = 8;
-
-/// Texts of more bytes, but at most this many, are converted at once in a buffer on the stack.
-pub const SHORT_TEXT: usize = 128;
-
-// Longer texts are converted so many bytes at a time, or a few less, in such a buffer.
-const PIECE_LEN: usize = 2048;
 
 /// Appends a text in UTF-16 to `raw`. It does not fail, because the capacity suffices.
 ///

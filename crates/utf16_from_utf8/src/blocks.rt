@@ -14,9 +14,6 @@ use utf16_units::Utf16Order;
 // The length of a block in bytes.
 const BLOCK_LEN: usize = 64;
 
-// The most bytes that a block takes in UTF-16.
-const BLOCK_SPACE: usize = 128;
-
 /// Writes the blocks at the start of the bytes in UTF-16 to the start of `out`, and validates them
 /// while it writes them. Returns the number of bytes read, which are well formed, and the number of
 /// bytes written. The bytes after those written may be overwritten.
@@ -37,7 +34,7 @@ pub fn write_blocks<E: Utf16Order>(bytes: &[u8], out: &mut [u8]) -> (usize, usiz
     if bytes.len() - len < BLOCK_LEN {
         return (len, 2 * len);
     }
-    if out.len() - 2 * len < BLOCK_SPACE {
+    if out.len() - 2 * len < 2 * BLOCK_LEN {
         return (len, 2 * len);
     }
     write_mixed_blocks::<E>(bytes, out, len)
@@ -54,7 +51,7 @@ fn write_mixed_blocks<E: Utf16Order>(bytes: &[u8], out: &mut [u8], len: usize) -
     let mut read = len;
     let mut written = 2 * len;
     while bytes.len() - read >= BLOCK_LEN {
-        if out.len() - written < BLOCK_SPACE {
+        if out.len() - written < 2 * BLOCK_LEN {
             break;
         }
         let (next, end) = write_next::<E>(bytes, out, read, written);

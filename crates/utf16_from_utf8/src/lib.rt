@@ -20,7 +20,7 @@ mod text;
 mod threes;
 mod units;
 
-pub use crate::append::{FEW_TEXT, SHORT_TEXT, append_utf16, extend_utf16};
+pub use crate::append::{append_utf16, extend_utf16};
 pub use crate::ascii::{write_ascii, write_ascii_block};
 pub use crate::blocks::write_blocks;
 pub use crate::text::{SLACK, write_text};

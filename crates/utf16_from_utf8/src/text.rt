@@ -4,12 +4,12 @@ ghost use Rattle.std.specs.Prelude.{◌≡◌, ◌+◌, ◌*◌, ◌≤◌, drop
 ghost use Rattle.std.specs.Str.{IsUtf8, chars};
 ghost use Rattle.utf16_units.specs.Encoding.{encode};
 
-use crate::append::FEW_TEXT;
 use crate::blocks::write_blocks;
 use crate::few::write_few;
 use crate::rest::write_rest;
 use crate::short::write_short;
 use utf16_units::Utf16Order;
+use utf16_units::ladder::FEW_TEXT;
 
 /// How many bytes `write_text` needs beside two for each byte of a text.
 pub const SLACK: usize = 16;

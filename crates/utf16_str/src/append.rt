@@ -9,22 +9,8 @@ ghost use Rattle.utf16_str.specs.Append.{IsPut};
 use std::alloc::{AllocError, Allocator};
 use utf16_to_utf8::{SLACK, utf8_len, write_utf8};
 use utf16_units::ends::first_char;
+use utf16_units::ladder::{FEW_TEXT, PIECE_LEN, SHORT_TEXT};
 use utf16_units::{Utf16Order, is_trailing_surrogate};
-
-// Texts of fewer bytes are appended character by character, and so is a new `String` made of at most
-// two code units.
-const BY_CHARS: usize = 8;
-
-const TWO_UNITS: usize = 4;
-
-// Texts of at most this many bytes are written at once, through a buffer on the stack.
-const AT_ONCE: usize = 128;
-
-// Longer ones are written in chunks of at most this many bytes.
-const CHUNK: usize = 1024;
-
-// The least capacity of a new `String`, unless its text is empty.
-const LEAST_CAPACITY: usize = 8;
 
 /// Returns a text, in UTF-8, as a new `String`.
 ///
@@ -46,11 +32,11 @@ pub fn to_utf8<E: Utf16Order, A: Allocator>(raw: &[u8], alloc: A) -> Result<Stri
     ensures text { IfOk result (λ s. string_bytes s ≡ utf8_of E.BIG raw.now) }
     ensures nothing { raw.now ≡ [] → IsOk result }
 {
-    if raw.len() > TWO_UNITS {
+    if raw.len() > FEW_TEXT / 2 {
         return make_text::<E, A>(raw, alloc);
     }
     // Two code units take at most six bytes.
-    let capacity = if raw.is_empty() { 0 } else { LEAST_CAPACITY };
+    let capacity = if raw.is_empty() { 0 } else { FEW_TEXT };
     let mut utf8 = String::with_capacity(alloc, capacity)?;
     write_few::<E, A>(raw, &mut utf8)?;
     Ok(utf8)
@@ -62,8 +48,8 @@ fn make_text<E: Utf16Order, A: Allocator>(raw: &[u8], alloc: A) -> Result<String
     requires { IsUtf16 E.BIG raw.now }
     ensures { IfOk result (λ s. string_bytes s ≡ utf8_of E.BIG raw.now) }
 {
-    if raw.len() <= AT_ONCE {
-        return make_piece::<E, A>(raw, &mut [0; AT_ONCE / 2 * 3 + SLACK], alloc);
+    if raw.len() <= SHORT_TEXT {
+        return make_piece::<E, A>(raw, &mut [0; SHORT_TEXT / 2 * 3 + SLACK], alloc);
     }
     let mut utf8 = String::with_capacity(alloc, utf8_len::<E>(raw))?;
     write_pieces::<E, A>(raw, &mut utf8)?;
@@ -83,7 +69,7 @@ fn make_piece<E: Utf16Order, A: Allocator>(
     ensures { IfOk result (λ s. string_bytes s ≡ utf8_of E.BIG raw.now) }
 {
     let len = write_utf8::<E>(raw, buf);
-    let mut utf8 = String::with_capacity(alloc, len.max(LEAST_CAPACITY))?;
+    let mut utf8 = String::with_capacity(alloc, len.max(FEW_TEXT))?;
     utf8.push_str(unsafe { str::from_utf8_unchecked(&buf[..len]) })?;
     Ok(utf8)
 }
@@ -101,7 +87,7 @@ fn make_piece<E: Utf16Order, A: Allocator>(
 ///
 /// # Complexity
 ///
-/// One pass over a text of 8 to 128 bytes, or if `to` has spare capacity of three bytes per code
+/// One pass over a text of 9 to 128 bytes, or if `to` has spare capacity of three bytes per code
 /// unit, else two. Allocates once, and not at all if the spare capacity suffices.
 #[inline]
 pub fn append_utf8<E: Utf16Order, A: Allocator>(
@@ -117,11 +103,11 @@ pub fn append_utf8<E: Utf16Order, A: Allocator>(
     ensures succeeds { string_len to.old + length (utf8_of E.BIG raw.now) ≤ string_capacity to.old
         → IsOk result }
 {
-    if raw.len() >= BY_CHARS && raw.len() <= AT_ONCE {
+    if raw.len() > FEW_TEXT && raw.len() <= SHORT_TEXT {
         return write_short::<E, A>(raw, to);
     }
     reserve_utf8::<E, A>(raw, to)?;
-    if raw.len() < BY_CHARS {
+    if raw.len() <= FEW_TEXT {
         write_few::<E, A>(raw, to)
     } else {
         write_pieces::<E, A>(raw, to)
@@ -135,7 +121,7 @@ fn write_short<E: Utf16Order, A: Allocator>(
     to: &mut String<A>,
 ) -> Result<(), AllocError>
     requires well_formed { IsUtf16 E.BIG raw.now }
-    requires short { length raw.now ≤ AT_ONCE }
+    requires short { length raw.now ≤ SHORT_TEXT }
     ensures text { OnOk result (string_bytes to.new ≡ string_bytes to.old
         ++ utf8_of E.BIG raw.now) }
     ensures err { OnErr result ((string_bytes to.new ≡ string_bytes to.old)
@@ -144,7 +130,7 @@ fn write_short<E: Utf16Order, A: Allocator>(
     ensures succeeds { string_len to.old + length (utf8_of E.BIG raw.now) ≤ string_capacity to.old
         → IsOk result }
 {
-    write_piece::<E, A>(raw, &mut [0; AT_ONCE / 2 * 3 + SLACK], to)
+    write_piece::<E, A>(raw, &mut [0; SHORT_TEXT / 2 * 3 + SLACK], to)
 }
 
 // Appends the characters one by one to a string with enough capacity.
@@ -164,7 +150,7 @@ fn write_few<E: Utf16Order, A: Allocator>(raw: &[u8], to: &mut String<A>) -> Res
     Ok(())
 }
 
-// The same chunk by chunk.
+// The same piece by piece.
 #[inline(never)]
 fn write_pieces<E: Utf16Order, A: Allocator>(
     raw: &[u8],
@@ -176,7 +162,7 @@ fn write_pieces<E: Utf16Order, A: Allocator>(
     ensures appended { IsPut (text_of E.BIG raw.now) (string_bytes to.old) (string_bytes to.new)
         (string_capacity to.old) (string_capacity to.new) }
 {
-    let mut buf = [0; CHUNK / 2 * 3 + SLACK];
+    let mut buf = [0; PIECE_LEN / 2 * 3 + SLACK];
     let mut rest = raw;
     while !rest.is_empty() {
         let (piece, next) = cut_piece::<E>(rest);
@@ -208,7 +194,7 @@ fn write_piece<E: Utf16Order, A: Allocator>(
     to.push_str(unsafe { str::from_utf8_unchecked(&buf[..len]) })
 }
 
-// The first chunk of a text, and the text after it.
+// The first piece of a text, and the text after it.
 #[inline]
 fn cut_piece<E: Utf16Order>(raw: &[u8]) -> (&[u8], &[u8])
     requires { IsUtf16 E.BIG raw.now }
@@ -216,26 +202,26 @@ fn cut_piece<E: Utf16Order>(raw: &[u8]) -> (&[u8], &[u8])
     ensures second_well_formed { IsUtf16 E.BIG result.1.now }
     ensures joined { text_of E.BIG raw.now ≡ text_of E.BIG result.0.now
         ++ text_of E.BIG result.1.now }
-    ensures few { length result.0.now ≤ CHUNK }
+    ensures few { length result.0.now ≤ PIECE_LEN }
     ensures shorter { 0 < length raw.now → length result.1.now < length raw.now }
 {
     raw.split_at(piece_end::<E>(raw))
 }
 
-// The end of the first chunk of a text, which is a character boundary.
+// The end of the first piece of a text, which is a character boundary.
 #[inline]
 fn piece_end<E: Utf16Order>(raw: &[u8]) -> usize
     requires { IsUtf16 E.BIG raw.now }
     ensures boundary { IsBoundary (text_of E.BIG raw.now) result }
-    ensures few { result ≤ CHUNK }
+    ensures few { result ≤ PIECE_LEN }
     ensures advances { 0 < length raw.now → 0 < result }
 {
-    if raw.len() <= CHUNK {
+    if raw.len() <= PIECE_LEN {
         raw.len()
-    } else if is_trailing_surrogate(E::read_unit([raw[CHUNK], raw[CHUNK + 1]])) {
-        CHUNK - 2
+    } else if is_trailing_surrogate(E::read_unit([raw[PIECE_LEN], raw[PIECE_LEN + 1]])) {
+        PIECE_LEN - 2
     } else {
-        CHUNK
+        PIECE_LEN
     }
 }
 

@@ -10,6 +10,7 @@ mod char;
 pub mod compare;
 pub mod ends;
 mod error;
+pub mod ladder;
 pub mod laws;
 pub mod plain;
 pub mod size;

@@ -8,7 +8,8 @@ ghost use Rattle.utf16_units.specs.Encoding.{size};
 use super::inserts::write_char;
 use crate::WString;
 use std::alloc::{AllocError, Allocator};
-use utf16_from_utf8::{FEW_TEXT, SHORT_TEXT, SLACK, append_utf16, extend_utf16, write_text};
+use utf16_from_utf8::{SLACK, append_utf16, extend_utf16, write_text};
+use utf16_units::ladder::{FEW_TEXT, SHORT_TEXT};
 use utf16_units::size::utf16_len_by_chars;
 use utf16_units::{Utf16Order, utf16_len};
 

@@ -28,7 +28,7 @@ returns-in_err-append_by g c = absurd (false≢true (c.in_err-append_by.ensures.
 pub loop-rest-smaller : goal.loop-rest-smaller
 loop-rest-smaller g c =
     let cut = c.floor_char_boundary in
-    omega (arith, c.split_at.ensures.back_len, piece-some c.loop-rest.rest.now cut.result 2048 c.loop-rest.invariant.text (omega arith) (omega (arith, c.loop-rest-test.true)) cut.ensures.nearest)
+    omega (arith, c.split_at.ensures.back_len, piece-some c.loop-rest.rest.now cut.result 1024 c.loop-rest.invariant.text (omega arith) (omega (arith, c.loop-rest-test.true)) cut.ensures.nearest)
 
 pub loop-rest-preserved : goal.loop-rest-preserved
 loop-rest-preserved g c =

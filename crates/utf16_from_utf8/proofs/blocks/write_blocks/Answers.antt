@@ -10,8 +10,8 @@ returns-then-bytes-len-lt-BLOCK_LEN g c =
       stop = λ block. absurd (omega (arith, block.0, c.if-bytes-len-lt-BLOCK_LEN.true));
     }
 
-pub returns-then-out-len-lt-BLOCK_SPACE-clause-written : goal.returns-then-out-len-lt-BLOCK_SPACE-clause-written
-returns-then-out-len-lt-BLOCK_SPACE-clause-written g c =
+pub returns-then-out-len-clause-written : goal.returns-then-out-len-clause-written
+returns-then-out-len-clause-written g c =
     let ascii = c.write_ascii-len.ensures in
     ascii-first g.E.Utf16Order.BIG c.args.bytes.now c.write_ascii-len.new.out c.min-most.result c.write_ascii-len.result ascii.within ascii.ascii ascii.bytes (search rules)
 
@@ -20,5 +20,5 @@ write_mixed_blocks-requires g c =
     let ascii = c.write_ascii-len.ensures in
     ascii-first g.E.Utf16Order.BIG c.args.bytes.now c.write_ascii-len.new.out c.min-most.result c.write_ascii-len.result ascii.within ascii.ascii ascii.bytes (search rules)
 
-pub returns-then-out-len-lt-BLOCK_SPACE-clause-stop : goal.returns-then-out-len-lt-BLOCK_SPACE-clause-stop
-returns-then-out-len-lt-BLOCK_SPACE-clause-stop g c block = omega arith
+pub returns-then-out-len-clause-stop : goal.returns-then-out-len-clause-stop
+returns-then-out-len-clause-stop g c block = omega arith

@@ -16,8 +16,8 @@ unit g c = c.read_unit.ensures ∙ sym (first_unit-drop g.E.Utf16Order.BIG c.arg
 pub bounds-raw : goal.bounds-raw
 bounds-raw g c = omega (arith, length-even g.E.Utf16Order.BIG c.args.raw.now c.requires)
 
-pub returns-then-raw-le-CHUNK-clause-boundary : goal.returns-then-raw-le-CHUNK-clause-boundary
-returns-then-raw-le-CHUNK-clause-boundary g c = boundary_at_end g.E.Utf16Order.BIG c.args.raw.now _ c.requires refl
+pub returns-then-raw-le-PIECE_LEN-clause-boundary : goal.returns-then-raw-le-PIECE_LEN-clause-boundary
+returns-then-raw-le-PIECE_LEN-clause-boundary g c = boundary_at_end g.E.Utf16Order.BIG c.args.raw.now _ c.requires refl
 
 pub returns-then-is_trailing_surrogate-clause-boundary : goal.returns-then-is_trailing_surrogate-clause-boundary
 returns-then-is_trailing_surrogate-clause-boundary g c =

@@ -20,7 +20,7 @@ returns-clause-appended g c =
       grows = c.loop-rest.invariant.grows;
     }
 
--- the next chunk fits
+-- the next piece fits
 room : (g : Over) (c : After-cut_piece g)
     → string_len c.loop-rest.to + length (encode_utf8_all (text_of g.E.Utf16Order.BIG c.cut_piece.result.0.now)) ≤ string_capacity c.loop-rest.to
 room g c =
