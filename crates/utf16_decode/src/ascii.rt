@@ -7,50 +7,56 @@ ghost use Rattle.utf16_units.specs.Lanes.{HasLanes};
 ghost use Rattle.utf16_decode.specs.Wrote.{DecodesTo, TranscodesToUtf8};
 
 use crate::lossy::REPLACEMENT;
-use crate::progress::put;
+use crate::progress::{Moved, put};
 use std::simd::prelude::*;
 use utf16_units::blocks::units32;
 use utf16_units::{Utf16Order, first_char_len};
 
 // Writes blocks of ASCII to the start of a buffer, with U+FFFD for each unpaired surrogate in them,
-// until another character comes. Returns the number of bytes read and the number of bytes written.
+// until another character comes.
 // Kept out of line so that its loop has all registers.
 #[inline(never)]
-pub(crate) fn write_ascii_blocks<E: Utf16Order>(raw: &[u8], to: &mut [u8]) -> (usize, usize)
+pub(crate) fn write_ascii_blocks<E: Utf16Order>(raw: &[u8], to: &mut [u8]) -> Moved
     requires bytes { 66 ≤ length raw.now }
     requires space { 35 ≤ length to.old }
-    ensures { DecodesTo E.BIG raw.now to.new result.0 result.1 }
+    ensures { DecodesTo E.BIG raw.now to.new result.read result.written }
 {
     let last = raw.len() - 66;
     let most = to.len() - 35;
     let mut read = 0;
     let mut written = 0;
     while read <= last && written <= most {
-        let Some((len, size)) = write_ascii_block::<E>(&raw[read..], &mut to[written..]) else {
+        let Some(block) = write_ascii_block::<E>(&raw[read..], &mut to[written..]) else {
             break;
         };
-        read += len;
-        written += size;
+        read += block.read;
+        written += block.written;
     }
-    (read, written)
+    Moved { read, written }
 }
 
 // Writes the ASCII at the start of a block to the start of a buffer, and U+FFFD for the unpaired
-// surrogate that follows it. Returns the number of bytes read and the number of bytes written;
-// `None` if another character follows.
+// surrogate that follows it; `None` if another character follows.
 #[inline(always)]
-fn write_ascii_block<E: Utf16Order>(raw: &[u8], to: &mut [u8]) -> Option<(usize, usize)>
+fn write_ascii_block<E: Utf16Order>(raw: &[u8], to: &mut [u8]) -> Option<Moved>
     requires bytes { 66 ≤ length raw.now }
     requires space { 35 ≤ length to.old }
-    ensures decodes { IfSome result (λ done. DecodesTo E.BIG raw.now to.new done.0 done.1) }
-    ensures advances { IfSome result (λ done. 0 < done.0) }
+    ensures decodes { IfSome result (λ done.
+        DecodesTo E.BIG raw.now to.new done.read done.written) }
+    ensures advances { IfSome result (λ done. 0 < done.read) }
 {
     let len = write_ascii::<E>(raw, to);
     if len == 32 {
-        return Some((2 * len, len));
+        return Some(Moved {
+            read: 2 * len,
+            written: len,
+        });
     }
     match first_char_len::<E>(&raw[2 * len..]) {
-        Err(Some(lone)) => Some((2 * len + lone as usize, put(&REPLACEMENT, to, len))),
+        Err(Some(lone)) => Some(Moved {
+            read: 2 * len + lone as usize,
+            written: put(&REPLACEMENT, to, len),
+        }),
         _ => None,
     }
 }

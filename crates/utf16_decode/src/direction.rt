@@ -5,6 +5,8 @@ ghost use Rattle.std.specs.Char.{IsScalar};
 ghost use Rattle.utf16_decode.specs.Stops.{BeginsWith};
 ghost use Rattle.utf16_decode.specs.Wrote.{Gives, Joins, Wrote};
 
+use crate::progress::Moved;
+
 /// The number of bytes that pass through a buffer on the stack at once.
 pub const BLOCK_LEN: usize = 64;
 
@@ -54,11 +56,11 @@ pub trait Direction {
         ensures ill_formed { IfErr result (IsIllFormedAt rest.now) };
 
     /// Begins to write a short input, or one for which there is little space, at the start of a
-    /// buffer, perhaps with nothing, and returns the number of bytes read and the number of bytes
-    /// written; `None` if a short input is not to be written character by character.
-    fn begin_short(input: &[u8], to: &mut [u8]) -> Option<(usize, usize)>
+    /// buffer, perhaps with nothing; `None` if a short input is not to be written character by
+    /// character.
+    fn begin_short(input: &[u8], to: &mut [u8]) -> Option<Moved>
         ensures { IfSome result (λ begun.
-            Wrote (Gives IsValid other) input.now to.new begun.0 begun.1) };
+            Wrote (Gives IsValid other) input.now to.new begun.read begun.written) };
 
     /// Returns the first character and its length in bytes, perhaps `None`: a call that makes no
     /// other calls, for the characters that are frequent.
@@ -79,17 +81,18 @@ pub trait Direction {
         ensures unchanged { result ≡ None → to.new ≡ to.old };
 
     /// Returns how much of a text, which takes more than `room` bytes in the second encoding, fits
-    /// there: the number of bytes of the text, and the number of bytes that they take.
+    /// in these.
     ///
     /// # Precondition
     ///
     /// `written` is the text in the second encoding, and longer than `room`.
-    fn fitting_prefix(text: &[u8], written: &[u8], room: usize) -> (usize, usize)
+    fn fitting_prefix(text: &[u8], written: &[u8], room: usize) -> Moved
         requires text { Gives IsValid other text.now written.now }
         requires long { room < length written.now }
-        ensures prefix { Wrote (Gives IsValid other) text.now written.now result.0 result.1 }
-        ensures fits { result.1 ≤ room }
-        ensures most { room < result.1 + 4 };
+        ensures prefix { Wrote (Gives IsValid other) text.now written.now result.read
+            result.written }
+        ensures fits { result.written ≤ room }
+        ensures most { room < result.written + 4 };
 
     /// Returns a number of bytes, perhaps 0, for which `write` needs at most `room` bytes of space.
     fn surely_fit(room: usize) -> usize
@@ -109,10 +112,9 @@ pub trait Direction {
         ensures len { result ≡ length (other text.now) };
 
     /// Writes a valid prefix, perhaps an empty one, in the second encoding to the start of a
-    /// buffer, as far as it fits there, and validates it while it writes it. Returns the number of
-    /// bytes read and the number of bytes written.
-    fn write_front(rest: &[u8], to: &mut [u8]) -> (usize, usize)
-        ensures { Wrote (Gives IsValid other) rest.now to.new result.0 result.1 };
+    /// buffer, as far as it fits there, and validates it while it writes it.
+    fn write_front(rest: &[u8], to: &mut [u8]) -> Moved
+        ensures { Wrote (Gives IsValid other) rest.now to.new result.read result.written };
 
     /// States what the proof of `transcode` needs, and does nothing: fewer bytes need no more
     /// space, and a block fits in the buffer on the stack; two texts together are a text, and so is

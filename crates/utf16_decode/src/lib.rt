@@ -20,7 +20,7 @@ pub use crate::joined::{joined_start, rest_of};
 pub use crate::lossy::{REPLACEMENT, to_utf8_lossy, to_utf8_partial};
 pub use crate::lossy_direction::LossyDirection;
 pub use crate::lossy_transcoding::{transcode_lossy, transcode_partial};
-pub use crate::progress::{Progress, Stop, put};
+pub use crate::progress::{Moved, Progress, Stop, put};
 pub use crate::stream::{CHUNK_LEN, FEED_SLACK, SHORT_CHUNK, Stream};
 pub use crate::transcoding::transcode;
 pub use crate::utf8::{ToUtf8, to_utf8};

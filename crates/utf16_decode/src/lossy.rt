@@ -12,7 +12,7 @@ ghost use Rattle.utf16_decode.specs.declared.progress.Stop.TheVariants.{NoRoom};
 use crate::ascii::write_ascii_blocks;
 use crate::lossy_direction::LossyDirection;
 use crate::lossy_transcoding::{transcode_lossy, transcode_partial};
-use crate::progress::{Progress, put};
+use crate::progress::{Moved, Progress, put};
 use crate::stream::FEED_SLACK;
 use crate::utf8::ToUtf8;
 use crate::well_formed::write_well_formed;
@@ -67,14 +67,17 @@ impl<E: Utf16Order> LossyDirection for ToUtf8<E> {
     fn lossy_laws() {}
 
     #[inline(always)]
-    fn write_ill_formed(input: &[u8], len: u8, to: &mut [u8]) -> Option<(usize, usize)> {
+    fn write_ill_formed(input: &[u8], len: u8, to: &mut [u8]) -> Option<Moved> {
         if to.len() >= FEED_SLACK {
             return Some(write_with_replacements::<E>(input, to));
         }
         if to.len() < REPLACEMENT.len() {
             return None;
         }
-        Some((len as usize, put(&REPLACEMENT, to, 0)))
+        Some(Moved {
+            read: len as usize,
+            written: put(&REPLACEMENT, to, 0),
+        })
     }
 
     #[inline(always)]
@@ -90,33 +93,34 @@ impl<E: Utf16Order> LossyDirection for ToUtf8<E> {
 }
 
 // Writes the text of the next bytes to the start of a buffer: of ASCII with U+FFFD in it, or else
-// of a copy, since an ill-formed sequence is often followed by others. Returns the number of bytes
-// read and the number of bytes written.
-fn write_with_replacements<E: Utf16Order>(raw: &[u8], to: &mut [u8]) -> (usize, usize)
+// of a copy, since an ill-formed sequence is often followed by others.
+fn write_with_replacements<E: Utf16Order>(raw: &[u8], to: &mut [u8]) -> Moved
     requires space { FEED_SLACK ≤ length to.old }
-    ensures decodes { DecodesTo E.BIG raw.now to.new result.0 result.1 }
-    ensures advances { split_items E.BIG raw.now ≢ [] → 0 < result.0 }
+    ensures decodes { DecodesTo E.BIG raw.now to.new result.read result.written }
+    ensures advances { split_items E.BIG raw.now ≢ [] → 0 < result.read }
 {
     if raw.len() >= ASCII_LEN {
-        let (read, written) = write_ascii_blocks::<E>(raw, to);
-        if read >= ASCII_LEN {
-            return (read, written);
+        let ascii = write_ascii_blocks::<E>(raw, to);
+        if ascii.read >= ASCII_LEN {
+            return ascii;
         }
     }
     write_copied::<E>(raw, to)
 }
 
 // Writes the text of the next bytes to the start of a buffer, of as many bytes as surely fit and at
-// most 1,024, from a copy of them on the stack with U+FFFD for each unpaired surrogate. Returns the
-// number of bytes read and the number of bytes written.
+// most 1,024, from a copy of them on the stack with U+FFFD for each unpaired surrogate.
 #[inline(never)]
-fn write_copied<E: Utf16Order>(raw: &[u8], to: &mut [u8]) -> (usize, usize)
+fn write_copied<E: Utf16Order>(raw: &[u8], to: &mut [u8]) -> Moved
     requires space { FEED_SLACK ≤ length to.old }
-    ensures decodes { DecodesTo E.BIG raw.now to.new result.0 result.1 }
-    ensures advances { split_items E.BIG raw.now ≢ [] → 0 < result.0 }
+    ensures decodes { DecodesTo E.BIG raw.now to.new result.read result.written }
+    ensures advances { split_items E.BIG raw.now ≢ [] → 0 < result.read }
 {
     let mut copy = [0; 1024];
     let most = ((to.len() - SLACK) / 3 * 2).min(copy.len()).min(raw.len());
     let len = write_well_formed::<E>(&raw[..most], &mut copy);
-    (len, write_utf8::<E>(&copy[..len], to))
+    Moved {
+        read: len,
+        written: write_utf8::<E>(&copy[..len], to),
+    }
 }

@@ -10,6 +10,7 @@ ghost use Rattle.utf16_decode.specs.declared.progress.Stop.{Stop};
 ghost use Rattle.utf16_decode.specs.declared.progress.Stop.TheVariants.{IllFormed};
 
 use crate::direction::Direction;
+use crate::progress::Moved;
 
 /// A direction that continues after ill-formed sequences.
 pub trait LossyDirection: Direction {
@@ -17,19 +18,18 @@ pub trait LossyDirection: Direction {
     ghost parts: { Decomposition };
 
     /// Writes to the start of a buffer what stands for the first `len` bytes of the input, an
-    /// ill-formed sequence, and perhaps what is certain of the bytes after it. Returns the number
-    /// of bytes read and the number of bytes written; `None` if the first character does not fit.
-    /// The bytes of the buffer after the written ones may be overwritten.
+    /// ill-formed sequence, and perhaps what is certain of the bytes after it; `None` if the first
+    /// character does not fit. The bytes of the buffer after the written ones may be overwritten.
     ///
     /// # Precondition
     ///
     /// The input begins with an ill-formed sequence of `len` bytes.
-    fn write_ill_formed(input: &[u8], len: u8, to: &mut [u8]) -> Option<(usize, usize)>
+    fn write_ill_formed(input: &[u8], len: u8, to: &mut [u8]) -> Option<Moved>
         requires some { 0 < length input.now }
         requires ill_formed { Self.IsIllFormedAt input.now (Some len) }
         ensures decodes { IfSome result (λ done.
-            DecodesAsTo parts Self.into input.now to.new done.0 done.1) }
-        ensures advances { IfSome result (λ done. 0 < done.0) }
+            DecodesAsTo parts Self.into input.now to.new done.read done.written) }
+        ensures advances { IfSome result (λ done. 0 < done.read) }
         ensures none { result ≡ None
             → TextDoesNotFit Self.into (decided parts input.now) (length to.new) };
 

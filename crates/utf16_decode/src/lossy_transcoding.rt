@@ -32,15 +32,15 @@ pub fn transcode_partial<D: LossyDirection>(input: &[u8], to: &mut [u8]) -> Prog
                 stop: front.stop,
             };
         };
-        let Some((len, size)) = D::write_ill_formed(&input[read..], len, &mut to[written..]) else {
+        let Some(next) = D::write_ill_formed(&input[read..], len, &mut to[written..]) else {
             return Progress {
                 read,
                 written,
                 stop: Stop::NoRoom,
             };
         };
-        read += len;
-        written += size;
+        read += next.read;
+        written += next.written;
     }
 }
 

@@ -6,7 +6,7 @@ ghost use Rattle.utf16_decode.specs.Stops.{BeginsWith, Stops, StopsHere};
 ghost use Rattle.utf16_decode.specs.Wrote.{Gives, Puts, Wrote};
 
 use crate::direction::{BLOCK_LEN, BLOCK_ROOM, Direction};
-use crate::progress::{Progress, Stop, put};
+use crate::progress::{Moved, Progress, Stop, put};
 
 // Inputs of fewer bytes than this are first tried character by character.
 const SHORT_LEN: usize = 32;
@@ -41,7 +41,10 @@ fn write_quick_chars<D: Direction>(input: &[u8], to: &mut [u8]) -> Option<usize>
     ensures { IfSome result (Wrote (Gives D.IsValid D.other) input.now to.new (length input.now)) }
 {
     D::laws();
-    let (mut read, mut written) = D::begin_short(input, to)?;
+    let Moved {
+        mut read,
+        mut written,
+    } = D::begin_short(input, to)?;
     while read < input.len() {
         let (c, len) = D::quick_first_char(&input[read..])?;
         written = D::write_char(c, to, written)?;
@@ -71,16 +74,16 @@ fn transcode_many<D: Direction>(input: &[u8], to: &mut [u8]) -> Progress
     let mut read = 0;
     let mut written = 0;
     while read < input.len() {
-        let (len, end) = write_piece::<D>(&input[read..], to, written);
-        read += len;
-        written = end;
+        let piece = write_piece::<D>(&input[read..], to, written);
+        read += piece.read;
+        written = piece.written;
         if read == input.len() {
             break;
         }
         match write_next_char::<D>(&input[read..], to, written) {
-            Ok((len, end)) => {
-                read += len;
-                written = end;
+            Ok(next) => {
+                read += next.read;
+                written = next.written;
             }
             Err(stop) => {
                 return Progress {
@@ -98,41 +101,49 @@ fn transcode_many<D: Direction>(input: &[u8], to: &mut [u8]) -> Progress
     }
 }
 
-// Writes a valid prefix of the bytes, perhaps an empty one, at `at`; returns how many bytes of it
-// were read, and where the written bytes end. The bytes are validated while they are written, as
-// far as possible; a few after these are validated first.
-fn write_piece<D: Direction>(rest: &[u8], to: &mut [u8], at: usize) -> (usize, usize)
+// Writes a valid prefix of the bytes, perhaps an empty one, at `at`. The bytes are validated while
+// they are written, as far as possible; a few after these are validated first.
+fn write_piece<D: Direction>(rest: &[u8], to: &mut [u8], at: usize) -> Moved
     requires { at ≤ length to.old }
-    ensures { Puts (Gives D.IsValid D.other) rest.now to.old to.new at result.0 result.1 }
+    ensures { Puts (Gives D.IsValid D.other) rest.now to.old to.new at result.read result.written }
 {
     D::laws();
-    let (read, written) = write_validating::<D>(rest, to, at);
-    if read == rest.len() {
-        return (read, written);
+    let front = write_validating::<D>(rest, to, at);
+    if front.read == rest.len() {
+        return front;
     }
-    let (len, end) = write_validated_tail::<D>(&rest[read..], to, written);
-    (read + len, end)
+    let tail = write_validated_tail::<D>(&rest[front.read..], to, front.written);
+    Moved {
+        read: front.read + tail.read,
+        written: tail.written,
+    }
 }
 
 // Does the same, and validates the bytes while it writes them.
 #[inline(always)]
-fn write_validating<D: Direction>(rest: &[u8], to: &mut [u8], at: usize) -> (usize, usize)
+fn write_validating<D: Direction>(rest: &[u8], to: &mut [u8], at: usize) -> Moved
     requires { at ≤ length to.old }
-    ensures { Puts (Gives D.IsValid D.other) rest.now to.old to.new at result.0 result.1 }
+    ensures { Puts (Gives D.IsValid D.other) rest.now to.old to.new at result.read result.written }
 {
     D::laws();
     if rest.len() < D::FRONT_LEN {
-        return (0, at);
+        return Moved {
+            read: 0,
+            written: at,
+        };
     }
-    let (read, written) = D::write_front(rest, &mut to[at..]);
-    (read, at + written)
+    let front = D::write_front(rest, &mut to[at..]);
+    Moved {
+        read: front.read,
+        written: at + front.written,
+    }
 }
 
 // Does the same for a few bytes, and validates them before it writes them: directly to their place
 // if they surely fit there.
-fn write_validated_tail<D: Direction>(rest: &[u8], to: &mut [u8], at: usize) -> (usize, usize)
+fn write_validated_tail<D: Direction>(rest: &[u8], to: &mut [u8], at: usize) -> Moved
     requires { at ≤ length to.old }
-    ensures { Puts (Gives D.IsValid D.other) rest.now to.old to.new at result.0 result.1 }
+    ensures { Puts (Gives D.IsValid D.other) rest.now to.old to.new at result.read result.written }
 {
     D::laws();
     if rest.len() < VERY_FEW {
@@ -147,25 +158,31 @@ fn write_validated_tail<D: Direction>(rest: &[u8], to: &mut [u8], at: usize) -> 
 
 // Does the same for bytes that surely fit.
 #[inline(always)]
-fn write_valid<D: Direction>(rest: &[u8], to: &mut [u8], at: usize) -> (usize, usize)
+fn write_valid<D: Direction>(rest: &[u8], to: &mut [u8], at: usize) -> Moved
     requires { at + D.room_for (length rest.now) ≤ length to.old }
-    ensures { Puts (Gives D.IsValid D.other) rest.now to.old to.new at result.0 result.1 }
+    ensures { Puts (Gives D.IsValid D.other) rest.now to.old to.new at result.read result.written }
 {
     D::laws();
     let len = D::valid_len(rest);
     if len == 0 {
-        return (0, at);
+        return Moved {
+            read: 0,
+            written: at,
+        };
     }
     let written = D::write(&rest[..len], &mut to[at..]);
-    (len, at + written)
+    Moved {
+        read: len,
+        written: at + written,
+    }
 }
 
 // Does the same for bytes that may not all fit; one by one if there is little space, or an
 // ill-formed sequence is near, where a block would stop.
-fn write_last_bytes<D: Direction>(rest: &[u8], to: &mut [u8], at: usize) -> (usize, usize)
+fn write_last_bytes<D: Direction>(rest: &[u8], to: &mut [u8], at: usize) -> Moved
     requires some { 0 < length rest.now }
     requires within { at ≤ length to.old }
-    ensures { Puts (Gives D.IsValid D.other) rest.now to.old to.new at result.0 result.1 }
+    ensures { Puts (Gives D.IsValid D.other) rest.now to.old to.new at result.read result.written }
 {
     D::laws();
     if to.len() - at < 3 * VERY_FEW {
@@ -178,12 +195,15 @@ fn write_last_bytes<D: Direction>(rest: &[u8], to: &mut [u8], at: usize) -> (usi
     if is_near_ill_formed::<D>(rest) {
         return write_chars::<D>(rest, to, at);
     }
-    let (read, written) = write_block::<D>(rest, &mut buf, to, at);
-    if read > 0 {
-        return (read, written);
+    let block = write_block::<D>(rest, &mut buf, to, at);
+    if block.read > 0 {
+        return block;
     }
-    let (len, end) = write_short_text::<D>(&rest[read..], &mut buf, to, written);
-    (read + len, end)
+    let few = write_short_text::<D>(&rest[block.read..], &mut buf, to, block.written);
+    Moved {
+        read: block.read + few.read,
+        written: few.written,
+    }
 }
 
 // Whether the first or the second character is missing or ill formed. Any answer is right.
@@ -200,29 +220,19 @@ fn is_near_ill_formed<D: Direction>(rest: &[u8]) -> bool
 // Does the same through a buffer for a block, and validates it while it writes it. A block of
 // UTF-16 needs the code unit after it.
 #[inline(always)]
-fn write_block<D: Direction>(
-    rest: &[u8],
-    buf: &mut [u8],
-    to: &mut [u8],
-    at: usize,
-) -> (usize, usize)
+fn write_block<D: Direction>(rest: &[u8], buf: &mut [u8], to: &mut [u8], at: usize) -> Moved
     requires { at ≤ length to.old }
-    ensures { Puts (Gives D.IsValid D.other) rest.now to.old to.new at result.0 result.1 }
+    ensures { Puts (Gives D.IsValid D.other) rest.now to.old to.new at result.read result.written }
 {
-    let (len, end) = D::write_front(&rest[..rest.len().min(BLOCK_LEN + 2)], buf);
-    write_fitting::<D>(&rest[..len], &buf[..end], to, at)
+    let front = D::write_front(&rest[..rest.len().min(BLOCK_LEN + 2)], buf);
+    write_fitting::<D>(&rest[..front.read], &buf[..front.written], to, at)
 }
 
 // Does the same through a buffer for a few bytes, and validates them before it writes them.
-fn write_short_text<D: Direction>(
-    rest: &[u8],
-    buf: &mut [u8],
-    to: &mut [u8],
-    at: usize,
-) -> (usize, usize)
+fn write_short_text<D: Direction>(rest: &[u8], buf: &mut [u8], to: &mut [u8], at: usize) -> Moved
     requires space { BLOCK_ROOM ≤ length buf.old }
     requires within { at ≤ length to.old }
-    ensures { Puts (Gives D.IsValid D.other) rest.now to.old to.new at result.0 result.1 }
+    ensures { Puts (Gives D.IsValid D.other) rest.now to.old to.new at result.read result.written }
 {
     D::laws();
     let len = D::valid_len(&rest[..rest.len().min(BLOCK_LEN)]);
@@ -230,35 +240,36 @@ fn write_short_text<D: Direction>(
     write_fitting::<D>(&rest[..len], &buf[..end], to, at)
 }
 
-// Copies a text in the second encoding, as far as it fits, and returns how many bytes of the text
-// these are, and where the copied bytes end.
+// Copies a text in the second encoding to `at`, as far as it fits.
 #[inline(always)]
-fn write_fitting<D: Direction>(
-    text: &[u8],
-    written: &[u8],
-    to: &mut [u8],
-    at: usize,
-) -> (usize, usize)
+fn write_fitting<D: Direction>(text: &[u8], written: &[u8], to: &mut [u8], at: usize) -> Moved
     requires text { Gives D.IsValid D.other text.now written.now }
     requires within { at ≤ length to.old }
-    ensures bytes { Puts (Gives D.IsValid D.other) text.now to.old to.new at result.0 result.1 }
-    ensures most { (result.0 ≡ length text.now) ⊎ (length to.new - result.1 < 4) }
+    ensures bytes { Puts (Gives D.IsValid D.other) text.now to.old to.new at result.read
+        result.written }
+    ensures most { (result.read ≡ length text.now) ⊎ (length to.new - result.written < 4) }
 {
-    let (read, end) = prefix_for::<D>(text, written, to.len() - at);
-    (read, put(&written[..end], to, at))
+    let front = prefix_for::<D>(text, written, to.len() - at);
+    Moved {
+        read: front.read,
+        written: put(&written[..front.written], to, at),
+    }
 }
 
-// Returns how much of a text fits in `room` bytes in the second encoding: the number of bytes of
-// the text, and the number of bytes that they take.
+// Returns how much of a text fits in `room` bytes in the second encoding.
 #[inline(always)]
-fn prefix_for<D: Direction>(text: &[u8], written: &[u8], room: usize) -> (usize, usize)
+fn prefix_for<D: Direction>(text: &[u8], written: &[u8], room: usize) -> Moved
     requires { Gives D.IsValid D.other text.now written.now }
-    ensures prefix { Wrote (Gives D.IsValid D.other) text.now written.now result.0 result.1 }
-    ensures fits { result.1 ≤ room }
-    ensures most { (result.0 ≡ length text.now) ⊎ (room < result.1 + 4) }
+    ensures prefix { Wrote (Gives D.IsValid D.other) text.now written.now result.read
+        result.written }
+    ensures fits { result.written ≤ room }
+    ensures most { (result.read ≡ length text.now) ⊎ (room < result.written + 4) }
 {
     if written.len() <= room {
-        (text.len(), written.len())
+        Moved {
+            read: text.len(),
+            written: written.len(),
+        }
     } else {
         D::fitting_prefix(text, written, room)
     }
@@ -266,47 +277,52 @@ fn prefix_for<D: Direction>(text: &[u8], written: &[u8], room: usize) -> (usize,
 
 // Writes the valid characters at the start of the bytes as far as they fit: one by one, after what
 // `begin_short` writes at once.
-fn write_chars<D: Direction>(rest: &[u8], to: &mut [u8], at: usize) -> (usize, usize)
+fn write_chars<D: Direction>(rest: &[u8], to: &mut [u8], at: usize) -> Moved
     requires { at ≤ length to.old }
-    ensures { Puts (Gives D.IsValid D.other) rest.now to.old to.new at result.0 result.1 }
+    ensures { Puts (Gives D.IsValid D.other) rest.now to.old to.new at result.read result.written }
 {
     D::laws();
-    let (mut read, mut written) = write_short_start::<D>(rest, to, at);
+    let Moved {
+        mut read,
+        mut written,
+    } = write_short_start::<D>(rest, to, at);
     while read < rest.len() {
-        let Ok((len, end)) = write_next_char::<D>(&rest[read..], to, written) else {
+        let Ok(next) = write_next_char::<D>(&rest[read..], to, written) else {
             break;
         };
-        read += len;
-        written = end;
+        read += next.read;
+        written = next.written;
     }
-    (read, written)
+    Moved { read, written }
 }
 
 // Writes what `begin_short` does of the bytes at `at`, perhaps nothing.
 #[inline(always)]
-fn write_short_start<D: Direction>(rest: &[u8], to: &mut [u8], at: usize) -> (usize, usize)
+fn write_short_start<D: Direction>(rest: &[u8], to: &mut [u8], at: usize) -> Moved
     requires { at ≤ length to.old }
-    ensures { Puts (Gives D.IsValid D.other) rest.now to.old to.new at result.0 result.1 }
+    ensures { Puts (Gives D.IsValid D.other) rest.now to.old to.new at result.read result.written }
 {
     D::laws();
     match D::begin_short(rest, &mut to[at..]) {
-        Some((read, written)) => (read, at + written),
-        None => (0, at),
+        Some(begun) => Moved {
+            read: begun.read,
+            written: at + begun.written,
+        },
+        None => Moved {
+            read: 0,
+            written: at,
+        },
     }
 }
 
 // Writes the first character at `at`, or returns why it cannot.
 #[inline(always)]
-fn write_next_char<D: Direction>(
-    rest: &[u8],
-    to: &mut [u8],
-    at: usize,
-) -> Result<(usize, usize), Stop>
+fn write_next_char<D: Direction>(rest: &[u8], to: &mut [u8], at: usize) -> Result<Moved, Stop>
     requires not_empty { 0 < length rest.now }
     requires within { at ≤ length to.old }
     ensures wrote { IfOk result (λ r.
-        Puts (Gives D.IsValid D.other) rest.now to.old to.new at r.0 r.1) }
-    ensures advances { IfOk result (λ r. 0 < r.0) }
+        Puts (Gives D.IsValid D.other) rest.now to.old to.new at r.read r.written) }
+    ensures advances { IfOk result (λ r. 0 < r.read) }
     ensures stop { IfErr result (StopsHere D.from D.into D.IsIllFormedAt rest.now
         (length to.new - at)) }
     ensures unchanged { IfErr result (λ _. to.new ≡ to.old) }
@@ -314,7 +330,10 @@ fn write_next_char<D: Direction>(
     D::laws();
     let (c, len) = first_char::<D>(rest)?;
     match D::write_char(c, to, at) {
-        Some(end) => Ok((len, end)),
+        Some(end) => Ok(Moved {
+            read: len,
+            written: end,
+        }),
         None => Err(Stop::NoRoom),
     }
 }

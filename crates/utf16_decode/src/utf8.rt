@@ -8,7 +8,7 @@ ghost use Rattle.utf16_decode.specs.Wrote.{TranscodesToUtf8, Wrote};
 ghost use Rattle.utf16_decode.specs.Stops.{IsIllFormedUtf16, StopsDecoding};
 
 use crate::direction::Direction;
-use crate::progress::{Progress, put};
+use crate::progress::{Moved, Progress, put};
 use crate::transcoding::transcode;
 use std::marker::PhantomData;
 use utf16_to_utf8::{SLACK, write_blocks, write_eight_ascii, write_utf8};
@@ -66,15 +66,19 @@ impl<E: Utf16Order> Direction for ToUtf8<E> {
     }
 
     #[inline(always)]
-    fn begin_short(input: &[u8], to: &mut [u8]) -> Option<(usize, usize)> {
+    fn begin_short(input: &[u8], to: &mut [u8]) -> Option<Moved> {
+        let nothing = Moved {
+            read: 0,
+            written: 0,
+        };
         if input.len() < 16 {
-            return Some((0, 0));
+            return Some(nothing);
         }
-        let (read, written) = write_ascii_from::<E>(input, to, 0, 0);
-        if read == 0 {
+        let ascii = write_ascii_from::<E>(input, to, nothing);
+        if ascii.read == 0 {
             return None;
         }
-        Some((read, written))
+        Some(ascii)
     }
 
     #[inline(always)]
@@ -95,10 +99,13 @@ impl<E: Utf16Order> Direction for ToUtf8<E> {
     }
 
     #[inline(always)]
-    fn fitting_prefix(_text: &[u8], written: &[u8], room: usize) -> (usize, usize) {
+    fn fitting_prefix(_text: &[u8], written: &[u8], room: usize) -> Moved {
         let text = unsafe { str::from_utf8_unchecked(written) };
         let end = text.floor_char_boundary(room);
-        (utf16_len(&text[..end]), end)
+        Moved {
+            read: utf16_len(&text[..end]),
+            written: end,
+        }
     }
 
     #[inline(always)]
@@ -112,26 +119,23 @@ impl<E: Utf16Order> Direction for ToUtf8<E> {
     }
 
     #[inline(always)]
-    fn write_front(rest: &[u8], to: &mut [u8]) -> (usize, usize) {
+    fn write_front(rest: &[u8], to: &mut [u8]) -> Moved {
         let (read, written) = write_blocks::<E>(rest, to);
-        write_ascii_from::<E>(rest, to, read, written)
+        write_ascii_from::<E>(rest, to, Moved { read, written })
     }
 }
 
 // Writes the ASCII that follows what was written, eight code units at a time, which need no more
 // space than they take.
 #[inline(always)]
-fn write_ascii_from<E: Utf16Order>(
-    raw: &[u8],
-    to: &mut [u8],
-    from: usize,
-    end: usize,
-) -> (usize, usize)
-    requires { Wrote (TranscodesToUtf8 E.BIG) raw.now to.old from end }
-    ensures { Wrote (TranscodesToUtf8 E.BIG) raw.now to.new result.0 result.1 }
+fn write_ascii_from<E: Utf16Order>(raw: &[u8], to: &mut [u8], from: Moved) -> Moved
+    requires { Wrote (TranscodesToUtf8 E.BIG) raw.now to.old from.read from.written }
+    ensures { Wrote (TranscodesToUtf8 E.BIG) raw.now to.new result.read result.written }
 {
-    let mut read = from;
-    let mut written = end;
+    let Moved {
+        mut read,
+        mut written,
+    } = from;
     while raw.len() - read >= 16 && to.len() - written >= 8 {
         if !write_eight_ascii::<E>(&raw[read..], &mut to[written..]) {
             break;
@@ -139,7 +143,7 @@ fn write_ascii_from<E: Utf16Order>(
         read += 16;
         written += 8;
     }
-    (read, written)
+    Moved { read, written }
 }
 
 // Returns the length of the longest valid prefix. Kept out of line so that the writer does not pay

@@ -10,7 +10,9 @@ ghost use Rattle.utf16_decode.specs.Stops.{StopsLossyWhole};
 
 use crate::items::{ITEM_LEN, write_items};
 use crate::utf16::FromUtf8;
-use utf16_decode::{BLOCK_LEN, LossyDirection, Progress, put, transcode_lossy, transcode_partial};
+use utf16_decode::{
+    BLOCK_LEN, LossyDirection, Moved, Progress, put, transcode_lossy, transcode_partial,
+};
 use utf16_from_utf8::write_blocks;
 use utf16_units::{Utf16Order, utf16_len};
 
@@ -36,30 +38,32 @@ pub fn from_utf8_partial<E: Utf16Order>(text: &[u8], to: &mut [u8]) -> Progress
     transcode_partial::<FromUtf8<E>>(text, to)
 }
 
-// Writes U+FFFD for the ill-formed sequence of `len` bytes that the text begins with, and the text
-// of bytes after it; returns the number of bytes read and the number of bytes written.
-fn write_replacement_and_more<E: Utf16Order>(
-    text: &[u8],
-    len: usize,
-    to: &mut [u8],
-) -> (usize, usize)
+// Writes U+FFFD for the first `len` bytes of the text, an ill-formed sequence, and the text of
+// bytes after it.
+fn write_replacement_and_more<E: Utf16Order>(text: &[u8], len: usize, to: &mut [u8]) -> Moved
     requires ill_formed { FirstItem text.now 0xFFFD len }
     requires space { 2 ≤ length to.old }
-    ensures decodes { DecodesUtf8To E.BIG text.now to.new result.0 result.1 }
-    ensures some { 0 < result.0 }
+    ensures decodes { DecodesUtf8To E.BIG text.now to.new result.read result.written }
+    ensures some { 0 < result.read }
 {
     let written = put(&E::write_unit(REPLACEMENT), to, 0);
-    let (read, size) = write_after_ill_formed::<E>(&text[len..], &mut to[written..]);
-    (len + read, written + size)
+    let more = write_after_ill_formed::<E>(&text[len..], &mut to[written..]);
+    Moved {
+        read: len + more.read,
+        written: written + more.written,
+    }
 }
 
 // Writes the text of bytes that follow an ill-formed sequence: items, up to some well-formed
 // characters, and then blocks, up to the next ill-formed sequence, in turn while a block may
 // follow.
-fn write_after_ill_formed<E: Utf16Order>(text: &[u8], to: &mut [u8]) -> (usize, usize)
-    ensures { DecodesUtf8To E.BIG text.now to.new result.0 result.1 }
+fn write_after_ill_formed<E: Utf16Order>(text: &[u8], to: &mut [u8]) -> Moved
+    ensures { DecodesUtf8To E.BIG text.now to.new result.read result.written }
 {
-    let (mut read, mut written) = write_items::<E>(text, to);
+    let Moved {
+        mut read,
+        mut written,
+    } = write_items::<E>(text, to);
     while text.len() - read >= BLOCK_LEN && to.len() - written >= 2 * BLOCK_LEN {
         let (len, size) = write_blocks::<E>(&text[read..], &mut to[written..]);
         read += len;
@@ -67,11 +71,11 @@ fn write_after_ill_formed<E: Utf16Order>(text: &[u8], to: &mut [u8]) -> (usize, 
         if text.len() - read < ITEM_LEN || to.len() - written < ITEM_LEN {
             break;
         }
-        let (len, size) = write_items::<E>(&text[read..], &mut to[written..]);
-        read += len;
-        written += size;
+        let items = write_items::<E>(&text[read..], &mut to[written..]);
+        read += items.read;
+        written += items.written;
     }
-    (read, written)
+    Moved { read, written }
 }
 
 /// Writes the whole text of UTF-8 in UTF-16 to the start of a buffer, as far as whole characters
@@ -106,7 +110,7 @@ impl<E: Utf16Order> LossyDirection for FromUtf8<E> {
     fn lossy_laws() {}
 
     #[inline(always)]
-    fn write_ill_formed(input: &[u8], len: u8, to: &mut [u8]) -> Option<(usize, usize)> {
+    fn write_ill_formed(input: &[u8], len: u8, to: &mut [u8]) -> Option<Moved> {
         if to.len() < REPLACEMENT_LEN {
             return None;
         }

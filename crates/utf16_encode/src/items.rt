@@ -7,7 +7,7 @@ ghost use Rattle.utf16_encode.specs.Utf8Stream.{DecodesUtf8To, FirstItem};
 
 use crate::utf16::{first_char, write_char};
 use std::simd::prelude::*;
-use utf16_decode::ascii_len;
+use utf16_decode::{Moved, ascii_len};
 use utf16_from_utf8::write_ascii_block;
 use utf16_units::Utf16Order;
 
@@ -20,12 +20,11 @@ const RUN: usize = 16;
 pub(crate) const ITEM_LEN: usize = 4;
 
 /// Writes the text of the next bytes of UTF-8 in UTF-16 to the start of a buffer, with U+FFFD for
-/// each ill-formed sequence; returns the number of bytes read and the number of bytes written. It
-/// ends after some well-formed characters, or where fewer than four bytes are left of the input or
-/// of the buffer.
-pub(crate) fn write_items<E: Utf16Order>(text: &[u8], to: &mut [u8]) -> (usize, usize)
-    ensures decodes { DecodesUtf8To E.BIG text.now to.new result.0 result.1 }
-    ensures advances { ITEM_LEN ≤ length text.now → ITEM_LEN ≤ length to.old → 0 < result.0 }
+/// each ill-formed sequence. It ends after some well-formed characters, or if fewer than four bytes
+/// are left of the input or of the buffer.
+pub(crate) fn write_items<E: Utf16Order>(text: &[u8], to: &mut [u8]) -> Moved
+    ensures decodes { DecodesUtf8To E.BIG text.now to.new result.read result.written }
+    ensures advances { ITEM_LEN ≤ length text.now → ITEM_LEN ≤ length to.old → 0 < result.read }
 {
     let mut read = 0;
     let mut written = 0;
@@ -36,7 +35,7 @@ pub(crate) fn write_items<E: Utf16Order>(text: &[u8], to: &mut [u8]) -> (usize, 
         written += step.written;
         run = if step.run == 0 { 0 } else { run + step.run };
     }
-    (read, written)
+    Moved { read, written }
 }
 
 // How many bytes a step read and wrote, and what it adds to the run: nothing if it wrote U+FFFD,

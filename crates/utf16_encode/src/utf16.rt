@@ -14,7 +14,7 @@ ghost use Rattle.utf16_decode.specs.Stops.{BeginsWith};
 use crate::chars::{char_of_four, char_of_three, char_of_two, is_continuation};
 use crate::valid::valid_prefix;
 use std::marker::PhantomData;
-use utf16_decode::{BLOCK_LEN, Direction, Progress, transcode};
+use utf16_decode::{BLOCK_LEN, Direction, Moved, Progress, transcode};
 use utf16_from_utf8::{SLACK, write_ascii, write_blocks, write_text};
 use utf16_to_utf8::utf8_len;
 use utf16_units::{Utf16CharExt, Utf16Order, is_trailing_surrogate};
@@ -70,7 +70,7 @@ impl<E: Utf16Order> Direction for FromUtf8<E> {
 
     // Begins with the ASCII at the start: as `write_ascii` does, and then one by one.
     #[inline(always)]
-    fn begin_short(input: &[u8], to: &mut [u8]) -> Option<(usize, usize)> {
+    fn begin_short(input: &[u8], to: &mut [u8]) -> Option<Moved> {
         let most = input.len().min(to.len() / 2);
         let len = write_ascii::<E>(&input[..most], to);
         Some(write_ascii_chars::<E>(input, to, len))
@@ -93,9 +93,12 @@ impl<E: Utf16Order> Direction for FromUtf8<E> {
     }
 
     #[inline(always)]
-    fn fitting_prefix(_text: &[u8], written: &[u8], room: usize) -> (usize, usize) {
+    fn fitting_prefix(_text: &[u8], written: &[u8], room: usize) -> Moved {
         let end = last_boundary::<E>(written, room);
-        (utf8_len::<E>(&written[..end]), end)
+        Moved {
+            read: utf8_len::<E>(&written[..end]),
+            written: end,
+        }
     }
 
     #[inline(always)]
@@ -109,8 +112,9 @@ impl<E: Utf16Order> Direction for FromUtf8<E> {
     }
 
     #[inline(always)]
-    fn write_front(rest: &[u8], to: &mut [u8]) -> (usize, usize) {
-        write_blocks::<E>(rest, to)
+    fn write_front(rest: &[u8], to: &mut [u8]) -> Moved {
+        let (read, written) = write_blocks::<E>(rest, to);
+        Moved { read, written }
     }
 }
 
@@ -131,11 +135,11 @@ fn last_boundary<E: Utf16Order>(utf16: &[u8], at: usize) -> usize
 }
 
 // Writes the ASCII after the first bytes, which were written and are ASCII too, character by
-// character, as far as it fits. Returns the number of bytes read and the number of bytes written.
+// character, as far as it fits.
 #[inline(always)]
-fn write_ascii_chars<E: Utf16Order>(bytes: &[u8], to: &mut [u8], from: usize) -> (usize, usize)
+fn write_ascii_chars<E: Utf16Order>(bytes: &[u8], to: &mut [u8], from: usize) -> Moved
     requires { Wrote (TranscodesToUtf16 E.BIG) bytes.now to.old from (2 * from) }
-    ensures { Wrote (TranscodesToUtf16 E.BIG) bytes.now to.new result.0 result.1 }
+    ensures { Wrote (TranscodesToUtf16 E.BIG) bytes.now to.new result.read result.written }
 {
     let most = bytes.len().min(to.len() / 2);
     let mut len = from;
@@ -144,7 +148,10 @@ fn write_ascii_chars<E: Utf16Order>(bytes: &[u8], to: &mut [u8], from: usize) ->
         end = write_char::<E>(bytes[len] as char, to, end);
         len += 1;
     }
-    (len, end)
+    Moved {
+        read: len,
+        written: end,
+    }
 }
 
 // Writes a character that fits at `at`, and returns where it ends.

@@ -3,8 +3,8 @@
 ghost use Rattle.std.specs.Prelude.{◌≡◌, ◌≢◌, ◌+◌, ◌*◌, ◌≤◌, ℕ, List, [], length, take};
 ghost use Rattle.utf16_streams.specs.Continues.{Continues};
 
-/// A transcoder of a stream that comes in chunks, cut anywhere, which writes to buffers: `filter_by`
-/// writes its output for the bytes that it reads.
+/// A transcoder of a stream that comes in chunks, cut anywhere, which writes to buffers:
+/// `filter_by` writes its output for the bytes that it reads.
 pub trait Transcoder: Drop {
     // The output that is certain once these bytes have come, whatever follows them.
     ghost decided: { Self → List ℕ → List ℕ };

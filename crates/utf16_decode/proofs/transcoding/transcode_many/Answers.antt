@@ -9,23 +9,23 @@ loop-read-init g c = Wrote-none c.laws.ensures.of_nothing _ _
 pub loop-read-preserved : goal.loop-read-preserved
 loop-read-preserved g c =
     let joins = c.laws.ensures.joins in
-    Wrote-then joins _ _ _ _ _ _ _ (Wrote-then joins _ _ _ _ _ _ _ c.loop-read.invariant c.write_piece-len.ensures) c.in-Ok.ensures.wrote
+    Wrote-then joins _ _ _ _ _ _ _ (Wrote-then joins _ _ _ _ _ _ _ c.loop-read.invariant c.write_piece-piece.ensures) c.in-Ok.ensures.wrote
 
 pub returns-in-Err-write_next_char-clause-wrote : goal.returns-in-Err-write_next_char-clause-wrote
 returns-in-Err-write_next_char-clause-wrote g c =
-    subst (λ to. Wrote (Gives g.D.Direction.IsValid g.D.Direction.other) c.args.input.now to (c.loop-read.read + c.write_piece-len.result.0) c.write_piece-len.result.1) (sym c.in-Err-write_next_char.ensures.unchanged)
-    (Wrote-then c.laws.ensures.joins _ _ _ _ _ _ _ c.loop-read.invariant c.write_piece-len.ensures)
+    subst (λ to. Wrote (Gives g.D.Direction.IsValid g.D.Direction.other) c.args.input.now to (c.loop-read.read + c.write_piece-piece.result.read) c.write_piece-piece.result.written) (sym c.in-Err-write_next_char.ensures.unchanged)
+    (Wrote-then c.laws.ensures.joins _ _ _ _ _ _ _ c.loop-read.invariant c.write_piece-piece.ensures)
 
 pub returns-in-Err-write_next_char-clause-stop : goal.returns-in-Err-write_next_char-clause-stop
 returns-in-Err-write_next_char-clause-stop g c =
-    let here = Wrote-then c.laws.ensures.joins _ _ _ _ _ _ _ c.loop-read.invariant c.write_piece-len.ensures in
+    let here = Wrote-then c.laws.ensures.joins _ _ _ _ _ _ _ c.loop-read.invariant c.write_piece-piece.ensures in
     let within = here.within in
     let left = c.if-read-input.false in
     let d = g.D.Direction in
     stops_there d.from d.into d.IsValid d.IsIllFormedAt d.IsIllFormed c.laws.ensures.ill_formed _ _ _ (search rules) here.gives.0 c.in-Err-write_next_char.stop c.in-Err-write_next_char.ensures.stop
 
 pub returns-then-read-input-clause-wrote : goal.returns-then-read-input-clause-wrote
-returns-then-read-input-clause-wrote g c = Wrote-then c.laws.ensures.joins _ _ _ _ _ _ _ c.loop-read.invariant c.write_piece-len.ensures
+returns-then-read-input-clause-wrote g c = Wrote-then c.laws.ensures.joins _ _ _ _ _ _ _ c.loop-read.invariant c.write_piece-piece.ensures
 
 pub returns-clause-stop : goal.returns-clause-stop
 returns-clause-stop g c =

@@ -15,4 +15,4 @@ returns-then-text-read-lt-ITEM_LEN g c = DecodesTo-rest utf8_parts _ utf8_chunks
 pub loop-read-preserved : goal.loop-read-preserved
 loop-read-preserved g c =
     let blocks = DecodesTo-rest utf8_parts _ utf8_chunks _ _ _ _ _ _ _ c.loop-read.invariant (DecodesUtf8To-text _ _ _ _ _ (wrote_blocks c.write_blocks-len.ensures.written)) (search rules) in
-    DecodesTo-rest utf8_parts _ utf8_chunks _ _ _ _ _ _ _ blocks c.write_items-len.ensures.decodes (search rules)
+    DecodesTo-rest utf8_parts _ utf8_chunks _ _ _ _ _ _ _ blocks c.write_items-items.ensures.decodes (search rules)

@@ -19,4 +19,4 @@ replaced g c =
 pub returns-clause-decodes : goal.returns-clause-decodes
 returns-clause-decodes g c =
     let at = goal.at.returns-clause-decodes g c in
-    DecodesTo-rest utf8_parts _ utf8_chunks _ _ _ _ _ _ _ (replaced g at.After-put-written) c.write_after_ill_formed-read.ensures (search rules)
+    DecodesTo-rest utf8_parts _ utf8_chunks _ _ _ _ _ _ _ (replaced g at.After-put-written) c.write_after_ill_formed-more.ensures (search rules)
