@@ -11,7 +11,7 @@ use Rattle.std.specs.Str.Lossy.{utf8_valid_len, valid_len_up_to}
 use Rattle.utf16_decode.specs.Shown.{ShowsWhole}
 use Rattle.utf16_decode.specs.Stops.{StopsLossyWhole}
 use Rattle.utf16_decode.specs.declared.progress.Stop.{Stop}
-use Rattle.utf16_decode.specs.declared.progress.Stop.TheVariants.{Incomplete, Done, IllFormed, NoRoom}
+use Rattle.utf16_decode.specs.declared.progress.Stop.TheVariants.{Incomplete, Done, IllFormed, NoSpace}
 use Rattle.utf16_encode.proofs.LossyLemmas.{chunk-most}
 use Rattle.utf16_units.specs.Encoding.{size}
 use Rattle.utf16_units.specs.Split.{Item, whole_lossy_chars, good, item_bytes, items_bytes, lone_lead, lone_trail, lossy_text, lossy_char, lossy_chars, split_items, split_tail}
@@ -102,7 +102,7 @@ pub whole_is_done : (text : List ℕ → List ℕ) (into : ℕ → List ℕ) (in
 whole_is_done text into input to read written Done shows stops fits = refl
 whole_is_done text into input to read written (IllFormed len) shows stops fits = absurd stops
 whole_is_done text into input to read written Incomplete shows stops fits = absurd stops
-whole_is_done text into input to read written NoRoom shows stops fits =
+whole_is_done text into input to read written NoSpace shows stops fits =
     let all = ap length shows.shown ∙ length-append (take written to) (flat_map into (text (drop read input))) in
     let first = length-take-le written to shows.fits in
     let rest = ap (λ t. length (flat_map into t)) stops.begins ∙ length-append (into stops.char) (flat_map into stops.more) in

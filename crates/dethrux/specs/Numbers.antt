@@ -5,7 +5,7 @@ use Rattle.utf16_units.specs.IllFormed.{IsIllFormed, IsUtf16ValidUpTo}
 use Rattle.utf16_units.specs.Utf16Error.{error_len, valid_up_to}
 use Rattle.utf16_units.specs.declared.error.Utf16Error.{Utf16Error}
 use Rattle.utf16_decode.specs.declared.progress.Stop.{Stop}
-use Rattle.utf16_decode.specs.declared.progress.Stop.TheVariants.{Incomplete, Done, IllFormed, NoRoom}
+use Rattle.utf16_decode.specs.declared.progress.Stop.TheVariants.{Incomplete, Done, IllFormed, NoSpace}
 
 -- the byte order is big endian; every other number is little endian
 abbrev pub is_big : ℕ → Bool
@@ -14,7 +14,7 @@ is_big byte_order = byte_order == 1
 -- why a call stopped, by its status and the length of the ill-formed sequence
 abbrev pub stop_of : ℕ → ℕ → Stop
 stop_of status error_len =
-    if status == 0 then Done else (if status == 1 then IllFormed error_len else (if status == 2 then Incomplete else NoRoom))
+    if status == 0 then Done else (if status == 1 then IllFormed error_len else (if status == 2 then Incomplete else NoSpace))
 
 -- the status is one of the four, and only an ill-formed sequence has a length
 abbrev pub AreNumbers : ℕ → ℕ → Type 0
@@ -39,7 +39,7 @@ abbrev pub IsValidity : Bool → List ℕ → ℕ → Stop → Type 0
 IsValidity big utf16 valid_up_to Done = (valid_up_to ≡ length utf16) × IsUtf16 big utf16
 IsValidity big utf16 valid_up_to (IllFormed len) = IsUtf16ValidUpTo big utf16 valid_up_to × IsIllFormed big utf16 (Some len)
 IsValidity big utf16 valid_up_to Incomplete = IsUtf16ValidUpTo big utf16 valid_up_to × IsIllFormed big utf16 None
-IsValidity big utf16 valid_up_to NoRoom = ⊥
+IsValidity big utf16 valid_up_to NoSpace = ⊥
 
 -- a version as one number, by which versions are compared
 abbrev pub version_number : ℕ → ℕ → ℕ → ℕ

@@ -3,11 +3,11 @@
 ghost use Rattle.std.specs.Prelude.{◌≡◌, ◌≢◌, ◌↔◌, ◌+◌, ◌-◌, ◌<◌, ◌≤◌, [], ◌++◌, drop, length, take, encode_utf8_all};
 ghost use Rattle.utf16_units.specs.Split.{decided_text, whole_lossy_chars};
 ghost use Rattle.utf16_decode.specs.Stream.{Feeds, StopsFeeding, stream_pending};
-ghost use Rattle.utf16_decode.specs.declared.progress.Stop.TheVariants.{Done, NoRoom};
+ghost use Rattle.utf16_decode.specs.declared.progress.Stop.TheVariants.{Done, NoSpace};
 ghost use Rattle.dethrux.specs.Numbers.{AreNumbers, is_big, stop_of};
 
 use crate::byte_order::is_big_endian;
-use crate::results::{Conversion, conversion_of};
+use crate::results::{Progress, progress_of};
 use utf16_decode::{Stream, ToUtf8};
 use utf16_units::{BE, LE};
 
@@ -21,7 +21,7 @@ pub extern "C" fn dethrux_decoder_feed(
     byte_order: u32,
     chunk: &[u8],
     to: &mut [u8],
-) -> Conversion
+) -> Progress
     ensures feeds { Feeds (is_big byte_order) (stream_pending decoder.old) chunk.now
         (stream_pending decoder.new) to.new result.read result.written }
     ensures stop { StopsFeeding (is_big byte_order) (stream_pending decoder.old) chunk.now
@@ -31,12 +31,12 @@ pub extern "C" fn dethrux_decoder_feed(
         ↔ (length (encode_utf8_all
         (decided_text (is_big byte_order) (stream_pending decoder.old ++ chunk.now)))
         ≤ length to.new) }
-    ensures filled { stop_of result.status result.error_len ≡ NoRoom
+    ensures filled { stop_of result.status result.error_len ≡ NoSpace
         → length to.new < result.written + 4 }
     ensures few { decoder.new.len ≤ 3 }
     ensures numbers { AreNumbers result.status result.error_len }
 {
-    conversion_of(if is_big_endian(byte_order) {
+    progress_of(if is_big_endian(byte_order) {
         decoder.feed::<ToUtf8<BE>>(chunk, to)
     } else {
         decoder.feed::<ToUtf8<LE>>(chunk, to)
@@ -46,7 +46,7 @@ pub extern "C" fn dethrux_decoder_feed(
 /// Ends a stream: writes U+FFFD in UTF-8 if bytes are pending, and else nothing. The bytes after it
 /// stay as they were. If U+FFFD does not fit, nothing changes.
 #[unsafe(no_mangle)]
-pub extern "C" fn dethrux_decoder_finish(decoder: &mut Stream, to: &mut [u8]) -> Conversion
+pub extern "C" fn dethrux_decoder_finish(decoder: &mut Stream, to: &mut [u8]) -> Progress
     ensures read { result.read ≡ 0 }
     ensures done { (stop_of result.status result.error_len ≡ Done)
         ↔ (length (encode_utf8_all (whole_lossy_chars [] (stream_pending decoder.old)))
@@ -58,12 +58,12 @@ pub extern "C" fn dethrux_decoder_finish(decoder: &mut Stream, to: &mut [u8]) ->
     ensures rest { drop result.written to.new ≡ drop result.written to.old }
     ensures pending { stop_of result.status result.error_len ≡ Done
         → stream_pending decoder.new ≡ [] }
-    ensures no_room { stop_of result.status result.error_len ≢ Done
-        → (stop_of result.status result.error_len ≡ NoRoom) × (result.written ≡ 0) }
+    ensures no_space { stop_of result.status result.error_len ≢ Done
+        → (stop_of result.status result.error_len ≡ NoSpace) × (result.written ≡ 0) }
     ensures unchanged { stop_of result.status result.error_len ≢ Done → (decoder.new ≡ decoder.old)
         × (to.new ≡ to.old) }
     ensures numbers { AreNumbers result.status result.error_len }
 {
     // U+FFFD in UTF-8 is the same in both byte orders.
-    conversion_of(decoder.finish::<ToUtf8<LE>>(to))
+    progress_of(decoder.finish::<ToUtf8<LE>>(to))
 }

@@ -27,10 +27,10 @@ ghost use Rattle.utf16_decode.specs.Shown.{ShowsWhole};
 ghost use Rattle.utf16_decode.specs.Stops.{StopsDecoding, StopsLossy, StopsLossyWhole};
 ghost use Rattle.utf16_decode.specs.Wrote.{DecodesTo, TranscodesToUtf8, Wrote};
 ghost use Rattle.dethrux.specs.Numbers.{AreNumbers, IsValidity, is_big, stop_of};
-ghost use Rattle.utf16_decode.specs.declared.progress.Stop.TheVariants.{Done, NoRoom};
+ghost use Rattle.utf16_decode.specs.declared.progress.Stop.TheVariants.{Done, NoSpace};
 
 use crate::byte_order::is_big_endian;
-use crate::results::{Conversion, Validity, conversion_of, validity_of};
+use crate::results::{Progress, Validity, progress_of, validity_of};
 use utf16_encode::{
     count_chars, from_utf8, from_utf8_len, from_utf8_lossy, from_utf8_lossy_len, is_ascii, to_utf8,
     to_utf8_lossy, to_utf8_lossy_len, to_utf8_partial,
@@ -127,7 +127,7 @@ pub extern "C" fn dethrux_to_utf8_lossy_len(byte_order: u32, utf16: &[u8]) -> us
 /// character does not fit, and a call with the rest goes on. The bytes after those written may have
 /// been overwritten. In time linear in what is read.
 #[unsafe(no_mangle)]
-pub extern "C" fn dethrux_to_utf8(byte_order: u32, utf16: &[u8], to: &mut [u8]) -> Conversion
+pub extern "C" fn dethrux_to_utf8(byte_order: u32, utf16: &[u8], to: &mut [u8]) -> Progress
     ensures wrote { Wrote (TranscodesToUtf8 (is_big byte_order)) utf16.now to.new result.read
         result.written }
     ensures stop { StopsDecoding (is_big byte_order) utf16.now result.read
@@ -135,9 +135,9 @@ pub extern "C" fn dethrux_to_utf8(byte_order: u32, utf16: &[u8], to: &mut [u8]) 
     ensures numbers { AreNumbers result.status result.error_len }
 {
     if is_big_endian(byte_order) {
-        conversion_of(to_utf8::<BE>(utf16, to))
+        progress_of(to_utf8::<BE>(utf16, to))
     } else {
-        conversion_of(to_utf8::<LE>(utf16, to))
+        progress_of(to_utf8::<LE>(utf16, to))
     }
 }
 
@@ -146,19 +146,19 @@ pub extern "C" fn dethrux_to_utf8(byte_order: u32, utf16: &[u8], to: &mut [u8]) 
 /// U+FFFD does not fit: a call with the rest goes on. It is 0 with a capacity of three bytes for
 /// each code unit, and three for an odd byte at the end.
 #[unsafe(no_mangle)]
-pub extern "C" fn dethrux_to_utf8_lossy(byte_order: u32, utf16: &[u8], to: &mut [u8]) -> Conversion
+pub extern "C" fn dethrux_to_utf8_lossy(byte_order: u32, utf16: &[u8], to: &mut [u8]) -> Progress
     ensures shown { ShowsWhole (lossy_text (is_big byte_order)) encode_utf8 utf16.now to.new
         result.read result.written }
     ensures stop { StopsLossyWhole (lossy_text (is_big byte_order)) encode_utf8
         (drop result.read utf16.now) (length to.new - result.written)
         (stop_of result.status result.error_len) }
-    ensures between { stop_of result.status result.error_len ≡ NoRoom
+    ensures between { stop_of result.status result.error_len ≡ NoSpace
         → DecodesTo (is_big byte_order) utf16.now to.new result.read result.written }
     ensures succeeds { (length utf16.now + 1) / 2 * 3 ≤ length to.new
         → stop_of result.status result.error_len ≡ Done }
     ensures numbers { AreNumbers result.status result.error_len }
 {
-    conversion_of(if is_big_endian(byte_order) {
+    progress_of(if is_big_endian(byte_order) {
         to_utf8_lossy::<BE>(utf16, to)
     } else {
         to_utf8_lossy::<LE>(utf16, to)
@@ -172,13 +172,13 @@ pub extern "C" fn dethrux_to_utf8_partial(
     byte_order: u32,
     utf16: &[u8],
     to: &mut [u8],
-) -> Conversion
+) -> Progress
     ensures decodes { DecodesTo (is_big byte_order) utf16.now to.new result.read result.written }
     ensures stop { StopsLossy (is_big byte_order) (drop result.read utf16.now)
         (length to.new - result.written) (stop_of result.status result.error_len) }
     ensures numbers { AreNumbers result.status result.error_len }
 {
-    conversion_of(if is_big_endian(byte_order) {
+    progress_of(if is_big_endian(byte_order) {
         to_utf8_partial::<BE>(utf16, to)
     } else {
         to_utf8_partial::<LE>(utf16, to)
@@ -190,7 +190,7 @@ pub extern "C" fn dethrux_to_utf8_partial(
 /// character does not fit, and a call with the rest goes on. The bytes after those written may have
 /// been overwritten. In time linear in what is read.
 #[unsafe(no_mangle)]
-pub extern "C" fn dethrux_from_utf8(byte_order: u32, utf8: &[u8], to: &mut [u8]) -> Conversion
+pub extern "C" fn dethrux_from_utf8(byte_order: u32, utf8: &[u8], to: &mut [u8]) -> Progress
     ensures wrote { Wrote (TranscodesToUtf16 (is_big byte_order)) utf8.now to.new result.read
         result.written }
     ensures stop { StopsEncoding (is_big byte_order) utf8.now result.read
@@ -198,9 +198,9 @@ pub extern "C" fn dethrux_from_utf8(byte_order: u32, utf8: &[u8], to: &mut [u8])
     ensures numbers { AreNumbers result.status result.error_len }
 {
     if is_big_endian(byte_order) {
-        conversion_of(from_utf8::<BE>(utf8, to))
+        progress_of(from_utf8::<BE>(utf8, to))
     } else {
-        conversion_of(from_utf8::<LE>(utf8, to))
+        progress_of(from_utf8::<LE>(utf8, to))
     }
 }
 
@@ -209,7 +209,7 @@ pub extern "C" fn dethrux_from_utf8(byte_order: u32, utf8: &[u8], to: &mut [u8])
 /// status is 0, or 3 if the next character or U+FFFD does not fit: a call with the rest goes on.
 /// The bytes after those written may have been overwritten. In time linear in what is read.
 #[unsafe(no_mangle)]
-pub extern "C" fn dethrux_from_utf8_lossy(byte_order: u32, utf8: &[u8], to: &mut [u8]) -> Conversion
+pub extern "C" fn dethrux_from_utf8_lossy(byte_order: u32, utf8: &[u8], to: &mut [u8]) -> Progress
     ensures shown { ShowsWhole text_of_utf8 (char_bytes (is_big byte_order)) utf8.now to.new
         result.read result.written }
     ensures stop { StopsLossyWhole text_of_utf8 (char_bytes (is_big byte_order))
@@ -219,7 +219,7 @@ pub extern "C" fn dethrux_from_utf8_lossy(byte_order: u32, utf8: &[u8], to: &mut
         (text_of_utf8 (take result.read utf8.now)) }
     ensures numbers { AreNumbers result.status result.error_len }
 {
-    conversion_of(if is_big_endian(byte_order) {
+    progress_of(if is_big_endian(byte_order) {
         from_utf8_lossy::<BE>(utf8, to)
     } else {
         from_utf8_lossy::<LE>(utf8, to)

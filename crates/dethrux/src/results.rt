@@ -3,7 +3,7 @@
 ghost use Rattle.std.specs.Prelude.{◌≡◌};
 ghost use Rattle.dethrux.specs.Numbers.{AreNumbers, stop_of, validity_stop, validity_up_to};
 
-use utf16_encode::{Progress, Stop};
+use utf16_encode::Stop;
 use utf16_units::Utf16Error;
 
 const DONE: u32 = 0;
@@ -17,7 +17,7 @@ const NO_SPACE: u32 = 3;
 /// How far a call came: `dethrux_progress` of the header.
 #[repr(C)]
 #[derive(Clone, Copy)]
-pub struct Conversion {
+pub struct Progress {
     /// How many bytes of the input were read: whole characters, and in a lossy call the ill-formed
     /// sequences among them.
     pub read: usize,
@@ -56,14 +56,14 @@ pub struct Bom {
 
 // What C gets of the result of a call of the library.
 #[inline(always)]
-pub(crate) fn conversion_of(progress: Progress) -> Conversion
+pub(crate) fn progress_of(progress: utf16_encode::Progress) -> Progress
     ensures read { result.read ≡ progress.read }
     ensures written { result.written ≡ progress.written }
     ensures stop { stop_of result.status result.error_len ≡ progress.stop }
     ensures numbers { AreNumbers result.status result.error_len }
 {
     let (status, error_len) = status_of(progress.stop);
-    Conversion {
+    Progress {
         read: progress.read,
         written: progress.written,
         status,
@@ -81,7 +81,7 @@ pub(crate) fn status_of(stop: Stop) -> (u32, u32)
         Stop::Done => (DONE, 0),
         Stop::IllFormed(len) => (ILL_FORMED, len as u32),
         Stop::Incomplete => (INCOMPLETE, 0),
-        Stop::NoRoom => (NO_SPACE, 0),
+        Stop::NoSpace => (NO_SPACE, 0),
     }
 }
 

@@ -5,11 +5,11 @@ ghost use Rattle.utf16_units.specs.Encoding.{encode, size};
 ghost use Rattle.utf8_bytes.specs.Split.{IsTail, decided_text, whole_lossy_chars};
 ghost use Rattle.utf16_decode.specs.Stream.{stream_pending};
 ghost use Rattle.utf16_encode.specs.Utf8Stream.{FeedsUtf8, StopsFeedingUtf8};
-ghost use Rattle.utf16_decode.specs.declared.progress.Stop.TheVariants.{Done, NoRoom};
+ghost use Rattle.utf16_decode.specs.declared.progress.Stop.TheVariants.{Done, NoSpace};
 ghost use Rattle.dethrux.specs.Numbers.{AreNumbers, is_big, stop_of};
 
 use crate::byte_order::is_big_endian;
-use crate::results::{Conversion, conversion_of};
+use crate::results::{Progress, progress_of};
 use utf16_encode::{Stream, feed_utf8, finish_utf8};
 use utf16_units::{BE, LE};
 
@@ -25,7 +25,7 @@ pub extern "C" fn dethrux_utf8_decoder_feed(
     byte_order: u32,
     chunk: &[u8],
     to: &mut [u8],
-) -> Conversion
+) -> Progress
     ensures feeds { FeedsUtf8 (is_big byte_order) (stream_pending decoder.old) chunk.now
         (stream_pending decoder.new) to.new result.read result.written }
     ensures stop { StopsFeedingUtf8 (is_big byte_order) (stream_pending decoder.old) chunk.now
@@ -33,7 +33,7 @@ pub extern "C" fn dethrux_utf8_decoder_feed(
         (stop_of result.status result.error_len) }
     ensures done { (stop_of result.status result.error_len ≡ Done)
         ↔ (size (decided_text (stream_pending decoder.old ++ chunk.now)) ≤ length to.new) }
-    ensures filled { stop_of result.status result.error_len ≡ NoRoom
+    ensures filled { stop_of result.status result.error_len ≡ NoSpace
         → length to.new < result.written + 4 }
     ensures few { decoder.new.len ≤ 3 }
     ensures tail { IsTail (stream_pending decoder.old)
@@ -45,7 +45,7 @@ pub extern "C" fn dethrux_utf8_decoder_feed(
         ≤ length to.new → stop_of result.status result.error_len ≡ Done }
     ensures numbers { AreNumbers result.status result.error_len }
 {
-    conversion_of(if is_big_endian(byte_order) {
+    progress_of(if is_big_endian(byte_order) {
         feed_utf8::<BE>(decoder, chunk, to)
     } else {
         feed_utf8::<LE>(decoder, chunk, to)
@@ -59,7 +59,7 @@ pub extern "C" fn dethrux_utf8_decoder_finish(
     decoder: &mut Stream,
     byte_order: u32,
     to: &mut [u8],
-) -> Conversion
+) -> Progress
     ensures read { result.read ≡ 0 }
     ensures done { (stop_of result.status result.error_len ≡ Done)
         ↔ (size (whole_lossy_chars [] (stream_pending decoder.old)) ≤ length to.new) }
@@ -70,13 +70,13 @@ pub extern "C" fn dethrux_utf8_decoder_finish(
     ensures rest { drop result.written to.new ≡ drop result.written to.old }
     ensures pending { stop_of result.status result.error_len ≡ Done
         → stream_pending decoder.new ≡ [] }
-    ensures no_room { stop_of result.status result.error_len ≢ Done
-        → (stop_of result.status result.error_len ≡ NoRoom) × (result.written ≡ 0) }
+    ensures no_space { stop_of result.status result.error_len ≢ Done
+        → (stop_of result.status result.error_len ≡ NoSpace) × (result.written ≡ 0) }
     ensures unchanged { stop_of result.status result.error_len ≢ Done → (decoder.new ≡ decoder.old)
         × (to.new ≡ to.old) }
     ensures numbers { AreNumbers result.status result.error_len }
 {
-    conversion_of(if is_big_endian(byte_order) {
+    progress_of(if is_big_endian(byte_order) {
         finish_utf8::<BE>(decoder, to)
     } else {
         finish_utf8::<LE>(decoder, to)

@@ -118,7 +118,7 @@ fn debug_shows_errors_and_progress(rt: HostRuntime) {
     shows(&rt, &Stop::Done, "Done");
     shows(&rt, &Stop::IllFormed(2), "IllFormed(2)");
     shows(&rt, &Stop::Incomplete, "Incomplete");
-    let (read, written, stop) = (4, 3, Stop::NoRoom);
+    let (read, written, stop) = (4, 3, Stop::NoSpace);
     shows(
         &rt,
         &Progress {
@@ -126,7 +126,7 @@ fn debug_shows_errors_and_progress(rt: HostRuntime) {
             written,
             stop,
         },
-        "Progress { read: 4, written: 3, stop: NoRoom }",
+        "Progress { read: 4, written: 3, stop: NoSpace }",
     );
     let (bytes, len) = ([0x3D, 0xD8, 0], 2);
     shows(

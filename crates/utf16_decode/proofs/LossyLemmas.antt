@@ -22,7 +22,7 @@ use Rattle.utf16_decode.specs.Decodes.{Decodes, utf16_parts}
 use Rattle.utf16_decode.specs.Wrote.{DecodesTo, TranscodesToUtf8}
 use Rattle.utf16_decode.specs.Stops.{IsIllFormedUtf16, StopsDecoding, StopsLossy, TextDoesNotFit}
 use Rattle.utf16_decode.specs.declared.progress.Stop.{Stop}
-use Rattle.utf16_decode.specs.declared.progress.Stop.TheVariants.{Incomplete, Done, IllFormed, NoRoom}
+use Rattle.utf16_decode.specs.declared.progress.Stop.TheVariants.{Incomplete, Done, IllFormed, NoSpace}
 use Rattle.utf16_decode.proofs.DecodesLemmas.{cut_off_decides, cut_off_leaves, split_tail-again}
 use Rattle.utf16_decode.proofs.DecodesSteps.{Decodes-then}
 use Rattle.utf16_decode.proofs.IllFormedDecides.{fault_decides}
@@ -61,7 +61,7 @@ stops_lossy big raw n left Incomplete no_fault here = (
   some_cut_off : (left : List ℕ) → left ≡ [] → IsIncomplete big left → ⊥
   some_cut_off [] none cut = cut
   some_cut_off (b ∷ left) none cut = absurd (cc)
-stops_lossy big raw n left NoRoom no_fault here = record {
+stops_lossy big raw n left NoSpace no_fault here = record {
   char = here.char;
   more = lossy_chars (split_items big here.more);
   begins =

@@ -13,7 +13,7 @@ use Rattle.utf16_decode.specs.Wrote.{DecodesAsTo}
 use Rattle.utf16_decode.specs.Stops.{StopsLossyAs, TextDoesNotFit}
 use Rattle.utf16_decode.specs.Stream.{FeedsAs, StopsFeedingAs}
 use Rattle.utf16_decode.specs.declared.progress.Stop.{Stop}
-use Rattle.utf16_decode.specs.declared.progress.Stop.TheVariants.{Incomplete, Done, IllFormed, NoRoom}
+use Rattle.utf16_decode.specs.declared.progress.Stop.TheVariants.{Incomplete, Done, IllFormed, NoSpace}
 use Rattle.utf16_decode.proofs.WroteLemmas.{put_end-long, take-end}
 
 -- the rest after more bytes
@@ -84,12 +84,12 @@ module _ (parts : Decomposition) (into : ℕ → List ℕ) (split : IsSplitInChu
   left_over = let all = new_long in omega (arith, long)
 
   -- why it stopped there, if it stopped for lack of space or no bytes follow
-  pub stops_window : (stop : Stop) → (stop ≡ NoRoom) ⊎ (next ≡ []) → StopsLossyAs parts into (drop n window) (length part - w) stop
+  pub stops_window : (stop : Stop) → (stop ≡ NoSpace) ⊎ (next ≡ []) → StopsLossyAs parts into (drop n window) (length part - w) stop
       → StopsLossyAs parts into (drop (read + n) input) (length new - (at + w)) stop
   stops_window stop (inr none) here =
       subst (λ r. StopsLossyAs parts into r (length new - (at + w)) stop) (sym (append-nil (drop n window)) ∙ ap (λ b. drop n window ++ b) (sym none) ∙ left)
       (subst (λ k. StopsLossyAs parts into (drop n window) k stop) left_over here)
-  stops_window NoRoom (inl full) here = record {
+  stops_window NoSpace (inl full) here = record {
     char = here.char;
     more = here.more ++ decided parts (parts.tail (drop n window) ++ next);
     begins =
@@ -139,12 +139,12 @@ module _ (pending piece window : List ℕ) (read : ℕ) (within : read ≤ lengt
 
   -- if none of them is decoded, they are the last ones, or there is no space
   pub start_stops : (parts : Decomposition) (into : ℕ → List ℕ) → IsSplitInChunks parts → (n room : ℕ) (stop : Stop) → n ≡ 0
-      → StopsLossyAs parts into (drop n window) room stop → (stop ≡ NoRoom) ⊎ (after_seam ≡ [])
+      → StopsLossyAs parts into (drop n window) room stop → (stop ≡ NoSpace) ⊎ (after_seam ≡ [])
   start_stops parts into split n room Done zero here = inr (few_after (omega (arith, zero, ap length here, length-drop n window)))
   start_stops parts into split n room (IllFormed len) zero here = absurd here
   start_stops parts into split n room Incomplete zero here =
       inr (few_after (omega (arith, zero, ap length here.1, split.few (drop n window), length-drop n window)))
-  start_stops parts into split n room NoRoom zero here = inl refl
+  start_stops parts into split n room NoSpace zero here = inl refl
 
 -- after the pending bytes, the rest of the chunk is all that is left
 pub piece_joined : (pending piece : List ℕ) (read : ℕ) → length pending ≤ read → rest_from piece (read - length pending) ++ [] ≡ drop read (pending ++ piece)
@@ -155,12 +155,12 @@ piece_joined pending piece read past =
 -- ---- what a stream holds
 
 -- if a call did not stop for lack of space, the rest is pending
-pub rest_undecided : (parts : Decomposition) (into : ℕ → List ℕ) → IsSplitInChunks parts → (rest : List ℕ) (room : ℕ) (stop : Stop) → ¬ (stop ≡ NoRoom)
+pub rest_undecided : (parts : Decomposition) (into : ℕ → List ℕ) → IsSplitInChunks parts → (rest : List ℕ) (room : ℕ) (stop : Stop) → ¬ (stop ≡ NoSpace)
     → StopsLossyAs parts into rest room stop → parts.tail rest ≡ rest
 rest_undecided parts into split rest room Done some here = ap parts.tail here ∙ split.nothing ∙ sym here
 rest_undecided parts into split rest room (IllFormed len) some here = absurd here
 rest_undecided parts into split rest room Incomplete some here = here.1
-rest_undecided parts into split rest room NoRoom some here = absurd (some refl)
+rest_undecided parts into split rest room NoSpace some here = absurd (some refl)
 
 -- a part of pending bytes and a chunk was decoded
 module _ (parts : Decomposition) (into : ℕ → List ℕ) (split : IsSplitInChunks parts) (pending piece to : List ℕ) (at written : ℕ)
@@ -205,7 +205,7 @@ module _ (parts : Decomposition) (into : ℕ → List ℕ) (split : IsSplitInChu
             decodes = subst (λ r. DecodesAs parts into all r [] (take written to)) (sym rest_is) front.decodes;
           }
 
-      pub stops_full : StopsFeedingAs parts into pending piece left read (length to - written) NoRoom
+      pub stops_full : StopsFeedingAs parts into pending piece left read (length to - written) NoSpace
       stops_full = (
         ⊎_elim
             (λ (before : at < length pending). inl (omega (arith, read_is, before)))

@@ -9,7 +9,7 @@ use Rattle.utf16_decode.specs.Shown.{ShowsWhole}
 use Rattle.utf16_decode.specs.Stops.{StopsLossyAs, StopsLossyWhole, TextDoesNotFit}
 use Rattle.utf16_decode.specs.Wrote.{DecodesAsTo}
 use Rattle.utf16_decode.specs.declared.progress.Stop.{Stop}
-use Rattle.utf16_decode.specs.declared.progress.Stop.TheVariants.{Incomplete, Done, IllFormed, NoRoom}
+use Rattle.utf16_decode.specs.declared.progress.Stop.TheVariants.{Incomplete, Done, IllFormed, NoSpace}
 
 module _ (parts : Decomposition) (into : ℕ → List ℕ) (split : IsSplitInChunks parts) where
   -- what was decoded is a prefix of the whole, and the rest's whole follows it
@@ -53,7 +53,7 @@ module _ (parts : Decomposition) (into : ℕ → List ℕ) (split : IsSplitInChu
   stops_whole bytes left Done other here = here
   stops_whole bytes left (IllFormed len) other here = here
   stops_whole bytes left Incomplete other here = absurd (other refl)
-  stops_whole bytes left NoRoom other here = record {
+  stops_whole bytes left NoSpace other here = record {
     char = here.char;
     more = here.more ++ parts.at_end (parts.tail bytes);
     begins = split.whole bytes ∙ ap (λ t. t ++ parts.at_end (parts.tail bytes)) here.begins;

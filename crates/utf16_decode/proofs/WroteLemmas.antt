@@ -8,7 +8,7 @@ use Rattle.utf16_units.proofs.IllFormedLemmas.{rest_from, take-past}
 use Rattle.utf16_decode.specs.Wrote.{Joins, Puts, Wrote}
 use Rattle.utf16_decode.specs.Stops.{BeginsWith, NextDoesNotFit, Stops, StopsHere}
 use Rattle.utf16_decode.specs.declared.progress.Stop.{Stop}
-use Rattle.utf16_decode.specs.declared.progress.Stop.TheVariants.{Incomplete, Done, IllFormed, NoRoom}
+use Rattle.utf16_decode.specs.declared.progress.Stop.TheVariants.{Incomplete, Done, IllFormed, NoSpace}
 
 -- one more chunk appended to what was written
 pub Wrote-then : {Gives : List ℕ → List ℕ → Type 0} → Joins Gives → (input old new : List ℕ) (read at len last : ℕ) → Wrote Gives input old read at
@@ -101,7 +101,7 @@ module _ (from into : ℕ → List ℕ) (IsValid : List ℕ → Type 0) (IsIllFo
   stops_there Done here = absurd here
   stops_there (IllFormed len) here = faults input read (Some len) within text (subst (λ r. IsIllFormedAt r (Some len)) (take_rest input read) here)
   stops_there Incomplete here = faults input read None within text (subst (λ r. IsIllFormedAt r None) (take_rest input read) here)
-  stops_there NoRoom here = subst (λ r. NextDoesNotFit from into r left) (take_rest input read) here
+  stops_there NoSpace here = subst (λ r. NextDoesNotFit from into r left) (take_rest input read) here
 
 -- why it stopped at the start of the input
 module _ (from into : ℕ → List ℕ) (IsValid : List ℕ → Type 0) (IsIllFormedAt : List ℕ → Option ℕ → Type 0) (IsIllFormed : List ℕ → ℕ → Option ℕ → Type 0)

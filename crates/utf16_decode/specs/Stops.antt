@@ -6,7 +6,7 @@ use Rattle.utf16_units.specs.IllFormed.{IsIllFormed, IsUtf16ValidUpTo}
 use Rattle.utf16_decode.specs.Decodes.{utf16_parts}
 use Rattle.utf16_decode.specs.Decomposition.{Decomposition, decided}
 use Rattle.utf16_decode.specs.declared.progress.Stop.{Stop}
-use Rattle.utf16_decode.specs.declared.progress.Stop.TheVariants.{Incomplete, Done, IllFormed, NoRoom}
+use Rattle.utf16_decode.specs.declared.progress.Stop.TheVariants.{Incomplete, Done, IllFormed, NoSpace}
 
 -- the bytes begin with a character whose bytes in the other encoding do not fit
 pub record NextDoesNotFit (from into : ℕ → List ℕ) (rest : List ℕ) (left : ℕ) : Type 0 where
@@ -23,7 +23,7 @@ module _ (from into : ℕ → List ℕ) (IsIllFormedOf : List ℕ → ℕ → Op
   Stops input read left Done = read ≡ length input
   Stops input read left (IllFormed len) = IsIllFormedOf input read (Some len)
   Stops input read left Incomplete = IsIllFormedOf input read None
-  Stops input read left NoRoom = NextDoesNotFit from into (drop read input) left
+  Stops input read left NoSpace = NextDoesNotFit from into (drop read input) left
 
 -- the same, stated of the rest
 module _ (from into : ℕ → List ℕ) (IsIllFormedHere : List ℕ → Option ℕ → Type 0) where
@@ -31,7 +31,7 @@ module _ (from into : ℕ → List ℕ) (IsIllFormedHere : List ℕ → Option �
   StopsHere rest left Done = ⊥
   StopsHere rest left (IllFormed len) = IsIllFormedHere rest (Some len)
   StopsHere rest left Incomplete = IsIllFormedHere rest None
-  StopsHere rest left NoRoom = NextDoesNotFit from into rest left
+  StopsHere rest left NoSpace = NextDoesNotFit from into rest left
 
 -- the longest well-formed prefix of bytes that are not UTF-16, and Rust's `error_len` of what
 -- follows it
@@ -55,7 +55,7 @@ abbrev pub StopsLossyAs : Decomposition → (ℕ → List ℕ) → List ℕ → 
 StopsLossyAs parts into rest left Done = rest ≡ []
 StopsLossyAs parts into rest left (IllFormed len) = ⊥
 StopsLossyAs parts into rest left Incomplete = (rest ≢ []) × (parts.tail rest ≡ rest)
-StopsLossyAs parts into rest left NoRoom = TextDoesNotFit into (decided parts rest) left
+StopsLossyAs parts into rest left NoSpace = TextDoesNotFit into (decided parts rest) left
 
 -- for UTF-16
 abbrev pub StopsLossy : Bool → List ℕ → ℕ → Stop → Type 0
@@ -66,7 +66,7 @@ abbrev pub StopsLossyWhole : (List ℕ → List ℕ) → (ℕ → List ℕ) → 
 StopsLossyWhole text into rest left Done = rest ≡ []
 StopsLossyWhole text into rest left (IllFormed len) = ⊥
 StopsLossyWhole text into rest left Incomplete = ⊥
-StopsLossyWhole text into rest left NoRoom = TextDoesNotFit into (text rest) left
+StopsLossyWhole text into rest left NoSpace = TextDoesNotFit into (text rest) left
 
 -- the first n bytes are those of a character
 pub record BeginsWith (from : ℕ → List ℕ) (bytes : List ℕ) (char n : ℕ) : Type 0 where

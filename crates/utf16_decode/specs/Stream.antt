@@ -5,7 +5,7 @@ use Rattle.utf16_decode.specs.Decodes.{DecodesAs, utf16_parts}
 use Rattle.utf16_decode.specs.Decomposition.{Decomposition, decided}
 use Rattle.utf16_decode.specs.Stops.{TextDoesNotFit}
 use Rattle.utf16_decode.specs.declared.progress.Stop.{Stop}
-use Rattle.utf16_decode.specs.declared.progress.Stop.TheVariants.{Incomplete, Done, IllFormed, NoRoom}
+use Rattle.utf16_decode.specs.declared.progress.Stop.TheVariants.{Incomplete, Done, IllFormed, NoSpace}
 use Rattle.utf16_decode.specs.declared.stream.Stream.{Stream}
 
 -- `stream.pending()`
@@ -27,7 +27,7 @@ abbrev pub StopsFeedingAs : Decomposition → (ℕ → List ℕ) → List ℕ �
 StopsFeedingAs parts into pending piece left read room Done = (read ≡ length piece) × (left ≡ parts.tail (pending ++ piece))
 StopsFeedingAs parts into pending piece left read room (IllFormed len) = ⊥
 StopsFeedingAs parts into pending piece left read room Incomplete = ⊥
-StopsFeedingAs parts into pending piece left read room NoRoom =
+StopsFeedingAs parts into pending piece left read room NoSpace =
     ((read ≡ 0) ⊎ (left ≡ [])) × TextDoesNotFit into (decided parts (left ++ drop read piece)) room
 
 -- for UTF-16

@@ -7,7 +7,7 @@ ghost use Rattle.utf16_decode.specs.Decodes.{utf16_parts};
 ghost use Rattle.utf16_decode.specs.Shown.{ShowsWhole};
 ghost use Rattle.utf16_decode.specs.Stops.{StopsLossy, StopsLossyWhole};
 ghost use Rattle.utf16_decode.specs.Wrote.{DecodesTo};
-ghost use Rattle.utf16_decode.specs.declared.progress.Stop.TheVariants.{NoRoom};
+ghost use Rattle.utf16_decode.specs.declared.progress.Stop.TheVariants.{NoSpace};
 
 use crate::ascii::write_ascii_blocks;
 use crate::lossy_direction::LossyDirection;
@@ -54,7 +54,7 @@ pub fn to_utf8_lossy<E: Utf16Order>(raw: &[u8], to: &mut [u8]) -> Progress
         result.written }
     ensures stop { StopsLossyWhole (lossy_text E.BIG) encode_utf8 (drop result.read raw.now)
         (length to.new - result.written) result.stop }
-    ensures between { result.stop ≡ NoRoom
+    ensures between { result.stop ≡ NoSpace
         → DecodesTo E.BIG raw.now to.new result.read result.written }
 {
     transcode_lossy::<ToUtf8<E>>(raw, to)

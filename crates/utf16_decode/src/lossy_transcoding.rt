@@ -4,7 +4,7 @@ ghost use Rattle.std.specs.Prelude.{◌≡◌, ◌-◌, drop, length};
 ghost use Rattle.utf16_decode.specs.Shown.{ShowsWhole};
 ghost use Rattle.utf16_decode.specs.Stops.{StopsLossyAs, StopsLossyWhole};
 ghost use Rattle.utf16_decode.specs.Wrote.{DecodesAsTo};
-ghost use Rattle.utf16_decode.specs.declared.progress.Stop.TheVariants.{NoRoom};
+ghost use Rattle.utf16_decode.specs.declared.progress.Stop.TheVariants.{NoSpace};
 
 use crate::lossy_direction::LossyDirection;
 use crate::progress::{Progress, Stop};
@@ -36,7 +36,7 @@ pub fn transcode_partial<D: LossyDirection>(input: &[u8], to: &mut [u8]) -> Prog
             return Progress {
                 read,
                 written,
-                stop: Stop::NoRoom,
+                stop: Stop::NoSpace,
             };
         };
         read += next.read;
@@ -50,7 +50,7 @@ pub fn transcode_lossy<D: LossyDirection>(input: &[u8], to: &mut [u8]) -> Progre
     ensures shown { ShowsWhole D.parts.whole D.into input.now to.new result.read result.written }
     ensures stop { StopsLossyWhole D.parts.whole D.into (drop result.read input.now)
         (length to.new - result.written) result.stop }
-    ensures between { result.stop ≡ NoRoom
+    ensures between { result.stop ≡ NoSpace
         → DecodesAsTo D.parts D.into input.now to.new result.read result.written }
 {
     D::lossy_laws();
@@ -67,7 +67,7 @@ pub fn transcode_lossy<D: LossyDirection>(input: &[u8], to: &mut [u8]) -> Progre
         None => Progress {
             read: front.read,
             written: front.written,
-            stop: Stop::NoRoom,
+            stop: Stop::NoSpace,
         },
     }
 }

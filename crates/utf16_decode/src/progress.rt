@@ -14,7 +14,7 @@ pub enum Stop {
     Incomplete,
     /// The buffer has less space left than the next item takes: a character, or U+FFFD. Call again
     /// with the rest of the input and another buffer.
-    NoRoom,
+    NoSpace,
 }
 
 /// How far a call came. Offsets and lengths are in bytes.

@@ -6,7 +6,7 @@ ghost use Rattle.utf16_decode.specs.Decomposition.{decided};
 ghost use Rattle.utf16_decode.specs.Stops.{StopsLossyAs};
 ghost use Rattle.utf16_decode.specs.Stream.{FeedsAs, StopsFeedingAs, stream_pending};
 ghost use Rattle.utf16_decode.specs.Wrote.{DecodesAsTo};
-ghost use Rattle.utf16_decode.specs.declared.progress.Stop.TheVariants.{Done, NoRoom};
+ghost use Rattle.utf16_decode.specs.declared.progress.Stop.TheVariants.{Done, NoSpace};
 
 use crate::joined::{joined_start, rest_of};
 use crate::lossy_direction::LossyDirection;
@@ -80,7 +80,7 @@ impl Stream {
     /// one for all chunks of a stream.
     ///
     /// With `Done` all of the chunk was taken, and what more bytes could change is pending. With
-    /// `NoRoom` the next character does not fit: call again with the rest of the chunk and more
+    /// `NoSpace` the next character does not fit: call again with the rest of the chunk and more
     /// space. Fewer than four bytes of the buffer are left then, so into a buffer of four bytes or
     /// more something was written. Bytes of the buffer after the written ones may have been
     /// overwritten.
@@ -96,7 +96,7 @@ impl Stream {
         ensures done { (result.stop ≡ Done)
             ↔ (length (flat_map D.into (decided D.parts (stream_pending self.old ++ piece.now)))
             ≤ length to.new) }
-        ensures filled { result.stop ≡ NoRoom → length to.new < result.written + 4 }
+        ensures filled { result.stop ≡ NoSpace → length to.new < result.written + 4 }
         ensures few { self.new.len ≤ 3 }
     {
         let (progress, stream) = feed_after::<D>(self.pending(), piece, to);
@@ -105,7 +105,7 @@ impl Stream {
     }
 
     /// Ends the stream: writes what stands for the pending bytes to the start of a buffer, and
-    /// nothing if none are. No bytes are pending then. With `NoRoom` it does not fit, and nothing
+    /// nothing if none are. No bytes are pending then. With `NoSpace` it does not fit, and nothing
     /// changed. `read` is 0. Bytes of the buffer after the written ones stay.
     pub fn finish<D: LossyDirection>(&mut self, to: &mut [u8]) -> Progress
         ensures read { result.read ≡ 0 }
@@ -118,14 +118,14 @@ impl Stream {
         ensures within { result.written ≤ length to.new }
         ensures rest { drop result.written to.new ≡ drop result.written to.old }
         ensures pending { result.stop ≡ Done → stream_pending self.new ≡ [] }
-        ensures no_room { result.stop ≢ Done → (result.stop ≡ NoRoom) × (result.written ≡ 0) }
+        ensures no_space { result.stop ≢ Done → (result.stop ≡ NoSpace) × (result.written ≡ 0) }
         ensures unchanged { result.stop ≢ Done → (self.new ≡ self.old) × (to.new ≡ to.old) }
     {
         let Some(written) = D::write_end(self.pending(), to, 0) else {
             return Progress {
                 read: 0,
                 written: 0,
-                stop: Stop::NoRoom,
+                stop: Stop::NoSpace,
             };
         };
         *self = Stream::new();
@@ -148,17 +148,17 @@ fn feed_after<D: LossyDirection>(pending: &[u8], piece: &[u8], to: &mut [u8]) ->
     ensures done { (result.0.stop ≡ Done)
         ↔ (length (flat_map D.into (decided D.parts (pending.now ++ piece.now)))
         ≤ length to.new) }
-    ensures filled { result.0.stop ≡ NoRoom → length to.new < result.0.written + 4 }
+    ensures filled { result.0.stop ≡ NoSpace → length to.new < result.0.written + 4 }
     ensures few { result.1.len ≤ 3 }
 {
     D::lossy_laws();
     let front = decode_joined::<D>(pending, piece, to);
     let (pending, rest) = rest_of(pending, piece, front.read);
-    if let Stop::NoRoom = front.stop {
+    if let Stop::NoSpace = front.stop {
         let full = Progress {
             read: piece.len() - rest.len(),
             written: front.written,
-            stop: Stop::NoRoom,
+            stop: Stop::NoSpace,
         };
         return (full, Stream::holding(pending));
     }
@@ -188,7 +188,7 @@ fn decode_joined<D: LossyDirection>(pending: &[u8], piece: &[u8], to: &mut [u8])
         let front = transcode_partial::<D>(&joined[..len], &mut to[written..]);
         read += front.read;
         written += front.written;
-        if front.read == 0 || front.stop == Stop::NoRoom {
+        if front.read == 0 || front.stop == Stop::NoSpace {
             return Progress {
                 read,
                 written,

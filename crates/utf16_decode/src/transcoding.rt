@@ -334,7 +334,7 @@ fn write_next_char<D: Direction>(rest: &[u8], to: &mut [u8], at: usize) -> Resul
             read: len,
             written: end,
         }),
-        None => Err(Stop::NoRoom),
+        None => Err(Stop::NoSpace),
     }
 }
 

@@ -13,7 +13,7 @@ use Rattle.utf8_bytes.proofs.SplitLemmas.{Split-computed}
 use Rattle.utf16_decode.specs.Shown.{ShowsWhole}
 use Rattle.utf16_decode.specs.Stops.{StopsLossyWhole}
 use Rattle.utf16_decode.specs.declared.progress.Stop.{Stop}
-use Rattle.utf16_decode.specs.declared.progress.Stop.TheVariants.{Incomplete, Done, IllFormed, NoRoom}
+use Rattle.utf16_decode.specs.declared.progress.Stop.TheVariants.{Incomplete, Done, IllFormed, NoSpace}
 use Rattle.utf16_encode.specs.FromUtf8.{text_of_utf8}
 use Rattle.utf16_encode.specs.Utf8Stream.{DecodesUtf8To}
 use Rattle.utf16_encode.proofs.CutLemmas.{text-cut}
@@ -68,7 +68,7 @@ between big utf8 to read written d =
 
 -- the same of a lossy call, which stopped at the end or for lack of space
 pub between-lossy : (big : Bool) (utf8 to : List ℕ) (read written left : ℕ) (stop : Stop) → ShowsWhole text_of_utf8 (char_bytes big) utf8 to read written
-    → StopsLossyWhole text_of_utf8 (char_bytes big) (drop read utf8) left stop → (stop ≡ NoRoom → DecodesUtf8To big utf8 to read written)
+    → StopsLossyWhole text_of_utf8 (char_bytes big) (drop read utf8) left stop → (stop ≡ NoSpace → DecodesUtf8To big utf8 to read written)
     → take written to ≡ flat_map (char_bytes big) (text_of_utf8 (take read utf8))
 between-lossy big utf8 to read written left Done shows here full =
     sym (append-nil (take written to))
@@ -76,4 +76,4 @@ between-lossy big utf8 to read written left Done shows here full =
     ∙ sym shows.shown ∙ ap (λ b. flat_map (char_bytes big) (text_of_utf8 b)) (sym (take-append-drop read utf8) ∙ ap (λ r. take read utf8 ++ r) here ∙ append-nil (take read utf8))
 between-lossy big utf8 to read written left (IllFormed len) shows here full = absurd here
 between-lossy big utf8 to read written left Incomplete shows here full = absurd here
-between-lossy big utf8 to read written left NoRoom shows here full = between big utf8 to read written (full refl)
+between-lossy big utf8 to read written left NoSpace shows here full = between big utf8 to read written (full refl)

@@ -20,7 +20,7 @@ use Rattle.utf16_decode.specs.Decodes.{DecodesAs}
 use Rattle.utf16_decode.specs.Stops.{TextDoesNotFit}
 use Rattle.utf16_decode.specs.Wrote.{Wrote}
 use Rattle.utf16_decode.specs.declared.progress.Stop.{Stop}
-use Rattle.utf16_decode.specs.declared.progress.Stop.TheVariants.{Incomplete, Done, IllFormed, NoRoom}
+use Rattle.utf16_decode.specs.declared.progress.Stop.TheVariants.{Incomplete, Done, IllFormed, NoSpace}
 use Rattle.utf16_decode.proofs.DecodesSteps.{Decodes-none, Decodes-then}
 use Rattle.utf16_encode.specs.FromUtf8.{StopsEncoding, TranscodesToUtf16}
 use Rattle.utf16_encode.specs.Utf8Stream.{DecodesUtf8To, FirstItem, StopsLossyUtf8, utf8_parts}
@@ -85,7 +85,7 @@ stops_text big utf8 n left Incomplete no_fault here = (
   (λ none. let short = here.0.short in omega (arith, ap length none, length-drop n utf8)),
   (split_undecided (drop n utf8) (none_at utf8 n here.0) (sym here.1)).1,
 )
-stops_text big utf8 n left NoRoom no_fault here = record {
+stops_text big utf8 n left NoSpace no_fault here = record {
   char = here.char;
   more = lossy_chars (split_items here.more);
   begins =

@@ -14,7 +14,7 @@ use Rattle.utf8_bytes.proofs.SplitUnique.{Split-unique, split_items-append, spli
 use Rattle.utf8_bytes.proofs.TableLemmas.{tail_nil}
 use Rattle.utf16_decode.specs.Decomposition.{IsSplitInChunks}
 use Rattle.utf16_decode.specs.declared.progress.Stop.{Stop}
-use Rattle.utf16_decode.specs.declared.progress.Stop.TheVariants.{Incomplete, Done, IllFormed, NoRoom}
+use Rattle.utf16_decode.specs.declared.progress.Stop.TheVariants.{Incomplete, Done, IllFormed, NoSpace}
 use Rattle.utf16_encode.specs.Utf8Stream.{FeedsUtf8, StopsFeedingUtf8, utf8_parts}
 use Rattle.utf16_encode.proofs.DecodesUtf8.{flat_encode, length-split_tail, taken_bytes, undecided_items}
 
@@ -80,7 +80,7 @@ pub leaves_tail : (big : Bool) (pending piece left to : List ℕ) (read written 
 leaves_tail big pending piece left to read written room Done tail feeds here = pending_is_tail left (pending ++ piece) here.1
 leaves_tail big pending piece left to read written room (IllFormed len) tail feeds here = absurd here
 leaves_tail big pending piece left to read written room Incomplete tail feeds here = absurd here
-leaves_tail big pending piece left to read written room NoRoom tail feeds here = ⊎_elim (λ (zero : read ≡ 0). unread zero) (λ (none : left ≡ []). subst IsTail (sym none) tail_nil) here.0 where
+leaves_tail big pending piece left to read written room NoSpace tail feeds here = ⊎_elim (λ (zero : read ≡ 0). unread zero) (λ (none : left ≡ []). subst IsTail (sym none) tail_nil) here.0 where
   by_taken : (taken : List Item) → items_bytes taken ++ (left ++ piece) ≡ pending ++ piece → split_items (pending ++ piece) ≡ taken ++ split_items (left ++ piece) → IsTail left
   by_taken [] bytes items = subst IsTail (sym (append_cancel_right left pending piece bytes)) tail
   by_taken (item ∷ taken) bytes items =

@@ -81,7 +81,7 @@ fn write_after_ill_formed<E: Utf16Order>(text: &[u8], to: &mut [u8]) -> Moved
 /// Writes the whole text of UTF-8 in UTF-16 to the start of a buffer, as far as whole characters
 /// fit, with U+FFFD for each ill-formed sequence: one for each maximal subpart, and one for an
 /// incomplete character at the end. Any bytes are allowed. It stops at the end of the input, or
-/// with `NoRoom` if the buffer has fewer bytes left than the next character or U+FFFD takes: call
+/// with `NoSpace` if the buffer has fewer bytes left than the next character or U+FFFD takes: call
 /// again with the input after `read` and another buffer. Bytes of the buffer after the written ones
 /// may have been overwritten.
 ///

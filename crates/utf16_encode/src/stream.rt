@@ -5,7 +5,7 @@ ghost use Rattle.utf16_units.specs.Encoding.{encode, size};
 ghost use Rattle.utf8_bytes.specs.Split.{IsTail, decided_text, whole_lossy_chars};
 ghost use Rattle.utf16_encode.specs.Utf8Stream.{FeedsUtf8, StopsFeedingUtf8};
 ghost use Rattle.utf16_decode.specs.Stream.{stream_pending};
-ghost use Rattle.utf16_decode.specs.declared.progress.Stop.TheVariants.{Done, NoRoom};
+ghost use Rattle.utf16_decode.specs.declared.progress.Stop.TheVariants.{Done, NoSpace};
 
 use crate::utf16::FromUtf8;
 use utf16_decode::{Progress, Stream};
@@ -17,7 +17,7 @@ use utf16_units::Utf16Order;
 /// taken. The byte order is one for all chunks of a stream.
 ///
 /// With `Done` all of the chunk was taken, and what more bytes could change is pending. With
-/// `NoRoom` the next character does not fit: call again with the rest of the chunk and more
+/// `NoSpace` the next character does not fit: call again with the rest of the chunk and more
 /// space. Fewer than four bytes of the buffer are left then, so into a buffer of four bytes or
 /// more something was written. In a stream whose fields only `new` and `feed` set,
 /// `2 * piece.len() + 2` bytes of space suffice for `Done`; with any fields, two bytes for each
@@ -35,7 +35,7 @@ pub fn feed_utf8<E: Utf16Order>(stream: &mut Stream, piece: &[u8], to: &mut [u8]
         result.stop }
     ensures done { (result.stop ≡ Done)
         ↔ (size (decided_text (stream_pending stream.old ++ piece.now)) ≤ length to.new) }
-    ensures filled { result.stop ≡ NoRoom → length to.new < result.written + 4 }
+    ensures filled { result.stop ≡ NoSpace → length to.new < result.written + 4 }
     ensures few { stream.new.len ≤ 3 }
     ensures tail { IsTail (stream_pending stream.old)
         → IsTail (stream_pending stream.new) }
@@ -48,7 +48,7 @@ pub fn feed_utf8<E: Utf16Order>(stream: &mut Stream, piece: &[u8], to: &mut [u8]
 }
 
 /// Ends the stream: writes U+FFFD in UTF-16 to the start of a buffer if bytes are pending, and
-/// nothing if not. No bytes are pending then. With `NoRoom` the buffer has fewer than two
+/// nothing if not. No bytes are pending then. With `NoSpace` the buffer has fewer than two
 /// bytes, and nothing changed. `read` is 0. Bytes of the buffer after the written ones stay.
 pub fn finish_utf8<E: Utf16Order>(stream: &mut Stream, to: &mut [u8]) -> Progress
     ensures read { result.read ≡ 0 }
@@ -60,7 +60,7 @@ pub fn finish_utf8<E: Utf16Order>(stream: &mut Stream, to: &mut [u8]) -> Progres
     ensures within { result.written ≤ length to.new }
     ensures rest { drop result.written to.new ≡ drop result.written to.old }
     ensures pending { result.stop ≡ Done → stream_pending stream.new ≡ [] }
-    ensures no_room { result.stop ≢ Done → (result.stop ≡ NoRoom) × (result.written ≡ 0) }
+    ensures no_space { result.stop ≢ Done → (result.stop ≡ NoSpace) × (result.written ≡ 0) }
     ensures unchanged { result.stop ≢ Done → (stream.new ≡ stream.old) × (to.new ≡ to.old) }
 {
     stream.finish::<FromUtf8<E>>(to)

@@ -14,7 +14,7 @@ pub returns-clause-succeeds : goal.returns-clause-succeeds
 returns-clause-succeeds c enough =
     let text = lossy_text (is_big c.args.byte_order) in
     let to = c.if-is_big_endian.to in
-    let r = c.conversion_of.result in
+    let r = c.progress_of.result in
     let shows : ShowsWhole text encode_utf8 c.args.utf16.now to r.read r.written = search rules in
     let stops : StopsLossyWhole text encode_utf8 (drop r.read c.args.utf16.now) (length to - r.written) (stop_of r.status r.error_len) = search rules in
     let most = lossy_within (is_big c.args.byte_order) c.args.utf16.now (λ k. omega (arith, c.type_inv.utf16 k)) in

@@ -36,7 +36,7 @@ fn add_progress(answer: &mut Answer, progress: Progress) {
             answer.number(len as usize);
         }
         Stop::Incomplete => answer.word("incomplete"),
-        Stop::NoRoom => answer.word("no_space"),
+        Stop::NoSpace => answer.word("no_space"),
     }
 }
 

@@ -1,5 +1,5 @@
 use Rattle.std.proofs.Common.{◌≡◌, ◌⊎◌, ◌≤◌, inl, inr, [], ◌++◌, length, drop, refl, rules}
-use Rattle.utf16_decode.specs.declared.progress.Stop.TheVariants.{NoRoom}
+use Rattle.utf16_decode.specs.declared.progress.Stop.TheVariants.{NoSpace}
 use Rattle.utf16_decode.proofs.StreamSteps.{DecodesTo-window, piece_joined, start_joined, start_stops, stops_window}
 use Rattle.utf16_decode.proofs.stream.decode_joined.Goals as goal
 use Rattle.utf16_decode.proofs.stream.decode_joined.Goals.{then-front-eq0-via-else-front-eq0+then-eq, then-front-eq0-via-then-front-eq0}
@@ -12,7 +12,7 @@ returns-then-front-eq0-clause-decodes g c =
 pub returns-then-front-eq0-clause-stop : goal.returns-then-front-eq0-clause-stop
 returns-then-front-eq0-clause-stop g c =
     let within : c.loop-read.read ≤ length c.args.pending.now = search rules in
-    let why : (c.transcode_partial-front.result.stop ≡ NoRoom) ⊎ (drop 4 (drop c.loop-read.read (c.args.pending.now ++ c.args.piece.now)) ≡ []) =
+    let why : (c.transcode_partial-front.result.stop ≡ NoSpace) ⊎ (drop 4 (drop c.loop-read.read (c.args.pending.now ++ c.args.piece.now)) ≡ []) =
     elim c.then-front-eq0.branch [
       | then-front-eq0-via-then-front-eq0 w ↦
           let none : c.transcode_partial-front.result.read ≡ 0 = search rules in

@@ -5,10 +5,10 @@ use Rattle.utf16_decode.proofs.stream.feed_after.Given.{Over}
 use Rattle.utf16_decode.proofs.stream.feed_after.Goals as goal
 use Rattle.utf16_decode.proofs.stream.feed_after.Goals.{After-joined_start-len}
 
-pub returns-in-NoRoom : goal.returns-in-NoRoom
-returns-in-NoRoom g c =
+pub returns-in-NoSpace : goal.returns-in-NoSpace
+returns-in-NoSpace g c =
     let front = c.decode_joined-front.ensures.decodes in
-    let full = subst (StopsLossyAs g.D.LossyDirection.parts _ _ _) c.in-NoRoom.is c.decode_joined-front.ensures.stop in
+    let full = subst (StopsLossyAs g.D.LossyDirection.parts _ _ _) c.in-NoSpace.is c.decode_joined-front.ensures.stop in
     let read = ap (λ r. length c.args.piece.now - length r) c.rest_of.ensures.piece in
     let left = c.holding.ensures.pending ∙ c.rest_of.ensures.left in
     record {
@@ -24,7 +24,7 @@ module _ (g : Over) (c : After-joined_start-len g) where
   rest = drop c.decode_joined-front.result.read (c.args.pending.now ++ c.args.piece.now)
 
   undecided : g.D.LossyDirection.parts.tail rest ≡ rest
-  undecided = rest_undecided g.D.LossyDirection.parts _ c.lossy_laws.ensures.chunks _ _ c.decode_joined-front.result.stop c.in_default.not-NoRoom c.decode_joined-front.ensures.stop
+  undecided = rest_undecided g.D.LossyDirection.parts _ c.lossy_laws.ensures.chunks _ _ c.decode_joined-front.result.stop c.in_default.not-NoSpace c.decode_joined-front.ensures.stop
 
   both : c.rest_of.result.0.now ++ c.rest_of.result.1.now ≡ rest
   both = ap₂ (λ h p. h ++ p) c.rest_of.ensures.left c.rest_of.ensures.piece ∙ join_drop c.args.pending.now c.args.piece.now c.decode_joined-front.result.read
