@@ -1,11 +1,11 @@
-//! Characters of at most two, three or four bytes, a block of sixty-four or of sixteen bytes at a
-//! time.
+//! Characters of at most two, three or four bytes, a block of sixty-four bytes at a time.
 
 ghost use Rattle.std.specs.Prelude.{◌≡◌, ◌+◌, ◌-◌, ◌*◌, ◌%◌, ◌<◌, ◌≤◌, ◌++◌, ◌↔◌, IsTrue, ℕ, drop, length, slice_index, take};
 ghost use Rattle.utf16_from_utf8.specs.Added.{added_bytes};
 ghost use Rattle.utf16_from_utf8.specs.Follow.{AreBefore, AreBelow, AreUsed, FollowTo, Follows, IsBlock, limit_of};
 ghost use Rattle.utf16_from_utf8.specs.Written.{IsWritten};
 
+use crate::cursor::Cursor;
 use crate::faults::faults;
 use crate::lanes::{greater, previous_lanes};
 use crate::limits::are_below;
@@ -19,48 +19,51 @@ use utf16_units::Utf16Order;
 pub(crate) fn write_block<E: Utf16Order, const MOST: usize>(
     bytes: &[u8],
     out: &mut [u8],
-    read: usize,
-    written: usize,
-) -> (usize, usize)
-    requires space { written + 128 ≤ length out.old }
-    requires more { read + 64 ≤ length bytes.now }
-    requires below { AreBelow 64 bytes.now read (limit_of MOST) }
-    requires written { IsWritten E.BIG bytes.now out.old read written }
-    ensures written { IsWritten E.BIG bytes.now out.new result.0 result.1 }
-    ensures advances { read ≤ result.0 }
-    ensures stop { result.0 ≡ read → ¬ (IsBlock bytes.now read) }
+    from: Cursor,
+) -> Cursor
+    requires space { from.written + 128 ≤ length out.old }
+    requires more { from.read + 64 ≤ length bytes.now }
+    requires below { AreBelow 64 bytes.now from.read (limit_of MOST) }
+    requires written { IsWritten E.BIG bytes.now out.old from.read from.written }
+    ensures written { IsWritten E.BIG bytes.now out.new result.read result.written }
+    ensures advances { from.read ≤ result.read }
+    ensures stop { result.read ≡ from.read → ¬ (IsBlock bytes.now from.read) }
 {
-    if !are_well_formed::<MOST>(bytes, read) {
-        return (read, written);
+    if !are_well_formed::<MOST>(bytes, from.read) {
+        return from;
     }
-    write_well_formed::<E, MOST, 64>(bytes, out, read, written)
+    write_well_formed::<E, MOST>(bytes, out, from)
 }
 
-// Writes the next `LEN` bytes, which begin a well-formed text, but not those at the end that begin
-// a character and do not end it.
+// Writes the next sixty-four bytes, which begin a well-formed text, but not those at the end that
+// begin a character and do not end it.
 #[inline(always)]
-pub(crate) fn write_well_formed<E: Utf16Order, const MOST: usize, const LEN: usize>(
+fn write_well_formed<E: Utf16Order, const MOST: usize>(
     bytes: &[u8],
     out: &mut [u8],
-    read: usize,
-    written: usize,
-) -> (usize, usize)
-    requires len { (16 ≤ LEN) × (LEN % 16 ≡ 0) }
-    requires space { written + 2 * LEN ≤ length out.old }
-    requires more { read + LEN ≤ length bytes.now }
-    requires below { AreBelow LEN bytes.now read (limit_of MOST) }
-    requires follow { FollowTo LEN bytes.now read }
-    requires written { IsWritten E.BIG bytes.now out.old read written }
-    ensures written { IsWritten E.BIG bytes.now out.new result.0 result.1 }
-    ensures advances { read < result.0 }
+    from: Cursor,
+) -> Cursor
+    requires space { from.written + 128 ≤ length out.old }
+    requires more { from.read + 64 ≤ length bytes.now }
+    requires below { AreBelow 64 bytes.now from.read (limit_of MOST) }
+    requires follow { FollowTo 64 bytes.now from.read }
+    requires written { IsWritten E.BIG bytes.now out.old from.read from.written }
+    ensures written { IsWritten E.BIG bytes.now out.new result.read result.written }
+    ensures advances { from.read < result.read }
 {
-    let end = write_all::<E, MOST, LEN>(bytes, out, read, written);
-    let used = used::<MOST, LEN>(bytes, read);
-    if used + 3 == LEN {
+    let end = write_all::<E, MOST>(bytes, out, from);
+    let used = used::<MOST>(bytes, from.read);
+    if used + 3 == 64 {
         // Three bytes of a character have added its leading surrogate.
-        (read + used, end - 2)
+        Cursor {
+            read: from.read + used,
+            written: end - 2,
+        }
     } else {
-        (read + used, end)
+        Cursor {
+            read: from.read + used,
+            written: end,
+        }
     }
 }
 
@@ -109,28 +112,23 @@ fn faults_at<const MOST: usize>(bytes: &[u8], at: usize) -> u8x16
     faults::<MOST>(b3, b2, b1, u8x16::from_slice(&bytes[at..]))
 }
 
-// Writes all that the next `LEN` bytes add, which begin a well-formed text.
+// Writes all that the next sixty-four bytes add, which begin a well-formed text.
 #[inline(always)]
-pub(crate) fn write_all<E: Utf16Order, const MOST: usize, const LEN: usize>(
-    bytes: &[u8],
-    out: &mut [u8],
-    read: usize,
-    written: usize,
-) -> usize
-    requires len { (16 ≤ LEN) × (LEN % 16 ≡ 0) }
-    requires more { read + LEN ≤ length bytes.now }
-    requires space { written + 2 * LEN ≤ length out.old }
-    requires below { AreBelow LEN bytes.now read (limit_of MOST) }
-    requires follow { FollowTo LEN bytes.now read }
-    ensures bytes { take result out.new ≡ take written out.old
-        ++ added_bytes E.BIG 0 0 (take LEN (drop read bytes.now)) }
-    ensures written_to { result ≤ written + 2 * LEN }
+fn write_all<E: Utf16Order, const MOST: usize>(bytes: &[u8], out: &mut [u8], from: Cursor) -> usize
+    requires more { from.read + 64 ≤ length bytes.now }
+    requires space { from.written + 128 ≤ length out.old }
+    requires below { AreBelow 64 bytes.now from.read (limit_of MOST) }
+    requires follow { FollowTo 64 bytes.now from.read }
+    ensures bytes { take result out.new ≡ take from.written out.old
+        ++ added_bytes E.BIG 0 0 (take 64 (drop from.read bytes.now)) }
+    ensures written_to { result ≤ from.written + 128 }
 {
+    let read = from.read;
     let first = u8x16::from_slice(&bytes[read..]);
     let (b2, b1) = before(first, 0, 0);
-    let mut end = write_sixteen::<E, MOST>(out, written, b2, b1, first);
+    let mut end = write_sixteen::<E, MOST>(out, from.written, b2, b1, first);
     let mut k = 16;
-    while k < LEN {
+    while k < 64 {
         let (b2, b1) = before_at(bytes, read + k);
         let block = u8x16::from_slice(&bytes[read + k..]);
         end = write_sixteen::<E, MOST>(out, end, b2, b1, block);
@@ -162,58 +160,54 @@ pub(crate) fn before_at(bytes: &[u8], at: usize) -> (u8x16, u8x16)
     )
 }
 
-// How many of the next `LEN` bytes are of characters that end among them.
+// How many of the next sixty-four bytes are of characters that end among them.
 #[inline(always)]
-fn used<const MOST: usize, const LEN: usize>(bytes: &[u8], at: usize) -> usize
-    requires some { 3 ≤ LEN }
-    requires more { at + LEN ≤ length bytes.now }
-    requires below { AreBelow LEN bytes.now at (limit_of MOST) }
-    ensures { AreUsed LEN bytes.now at result }
+fn used<const MOST: usize>(bytes: &[u8], at: usize) -> usize
+    requires more { at + 64 ≤ length bytes.now }
+    requires below { AreBelow 64 bytes.now at (limit_of MOST) }
+    ensures { AreUsed 64 bytes.now at result }
 {
     if MOST == 2 {
-        return used_of_two::<LEN>(bytes, at);
+        return used_of_two(bytes, at);
     }
     if MOST == 3 {
-        return used_of_three::<LEN>(bytes, at);
+        return used_of_three(bytes, at);
     }
-    used_of_four::<LEN>(bytes, at)
+    used_of_four(bytes, at)
 }
 
 #[inline(always)]
-fn used_of_two<const LEN: usize>(bytes: &[u8], at: usize) -> usize
-    requires some { 3 ≤ LEN }
-    requires more { at + LEN ≤ length bytes.now }
-    requires no_four { slice_index bytes.now (at + (LEN - 3)) < 0xF0 }
-    requires no_three { slice_index bytes.now (at + (LEN - 2)) < 0xE0 }
-    ensures { AreUsed LEN bytes.now at result }
+fn used_of_two(bytes: &[u8], at: usize) -> usize
+    requires more { at + 64 ≤ length bytes.now }
+    requires no_four { slice_index bytes.now (at + 61) < 0xF0 }
+    requires no_three { slice_index bytes.now (at + 62) < 0xE0 }
+    ensures { AreUsed 64 bytes.now at result }
 {
-    if bytes[at + (LEN - 1)] >= 0xC0 {
-        return LEN - 1;
+    if bytes[at + 63] >= 0xC0 {
+        return 63;
     }
-    LEN
+    64
 }
 
 #[inline(always)]
-fn used_of_three<const LEN: usize>(bytes: &[u8], at: usize) -> usize
-    requires some { 3 ≤ LEN }
-    requires more { at + LEN ≤ length bytes.now }
-    requires no_four { slice_index bytes.now (at + (LEN - 3)) < 0xF0 }
-    ensures { AreUsed LEN bytes.now at result }
+fn used_of_three(bytes: &[u8], at: usize) -> usize
+    requires more { at + 64 ≤ length bytes.now }
+    requires no_four { slice_index bytes.now (at + 61) < 0xF0 }
+    ensures { AreUsed 64 bytes.now at result }
 {
-    if bytes[at + (LEN - 2)] >= 0xE0 {
-        return LEN - 2;
+    if bytes[at + 62] >= 0xE0 {
+        return 62;
     }
-    used_of_two::<LEN>(bytes, at)
+    used_of_two(bytes, at)
 }
 
 #[inline(always)]
-fn used_of_four<const LEN: usize>(bytes: &[u8], at: usize) -> usize
-    requires some { 3 ≤ LEN }
-    requires more { at + LEN ≤ length bytes.now }
-    ensures { AreUsed LEN bytes.now at result }
+fn used_of_four(bytes: &[u8], at: usize) -> usize
+    requires more { at + 64 ≤ length bytes.now }
+    ensures { AreUsed 64 bytes.now at result }
 {
-    if bytes[at + (LEN - 3)] >= 0xF0 {
-        return LEN - 3;
+    if bytes[at + 61] >= 0xF0 {
+        return 61;
     }
-    used_of_three::<LEN>(bytes, at)
+    used_of_three(bytes, at)
 }

@@ -6,6 +6,7 @@ ghost use Rattle.utf16_from_utf8.specs.Written.{IsWritten};
 
 use crate::ascii::write_ascii;
 use crate::block::write_block;
+use crate::cursor::Cursor;
 use crate::fours::write_fours;
 use crate::limits::{are_below, greatest};
 use crate::threes::write_threes;
@@ -37,109 +38,100 @@ pub fn write_blocks<E: Utf16Order>(bytes: &[u8], out: &mut [u8]) -> (usize, usiz
     if out.len() - 2 * len < 2 * BLOCK_LEN {
         return (len, 2 * len);
     }
-    write_mixed_blocks::<E>(bytes, out, len)
+    let ascii = Cursor {
+        read: len,
+        written: 2 * len,
+    };
+    let end = write_mixed_blocks::<E>(bytes, out, ascii);
+    (end.read, end.written)
 }
 
 // Writes blocks of all kinds after some ASCII. A function of its own, so that short texts do
 // not pay for its registers.
 #[inline(never)]
-fn write_mixed_blocks<E: Utf16Order>(bytes: &[u8], out: &mut [u8], len: usize) -> (usize, usize)
-    requires { IsWritten E.BIG bytes.now out.old len (2 * len) }
-    ensures written { IsWritten E.BIG bytes.now out.new result.0 result.1 }
-    ensures stop { IsBlock bytes.now result.0 → length out.new < result.1 + 128 }
+fn write_mixed_blocks<E: Utf16Order>(bytes: &[u8], out: &mut [u8], from: Cursor) -> Cursor
+    requires { IsWritten E.BIG bytes.now out.old from.read from.written }
+    ensures written { IsWritten E.BIG bytes.now out.new result.read result.written }
+    ensures stop { IsBlock bytes.now result.read → length out.new < result.written + 128 }
 {
-    let mut read = len;
-    let mut written = 2 * len;
-    while bytes.len() - read >= BLOCK_LEN {
-        if out.len() - written < 2 * BLOCK_LEN {
+    let mut cursor = from;
+    while bytes.len() - cursor.read >= BLOCK_LEN {
+        if out.len() - cursor.written < 2 * BLOCK_LEN {
             break;
         }
-        let (next, end) = write_next::<E>(bytes, out, read, written);
-        let stays = next == read;
-        read = next;
-        written = end;
+        let next = write_next::<E>(bytes, out, cursor);
+        let stays = next.read == cursor.read;
+        cursor = next;
         if stays {
             break;
         }
     }
-    (read, written)
+    cursor
 }
 
 // Writes at least the next block, or nothing if it is ill formed. Returns where the bytes after
 // those read begin, and where what was written ends.
 #[inline(always)]
-fn write_next<E: Utf16Order>(
-    bytes: &[u8],
-    out: &mut [u8],
-    read: usize,
-    written: usize,
-) -> (usize, usize)
-    requires space { written + 128 ≤ length out.old }
-    requires more { read + 64 ≤ length bytes.now }
-    requires written { IsWritten E.BIG bytes.now out.old read written }
-    ensures written { IsWritten E.BIG bytes.now out.new result.0 result.1 }
-    ensures advances { read ≤ result.0 }
-    ensures stop { result.0 ≡ read → ¬ (IsBlock bytes.now read) }
+fn write_next<E: Utf16Order>(bytes: &[u8], out: &mut [u8], from: Cursor) -> Cursor
+    requires space { from.written + 128 ≤ length out.old }
+    requires more { from.read + 64 ≤ length bytes.now }
+    requires written { IsWritten E.BIG bytes.now out.old from.read from.written }
+    ensures written { IsWritten E.BIG bytes.now out.new result.read result.written }
+    ensures advances { from.read ≤ result.read }
+    ensures stop { result.read ≡ from.read → ¬ (IsBlock bytes.now from.read) }
 {
-    let greatest = greatest(bytes, read);
+    let greatest = greatest(bytes, from.read);
     if are_below(greatest, 0x80) {
-        return write_ascii_run::<E>(bytes, out, read, written);
+        return write_ascii_run::<E>(bytes, out, from);
     }
     if are_below(greatest, 0xE0) {
-        return write_block::<E, 2>(bytes, out, read, written);
+        return write_block::<E, 2>(bytes, out, from);
     }
-    let (next, end) = write_run::<E>(bytes, out, read, written);
-    if next > read {
-        return (next, end);
+    let next = write_run::<E>(bytes, out, from);
+    if next.read > from.read {
+        return next;
     }
     if are_below(greatest, 0xF0) {
-        return write_block::<E, 3>(bytes, out, next, end);
+        return write_block::<E, 3>(bytes, out, next);
     }
-    write_block::<E, 4>(bytes, out, next, end)
+    write_block::<E, 4>(bytes, out, next)
 }
 
 // Writes the next characters of three or of four bytes, whichever the first has, several at a time.
 #[inline(always)]
-fn write_run<E: Utf16Order>(
-    bytes: &[u8],
-    out: &mut [u8],
-    read: usize,
-    written: usize,
-) -> (usize, usize)
-    requires space { written + 128 ≤ length out.old }
-    requires more { read + 64 ≤ length bytes.now }
-    requires written { IsWritten E.BIG bytes.now out.old read written }
-    ensures written { IsWritten E.BIG bytes.now out.new result.0 result.1 }
-    ensures advances { read ≤ result.0 }
-    ensures stays { result.0 ≡ read → result.1 ≡ written }
+fn write_run<E: Utf16Order>(bytes: &[u8], out: &mut [u8], from: Cursor) -> Cursor
+    requires space { from.written + 128 ≤ length out.old }
+    requires more { from.read + 64 ≤ length bytes.now }
+    requires written { IsWritten E.BIG bytes.now out.old from.read from.written }
+    ensures written { IsWritten E.BIG bytes.now out.new result.read result.written }
+    ensures advances { from.read ≤ result.read }
+    ensures stays { result.read ≡ from.read → result.written ≡ from.written }
 {
-    let first = bytes[read];
+    let first = bytes[from.read];
     if first < 0xE0 {
-        return (read, written);
+        return from;
     }
     if first < 0xF0 {
-        return write_threes::<E>(bytes, out, read, written);
+        return write_threes::<E>(bytes, out, from);
     }
-    write_fours::<E>(bytes, out, read, written)
+    write_fours::<E>(bytes, out, from)
 }
 
 // Writes the next blocks of ASCII.
 #[inline(always)]
-fn write_ascii_run<E: Utf16Order>(
-    bytes: &[u8],
-    out: &mut [u8],
-    read: usize,
-    written: usize,
-) -> (usize, usize)
-    requires space { written + 128 ≤ length out.old }
-    requires more { read + 64 ≤ length bytes.now }
-    requires ascii { AreBelow 64 bytes.now read 0x80 }
-    requires written { IsWritten E.BIG bytes.now out.old read written }
-    ensures written { IsWritten E.BIG bytes.now out.new result.0 result.1 }
-    ensures advances { read < result.0 }
+fn write_ascii_run<E: Utf16Order>(bytes: &[u8], out: &mut [u8], from: Cursor) -> Cursor
+    requires space { from.written + 128 ≤ length out.old }
+    requires more { from.read + 64 ≤ length bytes.now }
+    requires ascii { AreBelow 64 bytes.now from.read 0x80 }
+    requires written { IsWritten E.BIG bytes.now out.old from.read from.written }
+    ensures written { IsWritten E.BIG bytes.now out.new result.read result.written }
+    ensures advances { from.read < result.read }
 {
-    let rest = &bytes[read..];
-    let most = rest.len().min((out.len() - written) / 2);
-    let len = write_ascii::<E>(&rest[..most], &mut out[written..]);
-    (read + len, written + 2 * len)
+    let rest = &bytes[from.read..];
+    let most = rest.len().min((out.len() - from.written) / 2);
+    let len = write_ascii::<E>(&rest[..most], &mut out[from.written..]);
+    Cursor {
+        read: from.read + len,
+        written: from.written + 2 * len,
+    }
 }

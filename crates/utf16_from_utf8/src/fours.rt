@@ -6,6 +6,7 @@ ghost use Rattle.std.specs.Str.{IsUtf8};
 ghost use Rattle.utf16_from_utf8.specs.Added.{added_bytes};
 ghost use Rattle.utf16_from_utf8.specs.Written.{IsWritten};
 
+use crate::cursor::Cursor;
 use crate::lanes::{down, each, masked, sum, up};
 use crate::limits::are_below;
 use crate::pack::paired;
@@ -24,22 +25,17 @@ const UPPER_OF_FOURS: [u8; 16] = [
 
 // Writes the next characters of four bytes, four at a time.
 #[inline(always)]
-pub(crate) fn write_fours<E: Utf16Order>(
-    bytes: &[u8],
-    out: &mut [u8],
-    from: usize,
-    end: usize,
-) -> (usize, usize)
-    requires { IsWritten E.BIG bytes.now out.old from end }
-    ensures written { IsWritten E.BIG bytes.now out.new result.0 result.1 }
-    ensures advances { from ≤ result.0 }
-    ensures stays { result.0 ≡ from → result.1 ≡ end }
+pub(crate) fn write_fours<E: Utf16Order>(bytes: &[u8], out: &mut [u8], from: Cursor) -> Cursor
+    requires { IsWritten E.BIG bytes.now out.old from.read from.written }
+    ensures written { IsWritten E.BIG bytes.now out.new result.read result.written }
+    ensures advances { from.read ≤ result.read }
+    ensures stays { result.read ≡ from.read → result.written ≡ from.written }
 {
     // Four characters of four bytes take as many bytes in UTF-16.
-    let most = (bytes.len() - from).min(out.len() - end);
-    let last = from + most / 16 * 16;
-    let mut read = from;
-    let mut written = end;
+    let most = (bytes.len() - from.read).min(out.len() - from.written);
+    let last = from.read + most / 16 * 16;
+    let mut read = from.read;
+    let mut written = from.written;
     while read < last {
         let block = u8x16::from_slice(&bytes[read..]);
         if !are_characters(block) {
@@ -48,7 +44,7 @@ pub(crate) fn write_fours<E: Utf16Order>(
         written = write_fours_block::<E>(out, written, block);
         read += 16;
     }
-    (read, written)
+    Cursor { read, written }
 }
 
 // Writes four characters of four bytes: two units for each, that of its first three bytes and that

@@ -6,6 +6,7 @@ mod append;
 mod ascii;
 mod block;
 mod blocks;
+mod cursor;
 mod faults;
 mod few;
 mod fours;

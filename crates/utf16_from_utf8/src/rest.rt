@@ -8,6 +8,7 @@ ghost use Rattle.utf16_from_utf8.specs.Follow.{AreBefore, FollowAnyLanes, Follow
 ghost use Rattle.utf16_from_utf8.specs.Written.{IsWritten};
 
 use crate::block::{before, before_at};
+use crate::cursor::Cursor;
 use crate::lanes::{greater, previous_lanes};
 use crate::limits::are_below;
 use crate::pack::{paired, write_eight};
@@ -20,20 +21,17 @@ use utf16_units::Utf16Order;
 
 // Writes the rest of a text of more than sixteen bytes, after what was written of it.
 #[inline(never)]
-pub(crate) fn write_rest<E: Utf16Order>(
-    text: &[u8],
-    out: &mut [u8],
-    from: usize,
-    end: usize,
-) -> usize
+pub(crate) fn write_rest<E: Utf16Order>(text: &[u8], out: &mut [u8], from: Cursor) -> usize
     requires well_formed { IsUtf8 text.now }
     requires some { 16 < length text.now }
     requires space { 2 * length text.now + SLACK ≤ length out.old }
-    requires written { IsWritten E.BIG text.now out.old from end }
+    requires written { IsWritten E.BIG text.now out.old from.read from.written }
     ensures bytes { take result out.new ≡ encode E.BIG (chars text.now) }
     ensures written_to { result ≤ 2 * length text.now }
 {
-    let (mut read, mut written) = write_begun::<E>(text, out, from, end);
+    let begun = write_begun::<E>(text, out, from);
+    let mut read = begun.read;
+    let mut written = begun.written;
     while text.len() - read >= 16 {
         written = write_next::<E>(text, out, read, written);
         read += 16;
@@ -46,26 +44,25 @@ pub(crate) fn write_rest<E: Utf16Order>(
 
 // Goes on with characters of three bytes, until at least sixteen bytes are written.
 #[inline(always)]
-fn write_begun<E: Utf16Order>(
-    text: &[u8],
-    out: &mut [u8],
-    from: usize,
-    end: usize,
-) -> (usize, usize)
+fn write_begun<E: Utf16Order>(text: &[u8], out: &mut [u8], from: Cursor) -> Cursor
     requires well_formed { IsUtf8 text.now }
     requires some { 16 < length text.now }
     requires space { 2 * length text.now + SLACK ≤ length out.old }
-    requires written { IsWritten E.BIG text.now out.old from end }
-    ensures bytes { take result.1 out.new ≡ added_bytes E.BIG 0 0 (take result.0 text.now) }
-    ensures some { 16 ≤ result.0 }
-    ensures within { result.0 ≤ length text.now }
-    ensures written_to { result.1 ≤ 2 * result.0 }
+    requires written { IsWritten E.BIG text.now out.old from.read from.written }
+    ensures bytes { take result.written out.new
+        ≡ added_bytes E.BIG 0 0 (take result.read text.now) }
+    ensures some { 16 ≤ result.read }
+    ensures within { result.read ≤ length text.now }
+    ensures written_to { result.written ≤ 2 * result.read }
 {
-    let (read, written) = write_threes::<E>(text, out, from, end);
-    if read >= 16 {
-        return (read, written);
+    let next = write_threes::<E>(text, out, from);
+    if next.read >= 16 {
+        return next;
     }
-    (16, write_first::<E>(text, out))
+    Cursor {
+        read: 16,
+        written: write_first::<E>(text, out),
+    }
 }
 
 // Writes the first sixteen bytes, and returns where what was written ends.

@@ -5,6 +5,7 @@ ghost use Rattle.std.specs.Str.{IsUtf8, chars};
 ghost use Rattle.utf16_units.specs.Encoding.{encode};
 
 use crate::blocks::write_blocks;
+use crate::cursor::Cursor;
 use crate::few::write_few;
 use crate::rest::write_rest;
 use crate::short::write_short;
@@ -45,7 +46,7 @@ fn write_whole<E: Utf16Order>(text: &[u8], out: &mut [u8]) -> usize
     ensures bytes { take result out.new ≡ encode E.BIG (chars text.now) }
     ensures written_to { result ≤ 2 * length text.now }
 {
-    if text.len() <= FEW_TEXT {
+    if text.len() < FEW_TEXT {
         return write_few::<E>(unsafe { str::from_utf8_unchecked(text) }, out);
     }
     if text.len() <= 16 {
@@ -55,5 +56,5 @@ fn write_whole<E: Utf16Order>(text: &[u8], out: &mut [u8]) -> usize
     if read == text.len() {
         return written;
     }
-    write_rest::<E>(text, out, read, written)
+    write_rest::<E>(text, out, Cursor { read, written })
 }

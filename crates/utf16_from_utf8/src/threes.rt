@@ -9,6 +9,7 @@ ghost use Rattle.utf16_from_utf8.specs.Added.{added_bytes};
 ghost use Rattle.utf16_from_utf8.specs.Threes.{IsThree, every_third, woven};
 ghost use Rattle.utf16_from_utf8.specs.Written.{IsWritten};
 
+use crate::cursor::Cursor;
 use crate::lanes::{each, greater, masked, sum, where_below};
 use crate::limits::are_below;
 use crate::pack::paired;
@@ -18,19 +19,14 @@ use utf16_units::Utf16Order;
 
 // Writes the next characters of three bytes, sixteen at a time.
 #[inline(always)]
-pub(crate) fn write_threes<E: Utf16Order>(
-    bytes: &[u8],
-    out: &mut [u8],
-    from: usize,
-    end: usize,
-) -> (usize, usize)
-    requires { IsWritten E.BIG bytes.now out.old from end }
-    ensures written { IsWritten E.BIG bytes.now out.new result.0 result.1 }
-    ensures advances { from ≤ result.0 }
-    ensures stays { result.0 ≡ from → result.1 ≡ end }
+pub(crate) fn write_threes<E: Utf16Order>(bytes: &[u8], out: &mut [u8], from: Cursor) -> Cursor
+    requires { IsWritten E.BIG bytes.now out.old from.read from.written }
+    ensures written { IsWritten E.BIG bytes.now out.new result.read result.written }
+    ensures advances { from.read ≤ result.read }
+    ensures stays { result.read ≡ from.read → result.written ≡ from.written }
 {
-    let mut read = from;
-    let mut written = end;
+    let mut read = from.read;
+    let mut written = from.written;
     while bytes.len() - read >= 48 {
         if out.len() - written < 32 {
             break;
@@ -39,10 +35,10 @@ pub(crate) fn write_threes<E: Utf16Order>(
         if !are_characters(firsts, seconds, thirds) {
             break;
         }
-        written = write_sixteen::<E>(out, written, firsts, seconds, thirds);
+        written = write_sixteen_threes::<E>(out, written, firsts, seconds, thirds);
         read += 48;
     }
-    (read, written)
+    Cursor { read, written }
 }
 
 // Whether the bytes are those of sixteen characters of three bytes.
@@ -141,7 +137,7 @@ fn are_sixteen(firsts: u8x16, seconds: u8x16, thirds: u8x16) -> bool
 
 // Writes sixteen characters of three bytes.
 #[inline(always)]
-fn write_sixteen<E: Utf16Order>(
+fn write_sixteen_threes<E: Utf16Order>(
     out: &mut [u8],
     at: usize,
     firsts: u8x16,

@@ -7,26 +7,26 @@ use Rattle.utf16_from_utf8.proofs.block.write_all.Goals as goal
 
 pub write_sixteen-end-requires-clause-follow : goal.write_sixteen-end-requires-clause-follow
 write_sixteen-end-requires-clause-follow g c most =
-    first-lanes (FollowsTwo (limit_of g.row.MOST)) c.args.bytes.now _ _ c.args.read g.row.LEN c.requires.len.0 (follows-two _ _ _ g.row.LEN (limit-some g.row.MOST) most c.requires.below c.requires.follow) c.before-2.ensures
+    first-lanes (FollowsTwo (limit_of g.row.MOST)) c.args.bytes.now _ _ c.args.from.read 64 (omega arith) (follows-two _ _ _ 64 (limit-some g.row.MOST) most c.requires.below c.requires.follow) c.before-2.ensures
 
 pub write_sixteen-end-requires-clause-follow_any : goal.write_sixteen-end-requires-clause-follow_any
-write_sixteen-end-requires-clause-follow_any g c = first-lanes FollowsAny c.args.bytes.now _ _ c.args.read g.row.LEN c.requires.len.0 (follows-any _ _ g.row.LEN c.requires.follow) c.before-2.ensures
+write_sixteen-end-requires-clause-follow_any g c = first-lanes FollowsAny c.args.bytes.now _ _ c.args.from.read 64 (omega arith) (follows-any _ _ 64 c.requires.follow) c.before-2.ensures
 
 pub write_sixteen-end-requires-in-loop-k-clause-follow : goal.write_sixteen-end-requires-in-loop-k-clause-follow
 write_sixteen-end-requires-in-loop-k-clause-follow g c most =
     let now = c.loop-k.invariant in
-    next-lanes (FollowsTwo (limit_of g.row.MOST)) c.args.bytes.now _ _ c.args.read g.row.LEN c.loop-k.k now.some (omega (arith, now.steps, now.most, c.loop-k-test.true, c.requires.len.1))
-    (follows-two _ _ _ g.row.LEN (limit-some g.row.MOST) most c.requires.below c.requires.follow) c.before_at.ensures
+    next-lanes (FollowsTwo (limit_of g.row.MOST)) c.args.bytes.now _ _ c.args.from.read 64 c.loop-k.k now.some (omega (arith, now.steps, now.most, c.loop-k-test.true))
+    (follows-two _ _ _ 64 (limit-some g.row.MOST) most c.requires.below c.requires.follow) c.before_at.ensures
 
 pub write_sixteen-end-requires-in-loop-k-clause-follow_any : goal.write_sixteen-end-requires-in-loop-k-clause-follow_any
 write_sixteen-end-requires-in-loop-k-clause-follow_any g c =
     let now = c.loop-k.invariant in
-    next-lanes FollowsAny c.args.bytes.now _ _ c.args.read g.row.LEN c.loop-k.k now.some (omega (arith, now.steps, now.most, c.loop-k-test.true, c.requires.len.1)) (follows-any _ _ g.row.LEN c.requires.follow) c.before_at.ensures
+    next-lanes FollowsAny c.args.bytes.now _ _ c.args.from.read 64 c.loop-k.k now.some (omega (arith, now.steps, now.most, c.loop-k-test.true)) (follows-any _ _ 64 c.requires.follow) c.before_at.ensures
 
 pub loop-k-init : goal.loop-k-init
 loop-k-init g c = record {
   some = omega arith;
-  most = c.requires.len.0;
+  most = (omega arith);
   steps = refl;
   wrote = c.write_sixteen-end.ensures.bytes 0 0 c.before-2.ensures;
   short = omega (arith, c.write_sixteen-end.ensures.written_to);
@@ -35,12 +35,12 @@ loop-k-init g c = record {
 pub loop-k-preserved : goal.loop-k-preserved
 loop-k-preserved g c =
     let now = c.loop-k.invariant in
-    let most : c.loop-k.k + 16 ≤ g.row.LEN = omega (arith, now.steps, now.most, c.loop-k-test.true, c.requires.len.1) in
+    let most : c.loop-k.k + 16 ≤ 64 = omega (arith, now.steps, now.most, c.loop-k-test.true) in
     record {
       some = omega (arith, now.some);
       most = omega (arith, most);
       steps = omega (arith, now.steps);
-      wrote = written-more g.E.Utf16Order.BIG c.args.bytes.now (take c.args.written c.args.out.now) _ _ c.args.read c.loop-k.k (omega (arith, now.some)) (omega (arith, most, c.requires.more)) now.wrote
+      wrote = written-more g.E.Utf16Order.BIG c.args.bytes.now (take c.args.from.written c.args.out.now) _ _ c.args.from.read c.loop-k.k (omega (arith, now.some)) (omega (arith, most, c.requires.more)) now.wrote
           (c.write_sixteen-end-in-loop-k.ensures.bytes _ _ c.before_at.ensures);
       short = omega (arith, now.short, c.write_sixteen-end-in-loop-k.ensures.written_to);
     }

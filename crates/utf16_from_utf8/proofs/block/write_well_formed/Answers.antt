@@ -8,28 +8,28 @@ overflow_sub-result g c =
     let bytes = c.args.bytes.now in
     let all = c.write_all-end in
     let used = c.used-used in
-    let uses = uses-begun big g.row.LEN c.requires.len.0 bytes c.args.read c.requires.more c.requires.follow used.result c.if-used.true used.ensures in
-    uses-over big g.row.LEN bytes c.args.out.now all.new.out c.args.read c.args.written used.result 2 all.result used.ensures c.requires.more uses
+    let uses = uses-begun big 64 (omega arith) bytes c.args.from.read c.requires.more c.requires.follow used.result c.if-used-eq64.true used.ensures in
+    uses-over big 64 bytes c.args.out.now all.new.out c.args.from.read c.args.from.written used.result 2 all.result used.ensures c.requires.more uses
     (omega (arith, c.requires.space)) (omega (arith, c.requires.space, all.ensures.written_to)) all.ensures.bytes
 
-pub returns-then-used-clause-written : goal.returns-then-used-clause-written
-returns-then-used-clause-written g c =
+pub returns-then-used-eq64-clause-written : goal.returns-then-used-eq64-clause-written
+returns-then-used-eq64-clause-written g c =
     let big = g.E.Utf16Order.BIG in
     let bytes = c.args.bytes.now in
     let all = c.write_all-end in
     let used = c.used-used in
-    let uses = uses-begun big g.row.LEN c.requires.len.0 bytes c.args.read c.requires.more c.requires.follow used.result c.if-used.true used.ensures in
-    uses-written big g.row.LEN bytes c.args.out.now all.new.out c.args.read c.args.written used.result 2 all.result used.ensures c.requires.more uses
+    let uses = uses-begun big 64 (omega arith) bytes c.args.from.read c.requires.more c.requires.follow used.result c.if-used-eq64.true used.ensures in
+    uses-written big 64 bytes c.args.out.now all.new.out c.args.from.read c.args.from.written used.result 2 all.result used.ensures c.requires.more uses
     (omega (arith, c.requires.space)) (omega (arith, c.requires.space, all.ensures.written_to)) all.ensures.bytes
     (all.result - 2) (omega (arith, overflow_sub-result g c)) c.requires.written
 
-pub returns-else-used-clause-written : goal.returns-else-used-clause-written
-returns-else-used-clause-written g c =
+pub returns-else-used-eq64-clause-written : goal.returns-else-used-eq64-clause-written
+returns-else-used-eq64-clause-written g c =
     let big = g.E.Utf16Order.BIG in
     let bytes = c.args.bytes.now in
     let all = c.write_all-end in
     let used = c.used-used in
-    let uses = uses-others big g.row.LEN c.requires.len.0 bytes c.args.read c.requires.more c.requires.follow used.result c.if-used.false used.ensures in
-    uses-written big g.row.LEN bytes c.args.out.now all.new.out c.args.read c.args.written used.result 0 all.result used.ensures c.requires.more uses
+    let uses = uses-others big 64 (omega arith) bytes c.args.from.read c.requires.more c.requires.follow used.result c.if-used-eq64.false used.ensures in
+    uses-written big 64 bytes c.args.out.now all.new.out c.args.from.read c.args.from.written used.result 0 all.result used.ensures c.requires.more uses
     (omega (arith, c.requires.space)) (omega (arith, c.requires.space, all.ensures.written_to)) all.ensures.bytes
     all.result (omega arith) c.requires.written

@@ -7,8 +7,8 @@ returns-then-stays-clause-stop g c block =
     let stays = c.if-stays.true in
     absurd (c.write_next-next.ensures.stop stays (subst (IsBlock c.args.bytes.now) stays block))
 
-pub returns-then-out-written-clause-stop : goal.returns-then-out-written-clause-stop
-returns-then-out-written-clause-stop g c block = omega arith
+pub returns-then-out-cursor-clause-stop : goal.returns-then-out-cursor-clause-stop
+returns-then-out-cursor-clause-stop g c block = omega arith
 
 pub write_next-next-requires-clause-space : goal.write_next-next-requires-clause-space
 write_next-next-requires-clause-space g c = omega arith

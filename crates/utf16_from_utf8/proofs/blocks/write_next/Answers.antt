@@ -10,5 +10,5 @@ write_block-requires-clause-below g c = (c.greatest-greatest.ensures 0xE0).0 (c.
 
 pub write_block-requires-then-are_below-3-clause-below : goal.write_block-requires-then-are_below-3-clause-below
 write_block-requires-then-are_below-3-clause-below g c =
-    let stays : c.args.read ≡ c.write_run-next.result.0 = omega (arith, c.if-next-read.false, c.write_run-next.ensures.advances) in
+    let stays : c.args.from.read ≡ c.write_run-next.result.read = omega (arith, c.if-next-from.false, c.write_run-next.ensures.advances) in
     subst (λ at. AreBelow 64 c.args.bytes.now at 0xF0) stays ((c.greatest-greatest.ensures 0xF0).0 (c.are_below-3.ensures.0 c.if-are_below-3.true))

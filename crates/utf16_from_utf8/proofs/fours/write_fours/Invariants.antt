@@ -5,8 +5,8 @@ use Rattle.utf16_from_utf8.proofs.fours.write_fours.Given as goal
 abbrev pub invariant-loop-read : goal.invariant-loop-read
 invariant-loop-read g l = record {
   done : IsWritten g.E.Utf16Order.BIG l.bytes l.out l.read l.written;
-  advances : l.from ≤ l.read;
-  stays : l.read ≡ l.from → l.written ≡ l.end;
+  advances : l.fn.from.read ≤ l.read;
+  stays : l.read ≡ l.fn.from.read → l.written ≡ l.fn.from.written;
   before : l.read ≤ l.last;
   whole : (l.last - l.read) % 16 ≡ 0;
   space : l.written + (l.last - l.read) ≤ length l.out;

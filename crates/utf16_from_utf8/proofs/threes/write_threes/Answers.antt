@@ -10,7 +10,7 @@ loop-read-preserved g c =
     let bytes = c.args.bytes.now in
     let big = g.E.Utf16Order.BIG in
     let now = c.loop-read.invariant in
-    let wrote = c.write_sixteen-written in
+    let wrote = c.write_sixteen_threes-written in
     let next = take 48 (drop c.loop-read.read bytes) in
     let utf8 = subst IsUtf8 (sym c.in_threes.ensures) (c.are_characters.ensures.well_formed c.if-not-are_characters.false) in
     record {

@@ -5,8 +5,8 @@ use Rattle.utf16_from_utf8.proofs.threes.write_threes.Given as goal
 abbrev pub invariant-loop-read : goal.invariant-loop-read
 invariant-loop-read g l = record {
   done : IsWritten g.E.Utf16Order.BIG l.bytes l.out l.read l.written;
-  advances : l.from ≤ l.read;
-  stays : l.read ≡ l.from → l.written ≡ l.end;
+  advances : l.fn.from.read ≤ l.read;
+  stays : l.read ≡ l.fn.from.read → l.written ≡ l.fn.from.written;
 }
 
 abbrev pub decreases-loop-read : goal.decreases-loop-read

@@ -2,7 +2,7 @@ use Rattle.std.proofs.Common.{◌++◌, take, ap, sym, ◌∙◌, arith, Fits, w
 use Rattle.std.proofs.lemmas.Simd.{Each1-get_or}
 use Rattle.utf16_from_utf8.proofs.BlockLemmas.{both_stored}
 use Rattle.utf16_from_utf8.proofs.ThreesLemmas.{woven-added}
-use Rattle.utf16_from_utf8.proofs.threes.write_sixteen.Goals as goal
+use Rattle.utf16_from_utf8.proofs.threes.write_sixteen_threes.Goals as goal
 
 pub returns-clause-bytes : goal.returns-clause-bytes
 returns-clause-bytes g c b2 b1 =
