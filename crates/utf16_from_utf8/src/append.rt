@@ -74,7 +74,7 @@ fn append_short<E: Utf16Order, A: Allocator>(
     ensures succeeds { vec_len raw.old + size (chars s.now) ≤ vec_capacity raw.old → IsOk result }
     ensures grows { vec_capacity raw.old ≤ vec_capacity raw.new }
 {
-    if s.len() <= FEW_TEXT {
+    if s.len() < FEW_TEXT {
         append_by::<E, A>(raw, s, &mut [0; 2 * FEW_TEXT + SLACK])
     } else {
         append_at_once::<E, A>(raw, s)

@@ -87,7 +87,7 @@ fn make_piece<E: Utf16Order, A: Allocator>(
 ///
 /// # Complexity
 ///
-/// One pass over a text of 9 to 128 bytes, or if `to` has spare capacity of three bytes per code
+/// One pass over a text of 8 to 128 bytes, or if `to` has spare capacity of three bytes per code
 /// unit, else two. Allocates once, and not at all if the spare capacity suffices.
 #[inline]
 pub fn append_utf8<E: Utf16Order, A: Allocator>(
@@ -103,11 +103,11 @@ pub fn append_utf8<E: Utf16Order, A: Allocator>(
     ensures succeeds { string_len to.old + length (utf8_of E.BIG raw.now) ≤ string_capacity to.old
         → IsOk result }
 {
-    if raw.len() > FEW_TEXT && raw.len() <= SHORT_TEXT {
+    if raw.len() >= FEW_TEXT && raw.len() <= SHORT_TEXT {
         return write_short::<E, A>(raw, to);
     }
     reserve_utf8::<E, A>(raw, to)?;
-    if raw.len() <= FEW_TEXT {
+    if raw.len() < FEW_TEXT {
         write_few::<E, A>(raw, to)
     } else {
         write_pieces::<E, A>(raw, to)

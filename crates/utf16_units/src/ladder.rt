@@ -2,7 +2,7 @@
 //! both directions. A text that is appended is first written to a buffer on the stack: only then is
 //! its length known, and a writer may go past its end. A larger buffer takes longer to clear.
 
-/// The most bytes of a text that is converted character by character: it has less than a block.
+/// A text of fewer bytes is converted character by character: it has less than a block.
 pub const FEW_TEXT: usize = 8;
 
 /// The most bytes of a text that is converted at once.

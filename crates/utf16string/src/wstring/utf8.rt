@@ -24,7 +24,7 @@ impl<E: Utf16Order, A: Allocator> WString<E, A> {
     ///
     /// # Complexity
     ///
-    /// One pass over a text of 9 to 128 bytes, else two. Allocates once, for as many bytes as the
+    /// One pass over a text of 8 to 128 bytes, else two. Allocates once, for as many bytes as the
     /// string takes, and not at all for the empty text.
     #[inline]
     pub fn from_str(alloc: A, s: &str) -> Result<Self, AllocError>
@@ -32,7 +32,7 @@ impl<E: Utf16Order, A: Allocator> WString<E, A> {
         ensures nothing { s.now ≡ [] → IsOk result }
         ensures empty { s.now ≡ [] → IfOk result (λ t. wstring_capacity t ≡ 0) }
     {
-        if s.len() <= FEW_TEXT {
+        if s.len() < FEW_TEXT {
             Self::from_few(alloc, s)
         } else if s.len() <= SHORT_TEXT {
             Self::from_short(alloc, s)

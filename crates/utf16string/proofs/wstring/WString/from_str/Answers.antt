@@ -6,7 +6,7 @@ use Rattle.utf16_units.proofs.EncodingLemmas.{size-nil}
 use Rattle.utf16string.specs.WString.{wstring_capacity}
 use Rattle.utf16string.proofs.wstring.WString.from_str.Goals as goal
 
-pub returns-then-s-le-FEW_TEXT-clause-empty : goal.returns-then-s-le-FEW_TEXT-clause-empty
+pub returns-then-s-lt-FEW_TEXT-clause-empty : goal.returns-then-s-lt-FEW_TEXT-clause-empty
 unfolding chars
-returns-then-s-le-FEW_TEXT-clause-empty g c none =
+returns-then-s-lt-FEW_TEXT-clause-empty g c none =
     subst (λ n. IfOk c.from_few.result (λ s. wstring_capacity s ≡ n)) (ap (λ s. size (chars s)) none ∙ size-nil) c.from_few.ensures.exact
