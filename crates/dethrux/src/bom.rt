@@ -11,8 +11,8 @@ const PRESENT: u32 = 1;
 
 const UNDECIDED: u32 = 2;
 
-/// Returns the BOM at the start of a stream, and the byte order: that of the BOM, and big endian
-/// without one. It is undecided if fewer than two bytes have come.
+/// Returns the BOM at the start of a stream, and the byte order that it gives: big endian without a
+/// BOM. It is undecided if fewer than two bytes have come.
 #[unsafe(no_mangle)]
 pub extern "C" fn dethrux_detect_bom(bytes: &[u8]) -> Bom
     ensures incomplete { (result.status ≡ 2) ↔ (length bytes.now < 2) }

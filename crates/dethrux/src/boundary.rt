@@ -40,10 +40,10 @@ pub extern "C" fn dethrux_floor_char_boundary(byte_order: u32, utf16: &[u8], at:
     }
 }
 
-/// Returns the greatest boundary at or before an offset of a file, from the bytes around it alone:
-/// the four from `(at / 2 * 2).saturating_sub(2)` on, or as many as the file has. Where they are
-/// that and the offset is at most the file's length, it is that of `dethrux_floor_char_boundary`
-/// over the whole file; at most three bytes before the offset for any bytes. In constant time.
+/// Returns the greatest boundary at or before an offset of a file, from only the bytes around it:
+/// the four from `(at / 2 * 2).saturating_sub(2)` on, or as many as the file has. If these are the
+/// file's and the offset is at most its length, `dethrux_floor_char_boundary` returns the same over
+/// the whole file. For any bytes it is at most three bytes before the offset. In constant time.
 #[unsafe(no_mangle)]
 pub extern "C" fn dethrux_floor_char_boundary_around(byte_order: u32, around: &[u8], at: u64) -> u64
     ensures near { (around_start at ≤ result) × (result ≤ at) × (at ≤ result + 3) }

@@ -66,7 +66,7 @@ fn validity<E: Utf16Order>(utf16: &[u8]) -> Validity
     validity_of_many::<E>(utf16)
 }
 
-// Does the same. A function of its own, so that short texts do not pay for its frame.
+// Does the same. Kept out of line so that short texts do not pay for its frame.
 #[inline(never)]
 fn validity_of_many<E: Utf16Order>(utf16: &[u8]) -> Validity
     ensures validity { IsValidity E.BIG utf16.now result.valid_up_to
@@ -76,8 +76,8 @@ fn validity_of_many<E: Utf16Order>(utf16: &[u8]) -> Validity
     validity_of(utf16.len(), validate_raw_utf16::<E>(utf16))
 }
 
-/// Returns the number of characters of well-formed bytes; of ill-formed bytes, that of the whole
-/// code units that are not trailing surrogates. One pass.
+/// Returns the number of characters of well-formed bytes, and for ill-formed bytes the number of
+/// whole code units that are not trailing surrogates. One pass.
 #[unsafe(no_mangle)]
 pub extern "C" fn dethrux_count_chars(byte_order: u32, utf16: &[u8]) -> usize
     ensures units { result ≡ length utf16.now / 2 - count_by is_low_surrogate
@@ -124,8 +124,8 @@ pub extern "C" fn dethrux_to_utf8_lossy_len(byte_order: u32, utf16: &[u8]) -> us
 
 /// Converts UTF-16 to UTF-8, up to the first ill-formed sequence or as far as whole characters fit.
 /// An ill-formed sequence and an incomplete character are not read. With status 3 the next
-/// character does not fit, and a call with the rest goes on. The bytes after those written may have
-/// been overwritten. In time linear in what is read.
+/// character does not fit: call again with the rest. The bytes after the written ones may have been
+/// overwritten. In time linear in what is read.
 #[unsafe(no_mangle)]
 pub extern "C" fn dethrux_to_utf8(byte_order: u32, utf16: &[u8], to: &mut [u8]) -> Progress
     ensures wrote { Wrote (TranscodesToUtf8 (is_big byte_order)) utf16.now to.new result.read
@@ -143,8 +143,8 @@ pub extern "C" fn dethrux_to_utf8(byte_order: u32, utf16: &[u8], to: &mut [u8]) 
 
 /// Converts UTF-16 to UTF-8 as `dethrux_to_utf8`, and replaces each unpaired surrogate, and an
 /// incomplete character at the end, by U+FFFD. The status is 0, or 3 if the next character or
-/// U+FFFD does not fit: a call with the rest goes on. It is 0 with a capacity of three bytes for
-/// each code unit, and three for an odd byte at the end.
+/// U+FFFD does not fit: call again with the rest. It is 0 with a capacity of three bytes for each
+/// code unit, and three for an odd byte at the end.
 #[unsafe(no_mangle)]
 pub extern "C" fn dethrux_to_utf8_lossy(byte_order: u32, utf16: &[u8], to: &mut [u8]) -> Progress
     ensures shown { ShowsWhole (lossy_text (is_big byte_order)) encode_utf8 utf16.now to.new
@@ -187,8 +187,8 @@ pub extern "C" fn dethrux_to_utf8_partial(
 
 /// Converts UTF-8 to UTF-16, up to the first ill-formed sequence or as far as whole characters fit.
 /// An ill-formed sequence and an incomplete character are not read. With status 3 the next
-/// character does not fit, and a call with the rest goes on. The bytes after those written may have
-/// been overwritten. In time linear in what is read.
+/// character does not fit: call again with the rest. The bytes after the written ones may have been
+/// overwritten. In time linear in what is read.
 #[unsafe(no_mangle)]
 pub extern "C" fn dethrux_from_utf8(byte_order: u32, utf8: &[u8], to: &mut [u8]) -> Progress
     ensures wrote { Wrote (TranscodesToUtf16 (is_big byte_order)) utf8.now to.new result.read
@@ -206,8 +206,8 @@ pub extern "C" fn dethrux_from_utf8(byte_order: u32, utf8: &[u8], to: &mut [u8])
 
 /// Converts any bytes as UTF-8 to UTF-16, as far as whole characters fit, and replaces each maximal
 /// subpart of an ill-formed subsequence, and an incomplete character at the end, by U+FFFD. The
-/// status is 0, or 3 if the next character or U+FFFD does not fit: a call with the rest goes on.
-/// The bytes after those written may have been overwritten. In time linear in what is read.
+/// status is 0, or 3 if the next character or U+FFFD does not fit: call again with the rest. The
+/// bytes after the written ones may have been overwritten. In time linear in what is read.
 #[unsafe(no_mangle)]
 pub extern "C" fn dethrux_from_utf8_lossy(byte_order: u32, utf8: &[u8], to: &mut [u8]) -> Progress
     ensures shown { ShowsWhole text_of_utf8 (char_bytes (is_big byte_order)) utf8.now to.new

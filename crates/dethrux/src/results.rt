@@ -85,7 +85,7 @@ pub(crate) fn status_of(stop: Stop) -> (u32, u32)
     }
 }
 
-// What C gets of the validator's result for so many bytes.
+// What C gets of the validator's result for `len` bytes.
 #[inline(always)]
 pub(crate) fn validity_of(len: usize, tested: Result<(), Utf16Error>) -> Validity
     ensures valid_up_to { result.valid_up_to ≡ validity_up_to len tested }
