@@ -14,9 +14,9 @@ use utf16_units::Utf16Order;
 /// Writes the ASCII at the start of the bytes in UTF-16 to the start of `out`, and returns how many
 /// bytes it read. For each of them it wrote two bytes.
 ///
-/// Sixteen bytes or more are written as a whole if all are ASCII. Otherwise it writes whole blocks of
-/// sixteen bytes, and stops before the first that has a byte of another character. The other bytes of
-/// `out` stay as they were.
+/// Sixteen bytes or more are written as a whole if all are ASCII. Otherwise it writes whole blocks
+/// of sixteen bytes, and stops before the first that has a byte of another character. The other
+/// bytes of `out` stay as they were.
 ///
 /// # Precondition
 ///
@@ -39,10 +39,14 @@ pub fn write_ascii<E: Utf16Order>(bytes: &[u8], out: &mut [u8]) -> usize
     if bytes.len() < 16 || !is_ascii(u8x16::from_slice(bytes)) {
         return 0;
     }
+    if bytes.len() < 32 {
+        let at = write_narrow_block::<E>(bytes, out, 0);
+        return write_last_block::<E>(bytes, out, at);
+    }
     write_front::<E>(bytes, out)
 }
 
-// Does the same. A function of its own, so that other texts do not pay for a call.
+// The same for many bytes. Kept out of line so that other texts do not pay for a call.
 #[inline(never)]
 fn write_front<E: Utf16Order>(bytes: &[u8], out: &mut [u8]) -> usize
     requires space { 2 * length bytes.now ≤ length out.old }

@@ -46,8 +46,8 @@ pub fn write_blocks<E: Utf16Order>(bytes: &[u8], out: &mut [u8]) -> (usize, usiz
     (end.read, end.written)
 }
 
-// Writes blocks of all kinds after some ASCII. A function of its own, so that short texts do
-// not pay for its registers.
+// Writes blocks of all kinds after some ASCII. Kept out of line so that short texts do not pay for
+// its registers.
 #[inline(never)]
 fn write_mixed_blocks<E: Utf16Order>(bytes: &[u8], out: &mut [u8], from: Cursor) -> Cursor
     requires { IsWritten E.BIG bytes.now out.old from.read from.written }

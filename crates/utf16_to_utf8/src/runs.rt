@@ -1,4 +1,4 @@
-//! Writes the blocks of a text, with a loop of its own for blocks of the same kind that follow each
+//! Writes the blocks of a text, with a separate loop for blocks of the same kind that follow each
 //! other.
 
 ghost use Rattle.std.specs.Prelude.{◌≡◌, ◌+◌, ◌-◌, ◌*◌, ◌/◌, ◌<◌, ◌≤◌, ◌⊎◌, Bool, IfSome, None, drop, false, length, take};

@@ -59,8 +59,8 @@ pub enum Reply<E: Utf16Order, A: Allocator = Global> {
 /// # Errors
 ///
 /// `BadOffset` if the edit is not possible at its offset; `NoMemory` if allocation fails, which it
-/// does not if the result fits in the capacity (but `SplitOff` allocates a string of its own). The
-/// string is unchanged then.
+/// does not if the result fits in the capacity (except that `SplitOff` allocates the string
+/// that it returns). The string is unchanged then.
 ///
 /// # Complexity
 ///

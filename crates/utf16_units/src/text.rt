@@ -10,7 +10,7 @@ use crate::surrogates::trailing_bits;
 use crate::{Utf16Order, is_trailing_surrogate};
 use std::simd::prelude::*;
 
-// The number of bytes of a block. Texts with fewer have loops of their own, without SIMD.
+// The number of bytes of a block. Texts with fewer have loops without SIMD.
 const BLOCK: usize = 64;
 
 /// Returns the number of characters that `raw` encodes.

@@ -52,8 +52,8 @@ fn error_len<E: Utf16Order>(rest: &[u8]) -> Option<u8>
     }
 }
 
-// The length of the longest valid prefix. A function of its own, so that short texts do not pay for
-// its registers. Where the first surrogate is unpaired, pairs are not looked for.
+// The length of the longest valid prefix. Kept out of line so that short texts do not pay for its
+// registers. If the first surrogate is unpaired, pairs are not looked for.
 #[inline(never)]
 fn valid_len<E: Utf16Order>(raw: &[u8]) -> usize
     ensures { IsTextUpTo E.BIG raw.now result }
