@@ -168,11 +168,7 @@ pub extern "C" fn dethrux_to_utf8_lossy(byte_order: u32, utf16: &[u8], to: &mut 
 /// Converts the next chunk of a stream as `dethrux_to_utf8_lossy`, but does not read an incomplete
 /// character at the end, which more bytes may complete: the status is 2 then.
 #[unsafe(no_mangle)]
-pub extern "C" fn dethrux_to_utf8_partial(
-    byte_order: u32,
-    utf16: &[u8],
-    to: &mut [u8],
-) -> Progress
+pub extern "C" fn dethrux_to_utf8_partial(byte_order: u32, utf16: &[u8], to: &mut [u8]) -> Progress
     ensures decodes { DecodesTo (is_big byte_order) utf16.now to.new result.read result.written }
     ensures stop { StopsLossy (is_big byte_order) (drop result.read utf16.now)
         (length to.new - result.written) (stop_of result.status result.error_len) }
