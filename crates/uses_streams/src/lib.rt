@@ -1,5 +1,5 @@
-//! Proved callers that use only public calls: of the decoders, of the laws of the split and of cuts,
-//! and of streams of UTF-8. `headline` states each phrase of the headline.
+//! Proved callers that use only public calls: of the decoders, of the laws of the split and of
+//! cuts, and of streams of UTF-8. `headline` states each phrase of the headline.
 #![tactic(auto)]
 
 pub mod bom;

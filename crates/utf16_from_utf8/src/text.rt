@@ -15,8 +15,8 @@ use utf16_units::ladder::FEW_TEXT;
 /// How many bytes `write_text` needs beside two for each byte of a text.
 pub const SLACK: usize = 16;
 
-/// Writes a text in UTF-16 to the start of `out`, and returns the number of bytes written. The bytes
-/// after those written and before `2 * text.len() + SLACK` may be overwritten.
+/// Writes a text in UTF-16 to the start of `out`, and returns the number of bytes written. The
+/// bytes after those written and before `2 * text.len() + SLACK` may be overwritten.
 ///
 /// # Precondition
 ///

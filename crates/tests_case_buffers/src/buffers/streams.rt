@@ -26,9 +26,9 @@ pub fn pending(alloc: Global, values: &mut Values, answer: &mut Answer) -> Resul
     Ok(())
 }
 
-/// Feeds the chunks in a direction, each to a buffer of the given length in bytes. For each chunk it
-/// adds how far the call came, what it wrote, and what is pending after it; at the end it adds the
-/// same for `finish`. `utf8` says whether UTF-8 is written.
+/// Feeds the chunks in a direction, each to a buffer of the given length in bytes. For each chunk
+/// it adds how far the call came, what it wrote, and what is pending after it; at the end it adds
+/// the same for `finish`. `utf8` says whether UTF-8 is written.
 pub fn feed<E: Utf16Order, D: LossyDirection>(
     alloc: Global,
     values: &mut Values,
