@@ -1,6 +1,6 @@
-//! Characters of three bytes, sixteen at a time. 3 and 16 have no common divisor, so the first bytes
-//! of the characters have different places in their vectors of sixteen, and so have the second and
-//! the third bytes.
+//! Characters of three bytes, sixteen at a time. 3 and 16 have no common divisor, so the first
+//! bytes of the characters have different places in their vectors of sixteen, and so have the
+//! second and the third bytes.
 
 ghost use Rattle.std.specs.Prelude.{◌≡◌, ◌+◌, ◌*◌, ◌<◌, ◌≤◌, ◌⊎◌, ◌++◌, IsTrue, ℕ, drop, length, slice_index, take};
 ghost use Rattle.std.specs.Simd.Lanes.{pick_l};
