@@ -8,7 +8,7 @@ use Rattle.std.specs.List.{flat_map, slice_range}
 use Rattle.std.specs.List.Sorted.{IsSortedBy}
 use Rattle.utf16_streams.specs.Split.{lossy_text}
 use Rattle.utf16_bytes.specs.Boundary.{IsBetween, IsCut}
-use Rattle.utf16_bytes.specs.Parts.{parts, parts_from}
+use Rattle.utf16_units.specs.Cuts.{parts, parts_from}
 
 -- a boundary is in the file or at its end
 pub IsCut-within : (big : Bool) (file : List ℕ) (at : ℕ) → IsCut big file at → at ≤ length file

@@ -2,13 +2,14 @@
 use Rattle.std.proofs.Common.{◌≡◌, ℕ, ◌+◌, ◌-◌, ◌<◌, ◌≤◌, List, ◌∷◌, ◌++◌, length, take, drop, slice_index, refl, sym, ap, ◌∙◌, subst, arith, append-nil, append_assoc}
 use Rattle.std.proofs.lemmas.List.{drop-take, drop_all, drop_more, take_rest}
 use Rattle.std.specs.List.{flat_map, slice_range}
-use Rattle.utf8_bytes.specs.Boundary.{AreCuts, AreCutsFrom, parts_from, parts_of}
+use Rattle.utf16_units.specs.Cuts.{parts, parts_from}
+use Rattle.utf8_bytes.specs.Boundary.{AreCuts, AreCutsFrom}
 use Rattle.utf8_bytes.specs.Split.{lossy_text}
 use Rattle.uses_streams.proofs.Utf8Cuts.{IsCut-within}
 
 -- after k parts, up to an offset: their text follows the old one, and the ends ascend from there
 pub record Joined (bytes ends old : List ℕ) (k from : ℕ) (text : List ℕ) : Type 0 where
-  pub rest : old ++ flat_map lossy_text (parts_of bytes ends) ≡ text ++ flat_map lossy_text (parts_from bytes from (drop k ends))
+  pub rest : old ++ flat_map lossy_text (parts bytes ends) ≡ text ++ flat_map lossy_text (parts_from bytes from (drop k ends))
   pub within : from ≤ length bytes
   pub cuts : AreCutsFrom bytes from (drop k ends)
 
@@ -29,23 +30,19 @@ module _ (bytes ends old : List ℕ) (k from : ℕ) (text : List ℕ) (so_far : 
     pub Joined-before : from ≤ end
     Joined-before = following.0
 
-    between : drop from (take end bytes) ≡ part
-    between = let upto : end ≡ from + (end - from) = omega (arith, Joined-before) in ap (λ n. drop from (take n bytes)) upto ∙ drop-take from (end - from) bytes
-
     pub Joined-more : (next : List ℕ) → next ≡ text ++ lossy_text part → Joined bytes ends old (k + 1) end next
     Joined-more next grown =
         let after = flat_map lossy_text (parts_from bytes end (drop (k + 1) ends)) in record {
           rest =
               so_far.rest
               ∙ ap (λ s. text ++ flat_map lossy_text (parts_from bytes from s)) (drop_more ends k 0 inside)
-              ∙ ap (λ p. text ++ (lossy_text p ++ after)) between
               ∙ sym (append_assoc text (lossy_text part) after)
               ∙ ap (λ t. t ++ after) (sym grown);
           within = IsCut-within bytes end following.1;
           cuts = following.2;
         }
 
-  pub Joined-all : (next : List ℕ) → length ends ≤ k → next ≡ text ++ lossy_text (slice_range bytes from (length bytes)) → next ≡ old ++ flat_map lossy_text (parts_of bytes ends)
+  pub Joined-all : (next : List ℕ) → length ends ≤ k → next ≡ text ++ lossy_text (slice_range bytes from (length bytes)) → next ≡ old ++ flat_map lossy_text (parts bytes ends)
   Joined-all next past grown =
       grown
       ∙ ap (λ p. text ++ lossy_text p) (take_rest bytes from)

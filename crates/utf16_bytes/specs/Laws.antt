@@ -4,7 +4,7 @@ use Rattle.std.specs.List.{flat_map}
 use Rattle.std.specs.List.Sorted.{IsSortedBy}
 use Rattle.utf16_units.specs.Split.{lossy_text}
 use Rattle.utf16_bytes.specs.Boundary.{IsCut}
-use Rattle.utf16_bytes.specs.Parts.{parts}
+use Rattle.utf16_units.specs.Cuts.{parts}
 
 -- the text with U+FFFD of bytes is that of the bytes before a boundary, then that of the bytes
 -- from it on

@@ -1,5 +1,4 @@
 pub mod Boundary
 pub mod File
 pub mod Laws
-pub mod Parts
 pub mod Shards

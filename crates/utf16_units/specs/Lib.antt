@@ -13,5 +13,6 @@ pub mod Lanes
 pub mod TextOrder
 pub mod Compared
 pub mod Parts
+pub mod Cuts
 pub mod Numbered
 pub mod Sizes

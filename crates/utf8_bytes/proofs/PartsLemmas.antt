@@ -1,10 +1,11 @@
 -- The lossy text of bytes that are cut into several parts.
-use Rattle.std.proofs.Common.{◌≡◌, ℕ, ◌-◌, ◌<◌, ◌≤◌, List, [], ◌∷◌, ◌++◌, length, take, drop, slice_index, inl, inr, refl, sym, ap, ◌∙◌, subst, arith, append-nil, append_assoc, length-take-le}
-use Rattle.std.proofs.lemmas.List.{get_or-take, take-take}
+use Rattle.std.proofs.Common.{◌≡◌, ℕ, ◌+◌, ◌-◌, ◌<◌, ◌≤◌, List, [], ◌∷◌, ◌++◌, length, take, drop, slice_index, inl, inr, refl, sym, ap, ◌∙◌, subst, arith, append-nil, append_assoc, length-take-le}
+use Rattle.std.proofs.lemmas.List.{drop-take, get_or-take, take-take}
 use Rattle.std.proofs.str.Laws.{Follows}
 use Rattle.std.specs.List.{flat_map}
 use Rattle.utf8_bytes.specs.Split.{lossy_text}
-use Rattle.utf8_bytes.specs.Boundary.{AreCuts, AreCutsFrom, IsCut, parts_from, parts_of}
+use Rattle.utf16_units.specs.Cuts.{parts, parts_from}
+use Rattle.utf8_bytes.specs.Boundary.{AreCuts, AreCutsFrom, IsCut}
 use Rattle.utf8_bytes.proofs.CutLemmas.{nil_text, text_cut}
 
 cut_within : (bytes : List ℕ) (at : ℕ) → IsCut bytes at → at ≤ length bytes
@@ -45,11 +46,14 @@ text_from : (bytes : List ℕ) (start : ℕ) (ends : List ℕ) → IsCut bytes s
     → lossy_text bytes ≡ lossy_text (take start bytes) ++ flat_map lossy_text (parts_from bytes start ends)
 text_from bytes start [] cut are = text_cut bytes start cut ∙ ap (λ t. lossy_text (take start bytes) ++ t) (sym (append-nil (lossy_text (drop start bytes))))
 text_from bytes start (end ∷ ends) cut are =
-    let part = drop start (take end bytes) in
+    let part = take (end - start) (drop start bytes) in
+    let upto : end ≡ start + (end - start) = omega (arith, are.0) in
+    let same : drop start (take end bytes) ≡ part = ap (λ n. drop start (take n bytes)) upto ∙ drop-take start (end - start) bytes in
     let rest = flat_map lossy_text (parts_from bytes end ends) in
     text_from bytes end ends are.1 are.2
     ∙ ap (λ t. t ++ rest) (between bytes start end are.0 (cut_within bytes end are.1) cut)
+    ∙ ap (λ p. (lossy_text (take start bytes) ++ lossy_text p) ++ rest) same
     ∙ append_assoc (lossy_text (take start bytes)) (lossy_text part) rest
 
-pub text_parts : (bytes ends : List ℕ) → AreCuts bytes ends → lossy_text bytes ≡ flat_map lossy_text (parts_of bytes ends)
-text_parts bytes ends are = text_from bytes 0 ends (inl refl) are ∙ ap (λ t. t ++ flat_map lossy_text (parts_of bytes ends)) nil_text
+pub text_parts : (bytes ends : List ℕ) → AreCuts bytes ends → lossy_text bytes ≡ flat_map lossy_text (parts bytes ends)
+text_parts bytes ends are = text_from bytes 0 ends (inl refl) are ∙ ap (λ t. t ++ flat_map lossy_text (parts bytes ends)) nil_text

@@ -1,5 +1,5 @@
 -- Where any bytes of UTF-8 may be cut, well formed or not, so that each part can be decoded alone.
-use Rattle.std.specs.Prelude.{◌≡◌, ℕ, ◌-◌, ◌<◌, ◌≤◌, ◌⊎◌, List, [], ◌∷◌, length, take, drop, slice_index}
+use Rattle.std.specs.Prelude.{◌≡◌, ℕ, ◌-◌, ◌<◌, ◌≤◌, ◌⊎◌, List, [], ◌∷◌, length, slice_index}
 use Rattle.std.specs.Str.{IsCharBoundary}
 
 -- a continuation byte, which is the second, third or fourth of a character (Unicode, section 3.9,
@@ -24,12 +24,3 @@ AreCutsFrom bytes start (end ∷ ends) = (start ≤ end) × IsCut bytes end × A
 
 abbrev pub AreCuts : List ℕ → List ℕ → Type 0
 AreCuts bytes ends = AreCutsFrom bytes 0 ends
-
--- the parts of bytes that end at these offsets, the first of which begins at `start`, and the last
--- part, which ends where the bytes end
-abbrev pub parts_from : List ℕ → ℕ → List ℕ → List (List ℕ)
-parts_from bytes start [] = drop start bytes ∷ []
-parts_from bytes start (end ∷ ends) = drop start (take end bytes) ∷ parts_from bytes end ends
-
-abbrev pub parts_of : List ℕ → List ℕ → List (List ℕ)
-parts_of bytes ends = parts_from bytes 0 ends

@@ -3,7 +3,8 @@ use Rattle.std.specs.Prelude.{◌≡◌, ◌↔◌, ℕ, List, ◌++◌, take, d
 use Rattle.std.specs.List.{flat_map}
 use Rattle.std.specs.Str.{IsCharBoundary, IsUtf8}
 use Rattle.utf8_bytes.specs.Split.{lossy_text}
-use Rattle.utf8_bytes.specs.Boundary.{AreCuts, IsCut, parts_of}
+use Rattle.utf16_units.specs.Cuts.{parts}
+use Rattle.utf8_bytes.specs.Boundary.{AreCuts, IsCut}
 
 -- the text with U+FFFD of bytes is that of the bytes before a boundary, then that of the bytes
 -- from it on
@@ -12,7 +13,7 @@ CutText = (bytes : List ℕ) (at : ℕ) → IsCut bytes at → lossy_text bytes 
 
 -- it is that of the parts between ascending boundaries, one after another
 abbrev pub CutsText : Type 0
-CutsText = (bytes ends : List ℕ) → AreCuts bytes ends → lossy_text bytes ≡ flat_map lossy_text (parts_of bytes ends)
+CutsText = (bytes ends : List ℕ) → AreCuts bytes ends → lossy_text bytes ≡ flat_map lossy_text (parts bytes ends)
 
 -- the boundaries of well-formed UTF-8 are those of std's `str`
 abbrev pub TextBoundaries : Type 0

@@ -1,4 +1,4 @@
--- The parts of bytes that are cut at offsets.
+-- The parts of bytes in either encoding that are cut at offsets.
 use Rattle.std.specs.Prelude.{ℕ, List, [], ◌∷◌, drop}
 use Rattle.std.specs.List.{slice_range}
 
