@@ -7,10 +7,10 @@ ghost use Rattle.utf16_units.specs.Lanes.{HasLanes};
 ghost use Rattle.utf16_decode.specs.Wrote.{DecodesTo, TranscodesToUtf8};
 
 use crate::lossy::REPLACEMENT;
-use crate::progress::{Moved, put};
+use crate::progress::put;
 use std::simd::prelude::*;
 use utf16_units::blocks::units32;
-use utf16_units::{Utf16Order, first_char_len};
+use utf16_units::{Moved, Utf16Order, first_char_len};
 
 // Writes blocks of ASCII to the start of a buffer, with U+FFFD for each unpaired surrogate in them,
 // until another character comes.

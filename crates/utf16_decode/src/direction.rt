@@ -5,7 +5,7 @@ ghost use Rattle.std.specs.Char.{IsScalar};
 ghost use Rattle.utf16_decode.specs.Stops.{BeginsWith};
 ghost use Rattle.utf16_decode.specs.Wrote.{Gives, Joins, Wrote};
 
-use crate::progress::Moved;
+use utf16_units::Moved;
 
 /// The number of bytes that pass through a buffer on the stack at once.
 pub const BLOCK_LEN: usize = 64;

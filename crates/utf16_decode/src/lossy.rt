@@ -12,12 +12,12 @@ ghost use Rattle.utf16_decode.specs.declared.progress.Stop.TheVariants.{NoSpace}
 use crate::ascii::write_ascii_blocks;
 use crate::lossy_direction::LossyDirection;
 use crate::lossy_transcoding::{transcode_lossy, transcode_partial};
-use crate::progress::{Moved, Progress, put};
+use crate::progress::{Progress, put};
 use crate::stream::FEED_SLACK;
 use crate::utf8::ToUtf8;
 use crate::well_formed::write_well_formed;
 use utf16_to_utf8::{SLACK, write_utf8};
-use utf16_units::Utf16Order;
+use utf16_units::{Moved, Utf16Order};
 
 // The least number of bytes of ASCII with ill-formed sequences in it that are written without a
 // copy.

@@ -10,7 +10,7 @@ ghost use Rattle.utf16_decode.specs.declared.progress.Stop.{Stop};
 ghost use Rattle.utf16_decode.specs.declared.progress.Stop.TheVariants.{IllFormed};
 
 use crate::direction::Direction;
-use crate::progress::Moved;
+use utf16_units::Moved;
 
 /// A direction that continues after ill-formed sequences.
 pub trait LossyDirection: Direction {

@@ -6,7 +6,8 @@ ghost use Rattle.utf16_decode.specs.Stops.{BeginsWith, Stops, StopsHere};
 ghost use Rattle.utf16_decode.specs.Wrote.{Gives, Puts, Wrote};
 
 use crate::direction::{BLOCK_LEN, BLOCK_ROOM, Direction};
-use crate::progress::{Moved, Progress, Stop, put};
+use crate::progress::{Progress, Stop, put};
+use utf16_units::Moved;
 
 // Inputs of fewer bytes than this are first tried character by character.
 const SHORT_LEN: usize = 32;

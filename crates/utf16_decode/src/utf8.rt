@@ -8,12 +8,12 @@ ghost use Rattle.utf16_decode.specs.Wrote.{TranscodesToUtf8, Wrote};
 ghost use Rattle.utf16_decode.specs.Stops.{IsIllFormedUtf16, StopsDecoding};
 
 use crate::direction::Direction;
-use crate::progress::{Moved, Progress, put};
+use crate::progress::{Progress, put};
 use crate::transcoding::transcode;
 use std::marker::PhantomData;
 use utf16_to_utf8::{SLACK, write_blocks, write_eight_ascii, write_utf8};
 use utf16_units::ends::first_char;
-use utf16_units::{Utf16Order, first_char_len, utf16_len, validate_raw_utf16};
+use utf16_units::{Moved, Utf16Order, first_char_len, utf16_len, validate_raw_utf16};
 
 /// Writes UTF-16 in UTF-8 to the start of a buffer, up to the first ill-formed sequence or as far
 /// as whole characters fit. Any bytes are allowed. Bytes of the buffer after the written ones may
@@ -120,8 +120,8 @@ impl<E: Utf16Order> Direction for ToUtf8<E> {
 
     #[inline(always)]
     fn write_front(rest: &[u8], to: &mut [u8]) -> Moved {
-        let (read, written) = write_blocks::<E>(rest, to);
-        write_ascii_from::<E>(rest, to, Moved { read, written })
+        let blocks = write_blocks::<E>(rest, to);
+        write_ascii_from::<E>(rest, to, blocks)
     }
 }
 

@@ -65,9 +65,9 @@ fn write_after_ill_formed<E: Utf16Order>(text: &[u8], to: &mut [u8]) -> Moved
         mut written,
     } = write_items::<E>(text, to);
     while text.len() - read >= BLOCK_LEN && to.len() - written >= 2 * BLOCK_LEN {
-        let (len, size) = write_blocks::<E>(&text[read..], &mut to[written..]);
-        read += len;
-        written += size;
+        let blocks = write_blocks::<E>(&text[read..], &mut to[written..]);
+        read += blocks.read;
+        written += blocks.written;
         if text.len() - read < ITEM_LEN || to.len() - written < ITEM_LEN {
             break;
         }

@@ -113,8 +113,7 @@ impl<E: Utf16Order> Direction for FromUtf8<E> {
 
     #[inline(always)]
     fn write_front(rest: &[u8], to: &mut [u8]) -> Moved {
-        let (read, written) = write_blocks::<E>(rest, to);
-        Moved { read, written }
+        write_blocks::<E>(rest, to)
     }
 }
 

@@ -5,13 +5,12 @@ ghost use Rattle.utf16_from_utf8.specs.Added.{added_bytes};
 ghost use Rattle.utf16_from_utf8.specs.Follow.{AreBefore, AreBelow, AreUsed, FollowTo, Follows, IsBlock, limit_of};
 ghost use Rattle.utf16_from_utf8.specs.Written.{IsWritten};
 
-use crate::cursor::Cursor;
 use crate::faults::faults;
 use crate::lanes::{greater, previous_lanes};
 use crate::limits::are_below;
 use crate::sixteen::write_sixteen;
 use std::simd::prelude::*;
-use utf16_units::Utf16Order;
+use utf16_units::{Moved, Utf16Order};
 
 // Writes the next sixty-four bytes, of characters of at most `MOST` bytes, but not those at the end
 // that begin a character and do not end it. Writes nothing if they are ill formed.
@@ -19,8 +18,8 @@ use utf16_units::Utf16Order;
 pub(crate) fn write_block<E: Utf16Order, const MOST: usize>(
     bytes: &[u8],
     out: &mut [u8],
-    from: Cursor,
-) -> Cursor
+    from: Moved,
+) -> Moved
     requires space { from.written + 128 ≤ length out.old }
     requires more { from.read + 64 ≤ length bytes.now }
     requires below { AreBelow 64 bytes.now from.read (limit_of MOST) }
@@ -41,8 +40,8 @@ pub(crate) fn write_block<E: Utf16Order, const MOST: usize>(
 fn write_well_formed<E: Utf16Order, const MOST: usize>(
     bytes: &[u8],
     out: &mut [u8],
-    from: Cursor,
-) -> Cursor
+    from: Moved,
+) -> Moved
     requires space { from.written + 128 ≤ length out.old }
     requires more { from.read + 64 ≤ length bytes.now }
     requires below { AreBelow 64 bytes.now from.read (limit_of MOST) }
@@ -55,12 +54,12 @@ fn write_well_formed<E: Utf16Order, const MOST: usize>(
     let used = used::<MOST>(bytes, from.read);
     if used + 3 == 64 {
         // Three bytes of a character have added its leading surrogate.
-        Cursor {
+        Moved {
             read: from.read + used,
             written: end - 2,
         }
     } else {
-        Cursor {
+        Moved {
             read: from.read + used,
             written: end,
         }
@@ -114,7 +113,7 @@ fn faults_at<const MOST: usize>(bytes: &[u8], at: usize) -> u8x16
 
 // Writes all that the next sixty-four bytes add, which begin a well-formed text.
 #[inline(always)]
-fn write_all<E: Utf16Order, const MOST: usize>(bytes: &[u8], out: &mut [u8], from: Cursor) -> usize
+fn write_all<E: Utf16Order, const MOST: usize>(bytes: &[u8], out: &mut [u8], from: Moved) -> usize
     requires more { from.read + 64 ≤ length bytes.now }
     requires space { from.written + 128 ≤ length out.old }
     requires below { AreBelow 64 bytes.now from.read (limit_of MOST) }

@@ -6,11 +6,10 @@ ghost use Rattle.utf16_from_utf8.specs.Written.{IsWritten};
 
 use crate::ascii::write_ascii;
 use crate::block::write_block;
-use crate::cursor::Cursor;
 use crate::fours::write_fours;
 use crate::limits::{are_below, greatest};
 use crate::threes::write_threes;
-use utf16_units::Utf16Order;
+use utf16_units::{Moved, Utf16Order};
 
 // The length of a block in bytes.
 const BLOCK_LEN: usize = 64;
@@ -26,30 +25,29 @@ const BLOCK_LEN: usize = 64;
 ///
 /// One pass over the bytes that it reads.
 #[inline(always)]
-pub fn write_blocks<E: Utf16Order>(bytes: &[u8], out: &mut [u8]) -> (usize, usize)
-    ensures written { IsWritten E.BIG bytes.now out.new result.0 result.1 }
-    ensures stop { IsBlock bytes.now result.0 → length out.new < result.1 + 128 }
+pub fn write_blocks<E: Utf16Order>(bytes: &[u8], out: &mut [u8]) -> Moved
+    ensures written { IsWritten E.BIG bytes.now out.new result.read result.written }
+    ensures stop { IsBlock bytes.now result.read → length out.new < result.written + 128 }
 {
     let most = bytes.len().min(out.len() / 2);
     let len = write_ascii::<E>(&bytes[..most], out);
-    if bytes.len() - len < BLOCK_LEN {
-        return (len, 2 * len);
-    }
-    if out.len() - 2 * len < 2 * BLOCK_LEN {
-        return (len, 2 * len);
-    }
-    let ascii = Cursor {
+    let ascii = Moved {
         read: len,
         written: 2 * len,
     };
-    let end = write_mixed_blocks::<E>(bytes, out, ascii);
-    (end.read, end.written)
+    if bytes.len() - len < BLOCK_LEN {
+        return ascii;
+    }
+    if out.len() - 2 * len < 2 * BLOCK_LEN {
+        return ascii;
+    }
+    write_mixed_blocks::<E>(bytes, out, ascii)
 }
 
 // Writes blocks of all kinds after some ASCII. Kept out of line so that short texts do not pay for
 // its registers.
 #[inline(never)]
-fn write_mixed_blocks<E: Utf16Order>(bytes: &[u8], out: &mut [u8], from: Cursor) -> Cursor
+fn write_mixed_blocks<E: Utf16Order>(bytes: &[u8], out: &mut [u8], from: Moved) -> Moved
     requires { IsWritten E.BIG bytes.now out.old from.read from.written }
     ensures written { IsWritten E.BIG bytes.now out.new result.read result.written }
     ensures stop { IsBlock bytes.now result.read → length out.new < result.written + 128 }
@@ -72,7 +70,7 @@ fn write_mixed_blocks<E: Utf16Order>(bytes: &[u8], out: &mut [u8], from: Cursor)
 // Writes at least the next block, or nothing if it is ill formed. Returns where the bytes after
 // those read begin, and where what was written ends.
 #[inline(always)]
-fn write_next<E: Utf16Order>(bytes: &[u8], out: &mut [u8], from: Cursor) -> Cursor
+fn write_next<E: Utf16Order>(bytes: &[u8], out: &mut [u8], from: Moved) -> Moved
     requires space { from.written + 128 ≤ length out.old }
     requires more { from.read + 64 ≤ length bytes.now }
     requires written { IsWritten E.BIG bytes.now out.old from.read from.written }
@@ -99,7 +97,7 @@ fn write_next<E: Utf16Order>(bytes: &[u8], out: &mut [u8], from: Cursor) -> Curs
 
 // Writes the next characters of three or of four bytes, whichever the first has, several at a time.
 #[inline(always)]
-fn write_run<E: Utf16Order>(bytes: &[u8], out: &mut [u8], from: Cursor) -> Cursor
+fn write_run<E: Utf16Order>(bytes: &[u8], out: &mut [u8], from: Moved) -> Moved
     requires space { from.written + 128 ≤ length out.old }
     requires more { from.read + 64 ≤ length bytes.now }
     requires written { IsWritten E.BIG bytes.now out.old from.read from.written }
@@ -119,7 +117,7 @@ fn write_run<E: Utf16Order>(bytes: &[u8], out: &mut [u8], from: Cursor) -> Curso
 
 // Writes the next blocks of ASCII.
 #[inline(always)]
-fn write_ascii_run<E: Utf16Order>(bytes: &[u8], out: &mut [u8], from: Cursor) -> Cursor
+fn write_ascii_run<E: Utf16Order>(bytes: &[u8], out: &mut [u8], from: Moved) -> Moved
     requires space { from.written + 128 ≤ length out.old }
     requires more { from.read + 64 ≤ length bytes.now }
     requires ascii { AreBelow 64 bytes.now from.read 0x80 }
@@ -130,7 +128,7 @@ fn write_ascii_run<E: Utf16Order>(bytes: &[u8], out: &mut [u8], from: Cursor) ->
     let rest = &bytes[from.read..];
     let most = rest.len().min((out.len() - from.written) / 2);
     let len = write_ascii::<E>(&rest[..most], &mut out[from.written..]);
-    Cursor {
+    Moved {
         read: from.read + len,
         written: from.written + 2 * len,
     }

@@ -6,13 +6,12 @@ ghost use Rattle.std.specs.Str.{IsUtf8};
 ghost use Rattle.utf16_from_utf8.specs.Added.{added_bytes};
 ghost use Rattle.utf16_from_utf8.specs.Written.{IsWritten};
 
-use crate::cursor::Cursor;
 use crate::lanes::{down, each, masked, sum, up};
 use crate::limits::are_below;
 use crate::pack::paired;
 use crate::units::four_bytes;
 use std::simd::prelude::*;
-use utf16_units::Utf16Order;
+use utf16_units::{Moved, Utf16Order};
 
 // The upper bits of each byte in four characters of four bytes, and the mask of these bits.
 const FOURS: [u8; 16] = [
@@ -25,7 +24,7 @@ const UPPER_OF_FOURS: [u8; 16] = [
 
 // Writes the next characters of four bytes, four at a time.
 #[inline(always)]
-pub(crate) fn write_fours<E: Utf16Order>(bytes: &[u8], out: &mut [u8], from: Cursor) -> Cursor
+pub(crate) fn write_fours<E: Utf16Order>(bytes: &[u8], out: &mut [u8], from: Moved) -> Moved
     requires { IsWritten E.BIG bytes.now out.old from.read from.written }
     ensures written { IsWritten E.BIG bytes.now out.new result.read result.written }
     ensures advances { from.read ≤ result.read }
@@ -44,7 +43,7 @@ pub(crate) fn write_fours<E: Utf16Order>(bytes: &[u8], out: &mut [u8], from: Cur
         written = write_fours_block::<E>(out, written, block);
         read += 16;
     }
-    Cursor { read, written }
+    Moved { read, written }
 }
 
 // Writes four characters of four bytes: two units for each, that of its first three bytes and that

@@ -6,7 +6,6 @@ mod append;
 mod ascii;
 mod block;
 mod blocks;
-mod cursor;
 mod faults;
 mod few;
 mod fours;

@@ -8,7 +8,6 @@ ghost use Rattle.utf16_from_utf8.specs.Follow.{AreBefore, FollowAnyLanes, Follow
 ghost use Rattle.utf16_from_utf8.specs.Written.{IsWritten};
 
 use crate::block::{before, before_at};
-use crate::cursor::Cursor;
 use crate::lanes::{greater, previous_lanes};
 use crate::limits::are_below;
 use crate::pack::{paired, write_eight};
@@ -17,11 +16,11 @@ use crate::text::SLACK;
 use crate::threes::write_threes;
 use crate::units::{ended_bits, four_bytes};
 use std::simd::prelude::*;
-use utf16_units::Utf16Order;
+use utf16_units::{Moved, Utf16Order};
 
 // Writes the rest of a text of more than sixteen bytes, after what was written of it.
 #[inline(never)]
-pub(crate) fn write_rest<E: Utf16Order>(text: &[u8], out: &mut [u8], from: Cursor) -> usize
+pub(crate) fn write_rest<E: Utf16Order>(text: &[u8], out: &mut [u8], from: Moved) -> usize
     requires well_formed { IsUtf8 text.now }
     requires some { 16 < length text.now }
     requires space { 2 * length text.now + SLACK ≤ length out.old }
@@ -44,7 +43,7 @@ pub(crate) fn write_rest<E: Utf16Order>(text: &[u8], out: &mut [u8], from: Curso
 
 // Goes on with characters of three bytes, until at least sixteen bytes are written.
 #[inline(always)]
-fn write_begun<E: Utf16Order>(text: &[u8], out: &mut [u8], from: Cursor) -> Cursor
+fn write_begun<E: Utf16Order>(text: &[u8], out: &mut [u8], from: Moved) -> Moved
     requires well_formed { IsUtf8 text.now }
     requires some { 16 < length text.now }
     requires space { 2 * length text.now + SLACK ≤ length out.old }
@@ -59,7 +58,7 @@ fn write_begun<E: Utf16Order>(text: &[u8], out: &mut [u8], from: Cursor) -> Curs
     if next.read >= 16 {
         return next;
     }
-    Cursor {
+    Moved {
         read: 16,
         written: write_first::<E>(text, out),
     }

@@ -5,7 +5,6 @@ ghost use Rattle.std.specs.Str.{IsUtf8, chars};
 ghost use Rattle.utf16_units.specs.Encoding.{encode};
 
 use crate::blocks::write_blocks;
-use crate::cursor::Cursor;
 use crate::few::write_few;
 use crate::rest::write_rest;
 use crate::short::write_short;
@@ -52,9 +51,9 @@ fn write_whole<E: Utf16Order>(text: &[u8], out: &mut [u8]) -> usize
     if text.len() <= 16 {
         return write_short::<E>(text, out);
     }
-    let (read, written) = write_blocks::<E>(text, out);
-    if read == text.len() {
-        return written;
+    let blocks = write_blocks::<E>(text, out);
+    if blocks.read == text.len() {
+        return blocks.written;
     }
-    write_rest::<E>(text, out, Cursor { read, written })
+    write_rest::<E>(text, out, blocks)
 }

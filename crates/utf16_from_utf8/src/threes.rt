@@ -9,17 +9,16 @@ ghost use Rattle.utf16_from_utf8.specs.Added.{added_bytes};
 ghost use Rattle.utf16_from_utf8.specs.Threes.{IsThree, every_third, woven};
 ghost use Rattle.utf16_from_utf8.specs.Written.{IsWritten};
 
-use crate::cursor::Cursor;
 use crate::lanes::{each, greater, masked, sum, where_below};
 use crate::limits::are_below;
 use crate::pack::paired;
 use crate::units::{three_highs, three_lows};
 use std::simd::prelude::*;
-use utf16_units::Utf16Order;
+use utf16_units::{Moved, Utf16Order};
 
 // Writes the next characters of three bytes, sixteen at a time.
 #[inline(always)]
-pub(crate) fn write_threes<E: Utf16Order>(bytes: &[u8], out: &mut [u8], from: Cursor) -> Cursor
+pub(crate) fn write_threes<E: Utf16Order>(bytes: &[u8], out: &mut [u8], from: Moved) -> Moved
     requires { IsWritten E.BIG bytes.now out.old from.read from.written }
     ensures written { IsWritten E.BIG bytes.now out.new result.read result.written }
     ensures advances { from.read ≤ result.read }
@@ -38,7 +37,7 @@ pub(crate) fn write_threes<E: Utf16Order>(bytes: &[u8], out: &mut [u8], from: Cu
         written = write_sixteen_threes::<E>(out, written, firsts, seconds, thirds);
         read += 48;
     }
-    Cursor { read, written }
+    Moved { read, written }
 }
 
 // Whether the bytes are those of sixteen characters of three bytes.

@@ -11,7 +11,7 @@ use crate::padded::few_bytes;
 use crate::runs::{Cursor, Tested, write_next, write_paired};
 use crate::short::write_each;
 use std::simd::prelude::*;
-use utf16_units::Utf16Order;
+use utf16_units::{Moved, Utf16Order};
 
 /// The number of bytes that `write_utf8` needs beyond three per code unit.
 pub const SLACK: usize = 128;
@@ -53,13 +53,13 @@ pub fn write_utf8<E: Utf16Order>(raw: &[u8], to: &mut [u8]) -> usize
 ///
 /// One pass over the bytes read.
 #[inline(always)]
-pub fn write_blocks<E: Utf16Order>(raw: &[u8], to: &mut [u8]) -> (usize, usize)
-    ensures within { result.0 ≤ length raw.now }
-    ensures well_formed { IsUtf16 E.BIG (take result.0 raw.now) }
-    ensures utf8 { take result.1 to.new ≡ utf8_of E.BIG (take result.0 raw.now) }
-    ensures len { result.1 ≡ length (utf8_of E.BIG (take result.0 raw.now)) }
-    ensures stop { BlocksStopAt 66 E.BIG raw.now result.0 false
-        ⊎ (length to.new < result.1 + 130) }
+pub fn write_blocks<E: Utf16Order>(raw: &[u8], to: &mut [u8]) -> Moved
+    ensures within { result.read ≤ length raw.now }
+    ensures well_formed { IsUtf16 E.BIG (take result.read raw.now) }
+    ensures utf8 { take result.written to.new ≡ utf8_of E.BIG (take result.read raw.now) }
+    ensures len { result.written ≡ length (utf8_of E.BIG (take result.read raw.now)) }
+    ensures stop { BlocksStopAt 66 E.BIG raw.now result.read false
+        ⊎ (length to.new < result.written + 130) }
     ensures rest { drop (length raw.now / 2 * 3 + SLACK) to.new
         ≡ drop (length raw.now / 2 * 3 + SLACK) to.old }
 {
@@ -71,24 +71,30 @@ pub fn write_blocks<E: Utf16Order>(raw: &[u8], to: &mut [u8]) -> (usize, usize)
 
 // Returns how far whole characters were read and written.
 #[inline(always)]
-fn whole_chars<E: Utf16Order>(raw: &[u8], out: &[u8], done: Tested) -> (usize, usize)
+fn whole_chars<E: Utf16Order>(raw: &[u8], out: &[u8], done: Tested) -> Moved
     requires reached { Reached E.BIG raw.now out.now done.cursor }
     requires paired { PairedTo E.BIG raw.now done.cursor.at done.leading }
     requires stop { BlocksStopAt 64 E.BIG raw.now done.cursor.at done.leading
         ⊎ (length out.now < done.cursor.end + SLACK) }
-    ensures within { result.0 ≤ length raw.now }
-    ensures fits { result.1 ≤ length out.now }
-    ensures well_formed { IsUtf16 E.BIG (take result.0 raw.now) }
-    ensures utf8 { take result.1 out.now ≡ utf8_of E.BIG (take result.0 raw.now) }
-    ensures stop { BlocksStopAt 66 E.BIG raw.now result.0 false
+    ensures within { result.read ≤ length raw.now }
+    ensures fits { result.written ≤ length out.now }
+    ensures well_formed { IsUtf16 E.BIG (take result.read raw.now) }
+    ensures utf8 { take result.written out.now ≡ utf8_of E.BIG (take result.read raw.now) }
+    ensures stop { BlocksStopAt 66 E.BIG raw.now result.read false
         ⊎ (length out.now < done.cursor.end + SLACK) }
-    ensures near { done.cursor.end ≤ result.1 + 2 }
+    ensures near { done.cursor.end ≤ result.written + 2 }
 {
     let cursor = done.cursor;
     if done.leading {
-        return (cursor.at - 2, cursor.end - 2);
+        return Moved {
+            read: cursor.at - 2,
+            written: cursor.end - 2,
+        };
     }
-    (cursor.at, cursor.end)
+    Moved {
+        read: cursor.at,
+        written: cursor.end,
+    }
 }
 
 // Writes the UTF-8 that the units add.

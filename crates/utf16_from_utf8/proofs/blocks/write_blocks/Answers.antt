@@ -15,8 +15,8 @@ returns-then-out-len-clause-written g c =
     let ascii = c.write_ascii-len.ensures in
     ascii-first g.E.Utf16Order.BIG c.args.bytes.now c.write_ascii-len.new.out c.min-most.result c.write_ascii-len.result ascii.within ascii.ascii ascii.bytes (search rules)
 
-pub write_mixed_blocks-end-requires : goal.write_mixed_blocks-end-requires
-write_mixed_blocks-end-requires g c =
+pub write_mixed_blocks-requires : goal.write_mixed_blocks-requires
+write_mixed_blocks-requires g c =
     let ascii = c.write_ascii-len.ensures in
     ascii-first g.E.Utf16Order.BIG c.args.bytes.now c.write_ascii-len.new.out c.min-most.result c.write_ascii-len.result ascii.within ascii.ascii ascii.bytes (search rules)
 

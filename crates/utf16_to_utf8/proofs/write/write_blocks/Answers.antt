@@ -7,12 +7,12 @@ use Rattle.utf16_to_utf8.proofs.write.write_blocks.Goals as goal
 pub returns-clause-utf8 : goal.returns-clause-utf8
 returns-clause-utf8 g c =
     let whole = c.whole_chars in
-    take-append-le whole.result.1 c.write_paired-done.new.out (drop c.min-room.result c.args.to.now) whole.ensures.fits ∙ whole.ensures.utf8
+    take-append-le whole.result.written c.write_paired-done.new.out (drop c.min-room.result c.args.to.now) whole.ensures.fits ∙ whole.ensures.utf8
 
 pub returns-clause-len : goal.returns-clause-len
 returns-clause-len g c =
     let whole = c.whole_chars in
-    sym (length-take-le whole.result.1 c.write_paired-done.new.out whole.ensures.fits) ∙ ap length whole.ensures.utf8
+    sym (length-take-le whole.result.written c.write_paired-done.new.out whole.ensures.fits) ∙ ap length whole.ensures.utf8
 
 pub returns-clause-stop : goal.returns-clause-stop
 returns-clause-stop g c =
@@ -23,7 +23,7 @@ returns-clause-stop g c =
     let to = c.args.to.now in
     let part = length-take room to in
     ⊎_elim
-    (λ (stops : BlocksStopAt 66 g.E.Utf16Order.BIG c.args.raw.now c.whole_chars.result.0 false). inl stops)
+    (λ (stops : BlocksStopAt 66 g.E.Utf16Order.BIG c.args.raw.now c.whole_chars.result.read false). inl stops)
     (λ (full : length done.new.out < end + 128).
     let less = little-left (length to) (length done.new.out) (length c.args.raw.now) done.result.cursor.at end (omega (arith, done.auto.out, part, c.min-room.ensures)) reached.short
     reached.even reached.within full in

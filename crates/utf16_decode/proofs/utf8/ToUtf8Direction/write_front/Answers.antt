@@ -3,7 +3,7 @@ use Rattle.utf16_decode.proofs.utf8.ToUtf8Direction.write_front.Goals as goal
 
 pub write_ascii_from-requires : goal.write_ascii_from-requires
 write_ascii_from-requires g c =
-    let wrote = c.write_blocks-read in
+    let wrote = c.write_blocks-blocks in
     record {
       within = wrote.ensures.within;
       fits = enough _ _ _ wrote.ensures.utf8 wrote.ensures.len;
