@@ -1,5 +1,5 @@
 -- Chunks that were read and written, one after another.
-use Rattle.std.proofs.Common.{◌≡◌, ℕ, ◌+◌, ◌-◌, ◌<◌, ◌≤◌, List, [], ◌++◌, Option, None, Some, length, take, drop, sym, ap, ◌∙◌, subst, ⊎_elim, arith, append-nil, append_assoc, length-append, length-drop, length-take, length-take-le, take_all, take-add, take-append-drop, take-take}
+use Rattle.std.proofs.Common.{◌≡◌, ℕ, ◌+◌, ◌-◌, ◌<◌, ◌≤◌, List, [], ◌++◌, Option, None, Some, length, take, drop, sym, ap, ◌∙◌, subst, ⊎_elim, arith, append-nil, append_assoc, length-append, length-drop, length-take-le, take_all, take-add, take-append-drop}
 use borrow.Rule.Slice.PartMut.{put_mid}
 use Rattle.std.proofs.lemmas.Bool.{cases_lt}
 use Rattle.std.proofs.lemmas.List.{take-append-le, take_rest}
@@ -140,25 +140,3 @@ Puts-put rest old part added at len n within long few gives is room =
       gives = gives;
       bytes = take-end at n old part within long room ∙ ap (λ t. take at old ++ t) is;
     }
-
--- what was written of the first bytes of the rest
-pub Puts-front : {Gives : List ℕ → List ℕ → Type 0} (most : ℕ) (rest old new : List ℕ) (at len last : ℕ) → Puts Gives (take most rest) old new at len last
-    → Puts Gives rest old new at len last
-Puts-front {Gives} most rest old new at len last piece =
-    let few = piece.within in
-    let shorter = length-take most rest in
-    record {
-      within = omega arith;
-      fits = piece.fits;
-      added = piece.added;
-      gives = subst (λ i. Gives i piece.added) (take-take len most rest (omega arith)) piece.gives;
-      bytes = piece.bytes;
-    }
-
--- what was written of the first bytes of the input
-pub Wrote-front : {Gives : List ℕ → List ℕ → Type 0} (most : ℕ) (input to : List ℕ) (read written : ℕ) → Wrote Gives (take most input) to read written → Wrote Gives input to read written
-Wrote-front {Gives} most input to read written front = record {
-  within = omega (arith, front.within, length-take most input);
-  fits = front.fits;
-  gives = subst (λ i. Gives i (take written to)) (take-take read most input (omega (arith, front.within, length-take most input))) front.gives;
-}

@@ -1,13 +1,12 @@
 -- What is decoded of UTF-8: texts, and items of the split.
 use Rattle.std.proofs.Common.{◌≡◌, ℕ, ◌+◌, ◌<◌, ◌≤◌, Bool, List, [], ◌∷◌, ◌++◌, Some, flat_map, length, map, take, drop, refl, sym, ap, ap₂, ◌∙◌, subst, arith, append_assoc, append-nil, length-drop, take-append-drop}
-use Rattle.std.proofs.lemmas.List.{drop-drop, drop_all, take_rest}
+use Rattle.std.proofs.lemmas.List.{drop-drop, drop_all}
 use Rattle.std.proofs.lemmas.List.Concat.{flat_map-append}
 use Rattle.std.proofs.lemmas.Str.{IsUtf8-encode}
 use Rattle.std.specs.Char.{encode_utf8}
 use Rattle.std.specs.Str.{StartsWithNoChar, chars}
 use Rattle.std.specs.Str.Lossy.{utf8_error_len}
 use Rattle.utf16_units.specs.Encoding.{char_bytes, encode}
-use Rattle.utf16_units.proofs.IllFormedLemmas.{rest_from}
 use Rattle.utf8_bytes.specs.Split.{IsTail, Item, good, ill, item_bytes, items_bytes, lossy_chars, split_items, split_tail}
 use Rattle.utf8_bytes.proofs.PartLemmas.{subpart_at}
 use Rattle.utf8_bytes.proofs.ShownLemmas.{length-IsTail}
@@ -107,13 +106,6 @@ FirstItem-subpart bytes len none error =
       items = split_items-subpart bytes len none error;
       tail = split_tail-subpart bytes len none error;
     }
-
--- the one at which a call that writes a text stopped
-pub FirstItem-stopped : (big : Bool) (utf8 : List ℕ) (read n left len : ℕ) → StopsEncoding big (rest_from utf8 read) n left (IllFormed len)
-    → FirstItem (drop (read + n) utf8) 0xFFFD len
-FirstItem-stopped big utf8 read n left len here =
-    subst (λ b. FirstItem b 0xFFFD len) (ap (drop n) (take_rest utf8 read) ∙ drop-drop n read utf8)
-    (FirstItem-subpart (drop n (rest_from utf8 read)) len (none_at (rest_from utf8 read) n here.0) (sym here.1))
 
 module _ (bytes : List ℕ) (char n : ℕ) (first : FirstItem bytes char n) where
   -- its character comes first

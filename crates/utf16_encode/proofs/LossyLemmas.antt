@@ -94,12 +94,6 @@ utf8_lossy-behind front back first =
     lossy-whole (front ++ back) (omega arith) ∙ ap (λ t. front ++ t) (sym (lossy-whole back (omega arith))))
     (cases_lt n (length back))
 
--- the text of a valid prefix, and then that of what follows it
-pub text-behind : (bytes : List ℕ) (n : ℕ) → IsUtf8 (take n bytes) → text_of_utf8 bytes ≡ chars (take n bytes) ++ text_of_utf8 (drop n bytes)
-text-behind bytes n first =
-    ap text_of_utf8 (sym (take-append-drop n bytes)) ∙ ap chars (utf8_lossy-behind (take n bytes) (drop n bytes) first)
-    ∙ chars-append (take n bytes) (utf8_lossy (drop n bytes)) first
-
 pub text-empty : (bytes : List ℕ) → length bytes ≡ 0 → text_of_utf8 bytes ≡ []
 unfolding chars
 text-empty bytes none = ap chars (utf8_lossy_empty bytes none)

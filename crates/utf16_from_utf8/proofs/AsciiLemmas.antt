@@ -1,6 +1,6 @@
 -- ASCII at the start of bytes, written in UTF-16 block by block.
 use Rattle.std.proofs.Common.{◌-◌, drop-drop, zero, suc, ◌≡◌, ℕ, ◌+◌, ◌*◌, ◌<◌, ◌≤◌, Bool, List, [], ◌∷◌, ◌++◌, length, length-take-le, take, drop, slice_index, subst, refl, sym, ap, ap₂, ◌∙◌, ⊎_elim, arith}
-use Rattle.std.proofs.Math.Seq.{take-add, take-length}
+use Rattle.std.proofs.Math.Seq.{take-add}
 use Rattle.std.proofs.lemmas.Bool.{cases_lt}
 use Rattle.std.proofs.lemmas.List.{get_or-take, get_or_past, take-take, take_all, take_at}
 use Rattle.std.proofs.lemmas.Simd.{get_or-chunk, length-chunk}
@@ -179,7 +179,3 @@ last-written big bytes before old new at last to less later write done =
 -- ASCII in a block of ASCII
 pub chunk-ascii : (bytes : List ℕ) (at : ℕ) → IsAscii bytes → (i : ℕ) → i < 16 → slice_index (chunk at 16 bytes) i < 0x80
 chunk-ascii bytes at ascii i below = omega (arith, ascii (at + i), get_or-chunk at 16 bytes i 0 below)
-
--- the bytes of ASCII up to a place are ASCII
-pub take-ascii : (bytes : List ℕ) (n : ℕ) → n ≤ length bytes → IsAscii bytes → IsAscii (take n bytes)
-take-ascii bytes n within ascii = ascii-less bytes n (length bytes) within (omega arith) (subst (λ b. IsAscii b) (sym (take-length bytes)) ascii)

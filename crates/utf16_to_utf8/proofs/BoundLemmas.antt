@@ -1,6 +1,5 @@
 -- Bounds on the units of a block, by the greatest and the least of its lanes.
-use Rattle.std.proofs.Common.{◌≡◌, ℕ, ◌+◌, ◌-◌, ◌*◌, ◌^◌, ◌<◌, ◌≤◌, ◌⊎◌, Bool, true, false, cond, ltb, ltb-true, ltb-false, ⊎_elim, inl, inr, List, [], ◌∷◌, ◌++◌, All, length, map, get_or, slice_index, refl, sym, ap, ap₂, ◌∙◌, subst, arith}
-use Rattle.std.proofs.lemmas.Bool.{cases_lt}
+use Rattle.std.proofs.Common.{◌≡◌, ℕ, ◌+◌, ◌-◌, ◌*◌, ◌^◌, ◌<◌, ◌≤◌, ◌⊎◌, Bool, true, false, cond, ltb, ltb-true, ltb-false, inl, inr, List, [], ◌∷◌, ◌++◌, All, length, map, get_or, slice_index, refl, sym, ap, ap₂, ◌∙◌, subst, arith}
 use Rattle.std.proofs.lemmas.List.Elements.{All-append, All-cons, All-from_get_or, All-get_or, All-head, All-nil, All-tail}
 use Rattle.std.proofs.lemmas.Simd.{get_or-sel_l, get_or-zip2, length-sel_l, length-zip2, tops_compared}
 use Rattle.std.proofs.Math.Nat.{two-pow-succ}
@@ -8,9 +7,7 @@ use lib.Lanes.{chunk, mask_l, sel_l, top, zip2}
 use mir.Syntax.{Width}
 use mir.Val.{bits, hbits}
 use Rattle.utf16_units.specs.Lanes.{HasLanes}
-use Rattle.utf16_to_utf8.specs.Lanes.{added_len, folded, is_surrogate, plus}
-use Rattle.utf16_to_utf8.proofs.AddedLemmas.{surrogate-is, surrogate-no}
-use Rattle.utf16_to_utf8.proofs.BlockLemmas.{four_eights, low-is, low-no, narrow-kind, wide-kind}
+use Rattle.utf16_to_utf8.proofs.BlockLemmas.{four_eights}
 
 -- a choice by the comparison of the lanes of two vectors
 pub lanes_of_choice : (n : ℕ) (w : Width) (t : ℕ → ℕ → Bool) (x y a b : List ℕ) → length x ≡ n → length y ≡ n → length a ≡ n → length b ≡ n
@@ -104,23 +101,3 @@ all_four P units a b c d long pa pb pc pd low high =
     (All-append P a _ low.0 (All-append P b _ low.1 (All-append P c d high.0 high.1)))
 
 -- ---- the kinds of units
-
-pub low-letter : (u : ℕ) → u < 0x1_0000 → u < 0x800 → (is_surrogate u ≡ false) × (added_len u ≤ 2)
-low-letter u below low = (surrogate-no u below (inl (omega (arith, low))), narrow-kind u below (inl (low-is u low)))
-
-pub folded-few : (u : ℕ) → u < 0x1_0000 → folded u < 0x800 → added_len u ≤ 2
-folded-few u below few = ⊎_elim
-    (λ (low : u < 0x800). narrow-kind u below (inl (low-is u low)))
-    (λ (high : plus u 0x2800 < 0x800). narrow-kind u below (inr (surrogate-is u below (omega (arith, high)) (omega (arith, high, below)))))
-    (choice-one u (plus u 0x2800) (folded u) 0x800 refl few)
-
-pub folded-wide : (u : ℕ) → u < 0x1_0000 → 0x800 ≤ folded u → added_len u ≡ 3
-folded-wide u below many =
-    let both = choice-below u (plus u 0x2800) (folded u) 0x800 refl many in
-    wide-kind u below (low-no u below both.0) (surrogate-no u below (⊎_elim
-    (λ (a : u < 0xD800). inl a)
-    (λ (b : 0xD800 ≤ u). inr (omega (arith, b, both.1)))
-    (cases_lt u 0xD800)))
-
-pub raised-basic : (u : ℕ) → u < 0x1_0000 → 0x800 ≤ plus u 0x2800 → is_surrogate u ≡ false
-raised-basic u below many = surrogate-no u below (⊎_elim (λ (a : u < 0xD800). inl a) (λ (b : 0xD800 ≤ u). inr (omega (arith, b, many))) (cases_lt u 0xD800))

@@ -1,5 +1,5 @@
 -- The bytes of several lanes, one after another.
-use Rattle.std.proofs.Common.{◌≡◌, ℕ, suc, ◌+◌, ◌*◌, ◌<◌, Bool, List, [], ◌∷◌, ◌++◌, length, slice_index, map, refl, sym, ap, ap₂, ◌∙◌, arith, append_assoc, append-nil}
+use Rattle.std.proofs.Common.{◌≡◌, ℕ, suc, ◌+◌, ◌*◌, ◌<◌, Bool, List, [], ◌∷◌, ◌++◌, length, slice_index, map, refl, sym, ap, ap₂, ◌∙◌, arith, append-nil}
 use Rattle.std.proofs.lemmas.List.{get_or_append_left, get_or-append-add}
 use lib.Lanes.{pick_l}
 use Rattle.utf16_to_utf8.specs.Pack.{packed, threes}
@@ -63,12 +63,6 @@ same_lanes [] = refl
 same_lanes (n ∷ lanes) = ap (λ ns. n ∷ ns) (same_lanes lanes)
 
 -- ---- the steps of a writer: what was written and what is left to add are all
-
-pub wrote_unit : (done next all more : List ℕ) (before unit : ℕ) → next ≡ done ++ unit_utf8 before unit → done ++ units_utf8 before (unit ∷ more) ≡ all → next ++ units_utf8 unit more ≡ all
-wrote_unit done next all more before unit wrote e =
-    ap (λ bs. bs ++ units_utf8 unit more) wrote
-    ∙ append_assoc done (unit_utf8 before unit) (units_utf8 unit more)
-    ∙ ap (λ bs. done ++ bs) (sym (units-cons before unit more)) ∙ e
 
 pub wrote_all : (done all : List ℕ) (last : ℕ) (left : List ℕ) → left ≡ [] → done ++ units_utf8 last left ≡ all → done ≡ all
 wrote_all done all last left none e =

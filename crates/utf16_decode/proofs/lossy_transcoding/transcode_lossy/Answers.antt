@@ -1,7 +1,7 @@
 use Rattle.std.proofs.Common.{◌-◌, ◌<◌, flat_map, length, subst}
 use Rattle.std.proofs.lemmas.List.{take_rest}
 use Rattle.utf16_decode.specs.Stops.{StopsLossyAs}
-use Rattle.utf16_decode.proofs.WholeLemmas.{ShowsWhole-decoded, ShowsWhole-end, end_does_not_fit, stops_whole}
+use Rattle.utf16_decode.proofs.WholeLemmas.{end_does_not_fit}
 use Rattle.utf16_decode.proofs.lossy_transcoding.transcode_lossy.Goals as goal
 
 pub returns-in-None-clause-stop : goal.returns-in-None-clause-stop

@@ -1,8 +1,7 @@
 use Rattle.std.proofs.Common.{◌+◌, ◌-◌, Some, length, length-drop, arith, rules, refl, ap, subst}
 use Rattle.utf16_units.proofs.IllFormedLemmas.{rest_from}
 use borrow.Rule.Slice.PartMut.{put_mid}
-use Rattle.utf16_decode.specs.Decomposition.{decided}
-use Rattle.utf16_decode.specs.Stops.{Stops, TextDoesNotFit}
+use Rattle.utf16_decode.specs.Stops.{Stops}
 use Rattle.utf16_decode.specs.Wrote.{DecodesAsTo}
 use Rattle.utf16_decode.proofs.StreamSteps.{DecodesTo-kept, DecodesTo-none, DecodesTo-rest, rest_after, stops_rest}
 use Rattle.utf16_decode.proofs.lossy_transcoding.transcode_partial.Given.{Over}

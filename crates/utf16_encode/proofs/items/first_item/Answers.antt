@@ -1,4 +1,4 @@
-use Rattle.std.proofs.Common.{sym, rules}
+use Rattle.std.proofs.Common.{rules}
 use Rattle.utf16_encode.proofs.DecodesUtf8.{FirstItem-subpart}
 use Rattle.utf16_encode.proofs.ItemLemmas.{FirstItem-begins, four_decide}
 use Rattle.utf16_encode.proofs.items.first_item.Goals as goal
