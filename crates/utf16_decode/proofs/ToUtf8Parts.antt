@@ -54,7 +54,7 @@ utf16_chunks big = record {
 pub utf8_short : (c : ℕ) → length (encode_utf8 c) ≤ 4
 utf8_short c = omega (arith, length-encode c, len_utf8_bounds c)
 
--- U+FFFD stands for a tail
+-- U+FFFD replaces a tail
 pub end_bytes : (tail : List ℕ) → 0 < length tail → 0xEF ∷ 0xBF ∷ 0xBD ∷ [] ≡ encode_utf8_all (whole_lossy_chars [] tail)
 unfolding encode_utf8
 end_bytes [] some = absurd (omega arith)

@@ -1,4 +1,4 @@
--- The whole of an input, by what is decoded of it and what stands for its tail.
+-- The whole of an input: what is decoded of it, and the replacement of its tail.
 use Rattle.std.proofs.Common.{◌≡◌, ℕ, ◌<◌, ◌≤◌, List, [], ◌∷◌, ◌++◌, length, map, take, drop, refl, sym, ap, ap₂, ◌∙◌, subst, arith, append-nil, append_assoc}
 use Rattle.std.proofs.lemmas.List.{drop_all, map-append}
 use Rattle.std.proofs.lemmas.List.Concat.{flat_map-append}
@@ -23,7 +23,7 @@ module _ (parts : Decomposition) (into : ℕ → List ℕ) (split : IsSplitInChu
       ∙ ap (λ t. map parts.shown d.taken ++ t) (sym (split.whole rest)))
       ∙ flat_map-append into (map parts.shown d.taken) (parts.whole rest) ∙ ap (λ n. n ++ flat_map into (parts.whole rest)) (sym d.text)
 
-  -- the whole of a tail is what stands for it
+  -- the whole of a tail is its replacement
   pub whole_tail : (rest : List ℕ) → parts.tail rest ≡ rest → parts.whole rest ≡ parts.at_end rest
   whole_tail rest same = split.whole rest ∙ ap₂ (λ i t. map parts.shown i ++ parts.at_end t) (split.undecided rest same) same
 
@@ -34,7 +34,7 @@ module _ (parts : Decomposition) (into : ℕ → List ℕ) (split : IsSplitInChu
     pub ShowsWhole-decoded : ShowsWhole parts.whole into input to read written
     ShowsWhole-decoded = record { within = d.within; fits = d.fits; shown = whole_text input rest (take written to) d.decodes }
 
-    -- what stands for the tail was appended
+    -- the replacement of the tail was appended
     pub ShowsWhole-end : (next : List ℕ) (last : ℕ) → parts.tail rest ≡ rest → last ≤ length next
         → take last next ≡ take written to ++ flat_map into (parts.at_end rest) → ShowsWhole parts.whole into input next (length input) last
     ShowsWhole-end next last same room bytes = record {
@@ -60,7 +60,7 @@ module _ (parts : Decomposition) (into : ℕ → List ℕ) (split : IsSplitInChu
     too_long = here.too_long;
   }
 
-  -- what stands for the tail does not fit
+  -- the replacement of the tail does not fit
   pub end_does_not_fit : (rest : List ℕ) (left : ℕ) → parts.tail rest ≡ rest → left < length (flat_map into (parts.at_end rest))
       → TextDoesNotFit into (parts.whole rest) left
   end_does_not_fit rest left same few = subst (λ t. TextDoesNotFit into t left) (sym (whole_tail rest same)) (one (parts.at_end rest) (split.one rest) few) where

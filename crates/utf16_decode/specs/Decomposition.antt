@@ -2,7 +2,7 @@
 use Rattle.std.specs.Prelude.{◌≡◌, ℕ, ◌≤◌, List, [], ◌++◌, length, map}
 
 -- the bytes are items, one after another, and a tail that more bytes could change; each item is
--- written as one code point: a character as itself, an ill-formed sequence as what stands for it
+-- written as one code point: a character as itself, an ill-formed sequence as its replacement
 pub record Decomposition : Type 1 where
   pub Item : Type 0
   pub items : List ℕ → List Item

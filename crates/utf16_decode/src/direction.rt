@@ -10,8 +10,9 @@ use utf16_units::Moved;
 /// The number of bytes that pass through a buffer on the stack at once.
 pub const BLOCK_LEN: usize = 64;
 
-/// The length of that buffer: the space that `Direction::write` needs for `BLOCK_LEN` bytes.
-pub const BLOCK_ROOM: usize = 224;
+/// The length of that buffer: `Direction::write` needs no more space for `BLOCK_LEN` bytes, and two
+/// blocks fit too.
+pub const BLOCK_ROOM: usize = 260;
 
 /// One of the two directions: how the bytes of one encoding are validated, and how a text is
 /// written in the other.

@@ -17,9 +17,9 @@ pub trait LossyDirection: Direction {
     // The items of any bytes and their tail, and the code points that are written for these.
     ghost parts: { Decomposition };
 
-    /// Writes to the start of a buffer what stands for the first `len` bytes of the input, an
-    /// ill-formed sequence, and perhaps what is certain of the bytes after it; `None` if the first
-    /// character does not fit. The bytes of the buffer after the written ones may be overwritten.
+    /// Writes the replacement of the ill-formed sequence at the start of the input to the start of
+    /// a buffer, and perhaps what is certain of the bytes after it; `None` if the first character
+    /// does not fit. The bytes of the buffer after the written ones may be overwritten.
     ///
     /// # Precondition
     ///
@@ -33,7 +33,7 @@ pub trait LossyDirection: Direction {
         ensures none { result ≡ None
             → TextDoesNotFit Self.into (decided parts input.now) (length to.new) };
 
-    /// Writes what stands for a tail at the end of the input at `at`, and returns where it ends;
+    /// Writes the replacement of a tail at the end of the input at `at`, and returns where it ends;
     /// `None` if it does not fit. All other bytes of the buffer stay.
     ///
     /// # Precondition

@@ -1,4 +1,4 @@
-//! Transcoding that continues after ill-formed sequences, and writes what stands for each.
+//! Transcoding that continues after ill-formed sequences, and replaces each of them.
 
 ghost use Rattle.std.specs.Prelude.{◌≡◌, ◌-◌, drop, length};
 ghost use Rattle.utf16_decode.specs.Shown.{ShowsWhole};
@@ -11,7 +11,7 @@ use crate::progress::{Progress, Stop};
 use crate::transcoding::transcode;
 
 /// Writes what is certain of the input to the start of a buffer, as far as whole characters fit,
-/// with what stands for each ill-formed sequence. A tail that more bytes could change is not read.
+/// and replaces each ill-formed sequence. A tail that more bytes could change is not read.
 #[inline(always)]
 pub fn transcode_partial<D: LossyDirection>(input: &[u8], to: &mut [u8]) -> Progress
     ensures decodes { DecodesAsTo D.parts D.into input.now to.new result.read result.written }
@@ -44,8 +44,8 @@ pub fn transcode_partial<D: LossyDirection>(input: &[u8], to: &mut [u8]) -> Prog
     }
 }
 
-/// Writes the whole input to the start of a buffer, as far as whole characters fit, with what
-/// stands for each ill-formed sequence and for a tail at the end.
+/// Writes the whole input to the start of a buffer, as far as whole characters fit, and replaces
+/// each ill-formed sequence and a tail at the end.
 pub fn transcode_lossy<D: LossyDirection>(input: &[u8], to: &mut [u8]) -> Progress
     ensures shown { ShowsWhole D.parts.whole D.into input.now to.new result.read result.written }
     ensures stop { StopsLossyWhole D.parts.whole D.into (drop result.read input.now)

@@ -75,7 +75,7 @@ impl Stream {
     }
 
     /// Decodes the next chunk and writes what is now certain, in the second encoding, to the start
-    /// of a buffer, as far as whole characters fit: the characters, and what stands for each
+    /// of a buffer, as far as whole characters fit: the characters, and the replacement of each
     /// ill-formed sequence. `read` counts the bytes of the chunk that were taken. The direction is
     /// one for all chunks of a stream.
     ///
@@ -104,7 +104,7 @@ impl Stream {
         progress
     }
 
-    /// Ends the stream: writes what stands for the pending bytes to the start of a buffer, and
+    /// Ends the stream: writes the replacement of the pending bytes to the start of a buffer, and
     /// nothing if none are. No bytes are pending then. With `NoSpace` it does not fit, and nothing
     /// changed. `read` is 0. Bytes of the buffer after the written ones stay.
     pub fn finish<D: LossyDirection>(&mut self, to: &mut [u8]) -> Progress

@@ -218,14 +218,19 @@ fn is_near_ill_formed<D: Direction>(rest: &[u8]) -> bool
     }
 }
 
-// Does the same through a buffer for a block, and validates it while it writes it. A block of
-// UTF-16 needs the code unit after it.
+// Does the same through a buffer for a block, or for two if more space than a block takes is left,
+// and validates them while it writes them. A block of UTF-16 needs the code unit after it.
 #[inline(always)]
 fn write_block<D: Direction>(rest: &[u8], buf: &mut [u8], to: &mut [u8], at: usize) -> Moved
     requires { at ≤ length to.old }
     ensures { Puts (Gives D.IsValid D.other) rest.now to.old to.new at result.read result.written }
 {
-    let front = D::write_front(&rest[..rest.len().min(BLOCK_LEN + 2)], buf);
+    let most = if to.len() - at <= BLOCK_LEN {
+        BLOCK_LEN
+    } else {
+        2 * BLOCK_LEN
+    };
+    let front = D::write_front(&rest[..rest.len().min(most + 2)], buf);
     write_fitting::<D>(&rest[..front.read], &buf[..front.written], to, at)
 }
 

@@ -54,7 +54,7 @@ utf16_short big c = ⊎_elim
 pub flat_size : (big : Bool) (text : List ℕ) → length (flat_map (char_bytes big) text) ≡ size text
 flat_size big text = ap length (sym (flat_encode big text)) ∙ length-encode big text
 
--- U+FFFD stands for a tail
+-- U+FFFD replaces a tail
 pub end_text : (tail : List ℕ) → 0 < length tail → whole_lossy_chars [] tail ≡ 0xFFFD ∷ []
 end_text [] some = absurd (omega arith)
 end_text (first ∷ after) some = refl

@@ -9,4 +9,4 @@ pub mod PrefixRules
 mod Lent
 mod LentSteps
 mod LentValues
-mod LentAnswers
+mod LentResults

@@ -94,7 +94,7 @@ fn is_plain_few<E: Utf16Order>(raw: &[u8]) -> bool
     raw.is_empty()
 }
 
-// Whether a unit is no surrogate: the surrogates are the units from 0xD800 to 0xDFFF.
+// Whether a unit is not a surrogate: the surrogates are the units from 0xD800 to 0xDFFF.
 #[inline(always)]
 fn is_no_surrogate<E: Utf16Order>(unit: [u8; 2]) -> bool
     ensures { IsTrue result ↔ IsNoSurrogate (unit_of E.BIG (slice_index unit 0)

@@ -5,7 +5,7 @@ use Rattle.utf16_units.proofs.LittleEndian.TheLaws.{the_row_laws as the_order_la
 use Rattle.utf16_units.specs.contracts.byte_order.LittleEndianUtf16Order.TheImpl.{ghosts, dict}
 use Rattle.utf16_units.proofs.byte_order.LittleEndianUtf16Order.TheImpl.Met.{passed}
 use Rattle.utf16_str.proofs.Lent.{Answer}
-use Rattle.utf16_str.proofs.LentAnswers.{Ans, Ans-laws}
+use Rattle.utf16_str.proofs.LentResults.{Ans, Ans-laws}
 use Rattle.utf16_str.proofs.LentValues.{known, one_tells}
 use Rattle.utf16_str.specs.contracts.wstr_mut.WStrMut+LittleEndian.from_utf16le as F
 use Rattle.utf16_str.specs.contracts.wstr_mut.WStrMut+LittleEndian.from_utf16le.Key as key

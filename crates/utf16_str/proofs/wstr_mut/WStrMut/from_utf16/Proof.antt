@@ -3,7 +3,7 @@
 use Rattle.utf16_str.proofs.LentSteps.{◌≡◌, ℕ, List, [], ◌∷◌, length, sym, refl, subst, lit<, MutBor, Ok, Err, proved, inst_fn, named, Val, of_list, id⊢, ftrue, flft, fact, tables, Wp, after_seq, at_return, live, vrt, in_variant, after, front, arm_body, Post, any_q, at_ret, ‵, raw, ◌⊛◌, some, later, ◌$◌, ◌∵◌, !, qed, move, keep, drop, split, join, use1, await, pick, rewrite, fjoin, suffices, done, prop, Sq, whole, sub, agg, stop, fld, hop, from, addr, enter, lit, of_opd, first, switches_on, exec, returns, and_then, no_more, alloc_all, pass_all, free_all, look_at, look_in_at, get, get_in, get_tag, sets, sets_last, lands_as, env, Room, mut_slice_vals, mut_slice_Tells, u8, plain, calls_at, lasts, triple_of, framed, walk_of, ends_at, Goes-spent_slice, GName, heard, nothing, Result, IsOk, IfErr, IfOk, true, ◌↔◌, Encodes-text_of, is_utf16-from_IsUtf16, wstr_mut_text, WStrMut, Encodes, IsUtf16, is_utf16, text_of, IsErrorOf, Utf16Error}
 use Rattle.utf16_str.proofs.Lent.{Answer, Unchanged, view_val}
 use Rattle.utf16_str.proofs.LentValues.{and_true, known}
-use Rattle.utf16_str.proofs.LentAnswers.{Pair, args, stayed, tested_tells, Ans, made_view, left_as_it_was}
+use Rattle.utf16_str.proofs.LentResults.{Pair, args, stayed, tested_tells, Ans, made_view, left_as_it_was}
 use Rattle.utf16_str.specs.contracts.wstr_mut.WStrMut.from_utf16 as F
 use Rattle.utf16_str.specs.contracts.wstr_mut.WStrMut.from_utf16.Key as key
 use Rattle.utf16_str.proofs.wstr_mut.WStrMut.from_utf16.Statement as stated
