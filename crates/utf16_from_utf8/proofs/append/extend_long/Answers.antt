@@ -5,7 +5,7 @@ use Rattle.std.specs.Str.{IsUtf8, chars}
 use Rattle.std.specs.Vec.{vec_capacity, vec_len}
 use Rattle.utf16_units.specs.Encoding.{encode, size}
 use Rattle.utf16_units.proofs.EncodingLemmas.{length-encode}
-use Rattle.utf16_from_utf8.proofs.AppendLemmas.{piece-some, pieces-done, pieces-room, when-ok}
+use Rattle.utf16_from_utf8.proofs.AppendLemmas.{piece-some, pieces-done, pieces-room, rest-fits, when-ok}
 use Rattle.utf16_from_utf8.proofs.append.extend_long.Given.{Over}
 use Rattle.utf16_from_utf8.proofs.append.extend_long.Goals as goal
 use Rattle.utf16_from_utf8.proofs.append.extend_long.Goals.{After-split_at}
@@ -49,20 +49,9 @@ loop-rest-preserved g c =
 
 pub returns-clause-ok : goal.returns-clause-ok
 returns-clause-ok g c =
-    let big = g.E.Utf16Order.BIG in
     let old = c.args.raw.now in
-    c.append_by-2.ensures.succeeds (omega (
-      arith,
-      length-append old.items (encode big (chars c.args.s.now)),
-      length-encode big (chars c.args.s.now),
-      old.ok.0,
-      c.requires,
-      c.loop-rest.invariant.grows,
-      ap length c.loop-rest.invariant.whole,
-      length-append c.loop-rest.raw.items (encode big (chars c.loop-rest.rest.now)),
-      length-encode big (chars c.loop-rest.rest.now),
-      c.loop-rest.raw.ok.0,
-    ))
+    let fits = rest-fits g.E.Utf16Order.BIG old.items c.loop-rest.raw.items c.args.s.now c.loop-rest.rest.now c.loop-rest.raw.cap c.loop-rest.invariant.whole (omega (arith, old.ok.0, c.requires, c.loop-rest.invariant.grows)) in
+    c.append_by-2.ensures.succeeds (omega (arith, fits, c.loop-rest.raw.ok.0))
 
 pub returns-clause-items : goal.returns-clause-items
 returns-clause-items g c = when-ok c.append_by-2.result (returns-clause-ok g c) c.append_by-2.ensures.items ∙ c.loop-rest.invariant.whole
