@@ -1,9 +1,10 @@
 #!/usr/bin/env bash
 # Builds the harness, as fuzz/build.sh COMPILER PROGRAM [ARGUMENT..]. Further arguments are for the
-# compiler. If a tool or a file is missing, one line says so.
+# compiler. LIBRARY may name another static library than that of crates/dethrux. If a tool or a file
+# is missing, one line says so.
 set -euo pipefail
 cd "$(dirname "$0")"
-archive=../crates/dethrux/out/libdethrux.a
+archive=${LIBRARY:-../crates/dethrux/out/libdethrux.a}
 compiler=${1:?the compiler}
 program=${2:?the program to build}
 shift 2
@@ -14,7 +15,7 @@ refuse() {
 }
 
 command -v "$compiler" > /dev/null || refuse "$compiler is missing: install gcc, or afl++ for AFL++"
-[ -e "$archive" ] || refuse 'libdethrux.a is missing: run rt lib in crates/dethrux'
+[ -e "$archive" ] || refuse "$archive is missing: run rt lib in crates/dethrux"
 echo '#include <unicode/ucnv.h>' | "$compiler" -E - > /dev/null 2>&1 ||
     refuse 'the headers of ICU are missing: install libicu-dev'
 

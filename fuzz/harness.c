@@ -21,6 +21,8 @@
 #include <time.h>
 #include <unistd.h>
 
+static const char *program; /* the name that it was started with */
+
 static struct {
     const uint8_t *bytes; /* the input */
     size_t len;
@@ -30,7 +32,7 @@ static struct {
 } current;
 
 static void print_difference(const char *what) {
-    fprintf(stderr, "%s: %s\n  reproduce: fuzz/out/harness --hex ", current.check, what);
+    fprintf(stderr, "%s: %s\n  reproduce: fuzz/%s --hex ", current.check, what, program);
     for (size_t i = 0; i < current.len; i++) {
         fprintf(stderr, "%02X", current.bytes[i]);
     }
@@ -174,6 +176,7 @@ static int run_afl(void) {
 #endif
 
 int main(int argc, char **argv) {
+    program = argv[0];
     guarded_init();
     peers_init();
     catch_faults();

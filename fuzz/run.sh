@@ -1,9 +1,12 @@
 #!/usr/bin/env bash
 # Calls libdethrux on random inputs for a minute, as fuzz/run.sh [--seconds N] [--seed N], and tests
 # that the harness finds the wrong versions of planted.c. The last line is 'N passed, M failed',
-# where each call of the library, each peer and each planted version counts as one.
+# where each call of the library, each peer and each planted version counts as one. With
+# --library FILE this static library is called instead of the one in crates/dethrux.
 set -uo pipefail
+from=$PWD
 cd "$(dirname "$0")" || exit 1
+built=out
 seconds=60
 seed=1
 planted=(dethrux_from_utf8_len dethrux_from_utf8_lossy dethrux_to_utf8 dethrux_utf8_decoder_feed
@@ -12,7 +15,7 @@ passed=0
 failed=0
 
 refuse() {
-    echo "fuzz/run.sh: $1; usage: fuzz/run.sh [--seconds N] [--seed N]" >&2
+    echo "fuzz/run.sh: $1; usage: fuzz/run.sh [--seconds N] [--seed N] [--library FILE]" >&2
     echo '0 passed, 1 failed'
     exit 1
 }
@@ -21,11 +24,16 @@ while [ $# != 0 ]; do
     case $1 in
         --seconds) seconds=${2-} ;;
         --seed) seed=${2-} ;;
+        --library) LIBRARY=$(cd "$from" && realpath -e "${2-}" 2> /dev/null) || refuse "$1 needs a file" ;;
         *) refuse "$1 is not an option" ;;
     esac
-    [[ ${2-} =~ ^[0-9]+$ ]] || refuse "$1 needs a number"
+    [ "$1" = --library ] || [[ ${2-} =~ ^[0-9]+$ ]] || refuse "$1 needs a number"
     shift 2
 done
+if [ -n "${LIBRARY:-}" ]; then
+    export LIBRARY
+    built=out/library
+fi
 
 # Runs a program on random inputs, prints what it prints, and leaves it in the file `said`.
 random() {
@@ -34,7 +42,7 @@ random() {
 
 # Counts the last line of the harness, or one failure where it came to none.
 check_library() {
-    random out/harness "$seconds" | grep -v ' passed, '
+    random $built/harness "$seconds" | grep -v ' passed, '
     if [[ $(tail -n 1 "$room/said") =~ ^([0-9]+)\ passed,\ ([0-9]+)\ failed$ ]]; then
         passed=$((passed + BASH_REMATCH[1]))
         failed=$((failed + BASH_REMATCH[2]))
@@ -47,7 +55,7 @@ check_library() {
 # Counts each planted version that is found, and fails where another call is reported.
 check_planted() {
     local call
-    random out/planted 5 > /dev/null
+    random $built/planted 5 > /dev/null
     for call in "${planted[@]}"; do
         if grep -q "^$call: " "$room/said"; then
             passed=$((passed + 1))
@@ -65,12 +73,12 @@ check_planted() {
 
 room=$(mktemp -d)
 trap 'rm -rf "$room"' EXIT
-if ./build.sh gcc out/harness; then
+if ./build.sh gcc $built/harness; then
     check_library
 else
     failed=$((failed + 1))
 fi
-if ./build.sh gcc out/planted planted.c "${planted[@]/#/-Wl,--wrap=}"; then
+if ./build.sh gcc $built/planted planted.c "${planted[@]/#/-Wl,--wrap=}"; then
     check_planted
 else
     failed=$((failed + 1))

@@ -2,7 +2,8 @@
 # Builds the library libdethrux.a and the examples in C, in C++ and in Python over a shared object,
 # and runs them: the tables of cases, the programs of docs/C.md and docs/CPP.md, and all in C under
 # valgrind. A tool that is missing is a failure. The last line is 'N passed, M failed'. With
-# --over-ci the library is built over the libraries that rt ci has just proved.
+# --over-ci the library is built over the libraries that rt ci has just proved, and with
+# --library FILE it is not built: FILE is tested.
 set -uo pipefail
 here=$(cd "$(dirname "$0")" && pwd)
 top=$here/../..
@@ -32,33 +33,19 @@ count() {
     fi
 }
 
-# The static library, over what rt has kept of the crates below it.
+# Builds the static library over what rt has kept of the crates below it.
 library() {
     cd "$top/crates/dethrux" && rt lib
 }
 
-# The static library over what rt ci has just proved. rt ci checks a static library and builds none,
-# and leaves those below it without the stamp by which rt lib would know them. So rt lib proves them
-# all once more, and no command of rt takes them as they are. This calls the compiler in rt's words
-# in its place, and is all that does so. Where an earlier rt lib left stamps, rt ci puts them back.
+# Builds the static library over what rt ci has just proved. If an earlier rt lib left stamps, rt ci
+# has put them back, and rt lib proves nothing again.
 library_over_ci() {
-    local kit below words=()
-    cd "$top/crates/dethrux" || return 1
-    if compgen -G '../*/out/rlib/stamp' > /dev/null; then
-        rt lib
-        return
+    if compgen -G "$top/crates/*/out/rlib/stamp" > /dev/null; then
+        library
+    else
+        "$top/.ci/library.sh" llvm "$archive"
     fi
-    kit=$(dirname "$(dirname "$(readlink -f "$(command -v rt)")")")
-    for below in ../*/out/rlib; do
-        words+=(-L "dependency=$below")
-    done
-    for below in utf16_encode utf16_decode utf8_bytes utf16_bytes utf16_units; do
-        words+=(--extern "$below=../$below/out/rlib/$below.rlib")
-    done
-    words+=(--extern "std=$kit/rlibs/std.rlib" -L "dependency=$kit/rlibs" --toolchain "$kit/toolchain")
-    words+=(--antt-project "$kit/rattle/logic/antt-project.json" --logic-built "$kit/logic_built")
-    "$kit/bin/rattle" build --crate-name dethrux --crate-type staticlib --links dethrux= --backend llvm --jobs 4 \
-        "${words[@]}" -o out/libdethrux.a src/lib.rt
 }
 
 has() {
@@ -141,7 +128,10 @@ check_python() {
 
 cat "$top"/cases/*.txt > "$room/cases"
 built=library
-[ "${1-}" != --over-ci ] || built=library_over_ci
+case "${1-}" in
+    --over-ci) built=library_over_ci ;;
+    --library) archive=$(realpath "$2"); built=true ;;
+esac
 ("$built") > "$room/said" 2>&1 || { tail -n 20 "$room/said"; echo "0 passed, 1 failed"; exit 1; }
 if has cc 'C and Python'; then
     count 'the program in C' in_c decode && count 'a file in chunks' decodes

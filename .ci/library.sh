@@ -1,0 +1,32 @@
+#!/usr/bin/env bash
+# Builds the static library with a compiler, over the libraries that rt ci has just proved, as
+# .ci/library.sh llvm|rattle FILE. rt ci checks a static library and builds none, and it leaves those
+# below it without the stamp by which rt lib would know them, so rt lib would prove them all once
+# more. This script calls the compiler with the words that rt gives it, and is the only one that does.
+set -euo pipefail
+backend=${1:?the compiler: llvm or rattle}
+to=$(realpath -m "${2:?the file to write}")
+cd "$(dirname "$0")/../crates/dethrux"
+kit=$(dirname "$(dirname "$(readlink -f "$(command -v rt)")")")
+words=()
+for below in ../*/out/rlib; do
+    words+=(-L "dependency=$below")
+done
+for below in $(sed -n 's/^dethrux staticlib: //p' ../../crates.txt); do
+    words+=(--extern "$below=../$below/out/rlib/$below.rlib")
+done
+words+=(--extern "std=$kit/rlibs/std.rlib" -L "dependency=$kit/rlibs")
+words+=(--antt-project "$kit/rattle/logic/antt-project.json")
+words+=(--crate-name dethrux --crate-type staticlib --links dethrux=)
+
+# Compiles what was checked; fails if the sources or the libraries below are others.
+compile() {
+    "$kit/bin/rattle" build "${words[@]}" --crate-checked out/checked --toolchain "$kit/toolchain" \
+        --backend "$backend" -o "$to" src/lib.rt
+}
+
+mkdir -p "$(dirname "$to")" out
+if ! compile > out/compiled.log 2>&1; then
+    "$kit/bin/rattle" check "${words[@]}" --logic-built "$kit/logic_built" --jobs 4 -o out/checked src/lib.rt
+    compile
+fi
