@@ -1,11 +1,11 @@
--- A stream whose BOM gives its byte order, from the bytes that have come to more of them.
+-- A stream whose BOM gives its byte order, and how it continues when more bytes come.
 use Rattle.std.proofs.Common.{◌≡◌, ℕ, Bool, true, false, List, [], ◌∷◌, ◌++◌, Option, None, Some, append-nil, refl, sym, ap, ◌∙◌, if◌then◌else◌}
 use Rattle.std.specs.Option.{MatchOption, option_to_list}
 use Rattle.utf16_units.specs.Split.{split_items, split_tail}
 use Rattle.utf16_units.proofs.SplitJoin.{split_items-append, split_tail-append}
 use Rattle.utf16_streams.specs.Bom.{after_bom, is_big, has_bom, items_in, byte_order_after, tail_in}
 
--- one byte, or none, as a slice of it
+-- one byte or none, as a slice
 pub first_slice : (first : Option ℕ) (bytes : List ℕ) → MatchOption first (bytes ≡ []) (λ byte. bytes ≡ byte ∷ []) → bytes ≡ option_to_list first
 first_slice None bytes is = is
 first_slice (Some byte) bytes is = is
@@ -26,7 +26,7 @@ unfolding split_tail
 first_tail None = refl
 first_tail (Some byte) = refl
 
--- before the first byte
+-- before the first byte comes
 pub items_in-nil : (order : Option Bool) → items_in order [] ≡ []
 unfolding split_items
 items_in-nil None = refl
@@ -49,7 +49,7 @@ behind_more false bytes piece all = refl
 text_more : (first second : ℕ) (bytes piece : List ℕ) → after_bom (first ∷ second ∷ bytes ++ piece) ≡ after_bom (first ∷ second ∷ bytes) ++ piece
 text_more first second bytes piece = behind_more (has_bom (first ∷ second ∷ bytes)) bytes piece (first ∷ second ∷ bytes)
 
--- one more chunk: the items of the tail and the chunk, in the order that holds then, are appended
+-- one more chunk appends the items of the tail and the chunk, in the order that is then known
 pub items_in-append : (order : Option Bool) (front piece : List ℕ)
     → items_in order (front ++ piece) ≡ items_in order front ++ items_in (byte_order_after order front) (tail_in order front ++ piece)
 unfolding split_items split_tail
@@ -78,7 +78,7 @@ byte_order_after-append None [] piece = refl
 byte_order_after-append None (first ∷ []) piece = refl
 byte_order_after-append None (first ∷ second ∷ bytes) piece = refl
 
--- at most one byte, and nothing after it: it is pending
+-- at most one byte has come, with nothing after it: it is pending
 first_order : (first : Option ℕ) → byte_order_after None (option_to_list first) ≡ None
 first_order None = refl
 first_order (Some byte) = refl
@@ -93,7 +93,7 @@ module _ (first : Option ℕ) (bytes : List ℕ) (is : bytes ≡ option_to_list 
   pub only_order : byte_order_after None bytes ≡ None
   only_order = ap (byte_order_after None) is ∙ first_order first
 
--- and so where that is said of an order and of pending bytes
+-- the same, given as facts about an order and pending bytes
 module _ (order : Option Bool) (pending piece : List ℕ) (first : Option ℕ) (undecided : order ≡ None) (only : pending ≡ option_to_list first) (none : piece ≡ []) where
   bytes : pending ++ piece ≡ option_to_list first
   bytes = ap (λ p. pending ++ p) none ∙ append-nil pending ∙ only

@@ -2,8 +2,8 @@
 use Rattle.std.proofs.Common.{◌≡◌, ℕ, Bool, true, false, List, [], ◌∷◌, None, Some, refl}
 use Rattle.utf16_streams.specs.Bom.{big_in, byte_order_after, text_in}
 
--- the stream is decoded in this order, these of its bytes are text, and what follows it is decoded
--- in that order
+-- the stream is decoded in this order, `text` are the bytes of its text, and what follows is
+-- decoded in the same order
 abbrev IsRead : Bool → List ℕ → List ℕ → Type 0
 IsRead big bytes text = (big_in None bytes ≡ big) × (text_in None bytes ≡ text) × (byte_order_after None bytes ≡ Some big)
 

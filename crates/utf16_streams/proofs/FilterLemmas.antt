@@ -7,7 +7,7 @@ use Rattle.std.proofs.KnownBytes.{Appends-nil, Appends-trans, Consumes-kept, Con
 use Rattle.utf16_streams.specs.Continues.{Continues}
 use Rattle.utf16_streams.specs.Filter.{AppendsPrefix, FiltersAll, FiltersBefore, FiltersPrefix, FiltersSome}
 
--- without a byte, and with more of them
+-- no bytes have come, and more bytes come after others
 Continues-none : (decided whole : List ℕ → List ℕ) → decided [] ≡ [] → Continues decided whole decided whole []
 Continues-none decided whole nothing = record {
   certain = λ back. ap (λ d. d ++ decided back) (sym nothing);
@@ -25,8 +25,8 @@ Continues-more decided whole mid mid_whole last last_whole front piece first sec
   regroup : (more : List ℕ) → decided front ++ (mid piece ++ more) ≡ decided (front ++ piece) ++ more
   regroup more = sym (append_assoc (decided front) (mid piece) more) ∙ ap (λ d. d ++ more) (sym (first.certain piece))
 
--- `reads` reads returned bytes; the output that is certain of these was written, and the transcoder
--- continues from there
+-- `reads` reads returned bytes; the output that is certain for them was written, and the transcoder
+-- continues after them
 pub record Filtering (decided whole : List ℕ → List ℕ) (input left old new : Option (List ℕ)) (decided_then whole_then : List ℕ → List ℕ) (reads : ℕ) : Type 0 where
   bytes : List ℕ
   consumed : Consumes input left bytes
@@ -52,7 +52,7 @@ module _ (decided whole : List ℕ → List ℕ) (input left old new : Option (L
   abbrev bytes : List ℕ
   bytes = so_far.bytes
 
-  -- if it stops without another byte
+  -- the filter stops, and no byte was read since
   pub Filtering-some : (least : ℕ) (after : Option (List ℕ)) → least ≤ reads → Keeps left after → FiltersSome decided whole input after old new least
   Filtering-some least after few kept =
       (bytes, Consumes-kept input left after bytes so_far.consumed kept, omega (arith, so_far.many, few), so_far.written)
@@ -67,13 +67,13 @@ module _ (decided whole : List ℕ → List ℕ) (input left old new : Option (L
     before : take (length bytes) (bytes ++ piece) ≡ bytes
     before = front_of bytes piece
 
-    -- if a read returned 0
+    -- a read returned 0
     pub Filtering-end : (now : Option (List ℕ)) → piece ≡ [] → IsAtEnd after → Appends new now (whole_then []) → FiltersAll decided whole input after old now
     Filtering-end now none ended wrote =
         let text = ap (λ p. decided bytes ++ whole_then p) (sym none) ∙ sym (so_far.continues.all piece) in
         (bytes ++ piece, more_read, ended, subst (Appends old now) text (Appends-trans old new now (decided bytes) (whole_then []) so_far.written wrote))
 
-    -- if a prefix of what they add was written
+    -- a prefix of what the chunk adds was written, and a write failed
     pub Filtering-fault : (output rest : List ℕ) (now : Option (List ℕ)) → length piece ≤ 4096 → whole_then piece ≡ output ++ rest → AppendsPrefix new now output
         → FiltersPrefix decided whole input after old now
     Filtering-fault output rest now few adds wrote =
@@ -95,7 +95,7 @@ module _ (decided whole : List ℕ → List ℕ) (input left old new : Option (L
           ),
         )
 
-    -- if memory was refused for bytes that add to the output
+    -- allocation failed for a chunk that adds to the output
     pub Filtering-refused : 8 ≤ length piece → length piece ≤ 4096 → decided_then piece ≢ [] → FiltersBefore decided whole input after old new
     Filtering-refused some few adds =
         let no_more : decided (take (length bytes) (bytes ++ piece)) ≡ decided (bytes ++ piece) → decided_then piece ≡ [] = λ same. (

@@ -1,4 +1,4 @@
--- A stream by its chunks: one more of them, and chunks without bytes.
+-- The text of a stream, chunk by chunk: one more chunk, and chunks without bytes.
 use Rattle.std.proofs.Common.{◌≡◌, ◌≢◌, ℕ, ◌+◌, ◌<◌, ◌≤◌, Bool, List, [], ◌∷◌, ◌++◌, length, take, drop, get_or, encode_utf8_all, flat_map, take_all, refl, sym, ap, ◌∙◌, take-append-drop}
 use Rattle.std.proofs.lemmas.List.Concat.{flat_map-append}
 use Rattle.std.specs.Char.{encode_utf8}

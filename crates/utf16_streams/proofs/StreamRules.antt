@@ -1,5 +1,5 @@
--- Rules for a reader of a stream chunk by chunk: the characters that bytes decide, and the text so
--- far with the pending bytes.
+-- Rules for a reader of a stream, chunk by chunk: the characters that the bytes decide, and the
+-- text so far with the pending bytes.
 use Rattle.std.proofs.Common.{◌≡◌, ◌≢◌, ◌++◌, ℕ, ◌+◌, ◌<◌, ◌≤◌, Bool, true, false, List, [], ◌∷◌, Option, None, Some, Result, Ok, Err, All, drop, if◌then◌else◌, get_or, flat_map, length, take, take_all, append-nil, length-append, chars, encode_utf8_all, refl, sym, ap, ◌∙◌, subst}
 use Rattle.std.proofs.lemmas.Grind.{flat_map-append, take_at_read}
 use Rattle.std.proofs.lemmas.List.{map-append}
@@ -22,7 +22,7 @@ use Rattle.utf16_decode.proofs.StreamLemmas.{joined-more}
 abbrev pub IsByte : ℕ → Type 0
 IsByte b = b < 256
 
--- the bytes of a stream by its chunks: of one more chunk, and of all
+-- the bytes of the chunks of a stream: with one more chunk, and all of them
 module _ {X : Type 0} (of : X → List ℕ) (pieces : List X) (i : ℕ) where
   pub bytes-more : (piece : X) → i < length pieces → piece ≡ get_or pieces i piece
       → All IsByte (flat_map of (take i pieces)) → All IsByte (of piece) → All IsByte (flat_map of (take (i + 1) pieces))
@@ -31,7 +31,7 @@ module _ {X : Type 0} (of : X → List ℕ) (pieces : List X) (i : ℕ) where
   pub bytes-all : length pieces ≤ i → All IsByte (flat_map of (take i pieces)) → All IsByte (flat_map of pieces)
   bytes-all past so_far = subst (λ p. All IsByte (flat_map of p)) (take_all i pieces past) so_far
 
--- ---- the characters of what a call gives
+-- ---- the characters of the strings that a call returns
 
 -- the characters of items, and those of the whole text, are scalar values
 full_scalar : (items : List Item) (tail : List ℕ) → All IsScalar (lossy_chars items) → All IsScalar (whole_lossy_chars items tail)
@@ -46,14 +46,14 @@ module _ (big : Bool) (bytes : List ℕ) (are : All IsByte bytes) where
   pub scalars_full : All IsScalar (whole_lossy_chars (split_items big bytes) (split_tail big bytes))
   scalars_full = full_scalar (split_items big bytes) (split_tail big bytes) scalars_lossy
 
-  -- so the characters of their UTF-8 are these
+  -- so decoding their UTF-8 gives these characters
   pub chars_marked : (utf8 : List ℕ) → utf8 ≡ encode_utf8_all (lossy_chars (split_items big bytes)) → chars utf8 ≡ lossy_chars (split_items big bytes)
   chars_marked utf8 is = ap chars is ∙ utf8_back (lossy_chars (split_items big bytes)) scalars_lossy
 
   pub chars_full : (utf8 : List ℕ) → utf8 ≡ encode_utf8_all (whole_lossy_chars (split_items big bytes) (split_tail big bytes)) → chars utf8 ≡ whole_lossy_chars (split_items big bytes) (split_tail big bytes)
   chars_full utf8 is = ap chars is ∙ utf8_back (whole_lossy_chars (split_items big bytes) (split_tail big bytes)) scalars_full
 
--- the same of bytes that are read in a byte order that a BOM may give
+-- the same for bytes whose byte order a BOM may give
 behind_are : (lossy_chars : Bool) (bytes : List ℕ) → All IsByte bytes → All IsByte (if lossy_chars then drop 2 bytes else bytes)
 behind_are true bytes are = All-drop IsByte 2 bytes are
 behind_are false bytes are = are
@@ -62,7 +62,7 @@ text_are : (order : Option Bool) (bytes : List ℕ) → All IsByte bytes → All
 text_are (Some big) bytes are = are
 text_are None bytes are = behind_are (has_bom bytes) bytes are
 
--- and so of what a call returns
+-- the same for what a call returns
 module _ {T X : Type 0} (big : Bool) (bytes : List ℕ) (r : Result T X) (utf8 : T → List ℕ) where
   pub chars_of : All IsByte bytes → IfOk r (λ s. utf8 s ≡ encode_utf8_all (lossy_chars (split_items big bytes)))
       → IfOk r (λ s. chars (utf8 s) ≡ lossy_chars (split_items big bytes))
@@ -81,12 +81,12 @@ chars_of_whole big bytes (Err e) utf8 are text = tt
 
 -- ---- a loop over the chunks of a stream
 
--- bytes that were read: a fact of the text that they decide, and which of them are pending
+-- bytes that were read: a fact about the text that they decide, and which of them are pending
 pub record Reads (big : Bool) (bytes kept : List ℕ) (Of : List ℕ → Type 0) : Type 0 where
   pub text : Of (lossy_chars (split_items big bytes))
   pub tail : kept ≡ split_tail big bytes
 
--- before the first byte
+-- before the first byte comes
 pub Reads-start : (big : Bool) (kept : List ℕ) (Of : List ℕ → Type 0) → kept ≡ [] → Of [] → Reads big [] kept Of
 unfolding split_items split_tail
 Reads-start big kept Of none text = record { text = text; tail = none }
@@ -105,7 +105,7 @@ module _ (big : Bool) (bytes kept : List ℕ) (Of : List ℕ → Type 0) (so_far
       tail = after ∙ ap (λ k. split_tail big (k ++ piece)) so_far.tail ∙ sym (split_tail-append big bytes piece);
     }
 
-  -- the end of the stream: the text is whole where nothing is pending, and else one U+FFFD ends it
+  -- the end of the stream: if nothing is pending, the text is whole; otherwise one U+FFFD ends it
   pub Reads-none : kept ≡ [] → Of (whole_lossy_chars (split_items big bytes) (split_tail big bytes))
   Reads-none none = subst (λ t. Of (whole_lossy_chars (split_items big bytes) t)) (sym none ∙ so_far.tail) so_far.text
 
@@ -127,7 +127,7 @@ module _ {X : Type 0} (of : X → List ℕ) (pieces : List X) (i : ℕ) (big : B
   pub Reads-all : length pieces ≤ i → Reads big (flat_map of pieces) kept Of
   Reads-all past = subst (λ p. Reads big (flat_map of p) kept Of) (take_all i pieces past) so_far
 
--- the same for a list of chunks, of which a `Lossy` was given the first `i`
+-- the same for a list of chunks, of which a `Lossy` has taken the first `i`
 module _ {E Z : Type 0} {order : Ghosts E} where
   abbrev pub ReadsPieces : List (Vec ℕ Z) → ℕ → Lossy E order → (List ℕ → Type 0) → Type 0
   ReadsPieces pieces i decoder Of = Reads order.BIG (flat_map vec_items (take i pieces)) (lossy_pending decoder) Of
@@ -140,5 +140,6 @@ pub tail_none : (big : Bool) → split_tail big [] ≡ []
 unfolding split_tail
 tail_none big = refl
 
--- such a loop, where the fact is equations on lengths, sums and counts of the text
+-- rules for such a loop, if the fact consists of equations about lengths, sums and counts of the
+-- text
 pub ruleset streams = (items_none, tail_none, split_items-append, split_tail-append, take_all, take_at_read, flat_map-append, append-nil, map-append, length-append, sum_by-append)

@@ -1,4 +1,4 @@
--- The UTF-8 of a stream of UTF-16, from the bytes that have come to more of them.
+-- The UTF-8 of a stream of UTF-16, and how it continues when more bytes come.
 use Rattle.std.proofs.Common.{◌≡◌, ◌≢◌, ℕ, ◌≤◌, Bool, true, false, List, [], ◌∷◌, ◌++◌, Option, None, Some, Result, length, drop, encode_utf8_all, if◌then◌else◌, refl, sym, ap, ap₂, ◌∙◌, subst, arith, append-nil, append_assoc, length-append, length-drop}
 use Rattle.std.proofs.lemmas.List.{length-map, nil_from_length}
 use Rattle.std.proofs.lemmas.Str.{length-le-encodes}
@@ -23,7 +23,7 @@ whole-replacement order bytes = by_tail (tail_in order bytes) where
   by_tail [] = append-nil (decided_utf8 order bytes) ∙ sym (whole_lossy_chars-none (items_in order bytes) [] refl)
   by_tail (first ∷ after) = sym (whole_lossy_chars-some (items_in order bytes) (first ∷ after) (λ e. absurd (cc)))
 
--- with more bytes appended
+-- more bytes are appended
 module _ (order : Option Bool) (front back : List ℕ) where
   abbrev later : Option Bool
   later = byte_order_after order front
@@ -50,7 +50,7 @@ Continues-utf8 order now pending piece kept told tail = record {
       ∙ ap₂ (λ o t. decided_utf8 order (pending ++ piece) ++ whole_utf8 o (t ++ back)) (sym told) (sym tail);
 }
 
--- pending bytes, with nothing after them, have no item
+-- pending bytes with nothing after them have no item
 module _ (big : Bool) where
   waits_behind : (bom : Bool) (bytes : List ℕ) → split_tail big (if bom then drop 2 bytes else bytes) ≡ bytes → split_items big (if bom then drop 2 bytes else bytes) ≡ []
   unfolding split_items
@@ -59,7 +59,7 @@ module _ (big : Bool) where
       let none = nil_from_length bytes (omega (arith, length-split_tail-le big (drop 2 bytes), length-drop 2 bytes, ap length same)) in
       ap (λ b. split_items big (drop 2 b)) none
 
-  -- six bytes have one
+  -- six bytes have an item
   decides_behind : (bom : Bool) (bytes : List ℕ) → 6 ≤ length bytes → split_items big (if bom then drop 2 bytes else bytes) ≢ []
   decides_behind false bytes long = four_decide big bytes (omega (arith, long))
   decides_behind true bytes long = four_decide big (drop 2 bytes) (omega (arith, long, length-drop 2 bytes))

@@ -1,4 +1,4 @@
--- What contracts can say of an `AnyLossy`: its pending bytes and its byte order.
+-- What contracts can say about an `AnyLossy`: its pending bytes and its byte order.
 use Rattle.std.specs.Prelude.{ℕ, Bool, true, false, List, Option, Some, None}
 use Rattle.std.specs.Option.{option_to_list}
 use Rattle.utf16_streams.specs.Lossy.{lossy_pending}
@@ -22,7 +22,7 @@ state_byte_order (Little decoder) = Some false
 abbrev pub any_pending : AnyLossy → List ℕ
 any_pending decoder = state_pending decoder.state
 
--- the byte order found: `Some true` for big endian, `Some false` for little endian, `None` if fewer
--- than two bytes have come
+-- the byte order found: `Some true` for big endian, `Some false` for little endian, and `None` if
+-- fewer than two bytes have come
 abbrev pub any_byte_order : AnyLossy → Option Bool
 any_byte_order decoder = state_byte_order decoder.state

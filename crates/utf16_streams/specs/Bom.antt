@@ -1,4 +1,4 @@
--- What the BOM at the beginning of a stream says (Unicode, section 23.8: byte order mark).
+-- What the BOM at the beginning of a stream means (Unicode, section 23.8: byte order mark).
 use Rattle.std.specs.Prelude.{ℕ, ◌&&◌, ◌||◌, Bool, false, not, List, ◌∷◌, Option, Some, None, drop, if◌then◌else◌}
 use Rattle.std.specs.Bool.{◌==◌}
 use Rattle.utf16_units.specs.Split.{Item, split_items, split_tail}
@@ -12,12 +12,12 @@ begins_with a b bytes = false
 abbrev pub has_bom : List ℕ → Bool
 has_bom bytes = begins_with 0xFE 0xFF bytes || begins_with 0xFF 0xFE bytes
 
--- the stream is big endian: unless it begins with the BOM in little endian (Unicode, section 3.10:
+-- the stream is big endian unless it begins with the BOM in little endian (Unicode, section 3.10:
 -- UTF-16 encoding scheme)
 abbrev pub is_big : List ℕ → Bool
 is_big bytes = not (begins_with 0xFF 0xFE bytes)
 
--- the stream without its BOM, which is no part of the text (Unicode, section 3.10: UTF-16 encoding
+-- the stream without its BOM, which is not part of the text (Unicode, section 3.10: UTF-16 encoding
 -- scheme)
 abbrev pub after_bom : List ℕ → List ℕ
 after_bom bytes = if has_bom bytes then drop 2 bytes else bytes
@@ -30,7 +30,7 @@ abbrev pub big_in : Option Bool → List ℕ → Bool
 big_in (Some big) bytes = big
 big_in None bytes = is_big bytes
 
--- the bytes that are decoded as text: in a given order all of them, a BOM included
+-- the bytes that are decoded as text: if the order is given, all of them, a BOM included
 abbrev pub text_in : Option Bool → List ℕ → List ℕ
 text_in (Some big) bytes = bytes
 text_in None bytes = after_bom bytes

@@ -9,17 +9,17 @@ use Rattle.utf16_streams.specs.Continues.{Continues}
 use Rattle.utf16_streams.specs.declared.filters.FilterFault.{FilterFault}
 use Rattle.utf16_streams.specs.declared.filters.FilterFault.TheVariants.{Long, Memory, Read, Write}
 
--- the UTF-8 of the text that is certain: of the items of the split, with U+FFFD for ill-formed ones
+-- the UTF-8 of the certain text: the items of the split, with U+FFFD for each ill-formed one
 abbrev pub decided_utf8 : Option Bool → List ℕ → List ℕ
 decided_utf8 order bytes = encode_utf8_all (lossy_chars (items_in order bytes))
 
--- the UTF-8 of the whole text of the bytes: that text, and U+FFFD if the split leaves a tail
+-- the UTF-8 of the whole text: the certain text, and U+FFFD if the split leaves a tail
 abbrev pub whole_utf8 : Option Bool → List ℕ → List ℕ
 whole_utf8 order bytes =
     encode_utf8_all (whole_lossy_chars (items_in order bytes) (tail_in order bytes))
 
--- once a chunk has come after pending bytes, other bytes are pending, and what more bytes add is
--- their text
+-- once `piece` has come after the bytes `pending` in the order `order`, the bytes `kept` are
+-- pending in the order `now`, and decide what more bytes add
 abbrev pub ContinuesUtf8 : Option Bool → List ℕ → Option Bool → List ℕ → List ℕ → Type 0
 ContinuesUtf8 order pending now kept piece = Continues (λ b. decided_utf8 order (pending ++ b))
     (λ b. whole_utf8 order (pending ++ b)) (λ b. decided_utf8 now (kept ++ b))
@@ -41,7 +41,7 @@ module _ (decided whole : List ℕ → List ℕ) (input left old new : Option (L
   FiltersAll = (bytes : List ℕ)
       × Consumes input left bytes × IsAtEnd left × Appends old new (whole bytes)
 
-  -- at least `least` bytes were read, and the output that is certain of them was written
+  -- at least `least` bytes were read, and the output that is certain for them was written
   abbrev pub FiltersSome : ℕ → Type 0
   FiltersSome least = (bytes : List ℕ)
       × Consumes input left bytes × (least ≤ length bytes) × Appends old new (decided bytes)
@@ -53,14 +53,14 @@ module _ (decided whole : List ℕ → List ℕ) (input left old new : Option (L
       × ((n : ℕ) × (n + 8 ≤ length bytes) × IsNearEnd bytes n
       × (decided (take n bytes) ≢ decided bytes) × Appends old new (decided (take n bytes)))
 
-  -- some bytes were read; a prefix of their whole output was written, and at least the certain
+  -- some bytes were read; a prefix of their whole output was written, with at least the certain
   -- output of all but the last 4,096 of them
   abbrev pub FiltersPrefix : Type 0
   FiltersPrefix = (bytes : List ℕ) × Consumes input left bytes
       × ((written : List ℕ) × Appends old new written × StartsWith (whole bytes) written
       × ((n : ℕ) × IsNearEnd bytes n × StartsWith written (decided (take n bytes))))
 
-  -- for each result
+  -- what a filter did, by its result
   abbrev pub FiltersBy : Result (Unit {0}) FilterFault → Type 0
   FiltersBy (Ok done) = FiltersAll
   FiltersBy (Err Read) = FiltersSome 0
@@ -76,7 +76,7 @@ module _ (order : Option Bool) where
       → Option (List ℕ) → Option (List ℕ) → Type 0
   Filters = FiltersAll (decided_utf8 order) (whole_utf8 order)
 
-  -- for each result
+  -- what a filter did, by its result
   abbrev pub FiltersIn : Option (List ℕ) → Option (List ℕ)
       → Option (List ℕ) → Option (List ℕ) → Result (Unit {0}) FilterFault → Type 0
   FiltersIn = FiltersBy (decided_utf8 order) (whole_utf8 order)
@@ -91,7 +91,7 @@ abbrev pub FiltersAuto : Option (List ℕ) → Option (List ℕ)
     → Option (List ℕ) → Option (List ℕ) → Result (Unit {0}) FilterFault → Type 0
 FiltersAuto = FiltersIn None
 
--- the number of I/O errors of the reader that a result stands for
+-- the number of I/O errors of the reader if a filter returns this result
 abbrev pub read_faults : Result (Unit {0}) FilterFault → ℕ
 read_faults (Ok done) = 0
 read_faults (Err Read) = 1
@@ -99,7 +99,7 @@ read_faults (Err Write) = 0
 read_faults (Err Memory) = 0
 read_faults (Err Long) = 0
 
--- the number of I/O errors of the writer that a result stands for
+-- the number of I/O errors of the writer if a filter returns this result
 abbrev pub write_faults : Result (Unit {0}) FilterFault → ℕ
 write_faults (Ok done) = 0
 write_faults (Err Read) = 0

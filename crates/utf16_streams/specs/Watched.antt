@@ -1,4 +1,4 @@
--- What contracts can say of a `Watched`: its reader or writer, and its error count.
+-- What contracts can say about a `Watched`: its reader or writer, and its error count.
 use Rattle.std.specs.Prelude.{◌≡◌, ℕ, ◌+◌, Result, MatchResult}
 use Rattle.utf16_streams.specs.declared.watched.Watched.{Watched}
 

@@ -15,12 +15,12 @@ use utf16_decode::{REPLACEMENT, put};
 use utf16_units::laws::are_bytes;
 use utf16_units::{BE, LE};
 
-/// A decoder of UTF-16 that comes in chunks, cut anywhere, in the byte order that its BOM gives. A
-/// stream that begins with the bytes `FE FF` is big endian, one that begins with `FF FE` is little
-/// endian, and this BOM (byte order mark) is no part of its text. Any other stream is big endian,
-/// and all of it is text. A second BOM is a character like any other. Ill-formed sequences become
-/// U+FFFD, the replacement character: one for each unpaired surrogate. At most three bytes are
-/// pending, in the value itself.
+/// A decoder of UTF-16 that comes in chunks, cut anywhere, in the byte order that its BOM (byte
+/// order mark) gives. A stream that begins with the bytes `FE FF` is big endian, and one that
+/// begins with `FF FE` is little endian; this BOM is not part of its text. Any other stream is big
+/// endian, and all of it is text. A second BOM is a character like any other. Each unpaired
+/// surrogate becomes U+FFFD, the replacement character. The value itself holds the pending bytes,
+/// at most three.
 #[derive(Drop)]
 pub struct AnyLossy {
     state: State,
@@ -47,8 +47,9 @@ impl AnyLossy {
         }
     }
 
-    /// Returns the bytes that are not decoded yet, at most three: before the second byte of the
-    /// stream, the first one if it came (it may be a byte of a BOM); later as `Lossy::pending`.
+    /// Returns the bytes that are not decoded yet, at most three. Before the second byte of the
+    /// stream comes, this is the first byte, if it has come: it may be a byte of a BOM. After that,
+    /// it is what `Lossy::pending` returns.
     #[inline]
     pub fn pending(&self) -> &[u8]
         ensures bytes { result.now ≡ any_pending self.now }
@@ -75,13 +76,14 @@ impl AnyLossy {
     ///
     /// # Errors
     ///
-    /// If allocation fails. The decoder is unchanged then, its byte order undecided if it was, and
-    /// nothing of the chunk is taken. A call that returns the empty string never fails.
+    /// If allocation fails. In that case the decoder is unchanged, nothing of the chunk is taken,
+    /// and a byte order that was undecided remains so. A call that returns the empty string never
+    /// fails.
     ///
     /// # Complexity
     ///
-    /// Allocates once for the longest possible result: three bytes for each code unit that is no
-    /// BOM, or eight for a single one. Allocates nothing if the result is empty.
+    /// Allocates once for the longest possible result: three bytes for each code unit except a BOM,
+    /// or eight for a single one. Allocates nothing if the result is empty.
     pub fn feed<A: Allocator>(&mut self, alloc: A, piece: &[u8]) -> Result<String<A>, AllocError>
         ensures text { IfOk result (λ s.
             string_bytes s ≡ encode_utf8_all
@@ -224,8 +226,8 @@ impl State {
     }
 }
 
-// Returns the state after the BOM of a stream of which at most one byte has come, if the BOM is in
-// the chunk, and the rest of the chunk. The second byte decides the byte order.
+// Returns the state after the BOM, if the chunk completes one, and the rest of the chunk. At most
+// one byte of the stream has come before. The second byte decides the byte order.
 fn begin<'a>(first: Option<u8>, piece: &'a [u8]) -> (State, &'a [u8])
     ensures items { items_in None (option_to_list first ++ piece.now)
         ≡ items_in (state_byte_order result.0) (state_pending result.0 ++ result.1.now) }
@@ -247,8 +249,8 @@ fn begin<'a>(first: Option<u8>, piece: &'a [u8]) -> (State, &'a [u8])
     }
 }
 
-// Returns the first two bytes of a stream and the bytes after them; the error is for a stream of
-// fewer bytes, and holds the one that came.
+// Returns the first two bytes of a stream and the bytes after them. If fewer have come, the error
+// holds the only one, if there is one.
 fn first_two<'a>(first: Option<u8>, piece: &'a [u8]) -> Result<([u8; 2], &'a [u8]), Option<u8>>
     ensures two { IfOk result (λ parts. option_to_list first ++ piece.now
         ≡ parts.0 ++ parts.1.now) }

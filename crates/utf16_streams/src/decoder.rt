@@ -11,16 +11,17 @@ use utf16_decode::{CHUNK_LEN, FEED_SLACK, SHORT_CHUNK};
 /// unit of `CHUNK_LEN` bytes, and `FEED_SLACK` more.
 pub const BUFFER_LEN: usize = 3 * (CHUNK_LEN / 2) + FEED_SLACK;
 
-/// The length, in bytes, of the buffer for a chunk of at most `SHORT_CHUNK` bytes: the least.
+/// The length, in bytes, of the smallest buffer, which is for a chunk of at most `SHORT_CHUNK`
+/// bytes.
 pub const SHORT_BUFFER: usize = 3 * (SHORT_CHUNK / 2) + FEED_SLACK;
 
 /// A decoder of a stream that comes in chunks, in a given byte order or in the one that the BOM
 /// gives.
 pub trait Decoder: Drop {
-    // The byte order that it decodes: `None` as long as it is not decided.
+    // The byte order being decoded, or `None` until it is decided.
     ghost order: { Self → Option Bool };
 
-    // The bytes that are pending: given, but not decoded yet.
+    // The bytes that are pending: they have come, but are not decoded yet.
     ghost pending: { Self → List ℕ };
 
     /// Decodes the next chunk, and appends the text that is now certain to `to`. The text passes
@@ -28,8 +29,8 @@ pub trait Decoder: Drop {
     ///
     /// # Errors
     ///
-    /// If allocation fails. The decoder is unchanged then; a prefix of the text may have been
-    /// appended.
+    /// If allocation fails. In that case the decoder is unchanged, and a prefix of the text may
+    /// have been appended.
     ///
     /// # Precondition
     ///
@@ -58,8 +59,8 @@ pub trait Decoder: Drop {
 ///
 /// # Errors
 ///
-/// If allocation fails. The decoder is unchanged then. A call that returns the empty string never
-/// fails.
+/// If allocation fails. In that case the decoder is unchanged. A call that returns the empty string
+/// never fails.
 pub fn feed<D: Decoder, A: Allocator>(
     decoder: &mut D,
     alloc: A,

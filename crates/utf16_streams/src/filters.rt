@@ -21,8 +21,8 @@ const LONG_CHUNK: usize = 8;
 // of the chunk and eight more, as `Transcoder::feed_to` requires.
 const SHORT_OUTPUT: usize = 2 * LONG_CHUNK + 8;
 
-/// Why a filter stopped before the end of its input. The text of some bytes is the output that is
-/// certain for them.
+/// Why a filter stopped before the end of its input. Below, the text of the bytes read is the
+/// output that is certain for them.
 #[derive(Clone, Copy, Debug, PartialEq, Eq)]
 pub enum FilterFault {
     /// A read failed. The text of the bytes read is written, but no U+FFFD for an incomplete end.
@@ -30,7 +30,7 @@ pub enum FilterFault {
     /// A write or the flush failed. A prefix of the text of the bytes read is written.
     Write,
     /// Allocation failed. The text of the bytes read before the last chunk is written. The last
-    /// chunk has at least eight bytes and would have added to it: a shorter one needs no
+    /// chunk has at least eight bytes and would have added to it, since a shorter chunk needs no
     /// allocation.
     Memory,
     /// 2^64 - 1 reads returned bytes. Their text is written, but no U+FFFD for an incomplete end.
@@ -44,7 +44,7 @@ pub enum FilterFault {
 /// # Errors
 ///
 /// At the first I/O error, if allocation fails, or after 2^64 - 1 reads that returned bytes.
-/// `FilterFault` says what is written then.
+/// `FilterFault` says what has been written in each case.
 ///
 /// # Precondition
 ///
@@ -52,7 +52,8 @@ pub enum FilterFault {
 ///
 /// # Complexity
 ///
-/// Allocates once, capacity for the text of one chunk, however long the input is; nothing if no
+/// Allocates once, for the text of one chunk, however long the input is. Allocates nothing if no
+/// read returns more than seven bytes.
 /// read returns more than seven bytes.
 pub fn filter<E: Utf16Order, R: Read, W: Write, A: Allocator>(
     alloc: A,
@@ -71,12 +72,12 @@ pub fn filter<E: Utf16Order, R: Read, W: Write, A: Allocator>(
 }
 
 /// Decodes a reader in the byte order that its BOM gives and writes the text to a writer in UTF-8,
-/// as `filter` does. A stream that begins with the bytes `FE FF` is big endian, one that begins
-/// with `FF FE` is little endian, and this BOM is not written. Any other stream is big endian.
+/// as `filter` does. A stream that begins with the bytes `FE FF` is big endian, and one that begins
+/// with `FF FE` is little endian; this BOM is not written. Any other stream is big endian.
 ///
 /// # Errors
 ///
-/// As `filter`.
+/// The same as for `filter`.
 ///
 /// # Precondition
 ///
@@ -103,7 +104,7 @@ pub fn filter_auto<R: Read, W: Write, A: Allocator>(
 /// # Errors
 ///
 /// At the first I/O error, if allocation fails, or after 2^64 - 1 reads that returned bytes.
-/// `FilterFault` says what is written then, with the output of the transcoder for the text.
+/// `FilterFault` says what has been written in each case; its text is the output of the transcoder.
 ///
 /// # Precondition
 ///
@@ -111,7 +112,7 @@ pub fn filter_auto<R: Read, W: Write, A: Allocator>(
 ///
 /// # Complexity
 ///
-/// Allocates once, capacity for the output of one chunk, however long the input is; nothing if no
+/// Allocates once, for the output of one chunk, however long the input is. Allocates nothing if no
 /// read returns more than seven bytes.
 pub fn filter_by<T: Transcoder, R: Read, W: Write, A: Allocator>(
     alloc: A,
@@ -154,8 +155,8 @@ pub fn filter_by<T: Transcoder, R: Read, W: Write, A: Allocator>(
     Err(FilterFault::Long)
 }
 
-// Returns the buffer for the output of a chunk of `count` bytes: `short`, or `long` if the chunk is
-// too long for it, for which memory is requested the first time.
+// Returns the buffer for the output of a chunk of `count` bytes: `short` if that is long enough,
+// and otherwise `long`, which is allocated the first time.
 fn space_for<'a, A: Allocator>(
     count: usize,
     short: &'a mut [u8; SHORT_OUTPUT],
@@ -168,7 +169,8 @@ fn space_for<'a, A: Allocator>(
     if count < LONG_CHUNK {
         return Ok(short);
     }
-    // `feed_to` requires eight bytes beyond two for each byte of the chunk; with more it is faster.
+    // `feed_to` requires only two bytes for each byte of the chunk and eight more; it is faster
+    // with the slack that `FEED_SLACK` gives.
     long.resize(2 * CHUNK_LEN + FEED_SLACK, 0)?;
     Ok(long)
 }

@@ -19,9 +19,9 @@ use utf16_decode::{FEED_SLACK, REPLACEMENT, Stream, ToUtf8, put};
 use utf16_units::Utf16Order;
 use utf16_units::laws::are_bytes;
 
-/// A decoder of UTF-16 in the byte order `E` that comes in chunks, cut anywhere. Ill-formed
-/// sequences become U+FFFD, the replacement character: one for each unpaired surrogate. At most
-/// three bytes are pending, in the value itself.
+/// A decoder of UTF-16 in the byte order `E` that comes in chunks, cut anywhere. Each unpaired
+/// surrogate becomes U+FFFD, the replacement character. The value itself holds the pending bytes,
+/// at most three.
 #[derive(Drop)]
 pub struct Lossy<E: Utf16Order> {
     stream: Stream,
@@ -63,13 +63,13 @@ impl<E: Utf16Order> Lossy<E> {
     ///
     /// # Errors
     ///
-    /// If allocation fails. The decoder is unchanged then, and nothing of the chunk is taken. A
-    /// call that returns the empty string never fails.
+    /// If allocation fails. In that case the decoder is unchanged, and nothing of the chunk is
+    /// taken. A call that returns the empty string never fails.
     ///
     /// # Complexity
     ///
-    /// Linear time. Allocates once for the longest possible result: three bytes for each code unit,
-    /// or eight for a single one. Allocates nothing if the result is empty. The chunk is not
+    /// Takes linear time. Allocates once for the longest possible result: three bytes for each code
+    /// unit, or eight for a single one. Allocates nothing if the result is empty. The chunk is not
     /// copied; the text of 4,096 bytes at a time passes through a buffer on the stack.
     pub fn feed<A: Allocator>(&mut self, alloc: A, piece: &[u8]) -> Result<String<A>, AllocError>
         ensures text { IfOk result (λ s.
@@ -88,7 +88,7 @@ impl<E: Utf16Order> Lossy<E> {
         feed(self, alloc, piece)
     }
 
-    // Returns a decoder whose pending bytes are `first`, or none.
+    // Returns a decoder whose pending bytes are `first`, if there is one.
     pub(crate) fn after(first: Option<u8>) -> Self
         ensures { lossy_pending result ≡ option_to_list first }
     {
@@ -215,9 +215,9 @@ fn decode_each<E: Utf16Order, A: Allocator, B: Allocator>(
 }
 
 // Reserves capacity for the longest text of `pending` and `piece` bytes: a code unit takes at most
-// three bytes of UTF-8. An empty text without capacity gets exactly that; one with capacity grows
-// as `String` does. Fewer than four bytes may decode to nothing, and decode to one character at
-// most, for which capacity is reserved when it is appended.
+// three bytes of UTF-8. A string without capacity gets exactly that; one with capacity grows as
+// `String` does. Fewer than four bytes decode to at most one character, and perhaps to nothing, so
+// capacity for it is reserved only when it is appended.
 fn reserve_text<A: Allocator>(
     pending: usize,
     piece: usize,
@@ -240,8 +240,8 @@ fn reserve_text<A: Allocator>(
 }
 
 // Appends the text of a stream's pending bytes and a chunk, and returns the stream with the bytes
-// that are pending then. The text passes through a buffer, as many bytes of the chunk at a time as
-// its capacity allows.
+// that are now pending. The text passes through a buffer, which takes as many bytes of the chunk at
+// a time as its capacity allows.
 fn decode_parts<E: Utf16Order, A: Allocator>(
     stream: Stream,
     piece: &[u8],
@@ -264,8 +264,8 @@ fn decode_parts<E: Utf16Order, A: Allocator>(
     Ok(stream)
 }
 
-// Decodes the first part of a chunk, whose text passes through a buffer and is appended to `to`;
-// returns the stream then, and the rest of the chunk.
+// Decodes the first part of a chunk, and appends its text to `to` through a buffer. Returns the
+// stream after it, and the rest of the chunk.
 fn decode_part<'a, E: Utf16Order, A: Allocator>(
     stream: Stream,
     piece: &'a [u8],
@@ -289,8 +289,8 @@ fn decode_part<'a, E: Utf16Order, A: Allocator>(
     Ok((stream, rest))
 }
 
-// Splits a chunk: the part to decode at once after the pending bytes, whose text fits in a buffer
-// of `room` bytes, and the rest. The pending bytes and the part have an even number of bytes
+// Splits a chunk into the part to decode first, after the pending bytes, and the rest. The text
+// fits in a buffer of `room` bytes. The pending bytes and the part have an even number of bytes
 // together, so that no code unit is split before the end of the chunk.
 fn part_that_fits<'a, E: Utf16Order>(
     pending: &[u8],

@@ -36,8 +36,8 @@ pub trait Transcoder: Drop {
         ensures within { result ≤ length to.new }
         ensures bytes { take result to.new ≡ whole self [] };
 
-    /// States what the proof of `filter_by` needs, and does nothing: without more bytes nothing
-    /// more is certain, and eight bytes always add to the output.
+    /// States what the proof of `filter_by` needs, and does nothing: no bytes make nothing certain,
+    /// and eight bytes always add to the output.
     fn laws(&self)
         ensures nothing { decided self.now [] ≡ [] }
         ensures eight { (bytes : List ℕ) → 8 ≤ length bytes → decided self.now bytes ≢ [] };

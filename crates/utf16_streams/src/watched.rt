@@ -10,7 +10,7 @@ use std::io::{Read, Write};
 #[derive(Clone, Copy, Debug, PartialEq, Eq)]
 pub struct DeviceFault;
 
-/// A reader or a writer that each call uses once, with a count of its I/O errors.
+/// A reader or a writer, and a count of its I/O errors. Each call uses the reader or writer once.
 #[derive(Drop)]
 pub struct Watched<T> {
     inner: T,
@@ -66,12 +66,12 @@ impl<T> Watched<T> {
 }
 
 impl<R: Read> Watched<R> {
-    /// Reads once, into the start of a buffer, and returns the number of bytes read; 0 only at the
-    /// end of input or for an empty buffer.
+    /// Reads once, into the start of a buffer, and returns the number of bytes read. It is 0 only
+    /// at the end of input or for an empty buffer.
     ///
     /// # Errors
     ///
-    /// If the reader fails, also with an interrupted call. The error count goes up by one.
+    /// If the reader fails; an interrupted call is also an error. The error count goes up by one.
     ///
     /// # Precondition
     ///
@@ -91,13 +91,13 @@ impl<R: Read> Watched<R> {
 }
 
 impl<W: Write> Watched<W> {
-    /// Writes once, from the start of the bytes, and returns the number of bytes written, at least
-    /// one if there are any.
+    /// Writes once, from the start of the bytes, and returns the number of bytes written. It is at
+    /// least one if there are any bytes.
     ///
     /// # Errors
     ///
-    /// If the writer fails, also with an interrupted call, or writes none of the bytes. The error
-    /// count goes up by one.
+    /// If the writer fails or writes none of the bytes; an interrupted call is also an error. The
+    /// error count goes up by one.
     ///
     /// # Precondition
     ///
@@ -121,7 +121,7 @@ impl<W: Write> Watched<W> {
     ///
     /// # Errors
     ///
-    /// If the writer fails, also with an interrupted call. The error count goes up by one.
+    /// If the writer fails; an interrupted call is also an error. The error count goes up by one.
     ///
     /// # Precondition
     ///
