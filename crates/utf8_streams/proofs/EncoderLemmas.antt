@@ -1,5 +1,5 @@
--- The UTF-16 of a stream of UTF-8, from the bytes that have come to more of them, with a BOM first
--- and without.
+-- The UTF-16 of a stream of UTF-8, and how it continues when more bytes come, with a BOM first and
+-- without one.
 use Rattle.std.proofs.Common.{◌≡◌, ◌≢◌, ◌⊎◌, inl, inr, ⊎_elim, ℕ, ◌+◌, ◌*◌, ◌≤◌, Bool, true, false, List, [], ◌∷◌, ◌++◌, Option, Result, length, take, drop, if◌then◌else◌, refl, sym, ap, ap₂, ◌∙◌, subst, arith, append-nil, append_assoc, length-append}
 use Rattle.std.proofs.lemmas.List.{drop_all, length-map, nil_from_length}
 use Rattle.utf16_units.specs.Encoding.{char_bytes, char_size, encode, size}
@@ -28,7 +28,7 @@ pub nothing_waits : split_tail [] ≡ []
 unfolding split_tail
 nothing_waits = refl
 
--- so bytes that are all tail are one
+-- so pending bytes are a tail
 pub waits : (pending : List ℕ) → split_tail pending ≡ pending → IsTail pending
 waits pending same = rw (← same) (Split-computed pending).ends
 
@@ -37,7 +37,7 @@ pub end_short : (pending : List ℕ) → size (whole_lossy_chars [] pending) ≤
 end_short [] = omega (arith, size-nil)
 end_short (first ∷ after) = omega (arith, size-cons 0xFFFD [], size-nil, replacement_size)
 
--- what a chunk after a tail adds
+-- the most that a chunk adds after a tail
 pub text_short : (pending piece : List ℕ) → split_tail pending ≡ pending → size (decided_text (pending ++ piece)) ≤ 2 * length piece + 2
 text_short pending piece same = (shown_after pending piece (waits pending same)).0
 
@@ -49,7 +49,7 @@ module _ (big : Bool) where
       fed_flat utf8_parts (char_bytes big) utf8_chunks pending piece left to read written room feeds done
       ∙ sym (flat_encode big (decided_text (pending ++ piece)))
 
-  -- with more bytes appended
+  -- more bytes are appended
   module _ (front back : List ℕ) where
     decided-append : decided_utf16 big (front ++ back) ≡ decided_utf16 big front ++ decided_utf16 big (split_tail front ++ back)
     decided-append =
@@ -63,7 +63,7 @@ module _ (big : Bool) where
 
   -- ---- the BOM
 
-  -- two bytes say whether it is there
+  -- the first two bytes decide whether there is a BOM
   with_bom-append : (bytes more : List ℕ) → 2 ≤ length bytes → with_bom big (bytes ++ more) ≡ with_bom big bytes ++ more
   with_bom-append [] more long = absurd (omega (arith, long))
   with_bom-append (first ∷ []) more long = absurd (omega (arith, long))
@@ -83,7 +83,7 @@ module _ (big : Bool) where
     by_first true = omega arith
     by_first false = omega (arith, length-append (bom big) bytes)
 
-  -- a text has no single byte
+  -- a text that is not empty has at least two bytes
   encoded_long : (text : List ℕ) → encode big text ≢ [] → 2 ≤ length (encode big text)
   encoded_long [] some = absurd (some (encode-nil big))
   encoded_long (c ∷ text) some =
@@ -106,7 +106,7 @@ module _ (big : Bool) where
         ap (whole_utf16 big) (sym (append_assoc pending piece back)) ∙ whole-append (pending ++ piece) back
         ∙ ap (λ t. added ++ whole_utf16 big (t ++ back)) (sym is)
 
-    -- if no BOM is due, or none yet
+    -- no BOM is due, or the output has not begun
     pub Continues-same : (due ≡ false) ⊎ (added ≡ []) → Continues (λ b. certain due big (pending ++ b)) (λ b. entire due big (pending ++ b))
         (λ b. certain due big (kept ++ b)) (λ b. entire due big (kept ++ b)) piece
     Continues-same = by_due due where
@@ -128,7 +128,7 @@ module _ (big : Bool) where
       by_due true (inl not) = absurd (cc)
       by_due true (inr none) = none ∙ ap (some_with_bom big) (sym none)
 
-    -- if the BOM is due, and comes first
+    -- the BOM is due, and comes first
     module _ (first : due ≡ true) (some : added ≢ []) where
       begun : some_with_bom big added ≡ with_bom big added
       begun = some_with_bom-some added some

@@ -9,7 +9,7 @@ use Rattle.utf16_units.proofs.EncodingLemmas.{All-from_all_scalars, IsUtf16-enco
 use Rattle.utf16_decode.proofs.LossyLemmas.{text_size}
 use Rattle.utf8_streams.specs.Laws.{ThereAndBack}
 
--- the characters of UTF-8, and those of std's lossy decoding of it
+-- the characters of well-formed UTF-8 are the characters of std's lossy decoding of it
 text_there : (utf8 text : List ℕ) → IsUtf8 utf8 → chars utf8 ≡ text → chars (utf8_lossy utf8) ≡ text
 text_there utf8 text valid e = ap chars (utf8_lossy-IsUtf8 utf8 valid) ∙ e
 

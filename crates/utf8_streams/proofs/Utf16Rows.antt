@@ -19,7 +19,7 @@ pair : IsWritten true (0x1_0000 ∷ []) (0xD8 ∷ 0x00 ∷ 0xDC ∷ 0x00 ∷ [])
 unfolding encode
 pair = (refl, refl)
 
--- a BOM is the BOM, and a second one stays
+-- a BOM of the input becomes the BOM, and a second one stays
 bom_and_letter : IsWritten false (0xFEFF ∷ 0x41 ∷ []) (0xFF ∷ 0xFE ∷ 0x41 ∷ 0x00 ∷ []) (0xFF ∷ 0xFE ∷ 0x41 ∷ 0x00 ∷ [])
 unfolding encode
 bom_and_letter = (refl, refl)

@@ -9,14 +9,13 @@ use Rattle.utf16_streams.specs.Bom.{begins_with}
 use Rattle.utf16_streams.specs.Filter.{FiltersBy}
 use Rattle.utf16_streams.specs.declared.filters.FilterFault.{FilterFault}
 
--- the UTF-16 of the text that is certain: of the items of the split, with U+FFFD for each maximal
--- subpart of an ill-formed subsequence (Unicode, section 3.9: U+FFFD substitution of maximal
--- subparts)
+-- the UTF-16 of the certain text: the items of the split, with U+FFFD for each maximal subpart of
+-- an ill-formed subsequence (Unicode, section 3.9: U+FFFD substitution of maximal subparts)
 abbrev pub decided_utf16 : Bool → List ℕ → List ℕ
 decided_utf16 big bytes = encode big (decided_text bytes)
 
--- the UTF-16 of the whole text of the bytes as std's lossy decoding gives it: also with U+FFFD for
--- an incomplete end
+-- the UTF-16 of the whole text of the bytes, as std's lossy decoding gives it, with U+FFFD for an
+-- incomplete end also
 abbrev pub whole_utf16 : Bool → List ℕ → List ℕ
 whole_utf16 big bytes = encode big (chars (utf8_lossy bytes))
 
@@ -24,21 +23,21 @@ whole_utf16 big bytes = encode big (chars (utf8_lossy bytes))
 abbrev pub bom : Bool → List ℕ
 bom big = unit_bytes big 0xFEFF
 
--- the bytes begin with it
+-- the bytes begin with the BOM
 abbrev pub begins_with_bom : Bool → List ℕ → Bool
 begins_with_bom big bytes = if big then begins_with 0xFE 0xFF bytes else begins_with 0xFF 0xFE bytes
 
--- the bytes with one BOM first: the one that they begin with, or one in front of them (Unicode,
--- section 3.10: UTF-16 encoding scheme)
+-- the bytes with one BOM first: they begin with one, or it is put before them (Unicode, section
+-- 3.10: UTF-16 encoding scheme)
 abbrev pub with_bom : Bool → List ℕ → List ℕ
 with_bom big bytes = if begins_with_bom big bytes then bytes else bom big ++ bytes
 
--- the same where nothing is certain as long as there are no bytes
+-- the same for the certain output: as long as there are no bytes, no BOM is certain
 abbrev pub some_with_bom : Bool → List ℕ → List ℕ
 some_with_bom big [] = []
 some_with_bom big (first ∷ bytes) = with_bom big (first ∷ bytes)
 
--- what is certain and what is the whole, where a BOM is written first and where none is
+-- the certain output and the whole output, with a BOM first or without one
 abbrev pub certain : Bool → Bool → List ℕ → List ℕ
 certain bom_first big bytes =
     if bom_first then some_with_bom big (decided_utf16 big bytes) else decided_utf16 big bytes

@@ -19,14 +19,14 @@ const BOM: u16 = 0xFEFF;
 #[derive(Drop)]
 pub struct Encoder<E: Utf16Order> {
     stream: Stream,
-    // Whether the output has a BOM first and has not begun.
+    // Whether a BOM must come first and the output has not begun.
     bom_due: bool,
     order: PhantomData<E>,
     ghost undecided: { split_tail (stream_pending stream) ≡ stream_pending stream },
 }
 
 impl<E: Utf16Order> Encoder<E> {
-    /// Returns a transcoder at the beginning of a stream, whose output has a BOM first or not.
+    /// Returns a transcoder at the beginning of a stream. `bom_due` says whether a BOM comes first.
     pub fn new(bom_due: bool) -> Self
         ensures bom_due { result.bom_due ≡ bom_due }
         ensures pending { stream_pending result.stream ≡ [] }
@@ -88,8 +88,8 @@ fn feed<E: Utf16Order>(stream: &mut Stream, piece: &[u8], to: &mut [u8]) -> usiz
     feed_utf8::<E>(stream, piece, to).written
 }
 
-// Inserts a BOM before the first `len` bytes of a buffer, unless they begin with one, and returns
-// the length with it.
+// Inserts a BOM before the first `len` bytes of a buffer, unless they begin with one. Returns the
+// length of the output.
 fn write_bom<E: Utf16Order>(to: &mut [u8], len: usize) -> usize
     requires { len + 2 ≤ length to.old }
     ensures within { result ≤ length to.new }

@@ -19,7 +19,7 @@ use utf16_units::Utf16Order;
 /// # Errors
 ///
 /// At the first I/O error, if allocation fails, or after 2^64 - 1 reads that returned bytes.
-/// `FilterFault` says what is written then.
+/// `FilterFault` says what has been written in each case.
 ///
 /// # Precondition
 ///
@@ -27,7 +27,7 @@ use utf16_units::Utf16Order;
 ///
 /// # Complexity
 ///
-/// Allocates once, capacity for the output of one chunk, however long the input is; nothing if no
+/// Allocates once, for the output of one chunk, however long the input is. Allocates nothing if no
 /// read returns more than seven bytes.
 ///
 /// # Source
@@ -52,11 +52,12 @@ pub fn encode_stream<E: Utf16Order, R: Read, W: Write, A: Allocator>(
 
 /// Decodes a reader in UTF-8 and writes the text to a writer in UTF-16 in byte order `E`, as
 /// `encode_stream` does, with one BOM (byte order mark) first. A BOM at the beginning of the input,
-/// the bytes `EF BB BF`, becomes that BOM; any other output has it in front, an empty one too.
+/// the bytes `EF BB BF`, becomes that BOM. If the input begins with none, the output has a BOM
+/// before the text, even if the text is empty.
 ///
 /// # Errors
 ///
-/// As `encode_stream`.
+/// The same as for `encode_stream`.
 ///
 /// # Precondition
 ///

@@ -3,9 +3,10 @@
 
 ghost use Rattle.utf8_streams.specs.Laws.{ThereAndBack};
 
-/// Well-formed UTF-8 through `encode_stream` and then `filter` in the same byte order is the same
-/// bytes, and so is well-formed UTF-16 through `filter` and then `encode_stream`: the contracts of
-/// the filters say that they write exactly these outputs, however their readers cut the bytes.
+/// Well-formed UTF-8 that passes through `encode_stream` and then through `filter`, in the same
+/// byte order, comes out unchanged. So does well-formed UTF-16 that passes through `filter` and
+/// then through `encode_stream`. The contracts of the filters say that they write exactly these
+/// outputs, however their readers cut the bytes.
 pub fn there_and_back()
     ensures { ThereAndBack }
 {}
