@@ -1,4 +1,4 @@
--- The text of a chunk of UTF-8 in UTF-16, and of the parts of one.
+-- The text of a chunk of UTF-8 as UTF-16, and of the parts of a chunk.
 use Rattle.std.proofs.Common.{◌≡◌, ◌+◌, ◌≤◌, ℕ, Bool, List, [], ◌∷◌, ◌++◌, All, length, take, drop, refl, sym, ap, ap₂, ◌∙◌, subst, arith, append_assoc, append-nil, take-append-drop}
 use Rattle.std.proofs.lemmas.List.{drop_all}
 use Rattle.std.proofs.lemmas.List.Elements.{All-cons, All-nil}
@@ -25,25 +25,25 @@ items_scalar [] tail are = All-nil IsScalar
 items_scalar (item ∷ items) tail are =
     All-cons IsScalar (lossy_char item) (lossy_chars items) (item_scalar item (items_bytes items ++ tail) are.0) (items_scalar items tail are.1)
 
--- pending bytes are a tail, and stay so
+-- pending bytes are a tail, and their own tail
 pub IsTail-pending : (pending : List ℕ) → split_tail pending ≡ pending → IsTail pending
 IsTail-pending pending same = subst IsTail same (tail_ends pending)
 
 pub split_tail-again : (bytes : List ℕ) → split_tail (split_tail bytes) ≡ split_tail bytes
 split_tail-again bytes = (split_of_tail (split_tail bytes) (tail_ends bytes)).1
 
--- without more bytes they decide nothing
+-- pending bytes decide nothing without more bytes
 pub decided_text-pending : (pending : List ℕ) → split_tail pending ≡ pending → decided_text pending ≡ []
 decided_text-pending pending same = ap lossy_chars (split_of_tail pending (IsTail-pending pending same)).0
 
--- bytes that decide nothing are few
+-- bytes that decide nothing are at most three
 pub few_undecided : (bytes : List ℕ) → decided_text bytes ≡ [] → length bytes ≤ 3
 few_undecided bytes none = few (split_items bytes) none (Split-computed bytes).spelled where
   few : (items : List Item) → lossy_chars items ≡ [] → items_bytes items ++ split_tail bytes ≡ bytes → length bytes ≤ 3
   few [] none spelled = subst (λ b. length b ≤ 3) spelled (length-IsTail (split_tail bytes) (tail_ends bytes))
   few (item ∷ items) none spelled = absurd (cc)
 
--- if all of a chunk was taken, its text was written
+-- if all of a chunk was taken, all of its text was written
 module _ (big : Bool) (pending piece left to : List ℕ) (read written room : ℕ) (feeds : FeedsUtf8 big pending piece left to read written)
     (done : StopsFeedingUtf8 big pending piece left read room Done) where
   pub fed_encodes : Encodes big (decided_text (pending ++ piece)) (take written to)
@@ -53,7 +53,7 @@ module _ (big : Bool) (pending piece left to : List ℕ) (read written room : �
         spelled = flat_encode big (decided_text (pending ++ piece)) ∙ sym (fed_text utf8_parts (char_bytes big) utf8_chunks pending piece left to read written room feeds done);
       }
 
--- so much of the bytes is decoded that `rest` is left, and the text is appended
+-- everything before `rest` is decoded, and its text is appended
 pub record Leaves (bytes rest old new : List ℕ) : Type 0 where
   pub text : old ++ decided_text bytes ≡ new ++ decided_text rest
   pub tail : split_tail bytes ≡ split_tail rest
@@ -62,7 +62,7 @@ pub record Leaves (bytes rest old new : List ℕ) : Type 0 where
 pub two_parts : (n : ℕ) (bytes front back : List ℕ) → front ≡ take n bytes → back ≡ drop n bytes → bytes ≡ front ++ back
 two_parts n bytes front back first last = sym (take-append-drop n bytes) ∙ ap₂ (λ f b. f ++ b) (sym first) (sym last)
 
--- one more part of the rest of a chunk
+-- one more part of the rest of a chunk is decoded
 module _ (pending rest part behind left : List ℕ) (joined : rest ≡ part ++ behind) (is : left ≡ split_tail (pending ++ part)) where
   front : pending ++ rest ≡ (pending ++ part) ++ behind
   front = ap (λ r. pending ++ r) joined ∙ sym (append_assoc pending part behind)
@@ -84,7 +84,7 @@ module _ (pending rest part behind left : List ℕ) (joined : rest ≡ part ++ b
     tail = before.tail ∙ ap split_tail front ∙ (split_extends (pending ++ part) behind).1 ∙ ap (λ l. split_tail (l ++ behind)) (sym is);
   }
 
--- the last part
+-- the last part has been decoded
 module _ (pending rest : List ℕ) (same : split_tail pending ≡ pending) (none : rest ≡ []) where
   all : pending ++ rest ≡ pending
   all = ap (λ r. pending ++ r) none ∙ append-nil pending

@@ -1,4 +1,4 @@
--- What contracts can say of a `Utf8Decoder`: its pending bytes.
+-- What contracts can say about a `Utf8Decoder`: its pending bytes.
 use Rattle.std.specs.Prelude.{ℕ, List}
 use Rattle.utf16_units.specs.declared.byte_order.Utf16Order.{Ghosts}
 use Rattle.utf16_decode.specs.Stream.{stream_pending}

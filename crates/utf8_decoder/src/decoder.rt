@@ -14,8 +14,8 @@ use utf16_units::laws::are_bytes;
 use utf16string::{Utf16Order, WString};
 
 /// A decoder of UTF-8 that comes in chunks, cut anywhere, into a UTF-16 string in the byte order
-/// `E`. Ill-formed sequences become U+FFFD, the replacement character: one for each maximal
-/// subpart. At most three bytes are pending, in the value itself.
+/// `E`. Each maximal subpart of an ill-formed sequence becomes U+FFFD, the replacement character.
+/// The value itself holds the pending bytes, at most three.
 #[derive(Drop)]
 pub struct Utf8Decoder<E: Utf16Order> {
     stream: Stream,
@@ -59,15 +59,15 @@ impl<E: Utf16Order> Utf8Decoder<E> {
     ///
     /// # Errors
     ///
-    /// If allocation fails. The decoder and the string are unchanged then, and nothing of the chunk
-    /// is taken. A call that appends nothing never fails.
+    /// If allocation fails. In that case the decoder and the string are unchanged, and nothing of
+    /// the chunk is taken. A call that appends nothing never fails.
     ///
     /// # Complexity
     ///
-    /// Linear time. Allocates at most once: for the text of a chunk of at most 512 bytes, for two
-    /// bytes per byte and two more of a longer one; and nothing if that fits in the capacity, or
-    /// nothing is appended. The chunk is not copied; the text of 4,096 bytes at a time passes
-    /// through a buffer on the stack.
+    /// Takes linear time. Allocates at most once. A chunk of at most 512 bytes needs capacity for
+    /// its text, and a longer one for two bytes per byte and two more. Allocates nothing if the
+    /// capacity suffices or nothing is appended. The chunk is not copied; the text of 4,096 bytes
+    /// at a time passes through a buffer on the stack.
     pub fn feed<A: Allocator>(
         &mut self,
         piece: &[u8],

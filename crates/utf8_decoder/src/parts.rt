@@ -1,4 +1,4 @@
-//! A chunk of UTF-8 decoded part by part, through a buffer.
+//! Decodes a chunk of UTF-8 part by part, through a buffer.
 
 ghost use Rattle.std.specs.Prelude.{◌≡◌, ◌+◌, ◌*◌, ◌≤◌, [], ◌++◌, IfOk, IsOk, OnErr, OnOk, length};
 ghost use Rattle.utf16_units.specs.Edit.{push_text};
@@ -14,12 +14,12 @@ use utf16_encode::{Stream, feed_utf8};
 use utf16string::{Utf16Order, WStr, WString};
 
 /// Decodes the next chunk of a stream, appends its text, and returns the stream with the bytes that
-/// are pending then. Capacity is reserved for the text of a short chunk only, and for a longer one
+/// are now pending. For a short chunk, capacity is reserved for its text only; for a longer one,
 /// for the longest possible text.
 ///
 /// # Errors
 ///
-/// If allocation fails. The string is unchanged then.
+/// If allocation fails. In that case the string is unchanged.
 pub fn feed<E: Utf16Order, A: Allocator>(
     stream: Stream,
     piece: &[u8],
@@ -47,7 +47,7 @@ pub fn feed<E: Utf16Order, A: Allocator>(
 }
 
 // Decodes a chunk in parts, appends its text, which fits in the capacity, and returns the stream
-// with the bytes that are pending then.
+// with the bytes that are now pending.
 fn decode_parts<E: Utf16Order, A: Allocator>(
     stream: Stream,
     piece: &[u8],
@@ -79,7 +79,7 @@ fn decode_parts<E: Utf16Order, A: Allocator>(
 }
 
 // Decodes the next part of a chunk through a buffer, appends its text, and returns the stream with
-// the bytes that are pending then.
+// the bytes that are now pending.
 fn append_part<E: Utf16Order, A: Allocator>(
     stream: Stream,
     part: &[u8],
@@ -109,8 +109,8 @@ fn append_part<E: Utf16Order, A: Allocator>(
     Ok(stream)
 }
 
-// Decodes the next part of a chunk into a buffer, and returns its text, and the stream with the
-// bytes that are pending then.
+// Decodes the next part of a chunk into a buffer, and returns the stream, with the bytes that are
+// now pending, and the text.
 fn decode_part<'a, E: Utf16Order>(
     stream: Stream,
     part: &[u8],
