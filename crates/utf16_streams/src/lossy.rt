@@ -68,7 +68,7 @@ impl<E: Utf16Order> Lossy<E> {
     ///
     /// # Complexity
     ///
-    /// Takes linear time. Allocates once for the longest possible result: three bytes for each code
+    /// Linear time. Allocates once for the longest possible result: three bytes for each code
     /// unit, or eight for a single one. Allocates nothing if the result is empty. The chunk is not
     /// copied; the text of 4,096 bytes at a time passes through a buffer on the stack.
     pub fn feed<A: Allocator>(&mut self, alloc: A, piece: &[u8]) -> Result<String<A>, AllocError>

@@ -64,7 +64,7 @@ impl<E: Utf16Order> Utf8Decoder<E> {
     ///
     /// # Complexity
     ///
-    /// Takes linear time. Allocates at most once. A chunk of at most 512 bytes needs capacity for
+    /// Linear time. Allocates at most once. A chunk of at most 512 bytes needs capacity for
     /// its text, and a longer one for two bytes per byte and two more. Allocates nothing if the
     /// capacity suffices or nothing is appended. The chunk is not copied; the text of 4,096 bytes
     /// at a time passes through a buffer on the stack.
