@@ -1,4 +1,4 @@
--- The computing form of a step and of a run, tied to the relations.
+-- The computed form of a step and of a run agrees with the relations.
 use Rattle.std.proofs.Common.{◌≡◌, ◌≢◌, ℕ, suc, ◌+◌, ◌-◌, ◌<◌, ◌≤◌, ◌⊎◌, ◌↔◌, Bool, true, false, List, [], ◌∷◌, ◌++◌, Option, Some, None, All, length, map, take, slice_get, refl, sym, ap, ap₂, ◌∙◌, append-nil, length-append, take_at, ⊎_elim, inl, inr, arith, le-leb, cond}
 use Rattle.std.specs.Prelude.{◌||◌, nat_le, nat_lt}
 use Rattle.std.specs.Bool.{Decides}
@@ -57,7 +57,7 @@ denied : {P : Type 0} (b : Bool) → Decides b P → ¬ P → b ≡ false
 denied true d fails = absurd (fails (d.0 refl))
 denied false d fails = refl
 
--- the result of an edit that looks for a character is never that allocation failed
+-- the result of an edit that looks for a character never says that allocation failed
 taken-granted : (o : Option ℕ) → taken o ≢ no_memory
 taken-granted None = λ e. absurd cc
 taken-granted (Some c) = λ e. absurd cc
@@ -81,7 +81,7 @@ module _ {E Z : Type 0} {order : Ghosts E} where
       Decides-and (is_boundary text i) (is_boundary text (i + size (wstring_text t))) (is_boundary-Decides text i) (is_boundary-Decides text (i + size (wstring_text t)))
   is_possible-IsPossible text Clear = (λ e. tt, λ p. refl)
 
-  -- ---- a reply, by what it says
+  -- ---- what a reply says determines the reply
 
   said-done : (reply : Reply E Z order) → said reply ≡ done → reply ≡ Done
   said-done Done e = refl
@@ -168,7 +168,7 @@ module _ {E Z : Type 0} {order : Ghosts E} where
       let same : bad_offset ≡ no_memory = sym (ap said p.1) ∙ ap said missing in
       absurd cc
 
-  -- of edits that do not allocate none has the reply that allocation failed
+  -- no edit that does not allocate gets the reply that allocation failed
   pub Run-granted : (old : List ℕ) (edits : List (Edit E Z order)) (replies : List (Reply E Z order)) (new : List ℕ) → Run old edits replies new
       → All (λ edit. ¬ (MayAllocate edit)) edits → All (λ reply. ¬ (reply ≡ NoMemory)) replies
   Run-granted old [] [] new run free = All-nil (λ reply. ¬ (reply ≡ NoMemory))

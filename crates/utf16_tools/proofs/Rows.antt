@@ -1,4 +1,4 @@
--- Lists of edits computed: each row is checked by evaluation alone.
+-- The results of lists of edits, computed: each row is checked only by evaluation.
 use Rattle.std.proofs.Common.{◌≡◌, ℕ, List, [], ◌∷◌, ◌++◌, refl}
 use Rattle.utf16_units.specs.declared.byte_order.Utf16Order.{Ghosts}
 use Rattle.utf16string.specs.Boundary.{is_boundary, text_from, text_to}

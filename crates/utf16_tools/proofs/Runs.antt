@@ -1,4 +1,4 @@
--- A run of edits, one more at a time.
+-- A run of edits, one edit at a time.
 use Rattle.std.proofs.Common.{◌≡◌, ◌⊎◌, ℕ, List, [], ◌∷◌, ◌++◌, All, Some, refl, subst, ⊎_elim, ◌∙◌}
 use Rattle.std.proofs.lemmas.List.Elements.{All-pop}
 use Rattle.utf16_units.specs.declared.byte_order.Utf16Order.{Ghosts}
@@ -14,7 +14,7 @@ module _ {E Z : Type 0} {order : Ghosts E} where
   Run-push old mid new (e ∷ edits) [] edit reply run step = absurd run
   Run-push old mid new (e ∷ edits) (r ∷ replies) edit reply run step = (run.0, run.1, Run-push run.0 mid new edits replies edit reply run.2 step)
 
-  -- the capacity after edits that do not allocate
+  -- edits that do not allocate keep the capacity
   pub room-push : (old mid new : ℕ) (edits : List (Edit E Z order)) (edit : Edit E Z order) → (All (λ edit. ¬ (MayAllocate edit)) edits → mid ≡ old)
       → MayAllocate edit ⊎ (new ≡ mid) → All (λ edit. ¬ (MayAllocate edit)) (edits ++ edit ∷ []) → new ≡ old
   room-push old mid new edits edit kept stays free =

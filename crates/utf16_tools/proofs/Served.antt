@@ -1,4 +1,4 @@
--- A run of edits that all fit, one more at a time.
+-- A run of edits that all fit, one edit at a time.
 use Rattle.std.proofs.Common.{◌≡◌, ◌≢◌, ℕ, ◌+◌, ◌≤◌, List, [], ◌∷◌, ◌++◌, All, append_assoc, length, refl, subst, sym, arith, ap}
 use Rattle.std.proofs.lemmas.List.Elements.{All-append, All-cons, All-nil}
 use Rattle.utf16_units.specs.declared.byte_order.Utf16Order.{Ghosts}
@@ -18,7 +18,7 @@ module _ {E Z : Type 0} {order : Ghosts E} where
   length-string : (s : WString E Z order) → length (wstring_bytes s) ≡ size (wstring_text s)
   length-string s = length-text order.BIG (wstring_bytes s) (IsUtf16-from_is_utf16 order.BIG (wstring_bytes s) s.well_formed)
 
-  -- a string of at least that capacity suffices for an edit that fits
+  -- if an edit fits in a capacity, a string with at least that capacity has enough for it
   pub room_for : (room : ℕ) (s : WString E Z order) (edit : Edit E Z order) → room ≤ wstring_capacity s → Fits room (wstring_text s) edit → HasCapacityFor s edit
   room_for room s (Push c) grown fits = let len = length-string s in omega arith
   room_for room s (PushText t) grown fits = let len = length-string s in let more = length-string t in omega arith
@@ -43,8 +43,8 @@ module _ {E Z : Type 0} {order : Ghosts E} where
   abbrev IsGranted : Reply E Z order → Type 0
   IsGranted reply = ¬ (reply ≡ NoMemory)
 
-  -- where these edits and any further ones fit, the further ones fit on what these left, and no
-  -- allocation of these failed
+  -- if these edits and any that follow them fit, those that follow fit in the text that these left,
+  -- and no allocation of these failed
   abbrev pub AreServed : ℕ → List ℕ → List (Edit E Z order) → List (Reply E Z order) → List ℕ → Type 0
   AreServed room old edits replies new =
       (rest : List (Edit E Z order)) → EachFits room old (edits ++ rest) → EachFits room new rest × All (λ reply. ¬ (reply ≡ NoMemory)) replies

@@ -13,7 +13,7 @@ use Rattle.utf16_tools.specs.declared.edit.Edit.TheVariants.{Clear, Insert, Inse
 use Rattle.utf16_tools.specs.declared.edit.Reply.{Reply}
 use Rattle.utf16_tools.specs.declared.edit.Reply.TheVariants.{BadOffset, Char, Done, NoMemory, Nothing, Rest}
 
--- a reply with a text in place of a string
+-- a reply whose string is given by its text
 pub data Said : Type 0 where
   done : Said
   char : ℕ → Said
@@ -22,13 +22,13 @@ pub data Said : Type 0 where
   bad_offset : Said
   no_memory : Said
 
--- the result of an edit that removes a character: the character, or that there was none
+-- the result of an edit that removes a character: that character, or that there was none
 abbrev pub taken : Option ℕ → Said
 taken None = nothing
 taken (Some c) = char c
 
 module _ {E Z : Type 0} {order : Ghosts E} where
-  -- the reply with the text of its string
+  -- what a reply says: its string is given by its text
   abbrev pub said : Reply E Z order → Said
   said Done = done
   said (Char c) = char c
@@ -47,7 +47,7 @@ module _ {E Z : Type 0} {order : Ghosts E} where
   is_possible text (Overwrite i t) = is_boundary text i && is_boundary text (i + size (wstring_text t))
   is_possible text _ = true
 
-  -- the text after an edit that was made
+  -- the text after the edit was made
   abbrev pub changed : List ℕ → Edit E Z order → List ℕ
   changed text (Push c) = push_text text (c ∷ [])
   changed text (PushText t) = push_text text (wstring_text t)
@@ -61,7 +61,7 @@ module _ {E Z : Type 0} {order : Ghosts E} where
   changed text (Overwrite i t) = overwrite_at text i (wstring_text t)
   changed text Clear = []
 
-  -- the result of an edit that was made
+  -- the result of the edit if it was made
   abbrev pub told : List ℕ → Edit E Z order → Said
   told text Pop = taken (last_or None text)
   told text (Remove i) = taken (char_at text i)
@@ -76,7 +76,7 @@ module _ {E Z : Type 0} {order : Ghosts E} where
   abbrev pub answered : List ℕ → Edit E Z order → Said
   answered text edit = if is_possible text edit then told text edit else bad_offset
 
-  -- the text after a list of edits, each on what the one before left
+  -- the text after a list of edits, each applied to what the edit before left
   abbrev pub all_edited : List ℕ → List (Edit E Z order) → List ℕ
   all_edited text [] = text
   all_edited text (edit ∷ edits) = all_edited (edited text edit) edits
@@ -86,7 +86,8 @@ module _ {E Z : Type 0} {order : Ghosts E} where
   all_answered text [] = []
   all_answered text (edit ∷ edits) = answered text edit ∷ all_answered (edited text edit) edits
 
-  -- the text after the edit fits in the capacity; a part that is split off has its own allocation
+  -- the text after the edit fits in the capacity; splitting off a part never does, since the part
+  -- is allocated separately
   abbrev pub Fits : ℕ → List ℕ → Edit E Z order → Type 0
   Fits room text (Push c) = size text + char_size c ≤ room
   Fits room text (PushText t) = size text + size (wstring_text t) ≤ room
@@ -100,7 +101,7 @@ module _ {E Z : Type 0} {order : Ghosts E} where
   Fits room text (Overwrite i t) = ⊤
   Fits room text Clear = ⊤
 
-  -- each edit of a list fits, in the text that those before it leave
+  -- each edit of a list fits in the text that the edits before it leave
   abbrev pub EachFits : ℕ → List ℕ → List (Edit E Z order) → Type 0
   EachFits room text [] = ⊤
   EachFits room text (edit ∷ edits) = Fits room text edit × EachFits room (edited text edit) edits

@@ -47,7 +47,7 @@ module _ {E Z : Type 0} {order : Ghosts E} where
   IsDone old (Overwrite i t) reply new = (reply ≡ Done) × (new ≡ overwrite_at old i (wstring_text t))
   IsDone old Clear reply new = (reply ≡ Done) × (new ≡ [])
 
-  -- the edit may allocate, which may fail
+  -- the edit may allocate, so it can fail
   abbrev pub MayAllocate : Edit E Z order → Type 0
   MayAllocate (Push c) = ⊤
   MayAllocate (PushText t) = ⊤
@@ -61,8 +61,8 @@ module _ {E Z : Type 0} {order : Ghosts E} where
   MayAllocate (Overwrite i t) = ⊥
   MayAllocate Clear = ⊥
 
-  -- the string has the capacity that the edit needs; a part that is split off needs an allocation
-  -- of its own
+  -- the string has the capacity that the edit needs; splitting off a part always needs an
+  -- allocation
   abbrev pub HasCapacityFor : WString E Z order → Edit E Z order → Type 0
   HasCapacityFor string (Push c) = length (wstring_bytes string) + char_size c ≤ wstring_capacity string
   HasCapacityFor string (PushText t) = length (wstring_bytes string) + length (wstring_bytes t) ≤ wstring_capacity string
@@ -76,14 +76,15 @@ module _ {E Z : Type 0} {order : Ghosts E} where
   HasCapacityFor string (Overwrite i t) = ⊤
   HasCapacityFor string Clear = ⊤
 
-  -- one edit: it is made if it is possible, unless it may allocate and that fails; otherwise the
-  -- text is unchanged
+  -- one edit: it is made if it is possible, unless it may allocate and the allocation fails; if it
+  -- is not made, the text is unchanged
   abbrev pub Step : List ℕ → Edit E Z order → Reply E Z order → List ℕ → Type 0
   Step old edit reply new =
       (IsPossible old edit × IsDone old edit reply new)
       ⊎ ((IsPossible old edit × MayAllocate edit × (reply ≡ NoMemory) × (new ≡ old)) ⊎ (¬ (IsPossible old edit) × (reply ≡ BadOffset) × (new ≡ old)))
 
-  -- a list of edits: a reply for each, and each a step from the text that the one before left
+  -- a list of edits, with one reply for each: each edit is a step from the text that the edit
+  -- before left
   abbrev pub Run : List ℕ → List (Edit E Z order) → List (Reply E Z order) → List ℕ → Type 0
   Run old [] [] new = new ≡ old
   Run old (edit ∷ edits) (reply ∷ replies) new = (next : List ℕ) × Step old edit reply next × Run next edits replies new

@@ -26,11 +26,11 @@ pub enum Edit<E: Utf16Order, A: Allocator = Global> {
     Remove(usize),
     /// Keeps the characters that are in the vector, and removes the others.
     Retain(Vec<char, A>),
-    /// Shortens the text to a length; does nothing if that is at or past its length.
+    /// Shortens the text to a length; does nothing if the text is not longer.
     Truncate(usize),
-    /// Removes what follows an offset, and returns it.
+    /// Removes what follows an offset. The reply holds it.
     SplitOff(usize),
-    /// Writes a text over as many bytes starting at an offset.
+    /// Overwrites the bytes that start at an offset with a text of the same length.
     Overwrite(usize, WString<E, A>),
     /// Removes all characters.
     Clear,
@@ -47,24 +47,24 @@ pub enum Reply<E: Utf16Order, A: Allocator = Global> {
     Nothing,
     /// The text that was split off.
     Rest(WString<E, A>),
-    /// The offset is not a character boundary of the text, or the edit is not possible there.
+    /// The offset is not a character boundary of the text, or the edit is not possible at it.
     /// Nothing has changed.
     BadOffset,
     /// Allocation failed. Nothing has changed.
     NoMemory,
 }
 
-/// Applies an edit to a string, and returns its result. Tests the offset before it allocates.
+/// Applies an edit to a string, and returns its result. It tests the offset before it allocates.
 ///
 /// # Errors
 ///
-/// `BadOffset` if the edit is not possible at its offset; `NoMemory` if allocation fails, which it
-/// does not if the result fits in the capacity (except that `SplitOff` allocates the string
-/// that it returns). The string is unchanged then.
+/// `BadOffset` if the edit is not possible at its offset, and `NoMemory` if allocation fails. In
+/// both cases the string is unchanged. Allocation does not fail if the result fits in the capacity,
+/// except that `SplitOff` allocates the string that it returns.
 ///
 /// # Complexity
 ///
-/// An edit that does not allocate leaves the capacity as it is.
+/// An edit that does not allocate leaves the capacity unchanged.
 pub fn apply<E: Utf16Order, A: Allocator + Clone>(
     string: &mut WString<E, A>,
     edit: Edit<E, A>,
@@ -107,15 +107,15 @@ pub fn apply<E: Utf16Order, A: Allocator + Clone>(
     }
 }
 
-/// Applies a list of edits to a string, in order, and returns a reply for each. An edit that is not
-/// possible, or whose allocation fails, has a reply that says so and changes nothing; the edits
-/// after it are applied. Where the capacity suffices for each edit in turn, no allocation fails.
-/// Edits that do not allocate leave the capacity as it is.
+/// Applies a list of edits to a string, in order, and returns a reply for each. If an edit is not
+/// possible or its allocation fails, its reply says so, nothing changes, and the edits after it are
+/// still applied. If the capacity suffices for each edit in turn, no allocation fails. Edits that
+/// do not allocate leave the capacity unchanged.
 ///
 /// # Errors
 ///
-/// If the allocation of the replies fails, before the first edit. The string is unchanged then. For
-/// no edits nothing is allocated.
+/// If the allocation of the replies fails, which happens before the first edit. In that case the
+/// string is unchanged. An empty list allocates nothing.
 pub fn run<E: Utf16Order, A: Allocator + Clone, B: Allocator, C: Allocator>(
     alloc: B,
     string: &mut WString<E, A>,
@@ -135,8 +135,8 @@ pub fn run<E: Utf16Order, A: Allocator + Clone, B: Allocator, C: Allocator>(
     Ok(replies)
 }
 
-// Applies a list of edits in order, and appends a reply for each to `replies`, whose capacity
-// suffices: so only an edit can fail to allocate.
+// Applies a list of edits in order, and appends a reply for each to `replies`. The capacity of
+// `replies` suffices, so only an edit can fail to allocate.
 fn apply_each<E: Utf16Order, A: Allocator + Clone, B: Allocator, C: Allocator>(
     string: &mut WString<E, A>,
     edits: Vec<Edit<E, A>, C>,

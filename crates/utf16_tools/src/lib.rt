@@ -1,6 +1,6 @@
-//! Edits of UTF-16 strings as values, one by one or as a list with a reply for each; and, from
-//! `utf16_streams`, decoders of UTF-16 that comes in chunks, filters from a reader to a writer, and
-//! readers and writers whose I/O errors are counted.
+//! Edits of UTF-16 strings as values, applied one by one or as a list with a reply for each. The
+//! crate also re-exports, from `utf16_streams`, decoders of UTF-16 that comes in chunks, filters
+//! from a reader to a writer, and readers and writers whose I/O errors are counted.
 #![tactic(auto)]
 
 mod edit;

@@ -29,7 +29,7 @@ loop-edit-preserved g c =
     )
 
 module _ (g : Over) (c : In-None g) where
-  -- the loop was over all edits
+  -- the loop has applied all edits
   all : c.loop-edit.yielded ≡ c.args.edits.items
   all =
       let given = c.into_iter-edit-iterator.ensures.into_iter_gives in
