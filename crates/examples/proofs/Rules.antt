@@ -1,5 +1,5 @@
--- A set of rules for the transcoders, cited by `using(..)` at a function: the empty text has no
--- bytes, and no bytes are the empty text.
+-- A set of rules for the transcoders, which a function cites with `using(..)`: the empty text has
+-- no bytes, and no bytes are the empty text.
 use Rattle.std.proofs.lemmas.Str.{chars-nil}
 use Rattle.utf16_units.proofs.EncodingLemmas.{encode-nil, text_of-nil}
 

@@ -1,4 +1,4 @@
--- What contracts can say of `Fields`, the fields of a buffer that are still to come.
+-- What contracts can say about `Fields`, the fields of a buffer that have not been yielded.
 use Rattle.std.specs.Prelude.{◌≡◌, ℕ, ◌+◌, List, [], ◌++◌, Option, None, Some, Result, Ok, Err, length}
 use Rattle.utf16_units.specs.declared.byte_order.Utf16Order.{Ghosts}
 use Rattle.utf16string.specs.WStr.{wstr_text}
@@ -16,8 +16,8 @@ module _ {E : Type 0} {order : Ghosts E} where
   abbrev pub fields_offset : Fields E order → ℕ
   fields_offset fields = fields.offset
 
-  -- a call yielded the first field, and goes on after it; or the error there, after which nothing
-  -- is left; or nothing was left
+  -- a call yielded the first field and continues after it; or it yielded the error for what begins
+  -- there, and nothing is left; or nothing was left
   abbrev pub GivesField : Fields E order → Option (Result (WStr E order) FieldError) → Fields E order → Type 0
   GivesField old None new = (fields_rest old ≡ []) × (fields_rest new ≡ []) × (fields_offset new ≡ fields_offset old)
   GivesField old (Some (Ok field)) new =

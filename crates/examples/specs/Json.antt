@@ -5,8 +5,8 @@ use Rattle.std.specs.Prelude.{ℕ, ◌+◌, ◌/◌, ◌%◌, List, [], ◌∷�
 abbrev pub hex_digit : ℕ → ℕ
 hex_digit n = if nat_lt n 10 then 0x30 + n else 0x57 + n
 
--- a character: after a backslash if it is a quote or a backslash, by its number if it is a control
--- character, such as `\u001f`, and otherwise as it is
+-- the escaped form of a character: a quote or a backslash follows a backslash, a control character
+-- becomes its code, such as `\u001f`, and any other character is unchanged
 abbrev pub json_char : ℕ → List ℕ
 json_char c =
     if c == 0x22 || c == 0x5C then 0x5C ∷ c ∷ [] else

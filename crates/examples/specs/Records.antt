@@ -1,4 +1,5 @@
--- Fields of a record, one after another: each a count of code units and then a text of that many.
+-- Fields of a record, one after another: each is a count of code units and then a text of that
+-- length.
 use Rattle.std.specs.Prelude.{◌≡◌, ◌≢◌, ℕ, ◌+◌, ◌*◌, ◌/◌, ◌<◌, ◌≤◌, Bool, false, List, [], ◌++◌, All, length, take, drop}
 use Rattle.std.specs.Char.{IsScalar}
 use Rattle.std.specs.List.{flat_map}
@@ -13,7 +14,7 @@ use Rattle.examples.specs.declared.records.ReadError.{ReadError}
 use Rattle.examples.specs.declared.records.ReadError.TheVariants.{Field, Memory}
 
 -- the bytes of a field: the number of code units of its text, the low byte first, and then the
--- text's encoding
+-- encoding of the text
 abbrev pub field_bytes : Bool → List ℕ → List ℕ
 field_bytes big text = unit_bytes false (size text / 2) ++ encode big text
 
@@ -30,16 +31,16 @@ fields_size big texts = length (flat_map (field_bytes big) texts)
 abbrev pub told_len : List ℕ → ℕ
 told_len bytes = 2 * little_number 2 bytes
 
--- why no field begins the bytes: the count is truncated; or fewer bytes follow it than it says; or
--- these are ill-formed
+-- why no field begins at the start of the bytes: the count is truncated; or fewer bytes follow the
+-- count than it says; or these bytes are ill-formed
 abbrev pub IsFieldErrorKind : Bool → List ℕ → FieldErrorKind → Type 0
 IsFieldErrorKind big bytes NoCount = length bytes < 2
 IsFieldErrorKind big bytes Short = (2 ≤ length bytes) × (length (drop 2 bytes) < told_len bytes)
 IsFieldErrorKind big bytes (NoText e) =
     (2 ≤ length bytes) × (told_len bytes ≤ length (drop 2 bytes)) × IsErrorOf big (take (told_len bytes) (drop 2 bytes)) e
 
--- the offset of a problem in its field: that of the count, of what follows it, or of what follows
--- the longest valid prefix of the text
+-- the offset of a problem in its field: the start of the count, the start of what follows the
+-- count, or the end of the longest valid prefix of the text
 abbrev pub place_in : FieldErrorKind → ℕ
 place_in NoCount = 0
 place_in Short = 2
@@ -53,16 +54,15 @@ pub record IsFieldError (big : Bool) (at : ℕ) (rest : List ℕ) (e : FieldErro
   pub place : e.place ≡ at + place_in e.fault
   pub fault : IsFieldErrorKind big rest e.fault
 
--- the buffer is fields with some texts, and the error is for what follows them
+-- fields with some texts begin the buffer, and the error is for what follows them
 pub record FieldsStopAt (big : Bool) (buffer : List ℕ) (e : FieldError) : Type 0 where
   pub texts : List (List ℕ)
   pub rest : List ℕ
   pub fields : HoldsFields big texts rest buffer
   pub error : IsFieldError big (fields_size big texts) rest e
 
--- why the fields of a buffer were not read: allocation failed, and the buffer begins with a
--- well-formed field or more, since the first of them is the first to allocate; or a field is
--- malformed
+-- why the fields of a buffer were not read: allocation failed, and the buffer begins with at least
+-- one well-formed field, since the first field is the first to allocate; or a field is malformed
 abbrev pub IsReadError : Bool → List ℕ → ReadError → Type 0
 IsReadError big buffer Memory = (texts : List (List ℕ)) × (rest : List ℕ) × (texts ≢ []) × HoldsFields big texts rest buffer
 IsReadError big buffer (Field e) = FieldsStopAt big buffer e

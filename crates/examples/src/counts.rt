@@ -1,4 +1,4 @@
-//! Characters and line feeds of a stream of UTF-16 that comes in chunks.
+//! Counts of the characters and line feeds of a stream of UTF-16 that comes in chunks.
 
 ghost use Rattle.std.specs.Prelude.{◌≡◌, ◌==◌, ◌+◌, ◌-◌, ◌^◌, IfOk, chars, count_by, length, min};
 ghost use Rattle.std.specs.List.{flat_map};
@@ -10,8 +10,7 @@ use std::alloc::{AllocError, Allocator};
 use utf16_tools::Lossy;
 use utf16string::Utf16Order;
 
-/// The number of characters and of line feeds of a text. A count that has reached `usize::MAX`
-/// stays there.
+/// The number of characters and the number of line feeds of a text. A count stops at `usize::MAX`.
 #[derive(Clone, Copy, Debug, PartialEq, Eq)]
 pub struct Counts {
     pub chars: usize,
@@ -19,7 +18,7 @@ pub struct Counts {
 }
 
 impl Counts {
-    // Counts a part that follows the text.
+    // Adds the counts of a part that follows the text.
     fn add(&mut self, part: &str)
         ensures chars { self.new.chars ≡ min (self.old.chars + length (chars part.now))
             (2 ^ 64 - 1) }

@@ -1,5 +1,5 @@
-//! A table that gives each name a number: equal names have one number, and numbers count from 0 in
-//! the order of arrival.
+//! A table that gives each name a number: equal names have the same number, and numbers count from
+//! 0 in the order of arrival.
 
 ghost use Rattle.std.specs.Prelude.{◌≡◌, ◌≢◌, ◌++◌, ◌<◌, ◌≤◌, ◌↔◌, ℕ, List, [], ◌∷◌, All, IfErr, IfNone, IfOk, IfSome, IsOk, IsTrue, OnErr, OnOk, Some, length, option_map, slice_get, slice_index, vec_len};
 ghost use Rattle.std.specs.List.{Contains, insert as insert_at_index};
@@ -15,8 +15,8 @@ use std::cmp::Ordering;
 use std::marker::Model;
 use utf16string::{Utf16Order, WStr, WString};
 
-/// Names, each once, under the numbers 0, 1, 2 and so on, in the order in which they came. They are
-/// stored one after another in one string. A contract sees the list of their texts.
+/// Names, each once, with the numbers 0, 1, 2 and so on in the order of their arrival. They are
+/// stored one after another in one string. Contracts state facts about the list of their texts.
 #[derive(Drop)]
 pub struct Interner<E: Utf16Order, A: Allocator = Global> {
     text: WString<E, A>,
@@ -59,7 +59,7 @@ impl<E: Utf16Order, A: Allocator> Interner<E, A> {
         })
     }
 
-    /// Returns the number of names, which the next new name gets as its number.
+    /// Returns the number of names, which is also the number that the next new name gets.
     ///
     /// # Complexity
     ///
@@ -71,7 +71,7 @@ impl<E: Utf16Order, A: Allocator> Interner<E, A> {
         self.ends.len()
     }
 
-    /// Returns whether there is no name.
+    /// Returns whether there are no names.
     ///
     /// # Complexity
     ///
@@ -82,7 +82,7 @@ impl<E: Utf16Order, A: Allocator> Interner<E, A> {
         self.len() == 0
     }
 
-    /// Returns the name of a number, or `None` if no name has it: if the number is `len()` or more.
+    /// Returns the name with a number, or `None` if the number is `len()` or more.
     ///
     /// # Complexity
     ///
@@ -97,7 +97,7 @@ impl<E: Utf16Order, A: Allocator> Interner<E, A> {
     ///
     /// # Complexity
     ///
-    /// A binary search: one comparison of names for each doubling of the table. Allocates nothing.
+    /// A binary search: compares names once for each doubling of the table. Allocates nothing.
     pub fn find(&self, name: WStr<E>) -> Option<usize>
         ensures some { IfSome result (λ number.
             slice_get self.now number ≡ Some (wstr_text name.entry)) }
@@ -109,7 +109,8 @@ impl<E: Utf16Order, A: Allocator> Interner<E, A> {
         }
     }
 
-    /// Returns all numbers, each once, sorted by their names, by scalar values, as `str` compares.
+    /// Returns all numbers, each once, sorted by their names. Names compare by scalar values, as
+    /// `str` does.
     ///
     /// # Complexity
     ///
@@ -125,14 +126,14 @@ impl<E: Utf16Order, A: Allocator> Interner<E, A> {
     ///
     /// # Errors
     ///
-    /// If allocation fails for a new name. All names and their numbers are unchanged then.
+    /// If allocation fails for a new name. In that case all names and their numbers are unchanged.
     ///
     /// # Complexity
     ///
-    /// For a known name as `find`. For a new one the numbers of larger names are moved in one
-    /// block. Allocates at most three times: for the text of all names, and twice for a number of
-    /// each. A block grows to twice its size, or to what it must hold if that is more, but to no
-    /// less than eight bytes of text or four numbers.
+    /// A known name costs as much as `find`. For a new one, the numbers of larger names are also
+    /// moved in one block. Allocates at most three times: for the text of all names, for their ends
+    /// and for their order. A block grows to twice its size, or to what it must hold if that is
+    /// more. It has at least eight bytes of text or four numbers.
     pub fn intern(&mut self, name: WStr<E>) -> Result<usize, AllocError>
         ensures interned { IfOk result (λ number.
             IsInterned self.old (wstr_text name.entry) number self.new) }
@@ -143,7 +144,7 @@ impl<E: Utf16Order, A: Allocator> Interner<E, A> {
     }
 }
 
-// Returns the offset in bytes at which the name of a number begins.
+// Returns the offset in bytes at which the name with a number begins.
 fn start_of(ends: &[usize], number: usize) -> usize
     requires { number ≤ length ends.now }
     ensures { result ≡ slice_index (0 ∷ ends.now) number }
@@ -151,7 +152,7 @@ fn start_of(ends: &[usize], number: usize) -> usize
     if number == 0 { 0 } else { ends[number - 1] }
 }
 
-// Returns the name of a number, if there is one.
+// Returns the name with a number, if there is one.
 #[tactic(auto, using(utf16_units::proofs::Rules::parts))]
 fn nth<'a, E: Utf16Order, A: Allocator>(
     text: &'a WString<E, A>,
@@ -169,7 +170,7 @@ fn nth<'a, E: Utf16Order, A: Allocator>(
     }
 }
 
-// Returns the name of a number.
+// Returns the name with a number.
 #[tactic(auto, using(utf16_units::proofs::Rules::parts))]
 fn name_at<'a, E: Utf16Order, A: Allocator>(
     text: &'a WString<E, A>,
@@ -184,7 +185,7 @@ fn name_at<'a, E: Utf16Order, A: Allocator>(
     text.index(start_of(ends, number)..ends[number])
 }
 
-// Returns the number of a name, after it is added if it is new.
+// Returns the number of a name, which is added first if it is new.
 #[tactic(auto, using(utf16_units::proofs::Rules::tables))]
 fn put_in<E: Utf16Order, A: Allocator>(
     text: &mut WString<E, A>,
@@ -212,7 +213,7 @@ fn put_in<E: Utf16Order, A: Allocator>(
     }
 }
 
-// Returns the number of a name, or the place of its number among the sorted ones.
+// Returns the number of a name, or the place where its number belongs among the sorted ones.
 #[tactic(auto, using(utf16_units::proofs::Rules::halving))]
 fn place_of<E: Utf16Order, A: Allocator>(
     text: &WString<E, A>,
@@ -244,8 +245,8 @@ fn place_of<E: Utf16Order, A: Allocator>(
     Err(low)
 }
 
-// Appends a name, and inserts its number at a place. All capacity is reserved first: if that fails,
-// nothing has changed.
+// Appends a name, and inserts its number at a place. All capacity is reserved first, so that
+// nothing has changed if that fails.
 fn insert<E: Utf16Order, A: Allocator>(
     text: &mut WString<E, A>,
     ends: &mut Vec<usize, A>,

@@ -1,4 +1,4 @@
-//! A text as the inside of a string of JSON.
+//! A text as the content of a JSON string.
 
 ghost use Rattle.std.specs.Prelude.{◌≡◌, ◌/◌, ◌%◌, ◌<◌, ◌++◌, [], ◌∷◌, IfOk, OnOk};
 ghost use Rattle.std.specs.List.{flat_map};
@@ -45,7 +45,7 @@ fn push_escaped<E: Utf16Order, A: Allocator>(
     to.push(c)
 }
 
-// Appends a control character by its number.
+// Appends a control character as its code.
 fn push_code<E: Utf16Order, A: Allocator>(
     to: &mut WString<E, A>,
     code: u32,

@@ -1,4 +1,4 @@
-//! Users of the strings and streams: tables of texts, tables of names, fields of records,
+//! Code that uses the strings and streams: tables of texts, tables of names, fields of records,
 //! transcoders, lines of a registry export, JSON strings, common prefixes, and counts of a stream.
 #![tactic(auto)]
 

@@ -1,5 +1,5 @@
-//! A table of texts, each terminated by a NUL, and the table by one more, as the registry stores a
-//! list of strings.
+//! A table of texts, as the registry stores a list of strings: a NUL terminates each text, and one
+//! more NUL the table.
 
 ghost use Rattle.std.specs.Prelude.{◌≡◌, ◌∷◌, [], ℕ, List, All, IfErr, IfOk, IfSome, IsOk, None, OnOk, map};
 ghost use Rattle.std.specs.Bool.{OnFalse, OnTrue};
@@ -13,12 +13,12 @@ use std::alloc::{AllocError, Allocator};
 use std::marker::Model;
 use utf16string::{Utf16Order, WStr, WString};
 
-/// Why texts make no table.
+/// Why texts cannot form a table.
 #[derive(Clone, Copy, PartialEq, Eq, Debug, Drop)]
 pub enum WriteError {
-    /// The text of this number, counted from 0, is empty: it would end the table.
+    /// The text with this number, counted from 0, is empty: it would end the table.
     Empty(usize),
-    /// The text of this number, counted from 0, contains a NUL: it would be two texts.
+    /// The text with this number, counted from 0, contains a NUL: it would be read as two texts.
     HasNul(usize),
     /// Allocation failed.
     NoMemory,
@@ -61,9 +61,9 @@ impl<'a, E: Utf16Order> Iterator for MultiSz<'a, E> {
     }
 }
 
-/// Returns an iterator over the texts of a table, in order. Any text is a table: an empty text ends
-/// it, and so does the end of the input, so the last NUL may be missing, and the NUL of the last
-/// text too. What follows the empty text is left out.
+/// Returns an iterator over the texts of a table, in order. Any text can be read as a table. An
+/// empty text ends the table, and so does the end of the input; so the last NUL may be missing, and
+/// also the NUL of the last text. What follows the empty text is ignored.
 ///
 /// # Complexity
 ///
@@ -75,7 +75,7 @@ pub fn texts<'a, E: Utf16Order>(table: WStr<'a, E>) -> MultiSz<'a, E>
     MultiSz { rest: table }
 }
 
-/// Returns the texts of a table in a vector, as `texts` yields them.
+/// Returns the texts of a table in a vector, in the order in which `texts` yields them.
 ///
 /// # Errors
 ///
@@ -97,12 +97,12 @@ pub fn read<'a, E: Utf16Order, A: Allocator>(
     Ok(found)
 }
 
-/// Returns the table of texts, in the given order.
+/// Returns a table of the texts, in the given order.
 ///
 /// # Errors
 ///
-/// If a text is empty or contains a NUL: the number of the first such text, before any allocation.
-/// If there is none and allocation fails, `NoMemory`.
+/// If a text is empty or contains a NUL, the error has the number of the first such text, and
+/// nothing was allocated. Otherwise the error is `NoMemory`, if allocation fails.
 #[tactic(auto, using(utf16_units::proofs::DelimitedLemmas::delimited))]
 pub fn write<E: Utf16Order, A: Allocator>(
     alloc: A,
@@ -119,7 +119,8 @@ pub fn write<E: Utf16Order, A: Allocator>(
     Ok(joined(alloc, texts)?)
 }
 
-// Tests that no text is empty or contains a NUL; the error is for the first that is or does.
+// Tests that no text is empty or contains a NUL. The error is for the first text that fails the
+// test.
 fn check<E: Utf16Order>(texts: &[WStr<E>]) -> Result<(), WriteError>
     ensures entries { OnOk result (All IsMultiSzEntry (map wstr_text texts.now)) }
     ensures error { IfErr result (IsWriteError (map wstr_text texts.now)) }

@@ -1,5 +1,5 @@
-//! Fields of a record in a buffer, one after another: each a count of code units in little endian,
-//! and then a text of that many.
+//! Fields of a record in a buffer, one after another: each is a count of code units in little
+//! endian and then a text of that length.
 
 ghost use Rattle.std.specs.Prelude.{◌≡◌, ◌+◌, ◌<◌, ◌^◌, [], ◌++◌, IfErr, IfOk, IsOk, length, map};
 ghost use Rattle.std.specs.Vec.{vec_items};
@@ -18,8 +18,8 @@ pub enum FieldErrorKind {
     NoCount,
     /// Fewer bytes follow the count than it says.
     Short,
-    /// The bytes of the text are ill-formed. The error's offsets count bytes from the end of the
-    /// count.
+    /// The bytes of the text are ill-formed. The offsets in the error count bytes from the end of
+    /// the count.
     NoText(Utf16Error),
 }
 
@@ -28,8 +28,8 @@ pub enum FieldErrorKind {
 pub struct FieldError {
     /// The offset of the malformed field. All before it are well-formed fields.
     pub field: usize,
-    /// The offset of the problem: of the count, of what follows the count, or of what follows the
-    /// longest valid prefix of the text.
+    /// The offset of the problem: the start of the count, the start of what follows the count, or
+    /// the end of the longest valid prefix of the text.
     pub place: usize,
     /// The kind of the problem.
     pub fault: FieldErrorKind,
@@ -38,8 +38,8 @@ pub struct FieldError {
 /// Why the fields of a buffer were not read.
 #[derive(Clone, Copy, Debug, PartialEq, Eq)]
 pub enum ReadError {
-    /// Allocation failed. The buffer starts with at least one well-formed field: the first one is
-    /// the first to allocate.
+    /// Allocation failed. The buffer starts with at least one well-formed field, since the first
+    /// field is the first to allocate.
     Memory,
     /// A field is malformed.
     Field(FieldError),
@@ -65,12 +65,12 @@ impl<T: Drop> From<AllocFailed<T>> for ReadError {
     }
 }
 
-/// Returns the first field, as a view of the bytes, and the bytes after it. The text is validated
-/// and not copied.
+/// Returns the first field, as a view of the bytes, and the bytes after it. The text is validated,
+/// but not copied.
 ///
 /// # Errors
 ///
-/// If the bytes do not begin with a field. Empty bytes have no count.
+/// If the bytes do not begin with a field. For no bytes the error is `NoCount`.
 pub fn next_field<E: Utf16Order>(bytes: &[u8]) -> Result<(WStr<'_, E>, &[u8]), FieldErrorKind>
     ensures field { IfOk result (λ read. bytes.now ≡ field_bytes E.BIG (wstr_text read.0)
         ++ read.1.now) }
@@ -91,8 +91,8 @@ pub fn next_field<E: Utf16Order>(bytes: &[u8]) -> Result<(WStr<'_, E>, &[u8]), F
     }
 }
 
-/// An iterator over the fields of a buffer, each a view of it. If a field is malformed, it yields
-/// the error in its place, and nothing after it.
+/// An iterator over the fields of a buffer, each a view of the buffer. If a field is malformed, the
+/// iterator yields an error instead of the field, and ends.
 #[derive(Drop)]
 pub struct Fields<'a, E: Utf16Order> {
     rest: &'a [u8],
@@ -116,8 +116,8 @@ impl<'a, E: Utf16Order> Fields<'a, E> {
         }
     }
 
-    /// Returns the offset in bytes at which the next field begins, or at which the malformed one
-    /// begins.
+    /// Returns the offset in bytes at which the next field begins, or the malformed field if there
+    /// is one.
     pub fn offset(&self) -> usize
         ensures { result ≡ fields_offset self.now }
     {
@@ -154,8 +154,8 @@ impl<'a, E: Utf16Order> Iterator for Fields<'a, E> {
     }
 }
 
-// Returns the error for a malformed field at an offset of a buffer; `rest` is the buffer from there
-// on.
+// Returns the error for a malformed field at an offset of a buffer; `rest` is what the buffer holds
+// from that offset.
 fn error_at<E: Utf16Order>(offset: usize, rest: &[u8], fault: FieldErrorKind) -> FieldError
     requires bound { offset + length rest.now < 2 ^ 64 }
     requires not_empty { 0 < length rest.now }
@@ -174,11 +174,11 @@ fn error_at<E: Utf16Order>(offset: usize, rest: &[u8], fault: FieldErrorKind) ->
     }
 }
 
-/// Returns all fields of a buffer, in order, each a view of it.
+/// Returns all fields of a buffer, in order, each a view of the buffer.
 ///
 /// # Errors
 ///
-/// `Field` for the first malformed field. `Memory` if allocation fails, which can only happen if
+/// `Field` for the first malformed field. `Memory` if allocation fails, which can happen only if
 /// the buffer starts with a well-formed field.
 pub fn read_fields<'a, E: Utf16Order, A: Allocator>(
     alloc: A,

@@ -1,4 +1,4 @@
-//! Lines of an export of the registry: `"name"="value"`.
+//! Lines of a registry export: `"name"="value"`.
 
 ghost use Rattle.std.specs.Prelude.{◌≡◌, ◌↔◌, [], ◌∷◌, ℕ, List, IfNone, IfSome, IsTrue};
 ghost use Rattle.examples.specs.Registry.{IsLine};
@@ -6,8 +6,8 @@ ghost use Rattle.utf16string.specs.WStr.{wstr_text};
 
 use utf16string::{Utf16Order, WStr};
 
-/// Returns the name and the value of a line, or `None` where the line has another form. Neither has
-/// a quote. Copies nothing.
+/// Returns the name and the value of a line, or `None` if the line has another form. Neither
+/// contains a quote. Copies nothing.
 pub fn entry<'a, E: Utf16Order>(line: WStr<'a, E>) -> Option<(WStr<'a, E>, WStr<'a, E>)>
     ensures some { IfSome result (λ entry.
         IsLine (wstr_text line.entry) (wstr_text entry.0) (wstr_text entry.1)) }

@@ -1,4 +1,4 @@
-//! Transcoders: UTF-16 in either byte order to UTF-8 and back, and to the other byte order.
+//! Transcoders from UTF-16 in either byte order to UTF-8, the reverse, and to the other byte order.
 
 ghost use Rattle.std.specs.Prelude.{◌≡◌, [], IfErr, IfOk, IsOk, chars, encode_utf8_all, string_bytes};
 ghost use Rattle.std.specs.List.{flat_map};
@@ -24,7 +24,8 @@ pub enum ByteOrder {
 /// Why bytes were not transcoded.
 #[derive(Clone, Copy, Debug, PartialEq, Eq)]
 pub enum TranscodeError {
-    /// They are ill-formed: the length of the longest valid prefix, and what follows it.
+    /// They are ill-formed. The error gives the length of the longest valid prefix and what follows
+    /// it.
     NoText(Utf16Error),
     /// Allocation failed.
     Memory,
@@ -54,7 +55,7 @@ impl From<AllocError> for TranscodeError {
 ///
 /// # Errors
 ///
-/// If the bytes are ill-formed, or allocation fails. It does not fail for the empty text.
+/// If the bytes are ill-formed or allocation fails. It does not fail for the empty text.
 #[tactic(auto, using(crate::proofs::Rules::empty))]
 pub fn to_utf8<E: Utf16Order, A: Allocator>(
     alloc: A,
@@ -75,7 +76,7 @@ pub fn to_utf8<E: Utf16Order, A: Allocator>(
 ///
 /// # Errors
 ///
-/// If allocation fails. It does not fail for no bytes.
+/// If allocation fails. It does not fail if there are no bytes.
 pub fn to_utf8_lossy<E: Utf16Order, A: Allocator>(
     alloc: A,
     bytes: &[u8],
@@ -108,11 +109,11 @@ pub fn from_utf8<E: Utf16Order, A: Allocator>(
     Ok(WString::<E, A>::from_str(alloc, text)?.into_bytes())
 }
 
-/// Returns the text of UTF-16 in one byte order as UTF-16 in another.
+/// Converts UTF-16 from one byte order to another.
 ///
 /// # Errors
 ///
-/// If the bytes are ill-formed, or allocation fails. It does not fail for the empty text.
+/// If the bytes are ill-formed or allocation fails. It does not fail for the empty text.
 ///
 /// # Complexity
 ///
@@ -132,13 +133,13 @@ pub fn swap_byte_order<E: Utf16Order, F: Utf16Order, A: Allocator>(
     Ok(copy.into_byte_order::<F>().into_bytes())
 }
 
-/// Returns the text of UTF-16 that comes in chunks, cut anywhere, in UTF-8. The chunks are joined
-/// first, in memory of another allocator.
+/// Returns the text of UTF-16 that comes in chunks, cut anywhere, in UTF-8. The chunks are first
+/// joined in memory from a separate allocator.
 ///
 /// # Errors
 ///
-/// If the joined bytes are ill-formed, or allocation fails. The error's offsets count bytes of the
-/// joined chunks. It does not fail if the chunks have no bytes.
+/// If the joined bytes are ill-formed or allocation fails. The offsets in the error count bytes of
+/// the joined chunks. It does not fail if the chunks have no bytes.
 pub fn pieces_to_utf8<E: Utf16Order, A: Allocator, B: Allocator, C: Allocator>(
     alloc: A,
     joined_alloc: B,
@@ -167,8 +168,8 @@ fn joined<A: Allocator, B: Allocator>(
     Ok(bytes)
 }
 
-/// Returns the whole text of any bytes that come in chunks, cut anywhere, in UTF-8, lossy as
-/// `to_utf8_lossy`, in a byte order that is known at run time.
+/// Returns the whole text of any bytes that come in chunks, cut anywhere, in UTF-8, with U+FFFD as
+/// in `to_utf8_lossy`. The byte order is known only at run time.
 ///
 /// # Errors
 ///
@@ -189,7 +190,8 @@ pub fn to_utf8_lossy_in<A: Allocator, B: Allocator>(
     }
 }
 
-/// Returns the text of UTF-16 in UTF-8, in a byte order that is known at run time, as `utf8_of`.
+/// Returns the text of UTF-16 in UTF-8, as `to_utf8` does. The byte order is known only at run
+/// time.
 pub fn to_utf8_in<A: Allocator>(
     alloc: A,
     order: ByteOrder,
@@ -206,7 +208,7 @@ pub fn to_utf8_in<A: Allocator>(
     }
 }
 
-/// Returns a text in UTF-16, in a byte order that is known at run time, as `from_utf8`.
+/// Returns a text in UTF-16, as `from_utf8` does. The byte order is known only at run time.
 pub fn from_utf8_in<A: Allocator>(
     alloc: A,
     order: ByteOrder,
@@ -226,7 +228,7 @@ pub fn from_utf8_in<A: Allocator>(
 ///
 /// # Errors
 ///
-/// If the bytes are ill-formed, or allocation fails. It does not fail for the empty text.
+/// If the bytes are ill-formed or allocation fails. It does not fail for the empty text.
 #[tactic(auto, using(crate::proofs::Rules::empty))]
 pub fn utf16_round_trip<E: Utf16Order, A: Allocator, B: Allocator>(
     alloc: A,
