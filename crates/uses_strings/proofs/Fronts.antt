@@ -9,7 +9,7 @@ front_given it all front rest next is then =
     let given = YieldsList-so_far (YieldsList-from_first (λ (x : ℕ). x) (λ (xs : List ℕ). xs) all is) front then.0 then.1 in
     sym (take-append-drop (length front) all) ∙ ap (λ xs. xs ++ drop (length front) all) (sym given ∙ map-id front)
 
--- a consequence of what an error leaves
+-- what follows from a fact that an error leaves
 pub err_so : {T E : Type 0} {P Q : Type 0} (r : Result T E) → OnErr r P → (P → Q) → OnErr r Q
 err_so (Ok v) p so = tt
 err_so (Err e) p so = so p

@@ -1,4 +1,4 @@
--- A key found in a record, and bytes swapped in pairs.
+-- A key found in a record, and bytes that are swapped in pairs.
 use Rattle.std.proofs.Common.{◌≡◌, ◌≢◌, ℕ, ◌+◌, ◌-◌, ◌%◌, ◌≤◌, Bool, List, [], ◌∷◌, ◌++◌, length, drop, slice_index, refl, sym, ap, ◌∙◌, subst, arith}
 use Rattle.std.proofs.lemmas.List.{drop_more}
 use Rattle.utf16_units.specs.Boundary.{IsBoundary, text_from, text_to}
@@ -53,7 +53,7 @@ pub swap_bytes-nil : swap_bytes [] ≡ []
 unfolding swap_bytes
 swap_bytes-nil = refl
 
--- the next two bytes swapped
+-- swapping the rest of the bytes swaps the next two, and then those after them
 pub swap_bytes-at : (bytes : List ℕ) (at : ℕ) → 2 ≤ length bytes - at
     → swap_bytes (drop at bytes) ≡ slice_index bytes (at + 1) ∷ slice_index bytes at ∷ swap_bytes (drop (at + 2) bytes)
 swap_bytes-at bytes at long =

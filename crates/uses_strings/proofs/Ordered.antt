@@ -1,5 +1,5 @@
--- What the callers need of lists: sorted neighbors, a key found by its text, and copies at the same
--- places.
+-- The facts about lists that the callers need: sorted neighbors, a key found by its text, and
+-- copies at the same places.
 use Rattle.std.proofs.Common.{◌≡◌, ◌↔◌, ℕ, zero, suc, ◌+◌, ◌-◌, ◌<◌, Bool, true, false, List, [], ◌∷◌, Ordering, Less, Equal, Greater, IsTrue, length, map, slice_index_or, nat_cmp, refl, ap, ap₂, sym, subst, ◌∙◌, arith, is_eq, is_lt, true≢false}
 use Rattle.std.proofs.lemmas.List.Folds.{Any-from_list_any, list_any-from_Any}
 use Rattle.std.specs.Cmp.{Equal-is}
@@ -9,7 +9,7 @@ use Rattle.utf16_units.specs.Laws.{BeforeFollows}
 use Rattle.utf16_units.specs.TextOrder.{IsBefore}
 use Rattle.utf16_units.proofs.TextOrderLemmas.{Less-from_before, answers_Equal, answers_Less}
 
--- what holds of each two neighbors and is transitive holds of each two
+-- a transitive relation that holds for each two neighbors holds for each two items
 module _ {X : Type 0} (R : X → X → Type 0) (follows : (x y z : X) → R x y → R y z → R x z) (xs : List X) (next : AllAdjacentBelow R xs (length xs)) where
   further : (i n : ℕ) (d : X) → i + n + 1 < length xs → R (slice_index_or xs i d) (slice_index_or xs (i + n + 1) d)
   further i zero d within =
@@ -31,7 +31,7 @@ less_from Less e = refl
 less_from Equal e = absurd (true≢false e)
 less_from Greater e = absurd (true≢false e)
 
--- the test of each two neighbors decides whether all are sorted
+-- testing each two neighbors decides whether all items are sorted
 module _ {X : Type 0} (text : X → List ℕ) (xs : List X) (follows : BeforeFollows) where
   pub ascending : (r : Bool) → IsAllAdjacentAnswer (λ x y b. b ≡ is_lt (slice_cmp nat_cmp (text x) (text y))) xs r
       → (IsTrue r ↔ AllPairs (λ x y. IsBefore (text x) (text y)) xs)
@@ -52,7 +52,7 @@ module _ {X : Type 0} (text : X → List ℕ) (xs : List X) (follows : BeforeFol
           let b = all k (k + 1) y (omega arith) answer.1 in
           answer.2 y ∙ ap is_lt (Less-from_before _ _ b)
 
--- a key is found by its text
+-- searching by the order finds a key exactly if an item has its text
 pub known : {X : Type 0} (text : X → List ℕ) (name : List ℕ) (xs : List X) (r : Bool) → r ≡ list_any (λ x. is_eq (slice_cmp nat_cmp name (text x))) xs
     → (IsTrue r ↔ Any (λ x. text x ≡ name) xs)
 known text name xs r is = (
@@ -64,7 +64,7 @@ known text name xs r is = (
       (found.0, found.1, found.2, found.3, (Equal-is _).1 ((answers_Equal name (text found.1) _ refl).1 (sym found.4))),
 )
 
--- each copy has the text of the item at its place
+-- each copy has the text of the item at the same place
 pub copied_texts : {X : Type 0} (text : X → List ℕ) (xs ys : List X) → AllZip (λ x y. text y ≡ text x) xs ys → map text ys ≡ map text xs
 copied_texts text [] [] same = refl
 copied_texts text [] (y ∷ ys) same = absurd same

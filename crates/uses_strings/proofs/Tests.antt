@@ -4,12 +4,12 @@ use Rattle.std.proofs.lemmas.Bool.Decides.{Decides-eqb}
 use Rattle.std.proofs.lemmas.Slice.Eq.{slice_eq-Decides}
 use Rattle.std.specs.List.{starts_with}
 
--- an option that is `None` by its test
+-- an option that tests as `None` is `None`
 pub none_from_test : (o : Option ℕ) → is_some o ≡ false → o ≡ None
 none_from_test None e = refl
 none_from_test (Some n) e = absurd (true≢false e)
 
--- the test of `starts_with`, as an equation
+-- what the test of `starts_with` decides, as an equation
 pub starts_stands : (bytes part : List ℕ) (r : Bool) → r ≡ starts_with nat_eq bytes part → (IsTrue r ↔ (take (length part) bytes ≡ part))
 starts_stands bytes part r test =
     let decides = slice_eq-Decides Decides-eqb part (take (length part) bytes) r test in

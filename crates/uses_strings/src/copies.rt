@@ -1,4 +1,4 @@
-//! Copies of strings, and of what holds strings.
+//! Copies of strings, and of vectors of strings.
 
 ghost use Rattle.std.specs.Prelude.{◌≡◌, [], ◌∷◌, IfOk, OnErr, OnOk, map};
 ghost use Rattle.utf16_units.specs.Edit.{push_text};
@@ -7,8 +7,8 @@ ghost use Rattle.utf16string.specs.WString.{wstring_text};
 use std::alloc::{AllocError, Allocator};
 use utf16string::{Utf16Order, WString};
 
-/// Appends a character, and returns a copy of the text before. If allocation fails, the text is
-/// unchanged.
+/// Appends a character, and returns a copy of the text from before. If allocation fails, the text
+/// is unchanged.
 pub fn keep_and_push<E: Utf16Order, A: Allocator + Clone>(
     text: &mut WString<E, A>,
     ch: char,
@@ -23,7 +23,7 @@ pub fn keep_and_push<E: Utf16Order, A: Allocator + Clone>(
     Ok(kept)
 }
 
-/// Returns a copy with a character appended. The original is borrowed, and stays.
+/// Returns a copy with a character appended. The original is only borrowed.
 pub fn push_to_copy<E: Utf16Order, A: Allocator + Clone>(
     text: &WString<E, A>,
     ch: char,
@@ -36,7 +36,7 @@ pub fn push_to_copy<E: Utf16Order, A: Allocator + Clone>(
     Ok(copy)
 }
 
-/// Returns a vector of copies, each with the text of the string at its place.
+/// Returns a vector of copies, each with the text of the string at the same place.
 pub fn copy_all<E: Utf16Order>(strings: &Vec<WString<E>>) -> Result<Vec<WString<E>>, AllocError>
     ensures { IfOk result (λ copies. map wstring_text copies.items
         ≡ map wstring_text strings.now.items) }

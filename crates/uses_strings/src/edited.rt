@@ -1,4 +1,4 @@
-//! What is at which offset of a string after an edit.
+//! What an edit leaves at which offset of a string.
 
 ghost use Rattle.std.specs.Prelude.{◌≡◌, ◌↔◌, ◌⊎◌, ◌+◌, IfOk, IfSome, IsNone, IsSome, IsTrue, OnErr, OnOk, false};
 ghost use Rattle.utf16_units.specs.Boundary.{IsBoundary, text_between, text_from, text_to};
@@ -41,8 +41,8 @@ pub fn insert_at_key<E: Utf16Order, A: Allocator>(
     Ok(Some(at + part.len()))
 }
 
-/// Writes a text over as many bytes starting at an offset if it fits there, and returns whether it
-/// does. The string keeps its length.
+/// Overwrites the bytes that start at an offset with a text of the same length if the text fits,
+/// and returns whether it does. The string keeps its length.
 #[tactic(auto, using(utf16_units::proofs::Rules::edits))]
 pub fn overwrite_at_key<E: Utf16Order, A: Allocator>(
     text: &mut WString<E, A>,
@@ -69,7 +69,7 @@ pub fn overwrite_at_key<E: Utf16Order, A: Allocator>(
 }
 
 /// Splits off what follows an offset if that is a character boundary, and appends it again. If
-/// allocation fails, the text is unchanged, or what followed the offset is gone.
+/// allocation fails, either the text is unchanged or what followed the offset is lost.
 #[tactic(auto, using(utf16_units::proofs::Rules::edits))]
 pub fn cut_and_mend<E: Utf16Order, A: Allocator + Clone>(
     text: &mut WString<E, A>,

@@ -1,4 +1,4 @@
-//! Edits after tests of their preconditions, by public calls alone: what a caller writes, and what
+//! Edits after tests of their preconditions, by public calls only: what a caller writes, and what
 //! it then knows.
 
 ghost use Rattle.std.specs.Prelude.{◌≡◌, ◌↔◌, ◌⊎◌, ◌+◌, ◌<◌, ◌≤◌, length, take, ℕ, false, true, Ok, Some, IfOk, IfSome, IsNone, IsOk, IsSome, IsTrue, OnErr, OnOk};
@@ -13,7 +13,7 @@ ghost use Rattle.utf16string.specs.WString.{wstring_text};
 use std::alloc::{AllocError, Allocator};
 use utf16string::{Utf16Error, Utf16Order, WStr, WStrMut, WString};
 
-/// Inserts a text at an offset if that is a character boundary; returns whether it is.
+/// Inserts a text at an offset if that is a character boundary. Returns whether it is.
 pub fn insert_checked<E: Utf16Order, A: Allocator>(
     text: &mut WString<E, A>,
     idx: usize,
@@ -32,7 +32,7 @@ pub fn insert_checked<E: Utf16Order, A: Allocator>(
     Ok(true)
 }
 
-/// Appends two texts, both or neither: once capacity for both is reserved, no allocation fails.
+/// Appends two texts, or neither: once capacity for both is reserved, no allocation fails.
 pub fn push_both<E: Utf16Order, A: Allocator>(
     text: &mut WString<E, A>,
     first: WStr<E>,
@@ -67,7 +67,7 @@ pub fn remove_checked<E: Utf16Order, A: Allocator>(
     }
 }
 
-/// Keeps the prefix up to an offset if that is a character boundary or past the text; returns
+/// Keeps the prefix up to an offset if that is a character boundary or past the text. Returns
 /// whether it is.
 pub fn truncate_checked<E: Utf16Order, A: Allocator>(text: &mut WString<E, A>, len: usize) -> bool
     ensures edited { IsTrue result ↔ ((size (wstring_text text.old) ≤ len)
@@ -103,10 +103,10 @@ pub fn split<E: Utf16Order, A: Allocator + Clone>(
     Ok(Some(text.split_off(at)?))
 }
 
-/// Writes a text over a part of the caller's bytes if they are text and it fits there; returns
-/// whether it does. After the view is dropped the slice holds the changed bytes, and after an error
-/// it is unchanged. The bytes are validated before they are borrowed: of bytes borrowed into a
-/// `Result`, a caller's proof knows the length alone.
+/// Overwrites a part of the caller's bytes with a text if the bytes are text and it fits. Returns
+/// whether it does. After the view is dropped, the slice holds the changed bytes; after an error,
+/// it is unchanged. The bytes are validated before they are borrowed: if a `Result` holds the
+/// borrowed bytes, a caller's proof knows only their length.
 pub fn overwrite_in_place<E: Utf16Order>(
     buf: &mut [u8],
     idx: usize,
@@ -131,8 +131,9 @@ pub fn overwrite_in_place<E: Utf16Order>(
     Ok(fits)
 }
 
-/// Writes a text over a part of the longest valid prefix of the caller's bytes if it fits there;
-/// returns whether it does. What follows the prefix stays, and if nothing is written all bytes do.
+/// Overwrites a part of the longest valid prefix of the caller's bytes with a text if it fits.
+/// Returns whether it does. What follows the prefix is unchanged. If nothing is written, all bytes
+/// are.
 pub fn overwrite_valid_prefix<E: Utf16Order>(buf: &mut [u8], idx: usize, part: WStr<E>) -> bool
     ensures edited { (n : ℕ) → IsUtf16ValidUpTo E.BIG buf.old n
         → (IsTrue result
@@ -151,7 +152,7 @@ pub fn overwrite_valid_prefix<E: Utf16Order>(buf: &mut [u8], idx: usize, part: W
     fits
 }
 
-/// Does the same by a checked view that ends by `into_bytes`, and returns the bytes to the caller.
+/// Does the same with a checked view, and returns the caller's bytes with `into_bytes`.
 pub fn overwrite_and_return<'a, E: Utf16Order>(
     buf: &'a mut [u8],
     idx: usize,

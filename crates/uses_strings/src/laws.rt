@@ -1,4 +1,4 @@
-//! What users of the format need, each resting on a law of UTF-16.
+//! Functions that users of the format need. Each is proved with a law of UTF-16.
 
 ghost use Rattle.std.specs.Prelude.{◌≡◌, ◌↔◌, ◌⊎◌, ◌++◌, ◌%◌, [], true, length, chars, IfOk, IfSome, IsNone, IsTrue};
 ghost use Rattle.utf16_units.specs.Boundary.{IsBoundary};
@@ -54,9 +54,9 @@ pub fn cut_and_join<E: Utf16Order, A: Allocator>(
     joined(alloc, head, tail)
 }
 
-/// Splits a text at a key whose bytes are at an even offset: returns what is before the key, and
-/// what follows it. `None` if the key is empty, the offset is odd, or the key's bytes are not
-/// there.
+/// Splits a text at a key whose bytes are at an even offset. Returns what is before the key and
+/// what follows it, or `None` if the key is empty, the offset is odd, or the key's bytes are not at
+/// the offset.
 pub fn cut_at_key<'a, E: Utf16Order>(
     text: WStr<'a, E>,
     key: WStr<'_, E>,
@@ -108,8 +108,8 @@ pub fn to_big_endian<A: Allocator>(alloc: A, text: WStr<LE>) -> Result<Vec<u8, A
     Ok(swapped)
 }
 
-/// Inserts a character at a boundary and removes it again, as an undo does: the bytes of the string
-/// are unchanged, also if allocation fails.
+/// Inserts a character at a boundary and removes it again, as an undo does. The bytes of the string
+/// are unchanged, even if allocation fails.
 pub fn type_and_undo<E: Utf16Order, A: Allocator>(
     text: &mut WString<E, A>,
     at: usize,
@@ -124,7 +124,7 @@ pub fn type_and_undo<E: Utf16Order, A: Allocator>(
     Ok(())
 }
 
-/// Returns the characters of a text's UTF-8: those of the text.
+/// Returns the characters of the UTF-8 of a text, which are the characters of the text.
 pub fn through_utf8<E: Utf16Order>(alloc: Global, text: WStr<E>) -> Result<Vec<char>, AllocError>
     ensures { IfOk result (λ found. found.items ≡ wstr_text text.entry) }
 {
@@ -140,7 +140,7 @@ fn chars_of(alloc: Global, utf8: &str) -> Result<Vec<char>, AllocError>
     utf8.chars().collect(alloc)
 }
 
-/// Returns whether bytes are the prefix of a text, so that a reader of a stream may wait for more.
+/// Returns whether bytes are a prefix of a text, so that a reader of a stream may wait for more.
 pub fn is_prefix<E: Utf16Order>(raw: &[u8]) -> bool
     ensures { IsTrue result ↔ IsUtf16Prefix E.BIG raw.now }
 {
@@ -155,8 +155,8 @@ pub fn is_prefix<E: Utf16Order>(raw: &[u8]) -> bool
     !is_dead_end::<E>(&raw[e.valid_up_to()..])
 }
 
-// Returns whether an incomplete character can no longer be completed, which happens in big endian
-// alone.
+// Returns whether an incomplete character can no longer be completed, which happens only in big
+// endian.
 fn is_dead_end<E: Utf16Order>(rest: &[u8]) -> bool
     ensures { IsTrue result ↔ IsDeadEnd E.BIG rest.now }
 {

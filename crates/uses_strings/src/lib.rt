@@ -1,5 +1,5 @@
 //! Proved callers of the strings that use only public calls: iteration, edits, ranges, parts,
-//! copies and the ordering, the laws, and the examples.
+//! copies, the ordering, the laws, and the examples.
 #![tactic(auto)]
 
 pub mod copies;

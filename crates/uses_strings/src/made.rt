@@ -23,7 +23,7 @@ pub fn in_order<E: Utf16Order, F: Utf16Order, A: Allocator>(
     Ok(copy.into_byte_order())
 }
 
-/// Returns a text reversed, its characters from the last to the first.
+/// Returns the characters of a text in reverse order.
 pub fn reverse<E: Utf16Order, A: Allocator>(
     alloc: A,
     text: WStr<E>,

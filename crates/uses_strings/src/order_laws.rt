@@ -1,4 +1,4 @@
-//! What users of the ordering need, each resting on a law of it.
+//! Functions that users of the ordering need. Each is proved with a law of the ordering.
 
 ghost use Rattle.std.specs.Prelude.{◌≡◌, ◌↔◌, IsTrue};
 ghost use Rattle.std.specs.List.{AllPairs};
@@ -10,8 +10,8 @@ use std::cmp::Ordering;
 use utf16_units::laws::{before_follows, before_total};
 use utf16string::{Utf16Order, WStr, WString};
 
-/// Returns whether two strings have the same text, by comparisons that say only which of two is
-/// less.
+/// Returns whether two strings have the same text, by comparisons that only say whether one is less
+/// than the other.
 pub fn is_tie<E: Utf16Order>(first: WStr<E>, second: WStr<E>) -> bool
     ensures { IsTrue result ↔ (wstr_text first.entry ≡ wstr_text second.entry) }
 {
@@ -19,8 +19,8 @@ pub fn is_tie<E: Utf16Order>(first: WStr<E>, second: WStr<E>) -> bool
     first.cmp(&second) != Ordering::Less && second.cmp(&first) != Ordering::Less
 }
 
-/// Returns whether each string is less than all that follow it, by one comparison of each two
-/// neighbors.
+/// Returns whether each string is less than all that follow it, by comparing each two neighbors
+/// once.
 pub fn is_ascending<E: Utf16Order>(strings: &[WString<E>]) -> bool
     ensures { IsTrue result ↔ AllPairs (λ x y. IsBefore (wstring_text x) (wstring_text y))
         strings.now }

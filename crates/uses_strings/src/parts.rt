@@ -56,7 +56,8 @@ pub fn around<'a, E: Utf16Order>(
     Some((text.index(..at), text.index(at + c.encoded_utf16_len()..)))
 }
 
-/// Returns a key and its value, before and after the first '='; `None` for a line that has no '='.
+/// Returns the key before the first '=' of a line and the value after it, or `None` if the line has
+/// no '='.
 pub fn key_and_value<'a, E: Utf16Order>(line: WStr<'a, E>) -> Option<(WStr<'a, E>, WStr<'a, E>)>
     ensures none { IsNone result ↔ Lacks 61 (wstr_text line.entry) }
     ensures joined { IfSome result (λ parts. wstr_text parts.0 ++ 61 ∷ wstr_text parts.1
@@ -69,7 +70,7 @@ pub fn key_and_value<'a, E: Utf16Order>(line: WStr<'a, E>) -> Option<(WStr<'a, E
 }
 
 /// Appends a name to a table, and returns the offsets at which it starts and ends. The names before
-/// it stay.
+/// it are unchanged.
 #[tactic(auto, using(utf16_units::proofs::Rules::behind))]
 pub fn put<E: Utf16Order, A: Allocator>(
     table: &mut WString<E, A>,
@@ -94,7 +95,7 @@ pub fn put<E: Utf16Order, A: Allocator>(
     Ok((start, table.len()))
 }
 
-/// Returns the string in the bytes that a string returned by `into_bytes`.
+/// Returns the string made from the bytes that `into_bytes` returned for a string.
 #[tactic(auto, using(utf16_units::proofs::Rules::texts))]
 pub fn reopen<E: Utf16Order, A: Allocator>(text: WString<E, A>) -> WString<E, A>
     ensures { wstring_text result ≡ wstring_text text }
@@ -113,8 +114,8 @@ pub fn view<'a, E: Utf16Order>(name: WStr<'_, E>, raw: &'a [u8]) -> WStr<'a, E>
     WStr::from_utf16_unchecked(raw)
 }
 
-/// Returns the parts before and after an offset: joined they are the text, and each has the bytes
-/// on its side.
+/// Returns the parts before and after an offset. Joined, they are the text; each has the bytes on
+/// its side.
 pub fn split_in_two<'a, E: Utf16Order>(
     text: WStr<'a, E>,
     at: usize,
@@ -132,7 +133,7 @@ pub fn split_in_two<'a, E: Utf16Order>(
     }
 }
 
-/// Returns what follows the first character: the characters of the remaining offsets.
+/// Returns what follows the first character: the characters at the remaining offsets.
 pub fn after_first<'a, E: Utf16Order>(text: WStr<'a, E>) -> Option<WStr<'a, E>>
     ensures none { IfNone result (char_offsets 0 (wstr_text text.entry) ≡ []) }
     ensures some { IfSome result (λ _. char_offsets 0 (wstr_text text.entry) ≢ []) }
@@ -144,7 +145,7 @@ pub fn after_first<'a, E: Utf16Order>(text: WStr<'a, E>) -> Option<WStr<'a, E>>
     Some(chars.as_wstr())
 }
 
-/// Returns whether a text is the name that a table has in UTF-8.
+/// Returns whether a text is equal to a name that a table stores in UTF-8.
 pub fn is_name<E: Utf16Order>(text: WStr<E>, name: &str) -> bool
     ensures { IsTrue result ↔ (wstr_text text.entry ≡ chars name.now) }
 {
@@ -162,7 +163,7 @@ pub fn fields<'a, E: Utf16Order, A: Allocator>(
     line.split(',').collect(alloc)
 }
 
-/// Returns the field of a number, counted from 0.
+/// Returns the field with a number, counted from 0.
 pub fn field<'a, E: Utf16Order>(line: WStr<'a, E>, number: usize) -> Option<WStr<'a, E>>
     ensures { option_map wstr_text result
         ≡ slice_get (slice_split (λ c. c == 44) (wstr_text line.entry)) number }

@@ -1,4 +1,4 @@
-//! A range of a user's own, and code that takes any range.
+//! A range that a user defines, and code that takes any range.
 
 ghost use Rattle.std.specs.Prelude.{◌↔◌, ◌≡◌, ◌+◌, ◌^◌, Some, None, IfOk, IfSome, IsSome, length, nat_lt, if◌then◌else◌, encode_utf8_all, string_bytes};
 ghost use Rattle.utf16string.specs.Window.{IsWindowOf, window_text};
@@ -24,7 +24,7 @@ impl<E: Utf16Order> SliceIndex<E> for Field {
     }
 }
 
-/// Returns the UTF-8 of the substring at any range, or `None` if the range is not valid.
+/// Returns the UTF-8 of the substring in any range, or `None` if the range is not valid.
 pub fn part_to_utf8<E: Utf16Order, I: SliceIndex<E>, A: Allocator>(
     alloc: A,
     text: WStr<E>,

@@ -1,4 +1,4 @@
-//! Callers that keep some characters of a string.
+//! Callers that keep only some characters of a string.
 
 ghost use Rattle.std.specs.Prelude.{◌≡◌, ◌==◌, ◌+◌, ◌-◌, ◌<◌, ◌^◌, filter, length, nat_lt, not, take, true};
 ghost use Rattle.std.specs.List.{list_any};
@@ -7,7 +7,7 @@ ghost use Rattle.utf16string.specs.WString.{wstring_text};
 use std::alloc::Allocator;
 use utf16string::{Utf16Order, WString};
 
-/// Removes the characters of a set.
+/// Removes the characters that are in a set.
 pub fn without<E: Utf16Order, A: Allocator>(string: &mut WString<E, A>, dropped: &[char])
     ensures { wstring_text string.new ≡ filter (λ c. not (list_any (λ out. out == c) dropped.now))
         (wstring_text string.old) }

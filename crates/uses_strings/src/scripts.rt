@@ -1,4 +1,4 @@
-//! What a script of edits does, as an equation.
+//! The effect of a list of edits, as an equation.
 
 ghost use Rattle.std.specs.Prelude.{◌≡◌, [], ◌∷◌, All, IfOk};
 ghost use Rattle.utf16_tools.specs.Edited.{no_memory, said};
@@ -9,7 +9,7 @@ use std::alloc::{AllocError, Allocator};
 use utf16_tools::{Edit, Reply, run};
 use utf16string::{Utf16Order, WString};
 
-/// Appends two characters by a script of two edits. If no allocation failed, the text has both.
+/// Appends two characters with a list of two edits. If no allocation failed, the text has both.
 pub fn push_two<E: Utf16Order, A: Allocator + Clone, B: Allocator + Clone>(
     alloc: B,
     string: &mut WString<E, A>,

@@ -1,4 +1,4 @@
-//! Search for a text in another, by its bytes.
+//! A search for one text in another, by their bytes.
 
 ghost use Rattle.std.specs.Prelude.{◌≡◌, ◌≢◌, [], IfSome, None};
 ghost use Rattle.utf16_units.specs.Boundary.{IsAbsentBefore, OccursIn};

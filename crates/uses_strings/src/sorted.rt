@@ -1,6 +1,6 @@
-//! Strings by their ordering: the greater and the lesser of two, strings sorted, and a binary
-//! search among sorted ones. Contracts in std's words of `Ord` are proved automatically; those
-//! stated by `IsBefore` need one lemma each.
+//! Strings and their ordering: the greater and the lesser of two strings, sorting, and binary
+//! search in a sorted list. Contracts that use std's terms for `Ord` are proved automatically;
+//! those that use `IsBefore` need one lemma each.
 
 ghost use Rattle.std.specs.Prelude.{◌≡◌, IfOk, IsPermutation, IsSorted, OnErr, OnOk};
 ghost use Rattle.std.specs.Cmp.Lexicographic.{slice_cmp};
@@ -31,8 +31,8 @@ pub fn min_of<'a, E: Utf16Order>(first: WStr<'a, E>, second: WStr<'a, E>) -> WSt
     first.min(second)
 }
 
-/// Returns the index of a string among sorted ones, or the one at which it could be inserted, by
-/// binary search; in std's words.
+/// Returns the index of a string among sorted ones, or the index at which it could be inserted, by
+/// binary search. The contract uses std's terms.
 pub fn searched<E: Utf16Order>(sorted: &[WString<E>], wanted: &WString<E>) -> Result<usize, usize>
     ensures place { IsBinarySearchResult
         (λ s. slice_cmp nat_cmp (wstring_text s) (wstring_text wanted.now)) sorted.now result }
@@ -42,7 +42,7 @@ pub fn searched<E: Utf16Order>(sorted: &[WString<E>], wanted: &WString<E>) -> Re
     sorted.binary_search(wanted)
 }
 
-/// Returns the greater of two strings, by `IsBefore`.
+/// Returns the greater of two strings. The contract uses `IsBefore`.
 pub fn later<E: Utf16Order>(first: WString<E>, second: WString<E>) -> WString<E>
     ensures less { IsBefore (wstring_text first) (wstring_text second) → result ≡ second }
     ensures greater { IsBefore (wstring_text second) (wstring_text first) → result ≡ first }
@@ -50,7 +50,7 @@ pub fn later<E: Utf16Order>(first: WString<E>, second: WString<E>) -> WString<E>
     max_of(first, second)
 }
 
-/// Returns the lesser of two views, by `IsBefore`.
+/// Returns the lesser of two views. The contract uses `IsBefore`.
 pub fn earlier<'a, E: Utf16Order>(first: WStr<'a, E>, second: WStr<'a, E>) -> WStr<'a, E>
     ensures less { IsBefore (wstr_text first.entry) (wstr_text second.entry)
         → result ≡ first.entry }
@@ -60,7 +60,7 @@ pub fn earlier<'a, E: Utf16Order>(first: WStr<'a, E>, second: WStr<'a, E>) -> WS
     min_of(first, second)
 }
 
-/// Sorts strings: no text is less than that of the string before it.
+/// Sorts strings, so that no text is less than the text before it.
 pub fn sort<E: Utf16Order>(strings: &mut Vec<WString<E>>) -> Result<(), AllocError>
     ensures permutation { IsPermutation strings.old.items strings.new.items }
     ensures sorted { OnOk result (IsSorted
@@ -70,7 +70,7 @@ pub fn sort<E: Utf16Order>(strings: &mut Vec<WString<E>>) -> Result<(), AllocErr
     strings.sort()
 }
 
-/// Returns the index of a text among sorted strings, or the one at which it could be inserted.
+/// Returns the index of a text among sorted strings, or the index at which it could be inserted.
 pub fn place_of<E: Utf16Order>(sorted: &[WString<E>], wanted: &WString<E>) -> Result<usize, usize>
     ensures { IfOk result (HoldsAt (λ s. wstring_text s ≡ wstring_text wanted.now) sorted.now) }
 {

@@ -1,4 +1,4 @@
-//! Tables keyed by strings.
+//! Tables whose keys are strings.
 
 ghost use Rattle.std.specs.Prelude.{◌≡◌, ◌↔◌, IfOk, IsTrue, Some};
 ghost use Rattle.std.specs.Cmp.Lexicographic.{slice_cmp};
@@ -10,7 +10,7 @@ use std::alloc::AllocError;
 use std::collections::{BTreeMap, BTreeSet};
 use utf16string::{Utf16Order, WString};
 
-/// Inserts a value under a copy of a name, and reads it back by the name.
+/// Inserts a value with a copy of a name as its key, and reads it back with the name.
 pub fn write_and_read<E: Utf16Order>(
     table: &mut BTreeMap<WString<E>, u32>,
     name: &WString<E>,
@@ -25,7 +25,7 @@ pub fn write_and_read<E: Utf16Order>(
     Ok(table.get(name).copied())
 }
 
-/// Returns whether a set has a string that is equal to a name, in std's words.
+/// Returns whether a set has a string that is equal to a name. The contract uses std's terms.
 pub fn is_in<E: Utf16Order>(known: &BTreeSet<WString<E>>, name: &WString<E>) -> bool
     ensures { result ≡ list_any
         (λ key. is_eq (slice_cmp nat_cmp (wstring_text name.now) (wstring_text key)))

@@ -1,4 +1,4 @@
-//! A short caller of each of the four examples.
+//! Short callers of four of the examples.
 
 ghost use Rattle.std.specs.Prelude.{◌≡◌, ◌++◌, [], List, ℕ, IfErr, IfNone, IfOk, IfSome, Some, false, length, map, option_map, true};
 ghost use Rattle.std.specs.Vec.{vec_items};
@@ -37,7 +37,7 @@ pub fn title(buffer: &[u8]) -> Option<WStr<'_, LE>>
     Some(title)
 }
 
-/// Converts UTF-16 in little endian, by UTF-8, to big endian.
+/// Converts UTF-16 in little endian to big endian, through UTF-8.
 pub fn to_big(alloc: Global, big_alloc: Global, bytes: &[u8]) -> Result<Vec<u8>, TranscodeError>
     ensures text { IfOk result (λ big. (text : List ℕ) × Encodes false text bytes.now
         × Encodes true text (vec_items big)) }
@@ -47,7 +47,7 @@ pub fn to_big(alloc: Global, big_alloc: Global, bytes: &[u8]) -> Result<Vec<u8>,
     Ok(from_utf8::<BE, Global>(big_alloc, &text)?)
 }
 
-/// Returns the bytes of a table of texts, as a value of the registry holds them.
+/// Returns the bytes of a table of texts, as a registry value holds them.
 pub fn stored(alloc: Global, texts: &[WStr<LE>]) -> Result<Vec<u8>, WriteError>
     ensures { IfOk result (λ bytes.
         Encodes false (multi_sz_of (map wstr_text texts.now)) (vec_items bytes)) }
@@ -55,7 +55,7 @@ pub fn stored(alloc: Global, texts: &[WStr<LE>]) -> Result<Vec<u8>, WriteError>
     Ok(write(alloc, texts)?.into_bytes())
 }
 
-/// Returns a name as a table holds it, after it is added if it is new.
+/// Returns a name as the table holds it. A new name is added first.
 pub fn interned<'a>(
     table: &'a mut Interner<LE>,
     name: WStr<LE>,

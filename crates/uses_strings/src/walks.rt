@@ -1,5 +1,5 @@
-//! Callers that iterate over a text from either end. The loop has an invariant of one line; the
-//! others are proved without a proof file.
+//! Callers that iterate over a text from either end. The loop needs an invariant of one line; the
+//! other functions are proved without a proof file.
 
 ghost use Rattle.std.specs.Prelude.{◌≡◌, ◌≢◌, ◌==◌, ◌↔◌, ◌<◌, ℕ, All, IfNone, IfOk, IfSome, IsTrue, Some, count_by, encode_utf8_all, reverse, slice_get, slice_index, string_bytes, length};
 ghost use Rattle.std.specs.List.{AllWithin};
@@ -9,14 +9,14 @@ ghost use Rattle.utf16string.specs.WStr.{wstr_text};
 use std::alloc::{AllocError, Global};
 use utf16string::{Utf16Order, WStr};
 
-/// Returns the characters.
+/// Returns the characters of a text.
 pub fn collect_chars<E: Utf16Order>(alloc: Global, text: WStr<E>) -> Result<Vec<char>, AllocError>
     ensures { IfOk result (λ found. found.items ≡ wstr_text text.entry) }
 {
     text.chars().collect(alloc)
 }
 
-/// Returns the characters in reverse.
+/// Returns the characters of a text in reverse order.
 pub fn collect_reversed<E: Utf16Order>(
     alloc: Global,
     text: WStr<E>,
@@ -26,7 +26,8 @@ pub fn collect_reversed<E: Utf16Order>(
     text.chars().rev().collect(alloc)
 }
 
-/// Returns how many characters precede the first such one, if there is one.
+/// Returns the number of characters before the first that is equal to `wanted`, or `None` if there
+/// is none.
 pub fn place_of<E: Utf16Order>(text: WStr<E>, wanted: char) -> Option<usize>
     ensures none { IfNone result (All (λ c. c ≢ wanted) (wstr_text text.entry)) }
     ensures some { IfSome result (λ i. slice_get (wstr_text text.entry) i ≡ Some wanted) }
@@ -35,7 +36,7 @@ pub fn place_of<E: Utf16Order>(text: WStr<E>, wanted: char) -> Option<usize>
     text.chars().position(|c| c == wanted)
 }
 
-/// Returns the number of such characters.
+/// Returns the number of characters that are equal to `wanted`.
 pub fn count_of<E: Utf16Order>(text: WStr<E>, wanted: char) -> usize
     ensures { result ≡ count_by (λ c. c == wanted) (wstr_text text.entry) }
 {
@@ -61,7 +62,7 @@ pub fn collect_indices<E: Utf16Order>(
     text.char_indices().collect(alloc)
 }
 
-/// Returns each character with its offset, in reverse.
+/// Returns each character with its offset, in reverse order.
 pub fn collect_indices_back<E: Utf16Order>(
     alloc: Global,
     text: WStr<E>,
@@ -72,7 +73,7 @@ pub fn collect_indices_back<E: Utf16Order>(
     text.char_indices().rev().collect(alloc)
 }
 
-/// Returns the characters, by a loop.
+/// Returns the characters of a text, with a loop.
 pub fn collect_by_loop<E: Utf16Order>(alloc: Global, text: WStr<E>) -> Result<Vec<char>, AllocError>
     ensures { IfOk result (λ found. found.items ≡ wstr_text text.entry) }
 {

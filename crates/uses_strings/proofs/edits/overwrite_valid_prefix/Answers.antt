@@ -6,7 +6,7 @@ use Rattle.utf16_units.proofs.EncodingLemmas.{IsUtf16-from_is_utf16, length-text
 use Rattle.utf16string.specs.WStr.{wstr_bytes}
 use Rattle.uses_strings.proofs.edits.overwrite_valid_prefix.Goals as goal
 
--- if the prefix is overwritten, the rest stays
+-- overwriting in a prefix leaves the rest unchanged
 splice-front : (xs ys part : List ℕ) (i j : ℕ) → i ≤ j → j ≤ length xs → splice xs i j part ++ ys ≡ splice (xs ++ ys) i j part
 splice-front xs ys part i j order within =
     append_assoc (take i xs) (part ++ drop j xs) ys ∙ ap (λ t. take i xs ++ t) (append_assoc part (drop j xs) ys)

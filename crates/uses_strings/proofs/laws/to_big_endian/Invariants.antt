@@ -2,7 +2,7 @@ use Rattle.std.proofs.Common.{◌≡◌, ◌-◌, ◌%◌, ◌≤◌, ◌++◌, 
 use Rattle.utf16_units.specs.Laws.{swap_bytes}
 use Rattle.uses_strings.proofs.laws.to_big_endian.Given as goal
 
--- what was swapped and what is left to swap are all bytes
+-- the bytes swapped so far, followed by the rest swapped, are all bytes swapped
 abbrev pub invariant-loop-at : goal.invariant-loop-at
 invariant-loop-at g l = record {
   within : l.at ≤ length l.raw;

@@ -24,7 +24,7 @@ retain_by-requires g c =
     IsAskable-by _ (λ f text. (closure.captures f).calls + length text < 2 ^ 64) (λ f d text i. omega (arith, i)) (λ f d text answer u i k. let told : u.0.now ≡ f.0.now + 1 = search rules in omega (arith, i, told)) _ _
     (let s = c.args.string.now in omega (arith, length-le-size (wstring_text s), length-text _ _ (IsUtf16-from_is_utf16 _ _ s.well_formed), s.raw.ok))
 
--- a predicate that always returns true, adds one to its number and keeps its name
+-- the predicate always returns true, adds one to its number and keeps its name
 module _ {F X : Type 0} (calls : Mut F (ℕ × Unit {0}) Bool) (number : F → ℕ) (name : F → X)
     (step : (f : F) (d : ℕ) (answer : Bool) (u : F) → Answers calls f d answer u → (answer ≡ true) × (number u ≡ number f + 1) × (name u ≡ name f))
     (f last : F) (text left : List ℕ) (r : RetainsTo calls f text left last) where
@@ -38,7 +38,7 @@ pub returns-clause-text : goal.returns-clause-text
 returns-clause-text g c =
     (seen _ (λ f. f.0.now) (λ f. f.0.ghost_name) (λ f d answer u k. (search rules, search rules, search rules)) _ _ _ _ c.retain_by.ensures.text).0
 
--- each call adds one, and keeps the reference
+-- each call adds one, and the reference is the same
 pub returns-clause-count : goal.returns-clause-count
 returns-clause-count g c =
     let last = (seen _ (λ f. f.0.now) (λ f. f.0.ghost_name) (λ f d answer u k. (search rules, search rules, search rules)) _ _ _ _ c.retain_by.ensures.text).1 in

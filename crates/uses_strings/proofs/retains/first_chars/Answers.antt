@@ -4,7 +4,7 @@ use Rattle.utf16string.proofs.Predicates.{Retains-told, told}
 use Rattle.uses_strings.specs.contracts.retains.fn.first_chars.retain as closure
 use Rattle.uses_strings.proofs.retains.first_chars.Goals as goal
 
--- the characters kept while the count is above 0
+-- keeping characters while the count is above 0 keeps the first `n`
 first : (n : ℕ) (text : List ℕ) → told (λ left c. nat_lt 0 left) (λ left c. left - 1) n text ≡ take n text
 unfolding told
 first zero [] = refl
