@@ -1,6 +1,6 @@
-//! Times the library's calls and those of other decoders on the texts of a folder: a line for each
-//! call, text, byte order and decoder, with GB/s of UTF-16, for short texts with nanoseconds per
-//! call. First all results are compared.
+//! Times the calls of the library and of other decoders on the texts of a folder. It prints a line
+//! for each call, text, byte order and decoder, with GB/s of UTF-16, or for short texts with
+//! nanoseconds per call. It first compares all results.
 mod plain;
 #[cfg(simdutf)]
 mod simdutf;
@@ -14,7 +14,7 @@ use std::time::Instant;
 const ROUNDS: usize = 15;
 const CLASSES: [&str; 4] = ["ascii", "latin_cyrillic", "cjk", "emoji"];
 
-// The last argument is a buffer, long enough, to which a text that the call makes is written.
+// The last argument is a buffer that is long enough for the text that the call makes.
 type Call = fn(bool, &[u8], &mut [u8]) -> usize;
 
 // The results of `dethrux.h`.
@@ -54,8 +54,8 @@ fn aligned(raw: &[u8]) -> &[u16] {
     unsafe { raw.align_to().1 }
 }
 
-// The units, for decoders that read them in the machine's byte order alone: those in big endian are
-// swapped first.
+// Passes the code units to a decoder that reads them only in the machine's byte order. Big-endian
+// code units are swapped first.
 fn units<T>(big: bool, raw: &[u8], read: impl FnOnce(&[u16]) -> T) -> T {
     if !big {
         return read(aligned(raw));
@@ -67,7 +67,8 @@ fn units<T>(big: bool, raw: &[u8], read: impl FnOnce(&[u16]) -> T) -> T {
     })
 }
 
-// Makes units in the machine's byte order, for big endian swapped after it; returns how many bytes.
+// Makes code units in the machine's byte order, and swaps them if big endian is wanted. Returns the
+// number of bytes.
 fn made_units(big: bool, to: &mut [u8], make: impl FnOnce(&mut [u16]) -> usize) -> usize {
     let units = unsafe { to.align_to_mut().1 };
     let len = make(units);
@@ -101,20 +102,20 @@ macro_rules! plain {
     };
 }
 
-// As long as the result says: done or at an ill-formed sequence of two bytes, or the bytes end
-// inside a character.
+// Returns the length of the valid prefix, and tests that `error_len` is 2 for an ill-formed
+// sequence and 0 otherwise.
 fn valid_up_to(answer: Validity) -> usize {
     assert_eq!(answer.error_len, if answer.status == 1 { 2 } else { 0 });
     answer.valid_up_to
 }
 
-// The decoder read all of its input.
+// Returns the number of bytes written, and tests that the decoder read all of its input.
 fn decoded((answer, read, written): (DecoderResult, usize, usize), len: usize) -> usize {
     assert!(answer == DecoderResult::InputEmpty && read == len);
     written
 }
 
-// All of the input was read, and none of it is ill formed.
+// Returns the number of bytes written, and tests that all of the input was read and is well formed.
 fn done(answer: Progress, len: usize) -> usize {
     assert_eq!((answer.read, answer.status, answer.error_len), (len, 0, 0));
     answer.written
@@ -128,7 +129,7 @@ fn icu_units(units: &[u16]) -> usize {
     unsafe { icu_valid_up_to(units.as_ptr(), units.len()) }
 }
 
-// `plain loop` has the Rust crate's structure.
+// `plain loop` has the structure of the Rust crate `utf16string`.
 const VALIDATE: &[(&str, Call)] = &[
     ("here", |big, raw, _| here_valid_up_to(big, raw)),
     ("plain loop", |big, raw, _| plain!(valid_up_to, big, raw)),
@@ -140,7 +141,8 @@ const VALIDATE: &[(&str, Call)] = &[
     ("simdutf haswell", |big, raw, _| 2 * simdutf::haswell::valid_up_to(big, aligned(raw))),
 ];
 
-// The number of ill-formed sequences in random bytes, each found after the one before.
+// Returns the number of ill-formed sequences in random bytes. Each call starts after the sequence
+// found before.
 const FAULTS: &[(&str, Call)] = &[
     ("here", |big, raw, _| faults(raw, 2, |rest| here_valid_up_to(big, rest))),
     ("plain loop", |big, raw, _| faults(raw, 2, |rest| plain!(valid_up_to, big, rest))),
@@ -173,7 +175,7 @@ const COUNT: &[(&str, Call)] = &[
     ("simdutf haswell", |big, raw, _| simdutf::haswell::count(big, aligned(raw))),
 ];
 
-// A read of all bytes, as a measure of the memory's speed.
+// Reads all bytes, as a measure of the memory's speed.
 const READ: &[(&str, Call)] =
     &[("plain loop", |_, raw, _| unsafe { raw.align_to::<u64>().1 }.iter().fold(0, |all, word| all ^ word).min(1) as usize)];
 
@@ -183,7 +185,8 @@ const IS_ASCII: &[(&str, Call)] = &[
     ("encoding_rs mem", |big, raw, _| units(big, raw, mem::is_basic_latin).into()),
 ];
 
-// Of `encoding_rs` the decoder of bytes, and the call on units in the byte order of the machine.
+// `encoding_rs` is its decoder of bytes; `encoding_rs mem` is its call on code units in the
+// machine's byte order.
 const TO_UTF8: &[(&str, Call)] = &[
     ("here", |big, raw, to| {
         done(unsafe { dethrux_to_utf8(big.into(), raw.as_ptr(), raw.len(), to.as_mut_ptr(), to.len()) }, raw.len())
@@ -230,14 +233,14 @@ const FROM_UTF8: &[(&str, Call)] = &[
 struct Case {
     name: String,
     run: Box<dyn FnMut() -> usize>,
-    // What one run counts for: billions of bytes of UTF-16, or calls.
+    // The size of one run: billions of bytes of UTF-16, or the number of calls.
     size: f64,
     times: usize,
     best: f64,
 }
 
 impl Case {
-    // The seconds of one run.
+    // Returns the seconds that one run takes.
     fn time(&mut self) -> f64 {
         let start = Instant::now();
         (0..self.times).for_each(|_| _ = black_box((self.run)()));
@@ -245,8 +248,8 @@ impl Case {
     }
 }
 
-// A case for each decoder that this machine can run; their results and the texts that they make are
-// equal. Each field of some bytes is one call.
+// Returns a case for each decoder that this machine can run, after testing that their results and
+// the texts that they make are equal. Each `field` bytes are the input of one call.
 fn cases(call: &str, text: &str, big: bool, raw: &'static [u8], size: f64, field: usize, decoders: &[(&str, Call)]) -> Vec<Case> {
     let mut wanted = None;
     let case = |(decoder, f): &(&str, Call)| {
@@ -267,7 +270,8 @@ fn main() {
     #[cfg(simdutf)]
     simdutf::choose();
     let folder = std::env::args().nth(1).unwrap();
-    // Those that make a state for each call, which takes longer than a short text, are left out.
+    // Leaves out the decoders that make a state for each call, which takes longer than a short
+    // text.
     let stateless = |all: &[(&'static str, Call)]| -> Vec<_> {
         all.iter().filter(|(decoder, _)| !["encoding_rs", "iconv"].contains(decoder)).copied().collect()
     };
@@ -293,10 +297,10 @@ fn main() {
                 add("is_ascii", raw, IS_ASCII);
                 add("read", raw, READ);
             } else {
-                // Compared alone: the first character decides it.
+                // Only compared, not timed: the first character decides the result.
                 cases("is_ascii", class, big, raw, 1.0, raw.len(), IS_ASCII);
             }
-            // Short texts, of classes whose characters all have one length.
+            // Short texts, of the classes whose characters all have the same length.
             let sizes: &[usize] = if ["ascii", "cjk"].contains(&class) { &[2, 4, 8, 16, 24, 32, 40, 62, 64] } else { &[] };
             for size in sizes {
                 let (text, raw) = (format!("{class}, {size} bytes"), &raw[..16384]);

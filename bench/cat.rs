@@ -1,13 +1,13 @@
-//! What `utf16_cat` and `utf16_enc` are compared with: `cat copy` copies standard input to standard
-//! output in blocks of 4 KiB; `cat le` and `cat be` decode it by `encoding_rs` in chunks of 4 KiB,
-//! with U+FFFD for each ill-formed sequence, and write the text of each chunk; `cat enc-le` and
-//! `cat enc-be` do so from UTF-8 to UTF-16.
+//! The programs that `utf16_cat` and `utf16_enc` are compared with. `cat copy` copies standard
+//! input to standard output in blocks of 4 KiB. `cat le` and `cat be` decode it with `encoding_rs`
+//! in chunks of 4 KiB, with U+FFFD for each ill-formed sequence, and write the text of each chunk.
+//! `cat enc-le` and `cat enc-be` do the same from UTF-8 to UTF-16.
 use encoding_rs::{CoderResult, UTF_8, UTF_16BE, UTF_16LE};
 use std::fs::File;
 use std::io::{Read, Write};
 use std::os::fd::FromRawFd;
 
-// Calls `each` with the chunks of standard input, and at its end with an empty one.
+// Calls `each` with the chunks of standard input, and at the end with an empty chunk.
 fn chunks(mut each: impl FnMut(&[u8], &mut File)) {
     let (mut from, mut to) = unsafe { (File::from_raw_fd(0), File::from_raw_fd(1)) };
     let mut piece = [0; 4096];

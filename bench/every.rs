@@ -1,8 +1,9 @@
-//! Converts every character from UTF-16 to UTF-8 and back in both byte orders by the library, and
-//! compares with what Rust's `char` gives: alone, without SIMD, and repeated and among letters, with
-//! SIMD, at each offset of a block. Then decodes every string of at most four of twenty bytes as a
-//! stream of UTF-8, cut in every way, and compares with `String::from_utf8_lossy`. The last lines
-//! say how many calls were made, or streams decoded, and how many of their results differed.
+//! Converts every character from UTF-16 to UTF-8 and back in both byte orders with the library, and
+//! compares the results with Rust's `char`. A character is converted by itself, without SIMD, and
+//! also repeated and among letters, with SIMD, at each offset of a block. Then decodes every string
+//! of at most four of twenty bytes as a stream of UTF-8, cut in every way, and compares the results
+//! with `String::from_utf8_lossy`. The last lines give the number of calls and of streams, and how
+//! many results differed.
 
 #[repr(C)]
 struct Progress {
@@ -28,13 +29,13 @@ unsafe extern "C" {
     fn dethrux_utf8_decoder_finish(state: &mut Decoder, order: u32, to: *mut u8, capacity: usize) -> Progress;
 }
 
-// Bytes at which a class of the bytes of UTF-8 begins or ends (Unicode, section 3.9, table 3-7).
+// The first and last bytes of the classes of bytes in UTF-8 (Unicode, section 3.9, table 3-7).
 const TELLING: [u8; 20] = [
     0x00, 0x41, 0x7F, 0x80, 0x8F, 0x90, 0x9F, 0xA0, 0xBF, 0xC1, 0xC2, 0xDF, 0xE0, 0xE1, 0xED, 0xEF, 0xF0, 0xF1, 0xF4, 0xF5,
 ];
 
-// Whether a call makes just this of a text in a buffer of so many bytes, and writes nothing after
-// the buffer.
+// Tests that a call makes exactly the wanted bytes of a text, in a buffer of `room` bytes, and
+// writes nothing after the buffer.
 fn makes_in(call: Call, big: bool, of: &[u8], wanted: &[u8], room: usize) -> bool {
     let mut to = [0xA5; 1024];
     let found = unsafe { call(big.into(), of.as_ptr(), of.len(), to.as_mut_ptr(), room) };
@@ -45,12 +46,12 @@ fn makes_in(call: Call, big: bool, of: &[u8], wanted: &[u8], room: usize) -> boo
         && to[room..].iter().all(|byte| *byte == 0xA5)
 }
 
-// The same in a large buffer, and in one that just fits.
+// Tests the same in a large buffer, and in one that is just long enough.
 fn makes(call: Call, big: bool, of: &[u8], wanted: &[u8]) -> bool {
     makes_in(call, big, of, wanted, 1024) && makes_in(call, big, of, wanted, wanted.len())
 }
 
-// How many of the four ways, there and back in both orders, differ.
+// Returns how many of the four conversions, in both directions and both byte orders, differ.
 fn differing(text: &str) -> usize {
     let differs = |big: bool| {
         let utf16 = in_order(text, big);
@@ -63,8 +64,8 @@ fn in_order(text: &str, big: bool) -> Vec<u8> {
     text.encode_utf16().flat_map(|unit| if big { unit.to_be_bytes() } else { unit.to_le_bytes() }).collect()
 }
 
-// The UTF-16 of a stream of UTF-8, cut after each byte whose bit is set, with a buffer of so many
-// bytes for each call.
+// Returns the UTF-16 of a stream of UTF-8 that is cut after each byte whose bit is set. Each call
+// gets a buffer of `capacity` bytes.
 fn decoded(bytes: &[u8], cuts: usize, big: bool, capacity: usize) -> Vec<u8> {
     let (mut state, mut to, mut utf16) = (Decoder { pending: [0; 3], pending_len: 0 }, [0; 16], Vec::new());
     let mut start = 0;
@@ -84,7 +85,7 @@ fn decoded(bytes: &[u8], cuts: usize, big: bool, capacity: usize) -> Vec<u8> {
         start = end;
     }
     loop {
-        // What a full buffer left pending comes before the end.
+        // Takes what did not fit into a buffer before the stream ends.
         let fed = unsafe { dethrux_utf8_decoder_feed(&mut state, big.into(), to.as_ptr(), 0, to.as_mut_ptr(), capacity) };
         utf16.extend_from_slice(&to[..fed.written]);
         if fed.status == 0 {
@@ -96,7 +97,7 @@ fn decoded(bytes: &[u8], cuts: usize, big: bool, capacity: usize) -> Vec<u8> {
     utf16
 }
 
-// How many streams were decoded, and how many of their texts differ.
+// Returns how many streams were decoded, and how many of their texts differ.
 fn streams() -> (usize, usize) {
     let (mut streams, mut differed) = (0, 0);
     for len in 0..=4 {

@@ -1,8 +1,9 @@
 #!/bin/sh
-# Converts every character from UTF-16 to UTF-8 and back, in both byte orders, and compares with
-# Rust's `char`; decodes every short string of some bytes as a stream of UTF-8, cut in every way,
-# and compares with Rust's `String`. It builds the C library, `libdethrux.a`, and links `every.rs`
-# with it. The last lines say how many calls ran, or streams, and how many differed.
+# Converts every character from UTF-16 to UTF-8 and back, in both byte orders, and compares the
+# results with Rust's `char`. Then decodes every string of at most four of twenty bytes as a stream
+# of UTF-8, cut in every way, and compares the results with Rust's `String`. It builds the C
+# library, `libdethrux.a`, and links `every.rs` with it. The last lines give the number of calls and
+# of streams, and how many results differed.
 set -e
 top=$(cd "$(dirname "$0")/.." && pwd)
 kit=$(dirname "$(rt doc)")

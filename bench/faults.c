@@ -1,5 +1,5 @@
-// Preloaded before the C library of a program: one of its calls fails, the FAULT_AT-th of the kind
-// that FAULT_KIND names. It was reached where descriptor 9 gets a byte.
+// Preloaded before a program's C library, to make one call fail: the FAULT_AT-th call of the kind
+// that FAULT_KIND names. Descriptor 9 gets a byte when that call is reached.
 #define _GNU_SOURCE
 #include <dlfcn.h>
 #include <errno.h>
@@ -11,7 +11,7 @@ static long calls;
 
 static void *next(const char *name) { return dlsym(RTLD_NEXT, name); }
 
-// Whether this call, of this kind, is the one that fails.
+// Returns whether this call, of this kind, must fail.
 static int is_met(const char *kind) {
     const char *wanted = getenv("FAULT_KIND"), *at = getenv("FAULT_AT");
     if (!wanted || !at || strcmp(wanted, kind) || ++calls != atol(at))

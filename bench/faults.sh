@@ -1,10 +1,11 @@
 #!/usr/bin/env bash
-# Runs utf16_cat with its first allocation failing, then the second, and so on until no allocation
-# of a run fails; and so with each read and each write that fails, is interrupted, or moves one
-# byte, and each write that takes nothing. `faults.c` is preloaded for it. A run may end with the
-# whole output, or with status 1, the message of its error and a prefix of the output; a short call
-# changes nothing. Prints a line for each kind, and last 'N passed, M failed'. With a number it also
-# runs `rt try --fail-alloc` from 1 to that number, on the interpreter and with checks: slow.
+# Runs utf16_cat with its first allocation failing, then with the second failing, and so on until no
+# allocation of a run fails. Does the same for each read and each write, which fails, is
+# interrupted, or moves one byte, and for each write that takes nothing. `faults.c` is preloaded for
+# this. A run must end with the whole output, or with status 1, the message of its error and a
+# prefix of the output. A short call must change nothing. Prints a line for each kind; the last line
+# is 'N passed, M failed'. With a number N as its argument, it also runs `rt try --fail-alloc` from
+# 1 to N, on the interpreter and with checks, which is slow.
 set -uo pipefail
 top=$(cd "$(dirname "$0")/.." && pwd)
 program="$top/crates/utf16_cat/out/utf16_cat"
@@ -16,19 +17,19 @@ cc -O2 -Wall -shared -fPIC -o faults.so "$top/bench/faults.c" -ldl || exit 1
 passed=0
 failed=0
 
-# Four blocks of letters, unpaired surrogates and pairs, with boundaries at odd offsets, and the
-# first two bytes of a pair.
+# The input: four blocks of letters, unpaired surrogates and pairs, with boundaries at odd offsets,
+# and at the end the first two bytes of a pair.
 { for _ in $(seq 1200); do printf 'a\0\0\xDC\0\xD8\0\xDC\0\xD8b\0'; done; printf '\0\xD8'; } > le
 { for _ in $(seq 1200); do printf '\0a\xDC\0\xD8\0\xDC\0\xD8\0\0b'; done; printf '\xD8\0'; } > be
 { for _ in $(seq 1200); do printf 'a\xEF\xBF\xBD\xF0\x90\x80\x80\xEF\xBF\xBDb'; done; printf '\xEF\xBF\xBD'; } > wanted
 
-# Whether the output is a prefix of the expected one.
+# Tests that the output is a prefix of the expected one.
 begins() {
     cmp -s found <(head -c "$(stat -c %s found)" wanted)
 }
 
-# The byte order, the kind, and the message of its error, none where it has no consequence: all its
-# calls in turn.
+# Makes each call of a kind fail in turn, in one byte order. The third argument is the message of
+# the error, or empty if the fault must have no effect.
 each() {
     local order=$1 kind=$2 line=$3 at=0 whole=0 told=0 found
     while :; do
@@ -47,7 +48,7 @@ each() {
         fi
         [ -s met ] || break
     done
-    echo "$order, $kind: $((at - 1)) calls, $told runs told of it, $whole gave the whole output, the last of them without a fault"
+    echo "$order, $kind: $((at - 1)) calls; $told runs reported the fault, and $whole wrote the whole output, the last of them without a fault"
 }
 
 for order in le be; do
@@ -61,8 +62,8 @@ for order in le be; do
     each $order write_short ''
 done
 
-# A system that returns more bytes than were offered: what is written has no meaning then, but
-# nothing crashes or hangs.
+# The system returns more bytes than were offered. What is written then means nothing, but the
+# program must not crash or hang.
 for order in le be; do
     for kind in read_more write_more; do
         for at in $(seq 6); do
@@ -80,14 +81,14 @@ for order in le be; do
     done
 done
 
-# The message is the usage line: it cannot be written, and the status stays.
+# The fault hits the usage line, which cannot be written. The status must stay 2.
 for kind in write write_interrupted write_nothing; do
     FAULT_KIND=$kind FAULT_AT=1 LD_PRELOAD=$room/faults.so "$program" LE < le > found 2> errors 9> met
     if [ $? = 2 ] && [ -s met ] && [ ! -s found ]; then
         passed=$((passed + 1))
     else
         failed=$((failed + 1))
-        echo "failed: LE, $kind of its line"
+        echo "failed: LE, $kind of the usage line"
     fi
 done
 

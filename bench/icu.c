@@ -1,9 +1,9 @@
-// ICU's calls on units in the machine's byte order. Each returns SIZE_MAX where it fails.
+// ICU's calls on code units in the machine's byte order. A conversion that fails returns SIZE_MAX.
 #include <stdint.h>
 #include <unicode/ustring.h>
 #include <unicode/utf16.h>
 
-// ICU has no call for this; it has the macro that reads a character.
+// ICU has no call that validates; it has a macro that reads a character.
 size_t icu_valid_up_to(const UChar *units, size_t len) {
     size_t at = 0, next = 0;
     for (UChar32 c; at < len; at = next) {

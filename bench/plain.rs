@@ -1,7 +1,8 @@
-//! Plain loops with the structure of the Rust crate `utf16string` 0.2.0: one unit of
-//! `chunks_exact(2)` after another, after a leading surrogate the next one. Its `is_ascii` tests
-//! the bytes, which is another question; here it tests the units. Its conversions trust their input
-//! and fill a `String` or `Vec` that grows; here they validate it, and write to a buffer.
+//! Plain loops with the structure of the Rust crate `utf16string` 0.2.0: they read one code unit
+//! after another with `chunks_exact(2)`, and after a leading surrogate the next one. The crate's
+//! `is_ascii` tests the bytes; `is_ascii` here tests the code units, which is a different question.
+//! The crate's conversions trust their input and fill a `String` or `Vec` that grows; the
+//! conversions here validate it and write to a buffer.
 
 fn unit<const BIG: bool>(bytes: &[u8]) -> u16 {
     if BIG { u16::from_be_bytes([bytes[0], bytes[1]]) } else { u16::from_le_bytes([bytes[0], bytes[1]]) }
@@ -34,7 +35,8 @@ pub fn is_ascii<const BIG: bool>(raw: &[u8]) -> bool {
     raw.chunks_exact(2).all(|bytes| unit::<BIG>(bytes) < 0x80)
 }
 
-// The buffer has four bytes after the text, so that each character is written with one test of it.
+// The buffer has four bytes after the text, so that one test of the space suffices for each
+// character.
 pub fn to_utf8<const BIG: bool>(raw: &[u8], to: &mut [u8]) -> usize {
     let (mut units, mut at) = (raw.chunks_exact(2).map(unit::<BIG>), 0);
     while let Some(first) = units.next() {

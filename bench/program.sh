@@ -1,12 +1,12 @@
-# Sourced by the scripts that time a program of their own over `utf16string`.
+# Sourced by the scripts that build and time a Rattle program that uses `utf16string`.
 top=$(cd "$(dirname "$0")/.." && pwd)
 room=$(mktemp -d)
 trap 'rm -rf "$room"' EXIT
 
-# Builds the program NAME.rt.txt over `utf16string` and the crates named after it, beside a copy of
-# the crates, and of what `rt` keeps of them, in a temporary folder, $room, and runs it: what it
-# prints stays in $room/times, and $program is its file. `rt` proves the crates first where it has
-# kept no proof of them.
+# Builds the program NAME.rt.txt with `utf16string` and the crates named after it, and runs it. It
+# is built in a temporary folder, $room, next to a copy of the crates and of what `rt` keeps for
+# them. Its output is written to $room/times, and $program is its file. `rt` proves the crates first
+# if it has kept no proof of them.
 build() {
     cp -a "$top/crates" "$top/crates.txt" "$room/"
     name=$1

@@ -1,6 +1,7 @@
 //! Times `utf16_cat`, `utf16_enc` and other programs on the files of a folder: `programs FOLDER
-//! UTF16_CAT UTF16_ENC MIB`. A line for each program of ours, text, byte order and program has GB/s
-//! of input and the peak of memory on so many MiB from a pipe. What they write is compared first.
+//! UTF16_CAT UTF16_ENC MIB`. It prints a line for each program of ours, text, byte order and
+//! program, with GB/s of input. It also prints the peak of memory of our programs for MIB MiB from
+//! a pipe. It first compares what the programs write.
 use std::fs::File;
 use std::process::{Command, Stdio};
 use std::time::Instant;
@@ -9,16 +10,17 @@ const ROUNDS: usize = 5;
 
 const CLASSES: [&str; 4] = ["ascii", "latin_cyrillic", "cjk", "emoji"];
 
-// Those with ill-formed sequences.
+// The classes with ill-formed sequences.
 const ILL_FORMED: [&str; 5] = ["random", "ascii_100", "ascii_1000", "ascii_5000", "cjk_1000"];
 
-// What `wait4` returns of a process: the fifth number is the peak of its memory in KiB.
+// `wait4` returns the resources that a process used: the fifth number is the peak of its memory in
+// KiB.
 unsafe extern "C" {
     fn wait4(process: i32, status: &mut i32, options: i32, used: &mut [i64; 18]) -> i32;
 }
 
-// Runs a program, a variable of its environment before it or none, from one stream to another;
-// returns the seconds, and the peak of memory where it succeeds.
+// Runs a program from one stream to another. A variable of its environment may come first, as in
+// `NAME=VALUE PROGRAM`. Returns the seconds, and the peak of memory if the program succeeds.
 fn run(words: &str, from: Stdio, to: Stdio) -> (f64, Option<i64>) {
     let mut words = words.split(' ').peekable();
     let variable = words.next_if(|word| word.contains('='));
@@ -31,7 +33,8 @@ fn run(words: &str, from: Stdio, to: Stdio) -> (f64, Option<i64>) {
     (start.elapsed().as_secs_f64(), (status == 0).then_some(used[4]))
 }
 
-// What a program is compared with, from a file in `from` to `to`: names, and how each is called.
+// Returns the names of the programs that ours is compared with, which convert a file from the
+// encoding `from` to `to`, and how each is called.
 fn others(folder: &str, order: &str, from: &str, to: &str, ours: &str) -> Vec<(&'static str, String)> {
     let encoding_rs = if ours == "utf16_enc" { format!("enc-{order}") } else { order.to_string() };
     let mut programs = vec![
@@ -40,7 +43,7 @@ fn others(folder: &str, order: &str, from: &str, to: &str, ours: &str) -> Vec<(&
         ("iconv", format!("iconv -c -f {from} -t {to}")),
         ("copy", format!("{folder}/cat copy")),
     ];
-    // The kernels of simdutf that this machine can run, where `run.sh` has built the program.
+    // The kernels of simdutf that this machine can run, if `run.sh` has built the program.
     if ours == "utf16_cat" && std::fs::exists(format!("{folder}/simdutf_cat")).unwrap() {
         for (name, kernel) in [("simdutf westmere", "westmere"), ("simdutf haswell", "haswell")] {
             if kernel == "westmere" || is_x86_feature_detected!("avx2") {
@@ -77,7 +80,7 @@ fn main() {
                     let made = format!("{folder}/{program}.made");
                     let (_, ended) = run(&words, File::open(&file).unwrap().into(), File::create(&made).unwrap().into());
                     let same = Command::new("cmp").args(["-s", &made, &format!("{folder}/encoding_rs.made")]).status().unwrap().success();
-                    // `iconv -c` leaves ill-formed sequences out and says so by its status.
+                    // `iconv -c` leaves out ill-formed sequences and reports them with its status.
                     let other = program == "copy" || ill_formed && program == "iconv";
                     if ended.is_some() && !same && !other || ended.is_none() && !other && !ill_formed {
                         println!("differs\t{class}\t{order}\t{program}\t-");

@@ -1,9 +1,9 @@
-"""Times the codecs of bindings/python beside CPython's, and prints a table.
+"""Times the codecs of bindings/python next to CPython's, and prints a table.
 
     python3 bench/python.py
 
-The package must be installed. All are timed in turn, in rounds, and the best of each counts. A
-ratio above 1 says that the codec of the package is faster.
+The package must be installed. All codecs run in turn, in rounds, and the best time of each counts.
+A ratio above 1 means that the codec of the package is faster.
 """
 
 import sys
@@ -29,7 +29,7 @@ def text_of(sample, size):
 
 
 def best(calls, number):
-    """Return the least time of a call, in microseconds, of each."""
+    """Return the least time of each call, in microseconds."""
     times = [[timeit.timeit(call, number=number) for call in calls] for _ in range(ROUNDS)]
     return [min(each) / number * 1e6 for each in zip(*times)]
 

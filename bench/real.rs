@@ -1,7 +1,7 @@
 //! Times the library's calls and simdutf's on real texts: `real FOLDER` reads each file `NAME.txt`
-//! there, in UTF-8. It prints a line for each call, text, form, byte order and decoder, with the
-//! throughput in GB/s of UTF-16. The forms are the lines of a text, one call each, and pieces of 4
-//! and of 64 KiB of UTF-16. All results are compared first.
+//! of the folder, in UTF-8. It prints a line for each call, text, form, byte order and decoder,
+//! with the throughput in GB/s of UTF-16. The forms are the lines of a text, one call each, and
+//! pieces of 4 KiB and of 64 KiB of UTF-16. It first compares all results.
 #[allow(dead_code)]
 mod simdutf;
 
@@ -11,12 +11,12 @@ use std::time::Instant;
 
 const ROUNDS: usize = 9;
 
-// The most bytes of UTF-16 that are read of a text.
+// The most bytes of UTF-16 that are read from a text.
 const MOST: usize = 1 << 20;
 
 const FORMS: [(&str, usize); 3] = [("lines", 0), ("4 KiB", 4096), ("64 KiB", 65536)];
 
-// Converts or tests an input; returns a number that decoders have in common.
+// Converts or tests an input, and returns a number that must be the same for all decoders.
 type Call = fn(bool, &[u8], &mut [u8]) -> usize;
 
 #[repr(C)]
@@ -98,7 +98,7 @@ const FROM_UTF8: &[(&str, Call)] = &[
     ("simdutf haswell", |big, text, to| 2 * simdutf::haswell::from_utf8(big, text, to)),
 ];
 
-// A text, in UTF-8, of at most `MOST` bytes of UTF-16.
+// Returns the text of a file in UTF-8, cut to at most `MOST` bytes of UTF-16.
 fn text_of(path: &std::path::Path) -> String {
     let mut text = std::fs::read_to_string(path).unwrap();
     let mut left = MOST;
@@ -114,8 +114,8 @@ fn text_of(path: &std::path::Path) -> String {
     text
 }
 
-// The parts of a text in a form, as ranges of its UTF-8: lines without their ends if `len` is 0, and
-// otherwise pieces of at most `len` bytes of UTF-16.
+// Returns the parts of a text as ranges of its UTF-8: its lines without their ends if `len` is 0,
+// and otherwise pieces of at most `len` bytes of UTF-16.
 fn parts_of(text: &str, len: usize) -> Vec<Range<usize>> {
     let mut parts = Vec::new();
     let (mut start, mut size) = (0, 0);
@@ -152,8 +152,8 @@ impl Case {
         }
     }
 
-    // The seconds of one run over all inputs. An untimed run first brings them into the cache, so
-    // that no decoder gains from its place in the order.
+    // Returns the seconds that one run over all inputs takes. An untimed run first brings them into
+    // the cache, so that no decoder gains from its place in the order.
     fn time(&mut self) -> f64 {
         self.run();
         let start = Instant::now();
@@ -164,8 +164,8 @@ impl Case {
     }
 }
 
-// Adds a case for each decoder that this machine can run, after testing that they return and write
-// the same.
+// Adds a case for each decoder that this machine can run, after testing that all decoders return
+// and write the same.
 fn add(all: &mut Vec<Case>, name: &str, big: bool, inputs: &[&'static [u8]], size: usize, decoders: &[(&str, Call)]) {
     let longest = inputs.iter().map(|input| input.len()).max().unwrap_or(0);
     let mut wanted = None;
@@ -187,7 +187,7 @@ fn add(all: &mut Vec<Case>, name: &str, big: bool, inputs: &[&'static [u8]], siz
     }
 }
 
-// Bytes of UTF-16 at an even address.
+// Returns the UTF-16 of a text, at an even address.
 fn utf16(text: &str, big: bool) -> &'static [u8] {
     let units: Vec<u16> = text.encode_utf16().map(|unit| if big { unit.to_be() } else { unit.to_le() }).collect();
     unsafe { units.leak().align_to().1 }

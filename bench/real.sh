@@ -1,12 +1,12 @@
 #!/usr/bin/env bash
-# Times the calls of the C library and both programs on real texts, next to simdutf's kernels for
-# 128 and 256 bits: `SIMDUTF=FOLDER real.sh TEXTS`. SIMDUTF has simdutf.cpp and simdutf.h; TEXTS has
+# Times the calls of the C library and both programs on real texts, next to simdutf's 128-bit and
+# 256-bit kernels: `SIMDUTF=FOLDER real.sh TEXTS`. SIMDUTF has simdutf.cpp and simdutf.h. TEXTS has
 # a file NAME.txt in UTF-8 for each text, of which at most 1 MiB of UTF-16 is read. A text is
-# converted line by line, and in pieces of 4 and of 64 KiB. BEFORE may name another checkout of this
-# repository, with its libraries and programs built: they are timed in the same run. Everything is
-# linked at two places, 16 bytes apart, and the better one counts: a branch that crosses a 32-byte
-# boundary at one of them does not at the other. The table, with the ratio to each kernel and to
-# `before`, is written to bench/out/real.md.
+# converted line by line, and in pieces of 4 KiB and of 64 KiB. BEFORE may name another checkout of
+# this repository, with its libraries and programs built: they are timed in the same run. Everything
+# is linked at two places, 16 bytes apart, and the better time counts, since a branch may cross a
+# 32-byte boundary at only one of them. The table, with the ratio to each kernel and to `before`, is
+# written to bench/out/real.md.
 set -eu
 usage() { echo "usage: SIMDUTF=FOLDER [BEFORE=CHECKOUT] real.sh TEXTS" >&2; exit 2; }
 [ $# = 1 ] && [ -n "${SIMDUTF:-}" ] || usage
@@ -25,7 +25,7 @@ mkdir -p out
 for program in utf16_cat utf16_enc; do
     (cd ../crates/$program && rt run -- le < /dev/null > "$room/said" 2>&1) || { cat "$room/said" >&2; exit 1; }
 done
-# The three calls of another build, under other names; its other symbols become local.
+# The three calls of another build get other names. Its other symbols become local.
 if [ -n "$before" ]; then
     ld -r -o "$room/whole.o" --whole-archive "$before/crates/dethrux/out/libdethrux.a"
     renamed=()
@@ -56,7 +56,7 @@ wait
 for space in 16 32; do
     printf '.section .text.pad,"axR",@progbits\n.balign 16\n.skip %s\n.section .note.GNU-stack,"",@progbits\n' $space |
         gcc -c -x assembler -o "$room/pad.o" -
-    # simdutf's sections are aligned to 32 bytes, so they are before the space.
+    # simdutf's sections are aligned to 32 bytes, so they come before the padding.
     rust --edition 2024 real.rs ${before:+--cfg before} -C link-args="${kernels[*]} -lstdc++ $room/pad.o \
         ${before:+$room/before.o} $PWD/../crates/dethrux/out/libdethrux.a $kit/c/liblibc_c.a"
     "$room/real" "$texts" >> "$room/lines"
@@ -76,7 +76,7 @@ awk -F '\t' '
     if (!(row in seen)) { seen[row] = 1; rows[++n] = row }
     if ($6 > speed[row, $4, $5]) speed[row, $4, $5] = $6
 }
-# The speed in a byte order, and its ratio to each of the others.
+# Returns the speed in a byte order, and its ratio to each of the others.
 function cells(row, order,    d, other, line) {
     line = speed[row, order, "here"]
     for (d = 1; d in others; d++) {

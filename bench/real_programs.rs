@@ -1,9 +1,9 @@
-//! Times `utf16_cat`, `utf16_enc` and programs that use simdutf on real texts: `real_programs FOLDER
-//! ROOM BIN CAT ENC [CAT ENC]` reads each file `NAME.txt` of a folder, in UTF-8, repeats it to
-//! 32 MiB in ROOM, and times each program from that file to the null device. BIN has the programs
-//! `cat` and `simdutf_cat`; a second pair belongs to another build. It prints a line for each
-//! program, text, byte order and decoder, with the throughput in GB/s of input. What the programs
-//! write is compared first.
+//! Times `utf16_cat`, `utf16_enc` and programs that use simdutf on real texts: `real_programs
+//! FOLDER ROOM BIN CAT ENC [CAT ENC]`. It reads each file `NAME.txt` of a folder, in UTF-8, and
+//! repeats it to 32 MiB in ROOM. Then it times each program from that file to the null device. BIN
+//! has the programs `cat` and `simdutf_cat`; a second pair belongs to another build. It prints a
+//! line for each program, text, byte order and decoder, with the throughput in GB/s of input. It
+//! first compares what the programs write.
 use std::fs::File;
 use std::process::{Command, Stdio};
 use std::time::Instant;
@@ -12,7 +12,8 @@ const ROUNDS: usize = 5;
 
 const SIZE: usize = 32 << 20;
 
-// Runs a program, a variable of its environment before it or none; returns the seconds.
+// Runs a program, and returns the seconds. A variable of its environment may come first, as in
+// `NAME=VALUE PROGRAM`.
 fn run(words: &str, from: &str, to: Stdio) -> f64 {
     let mut words = words.split(' ').peekable();
     let variable = words.next_if(|word| word.contains('='));

@@ -1,13 +1,13 @@
-# Makes tables in Markdown of lines of call, text, byte order, decoder and value, and of those in
-# little endian a chart in the file `chart`. A value is followed by how many times as fast `here`
-# is. The first table has the rows where another is faster.
+# Makes tables in Markdown from lines of call, text, byte order, decoder and value, and a chart of
+# the lines in little endian in the file `chart`. Each value is followed by how many times as fast
+# `here`, this library, is. The first table has the rows in which another decoder is faster.
 BEGIN { FS = "\t" }
 
 { value[$1, $2, $3, $4] = $5; known[$1, $2, $3] = 1 }
 $1 == "memory" { memory = memory "\n| " $2 " | " $5 " |" }
-$1 == "differs" { differs = differs $2 ", " $3 ": " $4 " writes another text than encoding_rs.\n\n" }
+$1 == "differs" { differs = differs $2 ", " $3 ": " $4 " and encoding_rs write different texts.\n\n" }
 
-# How many times as fast `here` is; short texts have times, the others rates.
+# How many times as fast `here` is. Short texts have times, and the others have rates.
 function factor(call, text, order, decoder,    other, own) {
     other = value[call, text, order, decoder]
     own = value[call, text, order, "here"]
@@ -20,7 +20,7 @@ function cell(call, text, order, decoder) {
     return sprintf("%.2f (%s)", value[call, text, order, decoder], factor(call, text, order, decoder))
 }
 
-# The rows of a table, in `call`, `text` and `order`, and its decoders that were measured.
+# The rows of a table, in `call`, `text` and `order`, and the decoders that were measured.
 function rows_of(calls, texts, list,    all, d, last) {
     split(calls, call, ","); split(texts, text, ";"); split("le,be", order, ",")
     split(list, all, ","); split("", decoders)
@@ -33,7 +33,8 @@ function is_measured(decoder,    c, t, o) {
     return 0
 }
 
-# Adds to `behind` the rows where another is faster. A copy decodes nothing.
+# Adds to `behind` the rows in which another decoder is faster. A copy decodes nothing, so it is
+# left out.
 function compare(calls, texts, list,    c, t, o, d, others, times) {
     rows_of(calls, texts, list)
     for (c = 1; c in call; c++) for (t = 1; t in text; t++) for (o = 1; o in order; o++) {
@@ -67,7 +68,8 @@ function table(calls, texts, list,    c, t, o, d, row) {
     print ""
 }
 
-# What a bar of the chart shows: where a decoder has no such call, its other one.
+# The value that a bar of the chart shows: if a decoder has no such call, the value of its other
+# one.
 function bar(call, text, decoder) {
     if ((call, text, "le", decoder) in value) return value[call, text, "le", decoder] + 0
     if (decoder == "encoding_rs") return value[call, text, "le", "encoding_rs mem"] + 0
@@ -75,7 +77,8 @@ function bar(call, text, decoder) {
     return 0
 }
 
-# Adds to `drawn` the bars of a call, a group for each text; the chart is as high as the highest.
+# Adds to `drawn` the bars of a call, with a group for each text. The longest panel gives the height
+# of the chart.
 function panel(call, x,    t, d, y, most, width) {
     for (t = 1; t in text; t++) for (d = 1; d in decoders; d++)
         if (bar(call, text[t], decoders[d]) > most) most = bar(call, text[t], decoders[d])
@@ -127,7 +130,7 @@ END {
     compare(calls, classes, by_call)
     compare("utf16_cat,utf16_enc", filtered, by_program)
     compare(short_calls, short, by_call)
-    printf "Another is faster in %d of %d rows; how many times as fast *here* is, in brackets:\n\n", slower, compared
+    printf "Another decoder is faster in %d of %d rows. The number in brackets is how many times as fast *here* is:\n\n", slower, compared
     print "| Call | Text | Order | Faster |\n|---|---|---|---|"
     print behind
     table(calls, classes, by_call)

@@ -1,5 +1,5 @@
-//! Times `String::retain` and `Vec<u16>::retain` on the characters of `retain.rt.txt`: three lines
-//! for each text and predicate, as there.
+//! Times `String::retain` and `Vec<u16>::retain` on the texts of `retain.rt.txt`. It prints three
+//! lines for each text, predicate and type, in the same format.
 use std::hint::black_box;
 use std::time::Instant;
 
@@ -11,7 +11,8 @@ const TEXTS: [&str; 5] = [
     "aaaaaaaa\u{1F600}",
 ];
 
-// The predicates: keep all, none, every other one, all but the first, fifteen of sixteen.
+// The predicates keep all characters, none, every other one, all but the first, and fifteen of
+// sixteen.
 fn kept_chars(text: &mut String, mode: u8) {
     match mode {
         0 => text.retain(|c| c != '_'),

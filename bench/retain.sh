@@ -1,8 +1,8 @@
 #!/bin/sh
-# Times `retain`, Rust's `String::retain` and `Vec::retain` in one run: for each text and predicate
-# the best of twelve in milliseconds here in little and in big endian, of `String` and of
-# `Vec<u16>`, then the ratio of each byte order to `String` and to `Vec`. The two programs run in
-# turn, four times, so that other work of the machine affects both.
+# Times `WString::retain`, Rust's `String::retain` and `Vec::retain` in one run. For each text and
+# predicate it prints the best of twelve times in milliseconds: of `WString` in little and in big
+# endian, of `String` and of `Vec<u16>`. Then come the ratios of each byte order to `String` and to
+# `Vec`. The two programs run in turn, four times, so that other work of the machine affects both.
 set -eu
 . "$(dirname "$0")/program.sh"
 build retain

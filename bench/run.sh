@@ -1,12 +1,13 @@
 #!/bin/sh
-# Builds what is compared, makes the texts, runs all of it, and leaves in bench/out the tables
-# (table.md) and the chart (chart.svg). Where SIMDUTF names a folder with simdutf.cpp and simdutf.h,
-# simdutf's kernels are compared too: westmere and, where the machine has AVX2, haswell.
+# Builds the library and its competitors, makes the texts, runs all benchmarks, and writes the
+# tables (table.md) and the chart (chart.svg) to bench/out. If SIMDUTF names a folder with
+# simdutf.cpp and simdutf.h, simdutf's kernels are also timed: westmere and, if the machine has
+# AVX2, haswell.
 set -eu
 [ -z "${SIMDUTF:-}" ] || SIMDUTF=$(cd "$SIMDUTF" && pwd)
 cd "$(dirname "$0")"
 missing=0
-need() { # what has to succeed, and what is missing where it does not
+need() { # COMMAND WHAT: if the command fails, says what is missing
     eval "$1" > /dev/null 2>&1 || { echo "bench: missing: $2" >&2; missing=1; }
 }
 need 'command -v rt' 'rt, the toolchain'
@@ -32,8 +33,8 @@ for program in utf16_cat utf16_enc; do
     (cd ../crates/$program && rt run -- le < /dev/null > ../../bench/out/rt.log 2>&1) || { cat out/rt.log >&2; exit 1; }
 done
 
-# The processor that rt builds for. No branch lies across 32 bytes, since some processors halve the
-# speed of a loop where one does.
+# The processor that rt builds for. Branches are padded so that none crosses a 32-byte boundary: on
+# some processors a crossing halves the speed of a loop.
 level=x86-64-v2
 rust() {
     rustc --check-cfg 'cfg(simdutf)' -C opt-level=3 -C target-cpu=$level -C llvm-args=-x86-branches-within-32B-boundaries --out-dir out -L out "$@"
@@ -42,7 +43,8 @@ crate() { rust --edition 2018 --crate-type rlib --cap-lints allow --crate-name "
 crate cfg_if $registry/cfg-if-*/src/lib.rs
 crate encoding_rs $registry/encoding_rs-*/src/lib.rs --cfg 'feature="alloc"' --extern cfg_if=out/libcfg_if.rlib
 gcc -O3 -march=$level -Wa,-mbranches-within-32B-boundaries -c icu.c -o out/icu.o
-# Each object has all of simdutf. It takes its kernel at its first call, by an environment variable.
+# Each object contains all of simdutf. It chooses its kernel at its first call, from an environment
+# variable.
 rm -f out/simdutf*
 simdutf=''
 if [ -n "${SIMDUTF:-}" ]; then

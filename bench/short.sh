@@ -1,15 +1,15 @@
 #!/bin/sh
-# Times calls on short strings beside plain loops that do the same, in one program that `rt`
-# compiles: for each call, text and size (bytes of UTF-16) the best in nanoseconds a call in little
-# and in big endian, that of the loop, and the ratio to the loop in each byte order, all at the
-# better of two places of the program. Before them the rows that take more than 1.1 times a loop's
-# time. It stops where a call finds something else than its loop. The table stays in
-# bench/out/short.md.
+# Times calls on short strings next to plain loops that do the same, in one program that `rt`
+# compiles. For each call, text and size (bytes of UTF-16) the table has the best time of the call
+# and of its loop, in nanoseconds and in each byte order, and the ratio to the loop. The program is
+# linked at two places, and the better one counts. The first table has the rows that take more than
+# 1.1 times a loop's time. The script stops if a call and its loop return different results. The
+# tables are written to bench/out/short.md.
 set -eu
 . "$(dirname "$0")/program.sh"
 build short utf16_encode utf16_decode utf16_units
-# The program is linked at two places, 16 bytes apart: a branch that lies across 32 bytes at one of
-# them does not at the other.
+# The program is linked at two places, 16 bytes apart: a branch may cross a 32-byte boundary at only
+# one of them.
 kit=$(dirname "$(rt doc)")
 printf '.text\n.balign 16\n.skip 16\n.section .note.GNU-stack,"",@progbits\n' |
     gcc -c -x assembler -o "$room/pad.o" -
@@ -27,13 +27,13 @@ awk '
     time = $7 / $8
     if (!((row, $5, $1) in best) || time < best[row, $5, $1]) best[row, $5, $1] = time
     order = substr($5, 1, 2)
-    # A hash of a string is not that of a slice of the same bytes.
+    # The hash of a string differs from the hash of a slice of the same bytes.
     if ($2 == "hash") next
     if (!((row, order) in found)) found[row, order] = $6
-    if (found[row, order] "" != $6 "") { print "short: differs: " $0 > "/dev/stderr"; failed = 1; exit 1 }
+    if (found[row, order] "" != $6 "") { print "short: a call and its loop differ: " $0 > "/dev/stderr"; failed = 1; exit 1 }
 }
-# Returns the ratio to the loop in a byte order, and leaves both times, at the place where it is
-# less.
+# Returns the ratio to the loop in a byte order, at the place where it is less, and leaves both
+# times in variables.
 function ratio(row, order,    place, least, its) {
     least = -1
     for (place = 0; place <= 16; place += 16) {

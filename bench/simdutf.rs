@@ -1,4 +1,4 @@
-//! The calls of `simdutf_calls.cc`, by each kernel.
+//! The calls of `simdutf_calls.cc`, for each kernel.
 use std::ffi::{CStr, c_char};
 
 macro_rules! kernel {
@@ -31,7 +31,7 @@ macro_rules! kernel {
                 unsafe { calls::count(big, units.as_ptr(), units.len()) }
             }
 
-            // The buffer is long enough, and of even address.
+            // The buffer must be long enough, and its address even.
             pub fn to_utf8(big: bool, units: &[u16], to: &mut [u8]) -> usize {
                 unsafe { calls::to_utf8(big, units.as_ptr(), units.len(), to.as_mut_ptr()) }
             }
@@ -46,7 +46,7 @@ macro_rules! kernel {
 kernel!(westmere);
 kernel!(haswell);
 
-// Has each of the two take its kernel.
+// Makes each of the two copies of simdutf choose its kernel.
 pub fn choose() {
     let kernels: [(&str, fn() -> *const c_char); 2] = [("westmere", westmere::chosen), ("haswell", haswell::chosen)];
     for (kernel, chosen) in kernels {

@@ -1,19 +1,19 @@
-// simdutf's calls for `calls.rs`, by one of its kernels. simdutf chooses its kernel once, at its
-// first call. So this is compiled once for each KERNEL, with simdutf in a namespace of its own, and
-// one process has both.
+// simdutf's calls for `calls.rs`, with one of its kernels. simdutf chooses its kernel once, at its
+// first call. So this file is compiled once for each KERNEL, with simdutf in a separate namespace,
+// and one process contains both.
 #include "simdutf.cpp"
 
 #define JOINED(kernel, call) simdutf_##kernel##_##call
 #define NAMED(kernel, call) JOINED(kernel, call)
 #define CALL(call) NAMED(KERNEL, call)
 
-// The name of the kernel. At the first call SIMDUTF_FORCE_IMPLEMENTATION in the environment
-// chooses it.
+// Returns the name of the kernel. The variable SIMDUTF_FORCE_IMPLEMENTATION of the environment
+// chooses it at the first call.
 extern "C" const char *CALL(chosen)() {
     return simdutf::get_active_implementation()->name().c_str();
 }
 
-// As the calls of `icu.c`; in either byte order. Where a conversion fails it returns SIZE_MAX.
+// The same calls as in `icu.c`, in either byte order. A conversion that fails returns SIZE_MAX.
 static size_t all_written(simdutf::result answer) {
     return answer.error ? SIZE_MAX : answer.count;
 }

@@ -1,14 +1,14 @@
-// What `utf16_cat` and `utf16_enc` are compared with. `simdutf_cat le` and `simdutf_cat be` decode
-// standard input by simdutf in chunks of 4 KiB, with U+FFFD for each ill-formed sequence, and write
-// the text of each chunk. `enc-le` and `enc-be` encode well-formed UTF-8. The status is 1 if a read
-// or a write fails, or UTF-8 is ill formed.
+// The program that `utf16_cat` and `utf16_enc` are compared with. `simdutf_cat le` and `simdutf_cat
+// be` decode standard input with simdutf in chunks of 4 KiB, with U+FFFD for each ill-formed
+// sequence, and write the text of each chunk. `enc-le` and `enc-be` encode well-formed UTF-8. The
+// status is 1 if a read or a write fails, or if UTF-8 is ill formed.
 #include <cstring>
 #include <unistd.h>
 #include "simdutf.h"
 
 static const size_t PIECE = 4096;
 
-// The bytes of the input that are not decoded yet, from the start on, and the text of a chunk.
+// The bytes of the input that are not decoded yet, at the start, and the text of a chunk.
 static char16_t input[PIECE / 2 + 2];
 static char text[3 * (PIECE / 2 + 2)];
 
@@ -36,7 +36,7 @@ static int encode(bool big) {
     for (size_t kept = 0;;) {
         ssize_t read_len = read(0, bytes + kept, PIECE);
         if (read_len <= 0) return read_len < 0 || kept > 0;
-        // Without the bytes of a character that the chunk cuts.
+        // Leaves out the first bytes of a character that the chunk cuts.
         size_t len = kept + read_len, whole = simdutf::trim_partial_utf8(bytes, len);
         simdutf::result answer = big ? simdutf::convert_utf8_to_utf16be_with_errors(bytes, whole, units)
                                      : simdutf::convert_utf8_to_utf16le_with_errors(bytes, whole, units);
@@ -52,7 +52,7 @@ int main(int count, char **words) {
     for (size_t kept = 0;;) {
         ssize_t read_len = read(0, (char *)input + kept, PIECE);
         if (read_len < 0) return 1;
-        // At the end of the input no more than one character is left, and it is not complete.
+        // At the end of the input at most one character is left, and it is incomplete.
         if (read_len == 0) return !write_all(text, kept ? replacement(text) : 0);
         size_t bytes = kept + read_len, units = bytes / 2, at = 0, written = 0;
         while (at < units) {
@@ -63,7 +63,8 @@ int main(int count, char **words) {
                 at = units, written += answer.count;
                 break;
             }
-            // The text before the unpaired surrogate, whose length is not given, and a replacement.
+            // Writes the text before the unpaired surrogate, whose length simdutf does not give,
+            // and a replacement.
             written += big ? simdutf::convert_valid_utf16be_to_utf8(from, answer.count, text + written)
                            : simdutf::convert_valid_utf16le_to_utf8(from, answer.count, text + written);
             at += answer.count;

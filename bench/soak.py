@@ -1,7 +1,7 @@
-"""Sends GiB of bytes through utf16_cat and through CPython's decoder of the same byte order with
-`replace`, in one byte order and then in the other, and compares the hashes of their outputs;
-`soak.sh` runs it. Of eight MiB seven are random bytes, and the eighth is of the bytes
-00 41 D8 DB DC DF E0 FF alone. Chunk boundaries are random."""
+"""Sends many GiB through utf16_cat and through CPython's decoder of the same byte order with
+`replace`, in one byte order and then in the other, and compares the hashes of their outputs.
+`soak.sh` runs it. Of eight MiB seven are random bytes, and the eighth has only the bytes
+00 41 D8 DB DC DF E0 FF. Chunk boundaries are random."""
 
 import codecs
 import hashlib

@@ -1,7 +1,7 @@
 #!/bin/sh
 # Sends random bytes through utf16_cat in both byte orders, and through CPython's decoder with
-# `replace`: the outputs are equal, and the peak of resident memory is flat. Arguments: how many
-# GiB, by default 8, and a seed, by default 1.
+# `replace`. The outputs must be equal. It also prints the peak of resident memory, which must not
+# grow. Arguments: the number of GiB, by default 8, and a seed, by default 1.
 set -e
 top=$(cd "$(dirname "$0")/.." && pwd)
 program="$top/crates/utf16_cat/out/utf16_cat"

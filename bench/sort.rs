@@ -1,4 +1,5 @@
-//! Times `sort` of the texts of `sort.rt.txt` as Rust's `String`: a line for each kind, as there.
+//! Times `sort` on the texts of `sort.rt.txt` as Rust's `String`. It prints a line for each kind,
+//! in the same format.
 use std::time::Instant;
 
 const COUNT: u64 = 1_000_000;

@@ -1,9 +1,10 @@
 #!/bin/sh
-# Times `sort` on a million short strings, in one run: for each kind of text (random letters, equal
-# prefixes of 39 letters, and characters of many scripts) the best of four in milliseconds of
-# `WString` in little and in big endian, of `String` here and of Rust's `String`, then the ratio of
-# each byte order to `String` here and to Rust's. The two programs run in turn, so that other work
-# of the machine affects both. It stops where two of them sort differently.
+# Times `sort` on a million short strings, in one run. For each kind of text (random letters, equal
+# prefixes of 39 letters, and characters of many scripts) it prints the best of four times in
+# milliseconds: of `WString` in little and in big endian, of Rattle's `String` and of Rust's
+# `String`. Then come the ratios of each byte order to Rattle's `String` and to Rust's. The two
+# programs run in turn, so that other work of the machine affects both. The script stops if two of
+# them sort differently.
 set -eu
 . "$(dirname "$0")/program.sh"
 build sort

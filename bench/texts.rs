@@ -1,6 +1,7 @@
-//! Writes a text to standard output, of a class or of random bytes: `texts CLASS ENCODING BYTES`,
-//! in UTF-16 (`le`, `be`) or in UTF-8 (`utf8`). A number after the class is how many bytes of UTF-16
-//! an ill-formed sequence has, as in `ascii_1000`. The same arguments give the same bytes each time.
+//! Writes a text of a class, or random bytes, to standard output: `texts CLASS ENCODING BYTES`. The
+//! encoding is UTF-16 (`le`, `be`) or UTF-8 (`utf8`). With a number after the class, as in
+//! `ascii_1000`, one code unit in about that many bytes of UTF-16 is ill formed. The same arguments
+//! always give the same bytes.
 use std::io::Write;
 
 struct Random {
@@ -10,7 +11,7 @@ struct Random {
 }
 
 impl Random {
-    // A number from first to last, by the steps of splitmix64.
+    // Returns a number from `first` to `last`, with the steps of splitmix64.
     fn among(&mut self, first: u32, last: u32) -> u32 {
         self.state = self.state.wrapping_add(0x9E37_79B9_7F4A_7C15);
         let mixed = (self.state ^ self.state >> 30).wrapping_mul(0xBF58_476D_1CE4_E5B9);
@@ -39,8 +40,8 @@ impl Random {
     }
 }
 
-// The bytes of what comes next: of a character, or of a letter where it does not fit, or two bytes
-// that are random.
+// Returns the next bytes: a character, or a letter if the character does not fit, or two random
+// bytes.
 fn encoded(next: u32, class: &str, encoding: &str, left: usize) -> Vec<u8> {
     let c = char::from_u32(next);
     if encoding == "utf8" {

@@ -1,5 +1,5 @@
-//! Times the calls of `walks.rt.txt` on Rust's `str` and `String` of the same characters: lines as
-//! there.
+//! Times the calls of `walks.rt.txt` on Rust's `str` and `String` with the same characters. It
+//! prints lines in the same format.
 use std::cmp::Ordering;
 use std::collections::hash_map::DefaultHasher;
 use std::hash::{Hash, Hasher};

@@ -1,10 +1,11 @@
 #!/bin/sh
-# Times walks over strings and edits of them beside Rust's `str` and `String` of the same characters
-# in UTF-8, in one run: for each call, text and size (bytes of UTF-16) the best of twelve in
-# nanoseconds a call here in little and in big endian and of std, then the ratio of each byte order
-# to std. Before them the rows where std is faster. The two programs run in turn, four times, so
-# that other work of the machine affects both. It stops where a call finds something else than
-# std's. The table stays in bench/out/walks.md.
+# Times walks over strings, and edits of them, next to Rust's `str` and `String` with the same
+# characters in UTF-8, in one run. For each call, text and size (bytes of UTF-16) the table has the
+# best of twelve times in nanoseconds: of the strings in little and in big endian, and of std. Then
+# come the ratios of each byte order to std. The first table has the rows in which std is faster.
+# The two programs run in turn, four times, so that other work of the machine affects both. The
+# script stops if a call and std's return different results. The tables are written to
+# bench/out/walks.md.
 set -eu
 . "$(dirname "$0")/program.sh"
 build walks
@@ -22,10 +23,10 @@ awk '
     row = $1 " " $2 " " $3
     time = $6 / $7
     if (!((row, $4) in best) || time < best[row, $4]) best[row, $4] = time
-    # An offset and a hash depend on the bytes.
+    # Offsets and hashes depend on the encoding.
     kind = $1 == "hash" ? $4 : $1 == "char_indices" && $4 == "std" ? "std" : "all"
     if (!((row, kind) in found)) found[row, kind] = $5
-    if (found[row, kind] "" != $5 "") { print "walks: differs: " $0 > "/dev/stderr"; failed = 1; exit 1 }
+    if (found[row, kind] "" != $5 "") { print "walks: a call and std differ: " $0 > "/dev/stderr"; failed = 1; exit 1 }
 }
 END {
     if (failed) exit 1

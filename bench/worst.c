@@ -1,5 +1,5 @@
 // Times the calls of the C library on the bytes that cost most, in buffers of each capacity, and
-// ICU's converters on the same: see README.md.
+// ICU's converters on the same bytes. README.md describes the results.
 #define _POSIX_C_SOURCE 200809L
 #include <stdio.h>
 #include <string.h>
@@ -12,8 +12,8 @@ enum { INPUT = 1 << 15, ROUNDS = 9, MAX_CAPACITY = 1 << 16 };
 static const size_t capacities[] = {16, 32, 64, 128, 256, 1024, 4096, MAX_CAPACITY};
 enum { CAPACITIES = sizeof capacities / sizeof *capacities };
 
-// A text: the characters that it is made of in turn, or at random where a space is between them, and
-// an ill-formed sequence that begins each `every` bytes.
+// A text consists of its characters in turn, or at random if spaces separate them in `good`. A
+// `fault`, an ill-formed sequence, begins each `every` bytes.
 struct text {
     const char *name;
     const char *good, *fault;
@@ -24,7 +24,7 @@ struct text {
     {form, good, bad, 64}, {form, good, bad, 256}, {form, good, bad, 1000}, {form, good, bad, 5000}, \
     {form, good, bad, 10000}
 
-// Little endian, each code unit as two bytes in hex.
+// UTF-16 in little endian, each code unit as two bytes in hexadecimal digits.
 static const struct text utf16[] = {
     {"ASCII", "6100", "", INPUT},
     {"Cyrillic", "3004", "", INPUT},
@@ -58,7 +58,8 @@ static UChar units[MAX_CAPACITY];
 
 static uint32_t seed = 1;
 
-// Writes a character of some, or all of them, and returns their length.
+// Writes one of the characters that spaces separate, or all if there are no spaces, and returns
+// their length.
 static size_t put(uint8_t *to, const char *hex) {
     size_t others = 0;
     for (const char *it = hex; (it = strchr(it, ' ')); it++) others++;
@@ -97,8 +98,8 @@ static double seconds(void) {
 typedef dethrux_progress convert(
     dethrux_byte_order, const uint8_t *, size_t, uint8_t *, size_t);
 
-// Converts all, a buffer at a time, goes on after each ill-formed sequence, and returns the number
-// of calls.
+// Converts the whole input, a buffer at a time, and continues after each ill-formed sequence.
+// Returns the number of calls.
 static size_t whole(convert *call, size_t len, size_t capacity) {
     size_t at = 0, calls = 0;
     for (;;) {
@@ -110,7 +111,7 @@ static size_t whole(convert *call, size_t len, size_t capacity) {
     }
 }
 
-// The same through a decoder with a state, in chunks of 1,000 bytes.
+// Does the same with a decoder that has a state, in chunks of 1,000 bytes.
 static size_t streamed(size_t len, size_t capacity) {
     dethrux_decoder decoder = DETHRUX_DECODER_INIT;
     size_t at = 0, calls = 0;
@@ -124,7 +125,8 @@ static size_t streamed(size_t len, size_t capacity) {
     return calls;
 }
 
-// ICU: the same, lossy, from units to UTF-8 and back. Its converters keep what does not fit.
+// Do the same with ICU, lossy, from code units to UTF-8 and back. ICU's converters keep what does
+// not fit.
 static UConverter *icu;
 
 static size_t icu_to_utf8(size_t len, size_t capacity) {
@@ -164,8 +166,8 @@ static size_t run(int from, int call, size_t len, size_t capacity) {
     }
 }
 
-// A line for each direction, call, text and capacity: nanoseconds for each byte of input, and the
-// calls that were made.
+// Prints a line for each direction, call, text and capacity: the nanoseconds for each byte of
+// input, and the nanoseconds that a call costs above one into the largest buffer.
 int main(void) {
     static const char *const names[] = {"strict", "lossy", "streamed", "ICU"};
     UErrorCode error = U_ZERO_ERROR;

@@ -1,9 +1,9 @@
 #!/bin/sh
 # Times the calls of the C library on the bytes that cost most, in buffers of each capacity, and
-# ICU's converters on the same, in one run. It prints for each call and capacity the most
-# nanoseconds for a byte of input over all texts and the text that costs them, beside ICU's most;
-# then the most that a call into a small buffer costs above one into a large buffer, for each text.
-# The tables stay in bench/out/worst.md.
+# ICU's converters on the same bytes, in one run. For each call and capacity it prints the most
+# nanoseconds per byte of input over all texts, the text that costs them, and ICU's most. Then it
+# prints, for each text, the most that a call into a small buffer costs above a call into a large
+# one. The tables are written to bench/out/worst.md.
 set -eu
 top=$(cd "$(dirname "$0")/.." && pwd)
 mkdir -p "$top/bench/out"

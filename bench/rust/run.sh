@@ -1,7 +1,7 @@
 #!/usr/bin/env bash
-# Times the Rust strings beside encoding_rs, widestring and std, and prints a table. It needs cargo,
-# the library (crates/dethrux/out/libdethrux.a), and of Debian librust-encoding-rs-dev,
-# librust-widestring-dev and librust-byteorder-dev.
+# Times the Rust strings next to encoding_rs, widestring and std, and prints a table. It needs
+# cargo, the library (crates/dethrux/out/libdethrux.a), and the Debian packages
+# librust-encoding-rs-dev, librust-widestring-dev and librust-byteorder-dev.
 set -euo pipefail
 here=$(cd "$(dirname "$0")" && pwd)
 registry=/usr/share/cargo/registry

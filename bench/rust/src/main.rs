@@ -1,4 +1,4 @@
-//! Times the Rust strings beside other crates, on the texts in the folder that the argument names,
+//! Times the Rust strings next to other crates, on the texts in the folder that the argument names,
 //! and prints a table.
 
 use dethrux::{ByteOrder::LittleEndian, Decoder};
@@ -43,7 +43,7 @@ impl Text {
 /// A call of one crate. It returns a number, the same for each crate.
 type Call = (&'static str, fn(&Text) -> usize);
 
-/// The calls for one task, of which the first is that of the strings here.
+/// The calls for one task. The first is the call of the strings here.
 type Task = (&'static str, &'static [Call]);
 
 const TASKS: &[Task] = &[
@@ -155,7 +155,7 @@ const TASKS: &[Task] = &[
     ),
 ];
 
-/// Returns how long a call takes, by as many as fit in two milliseconds.
+/// Returns the seconds that a call takes, averaged over as many calls as fit in two milliseconds.
 fn time(call: fn(&Text) -> usize, text: &Text) -> f64 {
     let (start, mut calls) = (Instant::now(), 0);
     loop {
@@ -168,7 +168,7 @@ fn time(call: fn(&Text) -> usize, text: &Text) -> f64 {
     }
 }
 
-/// Returns the least time of each call, in fifteen rounds of all of them in turn.
+/// Returns the least time of each call, over fifteen rounds in which all calls run in turn.
 fn best_times(calls: &[Call], text: &Text) -> Vec<f64> {
     let mut best = vec![f64::INFINITY; calls.len()];
     for _ in 0..15 {
@@ -185,8 +185,8 @@ fn print_row(task: &str, call: &str, figures: impl Iterator<Item = String>) {
     println!("| {task} | {call} | {} |", figures.join(" | "));
 }
 
-/// Times the calls for a task on each text and prints a row for each call: how fast the first is,
-/// and of each other how many times its time is that of the first.
+/// Times the calls for a task on each text and prints a row for each call. The first row has the
+/// speed of the first call; the others have the ratio of their time to the first call's time.
 fn run((task, calls): &Task, texts: &[Text]) {
     let mut times = Vec::new();
     for text in texts {
