@@ -33,7 +33,7 @@ module _ {X : Type 0} (of : X → List ℕ) (pieces : List X) (i : ℕ) where
 
 -- ---- the characters of the strings that a call returns
 
--- the characters of items, and those of the whole text, are scalar values
+-- the characters of items, and all characters of the whole text, are scalar values
 full_scalar : (items : List Item) (tail : List ℕ) → All IsScalar (lossy_chars items) → All IsScalar (whole_lossy_chars items tail)
 full_scalar items [] scalars = scalars
 full_scalar items (first ∷ after) scalars =

@@ -6,6 +6,6 @@ use Rattle.utf8_decoder.specs.Utf8Decoder.{utf8_decoder_pending}
 use Rattle.utf8_decoder.proofs.PiecesLemmas.{IsTextOf}
 use Rattle.utf8_decoder.proofs.pieces.decode_pieces.Given as goal
 
--- the text so far is that of the chunks so far, and their tail is pending
+-- the text so far is the text of the chunks so far, and their tail is pending
 abbrev pub invariant-loop-piece : goal.invariant-loop-piece
 invariant-loop-piece g l = IsTextOf (flat_map vec_items (take l.piece-index l.pieces)) (wstring_text l.text) (utf8_decoder_pending l.decoder)
