@@ -1,6 +1,6 @@
 #!/usr/bin/env bash
-# Runs AFL++ over the harness on one core for half an hour, as fuzz/afl.sh [--minutes N]. Prints its
-# figures, and fails if it found a crash or a hang. What it found is in fuzz/out/afl.
+# Runs AFL++ with the harness on one core for half an hour: fuzz/afl.sh [--minutes N]. Prints its
+# figures, and fails if it found a crash or a hang. Its findings are in fuzz/out/afl.
 set -euo pipefail
 cd "$(dirname "$0")"
 minutes=30
@@ -24,7 +24,7 @@ rm -rf out/seeds out/afl
 mkdir -p out/seeds
 out/harness --seeds out/seeds 1 200
 
-# The settings of the machine, which AFL++ asks to change, stay as they are.
+# AFL++ asks for other settings of the machine: they stay unchanged.
 export AFL_NO_UI=1 AFL_NO_AFFINITY=1 AFL_SKIP_CPUFREQ=1 AFL_I_DONT_CARE_ABOUT_MISSING_CRASHES=1
 nice -n 10 afl-fuzz -i out/seeds -o out/afl -G 2048 -t 1000 -V $((minutes * 60)) \
     -- out/harness-afl > out/afl.log 2>&1 || refuse 'afl-fuzz failed: see fuzz/out/afl.log'

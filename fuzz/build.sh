@@ -1,7 +1,7 @@
 #!/usr/bin/env bash
-# Builds the harness, as fuzz/build.sh COMPILER PROGRAM [ARGUMENT..]. Further arguments are for the
-# compiler. LIBRARY may name another static library than that of crates/dethrux. If a tool or a file
-# is missing, one line says so.
+# Builds the harness: fuzz/build.sh COMPILER PROGRAM [ARGUMENT..]. The compiler gets the further
+# arguments. LIBRARY may name a static library to use instead of the library in crates/dethrux. If a
+# tool or a file is missing, one line says so.
 set -euo pipefail
 cd "$(dirname "$0")"
 archive=${LIBRARY:-../crates/dethrux/out/libdethrux.a}

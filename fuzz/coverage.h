@@ -1,6 +1,6 @@
-/* Coverage that AFL++ counts beside the branches of the harness: which kind of character follows
- * which, at which place in a block of 64 units. The library itself is not instrumented; its loops
- * work in blocks, and these are the inputs that differ for them. */
+/* Coverage that AFL++ counts as well as the branches of the harness: which class of character
+ * follows which, at which of 64 places in a block. The library itself is not instrumented. Its
+ * loops work in blocks, so these are the differences between inputs that matter to them. */
 #ifndef COVERAGE_H
 #define COVERAGE_H
 

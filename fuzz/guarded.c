@@ -7,7 +7,7 @@
 #include <sys/mman.h>
 #include <unistd.h>
 
-/* The bytes around an output that are tested, and what they hold. */
+/* The number of bytes tested on each side of an output, and the value that they hold. */
 enum { MARGIN = 256, FILLER = 0xA5 };
 
 typedef struct {

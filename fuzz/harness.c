@@ -1,13 +1,13 @@
 /* Calls libdethrux on inputs and compares what it returns with a reference decoder, ICU and iconv.
  *
- *   harness                         reads one input on standard input (built for AFL++: many)
+ *   harness                         reads one input on standard input (many if built for AFL++)
  *   harness FILE..                  reads each file as one input
  *   harness --hex DIGITS            reads one input from hexadecimal digits
- *   harness --random SEED SECONDS   makes inputs, and ends with 'N passed, M failed', by call
+ *   harness --random SEED SECONDS   makes inputs; the last line is 'N passed, M failed'
  *   harness --seeds DIR SEED COUNT  writes inputs to files that begin a corpus
  *
  * A difference, or an access outside of a buffer, is printed with the input as digits for --hex.
- * Then the process aborts; with --random it goes on with the other checks. */
+ * Then the process aborts; with --random it continues with the other checks. */
 #include "checks.h"
 #include "guarded.h"
 #include "peers.h"
@@ -27,7 +27,7 @@ static struct {
     const uint8_t *bytes; /* the input */
     size_t len;
     const char *check;
-    bool resumes; /* goes on after a difference */
+    bool resumes; /* continues after a difference */
     sigjmp_buf after;
 } current;
 
@@ -47,10 +47,10 @@ _Noreturn void report_difference(const char *what) {
     abort();
 }
 
-/* The processor time after which a call is taken not to return. */
+/* The processor time after which the calls on an input count as hanging. */
 enum { SECONDS_AN_INPUT = 20 };
 
-/* An access outside of a buffer, another fault inside of a call, or one that does not return. */
+/* Reports an access outside of a buffer, another fault inside a call, or a call that hangs. */
 static void on_fault(int number) {
     char what[64];
     snprintf(what, sizeof what, "signal %d (%s)", number, strsignal(number));
@@ -160,7 +160,7 @@ static int run_hex(const char *digits) {
 #ifdef __AFL_COMPILER
 __AFL_FUZZ_INIT();
 
-/* Many inputs in one process, each in memory that AFL++ shares. */
+/* Reads many inputs in one process, each from memory that AFL++ shares. */
 static int run_afl(void) {
     __AFL_INIT();
     const uint8_t *bytes = __AFL_FUZZ_TESTCASE_BUF;

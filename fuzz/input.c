@@ -6,7 +6,7 @@ static size_t two_bytes(const uint8_t *bytes) {
     return (size_t)bytes[0] | (size_t)bytes[1] << 8;
 }
 
-/* The two byte orders for three of four values, and a value that is neither for the fourth. */
+/* Returns a byte order for three of four values, and for the fourth a value that is neither. */
 static dethrux_byte_order order_of(uint8_t byte) {
     return (byte & 3) == 3   ? (dethrux_byte_order)byte
            : (byte & 3) == 0 ? DETHRUX_LITTLE_ENDIAN
@@ -30,7 +30,7 @@ input parse_input(const uint8_t *bytes, size_t len) {
     return read;
 }
 
-/* Returns a number below `limit`: SplitMix64. */
+/* Returns a number below `limit`, with SplitMix64. */
 static uint32_t below(uint64_t *seed, uint32_t limit) {
     uint64_t mixed = *seed += 0x9E3779B97F4A7C15;
     mixed = (mixed ^ mixed >> 30) * 0xBF58476D1CE4E5B9;
@@ -38,7 +38,7 @@ static uint32_t below(uint64_t *seed, uint32_t limit) {
     return (uint32_t)((mixed ^ mixed >> 31) % limit);
 }
 
-/* A text that is being written. */
+/* A text while it is written. */
 typedef struct {
     uint8_t *bytes;
     size_t len, limit;
@@ -68,7 +68,7 @@ static const uint32_t LIMITS[] = {0x00,    0x7F,    0x80,    0xFF,    0x7FF,  0x
                                   0xD7FF,  0xE000,  0xFEFF,  0xFFFD,  0xFFFE, 0xFFFF,
                                   0x10000, 0x103FF, 0x10400, 0x10FFFF};
 
-/* Every kind of ill-formed UTF-8, by the Unicode Standard, 3.9, Table 3-7: bytes that begin no
+/* Every kind of ill-formed UTF-8 (the Unicode Standard, 3.9, Table 3-7): bytes that begin no
  * character, forms that are too long, surrogates, values above 10FFFF, and truncated characters. */
 static const char *const ILL_FORMED_UTF8[] = {
     "\x80",
@@ -133,7 +133,7 @@ static void put_kind(uint64_t *seed, writer *to, uint32_t kind) {
     }
 }
 
-/* Texts of mostly one kind, with one item of another in some 4, 16 or 64. */
+/* Writes a text of mostly one kind: half or one in about 4, 16 or 64 items are of any kind. */
 static void put_text(uint64_t *seed, writer *to) {
     uint32_t kind = below(seed, KINDS);
     uint32_t others = 1U << (2 * below(seed, 4));
@@ -143,7 +143,7 @@ static void put_text(uint64_t *seed, writer *to) {
     }
 }
 
-/* Mostly 0 to 255 bytes, at times up to 4,096, and now and then up to TEXT_MAX. */
+/* Returns a length: mostly up to 255 bytes, sometimes up to 4,096, and rarely up to TEXT_MAX. */
 static size_t choose_len(uint64_t *seed) {
     uint32_t rank = below(seed, 512);
     uint32_t limit = rank == 0 ? TEXT_MAX + 1 : rank < 8 ? 4097 : 256;

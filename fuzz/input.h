@@ -1,5 +1,5 @@
-/* One input of the fuzzer: the choices of a caller, then a text, which is taken as UTF-16 by some
- * calls and as UTF-8 by others. */
+/* One input of the fuzzer: the choices of a caller, then a text, which some calls take as UTF-16
+ * and others as UTF-8. */
 #ifndef INPUT_H
 #define INPUT_H
 
@@ -18,12 +18,12 @@ typedef struct {
     size_t len;
 } input;
 
-/* Reads an input of any length. Bytes that are missing from the choices are 0, and those of the
+/* Reads an input of any length. Bytes that are missing from the choices are 0, and bytes of the
  * text after TEXT_MAX are left out. */
 input parse_input(const uint8_t *bytes, size_t len);
 
-/* Writes an input that the seed decides, of at most INPUT_MAX bytes, and returns its length. The
- * seed is changed, to that of the next. */
+/* Writes an input that the seed decides, of at most INPUT_MAX bytes, and returns its length. It
+ * changes the seed to the seed of the next input. */
 size_t generate_input(uint64_t *seed, uint8_t *to);
 
 #endif

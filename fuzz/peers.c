@@ -15,7 +15,7 @@ static bool is_big(dethrux_byte_order order) {
     return order == DETHRUX_BIG_ENDIAN;
 }
 
-/* The converter of ICU, which by default writes U+FFFD for what is ill-formed. */
+/* Opens a converter of ICU, which by default writes U+FFFD for ill-formed sequences. */
 static UConverter *open_icu(const char *name) {
     UErrorCode status = U_ZERO_ERROR;
     UConverter *converter = ucnv_open(name, &status);

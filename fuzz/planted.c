@@ -1,5 +1,5 @@
-/* Wrong versions of calls, which the harness has to find: each is right but for few inputs. They
- * take the place of the library's by the linker's --wrap. */
+/* Wrong versions of calls, which the harness must find: each is right for all inputs except a few.
+ * The linker's --wrap puts them in the place of the library's calls. */
 #include "dethrux.h"
 
 dethrux_validity __real_dethrux_validate(dethrux_byte_order order, const uint8_t *utf16,
@@ -13,7 +13,7 @@ dethrux_progress __real_dethrux_utf8_decoder_feed(dethrux_utf8_decoder *decoder,
                                                   dethrux_byte_order order, const uint8_t *chunk,
                                                   size_t len, uint8_t *to, size_t capacity);
 
-/* Does not see an unpaired surrogate in the last unit of a block of 64 bytes. */
+/* Misses an unpaired surrogate in the last code unit of a block of 64 bytes. */
 dethrux_validity __wrap_dethrux_validate(dethrux_byte_order order, const uint8_t *utf16,
                                          size_t len) {
     dethrux_validity validity = __real_dethrux_validate(order, utf16, len);

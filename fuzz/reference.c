@@ -24,7 +24,7 @@ bool is_trailing(uint32_t unit) {
     return unit >= 0xDC00 && unit <= 0xDFFF;
 }
 
-/* The Unicode Standard, 3.9, D91, for bytes that are not empty. */
+/* Returns the first item of bytes that are not empty (the Unicode Standard, 3.9, D91). */
 static sequence next_utf16(dethrux_byte_order order, const uint8_t *bytes, size_t len) {
     if (len < 2) {
         return (sequence){INCOMPLETE, len, REPLACEMENT};
@@ -46,7 +46,7 @@ static sequence next_utf16(dethrux_byte_order order, const uint8_t *bytes, size_
     return (sequence){CHARACTER, 4, 0x10000 + ((unit - 0xD800) << 10) + (next - 0xDC00)};
 }
 
-/* A row of Table 3-7: first bytes, the range of the second byte, and the length. */
+/* A row of Table 3-7: the ranges of the first and the second byte, and the length. */
 typedef struct {
     uint8_t first, last, second_from, second_to;
     size_t len;
@@ -67,8 +67,8 @@ static const utf8_row *row_of(uint8_t byte) {
     return NULL;
 }
 
-/* The Unicode Standard, 3.9, Table 3-7 and "U+FFFD Substitution of Maximal Subparts", for bytes
- * that are not empty. */
+/* Returns the first item of bytes that are not empty (the Unicode Standard, 3.9, Table 3-7 and
+ * "U+FFFD Substitution of Maximal Subparts"). */
 static sequence next_utf8(dethrux_byte_order order, const uint8_t *bytes, size_t len) {
     (void)order;
     const utf8_row *row = row_of(bytes[0]);

@@ -1,6 +1,6 @@
-/* A plain decoder of UTF-16 and of UTF-8 by the Unicode Standard, and what each call of the library
- * has to return by it. It is compiled with the instrumentation of AFL++, so its branches are what
- * guides the fuzzer. */
+/* A plain decoder of UTF-16 and of UTF-8, written from the Unicode Standard, and what each call of
+ * the library must return according to it. It is compiled with the instrumentation of AFL++, so its
+ * branches guide the fuzzer. */
 #ifndef REFERENCE_H
 #define REFERENCE_H
 
@@ -13,12 +13,12 @@ typedef enum { CHARACTER, ILL_FORMED, INCOMPLETE } item_kind;
 
 typedef struct {
     item_kind kind;
-    uint32_t scalar; /* of a character; else U+FFFD */
+    uint32_t scalar; /* of a character; otherwise U+FFFD */
     size_t len;      /* of its bytes in the input */
     size_t out_len;  /* of what replaces it in the output */
 } item;
 
-/* A text decoded, with the pending bytes before it, and its conversion with U+FFFD. */
+/* A decoded text, with the pending bytes before it, and its conversion with U+FFFD. */
 typedef struct {
     size_t item_count;
     item items[DETHRUX_PENDING_MAX + TEXT_MAX];
@@ -26,8 +26,8 @@ typedef struct {
     uint8_t out[3 * TEXT_MAX];
 } decoded;
 
-/* Where a call stops: at ill-formed sequences and at an incomplete end, at an incomplete end, or
- * only where `to` is full. */
+/* Where a call stops: STRICT at an ill-formed sequence and at an incomplete end, PARTIAL at an
+ * incomplete end, and LOSSY only when `to` is full. */
 typedef enum { STRICT, PARTIAL, LOSSY } conversion_mode;
 
 void decode_utf16(dethrux_byte_order order, const uint8_t *bytes, size_t len, decoded *to);
@@ -36,9 +36,11 @@ void decode_utf8(dethrux_byte_order order, const uint8_t *bytes, size_t len, dec
 /* Returns what a conversion of the text returns for a capacity. */
 dethrux_progress expected_progress(const decoded *text, conversion_mode mode, size_t capacity);
 
-/* Encode a scalar value, and return the length; encode any code unit. */
+/* Encode a scalar value, and return the length. */
 size_t encode_utf8(uint32_t scalar, uint8_t *to);
 size_t encode_utf16(dethrux_byte_order order, uint32_t scalar, uint8_t *to);
+
+/* Encodes any code unit. */
 void encode_unit(dethrux_byte_order order, uint32_t unit, uint8_t *to);
 
 /* Returns the code unit at an offset. */

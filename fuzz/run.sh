@@ -1,8 +1,8 @@
 #!/usr/bin/env bash
-# Calls libdethrux on random inputs for a minute, as fuzz/run.sh [--seconds N] [--seed N], and tests
-# that the harness finds the wrong versions of planted.c. The last line is 'N passed, M failed',
-# where each call of the library, each peer and each planted version counts as one. With
-# --library FILE this static library is called instead of the one in crates/dethrux.
+# Calls libdethrux on random inputs for a minute, and tests that the harness finds the wrong
+# versions of planted.c: fuzz/run.sh [--seconds N] [--seed N] [--library FILE]. FILE is a static
+# library to use instead of the library in crates/dethrux. Each call of the library, each peer and
+# each planted version counts as one in the last line, 'N passed, M failed'.
 set -uo pipefail
 from=$PWD
 cd "$(dirname "$0")" || exit 1
@@ -35,24 +35,24 @@ if [ -n "${LIBRARY:-}" ]; then
     built=out/library
 fi
 
-# Runs a program on random inputs, prints what it prints, and leaves it in the file `said`.
+# Runs a program on random inputs, and writes its output to standard output and to the file `said`.
 random() {
     timeout $(($2 + 60)) "$1" --random "$seed" "$2" 2>&1 | tee "$room/said"
 }
 
-# Counts the last line of the harness, or one failure where it came to none.
+# Adds the counts in the last line of the harness, or one failure if there is no such line.
 check_library() {
     random $built/harness "$seconds" | grep -v ' passed, '
     if [[ $(tail -n 1 "$room/said") =~ ^([0-9]+)\ passed,\ ([0-9]+)\ failed$ ]]; then
         passed=$((passed + BASH_REMATCH[1]))
         failed=$((failed + BASH_REMATCH[2]))
     else
-        echo 'the harness did not come to its end'
+        echo 'the harness did not finish'
         failed=$((failed + 1))
     fi
 }
 
-# Counts each planted version that is found, and fails where another call is reported.
+# Counts each planted version that is found, and one failure if another call is reported.
 check_planted() {
     local call
     random $built/planted 5 > /dev/null
@@ -65,7 +65,7 @@ check_planted() {
         fi
     done
     if [[ $(tail -n 1 "$room/said") != *" passed, ${#planted[@]} failed" ]]; then
-        echo 'with the planted versions other calls differ too:'
+        echo 'the planted versions also make other calls differ:'
         grep -E '^[^ ]+: ' "$room/said"
         failed=$((failed + 1))
     fi
