@@ -1,12 +1,12 @@
 #!/usr/bin/env bash
-# Installs the C library and the programs below PREFIX, /usr/local if it is left out, and prints
-# each path. In a clone it builds first what is not built yet; in an unpacked release archive
-# everything is. With --uninstall it removes what it installed there, and nothing else.
+# Installs the C library and the programs below PREFIX (by default /usr/local), and prints each
+# path. In a clone it first builds what is not built yet; in an unpacked release archive everything
+# is built. With --uninstall it removes what it installed there, and nothing else.
 #
 #     ./install.sh [--uninstall] [PREFIX]
 #
-# For packagers: DESTDIR is put before every path, and LIBDIR (lib) is the libraries' folder below
-# PREFIX.
+# For packagers: DESTDIR is put before every path. LIBDIR is the folder of the libraries below
+# PREFIX (by default lib).
 set -euo pipefail
 top=$(cd "$(dirname "${BASH_SOURCE[0]}")" && pwd)
 libdir=${LIBDIR:-lib}
@@ -16,7 +16,7 @@ usage() {
     exit 2
 }
 
-# Ends with one line.
+# Prints one line, and ends with status 1.
 fail() {
     echo "install.sh: $1" >&2
     exit 1
@@ -35,17 +35,17 @@ esac
 prefix=$(realpath -ms -- "$prefix")
 case $libdir in
     '' | /* | . | .. | ../* | */.. | */../* | *[!A-Za-z0-9._/+-]*)
-        fail "LIBDIR has to be a path below PREFIX, such as lib/x86_64-linux-gnu: $libdir"
+        fail "LIBDIR must be a path below PREFIX, such as lib/x86_64-linux-gnu: $libdir"
         ;;
 esac
 root=${DESTDIR-}${prefix%/}
 manifest=share/dethrux/install_manifest.txt
-# The paths that are installed, the folders that are made, and what the manifest lists.
+# The paths that are installed, the folders that are made, and the lines of the old manifest.
 installed=()
 made=()
 listed=()
 
-# Makes a folder below the root and records each one that was not there.
+# Makes a folder below the root, and records each folder that did not exist.
 make_folder() {
     [ ! -d "$root/$1" ] || return 0
     [[ $1 != */* ]] || make_folder "${1%/*}"
@@ -72,7 +72,7 @@ put_link() {
     record "$2"
 }
 
-# Installs a template of packaging/, with the way from its folder up to PREFIX.
+# Installs a template of packaging/, with the relative path from its folder up to PREFIX.
 put_filled() {
     local from=$1 to=$2 up
     up=$(sed 's/[^/]\+/../g' <<< "${to%/*}")
@@ -104,7 +104,7 @@ put_built() {
     done
 }
 
-# Installs from an unpacked release archive, whose folders are those below PREFIX.
+# Installs from an unpacked release archive, which has the same folders as PREFIX.
 put_unpacked() {
     local file mode files
     mapfile -d '' files < <(cd "$top" && find bin include lib share ! -type d -print0 | sort -z)
@@ -119,32 +119,34 @@ put_unpacked() {
     done
 }
 
-# Reads the manifest, if there is one, and refuses one that leads elsewhere.
+# Reads the manifest, if there is one. A path in it that leads out of the root is an error.
 read_manifest() {
     local line
     [ -f "$root/$manifest" ] || return 0
     mapfile -t listed < "$root/$manifest"
     for line in "${listed[@]}"; do
         case /$line/ in
-            //* | */../*) fail "$root/$manifest has '$line', no path below $root/: mend it" ;;
+            //* | */../*)
+                fail "$root/$manifest has '$line', which is not a path below $root/: correct it"
+                ;;
         esac
     done
 }
 
-# Removes a file, and says so.
+# Removes a file, and prints its path.
 remove() {
     [ -e "$root/$1" ] || [ -L "$root/$1" ] || return 0
     rm -f -- "$root/$1"
     echo "removed $root/$1"
 }
 
-# Has the loader look at the libraries again, if this is a folder where it looks.
+# Updates the cache of the loader, if the loader searches this folder.
 tell_loader() {
     [ $EUID = 0 ] && grep -rqsxF -- "$root/$libdir" /etc/ld.so.conf /etc/ld.so.conf.d || return 0
     ldconfig
 }
 
-# Makes the root, and refuses one where nothing can be written or the manifest is bad.
+# Makes the root. A root that cannot be written, or a bad manifest, is an error.
 make_root() {
     [ -d "$root/" ] || made+=(./)
     if ! mkdir -p -- "$root/" 2> /dev/null || [ ! -w "$root/" ]; then
@@ -153,8 +155,8 @@ make_root() {
     read_manifest
 }
 
-# Writes down what was installed, and what an earlier version made there, of which this removes the
-# files that are gone from this version.
+# Writes the manifest: what was installed, and the folders that an earlier version made. Files of
+# an earlier version that this version does not have are removed.
 write_manifest() {
     local line
     make_folder "${manifest%/*}"
@@ -179,7 +181,7 @@ do_install() {
         make_root
         put_built
     else
-        [ "$libdir" = lib ] || fail 'a release archive has its libraries in lib'
+        [ "$libdir" = lib ] || fail 'a release archive has its libraries only in lib: unset LIBDIR'
         make_root
         put_unpacked
     fi
@@ -194,7 +196,7 @@ do_uninstall() {
     for line in "${listed[@]}"; do
         [[ $line == */ ]] || remove "$line"
     done
-    # The folders that were made, the lower first, unless something else is in them now.
+    # Removes the folders that were made, the deepest first, unless they contain something else.
     for line in "${listed[@]}"; do
         [[ $line != */ ]] || echo "${line%/}"
     done | LC_ALL=C sort -r | while IFS= read -r line; do

@@ -1,7 +1,7 @@
 #!/usr/bin/env bash
-# Copies crates, with all that they depend on, into the `crates` folder of another repository, and
-# prints the lines for its `crates.txt`, lowest first. Tests, must-fail edits and builds are not
-# copied.
+# Copies crates, with all crates that they depend on, into the `crates` folder of another
+# repository, and prints the lines for its `crates.txt`, lowest first. It does not copy tests,
+# must-fail edits and builds.
 #
 #     ./vendor.sh DEST CRATE..
 set -euo pipefail
@@ -13,13 +13,13 @@ fi
 dest=$1
 shift
 
-# The line of a crate in `crates.txt`.
+# Prints the line of a crate in `crates.txt`.
 line_of() {
     grep -E "^$1( [a-z]+)?:" "$here/crates.txt"
 }
 
 wanted=' '
-# Adds a crate and what it depends on; a library of the kit has no line.
+# Adds a crate and the crates that it depends on. A library of the kit has no line.
 want() {
     local line below
     [[ $wanted != *" $1 "* ]] || return 0
@@ -42,7 +42,7 @@ while read -r name _; do
     name=${name%:}
     [[ $wanted == *" $name "* ]] || continue
     if [ -e "$dest/crates/$name" ]; then
-        echo "vendor.sh: $dest/crates/$name is there already" >&2
+        echo "vendor.sh: $dest/crates/$name already exists" >&2
         exit 1
     fi
 done < "$here/crates.txt"

@@ -8,7 +8,7 @@ cd "$(dirname "$0")/.." || exit 1
 passed=0
 failed=0
 
-# A paragraph of a block, and the file and line of the document where it ends.
+# Tests that a paragraph of a block is in the file. The second argument is its place for messages.
 stands() {
     local paragraph=$1 where=$2
     [ -n "$paragraph" ] || return

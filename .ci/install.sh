@@ -1,9 +1,9 @@
 #!/usr/bin/env bash
-# Installs what is built into empty folders, by install.sh, from the release archive and by the
+# Installs what is built into empty folders, with install.sh, from the release archive and from the
 # Debian packages, and compiles and runs programs against each. Compares the version in every file
 # with VERSION, and the symbols of the libraries with the header. rt proves nothing here if the
-# library and the programs are built. Tools that are missing are installed by apt-get where this
-# runs as root. Prints each check that fails, and last a line 'N passed, M failed'.
+# library and the programs are built. If this runs as root, apt-get installs missing tools. Prints
+# each check that fails; the last line is 'N passed, M failed'.
 set -uo pipefail
 top=$(cd "$(dirname "$0")/.." && pwd)
 sources=$top/packaging/test
@@ -15,21 +15,21 @@ passed=0
 failed=0
 purge=false
 
-# Removes what was made, and the packages if they are installed for real.
+# Removes what this made, and also the packages if they are installed on this system.
 clean() {
     ! $purge || with_dpkg --purge "${packages[@]}" > /dev/null
     rm -rf "$room"
 }
 trap clean EXIT
 
-# Ends here with the counts.
+# Prints the counts and ends.
 finish() {
     echo "$passed passed, $failed failed"
     [ $failed = 0 ]
     exit
 }
 
-# Counts a check by the status of a command, and prints the end of what it said if it failed.
+# Counts a check by the status of a command, and prints the end of its output if it failed.
 check() {
     local name=$1
     shift
@@ -43,7 +43,7 @@ check() {
     fi
 }
 
-# Whether a command ends with this status and prints one line that has these words.
+# Tests that a command ends with this status and prints one line that contains these words.
 says() {
     local status=$1 words=$2 found
     shift 2
@@ -59,7 +59,7 @@ install_packages() {
     apt-get -o DPkg::Lock::Timeout=60 install -y -q --no-install-recommends "$@"
 }
 
-# The tools and their packages. One that is missing is installed, where this runs as root.
+# Installs the packages of missing tools, if this runs as root.
 provide_tools() {
     local pair missing=() wanted=()
     for pair in gcc:gcc g++:g++ nm:binutils make:make cmake:cmake pkg-config:pkg-config \
@@ -83,31 +83,31 @@ provide_tools() {
 
 # == versions
 
-# Whether a command prints what is in VERSION.
+# Tests that a command prints the version in VERSION.
 is_version() {
     local found
     found=$("$@")
-    echo "VERSION has $version, and here is: $found"
+    echo "VERSION has $version, but found: $found"
     [ "$found" = "$version" ]
 }
 
-# The first match of an expression in a file.
+# Prints the first match of an expression in a file.
 first() {
     sed -nE "s/$2/\\1/p" "$top/$1" | head -n 1
 }
 
-# A version of three lines, each a name after these words, and a number at the end of the line.
+# Prints a version from three lines. Each has a name after these words, and a number at its end.
 numbers() {
     sed -nE "s/$2(MAJOR|MINOR|PATCH).*[^0-9]([0-9]+);?\$/\\2/p" "$top/$1" | paste -sd.
 }
 
-# The versions of the files that packaging/README.md names, each once.
+# Prints the versions of the files that packaging/README.md names, each once.
 named_files() {
     grep -oE 'dethrux[-0a-z]*[-_ ][0-9]+\.[0-9]+\.[0-9]+' "$top/packaging/README.md" |
         grep -oE '[0-9]+\.[0-9]+\.[0-9]+' | sort -u
 }
 
-# The version that the built package says.
+# Prints the version of the built package.
 version_of_package() {
     dpkg-deb -f "$room/debs/$1_${version}_amd64.deb" Version
 }
@@ -135,21 +135,21 @@ check_versions() {
 
 # == symbols
 
-# The functions that the header below a prefix declares for other objects, by the compiler.
+# Prints the functions that the header below a prefix declares, according to the compiler.
 declared() {
     gcc -fsyntax-only -aux-info "$room/prototypes" -x c "$1/include/dethrux.h" &&
         sed -nE 's/.*dethrux\.h:.* extern .*[ *](dethrux_[a-z0-9_]+) \(.*/\1/p' "$room/prototypes" |
         sort
 }
 
-# Whether the symbols that nm lists, by these words, are the functions of the header.
+# Tests that the symbols that this command lists are the functions of the header.
 exports_header() {
     declared "$1" > "$room/declared" || return
     "${@:2}" | sed -n 's/.* [A-Z] //p' | sort > "$room/exported"
     [ -s "$room/declared" ] && diff "$room/declared" "$room/exported"
 }
 
-# Whether a library calls nothing but what copies, fills and compares memory.
+# Tests that a library calls only functions that copy, move, fill and compare memory.
 calls_memory_alone() {
     ! nm --undefined-only "$1" | sed -n 's/.* U //p' | grep -vxE 'mem(cpy|move|set|cmp)'
 }
@@ -168,19 +168,19 @@ compile() {
     cc -Wall -Wextra -Werror "$sources/$1" "${words[@]}" "${@:3}" -o "$room/program"
 }
 
-# With the shared library, by pkg-config.
+# Compiles a program with the shared library, using pkg-config, and runs it.
 with_shared() {
     compile "$2" "$(config "$1" --cflags --libs)" || return
     LD_LIBRARY_PATH=$1/lib "$room/program" && LD_LIBRARY_PATH=$1/lib ldd "$room/program" |
         grep -F "$1/lib/libdethrux.so"
 }
 
-# With the static library, by pkg-config.
+# Compiles a program with the static library, using pkg-config, and runs it.
 with_static() {
     compile "$2" "$(config "$1" --cflags)" "$1/lib/libdethrux.a" && "$room/program"
 }
 
-# With no shared library at all.
+# Compiles a program without any shared library, and runs it.
 all_static() {
     compile user.c "$(config "$1" --static --cflags --libs)" -static && "$room/program" &&
         ! ldd "$room/program"
@@ -191,7 +191,7 @@ in_cxx() {
         "$1/lib/libdethrux.a" -o "$room/program" && "$room/program"
 }
 
-# Both libraries, by CMake.
+# Compiles a program with each library, using CMake, and runs it.
 by_cmake() {
     rm -rf "$room/cmake"
     cmake -S "$sources" -B "$room/cmake" -DCMAKE_PREFIX_PATH="$1" &&
@@ -199,7 +199,7 @@ by_cmake() {
         ldd "$room/cmake/user_shared" | grep -F "$1"
 }
 
-# Whether CMake finds the package and takes it for no such version.
+# Tests that CMake finds the package, but not in this version.
 cmake_refuses() {
     mkdir -p "$room/refused"
     { echo 'cmake_minimum_required(VERSION 3.13)'; echo 'project(refused NONE)'
@@ -208,7 +208,7 @@ cmake_refuses() {
         > "$room/log" 2>&1 && grep -F "version: $version" "$room/log"
 }
 
-# Whether the installed programs convert U+20AC and U+1F600.
+# Tests that the installed programs convert U+20AC and U+1F600.
 programs_run() {
     local utf8='\xE2\x82\xAC\xF0\x9F\x98\x80'
     printf '\xAC\x20\x3D\xD8\x00\xDE' | "$1/utf16_cat" le | cmp - <(printf "$utf8") &&
@@ -217,12 +217,12 @@ programs_run() {
 
 # == processors
 
-# Whether a file says in a GNU property which level it needs.
+# Tests that a GNU property of a file has the level that it needs.
 has_level() {
     readelf -n "$1" | grep -E 'x86 ISA needed:.*x86-64-v2'
 }
 
-# Whether a command is refused on a processor of plain x86-64, and runs on one of x86-64-v2.
+# Tests that a command does not start on a plain x86-64 processor, and runs on x86-64-v2.
 is_refused_below() {
     local status=$1
     shift
@@ -231,7 +231,7 @@ is_refused_below() {
         qemu-x86_64 -cpu Nehalem "$@" < /dev/null
 }
 
-# The same of the shared library alone, where a program loads it later.
+# Tests the same for the shared library, if a program loads it after it has started.
 shared_is_refused_below() {
     cc -Wall -Wextra -Werror "$sources/load.c" -o "$room/load" &&
         is_refused_below 1 "$room/load" "$1"
@@ -239,18 +239,18 @@ shared_is_refused_below() {
 
 # == install.sh
 
-# All paths below a folder, sorted.
+# Prints all paths below a folder, sorted.
 tree() {
     (cd "$1" && find . ! -path . | LC_ALL=C sort)
 }
 
-# Whether install.sh printed each file that is below the prefix, and no other.
+# Tests that install.sh printed exactly the files that are below the prefix.
 printed_all() {
     diff <(LC_ALL=C sort "$room/printed") <(find "$1" ! -type d | LC_ALL=C sort)
 }
 
-# Whether a prefix with a file of someone else's is as before, also where it was installed to twice
-# and a file was added since.
+# Tests that uninstalling keeps the files that install.sh did not install, after installing twice
+# and adding a file.
 uninstalls_its_own() {
     mkdir -p "$room/used/bin" && echo mine > "$room/used/bin/mine" &&
         tree "$room/used" > "$room/before" && "$top/install.sh" "$room/used" &&
@@ -260,13 +260,13 @@ uninstalls_its_own() {
         diff <(tree "$room/used") -
 }
 
-# Whether nothing is left of a prefix that install.sh made.
+# Tests that nothing is left of a prefix that install.sh made.
 uninstalls_all() {
     "$top/install.sh" "$room/gone" && "$top/install.sh" --uninstall "$room/gone" &&
         [ ! -e "$room/gone" ]
 }
 
-# Whether a file of an earlier version goes as this one is installed over it.
+# Tests that installing over an earlier version removes files that this version does not have.
 drops_old_files() {
     "$top/install.sh" "$room/old" && touch "$room/old/include/old.h" &&
         echo include/old.h >> "$room/old/share/dethrux/install_manifest.txt" &&
@@ -274,22 +274,22 @@ drops_old_files() {
         "$top/install.sh" --uninstall "$room/old" && [ ! -e "$room/old" ]
 }
 
-# Whether a manifest with this line, of a file outside the prefix, removes nothing.
+# Tests that nothing is removed if the manifest has this line, a path outside the prefix.
 keeps_outside() {
     mkdir -p "$room/outside/share/dethrux" && touch "$room/kept" &&
         echo "$1" > "$room/outside/share/dethrux/install_manifest.txt" &&
-        says 1 'no path below' "$top/install.sh" --uninstall "$room/outside" &&
+        says 1 'not a path below' "$top/install.sh" --uninstall "$room/outside" &&
         [ -e "$room/kept" ]
 }
 
-# Whether DESTDIR is before each path and in no file.
+# Tests that DESTDIR is put before each path, and is not in any file.
 for_packagers() {
     DESTDIR=$room/packaged LIBDIR=lib/x86_64-linux-gnu "$top/install.sh" /usr &&
         [ -e "$room/packaged/usr/lib/x86_64-linux-gnu/libdethrux.so.$version" ] &&
         ! grep -rlF "$room" "$room/packaged"
 }
 
-# A clone where nothing is built, without rt.
+# Tests install.sh in a clone in which nothing is built, without rt.
 refuses_without_rt() {
     mkdir -p "$room/clone/crates" "$room/clone/packaging" &&
         cp "$top/install.sh" "$top/VERSION" "$room/clone/" &&
@@ -328,7 +328,7 @@ unpacks_archive() {
         (cd "$room/$archive" && sha256sum -c --quiet SHA256SUMS)
 }
 
-# Whether install.sh of the archive installs, without rt, what that of the clone did.
+# Tests that the archive's install.sh installs, without rt, what the clone's install.sh did.
 installs_unpacked() {
     env PATH=/usr/bin:/bin:/usr/sbin:/sbin "$room/$archive/install.sh" "$room/from archive" &&
         diff -r "$room/from archive" "$1" && diff <(tree "$room/from archive") <(tree "$1")
@@ -341,7 +341,7 @@ makes_same_packages() {
         diff -r "$room/debs" "$room/debs again"
 }
 
-# Whether lintian has no error and no warning.
+# Tests that lintian reports neither an error nor a warning.
 is_clean() {
     lintian --allow-root --fail-on error,warning "$room"/debs/*.deb
 }
@@ -357,12 +357,12 @@ runs_unpacked() {
         programs_run "$room/unpacked/usr/bin"
 }
 
-# Whether one of the packages is installed already.
+# Tests whether one of the packages is already installed.
 is_installed() {
     dpkg-query -f '${db:Status-Status}\n' -W "${packages[@]}" 2> /dev/null | grep -qx installed
 }
 
-# Runs dpkg, again while another process holds its lock, for a minute at most.
+# Runs dpkg, and repeats it for at most a minute while another process holds its lock.
 with_dpkg() {
     local attempt
     for attempt in {1..12}; do
@@ -375,7 +375,7 @@ with_dpkg() {
     return 1
 }
 
-# Installs the packages for real, compiles with and without pkg-config, runs, and purges them.
+# Installs the packages on this system, compiles and runs programs with them, and purges them.
 runs_installed() {
     purge=true
     with_dpkg -i "$room"/debs/*.deb && compile user.c "$(pkg-config --cflags --libs dethrux)" &&
@@ -401,8 +401,8 @@ check 'the file of pkg-config' config "$prefix" --validate
 check 'the shared library by pkg-config' with_shared "$prefix" user.c
 check 'the static library by pkg-config' with_static "$prefix" user.c
 check 'no shared library' all_static "$prefix"
-check 'names of its own, the shared library' with_shared "$prefix" own_names.c
-check 'names of its own, the static library' with_static "$prefix" own_names.c
+check 'a program with similar names, the shared library' with_shared "$prefix" own_names.c
+check 'a program with similar names, the static library' with_static "$prefix" own_names.c
 check 'a program in C++' in_cxx "$prefix"
 check 'both libraries by CMake' by_cmake "$prefix"
 check 'a later version by CMake' cmake_refuses "$prefix" "${version%.*}.999"
@@ -422,7 +422,7 @@ check 'the shared library by pkg-config, moved' with_shared "$moved" user.c
 check 'both libraries by CMake, moved' by_cmake "$moved"
 
 check_refusals
-check 'uninstalling beside other files' uninstalls_its_own
+check 'uninstalling next to other files' uninstalls_its_own
 check 'uninstalling all' uninstalls_all
 check 'an installation over an older one' drops_old_files
 check 'DESTDIR and LIBDIR' for_packagers

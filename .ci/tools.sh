@@ -1,10 +1,10 @@
 #!/usr/bin/env bash
-# Installs the Debian packages that the parts after this one need and that are not there, where this
-# runs as root. A package that is not there in the end is a failure, with a line that says what to
-# install, but for those that are optional. The last line is 'N passed, M failed'.
+# Installs the missing Debian packages that the next parts need, if this runs as root. A package
+# that is still missing is a failure, with a line that says what to install, unless it is optional.
+# The last line is 'N passed, M failed'.
 set -uo pipefail
 packages=(pkg-config librust-byteorder-dev libicu-dev)
-# What a part is left out without, which then says so.
+# A part that needs one of these is left out if it is missing, and a line says so.
 optional=(python3-distributed)
 passed=0
 failed=0

@@ -1,6 +1,6 @@
 #!/usr/bin/env bash
 # Tests vendor.sh: what it copies, the lines that it prints, and its errors. Prints each check that
-# fails, and last a line 'N passed, M failed'.
+# fails; the last line is 'N passed, M failed'.
 set -uo pipefail
 cd "$(dirname "$0")/.." || exit 1
 room=$(mktemp -d)
@@ -19,7 +19,7 @@ holds() {
     fi
 }
 
-# Each crate that a line names is a line before it, or a library of the kit.
+# Tests that each crate on which a line depends has a line above it, or is a library of the kit.
 stand_on_those_above() {
     local line below seen=' byteorder simdutf8 '
     while IFS= read -r line; do
@@ -49,15 +49,15 @@ refuses() {
 ./vendor.sh "$room/one" utf16string > "$room/lines"
 holds 'six crates of a string' [ "$(cut -d: -f1 "$room/lines" | paste -sd' ')" = 'utf16_units utf16_bytes utf16_to_utf8 utf16_from_utf8 utf16_str utf16string' ]
 holds 'each is copied' [ "$(cut -d: -f1 "$room/lines" | sort)" = "$(ls "$room/one/crates")" ]
-holds 'the lines stand on one another' stand_on_those_above "$room/lines"
-holds 'the lines are those of crates.txt' are_lines_of_this_tree "$room/lines"
-holds 'sources alone' has_only_what_is_needed "$room/one"
+holds 'each crate comes after those it depends on' stand_on_those_above "$room/lines"
+holds 'each line is in crates.txt' are_lines_of_this_tree "$room/lines"
+holds 'only sources are copied' has_only_what_is_needed "$room/one"
 ./vendor.sh "$room/two" dethrux utf16_tools > "$room/lines"
 holds 'crates of two, each once' [ "$(sort "$room/lines" | uniq -d | wc -l) $(wc -l < "$room/lines")" = '0 12' ]
-holds 'these stand on one another' stand_on_those_above "$room/lines"
-holds 'a crate that is there is refused' refuses 1 "$room/one" utf16_tools
+holds 'each of these comes after those it depends on' stand_on_those_above "$room/lines"
+holds 'a crate that already exists is refused' refuses 1 "$room/one" utf16_tools
 holds 'and nothing is copied' [ ! -e "$room/one/crates/utf16_tools" ]
-holds 'a crate that is none is refused' refuses 1 "$room/three" utf16
+holds 'an unknown crate is refused' refuses 1 "$room/three" utf16
 holds 'and nothing is made' [ ! -e "$room/three" ]
 holds 'no crate is refused' refuses 2 "$room/three"
 echo "$passed passed, $failed failed"

@@ -1,7 +1,7 @@
 #!/usr/bin/env bash
 # Builds what install.sh installs, in packaging/out: the static library, the shared library and the
-# two programs. rt proves and builds what is missing or older than its sources, the rest is taken as
-# it is. DETHRUX_ARCHIVE names an archive to take in place of that of crates/dethrux.
+# two programs. rt proves and builds what is missing or older than its sources; the rest is used
+# unchanged. DETHRUX_ARCHIVE names an archive to use instead of the archive of crates/dethrux.
 #
 #     packaging/build.sh
 set -euo pipefail
@@ -11,11 +11,11 @@ out=$here/out
 version=$(< "$top/VERSION")
 soname=libdethrux.so.${version%%.*}
 
-# The processor level of what the toolchain compiles. The linker writes it down as a GNU property,
-# by which the loader refuses to start on a lower one.
+# The processor level that the toolchain compiles for. The linker writes it into a GNU property, so
+# that the loader does not start the file on a lower level.
 level=(-z x86-64-v2)
 
-# Ends with one line.
+# Prints one line, and ends with status 1.
 fail() {
     echo "build.sh: $1" >&2
     exit 1
@@ -25,13 +25,13 @@ for tool in cc ld ar objcopy; do
     command -v $tool > /dev/null || fail "there is no $tool: install gcc and binutils"
 done
 
-# Whether a file is there and no source of a crate is newer.
+# Tests that a file exists and no source of a crate is newer.
 is_current() {
     local sources=("$top"/crates/*/{src,specs,proofs})
     [ -e "$1" ] && [ -z "$(find "${sources[@]}" -type f -newer "$1" -print -quit)" ]
 }
 
-# Has rt prove and build a crate, by these words, unless its file is current.
+# Proves and builds a crate with this command of rt, unless its file is current.
 build_crate() {
     local crate=$1 file=$top/crates/$1/out/$2
     shift 2
@@ -40,12 +40,12 @@ build_crate() {
     echo "build.sh: rt proves and builds $crate, which may take minutes" >&2
     (cd "$top/crates/$crate" && "$@") > "$out/rt.log" 2>&1 < /dev/null ||
         fail "rt could not build $crate: see $out/rt.log"
-    # rt leaves a file that would be the same.
+    # rt does not write a file that would be the same.
     touch "$file"
 }
 
-# The archive has one object, whose local functions are in sections of their own. The processor
-# level in it reaches the programs that it is linked into.
+# Makes an archive of one object, with a separate section for each local function. A program that is
+# linked with it gets its processor level.
 static_library() {
     ld -r "${level[@]}" --whole-archive "$archive" -o "$out/dethrux.o"
     objcopy --wildcard --keep-global-symbol='dethrux_*' --discard-locals "$out/dethrux.o"
@@ -53,21 +53,22 @@ static_library() {
     ar rcsD "$out/libdethrux.a" "$out/dethrux.o"
 }
 
-# What every linked file has: the level, and no writable table of addresses after the start.
+# Links a file for the processor level, and so that its tables of addresses are read-only once it
+# has started.
 link() {
     cc -Wl,"${level[0]},${level[1]}" -Wl,-z,relro,-z,now -Wl,--build-id=sha1 -Wl,--strip-all "$@"
 }
 
-# The shared library exports the calls of the header.
+# Makes the shared library, which exports the calls of the header.
 shared_library() {
     link -shared -Wl,-soname,"$soname" -Wl,--version-script="$here/dethrux.map" -Wl,-z,defs \
         "$out/dethrux.o" -o "$out/libdethrux.so"
 }
 
-# A program, of its object file and of the toolchain's calls of the operating system.
+# Links a program from its object file and the toolchain's calls of the operating system.
 program() {
     local rt kit
-    rt=$(command -v rt) || fail 'there is no rt, whose folder has what the programs are linked with'
+    rt=$(command -v rt) || fail 'there is no rt, which has libraries for the programs'
     kit=$(dirname "$(dirname "$(readlink -f "$rt")")")
     link -pie "$top/crates/$1/out/$1.o" "$kit/c/libos_c.a" "$kit/c/liblibc_c.a" -o "$out/$1"
 }
@@ -82,7 +83,7 @@ fi
 build_crate utf16_cat utf16_cat.o rt run -- le
 build_crate utf16_enc utf16_enc.o rt run -- le
 
-# What was linked already, of these very inputs, is not linked again.
+# What was already linked from exactly these inputs is not linked again.
 inputs=("$here/build.sh" "$here/dethrux.map" "$top/VERSION" "$archive")
 inputs+=("$top/crates/utf16_cat/out/utf16_cat.o" "$top/crates/utf16_enc/out/utf16_enc.o")
 made=$(cat "${inputs[@]}" | sha256sum)

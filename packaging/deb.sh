@@ -1,14 +1,13 @@
 #!/usr/bin/env bash
-# Makes the Debian packages libdethrux0, libdethrux-dev and dethrux-tools by dpkg-buildpackage in
-# FOLDER, packaging/out if it is left out, and prints their paths. They have what install.sh
-# installs.
+# Makes the Debian packages libdethrux0, libdethrux-dev and dethrux-tools with dpkg-buildpackage in
+# FOLDER (by default packaging/out), and prints their paths. They contain what install.sh installs.
 #
 #     packaging/deb.sh [FOLDER]
 set -euo pipefail
 here=$(cd "$(dirname "${BASH_SOURCE[0]}")" && pwd)
 top=$(dirname "$here")
 
-# Ends with one line.
+# Prints one line, and ends with status 1.
 fail() {
     echo "deb.sh: $1" >&2
     exit 1

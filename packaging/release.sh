@@ -1,7 +1,7 @@
 #!/usr/bin/env bash
 # Makes the release archive dethrux-VERSION-x86_64-linux-gnu.tar.gz, for machines without rt, and
-# its checksum, in FOLDER, packaging/out if it is left out, and prints their paths. The same tree
-# and the same compiler give the same bytes.
+# its checksum, in FOLDER (by default packaging/out), and prints their paths. The same tree and the
+# same compiler give the same bytes.
 #
 #     packaging/release.sh [FOLDER]
 set -euo pipefail
@@ -10,13 +10,13 @@ top=$(dirname "$here")
 version=$(< "$top/VERSION")
 name=dethrux-$version-x86_64-linux-gnu
 
-# Ends with one line.
+# Prints one line, and ends with status 1.
 fail() {
     echo "release.sh: $1" >&2
     exit 1
 }
 
-# The day of this version in CHANGELOG.md, in seconds, unless the environment gives another.
+# Prints the date of this version in CHANGELOG.md, in seconds since 1970.
 released() {
     local day
     day=$(sed -n "s/^## $version, \([0-9-]\{10\}\)$/\1/p" "$top/CHANGELOG.md")

@@ -1,4 +1,5 @@
-/* Loads the shared library that is named, and prints the loader's message if that fails. */
+/* Loads the shared library that the argument names, and prints the loader's message if that
+ * fails. */
 #include <dlfcn.h>
 #include <stdio.h>
 

@@ -1,5 +1,5 @@
-/* A program with functions of its own under the likeliest names of a library for UTF-16, which
- * needs the validator alone. It links, and exits with 0. */
+/* A program that calls only the validator, and has other functions under names that a library for
+ * UTF-16 is likely to use. It links, and exits with 0. */
 #include <dethrux.h>
 
 int calls;

@@ -1,5 +1,5 @@
-/* Converts two characters both ways through the installed library. Exits with 0 if the bytes are
- * those of the Unicode Standard and the library has the version of its header. */
+/* Converts two characters in both directions with the installed library. Exits with 0 if the bytes
+ * are right according to the Unicode Standard and the library has the version of its header. */
 #include <dethrux.h>
 #include <string.h>
 

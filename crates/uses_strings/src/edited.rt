@@ -41,8 +41,8 @@ pub fn insert_at_key<E: Utf16Order, A: Allocator>(
     Ok(Some(at + part.len()))
 }
 
-/// Overwrites the bytes that start at an offset with a text of the same length if the text fits,
-/// and returns whether it does. The string keeps its length.
+/// Writes a text over the bytes that start at an offset if it fits there, and returns whether it
+/// does. The string keeps its length.
 #[tactic(auto, using(utf16_units::proofs::Rules::edits))]
 pub fn overwrite_at_key<E: Utf16Order, A: Allocator>(
     text: &mut WString<E, A>,

@@ -30,7 +30,8 @@ pub enum Edit<E: Utf16Order, A: Allocator = Global> {
     Truncate(usize),
     /// Removes what follows an offset. The reply holds it.
     SplitOff(usize),
-    /// Overwrites the bytes that start at an offset with a text of the same length.
+    /// Writes a text over the bytes that start at an offset. The length of the string stays the
+    /// same.
     Overwrite(usize, WString<E, A>),
     /// Removes all characters.
     Clear,
