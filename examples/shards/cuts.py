@@ -3,7 +3,7 @@
 
     cuts.py INPUT utf-16-le|utf-16-be PARTS
 
-It reads four bytes a cut.
+It reads four bytes for each cut.
 """
 
 import sys

@@ -1,4 +1,4 @@
-"""A part of a file of UTF-16, decoded to UTF-8: what a worker of shards.py does."""
+"""What a worker of shards.py does: it decodes a part of a file of UTF-16 to UTF-8."""
 
 import contextlib
 import dataclasses
@@ -10,27 +10,27 @@ import fsspec
 
 import dethrux
 
-CHUNK = 4 << 20  # How many bytes are read at once.
+CHUNK = 4 << 20  # The number of bytes that are read at once.
 
 
 @dataclasses.dataclass(frozen=True)
 class Job:
-    """What all tasks know: this and an index determine the bytes of a part."""
+    """What all tasks know. A job and an index determine the bytes of a part."""
 
     input: str
-    version: str  # Another one where the input was changed.
+    version: str  # It differs if the input was changed.
     length: int
     byteorder: dethrux.ByteOrder
     count: int
 
     def name(self, index: int) -> str:
-        """Return the name of a part. The names in order are the parts in order."""
+        """Return the name of a part. The names sort in the order of the parts."""
         return f"part-{index:0{max(5, len(str(self.count - 1)))}}"
 
 
 @contextlib.contextmanager
 def naming(path: str) -> Iterator[None]:
-    """Put the path into an I/O error that has none."""
+    """Add the path to an I/O error that has none."""
     try:
         yield
     except OSError as error:
@@ -40,19 +40,19 @@ def naming(path: str) -> Iterator[None]:
 
 
 def read(job: Job, start: int, end: int) -> bytes:
-    """Return the bytes of the input from an offset to another."""
+    """Return the bytes of the input between two offsets."""
     if start >= end:
         return b""
     with naming(job.input):
         fs, path = fsspec.core.url_to_fs(job.input)
         found: bytes = fs.cat_file(path, start=start, end=end)
     if len(found) != end - start:
-        raise OSError(f"{job.input}: no longer has the {job.length} bytes that it had")
+        raise OSError(f"{job.input}: no longer has {job.length} bytes")
     return found
 
 
 def boundary(job: Job, index: int) -> int:
-    """Return the offset where a part begins, by at most four bytes of the input."""
+    """Return the offset at which a part begins. It reads at most four bytes of the input."""
     at = dethrux.shard_offset(job.length, job.count, index)
     start = max(at // 2 * 2 - 2, 0)
     around = read(job, start, min(start + 4, job.length))
@@ -60,7 +60,7 @@ def boundary(job: Job, index: int) -> int:
 
 
 def texts(job: Job, index: int) -> Iterator[bytes]:
-    """Yield the text of a part, in UTF-8, from chunk to chunk."""
+    """Yield the text of a part, in UTF-8, chunk by chunk."""
     start, end = boundary(job, index), boundary(job, index + 1)
     decoder = dethrux.Decoder(job.byteorder)
     for at in range(start, end, CHUNK):
@@ -71,8 +71,9 @@ def texts(job: Job, index: int) -> Iterator[bytes]:
 def decode_part(job: Job, output: str, index: int) -> int:
     """Write a part, and return the length of its text.
 
-    It gets its name when all of it is on the disk. So a task may be stopped
-    anywhere, and done twice, at the same time too: it writes the same bytes.
+    The part gets its name when all of it is on the disk. So a task may be
+    stopped anywhere. It may also run twice, even at the same time: it writes
+    the same bytes.
     """
     part = os.path.join(output, job.name(index))
     unfinished = os.path.join(output, f".{job.name(index)}.{uuid.uuid4().hex}")
@@ -93,7 +94,7 @@ def decode_part(job: Job, output: str, index: int) -> int:
 
 
 def sync_folder(folder: str) -> None:
-    """Wait until the names of a folder are on the disk."""
+    """Wait until the names in a folder are on the disk."""
     descriptor = os.open(folder, os.O_RDONLY)
     try:
         os.fsync(descriptor)

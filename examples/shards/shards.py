@@ -4,8 +4,9 @@
     shards.py INPUT OUTPUT --from utf-16-le
 
 INPUT is a path or a URL that fsspec reads. OUTPUT is a folder that all workers
-write to. Its files part-00000, part-00001 .. in order are the text of the whole,
-with U+FFFD for each unpaired surrogate. docs/SHARDS.md has more.
+write to. Its files part-00000, part-00001 .., joined in this order, are the text
+of the whole file, with U+FFFD for each unpaired surrogate. docs/SHARDS.md
+describes it.
 """
 
 import argparse
@@ -36,16 +37,16 @@ RECORD = "job.json"
 
 
 def job_of(url: str, byteorder: dethrux.ByteOrder, part_size: int) -> Job:
-    """Look at the input, and cut it into parts of about this size."""
+    """Return a job that cuts the input into parts of about this size."""
     with naming(url):
         fs, path = fsspec.core.url_to_fs(url)
         info = fs.info(path)
     if info["type"] != "file" or info["size"] is None:
-        raise ValueError(f"{url}: is no file of a known length")
+        raise ValueError(f"{url}: is not a file of known length")
     length = info["size"]
     if length % 2 != 0:
-        raise ValueError(f"{url}: its length is odd, {length} bytes: UTF-16 has two a code unit")
-    # A local path is made absolute, since workers have other working directories.
+        raise ValueError(f"{url}: its length is odd, {length} bytes: a code unit has two bytes")
+    # A local path must be absolute, since workers have other working directories.
     place = path if isinstance(fs, LocalFileSystem) else url
     job = Job(place, str(fs.checksum(path)), length, byteorder, max(1, -(-length // part_size)))
     read(job, 0, min(2, length))
@@ -53,7 +54,7 @@ def job_of(url: str, byteorder: dethrux.ByteOrder, part_size: int) -> Job:
 
 
 def parts_to_do(job: Job, output: Path) -> list[int]:
-    """Make the folder, or take up there the same job that was stopped, and return what is left."""
+    """Make the folder, or resume the same job in it, and return the parts that are missing."""
     output.mkdir(parents=True, exist_ok=True)
     record, wanted = output / RECORD, json.dumps(dataclasses.asdict(job), indent=1) + "\n"
     found = set(os.listdir(output))
@@ -70,7 +71,7 @@ def parts_to_do(job: Job, output: Path) -> list[int]:
 
 
 def finish(job: Job, output: Path) -> None:
-    """Test that all parts are there and the input is what it was, and tidy the folder."""
+    """Test that no part is missing and the input is unchanged, and remove unfinished files."""
     fs, path = fsspec.core.url_to_fs(job.input)
     fs.invalidate_cache()
     if str(fs.checksum(path)) != job.version:
@@ -78,14 +79,14 @@ def finish(job: Job, output: Path) -> None:
     found = set(os.listdir(output))
     missing = sum(job.name(index) not in found for index in range(job.count))
     if missing:
-        raise OSError(f"{output}: {missing} parts are not there: do all workers write to it?")
+        raise OSError(f"{output}: {missing} parts are missing: do all workers write to it?")
     for name in found:
         if name.startswith((".part-", f".{RECORD}.")):
             (output / name).unlink(missing_ok=True)
 
 
 def connect(args: argparse.Namespace, room: str) -> distributed.Client:
-    """Return a client of a cluster that runs, or of one of local processes."""
+    """Return a client of a running cluster, or of a new one of local processes."""
     if args.scheduler:
         return distributed.Client(args.scheduler)
     return distributed.Client(
@@ -104,7 +105,7 @@ def run(args: argparse.Namespace) -> None:
     left = parts_to_do(job, output)
     with tempfile.TemporaryDirectory() as room, connect(args, room) as client:
         print(f"{job.count} parts, {len(left)} to do; dashboard: {client.dashboard_link}")
-        # A task is an index, and the name of a function in a file that workers have from here.
+        # A task is an index and the name of a function. Its file is sent to the workers.
         client.upload_file(dethrux_parts.__file__)
         decode = functools.partial(decode_part, job, str(output))
         futures = client.map(decode, left, pure=False, retries=args.retries)
@@ -121,19 +122,19 @@ def run(args: argparse.Namespace) -> None:
 
 
 class Parser(argparse.ArgumentParser):
-    """A parser whose errors are one line, with status 1."""
+    """A parser that prints an error in one line and exits with status 1."""
 
     def error(self, message: str) -> NoReturn:
         sys.exit(f"shards.py: {message}")
 
 
 def size(words: str) -> int:
-    """Return a number of bytes, of words as 64MiB."""
+    """Return a number of bytes, which is given as in 64MiB."""
     return positive(str(dask.utils.parse_bytes(words)))
 
 
 def positive(words: str) -> int:
-    """Return a number; raise an exception if it is not above 0."""
+    """Return a number. Raise an exception if it is not above 0."""
     number = int(words)
     if number <= 0:
         raise ValueError(words)
@@ -144,27 +145,27 @@ def arguments() -> argparse.Namespace:
     """Return the arguments."""
     parser = Parser(description="Decode a file of UTF-16 of any size on many workers of Dask.")
     parser.add_argument("input", help="a path, or a URL that fsspec reads")
-    parser.add_argument("output", type=Path, help="the folder of the parts, which all workers see")
+    parser.add_argument("output", type=Path, help="the folder for the parts, which all workers see")
     parser.add_argument("--from", dest="byte_order", required=True, choices=BYTE_ORDERS)
-    parser.add_argument("--part-size", type=size, default="64MiB", help="about so many bytes")
-    parser.add_argument("--scheduler", help="the address of a cluster that runs, tcp://..")
-    parser.add_argument("--workers", type=positive, default=4, help="else so many processes here")
-    parser.add_argument("--dashboard", default="localhost:8787", help="where they show their work")
-    parser.add_argument("--retries", type=int, default=2, help="of a part that fails")
+    parser.add_argument("--part-size", type=size, default="64MiB", help="the approximate size")
+    parser.add_argument("--scheduler", help="the address of a running cluster, tcp://..")
+    parser.add_argument("--workers", type=positive, default=4, help="local, without --scheduler")
+    parser.add_argument("--dashboard", default="localhost:8787", help="its address")
+    parser.add_argument("--retries", type=int, default=2, help="for a part that fails")
     return parser.parse_args()
 
 
 def main() -> None:
-    """Run, and make one line of an error."""
-    # An error of the engine is this program's one line, and what it gives up then is none.
+    """Run the job, and print an error in one line."""
+    # This program prints an error of Dask in one line, so Dask itself prints nothing.
     for name in ("asyncio", "distributed", "distributed.client"):
         logging.getLogger(name).setLevel(logging.CRITICAL)
-    # Ended by a signal it closes its workers.
+    # If a signal ends it, it closes its workers.
     signal.signal(signal.SIGTERM, lambda *_: sys.exit(143))
     try:
         run(arguments())
     except CommClosedError:
-        sys.exit("shards.py: the scheduler is lost: the same command does the parts that are left")
+        sys.exit("shards.py: the scheduler is lost: run the same command for the missing parts")
     except OSError as error:
         known = error.errno is not None and error.filename is not None
         sys.exit(f"shards.py: {f'{error.filename}: {error.strerror}' if known else error}")
@@ -172,7 +173,7 @@ def main() -> None:
         sys.exit(f"shards.py: {error}")
     except KeyboardInterrupt:
         sys.exit(130)
-    except Exception as error:  # Of the engine, or of a file system that is no local one.
+    except Exception as error:  # From Dask, or from a file system that is not local.
         sys.exit(f"shards.py: {type(error).__name__}: {' '.join(str(error).split())}")
 
 

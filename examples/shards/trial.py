@@ -1,4 +1,4 @@
-"""The trial of shards.py, in the working folder: trial.sh calls it."""
+"""Tests shards.py in the working folder. trial.sh runs it."""
 
 import argparse
 import itertools
@@ -53,12 +53,12 @@ def mixed_text() -> bytes:
 
 
 def random_bytes() -> bytes:
-    """Return a MiB of random bytes, of which every thirtieth unit or so is a surrogate."""
+    """Return a MiB of random bytes: about every thirtieth code unit is a surrogate."""
     return random.Random(17).randbytes(MIB)
 
 
 def fill(name: str, block: bytes, size: int) -> None:
-    """Write a file of this size that is a block again and again."""
+    """Write a file of this size that repeats a block."""
     with open(name, "wb") as file:
         for at in range(0, size, len(block)):
             file.write(block[: size - at])
@@ -68,12 +68,12 @@ def fill(name: str, block: bytes, size: int) -> None:
 
 
 def command(*words: str) -> list[str]:
-    """Return the words that start shards.py."""
+    """Return the command that starts shards.py with these arguments."""
     return [sys.executable, str(HERE / "shards.py"), *words]
 
 
 def utf16_cat(order: str, source: str, to: str) -> None:
-    """Write the expected text, and wait until it is on the disk."""
+    """Write the expected text to a file, and wait until it is on the disk."""
     with open(source, "rb") as utf16, open(to, "wb") as text:
         subprocess.run(["utf16_cat", order], stdin=utf16, stdout=text, check=True)
         os.fsync(text.fileno())
@@ -85,7 +85,7 @@ def parts_of(folder: str) -> list[Path]:
 
 
 def joined_is(folder: str, wanted: str) -> bool:
-    """Return whether the parts, one after another, are the file, and the folder has no other."""
+    """Return whether the joined parts are equal to a file, and the folder has no other file."""
     parts = parts_of(folder)
     others = set(os.listdir(folder)) - {part.name for part in parts} - {shards.RECORD}
     join = subprocess.Popen(["xargs", "-0", "cat"], stdin=subprocess.PIPE, stdout=subprocess.PIPE)
@@ -103,11 +103,11 @@ def peak(pid: Optional[int] = None) -> int:
     return int(status.split("VmHWM:")[1].split()[0]) // 1024
 
 
-# == what is tried
+# == the tests
 
 
 class Trial:
-    """A cluster and the inputs."""
+    """A cluster, and the arguments of the trial."""
 
     def __init__(self, args: argparse.Namespace, client: distributed.Client) -> None:
         self.args = args
@@ -134,7 +134,7 @@ class Trial:
 def short_inputs() -> None:
     """Cut every short sequence of a letter and surrogates into every number of parts.
 
-    A part is read by chunks that end inside a code unit.
+    A part is read in chunks that end inside a code unit.
     """
     dethrux_parts.CHUNK, chunk = 3, dethrux_parts.CHUNK
     units: dict[dethrux.ByteOrder, tuple[bytes, ...]] = {
@@ -162,7 +162,7 @@ def short_inputs() -> None:
 
 
 def whole_files(trial: Trial) -> None:
-    """Decode files on the cluster, by more than one file system."""
+    """Decode files on the cluster, from more than one file system."""
     trial.same("mixed text", "text", "le", "text.utf8")
     for order in ("le", "be"):
         trial.same(f"random bytes, {order}", "random", order, f"random.{order}")
@@ -190,14 +190,14 @@ def unfinished_part(pid: int) -> str:
 
 
 def kill_in_a_part(run: "subprocess.Popen[bytes]", workers: Sequence[int]) -> str:
-    """Kill a worker that has written some of a part, and return the part; nothing if none did."""
+    """Kill a worker that has written some of a part. Return the part, or nothing."""
     while run.poll() is None:
         for pid in workers:
             if not unfinished_part(pid):
                 continue
             os.kill(pid, signal.SIGSTOP)
             part = unfinished_part(pid)
-            # Stopped, it cannot name the part any more.
+            # The stopped worker can no longer give the part its name.
             if part and not Path("parts", part).exists():
                 os.kill(pid, signal.SIGKILL)
                 return part
@@ -206,7 +206,7 @@ def kill_in_a_part(run: "subprocess.Popen[bytes]", workers: Sequence[int]) -> st
 
 
 def killed_worker(trial: Trial) -> None:
-    """Kill a worker in the middle of a part: the engine does that part again."""
+    """Kill a worker in the middle of a part: Dask does that part again."""
     part = ""
     for _ in range(5):
         shutil.rmtree("parts", ignore_errors=True)
@@ -223,7 +223,7 @@ def killed_worker(trial: Trial) -> None:
 
 
 def lost_scheduler(trial: Trial) -> None:
-    """Kill the scheduler of another cluster: the same command does the parts that are left."""
+    """Kill the scheduler of another cluster: the same command does the missing parts."""
     size = ("--part-size", "4KiB")
     there = ("--scheduler-file", "other.json", "--no-dashboard")
     local = ("--host", "127.0.0.1", "--port", "0")
@@ -250,20 +250,20 @@ def lost_scheduler(trial: Trial) -> None:
 
 
 def engine(module: str, *words: str) -> "subprocess.Popen[bytes]":
-    """Start a process of the engine."""
+    """Start a process of Dask."""
     call = [sys.executable, "-m", f"distributed.cli.{module}", *words]
     return subprocess.Popen(call, stdout=subprocess.DEVNULL, stderr=subprocess.DEVNULL)
 
 
 def wait_until(holds: Callable[[], bool]) -> None:
-    """Wait until something holds, half a minute at most."""
+    """Wait until a condition holds, for at most half a minute."""
     end = time.monotonic() + 30
     while not holds() and time.monotonic() < end:
         time.sleep(0.01)
 
 
 def taken_up(trial: Trial) -> None:
-    """Decode what is left of a job that was stopped, and no more."""
+    """Resume a job that was stopped: only its missing parts are decoded."""
     part, *others = parts_of("parts")
     before = [(other, other.stat().st_mtime_ns) for other in others]
     part.unlink()
@@ -279,7 +279,7 @@ def taken_up(trial: Trial) -> None:
 
 
 def refuses(name: str, words: str, call: list[str], folder: str = "parts", **more: Any) -> None:
-    """Run a command that ends with one line, status 1 and no part."""
+    """Run a command that must end with one line and status 1, and write no part."""
     run = subprocess.run(call, capture_output=True, text=True, **more)
     lines = run.stderr.splitlines()
     one = len(lines) == 1 and lines[0].startswith("shards.py: ") and words in lines[0]
@@ -289,20 +289,20 @@ def refuses(name: str, words: str, call: list[str], folder: str = "parts", **mor
 
 
 def limited() -> None:
-    """Let no file have more than 8 KiB, as a disk that is full soon."""
+    """Limit files to 8 KiB, as on a disk that is soon full."""
     resource.setrlimit(resource.RLIMIT_FSIZE, (8192, 8192))
 
 
 def errors(trial: Trial) -> None:
-    """Give shards.py what it cannot do."""
+    """Run shards.py with arguments and files that are errors."""
     le = ("--from", "utf-16-le")
     Path("file").write_bytes(b"")
     Path("full").mkdir()
     Path("full/of.txt").write_bytes(b"")
     Path("odd").write_bytes(b"a\0b")
     refuses("a missing file", "No such file", command("nowhere", "parts", *le))
-    refuses("a folder as input", "no file", command("full", "parts", *le))
-    refuses("a device as input", "no file", command("/dev/zero", "parts", *le))
+    refuses("a folder as input", "not a file", command("full", "parts", *le))
+    refuses("a device as input", "not a file", command("/dev/zero", "parts", *le))
     refuses("an odd length", "odd, 3 bytes", command("odd", "parts", *le))
     refuses("no byte order", "--from", command("text", "parts"))
     refuses("another byte order", "utf-16", command("text", "parts", "--from", "utf-16"))
@@ -328,7 +328,7 @@ def errors(trial: Trial) -> None:
 
 
 def full_disk(trial: Trial) -> None:
-    """Write parts to a disk that has no room for one, where this may mount one."""
+    """Write parts to a disk that is too small for one, if this may mount a disk."""
     Path("disk").mkdir()
     mount = ["mount", "-t", "tmpfs", "-o", "size=64k", "tmpfs", "disk"]
     if not shutil.which("mount") or subprocess.run(mount, capture_output=True).returncode != 0:
@@ -341,7 +341,7 @@ def full_disk(trial: Trial) -> None:
 
 
 def unreadable() -> None:
-    """Read a file without the right to; root always has it, and gives it up first."""
+    """Read a file without permission. Root always has permission, so it first drops it."""
     Path("short").chmod(0)
     call = command("short", "parts", "--from", "utf-16-le")
     if os.geteuid() == 0:
@@ -351,7 +351,7 @@ def unreadable() -> None:
 
 
 def without_engine(trial: Trial) -> None:
-    """Decode with xargs, and compare; the page has the script."""
+    """Decode with xargs, and compare. docs/SHARDS.md must have the scripts."""
     for source, order, wanted in (("text", "le", "text.utf8"), ("random", "be", "random.be")):
         call = [str(HERE / "xargs.sh"), source, "parts", order, "23"]
         run = subprocess.run(call, capture_output=True)
@@ -364,7 +364,7 @@ def without_engine(trial: Trial) -> None:
 
 
 def one_process(source: str, part_size: str) -> None:
-    """Decode all parts here, one after the other, without the engine."""
+    """Decode all parts in this process, one after another, without Dask."""
     job = shards.job_of(source, "little", dask.utils.parse_bytes(part_size))
     os.mkdir("parts")
     for index in range(job.count):
@@ -372,7 +372,7 @@ def one_process(source: str, part_size: str) -> None:
 
 
 def seconds(call: Callable[[], object]) -> float:
-    """Return the time of a call, after which its parts are removed."""
+    """Return the seconds that a call takes, and remove its parts."""
     start = time.monotonic()
     call()
     spent = time.monotonic() - start
@@ -381,7 +381,7 @@ def seconds(call: Callable[[], object]) -> float:
 
 
 def speed(trial: Trial) -> None:
-    """Time the cluster, one process and utf16_cat in turn, three rounds, and take the best."""
+    """Time the cluster, one process and utf16_cat in turn, and print the best of three."""
     size = os.path.getsize("text")
 
     def on_cluster(source: str) -> None:
@@ -391,7 +391,7 @@ def speed(trial: Trial) -> None:
     calls: dict[str, Callable[[], object]] = {
         "the cluster": lambda: on_cluster("text"),
         "the cluster, an empty file": lambda: on_cluster("empty"),
-        "one process, without engine": lambda: one_process("text", trial.args.part_size),
+        "one process, without Dask": lambda: one_process("text", trial.args.part_size),
         "utf16_cat": lambda: utf16_cat("le", "text", "again.utf8"),
         "xargs": lambda: subprocess.run(
             [str(HERE / "xargs.sh"), "text", "parts", "le", "32"], check=True
@@ -401,12 +401,12 @@ def speed(trial: Trial) -> None:
     best = {name: min(times[name] for times in rounds) for name in calls}
     for name, spent in best.items():
         times = spent / best["the cluster"]
-        print(f"{name}: {spent:.2f} s, {times:.2f} of the cluster's time")
+        print(f"{name}: {spent:.2f} s, {times:.2f} times the cluster's time")
     print(f"the cluster: {size / best['the cluster'] / 1e9:.2f} GB/s")
 
 
 def main() -> int:
-    """Try all, and return the status."""
+    """Run all tests, and return the status."""
     parser = argparse.ArgumentParser(description=__doc__)
     parser.add_argument("--text-size", default="2GiB")
     parser.add_argument("--random-size", default="256MiB")

@@ -1,15 +1,15 @@
 #!/usr/bin/env bash
-# Tries shards.py on a cluster of four local processes: the parts joined are compared with what
-# utf16_cat writes, also where a worker is killed; errors, memory and speed. --small does it on a
-# few MiB, without the speed. Other words are those of trial.py. Where Dask is not installed it says
-# so. PYTHON names another Python, ROOM a folder for the files. The last line is 'N passed, M
-# failed'.
+# Tests shards.py on a cluster of four local processes. Compares the joined parts with what
+# utf16_cat writes, also after a worker was killed, and tests errors, memory and speed. --small does
+# this on a few MiB, without the speed; trial.py takes the other arguments. If Dask is not
+# installed, a line says so. PYTHON names another Python, and ROOM a folder for the files. The last
+# line is 'N passed, M failed'.
 set -uo pipefail
 here=$(cd "$(dirname "${BASH_SOURCE[0]}")" && pwd)
 top=$(cd "$here/../.." && pwd)
 export PYTHONDONTWRITEBYTECODE=1
 
-# The first Python that has Dask.
+# Finds a Python that has Dask.
 python=''
 for candidate in "${PYTHON:-python3}" /usr/bin/python3; do
     if "$candidate" -c 'import distributed, fsspec' 2> /dev/null; then
@@ -18,7 +18,7 @@ for candidate in "${PYTHON:-python3}" /usr/bin/python3; do
     fi
 done
 if [ -z "$python" ]; then
-    echo 'shards: not tried, there is no Dask: apt-get install python3-distributed'
+    echo 'shards: not tested: there is no Dask: apt-get install python3-distributed'
     echo '1 passed, 0 failed'
     exit
 fi

@@ -1,5 +1,5 @@
 #!/usr/bin/env bash
-# Decodes a file of UTF-16 in parts, four at a time, with nothing but a process for each.
+# Decodes a file of UTF-16 in parts, four at a time, with one process for each part.
 #     xargs.sh INPUT OUTPUT le|be PARTS
 set -euo pipefail
 export input=$1 output=$2 order=$3
