@@ -1,8 +1,8 @@
 #!/usr/bin/env bash
-# Builds the static library with a compiler, over the libraries that rt ci has just proved, as
-# .ci/library.sh llvm|rattle FILE. rt ci checks a static library and builds none, and it leaves those
-# below it without the stamp by which rt lib would know them, so rt lib would prove them all once
-# more. This script calls the compiler with the words that rt gives it, and is the only one that does.
+# Builds the static library with a compiler from the libraries that rt ci has just proved:
+# .ci/library.sh llvm|rattle FILE. rt ci checks a static library, but does not build it. It also
+# leaves the libraries below without the stamp by which rt lib recognizes them, so rt lib would
+# prove all of them again. Only this script calls the compiler with the arguments that rt gives it.
 set -euo pipefail
 backend=${1:?the compiler: llvm or rattle}
 to=$(realpath -m "${2:?the file to write}")
@@ -19,7 +19,7 @@ words+=(--extern "std=$kit/rlibs/std.rlib" -L "dependency=$kit/rlibs")
 words+=(--antt-project "$kit/rattle/logic/antt-project.json")
 words+=(--crate-name dethrux --crate-type staticlib --links dethrux=)
 
-# Compiles what was checked; fails if the sources or the libraries below are others.
+# Compiles what was checked. Fails if the sources or the libraries below have changed.
 compile() {
     "$kit/bin/rattle" build "${words[@]}" --crate-checked out/checked --toolchain "$kit/toolchain" \
         --backend "$backend" -o "$to" src/lib.rt

@@ -1,7 +1,7 @@
 #!/usr/bin/env bash
 # Builds the library for C with Rattle's own compiler, and runs the cases and the fuzzing harness
-# over it, as the parts `examples` and `fuzzing` do over the library that LLVM builds. Both compare
-# with references that are not the library, so a difference between the compilers is a failure. The
+# with it. The parts `examples` and `fuzzing` do the same with the library that LLVM builds. Both
+# compare the library with other references, so a difference between the compilers is a failure. The
 # last line is 'N passed, M failed'.
 set -uo pipefail
 cd "$(dirname "$0")/.." || exit 1
