@@ -1,4 +1,4 @@
-//! What an edit leaves at which offset of a string.
+//! What a string has at an offset after an edit.
 
 ghost use Rattle.std.specs.Prelude.{◌≡◌, ◌↔◌, ◌⊎◌, ◌+◌, IfOk, IfSome, IsNone, IsSome, IsTrue, OnErr, OnOk, false};
 ghost use Rattle.utf16_units.specs.Boundary.{IsBoundary, text_between, text_from, text_to};

@@ -1,5 +1,5 @@
-//! Edits after tests of their preconditions, by public calls only: what a caller writes, and what
-//! it then knows.
+//! Edits whose preconditions are tested first, with public calls only: what a caller writes, and
+//! what it then knows.
 
 ghost use Rattle.std.specs.Prelude.{◌≡◌, ◌↔◌, ◌⊎◌, ◌+◌, ◌<◌, ◌≤◌, length, take, ℕ, false, true, Ok, Some, IfOk, IfSome, IsNone, IsOk, IsSome, IsTrue, OnErr, OnOk};
 ghost use Rattle.std.specs.List.{splice};

@@ -106,7 +106,7 @@ module _ (big : Bool) where
         ap (whole_utf16 big) (sym (append_assoc pending piece back)) ∙ whole-append (pending ++ piece) back
         ∙ ap (λ t. added ++ whole_utf16 big (t ++ back)) (sym is)
 
-    -- no BOM is due, or the output has not begun
+    -- no BOM is due, or the chunk adds nothing
     pub Continues-same : (due ≡ false) ⊎ (added ≡ []) → Continues (λ b. certain due big (pending ++ b)) (λ b. entire due big (pending ++ b))
         (λ b. certain due big (kept ++ b)) (λ b. entire due big (kept ++ b)) piece
     Continues-same = by_due due where
@@ -128,7 +128,7 @@ module _ (big : Bool) where
       by_due true (inl not) = absurd (cc)
       by_due true (inr none) = none ∙ ap (some_with_bom big) (sym none)
 
-    -- the BOM is due, and comes first
+    -- the BOM is due, and comes before what the chunk adds
     module _ (first : due ≡ true) (some : added ≢ []) where
       begun : some_with_bom big added ≡ with_bom big added
       begun = some_with_bom-some added some

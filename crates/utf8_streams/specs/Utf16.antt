@@ -14,8 +14,8 @@ use Rattle.utf16_streams.specs.declared.filters.FilterFault.{FilterFault}
 abbrev pub decided_utf16 : Bool → List ℕ → List ℕ
 decided_utf16 big bytes = encode big (decided_text bytes)
 
--- the UTF-16 of the whole text of the bytes, as std's lossy decoding gives it, with U+FFFD for an
--- incomplete end also
+-- the UTF-16 of the whole text of the bytes, as std's lossy decoding gives it: it also has U+FFFD
+-- for an incomplete end
 abbrev pub whole_utf16 : Bool → List ℕ → List ℕ
 whole_utf16 big bytes = encode big (chars (utf8_lossy bytes))
 
