@@ -1,0 +1,35 @@
+/* Prints a value of a registry export: reg_value FILE NAME. */
+#include <dethrux.h>
+
+#include <stdio.h>
+#include <string.h>
+
+static uint8_t raw[1 << 20];
+static uint8_t utf8[DETHRUX_UTF8_MAX(sizeof raw) + 1];
+
+int main(int argc, char **argv) {
+    FILE *file = argc == 3 ? fopen(argv[1], "rb") : NULL;
+    if (file == NULL) {
+        return 2;
+    }
+    size_t len = fread(raw, 1, sizeof raw, file);
+    fclose(file);
+
+    /* Exports are little endian. Old ones may have no BOM. */
+    dethrux_bom bom = dethrux_detect_bom(raw, len);
+    dethrux_byte_order order =
+        bom.status == DETHRUX_BOM_PRESENT ? bom.byte_order : DETHRUX_LITTLE_ENDIAN;
+    dethrux_progress text =
+        dethrux_to_utf8_lossy(order, raw + bom.len, len - bom.len, utf8, sizeof utf8 - 1);
+    utf8[text.written] = 0;
+
+    size_t name_len = strlen(argv[2]);
+    for (char *line = strtok((char *)utf8, "\r\n"); line != NULL; line = strtok(NULL, "\r\n")) {
+        if (line[0] == '"' && strncmp(line + 1, argv[2], name_len) == 0
+            && strncmp(line + 1 + name_len, "\"=", 2) == 0) {
+            puts(line + name_len + 3);
+            return 0;
+        }
+    }
+    return 1;
+}

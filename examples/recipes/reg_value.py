@@ -1,0 +1,21 @@
+"""Prints a value of a registry export: reg_value.py FILE NAME."""
+
+import sys
+from pathlib import Path
+
+import dethrux
+
+raw = Path(sys.argv[1]).read_bytes()
+
+# Exports are little endian. Old ones may have no BOM.
+bom = dethrux.detect_bom(raw)
+order = bom.byteorder if bom.len else "little"
+text = dethrux.decode(raw[bom.len :], order, "replace")
+
+wanted = f'"{sys.argv[2]}"='
+for line in text.splitlines():
+    if line.startswith(wanted):
+        print(line[len(wanted) :])
+        break
+else:
+    sys.exit(1)
