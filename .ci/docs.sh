@@ -1,8 +1,8 @@
 #!/usr/bin/env bash
 # Looks for each block of Rattle or Rust in the documents, and each of C and C++ in docs/, in the
 # file of the tree that the text before it names last: it must be there, paragraph by paragraph, so
-# the code of a document is proved, and that of bindings/ and examples/ run. Prints each that is
-# not, and last a line 'N passed, M failed'.
+# the code of a document is proved, and code of bindings/ and examples/ run. Then it counts the
+# habits of .ci/words. Prints what fails, and last a line 'N passed, M failed'.
 set -uo pipefail
 cd "$(dirname "$0")/.." || exit 1
 passed=0
@@ -43,5 +43,20 @@ for document in README.md docs/*.md; do
         fi
     done < "$document"
 done
+
+# Adds the counts of .ci/words, whose last line has them.
+words() {
+    local said
+    said=$(.ci/words)
+    if [[ ${said##*$'\n'} =~ ^([0-9]+)\ passed,\ ([0-9]+)\ failed$ ]]; then
+        passed=$((passed + BASH_REMATCH[1]))
+        failed=$((failed + BASH_REMATCH[2]))
+    else
+        failed=$((failed + 1))
+    fi
+    [[ $said != *$'\n'* ]] || echo "${said%$'\n'*}"
+}
+
+words
 echo "$passed passed, $failed failed"
 [ $failed = 0 ]
