@@ -1,5 +1,5 @@
 -- ASCII by units: a character is ASCII exactly if its units are, and a unit exactly if neither of
--- its bytes is above that of U+007F.
+-- its bytes is above the byte of U+007F at its position.
 use Rattle.std.proofs.Common.{◌≡◌, ◌↔◌, ℕ, zero, suc, ◌+◌, ◌-◌, ◌*◌, ◌/◌, ◌%◌, ◌^◌, ◌<◌, ◌≤◌, Bool, true, false, cond, eqb, ltb, List, [], ◌∷◌, ◌++◌, length, map, take, drop, slice_index, All, IsTrue, refl, sym, ap, ◌∙◌, subst, ⊎_elim, arith, flat_map, w8}
 use Rattle.std.proofs.lemmas.Bool.{cases_lt, eq-eqb, false≢true, eqb-true, le-ltb, ltb-false}
 use Rattle.std.proofs.lemmas.List.Elements.{All-append, All-cons, All-head, All-nil, All-tail}
@@ -96,7 +96,7 @@ ascii_right : (xs ys : List ℕ) → All is_ascii (xs ++ ys) → All is_ascii ys
 ascii_right [] ys all = all
 ascii_right (x ∷ xs) ys all = ascii_right xs ys (All-tail is_ascii x (xs ++ ys) all)
 
--- if all units are ASCII, so are those of the next n bytes
+-- if all units are ASCII, so are the units of the next n bytes
 pub ascii_next : (big : Bool) (bytes : List ℕ) (at n : ℕ) → AsciiTo big bytes at → n % 2 ≡ 0 → at + n ≤ length bytes
     → All is_ascii (units_of big bytes) → All is_ascii (units_of big (take n (drop at bytes)))
 ascii_next big bytes at n a even long all =
@@ -104,7 +104,7 @@ ascii_next big bytes at n a even long all =
     let front = ascii_left (units_of big (take (at + n) bytes)) _ (subst (All is_ascii) (units_of-split big bytes (at + n) (omega arith) long) all) in
     ascii_right (units_of big (take at bytes)) _ (subst (All is_ascii) (units_of-next big bytes at n a.even a.within) front)
 
--- all units are ASCII if those of the rest are
+-- all units are ASCII if the units of the rest are
 pub ascii_rest : (big : Bool) (bytes : List ℕ) (at : ℕ) → AsciiTo big bytes at → All is_ascii (units_of big (drop at bytes)) ↔ All is_ascii (units_of big bytes)
 ascii_rest big bytes at a =
     let split = units_of-split big bytes at a.even a.within in (
@@ -112,7 +112,7 @@ ascii_rest big bytes at a =
       λ all. ascii_right (units_of big (take at bytes)) _ (subst (All is_ascii) split all),
     )
 
--- the next unit alone
+-- the next unit by itself
 pub ascii_unit : (big : Bool) (bytes : List ℕ) (at unit : ℕ) → at + 2 ≤ length bytes → unit ≡ unit_of big (slice_index bytes at) (slice_index bytes (at + 1))
     → All is_ascii (units_of big (take 2 (drop at bytes))) ↔ (unit < 0x80)
 ascii_unit big bytes at unit long is =

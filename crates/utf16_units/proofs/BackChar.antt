@@ -39,7 +39,7 @@ last_split (x ∷ y ∷ xs) some =
     let rest = last_split (y ∷ xs) (λ e. cc e) in
     (x ∷ rest.0, rest.1, ap (λ t. x ∷ t) rest.2)
 
--- the bytes are those of a text and then a character's
+-- the bytes are the bytes of a text and then of a character
 pub record HasLast (big : Bool) (bytes : List ℕ) : Type 0 where
   pub text : List ℕ
   pub char : ℕ
@@ -153,7 +153,7 @@ module _ (big : Bool) (bytes : List ℕ) (t : IsUtf16 big bytes) (some : 0 < len
       absurd (trailing (omega arith, omega arith)))
       (cases_lt h.char 0x1_0000)
 
-  -- a trailing surrogate at the end and the unit before it are those of the last character
+  -- a trailing surrogate at the end and the unit before it are the units of the last character
   pub ends_two : IsTrailing (unit_before big bytes (length bytes)) → IsLeading (unit_before big bytes (length bytes - 2))
       × EndsAt big bytes (surrogate_pair_char (unit_before big bytes (length bytes - 2)) (unit_before big bytes (length bytes))) 4
   ends_two trailing =
@@ -174,7 +174,7 @@ module _ (big : Bool) (bytes : List ℕ) (t : IsUtf16 big bytes) (some : 0 < len
 
 -- ---- boundaries by the unit at an offset
 
--- at a boundary before the end is no trailing surrogate, and the offset is even
+-- the unit at a boundary before the end is not a trailing surrogate, and the offset is even
 pub IsBoundary-unit : (big : Bool) (text : List ℕ) (i : ℕ) → All IsScalar text → IsBoundary text i → i < size text
     → (i % 2 ≡ 0) × ¬ (IsTrailing (first_unit big (drop i (encode big text))))
 IsBoundary-unit big text i scalars b before = at_back b.back refl where

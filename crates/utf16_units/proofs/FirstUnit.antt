@@ -12,8 +12,8 @@ first_unit big [] are two = absurd (omega (arith, two))
 first_unit big (first ∷ []) are two = absurd (omega (arith, two))
 first_unit big (first ∷ second ∷ bytes) are two = unit_bytes-unit_of big first second (are 0) (are 1)
 
--- if a text follows a unit that is the number of its units, in whatever byte order that unit is,
--- the bytes start with that number and then the text's encoding
+-- a text follows a unit whose value is the number of the text's units, and the unit may be in
+-- another byte order: the bytes start with that number and then the text's encoding
 pub counted_text : (order big : Bool) (bytes text front rest : List ℕ) → ((k : ℕ) → get_or bytes k 0 < 256) → 2 ≤ length bytes
     → front ++ rest ≡ drop 2 bytes → length front ≡ 2 * unit_of order (get_or bytes 0 0) (get_or bytes 1 0) → Encodes big text front
     → bytes ≡ (unit_bytes order (size text / 2) ++ encode big text) ++ rest

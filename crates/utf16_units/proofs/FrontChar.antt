@@ -11,7 +11,7 @@ use Rattle.utf16_units.proofs.CharLemmas.{char_size_four, char_size_two, length-
 use Rattle.utf16_units.proofs.EncodingLemmas.{encode-cons, encode-nil, text_of-char}
 use Rattle.utf16_units.proofs.FirstChar.{first_unit, second_unit}
 
--- the bytes are a character's and then those of a text
+-- the bytes are the bytes of a character and then of a text
 pub record HasFirst (big : Bool) (bytes : List ℕ) : Type 0 where
   pub char : ℕ
   pub text : List ℕ
@@ -135,7 +135,7 @@ module _ (big : Bool) (bytes : List ℕ) (t : IsUtf16 big bytes) (some : 0 < len
       let f = first_of big bytes t some in
       ⊎_elim (λ one. one_splits big bytes f one) (λ two. absurd (leading (two_leading big bytes f two))) (cases_lt f.char 0x1_0000)
 
-  -- a leading surrogate and the next unit are those of the first character
+  -- a leading surrogate and the next unit are the units of the first character
   pub splits_two : IsLeading (first_unit big bytes)
       → IsTrailing (second_unit big bytes) × SplitsAt big bytes (surrogate_pair_char (first_unit big bytes) (second_unit big bytes)) 4
   splits_two leading =

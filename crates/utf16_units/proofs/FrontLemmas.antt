@@ -10,7 +10,7 @@ use lib.Lanes.{Each1, mask_l}
 use Rattle.utf16_units.specs.Lanes.{HasNoSurrogate, IsNoSurrogate, high_byte}
 use Rattle.utf16_units.proofs.SurrogateLemmas.{no_surrogate_here, surrogate_there}
 
--- whether the high byte of a unit is that of a surrogate
+-- whether a high byte is the high byte of a surrogate
 abbrev is_surrogate : ℕ → Bool
 is_surrogate unit = eqb (bit_and (high_byte unit) 0xF8) 0xD8
 

@@ -55,7 +55,7 @@ IsUtf16ValidUpTo-unique big bytes m n f g =
     let ge : n ≤ m = f.longest n g.within g.valid in
     omega arith
 
--- the same at an offset in the bytes
+-- well-formed bytes up to an offset, at which no character begins, are the longest valid prefix
 pub IsUtf16ValidUpTo-at : (big : Bool) (bytes : List ℕ) (n : ℕ) → n ≤ length bytes → IsUtf16 big (take n bytes) → BeginsWithNoChar big (drop n bytes) → IsUtf16ValidUpTo big bytes n
 IsUtf16ValidUpTo-at big bytes n within t none =
     subst (λ m. IsUtf16ValidUpTo big bytes m) (length-take-le n bytes within)

@@ -34,7 +34,7 @@ lanes_chosen n w t v x a b p q r =
           ∙ ap (λ flag. cond flag (slice_index a i) (slice_index b i)) (get_or-zip2 t v (replicate n x) i 0 0 false (omega arith) (omega (arith, same)) ∙ ap (t (slice_index v i)) (get_or-replicate n i x 0 h));
     }
 
--- the same, of the lanes under a mask
+-- a choice by the comparison of each lane under a mask with a number
 pub lanes_chosen_masked : (n : ℕ) (w : Width) (v : List ℕ) (m x : ℕ) (a b : List ℕ) → length v ≡ n → length a ≡ n → length b ≡ n
     → HasLanes n (sel_l (map (top (hbits w)) (zip2 (λ x y. cond (eqb x y) (2 ^ bits w - 1) 0) (zip2 bit_and v (replicate n m)) (replicate n x))) a b)
     (λ i. cond (eqb (bit_and (slice_index v i) m) x) (slice_index a i) (slice_index b i))

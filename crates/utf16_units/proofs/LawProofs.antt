@@ -233,7 +233,7 @@ module _ (big : Bool) (text part bytes part_bytes : List ℕ) (i : ℕ) (e : Enc
       let found = found_aligned big text part i e.scalars p.scalars some even stands_encoded in
       record { start = found.0; end = found.1; between = found.2 }
 
-  -- the bytes between the two boundaries are those of the part
+  -- the bytes between the two boundaries are the bytes of the part
   pub at_boundaries : OccursIn text i part → OccursAt bytes i part_bytes
   at_boundaries s =
       let between = Encodes-between big text bytes i (i + size part) e (omega arith) s.start s.end in

@@ -117,7 +117,7 @@ place_before texts order text low high mid other is at from below got greater = 
 pub place_found : (texts : List (List ℕ)) (order text : List ℕ) (low high : ℕ) → IsPlaceWithin texts order text low high → high ≤ low → IsPlace texts order text low
 place_found texts order text low high at none = let same : high ≡ low = omega arith in subst (IsPlaceWithin texts order text low) same at
 
--- the sorted numbers are those of parts
+-- the sorted numbers are the numbers of parts
 pub number_of_part : (text ends order : List ℕ) (place : ℕ) → IsSortOrder (parts_of text ends) order → place < length order → get_or order place 0 < length ends
 number_of_part text ends order place is within = omega (arith, length-parts text 0 ends, number_within (parts_of text ends) order is place within)
 

@@ -1,5 +1,5 @@
--- Units whose surrogates are paired are those of a text, followed by a leading unit if the last one
--- is leading.
+-- Units whose surrogates are paired are the units of a text, followed by a leading unit if the last
+-- one is leading.
 use Rattle.std.proofs.Common.{◌≡◌, ℕ, ◌+◌, ◌-◌, ◌*◌, ◌%◌, ◌<◌, ◌≤◌, Bool, true, false, cond, leb, ltb, List, [], ◌∷◌, ◌++◌, length, map, take, drop, slice_index, refl, sym, ap, ◌∙◌, subst, arith, append_assoc, take_all, Fits, w8, length-append, length-drop, length-take-le}
 use Rattle.std.proofs.lemmas.Bool.{and_from, and_parts, false≢true, false_from_ne_true, leb-true, le-leb, lt-ltb, ltb-true}
 use Rattle.std.proofs.lemmas.List.{append_cancel_left, drop-drop, map-append, take-take}
@@ -82,7 +82,7 @@ TextBefore-behind big after front bytes t h =
       text = subst (IsUtf16 big) (sym (take-past front bytes h.size)) (IsUtf16-append big front (take h.size bytes) t h.text);
     }
 
--- the same of bytes after a leading unit, or with none before them
+-- such a prefix of the bytes with any leading unit before them, or with none
 abbrev Before : Bool → Bool → List ℕ → Bool → Type 0
 Before big false bytes after = TextBefore big bytes after
 Before big true bytes after = (x y : ℕ) → x < 256 → y < 256 → IsLeading (unit_of big x y) → TextBefore big (x ∷ y ∷ bytes) after
@@ -93,7 +93,7 @@ at_first big after x y bytes bx by low true high h = h x y bx by (is_of 54 (unit
 at_first big after x y bytes bx by low false high h =
     TextBefore-behind big after (x ∷ y ∷ []) bytes (two_bytes_text big x y bx by (is_not_of 54 (unit_of big x y) high) (is_not_of 55 (unit_of big x y) low)) h
 
--- paired units are those of a text, followed by a leading unit if the last one is leading
+-- paired units are the units of a text, followed by a leading unit if the last one is leading
 text_before : (big before after : Bool) (bytes : List ℕ) → Each1 (Fits w8) bytes → length bytes % 2 ≡ 0 → Paired before (units_of big bytes) after
     → Before big before bytes after
 unfolding units_of

@@ -1,5 +1,5 @@
--- Boundaries and substrings of a text: of one alone, of one with more appended, and where a part
--- was found in one.
+-- Boundaries and substrings of a text: of one text, of one with more appended, and of one in which
+-- a part was found.
 use Rattle.std.proofs.Common.{◌≡◌, ℕ, ◌+◌, ◌-◌, ◌%◌, ◌≤◌, List, [], ◌++◌, refl, sym, ap, ap₂, ◌∙◌, arith, append_assoc, append-nil}
 use Rattle.utf16_units.specs.Boundary.{CutAt, IsBoundary, text_between, text_from, text_to}
 use Rattle.utf16_units.specs.Encoding.{size}

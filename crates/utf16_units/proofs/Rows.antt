@@ -1,5 +1,5 @@
--- The definitions computed at known characters and known ill-formed bytes: each row is checked by
--- evaluation alone.
+-- The definitions computed at known characters and known ill-formed bytes: evaluation checks each
+-- row.
 use Rattle.std.specs.Prelude.{◌≡◌, ◌==◌, ℕ, Bool, true, false, not, ◌&&◌, List, [], ◌∷◌, Option, None, Some, refl, length, encode_utf8_all, bytes_eq}
 use Rattle.std.specs.List.{list_all}
 use Rattle.std.specs.Char.{encode_utf8}

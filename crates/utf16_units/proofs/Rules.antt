@@ -24,7 +24,7 @@ encode-checked big bytes checked = encode-text_of big bytes (IsUtf16-from_is_utf
 -- boundaries, and the substrings between them
 pub ruleset boundaries = (IsBoundary-start, IsBoundary-end, IsBoundary-within, text_between-start, text_between-end, text_between-whole, text_to-text_from, size-text_to, length-checked)
 
--- what stays when more is appended to a text, and where that is
+-- what stays when more is appended to a text, and the place of what was appended
 pub ruleset behind = (IsBoundary-append, IsBoundary-seam, IsBoundary-end, text_between-append, text_between-behind, size-append, length-checked)
 
 -- a text after an edit at a boundary: the substrings before it, there and after it, and the size of

@@ -23,7 +23,7 @@ not-false : (b : Bool) → not b ≡ false → b ≡ true
 not-false true e = refl
 not-false false e = sym e
 
--- the lowest set bit is bit 0, or else one above that of the other bits
+-- the lowest set bit is bit 0, or else one above the lowest set bit of the other bits
 lowest_of : (b : Bool) (m k : ℕ) → count_trailing_zeros (suc k) (cond b 1 0 + 2 * m) ≡ cond b 0 (suc (count_trailing_zeros k m))
 unfolding count_trailing_zeros
 lowest_of true m k = let odd : (1 + 2 * m) % 2 ≡ 1 = omega arith in ap (λ d. under d (count_trailing_zeros k ((1 + 2 * m) / 2))) odd

@@ -162,7 +162,7 @@ four-bits n block few long =
     ∙ ap (λ bs. mask_l (map (λ b. eqb b 0xF0) bs)) masked
     ∙ ap mask_l (map-map (λ b. eqb b 0xF0) (λ b. bit_and b 0xF0) block)
 
--- without the lowest bits, those of the flags after them
+-- shifting out the lowest bits leaves the bits of the flags after them
 mask-drop : (n : ℕ) (flags : List Bool) → mask_l flags / 2 ^ n ≡ mask_l (drop n flags)
 mask-drop zero flags = omega arith
 mask-drop (suc n) [] = zero-div (2 ^ suc n)
@@ -182,7 +182,7 @@ ones-begun n block chars' fours a b = ap₂ (λ m n. m + n) (ones begins_char ch
     ones p bits is =
         ap count_ones (ap (λ m. m / 2 ^ n) is ∙ mask-drop n (map p block) ∙ ap mask_l (drop-map p n block)) ∙ ones-mask_l p (drop n block)
 
--- of the last bytes those after an offset
+-- the bytes after an offset are at the end of the last block
 pub begun-last : (bytes : List ℕ) (at : ℕ) → 16 ≤ length bytes → at ≤ length bytes → length bytes < at + 16
     → units_begun (drop (16 - (length bytes - at)) (chunk (length bytes - 16) 16 bytes)) ≡ units_begun (drop at bytes)
 begun-last bytes at many within near =

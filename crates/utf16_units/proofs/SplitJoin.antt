@@ -145,14 +145,14 @@ module _ (big : Bool) (first second : ℕ) (bytes back : List ℕ) where
       ∙ ap (λ t. split_tail big (t ++ back)) (sym (whole_tail big first second bytes whole)))
       (cases_Bool (is_incomplete big piece))
 
--- the items of two chunks are those of the first, and then those of its tail followed by the second
+-- the items of two chunks are the items of the first, and then of its tail followed by the second
 pub split_items-append : (big : Bool) (front back : List ℕ) → split_items big (front ++ back) ≡ split_items big front ++ split_items big (split_tail big front ++ back)
 unfolding split_items split_tail
 split_items-append big [] back = refl
 split_items-append big (last ∷ []) back = refl
 split_items-append big (first ∷ second ∷ bytes) back = two_more big first second bytes back (split_items-append big bytes back)
 
--- and the tail is that of the first chunk's tail followed by the second
+-- and the tail is the tail of the first chunk's tail followed by the second
 pub split_tail-append : (big : Bool) (front back : List ℕ) → split_tail big (front ++ back) ≡ split_tail big (split_tail big front ++ back)
 unfolding split_tail
 split_tail-append big [] back = refl

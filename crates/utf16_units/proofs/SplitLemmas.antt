@@ -213,7 +213,7 @@ Split-put_unit big unit bytes items tail below long s = by_class (class_of unit)
       (subst (λ b. Split big (b ++ bytes) (good unit ∷ items) tail) (one_unit_bytes big unit below)
       (Split-cons big (good unit) bytes items tail (scalar_unit unit below l t) tt s))
 
--- bytes that are a tail alone
+-- bytes that are a tail and nothing else
 pub Split-nil : (big : Bool) (tail : List ℕ) → IsTail big tail → Split big tail [] tail
 Split-nil big tail ends = record { made = All-nil IsItem; spelled = refl; ends = ends; unpaired = none } where
   none : (front : List Item) (unit : ℕ) (back : List Item) → front ++ lone_lead unit ∷ back ≡ [] → BeginsUnpaired big (items_bytes big back ++ tail)

@@ -1,4 +1,4 @@
--- The split computed of known ill-formed bytes: each row is checked by evaluation alone.
+-- The split computed of known ill-formed bytes: evaluation checks each row.
 use Rattle.std.specs.Prelude.{◌≡◌, ℕ, Bool, true, false, List, [], ◌∷◌, refl, bytes_eq}
 use Rattle.std.specs.List.{flat_map, list_all}
 use Rattle.utf16_units.specs.IllFormed.{is_incomplete}

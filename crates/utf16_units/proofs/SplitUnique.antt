@@ -16,7 +16,7 @@ use Rattle.utf16_units.proofs.FrontChar.{first_unit-bytes}
 use Rattle.utf16_units.proofs.Computed.{IsIncomplete-from_is_incomplete, is_incomplete-from_IsIncomplete}
 use Rattle.utf16_units.proofs.SplitLemmas.{Follows, Split-cons, Split-nil, Split-tail, cut_items, cut_tail, not_cut, pair_bytes, put_unit-leading, put_unit-neither, put_unit-trailing, whole_items, whole_tail}
 
--- the items and the tail are those that are computed
+-- the items and the tail are the computed ones
 abbrev IsComputed : Bool → List ℕ → List Item → List ℕ → Type 0
 IsComputed big bytes items tail = (items ≡ split_items big bytes) × (tail ≡ split_tail big bytes)
 
@@ -36,7 +36,7 @@ unit_computed false unit bytes items tail long computed =
       computed.1 ∙ sym (whole_tail false (unit % 256) (unit / 256) bytes whole),
     )
 
--- a tail alone is computed
+-- a tail without items is computed
 tail_computed : (big : Bool) (tail : List ℕ) → IsTail big tail → IsComputed big tail [] tail
 unfolding split_items split_tail
 tail_computed big [] ends = (refl, refl)

@@ -1,4 +1,4 @@
--- Equal bytes and the ordering of texts. Laws of impls cite it, so it depends on `specs/` alone.
+-- Equal bytes and the ordering of texts. Laws of impls cite it, so it depends only on `specs/`.
 use Rattle.std.specs.Prelude.{◌≡◌, ℕ, Bool, true, List, nat_eq}
 use Rattle.std.specs.Cmp.{both_ways, second_so}
 use Rattle.std.specs.Cmp.Lexicographic.{bytes_decides, pointwise, slice_cmp, texts_ties}

@@ -3,13 +3,13 @@ use Rattle.std.proofs.Common.{◌≡◌, ℕ, ◌*◌, ◌<◌, Bool, true, fals
 use Rattle.utf16_units.specs.Unit.{unit_bytes, unit_of}
 use Rattle.utf16_units.specs.Encoding.{units_of}
 
--- the bytes of a unit followed by others decode to that unit and then theirs
+-- the bytes of a unit followed by others decode to that unit and then to theirs
 pub units_of-unit : (big : Bool) (unit : ℕ) (bytes : List ℕ) → units_of big (unit_bytes big unit ++ bytes) ≡ unit ∷ units_of big bytes
 unfolding units_of
 units_of-unit true unit bytes = ap (λ u. u ∷ units_of true bytes) (omega arith)
 units_of-unit false unit bytes = ap (λ u. u ∷ units_of false bytes) (omega arith)
 
--- the same of the bytes of several units
+-- the bytes of several units followed by others decode to those units and then to theirs
 pub units_of-units : (big : Bool) (units bytes : List ℕ) → units_of big (flat_map (unit_bytes big) units ++ bytes) ≡ units ++ units_of big bytes
 units_of-units big [] bytes = refl
 units_of-units big (unit ∷ units) bytes =

@@ -14,14 +14,14 @@ units_of-append big [] back even = refl
 units_of-append big (x ∷ []) back even = absurd (omega arith)
 units_of-append big (x ∷ y ∷ front) back even = ap (λ us. unit_of big x y ∷ us) (units_of-append big front back (omega arith))
 
--- the units up to an offset, and those of the next n bytes
+-- the units up to an offset, and the units of the next n bytes
 pub units_of-next : (big : Bool) (bytes : List ℕ) (at n : ℕ) → at % 2 ≡ 0 → at ≤ length bytes
     → units_of big (take (at + n) bytes) ≡ units_of big (take at bytes) ++ units_of big (take n (drop at bytes))
 units_of-next big bytes at n even within =
     let long = length-take-le at bytes within in
     ap (units_of big) (take-add at n bytes) ∙ units_of-append big (take at bytes) (take n (drop at bytes)) (omega (arith, long))
 
--- the next unit alone
+-- the next unit by itself
 pub units_of-one : (big : Bool) (bytes : List ℕ) (at : ℕ) → at + 2 ≤ length bytes
     → units_of big (take 2 (drop at bytes)) ≡ unit_of big (slice_index bytes at) (slice_index bytes (at + 1)) ∷ []
 unfolding units_of
@@ -48,7 +48,7 @@ units_of-behind big bytes at n even room =
     units_of-split big (drop at bytes) n even (omega (arith, length-drop at bytes, room))
     ∙ ap (λ bs. units_of big (take n (drop at bytes)) ++ units_of big bs) (drop-drop n at bytes)
 
--- if less than a unit is left, those up to there are all
+-- if less than a unit is left, the units up to the offset are all units
 pub units_of-all : (big : Bool) (bytes : List ℕ) (at : ℕ) → at % 2 ≡ 0 → at ≤ length bytes → length bytes < at + 2 → units_of big bytes ≡ units_of big (take at bytes)
 units_of-all big bytes at even within few =
     units_of-split big bytes at even within
@@ -61,14 +61,14 @@ length-units_of big [] = omega arith
 length-units_of big (x ∷ []) = omega arith
 length-units_of big (x ∷ y ∷ bytes) = omega (arith, length-units_of big bytes)
 
--- the first n units are those of the first 2 * n bytes
+-- the first n units are the units of the first 2 * n bytes
 pub units_of-front : (big : Bool) (bytes : List ℕ) (n : ℕ) → 2 * n ≤ length bytes → take n (units_of big bytes) ≡ units_of big (take (2 * n) bytes)
 units_of-front big bytes n within =
     let front = units_of big (take (2 * n) bytes) in
     ap (take n) (units_of-split big bytes (2 * n) (omega arith) within)
     ∙ take_at front _ n (omega (arith, length-units_of big (take (2 * n) bytes), length-take-le (2 * n) bytes within))
 
--- the unit at an index is that of the two bytes there
+-- the unit at an index is the unit of the two bytes there
 pub units_of-at : (big : Bool) (bytes : List ℕ) (i : ℕ) → 2 * i + 2 ≤ length bytes
     → slice_index (units_of big bytes) i ≡ unit_of big (slice_index bytes (2 * i)) (slice_index bytes (2 * i + 1))
 units_of-at big bytes i within =
@@ -81,7 +81,7 @@ units_of-at big bytes i within =
     ∙ ap (λ units. slice_index units 0) (units_of-behind big bytes (2 * i) 2 refl within)
     ∙ ap (λ units. slice_index (units ++ units_of big (drop (2 * i + 2) bytes)) 0) (units_of-one big bytes (2 * i) within)
 
--- the units of an encoding are those of the characters
+-- the units of an encoding are its characters' units
 units_of-encode : (big : Bool) (text : List ℕ) → units_of big (encode big text) ≡ flat_map encode_utf16 text
 unfolding units_of
 units_of-encode big [] = ap (units_of big) (encode-nil big)

@@ -14,7 +14,7 @@ IsTrailingHigh byte = (0xDC ≤ byte) × (byte ≤ 0xDF)
 
 -- the rest of a truncated character that no bytes can complete. There is one in big endian only,
 -- where the high byte comes first: the high byte of a trailing surrogate, or a whole leading
--- surrogate and a byte that is no such high byte
+-- surrogate and a byte that is not such a high byte
 abbrev pub IsDeadEnd : Bool → List ℕ → Type 0
 IsDeadEnd true (last ∷ []) = IsTrailingHigh last
 IsDeadEnd true (first ∷ second ∷ last ∷ []) = IsLeading (unit_of true first second) × ¬ (IsTrailingHigh last)

@@ -7,12 +7,12 @@ use Rattle.std.specs.List.{flat_map}
 use Rattle.std.specs.Str.{all_scalars, bytes_eq}
 use Rattle.utf16_units.specs.Unit.{unit_bytes, unit_of}
 
--- the bytes of a character: those of its one or two units (Unicode, section 3.9: UTF-16 encoding
--- form)
+-- the bytes of a character: the bytes of its one or two units (Unicode, section 3.9: UTF-16
+-- encoding form)
 abbrev pub char_bytes : Bool → ℕ → List ℕ
 char_bytes big c = flat_map (unit_bytes big) (encode_utf16 c)
 
--- the bytes of a text: those of its characters, one after another (Unicode, section 3.10: UTF-16BE
+-- the bytes of a text: its characters' bytes, one after another (Unicode, section 3.10: UTF-16BE
 -- and UTF-16LE)
 unfoldable pub encode : Bool → List ℕ → List ℕ
 encode big text = flat_map (char_bytes big) text

@@ -18,8 +18,8 @@ IsIncomplete big [] = ⊥
 IsIncomplete big (last ∷ []) = Unit {0}
 IsIncomplete big (first ∷ second ∷ after) = IsLeading (unit_of big first second) × (length after ≤ 1)
 
--- the length of the ill-formed sequence at the start of the rest, as Rust's `error_len`: `None` for
--- a truncated character, else one unit
+-- the length of the ill-formed sequence at the start of the rest, like Rust's `error_len`: `None`
+-- for a truncated character, else one unit
 abbrev pub IsErrorLen : Bool → List ℕ → Option ℕ → Type 0
 IsErrorLen big rest None = IsIncomplete big rest
 IsErrorLen big rest (Some n) = (n ≡ 2) × ¬ (IsIncomplete big rest)
@@ -51,7 +51,7 @@ is_incomplete big (first ∷ second ∷ after) =
 unfoldable pub ill_formed_len : Bool → List ℕ → Option ℕ
 ill_formed_len big bytes = if is_incomplete big (drop (valid_len big bytes) bytes) then None else Some 2
 
--- the first n bytes are those of one character
+-- the first n bytes are the bytes of one character
 pub record BeginsWithChar (big : Bool) (bytes : List ℕ) (n : ℕ) : Type 0 where
   pub char : ℕ
   pub scalar : IsScalar char

@@ -13,7 +13,7 @@ pub record HasLanes (n : ℕ) (v : List ℕ) (lane : ℕ → ℕ) : Type 0 where
 abbrev pub swapped : ℕ → ℕ
 swapped unit = (unit * 2 ^ 8 % 2 ^ 16 + unit / 2 ^ 8) % 2 ^ 16
 
--- the high byte of a unit: it alone says whether the unit is a surrogate, and of which class
+-- the high byte of a unit, which decides whether the unit is a surrogate, and of which class
 abbrev pub high_byte : ℕ → ℕ
 high_byte unit = unit / 256
 
@@ -23,7 +23,7 @@ high_byte unit = unit / 256
 abbrev pub Paired : Bool → List ℕ → Bool → Type 0
 Paired before units after = map is_low_surrogate units ++ after ∷ [] ≡ before ∷ map is_high_surrogate units
 
--- the unit is no surrogate
+-- the unit is not a surrogate
 abbrev pub IsNoSurrogate : ℕ → Type 0
 IsNoSurrogate unit = (is_high_surrogate unit ≡ false) × (is_low_surrogate unit ≡ false)
 
@@ -31,8 +31,8 @@ IsNoSurrogate unit = (is_high_surrogate unit ≡ false) × (is_low_surrogate uni
 abbrev pub HasNoSurrogate : List ℕ → Type 0
 HasNoSurrogate units = All IsNoSurrogate units
 
--- the surrogates are not paired: a trailing unit has no leading one before it, or a leading one
--- that is not the last has no trailing one after it
+-- the surrogates are not paired: a trailing unit has no leading unit before it, or a leading unit
+-- that is not the last has no trailing unit after it
 abbrev pub Unpaired : Bool → List ℕ → Type 0
 Unpaired before units = (after : Bool) → ¬ Paired before units after
 
@@ -49,7 +49,7 @@ abbrev pub BlocksStopAt : ℕ → Bool → List ℕ → ℕ → Bool → Type 0
 BlocksStopAt size big bytes at before = at + size ≤ length bytes → Unpaired before (units_of big (take size (drop at bytes)))
 
 -- blocks of 32 bytes pass the bytes up to `size`: they stop at `at`, and a leading unit that ends
--- there is left out
+-- at `at` is left out
 pub record PassedTo (big : Bool) (bytes : List ℕ) (size : ℕ) : Type 0 where
   pub at : ℕ
   pub leading : Bool

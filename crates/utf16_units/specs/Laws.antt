@@ -1,5 +1,5 @@
--- The laws of UTF-16 that users of the format rely on, each a statement about the definitions
--- alone.
+-- The laws of UTF-16 that users of the format rely on. Each is a statement about the definitions,
+-- and about nothing else.
 use Rattle.std.specs.Prelude.{◌≡◌, ◌≢◌, ◌↔◌, ◌⊎◌, ℕ, ◌+◌, ◌*◌, ◌%◌, ◌<◌, ◌≤◌, Bool, not, List, [], ◌∷◌, ◌++◌, None, Some, All, length, take, drop, encode_utf8_all, chars}
 use Rattle.std.specs.Char.{IsScalar}
 use Rattle.std.specs.List.{concat}
@@ -58,12 +58,12 @@ SplitThenPush = (text : List ℕ) (i : ℕ) → IsBoundary text i
 abbrev pub Utf8Back : Type 0
 Utf8Back = (text : List ℕ) → All IsScalar text → chars (encode_utf8_all text) ≡ text
 
--- bytes with an error of length 2 are not the prefix of any text
+-- bytes with an error of length 2 are not a prefix of any text
 abbrev pub TwoNeverContinues : Type 0
 TwoNeverContinues = (big : Bool) (bytes : List ℕ) → IsIllFormed big bytes (Some 2) → ¬ (IsUtf16Prefix big bytes)
 
--- bytes with an error of no length are the prefix of a text exactly if what follows their longest
--- valid prefix is no dead end: in little endian always
+-- bytes with an error of no length are a prefix of a text exactly if what follows their longest
+-- valid prefix is not a dead end; in little endian they always are
 abbrev pub NoneContinues : Type 0
 NoneContinues = (big : Bool) (bytes : List ℕ) (n : ℕ) → All (λ b. b < 256) bytes → IsIllFormed big bytes None → IsUtf16ValidUpTo big bytes n
     → (IsUtf16Prefix big bytes ↔ ¬ (IsDeadEnd big (drop n bytes)))
@@ -72,30 +72,30 @@ NoneContinues = (big : Bool) (bytes : List ℕ) (n : ℕ) → All (λ b. b < 256
 abbrev pub SplitExists : Type 0
 SplitExists = (big : Bool) (bytes : List ℕ) → All (λ b. b < 256) bytes → Split big bytes (split_items big bytes) (split_tail big bytes)
 
--- bytes have no two splits
+-- bytes do not have two splits
 abbrev pub SplitUnique : Type 0
 SplitUnique = (big : Bool) (bytes : List ℕ) (items others : List Item) (tail other : List ℕ)
     → Split big bytes items tail → Split big bytes others other → (items ≡ others) × (tail ≡ other)
 
--- with more bytes appended, the items stay, and those of the tail and these bytes follow them
+-- with more bytes appended, the items stay, and the items of the tail and these bytes follow them
 abbrev pub SplitExtends : Type 0
 SplitExtends = (big : Bool) (front back : List ℕ)
     → (split_items big (front ++ back) ≡ split_items big front ++ split_items big (split_tail big front ++ back))
     × (split_tail big (front ++ back) ≡ split_tail big (split_tail big front ++ back))
 
--- a reader that resumes by the fields of the error gets the items' text, with U+FFFD for unpaired
+-- a reader that resumes with the fields of the error gets the items' text, with U+FFFD for unpaired
 -- surrogates, and what it keeps is the tail
 abbrev pub RecipeIsSplit : Type 0
 RecipeIsSplit = (big : Bool) (bytes text kept : List ℕ) → All (λ b. b < 256) bytes
     → (Recipe big bytes text kept ↔ ((text ≡ lossy_chars (split_items big bytes)) × (kept ≡ split_tail big bytes)))
 
--- a reader that resumes so over the chunks of a stream, however it is cut, gets the items' text of
--- the chunks joined, with U+FFFD for unpaired surrogates, and what it keeps is the tail
+-- a reader that resumes in this way over the chunks of a stream, however it is cut, gets the items'
+-- text of the joined chunks, with U+FFFD for unpaired surrogates, and what it keeps is the tail
 abbrev pub ResumesIsSplit : Type 0
 ResumesIsSplit = (big : Bool) (pieces : List (List ℕ)) (text kept : List ℕ) → All (λ b. b < 256) (concat pieces)
     → (Resumes big [] pieces text kept ↔ ((text ≡ lossy_chars (split_items big (concat pieces))) × (kept ≡ split_tail big (concat pieces))))
 
--- the lossy text of a text's encoding is that text, and nothing is left
+-- the lossy text of a text's encoding is that text, and the tail is empty
 abbrev pub TextIsShown : Type 0
 TextIsShown = (big : Bool) (text bytes : List ℕ) → Encodes big text bytes → (lossy_chars (split_items big bytes) ≡ text) × (split_tail big bytes ≡ [])
 
@@ -103,8 +103,8 @@ TextIsShown = (big : Bool) (text bytes : List ℕ) → Encodes big text bytes �
 abbrev pub ItemsStay : Type 0
 ItemsStay = (big : Bool) (front back : List ℕ) → take (length (split_items big front)) (split_items big (front ++ back)) ≡ split_items big front
 
--- the lossy text of a stream, however it is cut in two: that of the first chunk, and then that of
--- its tail followed by the second
+-- the lossy text of a stream cut in two is the text of the first chunk, followed by the text of its
+-- tail and the second chunk
 abbrev pub CutAnywhere : Type 0
 CutAnywhere = (big : Bool) (front back : List ℕ)
     → lossy_chars (split_items big (front ++ back)) ≡ lossy_chars (split_items big front) ++ lossy_chars (split_items big (split_tail big front ++ back))
@@ -141,7 +141,7 @@ pub record IsCut (text : List ℕ) : Type 0 where
   pub whole : text_between text 0 (size text) ≡ text
   pub cuts : (i : ℕ) → IsBoundary text i → CutAt text i
 
--- each text splits so at its boundaries
+-- each text splits in this way at its boundaries
 abbrev pub BoundaryCuts : Type 0
 BoundaryCuts = (text : List ℕ) → IsCut text
 
@@ -154,7 +154,7 @@ pub record StaysBefore (text more : List ℕ) : Type 0 where
   pub back : text_from (text ++ more) (size text) ≡ more
   pub behind : text_between (text ++ more) (size text) (size text + size more) ≡ more
 
--- this holds of any two texts
+-- this holds for any two texts
 abbrev pub MoreAfter : Type 0
 MoreAfter = (text more : List ℕ) → StaysBefore text more
 
@@ -170,6 +170,6 @@ pub record IsSpelled (big : Bool) (text bytes : List ℕ) : Type 0 where
   pub spells : text_of big bytes ≡ text
   pub long : length bytes ≡ size text
 
--- this holds of the bytes of any text
+-- this holds for the bytes of any text
 abbrev pub EncodedText : Type 0
 EncodedText = (big : Bool) (text bytes : List ℕ) → Encodes big text bytes → IsSpelled big text bytes

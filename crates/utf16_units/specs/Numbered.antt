@@ -17,16 +17,16 @@ pub record IsSortOrder (texts : List (List ℕ)) (order : List ℕ) : Type 0 whe
   pub numbers : IsPermutation (range_with_len 0 (length texts)) order
   pub ascends : AllPairs (λ number other. IsBefore (text_at texts number) (text_at texts other)) order
 
--- among the sorted numbers, those before `low` have smaller texts than this one, and those from
--- `high` on larger ones
+-- among the sorted numbers, the numbers before `low` have smaller texts than this one, and the
+-- numbers from `high` on have larger ones
 pub record IsPlaceWithin (texts : List (List ℕ)) (order text : List ℕ) (low high : ℕ) : Type 0 where
   pub ordered : low ≤ high
   pub within : high ≤ length order
   pub smaller : AllWithin (λ number. IsBefore (text_at texts number) text) order 0 low
   pub larger : AllWithin (λ number. IsBefore text (text_at texts number)) order high (length order)
 
--- where the number of a new text is inserted: after those of smaller texts, before those of larger
--- ones
+-- where the number of a new text is inserted: after the numbers of smaller texts, before the
+-- numbers of larger ones
 abbrev pub IsPlace : List (List ℕ) → List ℕ → List ℕ → ℕ → Type 0
 IsPlace texts order text place = IsPlaceWithin texts order text place place
 

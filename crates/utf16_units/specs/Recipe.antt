@@ -1,4 +1,4 @@
--- What a reader gets that resumes decoding by the fields of the error.
+-- What a reader gets that resumes decoding with the fields of the error.
 use Rattle.std.specs.Prelude.{ℕ, ◌+◌, Bool, List, [], ◌∷◌, ◌++◌, None, Some, take, drop}
 use Rattle.utf16_units.specs.Encoding.{Encodes}
 use Rattle.utf16_units.specs.IllFormed.{IsIllFormed, IsUtf16ValidUpTo}
@@ -22,6 +22,6 @@ pub data Recipe (big : Bool) : List ℕ → List ℕ → List ℕ → Type 0 whe
 pub data Resumes (big : Bool) : List ℕ → List (List ℕ) → List ℕ → List ℕ → Type 0 where
   -- no chunk: no text, and what was kept is kept
   ended : (kept : List ℕ) → Resumes big kept [] [] kept
-  -- a chunk: the text of what was kept and the chunk; then what that keeps, and the other chunks
+  -- a chunk: the text of what was kept and the chunk; then what this keeps, and the other chunks
   fed : (before piece : List ℕ) (pieces : List (List ℕ)) (text kept more last : List ℕ) → Recipe big (before ++ piece) text kept
       → Resumes big kept pieces more last → Resumes big before (piece ∷ pieces) (text ++ more) last

@@ -43,8 +43,8 @@ BeginsUnpaired big [] = ⊥
 BeginsUnpaired big (last ∷ []) = ⊥
 BeginsUnpaired big (first ∷ second ∷ after) = ¬ (IsTrailing (unit_of big first second))
 
--- the bytes are those of the items and then of the tail, and each unpaired leading unit is followed
--- by a whole unit that is not trailing (Unicode, section 3.8: surrogate pair)
+-- the bytes are the bytes of the items and then the tail, and each unpaired leading unit is
+-- followed by a whole unit that is not trailing (Unicode, section 3.8: surrogate pair)
 pub record Split (big : Bool) (bytes : List ℕ) (items : List Item) (tail : List ℕ) : Type 0 where
   pub made : All IsItem items
   pub spelled : items_bytes big items ++ tail ≡ bytes

@@ -1,9 +1,9 @@
--- The ordering of texts by their scalar values: that of their code points, and of their bytes in
--- UTF-8 and UTF-32.
+-- The ordering of texts by their scalar values. It is also the ordering of their bytes in UTF-8 and
+-- UTF-32.
 use Rattle.std.specs.Prelude.{◌≡◌, ℕ, ◌<◌, ⊤, List, [], ◌∷◌, ◌++◌}
 
--- the rest of one text goes before that of another, by the first character: the empty rest before
--- any other, else the one with the smaller character
+-- the rest of one text goes before the rest of another, decided by the first character: the empty
+-- rest before any other, else the one with the smaller character
 abbrev pub GoesFirst : List ℕ → List ℕ → Type 0
 GoesFirst rest [] = ⊥
 GoesFirst [] (d ∷ other) = ⊤

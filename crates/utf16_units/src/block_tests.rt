@@ -26,7 +26,7 @@ fn put<E: Utf16Order>(raw: &mut [u8], at: usize, unit: u16) {
     }
 }
 
-// Writes the letter "a" as often as there is space.
+// Fills the buffer with the letter "a".
 fn put_letters<E: Utf16Order>(raw: &mut [u8]) {
     for i in 0..raw.len() / 2 {
         put::<E>(raw, 2 * i, 0x61);

@@ -64,7 +64,7 @@ pub(crate) fn is_ascii_block<E: Utf16Order>(block: u8x64) -> bool
     block.simd_gt(limits).to_bitmask() == 0
 }
 
-// Converts code units read in little endian to those of the byte order `E`, or back.
+// Converts code units from little endian to the byte order `E`, or back.
 #[inline(always)]
 fn in_order<E: Utf16Order, const N: usize>(units: Simd<u16, N>) -> Simd<u16, N>
     ensures { result ≡ if E.BIG then map swapped units.entry else units.entry }

@@ -36,7 +36,7 @@ pub fn compare<E: Utf16Order>(first: &[u8], second: &[u8]) -> Ordering
     compare_units::<E>(first, second, near)
 }
 
-// The length of a common prefix, in bytes and whole code units, found by blocks of `N` bytes.
+// The end of a common prefix of whole code units, found from `from` on by blocks of `N` bytes.
 #[inline]
 fn same_blocks<const N: usize>(first: &[u8], second: &[u8], from: usize) -> usize
     requires lanes { (0 < N) × (N ≤ 64) × (N % 2 ≡ 0) }

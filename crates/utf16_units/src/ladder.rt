@@ -1,11 +1,12 @@
-//! The lengths up to which a text is converted between UTF-8 and UTF-16 in one way or another, in
-//! both directions. A text that is appended is first written to a buffer on the stack: only then is
-//! its length known, and a writer may go past its end. A larger buffer takes longer to clear.
+//! The lengths that decide how a text is converted between UTF-8 and UTF-16, in both directions. An
+//! appended text is first written to a buffer on the stack, because its length is only known
+//! afterwards and a writer may go past its end. A larger buffer takes longer to clear.
 
-/// A text of fewer bytes is converted character by character: it has less than a block.
+/// The length in bytes below which a text is converted character by character: it is shorter than a
+/// block.
 pub const FEW_TEXT: usize = 8;
 
-/// The most bytes of a text that is converted at once.
+/// The most bytes of a text that is converted in one piece.
 pub const SHORT_TEXT: usize = 128;
 
 /// The most bytes of a piece of a longer text.

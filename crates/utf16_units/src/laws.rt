@@ -3,8 +3,8 @@
 //!
 //! The body of a function cites a law by a call of its function, a proof file by the lemma of that
 //! name in the module `Rattle.utf16_units.proofs.LawProofs`. The statements are in
-//! `specs/Laws.antt`: they are about the definitions alone, for all texts, all bytes and both byte
-//! orders.
+//! `specs/Laws.antt`. They depend only on the definitions, and hold for all texts, all bytes and
+//! both byte orders.
 
 ghost use Rattle.std.specs.Prelude.{◌<◌, All};
 ghost use Rattle.utf16_units.specs.Laws.{BeforeFollows, BeforeTotal, BoundaryCuts, CutAnywhere, EncodedText, FoundAligned, FoundExactly, InsertThenRemove, ItemsStay, JoinedText, MoreAfter, NoneContinues, RecipeIsSplit, ResumesIsSplit, ShownWithin, SplitExists, SplitExtends, SplitThenPush, SplitUnique, SwappedOrders, TextIsShown, TwoNeverContinues, UniqueText, Utf8Back};
@@ -60,7 +60,7 @@ pub fn none_continues()
 {}
 
 /// Any bytes decompose into characters, unpaired surrogates and a tail that more bytes could
-/// change; the computed decomposition, the split, is one.
+/// change. The computed decomposition, the split, is such a decomposition.
 pub fn split_exists()
     ensures { SplitExists }
 {}
@@ -76,21 +76,21 @@ pub fn split_extends()
     ensures { SplitExtends }
 {}
 
-/// A reader that resumes decoding by `valid_up_to` and `error_len` gets the text of the
+/// A reader that resumes decoding with `valid_up_to` and `error_len` gets the text of the
 /// decomposition, with one U+FFFD (replacement character) for each unpaired surrogate, and what it
 /// keeps is the tail.
 pub fn recipe_is_split()
     ensures { RecipeIsSplit }
 {}
 
-/// A reader that resumes so over the chunks of a stream gets the text of the decomposition of the
-/// chunks joined, with one U+FFFD for each unpaired surrogate, and what it keeps at the end is the
-/// tail: however the stream is cut.
+/// A reader that resumes in this way over the chunks of a stream, however it is cut, gets the text
+/// of the decomposition of the joined chunks, with one U+FFFD for each unpaired surrogate. What it
+/// keeps at the end is the tail.
 pub fn resumes_is_split()
     ensures { ResumesIsSplit }
 {}
 
-/// The lossy text of well-formed bytes is the text that they encode, and nothing is left.
+/// The lossy text of well-formed bytes is the text that they encode, and their tail is empty.
 pub fn text_is_shown()
     ensures { TextIsShown }
 {}
@@ -100,14 +100,14 @@ pub fn items_stay()
     ensures { ItemsStay }
 {}
 
-/// A stream cut in two has the text of the whole stream: that of the first chunk, and then that of
-/// its tail followed by the second chunk. So the text does not depend on how a stream is cut.
+/// The text of a stream cut in two is the text of the first chunk, followed by the text of its tail
+/// and the second chunk. So the text does not depend on where a stream is cut.
 pub fn cut_anywhere()
     ensures { CutAnywhere }
 {}
 
-/// n bytes have at most n / 2 items, which take at most 3 n / 2 bytes in UTF-8; with U+FFFD for an
-/// incomplete end, at most (3 n + 3) / 2.
+/// n bytes have at most n / 2 items, which take at most 3 n / 2 bytes in UTF-8. With U+FFFD for an
+/// incomplete end they take at most (3 n + 3) / 2.
 pub fn shown_within()
     ensures { ShownWithin }
 {}
@@ -118,7 +118,7 @@ pub fn before_total()
     ensures { BeforeTotal }
 {}
 
-/// If a text is before a second, and that before a third, the first is before the third.
+/// If one text is before a second, and the second is before a third, the first is before the third.
 pub fn before_follows()
     ensures { BeforeFollows }
 {}

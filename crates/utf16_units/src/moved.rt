@@ -1,6 +1,6 @@
-//! How far a writer came.
+//! The progress of a writer.
 
-/// How many bytes were moved from one encoding to the other.
+/// How many bytes were read from one encoding and written in the other.
 #[derive(Clone, Copy)]
 pub struct Moved {
     /// The number of bytes of the input that were read.

@@ -1,5 +1,5 @@
-//! Bytes without a surrogate: whether a short text is such, and how many are at the start of a long
-//! one.
+//! Bytes without a surrogate: a test for short texts, and how many such bytes a long text begins
+//! with.
 
 ghost use Rattle.std.specs.Prelude.{◌≡◌, ◌≢◌, ◌↔◌, ◌⊎◌, ◌+◌, ◌%◌, ◌<◌, ◌≤◌, length, slice_index, take, IsTrue};
 ghost use Rattle.utf16_units.specs.Encoding.{IsUtf16, units_of};
@@ -30,8 +30,9 @@ pub(crate) fn plain_prefix_len<E: Utf16Order>(raw: &[u8]) -> usize
     2 * plain_len(units32::<E>(u8x64::from_slice(raw)))
 }
 
-/// Returns whether at most sixty-four bytes are whole code units of which none is a surrogate; no
-/// longer text is tested. Of eight bytes or more it reads the first and the last, which overlap.
+/// Returns `true` if `raw` has at most sixty-four bytes, and these are whole code units without a
+/// surrogate. It reads eight bytes or more as two blocks, the first and the last bytes, which may
+/// overlap.
 ///
 /// # Complexity
 ///
@@ -42,7 +43,7 @@ pub fn is_short_plain<E: Utf16Order>(raw: &[u8]) -> bool
         × HasNoSurrogate (units_of E.BIG raw.now)) }
     ensures text { IsTrue result → IsUtf16 E.BIG raw.now }
 {
-    // One unit is tested before all else: it is the shortest text, and any other test would show.
+    // Tested first: on the shortest text, the cost of any earlier test would be visible.
     if raw.len() == 2 {
         return is_no_surrogate::<E>([raw[0], raw[1]]);
     }

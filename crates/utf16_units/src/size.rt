@@ -1,4 +1,4 @@
-//! The length of a text in UTF-16, by its UTF-8.
+//! The length of a text in UTF-16, computed from its UTF-8.
 
 ghost use Rattle.std.specs.Prelude.{◌≡◌, ◌≤◌, ◌<◌, ◌/◌, ◌^◌, count_ones, drop, length};
 ghost use Rattle.std.specs.Str.{chars};
@@ -25,8 +25,8 @@ pub fn utf16_len(s: &str) -> usize
     2 * units(s.as_bytes())
 }
 
-/// Returns the length of a text in UTF-16, in bytes, as `utf16_len` does. It takes less time for a
-/// few characters, and more for many.
+/// Returns the length of a text in UTF-16, in bytes, like `utf16_len`. It is faster for a few
+/// characters and slower for many.
 ///
 /// # Complexity
 ///
@@ -57,15 +57,15 @@ fn units(bytes: &[u8]) -> usize
         units += units_after(u8x16::from_slice(&bytes[at..]), 0);
         at += BLOCK;
     }
-    // Of the last block those bytes that were not counted.
+    // The last block overlaps the bytes that were counted: leave them out.
     let left = bytes.len() - at;
     let last = u8x16::from_slice(&bytes[bytes.len() - BLOCK..]);
     units + units_after(last, BLOCK - left)
 }
 
-// The same for at most sixty-four bytes, without the first `skip`: the first byte of a character
-// does not have the upper two bits of a continuation byte, and the first of four has all upper four
-// bits.
+// The number of code units of the characters that begin in a block after its first `skip` bytes. A
+// byte begins a character if its upper two bits are not those of a continuation byte, and a
+// character of two units if its upper four bits are set.
 #[inline(always)]
 fn units_after<const N: usize>(block: Simd<u8, N>, skip: usize) -> usize
     requires few { N ≤ 64 }

@@ -7,7 +7,7 @@ ghost use Rattle.utf16_units.specs.Lanes.{HasNoSurrogate, IsNoSurrogate, Paired,
 
 use std::simd::prelude::*;
 
-// The high bytes of the units. Twice as many of them as of units fit into a register.
+// The high bytes of the units. A register holds twice as many of them as of units.
 #[inline(always)]
 fn high_bytes<const N: usize>(units: Simd<u16, N>) -> Simd<u8, N>
     ensures { result ≡ map high_byte units.entry }
@@ -15,7 +15,7 @@ fn high_bytes<const N: usize>(units: Simd<u16, N>) -> Simd<u8, N>
     (units >> Simd::splat(8)).cast::<u8>()
 }
 
-/// Returns a bit for each unit whose high byte has the bits of `class` in those of `mask`.
+/// Returns a bit for each unit whose high byte has the bits `class` under the mask `mask`.
 #[inline(always)]
 pub fn class_bits<const N: usize>(units: Simd<u16, N>, mask: u8, class: u8) -> u64
     requires { N ≤ 64 }
@@ -44,9 +44,9 @@ pub(crate) fn trailing_bits<const N: usize>(units: Simd<u16, N>) -> u64
     class_bits(units, 0xFC, 0xDC)
 }
 
-/// Returns `Some` if the surrogates are paired: a unit is trailing exactly if the one before it is
-/// leading. `before` says whether the unit before the block is leading, the result whether the last
-/// unit is.
+/// Returns `Some` if the surrogates are paired: a unit is trailing exactly if the unit before it is
+/// leading. `before` says whether the unit before the block is leading, and the result whether the
+/// last unit is.
 #[inline(always)]
 pub fn paired<const N: usize>(units: Simd<u16, N>, before: bool) -> Option<bool>
     requires { N ≤ 32 }

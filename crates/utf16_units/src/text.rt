@@ -1,4 +1,5 @@
-//! Queries about the text of bytes: how many characters it has, and whether all are ASCII.
+//! Questions about the text that bytes encode: how many characters it has, and whether all are
+//! ASCII.
 
 ghost use Rattle.std.specs.Prelude.{◌≡◌, ◌↔◌, ◌<◌, All, IsTrue, count_by, length};
 ghost use Rattle.std.specs.Char.Utf16.{is_low_surrogate};
@@ -10,7 +11,7 @@ use crate::surrogates::trailing_bits;
 use crate::{Utf16Order, is_trailing_surrogate};
 use std::simd::prelude::*;
 
-// The number of bytes of a block. Texts with fewer have loops without SIMD.
+// The number of bytes of a block. Shorter texts have loops without SIMD.
 const BLOCK: usize = 64;
 
 /// Returns the number of characters that `raw` encodes.
@@ -33,8 +34,8 @@ pub fn count_chars<E: Utf16Order>(raw: &[u8]) -> usize
     }
 }
 
-// The number of characters of a short text, counted one by one. Not inlined, so that the loop is
-// optimized on its own.
+// The number of characters of a short text, counted one by one. Not inlined, so that the compiler
+// optimizes the loop separately.
 #[inline(never)]
 fn count_few<E: Utf16Order>(raw: &[u8]) -> usize
     requires { IsUtf16 E.BIG raw.now }
@@ -50,8 +51,8 @@ fn count_few<E: Utf16Order>(raw: &[u8]) -> usize
     count
 }
 
-/// Returns the number of code units that are trailing surrogates, in any bytes. A last odd byte
-/// belongs to no code unit.
+/// Returns the number of code units that are trailing surrogates, in any bytes. A last odd byte is
+/// not part of a code unit.
 ///
 /// # Complexity
 ///
@@ -93,7 +94,7 @@ pub fn is_ascii<E: Utf16Order>(raw: &[u8]) -> bool
     }
 }
 
-/// Returns `true` if every code unit is ASCII, in any bytes. A last odd byte belongs to no code
+/// Returns `true` if every code unit is ASCII, in any bytes. A last odd byte is not part of a code
 /// unit.
 ///
 /// # Complexity
@@ -112,7 +113,8 @@ pub fn has_ascii_units<E: Utf16Order>(raw: &[u8]) -> bool
     has_few_ascii_units::<E>(&raw[at..])
 }
 
-// The same unit by unit. Not inlined, so that the loop is optimized on its own.
+// Whether every code unit is ASCII, tested one by one. Not inlined, so that the compiler optimizes
+// the loop separately.
 #[inline(never)]
 fn has_few_ascii_units<E: Utf16Order>(raw: &[u8]) -> bool
     ensures { IsTrue result ↔ All (λ unit. unit < 0x80) (units_of E.BIG raw.now) }

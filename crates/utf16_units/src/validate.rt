@@ -40,7 +40,7 @@ pub fn validate_raw_utf16<E: Utf16Order>(raw: &[u8]) -> Result<(), Utf16Error>
     })
 }
 
-// The `error_len` of what is at the start of the rest, where no character begins.
+// The `error_len` of the sequence at the start of `rest`, which is not a character.
 #[inline(never)]
 fn error_len<E: Utf16Order>(rest: &[u8]) -> Option<u8>
     requires { 0 < length rest.now }
@@ -53,7 +53,7 @@ fn error_len<E: Utf16Order>(rest: &[u8]) -> Option<u8>
 }
 
 // The length of the longest valid prefix. Kept out of line so that short texts do not pay for its
-// registers. If the first surrogate is unpaired, pairs are not looked for.
+// registers. It does not look for pairs if the first surrogate is unpaired.
 #[inline(never)]
 fn valid_len<E: Utf16Order>(raw: &[u8]) -> usize
     ensures { IsTextUpTo E.BIG raw.now result }
@@ -73,7 +73,7 @@ fn valid_len<E: Utf16Order>(raw: &[u8]) -> usize
     valid_len_from::<E>(raw, passed + plain)
 }
 
-// The length of a well-formed prefix, as far as whole blocks reach from an offset on.
+// The end of a well-formed prefix, as far as whole blocks from `from` on are well formed.
 fn passed_blocks<E: Utf16Order>(raw: &[u8], from: usize) -> usize
     requires { PairedTo E.BIG raw.now from false }
     ensures within { result ≤ length raw.now }
@@ -85,12 +85,13 @@ fn passed_blocks<E: Utf16Order>(raw: &[u8], from: usize) -> usize
     if leading { at - 2 } else { at }
 }
 
-// At each multiple of this many bytes, blocks without a surrogate are tried again; after as many at
-// the front, such blocks are passed two at a time.
+// The distance in bytes at which the loop for pairs tries again to pass blocks without a surrogate,
+// and the length of a front after which such blocks are passed two at a time.
 const PLAIN_EVERY: usize = 256;
 
 // The end of the blocks of 64 bytes from `from` on whose surrogates are paired, and whether the
-// last unit is leading. Blocks without a surrogate are passed by a loop that looks for no pairs.
+// last unit is leading. Another loop, which does not look for pairs, passes blocks without a
+// surrogate.
 fn paired_blocks<E: Utf16Order>(raw: &[u8], from: usize) -> (usize, bool)
     requires { PairedTo E.BIG raw.now from false }
     ensures paired { PairedTo E.BIG raw.now result.0 result.1 }
@@ -112,8 +113,8 @@ fn paired_blocks<E: Utf16Order>(raw: &[u8], from: usize) -> (usize, bool)
     (at, leading)
 }
 
-// The end of the blocks of 64 bytes at the front that have no surrogate: the first few one by one,
-// and then two at a time. Random bytes seldom come as far as that.
+// The end of the blocks of 64 bytes at the front that have no surrogate. The first few are tested
+// one by one, and the others two at a time. Random bytes rarely get that far.
 #[inline(always)]
 fn plain_front<E: Utf16Order>(raw: &[u8]) -> usize
     ensures { PairedTo E.BIG raw.now result false }
@@ -173,7 +174,8 @@ fn plain_blocks<E: Utf16Order>(raw: &[u8], from: usize) -> usize
     at
 }
 
-// The same with one more block of 32 bytes, if its surrogates are paired.
+// The end of one more block of 32 bytes, if its surrogates are paired, and whether the last unit is
+// leading.
 fn paired_half_block<E: Utf16Order>(raw: &[u8], at: usize, leading: bool) -> (usize, bool)
     requires { PairedTo E.BIG raw.now at leading }
     ensures paired { PairedTo E.BIG raw.now result.0 result.1 }
@@ -190,8 +192,8 @@ fn paired_half_block<E: Utf16Order>(raw: &[u8], at: usize, leading: bool) -> (us
     }
 }
 
-// The same unit by unit, starting at the end of a well-formed prefix. Inlined at each call: that
-// for short fields starts at 0, and costs them what it would without blocks.
+// The length of the longest valid prefix, found unit by unit from the end of a well-formed prefix.
+// Inlined at each call, so that short texts, for which it starts at 0, do not pay for the blocks.
 #[inline(always)]
 pub(crate) fn valid_len_from<E: Utf16Order>(raw: &[u8], from: usize) -> usize
     requires within { from ≤ length raw.now }
@@ -228,7 +230,7 @@ pub fn first_char_len<E: Utf16Order>(rest: &[u8]) -> Result<usize, Option<u8>>
         return Err(None);
     }
     let unit = E::read_unit([rest[0], rest[1]]);
-    // The surrogates are the units from 0xD800 to 0xDFFF: one test for all others.
+    // One test for all units that are not surrogates: the surrogates are from 0xD800 to 0xDFFF.
     if unit / 0x800 != 0x1B {
         return Ok(2);
     }
