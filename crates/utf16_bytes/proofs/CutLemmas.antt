@@ -22,7 +22,7 @@ record Leaves (big : Bool) (front : List ℕ) : Type 0 where
   leading : IsLeading (unit_of big first second)
   ends : EndsLeading big front
 
--- the last unit of bytes is that of bytes with a unit before them
+-- a unit before some bytes does not change their last unit
 EndsLeading-cons : (big : Bool) (x y : ℕ) (bytes : List ℕ) → EndsLeading big bytes → EndsLeading big (x ∷ y ∷ bytes)
 EndsLeading-cons big x y bytes ends =
     let all = x ∷ y ∷ bytes in

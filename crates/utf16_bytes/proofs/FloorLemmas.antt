@@ -1,4 +1,4 @@
--- The greatest boundary before an offset that is none.
+-- The greatest boundary before an offset that is not a boundary.
 use Rattle.std.proofs.Common.{◌≡◌, inr, ⊎_elim, ℕ, ◌+◌, ◌-◌, ◌*◌, ◌/◌, ◌%◌, ◌<◌, ◌≤◌, Bool, List, ◌∷◌, length, take, drop, slice_index, sym, ap, ap₂, ◌∙◌, subst, arith, length-take-le}
 use Rattle.std.proofs.lemmas.Bool.{cases_lt}
 use Rattle.std.proofs.lemmas.List.{drop_more, get_or-take}

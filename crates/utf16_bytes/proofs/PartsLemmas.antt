@@ -34,13 +34,13 @@ module _ (big : Bool) (bytes : List ℕ) (n m : ℕ) (le : n ≤ m) where
         subst (BeginsUnpaired big) (sym after) (second.2 (subst (EndsLeading big) (sym before) (EndsLeading-append big (take n bytes) (take (m - n) (drop n bytes)) ends)))),
   )
 
-  -- a boundary is one in the part from an earlier boundary on
+  -- a boundary is also one in the part from an earlier boundary on
   pub IsCut-drop : IsCut big bytes n → IsCut big bytes m → IsCut big (drop n bytes) (m - n)
   IsCut-drop first (inl end) = at_end end
   IsCut-drop (inl end) (inr second) = absurd (omega (arith, end, second.0, le))
   IsCut-drop (inr first) (inr second) = inr (between first second)
 
-  -- so the text from the one on is cut at the other
+  -- so the text from the earlier boundary on is cut at the later one
   pub cut_text-from : IsCut big bytes n → IsCut big bytes m
       → lossy_text big (drop n bytes) ≡ lossy_text big (take (m - n) (drop n bytes)) ++ lossy_text big (drop m bytes)
   cut_text-from first second =

@@ -11,7 +11,7 @@ use Rattle.utf16_units.specs.Encoding.{Encodes}
 use Rattle.utf16_units.specs.Laws.{swap_bytes}
 use Rattle.utf16_units.proofs.LawProofs.{swapped_orders}
 
--- the swapped bytes of a text are those of the text in the other byte order
+-- the swapped bytes of a text are the bytes of the text in the other byte order
 pub Encodes-swapped : (big : Bool) (text bytes : List ℕ) → Encodes big text bytes → Encodes (not big) text (swap_bytes bytes)
 Encodes-swapped big text bytes e = record { scalars = e.scalars; spelled = swapped_orders big text ∙ ap swap_bytes e.spelled }
 
@@ -53,7 +53,7 @@ swap_bytes-two : (x y : ℕ) → swap_bytes (x ∷ y ∷ []) ≡ y ∷ x ∷ []
 unfolding swap_bytes
 swap_bytes-two x y = refl
 
--- the next two bytes swapped
+-- the next two bytes are swapped
 pub swapped_two : (raw : List ℕ) (at : ℕ) → at + 2 ≤ length raw → swap_bytes (take 2 (drop at raw)) ≡ slice_index raw (at + 1) ∷ slice_index raw at ∷ []
 swapped_two raw at room =
     let cut : drop at raw ≡ slice_index raw at ∷ slice_index raw (at + 1) ∷ drop (at + 1 + 1) raw =

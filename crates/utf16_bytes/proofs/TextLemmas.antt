@@ -23,7 +23,7 @@ pub whole_lossy_chars-lone : (unit : ℕ) (items : List Item) (tail : List ℕ) 
 whole_lossy_chars-lone unit items [] = ap (λ c. c ∷ lossy_chars items) (lossy_char-lone_item unit)
 whole_lossy_chars-lone unit items (first ∷ after) = ap (λ c. c ∷ (lossy_chars items ++ 0xFFFD ∷ [])) (lossy_char-lone_item unit)
 
--- nothing has no text
+-- no bytes have no text
 pub nil_text : (big : Bool) → lossy_text big [] ≡ []
 unfolding split_items split_tail
 nil_text big = refl

@@ -1,4 +1,4 @@
--- A file of UTF-16 in parts about equal, before their ends are moved to boundaries.
+-- A file of UTF-16 in parts with about equal lengths, before their ends are moved to boundaries.
 use Rattle.std.specs.Prelude.{ℕ, ◌+◌, ◌-◌, ◌*◌, ◌/◌, ◌%◌, min, nat_lt, if◌then◌else◌}
 
 -- how many whole code units each part has at least, and how many of the first parts have one more
@@ -8,7 +8,8 @@ units_each len count = len / 2 / count
 abbrev pub parts_with_more : ℕ → ℕ → ℕ
 parts_with_more len count = len / 2 % count
 
--- where a part begins, after the code units of those before it: a part past the last at the end
+-- where a part begins, after the code units of the parts before it; a part after the last begins at
+-- the end
 abbrev pub shard_start : ℕ → ℕ → ℕ → ℕ
 shard_start len count index =
     if nat_lt index count then 2 * (index * units_each len count + min index (parts_with_more len count)) else len

@@ -6,8 +6,8 @@ ghost use Rattle.utf16_bytes.specs.Boundary.{IsCut, IsLastCut};
 use utf16_units::{Utf16Order, is_leading_surrogate, is_trailing_surrogate};
 
 /// Returns whether an offset is a boundary between characters: the end of the bytes, or an offset
-/// between two code units that are no surrogate pair. Any bytes are allowed: each unpaired
-/// surrogate counts as a character, and so does an incomplete one at the end, of 1 to 3 bytes.
+/// between two code units that are not a surrogate pair. Any bytes are allowed: each unpaired
+/// surrogate counts as a character, and so does an incomplete character of 1 to 3 bytes at the end.
 ///
 /// # Complexity
 ///
@@ -27,12 +27,12 @@ pub fn is_char_boundary<E: Utf16Order>(utf16: &[u8], at: usize) -> bool
     at + 2 <= utf16.len() && !is_trailing_surrogate(E::read_unit([utf16[at], utf16[at + 1]]))
 }
 
-/// Returns the greatest boundary at or before an offset, as `is_char_boundary` has them: at most
-/// three bytes before the smaller of the offset and the length.
+/// Returns the greatest boundary at or before an offset, as defined by `is_char_boundary`: at most
+/// three bytes before the offset or the length, whichever is smaller.
 ///
 /// # Complexity
 ///
-/// Constant time, as `is_char_boundary`.
+/// Constant time, like `is_char_boundary`.
 pub fn floor_char_boundary<E: Utf16Order>(utf16: &[u8], at: usize) -> usize
     ensures last { IsLastCut E.BIG utf16.now at result }
     ensures near { (at ≤ result + 3) ⊎ (length utf16.now ≤ result + 3) }

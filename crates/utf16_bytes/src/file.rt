@@ -6,14 +6,15 @@ ghost use Rattle.utf16_bytes.specs.File.{IsLastCutAround, IsLastCutOfFile, aroun
 use crate::boundary::floor_char_boundary;
 use utf16_units::Utf16Order;
 
-/// Returns the greatest boundary at or before an offset of a file, from the bytes around it alone:
-/// the four from `(at / 2 * 2).saturating_sub(2)` on, or as many as the file has. Where they are
-/// that and the offset is at most the file's length, it is that of `floor_char_boundary` over the
-/// whole file; at most three bytes before the offset for any bytes.
+/// Returns the greatest boundary at or before an offset of a file, computed only from the bytes
+/// around it: the four bytes from `(at / 2 * 2).saturating_sub(2)` on, or as many as the file has.
+/// If `around` has these bytes and the offset is at most the file's length, the result is the same
+/// as with `floor_char_boundary` on the whole file. For any bytes, it is at most three bytes before
+/// the offset.
 ///
 /// # Complexity
 ///
-/// Constant time, as `floor_char_boundary`.
+/// Constant time, like `floor_char_boundary`.
 pub fn floor_char_boundary_around<E: Utf16Order>(around: &[u8], at: u64) -> u64
     ensures near { (around_start at ≤ result) × (result ≤ at) × (at ≤ result + 3) }
     ensures around { IsLastCutAround E.BIG around.now at result }

@@ -1,6 +1,6 @@
-//! Any bytes as UTF-16, without conversion to another encoding: the byte order swapped in place,
-//! the order of two texts, and where bytes may be cut so that the parts decode to the parts of the
-//! text.
+//! Operations on any bytes as UTF-16 that do not convert them to another encoding: the byte order
+//! swapped in place, the order of two texts, and where bytes may be cut so that the parts decode to
+//! the parts of the text.
 #![tactic(auto)]
 
 mod boundary;

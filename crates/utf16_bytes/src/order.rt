@@ -12,8 +12,8 @@ use std::cmp::Ordering;
 use utf16_units::Utf16Order;
 
 /// Compares two texts by their scalar values, the first in byte order `E`, the second in byte order
-/// `F`. Any bytes are allowed: an unpaired surrogate, and an incomplete character at the end, is
-/// U+FFFD.
+/// `F`. Any bytes are allowed: an unpaired surrogate counts as U+FFFD, and so does an incomplete
+/// character at the end.
 ///
 /// # Complexity
 ///
@@ -31,7 +31,7 @@ pub fn compare<E: Utf16Order, F: Utf16Order>(first: &[u8], second: &[u8]) -> Ord
     compare_chars::<E, F>(first, second)
 }
 
-// Does the same, character by character.
+// Compares two texts like std's comparison of lists, character by character.
 fn compare_chars<E: Utf16Order, F: Utf16Order>(first: &[u8], second: &[u8]) -> Ordering
     ensures { result ≡ slice_cmp nat_cmp (lossy_text E.BIG first.now)
         (lossy_text F.BIG second.now) }
