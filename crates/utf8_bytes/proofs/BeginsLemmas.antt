@@ -1,5 +1,5 @@
--- Any bytes begin with a character, with an ill-formed subpart, or are the beginning of a
--- character; and of these three they are only one.
+-- Any bytes begin with a character, begin with an ill-formed subpart, or are the beginning of a
+-- character, and exactly one of these holds.
 use Rattle.std.proofs.Common.{◌≡◌, ◌⊎◌, ℕ, ◌<◌, ◌≤◌, false, List, [], ◌∷◌, ◌++◌, length, refl, sym, ap, ◌∙◌, ⊎_elim, inl, inr, arith, length-append, true≢false}
 use Rattle.std.proofs.lemmas.Bool.{cases_Bool, cases_lt}
 use Rattle.std.proofs.lemmas.Str.{len_utf8_bounds, length-encode}

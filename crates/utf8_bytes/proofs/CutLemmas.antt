@@ -31,11 +31,11 @@ module _ (front back : List ℕ) where
       ∙ sym (append_assoc (decided_text front) (tail_text (split_tail front)) (lossy_text back))
       ∙ ap (λ t. t ++ lossy_text back) (sym (whole_is (split_items front) (split_tail front)))
 
-  -- nothing is left of the first
+  -- the first leaves no tail
   clean : split_tail front ≡ [] → lossy_text (front ++ back) ≡ lossy_text front ++ lossy_text back
   clean none = joined (ap (λ t. lossy_text (t ++ back)) none ∙ ap (λ t. tail_text t ++ lossy_text back) (sym none))
 
-  -- the second begins with no continuation byte
+  -- the second does not begin with a continuation byte
   begun : 0 < length back → ¬ (Follows (slice_index back 0)) → lossy_text (front ++ back) ≡ lossy_text front ++ lossy_text back
   begun some other = joined (by_tail (split_tail front) (split_exists front).ends) where
     by_tail : (tail : List ℕ) → IsTail tail → lossy_text (tail ++ back) ≡ tail_text tail ++ lossy_text back

@@ -1,4 +1,4 @@
--- The whole lossy text is that of std's `from_utf8_lossy`.
+-- The whole lossy text is the text of std's `from_utf8_lossy`.
 use Rattle.std.proofs.Common.{◌≡◌, ℕ, zero, suc, ◌+◌, ◌<◌, ◌≤◌, List, [], ◌∷◌, ◌++◌, Option, None, Some, length, take, drop, refl, sym, ap, ap₂, ◌∙◌, ⊎_elim, arith, append-nil, append_assoc, length-drop}
 use Rattle.std.proofs.lemmas.Bool.{cases_lt}
 use Rattle.std.proofs.lemmas.Str.{chars-append, chars-nil, utf8_lossy-IsUtf8, utf8_lossy_empty, utf8_lossy_step}
@@ -35,7 +35,7 @@ tail_some (first ∷ after) some = refl
 lossy_is : (bytes : List ℕ) → lossy_text bytes ≡ lossy_chars (split_items bytes) ++ tail_text (split_tail bytes)
 lossy_is bytes = whole_is (split_items bytes) (split_tail bytes)
 
--- the lossy text where the error has a length, and where it has none
+-- the lossy text if the error has a length, and if it has none
 module _ (bytes : List ℕ) (n : ℕ) (at : IsValidUpTo bytes n) where
   pub lossy-fault : (len : ℕ) → utf8_error_len (drop n bytes) ≡ Some len → lossy_text bytes ≡ chars (take n bytes) ++ 0xFFFD ∷ lossy_text (drop (n + len) bytes)
   lossy-fault len error =

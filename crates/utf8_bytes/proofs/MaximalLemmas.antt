@@ -1,4 +1,4 @@
--- The length that std's error has is that of a maximal subpart in the Standard's words.
+-- The length in std's error is the length of a maximal subpart in the Standard's words.
 use Rattle.std.proofs.Common.{◌≡◌, ◌↔◌, ℕ, ◌<◌, List, Option, None, Some, take, refl, sym, ap, ◌∙◌, ⊎_elim, arith}
 use Rattle.std.proofs.lemmas.Bool.{cases_order}
 use Rattle.std.specs.Str.{StartsWithNoChar}

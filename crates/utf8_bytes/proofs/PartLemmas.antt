@@ -13,7 +13,7 @@ use Rattle.utf8_bytes.proofs.BeginsLemmas.{begins, no_bytes}
 assoc : (part seen rest more : List ℕ) → (part ++ (seen ++ rest)) ++ more ≡ part ++ (seen ++ (rest ++ more))
 assoc part seen rest more = append_assoc part (seen ++ rest) more ∙ ap (λ b. part ++ b) (append_assoc seen rest more)
 
--- no character begins a tail, and its error has no length
+-- a tail does not begin with a character, and its error has no length
 pub tail_undecided : (bytes : List ℕ) → IsTail bytes → StartsWithNoChar bytes × (utf8_error_len bytes ≡ None)
 tail_undecided bytes is = of (begins bytes) where
   whole : bytes ++ is.more ≡ encode_utf8 is.char ++ []
@@ -27,7 +27,7 @@ tail_undecided bytes is = of (begins bytes) where
       absurd ((p.then (rest ++ is.more)).no_char is.char [] is.scalar (sym (assoc part seen rest is.more) ∙ ap (λ b. b ++ is.more) e ∙ whole))
   of (tail _ none error) = (none, error)
 
--- and bytes of which this holds are a tail
+-- and bytes for which this holds are a tail
 pub tail_from : (bytes : List ℕ) → StartsWithNoChar bytes → utf8_error_len bytes ≡ None → IsTail bytes
 tail_from bytes none error = of (begins bytes) where
   of : Begins bytes → IsTail bytes
@@ -37,8 +37,9 @@ tail_from bytes none error = of (begins bytes) where
       absurd (cc)
   of (tail is _ _) = is
 
--- where no character begins and the error has a length, so many bytes are an ill-formed subpart,
--- whatever follows; they begin a character, or are one byte, and no more bytes begin a character
+-- if bytes do not begin with a character and the error has a length, their first `len` bytes are an
+-- ill-formed subpart, whatever follows; they begin a character, or are one byte, and no longer
+-- prefix begins a character
 pub record Subpart (bytes : List ℕ) (len : ℕ) : Type 0 where
   pub some : 0 < len
   pub few : len ≤ 3

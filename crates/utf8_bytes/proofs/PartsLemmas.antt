@@ -13,7 +13,7 @@ cut_within bytes at (inl start) = omega (arith, start)
 cut_within bytes at (inr (inl boundary)) = boundary.0
 cut_within bytes at (inr (inr three)) = three.1
 
--- a boundary of bytes is one of those before another boundary
+-- a boundary of bytes is also one of the bytes before another boundary
 module _ (bytes : List ℕ) (start end : ℕ) (ascend : start ≤ end) (within : end ≤ length bytes) where
   abbrev front : List ℕ
   front = take end bytes

@@ -1,4 +1,4 @@
--- The split of bytes that have an error: what its fields say of the items and the tail.
+-- The split of bytes that have an error: what the error's fields say about the items and the tail.
 use Rattle.std.proofs.Common.{◌≡◌, ℕ, ◌+◌, List, [], ◌∷◌, ◌++◌, None, Some, map, take, drop, sym, ap, ◌∙◌, subst, append-nil, drop-drop, take-append-drop}
 use Rattle.std.proofs.lemmas.List.{map-append}
 use Rattle.std.specs.Str.{IsValidUpTo, StartsWithNoChar, chars}
@@ -25,7 +25,7 @@ module _ (bytes : List ℕ) (len : ℕ) (none : StartsWithNoChar bytes) (error :
   pub split_tail-subpart : split_tail bytes ≡ split_tail (drop len bytes)
   split_tail-subpart = sym subpart_then.1
 
--- the same, where the error has none
+-- the split of such bytes, if the error has no length
 pub split_undecided : (bytes : List ℕ) → StartsWithNoChar bytes → utf8_error_len bytes ≡ None → (split_items bytes ≡ []) × (split_tail bytes ≡ bytes)
 split_undecided bytes none error =
     let only = Split-unique bytes [] bytes (Split-nil bytes (tail_from bytes none error)) in

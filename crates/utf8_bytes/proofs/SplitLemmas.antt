@@ -11,7 +11,7 @@ use Rattle.utf8_bytes.proofs.BeginsLemmas.{no_bytes}
 use Rattle.utf8_bytes.proofs.PartLemmas.{subpart_at, tail_from}
 use Rattle.utf8_bytes.proofs.ValidLemmas.{front_valid, none_after_valid}
 
--- bytes that are a tail alone
+-- bytes that are a tail and nothing else
 pub Split-nil : (tail : List ℕ) → IsTail tail → Split tail [] tail
 Split-nil tail ends = record { made = tt; spelled = refl; ends = ends }
 

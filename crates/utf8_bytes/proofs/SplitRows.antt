@@ -1,5 +1,4 @@
--- The split computed of known bytes, most of them ill-formed: each row is checked by evaluation
--- alone.
+-- The split computed of known bytes, most of them ill-formed: evaluation checks each row.
 use Rattle.std.specs.Prelude.{◌≡◌, ℕ, Bool, true, false, List, [], ◌∷◌, ◌++◌, length, refl, bytes_eq}
 use Rattle.std.proofs.Common.{ap, arith}
 use Rattle.std.specs.Char.{encode_utf8}
@@ -15,7 +14,7 @@ record Shown : Type 0 where
   tail : List ℕ
   text : List ℕ
 
--- an item as numbers: its kind, and the character, or how many bytes it has and these
+-- an item as numbers: its kind, and the character, or the number of its bytes and these
 abbrev item_numbers : Item → List ℕ
 item_numbers (good c) = 0 ∷ c ∷ []
 item_numbers (ill part) = 1 ∷ length part ∷ part
@@ -59,8 +58,8 @@ rows_shown : list_all is_shown rows ≡ true
 unfolding split_items split_tail chars is_utf8 utf8_error_len utf8_lossy utf8_valid_len encode_utf8
 rows_shown = refl
 
--- the items of two chunks are not those of each alone: the tail of the first comes before the
--- second
+-- the items of two chunks are not the items of each chunk by itself: the tail of the first comes
+-- before the second
 seam_counts : ¬ ((front back : List ℕ) → split_items (front ++ back) ≡ split_items front ++ split_items back)
 unfolding split_items split_tail chars is_utf8 utf8_error_len utf8_valid_len encode_utf8
 seam_counts each_alone =

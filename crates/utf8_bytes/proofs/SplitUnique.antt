@@ -1,5 +1,5 @@
--- Bytes have one split, and that of two chunks is that of the first, and then that of its tail
--- followed by the second.
+-- Bytes have one split, and the split of two chunks is the split of the first, followed by the
+-- split of its tail and the second.
 use Rattle.std.proofs.Common.{◌≡◌, ℕ, List, [], ◌∷◌, ◌++◌, None, Some, length, take, drop, refl, sym, ap, ap₂, ◌∙◌, subst, append_assoc, take_at, drop_at}
 use Rattle.std.proofs.lemmas.Str.{encode_same}
 use Rattle.std.specs.Str.Lossy.{utf8_error_len}

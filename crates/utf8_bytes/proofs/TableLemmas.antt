@@ -13,13 +13,13 @@ use Rattle.utf8_bytes.specs.Split.{IsSubpart, IsTail}
 
 -- ---- the characters of two, three and four bytes
 
--- the bytes are those of a character
+-- the bytes are the bytes of a character
 pub record AreChar (bytes : List ℕ) : Type 0 where
   char : ℕ
   scalar : IsScalar char
   spelled : encode_utf8 char ≡ bytes
 
--- so are those of a character that is known
+-- the bytes are the bytes of a known character
 pub record Spells (char : ℕ) (bytes : List ℕ) : Type 0 where
   pub scalar : IsScalar char
   pub spelled : encode_utf8 char ≡ bytes

@@ -1,5 +1,5 @@
--- A truncated character before a byte that does not continue it, and three continuation bytes: what
--- the split makes of them.
+-- How a truncated character is split before a byte that does not continue it, and how three
+-- continuation bytes are.
 use Rattle.std.proofs.Common.{◌≡◌, ⊎_elim, ℕ, ◌+◌, ◌-◌, ◌<◌, ◌≤◌, Some, List, [], ◌∷◌, ◌++◌, length, take, drop, slice_index, inl, refl, sym, ap, ap₂, ◌∙◌, subst, arith, append-nil, length-append, length-take-le, take_all, take_at, drop_at, take-append-drop}
 use Rattle.std.proofs.lemmas.Bool.{cases_lt}
 use Rattle.std.proofs.lemmas.List.{get_or-append-add, get_or-take, get_or_append_left, take-append-le}

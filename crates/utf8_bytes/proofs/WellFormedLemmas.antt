@@ -33,7 +33,7 @@ module _ (c : ℕ) (scalar : IsScalar c) (rest : List ℕ) (text : IsUtf8 rest) 
     (λ below. subst (λ b. 128 ≤ b → 192 ≤ b) (sym (after at past)) (is.1 (omega (arith, all, below, past)))),
   )
 
-  -- where the character ends no continuation byte is
+  -- the byte after the character is not a continuation byte
   no_follow : len < at → at ≤ length whole → ¬ (Follows (slice_index whole len))
   no_follow past within f = let above = f.0 in let below = f.1 in
       let high = (IsCharBoundary-at_seam whole (encode_utf8 c) rest refl text).1 (omega (arith, past, within)) above in omega arith

@@ -1,4 +1,5 @@
--- Where any bytes of UTF-8 may be cut, well formed or not, so that each part can be decoded alone.
+-- Where any bytes of UTF-8 may be cut, well formed or not, so that each part can be decoded by
+-- itself.
 use Rattle.std.specs.Prelude.{◌≡◌, ℕ, ◌-◌, ◌<◌, ◌≤◌, ◌⊎◌, List, [], ◌∷◌, length, slice_index}
 use Rattle.std.specs.Str.{IsCharBoundary}
 
@@ -12,12 +13,12 @@ abbrev pub FollowsThree : List ℕ → ℕ → Type 0
 FollowsThree bytes at = (3 ≤ at) × (at ≤ length bytes) × IsContinuation (slice_index bytes (at - 3))
     × IsContinuation (slice_index bytes (at - 2)) × IsContinuation (slice_index bytes (at - 1))
 
--- the start; or the end or the offset of a byte that is no continuation byte, as std has the
--- boundaries of a text; or such an offset
+-- a boundary: the start; the end or the offset of a byte that is not a continuation byte, which are
+-- std's boundaries of a text; or an offset that follows three continuation bytes
 abbrev pub IsCut : List ℕ → ℕ → Type 0
 IsCut bytes at = (at ≡ 0) ⊎ (IsCharBoundary bytes at ⊎ FollowsThree bytes at)
 
--- offsets ascend, and each is such an offset
+-- offsets ascend, and each is a boundary
 abbrev pub AreCutsFrom : List ℕ → ℕ → List ℕ → Type 0
 AreCutsFrom bytes start [] = Unit {0}
 AreCutsFrom bytes start (end ∷ ends) = (start ≤ end) × IsCut bytes end × AreCutsFrom bytes end ends

@@ -1,4 +1,4 @@
--- What a reader gets that resumes decoding by the fields of std's `Utf8Error`.
+-- What a reader gets that resumes decoding with the fields of std's `Utf8Error`.
 use Rattle.std.specs.Prelude.{◌≡◌, ℕ, ◌+◌, List, [], ◌∷◌, ◌++◌, None, Some, take, drop}
 use Rattle.std.specs.Str.{IsUtf8, IsValidUpTo, chars}
 use Rattle.std.specs.Str.Lossy.{utf8_error_len}
@@ -21,6 +21,6 @@ pub data Recipe : List ℕ → List ℕ → List ℕ → Type 0 where
 pub data Resumes : List ℕ → List (List ℕ) → List ℕ → List ℕ → Type 0 where
   -- no chunk: no text, and what was kept is kept
   ended : (kept : List ℕ) → Resumes kept [] [] kept
-  -- a chunk: the text of what was kept and the chunk; then what that keeps, and the other chunks
+  -- a chunk: the text of what was kept and the chunk; then what this keeps, and the other chunks
   fed : (before piece : List ℕ) (pieces : List (List ℕ)) (text kept more last : List ℕ) → Recipe (before ++ piece) text kept
       → Resumes kept pieces more last → Resumes before (piece ∷ pieces) (text ++ more) last

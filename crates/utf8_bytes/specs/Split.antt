@@ -21,23 +21,23 @@ item_bytes (ill part) = part
 abbrev pub items_bytes : List Item → List ℕ
 items_bytes items = flat_map item_bytes items
 
--- no character begins where the part begins, and what std's error says of the bytes from there on
--- is the part's length (Unicode, section 3.9: maximal subpart)
+-- no character begins where the part begins, and std's error for the bytes from there on has the
+-- part's length (Unicode, section 3.9: maximal subpart)
 pub record IsSubpart (part rest : List ℕ) : Type 0 where
   pub no_char : StartsWithNoChar (part ++ rest)
   pub len : utf8_error_len (part ++ rest) ≡ Some (length part)
 
--- what an item is, where the bytes `rest` follow it: a scalar value, or such a subpart
+-- what an item is if the bytes `rest` follow it: a scalar value, or an ill-formed subpart
 abbrev pub IsItem : Item → List ℕ → Type 0
 IsItem (good c) rest = IsScalar c
 IsItem (ill part) rest = IsSubpart part rest
 
--- each item is one where the other items and then the tail follow it
+-- each item is an item if the other items and then the tail follow it
 abbrev pub AreItems : List Item → List ℕ → Type 0
 AreItems [] tail = Unit {0}
 AreItems (item ∷ items) tail = IsItem item (items_bytes items ++ tail) × AreItems items tail
 
--- what may be left at the end: bytes that more bytes make those of one character, so at most three
+-- what may be left at the end: bytes that more bytes complete to one character, so at most three
 pub record IsTail (tail : List ℕ) : Type 0 where
   pub char : ℕ
   pub more : List ℕ
@@ -45,7 +45,7 @@ pub record IsTail (tail : List ℕ) : Type 0 where
   pub some : more ≢ []
   pub spelled : tail ++ more ≡ encode_utf8 char
 
--- the bytes are those of the items and then of the tail
+-- the bytes are the bytes of the items, followed by the tail
 pub record Split (bytes : List ℕ) (items : List Item) (tail : List ℕ) : Type 0 where
   pub made : AreItems items tail
   pub spelled : items_bytes items ++ tail ≡ bytes
@@ -66,13 +66,13 @@ abbrev pub whole_lossy_chars : List Item → List ℕ → List ℕ
 whole_lossy_chars items [] = lossy_chars items
 whole_lossy_chars items (first ∷ after) = lossy_chars items ++ 0xFFFD ∷ []
 
--- the items of bytes that no character begins: the ill-formed subpart, if the error has a length,
--- and then those of the bytes after it
+-- the items of bytes that do not begin with a character: the ill-formed subpart, if the error has a
+-- length, and then the items of the bytes after it
 abbrev pub items_at : Option ℕ → List ℕ → (List ℕ → List Item) → List Item
 items_at None bytes next = []
 items_at (Some len) bytes next = ill (take len bytes) ∷ next (drop len bytes)
 
--- their tail: the bytes themselves, if the error has no length
+-- the tail of such bytes: the bytes themselves, if the error has no length
 abbrev pub tail_at : Option ℕ → List ℕ → (List ℕ → List ℕ) → List ℕ
 tail_at None bytes next = bytes
 tail_at (Some len) bytes next = next (drop len bytes)
@@ -81,15 +81,15 @@ tail_at (Some len) bytes next = next (drop len bytes)
 abbrev pub after_valid : List ℕ → List ℕ
 after_valid bytes = drop (utf8_valid_len bytes) bytes
 
--- the items of the split, for at most k bytes: the characters of the longest valid prefix, and
--- those of the bytes after it
+-- the items of the split, for at most k bytes: the characters of the longest valid prefix, and the
+-- items of the bytes after it
 abbrev pub split_items_within : ℕ → List ℕ → List Item
 split_items_within zero bytes = []
 split_items_within (suc k) bytes =
     let rest = after_valid bytes in
     map good (chars (take (utf8_valid_len bytes) bytes)) ++ items_at (utf8_error_len rest) rest (λ b. split_items_within k b)
 
--- its tail, for at most k bytes
+-- the tail of the split, for at most k bytes
 abbrev pub split_tail_within : ℕ → List ℕ → List ℕ
 split_tail_within zero bytes = []
 split_tail_within (suc k) bytes =

@@ -26,7 +26,7 @@ fn follows_three(utf8: &[u8], at: usize) -> bool
 }
 
 /// Returns whether an offset is a boundary between characters: the start or the end of the bytes,
-/// or an offset of a byte that is no continuation byte, or one that follows three continuation
+/// the offset of a byte that is not a continuation byte, or an offset after three continuation
 /// bytes. Any bytes are allowed. In well-formed UTF-8 these are the boundaries of
 /// `str::is_char_boundary`, by the law `text_boundaries`.
 ///
@@ -42,13 +42,13 @@ pub fn is_char_boundary(utf8: &[u8], at: usize) -> bool
     !is_continuation(utf8[at]) || follows_three(utf8, at)
 }
 
-/// Returns the greatest boundary at or before an offset, as `is_char_boundary` has them: the length
-/// if the offset is greater, and else at most three bytes before the offset. In well-formed UTF-8
-/// it is that of `str::floor_char_boundary`.
+/// Returns the greatest boundary at or before an offset, as defined by `is_char_boundary`: the
+/// length if the offset is greater, and otherwise an offset at most three bytes smaller. In
+/// well-formed UTF-8 the result is the same as with `str::floor_char_boundary`.
 ///
 /// # Complexity
 ///
-/// Constant time, as `is_char_boundary`.
+/// Constant time, like `is_char_boundary`.
 pub fn floor_char_boundary(utf8: &[u8], at: usize) -> usize
     ensures bound { result ≤ at }
     ensures within { result ≤ length utf8.now }

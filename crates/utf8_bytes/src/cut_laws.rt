@@ -5,19 +5,19 @@
 
 ghost use Rattle.utf8_bytes.specs.CutLaws.{CutText, CutsText, TextBoundaries};
 
-/// The lossy text of bytes is that of the bytes before a boundary, and then that of the bytes from
-/// it on, for any bytes: each part can be decoded alone.
+/// The lossy text of any bytes is the text of the bytes before a boundary, followed by the text of
+/// the bytes after it: each part can be decoded by itself.
 pub fn cut_text()
     ensures { CutText }
 {}
 
-/// The lossy text of bytes is that of their parts between ascending boundaries, one after another,
-/// for any bytes.
+/// The lossy text of any bytes is the texts of their parts between ascending boundaries, one after
+/// another.
 pub fn cuts_text()
     ensures { CutsText }
 {}
 
-/// In well-formed UTF-8 the boundaries are those of `str::is_char_boundary`.
+/// In well-formed UTF-8 the boundaries are the same as for `str::is_char_boundary`.
 pub fn text_boundaries()
     ensures { TextBoundaries }
 {}

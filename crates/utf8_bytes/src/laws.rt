@@ -2,12 +2,12 @@
 //!
 //! The body of a function cites a law by a call of its function, a proof file by the lemma of that
 //! name in the module `Rattle.utf8_bytes.proofs.LawProofs`. The statements are in
-//! `specs/Laws.antt`: they are about the definitions alone, for all bytes.
+//! `specs/Laws.antt`. They depend only on the definitions, and hold for all bytes.
 
 ghost use Rattle.utf8_bytes.specs.Laws.{CutAnywhere, ItemsStay, RecipeIsSplit, ResumesIsSplit, ShownAfter, ShownWithin, SplitExists, SplitExtends, SplitUnique, SubpartIsMaximal, TailInFirst, TailIsUndecided, TextIsShown, WholeIsLossy};
 
 /// Any bytes decompose into characters, maximal subparts of ill-formed subsequences and a tail that
-/// more bytes could decide; the computed decomposition, the split, is one.
+/// more bytes could decide. The computed decomposition, the split, is such a decomposition.
 pub fn split_exists()
     ensures { SplitExists }
 {}
@@ -28,33 +28,33 @@ pub fn items_stay()
     ensures { ItemsStay }
 {}
 
-/// A stream cut in two has the text of the whole stream: that of the first chunk, and then that of
-/// its tail followed by the second chunk, with U+FFFD for a tail that is left at the end too. So
-/// the text does not depend on how a stream is cut.
+/// The text of a stream cut in two is the text of the first chunk, followed by the text of its tail
+/// and the second chunk. This also holds with U+FFFD for a tail that is left at the end. So the
+/// text does not depend on where a stream is cut.
 pub fn cut_anywhere()
     ensures { CutAnywhere }
 {}
 
-/// The lossy text of well-formed bytes is the text that they encode, and nothing is left.
+/// The lossy text of well-formed bytes is the text that they encode, and their tail is empty.
 pub fn text_is_shown()
     ensures { TextIsShown }
 {}
 
-/// A reader that resumes decoding by `valid_up_to` and `error_len` of std's `Utf8Error` gets the
+/// A reader that resumes decoding with `valid_up_to` and `error_len` of std's `Utf8Error` gets the
 /// text of the decomposition, with one U+FFFD (replacement character) for each ill-formed subpart,
 /// and what it keeps is the tail.
 pub fn recipe_is_split()
     ensures { RecipeIsSplit }
 {}
 
-/// A reader that resumes so over the chunks of a stream gets the text of the decomposition of the
-/// chunks joined, with one U+FFFD for each ill-formed subpart, and what it keeps at the end is the
-/// tail: however the stream is cut.
+/// A reader that resumes in this way over the chunks of a stream, however it is cut, gets the text
+/// of the decomposition of the joined chunks, with one U+FFFD for each ill-formed subpart. What it
+/// keeps at the end is the tail.
 pub fn resumes_is_split()
     ensures { ResumesIsSplit }
 {}
 
-/// The whole lossy text, with one more U+FFFD for a tail that is left, is that of std's
+/// The whole lossy text, with one more U+FFFD for a tail that is left, is the text of std's
 /// `from_utf8_lossy`.
 pub fn whole_is_lossy()
     ensures { WholeIsLossy }
@@ -66,26 +66,27 @@ pub fn shown_within()
     ensures { ShownWithin }
 {}
 
-/// Bytes are the beginning of one character exactly if no character begins them and `error_len` of
-/// std's `Utf8Error` is `None`.
+/// Bytes are the beginning of one character exactly if they do not begin with a character and
+/// `error_len` of std's `Utf8Error` is `None`.
 pub fn tail_is_undecided()
     ensures { TailIsUndecided }
 {}
 
-/// Where no character begins, `error_len` of std's `Utf8Error` is the length of the Standard's
-/// maximal subpart of an ill-formed subsequence, unless the bytes end before it is decided.
+/// If bytes do not begin with a character, `error_len` of std's `Utf8Error` is the length of the
+/// Standard's maximal subpart of an ill-formed subsequence, unless the bytes end before it is
+/// decided.
 pub fn subpart_is_maximal()
     ensures { SubpartIsMaximal }
 {}
 
-/// A tail that was kept is inside the first item that it and the bytes after it give: nothing of it
+/// A tail that was kept is inside the first item of that tail and the bytes after it: no part of it
 /// is decoded twice, or kept longer.
 pub fn tail_in_first()
     ensures { TailInFirst }
 {}
 
-/// A chunk of n bytes after a tail that was kept gives at most 2 n + 2 bytes of UTF-16, with U+FFFD
-/// for a tail that is left.
+/// A chunk of n bytes after a tail that was kept gives at most 2 n + 2 bytes of UTF-16. This
+/// includes a U+FFFD for a tail that is left.
 pub fn shown_after()
     ensures { ShownAfter }
 {}
