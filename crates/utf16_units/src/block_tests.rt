@@ -83,12 +83,17 @@ fn fields(found: Result<(), Utf16Error>) -> Option<(usize, Option<usize>)> {
     }
 }
 
-// Big endian; number of letters; the bytes after them; number of letters after those; error fields.
+// A text, and the result of its validation.
 type Row = (
+    // Whether the byte order is big endian.
     bool,
+    // The number of letters at the start.
     usize,
+    // The bytes after them.
     &'static [u8],
+    // The number of letters after those bytes.
     usize,
+    // The fields of the error, if there is one.
     Option<(usize, Option<usize>)>,
 );
 
