@@ -108,7 +108,7 @@ added_len-surrogate u b =
     let a : 0x800 ≤ u = omega (arith, b.0) in
     rw (le-ltb u 0x80 above, le-ltb u 0x800 a, surrogate-is u below b.0 b.1) refl
 
--- one byte of a lane or both, if the unit adds no third
+-- one byte of a lane, or both, if the unit does not add a third
 abbrev pub one_or_two : Bool → ℕ → ℕ → List ℕ
 one_or_two flag first second = cond flag (first ∷ []) (first ∷ second ∷ [])
 
@@ -201,7 +201,7 @@ added_len-le u = go (ltb u 0x80) (ltb u 0x800) (is_surrogate u)
     go false false true = omega arith
     go false false false = omega arith
 
--- a word of both, without the bytes that the unit does not add
+-- a word of both lanes, without the bytes that the unit does not add
 pub kept-utf8 : (p u : ℕ) → u < 0x1_0000 → kept_bytes (ltb 127 (absence u % 256)) (ltb 127 (absence u / 256 % 256)) (front p u % 256) (front p u / 256 % 256) (third u % 256) ≡ unit_utf8 p u
 kept-utf8 p u below = go (ltb u 0x80) (ltb u 0x800) (is_surrogate u) (front p u % 256) (front p u / 256 % 256) (third u % 256) ∙ any-utf8 p u below
   where

@@ -40,7 +40,7 @@ low-above u below e = ⊎_elim
 abbrev pub has_surrogate_byte : ℕ → Bool
 has_surrogate_byte unit = eqb (bit_and (high_byte unit) 0xF8) 0xD8
 
--- the upper five bits of a unit are those of its high byte
+-- the upper five bits of a unit are the upper five bits of its high byte
 pub surrogate_byte : (u : ℕ) → has_surrogate_byte u ≡ is_surrogate u
 surrogate_byte u =
     let high : bit_and (u / 256) 0xF8 ≡ u / 256 / 8 % 32 * 8 = and_high (u / 256) 5 3 in
@@ -82,7 +82,7 @@ ascii-units before (u ∷ units) are =
 
 -- ---- eight of a block
 
--- what units add that are followed by others
+-- what units add if others follow them
 pub units-append : (n before : ℕ) (units more : List ℕ) → length units ≡ n + 1 → units_utf8 before (units ++ more) ≡ units_utf8 before units ++ units_utf8 (slice_index units n) more
 units-append n before [] more long = absurd (omega arith)
 units-append zero before (u ∷ []) more long = units-cons before u more ∙ sym (ap (λ bs. bs ++ units_utf8 u more) (units-cons before u [] ∙ ap (λ bs. unit_utf8 before u ++ bs) (units-nil u) ∙ append-nil (unit_utf8 before u)))
@@ -92,7 +92,7 @@ units-append (suc n) before (u ∷ units) more long =
     ∙ sym (append_assoc (unit_utf8 before u) (units_utf8 u units) (units_utf8 (slice_index units n) more))
     ∙ ap (λ bs. bs ++ units_utf8 (slice_index units n) more) (sym (units-cons before u units))
 
--- a step of a writer, of n + 1 units: what was written and what is left to add are all
+-- a step of a writer over n + 1 units: what was written and what is left to add are all
 pub wrote_units : (n : ℕ) (done next all units more : List ℕ) (before : ℕ) → length units ≡ n + 1 → next ≡ done ++ units_utf8 before units → done ++ units_utf8 before (units ++ more) ≡ all
     → next ++ units_utf8 (slice_index units n) more ≡ all
 wrote_units n done next all units more before long wrote e =

@@ -22,7 +22,7 @@ lanes_of_choice n w t x y a b px py pa pb =
           ∙ ap (λ flag. cond flag (slice_index a i) (slice_index b i)) (get_or-zip2 t x y i 0 0 false (omega (arith, px)) (omega (arith, py)));
     }
 
--- where no bit is set, no element passes
+-- if no bit is set, no element passes
 pub none_by_bits : (p : ℕ → Bool) (P : ℕ → Type 0) → ((x : ℕ) → p x ≡ false → P x) → (xs : List ℕ) → mask_l (map p xs) ≡ 0 → All P xs
 none_by_bits p P failed [] e = All-nil P
 none_by_bits p P failed (x ∷ xs) e =
@@ -33,7 +33,7 @@ none_by_bits p P failed (x ∷ xs) e =
     first true m e = absurd (omega arith)
     first false m e = (refl, omega arith)
 
--- where each bit is set, each element passes
+-- if each bit is set, each element passes
 pub all_by_bits : (p : ℕ → Bool) (P : ℕ → Type 0) → ((x : ℕ) → p x ≡ true → P x) → (xs : List ℕ) → mask_l (map p xs) + 1 ≡ 2 ^ length xs → All P xs
 all_by_bits p P passed [] e = All-nil P
 all_by_bits p P passed (x ∷ xs) e =
@@ -44,7 +44,7 @@ all_by_bits p P passed (x ∷ xs) e =
     first true m k e = (refl, omega arith)
     first false m k e = absurd (omega arith)
 
--- and where each element passes, each bit is set
+-- and if each element passes, each bit is set
 pub bits_of_all : (p : ℕ → Bool) (P : ℕ → Type 0) → ((x : ℕ) → P x → p x ≡ true) → (xs : List ℕ) → All P xs → mask_l (map p xs) + 1 ≡ 2 ^ length xs
 bits_of_all p P passes [] all = refl
 bits_of_all p P passes (x ∷ xs) all =

@@ -32,7 +32,7 @@ last-leading before after units unit p =
     (omega (arith, length-map (units ++ unit ∷ []) is_low_surrogate, length-append units (unit ∷ []), length-map units is_high_surrogate))
     (p ∙ ap (λ bits. before ∷ bits) (map-append is_high_surrogate units (unit ∷ [])))
 
--- of a block and a unit more that are paired, the block is
+-- if a block and one more unit are paired, the block is paired
 paired-front : (before after : Bool) (units : List ℕ) (unit : ℕ) → Paired before (units ++ unit ∷ []) after → Paired before units (is_low_surrogate unit)
 paired-front before after units unit p =
     let lows = map is_low_surrogate units ++ is_low_surrogate unit ∷ [] in
@@ -56,14 +56,14 @@ two-bytes before unit high =
     ap length (units-cons before unit [] ∙ ap (λ bs. unit_utf8 before unit ++ bs) (units-nil unit) ∙ append-nil (unit_utf8 before unit)
     ∙ unit-leading before unit (omega (arith, bounds.0)) (omega (arith, bounds.1)))
 
--- where little of a part of the buffer is left, little is left of all of it
+-- if little of a part of the buffer is left, little is left of all of it
 pub little-left : (len part size at end : ℕ) → part ≡ min len (size / 2 * 3 + 128) → 2 * end ≤ 3 * at → at % 2 ≡ 0 → at ≤ size → part < end + 128 → len < end + 128
 little-left len part size at end is short even within full = ⊎_elim
     (λ (less : len < size / 2 * 3 + 128). omega (arith, is, less, full))
     (λ (more : size / 2 * 3 + 128 ≤ len). absurd (omega (arith, is, more, short, even, within, full)))
     (cases_lt len (size / 2 * 3 + 128))
 
--- where no block is paired, no block and a unit more are
+-- if the next block is not paired, neither are the block and one more unit
 pub stops-more : (big : Bool) (raw : List ℕ) (at : ℕ) (leading : Bool) → leading ≡ false → BlocksStopAt 64 big raw at leading → BlocksStopAt 66 big raw at false
 stops-more big raw at leading is stops more after p =
     let rest = drop at raw in
@@ -118,7 +118,7 @@ module _ (big : Bool) (raw out : List ℕ) (cursor : Cursor) (fit : (k : ℕ) �
       sym (take-take (cursor.end - 2) cursor.end out (omega arith)) ∙ ap₂ take n wrote
       ∙ take_at (units_utf8 0 units) (units_utf8 behind.0 (last.0 ∷ [])) (length (units_utf8 0 units)) refl ∙ bytes-utf8 big (take (cursor.at - 2) raw) text
 
-  -- if blocks stop after that unit, no block and a unit more can be read from it on
+  -- if blocks stop after the last unit, no block and one more unit can be read from that unit on
   pub stops-before : BlocksStopAt 64 big raw cursor.at after → BlocksStopAt 66 big raw (cursor.at - 2) false
   stops-before stops more last_leads p =
       let rest = drop (cursor.at - 2) raw in

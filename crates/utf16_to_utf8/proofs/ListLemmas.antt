@@ -46,7 +46,7 @@ threes-units before (u ∷ units) bytes at are =
     (threes-units u units bytes (at + 1) (λ i lt last. let next : at + 1 + i ≡ at + suc i = omega arith in ap (three_at bytes) next ∙ are (suc i) (omega arith) last))
     ∙ sym (units-cons before u units)
 
--- the three bytes of a lane, two of sixteen bytes and the third of those after them
+-- the three bytes of a lane: two of sixteen bytes, and the third of the sixteen after them
 pub three_from : (fronts thirds : List ℕ) (i x y z : ℕ) → length fronts ≡ 16 → i < 8 → slice_index fronts (2 * i) ≡ x → slice_index fronts (2 * i + 1) ≡ y → slice_index thirds (2 * i) ≡ z
     → three_at (fronts ++ thirds) (0 + i) ≡ x ∷ y ∷ z ∷ []
 three_from fronts thirds i x y z long lt a b d =
@@ -57,7 +57,7 @@ three_from fronts thirds i x y z long lt a b d =
     ∙ ap₂ (λ m n. m ∷ n ∷ slice_index both (16 + 2 * i) ∷ []) (get_or_append_left fronts thirds 0 (2 * i) (omega (arith, long)) ∙ a) (get_or_append_left fronts thirds 0 (2 * i + 1) (omega (arith, long)) ∙ b)
     ∙ ap (λ n. x ∷ y ∷ n ∷ []) (ap (slice_index both) behind ∙ get_or-append-add fronts thirds (2 * i) 0 ∙ d)
 
--- a cast that loses nothing leaves the lanes as they are
+-- a cast that loses no bits leaves the lanes as they are
 pub same_lanes : (lanes : List ℕ) → map (λ (n : ℕ). n) lanes ≡ lanes
 same_lanes [] = refl
 same_lanes (n ∷ lanes) = ap (λ ns. n ∷ ns) (same_lanes lanes)

@@ -22,7 +22,7 @@ all_flags-each (suc n) test all [] long = absurd (omega arith)
 all_flags-each (suc n) test all (true ∷ flags) long = all_flags-each n (λ rest. test (true ∷ rest)) (and_parts _ _ all).0 flags (omega arith)
 all_flags-each (suc n) test all (false ∷ flags) long = all_flags-each n (λ rest. test (false ∷ rest)) (and_parts _ _ all).1 flags (omega arith)
 
--- whether the row of some flags is theirs
+-- whether the row for these flags is right
 abbrev is_row : List Bool → Bool
 is_row flags = bytes_eq (take (16 - count_ones (mask_l flags)) (get_or PLACES (mask_l flags) [])) (packed flags (range_with_len 0 16))
 
@@ -30,7 +30,7 @@ pub row : (flags : List Bool) → length flags ≡ 8 → take (16 - count_ones (
 unfolding ones
 row flags long = (bytes_eq-Decides _ _).0 (all_flags-each 8 is_row refl flags long)
 
--- whether all rows are sixteen indices in a vector
+-- whether all rows are sixteen indices into a vector
 abbrev pub all_good : List (List ℕ) → Bool
 all_good [] = true
 all_good (places ∷ rows) = (eqb (length places) 16 && all_below 16 places) && all_good rows

@@ -63,14 +63,14 @@ units-after before (u ∷ units) more =
           ∙ ap (λ bs. bs ++ units_utf8 behind.0 more) (sym (units-cons before u units)),
     )
 
--- of two lists that are the same, the parts before ends of the same length
+-- of two equal lists, the parts before ends of the same length
 fronts : (a b front back : List ℕ) → a ++ b ≡ front ++ back → length b ≡ length back → a ≡ front
 fronts a b front back same ends =
     let long : length a ≡ length front = omega (arith, ap length same, length-append a b, length-append front back, ends) in
     sym (take-append_seam a b) ∙ ap (λ n. take n (a ++ b)) long ∙ ap (take (length front)) same ∙ take-append_seam front back
 
--- what was written is what the units that were read add: a unit adds as many bytes whatever comes
--- before it
+-- what was written is what the units that were read add: a unit adds the same number of bytes
+-- whatever comes before it
 pub written-units : (big : Bool) (raw out : List ℕ) (cursor : Cursor) → ((k : ℕ) → Fits w8 (slice_index raw k)) → Reached big raw out cursor
     → take cursor.end out ≡ units_utf8 0 (units_of big (take cursor.at raw))
 written-units big raw out cursor fit reached =
@@ -82,7 +82,7 @@ written-units big raw out cursor fit reached =
     let fit_back = units-fit big (drop cursor.at raw) (Each1-from_get_or (Fits w8) (drop cursor.at raw) 0 (λ k lt. subst (Fits w8) (sym (get_or-drop cursor.at raw k 0)) (fit (cursor.at + k)))) in
     fronts (take cursor.end out) (units_utf8 last back) (units_utf8 0 front) (units_utf8 all.0 back) same (length-units last back fit_back ∙ sym (length-units all.0 back fit_back))
 
--- if they are a text, that is its UTF-8
+-- if they are a text, what was written is its UTF-8
 pub written-text : (big : Bool) (raw out : List ℕ) (cursor : Cursor) → ((k : ℕ) → Fits w8 (slice_index raw k)) → Reached big raw out cursor
     → IsUtf16 big (take cursor.at raw) → take cursor.end out ≡ utf8_of big (take cursor.at raw)
 written-text big raw out cursor fit reached text = written-units big raw out cursor fit reached ∙ bytes-utf8 big (take cursor.at raw) text

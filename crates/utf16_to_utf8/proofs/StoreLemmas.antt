@@ -42,7 +42,7 @@ take-map f zero xs = refl
 take-map f (suc n) [] = refl
 take-map f (suc n) (x ∷ xs) = ap (λ t. f x ∷ t) (take-map f n xs)
 
--- those of sixteen bytes that a rule keeps by their places
+-- the bytes of sixteen that a rule keeps by their places
 pub picked-by : (keep : List ℕ → List ℕ) → ((f : ℕ → ℕ) (xs : List ℕ) → map f (keep xs) ≡ keep (map f xs)) → (bytes places : List ℕ) (n : ℕ) → length bytes ≡ 16
     → take n places ≡ keep (range_with_len 0 16) → take n (map (λ place. get_or bytes place 0) places) ≡ keep bytes
 picked-by keep keep-map bytes places n long is =

@@ -25,7 +25,7 @@ units-zeros before k (u ∷ units) =
     ∙ sym (append_assoc (unit_utf8 before u) (units_utf8 u units) (replicate k 0))
     ∙ ap (λ bs. bs ++ replicate k 0) (sym (units-cons before u units))
 
--- what was written less the zeros
+-- what was written, less the zeros
 pub less-zeros : (new front : List ℕ) (end k : ℕ) → end ≤ length new → take end new ≡ front ++ replicate k 0 → (k ≤ end) × (take (end - k) new ≡ front)
 less-zeros new front end k room e =
     let long = sym (length-take-le end new room) ∙ ap length e ∙ length-append front (replicate k 0) in

@@ -61,7 +61,7 @@ packed_words-append (a ∷ b ∷ flags) more (x ∷ y ∷ z ∷ w ∷ bytes) res
     append_assoc (kept_bytes a b x y z) (packed_words flags bytes) (packed_words more rest)
     ∙ ap (λ t. kept_bytes a b x y z ++ t) (packed_words-append flags more bytes rest (omega arith) (omega arith))
 
--- the bits of the first n flags and of the others
+-- the bits of the first n flags and of the other flags
 pub mask-parts : (n : ℕ) (flags : List Bool) → mask_l flags ≡ mask_l (take n flags) + 2 ^ n * mask_l (drop n flags)
 mask-parts zero flags = omega arith
 mask-parts (suc n) [] = omega arith
@@ -70,7 +70,7 @@ mask-parts (suc n) (flag ∷ flags) =
     let twice = ap (λ k. k * rest) (two-pow-succ n) ∙ add-mul (2 ^ n) (2 ^ n) rest in
     omega (arith, mask-parts n flags, twice)
 
--- those of sixteen flags
+-- the bits of sixteen flags
 pub mask-halves : (flags : List Bool) (bits : ℕ) → length flags ≡ 16 → bits ≡ mask_l flags → (bits % 256 ≡ mask_l (take 8 flags)) × (bits / 256 ≡ mask_l (drop 8 flags))
 mask-halves flags bits long is =
     let low : length (take 8 flags) ≡ 8 = length-take-le 8 flags (omega (arith, long)) in
@@ -78,7 +78,7 @@ mask-halves flags bits long is =
     let parts = is ∙ mask-parts 8 flags in
     (omega (arith, below, parts), omega (arith, below, parts))
 
--- ---- the UTF-8 of units, of which a word holds each
+-- ---- the UTF-8 of units, each of which has a word
 
 abbrev kept_at : List ℕ → Bool → Bool → ℕ → List ℕ
 kept_at bytes second third i = kept_bytes second third (slice_index bytes (2 * i)) (slice_index bytes (2 * i + 1)) (slice_index bytes (16 + 2 * i))
@@ -101,7 +101,7 @@ fours-units before (a ∷ b ∷ flags) (u ∷ units) bytes at long are =
     ∙ ap₂ (λ m n. kept_at bytes (get_or (a ∷ b ∷ flags) m false) (get_or (a ∷ b ∷ flags) n false) (at + suc i)) even odd ∙ are (suc i) (omega arith)))
     ∙ sym (units-cons before u units)
 
--- the bytes of a word by those of its lanes
+-- the bytes of a word by the bytes of its lanes
 pub kept-by : (fronts thirds absent : List ℕ) (i x y z a b : ℕ) → length fronts ≡ 16 → length absent ≡ 16 → i < 8
     → slice_index fronts (2 * i) ≡ x → slice_index fronts (2 * i + 1) ≡ y → slice_index thirds (2 * i) ≡ z → slice_index absent (2 * i) ≡ a → slice_index absent (2 * i + 1) ≡ b
     → kept_at (fronts ++ thirds) (get_or (map (λ byte. ltb 127 byte) absent) (2 * i) false) (get_or (map (λ byte. ltb 127 byte) absent) (2 * i + 1) false) (0 + i)

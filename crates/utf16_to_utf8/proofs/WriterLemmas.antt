@@ -28,7 +28,7 @@ reached-next n big raw out new units from to reached more long next at end last 
           (ap (λ us. done ++ units_utf8 before (us ++ left)) next ∙ ap (λ us. done ++ units_utf8 before us) (sym (units_of-behind big raw from.at (2 * (n + 1)) (omega arith) more)) ∙ reached.written));
     }
 
--- where all was read, all was written
+-- if all was read, all was written
 pub reached-all : (big : Bool) (raw out : List ℕ) (cursor : Cursor) → Reached big raw out cursor → length raw ≤ cursor.at → take cursor.end out ≡ units_utf8 0 (units_of big raw)
 reached-all big raw out cursor reached all =
     wrote_all (take cursor.end out) (units_utf8 0 (units_of big raw)) (slice_index cursor.previous 7) (units_of big (drop cursor.at raw)) (no_units big (drop_all cursor.at raw all)) reached.written

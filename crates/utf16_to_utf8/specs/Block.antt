@@ -4,7 +4,7 @@ use Rattle.utf16_to_utf8.specs.declared.blocks.Kind.{Kind}
 use Rattle.utf16_to_utf8.specs.declared.blocks.Kind.TheVariants.{Ascii, Basic, Letters, Mixed, Pairs, Wide}
 use Rattle.utf16_to_utf8.specs.Lanes.{added_len, is_surrogate}
 
--- a unit is of a kind
+-- a unit has this kind
 abbrev pub IsOfKind : Kind → ℕ → Type 0
 IsOfKind Ascii unit = unit < 0x80
 IsOfKind Letters unit = (is_surrogate unit ≡ false) × (added_len unit ≤ 2)

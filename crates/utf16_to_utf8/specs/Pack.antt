@@ -1,7 +1,7 @@
 -- The bytes of lanes, one after another.
 use Rattle.std.specs.Prelude.{◌≡◌, ℕ, zero, suc, ◌+◌, ◌*◌, ◌/◌, ◌%◌, ◌<◌, ◌++◌, Bool, cond, List, [], ◌∷◌, slice_index}
 
--- of two bytes per lane, the first alone if the lane's flag is set, else both
+-- of two bytes per lane, only the first if the lane's flag is set, else both
 abbrev pub packed : List Bool → List ℕ → List ℕ
 packed [] bytes = []
 packed (flag ∷ flags) [] = []
@@ -24,11 +24,11 @@ abbrev pub fours : ℕ → ℕ → List ℕ
 fours i zero = []
 fours i (suc n) = (2 * i) ∷ (2 * i + 1) ∷ (16 + 2 * i) ∷ (17 + 2 * i) ∷ fours (i + 1) n
 
--- the first three bytes of a word, without the second and without the third if so flagged
+-- the first three bytes of a word, without the second or the third if its flag is set
 abbrev pub kept_bytes : Bool → Bool → ℕ → ℕ → ℕ → List ℕ
 kept_bytes second third x y z = x ∷ cond second [] (y ∷ []) ++ cond third [] (z ∷ [])
 
--- of words of four bytes, those that two flags for each word keep
+-- the bytes of words of four bytes, without those that the two flags of a word leave out
 abbrev pub packed_words : List Bool → List ℕ → List ℕ
 packed_words [] bytes = []
 packed_words (second ∷ []) bytes = []

@@ -10,8 +10,8 @@ abbrev pub continuation : ℕ → ℕ
 continuation bits = 0x80 + bits % 64
 
 -- what a unit adds after the unit before it (Unicode, section 3.9: tables 3-5 and 3-6): the one to
--- three bytes of its character; of the four bytes of a surrogate pair the leading surrogate adds
--- two, and the trailing one two, for which it needs two bits of the leading one
+-- three bytes of its character; a surrogate pair has four bytes, and each surrogate adds two of
+-- them; the trailing one needs two bits of the leading one
 unfoldable pub unit_utf8 : ℕ → ℕ → List ℕ
 unit_utf8 before unit =
     if nat_lt unit 0x80 then unit ∷ [] else

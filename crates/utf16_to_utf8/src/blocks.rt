@@ -14,15 +14,20 @@ use std::simd::prelude::*;
 use utf16_units::Utf16Order;
 use utf16_units::blocks::units32;
 
-// What the units of a block have in common: all are ASCII; all are below U+0800; some are
-// surrogates and the others below U+0800; each adds three bytes; none is a surrogate; or nothing.
+// What the units of a block have in common.
 #[derive(Clone, Copy)]
 pub(crate) enum Kind {
+    // All are ASCII.
     Ascii,
+    // All are below U+0800.
     Letters,
+    // Some are surrogates, and the others are below U+0800.
     Pairs,
+    // Each adds three bytes.
     Wide,
+    // None is a surrogate.
     Basic,
+    // Nothing.
     Mixed,
 }
 
@@ -122,7 +127,7 @@ fn lesser(a: u16x8, b: u16x8) -> u16x8
     a.simd_min(b)
 }
 
-// Units raised so that the surrogates, and these alone, are below 0x800.
+// Units raised so that a unit is below 0x800 exactly if it is a surrogate.
 #[inline(always)]
 fn raised(units: u16x32) -> u16x32
     ensures { HasLanes 32 result (λ i. plus (slice_index units i) 0x2800) }
@@ -130,7 +135,7 @@ fn raised(units: u16x32) -> u16x32
     units + u16x32::splat(0x2800)
 }
 
-// Units folded so that those below U+0800 and the surrogates, and these alone, are below 0x800.
+// Units folded so that a unit is below 0x800 exactly if it is below U+0800 or a surrogate.
 #[inline(always)]
 fn folded(units: u16x32) -> u16x32
     ensures { HasLanes 32 result (λ i. folded (slice_index units i)) }
@@ -138,8 +143,9 @@ fn folded(units: u16x32) -> u16x32
     units.simd_min(raised(units))
 }
 
-// The kind of the units of a block. A kind is tested after those that it includes, because they are
-// written faster: ASCII units are also letters, and those of the first three kinds are also basic.
+// The kind of the units of a block. A kind is tested before the kinds that include it, because it
+// is written faster: ASCII units are also letters, and ASCII, letters and wide units are also
+// basic.
 #[inline(always)]
 pub(crate) fn kind_of(units: u16x32) -> Kind
     ensures { AreOfKind result units }
@@ -170,7 +176,7 @@ pub(crate) fn is_plain(kind: Kind) -> bool
     }
 }
 
-// Whether the units of a block are of a kind.
+// Whether the units of a block have this kind.
 #[inline(always)]
 pub(crate) fn are_of(units: u16x32, kind: Kind) -> bool
     ensures { IsTrue result → AreOfKind kind units }
@@ -191,7 +197,7 @@ pub(crate) fn are_of(units: u16x32, kind: Kind) -> bool
     }
 }
 
-// Writes the UTF-8 that a block of a kind adds.
+// Writes the UTF-8 that a block of this kind adds.
 #[inline(always)]
 pub(crate) fn write_block(
     out: &mut [u8],

@@ -62,7 +62,7 @@ fn write_ascii_units(out: &mut [u8], at: usize, units: u16x8) -> usize
     at + 8
 }
 
-// Units folded so that those below U+0800 and the surrogates, and these alone, are below 0x800.
+// Units folded so that a unit is below 0x800 exactly if it is below U+0800 or a surrogate.
 #[inline(always)]
 fn folded_eight(units: u16x8) -> u16x8
     ensures { HasLanes 8 result (λ i. folded (slice_index units i)) }
@@ -110,8 +110,8 @@ pub(crate) fn write_next_eight<E: Utf16Order>(raw: &[u8], out: &mut [u8], from: 
     }
 }
 
-// Writes the UTF-8 of at most eight units, whose bytes are padded with zeros: each zero unit adds a
-// byte, which is taken back.
+// Writes the UTF-8 of at most eight units, whose bytes are padded with zeros. Each zero unit adds a
+// byte, which the result does not count.
 #[inline(always)]
 pub(crate) fn write_padded<E: Utf16Order>(
     padded: u8x16,

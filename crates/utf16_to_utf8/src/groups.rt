@@ -1,5 +1,5 @@
-//! The UTF-8 that eight units add, with SIMD: their first two bytes, their third, and which of
-//! these they do not add.
+//! The UTF-8 that eight units add, with SIMD: the first two bytes of each, the third, and which of
+//! these a unit does not add.
 
 ghost use Rattle.std.specs.Prelude.{◌≡◌, ◌<◌, ℕ, false, if◌then◌else◌, slice_index};
 ghost use Rattle.utf16_units.specs.Lanes.{HasLanes};
@@ -93,7 +93,7 @@ pub(crate) fn absences(units: u16x8, surrogates: bool) -> u16x8
     where_below(units, 0x80, each(0xFFFF), short)
 }
 
-// The same of units from U+0800 on.
+// Which bytes a unit from U+0800 on does not add.
 #[inline(always)]
 fn absences_above(units: u16x8, surrogates: bool) -> u16x8
     requires { surrogates ≡ false → (i : ℕ) → i < 8 → is_surrogate (slice_index units i) ≡ false }

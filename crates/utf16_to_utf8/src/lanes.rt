@@ -52,7 +52,7 @@ pub(crate) fn smaller(a: u16x8, b: u16x8) -> u16x8
     a.simd_min(b)
 }
 
-// Selects the lane of `a` if that of `v` is below `limit`, else the lane of `b`.
+// Selects the lane of `a` if the lane of `v` is below `limit`, else the lane of `b`.
 #[inline(always)]
 pub(crate) fn where_below(v: u16x8, limit: u16, a: u16x8, b: u16x8) -> u16x8
     ensures { HasLanes 8 result (λ i. if nat_lt (slice_index v i) limit then slice_index a i
@@ -61,7 +61,7 @@ pub(crate) fn where_below(v: u16x8, limit: u16, a: u16x8, b: u16x8) -> u16x8
     v.simd_lt(u16x8::splat(limit)).select(a, b)
 }
 
-// Selects the lane of `a` if that of `v` is a surrogate, else the lane of `b`.
+// Selects the lane of `a` if the lane of `v` is a surrogate, else the lane of `b`.
 #[inline(always)]
 pub(crate) fn where_surrogate(v: u16x8, a: u16x8, b: u16x8) -> u16x8
     ensures { HasLanes 8 result (λ i. if is_surrogate (slice_index v i) then slice_index a i

@@ -42,7 +42,8 @@ fn units_len<E: Utf16Order>(raw: &[u8]) -> usize
     len + rest_len::<E>(&raw[at..])
 }
 
-// The same for at most a block: it is padded with zeros, each of which adds one byte.
+// The number of bytes that the units of at most a block add. The block is padded with zeros, each
+// of which adds one byte.
 #[inline(always)]
 fn rest_len<E: Utf16Order>(raw: &[u8]) -> usize
     requires few { length raw.now ≤ 64 }
@@ -52,8 +53,8 @@ fn rest_len<E: Utf16Order>(raw: &[u8]) -> usize
     block_len(filled_units::<E>(raw)) - (32 - raw.len() / 2)
 }
 
-// The number of bytes that the units of a block add: three each, one less if it is below U+0800,
-// one less again if it is ASCII, and one less if it is a surrogate.
+// The number of bytes that the units of a block add: three for each, less one if it is below
+// U+0800, less another one if it is ASCII, and less one if it is a surrogate.
 #[inline(always)]
 fn block_len(units: u16x32) -> usize
     ensures { result ≡ sum_by added_len units }

@@ -1,4 +1,4 @@
-//! Conversion of UTF-16 to UTF-8 with SIMD: the length, and writers into a buffer of the caller's.
+//! Conversion of UTF-16 to UTF-8 with SIMD: the length, and writers into a buffer that you own.
 #![tactic(auto)]
 
 mod blocks;

@@ -77,7 +77,7 @@ fn first_threes(fronts: u8x16, thirds: u8x16) -> u8x16
     )
 }
 
-// The last eight of these bytes.
+// The last eight bytes of the same twenty-four.
 #[inline(always)]
 fn last_threes(fronts: u8x16, thirds: u8x16) -> u8x8
     ensures { result ≡ drop 16 (pick_l 0 (fronts ++ thirds) (threes 0 8)) }
@@ -101,7 +101,7 @@ pub(crate) fn write_wide(out: &mut [u8], at: usize, units: u16x8) -> usize
     at + 24
 }
 
-// The bytes of four words: of each of the first four lanes the two bytes of `fronts` and the two of
+// Four words of four bytes: for each of the first four lanes, two bytes of `fronts` and two of
 // `thirds`.
 #[inline(always)]
 fn low_words(fronts: u8x16, thirds: u8x16) -> u8x16
@@ -113,7 +113,7 @@ fn low_words(fronts: u8x16, thirds: u8x16) -> u8x16
     )
 }
 
-// The same of the last four lanes.
+// Four words of four bytes, for the last four lanes.
 #[inline(always)]
 fn high_words(fronts: u8x16, thirds: u8x16) -> u8x16
     ensures { result ≡ pick_l 0 (fronts ++ thirds) (fours 4 4) }
@@ -133,8 +133,8 @@ fn upper_bits(bytes: u8x16) -> usize
     bytes.simd_gt(u8x16::splat(0x7F)).to_bitmask() as usize
 }
 
-// Writes the first three bytes of four words of four, but for those that `absent` leaves out: its
-// two bits for each word are for the second byte and for the third.
+// Writes the first three bytes of each of four words, except the bytes that `absent` leaves out. It
+// has two bits for each word: one for the second byte and one for the third.
 #[inline(always)]
 fn write_words(out: &mut [u8], at: usize, words: u8x16, absent: usize) -> usize
     requires space { at + 16 ≤ length out.old }

@@ -16,7 +16,7 @@ pub(crate) fn moved_front(bytes: u8x16, len: usize) -> u8x16
     bytes.swizzle_dyn(last_places(len))
 }
 
-// The places of the last bytes of sixteen, and for zeros the place 128.
+// The indices of the last `len` of sixteen bytes, and then 128, which gives a zero.
 #[inline(always)]
 fn last_places(len: usize) -> u8x16
     requires { len ≤ 16 }
@@ -25,7 +25,7 @@ fn last_places(len: usize) -> u8x16
     u8x16::from_array(LAST_PLACES[len])
 }
 
-// The bytes of a text of eight to sixteen bytes, and zeros after them.
+// The bytes of a text of eight to sixteen bytes, padded with zeros.
 #[inline(always)]
 pub(crate) fn few_bytes(raw: &[u8]) -> u8x16
     requires some { 8 ≤ length raw.now }

@@ -7,8 +7,8 @@ ghost use Rattle.utf16_to_utf8.specs.Pack.{packed};
 
 use std::simd::prelude::*;
 
-// The source indices, by a bit for each unit that adds one byte: at an even index is the first byte
-// of a unit, at the next index its second.
+// The source indices for these units, with a bit in `one` for each unit that adds one byte. The
+// first byte of a unit is at an even index, and its second byte at the next index.
 #[inline(always)]
 pub(crate) fn places(one: usize) -> u8x16
     requires { one < 256 }

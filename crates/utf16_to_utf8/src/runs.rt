@@ -15,8 +15,8 @@ use utf16_units::Utf16Order;
 use utf16_units::blocks::units32;
 use utf16_units::surrogates::paired;
 
-// How far a text was written: the number of bytes read and the number of bytes written, and the
-// eight units before the next.
+// How far a text is written: the number of bytes read, the number of bytes written, and the last
+// eight units read.
 #[derive(Clone, Copy)]
 pub(crate) struct Cursor {
     pub(crate) at: usize,
@@ -34,7 +34,7 @@ fn next_units<E: Utf16Order>(raw: &[u8], at: usize) -> u16x32
     units32::<E>(u8x64::from_slice(&raw[at..]))
 }
 
-// Writes the next block, and if it is ASCII, wide or of pairs also the blocks of its kind that
+// Writes the next block. If it is ASCII, wide or of pairs, also writes the blocks of its kind that
 // follow it.
 #[inline(always)]
 pub(crate) fn write_next<E: Utf16Order>(raw: &[u8], out: &mut [u8], from: Cursor) -> Cursor
@@ -48,8 +48,8 @@ pub(crate) fn write_next<E: Utf16Order>(raw: &[u8], out: &mut [u8], from: Cursor
     write_known::<E, true>(raw, out, from, units, kind_of(units))
 }
 
-// How far a text was written that was tested too, and whether the last unit is a leading surrogate,
-// of which two bytes were written.
+// How far a text is validated and written, and whether the last unit is a leading surrogate. In
+// that case two bytes of its character are written.
 #[derive(Clone, Copy)]
 pub(crate) struct Tested {
     pub(crate) cursor: Cursor,
@@ -115,8 +115,8 @@ fn write_plain<E: Utf16Order>(raw: &[u8], out: &mut [u8], from: Cursor) -> Curso
     cursor
 }
 
-// Writes the next block if its surrogates are paired, and if it has pairs and letters alone also
-// the blocks of these that follow it, as far as they fit.
+// Writes the next block if its surrogates are paired. If it has only pairs and units below U+0800,
+// also writes such blocks that follow it, as far as they fit.
 #[inline(always)]
 fn write_surrogates<E: Utf16Order>(
     raw: &[u8],
@@ -159,9 +159,9 @@ fn write_surrogates<E: Utf16Order>(
     Some(done)
 }
 
-// Writes the next block, which is of a kind, and if it is ASCII, wide or, with `PAIRS`, of pairs
-// also the blocks of its kind that follow it and fit. A function for each caller, so that it is
-// compiled into both.
+// Writes the next block, whose kind is known. If it is ASCII, wide or, with `PAIRS`, of pairs, also
+// writes the blocks of its kind that follow it and fit. It is generic over `PAIRS` so that each
+// caller gets a separate copy.
 #[inline(always)]
 fn write_known<E: Utf16Order, const PAIRS: bool>(
     raw: &[u8],
@@ -187,7 +187,7 @@ fn write_known<E: Utf16Order, const PAIRS: bool>(
     }
 }
 
-// Writes the ASCII blocks from the cursor on that fit: the first alone, and those after it two at a
+// Writes the ASCII blocks from the cursor on that fit: the first one by itself, and then two at a
 // time.
 #[inline(always)]
 fn write_ascii_run<E: Utf16Order>(raw: &[u8], out: &mut [u8], from: Cursor) -> Cursor
@@ -219,7 +219,7 @@ fn write_ascii_pairs<E: Utf16Order>(raw: &[u8], out: &mut [u8], from: Cursor) ->
     requires reached { Reached E.BIG raw.now out.old from }
     ensures advanced { Advanced E.BIG Ascii raw.now out.new from result }
 {
-    // Each two blocks take 64 bytes.
+    // Two blocks of ASCII take 64 bytes of UTF-8.
     let space = out.len() - from.end;
     if raw.len() - from.at < 128 || space < SLACK + 32 {
         return from;
@@ -239,7 +239,7 @@ fn write_ascii_pairs<E: Utf16Order>(raw: &[u8], out: &mut [u8], from: Cursor) ->
     cursor
 }
 
-// Writes the blocks of a kind from the cursor on that fit.
+// Writes the blocks of this kind from the cursor on that fit.
 #[inline(always)]
 fn write_run<E: Utf16Order>(raw: &[u8], out: &mut [u8], from: Cursor, kind: Kind) -> Cursor
     requires many { 64 ≤ length raw.now }
@@ -263,7 +263,7 @@ fn write_run<E: Utf16Order>(raw: &[u8], out: &mut [u8], from: Cursor, kind: Kind
     cursor
 }
 
-// Writes the next block, which is of a kind.
+// Writes the next block, whose kind is known.
 #[inline(always)]
 fn write_block_units<E: Utf16Order>(
     raw: &[u8],

@@ -1,4 +1,4 @@
-//! A few code units, which are written one by one.
+//! Writes a few code units one by one.
 
 ghost use Rattle.std.specs.Prelude.{◌≡◌, ◌+◌, ◌*◌, ◌/◌, ◌%◌, ◌<◌, ◌≤◌, [], ◌∷◌, ◌++◌, length, take};
 ghost use Rattle.utf16_units.specs.Encoding.{units_of};
@@ -32,7 +32,7 @@ pub(crate) fn write_each<E: Utf16Order>(
     end
 }
 
-// Writes what a unit adds after the unit `before` it, one to three bytes.
+// Writes what a unit adds after the unit `before`: one to three bytes.
 #[inline(always)]
 fn write_unit(out: &mut [u8], at: usize, before: u16, unit: u16) -> usize
     requires space { at + 3 ≤ length out.old }

@@ -1,4 +1,4 @@
-//! The source indices of the UTF-8 of four units, of which a word of four bytes holds each.
+//! The source indices of the UTF-8 of four units, each of which has a word of four bytes.
 
 ghost use Rattle.std.specs.Prelude.{◌≡◌, ◌-◌, ◌<◌, ◌≤◌, Bool, List, count_ones, length, take};
 ghost use Rattle.std.specs.List.{range_with_len};
@@ -7,8 +7,8 @@ ghost use Rattle.utf16_to_utf8.specs.Pack.{packed_words};
 
 use std::simd::prelude::*;
 
-// The source indices, by two bits for each word: whether its second byte is left out, and whether
-// its third byte is.
+// The source indices for these words, with two bits in `absent` for each: whether its second byte
+// is left out, and whether its third byte is.
 #[inline(always)]
 pub(crate) fn word_places(absent: usize) -> u8x16
     requires { absent < 256 }

@@ -41,13 +41,14 @@ pub fn write_utf8<E: Utf16Order>(raw: &[u8], to: &mut [u8]) -> usize
     write_units::<E>(raw, &mut to[..room])
 }
 
-/// Writes the blocks of thirty-two code units at the start whose surrogates are paired in UTF-8 to
-/// the start of `to`, as far as they fit, and validates them while it writes them. Returns the
-/// number of bytes read, which are well formed, and the number of bytes written.
+/// Writes the blocks of thirty-two code units at the start of `raw` to the start of `to`, in UTF-8,
+/// as long as their surrogates are paired and they fit. It validates them at the same time. Returns
+/// the number of bytes read, which are well formed, and the number of bytes written.
 ///
-/// It stops only where the surrogates of the next thirty-three code units are not paired, or there
-/// are fewer, or `to` has fewer than 130 bytes of space left. The bytes of `to` after the written
-/// ones and before `raw.len() / 2 * 3 + SLACK` may have changed; those from there on are unchanged.
+/// It stops only if the surrogates of the next thirty-three code units are not paired, there are
+/// fewer code units, or `to` has space for fewer than 130 more bytes. The bytes of `to` after the
+/// written ones and before `raw.len() / 2 * 3 + SLACK` may have changed; those from there on are
+/// unchanged.
 ///
 /// # Complexity
 ///
@@ -69,7 +70,7 @@ pub fn write_blocks<E: Utf16Order>(raw: &[u8], to: &mut [u8]) -> Moved
     whole_chars::<E>(raw, out, done)
 }
 
-// Returns how far whole characters were read and written.
+// Returns how far whole characters are read and written.
 #[inline(always)]
 fn whole_chars<E: Utf16Order>(raw: &[u8], out: &[u8], done: Tested) -> Moved
     requires reached { Reached E.BIG raw.now out.now done.cursor }
@@ -113,7 +114,7 @@ fn write_units<E: Utf16Order>(raw: &[u8], out: &mut [u8]) -> usize
     write_many::<E>(raw, out)
 }
 
-// The same of eight units and more.
+// Writes the UTF-8 that eight units or more add.
 #[inline(never)]
 fn write_many<E: Utf16Order>(raw: &[u8], out: &mut [u8]) -> usize
     requires even { length raw.now % 2 ≡ 0 }

@@ -3,7 +3,7 @@ use Rattle.utf16_units.specs.Encoding.{units_of}
 use Rattle.utf16_to_utf8.specs.Lanes.{added_len}
 use Rattle.utf16_to_utf8.proofs.lens.units_len.Given as goal
 
--- the length so far and what the units left add are what all add
+-- the length so far, and what the units that are left add, is what all of them add
 abbrev pub invariant-loop-at : goal.invariant-loop-at
 invariant-loop-at g l = record {
   within : l.at ≤ length l.raw;
