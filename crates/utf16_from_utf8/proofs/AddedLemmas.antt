@@ -1,4 +1,5 @@
--- What a byte adds, by its class and those of the bytes before it; and what consecutive bytes add.
+-- What a byte adds, by the classes of the byte and of the bytes before it; and what consecutive
+-- bytes add.
 use Rattle.std.proofs.Common.{◌≡◌, ℕ, zero, suc, ◌+◌, ◌-◌, ◌*◌, ◌/◌, ◌%◌, ◌<◌, ◌≤◌, ◌&&◌, Bool, true, false, cond, ltb, List, [], ◌∷◌, ◌++◌, drop, drop-drop, get_or, length, length-drop, length-take-le, slice_index, take, refl, sym, ap, ap₂, ◌∙◌, arith, flat_map, append_assoc, lt-ltb, le-ltb}
 use Rattle.std.proofs.Math.Seq.{take-add}
 use Rattle.std.proofs.lemmas.Grind.{flat_map-append}
@@ -65,7 +66,7 @@ pub added_bytes-cons : (big : Bool) (b2 b1 b0 : ℕ) (bytes : List ℕ) → adde
 added_bytes-cons big b2 b1 b0 bytes =
     ap (flat_map (unit_bytes big)) (all_added-cons b2 b1 b0 bytes) ∙ flat_map-append (unit_bytes big) (added b2 b1 b0) (all_added b1 b0 bytes)
 
--- the last byte of several that follow one, and the last but one of those that follow two
+-- the last byte of bytes after one other byte, and the last but one of bytes after two
 abbrev pub last_of : ℕ → List ℕ → ℕ
 last_of b1 [] = b1
 last_of b1 (b0 ∷ bytes) = last_of b0 bytes

@@ -24,12 +24,12 @@ piece-some bytes n most (c ∷ cs, (scalars, is)) room some nearest = ⊎_elim
     (λ (any : 1 ≤ n). any)
     (cases_lt n 1)
 
--- where the whole text fits, the rest of it does
+-- if the whole text fits, the rest of it does
 pub rest-fits : (big : Bool) (old items text rest : List ℕ) (room : ℕ) → items ++ encode big (chars rest) ≡ old ++ encode big (chars text) → length old + size (chars text) ≤ room → length items + size (chars rest) ≤ room
 rest-fits big old items text rest room whole fits =
     omega (arith, fits, ap length whole, length-append old (encode big (chars text)), length-encode big (chars text), length-append items (encode big (chars rest)), length-encode big (chars rest))
 
--- a text is a piece of it and the next ones
+-- a text is a piece of it, followed by the next pieces
 module _ (big : Bool) (items all text piece next : List ℕ) (utf8 : IsUtf8 piece) (split : text ≡ piece ++ next) (done : items ++ encode big (chars text) ≡ all) where
   pub pieces-done : (items ++ encode big (chars piece)) ++ encode big (chars next) ≡ all
   pieces-done =

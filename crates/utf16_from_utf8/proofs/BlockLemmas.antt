@@ -68,7 +68,7 @@ unit-added big b2 b1 b0 bit high low is are = ⊎_elim
     ap (λ n. cond (n == 1) (pair_bytes big high low) []) none ∙ sym (byte-adds-first big b2 b1 b0 a))
     (cases_lt b0 0xC0)
 
--- each of the pairs is kept exactly if its byte adds a unit, and then it is that unit
+-- each of the pairs is kept exactly if its byte adds a unit, and a pair that is kept is that unit
 pub record AreAdded (big : Bool) (b2 b1 : ℕ) (block highs lows : List ℕ) (bits : ℕ) : Type 0 where
   pub high_len : length highs ≡ length block
   pub low_len : length lows ≡ length block
@@ -122,7 +122,7 @@ three-added big b2 b1 x y z more p q r e f g =
     ∙ ap (λ s. s ++ added_bytes big y z more)
     (byte-adds-one big x y z last (omega arith) ∙ ap (unit_bytes big) unit ∙ sym (pair-unit big (x % 16 * 4096 + (y % 64 * 64 + z % 64)) (three_high x y) (short_low y z) (three-bytes x y z)))
 
--- ---- a block's lanes, from the vectors that they were computed of
+-- ---- a block's lanes, from the vectors that they were computed from
 
 -- where a unit ends, the lanes are its bytes
 abbrev pub AreUnits : List ℕ → List ℕ → List ℕ → List ℕ → List ℕ → Type 0
@@ -179,7 +179,7 @@ added-bound big b2 b1 out out' bytes end end' old new wrote =
 
 -- ---- a last block, filled
 
--- bytes that end no unit add none
+-- bytes that do not end a unit add nothing
 pub added-filled : (big : Bool) (b2 b1 : ℕ) (bytes : List ℕ) (k : ℕ) → added_bytes big b2 b1 (bytes ++ replicate k 0xFF) ≡ added_bytes big b2 b1 bytes
 added-filled big b2 b1 [] zero = refl
 added-filled big b2 b1 [] (suc k) =

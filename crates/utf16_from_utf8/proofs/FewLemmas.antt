@@ -7,7 +7,7 @@ use Rattle.utf16_units.specs.Encoding.{char_bytes, char_size, encode, size}
 use Rattle.utf16_units.proofs.CharLemmas.{length-char_bytes}
 use Rattle.utf16_units.proofs.EncodingLemmas.{encode-append, encode-one}
 
--- the bytes of one more character, written after those of the characters before it
+-- the bytes of one more character, written after the bytes of the characters before it
 module _ (big : Bool) (buf part rest given : List ℕ) (len c n : ℕ) (written : take len buf ≡ encode big given) (counted : len ≡ size given)
     (within : len ≤ length buf) (added : part ≡ char_bytes big c ++ rest) (size_c : n ≡ char_size c) (room : length part ≡ length buf - len) where
   tail : List ℕ

@@ -14,7 +14,7 @@ pub follows-at : (x y z w p q r s : ℕ) → p ≡ x → q ≡ y → r ≡ z →
 follows-at x y z w p q r s e f g h follows =
     subst (λ t. Follows t q r s) (sym e) (subst (λ t. Follows x t r s) (sym f) (subst (λ t. Follows x y t s) (sym g) (subst (λ t. Follows x y z t) (sym h) follows)))
 
--- so many zeros before some bytes
+-- some bytes after `d` zeros
 abbrev pub behind : ℕ → List ℕ → List ℕ
 behind zero xs = xs
 behind (suc d) xs = 0 ∷ behind d xs
@@ -62,9 +62,9 @@ follow-next bytes at k n some most all j below =
     (sym (behind-at 1 bytes at (k + j) (omega (arith, some)) ∙ ap (slice_index bytes) (omega (arith, some))))
     (ap (slice_index bytes) (omega arith)) (all (k + j) (omega (arith, most, below)))
 
--- ---- the bytes before those of a chunk
+-- ---- the bytes before each byte of a chunk
 
--- the bytes before those of a block, read from the chunk
+-- the bytes before each byte of a block, read from the chunk
 pub before-in : (piece : List ℕ) (at : ℕ) → 2 ≤ at → at + 16 ≤ length piece
     → AreBefore (slice_index piece (at - 2)) (slice_index piece (at - 1)) (chunk at 16 piece) (chunk (at - 2) 16 piece) (chunk (at - 1) 16 piece)
 before-in piece at some room = record {
@@ -96,11 +96,11 @@ before-two bytes b1 at zero some below one = ap (slice_index bytes) (omega arith
 before-two bytes b1 at (suc i) some below one =
     one i (omega (arith, below)) ∙ before-one bytes at i (omega (arith, some)) (omega (arith, below)) ∙ ap (slice_index bytes) (omega (arith, some))
 
--- what all of the next n are below, one of them is by its place
+-- a limit above all of the next n bytes is above each of them
 pub further-below : (bytes : List ℕ) (at limit n i place : ℕ) → place ≡ at + i → i < n → AreBelow n bytes at limit → slice_index bytes place < limit
 further-below bytes at limit n i place is below all = omega (arith, ap (slice_index bytes) is, all i below)
 
--- ---- the first sixteen, where none is before them
+-- ---- the first sixteen bytes, which no bytes precede
 
 pub first-one : (bytes b2 b1 : List ℕ) (at : ℕ) → AreBefore 0 0 (chunk at 16 bytes) b2 b1 → (i : ℕ) → i < 16 → slice_index b1 i ≡ slice_index (0 ∷ drop at bytes) i
 first-one bytes b2 b1 at before i below = before.one.lanes i below ∙ behind-take 1 16 bytes at i below
@@ -112,7 +112,7 @@ pub first-three : (bytes b3 b2 b1 : List ℕ) (at : ℕ) → AreBefore 0 0 (chun
     → (i : ℕ) → i < 16 → slice_index b3 i ≡ slice_index (0 ∷ 0 ∷ 0 ∷ drop at bytes) i
 first-three bytes b3 b2 b1 at before third i below = third.lanes i below ∙ later-lanes b2 (0 ∷ 0 ∷ drop at bytes) (first-two bytes b2 b1 at before) i below
 
--- what is said of a byte and the two before it holds at a place
+-- a statement about a byte and the two before it, at a place
 abbrev pub At : (ℕ → ℕ → ℕ → Type 0) → List ℕ → ℕ → ℕ → Type 0
 At P bytes at i = P (slice_index (0 ∷ 0 ∷ drop at bytes) i) (slice_index (0 ∷ drop at bytes) i) (slice_index bytes (at + i))
 

@@ -1,4 +1,5 @@
--- The two bytes of a unit, and those of a character of three bytes as the lanes compute them.
+-- The two bytes of a unit, and of the unit of a character of three bytes, as the lanes compute
+-- them.
 use Rattle.std.proofs.Common.{[], ◌∷◌, ◌≡◌, ℕ, ◌+◌, ◌*◌, ◌/◌, ◌%◌, Bool, true, false, bit_and, ap₂, ◌∙◌, arith}
 use Rattle.std.proofs.lemmas.Nat.{and_mask}
 use Rattle.utf16_units.specs.Unit.{unit_bytes}

@@ -17,11 +17,11 @@ use Rattle.utf16_from_utf8.specs.declared.positions.TheConstants.{KEPT}
 
 -- ---- the table, row by row
 
--- whether a row is that of some bits
+-- whether a row is the row of these bits
 abbrev is_row : ℕ → List ℕ → Bool
 is_row bits row = bytes_eq (take (2 * count_ones bits) row) (kept_pairs bits (range_with_len 0 16)) && (eqb (length row) 16 && all_below 16 row)
 
--- whether rows are those of the numbers from some bits on
+-- whether rows are the rows of the numbers from `bits` on
 abbrev are_rows : ℕ → List (List ℕ) → Bool
 are_rows bits [] = true
 are_rows bits (row ∷ rows) = is_row bits row && are_rows (bits + 1) rows
@@ -83,7 +83,7 @@ packed pairs positions bits long is =
 pub positions-fit : (bits : ℕ) (positions : List ℕ) → Packs bits positions → SwzOk w8 16 16 0 positions
 positions-fit bits positions is = SwzOk-from_below w8 16 1 16 0 positions refl (omega (arith, is.len)) (all_below-each 16 positions is.below)
 
--- the first n bytes of a stored vector, after those before it
+-- the first n bytes of a stored vector, after the bytes before it
 pub stored_front : (at n : ℕ) (out v : List ℕ) → n ≤ length v → at + length v ≤ length out → take (at + n) (put_chunk at out v) ≡ take at out ++ take n v
 stored_front at n out v few room =
     sym (take-take (at + n) (at + length v) (put_chunk at out v) (omega arith))

@@ -1,4 +1,4 @@
--- The rest of a text, sixteen bytes at a time, and its last bytes by a block that they end.
+-- The rest of a text, sixteen bytes at a time, and its last bytes as the end of a block.
 use Rattle.std.proofs.Common.{◌≡◌, ℕ, zero, suc, ◌+◌, ◌-◌, ◌*◌, ◌/◌, ◌%◌, ◌^◌, ◌<◌, ◌≤◌, ◌==◌, Bool, true, false, cond, List, [], ◌∷◌, ◌++◌, length, length-append, length-drop, length-take-le, take, drop, slice_index, subst, refl, sym, ap, ap₂, ◌∙◌, arith}
 use Rattle.std.proofs.Math.Nat.{div-div-eq-div-mul, div-mul-le_self, two-pow-succ}
 use Rattle.std.proofs.Math.Seq.{take-add}
@@ -123,7 +123,7 @@ after-one : (y : ℕ) (text : List ℕ) (read i : ℕ) → 1 ≤ read → y ≡ 
 after-one y text read zero some f = f ∙ ap (slice_index text) (omega (arith, some))
 after-one y text read (suc i) some f = get_or-drop read text i 0 ∙ ap (slice_index text) (omega (arith, some))
 
--- the last sixteen bytes from `at` on, of which those before `read` were written
+-- the last sixteen bytes from `at` on, of which the bytes before `read` were written
 module _ (big : Bool) (text b2 highs lows : List ℕ) (at read bits : ℕ) (utf8 : IsUtf8 text) (more : at + 16 ≡ length text) (some : 1 ≤ at) (after : suc at ≤ read) (within : read ≤ length text)
     (before : HasLanes 16 b2 (λ i. slice_index (0 ∷ chunk (at - 1) 16 text) i))
     (h : HasLanes 16 highs (λ i. four_high (slice_index b2 i) (slice_index (chunk (at - 1) 16 text) i) (slice_index (chunk at 16 text) i)))

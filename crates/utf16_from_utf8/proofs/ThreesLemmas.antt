@@ -27,7 +27,7 @@ Plane from others all order a b c =
     let plane = pick_l 0 (a ++ rest) all in
     pick_l 0 (plane ++ plane) order ≡ pick_l 0 (a ++ (b ++ c)) (every_third from 16)
 
--- it is enough to look at vectors that are written out
+-- it is enough to prove it for vectors that are written out
 pub plane : (from : ℕ) (others all order a b c : List ℕ) → length a ≡ 16 → length b ≡ 16 → length c ≡ 16
     → ((x y z : List ℕ) → Plane from others all order (pick_l 0 x sixteen) (pick_l 0 y sixteen) (pick_l 0 z sixteen)) → Plane from others all order a b c
 plane from others all order a b c p q r computed =
@@ -46,7 +46,7 @@ three-chunks at xs room =
     ∙ ap (λ t. take 16 (drop at xs) ++ take 32 t) (drop-drop 16 at xs)
     ∙ ap (λ t. take 16 (drop at xs) ++ t) (take-add 16 16 (drop (at + 16) xs) ∙ ap (λ t. take 16 (drop (at + 16) xs) ++ take 16 t) (drop-drop 16 (at + 16) xs ∙ ap (λ n. drop n xs) (omega arith)))
 
--- the upper bits, by a sum that is zero
+-- the upper bits, if the sum is zero
 pub first-by : (x m e s : ℕ) → m ≡ bit_and x 0xF0 → e ≡ 0x20 → s ≡ (m + e) % 2 ^ 8 → s < 1 → bit_and x 0xF0 ≡ 0xE0
 first-by x m e s is twenty plus none = let high : bit_and x 0xF0 ≡ x / 16 % 16 * 16 = and_high x 4 4 in omega (arith, is, twenty, plus, none, high)
 
@@ -77,7 +77,7 @@ woven-added big b2 b1 (x ∷ xs) (y ∷ ys) (z ∷ zs) (h ∷ highs) (l ∷ lows
 
 -- ---- well formed
 
--- the high byte of a unit that is at least U+0800 and no surrogate
+-- the high byte of a unit that is at least U+0800 and not a surrogate
 abbrev pub IsHigh : ℕ → Type 0
 IsHigh high = (8 ≤ high) × ((high < 0xD8) ⊎ (0xE0 ≤ high))
 

@@ -15,7 +15,7 @@ use Rattle.utf16_from_utf8.proofs.LaneByteLemmas.{AreBytes, bytes-by}
 
 -- ---- at most two bytes
 
--- the bits of the first byte of two, in the lane of the second; else zero
+-- in the lane of the second byte of two, the bits of the first; elsewhere zero
 abbrev pub two_lead : ℕ → ℕ
 two_lead b1 = (cond (ltb b1 0xC0) 0xC0 b1 + 0x40) % 2 ^ 8
 
@@ -53,7 +53,7 @@ two-added big b2 b1 b0 bit high low follows is h l =
 
 -- ---- at most three
 
--- the first byte of three, in the lane of the third; else one whose lower bits are zero
+-- in the lane of the third byte of three, the first; elsewhere a byte whose lower bits are zero
 abbrev pub three_lead : ℕ → ℕ
 three_lead b2 = cond (ltb b2 0xE0) 0xE0 b2
 

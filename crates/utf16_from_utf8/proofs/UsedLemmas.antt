@@ -59,7 +59,7 @@ module _ (big : Bool) (n : ℕ) (many : 16 ≤ n) (bytes : List ℕ) (at : ℕ) 
   byte-first k i b =
       ap (take (suc k)) (drop-cons rest i 0 (omega (arith, b, more, length-drop at bytes))) ∙ ap (λ x. x ∷ take k (drop (suc i) rest)) (get_or-drop at bytes i 0)
 
-  -- the bytes before one that begins a character end theirs
+  -- the bytes before a byte that begins a character are a text
   before-utf8 : (i : ℕ) → i < n → 3 ≤ i → 0xC0 ≤ byte i → IsUtf8 (take i rest)
   before-utf8 i b some lead =
       front-utf8 bytes at i (omega (arith, more, b)) (λ j below. follow j (omega (arith, below, b))) some
@@ -70,7 +70,7 @@ module _ (big : Bool) (n : ℕ) (many : 16 ≤ n) (bytes : List ℕ) (at : ℕ) 
       none : {A : Type 0} → ((0xC0 ≤ slice_index (0 ∷ rest) i) ⊎ (0xE0 ≤ slice_index (0 ∷ 0 ∷ rest) i) ⊎ (0xF0 ≤ slice_index (0 ∷ 0 ∷ 0 ∷ rest) i)) → A
       none behind = absurd (omega (arith, lead, ((follow i b).continues.0 behind).1))
 
-  -- what the last bytes add after the others
+  -- what the last bytes add after the other bytes
   last-add : (k i : ℕ) (tail added : List ℕ) → i + k ≡ n → take k (drop i rest) ≡ tail → added_bytes big (last_but_one 0 0 (take i rest)) (last_of 0 (take i rest)) tail ≡ added
       → added_bytes big 0 0 (take n rest) ≡ added_bytes big 0 0 (take i rest) ++ added
   last-add k i tail added all are adds =

@@ -1,4 +1,5 @@
--- Bytes are well formed exactly if each may follow those before it, and they end with a character.
+-- Bytes are well formed exactly if each may follow the bytes before it, and they end with a
+-- character.
 use Rattle.std.proofs.Common.{◌≡◌, ℕ, zero, suc, ◌+◌, ◌-◌, ◌*◌, ◌/◌, ◌%◌, ◌<◌, ◌≤◌, ◌⊎◌, ⊎_elim, inl, inr, All, List, [], ◌∷◌, ◌++◌, drop, encode_utf8_all, length, length-drop, slice_index, subst, refl, sym, ap₂, ◌∙◌, arith}
 use Rattle.std.proofs.lemmas.Bool.{cases_lt}
 use Rattle.std.proofs.lemmas.List.{get_or-drop}
@@ -75,7 +76,7 @@ abbrev pub FollowAll : ℕ → ℕ → ℕ → List ℕ → Type 0
 FollowAll b3 b2 b1 bytes =
     (i : ℕ) → i < length bytes → Follows (slice_index (b3 ∷ b2 ∷ b1 ∷ bytes) i) (slice_index (b2 ∷ b1 ∷ bytes) i) (slice_index (b1 ∷ bytes) i) (slice_index bytes i)
 
--- no character begins in the last three bytes that does not end there
+-- every character that begins in the last three bytes ends there
 pub record EndsWhole (bytes : List ℕ) : Type 0 where
   pub one : (i : ℕ) → suc i ≡ length bytes → slice_index bytes i < 0xC0
   pub two : (i : ℕ) → suc (suc i) ≡ length bytes → slice_index bytes i < 0xE0

@@ -4,9 +4,9 @@ use Rattle.std.specs.Prelude.{ℕ, ◌+◌, ◌*◌, ◌/◌, ◌%◌, Bool, ◌
 use Rattle.std.specs.List.{flat_map}
 use Rattle.utf16_units.specs.Unit.{unit_bytes}
 
--- the unit whose last byte is b0, after b2 and b1: that of a character of one byte, of two and of
--- three; of four bytes the third ends the leading surrogate and the fourth the trailing one
--- (Unicode, section 3.9: tables 3-5 and 3-6)
+-- the unit whose last byte is b0, after b2 and b1: the unit of a character of one byte, of two or
+-- of three bytes; of four bytes, the third ends the leading surrogate and the fourth the trailing
+-- one (Unicode, section 3.9: tables 3-5 and 3-6)
 unfoldable pub unit_after : ℕ → ℕ → ℕ → ℕ
 unit_after b2 b1 b0 =
     if nat_lt b0 0x80 then b0

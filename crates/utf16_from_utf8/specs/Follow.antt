@@ -3,9 +3,8 @@ use Rattle.std.specs.Prelude.{◌≡◌, ℕ, ◌+◌, ◌-◌, ◌<◌, ◌≤�
 use Rattle.utf16_units.specs.Lanes.{HasLanes}
 
 -- whether b0 may come after b3, b2 and b1: it is a continuation byte exactly if b1 begins a
--- character, b2 one of three bytes or more, or b3 one of four; it is none of those that begin no
--- character; and the second byte of three and of four is in its range (Unicode, section 3.9:
--- table 3-7)
+-- character, b2 a character of three bytes or more, or b3 one of four; it is a byte that can occur;
+-- and the second byte of three and of four is in its range (Unicode, section 3.9: table 3-7)
 pub record Follows (b3 b2 b1 b0 : ℕ) : Type 0 where
   pub continues : ((0xC0 ≤ b1) ⊎ (0xE0 ≤ b2) ⊎ (0xF0 ≤ b3)) ↔ ((0x80 ≤ b0) × (b0 < 0xC0))
   pub begins : (b0 < 0xC0) ⊎ ((0xC2 ≤ b0) × (b0 < 0xF5))
@@ -14,7 +13,7 @@ pub record Follows (b3 b2 b1 b0 : ℕ) : Type 0 where
   pub after_F0 : b1 ≡ 0xF0 → 0x90 ≤ b0
   pub after_F4 : b1 ≡ 0xF4 → b0 < 0x90
 
--- each of the next n bytes may follow those before it, where a text begins at the first
+-- each of the next n bytes may follow the bytes before it, if a text begins at the first
 abbrev pub FollowTo : ℕ → List ℕ → ℕ → Type 0
 FollowTo n bytes at =
     (i : ℕ) → i < n
@@ -28,12 +27,13 @@ IsBlock bytes at = (at + 64 ≤ length bytes) × FollowTo 64 bytes at
 abbrev pub AreBelow : ℕ → List ℕ → ℕ → ℕ → Type 0
 AreBelow n bytes at limit = (i : ℕ) → i < n → slice_index bytes (at + i) < limit
 
--- what all bytes of characters of at most so many bytes are below (Unicode, section 3.9: table 3-6)
+-- the limit that all bytes of characters of at most `most` bytes are below (Unicode, section 3.9:
+-- table 3-6)
 abbrev pub limit_of : ℕ → ℕ
 limit_of most = if most == 2 then 0xE0 else (if most == 3 then 0xF0 else 0x100)
 
--- how many of the next n bytes are of characters that end among them: after these come one byte
--- of a character of several, two of one of three or more, or three of one of four
+-- how many of the next n bytes belong to characters that end among them: after these comes one byte
+-- of a longer character, two of a character of three or four bytes, or three of one of four
 abbrev pub AreUsed : ℕ → List ℕ → ℕ → ℕ → Type 0
 AreUsed n bytes at used =
     ((used + 3 ≡ n) × (0xF0 ≤ slice_index bytes (at + used)))
@@ -47,7 +47,7 @@ pub record AreBefore (before2 before1 : ℕ) (block b2 b1 : List ℕ) : Type 0 w
   pub one : HasLanes 16 b1 (λ i. slice_index (before1 ∷ block) i)
   pub two : HasLanes 16 b2 (λ i. slice_index (before2 ∷ b1) i)
 
--- b0 after b2 and b1, where characters have at most three bytes
+-- b0 after b2 and b1, if characters have at most three bytes
 pub record FollowsTwo (limit b2 b1 b0 : ℕ) : Type 0 where
   pub continues : ((0xC0 ≤ b1) ⊎ (0xE0 ≤ b2)) ↔ ((0x80 ≤ b0) × (b0 < 0xC0))
   pub apart : (b2 < 0xE0) ⊎ (b1 < 0xC0)
@@ -59,8 +59,8 @@ FollowLanes limit b2 b1 block =
     (i : ℕ) → i < 16
     → FollowsTwo limit (slice_index b2 i) (slice_index b1 i) (slice_index block i)
 
--- b0 after b2 and b1, where characters have at most four bytes: before a continuation byte one of
--- the two begins a character, or both are continuation bytes too
+-- b0 after b2 and b1, if characters have at most four bytes: before a continuation byte, one of the
+-- two begins a character, or both are continuation bytes too
 pub record FollowsAny (b2 b1 b0 : ℕ) : Type 0 where
   pub continues : (0xC0 ≤ b1) ⊎ (0xE0 ≤ b2) → (0x80 ≤ b0) × (b0 < 0xC0)
   pub apart : (b2 < 0xE0) ⊎ (b1 < 0xC0)

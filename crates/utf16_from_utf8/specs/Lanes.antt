@@ -21,8 +21,8 @@ kept_pairs bits [] = []
 kept_pairs bits (byte ∷ []) = []
 kept_pairs bits (first ∷ second ∷ pairs) = (if bits % 2 == 1 then first ∷ second ∷ [] else []) ++ kept_pairs (bits / 2) pairs
 
--- the indices of those of eight pairs of bytes whose bit is set: the first of sixteen positions in
--- a vector
+-- the indices of the pairs of bytes whose bit is set, of eight pairs: they are at the front of
+-- sixteen positions in a vector
 pub record Packs (bits : ℕ) (positions : List ℕ) : Type 0 where
   pub kept : take (2 * count_ones bits) positions ≡ kept_pairs bits (range_with_len 0 16)
   pub len : length positions ≡ 16

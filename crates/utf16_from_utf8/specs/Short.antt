@@ -2,7 +2,7 @@
 use Rattle.std.specs.Prelude.{◌≡◌, ℕ, ◌+◌, ◌-◌, ◌<◌, List, true, if◌then◌else◌, length, nat_lt, slice_index}
 use Rattle.std.specs.Simd.Lanes.{all_below}
 
--- the place of the byte at i: in the first eight, or in the last eight
+-- the place of the byte at i: in the first eight bytes, or in the last eight
 abbrev pub place : ℕ → ℕ → ℕ
 place len i = if nat_lt i 8 then i else (if nat_lt i len then i + 16 - len else 0)
 

@@ -13,7 +13,7 @@ woven (x ∷ firsts) [] thirds = []
 woven (x ∷ firsts) (y ∷ seconds) [] = []
 woven (x ∷ firsts) (y ∷ seconds) (z ∷ thirds) = x ∷ y ∷ z ∷ woven firsts seconds thirds
 
--- the upper bits are those of a character of three bytes (Unicode, section 3.9: table 3-6)
+-- the upper bits are the upper bits of a character of three bytes (Unicode, section 3.9: table 3-6)
 pub record IsThree (b2 b1 b0 : ℕ) : Type 0 where
   pub first : bit_and b2 0xF0 ≡ 0xE0
   pub second : bit_and b1 0xC0 ≡ 0x80

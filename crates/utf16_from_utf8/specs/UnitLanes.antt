@@ -1,5 +1,5 @@
--- The two bytes of the unit that ends at b0 after b2 and b1, as lanes of one byte compute them
--- where the text is well formed.
+-- The two bytes of the unit that ends at b0 after b2 and b1, as lanes of one byte compute them if
+-- the text is well formed.
 use Rattle.std.specs.Prelude.{ℕ, ◌+◌, ◌*◌, ◌/◌, ◌%◌, ◌^◌, bit_and, bit_or, nat_lt, if◌then◌else◌}
 
 -- the low and the high byte of a character of three bytes
@@ -13,7 +13,7 @@ three_high b2 b1 = (b2 * 2 ^ 4 % 2 ^ 8 + bit_and (b1 / 2 ^ 2) 0xF) % 2 ^ 8
 abbrev pub previous_of : ℕ → ℕ → ℕ
 previous_of b1 b0 = if nat_lt b0 0x80 then 0xC0 else b1
 
--- the high byte, except of a leading surrogate; a trailing one lacks its upper bits
+-- the high byte, except of a leading surrogate; the upper bits of a trailing surrogate are missing
 abbrev pub high_of : ℕ → ℕ → ℕ
 high_of b2 previous =
     (bit_and (previous / 2 ^ 2) 0xF + (if nat_lt b2 0xE0 then 0xE0 else b2) * 2 ^ 4 % 2 ^ 8)

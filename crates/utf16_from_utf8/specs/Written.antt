@@ -1,4 +1,4 @@
--- How far a writer of UTF-16 came that validates the UTF-8 that it reads.
+-- The progress of a writer of UTF-16 that validates the UTF-8 that it reads.
 use Rattle.std.specs.Prelude.{◌≡◌, ℕ, ◌*◌, ◌≤◌, Bool, List, length, take}
 use Rattle.std.specs.Str.{IsUtf8, chars}
 use Rattle.utf16_units.specs.Encoding.{encode}

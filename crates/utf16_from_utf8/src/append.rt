@@ -61,7 +61,7 @@ pub fn append_utf16<E: Utf16Order, A: Allocator>(
     extend_long::<E, A>(raw, s)
 }
 
-// Appends a text that is converted before its length is known.
+// Appends a short text, which is converted before the length of its UTF-16 is known.
 #[inline(always)]
 fn append_short<E: Utf16Order, A: Allocator>(
     raw: &mut Vec<u8, A>,
@@ -81,7 +81,8 @@ fn append_short<E: Utf16Order, A: Allocator>(
     }
 }
 
-// The same of any short text. Kept out of line so that a few characters do not pay for its buffer.
+// Appends a short text of any length. Kept out of line so that a few characters do not pay for its
+// buffer.
 #[inline(never)]
 fn append_at_once<E: Utf16Order, A: Allocator>(
     raw: &mut Vec<u8, A>,
@@ -97,8 +98,8 @@ fn append_at_once<E: Utf16Order, A: Allocator>(
     append_by::<E, A>(raw, s, &mut [0; 2 * SHORT_TEXT + SLACK])
 }
 
-// Appends a text that is converted piece by piece. Kept out of line so that shorter ones do not pay
-// for its buffer.
+// Appends a text that is converted piece by piece. Kept out of line so that shorter texts do not
+// pay for its buffer.
 #[inline(never)]
 fn extend_long<E: Utf16Order, A: Allocator>(raw: &mut Vec<u8, A>, s: &str) -> Result<(), AllocError>
     requires { vec_len raw.old + size (chars s.now) ≤ vec_capacity raw.old }

@@ -12,11 +12,11 @@ use std::simd::prelude::*;
 use utf16_units::Utf16Order;
 
 /// Writes the ASCII at the start of the bytes in UTF-16 to the start of `out`, and returns how many
-/// bytes it read. For each of them it wrote two bytes.
+/// bytes it read. It wrote two bytes for each of them.
 ///
-/// Sixteen bytes or more are written as a whole if all are ASCII. Otherwise it writes whole blocks
-/// of sixteen bytes, and stops before the first that has a byte of another character. The other
-/// bytes of `out` stay as they were.
+/// It writes all bytes if they are ASCII and at least sixteen. Otherwise it writes whole blocks of
+/// sixteen bytes, and stops before the first block that has a byte of another character. The other
+/// bytes of `out` are unchanged.
 ///
 /// # Precondition
 ///
@@ -46,7 +46,8 @@ pub fn write_ascii<E: Utf16Order>(bytes: &[u8], out: &mut [u8]) -> usize
     write_front::<E>(bytes, out)
 }
 
-// The same for many bytes. Kept out of line so that other texts do not pay for a call.
+// Writes the ASCII at the start of sixteen bytes or more. Kept out of line so that other texts do
+// not pay for a call.
 #[inline(never)]
 fn write_front<E: Utf16Order>(bytes: &[u8], out: &mut [u8]) -> usize
     requires space { 2 * length bytes.now ≤ length out.old }
@@ -64,8 +65,8 @@ fn write_front<E: Utf16Order>(bytes: &[u8], out: &mut [u8]) -> usize
     write_last_block::<E>(bytes, out, at)
 }
 
-// Writes the last bytes, fewer than a block, if they are ASCII: with those before them that make a
-// block, and are written again.
+// Writes the last bytes, fewer than a block, if they are ASCII. It writes them as a block, together
+// with the bytes before them, which are written again.
 #[inline(always)]
 fn write_last_block<E: Utf16Order>(bytes: &[u8], out: &mut [u8], at: usize) -> usize
     requires space { 2 * length bytes.now ≤ length out.old }
@@ -101,7 +102,7 @@ fn write_wide_blocks<E: Utf16Order>(bytes: &[u8], out: &mut [u8]) -> usize
     at
 }
 
-// Writes blocks of sixteen characters of one byte, after those that were written.
+// Writes blocks of sixteen characters of one byte, after the blocks that were written.
 #[inline(always)]
 fn write_narrow_blocks<E: Utf16Order>(bytes: &[u8], out: &mut [u8], from: usize) -> usize
     requires space { 2 * length bytes.now ≤ length out.old }
@@ -154,7 +155,7 @@ fn write_narrow_block<E: Utf16Order>(bytes: &[u8], out: &mut [u8], at: usize) ->
 }
 
 /// Writes sixteen characters of ASCII at `at`, and returns where they end. The other bytes of `out`
-/// stay as they were.
+/// are unchanged.
 ///
 /// # Precondition
 ///

@@ -1,4 +1,4 @@
-//! Characters of at most two, three or four bytes, a block of sixty-four bytes at a time.
+//! Blocks of sixty-four bytes whose characters have at most two, three or four bytes.
 
 ghost use Rattle.std.specs.Prelude.{◌≡◌, ◌+◌, ◌-◌, ◌*◌, ◌%◌, ◌<◌, ◌≤◌, ◌++◌, ◌↔◌, IsTrue, ℕ, drop, length, slice_index, take};
 ghost use Rattle.utf16_from_utf8.specs.Added.{added_bytes};
@@ -12,8 +12,8 @@ use crate::sixteen::write_sixteen;
 use std::simd::prelude::*;
 use utf16_units::{Moved, Utf16Order};
 
-// Writes the next sixty-four bytes, of characters of at most `MOST` bytes, but not those at the end
-// that begin a character and do not end it. Writes nothing if they are ill formed.
+// Writes the next sixty-four bytes, whose characters have at most `MOST` bytes, without the bytes
+// of a character that does not end among them. Writes nothing if they are ill formed.
 #[inline(always)]
 pub(crate) fn write_block<E: Utf16Order, const MOST: usize>(
     bytes: &[u8],
@@ -34,8 +34,8 @@ pub(crate) fn write_block<E: Utf16Order, const MOST: usize>(
     write_well_formed::<E, MOST>(bytes, out, from)
 }
 
-// Writes the next sixty-four bytes, which begin a well-formed text, but not those at the end that
-// begin a character and do not end it.
+// Writes the next sixty-four bytes, which begin a well-formed text, without the bytes of a
+// character that does not end among them.
 #[inline(always)]
 fn write_well_formed<E: Utf16Order, const MOST: usize>(
     bytes: &[u8],
@@ -53,7 +53,7 @@ fn write_well_formed<E: Utf16Order, const MOST: usize>(
     let end = write_all::<E, MOST>(bytes, out, from);
     let used = used::<MOST>(bytes, from.read);
     if used + 3 == 64 {
-        // Three bytes of a character have added its leading surrogate.
+        // The first three bytes of a character have added its leading surrogate: leave it out.
         Moved {
             read: from.read + used,
             written: end - 2,
@@ -83,8 +83,8 @@ fn are_well_formed<const MOST: usize>(bytes: &[u8], at: usize) -> bool
     are_below(all, 1)
 }
 
-// Not zero where one of the sixteen bytes at `at` may not follow those before it, if a text begins
-// there.
+// Not zero where one of the sixteen bytes at `at` may not follow the bytes before it, if a text
+// begins there.
 #[inline(always)]
 fn first_faults<const MOST: usize>(bytes: &[u8], at: usize) -> u8x16
     requires more { at + 16 ≤ length bytes.now }
@@ -111,7 +111,7 @@ fn faults_at<const MOST: usize>(bytes: &[u8], at: usize) -> u8x16
     faults::<MOST>(b3, b2, b1, u8x16::from_slice(&bytes[at..]))
 }
 
-// Writes all that the next sixty-four bytes add, which begin a well-formed text.
+// Writes the units that end in the next sixty-four bytes, which begin a well-formed text.
 #[inline(always)]
 fn write_all<E: Utf16Order, const MOST: usize>(bytes: &[u8], out: &mut [u8], from: Moved) -> usize
     requires more { from.read + 64 ≤ length bytes.now }
@@ -136,7 +136,7 @@ fn write_all<E: Utf16Order, const MOST: usize>(bytes: &[u8], out: &mut [u8], fro
     end
 }
 
-// The byte two before each one of a block, and the one before it.
+// For each byte of a block, the byte two before it, and the byte before it.
 #[inline(always)]
 pub(crate) fn before(block: u8x16, before2: u8, before1: u8) -> (u8x16, u8x16)
     ensures { AreBefore before2 before1 block result.0 result.1 }
@@ -145,7 +145,7 @@ pub(crate) fn before(block: u8x16, before2: u8, before1: u8) -> (u8x16, u8x16)
     (previous_lanes(b1, before2), b1)
 }
 
-// Those of the block at `at`.
+// For each byte of the block at `at`, the byte two before it, and the byte before it.
 #[inline(always)]
 pub(crate) fn before_at(bytes: &[u8], at: usize) -> (u8x16, u8x16)
     requires some { 2 ≤ at }
@@ -159,7 +159,7 @@ pub(crate) fn before_at(bytes: &[u8], at: usize) -> (u8x16, u8x16)
     )
 }
 
-// How many of the next sixty-four bytes are of characters that end among them.
+// How many of the next sixty-four bytes belong to characters that end among them.
 #[inline(always)]
 fn used<const MOST: usize>(bytes: &[u8], at: usize) -> usize
     requires more { at + 64 ≤ length bytes.now }

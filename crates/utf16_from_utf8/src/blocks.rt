@@ -15,11 +15,11 @@ use utf16_units::{Moved, Utf16Order};
 const BLOCK_LEN: usize = 64;
 
 /// Writes the blocks at the start of the bytes in UTF-16 to the start of `out`, and validates them
-/// while it writes them. Returns the number of bytes read, which are well formed, and the number of
+/// at the same time. Returns the number of bytes read, which are well formed, and the number of
 /// bytes written. The bytes after those written may be overwritten.
 ///
-/// It stops only where the next sixty-four bytes do not begin a well-formed text, or there are
-/// fewer, or `out` has fewer than 128 bytes of space left.
+/// It stops only if the next sixty-four bytes do not begin a well-formed text, there are fewer
+/// bytes, or `out` has space for fewer than 128 more bytes.
 ///
 /// # Complexity
 ///
@@ -67,8 +67,8 @@ fn write_mixed_blocks<E: Utf16Order>(bytes: &[u8], out: &mut [u8], from: Moved) 
     cursor
 }
 
-// Writes at least the next block, or nothing if it is ill formed. Returns where the bytes after
-// those read begin, and where what was written ends.
+// Writes at least the next block, or nothing if it is ill formed. Returns the new numbers of bytes
+// read and written.
 #[inline(always)]
 fn write_next<E: Utf16Order>(bytes: &[u8], out: &mut [u8], from: Moved) -> Moved
     requires space { from.written + 128 ≤ length out.old }
@@ -95,7 +95,8 @@ fn write_next<E: Utf16Order>(bytes: &[u8], out: &mut [u8], from: Moved) -> Moved
     write_block::<E, 4>(bytes, out, next)
 }
 
-// Writes the next characters of three or of four bytes, whichever the first has, several at a time.
+// Writes the next characters, several at a time, as long as they have as many bytes as the first:
+// three or four.
 #[inline(always)]
 fn write_run<E: Utf16Order>(bytes: &[u8], out: &mut [u8], from: Moved) -> Moved
     requires space { from.written + 128 ≤ length out.old }

@@ -1,4 +1,4 @@
-//! Where bytes may not follow those before them.
+//! Finds bytes that may not follow the bytes before them.
 
 ghost use Rattle.std.specs.Prelude.{◌≡◌, ◌<◌, ◌≤◌, ◌⊎◌, ◌↔◌, ℕ, slice_index};
 ghost use Rattle.utf16_from_utf8.specs.Follow.{Follows, limit_of};
@@ -6,8 +6,8 @@ ghost use Rattle.utf16_from_utf8.specs.Follow.{Follows, limit_of};
 use crate::lanes::{each, greater, sum, where_below};
 use std::simd::prelude::*;
 
-// Not zero where a byte may not follow the three before it. They are of characters of at most
-// `MOST` bytes.
+// Not zero where a byte may not follow the three before it. All four belong to characters of at
+// most `MOST` bytes.
 #[inline(always)]
 pub(crate) fn faults<const MOST: usize>(b3: u8x16, b2: u8x16, b1: u8x16, b0: u8x16) -> u8x16
     ensures { (i : ℕ) → i < 16 → slice_index b3 i < limit_of MOST
@@ -71,7 +71,7 @@ fn above(v: u8x16, limit: u8) -> u8x16
     sum(greater(v, each(limit)), each(255 - limit + 1))
 }
 
-// Not zero where a byte is a continuation byte, and where it is none.
+// Not zero where a byte is a continuation byte, and not zero where it is another byte.
 #[inline(always)]
 fn continuations(b0: u8x16) -> (u8x16, u8x16)
     ensures continues { (i : ℕ) → i < 16 → (slice_index result.0 i < 1)
@@ -86,7 +86,7 @@ fn continuations(b0: u8x16) -> (u8x16, u8x16)
     )
 }
 
-// Not zero where a byte begins a character of two bytes that one would do.
+// Not zero where a byte begins a character of two bytes that would fit into one.
 #[inline(always)]
 fn overlong(b0: u8x16) -> u8x16
     ensures { (i : ℕ) → i < 16 → (slice_index result i < 1)

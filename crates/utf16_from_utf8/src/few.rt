@@ -1,4 +1,4 @@
-//! A few characters, which are converted one by one.
+//! Converts a few characters one by one.
 
 ghost use Rattle.std.specs.Prelude.{◌≡◌, ◌≤◌, length, take};
 ghost use Rattle.std.specs.Str.{chars};

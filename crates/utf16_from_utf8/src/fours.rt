@@ -13,11 +13,12 @@ use crate::units::four_bytes;
 use std::simd::prelude::*;
 use utf16_units::{Moved, Utf16Order};
 
-// The upper bits of each byte in four characters of four bytes, and the mask of these bits.
+// The upper bits of each byte of four characters of four bytes.
 const FOURS: [u8; 16] = [
     0xF0, 0x80, 0x80, 0x80, 0xF0, 0x80, 0x80, 0x80, 0xF0, 0x80, 0x80, 0x80, 0xF0, 0x80, 0x80, 0x80,
 ];
 
+// The mask of these bits.
 const UPPER_OF_FOURS: [u8; 16] = [
     0xF8, 0xC0, 0xC0, 0xC0, 0xF8, 0xC0, 0xC0, 0xC0, 0xF8, 0xC0, 0xC0, 0xC0, 0xF8, 0xC0, 0xC0, 0xC0,
 ];
@@ -30,7 +31,7 @@ pub(crate) fn write_fours<E: Utf16Order>(bytes: &[u8], out: &mut [u8], from: Mov
     ensures advances { from.read ≤ result.read }
     ensures stays { result.read ≡ from.read → result.written ≡ from.written }
 {
-    // Four characters of four bytes take as many bytes in UTF-16.
+    // Four characters of four bytes take sixteen bytes in UTF-8 and in UTF-16.
     let most = (bytes.len() - from.read).min(out.len() - from.written);
     let last = from.read + most / 16 * 16;
     let mut read = from.read;
@@ -46,8 +47,8 @@ pub(crate) fn write_fours<E: Utf16Order>(bytes: &[u8], out: &mut [u8], from: Mov
     Moved { read, written }
 }
 
-// Writes four characters of four bytes: two units for each, that of its first three bytes and that
-// of its last three.
+// Writes four characters of four bytes. Each has two units: the first ends at its third byte, and
+// the second at its fourth.
 #[inline(always)]
 fn write_fours_block<E: Utf16Order>(out: &mut [u8], at: usize, block: u8x16) -> usize
     requires space { at + 16 ≤ length out.old }
@@ -65,7 +66,7 @@ fn write_fours_block<E: Utf16Order>(out: &mut [u8], at: usize, block: u8x16) -> 
     at + 16
 }
 
-// Whether the bytes are those of four characters of four bytes.
+// Whether the bytes are four characters of four bytes.
 #[inline(always)]
 fn are_characters(block: u8x16) -> bool
     ensures well_formed { IsTrue result → IsUtf8 block }
@@ -88,7 +89,7 @@ fn are_in_range(block: u8x16) -> bool
     are_below(sum(planes, each(0xFF)), 0x10)
 }
 
-// Whether the upper bits are those of four characters of four bytes.
+// Whether the upper bits are the upper bits of four characters of four bytes.
 #[inline(always)]
 fn are_fours(block: u8x16) -> bool
     ensures { IsTrue result → zip2 bit_and block UPPER_OF_FOURS ≡ FOURS }

@@ -35,7 +35,7 @@ pub(crate) fn down(v: u8x16, by: u8) -> u8x16
     v >> u8x16::splat(by)
 }
 
-// Shifts the bits left, and drops those above a byte.
+// Shifts the bits left, and drops the bits above a byte.
 #[inline(always)]
 pub(crate) fn up(v: u8x16, by: u8) -> u8x16
     requires { by < 8 }
@@ -44,7 +44,7 @@ pub(crate) fn up(v: u8x16, by: u8) -> u8x16
     v << u8x16::splat(by)
 }
 
-// Selects the lane of `a` if that of `v` is below `limit`, else the lane of `b`.
+// Selects the lane of `a` if the lane of `v` is below `limit`, else the lane of `b`.
 #[inline(always)]
 pub(crate) fn where_below(v: u8x16, limit: u8, a: u8x16, b: u8x16) -> u8x16
     ensures { HasLanes 16 result (λ i. if nat_lt (slice_index v i) limit then slice_index a i

@@ -1,4 +1,4 @@
-//! What the bytes of a block are below.
+//! Bounds on the bytes of a block.
 
 ghost use Rattle.std.specs.Prelude.{◌+◌, ◌<◌, ◌≤◌, ◌↔◌, IsTrue, ℕ, length, slice_index};
 ghost use Rattle.utf16_from_utf8.specs.Follow.{AreBelow};
@@ -6,7 +6,7 @@ ghost use Rattle.utf16_from_utf8.specs.Follow.{AreBelow};
 use crate::lanes::{each, greater, set_bits, where_below};
 use std::simd::prelude::*;
 
-// The greatest bytes of the next sixty-four: of those at the same place in each group of sixteen.
+// The greatest bytes of the next sixty-four, for each place in a group of sixteen.
 #[inline(always)]
 pub(crate) fn greatest(bytes: &[u8], at: usize) -> u8x16
     requires { at + 64 ≤ length bytes.now }

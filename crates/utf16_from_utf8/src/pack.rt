@@ -1,5 +1,5 @@
-//! The two bytes of units next to each other, in pairs. Of the pairs in a vector those whose bit is
-//! set are stored contiguously.
+//! The two bytes of each unit next to each other, as pairs. Of the pairs in a vector, those whose
+//! bit is set are stored contiguously.
 
 ghost use Rattle.std.specs.Prelude.{◌≡◌, ◌+◌, ◌^◌, ◌<◌, ◌≤◌, ◌++◌, length, take};
 ghost use Rattle.utf16_from_utf8.specs.Lanes.{kept_pairs, pairs_of};
@@ -8,8 +8,8 @@ use crate::positions::positions;
 use std::simd::prelude::*;
 use utf16_units::Utf16Order;
 
-// Stores those of eight pairs whose bit is set, starting at `at`, and returns their end. Overwrites
-// sixteen bytes starting at `at`.
+// Stores the pairs whose bit is set, starting at `at`, and returns their end. Overwrites sixteen
+// bytes starting at `at`.
 #[inline(always)]
 pub(crate) fn write_eight(out: &mut [u8], at: usize, pairs: u8x16, bits: usize) -> usize
     requires bound { bits < 256 }
@@ -24,7 +24,7 @@ pub(crate) fn write_eight(out: &mut [u8], at: usize, pairs: u8x16, bits: usize) 
     at + 2 * bits.count_ones() as usize
 }
 
-// Stores those of all sixteen pairs whose bit is set, starting at `at`, and returns their end.
+// Stores the pairs of both vectors whose bit is set, starting at `at`, and returns their end.
 #[inline(always)]
 pub(crate) fn write_kept(out: &mut [u8], at: usize, first: u8x16, second: u8x16, bits: u64) -> usize
     requires bound { bits < 2 ^ 16 }
@@ -36,7 +36,7 @@ pub(crate) fn write_kept(out: &mut [u8], at: usize, first: u8x16, second: u8x16,
     write_eight(out, middle, second, (bits / 256) as usize)
 }
 
-// The two bytes of each unit next to each other, of the first eight units and of the others.
+// The two bytes of each unit as a pair: for the first eight units, and for the other eight.
 #[inline(always)]
 pub(crate) fn paired<E: Utf16Order>(highs: u8x16, lows: u8x16) -> (u8x16, u8x16)
     ensures pairs { result.0 ++ result.1 ≡ pairs_of E.BIG highs lows }

@@ -1,4 +1,4 @@
-//! Shuffle indices that compact eight pairs of bytes to those whose bit is set.
+//! Shuffle indices that move the pairs whose bit is set, of eight, to the front.
 
 ghost use Rattle.std.specs.Prelude.{◌<◌};
 ghost use Rattle.utf16_from_utf8.specs.Lanes.{Packs};

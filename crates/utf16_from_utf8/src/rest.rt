@@ -1,4 +1,5 @@
-//! The rest of a text, after its first blocks: sixteen bytes at a time, wherever characters begin.
+//! Writes the rest of a text after its first blocks, sixteen bytes at a time, wherever characters
+//! begin.
 
 ghost use Rattle.std.specs.Prelude.{◌≡◌, ◌+◌, ◌-◌, ◌*◌, ◌<◌, ◌≤◌, ◌++◌, ℕ, drop, length, slice_index, take};
 ghost use Rattle.std.specs.Str.{IsUtf8, chars};
@@ -18,7 +19,7 @@ use crate::units::{ended_bits, four_bytes};
 use std::simd::prelude::*;
 use utf16_units::{Moved, Utf16Order};
 
-// Writes the rest of a text of more than sixteen bytes, after what was written of it.
+// Writes the rest of a text of more than sixteen bytes.
 #[inline(never)]
 pub(crate) fn write_rest<E: Utf16Order>(text: &[u8], out: &mut [u8], from: Moved) -> usize
     requires well_formed { IsUtf8 text.now }
@@ -41,7 +42,8 @@ pub(crate) fn write_rest<E: Utf16Order>(text: &[u8], out: &mut [u8], from: Moved
     write_last::<E>(text, out, read, written)
 }
 
-// Goes on with characters of three bytes, until at least sixteen bytes are written.
+// Writes the next characters of three bytes. If fewer than sixteen bytes are read after that,
+// writes the first sixteen bytes of the text instead.
 #[inline(always)]
 fn write_begun<E: Utf16Order>(text: &[u8], out: &mut [u8], from: Moved) -> Moved
     requires well_formed { IsUtf8 text.now }
@@ -95,8 +97,7 @@ fn write_next<E: Utf16Order>(text: &[u8], out: &mut [u8], at: usize, end: usize)
     write_shortest::<E>(out, end, u8x16::from_slice(&text[at - 3..]), b2, b1, block)
 }
 
-// Writes sixteen bytes by the length of their characters: three of them lead to fewer steps than
-// four.
+// Writes sixteen bytes, in fewer steps if no character among them has four bytes.
 #[inline(always)]
 fn write_shortest<E: Utf16Order>(
     out: &mut [u8],
@@ -121,8 +122,8 @@ fn write_shortest<E: Utf16Order>(
     write_sixteen::<E, 4>(out, at, b2, b1, block)
 }
 
-// Writes the last bytes, fewer than sixteen, and returns where what was written ends. They are read
-// with those before them that make a block, of which no unit is written again.
+// Writes the last bytes, fewer than sixteen, and returns where what was written ends. It reads the
+// last sixteen bytes of the text, and leaves out the units that were written before.
 #[inline(always)]
 fn write_last<E: Utf16Order>(text: &[u8], out: &mut [u8], read: usize, end: usize) -> usize
     requires well_formed { IsUtf8 text.now }

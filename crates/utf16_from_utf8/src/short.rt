@@ -36,8 +36,8 @@ pub(crate) fn write_short<E: Utf16Order>(text: &[u8], out: &mut [u8]) -> usize
     write_kept(out, 0, first, second, ended_bits(b1, block))
 }
 
-// A block that begins with the bytes. Its first half and its second one are the first and the last
-// eight bytes, and are put in order.
+// A block that begins with the bytes of the text. It is made of the first and the last eight bytes,
+// which may overlap.
 #[inline(always)]
 fn spread(text: &[u8]) -> u8x16
     requires some { 8 ≤ length text.now }
@@ -52,7 +52,7 @@ fn spread(text: &[u8]) -> u8x16
         .swizzle_dyn(order(text.len()))
 }
 
-// The places of so many bytes in their first and their last eight.
+// For each byte of a text of `len` bytes, its place in the first and the last eight bytes.
 #[inline(always)]
 fn order(len: usize) -> u8x16
     requires some { 8 ≤ len }
@@ -74,7 +74,7 @@ static ORDER: [[u8; 16]; 9] = [
     [0, 1, 2, 3, 4, 5, 6, 7, 8, 9, 10, 11, 12, 13, 14, 15],
 ];
 
-// A block with bytes from `len` on that add nothing.
+// The block with bytes that add nothing from `len` on.
 #[inline(always)]
 fn filled(block: u8x16, len: usize) -> u8x16
     requires { len ≤ 16 }

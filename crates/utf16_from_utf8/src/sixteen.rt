@@ -1,4 +1,4 @@
-//! The UTF-16 that sixteen bytes add, each of which may follow those before it.
+//! The UTF-16 that sixteen bytes add, each of which may follow the bytes before it.
 
 ghost use Rattle.std.specs.Prelude.{◌≡◌, ◌+◌, ◌<◌, ◌≤◌, ◌++◌, ◌∷◌, ℕ, length, slice_index, take};
 ghost use Rattle.utf16_from_utf8.specs.Added.{added_bytes};
@@ -11,8 +11,8 @@ use crate::units::{ended_bits, four_bytes, high_bytes, low_bytes, previous_bytes
 use std::simd::prelude::*;
 use utf16_units::Utf16Order;
 
-// Writes sixteen bytes of characters of at most `MOST` bytes, each of which may follow the one
-// before it in `b1` and the one before that in `b2`.
+// Writes sixteen bytes whose characters have at most `MOST` bytes. Each may follow the byte before
+// it, in `b1`, and the byte two before it, in `b2`.
 #[inline(always)]
 pub(crate) fn write_sixteen<E: Utf16Order, const MOST: usize>(
     out: &mut [u8],

@@ -11,7 +11,7 @@ use crate::short::write_short;
 use utf16_units::Utf16Order;
 use utf16_units::ladder::FEW_TEXT;
 
-/// How many bytes `write_text` needs beside two for each byte of a text.
+/// How many bytes `write_text` needs in addition to two for each byte of a text.
 pub const SLACK: usize = 16;
 
 /// Writes a text in UTF-16 to the start of `out`, and returns the number of bytes written. The

@@ -40,7 +40,7 @@ pub(crate) fn write_threes<E: Utf16Order>(bytes: &[u8], out: &mut [u8], from: Mo
     Moved { read, written }
 }
 
-// Whether the bytes are those of sixteen characters of three bytes.
+// Whether the bytes are sixteen characters of three bytes.
 #[inline(always)]
 fn are_characters(firsts: u8x16, seconds: u8x16, thirds: u8x16) -> bool
     ensures well_formed { IsTrue result → IsUtf8 (woven firsts seconds thirds) }
@@ -61,7 +61,7 @@ fn are_scalars(highs: u8x16) -> bool
     are_below(greater(short, surrogate), 1)
 }
 
-// The first, the second and the third bytes of the next forty-eight.
+// The first, the second and the third bytes of the characters in the next forty-eight bytes.
 #[inline(always)]
 fn in_threes(piece: &[u8], at: usize) -> (u8x16, u8x16, u8x16)
     requires { at + 48 ≤ length piece.now }
@@ -73,7 +73,6 @@ fn in_threes(piece: &[u8], at: usize) -> (u8x16, u8x16, u8x16)
     (firsts(a, b, c), seconds(a, b, c), thirds(a, b, c))
 }
 
-// The first bytes.
 #[inline(always)]
 fn firsts(a: u8x16, b: u8x16, c: u8x16) -> u8x16
     ensures { result ≡ pick_l 0 (a ++ (b ++ c)) (every_third 0 16) }
@@ -89,7 +88,6 @@ fn firsts(a: u8x16, b: u8x16, c: u8x16) -> u8x16
     all.swizzle([0, 3, 6, 9, 12, 15, 2, 5, 8, 11, 14, 1, 4, 7, 10, 13])
 }
 
-// The second bytes.
 #[inline(always)]
 fn seconds(a: u8x16, b: u8x16, c: u8x16) -> u8x16
     ensures { result ≡ pick_l 0 (a ++ (b ++ c)) (every_third 1 16) }
@@ -105,7 +103,6 @@ fn seconds(a: u8x16, b: u8x16, c: u8x16) -> u8x16
     all.swizzle([1, 4, 7, 10, 13, 0, 3, 6, 9, 12, 15, 2, 5, 8, 11, 14])
 }
 
-// The third bytes.
 #[inline(always)]
 fn thirds(a: u8x16, b: u8x16, c: u8x16) -> u8x16
     ensures { result ≡ pick_l 0 (a ++ (b ++ c)) (every_third 2 16) }
@@ -121,13 +118,13 @@ fn thirds(a: u8x16, b: u8x16, c: u8x16) -> u8x16
     all.swizzle([2, 5, 8, 11, 14, 1, 4, 7, 10, 13, 0, 3, 6, 9, 12, 15])
 }
 
-// Whether they are the bytes of sixteen characters.
+// Whether the upper bits of the bytes are the upper bits of sixteen characters.
 #[inline(always)]
 fn are_sixteen(firsts: u8x16, seconds: u8x16, thirds: u8x16) -> bool
     ensures { IsTrue result → (i : ℕ) → i < 16
         → IsThree (slice_index firsts i) (slice_index seconds i) (slice_index thirds i) }
 {
-    // These are zero exactly where the upper bits are as wanted.
+    // Each is zero exactly if its upper bits are right.
     let first = sum(masked(firsts, 0xF0), each(0x20));
     let second = sum(masked(seconds, 0xC0), each(0x80));
     let third = sum(masked(thirds, 0xC0), each(0x80));

@@ -9,7 +9,8 @@ ghost use Rattle.utf16_units.specs.Lanes.{HasLanes};
 use crate::lanes::{down, each, greater, masked, set_bits, sum, up, where_below};
 use std::simd::prelude::*;
 
-// The byte before each one. A character of one byte gets one that adds nothing to it.
+// The byte before each byte. For a character of one byte it is replaced by a byte that adds
+// nothing.
 #[inline(always)]
 pub(crate) fn previous_bytes(b1: u8x16, b0: u8x16) -> u8x16
     ensures { HasLanes 16 result (λ i. previous_of (slice_index b1 i) (slice_index b0 i)) }
@@ -17,17 +18,19 @@ pub(crate) fn previous_bytes(b1: u8x16, b0: u8x16) -> u8x16
     where_below(b0, 0x80, each(0xC0), b1)
 }
 
-// The high bytes, except of leading surrogates. Trailing ones lack their upper bits.
+// The high bytes of units, except leading surrogates. The upper bits of trailing surrogates are
+// missing.
 #[inline(always)]
 pub(crate) fn high_bytes(b2: u8x16, previous: u8x16) -> u8x16
     ensures { HasLanes 16 result (λ i. high_of (slice_index b2 i) (slice_index previous i)) }
 {
-    // Only first bytes of three and of four keep lower bits that are not zero.
+    // Only the first bytes of characters of three and of four bytes keep lower bits that are not
+    // zero.
     let lead = greater(b2, each(0xE0));
     sum(masked(down(previous, 2), 0xF), up(lead, 4))
 }
 
-// The low bytes, except of leading surrogates.
+// The low bytes of units, except leading surrogates.
 #[inline(always)]
 pub(crate) fn low_bytes(previous: u8x16, b0: u8x16) -> u8x16
     ensures { HasLanes 16 result (λ i. low_of (slice_index previous i) (slice_index b0 i)) }
@@ -61,7 +64,7 @@ fn leading_bytes(b2: u8x16, b1: u8x16, b0: u8x16) -> (u8x16, u8x16)
         (lead_part (slice_index b1 i) (slice_index b0 i))) }
 {
     let parts = sum(up(b1, 2), masked(down(b0, 4), 3));
-    // The high byte is one less where the low one borrows from it.
+    // The high byte is one less if the low byte borrows from it.
     let rest = where_below(parts, 0x40, each(0xE7), each(0xE8));
     (sum(b2, rest), sum(parts, each(0xC0)))
 }
@@ -78,7 +81,7 @@ pub(crate) fn ended_bits(b1: u8x16, b0: u8x16) -> u64
     set_bits(where_below(b0, 0xC0, one, each(0)))
 }
 
-// The high bytes and the low ones, of characters of at most four bytes.
+// The high bytes and the low bytes of the units of any characters.
 #[inline(always)]
 pub(crate) fn four_bytes(b2: u8x16, b1: u8x16, b0: u8x16) -> (u8x16, u8x16)
     ensures highs { HasLanes 16 result.0 (λ i. four_high (slice_index b2 i) (slice_index b1 i)

@@ -6,7 +6,7 @@ use Rattle.utf16_from_utf8.proofs.append.extend_long.Given as goal
 use denote.Shadow.{shadow}
 use denote.Text.{Utf8}
 
--- what was appended and the rest are all
+-- the rest is UTF-8
 abbrev pub invariant-loop-rest : goal.invariant-loop-rest
 invariant-loop-rest g l = record {
   text : shadow (Utf8 l.rest);

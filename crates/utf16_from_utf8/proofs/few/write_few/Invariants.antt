@@ -4,7 +4,7 @@ use Rattle.utf16_units.specs.Encoding.{encode, size}
 use Rattle.utf16_units.proofs.PrefixLemmas.{IsPrefixOf}
 use Rattle.utf16_from_utf8.proofs.few.write_few.Given as goal
 
--- the bytes written so far are those of the characters so far
+-- the bytes written so far are the encoding of the characters so far
 abbrev pub invariant-loop-c : goal.invariant-loop-c
 invariant-loop-c g l = record {
   begins : IsPrefixOf l.yielded (chars l.s);

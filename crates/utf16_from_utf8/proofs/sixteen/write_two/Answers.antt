@@ -6,7 +6,7 @@ use Rattle.utf16_from_utf8.proofs.FollowLemmas.{same-three}
 use Rattle.utf16_from_utf8.proofs.UnitLemmas.{two-added, two_lead}
 use Rattle.utf16_from_utf8.proofs.sixteen.write_two.Goals as goal
 
--- a bit by a lane that was chosen
+-- a bit of a lane that was chosen
 turn : (b : Bool) → ◌≡◌ {A = ℕ} (cond (cond b 0xFF 0 == 0) 0 1) (cond b 1 0)
 turn true = refl
 turn false = refl
