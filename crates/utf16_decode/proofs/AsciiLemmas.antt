@@ -80,7 +80,7 @@ no_surrogate-low unit low =
     let second : unit < 0xDC00 = omega arith in
     (rw (lt-leb 0xD800 unit first) refl, rw (lt-leb 0xDC00 unit second) refl)
 
--- the ASCII at the start of the clamped units is that of the units
+-- ASCII at the start of the clamped units is also at the start of the units
 same_front : (n : ℕ) (bytes units : List ℕ) → length units ≡ 32 → HasLanes 32 bytes (λ i. min (slice_index units i) 0xFF) → All (λ byte. byte < 0x80) (take n bytes)
     → take n bytes ≡ take n units
 same_front n bytes units long clamped ascii =

@@ -25,7 +25,7 @@ short_tail big [] few = refl
 short_tail big (x ∷ []) few = refl
 short_tail big (x ∷ y ∷ bytes) few = absurd (omega arith)
 
--- the tail is that of the last two or three bytes
+-- the tail is the tail of the last two or three bytes
 tail_from : (big : Bool) (n : ℕ) (bytes : List ℕ) → n + n + 2 ≤ length bytes → split_tail big bytes ≡ split_tail big (drop (n + n) bytes)
 tail_from big zero bytes long = refl
 tail_from big (suc n) [] long = absurd (omega arith)
@@ -34,7 +34,7 @@ tail_from big (suc n) (x ∷ y ∷ bytes) long =
     let next : suc (suc (n + n)) ≡ suc n + suc n = omega arith in
     whole_tail big x y bytes (not_cut big x y bytes (λ l. omega arith)) ∙ tail_from big n bytes (omega arith) ∙ ap (λ k. split_tail big (drop k (x ∷ y ∷ bytes))) next
 
--- they are a tail if they begin with a leading unit, and otherwise the tail is what follows it
+-- these are a tail if they begin with a leading unit, and otherwise the tail is what follows it
 last_tail : (big : Bool) (last : List ℕ) → 2 ≤ length last → length last ≤ 3
     → (IsLeading (first_unit big last) → length (split_tail big last) ≡ length last) × (¬ (IsLeading (first_unit big last)) → length (split_tail big last) + 2 ≡ length last)
 last_tail big [] long short = absurd (omega arith)
@@ -79,7 +79,7 @@ module _ (big : Bool) (bytes : List ℕ) (whole : ℕ) (is : whole ≡ length by
 -- ---- the text of the bytes before the tail
 
 module _ (big : Bool) where
-  -- with more bytes before it the tail is longer, or a unit is complete
+  -- with more bytes before it, a tail gets longer, or a unit is complete
   complete : (x y : ℕ) (after last : List ℕ) → length last ≤ length after → split_tail big (x ∷ y ∷ after) ≡ last → is_incomplete big (x ∷ y ∷ after) ≡ false
   complete x y after last short same = ⊎_elim
       (λ (cut : is_incomplete big (x ∷ y ∷ after) ≡ true). absurd (omega (arith, short, ap length (sym (cut_tail big x y after cut) ∙ same))))
@@ -126,7 +126,7 @@ module _ (big : Bool) (bytes : List ℕ) (n : ℕ) (ends : n + length (split_tai
       ∙ sym (map-append lossy_char (split_items big front) (split_items big (left ++ tail)))
       ∙ ap lossy_chars (sym (split_items-append big front tail) ∙ ap (split_items big) joined)
 
-  -- so it is the text of a copy of them that was made well formed
+  -- so it is the text of a well-formed copy of these bytes
   pub decided_copy : (old new : List ℕ) → old ≡ take n bytes → n % 2 ≡ 0 → new ≡ encode big (lossy_text big (take (length old / 2 * 2) old)) ++ drop (length old / 2 * 2) old
       → new ≡ encode big (lossy_chars (split_items big bytes))
   decided_copy old new copied even mended =

@@ -63,7 +63,7 @@ module _ (big : Bool) (bytes : List ℕ) (e : Utf16Error) (is : IsErrorOf big by
 
 -- ---- the tail
 
--- the tail of a tail is that tail
+-- the tail of a tail is the tail itself
 pub split_tail-again : (big : Bool) (bytes : List ℕ) → split_tail big (split_tail big bytes) ≡ split_tail big bytes
 split_tail-again big bytes =
     ap (split_tail big) (sym (append-nil (split_tail big bytes))) ∙ sym (split_tail-append big bytes []) ∙ ap (split_tail big) (append-nil bytes)
@@ -80,7 +80,7 @@ before_tail big (first ∷ second ∷ bytes) = ⊎_elim
     (first ∷ second ∷ behind.0, ap (λ t. first ∷ second ∷ (behind.0 ++ t)) (whole_tail big first second bytes whole) ∙ ap (λ t. first ∷ second ∷ t) behind.1))
     (cases_Bool (is_incomplete big (first ∷ second ∷ bytes)))
 
--- a tail that is no longer than the bytes after some prefix is a suffix of these
+-- a tail that is no longer than the bytes after some prefix is a suffix of these bytes
 tail_within : (big : Bool) (bytes more : List ℕ) → length (split_tail big (bytes ++ more)) ≤ length more
     → split_tail big (bytes ++ more) ≡ drop (length more - length (split_tail big (bytes ++ more))) more
 tail_within big bytes more short =
@@ -110,7 +110,7 @@ undecided_items big (first ∷ second ∷ bytes) same = ⊎_elim
     absurd (omega arith))
     (cases_Bool (is_incomplete big (first ∷ second ∷ bytes)))
 
--- so the tail is what is left from there on
+-- so the tail is what is left after the bytes before it
 pub tail_at_end : (big : Bool) (bytes : List ℕ) → split_tail big bytes ≡ drop (length bytes - length (split_tail big bytes)) bytes
 tail_at_end big bytes = tail_within big [] bytes (length-split_tail-le big bytes)
 

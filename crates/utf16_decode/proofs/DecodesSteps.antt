@@ -43,7 +43,7 @@ module _ (parts : Decomposition) (into : ℕ → List ℕ) where
   Decodes-end bytes rest old new steps none =
       steps.text ∙ ap (λ i. old ++ written_for i) (sym (append-nil steps.taken) ∙ ap (λ i. steps.taken ++ i) (sym none) ∙ sym steps.items)
 
-  -- if bytes decode to nothing, so does what steps leave of them
+  -- if bytes decode to nothing, so do the bytes that steps leave of them
   pub Decodes-empty : (bytes rest old new : List ℕ) → DecodesAs parts into bytes rest old new → parts.items bytes ≡ [] → parts.items rest ≡ []
   Decodes-empty bytes rest old new steps none = last steps.taken (sym steps.items ∙ none) where
     last : (taken : List parts.Item) → taken ++ parts.items rest ≡ [] → parts.items rest ≡ []
@@ -51,7 +51,7 @@ module _ (parts : Decomposition) (into : ℕ → List ℕ) where
     last (item ∷ taken) e = absurd (cc)
 
   module _ (split : IsSplitInChunks parts) where
-    -- what bytes decode to they decode to with more bytes after them
+    -- bytes decode to the same with more bytes after them
     pub Decodes-more : (bytes rest next old new : List ℕ) → DecodesAs parts into bytes rest [] new
         → DecodesAs parts into (bytes ++ next) (rest ++ next) old (old ++ new)
     Decodes-more bytes rest next old new d = record {
@@ -64,6 +64,6 @@ module _ (parts : Decomposition) (into : ℕ → List ℕ) where
       text = ap (λ t. old ++ t) d.text;
     }
 
-    -- the tail of a tail is that tail
+    -- the tail of a tail is the tail itself
     pub tail_again : (bytes : List ℕ) → parts.tail (parts.tail bytes) ≡ parts.tail bytes
     tail_again bytes = ap parts.tail (sym (append-nil (parts.tail bytes))) ∙ sym (split.tail bytes []) ∙ ap parts.tail (append-nil bytes)

@@ -1,4 +1,4 @@
--- Unpaired surrogates replaced one after another: the text and the number of these before an
+-- Unpaired surrogates replaced one after another: the text and the number of replacements before an
 -- offset.
 use Rattle.std.proofs.Common.{◌≡◌, ℕ, suc, ◌+◌, ◌-◌, ◌*◌, ◌%◌, ◌<◌, ◌≤◌, Bool, true, false, List, [], ◌∷◌, ◌++◌, Option, None, Some, length, map, take, drop, refl, sym, ap, ap₂, ◌∙◌, subst, arith, append-nil, append_assoc, length-drop, length-take-le, take-add, take_all, take-append-drop, if◌then◌else◌}
 use Rattle.std.specs.Char.Utf16.{is_high_surrogate}
@@ -18,7 +18,7 @@ use Rattle.utf16_units.proofs.SplitJoin.{split_items-text, split_tail-text}
 use Rattle.utf16_decode.specs.Unpaired.{lone_items, lone_tail, unpaired}
 use Rattle.utf16_decode.proofs.ToUtf8Parts.{nil_text, tail_text, whole_lossy_chars-append}
 
--- characters are no unpaired surrogates
+-- characters are not unpaired surrogates
 lone_items-good : (text : List ℕ) (items : List Item) → lone_items (map good text ++ items) ≡ lone_items items
 unfolding lone_items
 lone_items-good [] items = refl
@@ -32,12 +32,12 @@ lone_items-lone unit items = by_class (is_high_surrogate unit) where
   by_class true = refl
   by_class false = refl
 
--- nothing has no unpaired surrogate
+-- no bytes have no unpaired surrogate
 nil_unpaired : (big : Bool) → unpaired big [] ≡ 0
 unfolding lone_items split_items split_tail
 nil_unpaired big = refl
 
--- a whole unit that is truncated is a leading one
+-- a whole unit that is truncated is a leading unit
 one_unit : (big : Bool) (last : List ℕ) → IsIncomplete big last → length last % 2 ≡ 0 → (length last ≡ 2) × (lone_items [] + lone_tail last ≡ 1)
 unfolding lone_items
 one_unit big [] cut even = absurd cut
@@ -64,7 +64,7 @@ module _ (big : Bool) (rest : List ℕ) where
     text_counted : unpaired big rest ≡ unpaired big (drop n rest)
     text_counted = omega (arith, ap₂ (λ i t. lone_items i + lone_tail t) text_items text_tail, lone_items-good text (split_items big (drop n rest)))
 
-  -- an unpaired surrogate, also a leading one at the end, and what follows it
+  -- an unpaired surrogate, which may be a leading one at the end, and what follows it
   record Lone : Type 0 where
     shown : lossy_text big rest ≡ 0xFFFD ∷ lossy_text big (drop 2 rest)
     counted : unpaired big rest ≡ suc (unpaired big (drop 2 rest))
@@ -97,8 +97,7 @@ module _ (big : Bool) (rest : List ℕ) where
 
 -- ---- what is done before an offset
 
--- the bytes before it are the text of those that were there, and the bytes from it on are as they
--- were
+-- the bytes before it are the text of the old bytes there, and the bytes from it on are unchanged
 pub record Mended (big : Bool) (old now : List ℕ) (at count : ℕ) : Type 0 where
   text : List ℕ
   pub long : length now ≡ length old
@@ -137,7 +136,7 @@ module _ (big : Bool) (old now : List ℕ) (at count : ℕ) (before : Mended big
   abbrev rest : List ℕ
   rest = drop at old
 
-  -- what is left is as it was
+  -- what is left is unchanged
   as_before : rest_from now at ≡ rest
   as_before = take_rest now at ∙ before.left
 

@@ -1,4 +1,4 @@
--- Decoding bytes that are in two places, and the bytes of them that are pending.
+-- Decoding bytes that are in two places, and which of these bytes are pending.
 use Rattle.std.proofs.Common.{◌≡◌, ◌⊎◌, inl, inr, ℕ, ◌+◌, ◌-◌, ◌<◌, ◌≤◌, List, [], ◌++◌, length, map, take, drop, refl, sym, ap, ap₂, ◌∙◌, subst, arith, append-nil, length-append, length-drop, length-take, length-take-le, take-append-drop, take_all, ⊎_elim}
 use borrow.Rule.Slice.PartMut.{put_mid}
 use Rattle.std.proofs.Math.Seq.{drop-append-add}
@@ -102,7 +102,7 @@ module _ (parts : Decomposition) (into : ℕ → List ℕ) (split : IsSplitInChu
   stops_window (IllFormed len) (inl full) here = absurd (cc)
   stops_window Incomplete (inl full) here = absurd (cc)
 
--- the same of all of the rest, as a slice from `read` on
+-- such a step over all of the rest, as a slice from `read` on
 module _ (parts : Decomposition) (into : ℕ → List ℕ) (split : IsSplitInChunks parts) (input old part : List ℕ) (read at n w : ℕ)
     (before : DecodesAsTo parts into input old read at) (front : DecodesAsTo parts into (rest_from input read) part n w) (long : length part ≡ length old - at) where
   abbrev joined : rest_from input read ++ [] ≡ drop read input

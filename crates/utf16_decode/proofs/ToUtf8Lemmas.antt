@@ -31,7 +31,7 @@ pub faults_there : (big : Bool) (raw : List ℕ) (read : ℕ) (len : Option ℕ)
     → IsIllFormedUtf16 big raw read len
 faults_there big raw read len within text here = faults big raw read len within text (subst (λ r. IsIllFormedAt big r len) (sym (take_rest raw read)) here)
 
--- the first character, read from its bytes alone
+-- the first character, read only from its bytes
 pub begins : (big : Bool) (rest : List ℕ) (len c n : ℕ) → BeginsWithChar big rest len → n ≡ char_size c
     → text_of big (take len rest) ≡ c ∷ text_of big (drop n (take len rest)) → BeginsWith (char_bytes big) rest c n
 begins big rest len c n first size joined =

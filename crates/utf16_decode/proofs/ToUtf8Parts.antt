@@ -10,7 +10,7 @@ use Rattle.utf16_decode.specs.Decodes.{utf16_parts}
 use Rattle.utf16_decode.specs.Decomposition.{IsSplitInChunks}
 use Rattle.utf16_decode.proofs.DecodesLemmas.{undecided_items}
 
--- the whole text is that of the items and then of the tail
+-- the whole text is the text of the items and then of the tail
 pub whole_lossy_chars-is : (items : List Item) (tail : List ℕ) → whole_lossy_chars items tail ≡ lossy_chars items ++ whole_lossy_chars [] tail
 whole_lossy_chars-is items [] = sym (append-nil (lossy_chars items))
 whole_lossy_chars-is items (first ∷ after) = refl
@@ -20,7 +20,7 @@ whole_lossy_chars-append items more tail =
     whole_lossy_chars-is (items ++ more) tail ∙ ap (λ t. t ++ whole_lossy_chars [] tail) (map-append lossy_char items more)
     ∙ append_assoc (lossy_chars items) (lossy_chars more) (whole_lossy_chars [] tail) ∙ ap (λ t. lossy_chars items ++ t) (sym (whole_lossy_chars-is more tail))
 
--- the text of a tail is U+FFFD, and of nothing it is empty
+-- the text of a tail is U+FFFD, and the text of no tail is empty
 pub tail_text : (big : Bool) (rest : List ℕ) → rest ≢ [] → split_tail big rest ≡ rest → lossy_text big rest ≡ 0xFFFD ∷ []
 tail_text big rest some same = ap₂ whole_lossy_chars (undecided_items big rest same) same ∙ marks rest some where
   marks : (tail : List ℕ) → tail ≢ [] → whole_lossy_chars [] tail ≡ 0xFFFD ∷ []

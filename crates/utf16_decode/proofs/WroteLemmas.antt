@@ -116,7 +116,7 @@ module _ (from into : ℕ → List ℕ) (IsValid : List ℕ → Type 0) (IsIllFo
 pub long_enough : (n : ℕ) (buf bytes : List ℕ) → take n buf ≡ bytes → n ≤ length buf → n ≡ length bytes
 long_enough n buf bytes is room = sym (length-take-le n buf room) ∙ ap length is
 
--- if n bytes could be taken, there are at least n
+-- if taking n bytes gives n bytes, there are at least n
 pub enough : (n : ℕ) (bytes front : List ℕ) → take n bytes ≡ front → n ≡ length front → n ≤ length bytes
 enough n bytes front is long = ⊎_elim
     (λ (short : length bytes < n).

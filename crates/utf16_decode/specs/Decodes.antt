@@ -5,7 +5,7 @@ use Rattle.std.specs.List.{flat_map}
 use Rattle.utf16_units.specs.Split.{Item, lossy_char, lossy_text, split_items, split_tail, whole_lossy_chars}
 use Rattle.utf16_decode.specs.Decomposition.{Decomposition}
 
--- the first items of the bytes were decoded, what is shown of them was appended to the old bytes,
+-- the first items of the bytes were decoded, what is shown for them was appended to the old bytes,
 -- and the rest has the other items and the tail
 pub record DecodesAs (parts : Decomposition) (into : ℕ → List ℕ) (bytes rest old new : List ℕ) : Type 0 where
   pub taken : List parts.Item
@@ -13,7 +13,8 @@ pub record DecodesAs (parts : Decomposition) (into : ℕ → List ℕ) (bytes re
   pub tail : parts.tail bytes ≡ parts.tail rest
   pub text : new ≡ old ++ flat_map into (map parts.shown taken)
 
--- UTF-16 as characters and unpaired surrogates, with U+FFFD for each of these and for a tail
+-- UTF-16 as characters and unpaired surrogates, with U+FFFD for each unpaired surrogate and for a
+-- tail
 abbrev pub utf16_parts : Bool → Decomposition
 utf16_parts big = record {
   Item = Item;

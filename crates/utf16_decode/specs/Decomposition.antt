@@ -1,4 +1,4 @@
--- What a lossy direction makes of any bytes.
+-- How a lossy direction decomposes any bytes.
 use Rattle.std.specs.Prelude.{◌≡◌, ℕ, ◌≤◌, List, [], ◌++◌, length, map}
 
 -- the bytes are items, one after another, and a tail that more bytes could change; each item is
@@ -8,15 +8,16 @@ pub record Decomposition : Type 1 where
   pub items : List ℕ → List Item
   pub tail : List ℕ → List ℕ
   pub shown : Item → ℕ
-  -- what is written for a tail if no more bytes come, and for all of the bytes then
+  -- what is written for a tail if no more bytes come
   pub at_end : List ℕ → List ℕ
+  -- what is written for all bytes if no more come
   pub whole : List ℕ → List ℕ
 
 -- the code points that are certain, whatever bytes follow
 abbrev pub decided : Decomposition → List ℕ → List ℕ
 decided parts bytes = map parts.shown (parts.items bytes)
 
--- bytes may come in chunks: the items of the first ones stay, and what follows depends only on
+-- bytes may come in chunks: the items of the first chunks stay, and what follows depends only on
 -- their tail; a tail has at most three bytes and no item
 pub record IsSplitInChunks (parts : Decomposition) : Type 0 where
   pub items : (front back : List ℕ)

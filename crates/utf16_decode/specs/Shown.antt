@@ -3,8 +3,8 @@
 use Rattle.std.specs.Prelude.{◌≡◌, ℕ, ◌≤◌, List, ◌++◌, length, take, drop}
 use Rattle.std.specs.List.{flat_map}
 
--- the first bytes of the input were read, and what was written is a prefix of the bytes of its
--- whole text; those of the rest's whole text follow it
+-- the first bytes of the input were read, and what was written is a prefix of the bytes of the
+-- whole text; the bytes of the rest's whole text follow it
 pub record ShowsWhole (text : List ℕ → List ℕ) (into : ℕ → List ℕ) (input to : List ℕ) (read written : ℕ) : Type 0 where
   pub within : read ≤ length input
   pub fits : written ≤ length to

@@ -1,4 +1,4 @@
--- Why a call stopped where it did. `left` is the number of bytes of the buffer after those written.
+-- Why a call stopped. `left` is the number of bytes of the buffer after the written ones.
 use Rattle.std.specs.Prelude.{◌≡◌, ◌≢◌, ℕ, ◌<◌, ◌≤◌, Bool, List, [], ◌∷◌, ◌++◌, Option, None, Some, length, take, drop}
 use Rattle.std.specs.Char.{IsScalar, encode_utf8}
 use Rattle.utf16_units.specs.Encoding.{char_bytes}
@@ -25,7 +25,7 @@ module _ (from into : ℕ → List ℕ) (IsIllFormedOf : List ℕ → ℕ → Op
   Stops input read left Incomplete = IsIllFormedOf input read None
   Stops input read left NoSpace = NextDoesNotFit from into (drop read input) left
 
--- the same, stated of the rest
+-- the same reasons, stated about the rest of the input
 module _ (from into : ℕ → List ℕ) (IsIllFormedHere : List ℕ → Option ℕ → Type 0) where
   abbrev pub StopsHere : List ℕ → ℕ → Stop → Type 0
   StopsHere rest left Done = ⊥
@@ -38,7 +38,7 @@ module _ (from into : ℕ → List ℕ) (IsIllFormedHere : List ℕ → Option �
 abbrev pub IsIllFormedUtf16 : Bool → List ℕ → ℕ → Option ℕ → Type 0
 IsIllFormedUtf16 big raw valid_up_to error_len = IsUtf16ValidUpTo big raw valid_up_to × IsIllFormed big raw error_len
 
--- for UTF-16
+-- the reasons for UTF-16
 abbrev pub StopsDecoding : Bool → List ℕ → ℕ → ℕ → Stop → Type 0
 StopsDecoding big = Stops (char_bytes big) encode_utf8 (IsIllFormedUtf16 big)
 
@@ -49,26 +49,26 @@ pub record TextDoesNotFit (into : ℕ → List ℕ) (text : List ℕ) (left : �
   pub begins : text ≡ char ∷ more
   pub too_long : left < length (into char)
 
--- for a lossy call: nothing is left, or more bytes could change what is left, or the next character
--- does not fit
+-- for a lossy call: no bytes are left, or more bytes could change what is left, or the next
+-- character does not fit
 abbrev pub StopsLossyAs : Decomposition → (ℕ → List ℕ) → List ℕ → ℕ → Stop → Type 0
 StopsLossyAs parts into rest left Done = rest ≡ []
 StopsLossyAs parts into rest left (IllFormed len) = ⊥
 StopsLossyAs parts into rest left Incomplete = (rest ≢ []) × (parts.tail rest ≡ rest)
 StopsLossyAs parts into rest left NoSpace = TextDoesNotFit into (decided parts rest) left
 
--- for UTF-16
+-- the reasons for UTF-16, lossy
 abbrev pub StopsLossy : Bool → List ℕ → ℕ → Stop → Type 0
 StopsLossy big = StopsLossyAs (utf16_parts big) encode_utf8
 
--- the same for the whole text, that of a tail included
+-- the reasons for a call that writes the whole text, including the text of a tail
 abbrev pub StopsLossyWhole : (List ℕ → List ℕ) → (ℕ → List ℕ) → List ℕ → ℕ → Stop → Type 0
 StopsLossyWhole text into rest left Done = rest ≡ []
 StopsLossyWhole text into rest left (IllFormed len) = ⊥
 StopsLossyWhole text into rest left Incomplete = ⊥
 StopsLossyWhole text into rest left NoSpace = TextDoesNotFit into (text rest) left
 
--- the first n bytes are those of a character
+-- the first n bytes are the bytes of a character
 pub record BeginsWith (from : ℕ → List ℕ) (bytes : List ℕ) (char n : ℕ) : Type 0 where
   pub scalar : IsScalar char
   pub within : n ≤ length bytes

@@ -16,6 +16,6 @@ lone_tail [] = 0
 lone_tail (last ∷ []) = 0
 lone_tail (first ∷ second ∷ after) = 1
 
--- the number of unpaired surrogates of bytes, with a leading one at the end
+-- the number of unpaired surrogates in bytes, including a leading one at the end
 abbrev pub unpaired : Bool → List ℕ → ℕ
 unpaired big bytes = lone_items (split_items big bytes) + lone_tail (split_tail big bytes)

@@ -9,7 +9,7 @@ use Rattle.utf16_decode.specs.Decomposition.{Decomposition}
 abbrev pub Gives : (List ℕ → Type 0) → (List ℕ → List ℕ) → List ℕ → List ℕ → Type 0
 Gives IsValid other input out = IsValid input × (out ≡ other input)
 
--- the outputs for two parts, joined, are the output for both together
+-- the outputs for two parts, concatenated, are the output for both together
 abbrev pub Joins : (List ℕ → List ℕ → Type 0) → Type 0
 Joins Given = (front back into more : List ℕ) → Given front into → Given back more → Given (front ++ back) (into ++ more)
 
@@ -32,13 +32,13 @@ pub record Puts (Gives : List ℕ → List ℕ → Type 0) (rest old new : List 
   pub gives : Gives (take len rest) added
   pub bytes : take last new ≡ take at old ++ added
 
--- the first bytes of the input were decoded, and what is shown of them is at the start of the
+-- the first bytes of the input were decoded, and what is shown for them is at the start of the
 -- buffer
 pub record DecodesAsTo (parts : Decomposition) (into : ℕ → List ℕ) (input to : List ℕ) (read written : ℕ) : Type 0 where
   pub within : read ≤ length input
   pub fits : written ≤ length to
   pub decodes : DecodesAs parts into input (drop read input) [] (take written to)
 
--- the same of UTF-16, in UTF-8
+-- such a step from UTF-16 to UTF-8
 abbrev pub DecodesTo : Bool → List ℕ → List ℕ → ℕ → ℕ → Type 0
 DecodesTo big = DecodesAsTo (utf16_parts big) encode_utf8

@@ -13,8 +13,7 @@ use utf16_units::blocks::units32;
 use utf16_units::{Moved, Utf16Order, first_char_len};
 
 // Writes blocks of ASCII to the start of a buffer, with U+FFFD for each unpaired surrogate in them,
-// until another character comes.
-// Kept out of line so that its loop has all registers.
+// until another character comes. Kept out of line so that its loop has all registers.
 #[inline(never)]
 pub(crate) fn write_ascii_blocks<E: Utf16Order>(raw: &[u8], to: &mut [u8]) -> Moved
     requires bytes { 66 ≤ length raw.now }
@@ -94,7 +93,8 @@ fn low_bytes(units: u16x32) -> u8x32
     units.cast::<u8>()
 }
 
-/// Returns the number of bytes before the first that is not ASCII, or of all if none is.
+/// Returns the number of bytes before the first byte that is not ASCII, or of all bytes if all are
+/// ASCII.
 ///
 /// # Precondition
 ///

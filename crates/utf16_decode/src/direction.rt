@@ -1,4 +1,4 @@
-//! What the two directions of transcoding differ in.
+//! What differs between the two directions of transcoding.
 
 ghost use Rattle.std.specs.Prelude.{◌≡◌, ◌≤◌, ◌<◌, ◌+◌, ◌-◌, ◌++◌, ℕ, List, Option, [], IfErr, IfOk, IfSome, None, length, take, drop};
 ghost use Rattle.std.specs.Char.{IsScalar};
@@ -7,33 +7,35 @@ ghost use Rattle.utf16_decode.specs.Wrote.{Gives, Joins, Wrote};
 
 use utf16_units::Moved;
 
-/// The number of bytes that pass through a buffer on the stack at once.
+/// The number of bytes in a block that passes through a buffer on the stack.
 pub const BLOCK_LEN: usize = 64;
 
-/// The length of that buffer: `Direction::write` needs no more space for `BLOCK_LEN` bytes, and two
-/// blocks fit too.
+/// The length of that buffer. `Direction::write` needs no more space for a block, and two blocks
+/// also fit.
 pub const BLOCK_ROOM: usize = 260;
 
-/// One of the two directions: how the bytes of one encoding are validated, and how a text is
-/// written in the other.
+/// One of the two directions: how the bytes of the first encoding are validated, and how a text is
+/// written in the second.
 pub trait Direction {
-    /// The least number of bytes that are validated while they are written.
+    /// The shortest input, in bytes, that is validated while it is written.
     const FRONT_LEN: usize;
 
-    // The bytes of a character in the first encoding, and in the second.
+    // The bytes of a character in the first encoding.
     ghost from: { ℕ → List ℕ };
 
+    // The bytes of a character in the second encoding.
     ghost into: { ℕ → List ℕ };
 
-    // Whether bytes are a text in the first encoding, and the bytes of that text in the second.
+    // Whether bytes are a text in the first encoding.
     ghost IsValid: { List ℕ → Type 0 };
 
+    // The bytes of such a text in the second encoding.
     ghost other: { List ℕ → List ℕ };
 
-    // What is at a place where no character begins, and what follows the longest valid prefix, by
-    // their `error_len`.
+    // What an `error_len` says about bytes that do not begin with a character.
     ghost IsIllFormedAt: { List ℕ → Option ℕ → Type 0 };
 
+    // What an `error_len` says about the bytes after the longest valid prefix.
     ghost IsIllFormed: { List ℕ → ℕ → Option ℕ → Type 0 };
 
     // The number of bytes of space that `write` needs for this many bytes of input.
@@ -45,8 +47,8 @@ pub trait Direction {
         ensures within { result ≤ length bytes.now }
         ensures valid { IsValid (take result bytes.now) };
 
-    /// Returns the first character and its length in bytes, or the `error_len` of what is there
-    /// instead.
+    /// Returns the first character and its length in bytes, or the `error_len` of the bytes if they
+    /// do not begin with a character.
     ///
     /// # Precondition
     ///
@@ -56,20 +58,20 @@ pub trait Direction {
         ensures char { IfOk result (λ first. BeginsWith from rest.now first.0 first.1) }
         ensures ill_formed { IfErr result (IsIllFormedAt rest.now) };
 
-    /// Begins to write a short input, or one for which there is little space, at the start of a
-    /// buffer, perhaps with nothing; `None` if a short input is not to be written character by
-    /// character.
+    /// Begins to write a short input, or an input for which there is little space, to the start of
+    /// a buffer. It may write nothing. Returns `None` if a short input should not be written
+    /// character by character.
     fn begin_short(input: &[u8], to: &mut [u8]) -> Option<Moved>
         ensures { IfSome result (λ begun.
             Wrote (Gives IsValid other) input.now to.new begun.read begun.written) };
 
-    /// Returns the first character and its length in bytes, perhaps `None`: a call that makes no
-    /// other calls, for the characters that are frequent.
+    /// Returns the first character and its length in bytes, or `None` if the character is not a
+    /// frequent one. It makes no other calls.
     fn quick_first_char(rest: &[u8]) -> Option<(char, usize)>
         ensures { IfSome result (λ first. BeginsWith from rest.now first.0 first.1) };
 
-    /// Writes a character in the second encoding at `at`, and returns where it ends; `None` if it
-    /// does not fit. The bytes after it may be overwritten.
+    /// Writes a character in the second encoding at `at`, and returns where it ends, or `None` if
+    /// it does not fit. The bytes after it may be overwritten.
     ///
     /// # Precondition
     ///
@@ -81,8 +83,7 @@ pub trait Direction {
         ensures none { result ≡ None → length to.new - at < length (into c) }
         ensures unchanged { result ≡ None → to.new ≡ to.old };
 
-    /// Returns how much of a text, which takes more than `room` bytes in the second encoding, fits
-    /// in these.
+    /// Returns how much of a text fits in `room` bytes of the second encoding.
     ///
     /// # Precondition
     ///
@@ -95,7 +96,8 @@ pub trait Direction {
         ensures fits { result.written ≤ room }
         ensures most { room < result.written + 4 };
 
-    /// Returns a number of bytes, perhaps 0, for which `write` needs at most `room` bytes of space.
+    /// Returns a number of bytes, which may be 0, for which `write` needs at most `room` bytes of
+    /// space.
     fn surely_fit(room: usize) -> usize
         ensures fits { 0 < result → room_for result ≤ room }
         ensures most { room < room_for (result + 2) };
@@ -105,21 +107,22 @@ pub trait Direction {
     ///
     /// # Precondition
     ///
-    /// The text is valid, and the buffer has the space that `room_for` gives.
+    /// The text is valid, and the buffer has as many bytes as `room_for` gives.
     fn write(text: &[u8], to: &mut [u8]) -> usize
         requires well_formed { IsValid text.now }
         requires space { room_for (length text.now) ≤ length to.old }
         ensures bytes { take result to.new ≡ other text.now }
         ensures len { result ≡ length (other text.now) };
 
-    /// Writes a valid prefix, perhaps an empty one, in the second encoding to the start of a
-    /// buffer, as far as it fits there, and validates it while it writes it.
+    /// Writes a valid prefix, which may be empty, in the second encoding to the start of a buffer,
+    /// as far as it fits, and validates it at the same time.
     fn write_front(rest: &[u8], to: &mut [u8]) -> Moved
         ensures { Wrote (Gives IsValid other) rest.now to.new result.read result.written };
 
-    /// States what the proof of `transcode` needs, and does nothing: fewer bytes need no more
-    /// space, and a block fits in the buffer on the stack; two texts together are a text, and so is
-    /// each character; an ill-formed sequence after a text is one of the whole input.
+    /// States what the proof of `transcode` needs, and does nothing. Fewer bytes need no more
+    /// space, and a block fits in the buffer on the stack. Two texts together are a text, and so is
+    /// each character. An ill-formed sequence after a text is an ill-formed sequence of the whole
+    /// input.
     fn laws()
         ensures monotone { (m n : ℕ) → m ≤ n → room_for m ≤ room_for n }
         ensures buffered { room_for BLOCK_LEN ≤ BLOCK_ROOM }

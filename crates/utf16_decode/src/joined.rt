@@ -2,11 +2,11 @@
 
 ghost use Rattle.std.specs.Prelude.{◌≡◌, ◌+◌, ◌-◌, ◌≤◌, ◌++◌, length, take, drop};
 
-/// Returns what follows offset `at` in the pending bytes and the chunk: the part of each.
+/// Returns the parts of the pending bytes and of the chunk that follow offset `at`.
 ///
 /// # Precondition
 ///
-/// `at` is at most the number of bytes of both.
+/// `at` is at most the number of pending bytes and bytes of the chunk.
 pub fn rest_of<'a>(pending: &'a [u8], piece: &'a [u8], at: usize) -> (&'a [u8], &'a [u8])
     requires { at ≤ length pending.now + length piece.now }
     ensures left { result.0.now ≡ drop at pending.now }
@@ -18,7 +18,7 @@ pub fn rest_of<'a>(pending: &'a [u8], piece: &'a [u8], at: usize) -> (&'a [u8], 
     )
 }
 
-/// Returns the first four bytes of the pending bytes and the chunk, or all of them if they are
+/// Returns the first four bytes of the pending bytes and the chunk, or all of them if there are
 /// fewer, and their number.
 ///
 /// # Precondition

@@ -1,5 +1,6 @@
-//! UTF-16 to UTF-8 over buffers of the caller's, without allocation: up to the first ill-formed
-//! sequence, lossy with U+FFFD for each, and as a stream that comes in chunks.
+//! Conversion of UTF-16 to UTF-8 into buffers that you own, without allocation: up to the first
+//! ill-formed sequence, lossy with U+FFFD for each ill-formed sequence, and as a stream that comes
+//! in chunks.
 #![tactic(auto)]
 
 mod ascii;

@@ -1,4 +1,4 @@
-//! UTF-16 to UTF-8, lossy: with U+FFFD for each ill-formed sequence.
+//! Lossy conversion of UTF-16 to UTF-8, with U+FFFD for each ill-formed sequence.
 
 ghost use Rattle.std.specs.Prelude.{◌≡◌, ◌≢◌, ◌-◌, ◌<◌, ◌≤◌, [], length, drop};
 ghost use Rattle.utf16_units.specs.Split.{lossy_text, split_items};
@@ -19,17 +19,15 @@ use crate::well_formed::write_well_formed;
 use utf16_to_utf8::{SLACK, write_utf8};
 use utf16_units::{Moved, Utf16Order};
 
-// The least number of bytes of ASCII with ill-formed sequences in it that are written without a
-// copy.
+// The shortest run of ASCII with ill-formed sequences, in bytes, that is written without a copy.
 const ASCII_LEN: usize = 128;
 
 /// U+FFFD, the replacement character, in UTF-8.
 pub const REPLACEMENT: [u8; 3] = [0xEF, 0xBF, 0xBD];
 
-/// Writes the text of the bytes in UTF-8 to the start of a buffer, as far as whole characters fit:
-/// the characters, and U+FFFD for each unpaired surrogate. An incomplete character at the end is
-/// not read. Any bytes are allowed. Bytes of the buffer after the written ones may have been
-/// overwritten.
+/// Writes the text of the bytes in UTF-8 to the start of a buffer, as far as whole characters fit,
+/// with U+FFFD for each unpaired surrogate. An incomplete character at the end is not read. Any
+/// bytes are allowed. Bytes of the buffer after the written ones may have been overwritten.
 ///
 /// # Complexity
 ///
@@ -92,8 +90,9 @@ impl<E: Utf16Order> LossyDirection for ToUtf8<E> {
     }
 }
 
-// Writes the text of the next bytes to the start of a buffer: of ASCII with U+FFFD in it, or else
-// of a copy, since an ill-formed sequence is often followed by others.
+// Writes the text of the next bytes to the start of a buffer, with U+FFFD for each unpaired
+// surrogate. Many bytes are written at once, since an ill-formed sequence is often followed by
+// others.
 fn write_with_replacements<E: Utf16Order>(raw: &[u8], to: &mut [u8]) -> Moved
     requires space { FEED_SLACK ≤ length to.old }
     ensures decodes { DecodesTo E.BIG raw.now to.new result.read result.written }
@@ -108,8 +107,8 @@ fn write_with_replacements<E: Utf16Order>(raw: &[u8], to: &mut [u8]) -> Moved
     write_copied::<E>(raw, to)
 }
 
-// Writes the text of the next bytes to the start of a buffer, of as many bytes as surely fit and at
-// most 1,024, from a copy of them on the stack with U+FFFD for each unpaired surrogate.
+// Writes the text of the next bytes to the start of a buffer: at most 1,024 bytes, and no more than
+// surely fit. They are first copied to the stack, with U+FFFD for each unpaired surrogate.
 #[inline(never)]
 fn write_copied<E: Utf16Order>(raw: &[u8], to: &mut [u8]) -> Moved
     requires space { FEED_SLACK ≤ length to.old }

@@ -1,5 +1,5 @@
-//! What a direction decides to continue after ill-formed sequences: what is pending, and what is
-//! written for each of them.
+//! What a direction needs to continue after ill-formed sequences: which bytes are pending, and what
+//! is written for each ill-formed sequence.
 
 ghost use Rattle.std.specs.Prelude.{◌≡◌, ◌-◌, ◌<◌, ◌≤◌, ◌++◌, ℕ, List, IfSome, None, Some, drop, length, take};
 ghost use Rattle.std.specs.List.{flat_map};
@@ -14,12 +14,13 @@ use utf16_units::Moved;
 
 /// A direction that continues after ill-formed sequences.
 pub trait LossyDirection: Direction {
-    // The items of any bytes and their tail, and the code points that are written for these.
+    // The items and the tail of any bytes, and the code points that are written for them.
     ghost parts: { Decomposition };
 
     /// Writes the replacement of the ill-formed sequence at the start of the input to the start of
-    /// a buffer, and perhaps what is certain of the bytes after it; `None` if the first character
-    /// does not fit. The bytes of the buffer after the written ones may be overwritten.
+    /// a buffer. It may also write what is certain of the bytes after it. Returns `None` if the
+    /// first character does not fit. The bytes of the buffer after the written ones may be
+    /// overwritten.
     ///
     /// # Precondition
     ///
@@ -33,8 +34,8 @@ pub trait LossyDirection: Direction {
         ensures none { result ≡ None
             → TextDoesNotFit Self.into (decided parts input.now) (length to.new) };
 
-    /// Writes the replacement of a tail at the end of the input at `at`, and returns where it ends;
-    /// `None` if it does not fit. All other bytes of the buffer stay.
+    /// Writes the replacement of a tail at the end of the input at `at`, and returns where it ends,
+    /// or `None` if it does not fit. All other bytes of the buffer are unchanged.
     ///
     /// # Precondition
     ///
@@ -49,9 +50,10 @@ pub trait LossyDirection: Direction {
             → length to.new - at < length (flat_map Self.into (parts.at_end tail.now)) }
         ensures unchanged { result ≡ None → to.new ≡ to.old };
 
-    /// States what the proofs of lossy calls and of a stream need, and does nothing: bytes may come
-    /// in chunks; a character takes at most four bytes; a text is decoded as itself; if `transcode`
-    /// stops for another reason than an ill-formed sequence, a lossy call stops for the same one.
+    /// States what the proofs of lossy calls and of a stream need, and does nothing. Bytes may come
+    /// in chunks. A character takes at most four bytes. A text is decoded as itself. If `transcode`
+    /// stops for another reason than an ill-formed sequence, a lossy call stops for the same
+    /// reason.
     fn lossy_laws()
         ensures chunks { IsSplitInChunks parts }
         ensures short { (c : ℕ) → length (Self.into c) ≤ 4 }

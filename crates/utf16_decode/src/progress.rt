@@ -1,4 +1,4 @@
-//! How far a call came, and why it stopped there.
+//! How much a call read and wrote, and why it stopped.
 
 ghost use Rattle.std.specs.Prelude.{◌≡◌, ◌+◌, ◌≤◌, ◌++◌, length, take, drop};
 
@@ -7,17 +7,17 @@ ghost use Rattle.std.specs.Prelude.{◌≡◌, ◌+◌, ◌≤◌, ◌++◌, len
 pub enum Stop {
     /// All of the input was read.
     Done,
-    /// An ill-formed sequence of this many bytes follows what was read. Resume after it.
+    /// What was read is followed by an ill-formed sequence of this many bytes. Resume after it.
     IllFormed(u8),
-    /// The input is truncated: it ends inside the character that follows what was read. More bytes
-    /// may complete it.
+    /// The input is truncated: what was read is followed by the beginning of a character. More
+    /// bytes may complete it.
     Incomplete,
     /// The buffer has less space left than the next item takes: a character, or U+FFFD. Call again
     /// with the rest of the input and another buffer.
     NoSpace,
 }
 
-/// How far a call came. Offsets and lengths are in bytes.
+/// How much a call read and wrote, and why it stopped. Offsets and lengths are in bytes.
 #[derive(Clone, Copy, Debug, PartialEq, Eq)]
 pub struct Progress {
     /// The number of bytes of the input that were read: whole characters, and in a lossy call the
@@ -26,7 +26,7 @@ pub struct Progress {
     /// The number of bytes at the start of the buffer that hold what was read, in the other
     /// encoding. The bytes after them are unspecified.
     pub written: usize,
-    /// Why the call read no more.
+    /// Why the call stopped.
     pub stop: Stop,
 }
 
@@ -34,7 +34,7 @@ pub struct Progress {
 ///
 /// # Precondition
 ///
-/// They fit: `at` plus their number is at most the length of the buffer.
+/// `at` plus the number of bytes is at most the length of the buffer.
 #[inline(always)]
 pub fn put(bytes: &[u8], to: &mut [u8], at: usize) -> usize
     requires { at + length bytes.now ≤ length to.old }

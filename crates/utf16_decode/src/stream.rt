@@ -1,4 +1,4 @@
-//! A stream that comes in chunks, cut anywhere, with the pending bytes in a value of the caller's.
+//! A stream that comes in chunks, cut anywhere. Its pending bytes are in a value that you own.
 
 ghost use Rattle.std.specs.Prelude.{◌≡◌, ◌≢◌, ◌↔◌, ◌+◌, ◌-◌, ◌<◌, ◌≤◌, [], ◌∷◌, ◌++◌, length, take, drop};
 ghost use Rattle.std.specs.List.{flat_map};
@@ -13,20 +13,20 @@ use crate::lossy_direction::LossyDirection;
 use crate::lossy_transcoding::transcode_partial;
 use crate::progress::{Progress, Stop};
 
-/// The space beyond the longest text of a chunk, in bytes, with which `Stream::feed` writes many
+/// How many bytes of space in addition to the longest text of a chunk let `Stream::feed` write many
 /// bytes at once up to the end of the text, in either direction.
 pub const FEED_SLACK: usize = 512;
 
 /// The most bytes of a chunk that pass through a buffer at once.
 pub const CHUNK_LEN: usize = 4096;
 
-/// The most bytes of a short chunk, which passes through a smaller buffer: that one takes less time
-/// to fill with zeros.
+/// The most bytes of a short chunk, which passes through a smaller buffer, because that buffer
+/// takes less time to fill with zeros.
 pub const SHORT_CHUNK: usize = 512;
 
 /// The pending bytes of a stream between two chunks: its last bytes, at most three, that only more
-/// bytes can decide. Any values are allowed in the fields: a `len` above three is read as three,
-/// and no `feed` leaves one. The value of all zeros is a stream at its beginning.
+/// bytes can decide. Any contents are safe: a `len` above three is read as three, and `feed` never
+/// leaves one above three. All zeros are a stream at its beginning.
 #[repr(C)]
 #[derive(Clone, Copy, Debug)]
 pub struct Stream {
@@ -50,7 +50,7 @@ impl Stream {
     ///
     /// # Precondition
     ///
-    /// There are at most three.
+    /// There are at most three bytes.
     pub fn holding(pending: &[u8]) -> Self
         requires { length pending.now ≤ 3 }
         ensures pending { stream_pending result ≡ pending.now }
@@ -65,8 +65,8 @@ impl Stream {
     }
 
     /// Returns the pending bytes, at most three. After a `feed` that returned `Done` they are the
-    /// tail of what has come: of UTF-16 none, one byte, or a leading surrogate and at most one byte
-    /// after it; of UTF-8 none, or the first bytes of a character whose other bytes have not come.
+    /// tail of the stream so far. In UTF-16 that is nothing, one byte, or a leading surrogate and
+    /// at most one byte after it. In UTF-8 it is nothing, or the first bytes of a character.
     pub fn pending(&self) -> &[u8]
         ensures bytes { result.now ≡ stream_pending self.now }
         ensures few { length result.now ≤ 3 }
@@ -74,15 +74,15 @@ impl Stream {
         &self.bytes[..(self.len as usize).min(3)]
     }
 
-    /// Decodes the next chunk and writes what is now certain, in the second encoding, to the start
-    /// of a buffer, as far as whole characters fit: the characters, and the replacement of each
-    /// ill-formed sequence. `read` counts the bytes of the chunk that were taken. The direction is
-    /// one for all chunks of a stream.
+    /// Decodes the next chunk. Writes what is now certain, in the second encoding, to the start of
+    /// a buffer, as far as whole characters fit: the characters, and the replacement of each
+    /// ill-formed sequence. `read` counts the bytes of the chunk that were taken. Use the same
+    /// direction for all chunks of a stream.
     ///
-    /// With `Done` all of the chunk was taken, and what more bytes could change is pending. With
-    /// `NoSpace` the next character does not fit: call again with the rest of the chunk and more
-    /// space. Fewer than four bytes of the buffer are left then, so into a buffer of four bytes or
-    /// more something was written. Bytes of the buffer after the written ones may have been
+    /// With `Done`, all of the chunk was taken, and what more bytes could change is pending. With
+    /// `NoSpace`, the next character does not fit: call again with the rest of the chunk and more
+    /// space. In that case fewer than four bytes of the buffer are left, so something was written
+    /// if it has four bytes or more. Bytes of the buffer after the written ones may have been
     /// overwritten.
     ///
     /// # Complexity
@@ -104,9 +104,9 @@ impl Stream {
         progress
     }
 
-    /// Ends the stream: writes the replacement of the pending bytes to the start of a buffer, and
-    /// nothing if none are. No bytes are pending then. With `NoSpace` it does not fit, and nothing
-    /// changed. `read` is 0. Bytes of the buffer after the written ones stay.
+    /// Ends the stream: writes the replacement of the pending bytes, if there are any, to the start
+    /// of a buffer. No bytes are pending afterwards. With `NoSpace`, the replacement does not fit,
+    /// and nothing changed. `read` is 0. Bytes of the buffer after the written ones are unchanged.
     pub fn finish<D: LossyDirection>(&mut self, to: &mut [u8]) -> Progress
         ensures read { result.read ≡ 0 }
         ensures done { (result.stop ≡ Done)
@@ -137,8 +137,8 @@ impl Stream {
     }
 }
 
-// Decodes the next chunk after pending bytes, as `feed` does; returns the progress, and the stream
-// with the bytes that are pending then.
+// Decodes a chunk after pending bytes, like `feed`. Returns the progress, and the stream with the
+// bytes that are pending afterwards.
 fn feed_after<D: LossyDirection>(pending: &[u8], piece: &[u8], to: &mut [u8]) -> (Progress, Stream)
     requires { length pending.now ≤ 3 }
     ensures feeds { FeedsAs D.parts D.into pending.now piece.now (stream_pending result.1) to.new
@@ -171,8 +171,8 @@ fn feed_after<D: LossyDirection>(pending: &[u8], piece: &[u8], to: &mut [u8]) ->
     (done, Stream::holding(&tail[..len]))
 }
 
-// Decodes pending bytes and a chunk after them as `transcode_partial` does, as if they were
-// contiguous: four bytes at the chunk boundary pass through a buffer on the stack.
+// Decodes pending bytes and a chunk after them like `transcode_partial`, as if they were
+// contiguous. Four bytes at the chunk boundary pass through a buffer on the stack.
 fn decode_joined<D: LossyDirection>(pending: &[u8], piece: &[u8], to: &mut [u8]) -> Progress
     requires { length pending.now ≤ 3 }
     ensures decodes { DecodesAsTo D.parts D.into (pending.now ++ piece.now) to.new result.read

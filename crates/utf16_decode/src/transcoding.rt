@@ -9,10 +9,10 @@ use crate::direction::{BLOCK_LEN, BLOCK_ROOM, Direction};
 use crate::progress::{Progress, Stop, put};
 use utf16_units::Moved;
 
-// Inputs of fewer bytes than this are first tried character by character.
+// The length in bytes below which an input is first tried character by character.
 const SHORT_LEN: usize = 32;
 
-// Fewer bytes than this are written character by character.
+// The number of bytes below which a piece is written character by character.
 const VERY_FEW: usize = 8;
 
 /// Writes the longest valid prefix in the second encoding to the start of a buffer, as far as whole
@@ -35,8 +35,8 @@ pub fn transcode<D: Direction>(input: &[u8], to: &mut [u8]) -> Progress
     transcode_many::<D>(input, to)
 }
 
-// Writes the whole input character by character, and returns where the written bytes end; `None` if
-// it is not all usual characters that fit.
+// Writes the whole input character by character, and returns where the written bytes end. Returns
+// `None` if not all characters are frequent ones that fit.
 #[inline(always)]
 fn write_quick_chars<D: Direction>(input: &[u8], to: &mut [u8]) -> Option<usize>
     ensures { IfSome result (Wrote (Gives D.IsValid D.other) input.now to.new (length input.now)) }
@@ -54,7 +54,7 @@ fn write_quick_chars<D: Direction>(input: &[u8], to: &mut [u8]) -> Option<usize>
     Some(written)
 }
 
-// Does the same, as much at once as surely fits. Not inlined, so that short inputs stay cheap.
+// Transcodes as much at once as surely fits. Not inlined, so that short inputs stay cheap.
 #[inline(never)]
 fn transcode_many<D: Direction>(input: &[u8], to: &mut [u8]) -> Progress
     ensures wrote { Wrote (Gives D.IsValid D.other) input.now to.new result.read result.written }
@@ -62,7 +62,7 @@ fn transcode_many<D: Direction>(input: &[u8], to: &mut [u8]) -> Progress
         (length to.new - result.written) result.stop }
 {
     D::laws();
-    // After an ill-formed sequence there is often another.
+    // Tested first, because an ill-formed sequence often follows another.
     if !input.is_empty()
         && let Err(stop) = first_char::<D>(input)
     {
@@ -102,8 +102,9 @@ fn transcode_many<D: Direction>(input: &[u8], to: &mut [u8]) -> Progress
     }
 }
 
-// Writes a valid prefix of the bytes, perhaps an empty one, at `at`. The bytes are validated while
-// they are written, as far as possible; a few after these are validated first.
+// Writes a valid prefix of the bytes, which may be empty, at `at`. It first writes bytes that it
+// validates at the same time, as far as possible, and then a few that it validates before it writes
+// them.
 fn write_piece<D: Direction>(rest: &[u8], to: &mut [u8], at: usize) -> Moved
     requires { at ≤ length to.old }
     ensures { Puts (Gives D.IsValid D.other) rest.now to.old to.new at result.read result.written }
@@ -120,7 +121,7 @@ fn write_piece<D: Direction>(rest: &[u8], to: &mut [u8], at: usize) -> Moved
     }
 }
 
-// Does the same, and validates the bytes while it writes them.
+// Writes a valid prefix of the bytes at `at`, and validates it at the same time.
 #[inline(always)]
 fn write_validating<D: Direction>(rest: &[u8], to: &mut [u8], at: usize) -> Moved
     requires { at ≤ length to.old }
@@ -140,8 +141,8 @@ fn write_validating<D: Direction>(rest: &[u8], to: &mut [u8], at: usize) -> Move
     }
 }
 
-// Does the same for a few bytes, and validates them before it writes them: directly to their place
-// if they surely fit there.
+// Writes a valid prefix of a few bytes, and validates it first. It writes directly to the buffer if
+// all bytes surely fit.
 fn write_validated_tail<D: Direction>(rest: &[u8], to: &mut [u8], at: usize) -> Moved
     requires { at ≤ length to.old }
     ensures { Puts (Gives D.IsValid D.other) rest.now to.old to.new at result.read result.written }
@@ -157,7 +158,7 @@ fn write_validated_tail<D: Direction>(rest: &[u8], to: &mut [u8], at: usize) -> 
     write_last_bytes::<D>(rest, to, at)
 }
 
-// Does the same for bytes that surely fit.
+// Writes a valid prefix of bytes that surely fit.
 #[inline(always)]
 fn write_valid<D: Direction>(rest: &[u8], to: &mut [u8], at: usize) -> Moved
     requires { at + D.room_for (length rest.now) ≤ length to.old }
@@ -178,8 +179,8 @@ fn write_valid<D: Direction>(rest: &[u8], to: &mut [u8], at: usize) -> Moved
     }
 }
 
-// Does the same for bytes that may not all fit; one by one if there is little space, or an
-// ill-formed sequence is near, where a block would stop.
+// Writes a valid prefix of bytes that may not all fit. It goes character by character if there is
+// little space, or if an ill-formed sequence is near, since a block would stop there.
 fn write_last_bytes<D: Direction>(rest: &[u8], to: &mut [u8], at: usize) -> Moved
     requires some { 0 < length rest.now }
     requires within { at ≤ length to.old }
@@ -207,7 +208,8 @@ fn write_last_bytes<D: Direction>(rest: &[u8], to: &mut [u8], at: usize) -> Move
     }
 }
 
-// Whether the first or the second character is missing or ill formed. Any answer is right.
+// Whether the first or the second character is missing or ill formed. Only speed depends on the
+// answer.
 #[inline(always)]
 fn is_near_ill_formed<D: Direction>(rest: &[u8]) -> bool
     requires { 0 < length rest.now }
@@ -218,8 +220,8 @@ fn is_near_ill_formed<D: Direction>(rest: &[u8]) -> bool
     }
 }
 
-// Does the same through a buffer for a block, or for two if more space than a block takes is left,
-// and validates them while it writes them. A block of UTF-16 needs the code unit after it.
+// Writes a valid prefix through `buf`, and validates it at the same time: a block, or two blocks if
+// more space than a block takes is left. A block of UTF-16 needs the code unit after it.
 #[inline(always)]
 fn write_block<D: Direction>(rest: &[u8], buf: &mut [u8], to: &mut [u8], at: usize) -> Moved
     requires { at ≤ length to.old }
@@ -234,7 +236,7 @@ fn write_block<D: Direction>(rest: &[u8], buf: &mut [u8], to: &mut [u8], at: usi
     write_fitting::<D>(&rest[..front.read], &buf[..front.written], to, at)
 }
 
-// Does the same through a buffer for a few bytes, and validates them before it writes them.
+// Writes a valid prefix of a few bytes through `buf`, and validates it first.
 fn write_short_text<D: Direction>(rest: &[u8], buf: &mut [u8], to: &mut [u8], at: usize) -> Moved
     requires space { BLOCK_ROOM ≤ length buf.old }
     requires within { at ≤ length to.old }
@@ -281,8 +283,8 @@ fn prefix_for<D: Direction>(text: &[u8], written: &[u8], room: usize) -> Moved
     }
 }
 
-// Writes the valid characters at the start of the bytes as far as they fit: one by one, after what
-// `begin_short` writes at once.
+// Writes the valid characters at the start of the bytes, as far as they fit. After what
+// `begin_short` writes at once, it goes character by character.
 fn write_chars<D: Direction>(rest: &[u8], to: &mut [u8], at: usize) -> Moved
     requires { at ≤ length to.old }
     ensures { Puts (Gives D.IsValid D.other) rest.now to.old to.new at result.read result.written }
@@ -302,7 +304,7 @@ fn write_chars<D: Direction>(rest: &[u8], to: &mut [u8], at: usize) -> Moved
     Moved { read, written }
 }
 
-// Writes what `begin_short` does of the bytes at `at`, perhaps nothing.
+// Writes what `begin_short` writes, which may be nothing, at `at`.
 #[inline(always)]
 fn write_short_start<D: Direction>(rest: &[u8], to: &mut [u8], at: usize) -> Moved
     requires { at ≤ length to.old }
@@ -321,7 +323,7 @@ fn write_short_start<D: Direction>(rest: &[u8], to: &mut [u8], at: usize) -> Mov
     }
 }
 
-// Writes the first character at `at`, or returns why it cannot.
+// Writes the first character at `at`, or returns why it does not.
 #[inline(always)]
 fn write_next_char<D: Direction>(rest: &[u8], to: &mut [u8], at: usize) -> Result<Moved, Stop>
     requires not_empty { 0 < length rest.now }
@@ -344,7 +346,7 @@ fn write_next_char<D: Direction>(rest: &[u8], to: &mut [u8], at: usize) -> Resul
     }
 }
 
-// Returns the first character and its length in bytes, or why a call stops there.
+// Returns the first character and its length in bytes, or why a call stops before it.
 #[inline(always)]
 fn first_char<D: Direction>(rest: &[u8]) -> Result<(char, usize), Stop>
     requires { 0 < length rest.now }

@@ -1,4 +1,4 @@
-//! UTF-16 to UTF-8, up to the first ill-formed sequence.
+//! Conversion of UTF-16 to UTF-8, up to the first ill-formed sequence.
 
 ghost use Rattle.std.specs.Prelude.{◌≡◌, ◌+◌, ◌-◌, ◌*◌, ◌/◌, ◌<◌, ◌≤◌, ◌++◌, IfSome, None, length, take};
 ghost use Rattle.std.specs.Char.{encode_utf8};
@@ -31,7 +31,7 @@ pub fn to_utf8<E: Utf16Order>(raw: &[u8], to: &mut [u8]) -> Progress
     transcode::<ToUtf8<E>>(raw, to)
 }
 
-/// From UTF-16 in byte order `E` to UTF-8, with U+FFFD for each unpaired surrogate.
+/// The direction from UTF-16 in byte order `E` to UTF-8, with U+FFFD for each unpaired surrogate.
 pub struct ToUtf8<E: Utf16Order>(PhantomData<E>);
 
 impl<E: Utf16Order> Direction for ToUtf8<E> {
@@ -125,8 +125,8 @@ impl<E: Utf16Order> Direction for ToUtf8<E> {
     }
 }
 
-// Writes the ASCII that follows what was written, eight code units at a time, which need no more
-// space than they take.
+// Writes the ASCII that follows what was written, eight code units at a time. These write no bytes
+// after their UTF-8.
 #[inline(always)]
 fn write_ascii_from<E: Utf16Order>(raw: &[u8], to: &mut [u8], from: Moved) -> Moved
     requires { Wrote (TranscodesToUtf8 E.BIG) raw.now to.old from.read from.written }
@@ -159,8 +159,8 @@ pub(crate) fn valid_up_to<E: Utf16Order>(bytes: &[u8]) -> usize
     }
 }
 
-// Writes a character in UTF-8 at `at`, and returns where it ends; `None` if it does not fit. Unlike
-// `char::encode_utf8` it says what stays.
+// Writes a character in UTF-8 at `at`, and returns where it ends, or `None` if it does not fit.
+// Unlike `char::encode_utf8`, its contract says which bytes are unchanged.
 #[inline(always)]
 fn write_char_at(c: char, to: &mut [u8], at: usize) -> Option<usize>
     requires { at ≤ length to.old }
@@ -185,7 +185,7 @@ fn write_char_at(c: char, to: &mut [u8], at: usize) -> Option<usize>
     }
 }
 
-// Writes bytes at `at`, and returns where they end; `None` if they do not fit.
+// Writes bytes at `at`, and returns where they end, or `None` if they do not fit.
 #[inline(always)]
 fn write_if_fits(bytes: &[u8], to: &mut [u8], at: usize) -> Option<usize>
     requires { at ≤ length to.old }

@@ -1,4 +1,4 @@
-//! Unpaired surrogates replaced by U+FFFD, which has the same length: in place, and in a copy.
+//! Unpaired surrogates replaced by U+FFFD, which has the same length: in place, or in a copy.
 
 ghost use Rattle.std.specs.Prelude.{◌≡◌, ◌+◌, ◌*◌, ◌/◌, ◌%◌, ◌≤◌, ◌++◌, length, take, drop};
 ghost use Rattle.utf16_units.specs.Encoding.{Encodes, IsUtf16, encode};
@@ -12,9 +12,9 @@ use utf16_units::{Utf16Order, first_char_len, is_leading_surrogate};
 // U+FFFD, the replacement character.
 const REPLACEMENT: u16 = 0xFFFD;
 
-/// Replaces each unpaired surrogate by U+FFFD in place, and returns how many there were. The whole
-/// code units are well formed then. A leading surrogate at the end is unpaired; an odd byte at the
-/// end stays. Any bytes are allowed.
+/// Replaces each unpaired surrogate by U+FFFD in place, and returns how many there were. After that
+/// the whole code units are well formed. A leading surrogate at the end is unpaired. An odd byte at
+/// the end is unchanged. Any bytes are allowed.
 ///
 /// # Complexity
 ///
@@ -32,9 +32,9 @@ pub fn make_well_formed<E: Utf16Order>(utf16: &mut [u8]) -> usize
 
 /// Copies UTF-16 to the start of a buffer with U+FFFD instead of each unpaired surrogate, and
 /// returns the number of bytes written: all but an incomplete character at the end (an odd byte, or
-/// a leading surrogate and at most one byte after it). The written bytes are well formed, and each
-/// of their characters is at the offset of the character or surrogate that it stands for. The bytes
-/// of the buffer after them stay.
+/// a leading surrogate and at most one byte after it). The written bytes are well formed. Each of
+/// their characters is at the same offset as the character or surrogate that it was copied from.
+/// The other bytes of the buffer are unchanged.
 ///
 /// # Precondition
 ///
@@ -72,7 +72,7 @@ fn decided_len<E: Utf16Order>(raw: &[u8]) -> usize
     }
 }
 
-// Replaces each unpaired surrogate of whole code units.
+// Replaces each unpaired surrogate of whole code units, and returns how many there were.
 fn mend<E: Utf16Order>(utf16: &mut [u8]) -> usize
     requires { length utf16.old % 2 ≡ 0 }
     ensures bytes { utf16.new ≡ encode E.BIG (lossy_text E.BIG utf16.old) }
