@@ -12,7 +12,7 @@ use Rattle.utf16_units.proofs.LawProofs.{found_exactly}
 use Rattle.utf16_units.proofs.PartLemmas.{IsBoundary-seam}
 
 module _ (big : Bool) (bytes part : List ℕ) (t : IsUtf16 big bytes) (p : IsUtf16 big part) where
-  -- bytes that start with those of a part are those of a text that starts with it
+  -- bytes that start with the bytes of a part are a text that starts with the part
   pub text_begins : (rest : List ℕ) → bytes ≡ part ++ rest → text_of big bytes ≡ text_of big part ++ text_of big rest
   text_begins rest e = ap (text_of big) e ∙ text_of-append big part rest p
 
@@ -33,7 +33,7 @@ module _ (big : Bool) (bytes part : List ℕ) (t : IsUtf16 big bytes) (p : IsUtf
         λ begins. is.1 (encode big begins.0) (bytes_begin begins.0 begins.1),
       )
 
-  -- and bytes that end with them are those of a text that ends with it
+  -- and bytes that end with the bytes of a part are a text that ends with the part
   pub text_ends : (front : List ℕ) → bytes ≡ front ++ part → (before : List ℕ) × (text_of big bytes ≡ before ++ text_of big part)
   text_ends front e = by_part (text_of big part) refl where
     by_part : (found : List ℕ) → found ≡ text_of big part → (before : List ℕ) × (text_of big bytes ≡ before ++ text_of big part)

@@ -9,7 +9,8 @@ use Rattle.utf16_units.proofs.EncodingLemmas.{size-append, size-cons, size-nil}
 use Rattle.utf16_str.specs.Offsets.{IsCharAt, char_offsets}
 use Rattle.utf16_str.proofs.OffsetLemmas.{char_at_size, char_offsets-cons, char_offsets-nil}
 
--- the characters passed are not the wanted one, and the items left are those of the rest
+-- the characters that were passed are not the wanted one, and the items left are the items of the
+-- rest
 pub record IsPassed (wanted : ℕ) (text : List ℕ) (items : List (ℕ × ℕ)) : Type 0 where
   pub front : List ℕ
   pub rest : List ℕ
@@ -30,7 +31,7 @@ passed-start wanted text items is =
     record { front = []; rest = text; split = refl; left = is ∙ ap (λ n. char_offsets n text) (sym size-nil); lacks = All-nil (λ c. c ≢ wanted) }
 
 module _ (wanted : ℕ) (text : List ℕ) (items : List (ℕ × ℕ)) (i c : ℕ) where
-  -- the item is that of the first character of the rest
+  -- the item is the item of the first character of the rest
   pub next : (front rest : List ℕ) → (i, c) ∷ items ≡ char_offsets (size front) rest
       → (more : List ℕ) × (rest ≡ c ∷ more) × (i ≡ size front) × (items ≡ char_offsets (size front + char_size c) more)
   next front [] is = absurd (cc (is ∙ char_offsets-nil (size front)))

@@ -10,7 +10,7 @@ use Rattle.utf16_str.specs.Offsets.{char_offsets}
 use Rattle.utf16_str.proofs.CharSearch.{next}
 use Rattle.utf16_str.proofs.OffsetLemmas.{char_offsets-cons}
 
--- what was read is the same in both: the items left are those of the rest of the one, and the
+-- what was read is the same in both: the items left are the items of the rest of one text, and the
 -- characters left are the rest of the other
 pub record IsShared (text other : List ℕ) (items : List (ℕ × ℕ)) (theirs : List ℕ) : Type 0 where
   pub front : List ℕ

@@ -1,5 +1,5 @@
 -- The clause on bytes that a checked view may not take, and the view of a slice. Assumes `Logic`.
---     Unchanged            the clause: where there is no view, the bytes end as they were
+--     Unchanged            the clause: if there is no view, the bytes end unchanged
 --     said, rests          it holds of a view of these bytes, and of an error once they rest
 --     made                 a view is owned by its slice
 use Rattle.std.proofs.Common.{◌≡◌, ℕ, List, [], ◌∷◌, length, refl, MutBor, Result, Ok, Err}

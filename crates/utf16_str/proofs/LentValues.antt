@@ -1,7 +1,7 @@
--- What is owned of a value determines the machine value, and of what it is made. Assumes `Logic`.
+-- Ownership of a value determines its machine value, and its parts. Assumes `Logic`.
 --     one_tells            of a lawful type: one machine value, of its type
 --     result_tells         of a `Result`: the variant, and one machine value in it
---     pair_tells           of a slice beside a value: the pair of their machine values
+--     pair_tells           of a slice and a value: the pair of their machine values
 --     Ok-of, Err-of        a `Result` is made of one machine value
 use Rattle.std.proofs.Common.{◌≡◌, ℕ, T, List, [], ◌∷◌, ◌++◌, Bool, true, false, length, refl, ap, subst, ◌∙◌, MutBor, Result, Ok, Err}
 use mathlib.Core.Bool.{◌&&◌}
@@ -31,7 +31,7 @@ pub and_true : (b : Bool) → T b → T (b && true)
 and_true true t = t
 and_true false t = absurd t
 
--- the pair that came back, where its first part is a variant
+-- the pair that came back, if its first part is a variant
 pub pair_is : {v w u s : Val} {n : ℕ} → v ∷ [] ≡ vstruct (of_list (w ∷ s ∷ [])) ∷ [] → w ∷ [] ≡ live n (of_list (u ∷ [])) ∷ []
     → v ≡ vstruct (of_list (live n (of_list (u ∷ [])) ∷ s ∷ []))
 pair_is {s = s} e f = ap only e ∙ ap (λ (us : List Val). vstruct (of_list (only us ∷ s ∷ []))) f

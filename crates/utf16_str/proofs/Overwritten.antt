@@ -1,4 +1,4 @@
--- A text that overwrites as many bytes of another.
+-- A text that overwrites the same number of bytes of another.
 use Rattle.std.proofs.Common.{◌≡◌, ℕ, Bool, true, List, ◌+◌, ◌≤◌, arith, length, sym, ap, subst, ◌∙◌}
 use Rattle.std.specs.List.{splice}
 use Rattle.utf16_units.specs.Boundary.{IsBoundary}

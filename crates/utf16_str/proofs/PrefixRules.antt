@@ -52,7 +52,7 @@ common_prefix-is (c ∷ text) (d ∷ other) = by_test (common_prefix-is text oth
     differ = λ x more other_more is also. let same : c ≡ d = cc in absurd (cc (e, eq-eqb c d same));
   }
 
--- and there is no other
+-- and there is no other common prefix of this kind
 common_prefix-only : (text other prefix : List ℕ) → IsCommonPrefix text other prefix → prefix ≡ common_prefix text other
 common_prefix-only text other prefix is =
     let computed = common_prefix-is text other in
@@ -76,7 +76,7 @@ IsLongestPrefix-fold first (other ∷ others) = record {
 pub IsLongestPrefix-folded : (first : List ℕ) (others : List (List ℕ)) (prefix : List ℕ) → prefix ≡ fold common_prefix first others → IsLongestPrefix first others prefix
 IsLongestPrefix-folded first others prefix is = subst (IsLongestPrefix first others) (sym is) (IsLongestPrefix-fold first others)
 
--- a loop over texts, of which so many were read: the longest common prefix so far
+-- a loop over texts, of which `i` were read: the longest common prefix so far
 module _ {E : Type 0} {order : Ghosts E} where
   abbrev pub PrefixSoFar : WStr E order → List (WStr E order) → ℕ → WStr E order → Type 0
   PrefixSoFar first others i prefix = wstr_text prefix ≡ fold common_prefix (wstr_text first) (map wstr_text (take i others))

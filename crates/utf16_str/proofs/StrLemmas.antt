@@ -12,7 +12,7 @@ use Rattle.utf16_units.proofs.EncodingLemmas.{all_scalars-from_All}
 one : (c : ℕ) → IsScalar c → all_scalars (c ∷ []) ≡ true
 one c scalar = all_scalars-from_All (c ∷ []) (All-cons IsScalar c [] scalar (All-nil IsScalar))
 
--- the characters of a character's bytes followed by others
+-- the characters of a character's bytes followed by other bytes
 pub chars-char : (c : ℕ) (rest : List ℕ) → IsScalar c → chars (encode_utf8 c ++ rest) ≡ c ∷ chars rest
 chars-char c rest scalar =
     let alone : encode_utf8 c ++ [] ≡ encode_utf8 c = append-nil (encode_utf8 c) in

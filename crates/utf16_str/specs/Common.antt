@@ -13,6 +13,7 @@ pub record IsCommonPrefix (text other prefix : List ℕ) : Type 0 where
   pub other_begins : other ≡ prefix ++ other_rest
   pub differ : (c : ℕ) (more other_more : List ℕ) → rest ≡ c ∷ more → ¬ (other_rest ≡ c ∷ other_more)
 
--- the longest common prefix of a text and others: it begins with just what all of them begin with
+-- the longest common prefix of a text and others: it begins with exactly the parts that all of them
+-- begin with
 pub record IsLongestPrefix (first : List ℕ) (others : List (List ℕ)) (prefix : List ℕ) : Type 0 where
   pub begins : (part : List ℕ) → (Begins part prefix ↔ (Begins part first × All (Begins part) others))

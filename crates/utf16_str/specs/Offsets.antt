@@ -3,7 +3,7 @@ use Rattle.std.specs.Prelude.{◌≡◌, ℕ, ◌+◌, All, List, [], ◌∷◌,
 use Rattle.utf16_units.specs.Boundary.{IsBoundary, text_from, text_to}
 use Rattle.utf16_units.specs.Encoding.{char_size, size}
 
--- each character with the size of all characters before it, where the first is at `offset`
+-- each character with the size of all characters before it, if the first is at `offset`
 unfoldable pub char_offsets : ℕ → List ℕ → List (ℕ × ℕ)
 char_offsets offset [] = []
 char_offsets offset (c ∷ text) = (offset, c) ∷ char_offsets (offset + char_size c) text
@@ -12,8 +12,8 @@ char_offsets offset (c ∷ text) = (offset, c) ∷ char_offsets (offset + char_s
 abbrev pub offset_after : ℕ → List ℕ → ℕ
 offset_after offset text = offset + size text
 
--- the character is at the offset: this and the offset after it are boundaries, and the text is the
--- prefix before it, the character, and the rest after it
+-- the character is at the offset: the offset and the end of the character are boundaries, and the
+-- text is the prefix before it, the character, and the rest after it
 pub record IsCharAt (text : List ℕ) (at : ℕ × ℕ) : Type 0 where
   pub start : IsBoundary text at.0
   pub end : IsBoundary text (at.0 + char_size at.1)

@@ -19,7 +19,7 @@ module _ {E : Type 0} {order : Ghosts E} where
   abbrev pub wstr_mut_text : WStrMut E order → List ℕ
   wstr_mut_text s = text_of order.BIG (wstr_mut_bytes s)
 
-  -- bytes that are lent for a view: after an error they end as they were, and otherwise as the view
+  -- bytes that are lent for a view: after an error they end unchanged, and otherwise as the view
   -- leaves them
   abbrev pub UnchangedOnErr : MutBor (List ℕ) → Result (WStrMut E order) Utf16Error → Fml
   UnchangedOnErr lent answer = RestsIfErr (Array u8 0) lent (λ s. (wstr_mut_lent s).ghost_name) answer (λ bytes. bytes ≡ lent.now)

@@ -27,8 +27,8 @@ window_bytes bytes (Some window) = bytes_between bytes window.0 window.1
 abbrev pub inclusive_window : ℕ → ℕ → Option (ℕ × ℕ)
 inclusive_window start last = if nat_lt last (2 ^ 64 - 1) then Some (start, last + 1) else None
 
--- whether a range is one of a string, by the string's bytes and the window that the range has for
--- the number of bytes
+-- whether a range is a range of a string, from the string's bytes and the window that the range has
+-- for their number
 abbrev pub IsRangeOf : Bool → List ℕ → (ℕ → Option (ℕ × ℕ)) → Type 0
 IsRangeOf big bytes window = IsWindowOf (text_of big bytes) (window (length bytes))
 

@@ -1,4 +1,4 @@
-//! A text in UTF-8, as a new `String` or appended to one.
+//! A text as UTF-8, in a new `String` or appended to one.
 
 ghost use Rattle.std.specs.Prelude.{◌≡◌, ◌+◌, ◌*◌, ◌/◌, ◌<◌, ◌≤◌, [], ◌++◌, length, IfOk, IsOk, OnErr, OnOk, string_bytes};
 ghost use Rattle.std.specs.String.{string_capacity, string_len};
@@ -26,7 +26,7 @@ use utf16_units::{Utf16Order, is_trailing_surrogate};
 /// # Complexity
 ///
 /// One pass over a text of at most 128 bytes, else two. Allocates once, for as many bytes as the
-/// characters take or for eight, and not at all for the empty text.
+/// characters take, but at least eight, and not at all for the empty text.
 pub fn to_utf8<E: Utf16Order, A: Allocator>(raw: &[u8], alloc: A) -> Result<String<A>, AllocError>
     requires { IsUtf16 E.BIG raw.now }
     ensures text { IfOk result (λ s. string_bytes s ≡ utf8_of E.BIG raw.now) }
@@ -42,7 +42,7 @@ pub fn to_utf8<E: Utf16Order, A: Allocator>(raw: &[u8], alloc: A) -> Result<Stri
     Ok(utf8)
 }
 
-// The same of a text that is not written character by character.
+// Returns a new `String` with a text that is not written character by character.
 #[inline(never)]
 fn make_text<E: Utf16Order, A: Allocator>(raw: &[u8], alloc: A) -> Result<String<A>, AllocError>
     requires { IsUtf16 E.BIG raw.now }
@@ -56,8 +56,7 @@ fn make_text<E: Utf16Order, A: Allocator>(raw: &[u8], alloc: A) -> Result<String
     Ok(utf8)
 }
 
-// Returns a new `String` with the text, which is written through a buffer before its length is
-// known.
+// Returns a new `String` with a text, which is written to `buf` before its length is known.
 #[inline]
 fn make_piece<E: Utf16Order, A: Allocator>(
     raw: &[u8],
@@ -87,7 +86,7 @@ fn make_piece<E: Utf16Order, A: Allocator>(
 ///
 /// # Complexity
 ///
-/// One pass over a text of 8 to 128 bytes, or if `to` has spare capacity of three bytes per code
+/// One pass if the text has 8 to 128 bytes, or if `to` has spare capacity of three bytes per code
 /// unit, else two. Allocates once, and not at all if the spare capacity suffices.
 #[inline]
 pub fn append_utf8<E: Utf16Order, A: Allocator>(
@@ -114,7 +113,7 @@ pub fn append_utf8<E: Utf16Order, A: Allocator>(
     }
 }
 
-// The same of a short text, which is written at once.
+// Appends a short text at once. Kept out of line so that other texts do not pay for its buffer.
 #[inline(never)]
 fn write_short<E: Utf16Order, A: Allocator>(
     raw: &[u8],
@@ -150,7 +149,8 @@ fn write_few<E: Utf16Order, A: Allocator>(raw: &[u8], to: &mut String<A>) -> Res
     Ok(())
 }
 
-// The same piece by piece.
+// Appends a text piece by piece to a string with enough capacity. Kept out of line so that other
+// texts do not pay for its buffer.
 #[inline(never)]
 fn write_pieces<E: Utf16Order, A: Allocator>(
     raw: &[u8],
@@ -172,7 +172,7 @@ fn write_pieces<E: Utf16Order, A: Allocator>(
     Ok(())
 }
 
-// Appends the text at once, through a buffer.
+// Appends a text at once, through `buf`.
 #[inline]
 fn write_piece<E: Utf16Order, A: Allocator>(
     raw: &[u8],
@@ -194,7 +194,7 @@ fn write_piece<E: Utf16Order, A: Allocator>(
     to.push_str(unsafe { str::from_utf8_unchecked(&buf[..len]) })
 }
 
-// The first piece of a text, and the text after it.
+// Cuts off the first piece of a text, and returns it and the text after it.
 #[inline]
 fn cut_piece<E: Utf16Order>(raw: &[u8]) -> (&[u8], &[u8])
     requires { IsUtf16 E.BIG raw.now }

@@ -1,4 +1,4 @@
-//! Iterators over the characters of a string, from either end, alone or with their byte offsets.
+//! Iterators over the characters of a string, from either end, with or without their byte offsets.
 
 ghost use Rattle.std.specs.Prelude.{◌≡◌, ◌<◌, ◌-◌, ◌^◌, ℕ, List, length, map, slice_get};
 ghost use Rattle.std.specs.Iterator.{YieldsFirst, YieldsLast, item_count};

@@ -1,5 +1,5 @@
-//! Views of UTF-16 strings in either byte order: what `&str` and `&mut str` are to UTF-8. Also a
-//! text in UTF-8, as a new `String` or appended to one.
+//! Views of UTF-16 strings in either byte order: what `&str` and `&mut str` are for UTF-8. Also
+//! converts a text to UTF-8, into a new `String` or appended to one.
 #![tactic(auto)]
 
 mod affixes;

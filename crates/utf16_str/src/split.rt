@@ -11,8 +11,8 @@ use crate::WStr;
 use std::marker::Model;
 use utf16_units::Utf16Order;
 
-/// An iterator over the remaining substrings of a [`WStr`] separated by a delimiter, each a view
-/// without it. Once none is left, `next` always returns `None`.
+/// An iterator over the remaining substrings of a [`WStr`] separated by a delimiter. Each is a view
+/// without the delimiter. Once none is left, `next` always returns `None`.
 #[derive(Drop)]
 pub struct WStrSplit<'a, E: Utf16Order> {
     rest: Option<WStr<'a, E>>,
@@ -44,10 +44,11 @@ impl<'a, E: Utf16Order> Iterator for WStrSplit<'a, E> {
 }
 
 impl<'a, E: Utf16Order> WStr<'a, E> {
-    /// Returns an iterator over the substrings separated by `delimiter`, in order and without it.
+    /// Returns an iterator over the substrings separated by `delimiter`, in order and without the
+    /// delimiter.
     ///
     /// The empty text has one substring, the empty one. A delimiter at an end of the text, or next
-    /// to another, has an empty substring there.
+    /// to another delimiter, has an empty substring there.
     ///
     /// # Complexity
     ///
@@ -55,7 +56,7 @@ impl<'a, E: Utf16Order> WStr<'a, E> {
     ///
     /// # Source
     ///
-    /// `str::split` returns the same.
+    /// The result is the same as of `str::split`.
     pub fn split(self, delimiter: char) -> WStrSplit<'a, E>
         ensures parts { result ≡ slice_split (λ c. c == delimiter) (wstr_text self.entry) }
         ensures joined { join_with_byte delimiter result ≡ wstr_text self.entry }

@@ -18,7 +18,7 @@ impl<'a, E: Utf16Order> WStr<'a, E> {
     /// # Complexity
     ///
     /// One pass over a text of at most 128 bytes, else two. Allocates once, for as many bytes as
-    /// the characters take or for eight, and not at all for the empty text.
+    /// the characters take, but at least eight, and not at all for the empty text.
     #[inline]
     pub fn to_utf8<A: Allocator>(&self, alloc: A) -> Result<String<A>, AllocError>
         ensures text { IfOk result (λ s. string_bytes s ≡ encode_utf8_all (wstr_text self.now)) }
@@ -35,8 +35,8 @@ impl<'a, E: Utf16Order> WStr<'a, E> {
     ///
     /// # Complexity
     ///
-    /// One pass over the view if it has 8 to 128 bytes or `to` has spare capacity of three bytes
-    /// per code unit, else two. Allocates once, and not at all if the spare capacity suffices.
+    /// One pass if the view has 8 to 128 bytes, or if `to` has spare capacity of three bytes per
+    /// code unit, else two. Allocates once, and not at all if the spare capacity suffices.
     #[inline]
     pub fn push_utf8<A: Allocator>(self, to: &mut String<A>) -> Result<(), AllocError>
         ensures text { OnOk result (string_bytes to.new ≡ string_bytes to.old

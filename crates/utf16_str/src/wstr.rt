@@ -28,7 +28,7 @@ use utf16_units::{
     validate_raw_utf16,
 };
 
-/// A borrowed UTF-16 string slice in the byte order `E`, a view of the caller's bytes.
+/// A borrowed UTF-16 string slice in the byte order `E`: a view of bytes that you own.
 ///
 /// The bytes are always well-formed UTF-16. The type is `Copy`. Lengths and offsets are in bytes.
 pub struct WStr<'a, E: Utf16Order> {
@@ -109,8 +109,8 @@ impl<'a, E: Utf16Order> WStr<'a, E> {
 
     /// Returns `true` if `index`, an offset in bytes, is a character boundary.
     ///
-    /// A boundary is the start of the text, its end, or the place where one character ends and the
-    /// next begins. Any offset may be given.
+    /// A boundary is the start of the text, its end, or an offset at which one character ends and
+    /// the next begins. Any offset may be given.
     ///
     /// # Complexity
     ///
@@ -170,8 +170,8 @@ impl<'a, E: Utf16Order> WStr<'a, E> {
 
     /// Returns an iterator over the characters, in order, each with its byte offset.
     ///
-    /// The clauses are those of `chars`. In addition `offsets` says where each character is:
-    /// between two boundaries, the first of which is its offset.
+    /// The clauses of `chars` hold here as well. In addition, `offsets` says where each character
+    /// is: between two boundaries, the first of which is its offset.
     #[inline]
     pub fn char_indices(self) -> WStrCharIndices<'a, E>
         ensures text { result ≡ char_offsets 0 (wstr_text self.entry) }
@@ -187,7 +187,7 @@ impl<'a, E: Utf16Order> WStr<'a, E> {
         }
     }
 
-    /// Returns `true` if the characters of the text are those of `s`.
+    /// Returns `true` if the text has the same characters as `s`.
     ///
     /// # Complexity
     ///
@@ -262,8 +262,8 @@ impl<'a, E: Utf16Order> Eq for WStr<'a, E> {
     ghost laws = { on_equiv wstr_bytes nat_list_eq_equiv };
 }
 
-/// Compares by scalar values, character by character, as `str` does. In both byte orders this
-/// differs from the ordering of the bytes and from that of the code units.
+/// Compares by scalar values, character by character, like `str`. In both byte orders the result
+/// can differ from a comparison of the bytes or of the code units.
 impl<'a, E: Utf16Order> PartialOrd for WStr<'a, E> {
     ghost use Rattle.utf16_str.specs.WStr.{wstr_bytes, wstr_text};
 

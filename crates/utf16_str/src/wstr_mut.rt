@@ -1,4 +1,4 @@
-//! A mutable UTF-16 string slice: text that can be overwritten in the caller's bytes.
+//! A mutable UTF-16 string slice: text in bytes that you own, which can be overwritten.
 
 ghost use Rattle.std.specs.Prelude.{◌≡◌, ◌↔◌, ◌+◌, ◌++◌, ◌≤◌, [], length, IsTrue, IsOk, IfOk, IfErr, true, false};
 ghost use Rattle.std.specs.Borrow.{Array, LendsBoth, sem, u8};
@@ -14,11 +14,11 @@ use crate::WStr;
 use std::marker::PhantomData;
 use utf16_units::{BigEndian, LittleEndian, Utf16Error, Utf16Order, validate_raw_utf16};
 
-/// A mutable UTF-16 string slice in the byte order `E`: text in the caller's bytes that can be
+/// A mutable UTF-16 string slice in the byte order `E`: text in bytes that you own, which can be
 /// overwritten in place.
 ///
-/// The bytes are always well-formed UTF-16. When the view is dropped, the caller's slice holds the
-/// changed bytes. Offsets are in bytes.
+/// The bytes are always well-formed UTF-16. When the view is dropped, your slice holds the changed
+/// bytes. Offsets are in bytes.
 #[derive(Drop)]
 pub struct WStrMut<'a, E: Utf16Order> {
     raw: &'a mut [u8],
@@ -32,8 +32,8 @@ impl<'a, E: Utf16Order> WStrMut<'a, E> {
     /// Returns a mutable view of `raw`, if it is well-formed UTF-16 in the byte order `E`.
     ///
     /// If the view is dropped, a caller's proof does not know which bytes are left, because the
-    /// view came in a `Result`. End it by `into_bytes`, which returns them; or test by
-    /// `WStr::from_utf16` and make the view by `from_utf16_unchecked`.
+    /// view came in a `Result`. End it with `into_bytes`, which returns them. Or test the bytes
+    /// with `WStr::from_utf16` and make the view with `from_utf16_unchecked`.
     ///
     /// # Errors
     ///
@@ -86,8 +86,8 @@ impl<'a, E: Utf16Order> WStrMut<'a, E> {
     /// The prefix is the longest one that is well-formed UTF-16 in the byte order `E`; its length
     /// is `valid_up_to` of the error. The rest is empty exactly if all of `raw` is well formed.
     ///
-    /// A caller's proof still knows the bytes afterwards, also those of the rest. So use this for
-    /// bytes that may be ill-formed: make a view of the prefix by `from_utf16_unchecked`. To accept
+    /// A caller's proof still knows the bytes afterwards, including the rest. So use this for bytes
+    /// that may be ill-formed: make a view of the prefix with `from_utf16_unchecked`. To accept
     /// only well-formed bytes, test first that the rest is empty.
     ///
     /// # Complexity
@@ -130,8 +130,8 @@ impl<'a, E: Utf16Order> WStrMut<'a, E> {
         self.as_wstr().fits(idx, text)
     }
 
-    /// Overwrites the bytes starting at the byte offset `idx` with those of `text`. All other bytes
-    /// are unchanged.
+    /// Overwrites the bytes starting at the byte offset `idx` with the bytes of `text`. All other
+    /// bytes are unchanged.
     ///
     /// # Precondition
     ///
@@ -151,7 +151,7 @@ impl<'a, E: Utf16Order> WStrMut<'a, E> {
         overwrite_bytes(self.raw, idx, text.as_bytes());
     }
 
-    /// Consumes the view and returns the caller's bytes, borrowed for `'a`.
+    /// Consumes the view and returns its bytes, borrowed for `'a`.
     #[inline]
     pub fn into_bytes(self) -> &'a mut [u8]
         ensures same_reference { result.ghost_name ≡ (wstr_mut_lent self.entry).ghost_name }

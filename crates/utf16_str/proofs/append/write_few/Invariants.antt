@@ -3,8 +3,8 @@ use Rattle.std.specs.String.{string_capacity, string_len}
 use Rattle.utf16_units.specs.Encoding.{IsUtf16, text_of}
 use Rattle.utf16_str.proofs.append.write_few.Given as goal
 
--- the UTF-8 so far and that of the rest are the text before and that of the whole, and the capacity
--- suffices
+-- the UTF-8 so far, followed by the UTF-8 of the rest, is the old text followed by the UTF-8 of the
+-- whole; and the capacity suffices
 abbrev pub invariant-loop-rest : goal.invariant-loop-rest
 invariant-loop-rest g l = record {
   text : IsUtf16 g.E.Utf16Order.BIG l.rest;
