@@ -18,7 +18,7 @@ kept-append (b ∷ answers) more [] ys long = absurd (omega (arith, long))
 kept-append (true ∷ answers) more (x ∷ xs) ys long = ap (λ l. x ∷ l) (kept-append answers more xs ys (omega (arith, long)))
 kept-append (false ∷ answers) more (x ∷ xs) ys long = kept-append answers more xs ys (omega (arith, long))
 
--- what holds of each item holds of each that is kept
+-- what holds for each item holds for each item that is kept
 pub All-kept : {X : Type 0} (P : X → Type 0) → (answers : List Bool) (xs : List X) → All P xs → All P (items_where_true answers xs)
 All-kept P [] xs all = All-nil P
 All-kept P (true ∷ answers) [] all = All-nil P

@@ -19,21 +19,21 @@ module _ (big : Bool) (c : ℕ) (text bytes : List ℕ) (e : Encodes big (c ∷ 
   unfolding behind
   first-bytes = subst (λ t. Encodes big t (take (char_size c) bytes)) (text_to-front _ _ behind) (Encodes-to _ _ _ _ e behind)
 
--- the first unit of the bytes from an index on, which are well-formed
+-- the first unit of the bytes from an index on, if these are well-formed
 module _ (big : Bool) (bytes : List ℕ) (at : ℕ) (ahead : IsUtf16 big (drop at bytes)) (within : at < length bytes) where
   pub unit-within : at + 2 ≤ length bytes
   unit-within =
       let rest = length-drop at bytes in
       omega (arith, rest, two_bytes big (drop at bytes) ahead (omega (arith, rest, within)))
 
-  -- it is u
+  -- u is this unit
   module _ (u : ℕ) (is : u ≡ unit_of big (get_or bytes at 0) (get_or bytes (at + 1) 0)) where
     first : u ≡ first_unit big (drop at bytes)
     first =
         let here : at ≡ at + 0 = omega arith in
         is ∙ ap₂ (unit_of big) (ap (λ i. get_or bytes i 0) here ∙ sym (get_or-drop at bytes 0 0)) (sym (get_or-drop at bytes 1 0))
 
-    -- if it is no leading surrogate, it is a character
+    -- if u is not a leading surrogate, it is a character
     module _ (single : IsLeading u → ⊥) where
       pub unit-splits : SplitsAt big (drop at bytes) u 2
       unit-splits =

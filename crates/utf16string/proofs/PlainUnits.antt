@@ -1,5 +1,5 @@
--- Blocks of units, each of which is a character: their bytes, and those for which a predicate
--- returns true.
+-- Blocks of units, each of which is a character: their bytes, and the bytes of the units for which
+-- a predicate returns true.
 use Rattle.std.proofs.Common.{◌≡◌, ℕ, ◌+◌, ◌-◌, ◌<◌, ◌≤◌, Bool, true, false, List, [], ◌∷◌, ◌++◌, All, get_or, length, take, drop, refl, sym, ap, ap₂, ◌∙◌, arith, append-nil, append_assoc, length-append, flat_map}
 use Rattle.std.proofs.lemmas.List.{drop-drop, length-take-le, take_more}
 use Rattle.std.proofs.lemmas.List.Elements.{All-cons, All-head, All-nil, All-tail}
@@ -18,7 +18,7 @@ use Rattle.utf16_units.proofs.CharLemmas.{one_unit_bytes}
 abbrev pub IsUnit : ℕ → Type 0
 IsUnit u = u < 0x1_0000
 
--- a unit that is no surrogate is a character
+-- a unit that is not a surrogate is a character
 pub no_surrogate-scalars : (units : List ℕ) → All IsUnit units → HasNoSurrogate units → All IsScalar units
 no_surrogate-scalars [] below plain = All-nil IsScalar
 no_surrogate-scalars (u ∷ units) below plain =
@@ -26,14 +26,14 @@ no_surrogate-scalars (u ∷ units) below plain =
     All-cons IsScalar u units (scalar_unit u (All-head IsUnit u units below) (is_not_of 54 u here.0) (is_not_of 55 u here.1))
     (no_surrogate-scalars units (All-tail IsUnit u units below) (All-tail IsNoSurrogate u units plain))
 
--- no more are kept than there are
+-- at most all units are kept
 length-kept : {X : Type 0} → (answers : List Bool) (items : List X) → length (items_where_true answers items) ≤ length items
 length-kept [] items = omega arith
 length-kept (b ∷ answers) [] = elim b [ true ↦ omega arith | false ↦ omega arith ]
 length-kept (true ∷ answers) (d ∷ items) = omega (arith, length-kept answers items)
 length-kept (false ∷ answers) (d ∷ items) = omega (arith, length-kept answers items)
 
--- if as many are kept as there are, all are
+-- if the number of kept units is the number of all, all are kept
 pub kept-all : {X : Type 0} → (answers : List Bool) (items : List X) → length (items_where_true answers items) ≡ length items → items_where_true answers items ≡ items
 kept-all [] [] many = refl
 kept-all [] (d ∷ items) many = absurd (omega (arith, many))
@@ -63,7 +63,7 @@ pub bool_byte-below : (b : Bool) → bool_byte b ≤ 1
 bool_byte-below true = omega arith
 bool_byte-below false = omega arith
 
--- a step of writing those kept, after what precedes them
+-- a step of writing the kept units, after what precedes them
 pub written-more : (big : Bool) (front : List ℕ) (answers : List Bool) (units : List ℕ) (i : ℕ) (answer : Bool) → i < length answers → i < length units
     → get_or answers i false ≡ answer → (old new : List ℕ) → old ≡ front ++ encode big (items_where_true (take i answers) (take i units))
     → new ≡ old ++ encode big (items_where_true (answer ∷ []) (get_or units i 0 ∷ []))
@@ -75,7 +75,7 @@ written-more big front answers units i answer long room is old new so_far more =
     ∙ ap (λ l. front ++ encode big (items_where_true l (take (i + 1) units)))
     (ap (λ b. take i answers ++ b ∷ []) (sym is) ∙ sym (take_more answers i false long))
 
--- none kept are no bytes
+-- if no units are kept, no bytes are written
 pub encode-none : (big : Bool) (front : List ℕ) → front ≡ front ++ encode big []
 encode-none big front = sym (ap (λ l. front ++ l) (encode-nil big) ∙ append-nil front)
 
@@ -85,12 +85,12 @@ drop-later a b xs ys le same_from =
     let all : a + (b - a) ≡ b = omega arith in
     ap (λ i. drop i xs) (sym all) ∙ sym (drop-drop (b - a) a xs) ∙ ap (drop (b - a)) same_from ∙ drop-drop (b - a) a ys ∙ ap (λ i. drop i ys) all
 
--- the bytes of characters of one unit each are those of the units
+-- the bytes of characters of one unit each are the bytes of the units
 pub encode-units : (big : Bool) (units : List ℕ) → All IsUnit units → encode big units ≡ flat_map (unit_bytes big) units
 encode-units big [] below = encode-nil big
 encode-units big (u ∷ units) below =
     encode-cons big u units ∙ ap₂ (λ x y. x ++ y) (one_unit_bytes big u (All-head IsUnit u units below)) (encode-units big units (All-tail IsUnit u units below))
 
--- those of one character
+-- the bytes of one such character
 pub encode-unit : (big : Bool) (u : ℕ) → IsUnit u → encode big (u ∷ []) ≡ unit_bytes big u
 encode-unit big u below = encode-units big (u ∷ []) (All-cons IsUnit u [] below (All-nil IsUnit)) ∙ append-nil (unit_bytes big u)

@@ -1,4 +1,4 @@
--- What a predicate keeps whose results and states are known: for callers of `retain` and
+-- What a predicate keeps if its results and states are known: for callers of `retain` and
 -- `retain_by`.
 use Rattle.std.proofs.Common.{◌≡◌, ℕ, Bool, true, false, List, [], ◌∷◌, length, inr, refl, sym, ap, ◌∙◌, arith}
 use Rattle.std.specs.Fn.{Mut, Takes}
@@ -7,8 +7,8 @@ use Rattle.std.specs.List.Retain.{ReturnsInTurn}
 use Rattle.std.specs.Prelude.{if◌then◌else◌}
 use Rattle.utf16string.specs.Retain.{Answers, IsAskable, MayBeAsked, Retains, RetainsTo}
 
--- for an invariant I under which the predicate may be called on the first character, and which each
--- call preserves for the rest
+-- for an invariant I: while it holds, the predicate may be called on the first character, and each
+-- call preserves it for the rest
 module _ {F : Type 0} (calls : Mut F (ℕ × Unit {0}) Bool) (I : F → List ℕ → Type 0)
     (asks : (f : F) (c : ℕ) (text : List ℕ) → I f (c ∷ text) → Takes calls f (c, tt))
     (keeps : (f : F) (c : ℕ) (text : List ℕ) (answer : Bool) (u : F) → I f (c ∷ text) → Answers calls f c answer u → I u text) where

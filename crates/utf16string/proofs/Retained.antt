@@ -11,7 +11,7 @@ use Rattle.utf16string.specs.Kept.{KeepsNext}
 use Rattle.utf16string.specs.Retain.{MayBeAsked, RetainsTo}
 use Rattle.utf16string.proofs.Asked.{All-kept, MayBeAsked-back, MayBeAsked-front, RetainsTo-append}
 
--- the bytes from `read` on, of which those before `next` are well-formed
+-- the bytes from `read` on, of which the bytes before `next` are well-formed
 module _ (big : Bool) (bytes : List ℕ) (read next : ℕ) (onward : read ≤ next) (whole : IsUtf16 big (slice_range bytes read next)) where
   text_of-drop : text_of big (drop read bytes) ≡ text_of big (slice_range bytes read next) ++ text_of big (drop next bytes)
   text_of-drop = ap (text_of big) (drop_split bytes read next onward) ∙ text_of-append big _ (drop next bytes) whole
@@ -28,13 +28,13 @@ module _ {F : Type 0} (calls : Mut F (ℕ × Unit {0}) Bool) (big : Bool) where
     whole : IsUtf16 big (slice_range bytes read (read + n))
     whole = IsUtf16-from_Encodes _ _ _ here
 
-    -- it may be, if it may be called on all that comes
+    -- it may be called on them, if it may be called on all that follows
     pub may-ask : MayBeAsked calls f (text_of big (drop read bytes)) → MayBeAsked calls f xs
     may-ask may =
         MayBeAsked-front calls f xs (text_of big (drop (read + n) bytes))
         (subst (MayBeAsked calls f) (text_of-drop big bytes read (read + n) (omega arith) whole ∙ ap (λ l. l ++ text_of big (drop (read + n) bytes)) (text_of-Encodes _ _ _ here)) may)
 
-    -- what it keeps of them is moved after what was kept before
+    -- the characters that it keeps are moved after what was kept before
     pub KeepsNext-from : (u : F) (moved : List ℕ) (kept k : ℕ) → (left : List ℕ) × RetainsTo calls f xs left u × (take k moved ≡ take kept bytes ++ encode big left)
         → drop (read + n) moved ≡ drop (read + n) bytes → KeepsNext calls big f bytes kept read u moved k (read + n)
     KeepsNext-from u moved kept k held rest = record {
@@ -47,7 +47,7 @@ module _ {F : Type 0} (calls : Mut F (ℕ × Unit {0}) Bool) (big : Bool) where
 
   module _ (first : F) (text : List ℕ) where
     -- the predicate was called on `done` and left the state f. What it keeps of `done` is in the
-    -- first `kept` bytes, and what is to come is in those from `read` on
+    -- first `kept` bytes, and what remains is in the bytes from `read` on
     pub record Retaining (f : F) (bytes : List ℕ) (kept read : ℕ) : Type 0 where
       pub done : List ℕ
       pub left : List ℕ
@@ -58,7 +58,7 @@ module _ {F : Type 0} (calls : Mut F (ℕ × Unit {0}) Bool) (big : Bool) where
       pub may : MayBeAsked calls f (text_of big (drop read bytes))
       pub order : (kept ≤ read) × (read ≤ length bytes)
 
-    -- no call yet
+    -- no call was made yet
     pub Retaining-start : (bytes : List ℕ) → text_of big bytes ≡ text → IsUtf16 big bytes → MayBeAsked calls first (text_of big bytes) → Retaining first bytes 0 0
     Retaining-start bytes same ahead may = record {
       done = [];
@@ -84,7 +84,7 @@ module _ {F : Type 0} (calls : Mut F (ℕ × Unit {0}) Bool) (big : Bool) where
               (subst (λ l. RetainsTo calls first at.done l f) (sym (text_of-Encodes _ _ _ at.held)) at.asked),
         )
 
-      -- one step on
+      -- one step further
       pub Retaining-next : (u : F) (moved : List ℕ) (k next : ℕ) → KeepsNext calls big f bytes kept read u moved k next → read < next → k ≤ next → next ≤ length moved
           → Retaining u moved k next
       Retaining-next u moved k next step onward down within =

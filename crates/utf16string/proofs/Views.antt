@@ -1,4 +1,4 @@
--- What the type of a view implies about its text, for goals where no call gives it.
+-- What the type of a view implies about its text, for goals in which no call does.
 use Rattle.std.proofs.Common.{List, [], ◌∷◌, All, map}
 use Rattle.std.proofs.lemmas.List.Elements.{All-cons, All-nil}
 use Rattle.std.specs.Char.{IsScalar}

@@ -8,8 +8,8 @@ use Rattle.utf16string.specs.Retain.{RetainsTo}
 
 module _ {F : Type 0} (calls : Mut F (ℕ × Unit {0}) Bool) (big : Bool) where
   -- the predicate is called on each character between the offsets `read` and `next` in turn, and
-  -- its state is `last` then. The characters that it keeps, `left`, follow the first `kept` bytes,
-  -- up to `end`. The bytes from `next` on stay
+  -- its last state is `last`. The characters that it keeps, `left`, follow the first `kept` bytes,
+  -- up to `end`. The bytes from `next` on are unchanged
   pub record KeepsNext (f : F) (old : List ℕ) (kept read : ℕ)
       (last : F) (new : List ℕ) (end next : ℕ) : Type 0 where
     pub left : List ℕ

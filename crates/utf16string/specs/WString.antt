@@ -28,6 +28,6 @@ module _ {E Z : Type 0} {order : Ghosts E} where
   abbrev pub IsUnchanged : WString E Z order → WString E Z order → Type 0
   IsUnchanged old new = (wstring_bytes new ≡ wstring_bytes old) × (wstring_capacity new ≡ wstring_capacity old)
 
-  -- `new` has the text of `old` and then these characters
+  -- `new` has the text of `old`, followed by these characters
   abbrev pub Extends : WString E Z order → List ℕ → WString E Z order → Type 0
   Extends old text new = wstring_text new ≡ push_text (wstring_text old) text

@@ -2,7 +2,7 @@
 //! `String` are to UTF-8.
 //!
 //! This crate holds the owned string. It re-exports all of `utf16_str` and the byte orders, so that
-//! a user names this crate alone.
+//! you need to name only this crate.
 #![tactic(auto)]
 
 mod retain;

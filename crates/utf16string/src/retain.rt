@@ -1,4 +1,4 @@
-//! Retains the characters of UTF-16 that a predicate accepts, in place.
+//! Keeps the characters of UTF-16 that a predicate accepts, in place.
 
 ghost use Rattle.std.specs.Prelude.{◌≡◌, ◌⊎◌, ◌+◌, ◌*◌, ◌<◌, ◌≤◌, [], ◌∷◌, ◌++◌, All, IfSome, List, ℕ, length, take, drop};
 ghost use Rattle.utf16_units.specs.Encoding.{Encodes, IsUtf16, char_size, encode, text_of};
@@ -9,12 +9,12 @@ use crate::retain_blocks::{BLOCK_BYTES, keep_block, plain_block};
 use utf16_units::ends::first_char;
 use utf16_units::{Utf16Order, is_leading_surrogate};
 
-/// Moves the characters for which `keep` returns `true` to the start of `bytes`, and returns the
-/// length of these in bytes.
+/// Moves the characters for which `keep` returns `true` to the start of `bytes`, and returns their
+/// length in bytes.
 ///
-/// `keep` is called once for each character, from first to last, and its state carries through.
-/// Nothing is moved before the first character that is removed. The bytes after those kept are
-/// unspecified.
+/// `keep` is called once for each character, from first to last, and keeps its state from call to
+/// call. Nothing is moved before the first character that is removed. The bytes after the kept ones
+/// are unspecified.
 ///
 /// # Precondition
 ///
@@ -37,10 +37,11 @@ pub fn retain_in_place<E: Utf16Order, F: FnMut(char) -> bool>(
 {
     let mut kept = 0;
     let mut read = 0;
-    // Where a block is tried next. The characters of one that has a surrogate go one by one.
+    // The index at which a block is tried next. The characters of a block with a surrogate go one
+    // by one.
     let mut next_block = 0;
     while read < bytes.len() {
-        // A pair has its own branch, so that the next index does not wait for a size that is
+        // A pair has a separate branch, so that the next index does not wait for a size that is
         // computed from what was read.
         let Some(c) = single_at::<E>(bytes, read) else {
             let (c, size) = char_from::<E>(bytes, read);
@@ -91,7 +92,7 @@ fn char_from<E: Utf16Order>(bytes: &[u8], at: usize) -> (char, usize)
 }
 
 // Calls the predicate on the character at an index, and moves it down if it is kept. Returns the
-// end of those kept.
+// end of the kept characters.
 #[inline(always)]
 fn keep_char<E: Utf16Order, F: FnMut(char) -> bool>(
     bytes: &mut [u8],

@@ -12,14 +12,14 @@ use utf16_units::Utf16Order;
 use utf16_units::blocks::units16;
 use utf16_units::surrogates::has_no_surrogate;
 
-/// The number of units of a block.
+/// The number of units in a block.
 const UNITS: usize = 16;
 
-/// The number of bytes of a block.
+/// The number of bytes in a block.
 pub(crate) const BLOCK_BYTES: usize = 2 * UNITS;
 
-// The units of the next block, if the bytes have one there and none of its units is a surrogate:
-// each is a character.
+// The units of the next block, if there are enough bytes for one and none of the units is a
+// surrogate: each unit is a character.
 #[inline]
 pub(crate) fn plain_block<E: Utf16Order>(bytes: &[u8], at: usize) -> Option<[u16; UNITS]>
     requires { at ≤ length bytes.now }
@@ -37,8 +37,8 @@ pub(crate) fn plain_block<E: Utf16Order>(bytes: &[u8], at: usize) -> Option<[u16
     Some(units.to_array())
 }
 
-// Calls the predicate on each character of a block, in turn, and moves those kept down. Returns the
-// end of those kept.
+// Calls the predicate on each character of a block, in turn, and moves the kept ones down. Returns
+// the end of the kept characters.
 #[inline(always)]
 pub(crate) fn keep_block<E: Utf16Order, F: FnMut(char) -> bool>(
     bytes: &mut [u8],
@@ -59,7 +59,7 @@ pub(crate) fn keep_block<E: Utf16Order, F: FnMut(char) -> bool>(
     move_block::<E>(bytes, kept, read, units, &answers, many)
 }
 
-// Calls the predicate on each character of a block, in turn, and counts those kept.
+// Calls the predicate on each character of a block, in turn, and counts the kept ones.
 #[inline]
 fn ask_each<F: FnMut(char) -> bool>(keep: &mut F, units: &[u16; UNITS]) -> ([bool; UNITS], usize)
     requires scalars { All IsScalar units.now }
@@ -78,8 +78,7 @@ fn ask_each<F: FnMut(char) -> bool>(keep: &mut F, units: &[u16; UNITS]) -> ([boo
     (answers, many)
 }
 
-// Moves the characters of a block that are kept down; if all are kept, by one move. Returns their
-// end.
+// Moves the kept characters of a block down, in one move if all are kept. Returns their end.
 #[inline(always)]
 fn move_block<E: Utf16Order>(
     bytes: &mut [u8],
@@ -122,7 +121,7 @@ fn move_all(bytes: &mut [u8], to: usize, start: usize)
     }
 }
 
-// Writes the units that are kept one after another; no byte after their block changes.
+// Writes the kept units one after another. The bytes after the block do not change.
 #[inline]
 fn write_some<E: Utf16Order>(
     bytes: &mut [u8],

@@ -33,8 +33,8 @@ use utf16_str::{SliceIndex, WStr, WStrCharIndices, WStrChars};
 use utf16_units::{BigEndian, LittleEndian, Utf16Error, Utf16Order, validate_raw_utf16};
 
 /// An owned UTF-16 string in the byte order `E`, in memory of the allocator `A`. It is always well
-/// formed. Lengths, offsets and capacities count bytes. A capacity larger than a vector can have is
-/// an allocation failure.
+/// formed. Lengths, offsets and capacities count bytes. A capacity larger than a vector can have
+/// counts as a failed allocation.
 #[derive(Drop)]
 pub struct WString<E: Utf16Order, A: Allocator = Global> {
     raw: Vec<u8, A>,
@@ -63,7 +63,8 @@ impl<E: Utf16Order, A: Allocator> WString<E, A> {
     ///
     /// # Errors
     ///
-    /// If allocation fails. It does not fail, and allocates nothing, if `capacity` is 0.
+    /// `AllocError`, if allocation fails. It does not fail, and allocates nothing, if `capacity` is
+    /// 0.
     #[inline]
     pub fn with_capacity(alloc: A, capacity: usize) -> Result<Self, AllocError>
         ensures text { IfOk result (λ s. wstring_text s ≡ []) }
@@ -80,12 +81,12 @@ impl<E: Utf16Order, A: Allocator> WString<E, A> {
     ///
     /// # Errors
     ///
-    /// If the bytes are ill-formed; the error gives the length of the longest valid prefix and what
-    /// follows it. The vector is dropped then.
+    /// [`Utf16Error`], if the bytes are ill-formed: the length of the longest valid prefix and what
+    /// follows it. The vector is dropped.
     ///
     /// # Complexity
     ///
-    /// One pass over the bytes, no copy.
+    /// One pass over the bytes. Copies nothing.
     #[inline]
     pub fn from_utf16(buf: Vec<u8, A>) -> Result<Self, Utf16Error>
         ensures ok { IsOk result ↔ IsUtf16 E.BIG buf.items }
@@ -114,7 +115,7 @@ impl<E: Utf16Order, A: Allocator> WString<E, A> {
         }
     }
 
-    /// Returns the bytes, which encode the text, in the string's own vector.
+    /// Returns the bytes, which encode the text, in the vector of the string.
     #[inline]
     pub fn into_bytes(self) -> Vec<u8, A>
         ensures vec { result ≡ wstring_vec self }
@@ -132,8 +133,8 @@ impl<E: Utf16Order, A: Allocator> WString<E, A> {
         WStr::from_utf16_unchecked(&self.raw)
     }
 
-    /// Returns the capacity: how many bytes the string can hold without allocation, those of the
-    /// text included.
+    /// Returns the capacity: how many bytes the string can hold without allocation, including the
+    /// bytes of the text.
     #[inline]
     pub fn capacity(&self) -> usize
         ensures capacity { result ≡ wstring_capacity self.now }
@@ -169,8 +170,8 @@ impl<E: Utf16Order, A: Allocator> WString<E, A> {
         self.as_wstr().as_bytes()
     }
 
-    /// Returns whether a byte offset is a character boundary: the start, the end, or between two
-    /// characters. Any offset is allowed.
+    /// Returns whether a byte offset is a character boundary: the start, the end, or an offset
+    /// between two characters. Any offset is allowed.
     #[inline]
     pub fn is_char_boundary(&self, index: usize) -> bool
         ensures { IsTrue result ↔ IsBoundary (wstring_text self.now) index }
@@ -206,7 +207,7 @@ impl<E: Utf16Order, A: Allocator> WString<E, A> {
         self.as_wstr().get_unchecked(index)
     }
 
-    /// Returns the substring at a range of byte offsets; replaces `s[a..b]`.
+    /// Returns the substring at a range of byte offsets. This replaces `s[a..b]`.
     ///
     /// # Precondition
     ///
@@ -221,7 +222,8 @@ impl<E: Utf16Order, A: Allocator> WString<E, A> {
         self.as_wstr().index(index)
     }
 
-    /// Returns an iterator over the characters, in order. The clauses are those of `WStr::chars`.
+    /// Returns an iterator over the characters, in order. The clauses of `WStr::chars` hold here as
+    /// well.
     #[inline]
     pub fn chars(&self) -> WStrChars<'_, E>
         ensures text { result ≡ wstring_text self.now }
@@ -232,8 +234,8 @@ impl<E: Utf16Order, A: Allocator> WString<E, A> {
         self.as_wstr().chars()
     }
 
-    /// Returns an iterator over the characters, in order, each with its byte offset. The clauses
-    /// are those of `WStr::char_indices`.
+    /// Returns an iterator over the characters, in order, each with its byte offset. The clauses of
+    /// `WStr::char_indices` hold here as well.
     #[inline]
     pub fn char_indices(&self) -> WStrCharIndices<'_, E>
         ensures text { result ≡ char_offsets 0 (wstring_text self.now) }
@@ -258,12 +260,12 @@ impl<E: Utf16Order, A: Allocator> WString<E, A> {
     ///
     /// # Errors
     ///
-    /// If allocation fails. It does not fail for the empty text.
+    /// `AllocError`, if allocation fails. It does not fail for the empty text.
     ///
     /// # Complexity
     ///
-    /// Allocates once, for as many bytes as the characters take or for eight, and not at all for
-    /// the empty text.
+    /// Allocates once, for as many bytes as the characters take, but at least eight, and not at all
+    /// for the empty text.
     #[inline]
     pub fn to_utf8<B: Allocator>(&self, alloc: B) -> Result<String<B>, AllocError>
         ensures text { IfOk result (λ s.
@@ -277,7 +279,7 @@ impl<E: Utf16Order, A: Allocator> WString<E, A> {
 impl<A: Allocator> WString<LittleEndian, A> {
     ghost use Rattle.utf16string.specs.WString.{wstring_text, wstring_vec};
 
-    /// Converts a vector of little-endian bytes, as `from_utf16`.
+    /// Converts a vector of little-endian bytes, like `from_utf16`.
     #[inline]
     pub fn from_utf16le(buf: Vec<u8, A>) -> Result<Self, Utf16Error>
         ensures ok { IsOk result ↔ IsUtf16 false buf.items }
@@ -288,7 +290,7 @@ impl<A: Allocator> WString<LittleEndian, A> {
         WString::<LittleEndian, A>::from_utf16(buf)
     }
 
-    /// Converts a vector of little-endian bytes without validation, as `from_utf16_unchecked`.
+    /// Converts a vector of little-endian bytes without validation, like `from_utf16_unchecked`.
     #[inline]
     pub fn from_utf16le_unchecked(buf: Vec<u8, A>) -> Self
         requires { IsUtf16 false buf.items }
@@ -302,7 +304,7 @@ impl<A: Allocator> WString<LittleEndian, A> {
 impl<A: Allocator> WString<BigEndian, A> {
     ghost use Rattle.utf16string.specs.WString.{wstring_text, wstring_vec};
 
-    /// Converts a vector of big-endian bytes, as `from_utf16`.
+    /// Converts a vector of big-endian bytes, like `from_utf16`.
     #[inline]
     pub fn from_utf16be(buf: Vec<u8, A>) -> Result<Self, Utf16Error>
         ensures ok { IsOk result ↔ IsUtf16 true buf.items }
@@ -313,7 +315,7 @@ impl<A: Allocator> WString<BigEndian, A> {
         WString::<BigEndian, A>::from_utf16(buf)
     }
 
-    /// Converts a vector of big-endian bytes without validation, as `from_utf16_unchecked`.
+    /// Converts a vector of big-endian bytes without validation, like `from_utf16_unchecked`.
     #[inline]
     pub fn from_utf16be_unchecked(buf: Vec<u8, A>) -> Self
         requires { IsUtf16 true buf.items }

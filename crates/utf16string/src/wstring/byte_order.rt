@@ -12,13 +12,13 @@ use utf16_units::Utf16Order;
 impl<E: Utf16Order, A: Allocator> WString<E, A> {
     ghost use Rattle.utf16string.specs.WString.{wstring_bytes, wstring_capacity, wstring_text, wstring_vec};
 
-    /// Converts the string to byte order `F`: returns the same text in the string's own memory. For
-    /// a copy in the other byte order, call `from_wstr` first.
+    /// Converts the string to byte order `F`: returns the same text in the same memory. For a copy
+    /// in the other byte order, call `from_wstr` first.
     ///
     /// # Complexity
     ///
-    /// If the byte order changes, swaps the two bytes of each code unit in one pass; otherwise the
-    /// bytes stay. Allocates nothing, and the capacity stays.
+    /// If the byte order changes, swaps the two bytes of each code unit in one pass; otherwise
+    /// leaves the bytes as they are. Allocates nothing, and the capacity stays.
     pub fn into_byte_order<F: Utf16Order>(self) -> WString<F, A>
         ensures text { wstring_text result ≡ wstring_text self }
         ensures encoding { Encodes F.BIG (wstring_text self) (wstring_bytes result) }

@@ -14,11 +14,11 @@ impl<E: Utf16Order, A: Allocator> WString<E, A> {
     ///
     /// # Errors
     ///
-    /// If allocation fails. The string is unchanged then.
+    /// `AllocError`, if allocation fails. The string is unchanged.
     ///
     /// # Complexity
     ///
-    /// Allocates nothing, and leaves the capacity as it is, if it suffices already.
+    /// Allocates nothing and leaves the capacity as it is, if it is already enough.
     #[inline]
     pub fn reserve(&mut self, additional: usize) -> Result<(), AllocError>
         ensures bytes { wstring_bytes self.new ≡ wstring_bytes self.old }
@@ -38,11 +38,11 @@ impl<E: Utf16Order, A: Allocator> WString<E, A> {
     ///
     /// # Errors
     ///
-    /// If the allocation of the smaller block fails. The text is unchanged then.
+    /// `AllocError`, if the smaller block cannot be allocated. The text is unchanged.
     ///
     /// # Complexity
     ///
-    /// Allocates nothing if the capacity is the length already, or the text is empty.
+    /// Allocates nothing if the capacity is already the length, or if the text is empty.
     pub fn shrink_to_fit(&mut self) -> Result<(), AllocError>
         ensures bytes { wstring_bytes self.new ≡ wstring_bytes self.old }
         ensures ok { IsOk result ↔ (wstring_capacity self.new
@@ -58,7 +58,7 @@ impl<E: Utf16Order, A: Allocator> WString<E, A> {
     }
 }
 
-// Reserves capacity for more bytes. Where it suffices already, it stays.
+// Reserves capacity for more bytes. The capacity stays if it is already enough.
 #[inline]
 pub(super) fn reserve_bytes<A: Allocator>(
     raw: &mut Vec<u8, A>,

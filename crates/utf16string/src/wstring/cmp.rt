@@ -1,5 +1,5 @@
-//! Comparison of strings: by scalar values, character by character, as `String` compares. It
-//! differs from comparing the bytes and from comparing the code units, in both byte orders.
+//! Comparison of strings by scalar values, character by character, like `String`. In both byte
+//! orders the result can differ from a comparison of the bytes or of the code units.
 
 ghost use Rattle.std.specs.Prelude.{◌≡◌, ◌↔◌, Some};
 ghost use Rattle.std.specs.Cmp.{on_total, po};

@@ -16,7 +16,7 @@ impl<E: Utf16Order, A: Allocator> WString<E, A> {
     ///
     /// # Errors
     ///
-    /// If allocation fails. It does not fail for the empty text.
+    /// `AllocError`, if allocation fails. It does not fail for the empty text.
     ///
     /// # Complexity
     ///
@@ -43,7 +43,7 @@ impl<E: Utf16Order, A: Allocator + Clone> WString<E, A> {
     ///
     /// # Errors
     ///
-    /// If allocation fails, or the allocator cannot be cloned.
+    /// `AllocError`, if allocation fails or the allocator cannot be cloned.
     ///
     /// # Complexity
     ///

@@ -1,4 +1,4 @@
-//! Characters and texts removed from a string.
+//! Removal of characters and texts from a string.
 
 ghost use Rattle.std.specs.Prelude.{◌≡◌, ◌≢◌, ◌↔◌, ◌+◌, ◌<◌, ◌≤◌, [], Some, IsOk, IsSome, IfOk, OnErr, OnOk};
 ghost use Rattle.std.specs.List.{remove_range};
@@ -52,8 +52,8 @@ impl<E: Utf16Order, A: Allocator> WString<E, A> {
         removed
     }
 
-    /// Shortens the text to `new_len` bytes. Does nothing if `new_len` is at or past the length,
-    /// even if it is odd. The capacity stays.
+    /// Shortens the text to `new_len` bytes. Does nothing if `new_len` is at least the length, even
+    /// if it is odd. The capacity stays.
     ///
     /// # Precondition
     ///
@@ -84,7 +84,7 @@ impl<E: Utf16Order, A: Allocator> WString<E, A> {
     ///
     /// # Errors
     ///
-    /// If allocation fails. The string is unchanged then.
+    /// `AllocError`, if allocation fails. The string is unchanged.
     ///
     /// # Precondition
     ///

@@ -1,4 +1,4 @@
-//! The characters of an iterator appended to a string, and strings collected from one.
+//! The characters of an iterator, appended to a string or collected into one.
 
 ghost use Rattle.std.specs.Prelude.{◌≡◌, ◌+◌, ◌<◌, ◌≤◌, [], List, ℕ, Some, length, IfOk, OnErr, OnOk};
 ghost use Rattle.std.specs.Iterator.{Drains, ExtendsWithItems, IsFinite, YieldsThen};
@@ -12,17 +12,17 @@ use utf16_units::Utf16Order;
 impl<E: Utf16Order, A: Allocator> WString<E, A> {
     ghost use Rattle.utf16string.specs.WString.{Extends, wstring_bytes, wstring_capacity};
 
-    /// Appends the characters of an iterator, in order, each as by `push`.
+    /// Appends the characters of an iterator, in order, like `push`.
     ///
     /// # Errors
     ///
-    /// If allocation fails for a character. The characters appended so far stay, and the iterator
-    /// is not advanced further.
+    /// `AllocError`, if allocation fails for a character. The characters appended so far stay, and
+    /// the iterator is not advanced further.
     ///
     /// # Complexity
     ///
-    /// Where all characters fit, and where there is none, it allocates nothing and the capacity
-    /// stays.
+    /// Allocates nothing, and leaves the capacity as it is, if all characters fit or there are
+    /// none.
     pub fn extend<U: IntoIterator<Item = char>>(&mut self, iter: U) -> Result<(), AllocError>
         requires { (it : U.IntoIter) → U.into_iter_gives iter it
             → U.IntoIter.can_next it × IsFinite (U.IntoIter.remaining it) }
@@ -51,7 +51,7 @@ impl<E: Utf16Order, A: Allocator> Extend<char> for WString<E, A> {
 
     ghost extend_gives = { Extends };
 
-    /// The clauses are those of the inherent `extend`.
+    /// The clauses of the inherent `extend` hold here as well.
     fn extend<U: IntoIterator<Item = char>>(&mut self, iter: U) -> Result<(), AllocError>
         requires { (it : U.IntoIter) → U.into_iter_gives iter it
             → U.IntoIter.can_next it × IsFinite (U.IntoIter.remaining it) }
@@ -83,8 +83,8 @@ impl<E: Utf16Order, A: Allocator> FromIterator<char> for WString<E, A> {
     ///
     /// # Errors
     ///
-    /// If allocation fails for a character. The iterator is not advanced further. Where the
-    /// iterator has no character, nothing is allocated.
+    /// `AllocError`, if allocation fails for a character. The iterator is not advanced further.
+    /// Nothing is allocated if the iterator has no characters.
     fn from_iter<U: IntoIterator<Item = char>>(alloc: A, iter: U) -> Result<Self, AllocError>
         requires { (it : U.IntoIter) → U.into_iter_gives iter it
             → U.IntoIter.can_next it × IsFinite (U.IntoIter.remaining it) }

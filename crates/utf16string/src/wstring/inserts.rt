@@ -1,4 +1,4 @@
-//! Characters and texts appended to a string and inserted into it.
+//! Appends characters and texts to a string, and inserts them into it.
 
 ghost use Rattle.std.specs.Prelude.{◌≡◌, ◌+◌, ◌≤◌, ◌⊎◌, List, ℕ, [], ◌∷◌, ◌++◌, length, take, IsOk, OnErr, OnOk};
 ghost use Rattle.std.specs.List.{splice};
@@ -21,12 +21,12 @@ impl<E: Utf16Order, A: Allocator> WString<E, A> {
     ///
     /// # Errors
     ///
-    /// If allocation fails. The string is unchanged then.
+    /// `AllocError`, if allocation fails. The string is unchanged.
     ///
     /// # Complexity
     ///
-    /// Amortized constant time, by the growth of `Vec`. Where the character fits, it allocates
-    /// nothing and the capacity stays.
+    /// Amortized constant time, like `push` of `Vec`. If the character fits, it allocates nothing
+    /// and the capacity stays.
     #[inline]
     pub fn push(&mut self, ch: char) -> Result<(), AllocError>
         ensures text { OnOk result (wstring_text self.new
@@ -47,11 +47,11 @@ impl<E: Utf16Order, A: Allocator> WString<E, A> {
     ///
     /// # Errors
     ///
-    /// If allocation fails. The string is unchanged then.
+    /// `AllocError`, if allocation fails. The string is unchanged.
     ///
     /// # Complexity
     ///
-    /// Copies the bytes of the text once. Allocates only if they do not fit in the capacity.
+    /// Copies the bytes of the text once. Allocates only if they do not fit.
     #[inline]
     pub fn push_wstr(&mut self, string: WStr<E>) -> Result<(), AllocError>
         ensures text { OnOk result (wstring_text self.new
@@ -70,7 +70,7 @@ impl<E: Utf16Order, A: Allocator> WString<E, A> {
     ///
     /// # Errors
     ///
-    /// If allocation fails. The string is unchanged then.
+    /// `AllocError`, if allocation fails. The string is unchanged.
     ///
     /// # Precondition
     ///
@@ -78,7 +78,7 @@ impl<E: Utf16Order, A: Allocator> WString<E, A> {
     ///
     /// # Complexity
     ///
-    /// Moves the bytes after the offset in one block. Where the character fits, the capacity stays.
+    /// Moves the bytes after the offset in one block. If the character fits, the capacity stays.
     pub fn insert(&mut self, idx: usize, ch: char) -> Result<(), AllocError>
         requires { IsBoundary (wstring_text self.old) idx }
         ensures text { OnOk result (wstring_text self.new
@@ -99,7 +99,7 @@ impl<E: Utf16Order, A: Allocator> WString<E, A> {
     ///
     /// # Errors
     ///
-    /// If allocation fails. The string is unchanged then.
+    /// `AllocError`, if allocation fails. The string is unchanged.
     ///
     /// # Precondition
     ///
@@ -151,7 +151,7 @@ pub(super) fn write_char<E: Utf16Order, A: Allocator>(raw: &mut Vec<u8, A>, ch: 
     write_units(raw, bytes, len);
 }
 
-// Appends the first two or all four bytes. Where they fit, the capacity stays.
+// Appends the first two or all four bytes. If they fit, the capacity stays.
 #[inline]
 fn push_units<A: Allocator>(
     raw: &mut Vec<u8, A>,
@@ -172,7 +172,7 @@ fn push_units<A: Allocator>(
     Ok(())
 }
 
-// The same to a vector with enough capacity.
+// Appends the first two or all four bytes to a vector with enough capacity.
 #[inline]
 fn write_units<A: Allocator>(raw: &mut Vec<u8, A>, units: [u8; 4], len: usize)
     requires width { (len ≡ 2) ⊎ (len ≡ 4) }
@@ -189,7 +189,7 @@ fn write_units<A: Allocator>(raw: &mut Vec<u8, A>, units: [u8; 4], len: usize)
     }
 }
 
-// Appends bytes. Reserves capacity for them first: if that fails, nothing has changed.
+// Appends bytes. Reserves capacity for them first; if that fails, nothing has changed.
 #[inline]
 fn append<A: Allocator>(raw: &mut Vec<u8, A>, bytes: &[u8]) -> Result<(), AllocError>
     ensures items { OnOk result (raw.new.items ≡ raw.old.items ++ bytes.now) }
@@ -225,9 +225,9 @@ fn insert_char<E: Utf16Order, A: Allocator>(
     Ok(())
 }
 
-// Inserts bytes at an index. Reserves capacity for them first: if that fails, nothing has changed.
-// The bytes are written twice: a vector grows only by appending, so they are appended first and
-// then written to their place.
+// Inserts bytes at an index. Reserves capacity for them first; if that fails, nothing has changed.
+// The bytes are written twice: a vector grows only at its end, so they are appended first and then
+// written to their place.
 #[inline]
 fn insert_bytes<A: Allocator>(
     raw: &mut Vec<u8, A>,
@@ -246,7 +246,7 @@ fn insert_bytes<A: Allocator>(
     Ok(())
 }
 
-// Moves bytes that were appended to an index.
+// Moves the bytes at the end, which were appended, to an index.
 #[inline]
 fn move_in<A: Allocator>(raw: &mut Vec<u8, A>, index: usize, bytes: &[u8])
     requires { index + length bytes.now ≤ vec_len raw.old }

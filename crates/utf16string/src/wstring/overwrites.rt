@@ -15,9 +15,8 @@ use utf16_units::Utf16Order;
 impl<E: Utf16Order, A: Allocator> WString<E, A> {
     ghost use Rattle.utf16string.specs.WString.{wstring_bytes, wstring_capacity, wstring_text};
 
-    /// Returns whether a text can be written over as many bytes starting at byte offset `idx`:
-    /// whether `idx` and the offset after those bytes are both character boundaries. Any offset is
-    /// allowed.
+    /// Returns whether a text can overwrite the bytes starting at the byte offset `idx`: whether
+    /// `idx` and `idx + text.len()` are both character boundaries. Any offset is allowed.
     #[inline]
     pub fn fits(&self, idx: usize, text: WStr<E>) -> bool
         ensures { IsTrue result ↔ (IsBoundary (wstring_text self.now) idx
@@ -26,12 +25,12 @@ impl<E: Utf16Order, A: Allocator> WString<E, A> {
         self.as_wstr().fits(idx, text)
     }
 
-    /// Writes a text over as many bytes starting at byte offset `idx`. All other bytes and the
-    /// capacity stay.
+    /// Overwrites the bytes starting at the byte offset `idx` with the bytes of a text. All other
+    /// bytes and the capacity stay.
     ///
     /// # Precondition
     ///
-    /// Both ends of those bytes are character boundaries (check with `fits`).
+    /// `idx` and `idx + text.len()` are character boundaries (check with `fits`).
     #[inline]
     pub fn overwrite(&mut self, idx: usize, text: WStr<E>)
         requires start { IsBoundary (wstring_text self.old) idx }
@@ -47,7 +46,7 @@ impl<E: Utf16Order, A: Allocator> WString<E, A> {
     }
 }
 
-// Writes a text over as many bytes starting at an offset, in the bytes of a text.
+// Overwrites the bytes of a text, starting at `idx`, with the bytes of another text.
 #[inline]
 fn overwrite_text<E: Utf16Order>(raw: &mut [u8], idx: usize, text: WStr<E>)
     requires well_formed { IsUtf16 E.BIG raw.old }

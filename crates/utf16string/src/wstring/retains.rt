@@ -18,9 +18,9 @@ impl<E: Utf16Order, A: Allocator> WString<E, A> {
     /// # Precondition
     ///
     /// The predicate may be called on each character in turn. For a closure that may be called on
-    /// anything, this is proved automatically. For another one, such as a counter that must not
-    /// overflow, the lemma `IsAskable-by` of `proofs/Predicates.antt` takes a fact that each call
-    /// preserves.
+    /// anything, this is proved automatically. For other predicates, such as a counter that must
+    /// not overflow, the lemma `IsAskable-by` of `proofs/Predicates.antt` takes a fact that each
+    /// call preserves.
     ///
     /// # Complexity
     ///
@@ -36,8 +36,8 @@ impl<E: Utf16Order, A: Allocator> WString<E, A> {
         self.retain_by(&mut f);
     }
 
-    /// Does what `retain` does, by a predicate that stays the caller's, so that its state can be
-    /// read afterwards.
+    /// Does the same as `retain`, with a predicate that you keep, so that you can read its state
+    /// afterwards.
     pub fn retain_by<F: FnMut(char) -> bool>(&mut self, f: &mut F)
         requires { IsAskable F.FnMut f.old (wstring_text self.old) }
         ensures text { RetainsTo F.FnMut f.old (wstring_text self.old) (wstring_text self.new)

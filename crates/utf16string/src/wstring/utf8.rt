@@ -20,7 +20,7 @@ impl<E: Utf16Order, A: Allocator> WString<E, A> {
     ///
     /// # Errors
     ///
-    /// If allocation fails. It does not fail for the empty text.
+    /// `AllocError`, if allocation fails. It does not fail for the empty text.
     ///
     /// # Complexity
     ///
@@ -41,7 +41,7 @@ impl<E: Utf16Order, A: Allocator> WString<E, A> {
         }
     }
 
-    // The same of a few characters, whose length is computed first.
+    // Converts a few characters, whose length is computed first.
     #[inline(never)]
     fn from_few(alloc: A, s: &str) -> Result<Self, AllocError>
         ensures text { IfOk result (λ t. wstring_text t ≡ chars s.now) }
@@ -55,7 +55,7 @@ impl<E: Utf16Order, A: Allocator> WString<E, A> {
         Ok(Self::from_utf16_unchecked(raw))
     }
 
-    // The same of a short text, which is converted on the stack before its length is known.
+    // Converts a short text, which is written to the stack before its length is known.
     #[inline(never)]
     fn from_short(alloc: A, s: &str) -> Result<Self, AllocError>
         requires { length s.now ≤ SHORT_TEXT }
@@ -68,7 +68,7 @@ impl<E: Utf16Order, A: Allocator> WString<E, A> {
         Ok(Self::from_utf16_unchecked(raw))
     }
 
-    // The same of a long text.
+    // Converts a long text, whose length is computed first.
     #[inline(never)]
     fn from_long(alloc: A, s: &str) -> Result<Self, AllocError>
         ensures { IfOk result (λ t. wstring_text t ≡ chars s.now) }
@@ -82,7 +82,7 @@ impl<E: Utf16Order, A: Allocator> WString<E, A> {
     ///
     /// # Errors
     ///
-    /// If allocation fails. The string is unchanged then.
+    /// `AllocError`, if allocation fails. The string is unchanged.
     ///
     /// # Complexity
     ///
