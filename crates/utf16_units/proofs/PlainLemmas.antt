@@ -19,7 +19,7 @@ no_surrogate-paired (unit ∷ units) all =
     ∙ ap (λ bits. false ∷ bits) (no_surrogate-paired units (All-tail IsNoSurrogate unit units all))
     ∙ ap (λ bit. false ∷ bit ∷ map is_high_surrogate units) (sym here.0)
 
--- one more block of which no unit is a surrogate
+-- one more block without a surrogate
 pub PairedTo-plain : (big : Bool) (bytes : List ℕ) (at : ℕ) → PairedTo big bytes at false → at + 64 ≤ length bytes
     → HasNoSurrogate (units_of big (take 64 (drop at bytes))) → PairedTo big bytes (at + 64) false
 PairedTo-plain big bytes at before long plain = PairedTo-next big bytes at 64 false false before refl long (no_surrogate-paired _ plain)

@@ -48,8 +48,8 @@ pub record OccursIn (text : List ℕ) (i : ℕ) (part : List ℕ) : Type 0 where
 pub record IsAbsentBefore (text : List ℕ) (i : ℕ) (part : List ℕ) : Type 0 where
   pub absent : (j : ℕ) → j < i → ¬ (OccursIn text j part)
 
--- whether i is a boundary, computed: 0 is one, and after the first character i is one if i less
--- that character's size is one of the rest
+-- whether i is a boundary, computed: 0 is a boundary; after the first character, i is a boundary if
+-- i less that character's size is a boundary of the rest
 unfoldable pub is_boundary : List ℕ → ℕ → Bool
 is_boundary [] i = i == 0
 is_boundary (c ∷ text) i = (i == 0) || (nat_le (char_size c) i && is_boundary text (i - char_size c))

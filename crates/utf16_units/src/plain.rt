@@ -77,7 +77,7 @@ fn has_no_surrogate_short<E: Utf16Order>(raw: &[u8]) -> bool
     }
 }
 
-// Whether fewer than eight bytes, and not two, are whole code units of which none is a surrogate.
+// Whether fewer than eight bytes, and not two, are whole code units without a surrogate.
 #[inline(always)]
 fn is_plain_few<E: Utf16Order>(raw: &[u8]) -> bool
     requires short { length raw.now < 8 }

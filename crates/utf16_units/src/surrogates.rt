@@ -70,7 +70,7 @@ pub fn has_no_surrogate<const N: usize>(units: Simd<u16, N>) -> bool
     class_bits(units, 0xF8, 0xD8) == 0
 }
 
-// The number of units before the first surrogate, or of all if none is one.
+// The number of units before the first surrogate, or of all units if there is none.
 #[inline(always)]
 pub(crate) fn plain_len<const N: usize>(units: Simd<u16, N>) -> usize
     requires { N ≤ 64 }

@@ -27,7 +27,7 @@ pub fn is_trailing_surrogate(unit: u16) -> bool
 ///
 /// `u` is a leading surrogate and `u2` a trailing one (check with `is_leading_surrogate` and
 /// `is_trailing_surrogate`).
-// Not inlined, so that a loop over characters of one unit goes on by a branch that the processor
+// Not inlined, so that a loop over characters of one unit continues by a branch that the processor
 // predicts, and the next offset does not wait for the unit that was read. Measured: twice as fast,
 // and no slower over surrogate pairs.
 #[inline(never)]
