@@ -57,7 +57,7 @@ fn units(bytes: &[u8]) -> usize
         units += units_after(u8x16::from_slice(&bytes[at..]), 0);
         at += BLOCK;
     }
-    // The last block overlaps the bytes that were counted: leave them out.
+    // The last block overlaps bytes that are counted already: leave these out.
     let left = bytes.len() - at;
     let last = u8x16::from_slice(&bytes[bytes.len() - BLOCK..]);
     units + units_after(last, BLOCK - left)

@@ -174,8 +174,8 @@ fn plain_blocks<E: Utf16Order>(raw: &[u8], from: usize) -> usize
     at
 }
 
-// The end of one more block of 32 bytes, if its surrogates are paired, and whether the last unit is
-// leading.
+// Passes one more block of 32 bytes, if its surrogates are paired. Returns where it stops, and
+// whether the last unit is leading.
 fn paired_half_block<E: Utf16Order>(raw: &[u8], at: usize, leading: bool) -> (usize, bool)
     requires { PairedTo E.BIG raw.now at leading }
     ensures paired { PairedTo E.BIG raw.now result.0 result.1 }
