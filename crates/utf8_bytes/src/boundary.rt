@@ -43,7 +43,7 @@ pub fn is_char_boundary(utf8: &[u8], at: usize) -> bool
 }
 
 /// Returns the greatest boundary at or before an offset, as defined by `is_char_boundary`: the
-/// length if the offset is greater, and otherwise an offset at most three bytes smaller. In
+/// length if the offset is greater, and otherwise at most three bytes before the offset. In
 /// well-formed UTF-8 the result is the same as with `str::floor_char_boundary`.
 ///
 /// # Complexity
