@@ -33,8 +33,8 @@ pub fn make_well_formed<E: Utf16Order>(utf16: &mut [u8]) -> usize
 /// Copies UTF-16 to the start of a buffer with U+FFFD instead of each unpaired surrogate, and
 /// returns the number of bytes written: all but an incomplete character at the end (an odd byte, or
 /// a leading surrogate and at most one byte after it). The written bytes are well formed. Each of
-/// their characters is at the same offset as the character or surrogate that it was copied from.
-/// The other bytes of the buffer are unchanged.
+/// their characters is at the same offset as the character that it copies or the surrogate that it
+/// replaces. The other bytes of the buffer are unchanged.
 ///
 /// # Precondition
 ///
