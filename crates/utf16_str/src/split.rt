@@ -56,7 +56,7 @@ impl<'a, E: Utf16Order> WStr<'a, E> {
     ///
     /// # Source
     ///
-    /// The result is the same as of `str::split`.
+    /// The substrings are the same as with `str::split`.
     pub fn split(self, delimiter: char) -> WStrSplit<'a, E>
         ensures parts { result ≡ slice_split (λ c. c == delimiter) (wstr_text self.entry) }
         ensures joined { join_with_byte delimiter result ≡ wstr_text self.entry }

@@ -28,7 +28,7 @@ use utf16_units::{
     validate_raw_utf16,
 };
 
-/// A borrowed UTF-16 string slice in the byte order `E`: a view of bytes that you own.
+/// A UTF-16 string slice in the byte order `E`: a view of borrowed bytes.
 ///
 /// The bytes are always well-formed UTF-16. The type is `Copy`. Lengths and offsets are in bytes.
 pub struct WStr<'a, E: Utf16Order> {

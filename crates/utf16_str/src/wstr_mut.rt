@@ -1,4 +1,4 @@
-//! A mutable UTF-16 string slice: text in bytes that you own, which can be overwritten.
+//! A mutable UTF-16 string slice: text in borrowed bytes, which can be overwritten.
 
 ghost use Rattle.std.specs.Prelude.{◌≡◌, ◌↔◌, ◌+◌, ◌++◌, ◌≤◌, [], length, IsTrue, IsOk, IfOk, IfErr, true, false};
 ghost use Rattle.std.specs.Borrow.{Array, LendsBoth, sem, u8};
@@ -14,11 +14,11 @@ use crate::WStr;
 use std::marker::PhantomData;
 use utf16_units::{BigEndian, LittleEndian, Utf16Error, Utf16Order, validate_raw_utf16};
 
-/// A mutable UTF-16 string slice in the byte order `E`: text in bytes that you own, which can be
+/// A mutable UTF-16 string slice in the byte order `E`: text in borrowed bytes, which can be
 /// overwritten in place.
 ///
-/// The bytes are always well-formed UTF-16. When the view is dropped, your slice holds the changed
-/// bytes. Offsets are in bytes.
+/// The bytes are always well-formed UTF-16. When the view is dropped, the borrowed slice holds the
+/// changed bytes. Offsets are in bytes.
 #[derive(Drop)]
 pub struct WStrMut<'a, E: Utf16Order> {
     raw: &'a mut [u8],
