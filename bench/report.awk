@@ -77,22 +77,24 @@ function bar(call, text, decoder) {
     return 0
 }
 
-# Adds to `drawn` the bars of a call, with a group for each text. The longest panel gives the height
-# of the chart.
+# Adds to `drawn` the bars of a call, with a group for each text, whose fastest bar has the full
+# width. The longest panel gives the height of the chart.
 function panel(call, x,    t, d, y, most, width) {
-    for (t = 1; t in text; t++) for (d = 1; d in decoders; d++)
-        if (bar(call, text[t], decoders[d]) > most) most = bar(call, text[t], decoders[d])
-    drawn = drawn sprintf("<text x='%d' y='50' class='h'>%s</text>\n", x, call)
-    y = 50
+    drawn = drawn sprintf("<text x='%d' y='50' class='h'>%s</text>\n", x, call in plain ? plain[call] : call)
+    y = 56
     for (t = 1; t in text; t++) {
         if (!((call, text[t], "le") in known)) continue
-        drawn = drawn sprintf("<text x='%d' y='%d'>%s</text>\n", x, y + 16, text[t])
+        most = 0
+        for (d = 1; d in decoders; d++)
+            if (bar(call, text[t], decoders[d]) > most) most = bar(call, text[t], decoders[d])
+        drawn = drawn sprintf("<text x='%d' y='%d' class='t'>%s</text>\n", x, y + 12, text[t] in plain ? plain[text[t]] : text[t])
+        y += 8
         for (d = 1; d in decoders; d++) {
             if (!bar(call, text[t], decoders[d])) continue
-            width = 125 * bar(call, text[t], decoders[d]) / most
-            drawn = drawn sprintf("<rect x='%d' y='%d' width='%.1f' height='8' fill='%s'/>", x + 65, y + 9, width, colour[decoders[d]])
-            drawn = drawn sprintf("<text x='%.1f' y='%d'>%.2f</text>\n", x + 68 + width, y + 16, bar(call, text[t], decoders[d]))
-            y += 9
+            width = 180 * bar(call, text[t], decoders[d]) / most
+            drawn = drawn sprintf("<rect x='%d' y='%d' width='%.1f' height='9' fill='%s'/>", x, y + 8, width, colour[decoders[d]])
+            drawn = drawn sprintf("<text x='%.1f' y='%d'>%.2f</text>\n", x + 3 + width, y + 16, bar(call, text[t], decoders[d]))
+            y += 10
         }
         y += 8
     }
@@ -103,8 +105,13 @@ function chart_of(calls, texts, list,    c, d, x, name, names) {
     rows_of(calls, texts, list)
     colour["here"] = "#c0392b"; colour["simdutf haswell"] = "#6c3483"; colour["simdutf westmere"] = "#bb8fce"
     colour["encoding_rs"] = "#2d5f9a"; colour["ICU"] = "#3c8d4f"; colour["iconv"] = "#c9a227"
+    names["here"] = "Dethrux"
     names["simdutf haswell"] = "simdutf, 256 bits"; names["simdutf westmere"] = "simdutf, 128 bits"
-    x = 240
+    plain["validate"] = "Validation"; plain["to_utf8"] = "UTF-16 to UTF-8"
+    plain["from_utf8"] = "UTF-8 to UTF-16"; plain["utf16_cat"] = "The program utf16_cat"
+    plain["ascii"] = "ASCII"; plain["latin_cyrillic"] = "Latin and Cyrillic"; plain["cjk"] = "Chinese"
+    plain["emoji"] = "Emoji"; plain["random"] = "Random bytes"
+    x = 300
     for (d = 1; d in decoders; d++) {
         name = decoders[d] in names ? names[decoders[d]] : decoders[d]
         drawn = drawn sprintf("<rect x='%d' y='11' width='9' height='9' fill='%s'/>", x, colour[decoders[d]])
@@ -112,9 +119,9 @@ function chart_of(calls, texts, list,    c, d, x, name, names) {
         x += 30 + 6 * length(name)
     }
     for (c = 1; c in call; c++) panel(call[c], 240 * c - 230)
-    printf "<svg xmlns='http://www.w3.org/2000/svg' viewBox='0 0 960 %d' font-family='sans-serif' font-size='8'>\n", height + 10 > chart
-    printf "<style>.h{font-size:12px;font-weight:bold}</style><rect width='960' height='%d' fill='#fff'/>\n", height + 10 > chart
-    print "<text x='10' y='20' class='h'>GB/s of UTF-16, little endian</text>" > chart
+    printf "<svg xmlns='http://www.w3.org/2000/svg' viewBox='0 0 960 %d' font-family='sans-serif' font-size='9'>\n", height + 10 > chart
+    printf "<style>.h{font-size:13px;font-weight:bold}.t{font-size:10px;font-weight:bold}</style><rect width='960' height='%d' fill='#fff'/>\n", height + 10 > chart
+    print "<text x='10' y='20' class='h'>GB/s of UTF-16LE, longer is faster</text>" > chart
     printf "%s</svg>\n", drawn > chart
 }
 

@@ -1,6 +1,6 @@
 #!/bin/sh
 # Builds the library and its competitors, makes the texts, runs all benchmarks, and writes the
-# tables (table.md) and the chart (chart.svg) to bench/out. If SIMDUTF names a folder with
+# tables (run.md) and the chart (chart.svg) to bench/out. If SIMDUTF names a folder with
 # simdutf.cpp and simdutf.h, simdutf's kernels are also timed: westmere and, if the machine has
 # AVX2, haswell.
 set -eu
@@ -73,5 +73,5 @@ done
 out/calls out > out/lines.tsv
 out/programs out ../crates/utf16_cat/out/utf16_cat ../crates/utf16_enc/out/utf16_enc 1024 >> out/lines.tsv
 rm out/*.made
-awk -v chart=out/chart.svg -f report.awk out/lines.tsv | tee out/table.md
+awk -v chart=out/chart.svg -f report.awk out/lines.tsv | tee out/run.md
 ! grep "^differs" out/lines.tsv >&2
