@@ -1,8 +1,9 @@
 #!/usr/bin/env bash
-# Looks for each block of Rattle or Rust in the documents, and each of C and C++ in docs/, in the
-# file of the tree that the text before it names last: it must be there, paragraph by paragraph, so
-# the code of a document is proved, and code of bindings/ and examples/ run. Then it counts the
-# habits of .ci/words. Prints what fails, and last a line 'N passed, M failed'.
+# Looks for each block of Rattle or Rust in the documents, and each of C, C++ and Python in docs/, in
+# the file of the tree that the text before it names last: it must be there, paragraph by paragraph,
+# so the code of a document is proved, and code of bindings/ and examples/ run. Then it counts the
+# habits of .ci/words, and compares the pictures with what draws them. Prints what fails, and last a
+# line 'N passed, M failed'.
 set -uo pipefail
 cd "$(dirname "$0")/.." || exit 1
 passed=0
@@ -29,7 +30,7 @@ for document in README.md docs/*.md; do
         number=$((number + 1))
         if [ -n "$inside" ]; then
             if [[ $line == '```' || -z $line ]]; then
-                [[ $inside == rust || $document:$inside =~ ^docs/.*:(c|cpp)$ ]] && stands "$paragraph" "$document:$number"
+                [[ $inside == rust || $document:$inside =~ ^docs/.*:(c|cpp|python)$ ]] && stands "$paragraph" "$document:$number"
                 paragraph=''
                 [ -z "$line" ] || inside=''
             else
@@ -38,16 +39,16 @@ for document in README.md docs/*.md; do
         elif [[ $line == '```'* ]]; then
             inside=${line#'```'}
             inside=${inside:-text}
-        elif [[ $line =~ \`(crates/[a-z0-9_/]+\.rt|bindings/[a-z0-9_/]+\.rs|examples/[a-z0-9_/]+\.c(pp)?)\` ]]; then
+        elif [[ $line =~ \`(crates/[a-z0-9_/]+\.rt|bindings/[a-z0-9_/]+\.(rs|py)|examples/[a-z0-9_/]+\.(c|cpp|py))\` ]]; then
             source=${BASH_REMATCH[1]}
         fi
     done < "$document"
 done
 
-# Adds the counts of .ci/words, whose last line has them.
-words() {
+# Adds the counts of a command, whose last line has them.
+counts() {
     local said
-    said=$(.ci/words)
+    said=$("$@")
     if [[ ${said##*$'\n'} =~ ^([0-9]+)\ passed,\ ([0-9]+)\ failed$ ]]; then
         passed=$((passed + BASH_REMATCH[1]))
         failed=$((failed + BASH_REMATCH[2]))
@@ -57,6 +58,7 @@ words() {
     [[ $said != *$'\n'* ]] || echo "${said%$'\n'*}"
 }
 
-words
+counts .ci/words
+counts docs/pictures/draw.py --check
 echo "$passed passed, $failed failed"
 [ $failed = 0 ]
