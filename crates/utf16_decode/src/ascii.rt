@@ -1,4 +1,7 @@
 //! ASCII with unpaired surrogates in it, in blocks of thirty-two code units.
+//!
+//! Each unit is clamped to a byte, whose highest bit then says whether it is ASCII. All are stored,
+//! and what follows the ASCII is overwritten.
 
 ghost use Rattle.std.specs.Prelude.{◌≡◌, ◌*◌, ◌<◌, ◌≤◌, ◌==◌, ℕ, All, IfSome, bit_and, length, map, min, slice_index, take};
 ghost use Rattle.std.specs.Simd.Lanes.{mask_l};

@@ -1,4 +1,9 @@
 //! Lossy conversion of UTF-16 to UTF-8, with U+FFFD for each ill-formed sequence.
+//!
+//! Ill-formed sequences are often near each other. So 1,024 bytes are copied, made well formed
+//! (`well_formed.rt`) and converted with SIMD. 128 bytes of ASCII or more are written without a
+//! copy (`ascii.rt`): with one, ASCII with a sequence in each 100 bytes takes 2.5 times as long.
+//! Into fewer than 512 bytes U+FFFD is written directly.
 
 ghost use Rattle.std.specs.Prelude.{◌≡◌, ◌≢◌, ◌-◌, ◌<◌, ◌≤◌, [], length, drop};
 ghost use Rattle.utf16_units.specs.Split.{lossy_text, split_items};

@@ -1,5 +1,12 @@
 //! Transcoding from one encoding to the other, up to the first ill-formed sequence or as far as
 //! whole characters fit.
+//!
+//! The writers with SIMD need more space than the text takes. Near the end, one or two blocks go
+//! through a buffer on the stack, and whole characters that fit are copied. The last boundary is at
+//! most three bytes back, so the cut takes a few steps.
+//!
+//! Few bytes go character by character, and so does text that begins near an ill-formed sequence:
+//! otherwise strict calls into 32 to 256 bytes take up to 3.6 times as long.
 
 ghost use Rattle.std.specs.Prelude.{◌≡◌, ◌≤◌, ◌<◌, ◌+◌, ◌-◌, ◌⊎◌, ℕ, IfErr, IfOk, IfSome, length};
 ghost use Rattle.utf16_decode.specs.Stops.{BeginsWith, Stops, StopsHere};

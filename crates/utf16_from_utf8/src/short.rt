@@ -1,4 +1,7 @@
 //! Texts of eight to sixteen bytes.
+//!
+//! Such a text is one vector: its first and its last eight bytes, put in order by a table with a
+//! row for each length. No unit ends at 0xFF, which fills the rest.
 
 ghost use Rattle.std.specs.Prelude.{◌≡◌, ◌*◌, ◌<◌, ◌≤◌, if◌then◌else◌, length, nat_lt, slice_index, take};
 ghost use Rattle.std.specs.Str.{IsUtf8, chars};

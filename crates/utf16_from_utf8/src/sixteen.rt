@@ -1,4 +1,8 @@
 //! The UTF-16 that sixteen bytes add, each of which may follow the bytes before it.
+//!
+//! Each byte ends one unit or none. So every lane computes a unit from its byte and the two before
+//! it, and a table of 256 rows packs those that end. No lane needs to know where a character
+//! begins.
 
 ghost use Rattle.std.specs.Prelude.{◌≡◌, ◌+◌, ◌<◌, ◌≤◌, ◌++◌, ◌∷◌, ℕ, length, slice_index, take};
 ghost use Rattle.utf16_from_utf8.specs.Added.{added_bytes};

@@ -1,6 +1,10 @@
 //! Characters of three bytes, sixteen at a time. 3 and 16 have no common divisor, so the first
 //! bytes of the characters have different places in their vectors of sixteen, and so have the
 //! second and the third bytes.
+//!
+//! So two choices by lane and one shuffle collect each of the three. They are tested after that,
+//! sixteen characters in each test. The high byte of the unit says whether it is below U+0800 or a
+//! surrogate.
 
 ghost use Rattle.std.specs.Prelude.{◌≡◌, ◌+◌, ◌*◌, ◌<◌, ◌≤◌, ◌⊎◌, ◌++◌, IsTrue, ℕ, drop, length, slice_index, take};
 ghost use Rattle.std.specs.Simd.Lanes.{pick_l};

@@ -1,4 +1,7 @@
 //! Writes eight units at once, in short texts and after the last block of a text.
+//!
+//! Folding moves the surrogates below 0x800, so one comparison says whether all units add at most
+//! two bytes.
 
 ghost use Rattle.std.specs.Prelude.{◌≡◌, ◌↔◌, ◌+◌, ◌-◌, ◌*◌, ◌/◌, ◌%◌, ◌<◌, ◌≤◌, ◌++◌, ℕ, All, IsTrue, drop, false, length, replicate, slice_index, take};
 ghost use Rattle.utf16_units.specs.Encoding.{IsUtf16, units_of, utf8_of};

@@ -1,5 +1,7 @@
 //! The UTF-8 that eight units add, with SIMD: the first two bytes of each, the third, and which of
 //! these a unit does not add.
+//!
+//! The bits of a unit carry the tag bits of its first byte, so that additions replace two choices.
 
 ghost use Rattle.std.specs.Prelude.{◌≡◌, ◌<◌, ℕ, false, if◌then◌else◌, slice_index};
 ghost use Rattle.utf16_units.specs.Lanes.{HasLanes};

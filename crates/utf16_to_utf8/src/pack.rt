@@ -1,4 +1,8 @@
 //! Writes the UTF-8 that eight units add, one after another.
+//!
+//! Each unit gets the most bytes that its kind may add, and a shuffle drops the others. Its table
+//! has 256 rows: by a bit for each of eight units of at most two bytes, or by two bits for each of
+//! four units of any kind. One computed test of all rows proves each table.
 
 ghost use Rattle.std.specs.Prelude.{◌≡◌, ◌+◌, ◌*◌, ◌/◌, ◌%◌, ◌<◌, ◌≤◌, ◌++◌, [], ◌∷◌, ℕ, Bool, List, drop, false, length, map, nat_lt, slice_index, take};
 ghost use Rattle.std.specs.Simd.Lanes.{mask_l, pick_l};

@@ -1,5 +1,12 @@
 //! Writes the blocks of a text, with a separate loop for blocks of the same kind that follow each
 //! other.
+//!
+//! The text is read once: the test that decides how a block is written also validates it. If the
+//! writer stops after a leading surrogate, `write.rt` takes its two bytes back.
+//!
+//! The loops differ in a test that is fixed at compile time; a test chosen at run time would slow
+//! them down. Two blocks of ASCII are written at once only after a second one: texts strewn with
+//! other letters would pay for the test.
 
 ghost use Rattle.std.specs.Prelude.{◌≡◌, ◌+◌, ◌-◌, ◌*◌, ◌/◌, ◌<◌, ◌≤◌, ◌⊎◌, Bool, IfSome, None, drop, false, length, take};
 ghost use Rattle.utf16_units.specs.Encoding.{units_of};

@@ -1,4 +1,8 @@
 //! Writes a few code units one by one.
+//!
+//! Here and with SIMD, each unit adds bytes: a leading surrogate the first two of its character, a
+//! trailing one the last two. For these it needs two bits of the unit before it. So no unit looks
+//! ahead, and a character may lie across two blocks.
 
 ghost use Rattle.std.specs.Prelude.{◌≡◌, ◌+◌, ◌*◌, ◌/◌, ◌%◌, ◌<◌, ◌≤◌, [], ◌∷◌, ◌++◌, length, take};
 ghost use Rattle.utf16_units.specs.Encoding.{units_of};

@@ -1,4 +1,8 @@
 //! Writes a text into a buffer, in UTF-8.
+//!
+//! Fewer than four units are written one by one, four to seven as one vector from two reads that
+//! overlap, more by blocks. Copying a short text to a padded block on the stack takes longer than
+//! the text does.
 
 ghost use Rattle.std.specs.Prelude.{◌≡◌, ◌+◌, ◌*◌, ◌/◌, ◌%◌, ◌<◌, ◌≤◌, ◌⊎◌, ◌++◌, drop, false, length, slice_index, take};
 ghost use Rattle.utf16_units.specs.Encoding.{IsUtf16, units_of, utf8_of};

@@ -1,4 +1,7 @@
 //! Blocks of bytes read as code units with SIMD, and blocks of code units written as bytes.
+//!
+//! In big endian two shifts swap the bytes of each unit, so every other module has one formula for
+//! both byte orders.
 
 ghost use Rattle.std.specs.Prelude.{◌≡◌, ◌↔◌, ◌<◌, All, IsTrue, if◌then◌else◌, length, map};
 ghost use Rattle.std.specs.List.{flat_map};

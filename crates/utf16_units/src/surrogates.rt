@@ -1,4 +1,9 @@
 //! The surrogates of a block of code units, as bits.
+//!
+//! Only high bytes are compared, because twice as many fit into a register: whole units take 1.2 to
+//! 1.3 times as long on emoji and on ASCII in big endian. Surrogates are paired exactly if the bits
+//! of the trailing ones are those of the leading ones, moved by one. So one comparison of integers
+//! tests all pairs of a block.
 
 ghost use Rattle.std.specs.Prelude.{◌≡◌, ◌↔◌, ◌<◌, ◌≤◌, ◌==◌, IfNone, IfSome, IsTrue, bit_and, map, slice_index, take};
 ghost use Rattle.std.specs.Char.Utf16.{is_high_surrogate, is_low_surrogate};

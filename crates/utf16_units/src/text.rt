@@ -1,5 +1,8 @@
 //! Questions about the text that bytes encode: how many characters it has, and whether all are
 //! ASCII.
+//!
+//! The count subtracts the trailing surrogates, and decodes nothing. Less than a block is walked:
+//! the loop after the blocks takes up to three times as long on a few characters.
 
 ghost use Rattle.std.specs.Prelude.{◌≡◌, ◌↔◌, ◌<◌, All, IsTrue, count_by, length};
 ghost use Rattle.std.specs.Char.Utf16.{is_low_surrogate};

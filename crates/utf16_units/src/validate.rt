@@ -1,4 +1,12 @@
 //! Validation of UTF-16.
+//!
+//! A block has to be right only if it accepts: the loop over units finds the error, with the proof
+//! that it did. The contracts also say where blocks stop, so blocks that accept less than they
+//! could are not proved.
+//!
+//! Blocks without a surrogate have loops that look for no pairs. After a surrogate these are tried
+//! again every 256 bytes, so that pairs rarely pay for both tests. If the first surrogate is
+//! unpaired, no pairs are looked for: random bytes take a third less time.
 
 ghost use Rattle.std.specs.Prelude.{◌≡◌, ◌↔◌, ◌+◌, ◌<◌, ◌≤◌, false, length, take, IsOk, IfOk, IfErr, IsTrue};
 ghost use Rattle.utf16_units.specs.Encoding.{IsUtf16, units_of};
