@@ -13,6 +13,8 @@ cd "$room" || exit 1
 passed=0
 failed=0
 
+cc -O2 -Wall -shared -fPIC -o faults.so "$top/bench/faults.c" -ldl || exit 1
+
 none=''
 
 # The lines of a program of this name, and its arguments.
@@ -73,22 +75,54 @@ refuses() {
 }
 
 # Runs $P in a byte order with so little memory that it starts and an allocation fails. The limit is
-# searched between one at which it does not start and one at which it succeeds.
+# searched between one at which it does not start, so that the shell, the loader or a signal gives
+# the status, and one at which it succeeds.
 with_little_memory() {
     local low=0 high=1048576 limit status
     while [ $((high - low)) -gt 1 ]; do
         limit=$(((low + high) / 2))
         (ulimit -v $limit; exec "$P" "$1") > part 2> line < front
         status=$?
-        case $status in
-            0) high=$limit ;;
-            1) cat part; cat line >&2; return 1 ;;
-            *) low=$limit ;;
-        esac
+        if [ $status = 0 ]; then
+            high=$limit
+        elif [ $status -ge 126 ]; then
+            low=$limit
+        else
+            cat part
+            cat line >&2
+            return $status
+        fi
     done
+    echo 'no allocation failed'
     return 3
 }
 export -f with_little_memory
+
+# Runs $P with these arguments, and one of its calls fails: the kind of the call, and its number.
+# Descriptor 9 gets a byte if the call is made, and one for each later write to where a write failed.
+with_fault() {
+    FAULT_KIND=$1 FAULT_AT=$2 LD_PRELOAD=$PWD/faults.so "$P" "${@:3}"
+}
+export -f with_fault
+
+# Runs $P with these arguments and each allocation failing in turn. Prints once what each such run
+# ends with: its status, the number of bytes that it writes, and its line. Then ends as the run does
+# in which no allocation fails.
+with_each_allocation() {
+    local at=1 status
+    with_fault alloc $at "$@" > part 2> line 9> met < front
+    status=$?
+    while [ -s met ]; do
+        echo "$status $(stat -c %s part) $(cat line)"
+        at=$((at + 1))
+        with_fault alloc $at "$@" > part 2> line 9> met < front
+        status=$?
+    done > ends
+    sort -u ends
+    cat line >&2
+    return $status
+}
+export -f with_each_allocation
 
 # Cases of other arguments. Besides le and be this is one that the program takes.
 refusals() {
@@ -122,6 +156,15 @@ refusals() {
     is 'wrong words and no standard error' 2 "$none" "$none" '$P LE 2>&-'
     is 'wrong words and a full standard error' 2 "$none" "$none" '$P LE 2> /dev/full'
     is 'wrong words and nothing open' 2 "$none" "$none" '$P LE <&- >&- 2>&-'
+    is 'wrong words, each allocation' 2 "$usage" "1 0 $out_of_memory" 'with_each_allocation LE le x'
+    # The message: a failed write is the last one, and a short one is continued.
+    local kind
+    for kind in write write_interrupted write_nothing; do
+        is "wrong words, $kind" 2 "$none" x "with_fault $kind 1 LE 9>&1"
+    done
+    is 'wrong words, write_short' 2 "$usage" x 'with_fault write_short 1 LE 9>&1'
+    is 'wrong words, standard error a file that takes four bytes' 2 "$none" "${usage:0:4}" \
+        "head -c 1020 zeros > small; (trap '' XFSZ; ulimit -f 1; exec \$P LE 2>> small); status=\$?; tail -c +1021 small; exit \$status"
 }
 
 # Cases in which no line is written. For the standard input the program writes this.
@@ -141,6 +184,7 @@ writes_nothing() {
 streams() {
     is "$1: all is read" 0 "$none" "$none" "\$P $1 > /dev/null; status=\$?; cat; exit \$status"
     is "$1: out of memory" 1 "$out_of_memory" "$none" "with_little_memory $1"
+    is "$1: each allocation" 0 "$none" "1 0 $out_of_memory" "with_each_allocation $1"
     is "$1: standard input closed" 1 "$read_failed" "$none" "\$P $1 <&-"
     is "$1: standard input a folder" 1 "$read_failed" "$none" "\$P $1 < folder"
     is "$1: standard input for writing" 1 "$read_failed" "$none" "\$P $1 0> empty_too"

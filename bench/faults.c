@@ -1,5 +1,6 @@
 // Preloaded before a program's C library, to make one call fail: the FAULT_AT-th call of the kind
-// that FAULT_KIND names. Descriptor 9 gets a byte when that call is reached.
+// that FAULT_KIND names. Descriptor 9 gets a byte when that call is reached, and a byte for each
+// later write to a descriptor where a write failed.
 #define _GNU_SOURCE
 #include <dlfcn.h>
 #include <errno.h>
@@ -8,16 +9,28 @@
 #include <unistd.h>
 
 static long calls;
+static int failed_file = -1;
 
 static void *next(const char *name) { return dlsym(RTLD_NEXT, name); }
+
+// Writes a byte to descriptor 9, and returns whether it could.
+static int is_told(void) {
+    ssize_t (*write)(int, const void *, size_t) = next("write");
+    return write(9, "x", 1) == 1;
+}
 
 // Returns whether this call, of this kind, must fail.
 static int is_met(const char *kind) {
     const char *wanted = getenv("FAULT_KIND"), *at = getenv("FAULT_AT");
-    if (!wanted || !at || strcmp(wanted, kind) || ++calls != atol(at))
+    return wanted && at && !strcmp(wanted, kind) && ++calls == atol(at) && is_told();
+}
+
+// Returns the same for a write to this descriptor.
+static int is_met_at(int file, const char *kind) {
+    if (!is_met(kind))
         return 0;
-    ssize_t (*write)(int, const void *, size_t) = next("write");
-    return write(9, "x", 1) == 1;
+    failed_file = file;
+    return 1;
 }
 
 static void *refused(void) {
@@ -57,11 +70,13 @@ ssize_t read(int file, void *to, size_t size) {
 
 ssize_t write(int file, const void *from, size_t size) {
     ssize_t (*inner)(int, const void *, size_t) = next("write");
-    if (is_met("write"))
+    if (file == failed_file)
+        is_told();
+    if (is_met_at(file, "write"))
         return failed(EIO);
-    if (is_met("write_interrupted"))
+    if (is_met_at(file, "write_interrupted"))
         return failed(EINTR);
-    if (is_met("write_nothing"))
+    if (is_met_at(file, "write_nothing"))
         return 0;
     if (is_met("write_more"))
         return inner(file, from, size) + (ssize_t)size;

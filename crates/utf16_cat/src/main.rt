@@ -5,6 +5,7 @@
 mod decoding;
 
 use crate::decoding::Decoding;
+use std::env;
 use std::process::ExitCode;
 use utf16_program::program;
 use utf16_streams::Watched;
@@ -12,5 +13,7 @@ use utf16_streams::Watched;
 fn main(rt: HostRuntime) -> ExitCode {
     let mut input = Watched::new(rt.stdin());
     let mut output = Watched::new(rt.stdout());
-    program::<Decoding, _, _, _, _>(&rt, &mut input, &mut output, &mut rt.stderr())
+    let mut errors = Watched::new(rt.stderr());
+    let args = env::args(&rt);
+    program::<Decoding, _, _, _, _>(rt.alloc(), args, &mut input, &mut output, &mut errors)
 }

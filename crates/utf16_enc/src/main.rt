@@ -5,6 +5,7 @@
 mod encoding;
 
 use crate::encoding::Encoding;
+use std::env;
 use std::process::ExitCode;
 use utf8_streams::Watched;
 use utf16_program::program;
@@ -12,5 +13,7 @@ use utf16_program::program;
 fn main(rt: HostRuntime) -> ExitCode {
     let mut input = Watched::new(rt.stdin());
     let mut output = Watched::new(rt.stdout());
-    program::<Encoding, _, _, _, _>(&rt, &mut input, &mut output, &mut rt.stderr())
+    let mut errors = Watched::new(rt.stderr());
+    let args = env::args(&rt);
+    program::<Encoding, _, _, _, _>(rt.alloc(), args, &mut input, &mut output, &mut errors)
 }

@@ -1,2 +1,5 @@
+pub mod Arguments
 pub mod Outcome
+pub mod Report
+pub mod Run
 pub mod Status

@@ -1,5 +1,5 @@
--- The exit status of a run.
-use Rattle.std.specs.Prelude.{◌≡◌, ◌+◌, ℕ}
+-- The exit status of a run, and the I/O errors that end it.
+use Rattle.std.specs.Prelude.{ℕ}
 use Rattle.utf16_program.specs.declared.outcome.Outcome.{Outcome}
 use Rattle.utf16_program.specs.declared.outcome.Outcome.TheVariants.{Done, Long, Memory, Read, Usage, Write}
 
@@ -29,9 +29,3 @@ writes_failed Write = 1
 writes_failed Memory = 0
 writes_failed Long = 0
 writes_failed Usage = 0
-
--- the error counts of the reader and of the writer, before and after a run that ended with this
--- status: they went up by the I/O error of its outcome, and by nothing else
-abbrev pub CountsErrors : ℕ → ℕ → ℕ → ℕ → ℕ → Type 0
-CountsErrors status reads reads_after writes writes_after =
-    (ended : Outcome) × (status ≡ status_of ended) × (reads_after ≡ reads + reads_failed ended) × (writes_after ≡ writes + writes_failed ended)

@@ -8,8 +8,8 @@ mod messages;
 mod outcome;
 mod programs;
 
-pub use arguments::words;
+pub use arguments::choice_of;
 pub use choice::Choice;
-pub use messages::{ended, report, tell};
+pub use messages::{report, tell};
 pub use outcome::{Outcome, outcome_of};
-pub use programs::{choice_of, program, program_on, run};
+pub use programs::{program, run};

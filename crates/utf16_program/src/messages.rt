@@ -1,31 +1,52 @@
 //! The message of a run's outcome, and its exit status.
 
-ghost use Rattle.std.specs.Prelude.{◌≡◌, OnOk};
-ghost use Rattle.std.specs.Io.KnownBytes.{Appends, Keeps};
-ghost use Rattle.std.specs.Process.{exit_status};
-ghost use Rattle.utf16_program.specs.Status.{status_of};
+ghost use Rattle.std.specs.Prelude.{◌≡◌, ◌+◌, ◌-◌, ◌<◌, ◌^◌, [], OnErr, OnOk};
+ghost use Rattle.utf16_streams.specs.Watched.{watched_faults};
+ghost use Rattle.utf16_program.specs.Report.{Reports, TellsAll, TellsPrefix};
 
 use crate::choice::Choice;
 use crate::outcome::Outcome;
-use std::io::{self, Write};
-use std::process::ExitCode;
+use std::io::Write;
+use utf16_streams::{DeviceFault, Watched};
 
-/// Writes the message of an outcome. For `Done` there is none, and nothing is called.
-pub fn tell<C: Choice, W: Write>(outcome: &Outcome, to: &mut W) -> io::Result<()>
-    ensures line { OnOk result (Appends (W.contents to.old) (W.contents to.new)
-        (C.line_of outcome.now)) }
-    ensures quiet { outcome.now ≡ Outcome.Done → Keeps (W.contents to.old) (W.contents to.new) }
+/// Writes the message of an outcome. For `Done` there is none, and the writer is not called.
+///
+/// # Errors
+///
+/// If a write fails, after which the writer is not called again. Also if the error count is
+/// `u64::MAX`, without a call.
+pub fn tell<C: Choice, W: Write>(outcome: &Outcome, to: &mut Watched<W>) -> Result<(), DeviceFault>
+    ensures line { OnOk result (TellsAll W.contents to.old to.new (C.line_of outcome.now)) }
+    ensures err { OnErr result (TellsPrefix W.contents to.old to.new (C.line_of outcome.now)) }
+    ensures quiet { C.line_of outcome.now ≡ [] → to.new ≡ to.old }
 {
-    if let Outcome::Done = outcome {
+    let line = C::line(outcome).as_bytes();
+    if line.is_empty() {
         return Ok(());
     }
-    to.write_all(C::line(outcome).as_bytes())
+    if to.faults() == u64::MAX {
+        return Err(DeviceFault);
+    }
+    write_all(line, to)
+}
+
+// Writes all of the bytes.
+fn write_all<W: Write>(bytes: &[u8], to: &mut Watched<W>) -> Result<(), DeviceFault>
+    requires { watched_faults to.old < 2 ^ 64 - 1 }
+    ensures all { OnOk result (TellsAll W.contents to.old to.new bytes.now) }
+    ensures err { OnErr result (TellsPrefix W.contents to.old to.new bytes.now) }
+{
+    let mut written = 0;
+    while written < bytes.len() {
+        written += to.write(&bytes[written..])?;
+    }
+    Ok(())
 }
 
 /// Writes the message of an outcome, and returns the exit status. A failure to write is ignored.
-pub fn report<C: Choice, W: Write>(outcome: &Outcome, to: &mut W) -> u8
-    ensures status { result ≡ status_of outcome.now }
-    ensures quiet { outcome.now ≡ Outcome.Done → Keeps (W.contents to.old) (W.contents to.new) }
+pub fn report<C: Choice, W: Write>(outcome: &Outcome, to: &mut Watched<W>) -> u8
+    ensures reports { Reports W.contents to.old to.new C.line_of outcome.now result }
+    ensures quiet { outcome.now ≡ Outcome.Done → to.new ≡ to.old }
 {
     let _ = tell::<C, W>(outcome, to);
     match outcome {
@@ -33,14 +54,4 @@ pub fn report<C: Choice, W: Write>(outcome: &Outcome, to: &mut W) -> u8
         Outcome::Read | Outcome::Write | Outcome::Memory | Outcome::Long => 1,
         Outcome::Usage => 2,
     }
-}
-
-/// Writes the message of an outcome, and returns the exit status as a result of `main`. A failure
-/// to write is ignored.
-pub fn ended<C: Choice, W: Write>(outcome: Outcome, errors: &mut W) -> ExitCode
-    ensures status { exit_status result ≡ status_of outcome }
-    ensures quiet { outcome ≡ Outcome.Done
-        → Keeps (W.contents errors.old) (W.contents errors.new) }
-{
-    ExitCode::from(report::<C, W>(&outcome, errors))
 }

@@ -1,43 +1,54 @@
-//! A run of a program, over any environment, reader and writers.
+//! A run of a program, over any arguments, reader and writers.
 
-ghost use Rattle.std.specs.Prelude.{◌≡◌, ◌↔◌, ◌⊎◌, ◌+◌, ◌-◌, ◌<◌, ◌≤◌, ◌^◌, [], ◌∷◌, Err, Ok, Some, map, string_bytes};
-ghost use Rattle.std.specs.Io.KnownBytes.{Keeps};
+ghost use Rattle.std.specs.Prelude.{◌≡◌, ◌⊎◌, ◌+◌, ◌-◌, ◌<◌, ◌≤◌, ◌^◌, [], ◌∷◌, Err, Ok, string_bytes};
+ghost use Rattle.std.specs.IoError.{error_kind};
 ghost use Rattle.std.specs.Process.{exit_status};
+ghost use Rattle.std.specs.Vec.Iter.{into_iter_items};
 ghost use Rattle.utf16_streams.specs.Watched.{watched_faults, watched_inner};
 ghost use Rattle.utf16_streams.specs.declared.filters.FilterFault.{FilterFault};
-ghost use Rattle.utf16_program.specs.Outcome.{EndsBy, ExitsBy};
-ghost use Rattle.utf16_program.specs.Status.{CountsErrors, reads_failed, writes_failed};
+ghost use Rattle.utf16_program.specs.Arguments.{IsRefusal, words_of};
+ghost use Rattle.utf16_program.specs.Outcome.{EndsBy};
+ghost use Rattle.utf16_program.specs.Report.{Reports};
+ghost use Rattle.utf16_program.specs.Run.{Runs};
+ghost use Rattle.utf16_program.specs.Status.{reads_failed, writes_failed};
 
-use crate::arguments::words;
+use crate::arguments::choice_of;
 use crate::choice::Choice;
-use crate::messages::ended;
+use crate::messages::report;
 use crate::outcome::{Outcome, outcome_of};
 use std::alloc::Allocator;
-use std::env::Env;
-use std::io::{Read, Write};
+use std::env::Args;
+use std::io::{self, ErrorKind, Read, Write};
 use std::process::ExitCode;
 use utf16_streams::Watched;
 
-/// Runs a program on the arguments of the environment, writes the message of its outcome to
-/// `errors`, and returns the exit status: 0 if the whole input was filtered, 2 if the arguments
-/// name no choice, and 1 otherwise.
+/// Runs a program as `run` does, on what `env::args` of std returned, and reports the outcome as
+/// `report` does: it writes the message to `errors` and returns the exit status. The status is 0 if
+/// the whole input was filtered, 2 if the arguments name no choice, and 1 otherwise.
 ///
 /// # Precondition
 ///
-/// Neither error count is `u64::MAX`.
-pub fn program<C: Choice, E: Env + AllocGlobal, R: Read, W: Write, T: Write>(
-    env: &E,
+/// The error counts of the reader and of the writer are below `u64::MAX`.
+pub fn program<C: Choice, R: Read, W: Write, T: Write, A: Allocator>(
+    alloc: A,
+    args: io::Result<Args>,
     reader: &mut Watched<R>,
     writer: &mut Watched<W>,
-    errors: &mut T,
+    errors: &mut Watched<T>,
 ) -> ExitCode
     requires reader { watched_faults reader.old < 2 ^ 64 - 1 }
     requires writer { watched_faults writer.old < 2 ^ 64 - 1 }
+    ensures ends { (ended : Outcome) × Runs C.word_of (λ choice. C.filters choice
+        (R.remaining (watched_inner reader.old)) (R.remaining (watched_inner reader.new))
+        (W.contents (watched_inner writer.old)) (W.contents (watched_inner writer.new)))
+        (words_of into_iter_items string_bytes args)
+        (IsRefusal (λ error. error_kind error ≡ ErrorKind.OutOfMemory) args)
+        reader.old reader.new writer.old writer.new ended
+        × Reports T.contents errors.old errors.new C.line_of ended (exit_status result) }
     ensures filtered { exit_status result ≡ 0 → (choice : C) × C.filters choice
         (R.remaining (watched_inner reader.old)) (R.remaining (watched_inner reader.new))
         (W.contents (watched_inner writer.old)) (W.contents (watched_inner writer.new)) (Ok tt) }
-    ensures quiet { exit_status result ≡ 0
-        → Keeps (T.contents errors.old) (T.contents errors.new) }
+    ensures quiet { exit_status result ≡ 0 → errors.new ≡ errors.old }
     ensures failed { exit_status result ≡ 1
         → ((reader.new ≡ reader.old) × (writer.new ≡ writer.old))
         ⊎ ((choice : C) × (fault : FilterFault)
@@ -47,85 +58,40 @@ pub fn program<C: Choice, E: Env + AllocGlobal, R: Read, W: Write, T: Write>(
     ensures usage { exit_status result ≡ 2 → (reader.new ≡ reader.old)
         × (writer.new ≡ writer.old) }
     ensures cases { exit_status result ≤ 2 }
-    ensures faults { CountsErrors (exit_status result)
-        (watched_faults reader.old) (watched_faults reader.new)
-        (watched_faults writer.old) (watched_faults writer.new) }
 {
-    match words(env) {
-        Ok(words) => program_on::<C, _, _, _, _>(env.alloc(), &words, reader, writer, errors),
-        Err(outcome) => ended::<C, _>(outcome, errors),
-    }
-}
-
-/// Runs a program on these arguments, as `run` does, writes the message of its outcome to `errors`,
-/// and returns the exit status, as `program` does.
-///
-/// # Precondition
-///
-/// Neither error count is `u64::MAX`.
-pub fn program_on<C: Choice, R: Read, W: Write, T: Write, A: Allocator>(
-    alloc: A,
-    words: &[String],
-    reader: &mut Watched<R>,
-    writer: &mut Watched<W>,
-    errors: &mut T,
-) -> ExitCode
-    requires reader { watched_faults reader.old < 2 ^ 64 - 1 }
-    requires writer { watched_faults writer.old < 2 ^ 64 - 1 }
-    ensures named { (choice : C) → map string_bytes words.now ≡ C.word_of choice ∷ []
-        → ExitsBy (exit_status result) (C.filters choice (R.remaining (watched_inner reader.old))
-        (R.remaining (watched_inner reader.new)) (W.contents (watched_inner writer.old))
-        (W.contents (watched_inner writer.new))) }
-    ensures other { ((choice : C) × (map string_bytes words.now ≡ C.word_of choice ∷ []))
-        ⊎ ((exit_status result ≡ 2) × (reader.new ≡ reader.old) × (writer.new ≡ writer.old)) }
-    ensures quiet { exit_status result ≡ 0
-        → Keeps (T.contents errors.old) (T.contents errors.new) }
-    ensures faults { CountsErrors (exit_status result)
-        (watched_faults reader.old) (watched_faults reader.new)
-        (watched_faults writer.old) (watched_faults writer.new) }
-{
-    let outcome = run::<C, _, _, _>(alloc, words, reader, writer);
-    ended::<C, _>(outcome, errors)
+    let outcome = run::<C, _, _, _>(alloc, args, reader, writer);
+    ExitCode::from(report::<C, _>(&outcome, errors))
 }
 
 /// Filters a reader to a writer, as the choice that the only argument names says, and returns the
-/// outcome. With any other arguments, and only then, it returns `Usage`, and reads and writes
-/// nothing.
+/// outcome. The arguments are what `env::args` of std returned. If they name no choice, it returns
+/// the error of `choice_of`, and reads and writes nothing.
 ///
 /// # Precondition
 ///
 /// Neither error count is `u64::MAX`.
 pub fn run<C: Choice, R: Read, W: Write, A: Allocator>(
     alloc: A,
-    words: &[String],
+    args: io::Result<Args>,
     reader: &mut Watched<R>,
     writer: &mut Watched<W>,
 ) -> Outcome
     requires reader { watched_faults reader.old < 2 ^ 64 - 1 }
     requires writer { watched_faults writer.old < 2 ^ 64 - 1 }
-    ensures named { (choice : C) → map string_bytes words.now ≡ C.word_of choice ∷ []
+    ensures named { (choice : C)
+        → words_of into_iter_items string_bytes args ≡ C.word_of choice ∷ []
         → EndsBy result (C.filters choice (R.remaining (watched_inner reader.old))
         (R.remaining (watched_inner reader.new)) (W.contents (watched_inner writer.old))
         (W.contents (watched_inner writer.new))) }
-    ensures usage { ((choice : C) × (map string_bytes words.now ≡ C.word_of choice ∷ []))
-        ⊎ ((result ≡ Outcome.Usage) × (reader.new ≡ reader.old) × (writer.new ≡ writer.old)) }
+    ensures refused { ((choice : C)
+        × (words_of into_iter_items string_bytes args ≡ C.word_of choice ∷ []))
+        ⊎ (IsRefusal (λ error. error_kind error ≡ ErrorKind.OutOfMemory) args result
+        × (reader.new ≡ reader.old) × (writer.new ≡ writer.old)) }
     ensures reads { watched_faults reader.new ≡ watched_faults reader.old + reads_failed result }
     ensures writes { watched_faults writer.new ≡ watched_faults writer.old + writes_failed result }
 {
-    match choice_of::<C>(words) {
-        Some(choice) => outcome_of(choice.filter(alloc, reader, writer)),
-        None => Outcome::Usage,
+    match choice_of::<C>(args) {
+        Ok(choice) => outcome_of(choice.filter(alloc, reader, writer)),
+        Err(outcome) => outcome,
     }
-}
-
-/// Returns the choice that the arguments name, if they are exactly one word that names one. The
-/// name of the program is not among them.
-pub fn choice_of<C: Choice>(words: &[String]) -> Option<C>
-    ensures { (choice : C) → (result ≡ Some choice)
-        ↔ (map string_bytes words.now ≡ C.word_of choice ∷ []) }
-{
-    let [word] = words else {
-        return None;
-    };
-    C::named(word.as_str())
 }
