@@ -20,7 +20,7 @@ use std::io::{self, ErrorKind};
 pub fn choice_of<C: Choice>(args: io::Result<Args>) -> Result<C, Outcome>
     ensures named { (choice : C) → (result ≡ Ok choice)
         ↔ (words_of into_iter_items string_bytes args ≡ C.word_of choice ∷ []) }
-    ensures err { IfErr result (IsRefusal
+    ensures error { IfErr result (IsRefusal
         (λ error. error_kind error ≡ ErrorKind.OutOfMemory) args) }
 {
     match args {
@@ -36,7 +36,7 @@ pub fn choice_of<C: Choice>(args: io::Result<Args>) -> Result<C, Outcome>
 fn named_by<C: Choice>(args: Args) -> Result<C, Outcome>
     ensures named { (choice : C) → (result ≡ Ok choice)
         ↔ (map string_bytes (drop 1 (into_iter_items args)) ≡ C.word_of choice ∷ []) }
-    ensures err { IfErr result (λ outcome. outcome ≡ Outcome.Usage) }
+    ensures error { IfErr result (λ outcome. outcome ≡ Outcome.Usage) }
 {
     let Some(word) = only_word(args) else {
         return Err(Outcome::Usage);

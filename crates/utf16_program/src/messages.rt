@@ -33,7 +33,7 @@ pub fn tell<C: Choice, W: Write>(outcome: &Outcome, to: &mut Watched<W>) -> Resu
 // Writes all of the bytes.
 fn write_all<W: Write>(bytes: &[u8], to: &mut Watched<W>) -> Result<(), DeviceFault>
     requires { watched_faults to.old < 2 ^ 64 - 1 }
-    ensures all { OnOk result (TellsAll W.contents to.old to.new bytes.now) }
+    ensures appended { OnOk result (TellsAll W.contents to.old to.new bytes.now) }
     ensures err { OnErr result (TellsPrefix W.contents to.old to.new bytes.now) }
 {
     let mut written = 0;
