@@ -1,4 +1,7 @@
 //! Pending bytes and a chunk after them, as if they were contiguous.
+//!
+//! Only the first four bytes are copied, to an array on the stack: no character is longer, and no
+//! unpaired surrogate with the bytes that decide it. The rest of the chunk is decoded in place.
 
 ghost use Rattle.std.specs.Prelude.{◌≡◌, ◌+◌, ◌-◌, ◌≤◌, ◌++◌, length, take, drop};
 
