@@ -11,7 +11,7 @@
  * pointer with a length of n points to n bytes that may be read during the call (for `to`, with a
  * capacity of n, written); `decoder` points to a decoder; and `to` and the decoder overlap no other
  * buffer of the call. A pointer need not be aligned. A null pointer is allowed where the length or
- * the capacity is 0 (tested, not proved).
+ * the capacity is 0. That, the macros and the dethrux_u16 calls are tested, not proved.
  *
  * Threads: the calls share no state, so any call may run in any thread at any time. Only one thread
  * at a time may use a decoder, or a buffer that a call writes to.

@@ -1,7 +1,7 @@
 // SPDX-License-Identifier: MIT OR Apache-2.0
 
 // Dethrux for C++17: UTF-16 in either byte order, to and from UTF-8, in strings. Each function
-// makes a proved call of dethrux.h; what is added here is memory and types.
+// makes a proved call of dethrux.h. What is added here, memory and types, is tested, not proved.
 //
 // UTF-16 is given as code units in the machine's byte order (dethrux::units: std::u16string and its
 // view, a vector or span of any integral type of two bytes, a pointer and a length), or as bytes

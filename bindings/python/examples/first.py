@@ -6,23 +6,26 @@ from pathlib import Path
 import dethrux
 
 path = Path(sys.argv[1])
+raw = path.read_bytes()
 
-# A codec has the error handlers of Python. The BOM tells the byte order.
+# The BOM tells the byte order. Without one, Windows means little endian.
+bom = dethrux.detect_bom(raw)
+codec, order = ("dethrux-utf-16", bom.byteorder) if bom.len else ("dethrux-utf-16-le", "little")
+
+# A codec has the error handlers of Python.
 try:
-    text = path.read_text(encoding="dethrux-utf-16")
+    text = path.read_text(encoding=codec)
 except UnicodeDecodeError as error:
     print(f"byte {error.start}: {error.reason}")
-    text = path.read_text(encoding="dethrux-utf-16", errors="replace")
+    text = path.read_text(encoding=codec, errors="replace")
 print(text, end="")
 
 # The functions work on bytes, without a str between.
-raw = path.read_bytes()
-bom = dethrux.detect_bom(raw)
 utf16 = raw[bom.len :]
-print(bom.byteorder, dethrux.validate(utf16, bom.byteorder))
-path.with_suffix(".utf8").write_bytes(dethrux.to_utf8_lossy(utf16, bom.byteorder).output)
+print(order, dethrux.validate(utf16, order))
+path.with_suffix(".utf8").write_bytes(dethrux.to_utf8_lossy(utf16, order).output)
 
 # A decoder takes a stream in chunks, cut anywhere.
-decoder = dethrux.Decoder(bom.byteorder)
+decoder = dethrux.Decoder(order)
 parts = [decoder.feed(utf16[at : at + 7]) for at in range(0, len(utf16), 7)]
 assert b"".join(parts) + decoder.finish() == path.with_suffix(".utf8").read_bytes()

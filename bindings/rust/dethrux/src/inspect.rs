@@ -90,10 +90,10 @@ pub fn floor_char_boundary_around(order: ByteOrder, around: &[u8], at: u64) -> u
     unsafe { ffi::dethrux_floor_char_boundary_around(order, around.as_ptr(), around.len(), at) }
 }
 
-/// Returns the offset where part `index` of `count` parts begins in a file of `len` bytes: 0 for
-/// part 0, and `len` for `index >= count`. Each part has `len / 2 / count` code units or one more,
-/// and the last one has an odd byte at the end too. The offset may be inside a surrogate pair: move
-/// it to a boundary by [`floor_char_boundary_around`].
+/// Returns the offset where part `index` of `count` parts begins in a file of `len` bytes: `len` for
+/// `index >= count`, else 0 for part 0. Each part has `len / 2 / count` code units or one more, and
+/// the last one has an odd byte at the end too. The offset may be inside a surrogate pair: move it
+/// to a boundary by [`floor_char_boundary_around`].
 ///
 /// ```
 /// assert_eq!([0, 1, 2, 3].map(|part| dethrux::shard_offset(11, 3, part)), [0, 4, 8, 11]);
