@@ -96,7 +96,7 @@ count 'pip install' install_package || finish
 unset DETHRUX_LIBRARY
 count 'the first program' first_program
 count 'the page has the first program' page_has_program
-for module in test_calls test_codecs test_package test_cpython; do
+for module in test_calls test_codecs test_package test_build test_cpython; do
     unit_tests $module
 done
 count 'the tables of cases' cases

@@ -1,10 +1,10 @@
 #!/usr/bin/env bash
 # Tests the crates of this folder without network: their tests and the examples of their
 # documentation with each set of features, the page docs/RUST.md in an empty project, how the build
-# script finds the library and what it refuses, formatting and lints. The last line is 'N passed, M
-# failed'. It needs cargo, cc, pkg-config, the library (crates/dethrux/out/libdethrux.a, or the
-# folder that DETHRUX_LIB_DIR names), and for utf16string the crate byteorder (Debian:
-# librust-byteorder-dev). What is missing is a failure.
+# script finds the library and what it refuses, formatting and lints. With --tests it skips the last
+# two. The last line is 'N passed, M failed'. It needs cargo, cc, pkg-config, the library
+# (crates/dethrux/out/libdethrux.a, or the folder that DETHRUX_LIB_DIR names), and for utf16string
+# the crate byteorder (Debian: librust-byteorder-dev). What is missing is a failure.
 set -uo pipefail
 here=$(cd "$(dirname "$0")" && pwd)
 top=$(cd "$here/../.." && pwd)
@@ -13,6 +13,8 @@ room=$(mktemp -d)
 trap 'rm -rf "$room"' EXIT
 passed=0
 failed=0
+has_lints=true
+[ "${1:-}" != --tests ] || has_lints=false
 
 fail() {
     failed=$((failed + 1))
@@ -50,6 +52,7 @@ documented() {
 # Formatting and lints, if this toolchain has them.
 lint() {
     local crate=$1
+    $has_lints || return
     if cargo fmt --version > "$room/said" 2>&1; then
         count "$crate: cargo fmt" cargo fmt --check --manifest-path "$here/$crate/Cargo.toml"
     else
@@ -75,8 +78,9 @@ test_dynamic() {
     mkdir "$room/shared"
     cc -shared -o "$room/shared/libdethrux.so" \
         -Wl,--whole-archive "$library" -Wl,--no-whole-archive || return
+    DETHRUX_LIB_DIR=$room/shared on_crate dethrux build --features dynamic || return
     DETHRUX_LIB_DIR=$room/shared LD_LIBRARY_PATH=$room/shared \
-        on_crate dethrux test --features dynamic --test std --test adapters
+        on_crate dethrux test --features dynamic --test std --test adapters --test edges
 }
 
 test_utf16string() {
@@ -137,18 +141,11 @@ test_page() {
     [ "$(wc -l < "$top/docs/RUST.md")" -le 60 ]
 }
 
-# Builds a copy of the crate outside of the repository, by a command that sets its environment.
+# Builds a copy of the crate outside of the repository, with words for env.
 build_copy() {
-    [ -d "$room/copy" ] || cp -r "$here/dethrux" "$room/copy"
-    (cd "$room/copy" && PKG_CONFIG_LIBDIR=$room "$@" cargo build --offline)
-}
-
-# Whether the build script finds the library that pkg-config knows.
-test_installed() {
-    mkdir "$room/pkgconfig"
-    printf 'libdir=%s\nName: dethrux\nDescription: UTF-16\nVersion: 0.1.0\n' \
-        "${library%/*}" > "$room/pkgconfig/dethrux.pc"
-    build_copy env -u DETHRUX_LIB_DIR "PKG_CONFIG_PATH=$room/pkgconfig"
+    local copy=$room/clone/bindings/rust/dethrux
+    [ -d "$copy" ] || { mkdir -p "${copy%/*}" && cp -r "$here/dethrux" "$copy"; }
+    (cd "$copy" && PKG_CONFIG_LIBDIR=$room env -u DETHRUX_LIB_DIR "$@" cargo build --offline)
 }
 
 # Whether the build script fails with one line.
@@ -162,24 +159,43 @@ refuses() {
     grep -qxF "  error: $line" "$room/refusal" || { cat "$room/refusal"; return 1; }
 }
 
-test_refusals() {
-    local empty=$room/empty other=$room/other said
-    mkdir "$empty" "$other"
-    printf 'unsigned dethrux_version(void) { return 2001; }\n' > "$other/other.c"
-    cc -c "$other/other.c" -o "$other/other.o" && ar cr "$other/libdethrux.a" "$other/other.o"
-    count 'no library' refuses \
-        'there is no libdethrux.a: install libdethrux, or set DETHRUX_LIB_DIR to its folder' \
-        env -u DETHRUX_LIB_DIR PKG_CONFIG_PATH=
+# Puts a library of another version into a folder.
+put_other() {
+    printf 'unsigned dethrux_version(void) { return 2001; }\n' > "$room/other.c"
+    cc -c "$room/other.c" -o "$room/other.o" && rm -f "$1/libdethrux.a" &&
+        ar cr "$1/libdethrux.a" "$room/other.o"
+}
+
+# Which library the build script takes, and that it looks again after a change. While a library is
+# to be taken, those that come after it have another version.
+test_build_script() {
+    local named=$room/named clone=$room/clone/crates/dethrux/out empty=$room/empty
+    local known="PKG_CONFIG_PATH=$room/pkgconfig" said
+    mkdir -p "$named" "$clone" "$empty" "$room/pkgconfig" "$room/installed"
+    printf 'libdir=%s\nprefix=/\nName: dethrux\nDescription: UTF-16\nVersion: 0.1.0\n' \
+        "$room/installed" > "$room/pkgconfig/dethrux.pc"
+    cp "$library" "$named" && put_other "$room/installed" && put_other "$clone"
+    count 'the library that is named' build_copy "$known" "DETHRUX_LIB_DIR=$named"
     count 'a folder without the library' refuses \
         "DETHRUX_LIB_DIR is $empty, which has no libdethrux.a: point it to one, or unset it" \
-        env "DETHRUX_LIB_DIR=$empty"
-    said="$other/libdethrux.a has version 0.2.1, this crate 0.1.0"
+        "DETHRUX_LIB_DIR=$empty"
+    count 'the library that is named again' build_copy "$known" "DETHRUX_LIB_DIR=$named"
+    put_other "$named"
+    said="$named/libdethrux.a has version 0.2.1, this crate 0.1.0"
     said+=": install that, or set DETHRUX_LIB_DIR to it"
-    count 'another version' refuses "$said" env "DETHRUX_LIB_DIR=$other"
-    rm "$other/libdethrux.a" && : > "$other/libdethrux.a"
-    said="$other/libdethrux.a cannot be used, since a program does not link with it"
+    count 'another version' refuses "$said" "DETHRUX_LIB_DIR=$named"
+    rm "$named/libdethrux.a" && : > "$named/libdethrux.a"
+    said="$named/libdethrux.a cannot be used, since a program does not link with it"
     said+=": install it again, or set DETHRUX_LIB_DIR"
-    count 'a file that is no library' refuses "$said" env "DETHRUX_LIB_DIR=$other"
+    count 'a file that is not a library' refuses "$said" "DETHRUX_LIB_DIR=$named"
+    cp "$library" "$room/installed"
+    count 'the installed library' build_copy "$known"
+    rm "$clone/libdethrux.a"
+    count 'no library' refuses \
+        'there is no libdethrux.a: install libdethrux, or set DETHRUX_LIB_DIR to its folder' \
+        PKG_CONFIG_PATH=
+    cp "$library" "$clone"
+    count 'the library of the clone' build_copy PKG_CONFIG_PATH=
 }
 
 library=${DETHRUX_LIB_DIR:-$top/crates/dethrux/out}/libdethrux.a
@@ -197,8 +213,7 @@ if [ $failed = 0 ]; then
     count 'dethrux over the shared library' test_dynamic
     test_utf16string
     count 'the page docs/RUST.md' test_page
-    count 'the installed library' test_installed
-    test_refusals
+    test_build_script
 fi
 echo "$passed passed, $failed failed"
 [ $failed = 0 ]

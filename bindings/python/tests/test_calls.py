@@ -1,184 +1,482 @@
 """The functions over bytes, the decoders, and what they refuse."""
 
+import array
+import codecs
+import itertools
 import unittest
 
 import dethrux
-from dethrux import BomStatus, Status
+from dethrux import BomStatus, Status, _codecs
+from expected import (
+    CODECS,
+    LARGEST,
+    NOT_BUFFERS,
+    ORDERS,
+    READABLE,
+    REPLACEMENT,
+    UNWRITABLE,
+    UTF8,
+    WRITABLE,
+    Index,
+    boundaries,
+    code_units,
+    items,
+    progress,
+    utf16,
+)
 
-GRINNING = {"little": b"\x3d\xd8\x00\xde", "big": b"\xd8\x3d\xde\x00"}
+# The conversions, and what each stops at.
+TO_UTF8 = {"to_utf8": "ill-formed", "to_utf8_partial": "incomplete", "to_utf8_lossy": None}
+FROM_UTF8 = {"from_utf8": "ill-formed", "from_utf8_lossy": None}
+CONVERSIONS = (*TO_UTF8, *FROM_UTF8)
+DECODERS = (dethrux.Decoder, dethrux.Utf8Decoder)
+
+# All calls that read a buffer, as functions of it and of a byte order.
+WITH_ORDER = {
+    name: getattr(dethrux, name)
+    for name in ("validate", "count_chars", "is_ascii", "to_utf8_lossy_len", "decode", *CONVERSIONS)
+}
+WITH_ORDER.update(
+    {
+        "is_char_boundary": lambda data, order: dethrux.is_char_boundary(data, order, 2),
+        "floor_char_boundary": lambda data, order: dethrux.floor_char_boundary(data, order, 3),
+        "floor_char_boundary_around": lambda data, order: dethrux.floor_char_boundary_around(
+            data, 3, order
+        ),
+        "compare, first": lambda data, order: dethrux.compare(data, order, b"a\0b", "little"),
+        "compare, second": lambda data, order: dethrux.compare(b"\0ab", "big", data, order),
+        "Decoder": lambda data, order: dethrux.Decoder(order).feed(data),
+        "Utf8Decoder": lambda data, order: dethrux.Utf8Decoder(order).feed(data),
+    }
+)
+READERS = {
+    **WITH_ORDER,
+    "from_utf8_len": lambda data, order: dethrux.from_utf8_len(data),
+    "from_utf8_lossy_len": lambda data, order: dethrux.from_utf8_lossy_len(data),
+    "detect_bom": lambda data, order: dethrux.detect_bom(data),
+    "utf_16_le_decode": lambda data, order: _codecs.utf_16_le_decode(data),
+    "utf_16_be_decode": lambda data, order: _codecs.utf_16_be_decode(data),
+    "utf_16_ex_decode": lambda data, order: _codecs.utf_16_ex_decode(data),
+    "utf_16_decode": lambda data, order: _codecs.utf_16_decode(data),
+}
+IN_PLACE = {
+    "swap_byte_order": lambda data, order: dethrux.swap_byte_order(data),
+    "make_well_formed": dethrux.make_well_formed,
+}
+PAIR = b"\x3d\xd8\x00\xde"
+# All numbers that a call takes: the name, and a function of the number.
+CAPACITIES = [
+    ("capacity", lambda number, call=call: call(PAIR, "little", number))
+    for call in (getattr(dethrux, name) for name in CONVERSIONS)
+] + [
+    ("capacity", lambda number, kind=kind: kind("little").feed_partial(PAIR, number))
+    for kind in DECODERS
+]
+OFFSETS = [
+    ("at", lambda number: dethrux.is_char_boundary(PAIR, "little", number)),
+    ("at", lambda number: dethrux.floor_char_boundary(PAIR, "little", number)),
+]
+OFFSETS_OF_FILES = [
+    ("at", lambda number: dethrux.floor_char_boundary_around(PAIR, number, "little")),
+    ("length", lambda number: dethrux.shard_offset(number, 2, 1)),
+    ("count", lambda number: dethrux.shard_offset(8, number, 1)),
+    ("index", lambda number: dethrux.shard_offset(8, 2, number)),
+]
+
+
+def each_utf16():
+    """Return each byte order, each sample and CPython's codec."""
+    return [(order, raw, codec) for order, codec in CODECS.items() for raw in utf16(order)]
+
+
+def outcome(call, *arguments):
+    """Return what a call returns, or the exception with all that it says."""
+    try:
+        return call(*arguments)
+    except UnicodeError as error:
+        return type(error), error.args
 
 
 class Functions(unittest.TestCase):
-    """The values are worked out by hand from the Unicode Standard, section 3.9."""
+    """The results beside those of CPython's codecs, for each sample in both byte orders."""
 
-    def test_validate(self):
-        for order, pair in GRINNING.items():
-            self.assertEqual(dethrux.validate(pair, order), (4, Status.DONE, 0))
-            self.assertEqual(dethrux.validate(pair[:3], order), (0, Status.INCOMPLETE, 0))
-            unpaired = pair + pair[2:]
-            self.assertEqual(dethrux.validate(unpaired, order), (4, Status.ILL_FORMED, 2))
+    def test_reading(self):
+        for order, raw, codec in each_utf16():
+            stopped = progress(raw, codec, codec, "ill-formed", LARGEST)
+            self.assertEqual(dethrux.validate(raw, order), stopped[1:])
+            lossy = raw.decode(codec, "replace")
+            self.assertEqual(dethrux.to_utf8_lossy_len(raw, order), len(lossy.encode()))
+            is_ascii = stopped[2] == Status.DONE and lossy.isascii()
+            self.assertIs(dethrux.is_ascii(raw, order), is_ascii)
+            counted = [unit for unit in code_units(raw, order) if not 0xDC00 <= unit <= 0xDFFF]
+            self.assertEqual(dethrux.count_chars(raw, order), len(counted))
 
-    def test_lengths(self):
-        for order, pair in GRINNING.items():
-            self.assertEqual(dethrux.count_chars(pair * 3, order), 3)
-            self.assertEqual(dethrux.to_utf8_lossy_len(pair + pair[:2], order), 7)
-        self.assertEqual(dethrux.from_utf8_len(b"a\xf0\x9f\x98\x80\xff"), 6)
-        self.assertEqual(dethrux.from_utf8_lossy_len(b"a\xf0\x9f\x98\x80\xff"), 8)
+    def test_lengths_from_utf8(self):
+        for utf8 in UTF8:
+            with self.subTest(utf8=utf8):
+                strict = progress(utf8, "utf-8", "utf-16-le", "ill-formed", LARGEST)
+                self.assertEqual(dethrux.from_utf8_len(utf8), len(strict[0]))
+                lossy = utf8.decode("utf-8", "replace").encode("utf-16-le")
+                self.assertEqual(dethrux.from_utf8_lossy_len(utf8), len(lossy))
 
-    def test_is_ascii(self):
-        self.assertTrue(dethrux.is_ascii(b"a\0\x7f\0", "little"))
-        self.assertFalse(dethrux.is_ascii(b"a\0\x7f\0", "big"))
-        self.assertFalse(dethrux.is_ascii(b"a\0\x80\0", "little"))
+    def check_conversion(self, name, order, raw, source, target, stops):
+        whole = progress(raw, source, target, stops, LARGEST)
+        call = getattr(dethrux, name)
+        self.assertEqual(call(raw, order), whole)
+        self.assertEqual(call(raw, order, None), whole)
+        self.assertEqual(call(raw, order, 10**30), whole)
+        for capacity in range(len(whole[0]) + 2):
+            expected = progress(raw, source, target, stops, capacity)
+            self.assertEqual(call(raw, order, capacity), expected, (name, capacity))
 
-    def test_to_utf8(self):
-        for order, pair in GRINNING.items():
-            utf8 = b"\xf0\x9f\x98\x80"
-            self.assertEqual(dethrux.to_utf8(pair, order), (utf8, 4, Status.DONE, 0))
-            stopped = (b"", 0, Status.ILL_FORMED, 2)
-            self.assertEqual(dethrux.to_utf8(pair[2:] + pair, order), stopped)
-            lossy = (b"\xef\xbf\xbd" + utf8, 6, Status.DONE, 0)
-            self.assertEqual(dethrux.to_utf8_lossy(pair[2:] + pair, order), lossy)
-            partial = (utf8, 4, Status.INCOMPLETE, 0)
-            self.assertEqual(dethrux.to_utf8_partial(pair + pair[:2], order), partial)
+    def test_conversions(self):
+        for order, raw, codec in each_utf16():
+            for name, stops in TO_UTF8.items():
+                self.check_conversion(name, order, raw, codec, "utf-8", stops)
+        for order, codec in CODECS.items():
+            for utf8, (name, stops) in itertools.product(UTF8, FROM_UTF8.items()):
+                with self.subTest(order=order, utf8=utf8):
+                    self.check_conversion(name, order, utf8, "utf-8", codec, stops)
 
-    def test_from_utf8(self):
-        for order, pair in GRINNING.items():
-            replacement = b"\xfd\xff" if order == "little" else b"\xff\xfd"
-            utf8 = b"\xf0\x9f\x98\x80\xf0\x9f"
-            self.assertEqual(dethrux.from_utf8(utf8, order), (pair, 4, Status.INCOMPLETE, 0))
-            lossy = (pair + replacement, 6, Status.DONE, 0)
-            self.assertEqual(dethrux.from_utf8_lossy(utf8, order), lossy)
+    def test_decode(self):
+        for order, raw, codec in each_utf16():
+            self.assertEqual(outcome(dethrux.decode, raw, order), outcome(raw.decode, codec))
+            for errors in ("replace", "ignore", "backslashreplace", "surrogatepass"):
+                expected = outcome(raw.decode, codec, errors)
+                self.assertEqual(outcome(dethrux.decode, raw, order, errors), expected)
 
-    def test_capacity(self):
-        pair = GRINNING["little"]
-        self.assertEqual(dethrux.to_utf8(pair, "little", 3), (b"", 0, Status.NO_SPACE, 0))
-        self.assertEqual(dethrux.to_utf8(pair, "little", 10**30).read, 4)
-        with self.assertRaisesRegex(ValueError, "capacity must not be negative"):
-            dethrux.to_utf8(pair, "little", -1)
-        with self.assertRaises(TypeError):
-            dethrux.to_utf8(pair, "little", 1.5)
+    def test_encode(self):
+        for order, codec in CODECS.items():
+            for text in ("", "a", "\ufeffa\x80\u0800\U0010ffff", "a\ud800b", "\udc00"):
+                for errors in ("strict", "replace", "surrogatepass"):
+                    expected = outcome(text.encode, codec, errors)
+                    self.assertEqual(outcome(dethrux.encode, text, order, errors), expected)
+                self.assertEqual(outcome(dethrux.encode, text, order), outcome(text.encode, codec))
 
     def test_boundaries(self):
-        for order, pair in GRINNING.items():
-            found = [dethrux.is_char_boundary(pair * 2, order, at) for at in range(10)]
-            self.assertEqual([at for at in range(10) if found[at]], [0, 4, 8])
-            floors = [dethrux.floor_char_boundary(pair * 2, order, at) for at in range(10)]
-            self.assertEqual(floors, [0, 0, 0, 0, 4, 4, 4, 4, 8, 8])
-            self.assertFalse(dethrux.is_char_boundary(pair, order, 2**64))
-            self.assertEqual(dethrux.floor_char_boundary(pair, order, 2**64), 4)
-            with self.assertRaisesRegex(ValueError, "at must not be negative"):
-                dethrux.floor_char_boundary(pair, order, -1)
+        for order, raw, _codec in each_utf16():
+            among = boundaries(raw, order)
+            past = len(raw) + 1, 2 * len(raw) + 2, 2**63, LARGEST, 2**64, 2**64 + 2, 10**30
+            for at in (*range(len(raw) + 1), *past):
+                floor = max(each for each in among if each <= at)
+                self.assertIs(dethrux.is_char_boundary(raw, order, at), at in among, at)
+                self.assertEqual(dethrux.floor_char_boundary(raw, order, at), floor, at)
+                if at <= len(raw):
+                    around = raw[max(at // 2 * 2 - 2, 0) :][:4]
+                    found = dethrux.floor_char_boundary_around(around, at, order)
+                    self.assertEqual(found, floor, at)
 
-    def test_boundaries_of_a_file(self):
-        for order, pair in GRINNING.items():
-            for file in (b"", pair * 2, pair + b"a", pair[2:] + pair * 2, pair * 2 + pair[:3]):
-                for at in range(len(file) + 1):
-                    around = file[max(at // 2 * 2 - 2, 0) :][:4]
-                    self.assertEqual(
-                        dethrux.floor_char_boundary_around(around, at, order),
-                        dethrux.floor_char_boundary(file, order, at),
-                    )
-            last = dethrux.floor_char_boundary_around(bytearray(pair), 2**64 - 1, order)
-            self.assertEqual(last, 2**64 - 4)
-            with self.assertRaisesRegex(ValueError, "at must not be negative"):
-                dethrux.floor_char_boundary_around(pair, -1, order)
-            with self.assertRaisesRegex(OverflowError, r"at must be less than 2\*\*64"):
-                dethrux.floor_char_boundary_around(pair, 2**64, order)
+    def test_boundaries_of_a_long_file(self):
+        for order, codec in CODECS.items():
+            around = "\U0001f600".encode(codec)
+            for at, floor in ((2**63, 2**63 - 2), (LARGEST, LARGEST - 3), (2**63 + 2, 2**63)):
+                found = dethrux.floor_char_boundary_around(around, at, order)
+                self.assertEqual(found, floor)
+            text = "\u4e00\u4e01".encode(codec)
+            self.assertEqual(dethrux.floor_char_boundary_around(text, 2**63 + 1, order), 2**63)
 
     def test_shards(self):
-        self.assertEqual([dethrux.shard_offset(11, 3, part) for part in range(5)], [0, 4, 8, 11, 11])
-        self.assertEqual(dethrux.shard_offset(11, 0, 0), 11)
-        self.assertEqual(dethrux.shard_offset(2**64 - 1, 2**64 - 1, 2**64 - 2), 2**64 - 2)
-        with self.assertRaisesRegex(ValueError, "count must not be negative"):
-            dethrux.shard_offset(11, -1, 0)
-        with self.assertRaisesRegex(OverflowError, r"index must be less than 2\*\*64"):
-            dethrux.shard_offset(11, 3, 2**64)
-        with self.assertRaises(TypeError):
-            dethrux.shard_offset(11.0, 3, 0)
-
-    def test_in_place(self):
-        raw = bytearray(b"\x3d\xd8\x00\xde\x00")
-        dethrux.swap_byte_order(raw)
-        self.assertEqual(raw, b"\xd8\x3d\xde\x00\x00")
-        raw = bytearray(b"\x00\xdea\x00")
-        self.assertEqual(dethrux.make_well_formed(memoryview(raw), "little"), 1)
-        self.assertEqual(raw, b"\xfd\xffa\x00")
-        self.assertEqual(dethrux.make_well_formed(bytearray(), "little"), 0)
-        with self.assertRaisesRegex(TypeError, "not writable"):
-            dethrux.swap_byte_order(b"a\0")
+        numbers = (*range(12), 2**63 - 1, 2**63, LARGEST - 1, LARGEST)
+        counts = (0, 1, 2, 3, 5, 12, 2**63, LARGEST)
+        indices = (*range(6), 2**63, LARGEST - 1, LARGEST)
+        for length, count, index in itertools.product(numbers, counts, indices):
+            expected = length
+            if index < count:
+                each, longer = divmod(length // 2, count)
+                expected = 2 * (each * index + min(index, longer))
+            found = dethrux.shard_offset(length, count, index)
+            self.assertEqual(found, expected, (length, count, index))
 
     def test_compare(self):
-        bmp, pair = b"\xff\xff", GRINNING["little"]
-        self.assertEqual(dethrux.compare(bmp, "little", pair, "little"), -1)
-        self.assertEqual(dethrux.compare(pair, "little", bmp, "big"), 1)
-        self.assertEqual(dethrux.compare(pair, "little", GRINNING["big"], "big"), 0)
+        samples = [(order, raw) for order in ORDERS for raw in utf16(order)]
+        for (order, raw), (other_order, other) in itertools.product(samples, samples):
+            text = raw.decode(CODECS[order], "replace")
+            other_text = other.decode(CODECS[other_order], "replace")
+            expected = (text > other_text) - (text < other_text)
+            found = dethrux.compare(raw, order, other, other_order)
+            self.assertEqual(found, expected, (order, raw, other_order, other))
 
     def test_detect_bom(self):
-        self.assertEqual(dethrux.detect_bom(b"\xff\xfea\0"), ("little", 2, BomStatus.PRESENT))
-        self.assertEqual(dethrux.detect_bom(b"\xfe\xff\0a"), ("big", 2, BomStatus.PRESENT))
-        self.assertEqual(dethrux.detect_bom(b"a\0"), ("big", 0, BomStatus.ABSENT))
-        self.assertEqual(dethrux.detect_bom(b"\xff").status, BomStatus.UNDECIDED)
+        little = ("little", 2, BomStatus.PRESENT)
+        big = ("big", 2, BomStatus.PRESENT)
+        absent = ("big", 0, BomStatus.ABSENT)
+        undecided = ("big", 0, BomStatus.UNDECIDED)
+        marks = {codecs.BOM_UTF16_LE: little, codecs.BOM_UTF16_BE: big}
+        for length in range(4):
+            for data in itertools.product((0xFE, 0xFF, 0x61), repeat=length):
+                expected = marks.get(bytes(data[:2]), absent) if length > 1 else undecided
+                found = dethrux.detect_bom(bytes(data))
+                self.assertEqual(found, expected, data)
+                self.assertIs(type(found.status), BomStatus)
 
+    def test_fields(self):
+        self.assertEqual([each.name for each in Status], ["DONE", "ILL_FORMED", "INCOMPLETE", "NO_SPACE"])
+        self.assertEqual([each.name for each in BomStatus], ["ABSENT", "PRESENT", "UNDECIDED"])
+        for kind in (Status, BomStatus):
+            self.assertEqual([each.value for each in kind], list(range(len(kind))))
+        output = b"a", 2, Status.ILL_FORMED, 2
+        found = dethrux.to_utf8(b"a\0\0\xdc", "little")
+        self.assertEqual((found.output, found.read, found.status, found.error_len), output)
+        self.assertIs(type(found.status), Status)
+        found = dethrux.validate(b"a\0\0\xdc", "little")
+        self.assertEqual((found.valid_up_to, found.status, found.error_len), output[1:])
+        self.assertIs(type(found.status), Status)
+        found = dethrux.detect_bom(codecs.BOM_UTF16_LE)
+        self.assertEqual((found.byteorder, found.len, found.status), ("little", 2, BomStatus.PRESENT))
+
+
+class InPlace(unittest.TestCase):
+    def test_units_change(self):
+        for order, kind in itertools.product(ORDERS, WRITABLE):
+            codec = CODECS[order]
+            for raw in utf16(order):
+                with self.subTest(order=order, raw=raw, kind=kind):
+                    whole, odd = raw[: len(raw) // 2 * 2], raw[len(raw) // 2 * 2 :]
+                    swapped = array.array("H", whole)
+                    swapped.byteswap()
+                    buffer = kind(raw)
+                    self.assertIsNone(dethrux.swap_byte_order(buffer))
+                    self.assertEqual(bytes(memoryview(buffer)), swapped.tobytes() + odd)
+
+                    unpaired = [item for item in items(whole, codec) if item.char is None]
+                    mended = whole.decode(codec, "replace").encode(codec)
+                    buffer = kind(raw)
+                    self.assertEqual(dethrux.make_well_formed(buffer, order), len(unpaired))
+                    self.assertEqual(bytes(memoryview(buffer)), mended + odd)
+
+    def test_only_the_view_changes(self):
+        for order, codec in CODECS.items():
+            raw = bytearray(b"\xaa\xaa" + "\udc00".encode(codec, "surrogatepass") + b"\xaa")
+            self.assertEqual(dethrux.make_well_formed(memoryview(raw)[2:-1], order), 1)
+            self.assertEqual(raw, b"\xaa\xaa" + REPLACEMENT.encode(codec) + b"\xaa")
+            dethrux.swap_byte_order(memoryview(raw)[2:-1])
+            self.assertEqual(raw[2:-1], REPLACEMENT.encode(codec)[::-1])
+            raw.append(0)
+
+    def test_refused(self):
+        raw = b"\x00\xde\x61\x00"
+        for (name, call), kind in itertools.product(IN_PLACE.items(), UNWRITABLE):
+            with self.subTest(name=name, kind=kind):
+                buffer = kind(raw)
+                with self.assertRaises(TypeError):
+                    call(buffer, "little")
+                self.assertEqual(bytes(buffer), raw)
+        for (name, call), wrong in itertools.product(IN_PLACE.items(), NOT_BUFFERS):
+            with self.subTest(name=name, wrong=wrong), self.assertRaises(TypeError):
+                call(wrong, "little")
+        buffer = bytearray(raw)
+        with self.assertRaises(ValueError):
+            dethrux.make_well_formed(buffer, "middle")
+        with self.assertRaises(TypeError):
+            dethrux.make_well_formed(buffer, 1)
+        self.assertEqual(buffer, raw)
+
+
+class Arguments(unittest.TestCase):
     def test_buffers(self):
-        for kind in (bytes, bytearray, memoryview):
-            self.assertEqual(dethrux.decode(kind(b"a\0b\0"), "little"), "ab")
-        self.assertEqual(dethrux.decode(memoryview(b"a?b?\0?\0?")[::2], "big"), "\u6162\0")
+        for (name, call), order in itertools.product(READERS.items(), ORDERS):
+            for raw in (b"", b"a\0\x3d\xd8\x00\xde\0b", b"\xff\xfea\0b", b"\xd8\x3d\xde\0\xc3\xa4"):
+                expected = outcome(call, raw, order)
+                for kind in READABLE:
+                    with self.subTest(name=name, order=order, raw=raw, kind=kind):
+                        self.assertEqual(outcome(call, kind(raw), order), expected)
 
-    def test_wrong_types(self):
-        for wrong in ("a", 5, None, [1]):
-            with self.subTest(wrong), self.assertRaises(TypeError):
-                dethrux.decode(wrong, "little")
-        for wrong in (b"a", 5, None):
-            with self.subTest(wrong), self.assertRaises(TypeError):
+    def test_buffers_stay(self):
+        for (name, call), order in itertools.product(READERS.items(), ORDERS):
+            buffer = bytearray(b"\x00\xde\xde\x00a")
+            with self.subTest(name=name, order=order):
+                outcome(call, buffer, order)
+                self.assertEqual(buffer, b"\x00\xde\xde\x00a")
+                buffer.append(0)
+
+    def test_not_buffers(self):
+        for (name, call), wrong in itertools.product(READERS.items(), NOT_BUFFERS):
+            with self.subTest(name=name, wrong=wrong), self.assertRaises(TypeError):
+                call(wrong, "little")
+
+    def test_not_texts(self):
+        for wrong in (b"a", 5, None, ["a"]):
+            with self.subTest(wrong=wrong), self.assertRaisesRegex(TypeError, "a str is required"):
                 dethrux.encode(wrong, "little")
-        with self.assertRaisesRegex(ValueError, "byteorder must be either 'little' or 'big'"):
-            dethrux.encode("a", "middle")
-        with self.assertRaisesRegex(TypeError, "byteorder must be str, not int"):
-            dethrux.encode("a", 1)
+
+    def test_byte_orders(self):
+        calls = {**WITH_ORDER, "encode": lambda data, order: dethrux.encode("a", order)}
+        calls["make_well_formed"] = lambda data, order: dethrux.make_well_formed(bytearray(), order)
+        for name, call in calls.items():
+            for wrong in ("middle", "", "LITTLE", "native", "littl"):
+                message = "^byteorder must be either 'little' or 'big'$"
+                with self.subTest(name=name, wrong=wrong):
+                    with self.assertRaisesRegex(ValueError, message):
+                        call(b"a\0", wrong)
+            for wrong in (0, 1, None, b"little"):
+                message = f"^byteorder must be str, not {type(wrong).__name__}$"
+                with self.subTest(name=name, wrong=wrong):
+                    with self.assertRaisesRegex(TypeError, message):
+                        call(b"a\0", wrong)
+
+    def test_numbers(self):
+        for name, call in CAPACITIES + OFFSETS + OFFSETS_OF_FILES:
+            for wrong in (-1, -(2**64), Index(-1)):
+                with self.subTest(name=name, wrong=wrong):
+                    with self.assertRaisesRegex(ValueError, f"^{name} must not be negative$"):
+                        call(wrong)
+            for wrong in (1.5, "1", b"1", [1]):
+                with self.subTest(name=name, wrong=wrong), self.assertRaises(TypeError):
+                    call(wrong)
+            for number in (0, 1, 2, 3, 4):
+                self.assertEqual(call(Index(number)), call(number))
+        for _name, call in OFFSETS + OFFSETS_OF_FILES:
+            with self.assertRaises(TypeError):
+                call(None)
+
+    def test_numbers_of_files(self):
+        for name, call in OFFSETS_OF_FILES:
+            for wrong in (2**64, 2**64 + 2, 10**30):
+                message = rf"^{name} must be less than 2\*\*64$"
+                with self.subTest(name=name, wrong=wrong):
+                    with self.assertRaisesRegex(OverflowError, message):
+                        call(wrong)
+
+
+def unfinished(kind, order):
+    """Return beginnings of 1, 2 and 3 bytes of a character that such a decoder keeps."""
+    char = "\U0001f600".encode(CODECS[order] if kind is dethrux.Decoder else "utf-8")
+    return [char[:length] for length in (1, 2, 3)]
+
+
+def each_decoder():
+    """Return each kind in each byte order, with CPython's codecs of what it reads and writes."""
+    for order, codec in CODECS.items():
+        yield dethrux.Decoder, order, codec, "utf-8"
+        yield dethrux.Utf8Decoder, order, "utf-8", codec
+
+
+def each_stream():
+    """Return a new decoder, a sample, and CPython's codecs of what it reads and writes."""
+    for kind, order, source, target in each_decoder():
+        for raw in UTF8 if kind is dethrux.Utf8Decoder else utf16(order):
+            yield kind(order), raw, source, target
 
 
 class Decoders(unittest.TestCase):
+    """Streams of both kinds in both byte orders."""
+
     def test_every_chunking(self):
-        raw = b"a\0" + GRINNING["little"] + b"\x00\xde\x3d"
-        text = b"a\xf0\x9f\x98\x80\xef\xbf\xbd\xef\xbf\xbd"
-        for first in range(len(raw) + 1):
-            for second in range(first, len(raw) + 1):
-                decoder = dethrux.Decoder("little")
-                parts = raw[:first], raw[first:second], raw[second:]
-                found = b"".join(map(decoder.feed, parts))
-                self.assertEqual(decoder.pending, b"\x3d")
-                self.assertEqual(found + decoder.finish(), text)
+        for decoder, raw, source, target in each_stream():
+            whole = raw.decode(source, "replace").encode(target)
+            read = progress(raw, source, target, "incomplete", LARGEST)[1]
+            for first in range(len(raw) + 1):
+                for second in {first, (first + len(raw)) // 2, len(raw)}:
+                    decoder.reset()
+                    parts = raw[:first], raw[first:second], raw[second:]
+                    found = b"".join(map(decoder.feed, parts))
+                    self.assertEqual(decoder.pending, raw[read:])
+                    self.assertEqual(found + decoder.finish(), whole, (first, second))
 
-    def test_from_utf8(self):
-        decoder = dethrux.Utf8Decoder("big")
-        found = b"".join(decoder.feed(bytes([byte])) for byte in b"a\xf0\x9f\x98\x80\xc3")
-        self.assertEqual(found + decoder.finish(), b"\0a\xd8\x3d\xde\0\xff\xfd")
+    def test_every_capacity(self):
+        for decoder, raw, source, target in each_stream():
+            whole = progress(raw, source, target, "incomplete", LARGEST)
+            for capacity in (*range(len(whole[0]) + 2), 10**30, None):
+                decoder.reset()
+                found = decoder.feed_partial(raw, capacity)
+                limit = LARGEST if capacity is None else capacity
+                output, read, status, _len = progress(raw, source, target, "incomplete", limit)
+                self.assertEqual(found.output, output, capacity)
+                if status == Status.NO_SPACE:
+                    self.assertEqual(found.status, status)
+                    self.assertLessEqual(read, found.read)
+                else:
+                    self.assertEqual(found, (output, len(raw), Status.DONE, 0), capacity)
+                rest = decoder.feed(raw[found.read :])
+                self.assertEqual(found.output + rest, whole[0], capacity)
+                self.assertEqual(decoder.pending, raw[whole[1] :])
 
-    def test_capacity(self):
-        decoder = dethrux.Decoder("little")
-        found = decoder.feed_partial(b"a\0b\0", 1)
-        self.assertEqual(found, (b"a", 2, Status.NO_SPACE, 0))
-        self.assertEqual(decoder.feed_partial(b"b\0", 10**30).output, b"b")
-        with self.assertRaisesRegex(ValueError, "capacity must not be negative"):
-            decoder.feed_partial(b"a\0", -1)
+    def test_small_capacities_reach_the_end(self):
+        for decoder, raw, source, target in each_stream():
+            whole = raw.decode(source, "replace").encode(target)
+            parts, rest, status = [], raw, Status.NO_SPACE
+            while status == Status.NO_SPACE:
+                found = decoder.feed_partial(rest, 4)
+                parts.append(found.output)
+                rest, status = rest[found.read :], found.status
+                self.assertTrue(found.output or status == Status.DONE)
+            self.assertEqual((status, rest), (Status.DONE, b""))
+            self.assertEqual(b"".join(parts) + decoder.finish(), whole)
 
-    def test_a_wrong_chunk_changes_nothing(self):
-        decoder = dethrux.Decoder("little")
-        decoder.feed(b"a\0\x3d\xd8")
-        for wrong in ("a", 5, None):
-            with self.assertRaises(TypeError):
-                decoder.feed(wrong)
-        self.assertEqual(decoder.pending, b"\x3d\xd8")
+    def test_the_largest_output(self):
+        """A chunk of each length, after pending bytes, that needs the capacity that is taken."""
+        for order, codec in CODECS.items():
+            wide = "\u4e00".encode(codec)
+            decoder = dethrux.Decoder(order)
+            decoder.feed("\U0001f600".encode(codec)[:2] + wide[:1])
+            found = decoder.feed_partial(wide[1:] + wide)
+            self.assertEqual(found, ("\ufffd\u4e00\u4e00".encode(), 3, Status.DONE, 0))
+            decoder = dethrux.Utf8Decoder(order)
+            decoder.feed(b"\xf0\x9f\x98")
+            found = decoder.feed_partial(b"ab")
+            self.assertEqual(found, ("\ufffdab".encode(codec), 2, Status.DONE, 0))
+
+    def test_finish(self):
+        for kind, order, _source, target in each_decoder():
+            self.assertEqual(kind(order).finish(), b"")
+            for pending in unfinished(kind, order):
+                decoder = kind(order)
+                self.assertEqual(decoder.pending, b"")
+                self.assertEqual(decoder.feed(pending), b"")
+                self.assertEqual(decoder.pending, pending)
+                self.assertEqual(decoder.finish(), REPLACEMENT.encode(target))
+                self.assertEqual(decoder.pending, b"")
 
     def test_finished(self):
-        decoder = dethrux.Decoder("little")
-        self.assertEqual(decoder.feed(b"a\0"), b"a")
-        self.assertEqual(decoder.finish(), b"")
-        for call in (lambda: decoder.feed(b"a\0"), decoder.finish):
-            with self.assertRaisesRegex(ValueError, "the decoder is finished"):
-                call()
-        decoder.reset()
-        self.assertEqual(decoder.feed(b"b\0"), b"b")
+        for kind, order, source, target in each_decoder():
+            chunk, text = "a".encode(source), "a".encode(target)
+            decoder = kind(order)
+            self.assertEqual(decoder.feed(chunk), text)
+            self.assertEqual(decoder.finish(), b"")
+            calls = (
+                lambda: decoder.feed(chunk),
+                lambda: decoder.feed_partial(chunk, 0),
+                decoder.finish,
+            )
+            message = r"^the decoder is finished: reset\(\) begins a new stream$"
+            for call in calls:
+                with self.assertRaisesRegex(ValueError, message):
+                    call()
+            decoder.reset()
+            self.assertEqual(decoder.feed(chunk), text)
+
+    def test_reset(self):
+        for kind, order, source, target in each_decoder():
+            for pending in unfinished(kind, order):
+                decoder = kind(order)
+                decoder.feed(pending)
+                decoder.reset()
+                self.assertEqual(decoder.pending, b"")
+                self.assertEqual(decoder.feed("a".encode(source)), "a".encode(target))
+                self.assertEqual(decoder.finish(), b"")
+
+    def test_an_exception_changes_nothing(self):
+        for kind, order, _source, target in each_decoder():
+            decoder = kind(order)
+            pending = unfinished(kind, order)[1]
+            decoder.feed(pending)
+            wrongs = [(wrong, None, TypeError) for wrong in NOT_BUFFERS]
+            wrongs += [(b"a\0", -1, ValueError), (b"a\0", 1.5, TypeError)]
+            for chunk, capacity, error in wrongs:
+                with self.subTest(chunk=chunk, capacity=capacity), self.assertRaises(error):
+                    decoder.feed_partial(chunk, capacity)
+                self.assertEqual(decoder.pending, pending)
+            with self.assertRaises(TypeError):
+                decoder.feed(None)
+            self.assertEqual(decoder.finish(), REPLACEMENT.encode(target))
+
+    def test_decoders_are_apart(self):
+        for kind, order, source, target in each_decoder():
+            first, second = kind(order), kind(order)
+            first.feed(unfinished(kind, order)[2])
+            self.assertEqual(second.pending, b"")
+            self.assertEqual(second.feed("a".encode(source)), "a".encode(target))
+            self.assertEqual(first.finish(), REPLACEMENT.encode(target))
 
 
 if __name__ == "__main__":

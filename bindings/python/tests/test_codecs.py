@@ -8,26 +8,11 @@ import tempfile
 import threading
 import unittest
 
-import dethrux
 import dethrux._codecs
+from expected import Index
 
 NAMES = ("utf-16-le", "utf-16-be", "utf-16")
 UNITS = (0x41, 0xE9, 0x4E00, 0xD83D, 0xDE00, 0xFEFF, 0xFFFE)
-HANDLERS = (
-    "strict",
-    "replace",
-    "ignore",
-    "backslashreplace",
-    "surrogatepass",
-    "surrogateescape",
-    "xmlcharrefreplace",
-    "dethrux.test.bytes",
-    "dethrux.test.back",
-    "dethrux.test.wide",
-    "dethrux.test.out",
-    "dethrux.test.none",
-    "dethrux.test.missing",
-)
 
 
 def resume_before_end(error):
@@ -36,11 +21,41 @@ def resume_before_end(error):
     return "<", -1 if rest > 1 else error.end
 
 
-codecs.register_error("dethrux.test.bytes", lambda error: (b"ab", error.end))
-codecs.register_error("dethrux.test.back", resume_before_end)
-codecs.register_error("dethrux.test.wide", lambda error: ("\u20ac", error.end))
-codecs.register_error("dethrux.test.out", lambda error: ("?", error.end + 9))
-codecs.register_error("dethrux.test.none", lambda error: None)
+# Handlers of programs: what each returns for an error. The last ones break the rules.
+OWN_HANDLERS = {
+    "bytes": lambda error: (b"ab", error.end),
+    "empty": lambda error: ("", error.end),
+    "index": lambda error: ("?", Index(error.end)),
+    "back": resume_before_end,
+    "wide": lambda error: ("\u20ac", error.end),
+    "wide_and_back": lambda error: ("\U0001f600", error.end - len(error.object) or error.end),
+    "odd_bytes": lambda error: (b"abc", error.end),
+    "out": lambda error: ("?", error.end + 9),
+    "far_back": lambda error: ("?", -len(error.object) - 1),
+    "none": lambda error: None,
+    "list": lambda error: ["?", error.end],
+    "one": lambda error: ("?",),
+    "three": lambda error: ("?", error.end, 0),
+    "number": lambda error: (5, error.end),
+    "text": lambda error: ("?", "1"),
+    "raises": lambda error: (_ for _ in ()).throw(IndexError("of the handler")),
+}
+for short, handler in OWN_HANDLERS.items():
+    codecs.register_error(f"dethrux.test.{short}", handler)
+HANDLERS = (
+    None,
+    "",
+    "strict",
+    "replace",
+    "ignore",
+    "backslashreplace",
+    "surrogatepass",
+    "surrogateescape",
+    "xmlcharrefreplace",
+    "namereplace",
+    "dethrux.test.missing",
+    *(f"dethrux.test.{short}" for short in OWN_HANDLERS),
+)
 
 
 def outcome(call, *arguments):
@@ -48,29 +63,44 @@ def outcome(call, *arguments):
     try:
         return call(*arguments)
     except UnicodeError as error:
+        if "does not start with BOM" in str(error):
+            # The class and the words depend on the version of CPython.
+            return "no BOM"
         return type(error), error.args
     except (TypeError, IndexError, LookupError) as error:
         return type(error), str(error)
 
 
-class BesideCPython(unittest.TestCase):
+class Functions(unittest.TestCase):
+    """The functions of ``codecs``, beside CPython's."""
+
     def assert_same(self, name, *arguments):
-        self.assertEqual(
-            outcome(getattr(dethrux._codecs, name), *arguments),
-            outcome(getattr(codecs, name), *arguments),
-            (name, *arguments),
-        )
+        found = outcome(getattr(dethrux._codecs, name), *arguments)
+        expected = outcome(getattr(codecs, name), *arguments)
+        self.assertEqual(found, expected, (name, *arguments))
 
     def test_decode(self):
         for length, odd in itertools.product(range(4), (b"", b"\xd8")):
             for units in itertools.product(UNITS, repeat=length):
-                raw = b"".join(unit.to_bytes(2, "little") for unit in units) + odd
+                little = b"".join(unit.to_bytes(2, "little") for unit in units) + odd
+                big = b"".join(unit.to_bytes(2, "big") for unit in units) + odd
                 for errors, final in itertools.product(HANDLERS, (False, True)):
-                    self.assert_same("utf_16_le_decode", raw, errors, final)
-                for order in (0, 1):
-                    self.assert_same("utf_16_ex_decode", raw, "replace", order, True)
-                self.assert_same("utf_16_be_decode", raw, "backslashreplace", True)
-                self.assert_same("utf_16_decode", raw, "strict", False)
+                    self.assert_same("utf_16_le_decode", little, errors, final)
+                    self.assert_same("utf_16_be_decode", big, errors, final)
+                for raw, errors in itertools.product((little, big), ("strict", "replace")):
+                    for final in (False, True):
+                        self.assert_same("utf_16_decode", raw, errors, final)
+                        for order in (-1, 0, 1):
+                            self.assert_same("utf_16_ex_decode", raw, errors, order, final)
+
+    def test_defaults(self):
+        for name in ("le_decode", "be_decode", "decode", "ex_decode"):
+            for raw in (b"a\0", b"a\0\x3d\xd8", b"\xfe\xff\0a\xd8", b"\xdc\xdc"):
+                self.assert_same(f"utf_16_{name}", raw)
+                self.assert_same(f"utf_16_{name}", raw, "replace")
+        for name in ("le_encode", "be_encode", "encode"):
+            for text in ("", "a", "\ud800"):
+                self.assert_same(f"utf_16_{name}", text)
 
     def test_encode(self):
         chars = "A\xe9\u4e00\U0001f600\ud83d\ude00"
@@ -78,8 +108,20 @@ class BesideCPython(unittest.TestCase):
             for text in map("".join, itertools.product(chars, repeat=length)):
                 for errors in HANDLERS:
                     self.assert_same("utf_16_le_encode", text, errors)
+                    self.assert_same("utf_16_be_encode", text, errors)
                     self.assert_same("utf_16_encode", text, errors)
-                self.assert_same("utf_16_be_encode", text, "surrogatepass")
+                for order in (-2, -1, 0, 1, 2):
+                    self.assert_same("utf_16_encode", text, "surrogatepass", order)
+
+    def test_wrong_types(self):
+        for wrong in (5, None, [1], "a"):
+            for name in ("le_decode", "be_decode", "decode", "ex_decode"):
+                with self.subTest(name=name, wrong=wrong), self.assertRaises(TypeError):
+                    getattr(dethrux._codecs, f"utf_16_{name}")(wrong)
+        for wrong in (5, None, ["a"], b"a"):
+            for name in ("le_encode", "be_encode", "encode"):
+                with self.subTest(name=name, wrong=wrong), self.assertRaises(TypeError):
+                    getattr(dethrux._codecs, f"utf_16_{name}")(wrong)
 
     def test_a_handler_changes_the_input(self):
         def longer(error):
@@ -91,6 +133,24 @@ class BesideCPython(unittest.TestCase):
         for final in (False, True):
             raw = b"a\0\x00\xdcb\0\x3d"
             self.assert_same("utf_16_le_decode", raw, "dethrux.test.longer", final)
+            raw = b"\0a\xdc\x00\0b\x3d"
+            self.assert_same("utf_16_be_decode", raw, "dethrux.test.longer", final)
+
+    def test_one_exception_for_all_errors(self):
+        for name, wrong in (("decode", b"\x00\xdca\0" * 2), ("encode", "\ud800a\udc00")):
+            for errors in (codecs.lookup_error("replace"), codecs.lookup_error("ignore")):
+                seen = []
+
+                def handler(error):
+                    seen.append((error, error.start, error.end, error.reason, error.encoding))
+                    return errors(error)
+
+                codecs.register_error("dethrux.test.seen", handler)
+                self.assert_same(f"utf_16_le_{name}", wrong, "dethrux.test.seen")
+                half = len(seen) // 2
+                self.assertEqual([each[1:] for each in seen[:half]], [each[1:] for each in seen[half:]])
+                self.assertEqual(half, 2)
+                self.assertIs(seen[0][0], seen[1][0])
 
     def test_a_handler_under_the_name_replace(self):
         codecs.register_error("replace", lambda error: ("!", error.end))
@@ -107,15 +167,6 @@ class BesideCPython(unittest.TestCase):
                 for errors in ("replace", "backslashreplace"):
                     decoded = wrong.decode(f"dethrux-{name}", errors)
                     self.assertEqual(decoded, wrong.decode(name, errors))
-
-    def test_functions(self):
-        for order, name in (("little", "utf-16-le"), ("big", "utf-16-be")):
-            self.assertEqual(dethrux.encode("a\U0001f600", order), "a\U0001f600".encode(name))
-            with self.assertRaises(UnicodeEncodeError) as caught:
-                dethrux.encode("a\ud800", order)
-            self.assertEqual((caught.exception.encoding, caught.exception.start), (name, 1))
-            raw = b"a\xd8" * 2
-            self.assertEqual(dethrux.decode(raw, order, "ignore"), raw.decode(name, "ignore"))
 
 
 class Streams(unittest.TestCase):
@@ -141,6 +192,82 @@ class Streams(unittest.TestCase):
                     states.append(decoder.getstate())
                 self.assertEqual(states[0], states[1])
 
+    def run_both(self, name, make, steps):
+        """Run the steps, each a method and its arguments, on an object of both codecs."""
+        objects = [make(codecs.lookup(prefix + name)) for prefix in ("", "dethrux-")]
+        for method, *arguments in steps:
+            expected, found = (outcome(getattr(each, method), *arguments) for each in objects)
+            self.assertEqual(found, expected, (name, steps, method, arguments))
+
+    def test_stateless(self):
+        for name, errors in itertools.product(NAMES, ("strict", "replace", "surrogatepass")):
+            for raw in (b"", b"a\0", b"\0a\xdc\0", b"\xfe\xff\0a\xd8", b"a\0\x3d\xd8"):
+                self.run_both(name, lambda info: info, [("decode", raw, errors), ("decode", raw)])
+            for text in ("", "a\U0001f600", "\ud800"):
+                self.run_both(name, lambda info: info, [("encode", text, errors), ("encode", text)])
+
+    def test_encoders(self):
+        steps = [("encode", "a"), ("encode", ""), ("encode", "\U0001f600", True), ("encode", "\udc00")]
+        steps = [("encode", "\ud800"), *steps, ("reset",), ("encode", "b")]
+        steps += [("setstate", 2), ("encode", "c"), ("setstate", 0), ("encode", "d")]
+        steps = [each for step in steps for each in (step, ("getstate",))]
+        for name, errors in itertools.product(NAMES, ("strict", "replace", "surrogatepass")):
+            self.run_both(name, lambda info: info.incrementalencoder(errors), steps)
+            self.run_both(name, lambda info: info.incrementalencoder(), steps)
+
+    def test_decoders(self):
+        streams = [
+            [("decode", b"\xff"), ("decode", b"\xfea"), ("decode", b"\0\x3d\xd8"), ("decode", b"\0")],
+            [("decode", b"\xfe\xff\0a\xd8\x3d"), ("decode", b"\xde"), ("decode", b"\0\xdc\0")],
+            [("decode", b"a\0b"), ("decode", b"\0", True)],
+            [("decode", b"\xfe"), ("decode", b"", True)],
+        ]
+        ends = [
+            [("decode", b"", True), ("decode", b"\0\xdc")],
+            [("reset",), ("decode", b"\xfe\xff\xde\0"), ("decode", b"a", True)],
+            [("setstate", (b"", 0)), ("decode", b"a\0\x3d\xd8")],
+            [("setstate", (b"\x3d", 0)), ("decode", b"\xd8\0\xde")],
+            [("setstate", (b"\xd8", 1)), ("decode", b"\x3d\xde\0")],
+            [("setstate", (b"", 2)), ("decode", b"\xff\xfea\0")],
+        ]
+        for stream, end in itertools.product(streams, ends):
+            steps = [each for step in stream + end for each in (step, ("getstate",))]
+            for name, errors in itertools.product(NAMES, ("strict", "replace", "surrogatepass")):
+                self.run_both(name, lambda info: info.incrementaldecoder(errors), steps)
+                self.run_both(name, lambda info: info.incrementaldecoder(), steps)
+
+    def test_no_bom(self):
+        for raw in (b"a\0b", b"\0a", b"\0\xdc"):
+            info = codecs.lookup("dethrux-utf-16")
+            decoder = info.incrementaldecoder("replace")
+            reader = info.streamreader(io.BytesIO(raw), "replace")
+            for call in (lambda: decoder.decode(raw), reader.read):
+                with self.assertRaises(UnicodeDecodeError) as caught:
+                    call()
+                expected = "utf-16", raw, 0, 2, "Stream does not start with BOM"
+                self.assertEqual(caught.exception.args, expected)
+
+    def test_stream_writers(self):
+        steps = [("write", "a\U0001f600"), ("write", "b\ud800"), ("writelines", ["c", "d"])]
+        steps += [("reset",), ("write", "e"), ("getvalue",)]
+        for name, errors in itertools.product(NAMES, ("strict", "replace", "surrogatepass")):
+            self.run_both(name, lambda info: info.streamwriter(io.BytesIO(), errors), steps)
+            self.run_both(name, lambda info: info.streamwriter(io.BytesIO()), steps)
+
+    def test_stream_readers(self):
+        steps = [("read", 3), ("readline",), ("read", 2, 1), ("read",), ("seek", 0), ("read", 4)]
+        steps += [("readlines",), ("seek", 0), ("reset",), ("read",)]
+        raws = [
+            "a\n\U0001f600b\nc".encode("utf-16-le"),
+            "\ufeffa\n\U0001f600b\nc".encode("utf-16-le"),
+            "\ufeffa\n\U0001f600b\nc".encode("utf-16-be") + b"\xd8",
+            b"\xff\xfea\0\0\xdcb\0",
+        ]
+        for raw, name in itertools.product(raws, NAMES):
+            for errors in ("strict", "replace", "surrogatepass"):
+                self.run_both(name, lambda info: info.streamreader(io.BytesIO(raw), errors), steps)
+            self.run_both(name, lambda info: info.streamreader(io.BytesIO(raw)), steps)
+
     def test_files(self):
         lines = "Gr\xfc\xdfe\n\u4e00\U0001f600\nend\n"
         with tempfile.TemporaryDirectory() as folder:
@@ -161,10 +288,10 @@ class Streams(unittest.TestCase):
 
     def test_handlers_of_files(self):
         raw = b"a\0\x00\xdcb\0"
-        for errors in HANDLERS[1:6]:
+        for name, errors in itertools.product(NAMES, HANDLERS[2:7]):
             texts = [
-                outcome(io.TextIOWrapper(io.BytesIO(raw), encoding=name, errors=errors).read)
-                for name in ("utf-16-le", "dethrux-utf-16-le")
+                outcome(io.TextIOWrapper(io.BytesIO(raw), encoding=each, errors=errors).read)
+                for each in (name, f"dethrux-{name}")
             ]
             self.assertEqual(texts[0], texts[1])
 
@@ -176,6 +303,8 @@ class Streams(unittest.TestCase):
 
     def test_names(self):
         self.assertEqual(codecs.lookup("Dethrux UTF-16 LE").name, "dethrux-utf-16-le")
+        for name in NAMES:
+            self.assertEqual(codecs.lookup(f"dethrux-{name}").name, f"dethrux-{name}")
         with self.assertRaises(LookupError):
             codecs.lookup("dethrux-utf-15")
 

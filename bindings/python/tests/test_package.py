@@ -1,5 +1,6 @@
 """The library is found or refused with one line; the version; what pip installs."""
 
+import ctypes
 import os
 import re
 import shutil
@@ -108,12 +109,78 @@ class Version(unittest.TestCase):
         for name, number in parts:
             self.assertIn(f"#define DETHRUX_VERSION_{name} {number}\n", header)
 
-    def test_every_call_of_the_header_is_there(self):
+
+class Declarations(unittest.TestCase):
+    """The calls and the structures are declared as the header has them."""
+
+    TYPES = {
+        "void": None,
+        "bool": ctypes.c_bool,
+        "size_t": ctypes.c_size_t,
+        "int32_t": ctypes.c_int32,
+        "uint8_t": ctypes.c_uint8,
+        "uint32_t": ctypes.c_uint32,
+        "uint64_t": ctypes.c_uint64,
+        "dethrux_byte_order": ctypes.c_uint32,
+        "dethrux_status": ctypes.c_uint32,
+        "dethrux_bom_status": ctypes.c_uint32,
+        "dethrux_progress": _library.Progress,
+        "dethrux_validity": _library.Validity,
+        "dethrux_bom": _library.Bom,
+    }
+
+    def setUp(self):
         header = (TOP / "include" / "dethrux.h").read_text()
-        exported = header[: header.index("/* ---- UTF-16 in the machine's byte order")]
-        names = set(re.findall(r"^[^#/*]*\bdethrux_([a-z0-9_]+)\(", exported, re.MULTILINE))
-        self.assertGreater(len(names), 10)
-        self.assertEqual({name for name in names if not hasattr(_library, name)}, {"version"})
+        header = header[: header.index("/* ---- UTF-16 in the machine's byte order")]
+        self.header = re.sub(r"/\*.*?\*/", "", header, flags=re.DOTALL)
+
+    def declared(self, parameter):
+        """Return the type of a parameter."""
+        words = parameter.replace("const ", "").split()
+        if not words[1].startswith("*"):
+            return self.TYPES[words[0]]
+        is_state = words[0] in ("dethrux_decoder", "dethrux_utf8_decoder")
+        return ctypes.POINTER(_library.State) if is_state else ctypes.c_void_p
+
+    def test_calls(self):
+        pattern = r"^(?:DETHRUX_NODISCARD )?(\w+) dethrux_(\w+)\(([^()]*)\);"
+        calls = re.findall(pattern, self.header, re.MULTILINE)
+        self.assertGreater(len(calls), 20)
+        for result, name, parameters in calls:
+            if name == "version":
+                continue
+            with self.subTest(name=name):
+                call = getattr(_library, name)
+                self.assertEqual(call.__name__, f"dethrux_{name}")
+                self.assertIs(call.restype, self.TYPES[result])
+                found = tuple(map(self.declared, parameters.split(",")))
+                self.assertEqual(tuple(call.argtypes), found)
+
+    def test_structures(self):
+        pattern = r"typedef struct dethrux_(\w+) \{(.*?)\}"
+        structures = dict(re.findall(pattern, self.header, re.DOTALL))
+        for name, kind in (
+            ("progress", _library.Progress),
+            ("validity", _library.Validity),
+            ("bom", _library.Bom),
+        ):
+            fields = [field.split() for field in structures[name].split(";") if field.strip()]
+            expected = [(field, self.TYPES[declared]) for declared, field in fields]
+            self.assertEqual(kind._fields_, expected)
+        for name in ("decoder", "utf8_decoder"):
+            fields = structures[name].split()
+            self.assertEqual(fields[1::2], ["pending[DETHRUX_PENDING_MAX];", "pending_len;"])
+        self.assertEqual(_library.State.pending.size, 3)
+        self.assertEqual((_library.State.pending.offset, _library.State.pending_len.offset), (0, 3))
+
+    def test_calls_run_without_the_gil(self):
+        self.assertIsInstance(_library._library, ctypes.CDLL)
+        self.assertNotIsInstance(_library._library, ctypes.PyDLL)
+
+    def test_names(self):
+        public = {name for name in vars(dethrux) if not name.startswith("_")}
+        public -= {"codecs", "search"}
+        self.assertEqual(set(dethrux.__all__), {*public, "__version__"})
 
 
 if __name__ == "__main__":

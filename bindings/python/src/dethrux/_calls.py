@@ -184,8 +184,8 @@ def to_utf8(
 ) -> Progress:
     """Convert UTF-16 to UTF-8, up to the first ill-formed sequence.
 
-    With a capacity, write at most so many bytes: the status is
-    ``Status.NO_SPACE`` where the next character does not fit.
+    With a capacity, write at most this many bytes: the status is
+    ``Status.NO_SPACE`` if the next character does not fit.
     """
     return _to_utf8(_library.to_utf8, utf16, byteorder, capacity)
 
@@ -230,7 +230,11 @@ def from_utf8_lossy(
 
 
 def is_char_boundary(utf16: ReadableBuffer, byteorder: ByteOrder, at: int) -> bool:
-    """Return whether the text may be cut at this offset."""
+    """Return whether the text may be cut at this offset.
+
+    That is the length, or a smaller even offset that is neither inside a
+    surrogate pair nor between a leading surrogate and a single byte at the end.
+    """
     utf16 = as_bytes(utf16)
     order, at = order_number(byteorder), as_size(at, "at")
     return at <= len(utf16) and bool(_library.is_char_boundary(order, utf16, len(utf16), at))
@@ -259,9 +263,10 @@ def floor_char_boundary_around(around: ReadableBuffer, at: int, byteorder: ByteO
 def shard_offset(length: int, count: int, index: int) -> int:
     """Return where part ``index`` of ``count`` begins in a file of this length.
 
-    The parts have the same number of code units, but for one. The offset is
-    even, or the end for an index that is not below the count. It may be inside
-    a surrogate pair: ``floor_char_boundary_around`` moves it to a boundary.
+    Each part has ``length // 2 // count`` code units or one more, and the last
+    one also has an odd byte at the end. For an index that is not below the
+    count it is the length. It may be inside a surrogate pair:
+    ``floor_char_boundary_around`` moves it to a boundary.
     """
     numbers = as_offset(length, "length"), as_offset(count, "count"), as_offset(index, "index")
     offset: int = _library.shard_offset(*numbers)
@@ -289,7 +294,7 @@ def compare(
 ) -> int:
     """Compare two texts by their scalar values.
 
-    Return -1, 0 or 1 where the first is less than, equal to or greater than the
+    Return -1, 0 or 1 if the first is less than, equal to or greater than the
     second. An unpaired surrogate, and an incomplete character at the end, is
     compared as U+FFFD.
     """
@@ -336,7 +341,7 @@ class Decoder:
     def feed_partial(self, chunk: ReadableBuffer, capacity: Optional[int] = None) -> Progress:
         """Decode the next chunk, and write at most ``capacity`` bytes.
 
-        Where the next character does not fit the status is
+        If the next character does not fit, the status is
         ``Status.NO_SPACE``: call again with the bytes after those that were
         read. With a capacity of four or more, something was written.
         """

@@ -30,7 +30,7 @@ class _Handler:
     def __init__(
         self, errors: Optional[str], exception: Callable[..., UnicodeError], kind: str, result: str
     ) -> None:
-        self.function = codecs.lookup_error(errors or "strict")
+        self.function = codecs.lookup_error("strict" if errors is None else errors)
         self._exception = exception
         self._requirement = f"{kind} error handler must return ({result}, int) tuple"
         self._types: tuple[type, ...] = (str,) if result == "str" else (str, bytes)
@@ -48,7 +48,7 @@ class _Handler:
         if not isinstance(result, tuple) or len(result) != 2:
             raise TypeError(self._requirement)
         replacement, position = result
-        if not isinstance(replacement, self._types) or not hasattr(position, "__index__"):
+        if not isinstance(replacement, self._types):
             raise TypeError(self._requirement)
         return replacement, operator.index(position)
 
@@ -410,7 +410,7 @@ class Utf16IncrementalDecoder(codecs.BufferedIncrementalDecoder):
         return self._decoder.decode(input, errors, final)
 
     def reset(self) -> None:
-        """Begin a new stream."""
+        """Begin a new stream, which may have another byte order."""
         super().reset()
         self._decoder = _BomDecoder()
 
@@ -444,7 +444,7 @@ class Utf16StreamWriter(codecs.StreamWriter):
         return encoded
 
     def reset(self) -> None:
-        """Begin a new stream."""
+        """Begin a new stream, which gets a BOM."""
         super().reset()
         self._has_bom = False
 
@@ -461,7 +461,7 @@ class Utf16StreamReader(codecs.StreamReader):
         return self._decoder.decode(input, errors, False)
 
     def reset(self) -> None:
-        """Begin a new stream."""
+        """Begin a new stream, or the same again, with its BOM."""
         super().reset()
         self._decoder = _BomDecoder()
 

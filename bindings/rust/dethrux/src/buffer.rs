@@ -11,8 +11,7 @@ pub(crate) use sealed::Sealed;
 
 /// Bytes that a call writes to: a slice or an array of `u8` or of `MaybeUninit<u8>`.
 ///
-/// Only the first bytes, as many as the call returns as `written`, have a meaning after it, and
-/// these are initialized. Pass a vector as `&mut vec[..]`, or its `spare_capacity_mut()`.
+/// After a call only the first `written` bytes have a meaning, and these are initialized. Pass a vector as `&mut vec[..]`, or its `spare_capacity_mut()`.
 pub trait Buffer: Sealed {}
 
 impl Buffer for [u8] {}
@@ -61,7 +60,7 @@ where
 {
     to.reserve(additional);
     let progress = convert(to.spare_capacity_mut());
-    // SAFETY: so many bytes were initialized after the length.
+    // SAFETY: this many bytes were initialized after the length.
     unsafe { to.set_len(to.len() + progress.written) }
     progress
 }

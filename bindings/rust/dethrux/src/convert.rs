@@ -7,7 +7,7 @@ use crate::{ffi, Buffer, ByteOrder};
 pub enum Status {
     /// All of the input was read.
     Done,
-    /// An ill-formed sequence of so many bytes follows what was read. Resume after it.
+    /// What was read is followed by an ill-formed sequence of this many bytes. Resume after it.
     IllFormed(usize),
     /// The input ends inside a character.
     Incomplete,
@@ -51,7 +51,7 @@ fn convert<B: Buffer + ?Sized>(
 ) -> Progress {
     let (to, capacity) = to.raw();
     // SAFETY: the pointers and the lengths are those of two slices that do not overlap, since one
-    // is borrowed mutably. The calls write initialized bytes alone.
+    // is borrowed mutably. The calls write only initialized bytes.
     unsafe { call(order, from.as_ptr(), from.len(), to, capacity) }.into()
 }
 

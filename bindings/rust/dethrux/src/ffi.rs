@@ -47,6 +47,10 @@ impl State {
 pub(crate) type Convert =
     unsafe extern "C" fn(ByteOrder, *const u8, usize, *mut u8, usize) -> Progress;
 
+/// A call that feeds a stream of either kind.
+pub(crate) type Feed =
+    unsafe extern "C" fn(*mut State, ByteOrder, *const u8, usize, *mut u8, usize) -> Progress;
+
 extern "C" {
     pub(crate) fn dethrux_version() -> u32;
     pub(crate) fn dethrux_validate(order: ByteOrder, utf16: *const u8, len: usize) -> Validity;

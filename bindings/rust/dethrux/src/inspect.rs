@@ -48,16 +48,27 @@ pub fn is_ascii(order: ByteOrder, utf16: &[u8]) -> bool {
     unsafe { ffi::dethrux_is_ascii(order, utf16.as_ptr(), utf16.len()) }
 }
 
-/// Returns whether `at` is a boundary between characters: even, at most the length, and not between
-/// the two code units of a surrogate pair.
+/// Returns whether `at` is a boundary between characters: the length, or a smaller even offset that
+/// is neither inside a surrogate pair nor between a leading surrogate and a single byte at the end.
+/// An unpaired surrogate counts as a character, and so does an incomplete one at the end, of 1 to 3
+/// bytes.
+///
+/// ```
+/// use dethrux::{is_char_boundary, ByteOrder::BigEndian};
+///
+/// // "a", and three bytes of U+1F600.
+/// let utf16 = b"\0a\xD8\x3D\xDE";
+/// let boundaries = (0..9).filter(|at| is_char_boundary(BigEndian, utf16, *at));
+/// assert!(boundaries.eq([0, 2, 5]));
+/// ```
 #[must_use]
 pub fn is_char_boundary(order: ByteOrder, utf16: &[u8], at: usize) -> bool {
     // SAFETY: the pointer and the length are those of a slice.
     unsafe { ffi::dethrux_is_char_boundary(order, utf16.as_ptr(), utf16.len(), at) }
 }
 
-/// Returns the greatest boundary at or before `at`, and at most the length. It is 0 to 3 bytes
-/// before the smaller of the two.
+/// Returns the greatest boundary at or before `at`: at most 3 bytes before the smaller of `at` and
+/// the length.
 ///
 /// ```
 /// use dethrux::ByteOrder::LittleEndian;
@@ -73,8 +84,8 @@ pub fn floor_char_boundary(order: ByteOrder, utf16: &[u8], at: usize) -> usize {
 }
 
 /// Returns the greatest boundary at or before offset `at` of a file, from a few of its bytes: the
-/// four from `(at / 2 * 2).saturating_sub(2)` on, or as many as the file has. Where they are that
-/// and `at` is at most the length of the file, it is that of [`floor_char_boundary`] over the whole
+/// four from `(at / 2 * 2).saturating_sub(2)` on, or as many as the file has. With these bytes, and
+/// `at` at most the length of the file, the result is that of [`floor_char_boundary`] over the whole
 /// file. For any bytes it is at most 3 bytes before `at`.
 ///
 /// ```
@@ -100,7 +111,7 @@ pub fn floor_char_boundary_around(order: ByteOrder, around: &[u8], at: u64) -> u
 /// ```
 #[must_use]
 pub fn shard_offset(len: u64, count: u64, index: u64) -> u64 {
-    // SAFETY: the call takes numbers alone.
+    // SAFETY: the call takes only numbers.
     unsafe { ffi::dethrux_shard_offset(len, count, index) }
 }
 

@@ -51,8 +51,7 @@ pub struct Reader<R, T> {
 }
 
 impl<R: Read, T: Transcoder> Reader<R, T> {
-    /// Returns a reader of the converted stream. It has a buffer of its own, so the inner reader
-    /// needs none.
+    /// Returns a reader of the converted stream. It has a buffer, so the inner reader needs none.
     pub fn new(inner: R, transcoder: T) -> Self {
         let input = std::vec![0; BUFFER_LEN];
         let short = [0; 4];
@@ -125,8 +124,9 @@ impl<R: Read, T: Transcoder> Read for Reader<R, T> {
 /// [`Decoder`].
 ///
 /// Call [`finish`](Writer::finish) at the end of the stream: without it an incomplete character at
-/// the end is not written, nor what an error of the inner writer left. After such an error nothing
-/// is lost: the next call writes what is left first, and returns the error if it fails again.
+/// the end is not written, nor what an error of the inner writer left. Such an error is not returned
+/// if a part of the chunk was read. Nothing is lost: the next call first writes what is left, and
+/// returns the error if it fails again.
 #[derive(Debug)]
 pub struct Writer<W, T> {
     inner: W,

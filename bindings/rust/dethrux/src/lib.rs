@@ -31,8 +31,8 @@
 //!
 //! No call panics for any input. The library does not allocate. The calls under `alloc` allocate
 //! as `Vec` does, once, for the longest result: without memory the allocator's handler runs, and a
-//! capacity above `isize::MAX` panics. The capacity of what they return may be up to three times
-//! its length.
+//! capacity above `isize::MAX` panics. The capacity of what they return is at most three times its
+//! length, or a few bytes.
 //! [`io::Reader`] and [`io::Writer`] allocate one buffer each, when they are made.
 //!
 //! # Threads

@@ -7,10 +7,34 @@ use alloc::{string::String, vec::Vec};
 
 use crate::{ffi, Buffer, ByteOrder, Progress};
 
+/// A stream of either kind: its byte order, and the bytes that are not converted yet.
+#[derive(Clone, Debug)]
+struct Stream {
+    order: ByteOrder,
+    state: ffi::State,
+}
+
+impl Stream {
+    /// Returns the start of a stream.
+    const fn new(order: ByteOrder) -> Self {
+        let state = ffi::State::START;
+        Stream { order, state }
+    }
+
+    /// Converts the next chunk, with one of the library's calls.
+    fn feed<B: Buffer + ?Sized>(&mut self, call: ffi::Feed, chunk: &[u8], to: &mut B) -> Progress {
+        let (to, capacity) = to.raw();
+        let (state, order) = (&mut self.state, self.order);
+        // SAFETY: the pointers and the lengths are those of slices, of which the mutable ones
+        // overlap no other.
+        unsafe { call(state, order, chunk.as_ptr(), chunk.len(), to, capacity) }.into()
+    }
+}
+
 /// Decodes a stream of UTF-16, cut anywhere, to UTF-8, with U+FFFD for each unpaired surrogate and
 /// for an incomplete character at the end.
 ///
-/// It keeps at most three bytes. Its clones continue on their own.
+/// It keeps at most three bytes. A clone continues independently.
 ///
 /// ```
 /// use dethrux::{ByteOrder::LittleEndian, Decoder, Status};
@@ -33,8 +57,7 @@ use crate::{ffi, Buffer, ByteOrder, Progress};
 /// ```
 #[derive(Clone, Debug)]
 pub struct Decoder {
-    order: ByteOrder,
-    state: ffi::State,
+    stream: Stream,
 }
 
 impl Decoder {
@@ -42,21 +65,20 @@ impl Decoder {
     #[must_use]
     pub const fn new(order: ByteOrder) -> Self {
         Decoder {
-            order,
-            state: ffi::State::START,
+            stream: Stream::new(order),
         }
     }
 
     /// Returns the byte order of the stream.
     #[must_use]
     pub const fn byte_order(&self) -> ByteOrder {
-        self.order
+        self.stream.order
     }
 
     /// Returns the bytes that are not decoded yet, at most three.
     #[must_use]
     pub fn pending(&self) -> &[u8] {
-        self.state.pending()
+        self.stream.state.pending()
     }
 
     /// Returns a capacity in bytes that suffices to feed every chunk of `len` bytes.
@@ -72,20 +94,7 @@ impl Decoder {
     /// [`Status::NoSpace`]: crate::Status::NoSpace
     #[must_use]
     pub fn feed<B: Buffer + ?Sized>(&mut self, chunk: &[u8], to: &mut B) -> Progress {
-        let (to, capacity) = to.raw();
-        // SAFETY: the pointers and the lengths are those of slices, of which the mutable ones
-        // overlap no other.
-        unsafe {
-            ffi::dethrux_decoder_feed(
-                &mut self.state,
-                self.order,
-                chunk.as_ptr(),
-                chunk.len(),
-                to,
-                capacity,
-            )
-        }
-        .into()
+        self.stream.feed(ffi::dethrux_decoder_feed, chunk, to)
     }
 
     /// Decodes the next chunk and appends its text. It allocates at most once.
@@ -120,15 +129,16 @@ impl Decoder {
 
     /// Ends the stream and begins another. Returns how many bytes were written.
     fn finish_to(&mut self, to: &mut [u8]) -> usize {
+        let state = &mut self.stream.state;
         // SAFETY: the pointer and the length are those of a mutable slice.
-        unsafe { ffi::dethrux_decoder_finish(&mut self.state, to.as_mut_ptr(), to.len()) }.written
+        unsafe { ffi::dethrux_decoder_finish(state, to.as_mut_ptr(), to.len()) }.written
     }
 }
 
 /// Encodes a stream of UTF-8, cut anywhere, to UTF-16, with U+FFFD for each ill-formed sequence, as
 /// `String::from_utf8_lossy` has it, and for an incomplete character at the end.
 ///
-/// It keeps at most three bytes. Its clones continue on their own.
+/// It keeps at most three bytes. A clone continues independently.
 ///
 /// ```
 /// use dethrux::{ByteOrder::BigEndian, Encoder};
@@ -140,8 +150,7 @@ impl Decoder {
 /// ```
 #[derive(Clone, Debug)]
 pub struct Encoder {
-    order: ByteOrder,
-    state: ffi::State,
+    stream: Stream,
 }
 
 impl Encoder {
@@ -149,21 +158,20 @@ impl Encoder {
     #[must_use]
     pub const fn new(order: ByteOrder) -> Self {
         Encoder {
-            order,
-            state: ffi::State::START,
+            stream: Stream::new(order),
         }
     }
 
     /// Returns the byte order of the UTF-16.
     #[must_use]
     pub const fn byte_order(&self) -> ByteOrder {
-        self.order
+        self.stream.order
     }
 
     /// Returns the bytes that are not encoded yet, at most three.
     #[must_use]
     pub fn pending(&self) -> &[u8] {
-        self.state.pending()
+        self.stream.state.pending()
     }
 
     /// Returns a capacity in bytes that suffices to feed every chunk of `len` bytes.
@@ -179,20 +187,7 @@ impl Encoder {
     /// [`Status::NoSpace`]: crate::Status::NoSpace
     #[must_use]
     pub fn feed<B: Buffer + ?Sized>(&mut self, chunk: &[u8], to: &mut B) -> Progress {
-        let (to, capacity) = to.raw();
-        // SAFETY: the pointers and the lengths are those of slices, of which the mutable ones
-        // overlap no other.
-        unsafe {
-            ffi::dethrux_utf8_decoder_feed(
-                &mut self.state,
-                self.order,
-                chunk.as_ptr(),
-                chunk.len(),
-                to,
-                capacity,
-            )
-        }
-        .into()
+        self.stream.feed(ffi::dethrux_utf8_decoder_feed, chunk, to)
     }
 
     /// Encodes the next chunk and appends its UTF-16. It allocates at most once.
@@ -226,7 +221,7 @@ impl Encoder {
 
     /// Ends the stream and begins another. Returns how many bytes were written.
     fn finish_to(&mut self, to: &mut [u8]) -> usize {
-        let (order, state) = (self.order, &mut self.state);
+        let (order, state) = (self.stream.order, &mut self.stream.state);
         // SAFETY: the pointer and the length are those of a mutable slice.
         unsafe { ffi::dethrux_utf8_decoder_finish(state, order, to.as_mut_ptr(), to.len()) }.written
     }

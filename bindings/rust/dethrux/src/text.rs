@@ -142,7 +142,7 @@ pub fn encode_units(text: &str) -> Vec<u16> {
         )
     };
     let progress = from_utf8(ByteOrder::NATIVE, utf8, bytes);
-    // SAFETY: so many units were written, whole ones.
+    // SAFETY: the library writes whole units, and this many.
     unsafe { units.set_len(progress.written / 2) };
     trimmed(units)
 }

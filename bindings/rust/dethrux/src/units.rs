@@ -11,7 +11,7 @@ use core::{mem, slice};
 /// ```
 #[must_use]
 pub fn units_as_bytes(units: &[u16]) -> &[u8] {
-    // SAFETY: the units are so many initialized bytes, and a byte needs no alignment.
+    // SAFETY: the units are this many initialized bytes, and a byte needs no alignment.
     unsafe { slice::from_raw_parts(units.as_ptr().cast(), mem::size_of_val(units)) }
 }
 
@@ -26,7 +26,7 @@ pub fn units_as_bytes(units: &[u16]) -> &[u8] {
 /// ```
 #[must_use]
 pub fn units_as_bytes_mut(units: &mut [u16]) -> &mut [u8] {
-    // SAFETY: the units are so many initialized bytes, a byte needs no alignment, and any two bytes
+    // SAFETY: the units are this many initialized bytes, a byte needs no alignment, and any two bytes
     // are a unit.
     unsafe { slice::from_raw_parts_mut(units.as_mut_ptr().cast(), mem::size_of_val(units)) }
 }

@@ -220,3 +220,160 @@ fn a_writer_that_takes_nothing_is_an_error() {
     assert_eq!(writer.write(b"a").unwrap(), 1);
     assert_eq!(writer.finish().unwrap_err().kind(), ErrorKind::WriteZero);
 }
+
+/// A device that has another result for each call, and no more of them at the end.
+#[derive(Default)]
+struct Scripted {
+    results: Vec<Result<usize>>,
+    flushes: Vec<Result<()>>,
+    bytes: Vec<u8>,
+}
+
+impl Scripted {
+    /// Returns a device whose last result comes first.
+    fn new(results: impl IntoIterator<Item = Result<usize>>) -> Self {
+        let mut results: Vec<_> = results.into_iter().collect();
+        results.reverse();
+        Scripted {
+            results,
+            ..Scripted::default()
+        }
+    }
+}
+
+impl Write for Scripted {
+    fn write(&mut self, bytes: &[u8]) -> Result<usize> {
+        let len = self
+            .results
+            .pop()
+            .unwrap_or(Ok(bytes.len()))?
+            .min(bytes.len());
+        self.bytes.extend(&bytes[..len]);
+        Ok(len)
+    }
+
+    fn flush(&mut self) -> Result<()> {
+        self.flushes.pop().unwrap_or(Ok(()))
+    }
+}
+
+fn fault(text: &str) -> Error {
+    Error::new(ErrorKind::PermissionDenied, text.to_string())
+}
+
+#[test]
+fn a_writer_tries_again_after_an_interruption() {
+    let interrupted = || Err(Error::from(ErrorKind::Interrupted));
+    let device = Scripted::new([interrupted(), Ok(1), interrupted(), Ok(9)]);
+    let mut writer = Writer::new(device, Encoder::new(BigEndian));
+    assert_eq!(writer.write(b"abc").unwrap(), 3);
+    assert_eq!(writer.get_ref().bytes, b"\0a\0b\0c");
+}
+
+#[test]
+fn a_writer_returns_an_error_at_the_next_call() {
+    let device = Scripted::new([Ok(1), Err(fault("1")), Err(fault("2")), Err(fault("3"))]);
+    let mut writer = Writer::new(device, Encoder::new(LittleEndian));
+    assert_eq!(writer.write(b"ab").unwrap(), 2);
+    assert_eq!(writer.get_ref().bytes, b"a");
+    assert_eq!(writer.write(b"c").unwrap_err().to_string(), "2");
+    assert_eq!(writer.flush().unwrap_err().to_string(), "3");
+    assert_eq!(writer.write(b"").unwrap(), 0);
+    assert_eq!(writer.get_ref().bytes, b"a\0b\0");
+    assert_eq!(writer.write(b"c").unwrap(), 1);
+    assert_eq!(writer.into_inner().bytes, b"a\0b\0c\0");
+}
+
+#[test]
+fn a_writer_ends_once_whatever_fails() {
+    for (results, flushes) in [
+        (vec![Err(fault("at the end"))], vec![]),
+        (vec![], vec![Err(fault("at the end"))]),
+    ] {
+        let device = Scripted {
+            results,
+            flushes,
+            bytes: Vec::new(),
+        };
+        let mut writer = Writer::new(device, Encoder::new(BigEndian));
+        assert_eq!(writer.write(b"\xE2\x98").unwrap(), 2);
+        assert!(writer.get_ref().bytes.is_empty());
+        assert_eq!(writer.finish().unwrap_err().to_string(), "at the end");
+        let error = writer.write(b"a").unwrap_err();
+        assert_eq!(error.kind(), ErrorKind::Other);
+        writer.finish().unwrap();
+        writer.finish().unwrap();
+        writer.flush().unwrap();
+        assert_eq!(writer.into_inner().bytes, b"\xFF\xFD");
+    }
+}
+
+#[test]
+fn a_writer_without_its_end_keeps_what_is_incomplete() {
+    let mut writer = Writer::new(Vec::new(), Decoder::new(BigEndian));
+    writer.write_all(b"\0a\xD8").unwrap();
+    writer.flush().unwrap();
+    assert_eq!(writer.into_inner(), b"a");
+}
+
+#[test]
+fn each_number_of_pending_bytes_ends_both_adapters() {
+    for len in 1..=3 {
+        for (order, utf16, replacement) in [
+            (LittleEndian, b"\x3D\xD8\0\xDE", b"\xFD\xFF"),
+            (BigEndian, b"\xD8\x3D\xDE\0", b"\xFF\xFD"),
+        ] {
+            let reader = Reader::new(&utf16[..len], Decoder::new(order));
+            assert_eq!(read_all(reader, 2).0, "\u{FFFD}".as_bytes());
+            let mut writer = Writer::new(Vec::new(), Decoder::new(order));
+            writer.write_all(&utf16[..len]).unwrap();
+            writer.finish().unwrap();
+            assert_eq!(writer.into_inner(), "\u{FFFD}".as_bytes());
+
+            let utf8 = &"\u{1F600}".as_bytes()[..len];
+            let reader = Reader::new(utf8, Encoder::new(order));
+            assert_eq!(read_all(reader, 2).0, replacement);
+            let mut writer = Writer::new(Vec::new(), Encoder::new(order));
+            writer.write_all(utf8).unwrap();
+            writer.finish().unwrap();
+            assert_eq!(writer.into_inner(), replacement);
+        }
+    }
+}
+
+#[test]
+fn a_reader_returns_the_errors_of_the_inner_one() {
+    struct Fails(usize);
+    impl Read for Fails {
+        fn read(&mut self, to: &mut [u8]) -> Result<usize> {
+            self.0 += 1;
+            match self.0 {
+                1 | 3 => Err(fault(&self.0.to_string())),
+                2 => (&b"a\0\0"[..]).read(to),
+                _ => Ok(0),
+            }
+        }
+    }
+    for len in [1, 3, 4, 100] {
+        let mut reader = Reader::new(Fails(0), Decoder::new(LittleEndian));
+        let mut buffer = vec![0xAA; len];
+        let error = reader.read(&mut buffer).unwrap_err();
+        assert_eq!(
+            (error.kind(), &*error.to_string()),
+            (ErrorKind::PermissionDenied, "1")
+        );
+        assert_eq!(reader.read(&mut buffer).unwrap(), 1);
+        assert_eq!(buffer[0], b'a');
+        assert_eq!(reader.read(&mut buffer).unwrap_err().to_string(), "3");
+        assert_eq!(read_all(&mut reader, len).0, "\u{FFFD}".as_bytes());
+        assert_eq!(reader.get_ref().0, 4);
+        assert_eq!(reader.into_inner().0, 4);
+    }
+}
+
+#[test]
+fn a_reader_reads_nothing_for_an_empty_buffer() {
+    let mut reader = Reader::new(&b"\0a"[..], Decoder::new(BigEndian));
+    assert_eq!(reader.read(&mut []).unwrap(), 0);
+    assert_eq!(reader.into_inner(), b"\0a");
+}

@@ -1,0 +1,149 @@
+"""Inputs of the tests, and what CPython's codecs make of them: the results that are expected."""
+
+import array
+import ctypes
+from typing import NamedTuple, Optional
+
+from dethrux import Status
+
+CODECS = {"little": "utf-16-le", "big": "utf-16-be"}
+ORDERS = tuple(CODECS)
+REPLACEMENT = "\ufffd"
+LARGEST = 2**64 - 1
+LEADING, TRAILING = 0xD83D, 0xDE00
+PAIR = (LEADING, TRAILING)
+
+_UNITS = (
+    (),
+    (0x61,),
+    (0x7F, 0x80, 0x7FF, 0x800, 0xFFFF),
+    (0xFEFF, 0xFFFE),
+    PAIR,
+    (0x61, *PAIR, 0x4E00, *PAIR),
+    (LEADING,),
+    (TRAILING,),
+    (TRAILING, LEADING),
+    (LEADING, 0x61, LEADING),
+    (LEADING, *PAIR, TRAILING, 0x62),
+    (0x4E00, LEADING, LEADING),
+    (0x61,) * 40 + (LEADING,) + (0x4E00,) * 3,
+)
+UTF8 = (
+    b"",
+    b"a",
+    "a\x7f\x80\u07ff\u0800\uffff\U00010000\U0010ffff".encode(),
+    b"a\xf0\x9f\x98\x80\xffb",
+    b"\xf0",
+    b"\xf0\x9f",
+    b"\xf0\x9f\x98",
+    b"a\xc3",
+    b"\xe4\xb8\xe4\xb8\x80\xe4\xb8",
+    b"\xed\xa0\x80\xc0\x80",
+    b"a" * 40 + b"\x80" + "\u4e00".encode() * 3,
+)
+
+
+def utf16(order):
+    """Return well-formed and ill-formed bytes of even and of odd lengths."""
+    samples = [b"".join(unit.to_bytes(2, order) for unit in units) for units in _UNITS]
+    return [sample + odd for sample in samples for odd in (b"", b"\xd8", b"\x61")]
+
+
+def code_units(raw, order):
+    """Return the whole code units of bytes, as numbers."""
+    return [int.from_bytes(raw[at : at + 2], order) for at in range(0, len(raw) - 1, 2)]
+
+
+class Item(NamedTuple):
+    """A character or an ill-formed sequence, which may be an incomplete character at the end."""
+
+    length: int
+    char: Optional[str]
+    is_incomplete: bool = False
+
+
+def items(raw, codec):
+    """Return the characters and the ill-formed sequences of bytes, as CPython finds them."""
+    found = []
+    at = 0
+    while at < len(raw):
+        end = len(raw)
+        ill_formed = []
+        try:
+            text = raw[at:].decode(codec)
+        except UnicodeDecodeError as error:
+            text = raw[at : at + error.start].decode(codec)
+            is_incomplete = error.reason in ("truncated data", "unexpected end of data")
+            ill_formed = [Item(error.end - error.start, None, is_incomplete)]
+            end = at + error.end
+        found += [Item(len(char.encode(codec)), char) for char in text] + ill_formed
+        at = end
+    return found
+
+
+def boundaries(raw, order):
+    """Return the offsets between the characters and the ill-formed sequences of UTF-16."""
+    found = [0]
+    for item in items(raw, CODECS[order]):
+        found.append(found[-1] + item.length)
+    return found
+
+
+def progress(raw, source, target, stops, capacity):
+    """Return what a conversion returns that replaces each ill-formed sequence.
+
+    With ``stops`` "ill-formed" it stops at each, with "incomplete" at an incomplete character.
+    """
+    output, read = b"", 0
+    for item in items(raw, source):
+        if item.is_incomplete and stops:
+            return output, read, Status.INCOMPLETE, 0
+        if item.char is None and stops == "ill-formed":
+            return output, read, Status.ILL_FORMED, item.length
+        written = (item.char or REPLACEMENT).encode(target)
+        if len(output) + len(written) > capacity:
+            return output, read, Status.NO_SPACE, 0
+        output, read = output + written, read + item.length
+    return output, read, Status.DONE, 0
+
+
+class Bytes(bytes):
+    """A subclass, as programs have them."""
+
+
+def spread(raw):
+    """Return a view of every other byte of a longer buffer."""
+    longer = bytearray(b"\xaa" * (2 * len(raw)))
+    longer[::2] = raw
+    return memoryview(longer)[::2]
+
+
+def inside(raw):
+    """Return a view of the middle of a longer buffer."""
+    return memoryview(bytearray(b"\xaa\xaa" + raw + b"\xaa"))[2:-1]
+
+
+def units(raw):
+    """Return an array of code units, or of bytes if there is an odd one."""
+    return array.array("B" if len(raw) % 2 else "H", raw)
+
+
+# Buffers that a call may write to.
+WRITABLE = (bytearray, lambda raw: memoryview(bytearray(raw)), inside, units)
+WRITABLE += (lambda raw: (ctypes.c_ubyte * len(raw)).from_buffer_copy(raw),)
+READABLE = (*WRITABLE, bytes, Bytes, memoryview, spread)
+READABLE += (lambda raw: memoryview(raw[::-1])[::-1],)
+READABLE += (lambda raw: memoryview(raw).cast("B", [len(raw), 1]) if raw else b"",)
+# Buffers that a call that writes in place refuses.
+UNWRITABLE = (bytes, memoryview, spread, lambda raw: memoryview(bytearray(raw)).toreadonly())
+NOT_BUFFERS = ("a", 5, None, [1], 1.5, object())
+
+
+class Index:
+    """A number that is not an int, as those of NumPy are."""
+
+    def __init__(self, number):
+        self.number = number
+
+    def __index__(self):
+        return self.number

@@ -1,0 +1,158 @@
+//! How often the calls allocate, and how much they return to the allocator.
+
+use dethrux::io::{Reader, Writer};
+use dethrux::ByteOrder::{BigEndian, LittleEndian};
+use dethrux::*;
+use std::alloc::{GlobalAlloc, Layout, System};
+use std::cell::Cell;
+use std::io::{Read, Write};
+
+/// Counts the allocations of each thread.
+struct Counting;
+
+thread_local! {
+    static ALLOCATIONS: Cell<usize> = const { Cell::new(0) };
+    static REALLOCATIONS: Cell<usize> = const { Cell::new(0) };
+}
+
+// SAFETY: the calls are those of the system's allocator.
+unsafe impl GlobalAlloc for Counting {
+    unsafe fn alloc(&self, layout: Layout) -> *mut u8 {
+        let _ = ALLOCATIONS.try_with(|count| count.set(count.get() + 1));
+        System.alloc(layout)
+    }
+
+    unsafe fn dealloc(&self, block: *mut u8, layout: Layout) {
+        System.dealloc(block, layout)
+    }
+
+    unsafe fn realloc(&self, block: *mut u8, layout: Layout, size: usize) -> *mut u8 {
+        let _ = REALLOCATIONS.try_with(|count| count.set(count.get() + 1));
+        System.realloc(block, layout, size)
+    }
+}
+
+#[global_allocator]
+static COUNTING: Counting = Counting;
+
+/// Makes a call, and returns how often it allocated and changed the size of a block.
+fn counted<T>(call: impl FnOnce() -> T) -> ((usize, usize), T) {
+    let counts = || (ALLOCATIONS.with(Cell::get), REALLOCATIONS.with(Cell::get));
+    let before = counts();
+    let result = call();
+    let after = counts();
+    ((after.0 - before.0, after.1 - before.1), result)
+}
+
+#[test]
+fn calls_on_buffers_do_not_allocate() {
+    let (utf16, mut utf8) = (b"\0a\xD8\x3D\xDE\0\xDC\0\0", [0; 64]);
+    let (counts, _) = counted(|| {
+        let _ = to_utf8_lossy(BigEndian, utf16, &mut utf8);
+        let _ = (validate(BigEndian, utf16), count_chars(BigEndian, utf16));
+        let _ = Utf16Chunks::new(BigEndian, utf16).count();
+        let mut decoder = Decoder::new(BigEndian);
+        let _ = decoder.feed(utf16, &mut utf8);
+        decoder.clone().finish()
+    });
+    assert_eq!(counts, (0, 0));
+    struct Ignored;
+    impl std::fmt::Write for Ignored {
+        fn write_str(&mut self, _: &str) -> std::fmt::Result {
+            Ok(())
+        }
+    }
+    let utf16 = encode(BigEndian, &"★".repeat(1000));
+    let shown = || std::fmt::write(&mut Ignored, format_args!("{}", display(BigEndian, &utf16)));
+    assert_eq!(counted(shown).0, (0, 0));
+}
+
+#[test]
+fn calls_that_append_allocate_at_most_once() {
+    for text in ["", "a", "★", "\u{1F600}", &"a★".repeat(1000)] {
+        let utf16 = encode(LittleEndian, text);
+        let once = (usize::from(!text.is_empty()), 0);
+        let (mut to_text, mut to_bytes) = (String::new(), Vec::new());
+        let append = || decode_to(LittleEndian, &utf16, &mut to_text);
+        assert_eq!(counted(append), (once, Ok(())));
+        assert_eq!(
+            counted(|| encode_to(LittleEndian, text, &mut to_bytes)).0,
+            once
+        );
+        let (mut decoder, mut to_text) = (Decoder::new(LittleEndian), String::new());
+        assert_eq!(counted(|| decoder.decode(&utf16, &mut to_text)).0, (1, 0));
+        let (mut encoder, mut to_bytes) = (Encoder::new(LittleEndian), Vec::new());
+        assert_eq!(
+            counted(|| encoder.encode(text.as_bytes(), &mut to_bytes)).0,
+            (1, 0)
+        );
+        to_text.reserve(5000);
+        to_bytes.reserve(5000);
+        assert_eq!(counted(|| decoder.decode(&utf16, &mut to_text)).0, (0, 0));
+        assert_eq!(
+            counted(|| encoder.encode(text.as_bytes(), &mut to_bytes)).0,
+            (0, 0)
+        );
+    }
+}
+
+#[test]
+fn results_keep_little_memory_that_they_do_not_use() {
+    for len in [0, 1, 20, 70, 1000, 10_000, 30_000] {
+        for character in ["a", "é", "★"] {
+            let text = character.repeat(len);
+            let utf16 = encode(BigEndian, &text);
+            let mut results = Vec::new();
+            let (counts, found) = counted(|| decode(BigEndian, &utf16).unwrap());
+            results.push((counts, found.len(), found.capacity()));
+            let (counts, found) = counted(|| decode_lossy(BigEndian, &utf16));
+            results.push((counts, found.len(), found.capacity()));
+            let (counts, found) = counted(|| encode(BigEndian, &text));
+            results.push((counts, found.len(), found.capacity()));
+            let (counts, found) = counted(|| encode_lossy(BigEndian, text.as_bytes()));
+            results.push((counts, found.len(), found.capacity()));
+            let (counts, found) = counted(|| encode_units(&text));
+            results.push((counts, found.len(), found.capacity()));
+            for (counts, used, capacity) in results {
+                assert_eq!(counts.0, usize::from(len > 0));
+                assert!(capacity <= (3 * used).max(8));
+                let unused = capacity - used;
+                assert!(
+                    capacity >= 65536 || unused <= used.max(64),
+                    "{unused} of {capacity}"
+                );
+                let is_small = 2 * used < 64;
+                assert!(counts.1 == 0 || !is_small && capacity < 65536);
+            }
+        }
+    }
+}
+
+#[test]
+fn large_results_are_not_copied() {
+    let text = "a".repeat(30_000);
+    let utf16 = encode(LittleEndian, &text);
+    assert_eq!(counted(|| decode(LittleEndian, &utf16)).0, (1, 0));
+    let text = "★".repeat(30_000);
+    assert_eq!(counted(|| encode(LittleEndian, &text)).0, (1, 0));
+}
+
+#[test]
+fn adapters_allocate_one_buffer_each_when_they_are_made() {
+    let utf16 = encode(BigEndian, &"a★".repeat(10_000));
+    let (counts, mut reader) = counted(|| Reader::new(&utf16[..], Decoder::new(BigEndian)));
+    assert_eq!(counts, (1, 0));
+    let mut text = Vec::with_capacity(100_000);
+    assert_eq!(counted(|| reader.read_to_end(&mut text).unwrap()).0, (0, 0));
+    assert_eq!(text.len(), 40_000);
+
+    let written = Vec::with_capacity(100_000);
+    let (counts, mut writer) = counted(|| Writer::new(written, Encoder::new(BigEndian)));
+    assert_eq!(counts, (1, 0));
+    let (counts, _) = counted(|| {
+        writer.write_all(&text).unwrap();
+        writer.finish().unwrap();
+    });
+    assert_eq!(counts, (0, 0));
+    assert!(writer.into_inner() == utf16);
+}
