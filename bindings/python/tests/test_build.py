@@ -1,4 +1,4 @@
-"""What the build backend writes: wheels with and without the library, and the source distribution."""
+"""What the build backend writes: wheels with the library and without it, and the sources."""
 
 import base64
 import csv

@@ -3,6 +3,7 @@
 import array
 import codecs
 import itertools
+import typing
 import unittest
 
 import dethrux
@@ -102,14 +103,15 @@ class Functions(unittest.TestCase):
 
     def test_reading(self):
         for order, raw, codec in each_utf16():
-            stopped = progress(raw, codec, codec, "ill-formed", LARGEST)
-            self.assertEqual(dethrux.validate(raw, order), stopped[1:])
-            lossy = raw.decode(codec, "replace")
-            self.assertEqual(dethrux.to_utf8_lossy_len(raw, order), len(lossy.encode()))
-            is_ascii = stopped[2] == Status.DONE and lossy.isascii()
-            self.assertIs(dethrux.is_ascii(raw, order), is_ascii)
-            counted = [unit for unit in code_units(raw, order) if not 0xDC00 <= unit <= 0xDFFF]
-            self.assertEqual(dethrux.count_chars(raw, order), len(counted))
+            with self.subTest(order=order, raw=raw):
+                stopped = progress(raw, codec, codec, "ill-formed", LARGEST)
+                self.assertEqual(dethrux.validate(raw, order), stopped[1:])
+                lossy = raw.decode(codec, "replace")
+                self.assertEqual(dethrux.to_utf8_lossy_len(raw, order), len(lossy.encode()))
+                is_ascii = stopped[2] == Status.DONE and lossy.isascii()
+                self.assertIs(dethrux.is_ascii(raw, order), is_ascii)
+                counted = [unit for unit in code_units(raw, order) if not 0xDC00 <= unit <= 0xDFFF]
+                self.assertEqual(dethrux.count_chars(raw, order), len(counted))
 
     def test_lengths_from_utf8(self):
         for utf8 in UTF8:
@@ -131,19 +133,21 @@ class Functions(unittest.TestCase):
 
     def test_conversions(self):
         for order, raw, codec in each_utf16():
-            for name, stops in TO_UTF8.items():
-                self.check_conversion(name, order, raw, codec, "utf-8", stops)
+            with self.subTest(order=order, raw=raw):
+                for name, stops in TO_UTF8.items():
+                    self.check_conversion(name, order, raw, codec, "utf-8", stops)
         for order, codec in CODECS.items():
             for utf8, (name, stops) in itertools.product(UTF8, FROM_UTF8.items()):
-                with self.subTest(order=order, utf8=utf8):
+                with self.subTest(order=order, utf8=utf8, name=name):
                     self.check_conversion(name, order, utf8, "utf-8", codec, stops)
 
     def test_decode(self):
         for order, raw, codec in each_utf16():
-            self.assertEqual(outcome(dethrux.decode, raw, order), outcome(raw.decode, codec))
-            for errors in ("replace", "ignore", "backslashreplace", "surrogatepass"):
-                expected = outcome(raw.decode, codec, errors)
-                self.assertEqual(outcome(dethrux.decode, raw, order, errors), expected)
+            with self.subTest(order=order, raw=raw):
+                self.assertEqual(outcome(dethrux.decode, raw, order), outcome(raw.decode, codec))
+                for errors in ("replace", "ignore", "backslashreplace", "surrogatepass"):
+                    expected = outcome(raw.decode, codec, errors)
+                    self.assertEqual(outcome(dethrux.decode, raw, order, errors), expected)
 
     def test_encode(self):
         for order, codec in CODECS.items():
@@ -155,16 +159,17 @@ class Functions(unittest.TestCase):
 
     def test_boundaries(self):
         for order, raw, _codec in each_utf16():
-            among = boundaries(raw, order)
-            past = len(raw) + 1, 2 * len(raw) + 2, 2**63, LARGEST, 2**64, 2**64 + 2, 10**30
-            for at in (*range(len(raw) + 1), *past):
-                floor = max(each for each in among if each <= at)
-                self.assertIs(dethrux.is_char_boundary(raw, order, at), at in among, at)
-                self.assertEqual(dethrux.floor_char_boundary(raw, order, at), floor, at)
-                if at <= len(raw):
-                    around = raw[max(at // 2 * 2 - 2, 0) :][:4]
-                    found = dethrux.floor_char_boundary_around(around, at, order)
-                    self.assertEqual(found, floor, at)
+            with self.subTest(order=order, raw=raw):
+                among = boundaries(raw, order)
+                past = len(raw) + 1, 2 * len(raw) + 2, 2**63, LARGEST, 2**64, 2**64 + 2, 10**30
+                for at in (*range(len(raw) + 1), *past):
+                    floor = max(each for each in among if each <= at)
+                    self.assertIs(dethrux.is_char_boundary(raw, order, at), at in among, at)
+                    self.assertEqual(dethrux.floor_char_boundary(raw, order, at), floor, at)
+                    if at <= len(raw):
+                        around = raw[max(at // 2 * 2 - 2, 0) :][:4]
+                        found = dethrux.floor_char_boundary_around(around, at, order)
+                        self.assertEqual(found, floor, at)
 
     def test_boundaries_of_a_long_file(self):
         for order, codec in CODECS.items():
@@ -210,19 +215,23 @@ class Functions(unittest.TestCase):
                 self.assertIs(type(found.status), BomStatus)
 
     def test_fields(self):
-        self.assertEqual([each.name for each in Status], ["DONE", "ILL_FORMED", "INCOMPLETE", "NO_SPACE"])
-        self.assertEqual([each.name for each in BomStatus], ["ABSENT", "PRESENT", "UNDECIDED"])
-        for kind in (Status, BomStatus):
+        self.assertEqual(typing.get_args(dethrux.ByteOrder), ORDERS)
+        for kind, names in (
+            (Status, ["DONE", "ILL_FORMED", "INCOMPLETE", "NO_SPACE"]),
+            (BomStatus, ["ABSENT", "PRESENT", "UNDECIDED"]),
+        ):
+            self.assertEqual([each.name for each in kind], names)
             self.assertEqual([each.value for each in kind], list(range(len(kind))))
-        output = b"a", 2, Status.ILL_FORMED, 2
+        fields = {"output": b"a", "read": 2, "status": Status.ILL_FORMED, "error_len": 2}
         found = dethrux.to_utf8(b"a\0\0\xdc", "little")
-        self.assertEqual((found.output, found.read, found.status, found.error_len), output)
+        self.assertEqual(found._asdict(), fields)
         self.assertIs(type(found.status), Status)
+        fields = {"valid_up_to": 2, "status": Status.ILL_FORMED, "error_len": 2}
         found = dethrux.validate(b"a\0\0\xdc", "little")
-        self.assertEqual((found.valid_up_to, found.status, found.error_len), output[1:])
+        self.assertEqual(found._asdict(), fields)
         self.assertIs(type(found.status), Status)
-        found = dethrux.detect_bom(codecs.BOM_UTF16_LE)
-        self.assertEqual((found.byteorder, found.len, found.status), ("little", 2, BomStatus.PRESENT))
+        fields = {"byteorder": "little", "len": 2, "status": BomStatus.PRESENT}
+        self.assertEqual(dethrux.detect_bom(codecs.BOM_UTF16_LE)._asdict(), fields)
 
 
 class InPlace(unittest.TestCase):
@@ -363,45 +372,48 @@ class Decoders(unittest.TestCase):
 
     def test_every_chunking(self):
         for decoder, raw, source, target in each_stream():
-            whole = raw.decode(source, "replace").encode(target)
-            read = progress(raw, source, target, "incomplete", LARGEST)[1]
-            for first in range(len(raw) + 1):
-                for second in {first, (first + len(raw)) // 2, len(raw)}:
-                    decoder.reset()
-                    parts = raw[:first], raw[first:second], raw[second:]
-                    found = b"".join(map(decoder.feed, parts))
-                    self.assertEqual(decoder.pending, raw[read:])
-                    self.assertEqual(found + decoder.finish(), whole, (first, second))
+            with self.subTest(raw=raw, target=target):
+                whole = raw.decode(source, "replace").encode(target)
+                read = progress(raw, source, target, "incomplete", LARGEST)[1]
+                for first in range(len(raw) + 1):
+                    for second in {first, (first + len(raw)) // 2, len(raw)}:
+                        decoder.reset()
+                        parts = raw[:first], raw[first:second], raw[second:]
+                        found = b"".join(map(decoder.feed, parts))
+                        self.assertEqual(decoder.pending, raw[read:])
+                        self.assertEqual(found + decoder.finish(), whole, (first, second))
 
     def test_every_capacity(self):
         for decoder, raw, source, target in each_stream():
-            whole = progress(raw, source, target, "incomplete", LARGEST)
-            for capacity in (*range(len(whole[0]) + 2), 10**30, None):
-                decoder.reset()
-                found = decoder.feed_partial(raw, capacity)
-                limit = LARGEST if capacity is None else capacity
-                output, read, status, _len = progress(raw, source, target, "incomplete", limit)
-                self.assertEqual(found.output, output, capacity)
-                if status == Status.NO_SPACE:
-                    self.assertEqual(found.status, status)
-                    self.assertLessEqual(read, found.read)
-                else:
-                    self.assertEqual(found, (output, len(raw), Status.DONE, 0), capacity)
-                rest = decoder.feed(raw[found.read :])
-                self.assertEqual(found.output + rest, whole[0], capacity)
-                self.assertEqual(decoder.pending, raw[whole[1] :])
+            with self.subTest(raw=raw, target=target):
+                whole = progress(raw, source, target, "incomplete", LARGEST)
+                for capacity in (*range(len(whole[0]) + 2), 10**30, None):
+                    decoder.reset()
+                    found = decoder.feed_partial(raw, capacity)
+                    limit = LARGEST if capacity is None else capacity
+                    output, read, status, _len = progress(raw, source, target, "incomplete", limit)
+                    self.assertEqual(found.output, output, capacity)
+                    if status == Status.NO_SPACE:
+                        self.assertEqual(found.status, status)
+                        self.assertLessEqual(read, found.read)
+                    else:
+                        self.assertEqual(found, (output, len(raw), Status.DONE, 0), capacity)
+                    rest = decoder.feed(raw[found.read :])
+                    self.assertEqual(found.output + rest, whole[0], capacity)
+                    self.assertEqual(decoder.pending, raw[whole[1] :])
 
     def test_small_capacities_reach_the_end(self):
         for decoder, raw, source, target in each_stream():
-            whole = raw.decode(source, "replace").encode(target)
-            parts, rest, status = [], raw, Status.NO_SPACE
-            while status == Status.NO_SPACE:
-                found = decoder.feed_partial(rest, 4)
-                parts.append(found.output)
-                rest, status = rest[found.read :], found.status
-                self.assertTrue(found.output or status == Status.DONE)
-            self.assertEqual((status, rest), (Status.DONE, b""))
-            self.assertEqual(b"".join(parts) + decoder.finish(), whole)
+            with self.subTest(raw=raw, target=target):
+                whole = raw.decode(source, "replace").encode(target)
+                parts, rest, status = [], raw, Status.NO_SPACE
+                while status == Status.NO_SPACE:
+                    found = decoder.feed_partial(rest, 4)
+                    parts.append(found.output)
+                    rest, status = rest[found.read :], found.status
+                    self.assertTrue(found.output or status == Status.DONE)
+                self.assertEqual((status, rest), (Status.DONE, b""))
+                self.assertEqual(b"".join(parts) + decoder.finish(), whole)
 
     def test_the_largest_output(self):
         """A chunk of each length, after pending bytes, that needs the capacity that is taken."""

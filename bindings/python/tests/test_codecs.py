@@ -13,6 +13,8 @@ from expected import Index
 
 NAMES = ("utf-16-le", "utf-16-be", "utf-16")
 UNITS = (0x41, 0xE9, 0x4E00, 0xD83D, 0xDE00, 0xFEFF, 0xFFFE)
+# The first and the last surrogates of each kind, and the units around them.
+LIMITS = (0x41, 0xD7FF, 0xD800, 0xDBFF, 0xDC00, 0xDDFF, 0xDFFF, 0xE000)
 
 
 def resume_before_end(error):
@@ -81,7 +83,8 @@ class Functions(unittest.TestCase):
 
     def test_decode(self):
         for length, odd in itertools.product(range(4), (b"", b"\xd8")):
-            for units in itertools.product(UNITS, repeat=length):
+            among = LIMITS if length == 2 else UNITS
+            for units in (*itertools.product(among, repeat=length), UNITS[3:5]):
                 little = b"".join(unit.to_bytes(2, "little") for unit in units) + odd
                 big = b"".join(unit.to_bytes(2, "big") for unit in units) + odd
                 for errors, final in itertools.product(HANDLERS, (False, True)):
@@ -137,7 +140,7 @@ class Functions(unittest.TestCase):
             self.assert_same("utf_16_be_decode", raw, "dethrux.test.longer", final)
 
     def test_one_exception_for_all_errors(self):
-        for name, wrong in (("decode", b"\x00\xdca\0" * 2), ("encode", "\ud800a\udc00")):
+        for name, wrong in (("decode", b"\x00\xdca\0\x00\xd8a\0"), ("encode", "\ud800a\udc00")):
             for errors in (codecs.lookup_error("replace"), codecs.lookup_error("ignore")):
                 seen = []
 
@@ -147,9 +150,8 @@ class Functions(unittest.TestCase):
 
                 codecs.register_error("dethrux.test.seen", handler)
                 self.assert_same(f"utf_16_le_{name}", wrong, "dethrux.test.seen")
-                half = len(seen) // 2
-                self.assertEqual([each[1:] for each in seen[:half]], [each[1:] for each in seen[half:]])
-                self.assertEqual(half, 2)
+                own, other = ([each[1:] for each in seen[at : at + 2]] for at in (0, 2))
+                self.assertEqual((len(seen), own), (4, other))
                 self.assertIs(seen[0][0], seen[1][0])
 
     def test_a_handler_under_the_name_replace(self):
@@ -207,8 +209,9 @@ class Streams(unittest.TestCase):
                 self.run_both(name, lambda info: info, [("encode", text, errors), ("encode", text)])
 
     def test_encoders(self):
-        steps = [("encode", "a"), ("encode", ""), ("encode", "\U0001f600", True), ("encode", "\udc00")]
-        steps = [("encode", "\ud800"), *steps, ("reset",), ("encode", "b")]
+        texts = "\ud800", "a", "", "\U0001f600", "\udc00"
+        steps = [("encode", text) for text in texts]
+        steps += [("encode", "b", True), ("reset",), ("encode", "b")]
         steps += [("setstate", 2), ("encode", "c"), ("setstate", 0), ("encode", "d")]
         steps = [each for step in steps for each in (step, ("getstate",))]
         for name, errors in itertools.product(NAMES, ("strict", "replace", "surrogatepass")):
@@ -217,7 +220,7 @@ class Streams(unittest.TestCase):
 
     def test_decoders(self):
         streams = [
-            [("decode", b"\xff"), ("decode", b"\xfea"), ("decode", b"\0\x3d\xd8"), ("decode", b"\0")],
+            [("decode", chunk) for chunk in (b"\xff", b"\xfea", b"\0\x3d\xd8", b"\0")],
             [("decode", b"\xfe\xff\0a\xd8\x3d"), ("decode", b"\xde"), ("decode", b"\0\xdc\0")],
             [("decode", b"a\0b"), ("decode", b"\0", True)],
             [("decode", b"\xfe"), ("decode", b"", True)],

@@ -11,7 +11,8 @@ pub(crate) use sealed::Sealed;
 
 /// Bytes that a call writes to: a slice or an array of `u8` or of `MaybeUninit<u8>`.
 ///
-/// After a call only the first `written` bytes have a meaning, and these are initialized. Pass a vector as `&mut vec[..]`, or its `spare_capacity_mut()`.
+/// After a call only the first `written` bytes have a meaning, and these are initialized. Pass a
+/// vector as `&mut vec[..]`, or its `spare_capacity_mut()`.
 pub trait Buffer: Sealed {}
 
 impl Buffer for [u8] {}

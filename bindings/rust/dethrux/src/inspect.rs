@@ -85,8 +85,8 @@ pub fn floor_char_boundary(order: ByteOrder, utf16: &[u8], at: usize) -> usize {
 
 /// Returns the greatest boundary at or before offset `at` of a file, from a few of its bytes: the
 /// four from `(at / 2 * 2).saturating_sub(2)` on, or as many as the file has. With these bytes, and
-/// `at` at most the length of the file, the result is that of [`floor_char_boundary`] over the whole
-/// file. For any bytes it is at most 3 bytes before `at`.
+/// if `at` is at most the length of the file, the result is the one of [`floor_char_boundary`] over
+/// the whole file. For any bytes it is at most 3 bytes before `at`.
 ///
 /// ```
 /// use dethrux::ByteOrder::LittleEndian;

@@ -124,9 +124,9 @@ impl<R: Read, T: Transcoder> Read for Reader<R, T> {
 /// [`Decoder`].
 ///
 /// Call [`finish`](Writer::finish) at the end of the stream: without it an incomplete character at
-/// the end is not written, nor what an error of the inner writer left. Such an error is not returned
-/// if a part of the chunk was read. Nothing is lost: the next call first writes what is left, and
-/// returns the error if it fails again.
+/// the end is not written, nor what an error of the inner writer left. Nothing is lost by such an
+/// error: a call that has read from its chunk succeeds, and the next call first writes what is left,
+/// and returns the error if it fails again.
 #[derive(Debug)]
 pub struct Writer<W, T> {
     inner: W,

@@ -26,7 +26,7 @@ pub fn units_as_bytes(units: &[u16]) -> &[u8] {
 /// ```
 #[must_use]
 pub fn units_as_bytes_mut(units: &mut [u16]) -> &mut [u8] {
-    // SAFETY: the units are this many initialized bytes, a byte needs no alignment, and any two bytes
-    // are a unit.
+    // SAFETY: the units are this many initialized bytes, a byte needs no alignment, and any two
+    // bytes are a unit.
     unsafe { slice::from_raw_parts_mut(units.as_mut_ptr().cast(), mem::size_of_val(units)) }
 }

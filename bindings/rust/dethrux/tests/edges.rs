@@ -373,11 +373,7 @@ fn boundaries_are_between_the_items() {
         let len = utf16.len();
         let past = [len + 1, 2 * len + 2, 1 << 63, usize::MAX - 1, usize::MAX];
         for at in (0..=len).chain(past) {
-            let floor = *boundaries
-                .iter()
-                .filter(|each| **each <= at)
-                .last()
-                .unwrap();
+            let floor = *boundaries.iter().rfind(|each| **each <= at).unwrap();
             assert_eq!(is_char_boundary(order, utf16, at), floor == at);
             assert_eq!(floor_char_boundary(order, utf16, at), floor);
             if at <= len {

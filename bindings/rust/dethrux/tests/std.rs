@@ -344,10 +344,10 @@ fn capacities_suffice_and_do_not_wrap() {
 
 #[test]
 fn errors_are_shown_as_std_shows_them() {
-    let error = validate(LittleEndian, b"h\0\0\xDC").unwrap_err();
+    let error = validate(LittleEndian, b"h\0i\0\0\xDC").unwrap_err();
     assert_eq!(
         error.to_string(),
-        "invalid utf-16 sequence of 2 bytes from index 2"
+        "invalid utf-16 sequence of 2 bytes from index 4"
     );
     let error = validate(LittleEndian, b"h\0\0").unwrap_err();
     assert_eq!(

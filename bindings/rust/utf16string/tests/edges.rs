@@ -211,8 +211,8 @@ fn iterate<E: ByteOrder>(string: &WString<E>, text: &str, (front, back): (usize,
         assert_eq!(indices.next_back(), pairs.next_back());
     }
     type Pair = (usize, char);
-    let rests: [fn(&mut dyn DoubleEndedIterator<Item = Pair>) -> Vec<Pair>; 2] =
-        [|rest| rest.collect(), |rest| rest.rev().collect()];
+    type Rest = fn(&mut dyn DoubleEndedIterator<Item = Pair>) -> Vec<Pair>;
+    let rests: [Rest; 2] = [|rest| rest.collect(), |rest| rest.rev().collect()];
     for rest in rests {
         let (mut indices, mut pairs) = (front_and_back(string, front, back), pairs.clone());
         assert_eq!(rest(&mut indices), rest(&mut pairs));
@@ -525,7 +525,8 @@ fn a_mutable_view_changes_its_string() {
     let mut text = WString::<BE>::from("abc");
     let start = text.as_ptr();
     assert_eq!(text.as_mut_ptr() as *const u8, start);
-    let views: [fn(&mut WString<BE>) -> &mut WStr<BE>; 5] = [
+    type View = fn(&mut WString<BE>) -> &mut WStr<BE>;
+    let views: [View; 5] = [
         |text| &mut text[..2],
         |text| text.get_mut(2..4).unwrap(),
         |text| &mut text.as_mut_wstr()[4..],
