@@ -99,7 +99,7 @@ def outcome(call, *arguments):
 
 
 class Functions(unittest.TestCase):
-    """The results beside those of CPython's codecs, for each sample in both byte orders."""
+    """The results, compared with CPython's codecs, for each sample in both byte orders."""
 
     def test_reading(self):
         for order, raw, codec in each_utf16():

@@ -1,4 +1,4 @@
-//! Every call at its edges, in both byte orders, beside what std makes of the same input: each
+//! Every call at its edges, in both byte orders, compared with std on the same input: each
 //! capacity from 0 to what suffices, offsets past the end, odd lengths, each end of a stream.
 
 use dethrux::ByteOrder::{BigEndian, LittleEndian};

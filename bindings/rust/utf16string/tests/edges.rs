@@ -1,4 +1,4 @@
-//! Every method at its edges, in both byte orders, beside the same call of a `str` or a `String`:
+//! Every method at its edges, in both byte orders, compared with a `str` or a `String`:
 //! each range of each kind, offsets past the end, each end of a text.
 
 use byteorder::ByteOrder;
@@ -56,7 +56,7 @@ fn panics<T>(call: impl FnOnce() -> T) -> bool {
     catch_unwind(AssertUnwindSafe(call)).is_err()
 }
 
-/// Takes a range by every call, and tests each result beside the bytes of the range, if it has any.
+/// Takes a range by every call, and compares each result with the bytes of the range, if it has any.
 fn take<E, I>(text: &mut WString<E>, range: I)
 where
     E: 'static + ByteOrder,
@@ -375,7 +375,7 @@ fn lossy_strings_replace_what_is_ill_formed() {
     }
 }
 
-/// Makes each edit of each text at each boundary, beside the same edit of a `String`.
+/// Makes each edit of each text at each boundary, and the same edit of a `String`.
 fn edit<E: 'static + ByteOrder>(text: &str) {
     let ends = text.char_indices().map(|(at, _)| at).chain([text.len()]);
     for (at_utf8, at) in ends.zip(boundaries(text)) {
