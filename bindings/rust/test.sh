@@ -126,7 +126,7 @@ block() {
     sed -n "/^\`\`\`$1\$/,/^\`\`\`\$/p" "$top/docs/RUST.md" | sed '1d; /^```$/,$d'
 }
 
-# The page, in an empty project beside a clone.
+# The page, in an empty project next to a clone.
 test_page() {
     local project=$room/page/first
     mkdir -p "$project/src" && ln -s "$top" "$room/page/dethrux" || return

@@ -1,4 +1,4 @@
-"""The codecs beside CPython's: results, errors, streams, files and threads."""
+"""The codecs, compared with CPython's: results, errors, streams, files and threads."""
 
 import codecs
 import io
@@ -74,7 +74,7 @@ def outcome(call, *arguments):
 
 
 class Functions(unittest.TestCase):
-    """The functions of ``codecs``, beside CPython's."""
+    """The functions of ``codecs``, compared with CPython's."""
 
     def assert_same(self, name, *arguments):
         found = outcome(getattr(dethrux._codecs, name), *arguments)

@@ -23,8 +23,8 @@ NAMES = {
 # The tests that fail, with the reason. One that passes is reported.
 EXCEPTIONS = {
     "test_codeccallbacks.CodecCallbackTest.test_badandgoodsurrogatepassexceptions": (
-        "it makes exceptions that name the encoding, and surrogatepass knows CPython's names "
-        "alone, which are those that the exceptions of these codecs have"
+        "it makes exceptions that name the encoding, and surrogatepass knows only CPython's "
+        "names, which the exceptions of these codecs have"
     ),
 }
 

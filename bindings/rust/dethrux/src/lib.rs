@@ -22,7 +22,7 @@
 //! - Feature `alloc`: [`decode`], [`decode_lossy`], [`encode`] and others that return a `String` or
 //!   a `Vec`.
 //! - Feature `std`, the default: [`io::Reader`] and [`io::Writer`], and `Error` for [`Utf16Error`].
-//! - Feature `dynamic`: links `libdethrux.so` in place of `libdethrux.a`.
+//! - Feature `dynamic`: links `libdethrux.so` instead of `libdethrux.a`.
 //!
 //! Lengths and offsets count bytes. Only [`detect_bom`] looks for a byte order mark; to every other
 //! call it is the character U+FEFF.

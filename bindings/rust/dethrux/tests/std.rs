@@ -1,4 +1,4 @@
-//! The calls beside those of std, on random code units and bytes, in both byte orders.
+//! The calls, compared with std on random code units and bytes, in both byte orders.
 
 use dethrux::ByteOrder::{BigEndian, LittleEndian};
 use dethrux::*;

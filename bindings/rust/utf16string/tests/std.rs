@@ -1,4 +1,4 @@
-//! The strings beside those of std: the same edits of a `String`, in both byte orders, and what the
+//! The strings, compared with std: the same edits of a `String`, in both byte orders, and what the
 //! crate `utf16string` 0.2.0 has no test for.
 
 use byteorder::ByteOrder;
