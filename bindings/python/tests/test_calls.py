@@ -2,6 +2,7 @@
 
 import array
 import codecs
+import collections
 import itertools
 import typing
 import unittest
@@ -304,7 +305,7 @@ class Arguments(unittest.TestCase):
                 call(wrong, "little")
 
     def test_not_texts(self):
-        for wrong in (b"a", 5, None, ["a"]):
+        for wrong in (b"a", 5, None, ["a"], collections.UserString("a")):
             with self.subTest(wrong=wrong), self.assertRaisesRegex(TypeError, "a str is required"):
                 dethrux.encode(wrong, "little")
 

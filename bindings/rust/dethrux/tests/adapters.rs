@@ -38,6 +38,7 @@ fn read_all(mut reader: impl Read, len: usize) -> (Vec<u8>, usize) {
             Ok(read) => all.extend(&buffer[..read]),
             Err(_) => errors += 1,
         }
+        assert!(all.len() < 1_000_000 && errors < 1_000_000, "no end");
     }
 }
 
@@ -204,9 +205,11 @@ fn a_writer_loses_nothing_by_errors() {
                 errors += 1;
             }
         }
+        assert!(errors < 1000, "no end");
     }
     while writer.finish().is_err() {
         errors += 1;
+        assert!(errors < 1000, "no end");
     }
     assert!(errors > 10);
     assert!(writer.get_ref().is_flushed);
