@@ -520,6 +520,7 @@ static void for_offsets(void (*check_offset)(const uint8_t *utf16, size_t at)) {
         for (size_t near = 0; near < 6; near++) {
             check_offset(utf16, in.at % (in.len + 1) + near);
             check_offset(utf16, near);
+            check_offset(utf16, SIZE_MAX / 2 + 1 + near);
             check_offset(utf16, in.len + 3 > near ? in.len + 3 - near : 0);
         }
         check_offset(utf16, in.at);
@@ -550,7 +551,7 @@ static void check_floor_around_at(const uint8_t *utf16, size_t at) {
     if (at > in.len) {
         return;
     }
-    size_t start = at < 2 ? 0 : at / 2 * 2 - 2;
+    size_t start = DETHRUX_AROUND_START(at);
     size_t len = in.len - start < 4 ? in.len - start : 4;
     for (place where = AT_START; where < place_count(len); where++) {
         uint8_t *around = output_at(len, where);

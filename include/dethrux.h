@@ -291,10 +291,10 @@ DETHRUX_NODISCARD size_t dethrux_floor_char_boundary(
 DETHRUX_NODISCARD uint64_t dethrux_floor_char_boundary_around(
     dethrux_byte_order byte_order, const uint8_t *around, size_t len, uint64_t at);
 
-/* Returns the offset where part `index` of `count` parts begins in a file of `len` bytes: 0 for
- * part 0, and `len` for `index >= count`. Each part has `len / 2 / count` code units or one more,
- * and the last one has an odd byte at the end too. The offset may be inside a surrogate pair: move
- * it to a boundary by dethrux_floor_char_boundary_around. */
+/* Returns the offset where part `index` of `count` parts begins in a file of `len` bytes: `len` for
+ * `index >= count`, else 0 for part 0. Each part has `len / 2 / count` code units or one more, and
+ * the last one has an odd byte at the end too. The offset may be inside a surrogate pair: move it
+ * to a boundary by dethrux_floor_char_boundary_around. */
 DETHRUX_NODISCARD uint64_t dethrux_shard_offset(uint64_t len, uint64_t count, uint64_t index);
 
 /* Swaps the two bytes of each code unit in place: UTF-16 in the other byte order. An odd byte at

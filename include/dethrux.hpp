@@ -10,8 +10,9 @@
 // text that ends with a NUL.
 //
 // Offsets and lengths of `units` count code units, those of `bytes` bytes. Ill-formed input is a
-// value, dethrux::error, and never an exception. The only exceptions are those of memory, such as
-// std::bad_alloc: after one, a string that was passed and a decoder are as they were.
+// value, dethrux::error, and never an exception. Functions and decoders throw only if there is not
+// enough memory: std::bad_alloc, or std::length_error if a string cannot be so long. In that case
+// the string that was passed and the decoder are as they were.
 //
 // A result takes the memory of the longest text for its length of input: three bytes a code unit of
 // UTF-16, a code unit a byte of UTF-8. One pass is made so; shrink_to_fit() gives the rest back.
@@ -351,7 +352,8 @@ inline std::size_t make_well_formed(std::u16string &utf16) noexcept {
 // ---- streams
 
 // Decodes a stream of UTF-16 that comes in chunks, cut anywhere, to UTF-8, with U+FFFD for each
-// unpaired surrogate. At most three bytes of the stream are in the decoder.
+// unpaired surrogate. At most three bytes of the stream are in the decoder. The string that is
+// appended to must not be the chunk.
 class decoder {
 public:
     explicit decoder(byte_order order = byte_order::native) noexcept : order_(order) {}
@@ -390,7 +392,8 @@ private:
 };
 
 // Decodes a stream of UTF-8 that comes in chunks, cut anywhere, to UTF-16, with U+FFFD for each
-// maximal subpart of an ill-formed sequence. Give one type of string for a whole stream.
+// maximal subpart of an ill-formed sequence. Give one type of string for a whole stream. The string
+// that is appended to must not be the chunk.
 class utf8_decoder {
 public:
     explicit utf8_decoder(byte_order order = byte_order::native) noexcept : order_(order) {}

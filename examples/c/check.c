@@ -866,12 +866,23 @@ static bool call_is_boundary(dethrux_byte_order order, char **values, size_t cou
     return is;
 }
 
+/* The same by the call that takes a few bytes of a file. */
+static size_t floor_in_file(dethrux_byte_order order, const text *file, size_t at) {
+    size_t start = (size_t)DETHRUX_AROUND_START(at), left = file->len - start;
+    const uint8_t *around = left > 0 ? file->bytes + start : NULL;
+    return (size_t)dethrux_floor_char_boundary_around(order, around, left < 4 ? left : 4, at);
+}
+
 static bool call_floor(dethrux_byte_order order, char **values, size_t count, text *answer) {
     text raw = {0};
     bool is = count == 2 && bytes_of(values[0], order, &raw);
     if (is) {
-        add_number(answer,
-            dethrux_floor_char_boundary(order, raw.bytes, raw.len, number_of(values[1])));
+        size_t at = number_of(values[1]);
+        size_t found = dethrux_floor_char_boundary(order, raw.bytes, raw.len, at);
+        add_number(answer, found);
+        if (at <= raw.len && floor_in_file(order, &raw, at) != found) {
+            add_word(answer, "around");
+        }
     }
     free(raw.bytes);
     return is;
@@ -1033,6 +1044,36 @@ static bool is_same(dethrux_progress a, const text *a_to, dethrux_progress b, co
         && memcmp(a_to->bytes, b_to->bytes, a.written) == 0;
 }
 
+/* Whether the calls at an offset, and the comparison, read a byte order as little endian. */
+static bool are_cuts_read_as_little(dethrux_byte_order order, const text *utf16) {
+    const dethrux_byte_order little = DETHRUX_LITTLE_ENDIAN;
+    const uint8_t *bytes = utf16->bytes;
+    const size_t len = utf16->len;
+    bool is = dethrux_compare(order, bytes, len, little, bytes, len) == 0
+        && dethrux_compare(little, bytes, len, order, bytes, len) == 0
+        && dethrux_compare(DETHRUX_BIG_ENDIAN, bytes, len, little, bytes, len) != 0;
+    for (size_t at = 0; at <= len; at++) {
+        size_t floor = dethrux_floor_char_boundary(little, bytes, len, at);
+        is = is && dethrux_is_char_boundary(order, bytes, len, at) == dethrux_is_char_boundary(little, bytes, len, at)
+            && dethrux_floor_char_boundary(order, bytes, len, at) == floor && floor_in_file(order, utf16, at) == floor;
+    }
+    return is;
+}
+
+/* The same of the call that changes a text, and of the end of a stream of UTF-8. */
+static bool is_changed_as_little(dethrux_byte_order order, const text *utf16) {
+    text found = {0}, should = {0};
+    append(&found, utf16->bytes, utf16->len);
+    append(&should, utf16->bytes, utf16->len);
+    size_t count = dethrux_make_well_formed(DETHRUX_LITTLE_ENDIAN, should.bytes, should.len);
+    bool is = dethrux_make_well_formed(order, found.bytes, found.len) == count && same(&found, &should);
+    free(found.bytes);
+    free(should.bytes);
+    uint8_t mark[2];
+    dethrux_utf8_decoder decoder = {{0xC3, 0, 0}, 1};
+    return is && dethrux_utf8_decoder_finish(&decoder, order, mark, 2).written == 2 && mark[0] == 0xFD && mark[1] == 0xFF;
+}
+
 /* Whether every call reads a byte order as little endian, of bytes that big endian reads as
  * another text. */
 static bool is_read_as_little(dethrux_byte_order order, const text *utf16, const text *utf8) {
@@ -1042,6 +1083,7 @@ static bool is_read_as_little(dethrux_byte_order order, const text *utf16, const
         && dethrux_count_chars(order, utf16->bytes, utf16->len) == dethrux_count_chars(little, utf16->bytes, utf16->len)
         && dethrux_is_ascii(order, utf16->bytes, 2) && !dethrux_is_ascii(DETHRUX_BIG_ENDIAN, utf16->bytes, 2)
         && dethrux_to_utf8_lossy_len(order, utf16->bytes, utf16->len) == dethrux_to_utf8_lossy_len(little, utf16->bytes, utf16->len);
+    is = is && are_cuts_read_as_little(order, utf16) && is_changed_as_little(order, utf16);
     for (size_t i = 0; i < sizeof conversions / sizeof *conversions; i++) {
         const conversion *by = &conversions[i];
         const text *from = by->back ? utf8 : utf16;
@@ -1191,6 +1233,44 @@ static bool are_bounds_reached(void) {
     return is;
 }
 
+/* The macros that compute, at numbers and at a number in 32 bits, with an operator of the lowest
+ * precedence, and at the greatest length. The start of the bytes around an offset is one code unit
+ * before that of the offset. */
+static bool are_macros_right(void) {
+    const bool yes = true;
+    const uint32_t wide = UINT32_MAX;
+    const uint64_t most = PTRDIFF_MAX - 1;
+    const uint64_t found[][2] = {
+        {DETHRUX_AROUND_START(0), 0},
+        {DETHRUX_AROUND_START(1), 0},
+        {DETHRUX_AROUND_START(2), 0},
+        {DETHRUX_AROUND_START(3), 0},
+        {DETHRUX_AROUND_START(4), 2},
+        {DETHRUX_AROUND_START(5), 2},
+        {DETHRUX_AROUND_START(yes ? 7 : 0), 4},
+        {DETHRUX_AROUND_START(yes ? 1 : 0), 0},
+        {DETHRUX_AROUND_START(0x100000005), 0x100000002},
+        {DETHRUX_AROUND_START(UINT64_MAX), UINT64_MAX - 3},
+        {DETHRUX_UTF8_MAX(yes ? 3 : 0), 6},
+        {DETHRUX_UTF8_MAX(wide), 6442450944},
+        {DETHRUX_UTF8_MAX(most), 13835058055282163709u},
+        {DETHRUX_UTF16_MAX(yes ? 3 : 0), 6},
+        {DETHRUX_UTF16_MAX(wide), 8589934590},
+        {DETHRUX_UTF16_MAX(most), UINT64_MAX - 3},
+        {DETHRUX_FEED_MAX(yes ? 3 : 0), 9},
+        {DETHRUX_FEED_MAX(wide), 6442450947},
+        {DETHRUX_FEED_MAX(most), 13835058055282163712u},
+        {DETHRUX_UTF8_FEED_MAX(yes ? 3 : 0), 8},
+        {DETHRUX_UTF8_FEED_MAX(wide), 8589934592},
+        {DETHRUX_UTF8_FEED_MAX(most), UINT64_MAX - 1},
+    };
+    bool is = true;
+    for (size_t i = 0; i < sizeof found / sizeof *found; i++) {
+        is = is && found[i][0] == found[i][1];
+    }
+    return is;
+}
+
 /* The version of the header, of the library, and by its parts. */
 static bool is_version_same(void) {
     return dethrux_version() == DETHRUX_VERSION && DETHRUX_VERSION == 1000 && DETHRUX_VERSION_MAJOR == 0 && DETHRUX_VERSION_MINOR == 1
@@ -1228,6 +1308,7 @@ static bool is_any_state_fine(void) {
 
 /* Null pointers with length 0. */
 static bool is_empty_fine(void) {
+    dethrux_swap_byte_order(NULL, 0);
     const dethrux_byte_order little = DETHRUX_LITTLE_ENDIAN, big = DETHRUX_BIG_ENDIAN;
     decoder by = new_decoder(false, big), back = new_decoder(true, big);
     return feed(&by, NULL, 0, NULL, 0).status == DETHRUX_DONE && finish(&by, NULL, 0).status == DETHRUX_DONE
@@ -1239,7 +1320,27 @@ static bool is_empty_fine(void) {
         && dethrux_from_utf8(big, NULL, 0, NULL, 0).status == DETHRUX_DONE
         && dethrux_to_utf8_lossy(big, NULL, 0, NULL, 0).status == DETHRUX_DONE
         && dethrux_to_utf8_partial(big, NULL, 0, NULL, 0).status == DETHRUX_DONE
+        && dethrux_is_char_boundary(little, NULL, 0, 0) && !dethrux_is_char_boundary(big, NULL, 0, 1)
+        && dethrux_floor_char_boundary(little, NULL, 0, 1) == 0 && dethrux_floor_char_boundary_around(big, NULL, 0, 0) == 0
+        && dethrux_make_well_formed(big, NULL, 0) == 0 && dethrux_compare(big, NULL, 0, little, NULL, 0) == 0
         && dethrux_detect_bom(NULL, 0).status == DETHRUX_BOM_UNDECIDED;
+}
+
+/* A null pointer with a capacity of 0, for bytes that need space. */
+static bool is_no_space_fine(void) {
+    static const uint8_t letter[] = {'a', 0};
+    bool is = true;
+    for (size_t i = 0; i < sizeof conversions / sizeof *conversions; i++) {
+        size_t len = conversions[i].back ? 1 : 2;
+        dethrux_progress found = conversions[i].make(DETHRUX_LITTLE_ENDIAN, letter, len, NULL, 0);
+        is = is && found.status == DETHRUX_NO_SPACE && found.read == 0 && found.written == 0;
+    }
+    for (int back = 0; back < 2; back++) {
+        decoder by = new_decoder(back, DETHRUX_LITTLE_ENDIAN);
+        dethrux_progress found = feed(&by, letter, back ? 1 : 2, NULL, 0);
+        is = is && found.status == DETHRUX_NO_SPACE && found.read == 0 && found.written == 0;
+    }
+    return is;
 }
 
 int main(void) {
@@ -1255,9 +1356,11 @@ int main(void) {
     count(is_bom_detected(), "the BOM and the byte order of first bytes");
     count(is_any_byte_order_fine(), "values of a byte order that the header does not name");
     count(are_bounds_reached(), "the bounds of the header at inputs that need them");
+    count(are_macros_right(), "the macros of the header");
     count(is_version_same(), "the version of the header and of the library");
     count(is_any_state_fine(), "a state that no call left");
     count(is_empty_fine(), "null pointers of length 0");
+    count(is_no_space_fine(), "null pointers of capacity 0");
     printf("%u passed, %u failed\n", passed, failed);
     return failed != 0;
 }

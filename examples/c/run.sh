@@ -3,7 +3,9 @@
 # and runs them: the tables of cases, the programs of docs/C.md and docs/CPP.md, and all in C under
 # valgrind. A tool that is missing is a failure. The last line is 'N passed, M failed'. With
 # --over-ci the library is built over the libraries that rt ci has just proved, and with
-# --library FILE it is not built: FILE is tested.
+# --library FILE it is not built: FILE is tested. With --headers it is not built either, and only
+# what tests the headers runs, up to the first failure: examples/slips runs this for each wrong line
+# that it plants in a header.
 set -uo pipefail
 here=$(cd "$(dirname "$0")" && pwd)
 top=$here/../..
@@ -29,8 +31,16 @@ count() {
         failed=$((failed + 1))
         echo "failed: $name"
         tail -n 20 "$room/said"
+        [ -n "$whole" ] || finish
         return 1
     fi
+}
+
+# Prints the result and ends.
+finish() {
+    echo "$passed passed, $failed failed"
+    [ $failed = 0 ]
+    exit
 }
 
 # Builds the static library over what rt has kept of the crates below it.
@@ -60,6 +70,12 @@ in_c() {
     cc -std="${2:-c99}" -O2 -Wall -Wextra -Wpedantic -Werror "-I$top/include" "$here/$1.c" "$archive" -o "$room/$1"
 }
 
+# The same program in C++, where code units have any type of two bytes.
+units_in_cxx() {
+    c++ -std=c++17 -O2 -Wall -Wextra -Wpedantic -Werror "-I$top/include" -x c++ "$here/units.c" \
+        -x none "$archive" -o "$room/units_cxx"
+}
+
 # A program of examples/cpp, by a compiler and in a standard.
 in_cxx() {
     "$1" -std="$2" -O2 -Wall -Wextra -Wpedantic -Wconversion -Wshadow -Werror "-I$top/include" \
@@ -86,10 +102,50 @@ is_clean() {
     return 1
 }
 
-# Whether a compiler, with its words, refuses a call whose result is ignored.
-refuses_ignored() {
-    printf '#include "dethrux.h"\nint main() { dethrux_version(); }\n' > "$room/ignored"
-    ! "$@" -Werror "-I$top/include" -c "$room/ignored" -o "$room/ignored.o" > "$room/warning" 2>&1 && grep -q dethrux_version "$room/warning"
+# Whether a compiler, by its words, warns of each call of a program that ignores results.
+warns() {
+    local program=$1
+    shift
+    "$@" -O0 "-I$top/include" -c "$program" -o "$room/ignored.o" 2> "$room/warnings" || return
+    grep -n '^    dethrux[a-z0-9_:]*(' "$program" | cut -d : -f 1 > "$room/ignored"
+    grep 'warning: ignoring' "$room/warnings" | grep -oE 'ignored\.c(pp)?:[0-9]+' | cut -d : -f 2 |
+        sort -nu | diff "$room/ignored" -
+}
+
+# The names of the functions that a file calls or declares, except those whose result may be
+# ignored and what the header has for itself.
+names() {
+    grep -oE "$1[a-z0-9_]+\(" "$2" | sort -u |
+        grep -vE '(swap_byte_order|make_well_formed|u16_bytes)\('
+}
+
+# Whether the program that ignores results calls each function of the header.
+ignores_all() {
+    names dethrux_ "$top/include/dethrux.h" > "$room/declared"
+    names dethrux_ "$here/ignored.c" | diff "$room/declared" -
+}
+
+# Whether C++ refuses code units of another size, in text that is read and in text that is changed.
+refuses_wide() {
+    local line
+    for line in 'bool is(const char32_t *text) { return dethrux_u16_is_ascii(text, 1); }' \
+        'void swap(char32_t *text) { dethrux_u16_swap_byte_order(text, 1); }'; do
+        printf '#include "dethrux.h"\n%s\n' "$line" |
+            c++ -std=c++11 "-I$top/include" -fsyntax-only -x c++ - 2> "$room/refused" && return 1
+        grep -q 'a code unit of UTF-16 has two bytes' "$room/refused" || return
+    done
+}
+
+# Whether C refuses an enum of one byte.
+refuses_short_enums() {
+    ! cc -std=c99 -fshort-enums -fsyntax-only -w -x c "$top/include/dethrux.h" 2> "$room/refused" &&
+        grep -q dethrux_enum_has_four_bytes "$room/refused"
+}
+
+# Whether code units are in the byte order that the compiler says the machine has.
+is_native() {
+    printf '#include "dethrux.h"\ntypedef char is[DETHRUX_NATIVE_ENDIAN == DETHRUX_%s_ENDIAN ? 1 : -1];\n' "$2" |
+        cc -std=c99 "-I$top/include" -U__BYTE_ORDER__ "-D__BYTE_ORDER__=$1" -fsyntax-only -w -x c -
 }
 
 check_c() {
@@ -128,9 +184,13 @@ check_python() {
 
 cat "$top"/cases/*.txt > "$room/cases"
 built=library
+whole=yes
+compilers=(g++ clang++)
+standards=(c++17 c++20)
 case "${1-}" in
     --over-ci) built=library_over_ci ;;
     --library) archive=$(realpath "$2"); built=true ;;
+    --headers) built=true whole='' compilers=(g++) standards=(c++17) ;;
 esac
 ("$built") > "$room/said" 2>&1 || { tail -n 20 "$room/said"; echo "0 passed, 1 failed"; exit 1; }
 if has cc 'C and Python'; then
@@ -139,7 +199,7 @@ if has cc 'C and Python'; then
     count 'the check in C' in_c check && count 'the cases in C' check_c
     count 'the check of code units' in_c units c11 && count 'code units in C' "$room/units"
     count 'the first program in C' in_c first && count 'the page for C' prints_page first C
-    if has valgrind 'memory in C'; then
+    if [ -n "$whole" ] && has valgrind 'memory in C'; then
         { for _ in {1..300}; do printf 'a\0\x4E\0\xD8'; done; } > "$room/odd"
         count 'decode under valgrind' is_clean decode "$room/odd" le
         count 'the program of the header under valgrind' is_clean comment "$room/odd"
@@ -147,25 +207,31 @@ if has cc 'C and Python'; then
         count 'code units under valgrind' is_clean units /dev/null
         count 'the first program under valgrind' is_clean first /dev/null
     fi
-    count 'an ignored result in C' refuses_ignored cc -std=c99 -x c
+    count 'ignored results in C' warns "$here/ignored.c" cc -std=c99
+    count 'all results are ignored' ignores_all
+    count 'enums of one byte' refuses_short_enums
+    count 'the byte order of a machine' is_native 1234 LITTLE
+    count 'the byte order of another machine' is_native 4321 BIG
     if has c++ 'the header in C++'; then
         count 'the header in C++' header_in_cxx
-        count 'an ignored result in C++' refuses_ignored c++ -std=c++17 -x c++
+        count 'ignored results of the header in C++' warns "$here/ignored.c" c++ -std=c++17 -x c++
+        count 'ignored results in C++' warns "$top/examples/cpp/ignored.cpp" c++ -std=c++17
+        count 'code units of another size in C++' refuses_wide
+        count 'the check of code units in C++' units_in_cxx && count 'code units in C++' "$room/units_cxx"
     fi
-    for compiler in g++ clang++; do
-        has $compiler "C++ by $compiler" || continue
-        for standard in c++17 c++20; do
-            count "the check by $compiler in $standard" in_cxx $compiler $standard check &&
+    for compiler in "${compilers[@]}"; do
+        has "$compiler" "C++ by $compiler" || continue
+        for standard in "${standards[@]}"; do
+            count "the check by $compiler in $standard" in_cxx "$compiler" "$standard" check &&
                 count "C++ by $compiler in $standard" "$room/cpp_check"
         done
     done
     count 'the first program in C++' in_cxx c++ c++17 first && count 'the page for C++' prints_page cpp_first CPP
-    if has valgrind 'memory in C++'; then
+    if [ -n "$whole" ] && has valgrind 'memory in C++'; then
         count 'the first program in C++ under valgrind' is_clean cpp_first /dev/null
     fi
-    if has python3 'Python'; then
+    if [ -n "$whole" ] && has python3 'Python'; then
         count 'the shared object' shared && count 'the cases in Python' check_python
     fi
 fi
-echo "$passed passed, $failed failed"
-[ $failed = 0 ]
+finish

@@ -1,11 +1,13 @@
-// Makes the calls of dethrux.hpp and compares with results that were worked out by hand; then makes
-// each request for memory of each call fail in turn. The last line is 'N passed, M failed'.
+// Makes the calls of dethrux.hpp in both byte orders and on code units, and compares with results
+// that were worked out by hand; then makes each request for memory of each call fail in turn. The
+// last line is 'N passed, M failed'.
 #include "dethrux.hpp"
 
 #include <array>
 #include <cstdio>
 #include <cstdlib>
 #include <new>
+#include <stdexcept>
 #include <vector>
 #if __cplusplus >= 202002L
 #include <span>
@@ -14,30 +16,33 @@
 static int passed, failed;
 // How many requests for memory succeed before one fails; none fails while it is negative.
 static long left = -1;
+static std::size_t largest_request;
 
 void *operator new(std::size_t size) {
     if (left >= 0 && left-- == 0) {
         throw std::bad_alloc();
     }
+    largest_request = size > largest_request ? size : largest_request;
     if (void *found = std::malloc(size == 0 ? 1 : size)) {
         return found;
     }
     throw std::bad_alloc();
 }
 
-void operator delete(void *memory) noexcept {
+// Not inlined, so that gcc does not take the pair of malloc and free for that of new and free.
+[[gnu::noinline]] void operator delete(void *memory) noexcept {
     std::free(memory);
 }
-void operator delete(void *memory, std::size_t) noexcept {
+[[gnu::noinline]] void operator delete(void *memory, std::size_t) noexcept {
     std::free(memory);
 }
 
-static void check(const char *name, bool holds) {
+static void check(const std::string &name, bool holds) {
     if (holds) {
         passed++;
     } else {
         failed++;
-        std::printf("failed: %s\n", name);
+        std::printf("failed: %s\n", name.c_str());
     }
 }
 
@@ -45,143 +50,444 @@ using dethrux::byte_order;
 using namespace std::string_literals;
 using namespace std::string_view_literals;
 
-// "a", U+E9, U+4E2D, U+1F600, as code units, as bytes in both byte orders and in UTF-8.
-static const std::u16string text = u"a\u00E9\u4E2D\U0001F600";
-static const std::string little = "a\0\xE9\0\x2D\x4E\x3D\xD8\0\xDE"s;
-static const std::string big = "\0a\0\xE9\x4E\x2D\xD8\x3D\xDE\0"s;
-static const std::string utf8 = "a\xC3\xA9\xE4\xB8\xAD\xF0\x9F\x98\x80";
-static const std::u16string ill_formed = u"a\xDC00"
-                                         u"b\xD800";
-
-static void conversions() {
-    check("to_utf8", dethrux::to_utf8(text).value() == utf8
-                         && dethrux::to_utf8(little, byte_order::little).value() == utf8
-                         && dethrux::to_utf8(big, byte_order::big).value() == utf8);
-    check("from_utf8", dethrux::from_utf8(utf8).value() == text
-                           && dethrux::from_utf8(utf8, byte_order::little).value() == little
-                           && dethrux::from_utf8(utf8, byte_order::big).value() == big);
-    check("where UTF-16 is ill formed",
-        dethrux::to_utf8(ill_formed).error() == dethrux::error{1, 1}
-            && dethrux::to_utf8(u"ab\xD800").error() == dethrux::error{2, 0}
-            && dethrux::to_utf8("\xD8\0\0a"sv, byte_order::big).error() == dethrux::error{0, 2}
-            && dethrux::to_utf8(u"ab\xD800").error().is_incomplete());
-    check("where UTF-8 is ill formed",
-        dethrux::from_utf8("a\xE4\xB8"
-                           "b")
-                    .error()
-                == dethrux::error{1, 2}
-            && dethrux::from_utf8("a\xE4\xB8").error() == dethrux::error{1, 0}
-            && dethrux::from_utf8("\xFF", byte_order::big).error() == dethrux::error{0, 1});
-    check("to_utf8_lossy",
-        dethrux::to_utf8_lossy(ill_formed)
-                == "a\xEF\xBF\xBD"
-                   "b\xEF\xBF\xBD"
-            && dethrux::to_utf8_lossy("a\0\0"sv, byte_order::little) == "a\xEF\xBF\xBD");
-    check("from_utf8_lossy",
-        dethrux::from_utf8_lossy("a\xFF") == u"a\uFFFD"
-            && dethrux::from_utf8_lossy("a\xFF", byte_order::big) == "\0a\xFF\xFD"s);
-    check("nothing", dethrux::to_utf8(dethrux::units()).value().empty()
-                         && dethrux::from_utf8(dethrux::bytes()).value().empty());
-    check("a value or another", dethrux::to_utf8(ill_formed).value_or("other") == "other"
-                                    && dethrux::to_utf8(text).value_or("other") == utf8);
+// A text in a form: in bytes of a byte order, or in code units, from what it is in big endian. An
+// odd byte at the end stays.
+static std::string in_form(std::string_view big, byte_order order) {
+    std::string found(big);
+    for (std::size_t i = 1; order == byte_order::little && i < big.size(); i += 2) {
+        std::swap(found[i - 1], found[i]);
+    }
+    return found;
 }
 
+static std::u16string in_form(std::string_view big) {
+    std::u16string found;
+    for (std::size_t i = 1; i < big.size(); i += 2) {
+        unsigned high = static_cast<unsigned char>(big[i - 1]);
+        found += static_cast<char16_t>(high << 8 | static_cast<unsigned char>(big[i]));
+    }
+    return found;
+}
+
+// Whether a call holds for a text in each form: of the bytes of an element, and of the byte order of
+// a text in bytes. A text with an odd byte has no code units.
+template <class Call>
+static bool in_each_form(std::string_view big, Call call) {
+    return call(std::size_t{1}, byte_order::big) && call(std::size_t{1}, byte_order::little)
+           && (big.size() % 2 != 0 || call(std::size_t{2}));
+}
+
+// A text in big endian, and what the calls find in it; offsets count bytes. `cuts` has a bar for
+// each offset that is a boundary. `utf8` and `mended` have U+FFFD for what is ill formed, and
+// `pending` is what a decoder keeps of the text.
+struct row {
+    const char *name;
+    std::string big;
+    std::optional<dethrux::error> reason;
+    std::size_t chars;
+    bool is_ascii;
+    std::string utf8;
+    std::string cuts;
+    std::size_t pending;
+    std::size_t unpaired;
+    std::string mended;
+};
+
+// Most are another text in the other byte order: of other characters, or ill formed in one only.
+static const row rows[] = {
+    {"nothing", ""s, {}, 0, true, ""s, "|"s, 0, 0, ""s},
+    {"ASCII", "\0a\0b\0c"s, {}, 3, true, "abc"s, "|.|.|.|"s, 0, 0, "\0a\0b\0c"s},
+    {"swapped ASCII", "a\0"s, {}, 1, false, "\xE6\x84\x80"s, "|.|"s, 0, 0, "a\0"s},
+    {"one to four bytes", "\0a\0\xE9\x4E\x2D\xD8\x3D\xDE\0"s, {}, 4, false,
+        "a\xC3\xA9\xE4\xB8\xAD\xF0\x9F\x98\x80"s, "|.|.|.|...|"s, 0, 0,
+        "\0a\0\xE9\x4E\x2D\xD8\x3D\xDE\0"s},
+    {"a swapped pair", "\x3D\xD8\0\xDE"s, {}, 2, false, "\xE3\xB7\x98\xC3\x9E"s, "|.|.|"s, 0, 0,
+        "\x3D\xD8\0\xDE"s},
+    {"two pairs", "\xD8\x3D\xDE\0\xD8\x3D\xDE\x01"s, {}, 2, false,
+        "\xF0\x9F\x98\x80\xF0\x9F\x98\x81"s, "|...|...|"s, 0, 0,
+        "\xD8\x3D\xDE\0\xD8\x3D\xDE\x01"s},
+    {"unpaired surrogates", "\0a\xDC\0\0b\xD8\0"s, dethrux::error{2, 2}, 3, false,
+        "a\xEF\xBF\xBD"
+        "b\xEF\xBF\xBD"s,
+        "|.|.|.|.|"s, 2, 2, "\0a\xFF\xFD\0b\xFF\xFD"s},
+    {"swapped unpaired surrogates", "\0\xDC\0\xD8"s, {}, 2, false, "\xC3\x9C\xC3\x98"s, "|.|.|"s, 0,
+        0, "\0\xDC\0\xD8"s},
+    {"an unpaired surrogate before ASCII", "\xD8\0\0a"s, dethrux::error{0, 2}, 2, false,
+        "\xEF\xBF\xBD"
+        "a"s,
+        "|.|.|"s, 0, 1, "\xFF\xFD\0a"s},
+    {"an odd byte", "\0a\0b\0"s, dethrux::error{4, 0}, 2, false, "ab\xEF\xBF\xBD"s, "|.|.||"s, 1, 0,
+        "\0a\0b\0"s},
+    {"one byte", "a"s, dethrux::error{0, 0}, 0, false, "\xEF\xBF\xBD"s, "||"s, 1, 0, "a"s},
+    {"the first half of a pair", "\0a\xD8\x3D"s, dethrux::error{2, 0}, 2, false, "a\xEF\xBF\xBD"s,
+        "|.|.|"s, 2, 1, "\0a\xFF\xFD"s},
+    {"three bytes of a pair", "\0a\xD8\x3D\xDE"s, dethrux::error{2, 0}, 2, false, "a\xEF\xBF\xBD"s,
+        "|.|..|"s, 3, 1, "\0a\xFF\xFD\xDE"s},
+};
+
+static std::optional<dethrux::error> in_elements(
+    const std::optional<dethrux::error> &reason, std::size_t element) {
+    return reason ? dethrux::error{reason->valid_up_to / element, reason->error_len / element}
+                  : reason;
+}
+
+static void look(const row &from) {
+    check("validate: "s + from.name, in_each_form(from.big, [&](std::size_t element, auto... order) {
+        return dethrux::validate(in_form(from.big, order...), order...)
+               == in_elements(from.reason, element);
+    }));
+    check("count_chars: "s + from.name, in_each_form(from.big, [&](std::size_t, auto... order) {
+        return dethrux::count_chars(in_form(from.big, order...), order...) == from.chars;
+    }));
+    check("is_ascii: "s + from.name, in_each_form(from.big, [&](std::size_t, auto... order) {
+        return dethrux::is_ascii(in_form(from.big, order...), order...) == from.is_ascii;
+    }));
+}
+
+static void change(const row &from) {
+    check("make_well_formed: "s + from.name, in_each_form(from.big, [&](std::size_t, auto... order) {
+        auto text = in_form(from.big, order...);
+        return dethrux::make_well_formed(text, order...) == from.unpaired
+               && text == in_form(from.mended, order...);
+    }));
+    std::string bytes = from.big;
+    dethrux::swap_byte_order(bytes);
+    std::u16string units = in_form(from.big);
+    dethrux::swap_byte_order(units);
+    check("swap_byte_order: "s + from.name, bytes == in_form(from.big, byte_order::little)
+                                                && units == in_form(bytes));
+}
+
+// Whether a text has a boundary at an offset, and this one at or before it.
+template <class... Order>
+static bool is_cut(
+    const row &from, std::size_t at, bool is_boundary, std::size_t floor, Order... order) {
+    auto text = in_form(from.big, order...);
+    return dethrux::is_char_boundary(text, order..., at) == is_boundary
+           && dethrux::floor_char_boundary(text, order..., at) == floor;
+}
+
+// At each offset of the text, and after its end: one past, twice as far, and where a multiple of the
+// offset wraps to one that is inside.
+static void cut(const row &from) {
+    check("boundaries: "s + from.name, in_each_form(from.big, [&](std::size_t element, auto... order) {
+        bool is = true;
+        std::size_t len = from.big.size() / element, half = SIZE_MAX / 2 + 1;
+        for (std::size_t at = 0; at <= len; at++) {
+            std::size_t floor = from.cuts.rfind('|', at * element);
+            is = is && is_cut(from, at, floor == at * element, floor / element, order...);
+        }
+        for (std::size_t at : {len + 1, 2 * len + 1, half, half + 1, half + len, half / 2,
+                 SIZE_MAX - 1, SIZE_MAX}) {
+            is = is && is_cut(from, at, false, len, order...);
+        }
+        return is;
+    }));
+}
+
+static void to_utf8(const row &from) {
+    check("to_utf8: "s + from.name, in_each_form(from.big, [&](std::size_t element, auto... order) {
+        auto found = dethrux::to_utf8(in_form(from.big, order...), order...);
+        return from.reason ? !found && found.error() == in_elements(from.reason, element)
+                           : found && found.value() == from.utf8;
+    }));
+    check("to_utf8_lossy: "s + from.name, in_each_form(from.big, [&](std::size_t, auto... order) {
+        return dethrux::to_utf8_lossy(in_form(from.big, order...), order...) == from.utf8;
+    }));
+}
+
+// In two chunks, cut at each offset, after a text, and twice by the same decoder.
+static void decode(const row &from) {
+    check("decoder: "s + from.name, in_each_form(from.big, [&](std::size_t, auto... order) {
+        bool is = true;
+        auto text = in_form(from.big, order...);
+        dethrux::decoder decoder(order...);
+        for (std::size_t at = 0; at <= text.size(); at++) {
+            std::string to = "before ";
+            decoder.feed(text.substr(0, at), to);
+            decoder.feed(text.substr(at), to);
+            is = is && decoder.pending() == from.pending;
+            decoder.finish(to);
+            is = is && decoder.pending() == 0 && to == "before " + from.utf8;
+        }
+        return is;
+    }));
+}
+
+// A text in UTF-8, where it is ill formed, and what it is in UTF-16 in big endian; the last of its
+// bytes that a decoder keeps.
+struct row8 {
+    const char *name;
+    std::string utf8;
+    std::optional<dethrux::error> reason;
+    std::string big;
+    std::size_t pending;
+};
+
+static const row8 rows8[] = {
+    {"nothing", "", {}, ""s, 0},
+    {"ASCII", "abc", {}, "\0a\0b\0c"s, 0},
+    {"one to four bytes", "a\xC3\xA9\xE4\xB8\xAD\xF0\x9F\x98\x80", {},
+        "\0a\0\xE9\x4E\x2D\xD8\x3D\xDE\0"s, 0},
+    {"bytes that UTF-8 never has", "\xFF\xFF\xFF", dethrux::error{0, 1}, "\xFF\xFD\xFF\xFD\xFF\xFD"s,
+        0},
+    {"two bytes of three, and a letter",
+        "a\xE4\xB8"
+        "b",
+        dethrux::error{1, 2}, "\0a\xFF\xFD\0b"s, 0},
+    {"one byte of two", "a\xC3", dethrux::error{1, 0}, "\0a\xFF\xFD"s, 1},
+    {"two bytes of three", "\xE4\xB8", dethrux::error{0, 0}, "\xFF\xFD"s, 2},
+    {"three bytes of four", "\xF0\x9F\x98", dethrux::error{0, 0}, "\xFF\xFD"s, 3},
+};
+
+static void from_utf8(const row8 &from) {
+    check("from_utf8: "s + from.name, in_each_form(from.big, [&](std::size_t, auto... order) {
+        auto found = dethrux::from_utf8(from.utf8, order...);
+        return from.reason ? !found && found.error() == from.reason
+                           : found && found.value() == in_form(from.big, order...);
+    }));
+    check("from_utf8_lossy: "s + from.name, in_each_form(from.big, [&](std::size_t, auto... order) {
+        return dethrux::from_utf8_lossy(from.utf8, order...) == in_form(from.big, order...);
+    }));
+}
+
+static void decode8(const row8 &from) {
+    check("utf8_decoder: "s + from.name, in_each_form(from.big, [&](std::size_t, auto... order) {
+        bool is = true;
+        const auto before = in_form("\0b\0e"s, order...);
+        dethrux::utf8_decoder decoder(order...);
+        for (std::size_t at = 0; at <= from.utf8.size(); at++) {
+            auto to = before;
+            decoder.feed(from.utf8.substr(0, at), to);
+            decoder.feed(from.utf8.substr(at), to);
+            is = is && decoder.pending() == from.pending;
+            decoder.finish(to);
+            is = is && decoder.pending() == 0 && to == before + in_form(from.big, order...);
+        }
+        return is;
+    }));
+}
+
+// Two texts in big endian, and the sign of their comparison. Each is given in each form.
+struct pair_row {
+    const char *name;
+    std::string first, second;
+    int wanted;
+};
+
+static const pair_row pairs[] = {
+    {"nothing and nothing", ""s, ""s, 0},
+    {"a text and nothing", "\0a"s, ""s, 1},
+    {"a text and itself", "\0a\x4E\x2D\0\xE9"s, "\0a\x4E\x2D\0\xE9"s, 0},
+    {"a text and its first half", "\0a\0b\0c\0d"s, "\0a\0b"s, 1},
+    {"texts that differ at the end", "\0a\0b\0c"s, "\0a\0b\0d"s, -1},
+    {"bytes in the other order", "\x01\0"s, "\0\x02"s, 1},
+    {"a code unit above surrogates, and a pair", "\xFF\x5E"s, "\xD8\x3D\xDE\0"s, -1},
+    {"an unpaired surrogate and U+FFFD", "\xD8\0"s, "\xFF\xFD"s, 0},
+    {"an odd byte and U+FFFD", "\0a\0"s, "\0a\xFF\xFD"s, 0},
+};
+
+static int sign(int compared) {
+    return (compared > 0) - (compared < 0);
+}
+
+static bool compares(const pair_row &from, byte_order first_order, byte_order second_order) {
+    std::string first = in_form(from.first, first_order);
+    std::string second = in_form(from.second, second_order);
+    return sign(dethrux::compare(first, first_order, second, second_order)) == from.wanted
+           && sign(dethrux::compare(second, second_order, first, first_order)) == -from.wanted;
+}
+
+static void compare(const pair_row &from) {
+    bool is = true;
+    for (byte_order first : {byte_order::little, byte_order::big}) {
+        for (byte_order second : {byte_order::little, byte_order::big}) {
+            is = is && compares(from, first, second);
+        }
+    }
+    check("compare: "s + from.name, is);
+    if ((from.first.size() + from.second.size()) % 2 == 0) {
+        std::u16string first = in_form(from.first), second = in_form(from.second);
+        check("compare in code units: "s + from.name,
+            sign(dethrux::compare(first, second)) == from.wanted
+                && sign(dethrux::compare(second, first)) == -from.wanted);
+    }
+}
+
+// What has no table: parts of a file, and what a result and an error can be asked.
 static void others() {
-    check(
-        "validate", !dethrux::validate(text) && !dethrux::validate(big, byte_order::big)
-                        && dethrux::validate(ill_formed) == dethrux::error{1, 1}
-                        && dethrux::validate("a\0b"sv, byte_order::little) == dethrux::error{2, 0});
-    check("count_chars",
-        dethrux::count_chars(text) == 4 && dethrux::count_chars(big, byte_order::big) == 4);
-    check("is_ascii", !dethrux::is_ascii(text) && dethrux::is_ascii(u"ab")
-                          && dethrux::is_ascii("a\0"sv, byte_order::little));
-    check("compare", dethrux::compare(u"\uFF5E", u"\U0001F600") < 0
-                         && dethrux::compare(little, byte_order::little, big, byte_order::big) == 0
-                         && dethrux::compare(u"b", u"ab") > 0);
-    check("boundaries", dethrux::is_char_boundary(text, 3) && !dethrux::is_char_boundary(text, 4)
-                            && dethrux::floor_char_boundary(text, 4) == 3
-                            && !dethrux::is_char_boundary(big, byte_order::big, 8)
-                            && dethrux::floor_char_boundary(big, byte_order::big, 9) == 6
-                            && dethrux::floor_char_boundary(text, SIZE_MAX) == 5);
     const auto around = "\xD8\x3D\xDE\0"sv;
-    check("parts of a file",
+    check("floor_char_boundary_around",
         dethrux::floor_char_boundary_around(around, byte_order::big, 1001) == 998
             && dethrux::floor_char_boundary_around(around, byte_order::little, 1001) == 1000
-            && dethrux::shard_offset(11, 3, 2) == 8);
-    std::string swapped = little;
-    dethrux::swap_byte_order(swapped);
-    check("swap_byte_order", swapped == big);
-    std::u16string mended = ill_formed;
-    check("make_well_formed", dethrux::make_well_formed(mended) == 2
-                                  && mended
-                                         == u"a\uFFFD"
-                                            u"b\uFFFD");
-    std::string odd = "\xDC\0a"s;
-    check("make_well_formed of bytes", dethrux::make_well_formed(odd, byte_order::big) == 1
-                                           && odd
-                                                  == "\xFF\xFD"
-                                                     "a");
+            && dethrux::floor_char_boundary_around("\x3D\xD8\0\xDE"sv, byte_order::little, 1001) == 998
+            && dethrux::floor_char_boundary_around(around, byte_order::big, UINT64_MAX)
+                   == UINT64_MAX - 3
+            && dethrux::floor_char_boundary_around({}, byte_order::big, 0) == 0);
+    check("shard_offset", dethrux::shard_offset(11, 3, 2) == 8 && dethrux::shard_offset(11, 3, 3) == 11
+                              && dethrux::shard_offset(UINT64_MAX, 3, 1) == 6148914691236517206);
+    check("the kinds of an error",
+        dethrux::to_utf8(u"ab\xD800").error().is_incomplete()
+            && !dethrux::to_utf8(u"\xDC00").error().is_incomplete()
+            && dethrux::error{1, 2} == dethrux::error{1, 2} && dethrux::error{1, 2} != dethrux::error{1, 1}
+            && dethrux::error{1, 2} != dethrux::error{2, 2}
+            && !(dethrux::error{1, 2} == dethrux::error{1, 1})
+            && !(dethrux::error{1, 2} == dethrux::error{2, 2})
+            && !(dethrux::error{1, 2} != dethrux::error{1, 2}) && dethrux::error{} == dethrux::error{0, 0});
 }
 
-// What can be given as bytes and as code units.
-static void views() {
-    std::vector<unsigned char> bytes(utf8.begin(), utf8.end());
-    std::array<std::byte, 2> letter{std::byte{'h'}, std::byte{'i'}};
-    std::vector<std::uint16_t> units(text.begin(), text.end());
-    check("vectors and arrays", dethrux::from_utf8(bytes).value() == text
-                                    && dethrux::from_utf8(letter).value() == u"hi"
-                                    && dethrux::to_utf8(units).value() == utf8);
-    check("pointers", dethrux::to_utf8(dethrux::units(units.data(), 1)).value() == "a"
-                          && dethrux::from_utf8("a").value() == u"a");
+template <class Call>
+static bool has_no_value(Call call) {
+    try {
+        call();
+    } catch (const std::bad_variant_access &) {
+        return true;
+    }
+    return false;
+}
+
+static void results() {
+    auto found = dethrux::to_utf8(u"text"), lost = dethrux::to_utf8(u"\xDC00");
+    const auto found_const = found, lost_const = lost;
+    check("a result with a value", found.has_value() && found && found.value() == "text" && *found == "text"
+                                       && found->size() == 4 && found_const.value() == "text"
+                                       && *found_const == "text" && found_const->size() == 4);
+    check("a result without a value", !lost.has_value() && !lost && lost_const.error() == dethrux::error{0, 1});
+    check("a value or another", dethrux::to_utf8(u"\xDC00").value_or("other") == "other"
+                                    && dethrux::to_utf8(u"text").value_or("other") == "text");
+    check("the value of an error", has_no_value([&] { (void)lost.value(); })
+                                       && has_no_value([&] { (void)lost_const.value(); })
+                                       && has_no_value([&] { (void)std::move(lost).value(); }));
+    std::string moved = std::move(found).value(), also = *dethrux::to_utf8(u"text");
+    check("a value that is moved", moved == "text" && also == "text");
+}
+
+// What can be given as bytes and as code units, and what cannot.
+template <class Element>
+static bool is_taken_as_bytes() {
+    const std::array<Element, 3> text{Element{'a'}, Element{'b'}, Element{0}};
+    const std::vector<Element> more(text.begin(), text.end());
+    bool is = dethrux::from_utf8(text).value() == u"ab\0"sv && dethrux::from_utf8(more).value() == u"ab\0"sv
+              && dethrux::from_utf8({text.data(), 2}).value() == u"ab";
 #if __cplusplus >= 202002L
-    check("spans", dethrux::from_utf8(std::span<const unsigned char>(bytes)).value() == text
-                       && dethrux::to_utf8(std::span(units)).value() == utf8);
+    is = is && dethrux::from_utf8(std::span(more)).value() == u"ab\0"sv
+         && dethrux::from_utf8(std::span<const Element>(text)).value() == u"ab\0"sv;
 #endif
+    return is;
 }
 
-// Both directions, cut at each offset.
-static void streams() {
-    bool all = true;
-    for (std::size_t cut = 0; cut <= big.size(); cut++) {
-        dethrux::decoder decoder(byte_order::big);
-        std::string to = "before ";
-        decoder.feed(std::string_view(big).substr(0, cut), to);
-        decoder.feed(std::string_view(big).substr(cut), to);
-        all = all && decoder.pending() == 0;
-        decoder.finish(to);
-        all = all && to == "before " + utf8;
-    }
-    check("decoder", all);
-    all = true;
-    for (std::size_t cut = 0; cut <= utf8.size(); cut++) {
-        dethrux::utf8_decoder decoder;
-        std::u16string to;
-        decoder.feed(std::string_view(utf8).substr(0, cut), to);
-        decoder.feed(std::string_view(utf8).substr(cut), to);
-        decoder.finish(to);
-        dethrux::utf8_decoder in_big(byte_order::big);
-        std::string bytes;
-        in_big.feed(std::string_view(utf8).substr(0, cut), bytes);
-        in_big.feed(std::string_view(utf8).substr(cut), bytes);
-        in_big.finish(bytes);
-        all = all && to == text && bytes == big;
-    }
-    check("utf8_decoder", all);
-    dethrux::decoder decoder;
+template <class Element>
+static bool is_taken_as_units() {
+    const std::array<Element, 3> text{Element{'a'}, Element{'b'}, Element{0}};
+    const std::vector<Element> more(text.begin(), text.end());
+    bool is = dethrux::to_utf8(text).value() == "ab\0"sv && dethrux::to_utf8(more).value() == "ab\0"sv
+              && dethrux::to_utf8({text.data(), 2}).value() == "ab";
+#if __cplusplus >= 202002L
+    is = is && dethrux::to_utf8(std::span(more)).value() == "ab\0"sv
+         && dethrux::to_utf8(std::span<const Element>(text)).value() == "ab\0"sv;
+#endif
+    return is;
+}
+
+enum class letter : char {};
+enum class unit : std::uint16_t {};
+struct one_byte {
+    char of;
+};
+struct two_bytes {
+    char of[2];
+};
+
+template <class View, class Element>
+constexpr bool takes = std::is_convertible_v<std::vector<Element>, View>
+                       || std::is_constructible_v<View, const Element *, std::size_t>;
+
+static void views() {
+    check("bytes", is_taken_as_bytes<char>() && is_taken_as_bytes<unsigned char>()
+                       && is_taken_as_bytes<signed char>() && is_taken_as_bytes<std::byte>()
+                       && is_taken_as_bytes<letter>());
+    check("code units", is_taken_as_units<char16_t>() && is_taken_as_units<std::uint16_t>()
+                            && is_taken_as_units<short>() && is_taken_as_units<unit>());
+    check("strings", dethrux::from_utf8("ab"s).value() == u"ab" && dethrux::from_utf8("ab"sv).value() == u"ab"
+                         && dethrux::from_utf8("ab").value() == u"ab" && dethrux::to_utf8(u"ab"s).value() == "ab"
+                         && dethrux::to_utf8(u"ab"sv).value() == "ab" && dethrux::to_utf8(u"ab").value() == "ab");
+    check("no elements", dethrux::bytes().size() == 0 && dethrux::bytes().data() == nullptr
+                             && dethrux::units().size() == 0 && dethrux::units().data() == nullptr
+                             && dethrux::to_utf8(dethrux::units()).value().empty()
+                             && dethrux::from_utf8(dethrux::bytes()).value().empty());
+#if __cplusplus >= 202002L
+    check("char8_t", is_taken_as_bytes<char8_t>());
+#endif
+    static_assert(!takes<dethrux::bytes, char16_t> && !takes<dethrux::bytes, char32_t>
+                  && !takes<dethrux::bytes, one_byte> && !takes<dethrux::bytes, float>);
+    static_assert(!takes<dethrux::units, char> && !takes<dethrux::units, char32_t>
+                  && !takes<dethrux::units, two_bytes> && !takes<dethrux::units, float>);
+}
+
+// What the compiler can say: no call on a text throws, no conversion is made silently, and a byte
+// order can have any value.
+static void types() {
+    using dethrux::bytes, dethrux::units;
+    const bytes text;
+    const units wide;
+    std::string changed;
+    std::u16string changed_wide;
+    const byte_order order = byte_order::big;
+    constexpr dethrux_byte_order any{5u};
+    static_assert(any == 5);
+    static_assert(
+        noexcept(dethrux::validate(text, order)) && noexcept(dethrux::validate(wide))
+        && noexcept(dethrux::count_chars(text, order)) && noexcept(dethrux::count_chars(wide))
+        && noexcept(dethrux::is_ascii(text, order)) && noexcept(dethrux::is_ascii(wide))
+        && noexcept(dethrux::compare(text, order, text, order)) && noexcept(dethrux::compare(wide, wide))
+        && noexcept(dethrux::is_char_boundary(text, order, 0))
+        && noexcept(dethrux::is_char_boundary(wide, 0))
+        && noexcept(dethrux::floor_char_boundary(text, order, 0))
+        && noexcept(dethrux::floor_char_boundary(wide, 0))
+        && noexcept(dethrux::floor_char_boundary_around(text, order, 0))
+        && noexcept(dethrux::shard_offset(0, 0, 0)) && noexcept(dethrux::swap_byte_order(changed))
+        && noexcept(dethrux::swap_byte_order(changed_wide))
+        && noexcept(dethrux::make_well_formed(changed, order))
+        && noexcept(dethrux::make_well_formed(changed_wide)));
+    static_assert(noexcept(dethrux::decoder()) && noexcept(dethrux::utf8_decoder())
+                  && noexcept(dethrux::decoder().pending()) && noexcept(dethrux::utf8_decoder().pending()));
+    static_assert(!std::is_convertible_v<byte_order, dethrux::decoder>
+                  && !std::is_convertible_v<byte_order, dethrux::utf8_decoder>
+                  && !std::is_convertible_v<dethrux::result<std::string>, bool>);
+}
+
+// A decoder in any order decodes code units of the machine's, and one that is made without an order
+// has the machine's.
+static void orders() {
+    const std::string native = in_form("\x4E\0"s, byte_order::native);
     std::string to;
-    decoder.feed(u"a\xD83D", to);
-    check("a surrogate is pending", to == "a" && decoder.pending() == 2);
-    decoder.feed(u"\xDE00", to);
-    check("and makes a pair", to == "a\xF0\x9F\x98\x80" && decoder.pending() == 0);
-    decoder.feed(u"\xD83D", to);
-    decoder.finish(to);
-    check("or is replaced at the end", to == "a\xF0\x9F\x98\x80\xEF\xBF\xBD");
+    dethrux::decoder in_big(byte_order::big), without;
+    in_big.feed(u"\x4E00", to);
+    without.feed(native, to);
+    check("decoders and the machine's order", to == "\xE4\xB8\x80\xE4\xB8\x80");
+    std::u16string units;
+    std::string bytes;
+    dethrux::utf8_decoder units_in_big(byte_order::big), bytes_without;
+    units_in_big.feed("\xE4\xB8\x80\xE4", units);
+    units_in_big.finish(units);
+    bytes_without.feed("\xE4\xB8\x80", bytes);
+    check("decoders of UTF-8 and the machine's order", units == u"\x4E00\xFFFD" && bytes == native);
+    check("the native byte order", dethrux::to_utf8(native, byte_order::native).value() == "\xE4\xB8\x80"
+                                       && native == std::string(reinterpret_cast<const char *>(u"\x4E00"), 2));
+}
+
+// A string that has no capacity left, so that each call that appends requests memory.
+template <class Text>
+static Text full() {
+    Text to;
+    to.resize(to.capacity(), 'x');
+    return to;
 }
 
 // Makes each request of a call fail in turn, until one call makes no further request. `unchanged`
 // says whether all is as it was.
 template <class Call, class Unchanged>
-static void without_memory(const char *name, Call call, Unchanged unchanged) {
+static bool without_memory(Call call, Unchanged unchanged) {
     bool kept = true;
     long requests = 0;
     for (bool refused = true; refused; requests++) {
@@ -195,36 +501,139 @@ static void without_memory(const char *name, Call call, Unchanged unchanged) {
         left = -1;
         kept = kept && (!refused || unchanged());
     }
-    check(name, kept && requests > 1);
+    return kept && requests > 1;
+}
+
+// A call of a decoder that keeps bytes, without memory: nothing changes. Then a text is appended.
+template <class Decoder, class Text, class Call>
+static bool appends(Decoder decoder, std::size_t pending, const Text &text, Call call) {
+    Text to = full<Text>();
+    const Text before = to;
+    return without_memory([&] { call(decoder, to); },
+               [&] { return to == before && decoder.pending() == pending; })
+           && to == before + text && decoder.pending() == 0;
+}
+
+// The rest of a character gives it, and the end of the stream gives U+FFFD.
+template <class Decoder, class Text>
+static bool keeps(Decoder decoder, std::string_view first, std::string_view rest, const Text &text,
+    const Text &mark) {
+    Text none;
+    decoder.feed(first, none);
+    return none.empty()
+           && appends(decoder, first.size(), text, [&](auto &by, auto &to) { by.feed(rest, to); })
+           && appends(decoder, first.size(), mark, [](auto &by, auto &to) { by.finish(to); });
 }
 
 static void memory() {
-    std::string chunk(1000, 'a');
-    std::u16string units(1000, u'a');
-    without_memory(
-        "to_utf8 without memory", [&] { (void)dethrux::to_utf8(units); }, [] { return true; });
-    without_memory(
-        "from_utf8 without memory", [&] { (void)dethrux::from_utf8(chunk); }, [] { return true; });
-    dethrux::decoder decoder;
-    std::string to;
-    decoder.feed(u"\xD83D", to);
-    without_memory(
-        "decoder without memory", [&] { decoder.feed(units, to); },
-        [&] { return to.empty() && decoder.pending() == 2; });
-    dethrux::utf8_decoder encoder;
-    std::u16string utf16;
-    encoder.feed("\xE4", utf16);
-    without_memory(
-        "utf8_decoder without memory", [&] { encoder.feed(chunk, utf16); },
-        [&] { return utf16.empty() && encoder.pending() == 1; });
+    const std::string pair = "\xD8\x3D\xDE\0"s, utf8 = "\xF0\x9F\x98\x80"s;
+    for (byte_order order : {byte_order::little, byte_order::big}) {
+        const std::string text = in_form(pair, order), mark = in_form("\xFF\xFD"s, order);
+        for (std::size_t at = 1; at < 4; at++) {
+            const std::string first = utf8.substr(0, at), rest = utf8.substr(at);
+            const std::string name = " without memory, cut at " + std::to_string(at);
+            check("decoder" + name, keeps(dethrux::decoder(order), text.substr(0, at),
+                                        text.substr(at), utf8, "\xEF\xBF\xBD"s));
+            check("utf8_decoder" + name,
+                keeps(dethrux::utf8_decoder(order), first, rest, text, mark));
+            check("utf8_decoder to code units" + name,
+                keeps(dethrux::utf8_decoder(order), first, rest, in_form(pair), u"\uFFFD"s));
+        }
+    }
+}
+
+// Whether a call requests memory, at most so many bytes at once and some for the string's own, and
+// fails without it.
+template <class Call>
+static bool requests_at_most(std::size_t bytes, Call call) {
+    largest_request = 0;
+    call();
+    bool is = largest_request > 0 && largest_request <= bytes + 64;
+    return is && without_memory(call, [] { return true; });
+}
+
+// A result takes the memory of the longest text for its length of input: three bytes a code unit of
+// UTF-16, a code unit a byte of UTF-8.
+static void space() {
+    const std::string bytes(2000, 'a');
+    const std::u16string units(1000, u'a');
+    const byte_order order = byte_order::big;
+    check("the memory of to_utf8",
+        requests_at_most(3000, [&] { (void)dethrux::to_utf8(units); })
+            && requests_at_most(3000, [&] { (void)dethrux::to_utf8(bytes, order); })
+            && requests_at_most(3000, [&] { (void)dethrux::to_utf8_lossy(units); })
+            && requests_at_most(3000, [&] { (void)dethrux::to_utf8_lossy(bytes, order); }));
+    check("the memory of from_utf8",
+        requests_at_most(4000, [&] { (void)dethrux::from_utf8(bytes); })
+            && requests_at_most(4000, [&] { (void)dethrux::from_utf8(bytes, order); })
+            && requests_at_most(4000, [&] { (void)dethrux::from_utf8_lossy(bytes); })
+            && requests_at_most(4000, [&] { (void)dethrux::from_utf8_lossy(bytes, order); }));
+    check("the memory of decoders", requests_at_most(3000, [&] {
+        std::string to;
+        dethrux::decoder(order).feed(bytes, to);
+    }) && requests_at_most(3000, [&] {
+        std::string to;
+        dethrux::decoder().feed(units, to);
+    }) && requests_at_most(4000, [&] {
+        std::string to;
+        dethrux::utf8_decoder(order).feed(bytes, to);
+    }) && requests_at_most(4000, [&] {
+        std::u16string to;
+        dethrux::utf8_decoder().feed(bytes, to);
+    }));
+}
+
+// Whether a call refuses a text for which no string is long enough. None of it is read.
+template <class Call>
+static bool is_too_long(Call call) {
+    try {
+        call();
+    } catch (const std::length_error &) {
+        return true;
+    }
+    return false;
+}
+
+static void lengths() {
+    const std::size_t len = PTRDIFF_MAX / 4 * 3;
+    const dethrux::bytes bytes("", len);
+    const dethrux::units units(u"", len / 2);
+    const byte_order order = byte_order::big;
+    std::string to = "before";
+    std::u16string wide = u"before";
+    dethrux::decoder decoder(order);
+    dethrux::utf8_decoder back(order);
+    check("texts that are too long",
+        is_too_long([&] { (void)dethrux::to_utf8(bytes, order); })
+            && is_too_long([&] { (void)dethrux::to_utf8_lossy(units); })
+            && is_too_long([&] { (void)dethrux::from_utf8(bytes, order); })
+            && is_too_long([&] { (void)dethrux::from_utf8_lossy(bytes); })
+            && is_too_long([&] { decoder.feed(bytes, to); })
+            && is_too_long([&] { decoder.feed(units, to); })
+            && is_too_long([&] { back.feed(bytes, to); })
+            && is_too_long([&] { back.feed(bytes, wide); }) && to == "before" && wide == u"before"
+            && decoder.pending() == 0 && back.pending() == 0);
+}
+
+template <class Rows, class... Tests>
+static void with_each(const Rows &all, Tests... tests) {
+    for (const auto &one : all) {
+        (tests(one), ...);
+    }
 }
 
 int main() {
-    conversions();
+    with_each(rows, look, change, cut, to_utf8, decode);
+    with_each(rows8, from_utf8, decode8);
+    with_each(pairs, compare);
     others();
+    results();
     views();
-    streams();
+    types();
+    orders();
     memory();
+    space();
+    lengths();
     std::printf("%d passed, %d failed\n", passed, failed);
     return failed != 0;
 }

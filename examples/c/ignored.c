@@ -1,0 +1,47 @@
+/* Ignores the result of each call that returns one. It is C99 and C++, and examples/c/run.sh compiles
+ * it to see that the compiler warns of each line of `ignore`. */
+#include "dethrux.h"
+
+void ignore(dethrux_byte_order by, uint8_t *bytes, uint16_t *units, size_t len,
+    dethrux_decoder *decoder, dethrux_utf8_decoder *back);
+
+void ignore(dethrux_byte_order by, uint8_t *bytes, uint16_t *units, size_t len,
+    dethrux_decoder *decoder, dethrux_utf8_decoder *back) {
+    dethrux_version();
+    dethrux_validate(by, bytes, len);
+    dethrux_count_chars(by, bytes, len);
+    dethrux_is_ascii(by, bytes, len);
+    dethrux_to_utf8_lossy_len(by, bytes, len);
+    dethrux_from_utf8_len(bytes, len);
+    dethrux_from_utf8_lossy_len(bytes, len);
+    dethrux_to_utf8(by, bytes, len, bytes, len);
+    dethrux_to_utf8_lossy(by, bytes, len, bytes, len);
+    dethrux_to_utf8_partial(by, bytes, len, bytes, len);
+    dethrux_from_utf8(by, bytes, len, bytes, len);
+    dethrux_from_utf8_lossy(by, bytes, len, bytes, len);
+    dethrux_decoder_feed(decoder, by, bytes, len, bytes, len);
+    dethrux_decoder_finish(decoder, bytes, len);
+    dethrux_utf8_decoder_feed(back, by, bytes, len, bytes, len);
+    dethrux_utf8_decoder_finish(back, by, bytes, len);
+    dethrux_is_char_boundary(by, bytes, len, len);
+    dethrux_floor_char_boundary(by, bytes, len, len);
+    dethrux_floor_char_boundary_around(by, bytes, len, len);
+    dethrux_shard_offset(len, len, len);
+    dethrux_compare(by, bytes, len, by, bytes, len);
+    dethrux_detect_bom(bytes, len);
+    dethrux_u16_validate(units, len);
+    dethrux_u16_count_chars(units, len);
+    dethrux_u16_is_ascii(units, len);
+    dethrux_u16_to_utf8_lossy_len(units, len);
+    dethrux_u16_to_utf8(units, len, bytes, len);
+    dethrux_u16_to_utf8_lossy(units, len, bytes, len);
+    dethrux_u16_to_utf8_partial(units, len, bytes, len);
+    dethrux_u16_decoder_feed(decoder, units, len, bytes, len);
+    dethrux_u16_from_utf8(bytes, len, units, len);
+    dethrux_u16_from_utf8_lossy(bytes, len, units, len);
+    dethrux_u16_utf8_decoder_feed(back, bytes, len, units, len);
+    dethrux_u16_utf8_decoder_finish(back, units, len);
+    dethrux_u16_is_char_boundary(units, len, len);
+    dethrux_u16_floor_char_boundary(units, len, len);
+    dethrux_u16_compare(units, len, units, len);
+}

@@ -1,0 +1,30 @@
+// Ignores the result of each function that returns one. examples/c/run.sh compiles it to see that
+// the compiler warns of each line of `ignore`.
+#include "dethrux.hpp"
+
+void ignore(dethrux::bytes bytes, dethrux::units units, dethrux::byte_order by);
+
+void ignore(dethrux::bytes bytes, dethrux::units units, dethrux::byte_order by) {
+    dethrux::validate(bytes, by);
+    dethrux::validate(units);
+    dethrux::count_chars(bytes, by);
+    dethrux::count_chars(units);
+    dethrux::is_ascii(bytes, by);
+    dethrux::is_ascii(units);
+    dethrux::compare(bytes, by, bytes, by);
+    dethrux::compare(units, units);
+    dethrux::is_char_boundary(bytes, by, 0);
+    dethrux::is_char_boundary(units, 0);
+    dethrux::floor_char_boundary(bytes, by, 0);
+    dethrux::floor_char_boundary(units, 0);
+    dethrux::floor_char_boundary_around(bytes, by, 0);
+    dethrux::shard_offset(0, 0, 0);
+    dethrux::to_utf8(bytes, by);
+    dethrux::to_utf8(units);
+    dethrux::to_utf8_lossy(bytes, by);
+    dethrux::to_utf8_lossy(units);
+    dethrux::from_utf8(bytes, by);
+    dethrux::from_utf8(bytes);
+    dethrux::from_utf8_lossy(bytes, by);
+    dethrux::from_utf8_lossy(bytes);
+}
