@@ -1,5 +1,5 @@
-/* Ignores the result of each call that returns one. It is C99 and C++, and examples/c/run.sh compiles
- * it to see that the compiler warns of each line of `ignore`. */
+/* Ignores the result of each call that returns one. It is C99 and C++, and examples/c/run.sh
+ * compiles it to see that the compiler warns of each line of `ignore`. */
 #include "dethrux.h"
 
 void ignore(dethrux_byte_order by, uint8_t *bytes, uint16_t *units, size_t len,

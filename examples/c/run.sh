@@ -31,16 +31,14 @@ count() {
         failed=$((failed + 1))
         echo "failed: $name"
         tail -n 20 "$room/said"
-        [ -n "$whole" ] || finish
+        [ -n "$whole" ] || { result; exit 1; }
         return 1
     fi
 }
 
-# Prints the result and ends.
-finish() {
+result() {
     echo "$passed passed, $failed failed"
     [ $failed = 0 ]
-    exit
 }
 
 # Builds the static library over what rt has kept of the crates below it.
@@ -234,4 +232,4 @@ if has cc 'C and Python'; then
         count 'the shared object' shared && count 'the cases in Python' check_python
     fi
 fi
-finish
+result

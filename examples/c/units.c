@@ -1,5 +1,6 @@
 /* Makes the calls for UTF-16 in the machine's byte order on tables of texts, and compares with
- * results that were worked out by hand. It is C11 and C++17. The last line is 'N passed, M failed'. */
+ * results that were worked out by hand. It is C11 and C++17. The last line is 'N passed, M
+ * failed'. */
 #include "dethrux.h"
 
 #include <stdio.h>
@@ -72,8 +73,10 @@ static const text texts[] = {
     {"the first half of a pair", 3, {0x61, 0x62, 0xD83D}, {2, DETHRUX_INCOMPLETE, 0}, 3, false,
         "ab\xEF\xBF\xBD", "||||", 1, {0x61, 0x62, 0xFFFD}},
     {"halves of pairs before a pair", 5, {0xDC00, 0xD800, 0xD800, 0xDC00, 0x61},
-        {0, DETHRUX_ILL_FORMED, 1}, 3, false, "\xEF\xBF\xBD\xEF\xBF\xBD\xF0\x90\x80\x80"
-        "a", "|||.||", 2, {0xFFFD, 0xFFFD, 0xD800, 0xDC00, 0x61}},
+        {0, DETHRUX_ILL_FORMED, 1}, 3, false,
+        "\xEF\xBF\xBD\xEF\xBF\xBD\xF0\x90\x80\x80"
+        "a",
+        "|||.||", 2, {0xFFFD, 0xFFFD, 0xD800, 0xDC00, 0x61}},
 };
 
 /* Null if the text is empty. */
@@ -93,8 +96,8 @@ static void look(const text *from) {
         dethrux_u16_to_utf8_lossy_len(units, from->len) == strlen(from->utf8));
 }
 
-/* At each offset of the text, and after its end: one past, twice as far, and where a multiple of the
- * offset wraps to one that is inside. */
+/* At each offset of the text, and after its end: one past, twice as far, and where a multiple of
+ * the offset wraps to one that is inside. */
 static void cut(const text *from) {
     const size_t half = SIZE_MAX / 2 + 1;
     const size_t after[] = {from->len + 1, 2 * from->len + 1, half, half + 1, half + from->len,
@@ -238,8 +241,8 @@ static void decode(const text *from) {
     check("decoder_feed of two chunks", from->name, is);
 }
 
-/* A text in UTF-8, what a strict call stops at, and how many bytes at its end are incomplete. `cuts`
- * has a bar for each offset where a character or an ill-formed sequence ends. */
+/* A text in UTF-8, what a strict call stops at, and how many bytes at its end are incomplete.
+ * `cuts` has a bar for each offset where a character or an ill-formed sequence ends. */
 typedef struct {
     const char *name;
     const char *utf8;
@@ -257,8 +260,10 @@ static const text8 texts8[] = {
         {10, DETHRUX_DONE, 0}, 0, 5, {0x61, 0xE9, 0x4E2D, 0xD83D, 0xDE00}},
     {"bytes that UTF-8 never has", "\xFF\xFF\xFF", "||||", {0, DETHRUX_ILL_FORMED, 1}, 0, 3,
         {0xFFFD, 0xFFFD, 0xFFFD}},
-    {"two bytes of three, and a letter", "a\xE4\xB8" "b", "||.||", {1, DETHRUX_ILL_FORMED, 2}, 0, 3,
-        {0x61, 0xFFFD, 0x62}},
+    {"two bytes of three, and a letter",
+        "a\xE4\xB8"
+        "b",
+        "||.||", {1, DETHRUX_ILL_FORMED, 2}, 0, 3, {0x61, 0xFFFD, 0x62}},
     {"one byte of two", "\xC3", "||", {0, DETHRUX_INCOMPLETE, 0}, 1, 1, {0xFFFD}},
     {"two bytes of three", "a\xE4\xB8", "||.|", {1, DETHRUX_INCOMPLETE, 0}, 2, 2, {0x61, 0xFFFD}},
     {"three bytes of four", "\xF0\x9F\x98", "|..|", {0, DETHRUX_INCOMPLETE, 0}, 3, 1, {0xFFFD}},
@@ -307,8 +312,8 @@ static void from_utf8(const text8 *from) {
         for (size_t capacity = 0; capacity <= len; capacity++) {
             uint16_t to[BUFFER / 2];
             memset(to, BLANK, sizeof to);
-            dethrux_progress found = calls_from_utf8[i].call(
-                bytes_of(from), len, capacity == 0 ? NULL : to, capacity);
+            dethrux_progress found =
+                calls_from_utf8[i].call(bytes_of(from), len, capacity == 0 ? NULL : to, capacity);
             is = is && is_same(found, reached8(from, calls_from_utf8[i].by, capacity))
                  && (capacity < len || found.status != DETHRUX_NO_SPACE)
                  && memcmp(to, from->units, found.written * 2) == 0 && is_blank(to, capacity * 2);

@@ -69,12 +69,13 @@ static std::u16string in_form(std::string_view big) {
     return found;
 }
 
-// Whether a call holds for a text in each form: of the bytes of an element, and of the byte order of
-// a text in bytes. A text with an odd byte has no code units.
-template <class Call>
-static bool in_each_form(std::string_view big, Call call) {
-    return call(std::size_t{1}, byte_order::big) && call(std::size_t{1}, byte_order::little)
-           && (big.size() % 2 != 0 || call(std::size_t{2}));
+// Checks a call on the text of a row in each form. The call gets the bytes of an element, and the
+// byte order if the form is bytes. A text with an odd byte has no code units.
+template <class Row, class Call>
+static void check_forms(const char *name, const Row &from, Call holds) {
+    check(name + ": "s + from.name, holds(std::size_t{1}, byte_order::big)
+                                        && holds(std::size_t{1}, byte_order::little)
+                                        && (from.big.size() % 2 != 0 || holds(std::size_t{2})));
 }
 
 // A text in big endian, and what the calls find in it; offsets count bytes. `cuts` has a bar for
@@ -104,8 +105,7 @@ static const row rows[] = {
     {"a swapped pair", "\x3D\xD8\0\xDE"s, {}, 2, false, "\xE3\xB7\x98\xC3\x9E"s, "|.|.|"s, 0, 0,
         "\x3D\xD8\0\xDE"s},
     {"two pairs", "\xD8\x3D\xDE\0\xD8\x3D\xDE\x01"s, {}, 2, false,
-        "\xF0\x9F\x98\x80\xF0\x9F\x98\x81"s, "|...|...|"s, 0, 0,
-        "\xD8\x3D\xDE\0\xD8\x3D\xDE\x01"s},
+        "\xF0\x9F\x98\x80\xF0\x9F\x98\x81"s, "|...|...|"s, 0, 0, "\xD8\x3D\xDE\0\xD8\x3D\xDE\x01"s},
     {"unpaired surrogates", "\0a\xDC\0\0b\xD8\0"s, dethrux::error{2, 2}, 3, false,
         "a\xEF\xBF\xBD"
         "b\xEF\xBF\xBD"s,
@@ -132,30 +132,30 @@ static std::optional<dethrux::error> in_elements(
 }
 
 static void look(const row &from) {
-    check("validate: "s + from.name, in_each_form(from.big, [&](std::size_t element, auto... order) {
+    check_forms("validate", from, [&](std::size_t element, auto... order) {
         return dethrux::validate(in_form(from.big, order...), order...)
                == in_elements(from.reason, element);
-    }));
-    check("count_chars: "s + from.name, in_each_form(from.big, [&](std::size_t, auto... order) {
+    });
+    check_forms("count_chars", from, [&](std::size_t, auto... order) {
         return dethrux::count_chars(in_form(from.big, order...), order...) == from.chars;
-    }));
-    check("is_ascii: "s + from.name, in_each_form(from.big, [&](std::size_t, auto... order) {
+    });
+    check_forms("is_ascii", from, [&](std::size_t, auto... order) {
         return dethrux::is_ascii(in_form(from.big, order...), order...) == from.is_ascii;
-    }));
+    });
 }
 
 static void change(const row &from) {
-    check("make_well_formed: "s + from.name, in_each_form(from.big, [&](std::size_t, auto... order) {
+    check_forms("make_well_formed", from, [&](std::size_t, auto... order) {
         auto text = in_form(from.big, order...);
         return dethrux::make_well_formed(text, order...) == from.unpaired
                && text == in_form(from.mended, order...);
-    }));
+    });
     std::string bytes = from.big;
     dethrux::swap_byte_order(bytes);
     std::u16string units = in_form(from.big);
     dethrux::swap_byte_order(units);
-    check("swap_byte_order: "s + from.name, bytes == in_form(from.big, byte_order::little)
-                                                && units == in_form(bytes));
+    check("swap_byte_order: "s + from.name,
+        bytes == in_form(from.big, byte_order::little) && units == in_form(bytes));
 }
 
 // Whether a text has a boundary at an offset, and this one at or before it.
@@ -167,38 +167,38 @@ static bool is_cut(
            && dethrux::floor_char_boundary(text, order..., at) == floor;
 }
 
-// At each offset of the text, and after its end: one past, twice as far, and where a multiple of the
-// offset wraps to one that is inside.
+// At each offset of the text, and after its end: one past, twice as far, and where a multiple of
+// the offset wraps to one that is inside.
 static void cut(const row &from) {
-    check("boundaries: "s + from.name, in_each_form(from.big, [&](std::size_t element, auto... order) {
+    check_forms("boundaries", from, [&](std::size_t element, auto... order) {
         bool is = true;
         std::size_t len = from.big.size() / element, half = SIZE_MAX / 2 + 1;
         for (std::size_t at = 0; at <= len; at++) {
             std::size_t floor = from.cuts.rfind('|', at * element);
             is = is && is_cut(from, at, floor == at * element, floor / element, order...);
         }
-        for (std::size_t at : {len + 1, 2 * len + 1, half, half + 1, half + len, half / 2,
-                 SIZE_MAX - 1, SIZE_MAX}) {
+        for (std::size_t at :
+            {len + 1, 2 * len + 1, half, half + 1, half + len, half / 2, SIZE_MAX - 1, SIZE_MAX}) {
             is = is && is_cut(from, at, false, len, order...);
         }
         return is;
-    }));
+    });
 }
 
 static void to_utf8(const row &from) {
-    check("to_utf8: "s + from.name, in_each_form(from.big, [&](std::size_t element, auto... order) {
+    check_forms("to_utf8", from, [&](std::size_t element, auto... order) {
         auto found = dethrux::to_utf8(in_form(from.big, order...), order...);
         return from.reason ? !found && found.error() == in_elements(from.reason, element)
                            : found && found.value() == from.utf8;
-    }));
-    check("to_utf8_lossy: "s + from.name, in_each_form(from.big, [&](std::size_t, auto... order) {
+    });
+    check_forms("to_utf8_lossy", from, [&](std::size_t, auto... order) {
         return dethrux::to_utf8_lossy(in_form(from.big, order...), order...) == from.utf8;
-    }));
+    });
 }
 
 // In two chunks, cut at each offset, after a text, and twice by the same decoder.
 static void decode(const row &from) {
-    check("decoder: "s + from.name, in_each_form(from.big, [&](std::size_t, auto... order) {
+    check_forms("decoder", from, [&](std::size_t, auto... order) {
         bool is = true;
         auto text = in_form(from.big, order...);
         dethrux::decoder decoder(order...);
@@ -211,7 +211,7 @@ static void decode(const row &from) {
             is = is && decoder.pending() == 0 && to == "before " + from.utf8;
         }
         return is;
-    }));
+    });
 }
 
 // A text in UTF-8, where it is ill formed, and what it is in UTF-16 in big endian; the last of its
@@ -229,8 +229,8 @@ static const row8 rows8[] = {
     {"ASCII", "abc", {}, "\0a\0b\0c"s, 0},
     {"one to four bytes", "a\xC3\xA9\xE4\xB8\xAD\xF0\x9F\x98\x80", {},
         "\0a\0\xE9\x4E\x2D\xD8\x3D\xDE\0"s, 0},
-    {"bytes that UTF-8 never has", "\xFF\xFF\xFF", dethrux::error{0, 1}, "\xFF\xFD\xFF\xFD\xFF\xFD"s,
-        0},
+    {"bytes that UTF-8 never has", "\xFF\xFF\xFF", dethrux::error{0, 1},
+        "\xFF\xFD\xFF\xFD\xFF\xFD"s, 0},
     {"two bytes of three, and a letter",
         "a\xE4\xB8"
         "b",
@@ -241,18 +241,18 @@ static const row8 rows8[] = {
 };
 
 static void from_utf8(const row8 &from) {
-    check("from_utf8: "s + from.name, in_each_form(from.big, [&](std::size_t, auto... order) {
+    check_forms("from_utf8", from, [&](std::size_t, auto... order) {
         auto found = dethrux::from_utf8(from.utf8, order...);
         return from.reason ? !found && found.error() == from.reason
                            : found && found.value() == in_form(from.big, order...);
-    }));
-    check("from_utf8_lossy: "s + from.name, in_each_form(from.big, [&](std::size_t, auto... order) {
+    });
+    check_forms("from_utf8_lossy", from, [&](std::size_t, auto... order) {
         return dethrux::from_utf8_lossy(from.utf8, order...) == in_form(from.big, order...);
-    }));
+    });
 }
 
 static void decode8(const row8 &from) {
-    check("utf8_decoder: "s + from.name, in_each_form(from.big, [&](std::size_t, auto... order) {
+    check_forms("utf8_decoder", from, [&](std::size_t, auto... order) {
         bool is = true;
         const auto before = in_form("\0b\0e"s, order...);
         dethrux::utf8_decoder decoder(order...);
@@ -265,7 +265,7 @@ static void decode8(const row8 &from) {
             is = is && decoder.pending() == 0 && to == before + in_form(from.big, order...);
         }
         return is;
-    }));
+    });
 }
 
 // Two texts in big endian, and the sign of their comparison. Each is given in each form.
@@ -320,20 +320,23 @@ static void others() {
     check("floor_char_boundary_around",
         dethrux::floor_char_boundary_around(around, byte_order::big, 1001) == 998
             && dethrux::floor_char_boundary_around(around, byte_order::little, 1001) == 1000
-            && dethrux::floor_char_boundary_around("\x3D\xD8\0\xDE"sv, byte_order::little, 1001) == 998
+            && dethrux::floor_char_boundary_around("\x3D\xD8\0\xDE"sv, byte_order::little, 1001)
+                   == 998
             && dethrux::floor_char_boundary_around(around, byte_order::big, UINT64_MAX)
                    == UINT64_MAX - 3
             && dethrux::floor_char_boundary_around({}, byte_order::big, 0) == 0);
-    check("shard_offset", dethrux::shard_offset(11, 3, 2) == 8 && dethrux::shard_offset(11, 3, 3) == 11
+    check("shard_offset", dethrux::shard_offset(11, 3, 2) == 8
+                              && dethrux::shard_offset(11, 3, 3) == 11
                               && dethrux::shard_offset(UINT64_MAX, 3, 1) == 6148914691236517206);
-    check("the kinds of an error",
-        dethrux::to_utf8(u"ab\xD800").error().is_incomplete()
-            && !dethrux::to_utf8(u"\xDC00").error().is_incomplete()
-            && dethrux::error{1, 2} == dethrux::error{1, 2} && dethrux::error{1, 2} != dethrux::error{1, 1}
-            && dethrux::error{1, 2} != dethrux::error{2, 2}
-            && !(dethrux::error{1, 2} == dethrux::error{1, 1})
-            && !(dethrux::error{1, 2} == dethrux::error{2, 2})
-            && !(dethrux::error{1, 2} != dethrux::error{1, 2}) && dethrux::error{} == dethrux::error{0, 0});
+    check("the kinds of an error", dethrux::to_utf8(u"ab\xD800").error().is_incomplete()
+                                       && !dethrux::to_utf8(u"\xDC00").error().is_incomplete()
+                                       && dethrux::error{1, 2} == dethrux::error{1, 2}
+                                       && dethrux::error{1, 2} != dethrux::error{1, 1}
+                                       && dethrux::error{1, 2} != dethrux::error{2, 2}
+                                       && !(dethrux::error{1, 2} == dethrux::error{1, 1})
+                                       && !(dethrux::error{1, 2} == dethrux::error{2, 2})
+                                       && !(dethrux::error{1, 2} != dethrux::error{1, 2})
+                                       && dethrux::error{} == dethrux::error{0, 0});
 }
 
 template <class Call>
@@ -349,15 +352,17 @@ static bool has_no_value(Call call) {
 static void results() {
     auto found = dethrux::to_utf8(u"text"), lost = dethrux::to_utf8(u"\xDC00");
     const auto found_const = found, lost_const = lost;
-    check("a result with a value", found.has_value() && found && found.value() == "text" && *found == "text"
-                                       && found->size() == 4 && found_const.value() == "text"
-                                       && *found_const == "text" && found_const->size() == 4);
-    check("a result without a value", !lost.has_value() && !lost && lost_const.error() == dethrux::error{0, 1});
+    check("a result with a value", found.has_value() && found && found.value() == "text"
+                                       && *found == "text" && found->size() == 4
+                                       && found_const.value() == "text" && *found_const == "text"
+                                       && found_const->size() == 4);
+    check("a result without a value",
+        !lost.has_value() && !lost && lost_const.error() == dethrux::error{0, 1});
     check("a value or another", dethrux::to_utf8(u"\xDC00").value_or("other") == "other"
                                     && dethrux::to_utf8(u"text").value_or("other") == "text");
-    check("the value of an error", has_no_value([&] { (void)lost.value(); })
-                                       && has_no_value([&] { (void)lost_const.value(); })
-                                       && has_no_value([&] { (void)std::move(lost).value(); }));
+    check("the value of an error", has_no_value([&] { (void)lost.value(); }) && has_no_value([&] {
+        (void)lost_const.value();
+    }) && has_no_value([&] { (void)std::move(lost).value(); }));
     std::string moved = std::move(found).value(), also = *dethrux::to_utf8(u"text");
     check("a value that is moved", moved == "text" && also == "text");
 }
@@ -367,7 +372,8 @@ template <class Element>
 static bool is_taken_as_bytes() {
     const std::array<Element, 3> text{Element{'a'}, Element{'b'}, Element{0}};
     const std::vector<Element> more(text.begin(), text.end());
-    bool is = dethrux::from_utf8(text).value() == u"ab\0"sv && dethrux::from_utf8(more).value() == u"ab\0"sv
+    bool is = dethrux::from_utf8(text).value() == u"ab\0"sv
+              && dethrux::from_utf8(more).value() == u"ab\0"sv
               && dethrux::from_utf8({text.data(), 2}).value() == u"ab";
 #if __cplusplus >= 202002L
     is = is && dethrux::from_utf8(std::span(more)).value() == u"ab\0"sv
@@ -380,7 +386,8 @@ template <class Element>
 static bool is_taken_as_units() {
     const std::array<Element, 3> text{Element{'a'}, Element{'b'}, Element{0}};
     const std::vector<Element> more(text.begin(), text.end());
-    bool is = dethrux::to_utf8(text).value() == "ab\0"sv && dethrux::to_utf8(more).value() == "ab\0"sv
+    bool is = dethrux::to_utf8(text).value() == "ab\0"sv
+              && dethrux::to_utf8(more).value() == "ab\0"sv
               && dethrux::to_utf8({text.data(), 2}).value() == "ab";
 #if __cplusplus >= 202002L
     is = is && dethrux::to_utf8(std::span(more)).value() == "ab\0"sv
@@ -399,8 +406,11 @@ struct two_bytes {
 };
 
 template <class View, class Element>
-constexpr bool takes = std::is_convertible_v<std::vector<Element>, View>
-                       || std::is_constructible_v<View, const Element *, std::size_t>;
+constexpr bool takes = std::is_convertible_v<std::vector<Element>,
+                           View> || std::is_constructible_v<View, const Element *, std::size_t>;
+
+template <class View, class... Elements>
+constexpr bool takes_any = (takes<View, Elements> || ...);
 
 static void views() {
     check("bytes", is_taken_as_bytes<char>() && is_taken_as_bytes<unsigned char>()
@@ -408,9 +418,11 @@ static void views() {
                        && is_taken_as_bytes<letter>());
     check("code units", is_taken_as_units<char16_t>() && is_taken_as_units<std::uint16_t>()
                             && is_taken_as_units<short>() && is_taken_as_units<unit>());
-    check("strings", dethrux::from_utf8("ab"s).value() == u"ab" && dethrux::from_utf8("ab"sv).value() == u"ab"
-                         && dethrux::from_utf8("ab").value() == u"ab" && dethrux::to_utf8(u"ab"s).value() == "ab"
-                         && dethrux::to_utf8(u"ab"sv).value() == "ab" && dethrux::to_utf8(u"ab").value() == "ab");
+    check("strings",
+        dethrux::from_utf8("ab"s).value() == u"ab" && dethrux::from_utf8("ab"sv).value() == u"ab"
+            && dethrux::from_utf8("ab").value() == u"ab" && dethrux::to_utf8(u"ab"s).value() == "ab"
+            && dethrux::to_utf8(u"ab"sv).value() == "ab"
+            && dethrux::to_utf8(u"ab").value() == "ab");
     check("no elements", dethrux::bytes().size() == 0 && dethrux::bytes().data() == nullptr
                              && dethrux::units().size() == 0 && dethrux::units().data() == nullptr
                              && dethrux::to_utf8(dethrux::units()).value().empty()
@@ -418,10 +430,8 @@ static void views() {
 #if __cplusplus >= 202002L
     check("char8_t", is_taken_as_bytes<char8_t>());
 #endif
-    static_assert(!takes<dethrux::bytes, char16_t> && !takes<dethrux::bytes, char32_t>
-                  && !takes<dethrux::bytes, one_byte> && !takes<dethrux::bytes, float>);
-    static_assert(!takes<dethrux::units, char> && !takes<dethrux::units, char32_t>
-                  && !takes<dethrux::units, two_bytes> && !takes<dethrux::units, float>);
+    static_assert(!takes_any<dethrux::bytes, char16_t, char32_t, one_byte, float>);
+    static_assert(!takes_any<dethrux::units, char, char32_t, two_bytes, float>);
 }
 
 // What the compiler can say: no call on a text throws, no conversion is made silently, and a byte
@@ -435,25 +445,31 @@ static void types() {
     const byte_order order = byte_order::big;
     constexpr dethrux_byte_order any{5u};
     static_assert(any == 5);
-    static_assert(
-        noexcept(dethrux::validate(text, order)) && noexcept(dethrux::validate(wide))
-        && noexcept(dethrux::count_chars(text, order)) && noexcept(dethrux::count_chars(wide))
-        && noexcept(dethrux::is_ascii(text, order)) && noexcept(dethrux::is_ascii(wide))
-        && noexcept(dethrux::compare(text, order, text, order)) && noexcept(dethrux::compare(wide, wide))
-        && noexcept(dethrux::is_char_boundary(text, order, 0))
-        && noexcept(dethrux::is_char_boundary(wide, 0))
-        && noexcept(dethrux::floor_char_boundary(text, order, 0))
-        && noexcept(dethrux::floor_char_boundary(wide, 0))
-        && noexcept(dethrux::floor_char_boundary_around(text, order, 0))
-        && noexcept(dethrux::shard_offset(0, 0, 0)) && noexcept(dethrux::swap_byte_order(changed))
-        && noexcept(dethrux::swap_byte_order(changed_wide))
-        && noexcept(dethrux::make_well_formed(changed, order))
-        && noexcept(dethrux::make_well_formed(changed_wide)));
-    static_assert(noexcept(dethrux::decoder()) && noexcept(dethrux::utf8_decoder())
-                  && noexcept(dethrux::decoder().pending()) && noexcept(dethrux::utf8_decoder().pending()));
-    static_assert(!std::is_convertible_v<byte_order, dethrux::decoder>
-                  && !std::is_convertible_v<byte_order, dethrux::utf8_decoder>
-                  && !std::is_convertible_v<dethrux::result<std::string>, bool>);
+    static_assert(noexcept(dethrux::validate(text, order)));
+    static_assert(noexcept(dethrux::validate(wide)));
+    static_assert(noexcept(dethrux::count_chars(text, order)));
+    static_assert(noexcept(dethrux::count_chars(wide)));
+    static_assert(noexcept(dethrux::is_ascii(text, order)));
+    static_assert(noexcept(dethrux::is_ascii(wide)));
+    static_assert(noexcept(dethrux::compare(text, order, text, order)));
+    static_assert(noexcept(dethrux::compare(wide, wide)));
+    static_assert(noexcept(dethrux::is_char_boundary(text, order, 0)));
+    static_assert(noexcept(dethrux::is_char_boundary(wide, 0)));
+    static_assert(noexcept(dethrux::floor_char_boundary(text, order, 0)));
+    static_assert(noexcept(dethrux::floor_char_boundary(wide, 0)));
+    static_assert(noexcept(dethrux::floor_char_boundary_around(text, order, 0)));
+    static_assert(noexcept(dethrux::shard_offset(0, 0, 0)));
+    static_assert(noexcept(dethrux::swap_byte_order(changed)));
+    static_assert(noexcept(dethrux::swap_byte_order(changed_wide)));
+    static_assert(noexcept(dethrux::make_well_formed(changed, order)));
+    static_assert(noexcept(dethrux::make_well_formed(changed_wide)));
+    static_assert(noexcept(dethrux::decoder()));
+    static_assert(noexcept(dethrux::utf8_decoder()));
+    static_assert(noexcept(dethrux::decoder().pending()));
+    static_assert(noexcept(dethrux::utf8_decoder().pending()));
+    static_assert(!std::is_convertible_v<byte_order, dethrux::decoder>);
+    static_assert(!std::is_convertible_v<byte_order, dethrux::utf8_decoder>);
+    static_assert(!std::is_convertible_v<dethrux::result<std::string>, bool>);
 }
 
 // A decoder in any order decodes code units of the machine's, and one that is made without an order
@@ -472,8 +488,9 @@ static void orders() {
     units_in_big.finish(units);
     bytes_without.feed("\xE4\xB8\x80", bytes);
     check("decoders of UTF-8 and the machine's order", units == u"\x4E00\xFFFD" && bytes == native);
-    check("the native byte order", dethrux::to_utf8(native, byte_order::native).value() == "\xE4\xB8\x80"
-                                       && native == std::string(reinterpret_cast<const char *>(u"\x4E00"), 2));
+    check("the native byte order",
+        dethrux::to_utf8(native, byte_order::native).value() == "\xE4\xB8\x80"
+            && native == std::string(reinterpret_cast<const char *>(u"\x4E00"), 2));
 }
 
 // A string that has no capacity left, so that each call that appends requests memory.
