@@ -140,6 +140,11 @@ refuses_short_enums() {
         grep -q dethrux_enum_has_four_bytes "$room/refused"
 }
 
+# Whether a header can be in two files of one program, and twice in one, as a compiler links them.
+in_two_files() {
+    "$@" -O0 -w "-I$top/include" "$archive" -o "$room/two"
+}
+
 # Whether code units are in the byte order that the compiler says the machine has.
 is_native() {
     printf '#include "dethrux.h"\ntypedef char is[DETHRUX_NATIVE_ENDIAN == DETHRUX_%s_ENDIAN ? 1 : -1];\n' "$2" |
@@ -155,6 +160,23 @@ check_c() {
 decodes() {
     { printf '\xFE\xFF'; for _ in {1..3000}; do printf '\0a\x4E\0'; done; printf '\xD8\0'; } | "$room/decode" auto > "$room/found"
     { for _ in {1..3000}; do printf 'a\xE4\xB8\x80'; done; printf '\xEF\xBF\xBD'; } | cmp - "$room/found"
+}
+
+# Whether the same program, by a word, decodes bytes to a text.
+decodes_to() {
+    printf '%b' "$2" | "$room/decode" "$1" > "$room/found" || return
+    printf '%b' "$3" | cmp - "$room/found"
+}
+
+# U+4E00 after a BOM, which only `auto` takes off, and without one.
+decodes_by_word() {
+    local status text='\xE4\xB8\x80' bom='\xEF\xBB\xBF'
+    decodes_to be '\xFE\xFF\x4E\0' "$bom$text" && decodes_to le '\xFF\xFE\0\x4E' "$bom$text" &&
+        decodes_to auto '\xFE\xFF\x4E\0' "$text" && decodes_to auto '\xFF\xFE\0\x4E' "$text" &&
+        decodes_to auto '\x4E\0' "$text" && decodes_to auto '\x4E' '\xEF\xBF\xBD' || return
+    "$room/decode" other < /dev/null > "$room/found" 2>&1
+    status=$?
+    [ $status = 2 ] && grep -q '^usage: decode' "$room/found"
 }
 
 # The program in the first comment of the header, compiled as it is there.
@@ -192,7 +214,7 @@ case "${1-}" in
 esac
 ("$built") > "$room/said" 2>&1 || { tail -n 20 "$room/said"; echo "0 passed, 1 failed"; exit 1; }
 if has cc 'C and Python'; then
-    count 'the program in C' in_c decode && count 'a file in chunks' decodes
+    count 'the program in C' in_c decode && count 'a file in chunks' decodes && count 'a file by its byte order' decodes_by_word
     count 'the program of the header' in_comment && count 'the program of the header, in chunks' comment_decodes
     count 'the check in C' in_c check && count 'the cases in C' check_c
     count 'the check of code units' in_c units c11 && count 'code units in C' "$room/units"
@@ -207,6 +229,7 @@ if has cc 'C and Python'; then
     fi
     count 'ignored results in C' warns "$here/ignored.c" cc -std=c99
     count 'all results are ignored' ignores_all
+    count 'two files in C' in_two_files cc -std=c99 -include dethrux.h "$here/first.c" "$here/ignored.c"
     count 'enums of one byte' refuses_short_enums
     count 'the byte order of a machine' is_native 1234 LITTLE
     count 'the byte order of another machine' is_native 4321 BIG
@@ -214,6 +237,8 @@ if has cc 'C and Python'; then
         count 'the header in C++' header_in_cxx
         count 'ignored results of the header in C++' warns "$here/ignored.c" c++ -std=c++17 -x c++
         count 'ignored results in C++' warns "$top/examples/cpp/ignored.cpp" c++ -std=c++17
+        count 'two files in C++' in_two_files c++ -std=c++17 -include dethrux.hpp \
+            "$top"/examples/cpp/{first,ignored}.cpp
         count 'code units of another size in C++' refuses_wide
         count 'the check of code units in C++' units_in_cxx && count 'code units in C++' "$room/units_cxx"
     fi
