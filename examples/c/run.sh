@@ -3,9 +3,9 @@
 # and runs them: the tables of cases, the programs of docs/C.md and docs/CPP.md, and all in C under
 # valgrind. A tool that is missing is a failure. The last line is 'N passed, M failed'. With
 # --over-ci the library is built over the libraries that rt ci has just proved, and with
-# --library FILE it is not built: FILE is tested. With --headers it is not built either, and only
-# what tests the headers runs, up to the first failure: examples/slips runs this for each wrong line
-# that it plants in a header.
+# --library FILE it is not built: FILE is tested. With --headers c it is not built either, and only
+# what tests the headers runs, up to the first failure, or with --headers c++ what tests the one for
+# C++: examples/slips runs this for each wrong line that it plants in a header.
 set -uo pipefail
 here=$(cd "$(dirname "$0")" && pwd)
 top=$here/../..
@@ -31,7 +31,7 @@ count() {
         failed=$((failed + 1))
         echo "failed: $name"
         tail -n 20 "$room/said"
-        [ -n "$whole" ] || { result; exit 1; }
+        [ -z "$headers" ] || { result; exit 1; }
         return 1
     fi
 }
@@ -65,18 +65,18 @@ has() {
 
 # A program of this folder, in C99 or, with the types of <uchar.h>, C11.
 in_c() {
-    cc -std="${2:-c99}" -O2 -Wall -Wextra -Wpedantic -Werror "-I$top/include" "$here/$1.c" "$archive" -o "$room/$1"
+    cc -std="${2:-c99}" "$level" -Wall -Wextra -Wpedantic -Werror "-I$top/include" "$here/$1.c" "$archive" -o "$room/$1"
 }
 
 # The same program in C++, where code units have any type of two bytes.
 units_in_cxx() {
-    c++ -std=c++17 -O2 -Wall -Wextra -Wpedantic -Werror "-I$top/include" -x c++ "$here/units.c" \
+    c++ -std=c++17 "$level" -Wall -Wextra -Wpedantic -Werror "-I$top/include" -x c++ "$here/units.c" \
         -x none "$archive" -o "$room/units_cxx"
 }
 
 # A program of examples/cpp, by a compiler and in a standard.
 in_cxx() {
-    "$1" -std="$2" -O2 -Wall -Wextra -Wpedantic -Wconversion -Wshadow -Werror "-I$top/include" \
+    "$1" -std="$2" "$level" -Wall -Wextra -Wpedantic -Wconversion -Wshadow -Werror "-I$top/include" \
         "$top/examples/cpp/$3.cpp" "$archive" -o "$room/cpp_$3"
 }
 
@@ -182,7 +182,7 @@ decodes_by_word() {
 # The program in the first comment of the header, compiled as it is there.
 in_comment() {
     sed -n 's|^ \*     ||p' "$top/include/dethrux.h" | sed 's|} \*/$|}|' > "$room/comment.c"
-    cc -std=c99 -O2 -Wall -Wextra -Wpedantic -Werror "-I$top/include" "$room/comment.c" "$archive" -o "$room/comment"
+    cc -std=c99 "$level" -Wall -Wextra -Wpedantic -Werror "-I$top/include" "$room/comment.c" "$archive" -o "$room/comment"
 }
 
 # That program, on a text that is longer than its buffers, with characters of one to four bytes of
@@ -202,46 +202,39 @@ check_python() {
         DETHRUX_LIBRARY="$room/libdethrux.so" python3 "$here/check.py" < "$room/cases"
 }
 
-cat "$top"/cases/*.txt > "$room/cases"
-built=library
-whole=yes
-compilers=(g++ clang++)
-standards=(c++17 c++20)
-case "${1-}" in
-    --over-ci) built=library_over_ci ;;
-    --library) archive=$(realpath "$2"); built=true ;;
-    --headers) built=true whole='' compilers=(g++) standards=(c++17) ;;
-esac
-("$built") > "$room/said" 2>&1 || { tail -n 20 "$room/said"; echo "0 passed, 1 failed"; exit 1; }
-if has cc 'C and Python'; then
+test_c() {
     count 'the program in C' in_c decode && count 'a file in chunks' decodes && count 'a file by its byte order' decodes_by_word
     count 'the program of the header' in_comment && count 'the program of the header, in chunks' comment_decodes
     count 'the check in C' in_c check && count 'the cases in C' check_c
     count 'the check of code units' in_c units c11 && count 'code units in C' "$room/units"
     count 'the first program in C' in_c first && count 'the page for C' prints_page first C
-    if [ -n "$whole" ] && has valgrind 'memory in C'; then
-        { for _ in {1..300}; do printf 'a\0\x4E\0\xD8'; done; } > "$room/odd"
-        count 'decode under valgrind' is_clean decode "$room/odd" le
-        count 'the program of the header under valgrind' is_clean comment "$room/odd"
-        count 'the check in C under valgrind' is_clean check "$room/cases"
-        count 'code units under valgrind' is_clean units /dev/null
-        count 'the first program under valgrind' is_clean first /dev/null
-    fi
     count 'ignored results in C' warns "$here/ignored.c" cc -std=c99
     count 'all results are ignored' ignores_all
     count 'two files in C' in_two_files cc -std=c99 -include dethrux.h "$here/first.c" "$here/ignored.c"
     count 'enums of one byte' refuses_short_enums
     count 'the byte order of a machine' is_native 1234 LITTLE
     count 'the byte order of another machine' is_native 4321 BIG
-    if has c++ 'the header in C++'; then
-        count 'the header in C++' header_in_cxx
-        count 'ignored results of the header in C++' warns "$here/ignored.c" c++ -std=c++17 -x c++
-        count 'ignored results in C++' warns "$top/examples/cpp/ignored.cpp" c++ -std=c++17
-        count 'two files in C++' in_two_files c++ -std=c++17 -include dethrux.hpp \
-            "$top"/examples/cpp/{first,ignored}.cpp
-        count 'code units of another size in C++' refuses_wide
-        count 'the check of code units in C++' units_in_cxx && count 'code units in C++' "$room/units_cxx"
-    fi
+}
+
+memory_in_c() {
+    { for _ in {1..300}; do printf 'a\0\x4E\0\xD8'; done; } > "$room/odd"
+    count 'decode under valgrind' is_clean decode "$room/odd" le
+    count 'the program of the header under valgrind' is_clean comment "$room/odd"
+    count 'the check in C under valgrind' is_clean check "$room/cases"
+    count 'code units under valgrind' is_clean units /dev/null
+    count 'the first program under valgrind' is_clean first /dev/null
+}
+
+# The header for C, in C++.
+test_c_in_cxx() {
+    count 'the header in C++' header_in_cxx
+    count 'ignored results of the header in C++' warns "$here/ignored.c" c++ -std=c++17 -x c++
+    count 'code units of another size in C++' refuses_wide
+    count 'the check of code units in C++' units_in_cxx && count 'code units in C++' "$room/units_cxx"
+}
+
+test_cxx() {
+    local compiler standard
     for compiler in "${compilers[@]}"; do
         has "$compiler" "C++ by $compiler" || continue
         for standard in "${standards[@]}"; do
@@ -249,12 +242,38 @@ if has cc 'C and Python'; then
                 count "C++ by $compiler in $standard" "$room/cpp_check"
         done
     done
+    count 'ignored results in C++' warns "$top/examples/cpp/ignored.cpp" c++ -std=c++17
+    count 'two files in C++' in_two_files c++ -std=c++17 -include dethrux.hpp \
+        "$top"/examples/cpp/{first,ignored}.cpp
     count 'the first program in C++' in_cxx c++ c++17 first && count 'the page for C++' prints_page cpp_first CPP
-    if [ -n "$whole" ] && has valgrind 'memory in C++'; then
-        count 'the first program in C++ under valgrind' is_clean cpp_first /dev/null
-    fi
-    if [ -n "$whole" ] && has python3 'Python'; then
-        count 'the shared object' shared && count 'the cases in Python' check_python
-    fi
+}
+
+memory_in_cxx() {
+    count 'the check in C++ under valgrind' is_clean cpp_check /dev/null
+    count 'the first program in C++ under valgrind' is_clean cpp_first /dev/null
+}
+
+cat "$top"/cases/*.txt > "$room/cases"
+built=library
+headers=''
+level=-O2
+compilers=(g++ clang++)
+standards=(c++17 c++20)
+case "${1-}" in
+    --over-ci) built=library_over_ci ;;
+    --library) archive=$(realpath "$2"); built=true ;;
+    --headers) built=true headers=$2 level=-O0 compilers=(g++) standards=(c++17) ;;
+esac
+("$built") > "$room/said" 2>&1 || { tail -n 20 "$room/said"; echo "0 passed, 1 failed"; exit 1; }
+if ! has cc 'C' || ! has c++ 'C++'; then
+    result
+    exit
+fi
+[ "$headers" = c++ ] || test_c
+[ "$headers" = c++ ] || test_c_in_cxx
+test_cxx
+if [ -z "$headers" ]; then
+    has valgrind 'memory in C and C++' && memory_in_c && memory_in_cxx
+    has python3 'Python' && count 'the shared object' shared && count 'the cases in Python' check_python
 fi
 result
