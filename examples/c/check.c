@@ -1277,6 +1277,17 @@ static bool is_version_same(void) {
         && DETHRUX_VERSION_PATCH == 0;
 }
 
+/* How the number is made of its parts: of others, since a part is 0 today. */
+#undef DETHRUX_VERSION_MAJOR
+#undef DETHRUX_VERSION_MINOR
+#undef DETHRUX_VERSION_PATCH
+#define DETHRUX_VERSION_MAJOR 2
+#define DETHRUX_VERSION_MINOR 3
+#define DETHRUX_VERSION_PATCH 4
+static bool is_version_of_parts(void) {
+    return DETHRUX_VERSION == 2003004;
+}
+
 /* Feeds a decoder a chunk in little endian: the text that is written, all of the chunk or nothing,
  * and the bytes that are pending then. */
 static bool feeds(decoder *by, const char *chunk, size_t room, dethrux_status status, const char *written, const char *pending) {
@@ -1358,6 +1369,7 @@ int main(void) {
     count(are_bounds_reached(), "the bounds of the header at inputs that need them");
     count(are_macros_right(), "the macros of the header");
     count(is_version_same(), "the version of the header and of the library");
+    count(is_version_of_parts(), "the number of a version");
     count(is_any_state_fine(), "a state that no call left");
     count(is_empty_fine(), "null pointers of length 0");
     count(is_no_space_fine(), "null pointers of capacity 0");

@@ -209,6 +209,8 @@ test_c() {
     count 'the check of code units' in_c units c11 && count 'code units in C' "$room/units"
     count 'the first program in C' in_c first && count 'the page for C' prints_page first C
     count 'ignored results in C' warns "$here/ignored.c" cc -std=c99
+    count 'ignored results in C23' warns "$here/ignored.c" clang -std=c2x -Wno-builtin-macro-redefined \
+        -U__STDC_VERSION__ -D__STDC_VERSION__=202311L
     count 'all results are ignored' ignores_all
     count 'two files in C' in_two_files cc -std=c99 -include dethrux.h "$here/first.c" "$here/ignored.c"
     count 'enums of one byte' refuses_short_enums

@@ -16,12 +16,13 @@
 static int passed, failed;
 // How many requests for memory succeed before one fails; none fails while it is negative.
 static long left = -1;
-static std::size_t largest_request;
+static std::size_t requests, largest_request;
 
 void *operator new(std::size_t size) {
     if (left >= 0 && left-- == 0) {
         throw std::bad_alloc();
     }
+    requests++;
     largest_request = size > largest_request ? size : largest_request;
     if (void *found = std::malloc(size == 0 ? 1 : size)) {
         return found;
@@ -506,10 +507,10 @@ static Text full() {
 template <class Call, class Unchanged>
 static bool without_memory(Call call, Unchanged unchanged) {
     bool kept = true;
-    long requests = 0;
-    for (bool refused = true; refused; requests++) {
+    long granted = 0;
+    for (bool refused = true; refused; granted++) {
         refused = false;
-        left = requests;
+        left = granted;
         try {
             call();
         } catch (const std::bad_alloc &) {
@@ -518,7 +519,7 @@ static bool without_memory(Call call, Unchanged unchanged) {
         left = -1;
         kept = kept && (!refused || unchanged());
     }
-    return kept && requests > 1;
+    return kept && granted > 1;
 }
 
 // A call of a decoder that keeps bytes, without memory: nothing changes. Then a text is appended.
@@ -559,13 +560,13 @@ static void memory() {
     }
 }
 
-// Whether a call requests memory, at most so many bytes at once and some for the string's own, and
-// fails without it.
+// Whether a call requests memory once, at most for this many bytes and some of the string's own,
+// and fails without it.
 template <class Call>
-static bool requests_at_most(std::size_t bytes, Call call) {
-    largest_request = 0;
+static bool requests_once(std::size_t bytes, Call call) {
+    requests = largest_request = 0;
     call();
-    bool is = largest_request > 0 && largest_request <= bytes + 64;
+    bool is = requests == 1 && largest_request <= bytes + 64;
     return is && without_memory(call, [] { return true; });
 }
 
@@ -576,25 +577,25 @@ static void space() {
     const std::u16string units(1000, u'a');
     const byte_order order = byte_order::big;
     check("the memory of to_utf8",
-        requests_at_most(3000, [&] { (void)dethrux::to_utf8(units); })
-            && requests_at_most(3000, [&] { (void)dethrux::to_utf8(bytes, order); })
-            && requests_at_most(3000, [&] { (void)dethrux::to_utf8_lossy(units); })
-            && requests_at_most(3000, [&] { (void)dethrux::to_utf8_lossy(bytes, order); }));
+        requests_once(3000, [&] { (void)dethrux::to_utf8(units); })
+            && requests_once(3000, [&] { (void)dethrux::to_utf8(bytes, order); })
+            && requests_once(3000, [&] { (void)dethrux::to_utf8_lossy(units); })
+            && requests_once(3000, [&] { (void)dethrux::to_utf8_lossy(bytes, order); }));
     check("the memory of from_utf8",
-        requests_at_most(4000, [&] { (void)dethrux::from_utf8(bytes); })
-            && requests_at_most(4000, [&] { (void)dethrux::from_utf8(bytes, order); })
-            && requests_at_most(4000, [&] { (void)dethrux::from_utf8_lossy(bytes); })
-            && requests_at_most(4000, [&] { (void)dethrux::from_utf8_lossy(bytes, order); }));
-    check("the memory of decoders", requests_at_most(3000, [&] {
+        requests_once(4000, [&] { (void)dethrux::from_utf8(bytes); })
+            && requests_once(4000, [&] { (void)dethrux::from_utf8(bytes, order); })
+            && requests_once(4000, [&] { (void)dethrux::from_utf8_lossy(bytes); })
+            && requests_once(4000, [&] { (void)dethrux::from_utf8_lossy(bytes, order); }));
+    check("the memory of decoders", requests_once(3000, [&] {
         std::string to;
         dethrux::decoder(order).feed(bytes, to);
-    }) && requests_at_most(3000, [&] {
+    }) && requests_once(3000, [&] {
         std::string to;
         dethrux::decoder().feed(units, to);
-    }) && requests_at_most(4000, [&] {
+    }) && requests_once(4000, [&] {
         std::string to;
         dethrux::utf8_decoder(order).feed(bytes, to);
-    }) && requests_at_most(4000, [&] {
+    }) && requests_once(4000, [&] {
         std::u16string to;
         dethrux::utf8_decoder().feed(bytes, to);
     }));
