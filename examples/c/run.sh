@@ -93,9 +93,9 @@ prints_page() {
     [ -s "$room/page" ] && "$room/$1" | cmp - "$room/page"
 }
 
-# Whether valgrind has nothing to say of a program on this input.
+# Whether valgrind has nothing to say of a program on this input. A program's own operator new stays.
 is_clean() {
-    valgrind -q --error-exitcode=9 --leak-check=full "$room/$1" ${3+"$3"} < "$2" > "$room/under" 2>&1 && return
+    valgrind -q --soname-synonyms=somalloc=nouserintercepts --error-exitcode=9 --leak-check=full "$room/$1" ${3+"$3"} < "$2" > "$room/under" 2>&1 && return
     cat "$room/under"
     return 1
 }
