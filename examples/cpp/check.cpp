@@ -79,9 +79,9 @@ static void check_forms(const char *name, const Row &from, Call holds) {
                                         && (from.big.size() % 2 != 0 || holds(std::size_t{2})));
 }
 
-// A text in big endian, and what the calls find in it; offsets count bytes. `cuts` has a bar for
+// A text in big endian, and what the calls find in it. Offsets count bytes. `cuts` has a bar for
 // each offset that is a boundary. `utf8` and `mended` have U+FFFD for what is ill formed, and
-// `pending` is what a decoder keeps of the text.
+// `pending` is how many of the last bytes a decoder keeps.
 struct row {
     const char *name;
     std::string big;
@@ -197,7 +197,7 @@ static void to_utf8(const row &from) {
     });
 }
 
-// In two chunks, cut at each offset, after a text, and twice by the same decoder.
+// In two chunks, cut at each offset, appended to a text. One decoder decodes all these streams.
 static void decode(const row &from) {
     check_forms("decoder", from, [&](std::size_t, auto... order) {
         bool is = true;
@@ -215,8 +215,8 @@ static void decode(const row &from) {
     });
 }
 
-// A text in UTF-8, where it is ill formed, and what it is in UTF-16 in big endian; the last of its
-// bytes that a decoder keeps.
+// A text in UTF-8, where it is ill formed, and what it is in UTF-16 in big endian. `pending` is how
+// many of its last bytes a decoder keeps.
 struct row8 {
     const char *name;
     std::string utf8;
@@ -315,7 +315,7 @@ static void compare(const pair_row &from) {
     }
 }
 
-// What has no table: parts of a file, and what a result and an error can be asked.
+// Parts of a file, and the operators of an error.
 static void others() {
     const auto around = "\xD8\x3D\xDE\0"sv;
     check("floor_char_boundary_around",
@@ -435,8 +435,8 @@ static void views() {
     static_assert(!takes_any<dethrux::units, char, char32_t, two_bytes, float>);
 }
 
-// What the compiler can say: no call on a text throws, no conversion is made silently, and a byte
-// order can have any value.
+// What the compiler tests: no call on a text throws, no conversion is implicit, and a byte order
+// can have any value.
 static void types() {
     using dethrux::bytes, dethrux::units;
     const bytes text;
