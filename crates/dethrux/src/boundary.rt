@@ -57,9 +57,9 @@ pub extern "C" fn dethrux_floor_char_boundary_around(byte_order: u32, around: &[
     }
 }
 
-/// Returns the offset where part `index` of `count` parts begins in a file of `len` bytes: 0 for
-/// part 0, and `len` for `index >= count`. Each part has `len / 2 / count` code units or one more,
-/// and the last one has an odd byte at the end too. In constant time.
+/// Returns the offset where part `index` of `count` parts begins in a file of `len` bytes: `len`
+/// for `index >= count`, else 0 for part 0. Each part has `len / 2 / count` code units or one more,
+/// and the last part also has the odd byte at the end, if there is one. In constant time.
 #[unsafe(no_mangle)]
 pub extern "C" fn dethrux_shard_offset(len: u64, count: u64, index: u64) -> u64
     ensures value { result ≡ shard_start len count index }

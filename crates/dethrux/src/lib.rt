@@ -1,6 +1,7 @@
 //! UTF-16 for callers in C, and in any language that can call C; `include/dethrux.h` documents the
-//! calls. Each makes a call of `utf16_encode` in the byte order that it is passed. A slice is a
-//! pointer and a length in bytes in C. No call allocates, and none has a precondition on the bytes.
+//! calls. They only call functions of the crates below, in the byte order that they are passed,
+//! except those of the BOM and the version. A slice is a pointer and a length in bytes in C. No
+//! call allocates, and none has a precondition on the bytes.
 #![tactic(auto)]
 
 mod bom;

@@ -3,8 +3,8 @@
 ghost use Rattle.std.specs.Prelude.{◌≡◌, ◌+◌, ◌*◌, ◌%◌, ◌<◌, ◌≤◌, ◌⊎◌};
 ghost use Rattle.utf16_bytes.specs.Shards.{shard_len, shard_start, units_each};
 
-/// Returns the offset where part `index` of `count` parts begins in a file of `len` bytes: 0 for
-/// part 0, and `len` for `index >= count`. Each part has `len / 2 / count` code units or one more,
+/// Returns the offset where part `index` of `count` parts begins in a file of `len` bytes: `len`
+/// for `index >= count`, else 0 for part 0. Each part has `len / 2 / count` code units or one more,
 /// and the last part also has the odd byte at the end, if there is one. The offset is even or the
 /// end, but it may be inside a character: move it to a boundary with `floor_char_boundary_around`.
 ///

@@ -55,17 +55,14 @@ pub enum Reply<E: Utf16Order, A: Allocator = Global> {
     NoMemory,
 }
 
-/// Applies an edit to a string, and returns its result. It tests the offset before it allocates.
+/// Applies an edit to a string, and returns its result. It tests the offset before it allocates. An
+/// edit that does not allocate leaves the capacity unchanged.
 ///
 /// # Errors
 ///
 /// `BadOffset` if the edit is not possible at its offset, and `NoMemory` if allocation fails. In
 /// both cases the string is unchanged. Allocation does not fail if the result fits in the capacity,
 /// except that `SplitOff` allocates the string that it returns.
-///
-/// # Complexity
-///
-/// An edit that does not allocate leaves the capacity unchanged.
 pub fn apply<E: Utf16Order, A: Allocator + Clone>(
     string: &mut WString<E, A>,
     edit: Edit<E, A>,
