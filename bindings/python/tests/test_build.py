@@ -166,6 +166,14 @@ class Backend(unittest.TestCase):
         self.assertEqual(files.pop(f"{base}/PKG-INFO").decode(), self.backend.metadata())
         self.assertEqual(files, expected)
 
+    def test_entries_have_no_owner_and_no_time(self):
+        entry = tarfile.TarInfo("name")
+        entry.uid = entry.gid = entry.mtime = 1000
+        entry.uname = entry.gname = "somebody"
+        self.assertIs(self.backend.plain(entry), entry)
+        self.assertEqual((entry.uid, entry.gid, entry.mtime), (0, 0, 0))
+        self.assertEqual((entry.name, entry.uname, entry.gname), ("name", "", ""))
+
     def test_it_requires_nothing(self):
         for kind in ("wheel", "sdist", "editable"):
             self.assertEqual(getattr(self.backend, f"get_requires_for_build_{kind}")(), [])
