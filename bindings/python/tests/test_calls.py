@@ -306,7 +306,8 @@ class Arguments(unittest.TestCase):
 
     def test_not_texts(self):
         for wrong in (b"a", 5, None, ["a"], collections.UserString("a")):
-            with self.subTest(wrong=wrong), self.assertRaisesRegex(TypeError, "a str is required"):
+            message = f"^a str is required, not {type(wrong).__name__!r}$"
+            with self.subTest(wrong=wrong), self.assertRaisesRegex(TypeError, message):
                 dethrux.encode(wrong, "little")
 
     def test_byte_orders(self):

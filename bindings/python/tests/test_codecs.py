@@ -252,7 +252,7 @@ class Streams(unittest.TestCase):
 
     def test_stream_writers(self):
         steps = [("write", "a\U0001f600"), ("write", "b\ud800"), ("writelines", ["c", "d"])]
-        steps += [("reset",), ("write", "e"), ("getvalue",)]
+        steps += [("reset",), ("write", "e"), ("getvalue",), ("encode", "f"), ("encode", "\ud800")]
         for name, errors in itertools.product(NAMES, ("strict", "replace", "surrogatepass")):
             self.run_both(name, lambda info: info.streamwriter(io.BytesIO(), errors), steps)
             self.run_both(name, lambda info: info.streamwriter(io.BytesIO()), steps)
@@ -260,6 +260,7 @@ class Streams(unittest.TestCase):
     def test_stream_readers(self):
         steps = [("read", 3), ("readline",), ("read", 2, 1), ("read",), ("seek", 0), ("read", 4)]
         steps += [("readlines",), ("seek", 0), ("reset",), ("read",)]
+        steps += [("decode", part) for part in (b"a\0\x3d\xd8", b"\x3d\xd8a\0", b"\xd8\x3d\0a")]
         raws = [
             "a\n\U0001f600b\nc".encode("utf-16-le"),
             "\ufeffa\n\U0001f600b\nc".encode("utf-16-le"),
