@@ -1,5 +1,6 @@
--- How long the UTF-8 and the UTF-16 of any bytes are at most.
-use Rattle.std.proofs.Common.{◌≡◌, ℕ, zero, suc, ◌+◌, ◌*◌, ◌/◌, ◌%◌, ◌<◌, ◌≤◌, Bool, true, false, cond, List, [], ◌∷◌, ◌-◌, length, take, drop, encode_utf8_all, refl, sym, ap, ◌∙◌, subst, ⊎_elim, arith, length-append, length-take-le, append-nil}
+-- How long the UTF-8 and the UTF-16 of any bytes are at most, and that a call with this capacity
+-- does not stop for lack of space.
+use Rattle.std.proofs.Common.{◌≡◌, ◌≢◌, ℕ, zero, suc, ◌+◌, ◌*◌, ◌/◌, ◌%◌, ◌<◌, ◌≤◌, Bool, true, false, cond, List, [], ◌∷◌, ◌++◌, ◌-◌, length, map, take, drop, encode_utf8_all, refl, sym, ap, ◌∙◌, subst, ⊎_elim, arith, length-append, length-take-le, append-nil}
 use Rattle.std.proofs.lemmas.Bool.{cases_Bool, cases_lt}
 use Rattle.std.proofs.lemmas.List.{take-append-drop}
 use Rattle.std.proofs.lemmas.List.Concat.{flat_map-append}
@@ -8,18 +9,29 @@ use Rattle.std.specs.Char.{encode_utf8}
 use Rattle.std.specs.List.{flat_map}
 use Rattle.std.specs.Str.{IsUtf8, chars, is_utf8}
 use Rattle.std.specs.Str.Lossy.{utf8_valid_len, valid_len_up_to}
+use Rattle.utf16_decode.specs.Decodes.{utf16_parts}
+use Rattle.utf16_decode.specs.Decomposition.{Decomposition, IsSplitInChunks, decided}
 use Rattle.utf16_decode.specs.Shown.{ShowsWhole}
-use Rattle.utf16_decode.specs.Stops.{StopsLossyWhole}
+use Rattle.utf16_decode.specs.Stops.{StopsDecoding, StopsLossyAs, StopsLossyWhole}
+use Rattle.utf16_decode.specs.Wrote.{DecodesAsTo, TranscodesToUtf8, Wrote}
 use Rattle.utf16_decode.specs.declared.progress.Stop.{Stop}
 use Rattle.utf16_decode.specs.declared.progress.Stop.TheVariants.{Incomplete, Done, IllFormed, NoSpace}
+use Rattle.utf16_decode.proofs.DecodesSteps.{written_for, written_for-append}
+use Rattle.utf16_decode.proofs.LossyLemmas.{DecodesTo-front, stops_lossy}
+use Rattle.utf16_encode.specs.FromUtf8.{StopsEncoding, TranscodesToUtf16, text_of_utf8}
+use Rattle.utf16_encode.specs.Utf8Stream.{utf8_parts}
+use Rattle.utf16_encode.proofs.DecodesUtf8.{DecodesUtf8To-text, stops_text}
+use Rattle.utf16_encode.proofs.FeedsUtf8.{flat_size}
 use Rattle.utf16_encode.proofs.LossyLemmas.{chunk-most}
-use Rattle.utf16_units.specs.Encoding.{size}
-use Rattle.utf16_units.specs.Split.{Item, whole_lossy_chars, good, item_bytes, items_bytes, lone_lead, lone_trail, lossy_text, lossy_char, lossy_chars, split_items, split_tail}
+use Rattle.utf16_units.specs.Encoding.{char_bytes, size}
+use Rattle.utf16_units.specs.Split.{Item, decided_text, whole_lossy_chars, good, item_bytes, items_bytes, lone_lead, lone_trail, lossy_text, lossy_char, lossy_chars, split_items, split_tail}
 use Rattle.utf16_units.proofs.CharLemmas.{char_size_four, char_size_two, length-char_bytes}
 use Rattle.utf16_units.proofs.FirstChar.{AreBytes}
 use Rattle.utf16_units.proofs.ShownLemmas.{len_utf8-le}
 use Rattle.utf16_units.proofs.SplitLemmas.{Split-computed}
 use Rattle.utf16_units.proofs.UnitLemmas.{length-unit_bytes}
+use Rattle.utf8_bytes.specs.Split.{decided_text as utf8_decided_text}
+use Rattle.utf8_bytes.proofs.LawProofs.{shown_within, whole_is_lossy}
 
 mark_len : length (encode_utf8 0xFFFD) ≡ 3
 unfolding encode_utf8
@@ -107,3 +119,95 @@ whole_is_done text into input to read written NoSpace shows stops fits =
     let first = length-take-le written to shows.fits in
     let rest = ap (λ t. length (flat_map into t)) stops.begins ∙ length-append (into stops.char) (flat_map into stops.more) in
     absurd (omega (arith, stops.too_long))
+
+-- the UTF-8 of what is certain of any bytes
+pub decided_within : (big : Bool) (bytes : List ℕ) → AreBytes bytes → length (encode_utf8_all (decided_text big bytes)) ≤ length bytes / 2 * 3
+decided_within big bytes are =
+    let split = Split-computed big bytes are in
+    let all = sym (length-append (items_bytes big (split_items big bytes)) (split_tail big bytes)) ∙ ap length split.spelled in
+    let within = items_within big (split_items big bytes) in
+    omega arith
+
+are_bytes : (front back : List ℕ) → AreBytes front → AreBytes back → AreBytes (front ++ back)
+are_bytes [] back first second k = second k
+are_bytes (b ∷ front) back first second zero = first 0
+are_bytes (b ∷ front) back first second (suc k) = are_bytes front back (λ i. first (suc i)) second k
+
+-- the same for a chunk and at most three pending bytes before it
+pub fed_within : (big : Bool) (pending chunk : List ℕ) → length pending ≤ 3 → AreBytes pending → AreBytes chunk
+    → length (encode_utf8_all (decided_text big (pending ++ chunk))) ≤ (length chunk + 3) / 2 * 3
+fed_within big pending chunk few first second =
+    let all = length-append pending chunk in
+    let within = decided_within big (pending ++ chunk) (are_bytes pending chunk first second) in
+    omega arith
+
+-- a call that decodes
+module _ (parts : Decomposition) (into : ℕ → List ℕ) (input to : List ℕ) (read written : ℕ) (decodes : DecodesAsTo parts into input to read written) where
+  decided_long : length (flat_map into (decided parts input)) ≡ written + length (flat_map into (decided parts (drop read input)))
+  decided_long =
+      let d = decodes.decodes in
+      ap length (ap (written_for parts into) d.items ∙ written_for-append parts into d.taken (parts.items (drop read input)) ∙ ap (λ t. t ++ flat_map into (decided parts (drop read input))) (sym d.text))
+      ∙ length-append (take written to) (flat_map into (decided parts (drop read input)))
+      ∙ ap (λ n. n + length (flat_map into (decided parts (drop read input)))) (length-take-le written to decodes.fits)
+
+  -- it does not stop for lack of space if all that is certain fits
+  pub decided_fits : (stop : Stop) → StopsLossyAs parts into (drop read input) (length to - written) stop → length (flat_map into (decided parts input)) ≤ length to
+      → stop ≢ NoSpace
+  decided_fits Done here fits same = absurd (cc)
+  decided_fits (IllFormed len) here fits same = absurd here
+  decided_fits Incomplete here fits same = absurd (cc)
+  decided_fits NoSpace here fits same =
+      let all = decided_long in
+      let rest = ap (λ t. length (flat_map into t)) here.begins ∙ length-append (into here.char) (flat_map into here.more) in
+      absurd (omega (arith, here.too_long))
+
+  module _ (short : (c : ℕ) → length (into c) ≤ 4) where
+    -- if it does, less than a character of space is left
+    pub decided_filled : (stop : Stop) → StopsLossyAs parts into (drop read input) (length to - written) stop → stop ≡ NoSpace → length to < written + 4
+    decided_filled Done here same = absurd (cc)
+    decided_filled (IllFormed len) here same = absurd here
+    decided_filled Incomplete here same = absurd (cc)
+    decided_filled NoSpace here same = omega (arith, here.too_long, short here.char)
+
+    -- with space for a character something is read of bytes of which something is certain
+    pub decided_advances : IsSplitInChunks parts → 4 ≤ length to → decided parts input ≢ [] → (stop : Stop)
+        → StopsLossyAs parts into (drop read input) (length to - written) stop → 0 < read
+    decided_advances split room some stop here = ⊎_elim (λ (none : read < 1). absurd (unread (omega arith) stop here)) (λ (read_some : 1 ≤ read). omega arith) (cases_lt read 1) where
+      undecided : read ≡ 0 → parts.tail (drop read input) ≡ drop read input → ⊥
+      undecided none left = some (ap (λ n. decided parts (drop n input)) (sym none) ∙ ap (map parts.shown) (split.undecided (drop read input) left))
+
+      unread : read ≡ 0 → (stop : Stop) → StopsLossyAs parts into (drop read input) (length to - written) stop → ⊥
+      unread none Done here = undecided none (ap parts.tail here ∙ split.nothing ∙ sym here)
+      unread none (IllFormed len) here = absurd here
+      unread none Incomplete here = undecided none here.1
+      unread none NoSpace here =
+          let all = decided_long in
+          let same = ap (λ n. length (flat_map into (decided parts (drop n input)))) none in
+          omega (arith, here.too_long, short here.char)
+
+-- ---- for the calls
+
+module _ (big : Bool) (input to : List ℕ) (read written : ℕ) where
+  pub to_utf8_fits : (stop : Stop) → AreBytes input → Wrote (TranscodesToUtf8 big) input to read written → StopsDecoding big input read (length to - written) stop
+      → length input / 2 * 3 ≤ length to → stop ≢ NoSpace
+  to_utf8_fits stop are wrote here fits full =
+      let decodes = DecodesTo-front big input to read written wrote.within wrote.fits wrote.gives in
+      let most = decided_within big input are in
+      decided_fits (utf16_parts big) encode_utf8 input to read written decodes stop
+      (stops_lossy big input read (length to - written) stop (λ len fault. (let same = sym fault ∙ full in cc)) here) (omega arith) full
+
+  pub from_utf8_fits : (stop : Stop) → Wrote (TranscodesToUtf16 big) input to read written → StopsEncoding big input read (length to - written) stop
+      → 2 * length input ≤ length to → stop ≢ NoSpace
+  from_utf8_fits stop wrote here fits full =
+      let most = (shown_within input).2 in
+      let long = flat_size big (utf8_decided_text input) in
+      decided_fits utf8_parts (char_bytes big) input to read written (DecodesUtf8To-text big input to read written wrote) stop
+      (stops_text big input read (length to - written) stop (λ len fault. (let same = sym fault ∙ full in cc)) here) (omega arith) full
+
+-- the whole text of UTF-8 in UTF-16
+pub lossy_utf8_within : (big : Bool) (bytes : List ℕ) → length (flat_map (char_bytes big) (text_of_utf8 bytes)) ≤ 2 * length bytes
+lossy_utf8_within big bytes =
+    let most = (shown_within bytes).3 in
+    let long = flat_size big (text_of_utf8 bytes) in
+    let same = ap size (whole_is_lossy bytes) in
+    omega arith

@@ -1,6 +1,6 @@
 //! A decoder for C, whose state is in memory of the caller's.
 
-ghost use Rattle.std.specs.Prelude.{◌≡◌, ◌≢◌, ◌↔◌, ◌+◌, ◌-◌, ◌<◌, ◌≤◌, [], ◌++◌, drop, length, take, encode_utf8_all};
+ghost use Rattle.std.specs.Prelude.{◌≡◌, ◌≢◌, ◌↔◌, ◌+◌, ◌-◌, ◌*◌, ◌/◌, ◌<◌, ◌≤◌, [], ◌++◌, All, drop, length, take, encode_utf8_all};
 ghost use Rattle.utf16_units.specs.Split.{decided_text, whole_lossy_chars};
 ghost use Rattle.utf16_decode.specs.Stream.{Feeds, StopsFeeding, stream_pending};
 ghost use Rattle.utf16_decode.specs.declared.progress.Stop.TheVariants.{Done, NoSpace};
@@ -34,8 +34,11 @@ pub extern "C" fn dethrux_decoder_feed(
     ensures filled { stop_of result.status result.error_len ≡ NoSpace
         → length to.new < result.written + 4 }
     ensures few { decoder.new.len ≤ 3 }
+    ensures succeeds { (length chunk.now + 3) / 2 * 3 ≤ length to.new
+        → stop_of result.status result.error_len ≡ Done }
     ensures numbers { AreNumbers result.status result.error_len }
 {
+    bytes_law(decoder.pending());
     progress_of(if is_big_endian(byte_order) {
         decoder.feed::<ToUtf8<BE>>(chunk, to)
     } else {
@@ -67,3 +70,9 @@ pub extern "C" fn dethrux_decoder_finish(decoder: &mut Stream, to: &mut [u8]) ->
     // U+FFFD in UTF-8 is the same in both byte orders.
     progress_of(decoder.finish::<ToUtf8<LE>>(to))
 }
+
+// States what the proof of `dethrux_decoder_feed` needs, and does nothing.
+#[inline(always)]
+fn bytes_law(bytes: &[u8])
+    ensures { All (λ b. b < 256) bytes.now }
+{}

@@ -14,7 +14,7 @@ mod results;
 mod utf8_decoder;
 mod version;
 
-ghost use Rattle.std.specs.Prelude.{◌≡◌, ◌↔◌, ◌<◌, ◌≤◌, ◌+◌, ◌-◌, ◌*◌, ◌/◌, ◌%◌, All, IsTrue, count_by, drop, encode_utf8_all, length, take};
+ghost use Rattle.std.specs.Prelude.{◌≡◌, ◌≢◌, ◌↔◌, [], ◌<◌, ◌≤◌, ◌+◌, ◌-◌, ◌*◌, ◌/◌, ◌%◌, All, IsTrue, count_by, drop, encode_utf8_all, length, take};
 ghost use Rattle.std.specs.Char.{encode_utf8};
 ghost use Rattle.std.specs.Char.Utf16.{is_low_surrogate};
 ghost use Rattle.std.specs.List.{flat_map};
@@ -22,7 +22,7 @@ ghost use Rattle.std.specs.Str.{chars};
 ghost use Rattle.std.specs.Str.Lossy.{utf8_valid_len};
 ghost use Rattle.utf16_units.specs.Encoding.{IsUtf16, char_bytes, size, text_of, units_of};
 ghost use Rattle.utf16_units.specs.IllFormed.{IsUtf16ValidUpTo};
-ghost use Rattle.utf16_units.specs.Split.{lossy_text};
+ghost use Rattle.utf16_units.specs.Split.{decided_text, lossy_text};
 ghost use Rattle.utf16_encode.specs.FromUtf8.{TranscodesToUtf16, StopsEncoding, text_of_utf8};
 ghost use Rattle.utf16_decode.specs.Shown.{ShowsWhole};
 ghost use Rattle.utf16_decode.specs.Stops.{StopsDecoding, StopsLossy, StopsLossyWhole};
@@ -133,6 +133,8 @@ pub extern "C" fn dethrux_to_utf8(byte_order: u32, utf16: &[u8], to: &mut [u8]) 
         result.written }
     ensures stop { StopsDecoding (is_big byte_order) utf16.now result.read
         (length to.new - result.written) (stop_of result.status result.error_len) }
+    ensures succeeds { length utf16.now / 2 * 3 ≤ length to.new
+        → stop_of result.status result.error_len ≢ NoSpace }
     ensures numbers { AreNumbers result.status result.error_len }
 {
     if is_big_endian(byte_order) {
@@ -173,6 +175,12 @@ pub extern "C" fn dethrux_to_utf8_partial(byte_order: u32, utf16: &[u8], to: &mu
     ensures decodes { DecodesTo (is_big byte_order) utf16.now to.new result.read result.written }
     ensures stop { StopsLossy (is_big byte_order) (drop result.read utf16.now)
         (length to.new - result.written) (stop_of result.status result.error_len) }
+    ensures succeeds { length utf16.now / 2 * 3 ≤ length to.new
+        → stop_of result.status result.error_len ≢ NoSpace }
+    ensures filled { stop_of result.status result.error_len ≡ NoSpace
+        → length to.new < result.written + 4 }
+    ensures advances { 4 ≤ length to.new → decided_text (is_big byte_order) utf16.now ≢ []
+        → 0 < result.read }
     ensures numbers { AreNumbers result.status result.error_len }
 {
     progress_of(if is_big_endian(byte_order) {
@@ -192,6 +200,8 @@ pub extern "C" fn dethrux_from_utf8(byte_order: u32, utf8: &[u8], to: &mut [u8])
         result.written }
     ensures stop { StopsEncoding (is_big byte_order) utf8.now result.read
         (length to.new - result.written) (stop_of result.status result.error_len) }
+    ensures succeeds { 2 * length utf8.now ≤ length to.new
+        → stop_of result.status result.error_len ≢ NoSpace }
     ensures numbers { AreNumbers result.status result.error_len }
 {
     if is_big_endian(byte_order) {
@@ -214,6 +224,8 @@ pub extern "C" fn dethrux_from_utf8_lossy(byte_order: u32, utf8: &[u8], to: &mut
         (stop_of result.status result.error_len) }
     ensures between { take result.written to.new ≡ flat_map (char_bytes (is_big byte_order))
         (text_of_utf8 (take result.read utf8.now)) }
+    ensures succeeds { 2 * length utf8.now ≤ length to.new
+        → stop_of result.status result.error_len ≡ Done }
     ensures numbers { AreNumbers result.status result.error_len }
 {
     progress_of(if is_big_endian(byte_order) {
