@@ -1,3 +1,5 @@
+pub mod Block
+pub mod Calls
 pub mod Given
 pub mod OneSplit
 pub mod Utf8Parts

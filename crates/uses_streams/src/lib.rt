@@ -1,12 +1,17 @@
 //! Proved callers that use only public calls: of the decoders, of the laws of the split and of
-//! cuts, and of streams of UTF-8. `headline` states each phrase of the headline.
+//! cuts, of streams of UTF-8, and of each conversion with a buffer; and laws of these. `headline`
+//! states each phrase of the headline.
 #![tactic(auto)]
 
 pub mod bom;
+pub mod call_laws;
 pub mod chars;
 pub mod cuts;
 pub mod headline;
+pub mod small_buffer;
+pub mod std_laws;
 pub mod streams;
+pub mod through;
 pub mod utf8_both;
 pub mod utf8_parts;
 pub mod utf8_streamed;
