@@ -1,4 +1,4 @@
--- The text of whole units, with U+FFFD for unpaired surrogates, is that of std.
+-- The text of whole units, with U+FFFD for unpaired surrogates, is what std gives.
 use Rattle.std.proofs.Common.{◌≡◌, ℕ, ◌%◌, ◌<◌, ◌≤◌, Bool, true, false, List, [], ◌∷◌, Some, get_or, length, map, refl, sym, ap, ap₂, ◌∙◌, ⊎_elim, arith}
 use Rattle.std.proofs.lemmas.Bool.{cases_Bool, cases_lt}
 use Rattle.std.proofs.lemmas.Str.{utf16_chars_lone, utf16_chars_pair}

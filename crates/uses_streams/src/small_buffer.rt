@@ -113,7 +113,7 @@ pub fn partial_through<D: LossyDirection, A: Allocator>(
     }
 }
 
-/// A direction of which each error is one at the place where it is.
+/// A direction that finds an error again after the text before it is taken away.
 pub trait StrictDirection: LossyDirection {
     /// States what the proof of `strict_through` needs, and does nothing: what follows the longest
     /// valid prefix is an ill-formed sequence, or an incomplete character, where it begins.

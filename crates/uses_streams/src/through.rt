@@ -17,7 +17,7 @@ use utf16_encode::FromUtf8;
 use utf16_units::Utf16Order;
 
 /// Converts UTF-16 to UTF-8, up to the first ill-formed sequence.
-pub fn to_utf8<E: Utf16Order, A: Allocator>(
+pub fn to_utf8_through<E: Utf16Order, A: Allocator>(
     alloc: A,
     utf16: &[u8],
     buffer: &mut [u8],
@@ -30,7 +30,7 @@ pub fn to_utf8<E: Utf16Order, A: Allocator>(
 }
 
 /// Converts UTF-8 to UTF-16, up to the first ill-formed sequence.
-pub fn from_utf8<E: Utf16Order, A: Allocator>(
+pub fn from_utf8_through<E: Utf16Order, A: Allocator>(
     alloc: A,
     utf8: &[u8],
     buffer: &mut [u8],
@@ -43,7 +43,7 @@ pub fn from_utf8<E: Utf16Order, A: Allocator>(
 }
 
 /// Converts UTF-16 to UTF-8, with U+FFFD for each ill-formed sequence.
-pub fn to_utf8_lossy<E: Utf16Order, A: Allocator>(
+pub fn to_utf8_lossy_through<E: Utf16Order, A: Allocator>(
     alloc: A,
     utf16: &[u8],
     buffer: &mut [u8],
@@ -55,7 +55,7 @@ pub fn to_utf8_lossy<E: Utf16Order, A: Allocator>(
 }
 
 /// Converts UTF-8 to UTF-16, with U+FFFD for each ill-formed sequence.
-pub fn from_utf8_lossy<E: Utf16Order, A: Allocator>(
+pub fn from_utf8_lossy_through<E: Utf16Order, A: Allocator>(
     alloc: A,
     utf8: &[u8],
     buffer: &mut [u8],
@@ -69,7 +69,7 @@ pub fn from_utf8_lossy<E: Utf16Order, A: Allocator>(
 
 /// Converts UTF-16 to UTF-8, with U+FFFD for each unpaired surrogate, but without an incomplete
 /// character at the end.
-pub fn to_utf8_partial<E: Utf16Order, A: Allocator>(
+pub fn to_utf8_partial_through<E: Utf16Order, A: Allocator>(
     alloc: A,
     utf16: &[u8],
     buffer: &mut [u8],
@@ -84,7 +84,7 @@ pub fn to_utf8_partial<E: Utf16Order, A: Allocator>(
 }
 
 /// Converts a stream of UTF-16 in chunks to UTF-8, with U+FFFD for each ill-formed sequence.
-pub fn decoder_feed<E: Utf16Order, A: Allocator, B: Allocator>(
+pub fn decoder_feed_through<E: Utf16Order, A: Allocator, B: Allocator>(
     alloc: A,
     chunks: &[Vec<u8, B>],
     buffer: &mut [u8],
@@ -97,7 +97,7 @@ pub fn decoder_feed<E: Utf16Order, A: Allocator, B: Allocator>(
 }
 
 /// Converts a stream of UTF-8 in chunks to UTF-16, with U+FFFD for each ill-formed sequence.
-pub fn utf8_decoder_feed<E: Utf16Order, A: Allocator, B: Allocator>(
+pub fn utf8_decoder_feed_through<E: Utf16Order, A: Allocator, B: Allocator>(
     alloc: A,
     chunks: &[Vec<u8, B>],
     buffer: &mut [u8],
