@@ -138,7 +138,7 @@ test_page() {
     printf 'h★\n' | cmp - "$room/found" || return
     printf '\0h\xDC\0\0' | "$CARGO_TARGET_DIR/debug/first" > "$room/found" || return
     printf 'h\xEF\xBF\xBD\xEF\xBF\xBD' | cmp - "$room/found" || return
-    [ "$(wc -l < "$top/docs/RUST.md")" -le 60 ]
+    [ "$(wc -l < "$top/docs/RUST.md")" -le 100 ]
 }
 
 # Builds a copy of the crate outside of the repository, with words for env.

@@ -37,7 +37,11 @@ class Library(unittest.TestCase):
 
     def imported(self, **environment):
         """Import the copy, and return the status and the last line of the errors, or the path."""
-        script = "import dethrux; print(dethrux._library._library._name)"
+        script = (
+            "try:\n    import dethrux\nexcept ImportError as error:\n"
+            "    assert error.name == 'dethrux', error.name\n    raise\n"
+            "print(dethrux._library._library._name)"
+        )
         run = subprocess.run(
             [sys.executable, "-B", "-c", script],
             env={"PYTHONPATH": self.folder.name, **environment},
@@ -93,9 +97,10 @@ class Library(unittest.TestCase):
     def test_a_call_is_missing(self):
         number = _library._number(dethrux.__version__)
         body = f"unsigned dethrux_version(void) {{ return {number}; }}"
+        other = compiled(self.folder.name, body)
         self.assertRegex(
-            self.imported(DETHRUX_LIBRARY=compiled(self.folder.name, body)),
-            r"^ImportError: .*libother\.so has no dethrux_validate: set DETHRUX_LIBRARY ",
+            self.imported(DETHRUX_LIBRARY=other),
+            f"^ImportError: {re.escape(other)} has no dethrux_validate: set DETHRUX_LIBRARY ",
         )
 
 

@@ -558,3 +558,14 @@ fn capacities_are_those_of_a_vector() {
     text.shrink_to_fit();
     assert_eq!(text.capacity(), 0);
 }
+
+#[test]
+fn values_are_shown_to_programmers() {
+    let text = WString::<BE>::from("a");
+    assert!(format!("{:?}", text.chars()).contains("rest: [0, 97]"));
+    assert!(format!("{:?}", text.char_indices()).contains("rest: [0, 97]"));
+    assert!(format!("{:?}", text.as_wstr()).contains("[0, 97]"));
+    assert!(format!("{text:?}").contains("[0, 97]"));
+    let error = WStr::<BE>::from_utf16(b"\0").unwrap_err();
+    assert!(format!("{error:?}").contains("valid_up_to: 0"));
+}
