@@ -161,7 +161,7 @@ refuses() {
 
 # Puts a library of another version into a folder.
 put_other() {
-    printf 'unsigned dethrux_version(void) { return 2001; }\n' > "$room/other.c"
+    printf 'unsigned dethrux_version(void) { return 99001; }\n' > "$room/other.c"
     cc -c "$room/other.c" -o "$room/other.o" && rm -f "$1/libdethrux.a" &&
         ar cr "$1/libdethrux.a" "$room/other.o"
 }
@@ -181,7 +181,7 @@ test_build_script() {
         "$known" "DETHRUX_LIB_DIR=$empty"
     count 'the library that is named again' build_copy "$known" "DETHRUX_LIB_DIR=$named"
     put_other "$named"
-    said="$named/libdethrux.a has version 0.2.1, this crate 0.1.0"
+    said="$named/libdethrux.a has version 0.99.1, this crate $(< "$top/VERSION")"
     said+=": install that, or set DETHRUX_LIB_DIR to it"
     count 'another version' refuses "$said" "$known" "DETHRUX_LIB_DIR=$named"
     rm "$named/libdethrux.a" && : > "$named/libdethrux.a"

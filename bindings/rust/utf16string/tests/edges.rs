@@ -56,7 +56,7 @@ fn panics<T>(call: impl FnOnce() -> T) -> bool {
     catch_unwind(AssertUnwindSafe(call)).is_err()
 }
 
-/// Takes a range by every call, and compares each result with the bytes of the range, if it has any.
+/// Takes a range by every call, and compares each result with the bytes of the range, or with none.
 fn take<E, I>(text: &mut WString<E>, range: I)
 where
     E: 'static + ByteOrder,
