@@ -4,7 +4,7 @@
 use crate::checks::equal;
 use std::process::Abort;
 use tests_support::plain::decode;
-use uses_streams::headline::resume;
+use uses_streams::headline::{resume, resumed};
 use utf16_tools::{Lossy, decode_pieces};
 use utf16string::{BE, LE, Utf16Order};
 
@@ -85,6 +85,8 @@ fn fed<E: Utf16Order>(
     }
     let whole = decode_pieces::<E, _, _>(rt.alloc(), pieces).expect(rt, "memory");
     equal(rt, whole.as_str(), text.as_str());
+    let loops = resumed::<E, _, _, _>(rt.alloc(), rt.alloc(), pieces).expect(rt, "memory");
+    equal(rt, loops.as_str(), text.as_str());
 }
 
 fn at_every_chunking<E: Utf16Order>(rt: &(impl Abort + AllocGlobal), bytes: &[u8]) {

@@ -1,6 +1,6 @@
-//! Tests of strings that no line of a table can express: iterators under adapters, texts of more
-//! than a million bytes, lists of edits, each allocation failing in turn, how much memory is
-//! requested, and what `Debug` writes.
+//! Tests of strings that no line of a table can express: iterators under adapters, strings sorted,
+//! lists of edits, each allocation failing in turn, and what `Debug` writes. How much memory their
+//! calls request is tested in `tests_streams`, in one table with the calls of streams.
 #![tactic(auto)]
 
 #[cfg(test)]
@@ -10,14 +10,12 @@ mod heap;
 #[cfg(test)]
 mod iterators;
 #[cfg(test)]
-mod large;
-#[cfg(test)]
 mod lists;
-#[cfg(test)]
-mod requests;
 #[cfg(test)]
 mod room;
 #[cfg(test)]
 mod shown;
+#[cfg(test)]
+mod sorted;
 #[cfg(test)]
 mod views;

@@ -9,22 +9,39 @@ pub fn call<E: Utf16Order>(run: &mut Run, text: WStr<E>, name: &str) -> bool {
     match name {
         "WStr::chars" => chars(run, text),
         "WStr::char_indices" => char_indices(run, text),
-        "WStrChars::count"
-        | "WStrChars::last"
-        | "WStrCharIndices::count"
-        | "WStrCharIndices::last" => end(&mut run.answer, text, name),
+        "WStrChars::count" | "WStrCharIndices::count" => count(run, text, name),
+        "WStrChars::last" => character(&mut run.answer, text.chars().last()),
+        "WStrCharIndices::last" => place(&mut run.answer, text.char_indices().last()),
         _ => return compared::call(run, text, name),
     }
     true
 }
 
-fn end<E: Utf16Order>(answer: &mut Answer, text: WStr<E>, name: &str) {
-    match name {
-        "WStrChars::count" => answer.number(text.chars().count()),
-        "WStrChars::last" => character(answer, text.chars().last()),
-        "WStrCharIndices::count" => answer.number(text.char_indices().count()),
-        _ => place(answer, text.char_indices().last()),
+// The number of characters that are left after steps, as of `chars`. If no value remains there are
+// none.
+fn count<E: Utf16Order>(run: &mut Run, text: WStr<E>, name: &str) {
+    let (mut chars, mut places) = (text.chars(), text.char_indices());
+    let steps = if run.values.count() == 0 {
+        ""
+    } else {
+        run.word()
+    };
+    for step in steps.chars() {
+        match step {
+            'f' => {
+                let _taken = (chars.next(), places.next());
+            }
+            'b' => {
+                let _taken = (chars.next_back(), places.next_back());
+            }
+            _ => run.refuse(Trouble::Value),
+        }
     }
+    run.answer.number(if name == "WStrChars::count" {
+        chars.count()
+    } else {
+        places.count()
+    });
 }
 
 fn character(answer: &mut Answer, found: Option<char>) {

@@ -1,0 +1,224 @@
+//! How much memory each call that allocates requests: one table of calls, for all tests.
+
+mod calls;
+mod edits;
+mod streams;
+
+use crate::checks::equal;
+use crate::memory::calls::{Call, Held, Text, make};
+use std::alloc::Global;
+use std::process::Abort;
+use tests_support::refusing::Refusing;
+use utf16string::{BE, LE, Utf16Order};
+
+// The string that grows by what a call requests memory for.
+#[derive(Clone, Copy)]
+enum Grows {
+    // The result is new.
+    Nothing,
+    Utf16,
+    Utf8,
+}
+
+// What a call requests memory for.
+#[derive(Clone, Copy)]
+enum Needs {
+    // The first character in UTF-16.
+    Char,
+    // The text in UTF-16.
+    Utf16,
+    // The text in UTF-8, at least eight bytes.
+    Utf8,
+    // Three bytes for each code unit, at least eight.
+    Units,
+    // Two bytes for each byte of UTF-8, and two for a pending one.
+    Bytes,
+    // A reply to each edit.
+    Replies,
+    // The output of one chunk of a filter.
+    Chunk,
+}
+
+// The allocations of a call whose result grows while it is made, at most.
+const MANY: u64 = 24;
+
+// A call, what grows, what it needs memory for, and how many allocations it makes at most.
+type Row = (Call, Grows, Needs, u64);
+
+const ROWS: [Row; 35] = [
+    (Call::WithCapacity, Grows::Nothing, Needs::Utf16, 1),
+    (Call::FromStr, Grows::Nothing, Needs::Utf16, 1),
+    (Call::FromWstr, Grows::Nothing, Needs::Utf16, 1),
+    (Call::FromIter, Grows::Nothing, Needs::Utf16, MANY),
+    (Call::Clone, Grows::Nothing, Needs::Utf16, 1),
+    (Call::SplitOff, Grows::Nothing, Needs::Utf16, 1),
+    (Call::ShrinkToFit, Grows::Nothing, Needs::Utf16, 1),
+    (Call::ToUtf8, Grows::Nothing, Needs::Utf8, 1),
+    (Call::ViewToUtf8, Grows::Nothing, Needs::Utf8, 1),
+    (Call::Push, Grows::Utf16, Needs::Char, 1),
+    (Call::PushStr, Grows::Utf16, Needs::Utf16, 1),
+    (Call::PushWstr, Grows::Utf16, Needs::Utf16, 1),
+    (Call::Insert, Grows::Utf16, Needs::Char, 1),
+    (Call::InsertWstr, Grows::Utf16, Needs::Utf16, 1),
+    (Call::Extend, Grows::Utf16, Needs::Utf16, MANY),
+    (Call::ExtendByTrait, Grows::Utf16, Needs::Utf16, MANY),
+    (Call::Reserve, Grows::Utf16, Needs::Utf16, 1),
+    (Call::PushUtf8, Grows::Utf8, Needs::Utf8, 1),
+    (Call::EditPush, Grows::Utf16, Needs::Char, 1),
+    (Call::EditPushText, Grows::Utf16, Needs::Utf16, 1),
+    (Call::EditInsert, Grows::Utf16, Needs::Char, 1),
+    (Call::EditInsertText, Grows::Utf16, Needs::Utf16, 1),
+    (Call::EditSplitOff, Grows::Nothing, Needs::Utf16, 1),
+    (Call::Run, Grows::Nothing, Needs::Replies, 1),
+    (Call::Feed, Grows::Nothing, Needs::Units, 1),
+    (Call::FeedAny, Grows::Nothing, Needs::Units, 1),
+    (Call::FeedUtf8, Grows::Utf16, Needs::Bytes, 1),
+    (Call::DecodePieces, Grows::Nothing, Needs::Units, MANY),
+    (Call::DecodePiecesCut, Grows::Nothing, Needs::Units, MANY),
+    (Call::DecodeUtf8Pieces, Grows::Nothing, Needs::Bytes, MANY),
+    (
+        Call::DecodeUtf8PiecesCut,
+        Grows::Nothing,
+        Needs::Bytes,
+        MANY,
+    ),
+    (Call::Filter, Grows::Nothing, Needs::Chunk, 1),
+    (Call::FilterAuto, Grows::Nothing, Needs::Chunk, 1),
+    (Call::EncodeStream, Grows::Nothing, Needs::Chunk, 1),
+    (Call::EncodeStreamWithBom, Grows::Nothing, Needs::Chunk, 1),
+];
+
+impl Needs {
+    // Returns how many bytes these are for a text.
+    fn bytes<E: Utf16Order>(self, text: &Text<E>) -> u64 {
+        let (utf16, utf8) = (text.utf16.len() as u64, text.utf8.len() as u64);
+        match self {
+            Needs::Char => text.first.len_utf16() as u64 * 2,
+            Needs::Utf16 => utf16,
+            Needs::Utf8 => utf8.max(8),
+            Needs::Units => (utf16 / 2).saturating_mul(3).max(8),
+            Needs::Bytes => utf8.saturating_mul(2).saturating_add(2).max(8),
+            Needs::Replies => (text.count as u64).saturating_mul(64),
+            Needs::Chunk => 3 * 4096,
+        }
+    }
+}
+
+// Returns the capacity of what grows.
+fn capacity<E: Utf16Order>(grows: Grows, held: &Held<E>) -> u64 {
+    match grows {
+        Grows::Nothing => 0,
+        Grows::Utf16 => held.utf16.capacity() as u64,
+        Grows::Utf8 => held.utf8.capacity() as u64,
+    }
+}
+
+// Returns the most bytes that a call may request: in one allocation what it needs, or what `Vec`
+// requests where a string grows; in many four times that.
+fn most<E: Utf16Order>(row: Row, text: &Text<E>, held: &Held<E>) -> u64 {
+    let (_, grows, needs, requests) = row;
+    let (needed, capacity) = (needs.bytes(text), capacity(grows, held));
+    let once = match grows {
+        Grows::Nothing => needed,
+        _ => needed
+            .saturating_add(capacity)
+            .max(capacity.saturating_mul(2))
+            .max(8),
+    };
+    if requests == 1 {
+        once
+    } else {
+        once.saturating_mul(4)
+    }
+}
+
+// Checks that a call succeeds, and how much it requests. The strings that it changes are empty, or
+// have the text and no spare capacity.
+fn requested<E: Utf16Order>(
+    rt: &(impl Abort + AllocGlobal),
+    row: Row,
+    text: &Text<E>,
+    is_full: bool,
+) {
+    let heap = Refusing::<Global>::new(rt.alloc());
+    let mut held = Held::empty(&heap);
+    if is_full {
+        held = Held::full(&heap, text).expect(rt, "memory");
+    }
+    let (call, _, _, requests) = row;
+    let most = most(row, text, &held);
+    let is_done = make(rt.alloc(), &heap, call, text, &mut held).is_ok();
+    equal(rt, (call, text.count, is_done), (call, text.count, true));
+    let is_bounded = heap.requests() <= requests && heap.requested_bytes() <= most;
+    equal(rt, (call, text.count, is_bounded), (call, text.count, true));
+    drop(held);
+    equal(rt, heap.live_blocks(), 0);
+}
+
+// Makes each call on a text: with strings that have it, and if they grow with empty ones too.
+fn all_requested<E: Utf16Order>(rt: &(impl Abort + AllocGlobal), chars: &str, count: usize) {
+    let text = Text::<E>::new(rt.alloc(), chars, count).expect(rt, "memory");
+    for row in ROWS {
+        requested(rt, row, &text, true);
+        if !matches!(row.1, Grows::Nothing) {
+            requested(rt, row, &text, false);
+        }
+    }
+}
+
+fn at_each_length<E: Utf16Order>(rt: &(impl Abort + AllocGlobal), chars: &str) {
+    for count in 0..=70 {
+        all_requested::<E>(rt, chars, count);
+    }
+    for count in (71..5_000).step_by(97) {
+        all_requested::<E>(rt, chars, count);
+    }
+}
+
+// A bug that no clause excludes: a call requests room for the longest text that could come, such as
+// two bytes of UTF-16 for each byte of UTF-8, or many times that.
+#[test]
+fn each_call_requests_what_it_needs(rt: HostRuntime) {
+    at_each_length::<LE>(&rt, "a");
+    at_each_length::<LE>(&rt, "\u{4E00}");
+    at_each_length::<BE>(&rt, "a");
+    at_each_length::<BE>(&rt, "\u{1F600}");
+}
+
+// A bug that no clause excludes: allocation fails for a long text though there is memory.
+#[test]
+fn each_call_takes_a_text_of_16_mib(rt: HostRuntime) {
+    all_requested::<LE>(&rt, "a\u{4E00}\u{10000}", 0x20_0000);
+}
+
+// Checks that a thousand calls that append a text make twelve allocations at most.
+fn grows_seldom<E: Utf16Order>(rt: &(impl Abort + AllocGlobal), call: Call, text: &Text<E>) {
+    let heap = Refusing::<Global>::new(rt.alloc());
+    let mut held = Held::empty(&heap);
+    let mut requests: u64 = 0;
+    for _ in 0..1_000 {
+        let is_done = make(rt.alloc(), &heap, call, text, &mut held).is_ok();
+        equal(rt, (call, is_done), (call, true));
+        requests = requests.saturating_add(heap.requests());
+    }
+    equal(rt, (call, requests <= 12), (call, true));
+}
+
+// Texts of one character, of a few that are converted at once, and of many.
+fn all_grow_seldom<E: Utf16Order>(rt: &(impl Abort + AllocGlobal), chars: &str) {
+    for count in [1, 20, 300] {
+        let text = Text::<E>::new(rt.alloc(), chars, count).expect(rt, "memory");
+        for (call, grows, ..) in ROWS {
+            if !matches!(grows, Grows::Nothing) {
+                grows_seldom(rt, call, &text);
+            }
+        }
+    }
+}
+
+// A bug that no clause excludes: a string grows by what it needs, so that each call copies it.
+#[test]
+fn a_thousand_calls_allocate_twelve_times(rt: HostRuntime) {
+    all_grow_seldom::<LE>(&rt, "a");
+    all_grow_seldom::<BE>(&rt, "\u{1F600}");
+}
