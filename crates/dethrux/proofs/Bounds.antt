@@ -1,5 +1,5 @@
--- How long the UTF-8 and the UTF-16 of any bytes are at most, and that a call with this capacity
--- does not stop for lack of space.
+-- The most bytes that the UTF-8 and the UTF-16 of any bytes have, and that a call with this
+-- capacity does not stop for lack of space.
 use Rattle.std.proofs.Common.{◌≡◌, ◌≢◌, ℕ, zero, suc, ◌+◌, ◌*◌, ◌/◌, ◌%◌, ◌<◌, ◌≤◌, Bool, true, false, cond, List, [], ◌∷◌, ◌++◌, ◌-◌, length, map, take, drop, encode_utf8_all, refl, sym, ap, ◌∙◌, subst, ⊎_elim, arith, length-append, length-take-le, append-nil}
 use Rattle.std.proofs.lemmas.Bool.{cases_Bool, cases_lt}
 use Rattle.std.proofs.lemmas.List.{take-append-drop}
@@ -37,7 +37,7 @@ mark_len : length (encode_utf8 0xFFFD) ≡ 3
 unfolding encode_utf8
 mark_len = refl
 
--- the bytes are whole code units, and the UTF-8 takes no more than three for each unit
+-- if the bytes are whole code units, the UTF-8 takes at most three bytes for each unit
 abbrev AreWithin : ℕ → ℕ → Type 0
 AreWithin utf16 utf8 = (utf16 % 2 ≡ 0) × (2 * utf8 ≤ 3 * utf16)
 
@@ -162,14 +162,14 @@ module _ (parts : Decomposition) (into : ℕ → List ℕ) (input to : List ℕ)
       absurd (omega (arith, here.too_long))
 
   module _ (short : (c : ℕ) → length (into c) ≤ 4) where
-    -- if it does, less than a character of space is left
+    -- if it does, fewer bytes are left than a character may take
     pub decided_filled : (stop : Stop) → StopsLossyAs parts into (drop read input) (length to - written) stop → stop ≡ NoSpace → length to < written + 4
     decided_filled Done here same = absurd (cc)
     decided_filled (IllFormed len) here same = absurd here
     decided_filled Incomplete here same = absurd (cc)
     decided_filled NoSpace here same = omega (arith, here.too_long, short here.char)
 
-    -- with space for a character something is read of bytes of which something is certain
+    -- with space for a character, and bytes of which something is certain, the call reads something
     pub decided_advances : IsSplitInChunks parts → 4 ≤ length to → decided parts input ≢ [] → (stop : Stop)
         → StopsLossyAs parts into (drop read input) (length to - written) stop → 0 < read
     decided_advances split room some stop here = ⊎_elim (λ (none : read < 1). absurd (unread (omega arith) stop here)) (λ (read_some : 1 ≤ read). omega arith) (cases_lt read 1) where
@@ -185,7 +185,7 @@ module _ (parts : Decomposition) (into : ℕ → List ℕ) (input to : List ℕ)
           let same = ap (λ n. length (flat_map into (decided parts (drop n input)))) none in
           omega (arith, here.too_long, short here.char)
 
--- ---- for the calls
+-- ---- lemmas for the calls
 
 module _ (big : Bool) (input to : List ℕ) (read written : ℕ) where
   pub to_utf8_fits : (stop : Stop) → AreBytes input → Wrote (TranscodesToUtf8 big) input to read written → StopsDecoding big input read (length to - written) stop

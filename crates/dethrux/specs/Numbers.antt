@@ -1,4 +1,4 @@
--- What the numbers mean that C passes and gets.
+-- The meaning of the numbers that C passes and gets.
 use Rattle.std.specs.Prelude.{◌≡◌, ◌≢◌, ℕ, ◌+◌, ◌*◌, ◌≤◌, ◌==◌, Bool, List, None, Some, Option, Result, Ok, Err, length, if◌then◌else◌}
 use Rattle.utf16_units.specs.Encoding.{IsUtf16}
 use Rattle.utf16_units.specs.IllFormed.{IsIllFormed, IsUtf16ValidUpTo}
@@ -33,14 +33,14 @@ abbrev pub validity_up_to : ℕ → Result (Unit {0}) Utf16Error → ℕ
 validity_up_to len (Ok done) = len
 validity_up_to len (Err e) = valid_up_to e
 
--- the longest well-formed prefix ends at `valid_up_to`: at the end of a text, or where the reason
--- says what follows
+-- the longest well-formed prefix ends at `valid_up_to`: at the end of the bytes, or where what the
+-- reason names follows
 abbrev pub IsValidity : Bool → List ℕ → ℕ → Stop → Type 0
 IsValidity big utf16 valid_up_to Done = (valid_up_to ≡ length utf16) × IsUtf16 big utf16
 IsValidity big utf16 valid_up_to (IllFormed len) = IsUtf16ValidUpTo big utf16 valid_up_to × IsIllFormed big utf16 (Some len)
 IsValidity big utf16 valid_up_to Incomplete = IsUtf16ValidUpTo big utf16 valid_up_to × IsIllFormed big utf16 None
 IsValidity big utf16 valid_up_to NoSpace = ⊥
 
--- a version as one number, by which versions are compared
+-- a version as one number, so that versions can be compared
 abbrev pub version_number : ℕ → ℕ → ℕ → ℕ
 version_number major minor patch = major * 1000000 + minor * 1000 + patch

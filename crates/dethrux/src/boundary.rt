@@ -13,8 +13,8 @@ use utf16_bytes::{
 use utf16_units::{BE, LE};
 
 /// Returns whether an offset is a boundary between characters: the end of the bytes, or an offset
-/// between two code units that are no surrogate pair. An unpaired surrogate counts as a character,
-/// and so does an incomplete one at the end, of 1 to 3 bytes. In constant time.
+/// between two code units that are not a surrogate pair. An unpaired surrogate counts as a
+/// character, and so does an incomplete one at the end, of 1 to 3 bytes. In constant time.
 #[unsafe(no_mangle)]
 pub extern "C" fn dethrux_is_char_boundary(byte_order: u32, utf16: &[u8], at: usize) -> bool
     ensures { IsTrue result ↔ IsCut (is_big byte_order) utf16.now at }

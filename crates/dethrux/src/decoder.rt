@@ -1,4 +1,4 @@
-//! A decoder for C, whose state is in memory of the caller's.
+//! A decoder for C, whose state is in memory that the caller owns.
 
 ghost use Rattle.std.specs.Prelude.{◌≡◌, ◌≢◌, ◌↔◌, ◌+◌, ◌-◌, ◌*◌, ◌/◌, ◌<◌, ◌≤◌, [], ◌++◌, All, drop, length, take, encode_utf8_all};
 ghost use Rattle.utf16_units.specs.Split.{decided_text, whole_lossy_chars};
@@ -12,9 +12,9 @@ use utf16_decode::{Stream, ToUtf8};
 use utf16_units::{BE, LE};
 
 /// Decodes the next chunk of a stream and writes its text in UTF-8, as far as whole characters fit,
-/// with U+FFFD for each unpaired surrogate. `read` counts bytes of the chunk: all of them, or the
-/// next character does not fit. Any bytes are allowed in the state, and at most three are pending
-/// then. In time linear in what is read.
+/// with U+FFFD for each unpaired surrogate. `read` counts bytes of the chunk: all of them, unless
+/// the next character does not fit. Any bytes are allowed in the state; afterwards at most three
+/// are pending. In time linear in what is read.
 #[unsafe(no_mangle)]
 pub extern "C" fn dethrux_decoder_feed(
     decoder: &mut Stream,
@@ -46,8 +46,8 @@ pub extern "C" fn dethrux_decoder_feed(
     })
 }
 
-/// Ends a stream: writes U+FFFD in UTF-8 if bytes are pending, and else nothing. The bytes after it
-/// stay as they were. If U+FFFD does not fit, nothing changes.
+/// Ends a stream: writes U+FFFD in UTF-8 if bytes are pending, and otherwise nothing. The bytes
+/// after it are unchanged. If U+FFFD does not fit, nothing changes.
 #[unsafe(no_mangle)]
 pub extern "C" fn dethrux_decoder_finish(decoder: &mut Stream, to: &mut [u8]) -> Progress
     ensures read { result.read ≡ 0 }

@@ -13,7 +13,7 @@ use utf16_decode::make_well_formed;
 use utf16_units::{BE, LE};
 
 /// Swaps the two bytes of each code unit in place: UTF-16 becomes the same text in the other byte
-/// order. An odd byte at the end stays. One pass.
+/// order. An odd byte at the end is unchanged. One pass.
 #[unsafe(no_mangle)]
 pub extern "C" fn dethrux_swap_byte_order(utf16: &mut [u8])
     ensures swapped { utf16.new ≡ swap_bytes utf16.old }
@@ -23,9 +23,9 @@ pub extern "C" fn dethrux_swap_byte_order(utf16: &mut [u8])
     swap_byte_order(utf16);
 }
 
-/// Replaces each unpaired surrogate by U+FFFD in place, and returns how many there were. The whole
-/// code units are well formed then. A leading surrogate at the end is unpaired; an odd byte at the
-/// end stays. In linear time.
+/// Replaces each unpaired surrogate by U+FFFD in place, and returns how many there were. Afterwards
+/// the whole code units are well formed. A leading surrogate at the end is unpaired; an odd byte at
+/// the end is unchanged. In linear time.
 #[unsafe(no_mangle)]
 pub extern "C" fn dethrux_make_well_formed(byte_order: u32, utf16: &mut [u8]) -> usize
     ensures bytes { utf16.new

@@ -1,7 +1,7 @@
 //! UTF-16 for callers in C, and in any language that can call C; `include/dethrux.h` documents the
 //! calls. They only call functions of the crates below, in the byte order that they are passed,
-//! except those of the BOM and the version. A slice is a pointer and a length in bytes in C. No
-//! call allocates, and none has a precondition on the bytes.
+//! except the calls for the BOM and the version. A slice is a pointer and a length in bytes in C.
+//! No call allocates, and none has a precondition on the bytes.
 #![tactic(auto)]
 
 mod bom;
@@ -54,7 +54,7 @@ pub extern "C" fn dethrux_validate(byte_order: u32, utf16: &[u8]) -> Validity
     }
 }
 
-// Does the same in one byte order.
+// Does the same for a fixed byte order.
 #[inline(always)]
 fn validity<E: Utf16Order>(utf16: &[u8]) -> Validity
     ensures validity { IsValidity E.BIG utf16.now result.valid_up_to
@@ -67,7 +67,7 @@ fn validity<E: Utf16Order>(utf16: &[u8]) -> Validity
     validity_of_many::<E>(utf16)
 }
 
-// Does the same. Kept out of line so that short texts do not pay for its frame.
+// Does the same. Kept out of line so that short texts do not pay for its stack frame.
 #[inline(never)]
 fn validity_of_many<E: Utf16Order>(utf16: &[u8]) -> Validity
     ensures validity { IsValidity E.BIG utf16.now result.valid_up_to
@@ -144,7 +144,7 @@ pub extern "C" fn dethrux_to_utf8(byte_order: u32, utf16: &[u8], to: &mut [u8]) 
     }
 }
 
-/// Converts UTF-16 to UTF-8 as `dethrux_to_utf8`, and replaces each unpaired surrogate, and an
+/// Converts UTF-16 to UTF-8 like `dethrux_to_utf8`, and replaces each unpaired surrogate, and an
 /// incomplete character at the end, by U+FFFD. The status is 0, or 3 if the next character or
 /// U+FFFD does not fit: call again with the rest. It is 0 with a capacity of three bytes for each
 /// code unit, and three for an odd byte at the end.
@@ -168,8 +168,8 @@ pub extern "C" fn dethrux_to_utf8_lossy(byte_order: u32, utf16: &[u8], to: &mut 
     })
 }
 
-/// Converts the next chunk of a stream as `dethrux_to_utf8_lossy`, but does not read an incomplete
-/// character at the end, which more bytes may complete: the status is 2 then.
+/// Converts the next chunk of a stream like `dethrux_to_utf8_lossy`, but does not read an
+/// incomplete character at the end, which more bytes may complete: in that case the status is 2.
 #[unsafe(no_mangle)]
 pub extern "C" fn dethrux_to_utf8_partial(byte_order: u32, utf16: &[u8], to: &mut [u8]) -> Progress
     ensures decodes { DecodesTo (is_big byte_order) utf16.now to.new result.read result.written }

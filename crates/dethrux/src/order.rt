@@ -10,9 +10,10 @@ use std::cmp::Ordering;
 use utf16_bytes::compare;
 use utf16_units::{BE, LE};
 
-/// Compares two texts by their scalar values, each in its byte order: returns -1, 0 or 1 where the
+/// Compares two texts by their scalar values, each in its byte order: returns -1, 0 or 1 if the
 /// first is less than, equal to or greater than the second. An unpaired surrogate, and an
-/// incomplete character at the end, is U+FFFD. Reads both up to the first character that differs.
+/// incomplete character at the end, counts as U+FFFD. Reads both up to the first character that
+/// differs.
 #[unsafe(no_mangle)]
 pub extern "C" fn dethrux_compare(
     first_order: u32,

@@ -26,7 +26,7 @@ pub struct Progress {
     /// Why the call read no more: 0 all was read, 1 an ill-formed sequence follows, 2 the input
     /// ends inside a character, 3 the next character does not fit.
     pub status: u32,
-    /// With status 1 the length of the ill-formed sequence in bytes, and else 0.
+    /// The length in bytes of the ill-formed sequence with status 1, and 0 with any other.
     pub error_len: u32,
 }
 
@@ -38,7 +38,7 @@ pub struct Validity {
     pub valid_up_to: usize,
     /// What follows it: 0 nothing, 1 an ill-formed sequence, 2 an incomplete character.
     pub status: u32,
-    /// With status 1 the length of the ill-formed sequence in bytes, and else 0.
+    /// The length in bytes of the ill-formed sequence with status 1, and 0 with any other.
     pub error_len: u32,
 }
 
@@ -54,7 +54,7 @@ pub struct Bom {
     pub status: u32,
 }
 
-// What C gets of the result of a call of the library.
+// What C gets as the result of a call of the library.
 #[inline(always)]
 pub(crate) fn progress_of(progress: utf16_encode::Progress) -> Progress
     ensures read { result.read ≡ progress.read }
@@ -85,7 +85,7 @@ pub(crate) fn status_of(stop: Stop) -> (u32, u32)
     }
 }
 
-// What C gets of the validator's result for `len` bytes.
+// What C gets as the validator's result for `len` bytes.
 #[inline(always)]
 pub(crate) fn validity_of(len: usize, tested: Result<(), Utf16Error>) -> Validity
     ensures valid_up_to { result.valid_up_to ≡ validity_up_to len tested }

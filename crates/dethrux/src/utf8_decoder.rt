@@ -1,4 +1,4 @@
-//! A decoder of UTF-8 for C, whose state is in memory of the caller's.
+//! A decoder of UTF-8 for C, whose state is in memory that the caller owns.
 
 ghost use Rattle.std.specs.Prelude.{◌≡◌, ◌≢◌, ◌↔◌, ◌+◌, ◌-◌, ◌*◌, ◌<◌, ◌≤◌, [], ◌++◌, drop, length, take};
 ghost use Rattle.utf16_units.specs.Encoding.{encode, size};
@@ -15,10 +15,10 @@ use utf16_units::{BE, LE};
 
 /// Decodes the next chunk of a stream of UTF-8 and writes its text in UTF-16, as far as whole
 /// characters fit, with U+FFFD for each maximal subpart of an ill-formed subsequence. `read` counts
-/// bytes of the chunk: all of them, or the next character does not fit. Any bytes are allowed in
-/// the state, and at most three are pending then. The status is 0 with a capacity of two bytes for
-/// each byte of the chunk and two more, if the state is one that this call leaves. In time linear
-/// in what is read.
+/// bytes of the chunk: all of them, unless the next character does not fit. Any bytes are allowed
+/// in the state; afterwards at most three are pending. The status is 0 with a capacity of two bytes
+/// for each byte of the chunk and two more, if the state is one that this call leaves. In time
+/// linear in what is read.
 #[unsafe(no_mangle)]
 pub extern "C" fn dethrux_utf8_decoder_feed(
     decoder: &mut Stream,
@@ -52,8 +52,8 @@ pub extern "C" fn dethrux_utf8_decoder_feed(
     })
 }
 
-/// Ends a stream of UTF-8: writes U+FFFD in UTF-16 if bytes are pending, and else nothing. The
-/// bytes after it stay as they were. If U+FFFD does not fit, nothing changes.
+/// Ends a stream of UTF-8: writes U+FFFD in UTF-16 if bytes are pending, and otherwise nothing. The
+/// bytes after it are unchanged. If U+FFFD does not fit, nothing changes.
 #[unsafe(no_mangle)]
 pub extern "C" fn dethrux_utf8_decoder_finish(
     decoder: &mut Stream,

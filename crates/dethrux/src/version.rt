@@ -1,4 +1,4 @@
-//! The version of the library, which the header gives too.
+//! The version of the library, which the header also gives.
 
 ghost use Rattle.std.specs.Prelude.{◌≡◌};
 ghost use Rattle.dethrux.specs.Numbers.{version_number};
@@ -9,8 +9,8 @@ const MINOR: u32 = 1;
 
 const PATCH: u32 = 0;
 
-/// Returns the version as a number, as `DETHRUX_VERSION` of the header: 1,000,000 times the major,
-/// plus 1,000 times the minor, plus the patch version.
+/// Returns the version as a number, like `DETHRUX_VERSION` in the header: 1,000,000 times the
+/// major, plus 1,000 times the minor, plus the patch version.
 #[unsafe(no_mangle)]
 pub extern "C" fn dethrux_version() -> u32
     ensures { result ≡ version_number 0 1 0 }

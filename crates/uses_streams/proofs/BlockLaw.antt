@@ -1,4 +1,4 @@
--- Bytes each of which may follow those before it are the beginning of a well-formed text.
+-- Bytes begin a well-formed text if each of them may follow the bytes before it.
 use Rattle.std.proofs.Common.{◌≡◌, ℕ, zero, suc, ◌+◌, ◌-◌, ◌*◌, ◌/◌, ◌%◌, ◌<◌, ◌≤◌, ◌⊎◌, ◌↔◌, ⊎_elim, inl, inr, List, [], ◌∷◌, ◌++◌, append_assoc, drop, length, length-append, length-drop, length-take-le, refl, slice_index, subst, sym, ap, ap₂, ◌∙◌, take, arith}
 use Rattle.std.proofs.lemmas.Bool.{cases_lt}
 use Rattle.std.proofs.lemmas.List.{get_or-drop, get_or_append_left}
@@ -13,7 +13,7 @@ use Rattle.utf16_from_utf8.proofs.FollowLemmas.{behind, behind-take, follows-at}
 use Rattle.utf16_from_utf8.proofs.WellFormedLemmas.{FollowAll, four-utf8, one-utf8, text-follows}
 use Rattle.uses_streams.specs.Block.{BeginsText}
 
--- ---- a text that begins so
+-- ---- a text that begins with these bytes
 
 module _ (xs ys : List ℕ) where
   behind-append : (d i : ℕ) → i < length xs → slice_index (behind d (xs ++ ys)) i ≡ slice_index (behind d xs) i

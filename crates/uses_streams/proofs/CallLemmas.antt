@@ -1,4 +1,4 @@
--- Calls one after another, each with what the one before left.
+-- Calls one after another, each given what the one before left.
 use Rattle.std.proofs.Common.{◌≡◌, ◌≢◌, ℕ, ◌+◌, ◌-◌, ◌<◌, ◌≤◌, List, [], ◌∷◌, ◌++◌, Option, None, Some, length, map, take, drop, refl, sym, ap, ap₂, ◌∙◌, subst, ⊎_elim, arith, append-nil, append_assoc, length-append, length-drop, length-take-le, sum_by, take-add, take-append-drop}
 use Rattle.std.proofs.lemmas.Bool.{cases_lt}
 use Rattle.std.proofs.lemmas.List.{drop-append-le, drop-drop, drop_all, take_rest}
@@ -21,14 +21,14 @@ use Rattle.uses_streams.specs.Calls.{Call, Continue, ConvertsUpTo, EndWith, Ends
 
 -- ---- the whole text, through any number of calls
 
--- what was shown before, and one call more
+-- what was shown before, and what one more call shows
 pub shown_then : (text : List ℕ → List ℕ) (into : ℕ → List ℕ) (input all rest to : List ℕ) (read written : ℕ)
     → flat_map into (text input) ≡ all ++ flat_map into (text rest) → ShowsWhole text into rest to read written
     → flat_map into (text input) ≡ (all ++ take written to) ++ flat_map into (text (drop read rest))
 shown_then text into input all rest to read written before shows =
     before ∙ ap (λ t. all ++ t) shows.shown ∙ sym (append_assoc all (take written to) (flat_map into (text (drop read rest))))
 
--- a call that stopped for another reason than space left nothing
+-- a call that stopped for a reason other than space left nothing
 pub nothing_left : (text : List ℕ → List ℕ) (into : ℕ → List ℕ) (rest : List ℕ) (left : ℕ) (stop : Stop) → stop ≢ NoSpace → StopsLossyWhole text into rest left stop
     → rest ≡ []
 nothing_left text into rest left Done other here = here
@@ -36,7 +36,7 @@ nothing_left text into rest left (IllFormed len) other here = absurd here
 nothing_left text into rest left Incomplete other here = absurd here
 nothing_left text into rest left NoSpace other here = absurd (other refl)
 
--- then all was shown
+-- so all was shown
 pub shown_all : (text : List ℕ → List ℕ) (into : ℕ → List ℕ) (input all rest : List ℕ) (left : ℕ) (stop : Stop) → text [] ≡ []
     → flat_map into (text input) ≡ all ++ flat_map into (text rest) → stop ≢ NoSpace → StopsLossyWhole text into rest left stop
     → all ≡ flat_map into (text input)
@@ -151,14 +151,14 @@ module _ (parts : Decomposition) (into : ℕ → List ℕ) (split : IsSplitInChu
 
 -- ---- what is certain, through any number of calls
 
--- what was decoded before, and one call more
+-- what was decoded before, and what one more call decodes
 pub decoded_then : (parts : Decomposition) (into : ℕ → List ℕ) (input rest to all next : List ℕ) (read written : ℕ) → DecodesAs parts into input rest [] all
     → DecodesAsTo parts into rest to read written → next ≡ all ++ take written to → DecodesAs parts into input (drop read rest) [] next
 decoded_then parts into input rest to all next read written before call grown =
     Decodes-then parts into input rest (drop read rest) [] all next before
     (subst (DecodesAs parts into rest (drop read rest) all) (sym grown) (decodes_onto parts into rest (drop read rest) all (take written to) call.decodes))
 
--- a call that stopped for another reason than space left the tail
+-- a call that stopped for a reason other than space left the tail
 pub tail_left : (parts : Decomposition) (into : ℕ → List ℕ) → IsSplitInChunks parts → (rest : List ℕ) (left : ℕ) (stop : Stop) → stop ≢ NoSpace → StopsLossyAs parts into rest left stop
     → parts.tail rest ≡ rest
 tail_left parts into split rest left Done other here = ap parts.tail here ∙ split.nothing ∙ sym here
@@ -166,7 +166,7 @@ tail_left parts into split rest left (IllFormed len) other here = absurd here
 tail_left parts into split rest left Incomplete other here = here.1
 tail_left parts into split rest left NoSpace other here = absurd (other refl)
 
--- then all that is certain was decoded, and the tail is left
+-- so all that is certain was decoded, and the tail is left
 pub decoded_all : (parts : Decomposition) (into : ℕ → List ℕ) (split : IsSplitInChunks parts) (input rest all : List ℕ) (left : ℕ) (stop : Stop) → DecodesAs parts into input rest [] all
     → stop ≢ NoSpace → StopsLossyAs parts into rest left stop → (all ≡ flat_map into (decided parts input)) × (rest ≡ parts.tail input)
 decoded_all parts into split input rest all left stop before other here =
@@ -250,7 +250,7 @@ module _ (from into : ℕ → List ℕ) (IsValid : List ℕ → Type 0) (other :
     (joins : Joins (Gives IsValid other))
     (faults : (input : List ℕ) (read : ℕ) (len : Option ℕ) → read < length input → IsValid (take read input) → IsIllFormedAt (drop read input) len → IsIllFormedOf input read len)
     (there : (input : List ℕ) (n : ℕ) (len : Option ℕ) → IsIllFormedOf input n len → (n < length input) × IsIllFormedAt (drop n input) len) where
-  -- what was converted before, and one call more
+  -- what was converted before, and what one more call converts
   module _ (input all next to : List ℕ) (at read written : ℕ) (within : at ≤ length input) (before : Gives IsValid other (take at input) all)
       (call : Wrote (Gives IsValid other) (drop at input) to read written) (grown : next ≡ all ++ take written to) where
     pub gives_then : Gives IsValid other (take (at + read) input) next
@@ -261,7 +261,7 @@ module _ (from into : ℕ → List ℕ) (IsValid : List ℕ → Type 0) (other :
     pub then_within : at + read ≤ length input
     then_within = omega (arith, call.within, length-drop at input)
 
-    -- an error after the rest is one after all
+    -- an error in the rest is an error in the whole input
     fault_then : (len : Option ℕ) → IsIllFormedOf (drop at input) read len → IsIllFormedOf input (at + read) len
     fault_then len found =
         let here = there (drop at input) read len found in

@@ -59,7 +59,7 @@ at_end : (items : List Item) (kept : List ℕ) → whole_lossy_chars items kept 
 at_end items [] = refl
 at_end items (first ∷ after) = refl
 
--- the text of the computed split is that of the one split
+-- the text of the computed split is the text of the one split
 pub of_one : SplitExists → SplitUnique → (big : Bool) (bytes : List ℕ) → All IsByte bytes
     → (whole : List ℕ) → whole ≡ encode_utf8_all (whole_lossy_chars (split_items big bytes) (split_tail big bytes)) → IsTextOfOneSplit big bytes whole
 of_one exists unique big bytes are whole same = record {
@@ -70,7 +70,7 @@ of_one exists unique big bytes are whole same = record {
   text = same;
 }
 
--- and it is that of resuming by the error over the chunks
+-- and it is the text that resuming by the error gives over the chunks
 pub by_resuming : ResumesIsSplit → {X : Type 0} (of : X → List ℕ) (big : Bool) (pieces : List X) → All IsByte (flat_map of pieces)
     → (whole : List ℕ) → whole ≡ encode_utf8_all (whole_lossy_chars (split_items big (flat_map of pieces)) (split_tail big (flat_map of pieces)))
     → IsTextByResuming big (map of pieces) whole
@@ -95,7 +95,7 @@ bytes-more of pieces i piece kept within is so_far are =
 
 -- ---- the text of a decoder
 
--- of bytes alone, if nothing is pending before them
+-- the text of only the bytes, if nothing is pending before them
 pub fresh : (big : Bool) (pending bytes utf8 : List ℕ) → pending ≡ [] → utf8 ≡ encode_utf8_all (lossy_chars (split_items big (pending ++ bytes)))
     → utf8 ≡ encode_utf8_all (lossy_chars (split_items big bytes))
 fresh big pending bytes utf8 none shown = shown ∙ ap (λ p. encode_utf8_all (lossy_chars (split_items big (p ++ bytes)))) none

@@ -123,7 +123,7 @@ module _ (big : Bool) where
         shown first second [] (not_cut big first second [] (λ lead. absurd (l lead))) (good one) (split_items big []) (put_unit-neither one (split_items big []) l t)
         ∙ ap (λ r. one ∷ r) nothing ∙ sym (std_neither one [] l t)
 
-  -- a unit before another, if the rest holds already
+  -- a unit before another, if the law already holds for the rest
   module _ (first second third fourth : ℕ) (bytes : List ℕ)
       (last : lossy_text big (third ∷ fourth ∷ bytes) ≡ utf16_lossy_chars (unit_of big third fourth ∷ units_of big bytes))
       (after : lossy_text big bytes ≡ utf16_lossy_chars (units_of big bytes)) where

@@ -1,5 +1,5 @@
--- What follows the longest well-formed prefix of UTF-16 is ill-formed, or incomplete, where it
--- begins.
+-- What follows the longest well-formed prefix of UTF-16 is also ill-formed, or incomplete, without
+-- that prefix.
 use Rattle.std.proofs.Common.{◌≡◌, ℕ, ◌+◌, ◌<◌, ◌≤◌, Bool, List, ◌++◌, Option, None, Some, length, take, drop, refl, sym, ap, ◌∙◌, subst, ⊎_elim, arith, length-append, length-drop, take-add, take_all, take_at}
 use Rattle.std.proofs.lemmas.Bool.{cases_lt}
 use Rattle.std.specs.Option.{ForSome}

@@ -10,7 +10,7 @@ use Rattle.utf16_decode.specs.declared.progress.Stop.{Stop}
 use Rattle.utf16_decode.specs.declared.progress.Stop.TheVariants.{Incomplete, Done, IllFormed, NoSpace}
 
 -- one call: the number of bytes that it read, its buffer after the call, the number of bytes
--- written to the start of that, and why it stopped
+-- written to the start of the buffer, and why it stopped
 pub record Call : Type 0 where
   pub read : ℕ
   pub to : List ℕ
@@ -76,12 +76,12 @@ pub record ConvertsUpTo (IsValid : List ℕ → Type 0) (other : List ℕ → Li
   pub text : out ≡ other (take n input)
   pub ends : EndsAt IsIllFormedOf input n stop
 
--- how much these calls read
+-- how much these calls read in all
 abbrev pub all_read : List Call → Call → ℕ
 all_read calls last = sum_by (λ call. call.read) calls + last.read
 
 -- one call of a stream: how many of the bytes that are left it is given as its chunk, what is
--- pending after it, and the rest as of any call
+-- pending after it, and the same fields as any call
 pub record Feed : Type 0 where
   pub offered : ℕ
   pub pending : List ℕ

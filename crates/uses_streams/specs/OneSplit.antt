@@ -3,7 +3,7 @@ use Rattle.std.specs.Prelude.{◌≡◌, ℕ, Bool, List, [], ◌∷◌, ◌++�
 use Rattle.utf16_units.specs.Recipe.{Resumes}
 use Rattle.utf16_tools.specs.Split.{Item, Split, whole_lossy_chars}
 
--- the bytes have a split, they have no other, and the UTF-8 is that of its text
+-- the bytes have a split, they have no other, and the UTF-8 is the encoding of its text
 pub record IsTextOfOneSplit (big : Bool) (bytes utf8 : List ℕ) : Type 0 where
   pub items : List Item
   pub tail : List ℕ
@@ -16,8 +16,8 @@ abbrev pub text_at_end : List ℕ → List ℕ → List ℕ
 text_at_end text [] = text
 text_at_end text (first ∷ after) = text ++ 0xFFFD ∷ []
 
--- a reader who resumes by the error over the chunks gets a text, and the UTF-8 is that of this text
--- at the end of the stream
+-- a reader who resumes by the error over the chunks gets a text, and the UTF-8 is the encoding of
+-- this text at the end of the stream
 pub record IsTextByResuming (big : Bool) (pieces : List (List ℕ)) (utf8 : List ℕ) : Type 0 where
   pub text : List ℕ
   pub kept : List ℕ

@@ -9,8 +9,8 @@ ghost use Rattle.uses_streams.specs.Given.{Leaves};
 use std::alloc::{AllocError, Allocator};
 use utf16_tools::AnyLossy;
 
-/// Returns the text of a whole stream, in the byte order that its BOM gives: the BOM is no part of
-/// it. Ill-formed sequences become U+FFFD.
+/// Returns the text of a whole stream, in the byte order that its BOM gives. The BOM is not part of
+/// the text. Ill-formed sequences become U+FFFD.
 ///
 /// # Errors
 ///
@@ -30,13 +30,13 @@ pub fn decode_by_bom<A: Allocator>(alloc: A, bytes: &[u8]) -> Result<String<A>, 
 }
 
 /// Feeds two chunks, cut in the BOM or after it, and returns the text of both: what a decoder that
-/// is fed the two joined returns. The same bytes are pending as in that one, and the byte order is
-/// the same.
+/// is fed the two joined returns. The pending bytes and the byte order are also the same as in that
+/// decoder.
 ///
 /// # Errors
 ///
-/// If allocation fails. The decoder is then as it was, or as after the first chunk, or as after
-/// both, and the text is lost.
+/// If allocation fails. In that case the decoder is as it was, or as after the first chunk, or as
+/// after both, and the text is lost.
 pub fn feed_in_two_by_bom<A: Allocator, B: Allocator>(
     decoder: &mut AnyLossy,
     alloc: A,

@@ -1,7 +1,7 @@
-//! Laws of calls one after another, each with the rest that the call before left, in buffers of any
-//! capacities: what they write in all does not depend on these. They hold of every call that meets
-//! the contract of `transcode`, `transcode_lossy`, `transcode_partial` and `Stream::feed`, and so
-//! of each call for C in `dethrux`.
+//! Laws of calls one after another, each given the rest that the call before left, in buffers of
+//! any capacities. What the calls write in all does not depend on the capacities. The laws hold for
+//! every call that meets the contract of `transcode`, `transcode_lossy`, `transcode_partial` or
+//! `Stream::feed`, and so for each call for C in `dethrux`.
 
 ghost use Rattle.std.specs.Prelude.{◌≡◌, ◌++◌, ℕ, List};
 ghost use Rattle.std.specs.List.{flat_map};
@@ -41,8 +41,8 @@ pub fn strict_calls<D: StrictDirection>()
     D::strict_laws();
 }
 
-/// The calls of a stream that is cut into chunks anywhere, and the replacement of what is pending
-/// at its end, write the whole text.
+/// The calls of a stream that is cut into chunks anywhere write the whole text, together with the
+/// replacement of what is pending at its end.
 pub fn stream_calls<D: LossyDirection>()
     ensures { (bytes : List ℕ) (feeds : List Feed) (last : Feed)
         → FeedsAll D.parts D.into bytes feeds last

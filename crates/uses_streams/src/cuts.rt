@@ -1,4 +1,4 @@
-//! A proved decoder of a file of UTF-16 in parts, each of which is decoded alone.
+//! A proved decoder of a file of UTF-16 in parts, each of which is decoded separately.
 ghost use Rattle.std.specs.Prelude.{◌≡◌, ◌+◌, ◌-◌, ◌<◌, ℕ, All, IfOk, encode_utf8_all, length, nat_lt, slice_index, string_bytes};
 ghost use Rattle.std.specs.List.Sorted.{IsSortedBy};
 ghost use Rattle.std.specs.Vec.{vec_items};
@@ -32,7 +32,7 @@ pub fn decode<E: Utf16Order, A: Allocator>(alloc: A, bytes: &[u8]) -> Result<Str
 }
 
 /// Returns where a part of a file begins, of `count` about equal ones: the greatest boundary at or
-/// before its `shard_offset`. Of the file four bytes are read.
+/// before its `shard_offset`. Only four bytes of the file are read.
 pub fn part_start<E: Utf16Order>(file: &[u8], count: u64, index: u64) -> usize
     ensures { IsLastCut E.BIG file.now (shard_start (length file.now) count index) result }
 {
@@ -69,8 +69,8 @@ pub fn part_starts<E: Utf16Order, A: Allocator>(
 }
 
 /// Returns the text of a file in UTF-8, with U+FFFD for each unpaired surrogate and for an
-/// incomplete character at the end, of parts that are each decoded alone: between ascending
-/// boundaries of the file, and the last to the end.
+/// incomplete character at the end. It decodes parts separately: they end at ascending boundaries
+/// of the file, and the last one at its end.
 ///
 /// # Errors
 ///
@@ -99,8 +99,8 @@ pub fn decode_parts<E: Utf16Order, A: Allocator, B: Allocator + Clone>(
     Ok(text)
 }
 
-/// Returns the text of a file in UTF-8, as of `decode_parts`, by `count` parts about equal: the
-/// same for any count.
+/// Returns the text of a file in UTF-8, like `decode_parts`, from `count` parts of about equal
+/// length. The text is the same for any count.
 ///
 /// # Errors
 ///

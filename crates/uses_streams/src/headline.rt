@@ -1,4 +1,5 @@
-//! The headline of the project, phrase by phrase, each the contract of a function on public calls.
+//! The headline of the project, phrase by phrase. Each is the contract of a function that uses only
+//! public calls.
 //!
 //! In either byte order, bytes are taken as text exactly when they encode a list of characters, and
 //! only one; every list of edits leaves the encoding of the equally edited list; where bytes are
@@ -87,8 +88,8 @@ pub fn resumed<E: Utf16Order, A: Allocator, B: Allocator, C: Allocator>(
     Ok(text)
 }
 
-/// Returns the text of a `Lossy` that is fed the chunks one by one and then finished, in UTF-8:
-/// that of [`resumed`] and of `decode_pieces`.
+/// Returns the text of a `Lossy` that is fed the chunks one by one and then finished, in UTF-8. It
+/// is the text of [`resumed`] and of `decode_pieces`.
 ///
 /// # Errors
 ///
@@ -115,7 +116,7 @@ pub fn fed<E: Utf16Order, A: Allocator, B: Allocator + Clone, C: Allocator>(
 }
 
 /// Appends the text of bytes, with U+FFFD for each ill-formed sequence that has a length, and
-/// returns the incomplete character at the end: the loop that Rust documents beside
+/// returns the incomplete character at the end: the loop in Rust's documentation of
 /// `Utf8Error::error_len`.
 ///
 /// # Errors
@@ -151,7 +152,8 @@ pub fn resume<'a, E: Utf16Order, A: Allocator>(
     }
 }
 
-// Returns the text of chunks by a plain loop that follows the fields of the error.
+// Returns the text of chunks, which it decodes in a plain loop that follows the fields of the
+// error.
 fn resume_pieces<E: Utf16Order, A: Allocator, B: Allocator, C: Allocator>(
     text_alloc: A,
     rest_alloc: B,

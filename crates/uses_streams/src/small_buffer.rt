@@ -1,4 +1,4 @@
-//! Conversions through a small buffer, as a program in C has them: a loop that calls again with the
+//! Conversions through a small buffer, in the loop that a program in C has: it calls again with the
 //! rest as long as the next character does not fit. Each call for C in `dethrux` is one of these
 //! calls in the byte order that it is passed.
 

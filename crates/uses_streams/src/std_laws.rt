@@ -1,4 +1,4 @@
-//! Laws: what the library defines by itself is what `std` defines.
+//! Laws that what the library defines by itself is what `std` defines.
 
 ghost use Rattle.std.specs.Prelude.{◌≡◌, ◌↔◌, ◌+◌, ◌≤◌, ◌%◌, ℕ, Bool, IfOk, List, drop, encode_utf8_all, length, string_bytes, take};
 ghost use Rattle.std.specs.Char.Utf16.{utf16_lossy_chars};
@@ -16,8 +16,8 @@ pub fn lossy_is_std()
         → lossy_text big bytes ≡ utf16_lossy_chars (units_of big bytes) }
 {}
 
-/// Returns the text of code units by a call of `std`: the lossy text of their bytes, in either byte
-/// order.
+/// Returns the text of code units, from a call of `std`: the lossy text of their bytes, in either
+/// byte order.
 ///
 /// # Errors
 ///

@@ -1,4 +1,4 @@
-//! What users of streams need, each resting on a law of the split.
+//! Callers of streams, each of which needs a law of the split.
 
 ghost use Rattle.std.specs.Prelude.{◌≡◌, ◌⊎◌, ◌↔◌, ◌*◌, ◌+◌, ◌≤◌, ◌++◌, List, ℕ, Bool, IfOk, IsTrue, OnErr, OnOk, encode_utf8_all, length, string_bytes, take};
 ghost use Rattle.std.specs.Io.{StartsWith};
@@ -29,8 +29,8 @@ pub fn waits_for_a_pair<E: Utf16Order>(decoder: &Lossy<E>) -> bool
 ///
 /// # Errors
 ///
-/// If allocation fails. The decoder is then as it was, or as after the first chunk, or as after
-/// both, and the text is lost.
+/// If allocation fails. In that case the decoder is as it was, or as after the first chunk, or as
+/// after both, and the text is lost.
 pub fn feed_in_two<E: Utf16Order, A: Allocator, B: Allocator>(
     decoder: &mut Lossy<E>,
     alloc: A,
@@ -57,7 +57,7 @@ pub fn feed_in_two<E: Utf16Order, A: Allocator, B: Allocator>(
 }
 
 /// Returns the text of a whole stream that is certain, and the number of pending bytes. For any
-/// split of the bytes, the text is that of its items, and the pending bytes are its tail.
+/// split of the bytes, the text is the text of its items, and the pending bytes are its tail.
 pub fn decoded<E: Utf16Order, A: Allocator>(
     alloc: A,
     bytes: &[u8],
@@ -74,7 +74,7 @@ pub fn decoded<E: Utf16Order, A: Allocator>(
     Ok((text, decoder.pending().len()))
 }
 
-/// Returns the text that a reader gets who follows the fields of the error, in whatever way.
+/// Returns the text that a reader gets who follows the fields of the error, in any way.
 pub fn followed<E: Utf16Order, A: Allocator>(
     alloc: A,
     bytes: &[u8],

@@ -67,8 +67,8 @@ pub fn from_utf8_lossy_through<E: Utf16Order, A: Allocator>(
     lossy_through::<FromUtf8<E>, A>(alloc, utf8, buffer)
 }
 
-/// Converts UTF-16 to UTF-8, with U+FFFD for each unpaired surrogate, but without an incomplete
-/// character at the end.
+/// Converts UTF-16 to UTF-8, with U+FFFD for each unpaired surrogate, but does not read an
+/// incomplete character at the end.
 pub fn to_utf8_partial_through<E: Utf16Order, A: Allocator>(
     alloc: A,
     utf16: &[u8],

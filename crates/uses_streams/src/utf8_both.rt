@@ -1,5 +1,5 @@
-//! Both filters, one after the other: what the first wrote is what the second reads, by a file or a
-//! pipe, cut anywhere on both sides.
+//! Both filters, one after the other. What the first wrote is what the second reads, through a file
+//! or a pipe, cut anywhere on both sides.
 
 ghost use Rattle.std.specs.Prelude.{◌≡◌, ◌+◌, ◌-◌, ◌<◌, ◌^◌, List, ℕ, Some, [], OnOk};
 ghost use Rattle.std.specs.Io.KnownBytes.{Appends};
@@ -18,7 +18,7 @@ use utf16_streams::filter;
 ///
 /// # Errors
 ///
-/// Those of the filter that stops.
+/// The errors of the filter that stops.
 ///
 /// # Precondition
 ///
@@ -61,7 +61,7 @@ pub fn encode_then_filter<
 ///
 /// # Errors
 ///
-/// Those of the filter that stops.
+/// The errors of the filter that stops.
 ///
 /// # Precondition
 ///

@@ -1,4 +1,4 @@
-//! Any bytes of UTF-8 decoded in parts, each alone.
+//! Any bytes of UTF-8 decoded in parts, each separately.
 
 ghost use Rattle.std.specs.Prelude.{◌≡◌, ◌+◌, ◌-◌, ◌*◌, ◌/◌, ◌<◌, ◌≤◌, ℕ, IfOk, OnOk, length, slice_index};
 ghost use Rattle.std.specs.Str.{IsCharBoundary};
@@ -36,8 +36,8 @@ pub fn push_lossy<E: Utf16Order, A: Allocator>(
     to.push(replacement)
 }
 
-/// Appends the same text, each part decoded alone: the bytes before the greatest boundary at or
-/// before an offset, and those from it on.
+/// Appends the same text, from two parts that are decoded separately: the bytes before the greatest
+/// boundary at or before an offset, and the bytes from it on.
 ///
 /// # Errors
 ///
@@ -58,7 +58,7 @@ pub fn push_in_two<E: Utf16Order, A: Allocator>(
     Ok(())
 }
 
-/// Returns where parts of bytes end, each but the last: the greatest boundary at or before each
+/// Returns the end of each part of bytes except the last: the greatest boundary at or before each
 /// multiple of `size` that is less than the length of the bytes.
 ///
 /// # Errors
@@ -93,8 +93,8 @@ pub fn part_ends<A: Allocator>(
     Ok(ends)
 }
 
-/// Appends the same text, each part decoded alone: those that end at ascending boundaries, and the
-/// last, which ends where the bytes end.
+/// Appends the same text, from parts that are decoded separately. They end at ascending boundaries,
+/// and the last one ends where the bytes end.
 ///
 /// # Errors
 ///
@@ -122,8 +122,8 @@ pub fn push_parts<E: Utf16Order, A: Allocator>(
     Ok(())
 }
 
-/// Appends the same text, by parts of about `size` bytes, each decoded alone: the same for any
-/// size.
+/// Appends the same text, from parts of about `size` bytes that are decoded separately. The text is
+/// the same for any size.
 ///
 /// # Errors
 ///

@@ -1,4 +1,4 @@
-//! What users of the decoder of UTF-8 need, by the laws of the split.
+//! Callers of the decoder of UTF-8, each of which needs a law of the split.
 
 ghost use Rattle.std.specs.Prelude.{◌≡◌, ◌++◌, ◌⊎◌, OnErr, OnOk};
 ghost use Rattle.utf16_units.specs.Edit.{push_text};
@@ -16,7 +16,7 @@ use utf16string::{Utf16Order, WString};
 ///
 /// # Errors
 ///
-/// If allocation fails. The decoder is then as it was, or as after the first chunk.
+/// If allocation fails. In that case the decoder is as it was, or as after the first chunk.
 pub fn feed_in_two<E: Utf16Order, A: Allocator>(
     decoder: &mut Utf8Decoder<E>,
     first: &[u8],

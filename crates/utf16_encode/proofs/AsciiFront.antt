@@ -1,4 +1,4 @@
--- What is written of the ASCII at the start of a block.
+-- What is written for the ASCII at the start of a block.
 use Rattle.std.proofs.Common.{All, ◌≡◌, ℕ, zero, suc, ◌*◌, ◌<◌, ◌≤◌, Bool, List, [], ◌∷◌, length, map, take, drop, bit_and, refl, sym, ap, ap₂, ◌∙◌, subst, ⊎_elim, arith, length-take-le, take-append-drop, take_at, take-take}
 use Rattle.std.proofs.lemmas.Bool.{cases_lt}
 use Rattle.std.proofs.lemmas.List.{get_or_past}
@@ -12,7 +12,7 @@ use Rattle.utf16_units.proofs.EncodingLemmas.{encode-append, length-encode, size
 use Rattle.utf16_decode.specs.Wrote.{Wrote}
 use Rattle.utf16_encode.specs.FromUtf8.{TranscodesToUtf16}
 
--- the same by any index
+-- the same at any index
 pub ascii-all : (bytes : List ℕ) → All (λ byte. byte < 0x80) bytes → IsAscii bytes
 ascii-all bytes all i = ⊎_elim
     (λ (here : i < length bytes). All-get_or (λ byte. byte < 0x80) bytes i 0 here all)
@@ -25,7 +25,7 @@ size-ascii (c ∷ text) low =
     let first : c < 0x80 = low zero in
     omega (arith, size-cons c text, char_size_two c (omega arith), size-ascii text (λ i. low (suc i)))
 
--- the low seven bits of ASCII are itself
+-- the low seven bits of an ASCII byte are the byte itself
 pub front-low : (block : List ℕ) (n : ℕ) → IsAscii (take n block) → take n (map (λ byte. bit_and byte 0x7F) block) ≡ take n block
 front-low block zero low = refl
 front-low [] (suc n) low = refl
@@ -39,7 +39,7 @@ low-ascii [] i = omega arith
 low-ascii (byte ∷ block) zero = omega (arith, and_mask byte 7)
 low-ascii (byte ∷ block) (suc i) = low-ascii block i
 
--- of ASCII that is written in UTF-16, the front is at the front
+-- if ASCII is written in UTF-16, a prefix of the ASCII is written at the start
 pub wrote-front : (big : Bool) (text low new : List ℕ) (n : ℕ) → n ≤ length text → take n low ≡ take n text → n ≤ length low → IsAscii low
     → 2 * length low ≤ length new → take (2 * length low) new ≡ encode big (chars low) → Wrote (TranscodesToUtf16 big) text new n (2 * n)
 wrote-front big text low new n within same few ascii fits wrote =

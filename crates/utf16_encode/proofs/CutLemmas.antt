@@ -1,5 +1,5 @@
--- UTF-8 that is truncated after an ill-formed sequence: the sequence has the same length there, and
--- its text is U+FFFD.
+-- UTF-8 that is cut after an ill-formed sequence: in the shorter bytes the sequence has the same
+-- length, and its text is U+FFFD.
 use Rattle.std.proofs.Common.{◌≡◌, ℕ, zero, suc, ◌+◌, ◌<◌, ◌≤◌, List, [], ◌∷◌, Option, length, take, drop, refl, sym, ap, ◌∙◌, subst, ⊎_elim, arith, length-take, take_all, take-take}
 use Rattle.std.specs.Prelude.{min, slice_index, if◌then◌else◌}
 use Rattle.std.proofs.lemmas.Bool.{cases_lt}

@@ -1,4 +1,4 @@
--- What was decoded of UTF-8 is the text of the bytes read.
+-- What was decoded from UTF-8 is the text of the bytes read.
 use Rattle.std.proofs.Common.{◌≡◌, ℕ, ◌+◌, Bool, List, [], ◌∷◌, ◌++◌, Some, flat_map, length, take, drop, refl, sym, ap, ap₂, ◌∙◌, subst, arith, append_assoc, append-nil, length-append, take-append-drop, take-add, take_at, drop_at}
 use Rattle.std.proofs.lemmas.List.{append_cancel_right}
 use Rattle.std.proofs.lemmas.List.Concat.{flat_map-append}
@@ -27,7 +27,7 @@ char_then c more scalar =
     ap chars (utf8_lossy-behind (encode_utf8 c) more (IsUtf8-encode c scalar)) ∙ chars-append (encode_utf8 c) (utf8_lossy more) (IsUtf8-encode c scalar)
     ∙ ap (λ t. t ++ text_of_utf8 more) (chars-char c scalar)
 
--- an ill-formed subpart before bytes, of which more may follow that decide it
+-- an ill-formed subpart before bytes, after which more may follow that decide it
 part_then : (part more rest : List ℕ) → IsSubpart part (more ++ rest) → text_of_utf8 (part ++ more) ≡ 0xFFFD ∷ text_of_utf8 more
 part_then part more rest is =
     let bytes = part ++ (more ++ rest) in
@@ -42,7 +42,7 @@ part_then part more rest is =
     ∙ text-cut bytes 0 (Some n) n (valid_to bytes 0 (omega (arith, length-append part (more ++ rest))) IsUtf8-nil is.no_char, sym is.len) refl long m
     ∙ ap (λ b. 0xFFFD ∷ text_of_utf8 b) cut
 
--- of the first items
+-- the text of the first items
 items_shown : (taken more : List Item) (tail : List ℕ) → AreItems (taken ++ more) tail → text_of_utf8 (items_bytes taken) ≡ lossy_chars taken
 items_shown [] more tail are = text-empty [] refl
 items_shown (item ∷ taken) more tail are = first item are.0 ∙ ap (λ t. lossy_char item ∷ t) (items_shown taken more tail are.1) where
@@ -66,7 +66,7 @@ between big utf8 to read written d =
     d.decodes.text
     ∙ ap (flat_map (char_bytes big)) (sym (items_shown taken (split_items rest) (split_tail utf8) made) ∙ ap text_of_utf8 (sym front))
 
--- the same of a lossy call, which stopped at the end or for lack of space
+-- the same for a lossy call, which stopped at the end or for lack of space
 pub between-lossy : (big : Bool) (utf8 to : List ℕ) (read written left : ℕ) (stop : Stop) → ShowsWhole text_of_utf8 (char_bytes big) utf8 to read written
     → StopsLossyWhole text_of_utf8 (char_bytes big) (drop read utf8) left stop → (stop ≡ NoSpace → DecodesUtf8To big utf8 to read written)
     → take written to ≡ flat_map (char_bytes big) (text_of_utf8 (take read utf8))

@@ -1,4 +1,4 @@
--- What is decoded of UTF-8: texts, and items of the split.
+-- What is decoded from UTF-8: texts, and items of the split.
 use Rattle.std.proofs.Common.{◌≡◌, ℕ, ◌+◌, ◌<◌, ◌≤◌, Bool, List, [], ◌∷◌, ◌++◌, Some, flat_map, length, map, take, drop, refl, sym, ap, ap₂, ◌∙◌, subst, arith, append_assoc, append-nil, length-drop, take-append-drop}
 use Rattle.std.proofs.lemmas.List.{drop-drop, drop_all}
 use Rattle.std.proofs.lemmas.List.Concat.{flat_map-append}
@@ -30,7 +30,7 @@ pub flat_encode : (big : Bool) (text : List ℕ) → encode big text ≡ flat_ma
 unfolding encode
 flat_encode big text = refl
 
--- the bytes are those of the items that were decoded, and then the rest
+-- the bytes of the items that were decoded come first, and then the rest
 pub taken_bytes : (bytes rest : List ℕ) (taken : List Item) → split_items bytes ≡ taken ++ split_items rest → split_tail bytes ≡ split_tail rest
     → items_bytes taken ++ rest ≡ bytes
 taken_bytes bytes rest taken items tail =
@@ -116,7 +116,7 @@ module _ (bytes : List ℕ) (char n : ℕ) (first : FirstItem bytes char n) wher
   pub first_does_not_fit : (big : Bool) (left : ℕ) → left < length (char_bytes big char) → TextDoesNotFit (char_bytes big) (lossy_chars (split_items bytes)) left
   first_does_not_fit big left few = record { char = char; more = _; begins = first_shown; too_long = few }
 
--- the first item after what was decoded was written
+-- the first item after what was already decoded was written
 pub DecodesUtf8To-item : (big : Bool) (utf8 old new : List ℕ) (read at char n last : ℕ) → DecodesUtf8To big utf8 old read at → FirstItem (drop read utf8) char n
     → last ≤ length new → take last new ≡ take at old ++ char_bytes big char → DecodesUtf8To big utf8 new (read + n) last
 DecodesUtf8To-item big utf8 old new read at char n last before first fits bytes =

@@ -26,7 +26,7 @@ one_at_end : (tail : List ℕ) → length (whole_lossy_chars [] tail) ≤ 1
 one_at_end [] = omega arith
 one_at_end (first ∷ after) = omega arith
 
--- the whole text is that of the items and then of the tail
+-- the whole text is the text of the items and then of the tail
 whole_is_both : (items : List Item) (tail : List ℕ) → whole_lossy_chars items tail ≡ lossy_chars items ++ whole_lossy_chars [] tail
 whole_is_both items [] = sym (append-nil (lossy_chars items))
 whole_is_both items (first ∷ after) = refl

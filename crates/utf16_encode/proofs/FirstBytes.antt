@@ -24,7 +24,7 @@ follows_not z test is =
 abbrev pub begins_two : ℕ → ℕ → Bool
 begins_two x y = is_in_range 0xC2 0xF4 x && is_in_range (second_byte_min x) (second_byte_max x) y
 
--- a byte that begins no character with the one after it
+-- a byte that begins no character together with the byte after it
 pub not_begun : (x y : ℕ) (rest : List ℕ) → 0x80 ≤ x → begins_two x y ≡ false → IsSubpart (x ∷ []) (y ∷ rest)
 not_begun x y rest high bad = ⊎_elim
     (λ (low : x < 0xC2). bad_first x (y ∷ rest) high (inl low))

@@ -101,7 +101,7 @@ pub valid_more : (text : List ℕ) (valid n : ℕ) → IsUtf8 (take valid text) 
 valid_more text valid n first second =
     subst IsUtf8 (sym (take-add valid n text)) (IsUtf8-append (take valid text) (take n (drop valid text)) first (subst (λ r. IsUtf8 (take n r)) (take_rest text valid) second))
 
--- bytes that are UTF-8 with zeros after them are UTF-8
+-- bytes that are UTF-8 if zeros are appended are UTF-8
 zeros_valid : (n : ℕ) → IsUtf8 (replicate n 0)
 unfolding encode_utf8
 zeros_valid zero = IsUtf8-nil

@@ -1,5 +1,5 @@
--- The lossy text of any bytes, with U+FFFD where they are not UTF-8: after a valid prefix, and at
--- an ill-formed sequence.
+-- The lossy text of any bytes, with U+FFFD for what is not UTF-8: after a valid prefix, and at an
+-- ill-formed sequence.
 use Rattle.std.proofs.Common.{◌≡◌, ℕ, zero, suc, ◌+◌, ◌*◌, ◌<◌, ◌≤◌, Bool, true, false, cond, List, [], ◌∷◌, ◌++◌, Option, length, take, drop, refl, sym, ap, ap₂, ◌∙◌, subst, ⊎_elim, arith, append-nil, append_assoc, drop_at, length-append, take_at, take-append-drop}
 use Rattle.std.proofs.lemmas.Bool.{cases_lt, cond-true}
 use Rattle.std.proofs.lemmas.List.{append_cancel_left, drop-drop}
@@ -14,7 +14,7 @@ use Rattle.utf16_units.proofs.IllFormedLemmas.{take-past}
 use Rattle.utf16_encode.proofs.FromUtf8Lemmas.{IsUtf8-behind}
 use Rattle.utf16_encode.specs.FromUtf8.{IsIllFormedUtf8, text_of_utf8}
 
--- two tests are equal if each passes where the other does
+-- two tests are equal if each passes when the other does
 same_test : (a b : Bool) → (a ≡ true → b ≡ true) → (b ≡ true → a ≡ true) → a ≡ b
 same_test true b there back = sym (there refl)
 same_test false true there back = back refl
@@ -148,7 +148,7 @@ size-last bytes valid invalid rest split front none left =
     ap (λ t. size (chars t)) (utf8_lossy_last_chunk bytes valid invalid rest split front none left
     ∙ ap (λ t. valid ++ t) (utf8_lossy_empty rest left) ∙ append-nil valid)
 
--- two bytes at most for each byte
+-- at most two bytes for each byte
 pub chunk-most : (bytes valid invalid rest : List ℕ) → IsUtf8 valid → bytes ≡ valid ++ (invalid ++ rest)
     → size (chars valid) + 2 * length invalid + 2 * length rest ≤ 2 * length bytes
 chunk-most bytes valid invalid rest text split =

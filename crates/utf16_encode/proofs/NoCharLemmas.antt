@@ -1,4 +1,4 @@
--- What is at the start of bytes where no character begins (Unicode, table 3-7).
+-- What is at the start of bytes that begin with no character (Unicode, table 3-7).
 use Rattle.std.proofs.Common.{◌≡◌, ℕ, ◌<◌, ◌≤◌, true, false, List, [], ◌∷◌, ◌++◌, Some, None, length, refl, sym, ⊎_elim, inl, inr, arith, slice_index}
 use Rattle.std.proofs.lemmas.Bool.{cases_lt}
 use Rattle.std.proofs.lemmas.Bool.Decides.{nat_tests}

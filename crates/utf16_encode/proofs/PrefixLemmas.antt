@@ -49,7 +49,7 @@ even_boundary (c ∷ text) i even within =
     (even_boundary text (i - char_size c) (omega (arith, even, fits, first)) (omega (arith, within, fits, size-cons c text))))
     (cases_lt i (char_size c))
 
--- the boundary that is the last of an offset in UTF-16
+-- the last boundary before an offset in UTF-16 that is inside a surrogate pair
 pub boundary_before : (big : Bool) (raw : List ℕ) (i : ℕ) → IsUtf16 big raw → i % 2 ≡ 0 → i < length raw → IsTrailing (first_unit big (drop i raw))
     → (2 ≤ i) × IsBoundary (text_of big raw) (i - 2)
 boundary_before big raw i utf16 even within trailing = ⊎_elim
@@ -60,7 +60,7 @@ boundary_before big raw i utf16 even within trailing = ⊎_elim
     (λ (before : (2 ≤ i) × IsBoundary (text_of big raw) (i - 2)). before)
     (even_boundary (text_of big raw) i even (omega (arith, within, length-text big raw utf16)))
 
--- the characters of a text spell it
+-- the characters of a text encode to it
 spelled : (utf8 : List ℕ) → IsUtf8 utf8 → encode_utf8_all (chars utf8) ≡ utf8
 spelled utf8 u = ap encode_utf8_all (ap chars (sym u.1.1) ∙ chars-encodes u.0 u.1.0) ∙ u.1.1
 

@@ -45,6 +45,6 @@ StopsLossyUtf8 big = StopsLossyAs utf8_parts (char_bytes big)
 abbrev pub FeedsUtf8 : Bool → List ℕ → List ℕ → List ℕ → List ℕ → ℕ → ℕ → Type 0
 FeedsUtf8 big = FeedsAs utf8_parts (char_bytes big)
 
--- why it stopped
+-- why the call stopped
 abbrev pub StopsFeedingUtf8 : Bool → List ℕ → List ℕ → List ℕ → ℕ → ℕ → Stop → Type 0
 StopsFeedingUtf8 big = StopsFeedingAs utf8_parts (char_bytes big)

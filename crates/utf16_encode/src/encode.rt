@@ -54,8 +54,8 @@ fn write_replacement_and_more<E: Utf16Order>(text: &[u8], len: usize, to: &mut [
     }
 }
 
-// Writes the text of bytes that follow an ill-formed sequence: items, up to some well-formed
-// characters, and then blocks, up to the next ill-formed sequence, in turn while a block may
+// Writes the text of bytes that follow an ill-formed sequence: in turn items, up to some
+// well-formed characters, and blocks, up to the next ill-formed sequence, as long as a block may
 // follow.
 fn write_after_ill_formed<E: Utf16Order>(text: &[u8], to: &mut [u8]) -> Moved
     ensures { DecodesUtf8To E.BIG text.now to.new result.read result.written }

@@ -1,4 +1,4 @@
-//! UTF-8 item by item: a character, or a maximal subpart of an ill-formed subsequence, at a time.
+//! UTF-8 item by item: each is a character or a maximal subpart of an ill-formed subsequence.
 //!
 //! After an ill-formed sequence the next one is probably near, and a strict call for each takes
 //! seven times as long on random bytes. ASCII is written sixteen bytes at once, and what follows it
@@ -15,17 +15,17 @@ use utf16_decode::{Moved, ascii_len};
 use utf16_from_utf8::write_ascii_block;
 use utf16_units::Utf16Order;
 
-// The number of characters in a row, none of them U+FFFD, that ends the loop over items: what
-// follows is probably well formed too, and many at once take less time. ASCII that is written at
-// once counts as two.
+// The number of characters in a row, none of them U+FFFD, that ends the loop over items. What
+// follows is probably well formed too, and converting many at once takes less time. ASCII that is
+// written at once counts as two.
 const RUN: usize = 16;
 
-/// The most bytes of an item, in either encoding.
+/// The most bytes that an item has, in either encoding.
 pub(crate) const ITEM_LEN: usize = 4;
 
 /// Writes the text of the next bytes of UTF-8 in UTF-16 to the start of a buffer, with U+FFFD for
-/// each ill-formed sequence. It ends after some well-formed characters, or if fewer than four bytes
-/// are left of the input or of the buffer.
+/// each ill-formed sequence. It ends after some well-formed characters, or when fewer than four
+/// bytes are left of the input or of the buffer.
 pub(crate) fn write_items<E: Utf16Order>(text: &[u8], to: &mut [u8]) -> Moved
     ensures decodes { DecodesUtf8To E.BIG text.now to.new result.read result.written }
     ensures advances { ITEM_LEN ≤ length text.now → ITEM_LEN ≤ length to.old → 0 < result.read }
@@ -51,8 +51,8 @@ struct Step {
     run: usize,
 }
 
-// Writes the ASCII at the start of the bytes in UTF-16 to the start of a buffer, of sixteen bytes
-// at most, or the first item.
+// Writes the ASCII at the start of the bytes, at most sixteen of them, or else the first item, in
+// UTF-16 to the start of a buffer.
 #[inline(always)]
 fn write_items_once<E: Utf16Order>(text: &[u8], to: &mut [u8]) -> Step
     requires bytes { ITEM_LEN ≤ length text.now }
@@ -78,8 +78,9 @@ fn write_items_once<E: Utf16Order>(text: &[u8], to: &mut [u8]) -> Step
 }
 
 // Writes all ASCII at the start of the first sixteen bytes in UTF-16 to the start of a buffer, and
-// returns how many bytes it read; none if fewer than four are, there are fewer bytes, or less than
-// twice as much space. The bytes of the buffer after those written may be overwritten.
+// returns how many bytes it read. It reads none if fewer than four of them are ASCII, if the input
+// has fewer than sixteen bytes, or if the buffer has fewer than 32. The bytes of the buffer after
+// the written ones may be overwritten.
 #[inline(always)]
 fn write_some_ascii<E: Utf16Order>(text: &[u8], to: &mut [u8]) -> usize
     ensures wrote { Wrote (TranscodesToUtf16 E.BIG) text.now to.new result (2 * result) }
@@ -91,7 +92,7 @@ fn write_some_ascii<E: Utf16Order>(text: &[u8], to: &mut [u8]) -> usize
     }
     let block = u8x16::from_slice(text);
     let len = ascii_len(block);
-    // In random bytes every other one is ASCII, and few are at once.
+    // In random bytes about half are ASCII, but rarely many in a row.
     if len < 4 {
         return 0;
     }
@@ -99,7 +100,7 @@ fn write_some_ascii<E: Utf16Order>(text: &[u8], to: &mut [u8]) -> usize
     len
 }
 
-// The low seven bits of each byte: of ASCII the byte itself.
+// Keeps the low seven bits of each byte, which leaves ASCII unchanged.
 #[inline(always)]
 fn low_bits(block: u8x16) -> u8x16
     ensures { result ≡ map (λ byte. bit_and byte 0x7F) block }
@@ -117,7 +118,7 @@ fn first_item(text: &[u8]) -> (char, usize)
     match first_char(text) {
         Ok(first) => first,
         Err(Some(len)) => (char::REPLACEMENT_CHARACTER, len as usize),
-        // Four bytes never end too early.
+        // Four bytes never end inside the first character.
         Err(None) => (char::REPLACEMENT_CHARACTER, 1),
     }
 }

@@ -1,6 +1,6 @@
-//! UTF-8 to UTF-16 over buffers of the caller's, without allocation: up to the first ill-formed
-//! sequence, lossy with U+FFFD for each, and as a stream that comes in chunks; and the length of
-//! each result. It re-exports `utf16_decode`, the other direction.
+//! UTF-8 to UTF-16 in buffers that the caller owns, without allocation: up to the first ill-formed
+//! sequence, lossy with U+FFFD for each, and as a stream that comes in chunks. Also the length of
+//! each result. It re-exports `utf16_decode`, which does the reverse.
 #![tactic(auto)]
 
 mod chars;

@@ -12,17 +12,17 @@ use utf16_decode::{Progress, Stream};
 use utf16_units::Utf16Order;
 
 /// Decodes the next chunk and writes the text that is now certain, in UTF-16, to the start of a
-/// buffer, as far as whole characters fit: the characters, and U+FFFD for each ill-formed
-/// sequence, one for each maximal subpart. `read` counts the bytes of the chunk that were
-/// taken. The byte order is one for all chunks of a stream.
+/// buffer, as far as whole characters fit: the characters, and U+FFFD for each ill-formed sequence,
+/// one for each maximal subpart. `read` counts the bytes of the chunk that were taken. Pass the
+/// same byte order for all chunks of a stream.
 ///
 /// With `Done` all of the chunk was taken, and what more bytes could change is pending. With
-/// `NoSpace` the next character does not fit: call again with the rest of the chunk and more
-/// space. Fewer than four bytes of the buffer are left then, so into a buffer of four bytes or
-/// more something was written. In a stream whose fields only `new` and `feed` set,
-/// `2 * piece.len() + 2` bytes of space suffice for `Done`; with any fields, two bytes for each
-/// byte that is pending or in the chunk. Bytes of the buffer after the written ones may have
-/// been overwritten.
+/// `NoSpace` the next character does not fit: call again with the rest of the chunk and more space.
+/// In that case fewer than four bytes of the buffer are left, so something was written into a
+/// buffer of four bytes or more. In a stream whose fields only `new` and `feed` set, `2 *
+/// piece.len() + 2` bytes of space suffice for `Done`; with any fields, two bytes for each byte
+/// that is pending or in the chunk. Bytes of the buffer after the written ones may have been
+/// overwritten.
 ///
 /// # Complexity
 ///
@@ -48,8 +48,9 @@ pub fn feed_utf8<E: Utf16Order>(stream: &mut Stream, piece: &[u8], to: &mut [u8]
 }
 
 /// Ends the stream: writes U+FFFD in UTF-16 to the start of a buffer if bytes are pending, and
-/// nothing if not. No bytes are pending then. With `NoSpace` the buffer has fewer than two
-/// bytes, and nothing changed. `read` is 0. Bytes of the buffer after the written ones stay.
+/// nothing if not. Afterwards no bytes are pending. With `NoSpace` the buffer has fewer than two
+/// bytes, and nothing changed. `read` is 0. Bytes of the buffer after the written ones are
+/// unchanged.
 pub fn finish_utf8<E: Utf16Order>(stream: &mut Stream, to: &mut [u8]) -> Progress
     ensures read { result.read ≡ 0 }
     ensures done { (result.stop ≡ Done)

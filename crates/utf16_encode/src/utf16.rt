@@ -1,9 +1,9 @@
 //! UTF-8 to UTF-16, up to the first ill-formed sequence.
 //!
-//! `simdutf8` reads 64 bytes or more to the end before it looks for the error, and stops at the
-//! error in fewer. So at most 63 bytes are validated first, and an error costs about as much as the
-//! bytes before it. The frequent first bytes are tested by ranges, because a `match` of five cases
-//! compiles to a jump table.
+//! `simdutf8` reads 64 bytes or more to the end before it looks for the error, but in fewer bytes
+//! it stops at the error. So at most 63 bytes are validated first, and an error costs about as much
+//! as the bytes before it. The frequent first bytes are tested by ranges, because a `match` of five
+//! cases compiles to a jump table.
 
 ghost use Rattle.std.specs.Prelude.{◌≡◌, ◌&&◌, ◌+◌, ◌-◌, ◌*◌, ◌<◌, ◌≤◌, [], ◌∷◌, ◌++◌, IfErr, IfOk, IfSome, length, take};
 ghost use Rattle.std.specs.Char.{encode_utf8};
@@ -169,8 +169,8 @@ pub(crate) fn write_char<E: Utf16Order>(c: char, to: &mut [u8], at: usize) -> us
     at + c.encode_utf16_into::<E>(&mut to[at..])
 }
 
-// Returns the length of the longest valid prefix. Validation of a block or more goes to its end
-// before it looks for the error, and validation of fewer bytes stops at the error: so a few bytes
+// Returns the length of the longest valid prefix. Validation of a block or more reads all of it
+// before it looks for the error, but validation of fewer bytes stops at the error. So a few bytes
 // are validated first.
 fn valid_len(text: &[u8]) -> usize
     ensures within { result ≤ length text.now }
@@ -210,7 +210,7 @@ fn can_begin(lead: u8, second: u8) -> bool
     if lead / 0x40 * 4 + second / 0x40 != 0b1110 {
         return false;
     }
-    // The frequent ones, by few comparisons.
+    // The frequent first bytes, which take few comparisons.
     if (0xE1..=0xEC).contains(&lead) || (0xC2..=0xDF).contains(&lead) {
         return true;
     }
@@ -236,7 +236,7 @@ pub(crate) fn first_char(rest: &[u8]) -> Result<(char, usize), Option<u8>>
     if lead < 0x80 {
         return Ok((lead as char, 1));
     }
-    // Most characters of three bytes, by the fewest tests.
+    // Most characters of three bytes, with the fewest tests.
     if rest.len() >= 3
         && (0xE1..=0xEC).contains(&lead)
         && is_continuation(rest[1])

@@ -25,8 +25,8 @@ pub(crate) fn valid_prefix(text: &[u8]) -> usize
     }
 }
 
-// Returns whether fewer bytes than a block are UTF-8, which they are if they are with zeros after
-// them.
+// Returns whether bytes that are shorter than a block are UTF-8. They are if they are UTF-8 with
+// zeros after them.
 fn is_utf8_block(text: &[u8]) -> bool
     requires { length text.now < BLOCK_LEN }
     ensures { IsTrue result → IsUtf8 text.now }
@@ -35,7 +35,7 @@ fn is_utf8_block(text: &[u8]) -> bool
     checker.finish()
 }
 
-// Returns the bytes with zeros after them, a block.
+// Returns the bytes with zeros after them, as a block.
 #[inline(always)]
 fn padded(text: &[u8]) -> [u8; BLOCK_LEN]
     requires { length text.now < BLOCK_LEN }

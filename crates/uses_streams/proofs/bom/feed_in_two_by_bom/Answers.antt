@@ -17,7 +17,7 @@ leaves_both order pending first second found last kept left one two = (
       ∙ ap (tail_in order) (append_assoc pending first second),
 )
 
--- the last of three cases, of a call that fails
+-- the last of three cases, in which a call fails
 third : {T E : Type 0} (X Y Z : Type 0) (r : Result T E) → Z → OnErr r (X ⊎ (Y ⊎ Z))
 third X Y Z (Ok value) z = tt
 third X Y Z (Err error) z = inr (inr z)

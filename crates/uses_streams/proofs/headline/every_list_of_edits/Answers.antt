@@ -5,7 +5,7 @@ use Rattle.utf16string.specs.Encoding.{Encodes}
 use Rattle.utf16string.specs.WString.{IsUnchanged, wstring_bytes, wstring_text}
 use Rattle.uses_streams.proofs.headline.every_list_of_edits.Goals as goal
 
--- what holds of the text that is left holds of some text
+-- what holds for the text that is left holds for some text
 some_text : {X Y : Type 0} (r : Result X Y) (P : X → List ℕ → Type 0) (Q : List ℕ → Type 0) (text : List ℕ)
     → Q text → IfOk r (λ x. P x text) → IfOk r (λ x. (last : List ℕ) × P x last × Q last)
 some_text (Ok x) P Q text q p = (text, p, q)

@@ -4,7 +4,7 @@ use Rattle.std.specs.Vec.{vec_items}
 use Rattle.uses_streams.proofs.ReadLemmas.{IsByte, Told}
 use Rattle.uses_streams.proofs.headline.resume_pieces.Given as goal
 
--- the text so far is that of the chunks so far, and their tail is kept
+-- the text so far is the text of the chunks so far, and their tail is kept
 abbrev pub invariant-loop-piece : goal.invariant-loop-piece
 invariant-loop-piece g l =
     let front = flat_map vec_items (take l.piece-index l.pieces) in

@@ -4,7 +4,7 @@ use Rattle.utf16_decode.specs.Decodes.{DecodesAs}
 use Rattle.utf16_decode.specs.Stream.{stream_pending}
 use Rattle.uses_streams.proofs.small_buffer.feed_through.Given as goal
 
--- what was written so far is of the first of the pending bytes and the chunk
+-- what was written so far is the text of the first of the pending bytes and the chunk
 abbrev pub invariant-loop-rest : goal.invariant-loop-rest
 invariant-loop-rest g l =
     (4 ≤ length l.buffer)

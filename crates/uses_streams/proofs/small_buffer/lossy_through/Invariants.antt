@@ -3,7 +3,7 @@ use Rattle.std.specs.List.{flat_map}
 use Rattle.std.specs.Vec.{vec_items}
 use Rattle.uses_streams.proofs.small_buffer.lossy_through.Given as goal
 
--- what was written so far, and then the text of the rest, is the whole text
+-- what was written so far, followed by the text of the rest, is the whole text
 abbrev pub invariant-loop-all : goal.invariant-loop-all
 invariant-loop-all g l =
     let into = g.D.Direction.into in

@@ -3,7 +3,7 @@ use Rattle.std.specs.Vec.{vec_items}
 use Rattle.utf16_decode.specs.Decodes.{DecodesAs}
 use Rattle.uses_streams.proofs.small_buffer.partial_through.Given as goal
 
--- what was written so far is of the first bytes
+-- what was written so far is the text of the first bytes
 abbrev pub invariant-loop-all : goal.invariant-loop-all
 invariant-loop-all g l =
     (4 ≤ length l.buffer) × (l.at ≤ length l.input) × DecodesAs g.D.LossyDirection.parts g.D.Direction.into l.input (drop l.at l.input) [] (vec_items l.all)

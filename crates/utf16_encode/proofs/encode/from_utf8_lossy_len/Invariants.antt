@@ -4,7 +4,8 @@ use Rattle.utf16_units.specs.Encoding.{size}
 use Rattle.utf16_encode.specs.FromUtf8.{text_of_utf8}
 use Rattle.utf16_encode.proofs.encode.from_utf8_lossy_len.Given as goal
 
--- the length so far and that of the rest are the length of all, and no byte added more than two
+-- the length so far and the length of the rest add up to the whole length, and no byte added more
+-- than two
 abbrev pub invariant-loop-chunk : goal.invariant-loop-chunk
 invariant-loop-chunk l =
     (l.size + size (text_of_utf8 (utf8_chunks_rest l.chunk-iterator)) ≡ size (text_of_utf8 l.text))
