@@ -1,9 +1,10 @@
-"""Times the codecs of bindings/python next to CPython's, and prints a table.
+"""Times bindings/python next to CPython's codecs, and prints two tables.
 
     python3 bench/python.py
 
-The package must be installed. All codecs run in turn, in rounds, and the best time of each counts.
-A ratio above 1 means that the codec of the package is faster.
+The first is of UTF-16 to UTF-8 and of validation, for which CPython needs a str between; the second
+is of the codecs, to and from a str. The package must be installed. All calls run in turn, in
+rounds, and the best time of each counts. A ratio above 1 means that the package is faster.
 """
 
 import sys
@@ -34,7 +35,25 @@ def best(calls, number):
     return [min(each) / number * 1e6 for each in zip(*times)]
 
 
-def row(text, codec, number):
+def bytes_row(text, number):
+    """Return the times to UTF-8, from UTF-8 and of validation, each by CPython and here."""
+    raw, utf8 = text.encode("utf-16-le"), text.encode()
+    assert dethrux.to_utf8(raw, "little").output == utf8
+    assert dethrux.from_utf8(utf8, "little").output == raw
+    return best(
+        [
+            lambda: raw.decode("utf-16-le").encode(),
+            lambda: dethrux.to_utf8(raw, "little"),
+            lambda: utf8.decode().encode("utf-16-le"),
+            lambda: dethrux.from_utf8(utf8, "little"),
+            lambda: raw.decode("utf-16-le"),
+            lambda: dethrux.validate(raw, "little"),
+        ],
+        number,
+    )
+
+
+def codec_row(text, codec, number):
     """Return the times of both decoders and both encoders."""
     raw = text.encode(codec)
     mine = f"dethrux-{codec}"
@@ -50,22 +69,34 @@ def row(text, codec, number):
     )
 
 
-def main():
-    version = ".".join(map(str, sys.version_info[:3]))
-    print(f"CPython {version}, dethrux {dethrux.__version__}; microseconds a call")
-    print()
-    columns = "decode: CPython | here | ratio | encode: CPython | here | ratio"
-    print(f"| Text | Size | Codec | {columns} |")
-    print("|---|---|---|---|---|---|---|---|---|")
+def cells(times):
+    """Return a cell for each time, and one for the ratio of each pair."""
+    pairs = zip(times[::2], times[1::2])
+    return " | ".join(f"{theirs:.3g} | {mine:.3g} | {theirs / mine:.2f}" for theirs, mine in pairs)
+
+
+def table(columns, rows):
+    names = " | ".join(f"{it}: CPython | here | ratio" for it in columns)
+    print(f"| Text | Size | {names} |")
+    print("|---|---|" + "---:|" * (3 * len(columns)))
     for name, sample in TEXTS.items():
         for size, (length, number) in SIZES.items():
-            for codec in CODECS:
-                theirs, mine, encode, my_encode = row(text_of(sample, length), codec, number)
-                print(
-                    f"| {name} | {size} | `{codec}` | {theirs:.3g} | {mine:.3g} "
-                    f"| {theirs / mine:.2f} | {encode:.3g} | {my_encode:.3g} "
-                    f"| {encode / my_encode:.2f} |"
-                )
+            for what, times in rows(text_of(sample, length), number):
+                print(f"| {name} | {size}{what} | {cells(times)} |")
+    print()
+
+
+def main():
+    version = ".".join(map(str, sys.version_info[:3]))
+    print(f"CPython {version}, dethrux {dethrux.__version__}; microseconds a call, little endian\n")
+    table(
+        ("to UTF-8", "from UTF-8", "validate"),
+        lambda text, number: [("", bytes_row(text, number))],
+    )
+    table(
+        ("decode to str", "encode from str"),
+        lambda text, number: [(f", {it}", codec_row(text, it, number)) for it in CODECS],
+    )
 
 
 main()
