@@ -1,5 +1,5 @@
-//! The calls of `utf16_encode` over buffers of the caller's, and those below it and below
-//! strings, as cases name them.
+//! The calls of `utf16_encode` over buffers that the caller owns, and the calls of the crates below
+//! it and below strings, as cases name them.
 mod buffers;
 mod bytes;
 mod conversions;
@@ -16,7 +16,7 @@ use utf16_encode::{FromUtf8, ToUtf8};
 use utf16_units::Utf16Order;
 
 /// Makes a call on these values and adds its result. `Call` if no call over buffers has this name;
-/// then no value was taken.
+/// in that case no value was taken.
 pub fn call<E: Utf16Order>(
     alloc: Global,
     name: &str,

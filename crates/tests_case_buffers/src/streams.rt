@@ -12,8 +12,8 @@ use std::alloc::Global;
 use tests_case_lines::{Answer, How, Trouble, Values};
 use utf16_streams::{AnyLossy, Lossy, Utf16Order};
 
-/// Makes a call on these values and adds its result. `Call` if no call of streams has this name;
-/// then no value was taken.
+/// Makes a call on these values and adds its result. `Call` if no call of streams has this name; in
+/// that case no value was taken.
 pub fn call<E: Utf16Order>(
     alloc: Global,
     name: &str,

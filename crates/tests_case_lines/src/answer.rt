@@ -22,9 +22,9 @@ impl Answer {
         }
     }
 
-    /// Returns the words of the expected result: the same words, with bytes in place of a `~` and a
-    /// text and of a `^` and code units, and with the bytes or the text in place of parts that are
-    /// repeated.
+    /// Returns the words of the expected result: the same words, except that bytes replace each `~`
+    /// with a text and each `^` with code units, and that the bytes or the text replace repeated
+    /// parts.
     pub fn wanted(alloc: Global, words: &[&str], is_big: bool) -> Result<Self, Trouble> {
         let mut answer = Answer::new(alloc);
         for word in words {
@@ -112,7 +112,7 @@ impl Answer {
         }
     }
 
-    /// Adds bytes that should be UTF-8 as a text if they are, and all others as bytes.
+    /// Adds bytes that should be UTF-8: as a text if they are, and otherwise as bytes.
     pub fn text_or_bytes(&mut self, bytes: &[u8], is_utf16: bool) {
         match str::from_utf8(bytes) {
             Ok(text) if is_utf16 => self.text(text),

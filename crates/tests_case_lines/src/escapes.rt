@@ -1,5 +1,5 @@
-//! Characters as a table spells them: the visible ones of ASCII as they are, all others by their
-//! number.
+//! Characters as a table spells them: the visible ones of ASCII as they are, and all others as
+//! their number.
 
 use crate::trouble::Trouble;
 use std::alloc::{AllocError, Global};
@@ -19,7 +19,7 @@ pub fn push_escaped(to: &mut String, c: char) -> Result<(), AllocError> {
     }
 }
 
-/// Returns the text that is spelled so. `Value` if a number is not one of a character.
+/// Returns the text that this spells. `Value` if a number is not the number of a character.
 pub fn unescape(alloc: Global, spelled: &str) -> Result<String, Trouble> {
     let mut text = String::new(alloc);
     let mut parts = spelled.split("\\u{");

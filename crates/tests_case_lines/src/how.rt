@@ -12,7 +12,7 @@ pub enum Refuse {
     From(u64),
 }
 
-/// What a reader or a writer does at the one call at which it does not move bytes.
+/// What a reader or a writer does at the one call where it misbehaves.
 #[derive(Clone, Copy, Drop)]
 pub enum Odd {
     Fails,
@@ -25,14 +25,14 @@ pub enum Odd {
 pub struct Device {
     /// The most bytes that it moves, call by call, over and over. With an empty list it moves all.
     pub sizes: Vec<usize>,
-    /// The call at which it misbehaves, counted from 1; 0 for none.
+    /// The call where it misbehaves, counted from 1, or 0 for none.
     pub odd_at: usize,
-    /// What it does there.
+    /// What it does at that call.
     pub odd: Odd,
 }
 
 impl Device {
-    /// Returns one that moves all that it is offered.
+    /// Returns a device that moves all that it is offered.
     fn new(alloc: Global) -> Self {
         Device {
             sizes: Vec::new(alloc),
@@ -47,7 +47,7 @@ impl Device {
         Ok(())
     }
 
-    // Reads what it does at its odd call, such as `fails@3`.
+    // Reads what it does at the call where it misbehaves, such as `fails@3`.
     fn read_odd(&mut self, word: &str) -> Result<(), Trouble> {
         let (odd, at) = word.split_once('@').ok_or(Trouble::Form)?;
         self.odd = match odd {
@@ -64,9 +64,9 @@ impl Device {
 /// The byte orders and the conditions of a case.
 #[derive(Drop)]
 pub struct How {
-    /// Whether it is run in little endian.
+    /// Whether the case is run in little endian.
     pub little: bool,
-    /// Whether it is run in big endian.
+    /// Whether the case is run in big endian.
     pub big: bool,
     /// The allocations that fail.
     pub refuse: Refuse,
@@ -120,7 +120,7 @@ impl How {
         }
     }
 
-    // Adds a condition that is a word alone.
+    // Adds a condition that is a single word.
     fn add_word(&mut self, word: &str) -> Result<(), Trouble> {
         match word {
             "counted" => self.counted = true,

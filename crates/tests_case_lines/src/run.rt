@@ -11,11 +11,11 @@ use std::fmt::{Debug, Display};
 use tests_support::refusing::Refusing;
 
 /// A case while it is run: what it is run with, the values that are not taken yet, and the result
-/// so far. Where a value is not spelled as a call wants it, or a condition is not met, another
-/// value takes its place, and `end` returns the first such trouble in place of the result.
+/// so far. If a value is not spelled as a call needs it, or a condition is not met, another value
+/// takes its place, and `end` returns the first such trouble instead of the result.
 #[derive(Drop)]
 pub struct Run<'a> {
-    /// Memory for all that is not of the case. It never fails as a case says.
+    /// Memory for all that does not belong to the case. It never fails as a case says.
     pub alloc: Global,
     /// Memory for the values of the case.
     pub heap: &'a Refusing<Global>,
@@ -25,7 +25,7 @@ pub struct Run<'a> {
     pub values: Values<'a>,
     /// What the call gave so far.
     pub answer: Answer,
-    // Whether it is run in big endian.
+    // Whether the case is run in big endian.
     is_big: bool,
     trouble: Option<Trouble>,
 }
@@ -50,7 +50,7 @@ impl<'a> Run<'a> {
         }
     }
 
-    /// Keeps why the case is not run, where nothing is kept yet.
+    /// Keeps why the case is not run, if no reason is kept yet.
     pub fn refuse(&mut self, trouble: Trouble) {
         if self.trouble.is_none() {
             self.trouble = Some(trouble);
@@ -62,7 +62,7 @@ impl<'a> Run<'a> {
         self.refuse(Trouble::Condition);
     }
 
-    // What was taken, or else another value.
+    // Returns what was taken, or else another value.
     fn or<T: Drop>(&mut self, taken: Result<T, Trouble>, other: T) -> T {
         match taken {
             Ok(value) => value,
@@ -109,7 +109,7 @@ impl<'a> Run<'a> {
         self.or(taken, Span::Full)
     }
 
-    /// Adds what a format writes of a value.
+    /// Adds what a format writes for a value.
     pub fn written<T: Display + Debug>(&mut self, value: &T, format: &str) {
         let written = add_written(self.alloc, value, format, &mut self.answer);
         self.or(written, ());
@@ -137,8 +137,8 @@ impl<'a> Run<'a> {
         self.answer.word(if is_done { "done" } else { "no_memory" });
     }
 
-    /// What the call gave, and `leaked` where memory was not given back. All values of the case are
-    /// dropped by then.
+    /// Returns what the call gave, and `leaked` if memory was not freed. By then all values of the
+    /// case are dropped.
     pub fn end(self) -> Result<Answer, Trouble> {
         if let Some(trouble) = self.trouble {
             return Err(trouble);

@@ -14,8 +14,8 @@ pub use crate::strings::held::{Heap, left, part, string};
 use tests_case_lines::Run;
 use utf16string::Utf16Order;
 
-/// Makes a call and adds what it gave. Returns whether a call of strings has this name; where none
-/// has, no value was taken. Each module hands a name that it does not know on to the next one.
+/// Makes a call and adds what it gave. Returns whether a call of strings has this name; if none
+/// has, no value was taken. Each module passes a name that it does not know to the next one.
 pub fn call<E: Utf16Order>(run: &mut Run, name: &str) -> bool {
     match name.strip_prefix("WString::") {
         Some(name) => made::call::<E>(run, name),

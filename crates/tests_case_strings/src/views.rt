@@ -12,9 +12,8 @@ mod written;
 use tests_case_lines::Run;
 use utf16string::Utf16Order;
 
-/// Makes a call and adds what it gave. Returns whether a call of units and views has this name; no
-/// value was taken where the name is that of another crate. Each module hands a name that it does
-/// not know on to the next one.
+/// Makes a call and adds what it gave. Returns whether a call of units and views has this name; if
+/// not, no value was taken. Each module passes a name that it does not know to the next one.
 pub fn call<E: Utf16Order>(run: &mut Run, name: &str) -> bool {
     match name.split_once("::") {
         Some(("WStr" | "WStrChars" | "WStrCharIndices", _)) => made::call::<E>(run, name),

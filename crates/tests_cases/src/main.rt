@@ -1,5 +1,5 @@
-//! `tests_cases` runs the cases of a table on standard input, and prints those that differ and how
-//! many passed and failed.
+//! `tests_cases` runs the cases of a table on standard input. It prints the cases that differ, and
+//! how many passed and failed.
 #![tactic(auto)]
 
 mod run;

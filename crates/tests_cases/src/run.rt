@@ -99,7 +99,7 @@ fn agrees<E: Utf16Order>(
     Ok(is_equal)
 }
 
-// Returns the result of the call of a case. A value that is left is an error.
+// Returns the result of the call of a case. A remaining value is an error.
 fn answer<E: Utf16Order>(alloc: Global, case: &Case, how: &How) -> Result<Answer, Trouble> {
     let heap = Refusing::new(alloc);
     let mut run = Run::new(alloc, &heap, how, case.values, E::BIG);
@@ -107,29 +107,29 @@ fn answer<E: Utf16Order>(alloc: Global, case: &Case, how: &How) -> Result<Answer
     run.end()
 }
 
-// Makes a call, by the crate that knows it. The crates are asked in turn, each in a function of its
-// own: the proof of one that asks all takes a hundred times as long.
+// Makes a call on views, or passes it on to strings. Each crate has a separate function: the proof
+// of one function that tries all crates takes a hundred times as long.
 fn on_views<E: Utf16Order>(run: &mut Run, name: &str) {
     if !tests_case_strings::views::call::<E>(run, name) {
         on_strings::<E>(run, name);
     }
 }
 
-// A call of strings, or of what is above them or beside them.
+// Makes a call on strings, or passes it on to edits, streams and buffers.
 fn on_strings<E: Utf16Order>(run: &mut Run, name: &str) {
     if !tests_case_strings::strings::call::<E>(run, name) {
         by_edits::<E>(run, name);
     }
 }
 
-// A call of edits, of streams or of buffers.
+// Makes a call of edits, or passes it on to streams and buffers.
 fn by_edits<E: Utf16Order>(run: &mut Run, name: &str) {
     if !tests_case_strings::edits::call::<E>(run, name) {
         on_streams::<E>(run, name);
     }
 }
 
-// A call of streams or of buffers.
+// Makes a call of streams, or passes it on to buffers.
 fn on_streams<E: Utf16Order>(run: &mut Run, name: &str) {
     match tests_case_buffers::streams::call::<E>(
         run.alloc,
@@ -144,7 +144,7 @@ fn on_streams<E: Utf16Order>(run: &mut Run, name: &str) {
     }
 }
 
-// A call over buffers.
+// Makes a call over buffers.
 fn on_buffers<E: Utf16Order>(run: &mut Run, name: &str) {
     if let Err(trouble) = tests_case_buffers::buffers::call::<E>(
         run.alloc,

@@ -1,4 +1,4 @@
-//! Assertions that the tests of this crate share, and strings made.
+//! Assertions that the tests of this crate share, and a function that makes a string.
 
 ghost use Rattle.std.specs.Prelude.{IsTrue};
 

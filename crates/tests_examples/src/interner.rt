@@ -1,4 +1,5 @@
-//! Names under numbers: added again, found, sorted, and with allocations that fail.
+//! Names under numbers: names that are added again, found, sorted, and added while allocations
+//! fail.
 
 use crate::checks::{equal, holds, string};
 use examples::interner::Interner;
@@ -7,8 +8,8 @@ use std::process::Abort;
 use tests_support::refusing::Refusing;
 use utf16string::{BE, LE, Utf16Order, WString};
 
-// Names in the order of arrival, and the number that each gets. By bytes or by code units some of
-// them compare differently.
+// Names in the order of arrival, and the number that each gets. Some of them compare differently by
+// bytes or by code units.
 const COMING: [(&str, usize); 10] = [
     ("b", 0),
     ("", 1),
@@ -81,15 +82,15 @@ fn come<E: Utf16Order>(rt: &(impl Abort + AllocGlobal)) {
     equal(rt, table.sorted(), IN_ORDER.as_slice());
 }
 
-// A bug that no clause excludes: allocation fails though there is memory.
+// A bug that no clause excludes: allocation fails although memory is available.
 #[test]
 fn names_get_numbers(rt: HostRuntime) {
     come::<LE>(&rt);
     come::<BE>(&rt);
 }
 
-// Adds names with each allocation failing in turn, until a run has no failure: returns how many
-// allocations it makes. A failure leaves the table unchanged, and it can be used.
+// Adds names, with each allocation failing in turn until a run has no failure, and returns how many
+// allocations that run makes. A failure leaves the table unchanged and usable.
 fn in_turn<E: Utf16Order>(rt: &(impl Abort + AllocGlobal)) -> u64 {
     let heap = Refusing::new(rt.alloc());
     for k in 0..40 {

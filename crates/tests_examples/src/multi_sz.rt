@@ -115,7 +115,7 @@ fn is_written<E: Utf16Order>(rt: &(impl Abort + AllocGlobal), table: &str, texts
     holds(rt, written == string(rt, table));
 }
 
-// A bug that no clause excludes: allocation fails though there is memory.
+// A bug that no clause excludes: allocation fails although memory is available.
 #[test]
 fn tables_are_written(rt: HostRuntime) {
     for (table, texts) in &TABLES[..5] {
@@ -141,8 +141,8 @@ fn what_no_table_holds_is_refused(rt: HostRuntime) {
     }
 }
 
-// Reads and writes with each allocation failing in turn, until a run has no failure: returns how
-// many allocations it makes.
+// Reads and writes, with each allocation failing in turn until a run has no failure, and returns
+// how many allocations that run makes.
 fn in_turn(rt: &(impl Abort + AllocGlobal), is_reading: bool) -> u64 {
     let heap = Refusing::new(rt.alloc());
     let strings = strings::<BE>(rt, &["a", "\u{10000}"]);

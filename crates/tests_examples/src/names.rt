@@ -13,7 +13,7 @@ const LETTERS: [char; 3] = ['a', '\u{4E00}', '\u{1F600}'];
 
 const LONG: usize = 100_000;
 
-// Returns a name of one character, `count` times.
+// Returns a name that has one character `count` times.
 fn repeated<E: Utf16Order>(rt: &(impl Abort + AllocGlobal), c: char, count: usize) -> WString<E> {
     let mut name = WString::new(rt.alloc());
     for _ in 0..count {
@@ -22,8 +22,8 @@ fn repeated<E: Utf16Order>(rt: &(impl Abort + AllocGlobal), c: char, count: usiz
     name
 }
 
-// Returns the size of the block that is requested in place of one of `room` bytes, to hold so many:
-// 0 if they fit.
+// Returns the size of the block that is requested to grow one of `room` bytes so that it holds
+// `bytes`: 0 if they already fit.
 fn grown(room: usize, bytes: usize, least: usize) -> usize {
     if bytes <= room {
         0
@@ -66,8 +66,8 @@ fn at_each_length<E: Utf16Order>(rt: &(impl Abort + AllocGlobal)) {
     }
 }
 
-// A bug that no clause excludes: a name requests room for two of its length, or a known one for one
-// more.
+// A bug that no clause excludes: a name requests capacity for two names of its length, or a known
+// name requests capacity for one more.
 #[test]
 fn a_name_requests_what_it_takes(rt: HostRuntime) {
     at_each_length::<LE>(&rt);

@@ -93,7 +93,7 @@ const CHANGED: [(usize, u8, (usize, usize, Option<Option<usize>>)); 4] = [
     (21, 0, (14, 18, Some(Some(2)))),
 ];
 
-// A bug that no clause excludes: the definition ignores a byte that makes another record.
+// A bug that no clause excludes: the definition ignores a byte whose change makes another record.
 #[test]
 fn changed(rt: HostRuntime) {
     for (at, byte, wanted) in CHANGED {

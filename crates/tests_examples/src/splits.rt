@@ -4,8 +4,8 @@ use crate::checks::holds;
 use std::process::Abort;
 use utf16string::{BE, LE, Utf16Order, WString};
 
-// A text, the character, and what is before it and after it. In little endian the bytes of U+10000
-// contain the unit of U+00D8 at an odd offset, in big endian that of U+00DC.
+// A text, the character, and what is before it and after it. At an odd offset the bytes of U+10000
+// contain the unit of U+00D8 in little endian, and the unit of U+00DC in big endian.
 const SPLITS: [(&str, char, Option<(&str, &str)>); 13] = [
     ("", '=', None),
     ("key", '=', None),

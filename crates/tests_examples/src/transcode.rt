@@ -65,7 +65,7 @@ fn goes<E: Utf16Order, F: Utf16Order>(
     are(rt, &swapped, other);
 }
 
-// A bug that no clause excludes: allocation fails though there is memory.
+// A bug that no clause excludes: allocation fails although memory is available.
 #[test]
 fn whole(rt: HostRuntime) {
     goes::<LE, BE>(&rt, ByteOrder::Little, &MIXED, &MIXED_BE);

@@ -1,7 +1,7 @@
 //! Tests of decoders and filters that no line of a table can express: readers and writers that
-//! misbehave at each of their calls, each allocation failing in turn, and the headline's loop
-//! compared with the decoder. And, for all calls that allocate, those of strings too, how much
-//! memory they request.
+//! misbehave at each of their calls, failures of each allocation in turn, and the headline's loop
+//! compared with the decoder. Also how much memory each call requests that allocates, including the
+//! calls of strings.
 #![tactic(auto)]
 
 #[cfg(test)]

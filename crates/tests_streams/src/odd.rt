@@ -1,6 +1,6 @@
 //! The filter over a reader or a writer that fails, is interrupted or moves nothing at one of its
-//! calls, at each in turn, and would continue afterwards. What is written is compared with the
-//! tests' own decoder.
+//! calls, at each in turn, and would continue afterwards. What is written is compared with what the
+//! tests' own decoder writes.
 
 use crate::checks::{equal, holds};
 use std::process::Abort;
@@ -10,7 +10,7 @@ use tests_support::texts::faults;
 use utf16_tools::{FilterFault, Watched, filter};
 use utf16string::{BE, LE};
 
-// How a run of the filter ends: its result, and the reader and the writer as they are then.
+// How a run of the filter ends: its result, and the state of the reader and of the writer.
 type Ended<'a> = (Result<(), FilterFault>, Giver<'a>, Taker<'a>);
 
 // A stream, and how many bytes are read and written at each call.
@@ -104,9 +104,9 @@ fn read_failed(rt: &(impl Abort + AllocGlobal), stream: Stream, odd: Odd, ended:
     equal(rt, (giver.calls, taker.flushes), (odd.at, 0));
 }
 
-// Checks a run that a failed write or flush ended: it was the last call of the writer. The certain
-// text of what was read before the last read is written, and a prefix of the text of it all, which
-// is all of it if the flush failed.
+// Checks a run that a failed write or flush ended: it was the last call of the writer. What is
+// written has the certain text of what was read before the last read, and is a prefix of the text
+// of all that was read. If the flush failed, it is all of this text.
 fn write_failed(rt: &(impl Abort + AllocGlobal), stream: Stream, odd: Odd, ended: Ended) {
     let (answer, giver, taker) = ended;
     equal(rt, answer, Err(FilterFault::Write));
@@ -145,8 +145,8 @@ fn odd_write(rt: &(impl Abort + AllocGlobal), stream: Stream, odd: Odd) -> bool 
     is_met
 }
 
-// Each call of the reader in turn misbehaves, until a run does not make that call, and
-// then each of the writer.
+// Each call of the reader misbehaves in turn, until a run does not make that call. Then each call
+// of the writer does.
 fn at_each_call(rt: &(impl Abort + AllocGlobal), stream: Stream, oddity: Oddity) {
     for at in 1..100 {
         if !odd_read(rt, stream, Odd { at, oddity }) {
@@ -185,7 +185,7 @@ fn in_all_sizes(rt: &(impl Abort + AllocGlobal), big: bool, bytes: &[u8]) {
     }
 }
 
-// A bug that no clause excludes: after an I/O error one more call is made, and moves nothing.
+// A bug that no clause excludes: after an I/O error one more call is made, which moves nothing.
 #[test]
 fn each_call_of_each_device_over_each_known_fault(rt: HostRuntime) {
     for (big, bytes, ..) in &faults() {

@@ -1,4 +1,4 @@
-//! The plain decoder of `tests_support`, with which the tests of streams compare.
+//! The plain decoder of `tests_support`, with which the tests of streams compare results.
 
 use std::process::Abort;
 use std::test::Fail;
@@ -12,8 +12,8 @@ fn is(rt: &(impl Abort + AllocGlobal), big: bool, bytes: &[u8], wanted: &[u8]) -
     Ok(())
 }
 
-// A bug that no clause excludes: the tests' own decoder, which has no contract, has the same bug
-// as the other.
+// A bug that no clause excludes: the tests' own decoder, which has no contract, has the same bug as
+// the library's.
 #[test]
 fn known_bytes_have_their_texts(rt: HostRuntime) -> Result<(), Fail> {
     for (_, little, big, utf8) in &characters() {

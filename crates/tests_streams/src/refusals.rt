@@ -1,4 +1,4 @@
-//! Each allocation of `feed` fails in turn, and the stream goes on after it.
+//! Each allocation of `feed` fails in turn, and the stream continues after it.
 
 use std::alloc::Global;
 use std::process::Abort;
@@ -28,8 +28,8 @@ fn is_text<E: Utf16Order>(rt: &(impl Abort + AllocGlobal), found: &WString<E, He
     assert_eq!(rt; utf8.as_str(), TEXT);
 }
 
-// Decodes the stream with one allocation that fails, and each chunk again where it does. Returns
-// how many failed.
+// Decodes the stream with one allocation that fails, and repeats each chunk that fails. Returns how
+// many failed.
 fn failed<E: Utf16Order>(rt: &(impl Abort + AllocGlobal), failing: u64) -> u64 {
     let heap = Refusing::<Global>::new(rt.alloc());
     let mut text = WString::<E, Heap>::new(&heap);
@@ -48,7 +48,7 @@ fn failed<E: Utf16Order>(rt: &(impl Abort + AllocGlobal), failing: u64) -> u64 {
     failed
 }
 
-// A bug that no clause excludes: `feed` fails for ever after a failed allocation.
+// A bug that no clause excludes: `feed` fails forever after a failed allocation.
 #[test]
 fn feed_goes_on_after_each_failed_allocation(rt: HostRuntime) {
     for (failing, times) in [(0, 1), (1, 1), (9, 0)] {
@@ -57,7 +57,7 @@ fn feed_goes_on_after_each_failed_allocation(rt: HostRuntime) {
     }
 }
 
-// A bug that no clause excludes: `feed` allocates for each part of a chunk, or to no purpose.
+// A bug that no clause excludes: `feed` allocates for each part of a chunk, or without need.
 #[test]
 fn feed_allocates_once_for_a_long_chunk(rt: HostRuntime) -> Result<(), Fail> {
     let heap = Refusing::<Global>::new(rt.alloc());
@@ -70,7 +70,7 @@ fn feed_allocates_once_for_a_long_chunk(rt: HostRuntime) -> Result<(), Fail> {
     Ok(())
 }
 
-// A bug that no clause excludes: `decode_pieces` fails where memory suffices.
+// A bug that no clause excludes: `decode_pieces` fails although memory suffices.
 #[test]
 fn decode_pieces_gives_the_text(rt: HostRuntime) -> Result<(), Fail> {
     let heap = Refusing::<Global>::new(rt.alloc());

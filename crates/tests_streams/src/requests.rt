@@ -1,5 +1,5 @@
 //! How much memory `feed` requests, for chunks of 0 to 64 code units and for one of 100,000, and
-//! what `Debug` writes of the types of streams.
+//! what `Debug` writes for the types of streams.
 
 use crate::checks::{equal, holds};
 use std::alloc::{AllocError, Global};
@@ -12,8 +12,8 @@ use utf16string::{BE, LE, Utf16Order};
 
 type Heap<'a> = &'a Refusing<Global>;
 
-// Two code units of which chunks are made, over and over: ASCII letters, characters of the CJK
-// block, an emoji, and unpaired surrogates.
+// Two code units that are repeated to make a chunk: ASCII letters, characters of the CJK block, an
+// emoji, and unpaired surrogates.
 const UNITS: [[u16; 2]; 5] = [
     [0x61, 0x62],
     [0x4E00, 0x9FFF],
@@ -37,9 +37,9 @@ fn append<E: Utf16Order>(rt: &impl Abort, units: [u16; 2], count: usize, chunk: 
     }
 }
 
-// Checks what a call of `feed` returned for so many code units, and that it made one allocation, or
-// none if there is no text, of at most three bytes for each code unit, or eight for a single one.
-// The counts start anew.
+// Checks what a call of `feed` returned for `units` code units, and its allocations: one if there
+// is text, and none otherwise. The allocation has at most three bytes for each code unit, or eight
+// for a single one. The counts start again.
 fn requested(rt: &impl Abort, heap: Heap, units: usize, text: Result<String<Heap>, AllocError>) {
     let text = text.expect(rt, "memory");
     let most = if units == 1 {
@@ -63,7 +63,7 @@ fn known_order<E: Utf16Order>(rt: &impl Abort, heap: Heap, chunk: &[u8], count: 
     requested(rt, heap, count, decoder.feed(heap, rest));
 }
 
-// The same after a BOM, which is no code unit of the text.
+// Does the same after a BOM, which is not a code unit of the text.
 fn found_order(rt: &impl Abort, heap: Heap, stream: &[u8], count: usize) {
     let mut decoder = AnyLossy::new();
     requested(rt, heap, count, decoder.feed(heap, stream));
@@ -94,8 +94,8 @@ fn of_each_length<E: Utf16Order>(rt: &(impl Abort + AllocGlobal)) {
     }
 }
 
-// A bug that no clause excludes: `feed` requests room for U+FFFD for each byte, or grows its text
-// as parts of a chunk are decoded.
+// A bug that no clause excludes: `feed` requests capacity for U+FFFD for each byte, or grows its
+// text as parts of a chunk are decoded.
 #[test]
 fn feed_requests_three_bytes_a_unit(rt: HostRuntime) {
     of_each_length::<LE>(&rt);

@@ -1,4 +1,4 @@
-//! Every string of at most four of eight chosen bytes, cut in every way: the stream decoder and the
+//! Every string of at most four of eight chosen bytes, cut in every way. The stream decoder and the
 //! plain loop that follows the error's fields return and keep what the tests' own decoder does.
 
 use crate::checks::equal;
@@ -40,7 +40,8 @@ fn cut(rt: &(impl Abort + AllocGlobal), bytes: &[u8], cuts: u64) -> Vec<Vec<u8>>
     pieces
 }
 
-// Returns two to the number of bytes: the number of ways to cut or not to cut after each of them.
+// Returns two to the power of the number of bytes: the number of ways to cut or not to cut after
+// each of them.
 fn ways(bytes: &[u8]) -> u64 {
     let mut ways: u64 = 1;
     for _ in bytes {
@@ -66,7 +67,7 @@ fn collect_by_loop<E: Utf16Order>(
     equal(rt, (text.as_str(), rest.as_slice()), (wanted, kept));
 }
 
-// Checks the decoder that is fed the chunks, and its whole text with U+FFFD for pending bytes.
+// Checks a decoder that is fed the chunks, and its whole text with U+FFFD for pending bytes.
 fn fed<E: Utf16Order>(
     rt: &(impl Abort + AllocGlobal),
     pieces: &[Vec<u8>],
@@ -102,8 +103,8 @@ fn at_every_chunking<E: Utf16Order>(rt: &(impl Abort + AllocGlobal), bytes: &[u8
     }
 }
 
-// A bug that no clause excludes: a definition of the specs, which the bodies meet, differs from
-// the Standard at a byte where a class of code units begins or ends.
+// A bug that no clause excludes: a definition of the specs, which the bodies meet, differs from the
+// Standard at a byte at which a class of code units begins or ends.
 #[test]
 fn all_short_strings_of_telling_bytes(rt: HostRuntime) {
     for (len, numbers) in [(0, 1), (1, 8), (2, 64), (3, 512), (4, 4096)] {

@@ -1,4 +1,4 @@
-//! Assertions that the tests of this crate share, and views and strings made.
+//! Assertions that the tests of this crate share, and functions that make views and strings.
 
 ghost use Rattle.std.specs.Prelude.{IsTrue};
 

@@ -1,5 +1,5 @@
 //! The allocator that fails as it is set, and counts. A bug that no clause excludes: it allocates
-//! where it should fail, or counts wrong, and then no case tests a failure.
+//! when it should fail, or counts wrong, and so no case tests a failure.
 
 use crate::checks::{equal, holds};
 use std::alloc::Global;
@@ -7,7 +7,8 @@ use std::process::Abort;
 use std::test::Fail;
 use tests_support::refusing::Refusing;
 
-// Checks the counts since it was set which allocations fail, and the blocks that are not freed.
+// Checks the counts since it was set which allocations fail, and the number of blocks that are not
+// freed.
 fn counted(rt: &impl Abort, heap: &Refusing<Global>, requests: u64, refusals: u64, live: u64) {
     equal(rt, heap.requests(), requests);
     equal(rt, heap.refusals(), refusals);
@@ -33,7 +34,7 @@ fn requests_are_refused_as_told(rt: HostRuntime) {
     counted(&rt, &heap, 1, 0, 0);
 }
 
-// A block that grows or shrinks stays one, and to grow or to shrink it is an allocation.
+// A block that grows or shrinks stays one block, and growing or shrinking it is an allocation.
 #[test]
 fn growing_and_shrinking_are_requests(rt: HostRuntime) -> Result<(), Fail> {
     let heap = Refusing::new(rt.alloc());
@@ -51,7 +52,7 @@ fn growing_and_shrinking_are_requests(rt: HostRuntime) -> Result<(), Fail> {
     Ok(())
 }
 
-// Also of a failed allocation, and of a block that grows.
+// Failed allocations and blocks that grow also count.
 #[test]
 fn sizes_of_requests_add_up(rt: HostRuntime) -> Result<(), Fail> {
     let heap = Refusing::new(rt.alloc());

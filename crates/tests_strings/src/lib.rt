@@ -1,6 +1,6 @@
 //! Tests of strings that no line of a table can express: iterators under adapters, strings sorted,
-//! lists of edits, each allocation failing in turn, and what `Debug` writes. How much memory their
-//! calls request is tested in `tests_streams`, in one table with the calls of streams.
+//! lists of edits, failures of each allocation in turn, and what `Debug` writes. How much memory
+//! their calls request is tested in `tests_streams`, in one table with the calls of streams.
 #![tactic(auto)]
 
 #[cfg(test)]

@@ -1,6 +1,6 @@
-//! Lists of edits whose allocations fail. An edit that fails says so, the edits after it continue
-//! from the text before it, and the list without the failed edits has the same replies and leaves
-//! the same text. A bug that no clause excludes: `NoMemory` where no allocation failed.
+//! Lists of edits whose allocations fail. An edit that fails says so, and the edits after it
+//! continue from the text before it. The list without the failed edits has the same replies and
+//! leaves the same text. A bug that no clause excludes: `NoMemory` although no allocation failed.
 
 use crate::checks::equal;
 use std::alloc::Global;
@@ -12,7 +12,7 @@ use utf16string::{BE, LE, Utf16Order, WString};
 
 type Heap<'a> = &'a Refusing<Global>;
 
-// An edit, with a text in place of a string.
+// An edit, with a text instead of a string.
 #[derive(Clone, Copy)]
 enum Command {
     Push(char),
@@ -104,9 +104,9 @@ fn goes_on<'a, E: Utf16Order>(
     refused
 }
 
-// Checks a run of the edits in which the allocation of that number fails, and those after it too or
-// not. Returns whether one failed. The first allocation is for the replies: if it fails, the text
-// is unchanged.
+// Checks a run of the edits in which the allocation with this number fails, and with
+// `and_all_after` also all after it. Returns whether one failed. The first allocation is for the
+// replies: if it fails, the text is unchanged.
 fn is_refused<E: Utf16Order>(
     rt: &(impl Abort + AllocGlobal),
     commands: &[Command],
@@ -166,7 +166,7 @@ fn each_request_of_a_list(rt: HostRuntime) {
     lists_in_turn::<BE>(&rt);
 }
 
-// Returns five thousand times two edits: a pair appended, and a character inserted after the first.
+// Returns two edits five thousand times: a pair appended, and a character inserted after the first.
 fn pushed_and_inserted(rt: &impl AllocGlobal) -> Result<Vec<Edit<LE>>, Fail> {
     let mut edits = Vec::new(rt.alloc());
     for _ in 0..5_000 {
@@ -176,7 +176,8 @@ fn pushed_and_inserted(rt: &impl AllocGlobal) -> Result<Vec<Edit<LE>>, Fail> {
     Ok(edits)
 }
 
-// A bug that no clause excludes: a list longer than any line fails though there is memory.
+// A bug that no clause excludes: a list too long for a line of a table fails although memory is
+// available.
 #[test]
 fn ten_thousand_edits(rt: HostRuntime) -> Result<(), Fail> {
     let mut text = WString::<LE>::from_str(rt.alloc(), "a")?;

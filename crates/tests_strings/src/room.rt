@@ -1,5 +1,5 @@
-//! Strings and views whose allocations all fail, or with sizes that no vector can have: the error,
-//! and text, bytes and capacity unchanged. Then the same call with memory.
+//! Strings and views whose allocations all fail, or with sizes that no vector can have: the call
+//! returns the error, and text, bytes and capacity are unchanged. Then the same call with memory.
 
 use crate::checks::{equal, holds};
 use std::alloc::{AllocError, Global};
@@ -38,7 +38,7 @@ const CALLS: [(Call, &str); 11] = [
     (Call::PushUtf8, "ho"),
 ];
 
-// Makes a call. A text that it takes has memory of its own.
+// Makes a call. A text that it takes has separate memory.
 fn make<'a, E: Utf16Order>(
     rt: &(impl Abort + AllocGlobal),
     heap: Heap<'a>,
@@ -76,7 +76,7 @@ fn of<E: Utf16Order>(rt: &(impl Abort + AllocGlobal), text: &str) -> WString<E> 
     WString::from_str(rt.alloc(), text).expect(rt, "memory")
 }
 
-// Checks that the bytes are those of a text.
+// Checks that these are the bytes of a text.
 fn are<E: Utf16Order>(rt: &(impl Abort + AllocGlobal), found: &[u8], wanted: &str) {
     equal(rt, found, of::<E>(rt, wanted).as_bytes());
 }
@@ -89,7 +89,8 @@ fn ho<'a, E: Utf16Order>(rt: &impl Abort, heap: Heap<'a>) -> WString<E, Heap<'a>
     text
 }
 
-// Checks that a failed call leaves the string, and that the same call with memory succeeds.
+// Checks that a failed call leaves the string unchanged, and that the same call with memory
+// succeeds.
 fn refused_then_done<E: Utf16Order>(rt: &(impl Abort + AllocGlobal), call: Call, wanted: &str) {
     let heap = Refusing::<Global>::new(rt.alloc());
     let mut text = ho::<E>(rt, &heap);
@@ -114,7 +115,7 @@ fn calls_of_a_string(rt: HostRuntime) {
     }
 }
 
-// Checks strings that are made without memory, and then with it.
+// Checks strings that are made without memory, and then with memory.
 fn made<E: Utf16Order>(rt: &(impl Abort + AllocGlobal)) {
     let heap = Refusing::<Global>::new(rt.alloc());
     heap.refuse_from(0);

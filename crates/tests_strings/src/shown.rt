@@ -1,4 +1,4 @@
-//! What `Debug` writes of each type that has it.
+//! What `Debug` writes for each type that has it.
 
 use crate::checks::{equal, string};
 use std::fmt::Debug;
@@ -50,7 +50,8 @@ fn of_error(rt: &(impl Abort + AllocGlobal), raw: &[u8], wanted: &str) {
     }
 }
 
-// A bug that no clause excludes: `Debug` leaves out bytes, or writes those of the other byte order.
+// A bug that no clause excludes: `Debug` leaves out bytes, or writes the bytes of the other byte
+// order.
 #[test]
 fn debug_shows_the_bytes(rt: HostRuntime) {
     of_bytes::<LE>(

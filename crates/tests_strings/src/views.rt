@@ -1,4 +1,4 @@
-//! A range type of a user's own, which no case can express.
+//! A range type that a user defines, which no case can express.
 
 use crate::checks::{equal, view};
 use std::process::Abort;

@@ -1,9 +1,9 @@
--- A call of a function that takes a `&Cell<T>` alone, or one and a size, and whose contract says
--- nothing of its result. Assumes `Logic`.
---     AtCell T R           the contract, if it takes the `&` alone and returns an R
+-- A call of a function that takes only a `&Cell<T>`, or one and a size, and whose contract says
+-- nothing about its result. Assumes `Logic`.
+--     AtCell T R           the contract, if it takes only the `&` and returns an R
 --     asks_cell            a proof's step: from the `&` and the token of its lifetime, by a step
 --                          for the call, as `calls_at`, to the result and the token
---     AtSized, asks_sized  the same if it takes a size too
+--     AtSized, asks_sized  the same if it also takes a size
 use Rattle.std.proofs.Common.{ℕ, ◌^◌, ◌<◌, List, [], ◌∷◌, refl, w64}
 use seplogic.Ra.Ura.{Ura}
 use mir.Val.{Val, vint, vptr}

@@ -1,5 +1,5 @@
-//! What tests of the other crates share: an allocator that fails where a test says so and counts,
-//! readers and writers that fail where a test says so and count, and known texts as bytes.
+//! What the tests of the other crates share: an allocator that fails as a test says and counts,
+//! readers and writers that fail as a test says and count, and known texts as bytes.
 #![tactic(auto)]
 
 pub mod plain;

@@ -1,11 +1,11 @@
-//! A decoder for tests, one code unit after another by the definition of UTF-16, which calls
-//! nothing of the libraries.
+//! A decoder for tests that follows the definition of UTF-16, one code unit after another, and
+//! calls nothing of the libraries.
 
 use std::alloc::{AllocError, Allocator};
 
 const REPLACEMENT: char = '\u{FFFD}';
 
-// Returns a code unit by its two bytes.
+// Returns the code unit of two bytes.
 fn unit(big: bool, two: [u8; 2]) -> u32 {
     let [high, low] = if big { two } else { [two[1], two[0]] };
     u32::from(high) * 256 + u32::from(low)
@@ -21,8 +21,7 @@ fn pair(leading: u32, trailing: u32) -> Option<char> {
 }
 
 /// Appends the text of the bytes that is certain, with U+FFFD for each unpaired surrogate, and
-/// returns the number of pending bytes at the end: an odd one, and a leading surrogate before it or
-/// alone.
+/// returns the number of pending bytes at the end: an odd byte, a leading surrogate, or both.
 pub fn decode<A: Allocator>(
     big: bool,
     bytes: &[u8],
@@ -54,7 +53,7 @@ pub fn decode<A: Allocator>(
     Ok(rest.len())
 }
 
-/// Does the same with one more U+FFFD if bytes are pending: appends the text of a whole stream.
+/// Does the same, with one more U+FFFD if bytes are pending: appends the text of a whole stream.
 pub fn to_utf8_lossy<A: Allocator>(
     big: bool,
     bytes: &[u8],

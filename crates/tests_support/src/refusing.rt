@@ -1,4 +1,4 @@
-//! An allocator for tests, which calls an inner one, makes the allocations fail that a test names,
+//! An allocator for tests. It calls an inner one, makes the allocations fail that a test names,
 //! adds up the sizes of all, and counts the blocks that are allocated and not freed.
 
 use std::alloc::{AllocError, Allocator};
@@ -32,8 +32,8 @@ impl Plan {
     }
 }
 
-/// An allocator that calls an inner one, except for the allocations that are to fail. To grow or to
-/// shrink a block is an allocation too. A test makes its values over a `&` to it, and then says
+/// An allocator that calls an inner one, except for the allocations that are to fail. Growing or
+/// shrinking a block is an allocation too. A test makes its values over a `&` to it, and then says
 /// which allocations fail. Once they are dropped, [`live_blocks`](Refusing::live_blocks) shows
 /// whether they freed all their memory.
 pub struct Refusing<B: Allocator> {
@@ -52,30 +52,29 @@ impl<B: Allocator> Refusing<B> {
         }
     }
 
-    /// From now on the `k`-th allocation fails, where 0 is the next, and no other. The counts
-    /// start anew.
+    /// From now on only the `k`-th allocation fails, where 0 is the next. The counts start again.
     pub fn refuse_one(&self, k: u64) {
         self.plan.set(Plan::new(Refused::One(k)));
     }
 
     /// From now on the `k`-th allocation fails, where 0 is the next, and all after it. The counts
-    /// start anew.
+    /// start again.
     pub fn refuse_from(&self, k: u64) {
         self.plan.set(Plan::new(Refused::From(k)));
     }
 
-    /// From now on no allocation fails. The counts start anew.
+    /// From now on no allocation fails. The counts start again.
     pub fn refuse_none(&self) {
         self.plan.set(Plan::new(Refused::None));
     }
 
-    /// Returns the number of allocations since the counts started, those that failed included.
+    /// Returns the number of allocations since the counts started, including those that failed.
     pub fn requests(&self) -> u64 {
         self.plan.get().requests
     }
 
-    /// Returns the sum of the sizes, in bytes, of the allocations since the counts started, those
-    /// that failed included. A block that grows or shrinks is requested at its new size.
+    /// Returns the sum of the sizes, in bytes, of the allocations since the counts started,
+    /// including those that failed. A block that grows or shrinks is requested at its new size.
     pub fn requested_bytes(&self) -> u64 {
         self.plan.get().requested_bytes
     }
@@ -86,7 +85,7 @@ impl<B: Allocator> Refusing<B> {
     }
 
     /// Returns the number of blocks that are allocated and not freed. A failed allocation adds
-    /// none, and a block that grows or shrinks stays one block. This count never starts anew.
+    /// none, and a block that grows or shrinks stays one block. This count never starts again.
     pub fn live_blocks(&self) -> u64 {
         self.live_blocks.get()
     }
@@ -102,7 +101,7 @@ impl<B: Allocator> Drop for Refusing<B> {
     }
 }
 
-// Returns whether the current allocation, of so many bytes, fails, and counts it.
+// Returns whether the current allocation, of `size` bytes, fails, and counts it.
 fn refuses(plan: &Cell<Plan>, size: usize) -> bool {
     let before = plan.get();
     let is_refused = match before.refused {

@@ -1,12 +1,12 @@
-//! A reader and a writer for tests that move as many bytes at each call as a list says, over and
-//! over, misbehave at one call and would continue after it, and count their calls.
+//! A reader and a writer for tests. At each call they move as many bytes as a list says, over and
+//! over. They misbehave at one call, would continue after it, and count their calls.
 
 ghost use Rattle.std.specs.Prelude.{◌≤◌, IfOk};
 
 use std::alloc::Global;
 use std::io::{self, Error, ErrorKind, Read, Write};
 
-/// What a reader or a writer does at the one call at which it does not move bytes as its list says.
+/// What a reader or a writer does at the one call where it does not move bytes as its list says.
 #[derive(Clone, Copy)]
 pub enum Oddity {
     Fails,
@@ -20,9 +20,9 @@ pub enum Oddity {
 pub struct Manner<'a> {
     /// The most bytes that it moves, call by call, over and over. With an empty list it moves all.
     pub sizes: &'a [usize],
-    /// The call at which it misbehaves; 0 for none.
+    /// The call where it misbehaves, or 0 for none.
     pub odd_at: usize,
-    /// What it does there.
+    /// What it does at that call.
     pub oddity: Oddity,
 }
 

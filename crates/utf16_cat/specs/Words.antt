@@ -1,4 +1,4 @@
--- The words that the program knows, and what each of them stands for.
+-- The words that the program knows, and what each of them means.
 use Rattle.std.specs.Prelude.{ℕ, Bool, true, false, List, Option, Some, None, codes}
 use Rattle.utf16_cat.specs.declared.decoding.Decoding.{Decoding}
 use Rattle.utf16_cat.specs.declared.decoding.Decoding.TheVariants.{Auto, Be, Le}

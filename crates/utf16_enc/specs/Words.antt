@@ -1,4 +1,4 @@
--- The words that the program knows, and what each of them stands for.
+-- The words that the program knows, and what each of them means.
 use Rattle.std.specs.Prelude.{ℕ, Bool, true, false, List, Option, Result, codes}
 use Rattle.utf16_streams.specs.Filter.{FiltersBy}
 use Rattle.utf16_streams.specs.declared.filters.FilterFault.{FilterFault}

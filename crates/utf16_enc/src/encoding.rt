@@ -1,4 +1,4 @@
-//! What the program encodes by each of its words, and its messages.
+//! What the program encodes for each of its words, and its messages.
 
 ghost use Rattle.std.specs.Prelude.{◌≡◌, ◌↔◌, ◌+◌, Some, refl};
 ghost use Rattle.utf16_streams.specs.Filter.{read_faults, write_faults};

@@ -8,13 +8,13 @@ abbrev pub words_of : {X Y E : Type 0} → (X → List Y) → (Y → List ℕ) �
 words_of items bytes (Ok args) = map bytes (drop 1 (items args))
 words_of items bytes (Err error) = []
 
--- the outcome of arguments that name no choice: `Memory` if the error was want of memory
+-- the outcome of arguments that name no choice: `Memory` if the error was a lack of memory
 abbrev pub IsRefusal : {X E : Type 0} → (E → Type 0) → Result X E → Outcome → Type 0
 IsRefusal lacks_memory (Ok args) ended = ended ≡ Usage
 IsRefusal lacks_memory (Err error) ended =
     (lacks_memory error × (ended ≡ Memory)) ⊎ ((lacks_memory error → ⊥) × (ended ≡ Usage))
 
--- the item that a list has, if it has exactly one
+-- the only item of a list that has exactly one
 abbrev pub IsOnly : {X : Type 0} → List X → Option X → Type 0
 IsOnly items (Some item) = items ≡ item ∷ []
 IsOnly {X} items None = (item : X) → items ≢ item ∷ []

@@ -1,4 +1,4 @@
--- What the end of a run tells: the exit status and the message of its outcome.
+-- What a run reports at its end: the exit status and the message of its outcome.
 use Rattle.std.specs.Prelude.{◌≡◌, ◌⊎◌, ℕ, ◌+◌, ◌-◌, ◌^◌, List, [], Option, min}
 use Rattle.std.specs.Io.KnownBytes.{Appends}
 use Rattle.utf16_program.specs.Status.{status_of}

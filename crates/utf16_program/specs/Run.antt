@@ -1,4 +1,4 @@
--- What a run did, for the outcome that it ended with.
+-- What a run did, given the outcome that it ended with.
 use Rattle.std.specs.Prelude.{◌≡◌, ◌⊎◌, ℕ, ◌+◌, List, [], ◌∷◌, Result}
 use Rattle.utf16_program.specs.Outcome.{EndsBy}
 use Rattle.utf16_program.specs.Status.{reads_failed, writes_failed}
@@ -7,9 +7,9 @@ use Rattle.utf16_streams.specs.Watched.{watched_faults}
 use Rattle.utf16_streams.specs.declared.filters.FilterFault.{FilterFault}
 use Rattle.utf16_streams.specs.declared.watched.Watched.{Watched}
 
--- If the only word is a choice's, the outcome is that of its filter's result, and bytes were read
--- and written as this result says. With any other words the outcome is a refusal, and reader and
--- writer were not called. The I/O errors of the outcome were counted, and no others.
+-- If the only word names a choice, the outcome is the one of its filter's result, and bytes were
+-- read and written as this result says. With any other words the outcome is a refusal, and reader
+-- and writer were not called. The I/O errors of the outcome were counted, and no others.
 abbrev pub Runs : {C R W : Type 0} → (C → List ℕ) → (C → Result (Unit {0}) FilterFault → Type 0)
     → List (List ℕ) → (Outcome → Type 0)
     → Watched R → Watched R → Watched W → Watched W → Outcome → Type 0

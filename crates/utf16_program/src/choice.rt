@@ -1,4 +1,4 @@
-//! What a program decides: the words that it knows, what each of them chooses, and its messages.
+//! What a program defines: the words that it knows, what each of them chooses, and its messages.
 
 ghost use Rattle.std.specs.Prelude.{◌≡◌, ◌↔◌, ◌+◌, ◌-◌, ◌<◌, ◌^◌, [], ℕ, List, Option, Result, Some};
 ghost use Rattle.utf16_streams.specs.Filter.{read_faults, write_faults};
@@ -18,7 +18,7 @@ pub trait Choice: Sized {
     ghost word_of: { Self → List ℕ };
 
     // What the filter did, for each of its results: to the bytes that remain in the reader and to
-    // those that the writer holds, before and after.
+    // the bytes that the writer holds, before and after.
     ghost filters: { Self → Option (List ℕ) → Option (List ℕ) → Option (List ℕ) → Option (List ℕ)
         → Result (Unit {0}) FilterFault → Type 0 };
 
@@ -34,7 +34,7 @@ pub trait Choice: Sized {
     ///
     /// # Errors
     ///
-    /// As `filter_by` of `utf16_streams`.
+    /// Like `filter_by` of `utf16_streams`.
     ///
     /// # Precondition
     ///
@@ -59,6 +59,6 @@ pub trait Choice: Sized {
     fn line(outcome: &Outcome) -> &'static str
         ensures { result.now ≡ line_of outcome.now };
 
-    // There is nothing to say of a run that did all.
+    // A run that did all has no message.
     ghost quiet: { line_of Outcome.Done ≡ [] };
 }

@@ -13,8 +13,8 @@ use utf16_streams::{DeviceFault, Watched};
 ///
 /// # Errors
 ///
-/// If a write fails, after which the writer is not called again. Also if the error count is
-/// `u64::MAX`, without a call.
+/// If a write fails; the writer is not called again after that. Also if the error count is
+/// `u64::MAX`; in that case the writer is not called.
 pub fn tell<C: Choice, W: Write>(outcome: &Outcome, to: &mut Watched<W>) -> Result<(), DeviceFault>
     ensures line { OnOk result (TellsAll W.contents to.old to.new (C.line_of outcome.now)) }
     ensures err { OnErr result (TellsPrefix W.contents to.old to.new (C.line_of outcome.now)) }

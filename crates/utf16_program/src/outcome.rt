@@ -19,11 +19,11 @@ pub enum Outcome {
     Memory,
     /// 2^64 - 1 reads returned bytes, which were converted and written.
     Long,
-    /// The arguments are not those of the program. Nothing was read or written.
+    /// The arguments do not name a choice. Nothing was read or written.
     Usage,
 }
 
-/// Returns the outcome of a run by the result of its filter.
+/// Returns the outcome of a run, given the result of its filter.
 pub fn outcome_of(answer: Result<(), FilterFault>) -> Outcome
     ensures { result ≡ outcome answer }
 {

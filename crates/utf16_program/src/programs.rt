@@ -1,4 +1,4 @@
-//! A run of a program, over any arguments, reader and writers.
+//! A run of a program, with any arguments, reader and writers.
 
 ghost use Rattle.std.specs.Prelude.{◌≡◌, ◌⊎◌, ◌+◌, ◌-◌, ◌<◌, ◌≤◌, ◌^◌, [], ◌∷◌, Err, Ok, string_bytes};
 ghost use Rattle.std.specs.IoError.{error_kind};

@@ -54,8 +54,8 @@ pub fn shard(values: &mut Values, answer: &mut Answer) -> Result<(), Trouble> {
     Ok(())
 }
 
-// Adds how two texts compare, and `differs` if the second one in the other byte order compares in
-// another way.
+// Adds how two texts compare, and `differs` if the result is another one with the second text in
+// the other byte order.
 fn compared<E: Utf16Order>(first: &[u8], second: Vec<u8>, answer: &mut Answer) {
     let mut second = second;
     let order = compare::<E, E>(first, &second);

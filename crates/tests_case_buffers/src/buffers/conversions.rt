@@ -1,4 +1,4 @@
-//! From one encoding to the other.
+//! Conversions from one encoding to the other.
 
 use crate::buffers::buffers::{add_written, buffer, written};
 use std::alloc::Global;
@@ -42,7 +42,7 @@ impl Conversion {
         )
     }
 
-    // Returns how many bytes it writes at most, with U+FFFD for each ill-formed sequence.
+    // Returns the most bytes that it writes, with U+FFFD for each ill-formed sequence.
     fn size<E: Utf16Order>(self, from: &[u8]) -> usize {
         if self.writes_utf8() {
             to_utf8_lossy_len::<E>(from)
@@ -64,7 +64,7 @@ impl Conversion {
     }
 }
 
-/// Adds how far a call came with a buffer of so many bytes, or of the length that its length call
+/// Adds how far a call came with a buffer of this many bytes, or of the length that its length call
 /// returns, and what was written.
 pub fn convert<E: Utf16Order>(
     alloc: Global,
@@ -83,8 +83,8 @@ pub fn convert<E: Utf16Order>(
 }
 
 /// Adds, for each length of a buffer up to the one that the length call returns, how many bytes the
-/// call writes to it, and `differs` if they are not a prefix of those that it writes to the last;
-/// and then those.
+/// call writes to it, and `differs` if they are not a prefix of the bytes that it writes to the
+/// last one. Then adds those bytes.
 pub fn every_room<E: Utf16Order>(
     alloc: Global,
     values: &mut Values,
@@ -102,8 +102,8 @@ pub fn every_room<E: Utf16Order>(
     Ok(())
 }
 
-// Adds how many bytes a call writes to a buffer of so many, and `differs` if they are not a prefix
-// of `all`.
+// Adds how many bytes a call writes to a buffer of this many bytes, and `differs` if they are not a
+// prefix of `all`.
 fn begins<E: Utf16Order>(
     alloc: Global,
     conversion: Conversion,

@@ -1,4 +1,4 @@
-//! Streams whose pending bytes are in a value of the caller's.
+//! Streams whose pending bytes are in a value that the caller owns.
 
 use crate::buffers::buffers::{add_changed, add_written, buffer};
 use std::alloc::Global;

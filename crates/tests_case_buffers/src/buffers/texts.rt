@@ -103,7 +103,7 @@ fn to_string<E: Utf16Order>(
     Ok(())
 }
 
-// Writes a text in UTF-8 to the start of a buffer of so many bytes.
+// Writes a text in UTF-8 to the start of a buffer of this many bytes.
 fn to_buffer<E: Utf16Order>(
     alloc: Global,
     values: &mut Values,
@@ -176,7 +176,8 @@ fn text_to_buffer<E: Utf16Order>(
     add_changed(answer, &to, room)
 }
 
-// Adds the bytes of a buffer to which bytes were written at an offset, and where these end.
+// Adds the bytes of a buffer to which bytes were written at an offset, and the end of the written
+// bytes.
 fn at_place(alloc: Global, values: &mut Values, answer: &mut Answer) -> Result<(), Trouble> {
     let bytes = values.bytes(alloc, true)?;
     let mut to = values.bytes(alloc, true)?;

@@ -5,7 +5,7 @@ use std::alloc::Global;
 use tests_case_lines::{Answer, Trouble, Values};
 use utf16_units::Utf16Order;
 
-/// Adds the number of bytes written to a buffer of so many, and the bytes.
+/// Adds the number of bytes written to a buffer of this many bytes, and the bytes.
 pub fn write_well_formed<E: Utf16Order>(
     alloc: Global,
     values: &mut Values,

@@ -17,7 +17,7 @@ trait Way {
     fn text(alloc: Global, pieces: &[Vec<u8>]) -> Result<String, AllocError>;
 }
 
-// By one call.
+// Decodes them with one call.
 struct AtOnce<E: Utf16Order>(PhantomData<E>);
 
 impl<E: Utf16Order> Way for AtOnce<E> {
@@ -26,7 +26,7 @@ impl<E: Utf16Order> Way for AtOnce<E> {
     }
 }
 
-// By a decoder that is fed the chunks one by one and then finished.
+// Decodes them with a decoder that is fed the chunks one by one and then finished.
 struct OneByOne<D: Decoder>(PhantomData<D>);
 
 impl<D: Decoder> Way for OneByOne<D> {
@@ -44,8 +44,8 @@ impl<D: Decoder> Way for OneByOne<D> {
     }
 }
 
-/// Adds the text of the bytes in one chunk, and after it any other text that a chunking gives, by
-/// `decode_pieces` or by `Lossy`.
+/// Adds the text of the bytes in one chunk, and after it any other text that a chunking gives, from
+/// `decode_pieces` or from `Lossy`.
 pub fn every_chunking<E: Utf16Order>(
     alloc: Global,
     values: &mut Values,
@@ -58,7 +58,7 @@ pub fn every_chunking<E: Utf16Order>(
     add_other::<OneByOne<Lossy<E>>>(alloc, &bytes, whole.as_str(), answer)
 }
 
-/// Does the same by `AnyLossy`.
+/// Does the same with `AnyLossy`.
 pub fn every_any_chunking(
     alloc: Global,
     values: &mut Values,

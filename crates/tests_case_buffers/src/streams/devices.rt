@@ -35,8 +35,8 @@ fn counts(answer: &mut Answer, faults: u64, calls: usize) {
     answer.number(calls);
 }
 
-/// Adds the result of one read into a buffer of so many zeros: the number of bytes, and the buffer
-/// then.
+/// Adds the result of one read into a buffer of this many zeros: the number of bytes, and the
+/// buffer afterwards.
 pub fn read<E: Utf16Order>(
     alloc: Global,
     how: &How,
@@ -57,8 +57,8 @@ fn read_into(bytes: &[u8], how: &How, buf: &mut [u8], answer: &mut Answer) {
     counts(answer, reader.faults(), reader.inner().calls);
 }
 
-/// Adds the result of one write of each chunk: the number of bytes written; and all bytes written,
-/// and the result of a flush then.
+/// Adds the result of one write of each chunk: the number of bytes written. Then adds all bytes
+/// written, and the result of a flush.
 pub fn write<E: Utf16Order>(
     alloc: Global,
     how: &How,

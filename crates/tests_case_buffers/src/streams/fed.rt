@@ -57,8 +57,8 @@ impl Decoder for AnyLossy {
     }
 }
 
-/// Feeds the chunks: adds for each the text and what is pending then, and at last the result of the
-/// end.
+/// Feeds the chunks: adds for each the text and what is pending after it, and finally the result of
+/// the end.
 pub fn feed<E: Utf16Order, D: Decoder>(
     alloc: Global,
     how: &How,

@@ -73,8 +73,8 @@ pub fn add_result(answer: &mut Answer, found: Result<(), FilterFault>) {
     });
 }
 
-/// Adds the result and what was written, and if a case counts them the calls of the reader and the
-/// writer and their I/O errors. If memory was not freed, adds that too.
+/// Adds the result and what was written. If the case counts them, also adds the calls of the reader
+/// and the writer and their I/O errors. If memory was not freed, also adds that.
 pub fn filter<E: Utf16Order>(
     alloc: Global,
     how: &How,

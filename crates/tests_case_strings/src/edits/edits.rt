@@ -58,7 +58,7 @@ fn edit_at<'a, E: Utf16Order>(case: &mut Run<'a>, name: &str) -> Edit<E, Heap<'a
     }
 }
 
-// Takes the edits that are left, with a `/` between.
+// Takes the remaining edits, which have a `/` between them.
 fn edits<'a, E: Utf16Order>(case: &mut Run<'a>) -> Vec<Edit<E, Heap<'a>>> {
     let mut edits = Vec::new(case.alloc);
     for _ in 0..case.values.count() {
@@ -111,7 +111,7 @@ pub fn by_apply<E: Utf16Order>(case: &mut Run) {
     left(case, &string);
 }
 
-/// Does a list of edits of a string. The replies have a `/` between.
+/// Does a list of edits of a string. The replies have a `/` between them.
 pub fn by_run<E: Utf16Order>(case: &mut Run) {
     let mut string = string::<E>(case);
     let edits = edits::<E>(case);

@@ -51,7 +51,8 @@ fn hash_of<T: Hash>(value: &T) -> u64 {
     hasher.finish()
 }
 
-// Whether a string hashes as another one that has no spare capacity, and as the view of that one.
+// Adds whether a string has the same hash as another one that has no spare capacity, and as the
+// view of that one.
 fn hash<E: Utf16Order>(run: &mut Run, string: &WString<E, Heap>) {
     let other = part::<E>(run);
     let found = hash_of(string);

@@ -6,7 +6,7 @@ use std::alloc::AllocError;
 use tests_case_lines::Run;
 use utf16string::{Utf16Order, WString};
 
-/// Makes a call that is done or whose allocation fails, and returns which. `None` where none has
+/// Makes a call that is done or whose allocation fails, and returns which. `None` if no call has
 /// this name.
 pub fn call<E: Utf16Order>(
     run: &mut Run,
@@ -23,7 +23,7 @@ pub fn call<E: Utf16Order>(
     })
 }
 
-// Makes a call that changes the capacity of a string, or any other, by `cut`.
+// Makes a call that changes the capacity of a string, or passes the name to `cut`.
 fn sized<E: Utf16Order>(
     run: &mut Run,
     string: &mut WString<E, Heap>,
@@ -74,7 +74,7 @@ fn insert_wstr<E: Utf16Order>(
     }
 }
 
-// The result says too whether the capacity suffices for as many more bytes.
+// The result also says whether the capacity is enough for that many more bytes.
 fn reserve<E: Utf16Order>(run: &mut Run, string: &mut WString<E, Heap>) -> Result<(), AllocError> {
     let additional = run.number();
     string.reserve(additional)?;

@@ -1,4 +1,4 @@
-//! The strings of a case, and what the result says of them.
+//! The strings of a case, and what the result says about them.
 
 use std::alloc::{AllocError, Allocator, Global};
 use tests_case_lines::{Run, Trouble};
@@ -34,7 +34,7 @@ fn copy<'a, E: Utf16Order>(
     Ok(string)
 }
 
-/// Takes a text that is appended or inserted, in memory of its own and with no spare capacity.
+/// Takes a text that is appended or inserted, in separate memory and with no spare capacity.
 pub fn part<E: Utf16Order>(run: &mut Run) -> WString<E> {
     match WString::from_utf16(run.bytes()) {
         Ok(text) => text,
@@ -45,8 +45,8 @@ pub fn part<E: Utf16Order>(run: &mut Run) -> WString<E> {
     }
 }
 
-/// Adds the bytes of a string that was made or is left, and its capacity and the requests where the
-/// case wants them.
+/// Adds the bytes of a string that was made or is left, and its capacity and the number of
+/// allocations if the case wants them.
 pub fn left<E: Utf16Order, A: Allocator>(run: &mut Run, string: &WString<E, A>) {
     run.answer.bytes(string.as_bytes());
     if run.how.capacity {

@@ -9,7 +9,7 @@ use std::alloc::AllocError;
 use tests_case_lines::{Answer, Run, Trouble};
 use utf16string::{BigEndian, LittleEndian, Utf16Error, Utf16Order, WStr, WString};
 
-/// Makes a call that makes a string of no text or of bytes, or any other, by `of_text`.
+/// Makes a call that makes a string of no text or of bytes, or passes the name to `of_text`.
 pub fn call<E: Utf16Order>(run: &mut Run, name: &str) -> bool {
     match name {
         "new" => new::<E>(run),
@@ -23,7 +23,7 @@ pub fn call<E: Utf16Order>(run: &mut Run, name: &str) -> bool {
     true
 }
 
-// Makes a call that makes a string of a text or takes a string, or any other, by `on_string`.
+// Makes a call that makes a string of a text or takes a string, or passes the name to `on_string`.
 fn of_text<E: Utf16Order>(run: &mut Run, name: &str) -> bool {
     match name {
         "from_str" => from_str::<E>(run),
@@ -36,8 +36,8 @@ fn of_text<E: Utf16Order>(run: &mut Run, name: &str) -> bool {
     true
 }
 
-/// Makes a call on a string, which is the first value, and adds the string that a call leaves that
-/// changes it.
+/// Makes a call on a string, which is the first value. If the call changes the string, adds the
+/// string that it leaves.
 pub fn on_string<E: Utf16Order>(run: &mut Run, name: &str) -> bool {
     let mut string = string::<E>(run);
     run.begin();
@@ -55,7 +55,7 @@ fn new<E: Utf16Order>(run: &mut Run) {
     left(run, &WString::<E, Heap>::new(run.heap));
 }
 
-// The result says too whether the capacity suffices for as many bytes.
+// The result also says whether the capacity is enough for that many bytes.
 fn with_capacity<E: Utf16Order>(run: &mut Run) {
     let capacity = run.number();
     run.begin();
@@ -85,7 +85,7 @@ fn refused(answer: &mut Answer, error: Utf16Error) {
     }
 }
 
-// The calls for one order are made in that order alone.
+// The calls for one byte order are made only in that order.
 fn tested<E: Utf16Order>(run: &mut Run, name: &str) {
     let raw = run.bytes();
     match name {

@@ -4,7 +4,7 @@ use crate::strings::held::Heap;
 use tests_case_lines::{By, Run, Span};
 use utf16string::{Utf16Order, WStr, WString};
 
-/// Takes a part of a string. The kind of range is that of the word.
+/// Takes a part of a string. The range has the kind that the word has.
 pub fn part<E: Utf16Order>(run: &mut Run, string: &WString<E, Heap>, by: By) {
     let span = run.span();
     match (taken(string, by, span), by) {

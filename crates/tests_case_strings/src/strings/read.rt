@@ -5,7 +5,7 @@ use crate::strings::{compared, parts};
 use tests_case_lines::{Answer, By, Run, Trouble, add_written};
 use utf16string::{Utf16Order, WString};
 
-/// Makes a call that reads a string, or any other, by `asked`.
+/// Makes a call that reads a string, or passes the name to `asked`.
 pub fn call<'a, E: Utf16Order>(
     run: &mut Run<'a>,
     string: &WString<E, Heap<'a>>,
@@ -24,7 +24,7 @@ pub fn call<'a, E: Utf16Order>(
     true
 }
 
-// Makes a call that asks a string about values or takes a part, or any other, by `compared`.
+// Makes a call that takes values or a part of the string, or passes the name to `compared`.
 fn asked<'a, E: Utf16Order>(run: &mut Run<'a>, string: &WString<E, Heap<'a>>, name: &str) -> bool {
     match name {
         "is_char_boundary" => is_char_boundary(run, string),
@@ -38,7 +38,7 @@ fn asked<'a, E: Utf16Order>(run: &mut Run<'a>, string: &WString<E, Heap<'a>>, na
     true
 }
 
-// What a string shows where nothing more is asked.
+// Adds what a call without further values returns.
 fn shown<E: Utf16Order>(answer: &mut Answer, string: &WString<E, Heap>, name: &str) {
     match name {
         "capacity" => answer.number(string.capacity()),
@@ -71,7 +71,7 @@ fn chars<E: Utf16Order>(run: &mut Run, string: &WString<E, Heap>) {
     run.answer.text(text.as_str());
 }
 
-// Each offset and its character, or `none` where there is no character.
+// Adds each offset and its character, or `none` if there are no characters.
 fn char_indices<E: Utf16Order>(answer: &mut Answer, string: &WString<E, Heap>) {
     for (offset, c) in string.char_indices() {
         answer.number(offset);

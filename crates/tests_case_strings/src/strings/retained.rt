@@ -18,8 +18,8 @@ fn answers<'a>(run: &mut Run<'a>) -> &'a [u8] {
     word.as_bytes()
 }
 
-/// Keeps the characters whose result is `y`. The result says `asked` where the predicate is
-/// not asked about each character once, from the front.
+/// Keeps the characters whose result is `y`. The result says `asked` unless the predicate is called
+/// on each character once, from the front.
 pub fn retain<E: Utf16Order>(run: &mut Run, string: &mut WString<E, Heap>) {
     let letters = answers(run);
     let Ok(text) = string.to_utf8(run.alloc) else {
@@ -39,8 +39,8 @@ pub fn retain<E: Utf16Order>(run: &mut Run, string: &mut WString<E, Heap>) {
     }
 }
 
-/// As `retain`. The result begins with how many characters the predicate was called on, which it
-/// noted down.
+/// Does the same as `retain`. The result begins with the number of characters on which the
+/// predicate was called, which it noted down.
 pub fn retain_by<E: Utf16Order>(run: &mut Run, string: &mut WString<E, Heap>) {
     let letters = answers(run);
     let mut asked = 0usize;

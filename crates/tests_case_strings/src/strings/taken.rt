@@ -45,8 +45,8 @@ fn split_off<E: Utf16Order>(run: &mut Run, string: &mut WString<E, Heap>) {
     }
 }
 
-// Appends characters, by the call or by the trait of that name. If an allocation failed, the result
-// says too which characters the iterator still has.
+// Appends characters, with the call or with the trait of that name. If an allocation failed, the
+// result also says which characters the iterator still has.
 fn extend<E: Utf16Order>(run: &mut Run, string: &mut WString<E, Heap>, is_call: bool) {
     let text = run.text();
     let mut chars = text.chars();

@@ -7,7 +7,7 @@ use std::hash::{FoldHasher, Hash, Hasher};
 use tests_case_lines::{Answer, Run};
 use utf16string::{Utf16Order, WStr};
 
-/// Makes a call that compares or hashes views, or any other, by `affixes`.
+/// Makes a call that compares or hashes views, or passes the name to `affixes`.
 pub fn call<E: Utf16Order>(run: &mut Run, text: WStr<E>, name: &str) -> bool {
     match name {
         "WStr::eq" | "WStr::cmp" | "WStr::partial_cmp" | "WStr::hash" => beside(run, text, name),
@@ -29,7 +29,7 @@ fn eq_str<E: Utf16Order>(run: &mut Run, text: WStr<E>) {
     run.answer.truth(text.eq_str(other.as_str()));
 }
 
-// Two views beside one another. Of `hash`: whether the two hash alike.
+// Compares two views. `hash` says whether the two have the same hash.
 fn two<E: Utf16Order>(answer: &mut Answer, first: WStr<E>, second: WStr<E>, name: &str) {
     match name {
         "WStr::eq" => answer.truth(first == second),

@@ -7,7 +7,8 @@ use crate::views::shown;
 use tests_case_lines::{Answer, Run};
 use utf16string::{Utf16Error, Utf16Order, WStr};
 
-/// Makes a call that makes a view, in the order that its name says, or any other, by `on_view`.
+/// Makes a call that makes a view, in the byte order that its name says, or passes the name to
+/// `on_view`.
 pub fn call<E: Utf16Order>(run: &mut Run, name: &str) -> bool {
     match name {
         "WStr::from_utf16" | "WStr::from_utf16le" | "WStr::from_utf16be" => {

@@ -5,7 +5,7 @@ use crate::views::parts;
 use tests_case_lines::{Answer, Run, Trouble};
 use utf16string::{Utf16Order, WStr};
 
-/// Makes a call that measures a view or asks about an offset, or any other, by `parts`.
+/// Makes a call that measures a view or asks about an offset, or passes the name to `parts`.
 pub fn call<E: Utf16Order>(run: &mut Run, text: WStr<E>, name: &str) -> bool {
     match name {
         "WStr::len" | "WStr::is_empty" | "WStr::is_ascii" | "WStr::as_bytes" => {

@@ -1,10 +1,10 @@
-//! Parts of views: by ranges, before and after an offset or a character, and between delimiters.
+//! Parts of views: at ranges, before and after an offset or a character, and between delimiters.
 
 use crate::views::walks;
 use tests_case_lines::{Answer, By, Run, Span};
 use utf16string::{Utf16Order, WStr};
 
-/// Makes a call that takes the part of a range, or any other, by `cut`.
+/// Makes a call that takes the part at a range, or passes the name to `cut`.
 pub fn call<E: Utf16Order>(run: &mut Run, text: WStr<E>, name: &str) -> bool {
     match name {
         "WStr::get" => range(run, text, By::Get),
@@ -15,7 +15,7 @@ pub fn call<E: Utf16Order>(run: &mut Run, text: WStr<E>, name: &str) -> bool {
     true
 }
 
-// Makes a call that cuts a view at an offset or at characters, or any other, by `walks`.
+// Makes a call that cuts a view at an offset or at characters, or passes the name to `walks`.
 fn cut<E: Utf16Order>(run: &mut Run, text: WStr<E>, name: &str) -> bool {
     match name {
         "WStr::split_at" => split_at(run, text),

@@ -6,8 +6,8 @@ use tests_case_lines::{Run, Trouble, add_debug};
 use tests_support::refusing::Refusing;
 use utf16string::{Utf16Order, WStr};
 
-/// Makes a call that shows a view in UTF-8, or writes it or one of its iterators, or any other, by
-/// `measures`.
+/// Makes a call that shows a view in UTF-8, or writes it or one of its iterators, or passes the
+/// name to `measures`.
 pub fn call<E: Utf16Order>(run: &mut Run, text: WStr<E>, name: &str) -> bool {
     match name {
         "WStr::to_utf8" => to_utf8(run, text),
@@ -24,7 +24,7 @@ fn fmt<E: Utf16Order>(run: &mut Run, text: WStr<E>) {
     run.written(&text, format);
 }
 
-// What `{:?}` writes of an iterator over a view.
+// Adds what `{:?}` writes for an iterator over a view.
 fn iterator<E: Utf16Order>(run: &mut Run, text: WStr<E>, name: &str) {
     if run.word() != "{:?}" {
         return run.unmet();
@@ -48,7 +48,7 @@ fn to_utf8<E: Utf16Order>(run: &mut Run, text: WStr<E>) {
     run.requests();
 }
 
-// The string to which the text is appended, and what it is then.
+// Adds the string after the text was appended to it.
 fn push_utf8<E: Utf16Order>(run: &mut Run, text: WStr<E>) {
     match front(run) {
         Ok(to) => appended(run, to, text),

@@ -8,7 +8,7 @@ use utf16_units::{
 };
 use utf16string::{Utf16Order, WStr};
 
-/// Makes a call on units or on an order, or any other, by `by_character`.
+/// Makes a call on units or on a byte order, or passes the name to `by_character`.
 pub fn call<E: Utf16Order>(run: &mut Run, name: &str) -> bool {
     match name {
         "is_leading_surrogate" | "is_trailing_surrogate" | "Utf16Order::write_unit" => {
@@ -33,7 +33,7 @@ fn by_character<E: Utf16Order>(run: &mut Run, name: &str) -> bool {
     true
 }
 
-// A code unit.
+// Takes a code unit.
 fn unit(run: &mut Run) -> u16 {
     match u16::try_from(run.number()) {
         Ok(unit) => unit,
@@ -94,7 +94,7 @@ fn validate<E: Utf16Order>(run: &mut Run) {
     }
 }
 
-// What a format writes of the error of ill-formed bytes.
+// Adds what a format writes for the error of ill-formed bytes.
 fn fmt<E: Utf16Order>(run: &mut Run) {
     let raw = run.bytes();
     let format = run.word();

@@ -4,7 +4,7 @@ use crate::views::compared;
 use tests_case_lines::{Answer, Run, Trouble};
 use utf16string::{Utf16Order, WStr};
 
-/// Makes a call of an iterator over a view, or any other, by `compared`.
+/// Makes a call of an iterator over a view, or passes the name to `compared`.
 pub fn call<E: Utf16Order>(run: &mut Run, text: WStr<E>, name: &str) -> bool {
     match name {
         "WStr::chars" => chars(run, text),

@@ -4,8 +4,8 @@ use crate::views::made::{refused, view};
 use tests_case_lines::{Answer, Run};
 use utf16string::{Utf16Order, WStr, WStrMut};
 
-/// Makes a call of a view that writes, and adds the bytes as they are after it. Returns whether one
-/// has this name.
+/// Makes a call of a view that writes, and adds the bytes as they are after it. Returns whether a
+/// call has this name.
 pub fn call<E: Utf16Order>(run: &mut Run, name: &str) -> bool {
     let mut raw = run.bytes();
     match name {
