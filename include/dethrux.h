@@ -1,23 +1,24 @@
 /* SPDX-License-Identifier: MIT OR Apache-2.0 */
 
-/* Dethrux: UTF-16 in either byte order, to and from UTF-8, between buffers of the caller's. No call
- * allocates, keeps a pointer or prints anything. C99 and C++11; for C++17 there is dethrux.hpp over
- * it. Link with libdethrux.so (-ldethrux), or with libdethrux.a alone. Both are for x86-64-v2 and
- * above (SSE4.2, POPCNT): the loader refuses to start them on an older processor, and where no
- * loader is asked, as in a program that is linked with -static, an illegal instruction ends it.
+/* Dethrux: UTF-16 in either byte order, to and from UTF-8, between buffers that the caller owns. No
+ * call allocates, keeps a pointer or prints anything. C99 and C++11; for C++17 there is dethrux.hpp
+ * over it. Link with libdethrux.so (-ldethrux), or with just libdethrux.a. Both are for x86-64-v2
+ * and above (SSE4.2, POPCNT): the loader refuses to start them on an older processor. A program
+ * that is linked with -static is not checked: an illegal instruction ends it.
  *
  * Proved for all inputs of up to PTRDIFF_MAX bytes: each result is as described, and no call reads
- * or writes outside the buffers that it is given. No proof sees the caller, so this is trusted: a
- * pointer with a length of n points to n bytes that may be read during the call (for `to`, with a
- * capacity of n, written); `decoder` points to a decoder; and `to` and the decoder overlap no other
- * buffer of the call. A pointer need not be aligned. A null pointer is allowed where the length or
- * the capacity is 0. That, the macros and the dethrux_u16 calls are tested, not proved.
+ * or writes outside the buffers that it is given. The proofs do not cover the caller, so this is
+ * trusted: a pointer with a length of n points to n bytes that may be read during the call (for
+ * `to`, with a capacity of n, written); `decoder` points to a decoder; and `to` and the decoder
+ * overlap no other buffer of the call. A pointer need not be aligned. A null pointer is allowed if
+ * the length or the capacity is 0. Null pointers, the macros and the dethrux_u16 calls are tested,
+ * not proved.
  *
  * Threads: the calls share no state, so any call may run in any thread at any time. Only one thread
  * at a time may use a decoder, or a buffer that a call writes to.
  *
- * Lengths, offsets and capacities count bytes, except in the dethrux_u16 calls at the end, for
- * UTF-16 in the machine's byte order, where they count code units. A bool is 0 or 1. Only
+ * Lengths, offsets and capacities count bytes, except in the dethrux_u16 calls at the end. These
+ * are for UTF-16 in the machine's byte order, and count code units. A bool is 0 or 1. Only
  * dethrux_detect_bom looks for a byte order mark (BOM); to every other call it is the character
  * U+FEFF.
  *
@@ -54,22 +55,27 @@
 #include <stddef.h>
 #include <stdint.h>
 
-/* The version of this header; dethrux_version() returns that of the library. */
+/* The version of this header; dethrux_version() returns the library's version. */
 #define DETHRUX_VERSION_MAJOR 0
 #define DETHRUX_VERSION_MINOR 1
 #define DETHRUX_VERSION_PATCH 0
 #define DETHRUX_VERSION \
     (DETHRUX_VERSION_MAJOR * 1000000 + DETHRUX_VERSION_MINOR * 1000 + DETHRUX_VERSION_PATCH)
 
-/* Capacities that suffice for every input of `len` bytes, and that some input needs: for
- * dethrux_to_utf8_lossy, for the conversions from UTF-8, for dethrux_decoder_feed, for
- * dethrux_decoder_finish, for dethrux_utf8_decoder_feed, and for dethrux_utf8_decoder_finish. No
- * formula wraps for a `len` below PTRDIFF_MAX. */
+/* Capacities that suffice for every input of `len` bytes, and that some input needs. No formula
+ * wraps for a `len` below PTRDIFF_MAX. */
+
+/* The capacity for dethrux_to_utf8_lossy. */
 #define DETHRUX_UTF8_MAX(len) (((size_t)(len) + 1) / 2 * 3)
+/* The capacity for the conversions from UTF-8. */
 #define DETHRUX_UTF16_MAX(len) ((size_t)(len) * 2)
+/* The capacity for dethrux_decoder_feed. */
 #define DETHRUX_FEED_MAX(len) (((size_t)(len) + 3) / 2 * 3)
+/* The capacity for dethrux_decoder_finish. */
 #define DETHRUX_FINISH_MAX 3
+/* The capacity for dethrux_utf8_decoder_feed. */
 #define DETHRUX_UTF8_FEED_MAX(len) ((size_t)(len) * 2 + 2)
+/* The capacity for dethrux_utf8_decoder_finish. */
 #define DETHRUX_UTF8_FINISH_MAX 2
 
 /* The most bytes that dethrux_to_utf8_partial leaves unread with DETHRUX_INCOMPLETE, and that a
@@ -88,7 +94,8 @@
 #define DETHRUX_NODISCARD
 #endif
 
-/* An enum has four bytes: by its type where the language can say so, else tested below. */
+/* An enum has four bytes. Its type says so if the language allows it; otherwise a test below
+ * does. */
 #if defined(__cplusplus) || (defined(__STDC_VERSION__) && __STDC_VERSION__ >= 202311L)
 #define DETHRUX_ENUM(name) enum name : uint32_t
 #else
@@ -141,7 +148,7 @@ typedef struct dethrux_validity {
     uint32_t error_len;
 } dethrux_validity;
 
-/* The length of the BOM, 2, or 0 if there is none, and the byte order of the stream. */
+/* The length of the BOM (2, or 0 if there is none), and the byte order of the stream. */
 typedef struct dethrux_bom {
     size_t len;
     dethrux_byte_order byte_order;
@@ -150,7 +157,7 @@ typedef struct dethrux_bom {
 
 /* The state of a decoder: the bytes of a stream that are not decoded yet. All zero, as in
  * dethrux_decoder decoder = DETHRUX_DECODER_INIT, it begins a stream. Any values are allowed: a
- * `pending_len` above 3 is read as 3, and no dethrux_decoder_feed leaves one. */
+ * `pending_len` above 3 is read as 3, and dethrux_decoder_feed never leaves one above 3. */
 typedef struct dethrux_decoder {
     uint8_t pending[DETHRUX_PENDING_MAX];
     uint8_t pending_len;
@@ -199,7 +206,7 @@ DETHRUX_NODISCARD size_t dethrux_from_utf8_lossy_len(const uint8_t *utf8, size_t
 
 /* Converts UTF-16 to UTF-8, up to the first ill-formed sequence, an unpaired surrogate of 2 bytes:
  * DETHRUX_DONE, DETHRUX_ILL_FORMED, DETHRUX_INCOMPLETE or DETHRUX_NO_SPACE. A capacity of
- * len / 2 * 3 suffices, and so DETHRUX_UTF8_MAX(len). */
+ * len / 2 * 3 suffices, and so does DETHRUX_UTF8_MAX(len). */
 DETHRUX_NODISCARD dethrux_progress dethrux_to_utf8(
     dethrux_byte_order byte_order, const uint8_t *utf16, size_t len, uint8_t *to, size_t capacity);
 
@@ -285,28 +292,29 @@ DETHRUX_NODISCARD size_t dethrux_floor_char_boundary(
     dethrux_byte_order byte_order, const uint8_t *utf16, size_t len, size_t at);
 
 /* Returns the greatest boundary at or before offset `at` of a file, from a few of its bytes:
- * `around` is the 4 from DETHRUX_AROUND_START(at) on, or as many as the file has. Where it is that
- * and `at` is at most the length of the file, the result is that of dethrux_floor_char_boundary
- * over the whole file. For any bytes it is at most 3 bytes before `at`. */
+ * `around` is the 4 from DETHRUX_AROUND_START(at) on, or as many as the file has. With these bytes,
+ * and if `at` is at most the length of the file, the result is the one of
+ * dethrux_floor_char_boundary over the whole file. For any bytes it is at most 3 bytes before
+ * `at`. */
 DETHRUX_NODISCARD uint64_t dethrux_floor_char_boundary_around(
     dethrux_byte_order byte_order, const uint8_t *around, size_t len, uint64_t at);
 
 /* Returns the offset where part `index` of `count` parts begins in a file of `len` bytes: `len` for
  * `index >= count`, else 0 for part 0. Each part has `len / 2 / count` code units or one more, and
- * the last one has an odd byte at the end too. The offset may be inside a surrogate pair: move it
- * to a boundary by dethrux_floor_char_boundary_around. */
+ * the last one also has an odd byte at the end. The offset may be inside a surrogate pair: move it
+ * to a boundary with dethrux_floor_char_boundary_around. */
 DETHRUX_NODISCARD uint64_t dethrux_shard_offset(uint64_t len, uint64_t count, uint64_t index);
 
 /* Swaps the two bytes of each code unit in place: UTF-16 in the other byte order. An odd byte at
  * the end stays. */
 void dethrux_swap_byte_order(uint8_t *utf16, size_t len);
 
-/* Replaces each unpaired surrogate by U+FFFD in place, and returns how many there were. Then the
- * whole code units are well formed. A leading surrogate at the end is unpaired; an odd byte at the
- * end stays. */
+/* Replaces each unpaired surrogate by U+FFFD in place, and returns how many there were. Afterwards
+ * the whole code units are well formed. A leading surrogate at the end is unpaired; an odd byte at
+ * the end stays. */
 size_t dethrux_make_well_formed(dethrux_byte_order byte_order, uint8_t *utf16, size_t len);
 
-/* Compares two texts by their scalar values, each in its byte order: returns -1, 0 or 1 where the
+/* Compares two texts by their scalar values, each in its byte order: returns -1, 0 or 1 if the
  * first is less than, equal to or greater than the second. An unpaired surrogate, and an incomplete
  * character at the end, counts as U+FFFD; a text is greater than each of its prefixes. UTF-8, and
  * so what dethrux_to_utf8_lossy writes, has the same order by bytes. */
@@ -315,7 +323,7 @@ DETHRUX_NODISCARD int32_t dethrux_compare(
     dethrux_byte_order second_order, const uint8_t *second, size_t second_len);
 
 /* Returns the BOM at the start of a stream (FF FE: little endian, FE FF: big endian) and the byte
- * order: big endian without a BOM, as the Unicode Standard has it. The BOM is no part of the text:
+ * order: big endian without a BOM, as the Unicode Standard says. The BOM is not part of the text:
  * decode what follows its `len` bytes. With DETHRUX_BOM_UNDECIDED call again with two bytes or
  * more, unless the stream ends. */
 DETHRUX_NODISCARD dethrux_bom dethrux_detect_bom(const uint8_t *bytes, size_t len);
@@ -329,7 +337,7 @@ DETHRUX_NODISCARD dethrux_bom dethrux_detect_bom(const uint8_t *bytes, size_t le
  * The same calls on code units, as Windows, ICU, Qt and Java hold them: of type uint16_t or
  * char16_t in C, which are one type, and of any integral type of two bytes in C++. Each length,
  * offset and capacity of UTF-16 counts code units, and so do `read`, `written`, `valid_up_to` and
- * `error_len` where they speak of UTF-16; of UTF-8 they count bytes. Nothing is copied. */
+ * `error_len` if they are about UTF-16; for UTF-8 they count bytes. Nothing is copied. */
 
 #if defined(__BYTE_ORDER__) && __BYTE_ORDER__ == 4321
 #define DETHRUX_NATIVE_ENDIAN DETHRUX_BIG_ENDIAN

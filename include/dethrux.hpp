@@ -6,16 +6,17 @@
 // UTF-16 is given as code units in the machine's byte order (dethrux::units: std::u16string and its
 // view, a vector or span of any integral type of two bytes, a pointer and a length), or as bytes
 // and a byte order (dethrux::bytes: std::string and its view, a vector or span of std::byte or
-// unsigned char, a pointer and a length). UTF-8 is given as dethrux::bytes. A pointer alone is a
-// text that ends with a NUL.
+// unsigned char, a pointer and a length). UTF-8 is given as dethrux::bytes. A pointer without a
+// length is a text that ends with a NUL.
 //
-// Offsets and lengths of `units` count code units, those of `bytes` bytes. Ill-formed input is a
-// value, dethrux::error, and never an exception. Functions and decoders throw only if there is not
-// enough memory: std::bad_alloc, or std::length_error if a string cannot be so long. In that case
-// the string that was passed and the decoder are as they were.
+// Offsets and lengths of `units` count code units, and offsets and lengths of `bytes` count bytes.
+// Ill-formed input is a value, dethrux::error, and never an exception. Functions and decoders throw
+// only if there is not enough memory: std::bad_alloc, or std::length_error if a string cannot be so
+// long. In that case the string that was passed and the decoder are unchanged.
 //
-// A result takes the memory of the longest text for its length of input: three bytes a code unit of
-// UTF-16, a code unit a byte of UTF-8. One pass is made so; shrink_to_fit() gives the rest back.
+// A result takes the memory of the longest text for its length of input: three bytes for each code
+// unit of UTF-16, and one code unit for each byte of UTF-8. This makes one pass suffice;
+// shrink_to_fit() releases the rest.
 #ifndef DETHRUX_HPP
 #define DETHRUX_HPP
 
@@ -49,7 +50,7 @@ inline std::uint8_t *data(std::string &text, std::size_t at = 0) noexcept {
     return reinterpret_cast<std::uint8_t *>(text.data()) + at;
 }
 
-// Whether a type has elements of so many bytes, one after another, that are numbers.
+// Whether a type has contiguous elements of this many bytes that are numbers.
 template <std::size_t Size, class C, class = void>
 struct holds : std::false_type {};
 
@@ -63,7 +64,7 @@ struct holds<Size, C,
         sizeof(element) == Size && (std::is_integral_v<element> || std::is_enum_v<element>);
 };
 
-// Elements of `Size` bytes that are read during a call; `Char` is the usual type of them.
+// Elements of `Size` bytes that are read during a call; `Char` is their usual type.
 template <std::size_t Size, class Char>
 class view {
 public:
@@ -95,8 +96,8 @@ using bytes = detail::view<1, char>;
 // Code units of UTF-16 in the machine's byte order that are read during a call.
 using units = detail::view<2, char16_t>;
 
-// Why input is no text: the length of its longest well-formed prefix, and of the ill-formed
-// sequence after it. `error_len` is 0 where the input ends inside a character.
+// Why input is not well formed: the length of its longest well-formed prefix, and of the ill-formed
+// sequence after it. `error_len` is 0 if the input ends inside a character.
 struct error {
     std::size_t valid_up_to = 0;
     std::size_t error_len = 0;
@@ -109,7 +110,7 @@ struct error {
     friend bool operator!=(const error &a, const error &b) noexcept { return !(a == b); }
 };
 
-// A value or an error, with the names of std::expected. Where there is an error, `value` throws
+// A value or an error, with the names of std::expected. If there is an error, `value` throws
 // std::bad_variant_access, and `*` must not be used.
 template <class T>
 class [[nodiscard]] result {
@@ -187,9 +188,9 @@ inline dethrux_progress from_utf8_by(conversion call, bytes utf8, std::u16string
 
 } // namespace detail
 
-// ---- what is there
+// ---- calls that read
 
-// Returns why the input is no UTF-16, and nothing if it is.
+// Returns the first error, or nothing if the input is UTF-16.
 [[nodiscard]] inline std::optional<error> validate(bytes utf16, byte_order order) noexcept {
     return detail::error_of(dethrux_validate(detail::order(order), utf16.data(), utf16.size()), 1);
 }
@@ -199,7 +200,7 @@ inline dethrux_progress from_utf8_by(conversion call, bytes utf8, std::u16string
         dethrux_validate(DETHRUX_NATIVE_ENDIAN, utf16.data(), utf16.size() * 2), 2);
 }
 
-// Returns the number of characters (scalar values) of UTF-16. Of ill-formed input it is the number
+// Returns the number of characters (scalar values) of UTF-16. For ill-formed input it is the number
 // of whole code units that are not trailing surrogates.
 [[nodiscard]] inline std::size_t count_chars(bytes utf16, byte_order order) noexcept {
     return dethrux_count_chars(detail::order(order), utf16.data(), utf16.size());
@@ -218,7 +219,7 @@ inline dethrux_progress from_utf8_by(conversion call, bytes utf8, std::u16string
     return dethrux_is_ascii(DETHRUX_NATIVE_ENDIAN, utf16.data(), utf16.size() * 2);
 }
 
-// Compares by scalar values: less than, equal to or greater than 0, as the first text is less than,
+// Compares by scalar values: less than, equal to or greater than 0 if the first text is less than,
 // equal to or greater than the second. What is ill formed counts as U+FFFD.
 [[nodiscard]] inline int compare(
     bytes first, byte_order first_order, bytes second, byte_order second_order) noexcept {
@@ -254,7 +255,7 @@ inline dethrux_progress from_utf8_by(conversion call, bytes utf8, std::u16string
            / 2;
 }
 
-// Returns the greatest boundary at or before an offset of a file, from the 4 bytes of it from
+// Returns the greatest boundary at or before an offset of a file, from its 4 bytes from
 // DETHRUX_AROUND_START(at) on, or as many as it has: dethrux_floor_char_boundary_around.
 [[nodiscard]] inline std::uint64_t floor_char_boundary_around(
     bytes around, byte_order order, std::uint64_t at) noexcept {
@@ -352,7 +353,7 @@ inline std::size_t make_well_formed(std::u16string &utf16) noexcept {
 // ---- streams
 
 // Decodes a stream of UTF-16 that comes in chunks, cut anywhere, to UTF-8, with U+FFFD for each
-// unpaired surrogate. At most three bytes of the stream are in the decoder. The string that is
+// unpaired surrogate. The decoder keeps at most three bytes of the stream. The string that is
 // appended to must not be the chunk.
 class decoder {
 public:
@@ -375,7 +376,7 @@ public:
         to.resize(size + progress.written);
     }
 
-    // The number of bytes that more bytes must decide, at most three.
+    // The number of bytes that wait for the rest of their character, at most three.
     std::size_t pending() const noexcept { return state_.pending_len; }
 
 private:
@@ -433,7 +434,7 @@ public:
         to.resize(size + progress.written);
     }
 
-    // The number of bytes that more bytes must decide, at most three.
+    // The number of bytes that wait for the rest of their character, at most three.
     std::size_t pending() const noexcept { return state_.pending_len; }
 
 private:

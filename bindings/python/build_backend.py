@@ -1,8 +1,8 @@
 """Builds the wheel and the source distribution (PEP 517 and PEP 660), with nothing but Python.
 
-The wheel has the shared library: the file that DETHRUX_LIBRARY names, that of the release archive
-around this folder, or what packaging/build.sh makes in a clone. Elsewhere it has none, and the
-package takes the library that is installed.
+The wheel has the shared library: the file that DETHRUX_LIBRARY names, the one in the release
+archive around this folder, or what packaging/build.sh makes in a clone. Otherwise it has none, and
+the package takes the installed library.
 """
 
 import base64
@@ -30,7 +30,7 @@ def version():
 
 
 def shared_library():
-    """Return the path of the shared library, or None where there is none to build or to take."""
+    """Return the path of the shared library, or None if there is none to build or to take."""
     named = os.environ.get("DETHRUX_LIBRARY")
     if named:
         if not Path(named).is_file():
@@ -90,7 +90,7 @@ def write_wheel(folder, library, files):
 
 
 def digest(data):
-    """Return the hash of a file as RECORD has it."""
+    """Return the hash of a file in the form that RECORD needs."""
     found = base64.urlsafe_b64encode(hashlib.sha256(data).digest())
     return "sha256=" + found.rstrip(b"=").decode()
 
@@ -137,7 +137,7 @@ def build_sdist(sdist_directory, config_settings=None):
 
 
 def plain(entry):
-    """Return an entry of an archive without owner and time."""
+    """Return an archive entry with owner and timestamp cleared."""
     entry.uid = entry.gid = entry.mtime = 0
     entry.uname = entry.gname = ""
     return entry

@@ -1,8 +1,8 @@
 #!/usr/bin/env bash
-# Installs the package by pip in an empty virtual environment, without network, and runs there the
-# first program of docs/PYTHON.md, the unit tests, CPython's own tests of UTF-16 with these codecs,
-# and the tables of cases. The last line is 'N passed, M failed'. PYTHON names another Python,
-# DETHRUX_LIBRARY the shared library, else packaging/build.sh makes it.
+# Installs the package with pip in an empty virtual environment, without network. There it runs the
+# first program of docs/PYTHON.md, the unit tests, CPython's tests of UTF-16 with these codecs, and
+# the tables of cases. The last line is 'N passed, M failed'. PYTHON names another Python.
+# DETHRUX_LIBRARY names the shared library; without it packaging/build.sh makes one.
 set -uo pipefail
 here=$(cd "$(dirname "${BASH_SOURCE[0]}")" && pwd)
 top=$(cd "$here/../.." && pwd)
@@ -13,7 +13,7 @@ unset PYTHONPATH PYTHONHOME
 passed=0
 failed=0
 
-# Runs a step, with what it prints in $room/said, and counts it.
+# Runs a step, writes what it prints to $room/said, and counts it.
 count() {
     local name=$1
     shift
@@ -34,7 +34,7 @@ finish() {
     exit
 }
 
-# Whether a tool is there.
+# Whether a tool is installed.
 has() {
     command -v "$1" && return
     echo "there is no $1: install $2"
@@ -45,7 +45,8 @@ make_environment() {
     "$python" -m venv "$room/venv"
 }
 
-# The package gets the library by DETHRUX_LIBRARY; what runs after this has it from the package.
+# The package gets the library from DETHRUX_LIBRARY; what runs after this uses the one in the
+# package.
 install_package() {
     "$room/venv/bin/pip" install --no-index --disable-pip-version-check "$here"
 }
@@ -83,7 +84,7 @@ unit_tests() {
     failed=$((failed + lost))
 }
 
-# The tables that C, C++ and Rust check too.
+# The tables that C, C++ and Rust also check.
 cases() {
     cat "$top"/cases/*.txt | "$room/venv/bin/python" "$top/examples/c/check.py"
 }

@@ -4,7 +4,7 @@
 # script finds the library and what it refuses, formatting and lints. With --tests it skips the last
 # two. The last line is 'N passed, M failed'. It needs cargo, cc, pkg-config, the library
 # (crates/dethrux/out/libdethrux.a, or the folder that DETHRUX_LIB_DIR names), and for utf16string
-# the crate byteorder (Debian: librust-byteorder-dev). What is missing is a failure.
+# the crate byteorder (Debian: librust-byteorder-dev). A missing tool or library is a failure.
 set -uo pipefail
 here=$(cd "$(dirname "$0")" && pwd)
 top=$(cd "$here/../.." && pwd)
@@ -21,7 +21,7 @@ fail() {
     echo "failed: $1"
 }
 
-# Runs a step, whose output counts by the lines of cargo test and of the tables of cases, or as one.
+# Runs a step. Its output counts by the lines of cargo test and of the tables of cases, or as one.
 count() {
     local name=$1 line number=0
     shift
@@ -94,7 +94,7 @@ test_utf16string() {
     lint utf16string
 }
 
-# A program that depends on utf16string 0.2 of the registry, with the crate here in its place.
+# A program that depends on utf16string 0.2 of the registry, with the crate here instead of it.
 test_patch() {
     local project=$room/patched
     mkdir -p "$project/src"
@@ -166,8 +166,8 @@ put_other() {
         ar cr "$1/libdethrux.a" "$room/other.o"
 }
 
-# Which library the build script takes, and that it looks again after a change. While a library is
-# to be taken, those that come after it have another version.
+# Which library the build script takes, and that it looks again after a change. When it must take a
+# library, the ones that come after it in the search have another version.
 test_build_script() {
     local named=$room/named clone=$room/clone/crates/dethrux/out empty=$room/empty
     local known="PKG_CONFIG_PATH=$room/pkgconfig" said

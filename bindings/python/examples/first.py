@@ -1,4 +1,4 @@
-"""Reads a file of UTF-16 that Windows wrote, mends it, and writes UTF-8."""
+"""Reads a file of UTF-16 that Windows wrote, repairs it, and writes UTF-8."""
 
 import sys
 from pathlib import Path
@@ -12,7 +12,7 @@ raw = path.read_bytes()
 bom = dethrux.detect_bom(raw)
 codec, order = ("dethrux-utf-16", bom.byteorder) if bom.len else ("dethrux-utf-16-le", "little")
 
-# A codec has the error handlers of Python.
+# A codec takes Python's error handlers.
 try:
     text = path.read_text(encoding=codec)
 except UnicodeDecodeError as error:

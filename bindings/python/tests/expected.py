@@ -108,7 +108,7 @@ def progress(raw, source, target, stops, capacity):
 
 
 class Bytes(bytes):
-    """A subclass, as programs have them."""
+    """A subclass, as programs may define one."""
 
 
 def spread(raw):
@@ -140,7 +140,7 @@ NOT_BUFFERS = ("a", 5, None, [1], 1.5, object())
 
 
 class Index:
-    """A number that is not an int, as those of NumPy are."""
+    """A number that is not an int, like NumPy's."""
 
     def __init__(self, number):
         self.number = number

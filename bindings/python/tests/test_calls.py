@@ -27,7 +27,7 @@ from expected import (
     utf16,
 )
 
-# The conversions, and what each stops at.
+# The conversions, and the status at which each stops.
 TO_UTF8 = {"to_utf8": "ill-formed", "to_utf8_partial": "incomplete", "to_utf8_lossy": None}
 FROM_UTF8 = {"from_utf8": "ill-formed", "from_utf8_lossy": None}
 CONVERSIONS = (*TO_UTF8, *FROM_UTF8)

@@ -1,8 +1,8 @@
-"""CPython's own tests of UTF-16, with the codecs of this package in the place of CPython's.
+"""CPython's own tests of UTF-16, with the codecs of this package instead of CPython's.
 
 The modules of CPython's test suite are compiled with every name of a UTF-16
-codec, and every function ``codecs.utf_16_..``, replaced. Of each module the
-tests run in which something was replaced.
+codec, and every function ``codecs.utf_16_..``, replaced. Of each module, only
+the tests run in which something was replaced.
 """
 
 import ast
@@ -75,7 +75,7 @@ class Replacement(ast.NodeTransformer):
 
 
 def load(name):
-    """Return a module of CPython's test suite with its codecs replaced, and where it has them."""
+    """Return a module of CPython's test suite with its codecs replaced, and the places of these."""
     spec = importlib.util.find_spec(f"test.{name}")
     replacement = Replacement()
     tree = replacement.visit(ast.parse(spec.loader.get_source(spec.name)))
@@ -102,7 +102,7 @@ def concerns(test, places):
 
 
 def missing(name, error):
-    """Return a test that fails, because a module of CPython's test suite is not there."""
+    """Return a test that fails, because a module of CPython's test suite is missing."""
 
     def fail():
         raise AssertionError(
@@ -114,7 +114,7 @@ def missing(name, error):
 
 
 class Table(unittest.TestCase):
-    """The table of exceptions names tests that there are."""
+    """The table of exceptions names only tests that exist."""
 
     found = set()
 

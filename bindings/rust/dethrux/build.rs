@@ -33,8 +33,8 @@ fn fail(message: &str) -> ! {
     exit(1)
 }
 
-/// Returns the folder of the library: the one that `DETHRUX_LIB_DIR` names, else that of the
-/// installed library, else that of the repository.
+/// Returns the folder of the library: the one that `DETHRUX_LIB_DIR` names, else the folder of the
+/// installed library, else the one in the repository.
 fn find(file: &str) -> Result<PathBuf, String> {
     if let Some(folder) = env::var_os("DETHRUX_LIB_DIR") {
         let folder = PathBuf::from(folder);
@@ -62,7 +62,7 @@ fn find(file: &str) -> Result<PathBuf, String> {
         })
 }
 
-/// Returns the folder that pkg-config knows, if there is pkg-config and it knows one.
+/// Returns the folder that pkg-config knows, if pkg-config is installed and knows one.
 fn installed() -> Option<PathBuf> {
     let output = Command::new("pkg-config")
         .args(["--variable=libdir", "dethrux"])
@@ -101,7 +101,8 @@ fn check_version(folder: &Path, kind: &str, file: &str) -> Result<(), String> {
     ))
 }
 
-/// Returns the version that the library returns, by a program that is linked with it and run.
+/// Returns the version that the library returns. Asks it with a program that is linked with it and
+/// run.
 fn ask_version(folder: &Path, kind: &str) -> Result<u32, &'static str> {
     let room = PathBuf::from(env::var_os("OUT_DIR").unwrap_or_default());
     let (source, program) = (room.join("version.rs"), room.join("version"));

@@ -62,7 +62,7 @@ _STATUSES = tuple(Status)
 
 
 def order_number(byteorder: str) -> int:
-    """Return a byte order as the library has it."""
+    """Return a byte order as the library's number."""
     if byteorder == "little":
         return 0
     if byteorder == "big":
@@ -73,16 +73,16 @@ def order_number(byteorder: str) -> int:
 
 
 def as_bytes(data: ReadableBuffer) -> bytes:
-    """Return bytes as they are, and those of any other buffer as a copy.
+    """Return bytes unchanged, and a copy of the bytes of any other buffer.
 
-    A copy, because the library runs without the GIL, and another thread might
-    change them.
+    It is a copy because the library runs without the GIL, and another thread
+    might change the buffer.
     """
     return data if type(data) is bytes else memoryview(data).tobytes()
 
 
 def as_size(size: int, name: str) -> int:
-    """Return a length or an offset; raise an exception if it is none."""
+    """Return a length or an offset; raise an exception if it is neither."""
     number = operator.index(size)
     if number < 0:
         raise ValueError(f"{name} must not be negative")
@@ -90,7 +90,7 @@ def as_size(size: int, name: str) -> int:
 
 
 def as_offset(offset: int, name: str) -> int:
-    """Return an offset of a file; raise an exception if it is none."""
+    """Return an offset of a file; raise an exception if it is not an offset."""
     number = as_size(offset, name)
     if number >= 2**64:
         raise OverflowError(f"{name} must be less than 2**64")
@@ -195,7 +195,7 @@ def to_utf8_lossy(
 ) -> Progress:
     """Convert UTF-16 to UTF-8, with U+FFFD for each unpaired surrogate.
 
-    An incomplete character at the end is replaced too.
+    An incomplete character at the end is also replaced.
     """
     return _to_utf8(_library.to_utf8_lossy, utf16, byteorder, capacity)
 

@@ -1,8 +1,8 @@
 """The codecs: decoding to and encoding from ``str``, with the error handlers of ``codecs``.
 
-Results and errors are those of CPython's codecs ``utf-16-le``, ``utf-16-be`` and
-``utf-16``. The encoding that an exception names is theirs too, so that every
-handler takes these codecs for what they are.
+Results and errors are the same as with CPython's codecs ``utf-16-le``,
+``utf-16-be`` and ``utf-16``. An exception also names their encoding, so that
+every handler treats these codecs like CPython's.
 """
 
 import codecs
@@ -175,7 +175,7 @@ def utf_16_ex_decode(
     """Decode UTF-16; return the text, how many bytes were read, and the byte order.
 
     -1 is little endian, 1 is big endian. 0 leaves it to the BOM, and is
-    returned where there is none: the byte order is then the machine's.
+    returned if there is none: in that case the byte order is the machine's.
     """
     utf16, start = as_bytes(input), 0
     if byteorder == 0 and utf16[:2] in _BOMS:

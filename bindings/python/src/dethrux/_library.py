@@ -48,7 +48,7 @@ class State(ctypes.Structure):
 
 
 def _candidate() -> tuple[str, str]:
-    """Return the library to load, and what to do where that fails."""
+    """Return the library to load, and what to do if that fails."""
     named = os.environ.get("DETHRUX_LIBRARY")
     if named:
         return named, f"set DETHRUX_LIBRARY to the path of {SONAME}, or unset it"

@@ -5,12 +5,12 @@ use crate::{ffi, ByteOrder};
 pub struct Bom {
     /// The length of the byte order mark: 2, or 0 if there is none. The text follows it.
     pub len: usize,
-    /// The byte order: big endian without a byte order mark, as the Unicode Standard has it.
+    /// The byte order: big endian without a byte order mark, as the Unicode Standard says.
     pub byte_order: ByteOrder,
 }
 
-/// Returns the byte order by the byte order mark at the start of a stream, or `None` if fewer than
-/// two bytes have come. At the end of such a stream the byte order is big endian.
+/// Returns the byte order that the byte order mark at the start of a stream gives, or `None` if
+/// fewer than two bytes have come. At the end of such a stream the byte order is big endian.
 ///
 /// ```
 /// use dethrux::{detect_bom, Bom, ByteOrder};
@@ -23,7 +23,7 @@ pub struct Bom {
 /// ```
 #[must_use]
 pub fn detect_bom(bytes: &[u8]) -> Option<Bom> {
-    // SAFETY: the pointer and the length are those of a slice.
+    // SAFETY: the pointer and the length come from a slice.
     let found = unsafe { ffi::dethrux_detect_bom(bytes.as_ptr(), bytes.len()) };
     let byte_order = if found.byte_order == 0 {
         ByteOrder::LittleEndian

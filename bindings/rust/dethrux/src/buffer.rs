@@ -44,8 +44,8 @@ impl<const N: usize> Sealed for [MaybeUninit<u8>; N] {
     }
 }
 
-/// Appends what a conversion writes to the spare capacity of a vector, which is made at least
-/// `additional` bytes.
+/// Appends what a conversion writes to the spare capacity of a vector. Before that, it makes the
+/// spare capacity at least `additional` bytes.
 ///
 /// # Safety
 ///

@@ -26,7 +26,7 @@ impl<'a> Utf16Chunk<'a> {
     }
 }
 
-/// An iterator over the well-formed and the ill-formed parts of bytes, as std's `Utf8Chunks`.
+/// An iterator over the well-formed and the ill-formed parts of bytes, like std's `Utf8Chunks`.
 ///
 /// ```
 /// use dethrux::{ByteOrder::LittleEndian, Utf16Chunks};

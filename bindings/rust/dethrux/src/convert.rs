@@ -1,4 +1,4 @@
-//! Conversions between buffers of the caller's, and in place.
+//! Conversions between buffers that the caller owns, and in place.
 
 use crate::{ffi, Buffer, ByteOrder};
 
@@ -50,8 +50,8 @@ fn convert<B: Buffer + ?Sized>(
     to: &mut B,
 ) -> Progress {
     let (to, capacity) = to.raw();
-    // SAFETY: the pointers and the lengths are those of two slices that do not overlap, since one
-    // is borrowed mutably. The calls write only initialized bytes.
+    // SAFETY: the pointers and the lengths come from two slices that do not overlap, since one is
+    // borrowed mutably. The calls write only initialized bytes.
     unsafe { call(order, from.as_ptr(), from.len(), to, capacity) }.into()
 }
 
@@ -117,14 +117,14 @@ pub const fn from_utf8_max_len(len: usize) -> usize {
 }
 
 /// Swaps the two bytes of each code unit in place: UTF-16 in the other byte order. An odd byte at
-/// the end stays.
+/// the end is unchanged.
 pub fn swap_byte_order(utf16: &mut [u8]) {
-    // SAFETY: the pointer and the length are those of a mutable slice.
+    // SAFETY: the pointer and the length come from a mutable slice.
     unsafe { ffi::dethrux_swap_byte_order(utf16.as_mut_ptr(), utf16.len()) }
 }
 
 /// Replaces each unpaired surrogate by U+FFFD in place, and returns how many there were. An odd
-/// byte at the end stays.
+/// byte at the end is unchanged.
 ///
 /// ```
 /// use dethrux::ByteOrder::BigEndian;
@@ -134,6 +134,6 @@ pub fn swap_byte_order(utf16: &mut [u8]) {
 /// assert_eq!(utf16, *b"\0h\xFF\xFD\0i");
 /// ```
 pub fn make_well_formed(order: ByteOrder, utf16: &mut [u8]) -> usize {
-    // SAFETY: the pointer and the length are those of a mutable slice.
+    // SAFETY: the pointer and the length come from a mutable slice.
     unsafe { ffi::dethrux_make_well_formed(order, utf16.as_mut_ptr(), utf16.len()) }
 }

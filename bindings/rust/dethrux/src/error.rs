@@ -1,6 +1,6 @@
 use core::fmt;
 
-/// The bytes are not well-formed UTF-16. Its fields are those of std's [`Utf8Error`].
+/// The bytes are not well-formed UTF-16. It has the fields of std's [`Utf8Error`].
 ///
 /// [`Utf8Error`]: core::str::Utf8Error
 #[derive(Clone, Copy, Debug, Eq, PartialEq)]

@@ -43,7 +43,7 @@ impl State {
     }
 }
 
-/// A conversion between two buffers of the caller's.
+/// A conversion between two buffers that the caller owns.
 pub(crate) type Convert =
     unsafe extern "C" fn(ByteOrder, *const u8, usize, *mut u8, usize) -> Progress;
 

@@ -8,7 +8,8 @@ use crate::{ffi, ByteOrder, Utf16Error};
 ///
 /// # Errors
 ///
-/// The length of the longest well-formed prefix, and that of the ill-formed sequence after it.
+/// The length of the longest well-formed prefix, and the length of the ill-formed sequence after
+/// it.
 ///
 /// ```
 /// use dethrux::ByteOrder::BigEndian;
@@ -18,7 +19,7 @@ use crate::{ffi, ByteOrder, Utf16Error};
 /// assert_eq!((error.valid_up_to(), error.error_len()), (2, None));
 /// ```
 pub fn validate(order: ByteOrder, utf16: &[u8]) -> Result<(), Utf16Error> {
-    // SAFETY: the pointer and the length are those of a slice.
+    // SAFETY: the pointer and the length come from a slice.
     let found = unsafe { ffi::dethrux_validate(order, utf16.as_ptr(), utf16.len()) };
     match found.status {
         0 => Ok(()),
@@ -37,14 +38,14 @@ pub fn validate(order: ByteOrder, utf16: &[u8]) -> Result<(), Utf16Error> {
 /// code units that are not trailing surrogates.
 #[must_use]
 pub fn count_chars(order: ByteOrder, utf16: &[u8]) -> usize {
-    // SAFETY: the pointer and the length are those of a slice.
+    // SAFETY: the pointer and the length come from a slice.
     unsafe { ffi::dethrux_count_chars(order, utf16.as_ptr(), utf16.len()) }
 }
 
 /// Returns whether the bytes are UTF-16 whose characters are all ASCII.
 #[must_use]
 pub fn is_ascii(order: ByteOrder, utf16: &[u8]) -> bool {
-    // SAFETY: the pointer and the length are those of a slice.
+    // SAFETY: the pointer and the length come from a slice.
     unsafe { ffi::dethrux_is_ascii(order, utf16.as_ptr(), utf16.len()) }
 }
 
@@ -63,7 +64,7 @@ pub fn is_ascii(order: ByteOrder, utf16: &[u8]) -> bool {
 /// ```
 #[must_use]
 pub fn is_char_boundary(order: ByteOrder, utf16: &[u8], at: usize) -> bool {
-    // SAFETY: the pointer and the length are those of a slice.
+    // SAFETY: the pointer and the length come from a slice.
     unsafe { ffi::dethrux_is_char_boundary(order, utf16.as_ptr(), utf16.len(), at) }
 }
 
@@ -79,7 +80,7 @@ pub fn is_char_boundary(order: ByteOrder, utf16: &[u8], at: usize) -> bool {
 /// ```
 #[must_use]
 pub fn floor_char_boundary(order: ByteOrder, utf16: &[u8], at: usize) -> usize {
-    // SAFETY: the pointer and the length are those of a slice.
+    // SAFETY: the pointer and the length come from a slice.
     unsafe { ffi::dethrux_floor_char_boundary(order, utf16.as_ptr(), utf16.len(), at) }
 }
 
@@ -97,14 +98,14 @@ pub fn floor_char_boundary(order: ByteOrder, utf16: &[u8], at: usize) -> usize {
 /// ```
 #[must_use]
 pub fn floor_char_boundary_around(order: ByteOrder, around: &[u8], at: u64) -> u64 {
-    // SAFETY: the pointer and the length are those of a slice.
+    // SAFETY: the pointer and the length come from a slice.
     unsafe { ffi::dethrux_floor_char_boundary_around(order, around.as_ptr(), around.len(), at) }
 }
 
-/// Returns the offset where part `index` of `count` parts begins in a file of `len` bytes: `len` for
-/// `index >= count`, else 0 for part 0. Each part has `len / 2 / count` code units or one more, and
-/// the last one has an odd byte at the end too. The offset may be inside a surrogate pair: move it
-/// to a boundary by [`floor_char_boundary_around`].
+/// Returns the offset where part `index` of `count` parts begins in a file of `len` bytes: `len`
+/// for `index >= count`, else 0 for part 0. Each part has `len / 2 / count` code units or one more,
+/// and the last one also has an odd byte at the end. The offset may be inside a surrogate pair:
+/// move it to a boundary with [`floor_char_boundary_around`].
 ///
 /// ```
 /// assert_eq!([0, 1, 2, 3].map(|part| dethrux::shard_offset(11, 3, part)), [0, 4, 8, 11]);
@@ -118,7 +119,7 @@ pub fn shard_offset(len: u64, count: u64, index: u64) -> u64 {
 /// Returns the length of what [`to_utf8_lossy`](crate::to_utf8_lossy) writes for the whole input.
 #[must_use]
 pub fn to_utf8_lossy_len(order: ByteOrder, utf16: &[u8]) -> usize {
-    // SAFETY: the pointer and the length are those of a slice.
+    // SAFETY: the pointer and the length come from a slice.
     unsafe { ffi::dethrux_to_utf8_lossy_len(order, utf16.as_ptr(), utf16.len()) }
 }
 
@@ -126,7 +127,7 @@ pub fn to_utf8_lossy_len(order: ByteOrder, utf16: &[u8]) -> usize {
 /// prefix, in either byte order.
 #[must_use]
 pub fn from_utf8_len(utf8: &[u8]) -> usize {
-    // SAFETY: the pointer and the length are those of a slice.
+    // SAFETY: the pointer and the length come from a slice.
     unsafe { ffi::dethrux_from_utf8_len(utf8.as_ptr(), utf8.len()) }
 }
 
@@ -134,7 +135,7 @@ pub fn from_utf8_len(utf8: &[u8]) -> usize {
 /// input, in either byte order.
 #[must_use]
 pub fn from_utf8_lossy_len(utf8: &[u8]) -> usize {
-    // SAFETY: the pointer and the length are those of a slice.
+    // SAFETY: the pointer and the length come from a slice.
     unsafe { ffi::dethrux_from_utf8_lossy_len(utf8.as_ptr(), utf8.len()) }
 }
 
@@ -156,7 +157,7 @@ pub fn compare(
     second_order: ByteOrder,
     second: &[u8],
 ) -> Ordering {
-    // SAFETY: the pointers and the lengths are those of slices.
+    // SAFETY: the pointers and the lengths come from slices.
     let found = unsafe {
         ffi::dethrux_compare(
             first_order,

@@ -31,15 +31,15 @@ pub trait Transcoder: Sealed {}
 impl Transcoder for Decoder {}
 impl Transcoder for Encoder {}
 
-/// Converts what it reads: UTF-16 to UTF-8 by a [`Decoder`], UTF-8 to UTF-16 by an [`Encoder`].
+/// Converts what it reads: UTF-16 to UTF-8 with a [`Decoder`], UTF-8 to UTF-16 with an [`Encoder`].
 ///
-/// An error of the inner reader is returned as it is, and reading may go on after it. A buffer of
-/// any length may be read to, and a character may be cut.
+/// An error of the inner reader is returned unchanged, and reading may continue after it. You can
+/// read into a buffer of any length; a character may be cut.
 #[derive(Debug)]
 pub struct Reader<R, T> {
     inner: R,
     transcoder: T,
-    /// Bytes that were read; those of `start..end` are not converted yet.
+    /// Bytes that were read; the ones in `start..end` are not converted yet.
     input: Vec<u8>,
     start: usize,
     end: usize,
@@ -68,7 +68,7 @@ impl<R: Read, T: Transcoder> Reader<R, T> {
         }
     }
 
-    /// Returns the inner reader. What was read from it and is not converted is lost.
+    /// Returns the inner reader. What was read from it but not converted is lost.
     pub fn into_inner(self) -> R {
         self.inner
     }
@@ -78,7 +78,8 @@ impl<R: Read, T: Transcoder> Reader<R, T> {
         &self.inner
     }
 
-    /// Converts until something was written to `to`, of 4 bytes or more. At the end it returns 0.
+    /// Converts until something is written to `to`, which has 4 bytes or more. At the end it
+    /// returns 0.
     fn convert(&mut self, to: &mut [u8]) -> Result<usize> {
         while !self.is_finished {
             if self.start == self.end {
@@ -120,18 +121,18 @@ impl<R: Read, T: Transcoder> Read for Reader<R, T> {
     }
 }
 
-/// Converts what is written to it: UTF-8 to UTF-16 by an [`Encoder`], UTF-16 to UTF-8 by a
+/// Converts what is written to it: UTF-8 to UTF-16 with an [`Encoder`], UTF-16 to UTF-8 with a
 /// [`Decoder`].
 ///
-/// Call [`finish`](Writer::finish) at the end of the stream: without it an incomplete character at
-/// the end is not written, nor what an error of the inner writer left. Nothing is lost by such an
-/// error: a call that has read from its chunk succeeds, and the next call first writes what is left,
-/// and returns the error if it fails again.
+/// Call [`finish`](Writer::finish) at the end of the stream. Without it, an incomplete character at
+/// the end is not written, and neither is what an error of the inner writer left. Such an error
+/// loses nothing: a call that has read from its chunk succeeds, and the next call first writes what
+/// is left, and returns the error if it fails again.
 #[derive(Debug)]
 pub struct Writer<W, T> {
     inner: W,
     transcoder: T,
-    /// Converted bytes; those from `start` on are not written yet.
+    /// Converted bytes; the ones from `start` on are not written yet.
     output: Vec<u8>,
     start: usize,
     is_finished: bool,
@@ -153,7 +154,7 @@ impl<W: Write, T: Transcoder> Writer<W, T> {
     ///
     /// # Errors
     ///
-    /// Those of the inner writer. Another call continues where this one failed.
+    /// The errors of the inner writer. Another call continues after the bytes that this one wrote.
     pub fn finish(&mut self) -> Result<()> {
         self.write_output()?;
         self.is_finished = true;

@@ -1,5 +1,5 @@
-//! UTF-16 in either byte order, to and from UTF-8, by the C library `libdethrux`, whose calls are
-//! proved correct for all inputs.
+//! UTF-16 in either byte order, to and from UTF-8, through the C library `libdethrux`, whose calls
+//! are proved correct for all inputs.
 //!
 #![cfg_attr(feature = "alloc", doc = "```")]
 #![cfg_attr(not(feature = "alloc"), doc = "```ignore")]
@@ -30,7 +30,7 @@
 //! # Panics and allocation
 //!
 //! No call panics for any input. The library does not allocate. The calls under `alloc` allocate
-//! as `Vec` does, once, for the longest result: without memory the allocator's handler runs, and a
+//! like `Vec`, once, for the longest result: without memory the allocator's handler runs, and a
 //! capacity above `isize::MAX` panics. The capacity of what they return is at most three times its
 //! length, or a few bytes.
 //! [`io::Reader`] and [`io::Writer`] allocate one buffer each, when they are made.

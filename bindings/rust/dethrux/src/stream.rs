@@ -25,8 +25,8 @@ impl Stream {
     fn feed<B: Buffer + ?Sized>(&mut self, call: ffi::Feed, chunk: &[u8], to: &mut B) -> Progress {
         let (to, capacity) = to.raw();
         let (state, order) = (&mut self.state, self.order);
-        // SAFETY: the pointers and the lengths are those of slices, of which the mutable ones
-        // overlap no other.
+        // SAFETY: the pointers and the lengths come from slices, of which the mutable ones overlap
+        // no other.
         unsafe { call(state, order, chunk.as_ptr(), chunk.len(), to, capacity) }.into()
     }
 }
@@ -88,7 +88,7 @@ impl Decoder {
     }
 
     /// Decodes the next chunk: [`Status::Done`] if all of it was read, or [`Status::NoSpace`]: call
-    /// again with the rest. With a capacity of 4 or more, something was written then.
+    /// again with the rest. With a capacity of 4 or more, something was written in that case.
     ///
     /// [`Status::Done`]: crate::Status::Done
     /// [`Status::NoSpace`]: crate::Status::NoSpace
@@ -130,13 +130,13 @@ impl Decoder {
     /// Ends the stream and begins another. Returns how many bytes were written.
     fn finish_to(&mut self, to: &mut [u8]) -> usize {
         let state = &mut self.stream.state;
-        // SAFETY: the pointer and the length are those of a mutable slice.
+        // SAFETY: the pointer and the length come from a mutable slice.
         unsafe { ffi::dethrux_decoder_finish(state, to.as_mut_ptr(), to.len()) }.written
     }
 }
 
-/// Encodes a stream of UTF-8, cut anywhere, to UTF-16, with U+FFFD for each ill-formed sequence, as
-/// `String::from_utf8_lossy` has it, and for an incomplete character at the end.
+/// Encodes a stream of UTF-8, cut anywhere, to UTF-16, with U+FFFD for each ill-formed sequence,
+/// like `String::from_utf8_lossy`, and for an incomplete character at the end.
 ///
 /// It keeps at most three bytes. A clone continues independently.
 ///
@@ -181,7 +181,7 @@ impl Encoder {
     }
 
     /// Encodes the next chunk: [`Status::Done`] if all of it was read, or [`Status::NoSpace`]: call
-    /// again with the rest. With a capacity of 4 or more, something was written then.
+    /// again with the rest. With a capacity of 4 or more, something was written in that case.
     ///
     /// [`Status::Done`]: crate::Status::Done
     /// [`Status::NoSpace`]: crate::Status::NoSpace
@@ -222,7 +222,7 @@ impl Encoder {
     /// Ends the stream and begins another. Returns how many bytes were written.
     fn finish_to(&mut self, to: &mut [u8]) -> usize {
         let (order, state) = (self.stream.order, &mut self.stream.state);
-        // SAFETY: the pointer and the length are those of a mutable slice.
+        // SAFETY: the pointer and the length come from a mutable slice.
         unsafe { ffi::dethrux_utf8_decoder_finish(state, order, to.as_mut_ptr(), to.len()) }.written
     }
 }

@@ -14,7 +14,7 @@ use crate::{ByteOrder, Status, Utf16Error};
 /// Unused elements that are not worth a call of the allocator.
 const FEW: usize = 64;
 
-/// A capacity from which on unused memory stays: most of its pages were never touched, and a
+/// The capacity from which on unused memory is kept: most of its pages were never touched, and a
 /// smaller block may be a copy.
 const LARGE: usize = 65536;
 
@@ -31,7 +31,7 @@ fn trimmed<T>(mut vector: Vec<T>) -> Vec<T> {
 ///
 /// # Errors
 ///
-/// As [`validate`](crate::validate), where the bytes are ill formed.
+/// Like [`validate`](crate::validate), if the bytes are ill formed.
 pub fn decode(order: ByteOrder, utf16: &[u8]) -> Result<String, Utf16Error> {
     let mut text = String::new();
     decode_to(order, utf16, &mut text)?;
@@ -43,7 +43,8 @@ pub fn decode(order: ByteOrder, utf16: &[u8]) -> Result<String, Utf16Error> {
 ///
 /// # Errors
 ///
-/// As [`validate`](crate::validate), where the bytes are ill formed. The string is unchanged then.
+/// Like [`validate`](crate::validate), if the bytes are ill formed. In that case the string is
+/// unchanged.
 ///
 /// ```
 /// use dethrux::{decode_to, ByteOrder::LittleEndian};
@@ -110,7 +111,7 @@ pub fn encode_to(order: ByteOrder, text: &str, to: &mut Vec<u8>) {
 }
 
 /// Returns the UTF-16 of bytes that may be ill-formed UTF-8, with U+FFFD for each ill-formed
-/// sequence, as `String::from_utf8_lossy` has it.
+/// sequence, like `String::from_utf8_lossy`.
 #[must_use]
 pub fn encode_lossy(order: ByteOrder, utf8: &[u8]) -> Vec<u8> {
     let mut utf16 = Vec::new();

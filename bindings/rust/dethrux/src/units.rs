@@ -15,7 +15,7 @@ pub fn units_as_bytes(units: &[u16]) -> &[u8] {
     unsafe { slice::from_raw_parts(units.as_ptr().cast(), mem::size_of_val(units)) }
 }
 
-/// Returns the bytes of code units, mutable: [`units_as_bytes`], for calls that write.
+/// Returns the bytes of code units, mutable: like [`units_as_bytes`], for calls that write.
 ///
 /// ```
 /// use dethrux::{make_well_formed, units_as_bytes_mut, ByteOrder};

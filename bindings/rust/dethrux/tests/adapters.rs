@@ -224,7 +224,7 @@ fn a_writer_that_takes_nothing_is_an_error() {
     assert_eq!(writer.finish().unwrap_err().kind(), ErrorKind::WriteZero);
 }
 
-/// A device that has another result for each call, and no more of them at the end.
+/// A device that has a result for each call, and none after the last.
 #[derive(Default)]
 struct Scripted {
     results: Vec<Result<usize>>,

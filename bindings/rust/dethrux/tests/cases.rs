@@ -1,6 +1,6 @@
-//! Makes the calls that the tables of `cases/` name, prints each case whose result differs, with
-//! both, and last how many passed. Cases of other calls, and those with a condition on memory or
-//! devices, are skipped.
+//! Makes the calls that the tables of `cases/` name. Prints each case whose result differs, with
+//! both results, and finally how many passed. Cases of other calls, and cases with a condition on
+//! memory or devices, are skipped.
 
 use dethrux::ByteOrder::{BigEndian, LittleEndian};
 use dethrux::*;
@@ -19,7 +19,7 @@ enum Word {
 
 use Word::{Bytes, Number, Plain, Text};
 
-/// A text between double quotes, with characters by their number.
+/// A text between double quotes, with characters given by their number.
 fn quoted(word: &str) -> Option<String> {
     let mut parts = word.strip_prefix('"')?.strip_suffix('"')?.split("\\u{");
     let mut text = parts.next()?.to_string();
@@ -398,7 +398,7 @@ fn orders(word: &str) -> Option<&'static [ByteOrder]> {
     }
 }
 
-/// What the cases came to.
+/// The counts of the cases.
 #[derive(Default)]
 struct Count {
     passed: usize,

@@ -510,7 +510,7 @@ trait Stream: Clone {
     fn end(self) -> Vec<u8>;
     fn samples(order: ByteOrder) -> Vec<Vec<u8>>;
     fn items(order: ByteOrder, chunk: &[u8]) -> Vec<Item>;
-    /// The byte order of what it writes, unless that is UTF-8.
+    /// The byte order of what it writes, or `None` for UTF-8.
     fn target(order: ByteOrder) -> Option<ByteOrder>;
     const MAX_LEN: fn(usize) -> usize;
 }
@@ -594,8 +594,8 @@ impl Stream for Encoder {
     const MAX_LEN: fn(usize) -> usize = Encoder::max_len;
 }
 
-/// Calls a test with a new stream in both byte orders, each sample and all that it becomes: before
-/// the end of the stream, and then.
+/// Calls a test with a new stream in both byte orders, each sample, and what it becomes: before the
+/// end of the stream, and at its end.
 fn for_streams<S: Stream>(test: impl Fn(S, &[u8], &[Item], Option<ByteOrder>)) {
     for order in ORDERS {
         for sample in S::samples(order) {
@@ -734,7 +734,7 @@ fn long_ill_formed_texts_are_shown_whole() {
     }
 }
 
-/// A place that takes some texts, and fails then.
+/// A writer that takes some texts and then fails.
 struct Full(usize);
 
 impl std::fmt::Write for Full {

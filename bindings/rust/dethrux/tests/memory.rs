@@ -15,7 +15,7 @@ thread_local! {
     static REALLOCATIONS: Cell<usize> = const { Cell::new(0) };
 }
 
-// SAFETY: the calls are those of the system's allocator.
+// SAFETY: each call is passed on to the system's allocator.
 unsafe impl GlobalAlloc for Counting {
     unsafe fn alloc(&self, layout: Layout) -> *mut u8 {
         let _ = ALLOCATIONS.try_with(|count| count.set(count.get() + 1));

@@ -4,7 +4,7 @@ use dethrux::ByteOrder::{BigEndian, LittleEndian};
 use dethrux::*;
 use std::mem::MaybeUninit;
 
-/// Numbers by the steps of splitmix64.
+/// Random numbers from the steps of splitmix64.
 struct Random(u64);
 
 impl Random {
@@ -15,7 +15,7 @@ impl Random {
         (mixed ^ (mixed >> 31)) % end
     }
 
-    /// Code units of which many are surrogates, paired and unpaired.
+    /// Code units, many of which are surrogates, paired and unpaired.
     fn units(&mut self) -> Vec<u16> {
         let len = self.below(80);
         let unit = |random: &mut Random| match random.below(6) {
@@ -27,7 +27,7 @@ impl Random {
         (0..len).map(|_| unit(self)).collect()
     }
 
-    /// Bytes of which many begin a character of UTF-8, and many continue one.
+    /// Bytes, many of which begin a character of UTF-8, and many of which continue one.
     fn utf8(&mut self) -> Vec<u8> {
         let len = self.below(80);
         let byte = |random: &mut Random| match random.below(4) {

@@ -1,7 +1,7 @@
 use std::error::Error;
 use std::fmt;
 
-/// The bytes are not well-formed UTF-16. Its fields are those of [`std::str::Utf8Error`].
+/// The bytes are not well-formed UTF-16. It has the fields of [`std::str::Utf8Error`].
 #[derive(Clone, Copy, Debug, Eq, PartialEq)]
 pub struct Utf16Error {
     valid_up_to: usize,

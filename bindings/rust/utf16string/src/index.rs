@@ -1,5 +1,5 @@
-//! Slicing by brackets and by `get`. The ranges are Rust's own; whether an offset is a boundary is
-//! a call of `libdethrux`.
+//! Slicing with brackets and with `get`. The ranges are Rust's; a call of `libdethrux` tests
+//! whether an offset is a boundary.
 
 use std::ops::{Index, IndexMut, Range};
 use std::ops::{RangeFrom, RangeFull, RangeInclusive, RangeTo, RangeToInclusive};
@@ -60,20 +60,20 @@ mod private {
     }
 }
 
-/// A range of offsets, as [`std::slice::SliceIndex`]. The trait is sealed: its implementations are
-/// those for the ranges of `usize`.
+/// A range of offsets, like [`std::slice::SliceIndex`]. The trait is sealed: only the ranges of
+/// `usize` implement it.
 pub trait SliceIndex<T>: private::SealedSliceIndex
 where
     T: ?Sized,
 {
-    /// The type of a substring: the same as that of the string.
+    /// The type of a substring: the same as the type of the string.
     type Output: ?Sized;
 
     /// Returns the substring, or `None` if the range is out of bounds, its start is after its end,
     /// or one of them is not a character boundary.
     fn get(self, slice: &T) -> Option<&Self::Output>;
 
-    /// Returns the substring, mutable, or `None` as [`get`](SliceIndex::get).
+    /// Returns the substring, mutable, or `None` like [`get`](SliceIndex::get).
     fn get_mut(self, slice: &mut T) -> Option<&mut Self::Output>;
 
     /// Returns the substring, without a test.

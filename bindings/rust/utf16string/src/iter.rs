@@ -1,5 +1,5 @@
-//! Iterators over characters. They read units of well-formed bytes in Rust; `count` is a call of
-//! `libdethrux`.
+//! Iterators over characters. They read units of well-formed bytes in Rust, except `count`, which
+//! calls `libdethrux`.
 
 use std::iter::FusedIterator;
 use std::marker::PhantomData;

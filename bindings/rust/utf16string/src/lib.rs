@@ -1,8 +1,8 @@
 //! UTF-16 strings in either byte order: [`WStr`] and [`WString`] are to UTF-16 what [`str`] and
 //! [`String`] are to UTF-8.
 //!
-//! The names, types and signatures are those of the crate `utf16string` 0.2.0, so a program that
-//! uses it changes one line of its `Cargo.toml`:
+//! The names, types and signatures are the same as in the crate `utf16string` 0.2.0, so a program
+//! that uses it changes one line of its `Cargo.toml`:
 //!
 //! ```toml
 //! [dependencies]
@@ -10,8 +10,8 @@
 //! ```
 //!
 //! Validation, boundaries, counts, conversions and comparison are calls of the C library
-//! `libdethrux`, which are proved. What is Rust's own is thin and tested, not proved: slicing by
-//! brackets, `Deref`, the iterators, and the moving of bytes within a vector.
+//! `libdethrux`, which are proved. What is written in Rust is thin and tested, not proved: slicing
+//! with brackets, `Deref`, the iterators, and the moving of bytes within a vector.
 //!
 //! ```
 //! use utf16string::{WStr, WString, BE, LE};

@@ -12,7 +12,7 @@ use crate::{Utf16Error, WStr};
 /// An owned UTF-16 string: a vector of bytes that are well formed in the byte order `E`. It is to
 /// [`WStr`] what [`String`] is to [`str`].
 ///
-/// It is ordered by scalar values, as [`String`] is.
+/// It is ordered by scalar values, like [`String`].
 ///
 /// ```
 /// use utf16string::{WString, LE};
@@ -96,7 +96,8 @@ where
     ///
     /// # Errors
     ///
-    /// The length of the longest well-formed prefix, and that of the ill-formed sequence after it.
+    /// The length of the longest well-formed prefix, and the length of the ill-formed sequence
+    /// after it.
     #[inline]
     pub fn from_utf16(buf: Vec<u8>) -> Result<Self, Utf16Error> {
         validate::<E>(&buf)?;
@@ -159,7 +160,7 @@ where
         self.buf.capacity()
     }
 
-    /// Makes the capacity at least the length and `additional` bytes.
+    /// Makes the capacity at least the length plus `additional` bytes.
     #[inline]
     pub fn reserve(&mut self, additional: usize) {
         self.buf.reserve(additional);
@@ -179,7 +180,7 @@ where
         self.buf.extend_from_slice(&bytes[..len]);
     }
 
-    /// Shortens the string to `new_len` bytes. At or past its length nothing changes.
+    /// Shortens the string to `new_len` bytes. If this is its length or more, nothing changes.
     ///
     /// # Panics
     ///
@@ -219,7 +220,7 @@ where
     }
 
     /// Keeps the characters for which `f`, called on each from the first to the last, returns true.
-    /// If `f` panics, the characters from that one on stay.
+    /// If `f` panics, the characters from that one on are kept.
     #[inline]
     pub fn retain<F>(&mut self, mut f: F)
     where
@@ -305,7 +306,7 @@ where
         Self::from_vec(self.buf.split_off(at))
     }
 
-    /// Removes all characters. The capacity stays.
+    /// Removes all characters. The capacity is unchanged.
     #[inline]
     pub fn clear(&mut self) {
         self.buf.clear();

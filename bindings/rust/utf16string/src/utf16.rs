@@ -28,7 +28,7 @@ pub(crate) fn decode_unit(unit: u16) -> Option<char> {
 #[inline]
 pub(crate) fn decode_surrogates(leading: u16, trailing: u16) -> char {
     let bits = (u32::from(leading) & 0x3FF) << 10 | u32::from(trailing) & 0x3FF;
-    // SAFETY: of 20 bits, the number is from 0x10000 to 0x10FFFF.
+    // SAFETY: `bits` has 20 bits, so the number is from 0x10000 to 0x10FFFF.
     unsafe { char::from_u32_unchecked(0x1_0000 + bits) }
 }
 

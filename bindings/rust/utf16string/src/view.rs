@@ -10,7 +10,7 @@ use crate::{SliceIndex, Utf16Error, WStrCharIndices, WStrChars};
 /// A borrowed UTF-16 string: bytes that are well formed in the byte order `E`. It is to [`WString`]
 /// what [`str`] is to [`String`].
 ///
-/// It is ordered by scalar values, as [`str`] is.
+/// It is ordered by scalar values, like [`str`].
 ///
 /// ```
 /// use utf16string::{WStr, LE};
@@ -107,7 +107,8 @@ where
     ///
     /// # Errors
     ///
-    /// The length of the longest well-formed prefix, and that of the ill-formed sequence after it.
+    /// The length of the longest well-formed prefix, and the length of the ill-formed sequence
+    /// after it.
     pub fn from_utf16(raw: &[u8]) -> Result<&Self, Utf16Error> {
         validate::<E>(raw)?;
         // SAFETY: the bytes are well formed.
@@ -118,7 +119,7 @@ where
     ///
     /// # Errors
     ///
-    /// As [`from_utf16`](WStr::from_utf16).
+    /// Like [`from_utf16`](WStr::from_utf16).
     pub fn from_utf16_mut(raw: &mut [u8]) -> Result<&mut Self, Utf16Error> {
         validate::<E>(raw)?;
         // SAFETY: the bytes are well formed.
@@ -160,7 +161,7 @@ where
     }
 
     /// Returns whether the offset is a boundary between characters: 0 and the length are, and no
-    /// offset after it.
+    /// offset after the length is.
     #[inline]
     pub fn is_char_boundary(&self, index: usize) -> bool {
         dethrux::is_char_boundary(byte_order::<E>(), &self.raw, index)
@@ -204,7 +205,7 @@ where
         index.get(self)
     }
 
-    /// Returns a substring, mutable, or `None` as [`get`](WStr::get).
+    /// Returns a substring, mutable, or `None` like [`get`](WStr::get).
     #[inline]
     pub fn get_mut<I>(&mut self, index: I) -> Option<&mut <I as SliceIndex<WStr<E>>>::Output>
     where

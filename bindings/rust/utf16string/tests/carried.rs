@@ -1,5 +1,5 @@
-//! The cases of the tests of the crate `utf16string` 0.2.0, under their names, each by the crate's
-//! own call. Those of its private calls are in `src/utf16.rs`.
+//! The cases of the tests of the crate `utf16string` 0.2.0, under their names, each with the
+//! crate's public call. The cases of its private calls are in `src/utf16.rs`.
 
 use std::ops::{Deref, DerefMut};
 use utf16string::{BigEndian, WStr, WString, BE, LE};

@@ -56,7 +56,8 @@ fn panics<T>(call: impl FnOnce() -> T) -> bool {
     catch_unwind(AssertUnwindSafe(call)).is_err()
 }
 
-/// Takes a range by every call, and compares each result with the bytes of the range, or with none.
+/// Takes a range with every call, and compares each result with the bytes of the range, or with
+/// none.
 fn take<E, I>(text: &mut WString<E>, range: I)
 where
     E: 'static + ByteOrder,
@@ -142,7 +143,7 @@ fn every_range_is_a_substring_or_none() {
     every_range::<BE>();
 }
 
-/// Takes a view by each constructor, checked and not, for each way of a byte order.
+/// Takes a view with each constructor, checked and not, in each way to name a byte order.
 fn read<E: 'static + ByteOrder>(text: &str) {
     let mut bytes = utf16::<E>(text);
     let copy = bytes.clone();
@@ -193,7 +194,7 @@ fn read<E: 'static + ByteOrder>(text: &str) {
     }
 }
 
-/// Takes some characters from the front and from the back, and then the rest in each way.
+/// Takes some characters from the front and from the back, and the rest in each way.
 fn iterate<E: ByteOrder>(string: &WString<E>, text: &str, (front, back): (usize, usize)) {
     let (mut chars, mut expected) = (string.chars(), text.chars());
     let (mut indices, starts) = (string.char_indices(), boundaries(text));

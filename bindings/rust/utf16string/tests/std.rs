@@ -6,7 +6,7 @@ use std::collections::HashSet;
 use std::panic::{catch_unwind, AssertUnwindSafe};
 use utf16string::{WStr, WString, BE, LE};
 
-/// Numbers by the steps of splitmix64.
+/// Random numbers from the steps of splitmix64.
 struct Random(u64);
 
 impl Random {
