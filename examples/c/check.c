@@ -1,6 +1,6 @@
-/* Reads tables of cases/ on standard input, makes the calls that the library has, prints each case
- * whose result differs, with both, and last how many passed. Cases of other calls, and those with a
- * condition on memory or devices, are skipped. */
+/* Reads tables of cases/ on standard input and makes the calls that the library has. Prints each
+ * case whose result differs, with both results, and finally how many passed. Cases of other calls,
+ * and cases with a condition on memory or devices, are skipped. */
 #include "dethrux.h"
 
 #include <ctype.h>
@@ -40,7 +40,7 @@ static bool same(const text *a, const text *b) {
     return a->len == b->len && (a->len == 0 || memcmp(a->bytes, b->bytes, a->len) == 0);
 }
 
-/* A buffer of so many bytes and some after them, filled with a byte that no call writes. */
+/* A buffer of this many bytes and some after them, filled with a byte that no call writes. */
 static text blank(size_t room) {
     text found = {0};
     for (size_t i = 0; i < room + 8; i++) {
@@ -132,7 +132,7 @@ static bool hex(const char *at, const char *end, text *to) {
     return at == end;
 }
 
-/* Code units in hex; a last odd byte stays as it is. */
+/* Code units in hex; an odd byte at the end is unchanged. */
 static bool units(const char *at, const char *end, dethrux_byte_order order, text *to) {
     size_t front = to->len;
     if (!hex(at, end, to)) {
@@ -214,7 +214,8 @@ static void add_bytes(text *answer, const uint8_t *bytes, size_t len) {
     }
 }
 
-/* UTF-8 as a text: a quote, a backslash and what is not visible ASCII by its number. */
+/* UTF-8 as a text: a quote, a backslash and what is not visible ASCII are spelled by their
+ * number. */
 static void add_text(text *answer, const uint8_t *utf8, size_t len) {
     add_word(answer, "\"");
     for (size_t i = 0; i < len;) {
@@ -239,7 +240,7 @@ static void add_found(text *answer, bool is_text, const uint8_t *bytes, size_t l
     (is_text ? add_text : add_bytes)(answer, bytes, len);
 }
 
-/* The words of a table, with bytes in place of code units, texts of UTF-16 and parts. */
+/* The words of a table, with bytes instead of code units, texts of UTF-16 and parts. */
 static bool wanted(char **words, size_t count, dethrux_byte_order order, text *answer) {
     for (size_t i = 0; i < count; i++) {
         const char *word = words[i];
@@ -298,8 +299,8 @@ static item item_of_utf16(dethrux_byte_order order, const uint8_t *at, size_t le
     return (item){2, unit < 0x80 ? 1 : unit < 0x800 ? 2 : 3, false};
 }
 
-/* By table 3-7 of the Unicode Standard; an ill-formed sequence is the longest prefix of a character
- * there, or one byte. */
+/* As in table 3-7 of the Unicode Standard: an ill-formed sequence is the longest prefix of a
+ * character in it, or one byte. */
 static item item_of_utf8(const uint8_t *at, size_t left) {
     size_t found = 1;
     uint8_t first = at[0];
@@ -346,8 +347,8 @@ static size_t most(const conversion *by, size_t len) {
     return by->back ? DETHRUX_UTF16_MAX(len) : by->make == dethrux_to_utf8_lossy ? DETHRUX_UTF8_MAX(len) : len / 2 * 3;
 }
 
-/* How far a call comes that may read up to an offset, with a buffer of so many bytes: up to there,
- * or to what does not fit. */
+/* How far a call comes that may read up to an offset, with a buffer of this many bytes: to the
+ * offset, or to what does not fit. */
 static dethrux_progress reached(bool back, dethrux_byte_order order, const text *from, size_t end, size_t room) {
     dethrux_progress found = {0, 0, DETHRUX_DONE, 0};
     while (found.read < end) {
@@ -416,7 +417,7 @@ static bool is_unchanged(const decoder *by, const decoder *before) {
     return memcmp(&by->utf16, &before->utf16, sizeof by->utf16) == 0 && memcmp(&by->utf8, &before->utf8, sizeof by->utf8) == 0;
 }
 
-/* Feeds a decoder a chunk, again with the rest of it, with a buffer of so many bytes, and appends
+/* Feeds a decoder a chunk, again with the rest of it, with a buffer of this many bytes, and appends
  * what was written. */
 static bool feed_all(decoder *by, const uint8_t *piece, size_t len, size_t room, text *all) {
     bool is = true;
@@ -434,7 +435,7 @@ static bool feed_all(decoder *by, const uint8_t *piece, size_t len, size_t room,
     return is;
 }
 
-/* Ends a stream: without capacity for U+FFFD nothing changes, else it is written if bytes are
+/* Ends a stream: without capacity for U+FFFD nothing changes; otherwise it is written if bytes are
  * pending. */
 static bool finish_all(decoder *by, text *all) {
     size_t pending = pending_of(by).len, most = finish_max(by);
@@ -454,7 +455,7 @@ static bool finish_all(decoder *by, text *all) {
     return is;
 }
 
-/* Decodes in chunks of so many bytes by a decoder, with buffers of so many. */
+/* Decodes in chunks of one length with a decoder, into buffers of one length. */
 static bool in_pieces(bool back, dethrux_byte_order order, const text *from, size_t first, size_t then, size_t room, text *all) {
     decoder by = new_decoder(back, order);
     size_t at = 0, len = first < from->len ? first : from->len;
@@ -467,7 +468,8 @@ static bool in_pieces(bool back, dethrux_byte_order order, const text *from, siz
     return is && finish_all(&by, all);
 }
 
-/* Decodes in chunks by the partial call: the caller puts the unread bytes before the next chunk. */
+/* Decodes in chunks with the partial call: the caller puts the unread bytes before the next
+ * chunk. */
 static bool by_hand(dethrux_byte_order order, const text *from, size_t piece, size_t room, text *all) {
     text waiting = {0};
     size_t at = 0;
@@ -866,7 +868,7 @@ static bool call_is_boundary(dethrux_byte_order order, char **values, size_t cou
     return is;
 }
 
-/* The same by the call that takes a few bytes of a file. */
+/* The same with the call that takes a few bytes of a file. */
 static size_t floor_in_file(dethrux_byte_order order, const text *file, size_t at) {
     size_t start = (size_t)DETHRUX_AROUND_START(at), left = file->len - start;
     const uint8_t *around = left > 0 ? file->bytes + start : NULL;
@@ -908,7 +910,7 @@ static bool call_shard(dethrux_byte_order order, char **values, size_t count, te
     return count == 3;
 }
 
-/* A call by its name: of values, or of bytes alone. The conversions have their own table. */
+/* The call of a name: on values, or only on bytes. The conversions have a separate table. */
 static struct {
     const char *name;
     bool (*make)(dethrux_byte_order order, char **values, size_t count, text *answer);
@@ -1012,7 +1014,7 @@ static void run_line(const char *line) {
     }
 }
 
-/* What no case can say: what C alone has. */
+/* What no case can express: what only C has. */
 
 /* The BOM and the byte order of first bytes. */
 static bool is_bom_detected(void) {
@@ -1060,7 +1062,7 @@ static bool are_cuts_read_as_little(dethrux_byte_order order, const text *utf16)
     return is;
 }
 
-/* The same of the call that changes a text, and of the end of a stream of UTF-8. */
+/* The same for the call that changes a text, and for the end of a stream of UTF-8. */
 static bool is_changed_as_little(dethrux_byte_order order, const text *utf16) {
     text found = {0}, should = {0};
     append(&found, utf16->bytes, utf16->len);
@@ -1074,8 +1076,8 @@ static bool is_changed_as_little(dethrux_byte_order order, const text *utf16) {
     return is && dethrux_utf8_decoder_finish(&decoder, order, mark, 2).written == 2 && mark[0] == 0xFD && mark[1] == 0xFF;
 }
 
-/* Whether every call reads a byte order as little endian, of bytes that big endian reads as
- * another text. */
+/* Whether every call reads a byte order as little endian, on bytes that are another text in big
+ * endian. */
 static bool is_read_as_little(dethrux_byte_order order, const text *utf16, const text *utf8) {
     const dethrux_byte_order little = DETHRUX_LITTLE_ENDIAN;
     dethrux_validity valid = dethrux_validate(order, utf16->bytes, utf16->len), wanted = dethrux_validate(little, utf16->bytes, utf16->len);
@@ -1117,8 +1119,8 @@ static bool is_any_byte_order_fine(void) {
     return is;
 }
 
-/* Whether a conversion writes just as many bytes as its capacity, and does not come to its end with
- * a byte less. */
+/* Whether a conversion writes exactly as many bytes as its capacity, and does not come to its end
+ * with one byte less. */
 static bool needs(convert *make, const text *from, size_t capacity, dethrux_status status) {
     text to = blank(capacity);
     dethrux_progress found = make(DETHRUX_BIG_ENDIAN, from->bytes, from->len, to.bytes, capacity);
@@ -1130,8 +1132,8 @@ static bool needs(convert *make, const text *from, size_t capacity, dethrux_stat
     return is;
 }
 
-/* So many bytes of characters that take three bytes in UTF-8, of unpaired surrogates, of ASCII, and
- * of a byte that UTF-8 never has. */
+/* Inputs of this many bytes: characters that take three bytes in UTF-8, unpaired surrogates, ASCII,
+ * and a byte that UTF-8 never has. */
 static bool is_bound_reached(size_t len) {
     text three = {0}, lone = {0}, ascii = {0}, never = {0};
     for (size_t i = 0; i < len; i++) {
@@ -1158,8 +1160,8 @@ static bool is_bound_reached(size_t len) {
     return is;
 }
 
-/* Whether a decoder in a state writes just as many bytes as its capacity, and does not come to the
- * chunk's end with a byte less. */
+/* Whether a decoder in a state writes exactly as many bytes as its capacity, and does not come to
+ * the chunk's end with one byte less. */
 static bool feed_needs(const decoder *state, const text *chunk, size_t capacity) {
     decoder by = *state;
     text to = blank(capacity);
@@ -1171,8 +1173,8 @@ static bool feed_needs(const decoder *state, const text *chunk, size_t capacity)
     return is && found.status == DETHRUX_NO_SPACE;
 }
 
-/* A state with three bytes, as a call leaves it and as none does, and a chunk of characters that
- * take three bytes each. */
+/* A state with three bytes, one that a call leaves and one that no call leaves, and a chunk of
+ * characters that take three bytes each. */
 static bool is_feed_bound_reached(size_t len) {
     static const uint8_t left[] = {0xD8, 0x00, 0x4E};
     decoder by_call = new_decoder(false, DETHRUX_BIG_ENDIAN), by_hand = by_call;
@@ -1205,8 +1207,8 @@ static bool is_utf8_feed_bound_reached(size_t len) {
     return is;
 }
 
-/* The most bytes that are left unread, and the most that a character takes, by the partial call and
- * by a decoder. */
+/* The most bytes that the partial call and a decoder leave unread, and the most that a character
+ * takes. */
 static bool is_pending_bound_reached(void) {
     static const uint8_t pair[] = {0xD8, 0x3D, 0xDE, 0x00}, utf8[] = {0xF0, 0x9F, 0x98, 0x80};
     uint8_t to[4];
@@ -1235,7 +1237,7 @@ static bool are_bounds_reached(void) {
 
 /* The macros that compute, at numbers and at a number in 32 bits, with an operator of the lowest
  * precedence, and at the greatest length. The start of the bytes around an offset is one code unit
- * before that of the offset. */
+ * before the offset's. */
 static bool are_macros_right(void) {
     const bool yes = true;
     const uint32_t wide = UINT32_MAX;
@@ -1271,13 +1273,13 @@ static bool are_macros_right(void) {
     return is;
 }
 
-/* The version of the header, of the library, and by its parts. */
+/* The version of the header and of the library, and the version made of its parts. */
 static bool is_version_same(void) {
     return dethrux_version() == DETHRUX_VERSION && DETHRUX_VERSION == 1000 && DETHRUX_VERSION_MAJOR == 0 && DETHRUX_VERSION_MINOR == 1
         && DETHRUX_VERSION_PATCH == 0;
 }
 
-/* How the number is made of its parts: of others, since a part is 0 today. */
+/* How the number is made of its parts. It uses other parts, since one is 0 today. */
 #undef DETHRUX_VERSION_MAJOR
 #undef DETHRUX_VERSION_MINOR
 #undef DETHRUX_VERSION_PATCH
@@ -1289,7 +1291,7 @@ static bool is_version_of_parts(void) {
 }
 
 /* Feeds a decoder a chunk in little endian: the text that is written, all of the chunk or nothing,
- * and the bytes that are pending then. */
+ * and the bytes that are pending afterwards. */
 static bool feeds(decoder *by, const char *chunk, size_t room, dethrux_status status, const char *written, const char *pending) {
     text from = {0}, should = {0}, left = {0}, to = blank(room);
     bool is = bytes_of(chunk, DETHRUX_LITTLE_ENDIAN, &from) && bytes_of(written, DETHRUX_LITTLE_ENDIAN, &should)

@@ -1,6 +1,6 @@
-"""Reads tables of cases/ on standard input, makes the calls that the package dethrux of
-bindings/python has, prints each case whose result differs, with both, and last how many passed.
-Cases of other calls, and those with a condition on memory or devices, are skipped."""
+"""Reads tables of cases/ on standard input and makes the calls that the package dethrux of
+bindings/python has. Prints each case whose result differs, with both results, and finally how many
+passed. Cases of other calls, and cases with a condition on memory or devices, are skipped."""
 
 import collections
 import re
@@ -69,7 +69,7 @@ def chunkings(raw):
 
 
 def feed(decoder, chunk, room):
-    """What a decoder writes for a chunk, at most so many bytes a call."""
+    """What a decoder writes for a chunk, at most this many bytes for each call."""
     text, status = b"", Status.NO_SPACE
     while status == Status.NO_SPACE:
         output, read, status, _error_len = decoder.feed_partial(chunk, room)
@@ -84,7 +84,7 @@ def fed(order, parts, room=4096, kind=dethrux.Decoder):
 
 
 def cut_anywhere(order, raw, kind=dethrux.Decoder):
-    """The text of a stream, and any other that a chunking has."""
+    """The text of a stream, and any other text that a chunking gives."""
     text = fed(order, [raw], kind=kind)
     rooms = (4, 5, 4096) if len(raw) <= 64 else ()
     return [text, *({fed(order, parts, room, kind) for parts in chunkings(raw) for room in rooms} - {text})]

@@ -1,4 +1,4 @@
-/* Converts UTF-16 that is ill formed in one place: says where, and prints the text all the same. */
+/* Converts UTF-16 that is ill formed in one place: says where, and prints the text anyway. */
 #include <dethrux.h>
 
 #include <stdio.h>

@@ -1,11 +1,11 @@
 #!/usr/bin/env bash
 # Builds the library libdethrux.a and the examples in C, in C++ and in Python over a shared object,
 # and runs them: the tables of cases, the programs of docs/C.md and docs/CPP.md, and all in C under
-# valgrind. A tool that is missing is a failure. The last line is 'N passed, M failed'. With
-# --over-ci the library is built over the libraries that rt ci has just proved, and with
-# --library FILE it is not built: FILE is tested. With --headers c it is not built either, and only
-# what tests the headers runs, up to the first failure, or with --headers c++ what tests the one for
-# C++: examples/slips runs this for each wrong line that it plants in a header.
+# valgrind. A missing tool is a failure. The last line is 'N passed, M failed'. With --over-ci the
+# library is built over the libraries that rt ci has just proved, and with --library FILE it is not
+# built: FILE is tested. With --headers c it is not built either, and only what tests the headers
+# runs, up to the first failure, or with --headers c++ what tests the one for C++: examples/slips
+# runs this for each wrong line that it plants in a header.
 set -uo pipefail
 here=$(cd "$(dirname "$0")" && pwd)
 top=$here/../..
@@ -93,14 +93,15 @@ prints_page() {
     [ -s "$room/page" ] && "$room/$1" | cmp - "$room/page"
 }
 
-# Whether valgrind has nothing to say of a program on this input. A program's own operator new stays.
+# Whether valgrind finds no error in a program on this input. A program's own operator new stays.
 is_clean() {
     valgrind -q --soname-synonyms=somalloc=nouserintercepts --error-exitcode=9 --leak-check=full "$room/$1" ${3+"$3"} < "$2" > "$room/under" 2>&1 && return
     cat "$room/under"
     return 1
 }
 
-# Whether a compiler, by its words, warns of each call of a program that ignores results.
+# Whether a compiler, started with these words, warns of each call of a program that ignores
+# results.
 warns() {
     local program=$1
     shift
@@ -110,8 +111,8 @@ warns() {
         sort -nu | diff "$room/ignored" -
 }
 
-# The names of the functions that a file calls or declares, except those whose result may be
-# ignored and what the header has for itself.
+# The names of the functions that a file calls or declares, except the functions whose result may be
+# ignored and the ones that only the header uses.
 names() {
     grep -oE "$1[a-z0-9_]+\(" "$2" | sort -u |
         grep -vE '(swap_byte_order|make_well_formed|u16_bytes)\('
@@ -162,13 +163,13 @@ decodes() {
     { for _ in {1..3000}; do printf 'a\xE4\xB8\x80'; done; printf '\xEF\xBF\xBD'; } | cmp - "$room/found"
 }
 
-# Whether the same program, by a word, decodes bytes to a text.
+# Whether the same program, given a word, decodes bytes to a text.
 decodes_to() {
     printf '%b' "$2" | "$room/decode" "$1" > "$room/found" || return
     printf '%b' "$3" | cmp - "$room/found"
 }
 
-# U+4E00 after a BOM, which only `auto` takes off, and without one.
+# U+4E00 after a BOM, which only `auto` removes, and without one.
 decodes_by_word() {
     local status text='\xE4\xB8\x80' bom='\xEF\xBB\xBF'
     decodes_to be '\xFE\xFF\x4E\0' "$bom$text" && decodes_to le '\xFF\xFE\0\x4E' "$bom$text" &&

@@ -119,7 +119,7 @@ static void cut(const text *from) {
     check("boundaries after the end", from->name, is);
 }
 
-/* The unit after the text must stay. */
+/* The unit after the text must be unchanged. */
 static void change(const text *from) {
     uint16_t units[MOST + 1];
     memset(units, BLANK, sizeof units);
@@ -136,11 +136,11 @@ static void change(const text *from) {
     check("swap_byte_order", from->name, is && units[from->len] == BLANK * 0x101);
 }
 
-/* How a call stops: at the first ill-formed sequence, at the end, before an incomplete character
- * there, or after it, which the decoder keeps. */
+/* How a call stops: at the first ill-formed sequence, at the end, before an incomplete character at
+ * the end, or after it, if the decoder keeps it. */
 typedef enum { STRICT, LOSSY, PARTIAL, FEED } mode;
 
-/* How far a call of a mode comes, from how far it came in items and what stops it behind them. */
+/* How far a call of a mode comes, from how far it came in items and what stops it after them. */
 static dethrux_progress stopped(
     mode by, dethrux_progress found, size_t len, dethrux_validity validity) {
     if (found.status == DETHRUX_NO_SPACE) {
@@ -323,7 +323,7 @@ static void from_utf8(const text8 *from) {
 }
 
 /* In two chunks, with the capacity that suffices for each. Then the end of the stream: without
- * space for U+FFFD nothing changes, and of two units one is written. */
+ * space for U+FFFD nothing changes, and with two units one is written. */
 static void decode8(const text8 *from) {
     bool is = true;
     size_t len = strlen(from->utf8);

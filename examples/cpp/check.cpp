@@ -1,6 +1,6 @@
 // Makes the calls of dethrux.hpp in both byte orders and on code units, and compares with results
-// that were worked out by hand; then makes each request for memory of each call fail in turn. The
-// last line is 'N passed, M failed'.
+// that were worked out by hand; then makes each allocation of each call fail in turn. The last line
+// is 'N passed, M failed'.
 #include "dethrux.hpp"
 
 #include <array>
@@ -14,7 +14,7 @@
 #endif
 
 static int passed, failed;
-// How many requests for memory succeed before one fails; none fails while it is negative.
+// How many allocations succeed before one fails; none fails while this is negative.
 static long left = -1;
 static std::size_t requests, largest_request;
 
@@ -30,7 +30,7 @@ void *operator new(std::size_t size) {
     throw std::bad_alloc();
 }
 
-// Not inlined, so that gcc does not take the pair of malloc and free for that of new and free.
+// Not inlined, so that gcc does not mistake the pair of malloc and free for a pair of new and free.
 [[gnu::noinline]] void operator delete(void *memory) noexcept {
     std::free(memory);
 }
@@ -52,7 +52,7 @@ using namespace std::string_literals;
 using namespace std::string_view_literals;
 
 // A text in a form: in bytes of a byte order, or in code units, from what it is in big endian. An
-// odd byte at the end stays.
+// odd byte at the end is unchanged.
 static std::string in_form(std::string_view big, byte_order order) {
     std::string found(big);
     for (std::size_t i = 1; order == byte_order::little && i < big.size(); i += 2) {
@@ -494,7 +494,7 @@ static void orders() {
             && native == std::string(reinterpret_cast<const char *>(u"\x4E00"), 2));
 }
 
-// A string that has no capacity left, so that each call that appends requests memory.
+// A string that has no capacity left, so that each call that appends allocates.
 template <class Text>
 static Text full() {
     Text to;
@@ -502,8 +502,8 @@ static Text full() {
     return to;
 }
 
-// Makes each request of a call fail in turn, until one call makes no further request. `unchanged`
-// says whether all is as it was.
+// Makes each allocation of a call fail in turn, until one call makes no further allocation.
+// `unchanged` says whether nothing changed.
 template <class Call, class Unchanged>
 static bool without_memory(Call call, Unchanged unchanged) {
     bool kept = true;
@@ -522,7 +522,8 @@ static bool without_memory(Call call, Unchanged unchanged) {
     return kept && granted > 1;
 }
 
-// A call of a decoder that keeps bytes, without memory: nothing changes. Then a text is appended.
+// A call of a decoder that keeps bytes changes nothing without memory. With memory it appends a
+// text.
 template <class Decoder, class Text, class Call>
 static bool appends(Decoder decoder, std::size_t pending, const Text &text, Call call) {
     Text to = full<Text>();
@@ -560,8 +561,8 @@ static void memory() {
     }
 }
 
-// Whether a call requests memory once, at most for this many bytes and some of the string's own,
-// and fails without it.
+// Whether a call allocates once, at most this many bytes and a few that the string adds, and fails
+// without memory.
 template <class Call>
 static bool requests_once(std::size_t bytes, Call call) {
     requests = largest_request = 0;
@@ -570,8 +571,8 @@ static bool requests_once(std::size_t bytes, Call call) {
     return is && without_memory(call, [] { return true; });
 }
 
-// A result takes the memory of the longest text for its length of input: three bytes a code unit of
-// UTF-16, a code unit a byte of UTF-8.
+// A result takes the memory of the longest text for its length of input: three bytes for each code
+// unit of UTF-16, and one code unit for each byte of UTF-8.
 static void space() {
     const std::string bytes(2000, 'a');
     const std::u16string units(1000, u'a');

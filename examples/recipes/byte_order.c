@@ -3,7 +3,8 @@
 
 #include <stdio.h>
 
-/* How many spaces and line feeds are in the text, in a byte order; 0 if it is ill formed there. */
+/* How many spaces and line feeds are in the text, in a byte order; 0 if it is ill formed in that
+ * order. */
 static size_t spaces(dethrux_byte_order order, const uint8_t *utf16, size_t len) {
     size_t high = order == DETHRUX_BIG_ENDIAN ? 0 : 1, count = 0;
     if (dethrux_validate(order, utf16, len).status == DETHRUX_ILL_FORMED) {

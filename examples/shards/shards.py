@@ -129,7 +129,7 @@ class Parser(argparse.ArgumentParser):
 
 
 def size(words: str) -> int:
-    """Return a number of bytes, which is given as in 64MiB."""
+    """Return a number of bytes, which is given in a form like 64MiB."""
     return positive(str(dask.utils.parse_bytes(words)))
 
 

@@ -206,7 +206,7 @@ def kill_in_a_part(run: "subprocess.Popen[bytes]", workers: Sequence[int]) -> st
 
 
 def killed_worker(trial: Trial) -> None:
-    """Kill a worker in the middle of a part: Dask does that part again."""
+    """Kill a worker in the middle of a part: Dask decodes that part again."""
     part = ""
     for _ in range(5):
         shutil.rmtree("parts", ignore_errors=True)
