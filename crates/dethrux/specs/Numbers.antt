@@ -33,8 +33,8 @@ abbrev pub validity_up_to : ℕ → Result (Unit {0}) Utf16Error → ℕ
 validity_up_to len (Ok done) = len
 validity_up_to len (Err e) = valid_up_to e
 
--- the longest well-formed prefix ends at `valid_up_to`: at the end of the bytes, or where what the
--- reason names follows
+-- the longest well-formed prefix ends at `valid_up_to`: at the end of a text, or before what the
+-- reason names
 abbrev pub IsValidity : Bool → List ℕ → ℕ → Stop → Type 0
 IsValidity big utf16 valid_up_to Done = (valid_up_to ≡ length utf16) × IsUtf16 big utf16
 IsValidity big utf16 valid_up_to (IllFormed len) = IsUtf16ValidUpTo big utf16 valid_up_to × IsIllFormed big utf16 (Some len)

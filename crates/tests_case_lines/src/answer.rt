@@ -22,8 +22,8 @@ impl Answer {
         }
     }
 
-    /// Returns the words of the expected result: the same words, except that bytes replace each `~`
-    /// with a text and each `^` with code units, and that the bytes or the text replace repeated
+    /// Returns the words of the expected result: the same words, with bytes instead of a `~` and
+    /// its text or a `^` and its code units, and with the bytes or the text instead of repeated
     /// parts.
     pub fn wanted(alloc: Global, words: &[&str], is_big: bool) -> Result<Self, Trouble> {
         let mut answer = Answer::new(alloc);

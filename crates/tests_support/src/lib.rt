@@ -1,5 +1,5 @@
-//! What the tests of the other crates share: an allocator that fails as a test says and counts,
-//! readers and writers that fail as a test says and count, and known texts as bytes.
+//! What the tests of the other crates share: an allocator, readers and writers that fail as a test
+//! says and count what they do, and known texts as bytes.
 #![tactic(auto)]
 
 pub mod plain;

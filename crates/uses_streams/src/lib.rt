@@ -1,6 +1,6 @@
-//! Proved callers that use only public calls: the decoders, the laws of the split and of cuts,
-//! streams of UTF-8, and each conversion with a buffer. Also laws of these. `headline` states each
-//! phrase of the headline.
+//! Proved callers of the decoders, of the laws of the split and of cuts, of streams of UTF-8, and
+//! of each conversion with a buffer. They use only public calls. Also laws of these calls.
+//! `headline` states each phrase of the headline.
 #![tactic(auto)]
 
 pub mod bom;

@@ -12,7 +12,7 @@ status_of Memory = 1
 status_of Long = 1
 status_of Usage = 2
 
--- the number of the reader's I/O errors that an outcome means
+-- the number of the reader's I/O errors that an outcome implies
 abbrev pub reads_failed : Outcome → ℕ
 reads_failed Done = 0
 reads_failed Read = 1
@@ -21,7 +21,7 @@ reads_failed Memory = 0
 reads_failed Long = 0
 reads_failed Usage = 0
 
--- the number of the writer's I/O errors that an outcome means
+-- the number of the writer's I/O errors that an outcome implies
 abbrev pub writes_failed : Outcome → ℕ
 writes_failed Done = 0
 writes_failed Read = 0

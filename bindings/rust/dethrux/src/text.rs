@@ -14,7 +14,7 @@ use crate::{ByteOrder, Status, Utf16Error};
 /// Unused elements that are not worth a call of the allocator.
 const FEW: usize = 64;
 
-/// The capacity from which on unused memory is kept: most of its pages were never touched, and a
+/// The capacity from which unused memory is kept: most of its pages were never touched, and a
 /// smaller block may be a copy.
 const LARGE: usize = 65536;
 

@@ -76,14 +76,14 @@ where
     /// Returns the substring, mutable, or `None` like [`get`](SliceIndex::get).
     fn get_mut(self, slice: &mut T) -> Option<&mut Self::Output>;
 
-    /// Returns the substring, without a test.
+    /// Returns the substring, without testing the range.
     ///
     /// # Safety
     ///
     /// [`get`](SliceIndex::get) would return `Some`.
     unsafe fn get_unchecked(self, slice: &T) -> &Self::Output;
 
-    /// Returns the substring, mutable, without a test.
+    /// Returns the substring, mutable, without testing the range.
     ///
     /// # Safety
     ///

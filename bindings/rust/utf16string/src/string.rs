@@ -36,7 +36,7 @@ impl WString<LittleEndian> {
         Self::from_utf16(buf)
     }
 
-    /// Returns the bytes as a string, without a test.
+    /// Returns the bytes as a string, without testing them.
     ///
     /// # Safety
     ///
@@ -54,7 +54,7 @@ impl WString<BigEndian> {
         Self::from_utf16(buf)
     }
 
-    /// Returns the bytes as a string, without a test.
+    /// Returns the bytes as a string, without testing them.
     ///
     /// # Safety
     ///
@@ -120,7 +120,7 @@ where
         }
     }
 
-    /// Returns the bytes as a string, without a test.
+    /// Returns the bytes as a string, without testing them.
     ///
     /// # Safety
     ///

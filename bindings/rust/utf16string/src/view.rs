@@ -46,7 +46,7 @@ impl WStr<LittleEndian> {
         Self::from_utf16_mut(raw)
     }
 
-    /// Returns the bytes as a string, without a test.
+    /// Returns the bytes as a string, without testing them.
     ///
     /// # Safety
     ///
@@ -56,7 +56,7 @@ impl WStr<LittleEndian> {
         unsafe { Self::from_utf16_unchecked(raw) }
     }
 
-    /// Returns the bytes as a mutable string, without a test.
+    /// Returns the bytes as a mutable string, without testing them.
     ///
     /// # Safety
     ///
@@ -78,7 +78,7 @@ impl WStr<BigEndian> {
         Self::from_utf16_mut(raw)
     }
 
-    /// Returns the bytes as a string, without a test.
+    /// Returns the bytes as a string, without testing them.
     ///
     /// # Safety
     ///
@@ -88,7 +88,7 @@ impl WStr<BigEndian> {
         unsafe { Self::from_utf16_unchecked(raw) }
     }
 
-    /// Returns the bytes as a mutable string, without a test.
+    /// Returns the bytes as a mutable string, without testing them.
     ///
     /// # Safety
     ///
@@ -126,7 +126,7 @@ where
         Ok(unsafe { Self::from_utf16_unchecked_mut(raw) })
     }
 
-    /// Returns the bytes as a string, without a test.
+    /// Returns the bytes as a string, without testing them.
     ///
     /// # Safety
     ///
@@ -137,7 +137,7 @@ where
         unsafe { &*(raw as *const [u8] as *const Self) }
     }
 
-    /// Returns the bytes as a mutable string, without a test.
+    /// Returns the bytes as a mutable string, without testing them.
     ///
     /// # Safety
     ///
@@ -214,7 +214,7 @@ where
         index.get_mut(self)
     }
 
-    /// Returns a substring, without a test.
+    /// Returns a substring, without testing the range.
     ///
     /// # Safety
     ///
@@ -228,7 +228,7 @@ where
         unsafe { index.get_unchecked(self) }
     }
 
-    /// Returns a substring, mutable, without a test.
+    /// Returns a substring, mutable, without testing the range.
     ///
     /// # Safety
     ///
