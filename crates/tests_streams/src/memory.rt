@@ -1,4 +1,4 @@
-//! How much memory each call that allocates requests: one table of calls, for all tests.
+//! How much memory each call that allocates requests: all tests share one table of calls.
 
 mod calls;
 mod edits;
@@ -39,10 +39,10 @@ enum Needs {
     Chunk,
 }
 
-// The allocations of a call whose result grows while it is made, at most.
+// The most allocations of a call whose result grows while it is made.
 const MANY: u64 = 24;
 
-// A call, what grows, what it needs memory for, and how many allocations it makes at most.
+// A call, what grows, what it needs memory for, and the most allocations that it makes.
 type Row = (Call, Grows, Needs, u64);
 
 const ROWS: [Row; 35] = [
@@ -89,7 +89,7 @@ const ROWS: [Row; 35] = [
 ];
 
 impl Needs {
-    // Returns how many bytes these are for a text.
+    // Returns how many bytes this takes for a text.
     fn bytes<E: Utf16Order>(self, text: &Text<E>) -> u64 {
         let (utf16, utf8) = (text.utf16.len() as u64, text.utf8.len() as u64);
         match self {
@@ -113,8 +113,8 @@ fn capacity<E: Utf16Order>(grows: Grows, held: &Held<E>) -> u64 {
     }
 }
 
-// Returns the most bytes that a call may request: in one allocation what it needs, or what `Vec`
-// requests where a string grows; in many four times that.
+// Returns the most bytes that a call may request. In one allocation it requests what it needs, or
+// what `Vec` requests if a string grows. In many allocations it may request four times that.
 fn most<E: Utf16Order>(row: Row, text: &Text<E>, held: &Held<E>) -> u64 {
     let (_, grows, needs, requests) = row;
     let (needed, capacity) = (needs.bytes(text), capacity(grows, held));
@@ -155,7 +155,7 @@ fn requested<E: Utf16Order>(
     equal(rt, heap.live_blocks(), 0);
 }
 
-// Makes each call on a text: with strings that have it, and if they grow with empty ones too.
+// Makes each call on a text: with strings that have it, and also with empty ones if they grow.
 fn all_requested<E: Utf16Order>(rt: &(impl Abort + AllocGlobal), chars: &str, count: usize) {
     let text = Text::<E>::new(rt.alloc(), chars, count).expect(rt, "memory");
     for row in ROWS {
@@ -175,7 +175,7 @@ fn at_each_length<E: Utf16Order>(rt: &(impl Abort + AllocGlobal), chars: &str) {
     }
 }
 
-// A bug that no clause excludes: a call requests room for the longest text that could come, such as
+// A bug that no clause excludes: a call requests capacity for the longest possible text, such as
 // two bytes of UTF-16 for each byte of UTF-8, or many times that.
 #[test]
 fn each_call_requests_what_it_needs(rt: HostRuntime) {
@@ -185,13 +185,13 @@ fn each_call_requests_what_it_needs(rt: HostRuntime) {
     at_each_length::<BE>(&rt, "\u{1F600}");
 }
 
-// A bug that no clause excludes: allocation fails for a long text though there is memory.
+// A bug that no clause excludes: allocation fails for a long text although memory is available.
 #[test]
 fn each_call_takes_a_text_of_16_mib(rt: HostRuntime) {
     all_requested::<LE>(&rt, "a\u{4E00}\u{10000}", 0x20_0000);
 }
 
-// Checks that a thousand calls that append a text make twelve allocations at most.
+// Checks that a thousand calls that append a text make at most twelve allocations.
 fn grows_seldom<E: Utf16Order>(rt: &(impl Abort + AllocGlobal), call: Call, text: &Text<E>) {
     let heap = Refusing::<Global>::new(rt.alloc());
     let mut held = Held::empty(&heap);

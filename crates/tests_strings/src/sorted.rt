@@ -1,4 +1,4 @@
-//! Strings sorted by std and kept in a set of std's, which no case can express.
+//! Strings that std sorts and keeps in a set, which no case can express.
 
 use crate::checks::{encoded, equal, holds};
 use std::collections::BTreeSet;
@@ -45,7 +45,7 @@ fn finds<E: Utf16Order>(rt: &(impl Abort + AllocGlobal)) {
     holds(rt, !known.contains(&encoded::<E>(rt, "zzz")));
 }
 
-// The same of a tree.
+// The same bug, for a tree.
 #[test]
 fn six_texts_in_a_set(rt: HostRuntime) {
     finds::<LE>(&rt);

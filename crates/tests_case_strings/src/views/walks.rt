@@ -17,8 +17,8 @@ pub fn call<E: Utf16Order>(run: &mut Run, text: WStr<E>, name: &str) -> bool {
     true
 }
 
-// The number of characters that are left after steps, as of `chars`. If no value remains there are
-// none.
+// Adds the number of characters that remain after steps, which are given as for `chars`. If no
+// value remains there are no steps.
 fn count<E: Utf16Order>(run: &mut Run, text: WStr<E>, name: &str) {
     let (mut chars, mut places) = (text.chars(), text.char_indices());
     let steps = if run.values.count() == 0 {

@@ -103,7 +103,7 @@ impl<'a, E: Utf16Order> Held<'a, E> {
     }
 }
 
-/// Makes a call. Afterwards the heap's counts are those of the call.
+/// Makes a call. Afterwards the heap's counts are the call's.
 pub fn make<'a, E: Utf16Order>(
     alloc: Global,
     heap: Heap<'a>,
@@ -137,7 +137,7 @@ pub fn make<'a, E: Utf16Order>(
     Ok(())
 }
 
-// Makes a call that appends a text, or any other, by `change`.
+// Makes a call that appends a text, or passes the call to `change`.
 fn grow<'a, E: Utf16Order>(
     alloc: Global,
     heap: Heap<'a>,
@@ -157,7 +157,7 @@ fn grow<'a, E: Utf16Order>(
     }
 }
 
-// Makes a call at the start of a string or on its capacity, or any other, by `edit`.
+// Makes a call at the start of a string or on its capacity, or passes the call to `edit`.
 fn change<'a, E: Utf16Order>(
     alloc: Global,
     heap: Heap<'a>,

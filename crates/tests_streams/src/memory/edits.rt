@@ -5,8 +5,8 @@ use std::alloc::AllocError;
 use utf16_tools::{Edit, Reply, apply, run};
 use utf16string::{Utf16Order, WString};
 
-/// Makes an edit or a list of them, or returns `None` if a call is none. The heap's counts start
-/// anew once the edits are made.
+/// Makes an edit or a list of them, or returns `None` if a call is neither. The heap's counts start
+/// again once the edits are made.
 pub fn edit<'a, E: Utf16Order>(
     heap: Heap<'a>,
     call: Call,
@@ -47,7 +47,7 @@ fn applied<'a, E: Utf16Order>(
     }
 }
 
-// Runs a list of as many edits as the text repeats its characters. None of them allocates.
+// Runs a list of as many edits as the text has repetitions. None of them allocates.
 fn run_list<'a, E: Utf16Order>(
     heap: Heap<'a>,
     text: &Text<E>,

@@ -14,7 +14,7 @@ const CUT: [u8; 1] = [0xE4];
 // The number of bytes of a short chunk.
 const SHORT: usize = 64;
 
-/// Makes a call of a decoder, or any other, by `filtered`.
+/// Makes a call of a decoder, or passes the call to `filtered`.
 pub fn stream<'a, E: Utf16Order>(
     alloc: Global,
     heap: Heap<'a>,
