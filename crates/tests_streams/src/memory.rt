@@ -204,12 +204,13 @@ fn grows_seldom<E: Utf16Order>(rt: &(impl Abort + AllocGlobal), call: Call, text
     equal(rt, (call, requests <= 12), (call, true));
 }
 
-// Texts of one character, of a few that are converted at once, and of many.
+// Texts of one character, of a few that are converted at once, and of many. A call that appends
+// characters one by one takes the first only: it begins with eight bytes.
 fn all_grow_seldom<E: Utf16Order>(rt: &(impl Abort + AllocGlobal), chars: &str) {
     for count in [1, 20, 300] {
         let text = Text::<E>::new(rt.alloc(), chars, count).expect(rt, "memory");
-        for (call, grows, ..) in ROWS {
-            if !matches!(grows, Grows::Nothing) {
+        for (call, grows, _, requests) in ROWS {
+            if !matches!(grows, Grows::Nothing) && (requests == 1 || count == 1) {
                 grows_seldom(rt, call, &text);
             }
         }
