@@ -9,7 +9,7 @@ top=$(cd "$(dirname "$0")/.." && pwd)
 sources=$top/packaging/test
 version=$(< "$top/VERSION")
 archive=dethrux-$version-x86_64-linux-gnu
-packages=(libdethrux0 libdethrux-dev dethrux-tools)
+packages=(libdethrux0.2 libdethrux-dev dethrux-tools)
 room=$(mktemp -d)
 passed=0
 failed=0
@@ -126,7 +126,7 @@ check_versions() {
     check 'the version of the Debian changelog' \
         is_version dpkg-parsechangelog -l "$top/packaging/debian/changelog" -S Version
     check 'the version of the Debian symbols' \
-        is_version first packaging/debian/libdethrux0.symbols '^ .* ([0-9.]+)'
+        is_version first packaging/debian/libdethrux0.2.symbols '^ .* ([0-9.]+)'
     check 'the version of the Rust crate' \
         is_version first bindings/rust/dethrux/Cargo.toml '^version = "(.*)"'
     check 'the version of the Python package' \

@@ -25,8 +25,8 @@ type Call = unsafe extern "C" fn(u32, *const u8, usize, *mut u8, usize) -> Progr
 unsafe extern "C" {
     fn dethrux_to_utf8(order: u32, utf16: *const u8, len: usize, to: *mut u8, capacity: usize) -> Progress;
     fn dethrux_from_utf8(order: u32, utf8: *const u8, len: usize, to: *mut u8, capacity: usize) -> Progress;
-    fn dethrux_utf8_decoder_feed(state: &mut Decoder, order: u32, chunk: *const u8, len: usize, to: *mut u8, capacity: usize) -> Progress;
-    fn dethrux_utf8_decoder_finish(state: &mut Decoder, order: u32, to: *mut u8, capacity: usize) -> Progress;
+    fn dethrux_encoder_feed(state: &mut Decoder, order: u32, chunk: *const u8, len: usize, to: *mut u8, capacity: usize) -> Progress;
+    fn dethrux_encoder_finish(state: &mut Decoder, order: u32, to: *mut u8, capacity: usize) -> Progress;
 }
 
 // The first and last bytes of the classes of bytes in UTF-8 (Unicode, section 3.9, table 3-7).
@@ -75,7 +75,7 @@ fn decoded(bytes: &[u8], cuts: usize, big: bool, capacity: usize) -> Vec<u8> {
         }
         while start < end {
             let chunk = &bytes[start..end];
-            let fed = unsafe { dethrux_utf8_decoder_feed(&mut state, big.into(), chunk.as_ptr(), chunk.len(), to.as_mut_ptr(), capacity) };
+            let fed = unsafe { dethrux_encoder_feed(&mut state, big.into(), chunk.as_ptr(), chunk.len(), to.as_mut_ptr(), capacity) };
             utf16.extend_from_slice(&to[..fed.written]);
             start += fed.read;
             if fed.status == 0 {
@@ -86,13 +86,13 @@ fn decoded(bytes: &[u8], cuts: usize, big: bool, capacity: usize) -> Vec<u8> {
     }
     loop {
         // Takes what did not fit into a buffer before the stream ends.
-        let fed = unsafe { dethrux_utf8_decoder_feed(&mut state, big.into(), to.as_ptr(), 0, to.as_mut_ptr(), capacity) };
+        let fed = unsafe { dethrux_encoder_feed(&mut state, big.into(), to.as_ptr(), 0, to.as_mut_ptr(), capacity) };
         utf16.extend_from_slice(&to[..fed.written]);
         if fed.status == 0 {
             break;
         }
     }
-    let ended = unsafe { dethrux_utf8_decoder_finish(&mut state, big.into(), to.as_mut_ptr(), capacity) };
+    let ended = unsafe { dethrux_encoder_finish(&mut state, big.into(), to.as_mut_ptr(), capacity) };
     utf16.extend_from_slice(&to[..ended.written]);
     utf16
 }

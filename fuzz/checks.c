@@ -239,8 +239,8 @@ static void check_partial_stream(void) {
         expect_that("at most 3 bytes are unread", pending <= DETHRUX_PENDING_MAX);
         memmove(chunk, chunk + read, pending);
     }
-    uint8_t *to = output_at(DETHRUX_FINISH_MAX, AT_END);
-    dethrux_progress last = dethrux_to_utf8_lossy(in.order, chunk, pending, to, DETHRUX_FINISH_MAX);
+    uint8_t *to = output_at(DETHRUX_DECODER_FINISH_MAX, AT_END);
+    dethrux_progress last = dethrux_to_utf8_lossy(in.order, chunk, pending, to, DETHRUX_DECODER_FINISH_MAX);
     expect_written(&from_utf16, written, to, last.written);
     expect("written in all", written + last.written, from_utf16.out_len);
 }
@@ -286,24 +286,24 @@ static dethrux_progress finish_utf16(dethrux_decoder *decoder, dethrux_byte_orde
 
 static dethrux_progress feed_utf8(dethrux_decoder *decoder, dethrux_byte_order order,
                                   const uint8_t *chunk, size_t len, uint8_t *to, size_t capacity) {
-    dethrux_utf8_decoder *state = guarded_state(decoder, sizeof *decoder, situation.at);
-    dethrux_progress got = dethrux_utf8_decoder_feed(state, order, chunk, len, to, capacity);
+    dethrux_encoder *state = guarded_state(decoder, sizeof *decoder, situation.at);
+    dethrux_progress got = dethrux_encoder_feed(state, order, chunk, len, to, capacity);
     memcpy(decoder, state, sizeof *decoder);
     return got;
 }
 
 static dethrux_progress finish_utf8(dethrux_decoder *decoder, dethrux_byte_order order, uint8_t *to,
                                     size_t capacity) {
-    dethrux_utf8_decoder *state = guarded_state(decoder, sizeof *decoder, situation.at);
-    dethrux_progress got = dethrux_utf8_decoder_finish(state, order, to, capacity);
+    dethrux_encoder *state = guarded_state(decoder, sizeof *decoder, situation.at);
+    dethrux_progress got = dethrux_encoder_finish(state, order, to, capacity);
     memcpy(decoder, state, sizeof *decoder);
     return got;
 }
 
 static const decoder_calls UTF16_DECODER = {feed_utf16, finish_utf16, decode_utf16, &from_utf16,
-                                            DETHRUX_FINISH_MAX};
+                                            DETHRUX_DECODER_FINISH_MAX};
 static const decoder_calls UTF8_DECODER = {feed_utf8, finish_utf8, decode_utf8, &from_utf8,
-                                           DETHRUX_UTF8_FINISH_MAX};
+                                           DETHRUX_ENCODER_FINISH_MAX};
 
 static size_t pending_len(const dethrux_decoder *decoder) {
     return decoder->pending_len < DETHRUX_PENDING_MAX ? decoder->pending_len : DETHRUX_PENDING_MAX;
@@ -339,7 +339,7 @@ static void check_feed_any_state(const decoder_calls *calls) {
     memcpy(stream + pending, in.text, in.len);
     calls->decode(in.order, stream, pending + in.len, &text);
     size_t chosen = in.capacity % (text.out_len + 8);
-    size_t enough = calls == &UTF16_DECODER ? DETHRUX_FEED_MAX(in.len) : 2 * (pending + in.len);
+    size_t enough = calls == &UTF16_DECODER ? DETHRUX_DECODER_FEED_MAX(in.len) : 2 * (pending + in.len);
     expect_that("the capacity suffices",
                 expected_progress(&text, PARTIAL, enough).status != DETHRUX_NO_SPACE);
     size_t one_less = text.out_len - (text.out_len > 0);
@@ -415,11 +415,11 @@ static void check_decoder_finish(void) {
     check_finish(&UTF16_DECODER);
 }
 
-static void check_utf8_decoder_feed(void) {
+static void check_encoder_feed(void) {
     check_feed(&UTF8_DECODER);
 }
 
-static void check_utf8_decoder_finish(void) {
+static void check_encoder_finish(void) {
     check_finish(&UTF8_DECODER);
 }
 
@@ -766,8 +766,8 @@ const check CHECKS[] = {
     {"dethrux_from_utf8_lossy", check_from_utf8_lossy},
     {"dethrux_decoder_feed", check_decoder_feed},
     {"dethrux_decoder_finish", check_decoder_finish},
-    {"dethrux_utf8_decoder_feed", check_utf8_decoder_feed},
-    {"dethrux_utf8_decoder_finish", check_utf8_decoder_finish},
+    {"dethrux_encoder_feed", check_encoder_feed},
+    {"dethrux_encoder_finish", check_encoder_finish},
     {"dethrux_is_char_boundary", check_is_char_boundary},
     {"dethrux_floor_char_boundary", check_floor_char_boundary},
     {"dethrux_floor_char_boundary_around", check_floor_char_boundary_around},

@@ -9,7 +9,7 @@ dethrux_progress __real_dethrux_to_utf8(dethrux_byte_order order, const uint8_t 
 dethrux_progress __real_dethrux_from_utf8_lossy(dethrux_byte_order order, const uint8_t *utf8,
                                                 size_t len, uint8_t *to, size_t capacity);
 size_t __real_dethrux_from_utf8_len(const uint8_t *utf8, size_t len);
-dethrux_progress __real_dethrux_utf8_decoder_feed(dethrux_utf8_decoder *decoder,
+dethrux_progress __real_dethrux_encoder_feed(dethrux_encoder *decoder,
                                                   dethrux_byte_order order, const uint8_t *chunk,
                                                   size_t len, uint8_t *to, size_t capacity);
 
@@ -54,11 +54,11 @@ size_t __wrap_dethrux_from_utf8_len(const uint8_t *utf8, size_t len) {
 }
 
 /* Loses the third pending byte. */
-dethrux_progress __wrap_dethrux_utf8_decoder_feed(dethrux_utf8_decoder *decoder,
+dethrux_progress __wrap_dethrux_encoder_feed(dethrux_encoder *decoder,
                                                   dethrux_byte_order order, const uint8_t *chunk,
                                                   size_t len, uint8_t *to, size_t capacity) {
     dethrux_progress progress =
-        __real_dethrux_utf8_decoder_feed(decoder, order, chunk, len, to, capacity);
+        __real_dethrux_encoder_feed(decoder, order, chunk, len, to, capacity);
     if (decoder->pending_len == DETHRUX_PENDING_MAX) {
         decoder->pending_len--;
     }

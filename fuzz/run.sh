@@ -9,7 +9,7 @@ cd "$(dirname "$0")" || exit 1
 built=out
 seconds=60
 seed=1
-planted=(dethrux_from_utf8_len dethrux_from_utf8_lossy dethrux_to_utf8 dethrux_utf8_decoder_feed
+planted=(dethrux_from_utf8_len dethrux_from_utf8_lossy dethrux_to_utf8 dethrux_encoder_feed
     dethrux_validate)
 passed=0
 failed=0

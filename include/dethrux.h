@@ -57,7 +57,7 @@
 
 /* The version of this header; dethrux_version() returns the library's version. */
 #define DETHRUX_VERSION_MAJOR 0
-#define DETHRUX_VERSION_MINOR 1
+#define DETHRUX_VERSION_MINOR 2
 #define DETHRUX_VERSION_PATCH 0
 #define DETHRUX_VERSION \
     (DETHRUX_VERSION_MAJOR * 1000000 + DETHRUX_VERSION_MINOR * 1000 + DETHRUX_VERSION_PATCH)
@@ -70,13 +70,13 @@
 /* The capacity for the conversions from UTF-8. */
 #define DETHRUX_UTF16_MAX(len) ((size_t)(len) * 2)
 /* The capacity for dethrux_decoder_feed. */
-#define DETHRUX_FEED_MAX(len) (((size_t)(len) + 3) / 2 * 3)
+#define DETHRUX_DECODER_FEED_MAX(len) (((size_t)(len) + 3) / 2 * 3)
 /* The capacity for dethrux_decoder_finish. */
-#define DETHRUX_FINISH_MAX 3
-/* The capacity for dethrux_utf8_decoder_feed. */
-#define DETHRUX_UTF8_FEED_MAX(len) ((size_t)(len) * 2 + 2)
-/* The capacity for dethrux_utf8_decoder_finish. */
-#define DETHRUX_UTF8_FINISH_MAX 2
+#define DETHRUX_DECODER_FINISH_MAX 3
+/* The capacity for dethrux_encoder_feed. */
+#define DETHRUX_ENCODER_FEED_MAX(len) ((size_t)(len) * 2 + 2)
+/* The capacity for dethrux_encoder_finish. */
+#define DETHRUX_ENCODER_FINISH_MAX 2
 
 /* The most bytes that dethrux_to_utf8_partial leaves unread with DETHRUX_INCOMPLETE, and that a
  * decoder of either kind keeps. */
@@ -165,13 +165,13 @@ typedef struct dethrux_decoder {
 
 #define DETHRUX_DECODER_INIT {{0, 0, 0}, 0}
 
-/* The same for a stream of UTF-8: DETHRUX_UTF8_DECODER_INIT begins it. */
-typedef struct dethrux_utf8_decoder {
+/* The same for a stream of UTF-8: DETHRUX_ENCODER_INIT begins it. */
+typedef struct dethrux_encoder {
     uint8_t pending[DETHRUX_PENDING_MAX];
     uint8_t pending_len;
-} dethrux_utf8_decoder;
+} dethrux_encoder;
 
-#define DETHRUX_UTF8_DECODER_INIT {{0, 0, 0}, 0}
+#define DETHRUX_ENCODER_INIT {{0, 0, 0}, 0}
 
 /* Returns the version of the library as a number, DETHRUX_VERSION of its header. */
 DETHRUX_NODISCARD uint32_t dethrux_version(void);
@@ -245,14 +245,14 @@ DETHRUX_NODISCARD dethrux_progress dethrux_from_utf8_lossy(
  * DETHRUX_NO_SPACE. `read` counts bytes of the chunk. With DETHRUX_DONE all of it was read. With
  * DETHRUX_NO_SPACE the next character does not fit: call again with the rest; fewer than 4 bytes of
  * `to` were left, so with a capacity of 4 or more something was written. A capacity of
- * DETHRUX_FEED_MAX(len) suffices. Pass one byte order for a whole stream. */
+ * DETHRUX_DECODER_FEED_MAX(len) suffices. Pass one byte order for a whole stream. */
 DETHRUX_NODISCARD dethrux_progress dethrux_decoder_feed(
     dethrux_decoder *decoder, dethrux_byte_order byte_order, const uint8_t *chunk, size_t len,
     uint8_t *to, size_t capacity);
 
 /* Ends a stream whose last chunk was read: writes U+FFFD, of 3 bytes, if bytes are not decoded yet,
  * else nothing, and the decoder begins a new stream: DETHRUX_DONE. With DETHRUX_NO_SPACE nothing
- * changed. `read` is 0. A capacity of DETHRUX_FINISH_MAX suffices. Here the bytes of `to` after
+ * changed. `read` is 0. A capacity of DETHRUX_DECODER_FINISH_MAX suffices. Here the bytes of `to` after
  * `written` stay as they were. */
 DETHRUX_NODISCARD dethrux_progress dethrux_decoder_finish(
     dethrux_decoder *decoder, uint8_t *to, size_t capacity);
@@ -262,20 +262,20 @@ DETHRUX_NODISCARD dethrux_progress dethrux_decoder_finish(
  * end in *decoder: DETHRUX_DONE or DETHRUX_NO_SPACE. `read` counts bytes of the chunk. With
  * DETHRUX_DONE all of it was read. With DETHRUX_NO_SPACE the next character does not fit: call
  * again with the rest; fewer than 4 bytes of `to` were left, so with a capacity of 4 or more
- * something was written. A capacity of DETHRUX_UTF8_FEED_MAX(len) suffices for a decoder whose
+ * something was written. A capacity of DETHRUX_ENCODER_FEED_MAX(len) suffices for a decoder whose
  * fields only these calls have set, and 2 * (pending_len + len), a `pending_len` above 3 read as 3,
  * for any. However the stream is cut, the same bytes are written in all. Pass one byte order for a
  * whole stream. */
-DETHRUX_NODISCARD dethrux_progress dethrux_utf8_decoder_feed(
-    dethrux_utf8_decoder *decoder, dethrux_byte_order byte_order, const uint8_t *chunk, size_t len,
+DETHRUX_NODISCARD dethrux_progress dethrux_encoder_feed(
+    dethrux_encoder *decoder, dethrux_byte_order byte_order, const uint8_t *chunk, size_t len,
     uint8_t *to, size_t capacity);
 
 /* Ends a stream whose last chunk was read: writes U+FFFD, of 2 bytes, if bytes are not decoded yet,
  * else nothing, and the decoder begins a new stream: DETHRUX_DONE. With DETHRUX_NO_SPACE nothing
- * changed. `read` is 0. A capacity of DETHRUX_UTF8_FINISH_MAX suffices. Here the bytes of `to`
+ * changed. `read` is 0. A capacity of DETHRUX_ENCODER_FINISH_MAX suffices. Here the bytes of `to`
  * after `written` stay as they were. */
-DETHRUX_NODISCARD dethrux_progress dethrux_utf8_decoder_finish(
-    dethrux_utf8_decoder *decoder, dethrux_byte_order byte_order, uint8_t *to, size_t capacity);
+DETHRUX_NODISCARD dethrux_progress dethrux_encoder_finish(
+    dethrux_encoder *decoder, dethrux_byte_order byte_order, uint8_t *to, size_t capacity);
 
 /* Returns whether `at` is a boundary between characters: `len`, or a smaller even offset that is
  * neither inside a surrogate pair nor between a leading surrogate and a single byte at the end. An
@@ -450,20 +450,20 @@ DETHRUX_U16_RESULT dethrux_progress dethrux_u16_from_utf8_lossy(
     return progress;
 }
 
-/* dethrux_utf8_decoder_feed. A capacity of len + 1 suffices. */
-DETHRUX_U16_RESULT dethrux_progress dethrux_u16_utf8_decoder_feed(
-    dethrux_utf8_decoder *decoder, const uint8_t *chunk, size_t len, dethrux_unit *to,
+/* dethrux_encoder_feed. A capacity of len + 1 suffices. */
+DETHRUX_U16_RESULT dethrux_progress dethrux_u16_encoder_feed(
+    dethrux_encoder *decoder, const uint8_t *chunk, size_t len, dethrux_unit *to,
     size_t capacity) {
-    dethrux_progress progress = dethrux_utf8_decoder_feed(
+    dethrux_progress progress = dethrux_encoder_feed(
         decoder, DETHRUX_NATIVE_ENDIAN, chunk, len, DETHRUX_U16_BYTES_MUT(to), capacity * 2);
     progress.written /= 2;
     return progress;
 }
 
-/* dethrux_utf8_decoder_finish. A capacity of 1 suffices. */
-DETHRUX_U16_RESULT dethrux_progress dethrux_u16_utf8_decoder_finish(
-    dethrux_utf8_decoder *decoder, dethrux_unit *to, size_t capacity) {
-    dethrux_progress progress = dethrux_utf8_decoder_finish(
+/* dethrux_encoder_finish. A capacity of 1 suffices. */
+DETHRUX_U16_RESULT dethrux_progress dethrux_u16_encoder_finish(
+    dethrux_encoder *decoder, dethrux_unit *to, size_t capacity) {
+    dethrux_progress progress = dethrux_encoder_finish(
         decoder, DETHRUX_NATIVE_ENDIAN, DETHRUX_U16_BYTES_MUT(to), capacity * 2);
     progress.written /= 2;
     return progress;

@@ -370,9 +370,9 @@ public:
     // Ends the stream: appends U+FFFD if it ends inside a character. A new stream begins.
     void finish(std::string &to) {
         std::size_t size = to.size();
-        to.resize(size + DETHRUX_FINISH_MAX);
+        to.resize(size + DETHRUX_DECODER_FINISH_MAX);
         dethrux_progress progress =
-            dethrux_decoder_finish(&state_, detail::data(to, size), DETHRUX_FINISH_MAX);
+            dethrux_decoder_finish(&state_, detail::data(to, size), DETHRUX_DECODER_FINISH_MAX);
         to.resize(size + progress.written);
     }
 
@@ -382,7 +382,7 @@ public:
 private:
     void feed_bytes(const std::uint8_t *chunk, std::size_t len, byte_order order, std::string &to) {
         std::size_t size = to.size();
-        to.resize(size + DETHRUX_FEED_MAX(len));
+        to.resize(size + DETHRUX_DECODER_FEED_MAX(len));
         dethrux_progress progress = dethrux_decoder_feed(
             &state_, detail::order(order), chunk, len, detail::data(to, size), to.size() - size);
         to.resize(size + progress.written);
@@ -395,15 +395,15 @@ private:
 // Decodes a stream of UTF-8 that comes in chunks, cut anywhere, to UTF-16, with U+FFFD for each
 // maximal subpart of an ill-formed sequence. Give one type of string for a whole stream. The string
 // that is appended to must not be the chunk.
-class utf8_decoder {
+class encoder {
 public:
-    explicit utf8_decoder(byte_order order = byte_order::native) noexcept : order_(order) {}
+    explicit encoder(byte_order order = byte_order::native) noexcept : order_(order) {}
 
     // Appends the text of the next chunk that is certain, in bytes of the decoder's byte order.
     void feed(bytes chunk, std::string &to) {
         std::size_t size = to.size();
-        to.resize(size + DETHRUX_UTF8_FEED_MAX(chunk.size()));
-        dethrux_progress progress = dethrux_utf8_decoder_feed(&state_, detail::order(order_),
+        to.resize(size + DETHRUX_ENCODER_FEED_MAX(chunk.size()));
+        dethrux_progress progress = dethrux_encoder_feed(&state_, detail::order(order_),
             chunk.data(), chunk.size(), detail::data(to, size), to.size() - size);
         to.resize(size + progress.written);
     }
@@ -412,7 +412,7 @@ public:
     void feed(bytes chunk, std::u16string &to) {
         std::size_t size = to.size();
         to.resize(size + chunk.size() + 1);
-        dethrux_progress progress = dethrux_u16_utf8_decoder_feed(
+        dethrux_progress progress = dethrux_u16_encoder_feed(
             &state_, chunk.data(), chunk.size(), to.data() + size, to.size() - size);
         to.resize(size + progress.written);
     }
@@ -420,9 +420,9 @@ public:
     // Ends the stream: appends U+FFFD if it ends inside a character. A new stream begins.
     void finish(std::string &to) {
         std::size_t size = to.size();
-        to.resize(size + DETHRUX_UTF8_FINISH_MAX);
-        dethrux_progress progress = dethrux_utf8_decoder_finish(
-            &state_, detail::order(order_), detail::data(to, size), DETHRUX_UTF8_FINISH_MAX);
+        to.resize(size + DETHRUX_ENCODER_FINISH_MAX);
+        dethrux_progress progress = dethrux_encoder_finish(
+            &state_, detail::order(order_), detail::data(to, size), DETHRUX_ENCODER_FINISH_MAX);
         to.resize(size + progress.written);
     }
 
@@ -430,7 +430,7 @@ public:
         std::size_t size = to.size();
         to.resize(size + 1);
         dethrux_progress progress =
-            dethrux_u16_utf8_decoder_finish(&state_, to.data() + size, std::size_t{1});
+            dethrux_u16_encoder_finish(&state_, to.data() + size, std::size_t{1});
         to.resize(size + progress.written);
     }
 
@@ -438,7 +438,7 @@ public:
     std::size_t pending() const noexcept { return state_.pending_len; }
 
 private:
-    dethrux_utf8_decoder state_ = DETHRUX_UTF8_DECODER_INIT;
+    dethrux_encoder state_ = DETHRUX_ENCODER_INIT;
     byte_order order_;
 };
 

@@ -9,7 +9,8 @@ here=$(cd "$(dirname "${BASH_SOURCE[0]}")" && pwd)
 top=$(dirname "$here")
 out=$here/out
 version=$(< "$top/VERSION")
-soname=libdethrux.so.${version%%.*}
+# Before 1.0 the minor version names the interface.
+soname=libdethrux.so.${version%.*}
 
 # The processor level that the toolchain compiles for. The linker writes it into a GNU property, so
 # that the loader does not start the file on a lower level.

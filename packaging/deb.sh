@@ -1,5 +1,5 @@
 #!/usr/bin/env bash
-# Makes the Debian packages libdethrux0, libdethrux-dev and dethrux-tools with dpkg-buildpackage in
+# Makes the Debian packages libdethrux0.2, libdethrux-dev and dethrux-tools with dpkg-buildpackage in
 # FOLDER (by default packaging/out), and prints their paths. They contain what install.sh installs.
 #
 #     packaging/deb.sh [FOLDER]

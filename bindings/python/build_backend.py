@@ -18,7 +18,7 @@ from pathlib import Path
 HERE = Path(__file__).resolve().parent
 SOURCES = HERE / "src"
 TOP = HERE.parent.parent
-SONAME = "libdethrux.so.0"
+SONAME = "libdethrux.so.0.2"
 # The least time that a ZIP file can have: the same tree gives the same bytes.
 TIME = (1980, 1, 1, 0, 0, 0)
 

@@ -172,7 +172,7 @@ test_build_script() {
     local named=$room/named clone=$room/clone/crates/dethrux/out empty=$room/empty
     local known="PKG_CONFIG_PATH=$room/pkgconfig" said
     mkdir -p "$named" "$clone" "$empty" "$room/pkgconfig" "$room/installed"
-    printf 'libdir=%s\nprefix=/\nName: dethrux\nDescription: UTF-16\nVersion: 0.1.0\n' \
+    printf 'libdir=%s\nprefix=/\nName: dethrux\nDescription: UTF-16\nVersion: 0.2.0\n' \
         "$room/installed" > "$room/pkgconfig/dethrux.pc"
     cp "$library" "$named" && put_other "$room/installed" && put_other "$clone"
     count 'the library that is named' build_copy "$known" "DETHRUX_LIB_DIR=$named"

@@ -389,24 +389,24 @@ typedef struct {
     bool back; /* from UTF-8 */
     dethrux_byte_order order;
     dethrux_decoder utf16;
-    dethrux_utf8_decoder utf8;
+    dethrux_encoder utf8;
 } decoder;
 
 static decoder new_decoder(bool back, dethrux_byte_order order) {
-    return (decoder){back, order, DETHRUX_DECODER_INIT, DETHRUX_UTF8_DECODER_INIT};
+    return (decoder){back, order, DETHRUX_DECODER_INIT, DETHRUX_ENCODER_INIT};
 }
 
 static dethrux_progress feed(decoder *by, const uint8_t *chunk, size_t len, uint8_t *to, size_t room) {
-    return by->back ? dethrux_utf8_decoder_feed(&by->utf8, by->order, chunk, len, to, room)
+    return by->back ? dethrux_encoder_feed(&by->utf8, by->order, chunk, len, to, room)
                     : dethrux_decoder_feed(&by->utf16, by->order, chunk, len, to, room);
 }
 
 static dethrux_progress finish(decoder *by, uint8_t *to, size_t room) {
-    return by->back ? dethrux_utf8_decoder_finish(&by->utf8, by->order, to, room) : dethrux_decoder_finish(&by->utf16, to, room);
+    return by->back ? dethrux_encoder_finish(&by->utf8, by->order, to, room) : dethrux_decoder_finish(&by->utf16, to, room);
 }
 
 static size_t finish_max(const decoder *by) {
-    return by->back ? DETHRUX_UTF8_FINISH_MAX : DETHRUX_FINISH_MAX;
+    return by->back ? DETHRUX_ENCODER_FINISH_MAX : DETHRUX_DECODER_FINISH_MAX;
 }
 
 static text pending_of(decoder *by) {
@@ -1072,8 +1072,8 @@ static bool is_changed_as_little(dethrux_byte_order order, const text *utf16) {
     free(found.bytes);
     free(should.bytes);
     uint8_t mark[2];
-    dethrux_utf8_decoder decoder = {{0xC3, 0, 0}, 1};
-    return is && dethrux_utf8_decoder_finish(&decoder, order, mark, 2).written == 2 && mark[0] == 0xFD && mark[1] == 0xFF;
+    dethrux_encoder decoder = {{0xC3, 0, 0}, 1};
+    return is && dethrux_encoder_finish(&decoder, order, mark, 2).written == 2 && mark[0] == 0xFD && mark[1] == 0xFF;
 }
 
 /* Whether every call reads a byte order as little endian, on bytes that are another text in big
@@ -1185,7 +1185,7 @@ static bool is_feed_bound_reached(size_t len) {
     for (size_t i = 0; i < len; i++) {
         append_byte(&chunk, i % 2 == 0 ? 0x00 : 0x4E);
     }
-    is = is && (len == 0 || feed_needs(&by_call, &chunk, DETHRUX_FEED_MAX(len))) && feed_needs(&by_hand, &chunk, DETHRUX_FEED_MAX(len));
+    is = is && (len == 0 || feed_needs(&by_call, &chunk, DETHRUX_DECODER_FEED_MAX(len))) && feed_needs(&by_hand, &chunk, DETHRUX_DECODER_FEED_MAX(len));
     free(chunk.bytes);
     return is;
 }
@@ -1194,14 +1194,14 @@ static bool is_feed_bound_reached(size_t len) {
 static bool is_utf8_feed_bound_reached(size_t len) {
     static const uint8_t left[] = {0xF0, 0x9F, 0x98};
     decoder by_call = new_decoder(true, DETHRUX_BIG_ENDIAN), by_hand = by_call;
-    by_hand.utf8 = (dethrux_utf8_decoder){{'a', 'b', 'c'}, DETHRUX_PENDING_MAX};
+    by_hand.utf8 = (dethrux_encoder){{'a', 'b', 'c'}, DETHRUX_PENDING_MAX};
     dethrux_progress found = feed(&by_call, left, sizeof left, NULL, 0);
     bool is = found.status == DETHRUX_DONE && by_call.utf8.pending_len == DETHRUX_PENDING_MAX;
     text chunk = {0};
     for (size_t i = 0; i < len; i++) {
         append_byte(&chunk, 'a');
     }
-    is = is && (len == 0 || feed_needs(&by_call, &chunk, DETHRUX_UTF8_FEED_MAX(len)))
+    is = is && (len == 0 || feed_needs(&by_call, &chunk, DETHRUX_ENCODER_FEED_MAX(len)))
         && feed_needs(&by_hand, &chunk, 2 * (DETHRUX_PENDING_MAX + len));
     free(chunk.bytes);
     return is;
@@ -1259,12 +1259,12 @@ static bool are_macros_right(void) {
         {DETHRUX_UTF16_MAX(yes ? 3 : 0), 6},
         {DETHRUX_UTF16_MAX(wide), 8589934590},
         {DETHRUX_UTF16_MAX(most), UINT64_MAX - 3},
-        {DETHRUX_FEED_MAX(yes ? 3 : 0), 9},
-        {DETHRUX_FEED_MAX(wide), 6442450947},
-        {DETHRUX_FEED_MAX(most), 13835058055282163712u},
-        {DETHRUX_UTF8_FEED_MAX(yes ? 3 : 0), 8},
-        {DETHRUX_UTF8_FEED_MAX(wide), 8589934592},
-        {DETHRUX_UTF8_FEED_MAX(most), UINT64_MAX - 1},
+        {DETHRUX_DECODER_FEED_MAX(yes ? 3 : 0), 9},
+        {DETHRUX_DECODER_FEED_MAX(wide), 6442450947},
+        {DETHRUX_DECODER_FEED_MAX(most), 13835058055282163712u},
+        {DETHRUX_ENCODER_FEED_MAX(yes ? 3 : 0), 8},
+        {DETHRUX_ENCODER_FEED_MAX(wide), 8589934592},
+        {DETHRUX_ENCODER_FEED_MAX(most), UINT64_MAX - 1},
     };
     bool is = true;
     for (size_t i = 0; i < sizeof found / sizeof *found; i++) {
@@ -1275,7 +1275,7 @@ static bool are_macros_right(void) {
 
 /* The version of the header and of the library, and the version made of its parts. */
 static bool is_version_same(void) {
-    return dethrux_version() == DETHRUX_VERSION && DETHRUX_VERSION == 1000 && DETHRUX_VERSION_MAJOR == 0 && DETHRUX_VERSION_MINOR == 1
+    return dethrux_version() == DETHRUX_VERSION && DETHRUX_VERSION == 2000 && DETHRUX_VERSION_MAJOR == 0 && DETHRUX_VERSION_MINOR == 2
         && DETHRUX_VERSION_PATCH == 0;
 }
 
@@ -1313,7 +1313,7 @@ static bool feeds(decoder *by, const char *chunk, size_t room, dethrux_status st
 static bool is_any_state_fine(void) {
     decoder by = new_decoder(false, DETHRUX_LITTLE_ENDIAN), back = new_decoder(true, DETHRUX_LITTLE_ENDIAN);
     by.utf16 = (dethrux_decoder){{0x41, 0x00, 0x42}, 200};
-    back.utf8 = (dethrux_utf8_decoder){{0x41, 0xE4, 0xB8}, 200};
+    back.utf8 = (dethrux_encoder){{0x41, 0xE4, 0xB8}, 200};
     return feeds(&by, "-", 4, DETHRUX_DONE, "41", "42") && feeds(&by, "0043", 0, DETHRUX_NO_SPACE, "-", "42")
         && feeds(&by, "0043", 4, DETHRUX_DONE, "42", "43") && feeds(&back, "-", 4, DETHRUX_DONE, "4100", "E4B8")
         && feeds(&back, "80C3", 1, DETHRUX_NO_SPACE, "-", "E4B8") && feeds(&back, "80C3", 4, DETHRUX_DONE, "004E", "C3");

@@ -114,7 +114,7 @@ def converted(convert, size, is_text):
 def from_utf8_lossy(order, source, room):
     """The call, and what differs from its whole result in any chunking of the input."""
     words = converted(dethrux.from_utf8_lossy, from_utf8_len, False)(order, source, room)
-    streams = cut_anywhere(order, spelled(source, order), dethrux.Utf8Decoder) if words[2] == "end" else []
+    streams = cut_anywhere(order, spelled(source, order), dethrux.Encoder) if words[2] == "end" else []
     return [*words, *(text for text in streams if text != words[-1])]
 
 
@@ -175,7 +175,7 @@ CALLS = {
         dethrux.floor_char_boundary(spelled(raw, order), order, offset(at))
     ],
     "bytes::floor_char_boundary_around": lambda order, raw, at: [
-        dethrux.floor_char_boundary_around(spelled(raw, order), int(at), order)
+        dethrux.floor_char_boundary_around(spelled(raw, order), order, int(at))
     ],
     "shard_offset": lambda _order, *numbers: [dethrux.shard_offset(*map(int, numbers))],
     "to_utf8": converted(dethrux.to_utf8, to_utf8_len, True),

@@ -21,7 +21,7 @@ static bool feed(dethrux_decoder *decoder, dethrux_byte_order order, const uint8
 
 /* Writes U+FFFD if the stream ends inside a character. */
 static bool finish(dethrux_decoder *decoder) {
-    uint8_t utf8[DETHRUX_FINISH_MAX];
+    uint8_t utf8[DETHRUX_DECODER_FINISH_MAX];
     size_t len = dethrux_decoder_finish(decoder, utf8, sizeof utf8).written;
     return fwrite(utf8, 1, len, stdout) == len && fflush(stdout) == 0;
 }

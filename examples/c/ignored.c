@@ -3,10 +3,10 @@
 #include "dethrux.h"
 
 void ignore(dethrux_byte_order by, uint8_t *bytes, uint16_t *units, size_t len,
-    dethrux_decoder *decoder, dethrux_utf8_decoder *back);
+    dethrux_decoder *decoder, dethrux_encoder *back);
 
 void ignore(dethrux_byte_order by, uint8_t *bytes, uint16_t *units, size_t len,
-    dethrux_decoder *decoder, dethrux_utf8_decoder *back) {
+    dethrux_decoder *decoder, dethrux_encoder *back) {
     dethrux_version();
     dethrux_validate(by, bytes, len);
     dethrux_count_chars(by, bytes, len);
@@ -21,8 +21,8 @@ void ignore(dethrux_byte_order by, uint8_t *bytes, uint16_t *units, size_t len,
     dethrux_from_utf8_lossy(by, bytes, len, bytes, len);
     dethrux_decoder_feed(decoder, by, bytes, len, bytes, len);
     dethrux_decoder_finish(decoder, bytes, len);
-    dethrux_utf8_decoder_feed(back, by, bytes, len, bytes, len);
-    dethrux_utf8_decoder_finish(back, by, bytes, len);
+    dethrux_encoder_feed(back, by, bytes, len, bytes, len);
+    dethrux_encoder_finish(back, by, bytes, len);
     dethrux_is_char_boundary(by, bytes, len, len);
     dethrux_floor_char_boundary(by, bytes, len, len);
     dethrux_floor_char_boundary_around(by, bytes, len, len);
@@ -39,8 +39,8 @@ void ignore(dethrux_byte_order by, uint8_t *bytes, uint16_t *units, size_t len,
     dethrux_u16_decoder_feed(decoder, units, len, bytes, len);
     dethrux_u16_from_utf8(bytes, len, units, len);
     dethrux_u16_from_utf8_lossy(bytes, len, units, len);
-    dethrux_u16_utf8_decoder_feed(back, bytes, len, units, len);
-    dethrux_u16_utf8_decoder_finish(back, units, len);
+    dethrux_u16_encoder_feed(back, bytes, len, units, len);
+    dethrux_u16_encoder_finish(back, units, len);
     dethrux_u16_is_char_boundary(units, len, len);
     dethrux_u16_floor_char_boundary(units, len, len);
     dethrux_u16_compare(units, len, units, len);

@@ -233,7 +233,7 @@ static void decode(const text *from) {
         dethrux_progress two =
             dethrux_u16_decoder_feed(&decoder, from->units + at, rest, behind, (rest + 1) * 3);
         behind += two.written;
-        behind += dethrux_decoder_finish(&decoder, behind, DETHRUX_FINISH_MAX).written;
+        behind += dethrux_decoder_finish(&decoder, behind, DETHRUX_DECODER_FINISH_MAX).written;
         is = is && one.status == DETHRUX_DONE && two.status == DETHRUX_DONE && one.read == at
              && two.read == rest && (size_t)(behind - to) == strlen(from->utf8)
              && memcmp(to, from->utf8, strlen(from->utf8)) == 0;
@@ -290,8 +290,8 @@ static dethrux_progress reached8(const text8 *from, mode by, size_t capacity) {
 }
 
 static dethrux_progress feed_new8(const uint8_t *utf8, size_t len, uint16_t *to, size_t capacity) {
-    dethrux_utf8_decoder decoder = DETHRUX_UTF8_DECODER_INIT;
-    return dethrux_u16_utf8_decoder_feed(&decoder, utf8, len, to, capacity);
+    dethrux_encoder decoder = DETHRUX_ENCODER_INIT;
+    return dethrux_u16_encoder_feed(&decoder, utf8, len, to, capacity);
 }
 
 static const struct {
@@ -301,7 +301,7 @@ static const struct {
 } calls_from_utf8[] = {
     {"from_utf8", dethrux_u16_from_utf8, STRICT},
     {"from_utf8_lossy", dethrux_u16_from_utf8_lossy, LOSSY},
-    {"utf8_decoder_feed", feed_new8, FEED},
+    {"encoder_feed", feed_new8, FEED},
 };
 
 /* In a buffer of each size, up to the one that the header says suffices. */
@@ -330,25 +330,25 @@ static void decode8(const text8 *from) {
     const dethrux_progress full = {0, 0, DETHRUX_NO_SPACE, 0}, end = {0, 0, DETHRUX_DONE, 0};
     const dethrux_progress marked = {0, 1, DETHRUX_DONE, 0};
     for (size_t at = 0; at <= len; at++) {
-        dethrux_utf8_decoder decoder = DETHRUX_UTF8_DECODER_INIT;
+        dethrux_encoder decoder = DETHRUX_ENCODER_INIT;
         const uint8_t *bytes = (const uint8_t *)from->utf8;
         uint16_t to[BUFFER / 2];
         memset(to, BLANK, sizeof to);
-        dethrux_progress one = dethrux_u16_utf8_decoder_feed(&decoder, bytes, at, to, at + 1);
-        dethrux_progress two = dethrux_u16_utf8_decoder_feed(
+        dethrux_progress one = dethrux_u16_encoder_feed(&decoder, bytes, at, to, at + 1);
+        dethrux_progress two = dethrux_u16_encoder_feed(
             &decoder, bytes + at, len - at, to + one.written, len - at + 1);
         size_t written = one.written + two.written;
         is = is && one.status == DETHRUX_DONE && two.status == DETHRUX_DONE && one.read == at
              && two.read == len - at && decoder.pending_len == from->pending
-             && is_same(dethrux_u16_utf8_decoder_finish(&decoder, (uint16_t *)NULL, 0),
+             && is_same(dethrux_u16_encoder_finish(&decoder, (uint16_t *)NULL, 0),
                  from->pending > 0 ? full : end)
              && decoder.pending_len == from->pending
-             && is_same(dethrux_u16_utf8_decoder_finish(&decoder, to + written, 1 + at % 2),
+             && is_same(dethrux_u16_encoder_finish(&decoder, to + written, 1 + at % 2),
                  from->pending > 0 ? marked : end)
              && decoder.pending_len == 0 && memcmp(to, from->units, from->written * 2) == 0
              && written + (from->pending > 0) == from->written && is_blank(to, from->written * 2);
     }
-    check("utf8_decoder_feed of two chunks", from->name, is);
+    check("encoder_feed of two chunks", from->name, is);
 }
 
 /* Two texts, and how the first compares with the second. */

@@ -253,10 +253,10 @@ static void from_utf8(const row8 &from) {
 }
 
 static void decode8(const row8 &from) {
-    check_forms("utf8_decoder", from, [&](std::size_t, auto... order) {
+    check_forms("encoder", from, [&](std::size_t, auto... order) {
         bool is = true;
         const auto before = in_form("\0b\0e"s, order...);
-        dethrux::utf8_decoder decoder(order...);
+        dethrux::encoder decoder(order...);
         for (std::size_t at = 0; at <= from.utf8.size(); at++) {
             auto to = before;
             decoder.feed(from.utf8.substr(0, at), to);
@@ -465,11 +465,11 @@ static void types() {
     static_assert(noexcept(dethrux::make_well_formed(changed, order)));
     static_assert(noexcept(dethrux::make_well_formed(changed_wide)));
     static_assert(noexcept(dethrux::decoder()));
-    static_assert(noexcept(dethrux::utf8_decoder()));
+    static_assert(noexcept(dethrux::encoder()));
     static_assert(noexcept(dethrux::decoder().pending()));
-    static_assert(noexcept(dethrux::utf8_decoder().pending()));
+    static_assert(noexcept(dethrux::encoder().pending()));
     static_assert(!std::is_convertible_v<byte_order, dethrux::decoder>);
-    static_assert(!std::is_convertible_v<byte_order, dethrux::utf8_decoder>);
+    static_assert(!std::is_convertible_v<byte_order, dethrux::encoder>);
     static_assert(!std::is_convertible_v<dethrux::result<std::string>, bool>);
 }
 
@@ -484,7 +484,7 @@ static void orders() {
     check("decoders and the machine's order", to == "\xE4\xB8\x80\xE4\xB8\x80");
     std::u16string units;
     std::string bytes;
-    dethrux::utf8_decoder units_in_big(byte_order::big), bytes_without;
+    dethrux::encoder units_in_big(byte_order::big), bytes_without;
     units_in_big.feed("\xE4\xB8\x80\xE4", units);
     units_in_big.finish(units);
     bytes_without.feed("\xE4\xB8\x80", bytes);
@@ -553,10 +553,10 @@ static void memory() {
             const std::string name = " without memory, cut at " + std::to_string(at);
             check("decoder" + name, keeps(dethrux::decoder(order), text.substr(0, at),
                                         text.substr(at), utf8, "\xEF\xBF\xBD"s));
-            check("utf8_decoder" + name,
-                keeps(dethrux::utf8_decoder(order), first, rest, text, mark));
-            check("utf8_decoder to code units" + name,
-                keeps(dethrux::utf8_decoder(order), first, rest, in_form(pair), u"\uFFFD"s));
+            check("encoder" + name,
+                keeps(dethrux::encoder(order), first, rest, text, mark));
+            check("encoder to code units" + name,
+                keeps(dethrux::encoder(order), first, rest, in_form(pair), u"\uFFFD"s));
         }
     }
 }
@@ -595,10 +595,10 @@ static void space() {
         dethrux::decoder().feed(units, to);
     }) && requests_once(4000, [&] {
         std::string to;
-        dethrux::utf8_decoder(order).feed(bytes, to);
+        dethrux::encoder(order).feed(bytes, to);
     }) && requests_once(4000, [&] {
         std::u16string to;
-        dethrux::utf8_decoder().feed(bytes, to);
+        dethrux::encoder().feed(bytes, to);
     }));
 }
 
@@ -621,7 +621,7 @@ static void lengths() {
     std::string to = "before";
     std::u16string wide = u"before";
     dethrux::decoder decoder(order);
-    dethrux::utf8_decoder back(order);
+    dethrux::encoder back(order);
     check("texts that are too long",
         is_too_long([&] { (void)dethrux::to_utf8(bytes, order); })
             && is_too_long([&] { (void)dethrux::to_utf8_lossy(units); })

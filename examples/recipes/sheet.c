@@ -15,7 +15,7 @@ static void write_fields(const uint8_t *utf8, size_t len) {
 }
 
 int main(void) {
-    uint8_t raw[4096], utf8[DETHRUX_FEED_MAX(sizeof raw)];
+    uint8_t raw[4096], utf8[DETHRUX_DECODER_FEED_MAX(sizeof raw)];
     dethrux_decoder decoder = DETHRUX_DECODER_INIT;
     size_t len = fread(raw, 1, sizeof raw, stdin);
     dethrux_bom bom = dethrux_detect_bom(raw, len);

@@ -18,6 +18,6 @@ with open(name, "rb") as file:
     for index in range(parts):
         at = dethrux.shard_offset(length, parts, index + 1)
         file.seek(max(at // 2 * 2 - 2, 0))
-        end = dethrux.floor_char_boundary_around(file.read(4), at, byteorder)
+        end = dethrux.floor_char_boundary_around(file.read(4), byteorder, at)
         print(f"part-{index:05d} {start} {end - start}")
         start = end

@@ -56,7 +56,7 @@ def boundary(job: Job, index: int) -> int:
     at = dethrux.shard_offset(job.length, job.count, index)
     start = max(at // 2 * 2 - 2, 0)
     around = read(job, start, min(start + 4, job.length))
-    return dethrux.floor_char_boundary_around(around, at, job.byteorder)
+    return dethrux.floor_char_boundary_around(around, job.byteorder, at)
 
 
 def texts(job: Job, index: int) -> Iterator[bytes]:

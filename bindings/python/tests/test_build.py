@@ -16,7 +16,7 @@ from unittest import mock
 TOP = Path(os.environ.get("DETHRUX_TOP") or Path(__file__).resolve().parents[3])
 PYTHON = TOP / "bindings" / "python"
 VERSION = (TOP / "VERSION").read_text().strip()
-SONAME = "libdethrux.so.0"
+SONAME = "libdethrux.so.0.2"
 MODULES = {
     path.name: path.read_bytes()
     for path in (PYTHON / "src" / "dethrux").iterdir()

@@ -31,7 +31,7 @@ from expected import (
 TO_UTF8 = {"to_utf8": "ill-formed", "to_utf8_partial": "incomplete", "to_utf8_lossy": None}
 FROM_UTF8 = {"from_utf8": "ill-formed", "from_utf8_lossy": None}
 CONVERSIONS = (*TO_UTF8, *FROM_UTF8)
-DECODERS = (dethrux.Decoder, dethrux.Utf8Decoder)
+DECODERS = (dethrux.Decoder, dethrux.Encoder)
 
 # All calls that read a buffer, as functions of it and of a byte order.
 WITH_ORDER = {
@@ -43,12 +43,12 @@ WITH_ORDER.update(
         "is_char_boundary": lambda data, order: dethrux.is_char_boundary(data, order, 2),
         "floor_char_boundary": lambda data, order: dethrux.floor_char_boundary(data, order, 3),
         "floor_char_boundary_around": lambda data, order: dethrux.floor_char_boundary_around(
-            data, 3, order
+            data, order, 3
         ),
         "compare, first": lambda data, order: dethrux.compare(data, order, b"a\0b", "little"),
         "compare, second": lambda data, order: dethrux.compare(b"\0ab", "big", data, order),
         "Decoder": lambda data, order: dethrux.Decoder(order).feed(data),
-        "Utf8Decoder": lambda data, order: dethrux.Utf8Decoder(order).feed(data),
+        "Encoder": lambda data, order: dethrux.Encoder(order).feed(data),
     }
 )
 READERS = {
@@ -79,7 +79,7 @@ OFFSETS = [
     ("at", lambda number: dethrux.floor_char_boundary(PAIR, "little", number)),
 ]
 OFFSETS_OF_FILES = [
-    ("at", lambda number: dethrux.floor_char_boundary_around(PAIR, number, "little")),
+    ("at", lambda number: dethrux.floor_char_boundary_around(PAIR, "little", number)),
     ("length", lambda number: dethrux.shard_offset(number, 2, 1)),
     ("count", lambda number: dethrux.shard_offset(8, number, 1)),
     ("index", lambda number: dethrux.shard_offset(8, 2, number)),
@@ -169,17 +169,17 @@ class Functions(unittest.TestCase):
                     self.assertEqual(dethrux.floor_char_boundary(raw, order, at), floor, at)
                     if at <= len(raw):
                         around = raw[max(at // 2 * 2 - 2, 0) :][:4]
-                        found = dethrux.floor_char_boundary_around(around, at, order)
+                        found = dethrux.floor_char_boundary_around(around, order, at)
                         self.assertEqual(found, floor, at)
 
     def test_boundaries_of_a_long_file(self):
         for order, codec in CODECS.items():
             around = "\U0001f600".encode(codec)
             for at, floor in ((2**63, 2**63 - 2), (LARGEST, LARGEST - 3), (2**63 + 2, 2**63)):
-                found = dethrux.floor_char_boundary_around(around, at, order)
+                found = dethrux.floor_char_boundary_around(around, order, at)
                 self.assertEqual(found, floor)
             text = "\u4e00\u4e01".encode(codec)
-            self.assertEqual(dethrux.floor_char_boundary_around(text, 2**63 + 1, order), 2**63)
+            self.assertEqual(dethrux.floor_char_boundary_around(text, order, 2**63 + 1), 2**63)
 
     def test_shards(self):
         numbers = (*range(12), 2**63 - 1, 2**63, LARGEST - 1, LARGEST)
@@ -359,13 +359,13 @@ def each_decoder():
     """Return each kind in each byte order, with CPython's codecs of what it reads and writes."""
     for order, codec in CODECS.items():
         yield dethrux.Decoder, order, codec, "utf-8"
-        yield dethrux.Utf8Decoder, order, "utf-8", codec
+        yield dethrux.Encoder, order, "utf-8", codec
 
 
 def each_stream():
     """Return a new decoder, a sample, and CPython's codecs of what it reads and writes."""
     for kind, order, source, target in each_decoder():
-        for raw in UTF8 if kind is dethrux.Utf8Decoder else utf16(order):
+        for raw in UTF8 if kind is dethrux.Encoder else utf16(order):
             yield kind(order), raw, source, target
 
 
@@ -425,7 +425,7 @@ class Decoders(unittest.TestCase):
             decoder.feed("\U0001f600".encode(codec)[:2] + wide[:1])
             found = decoder.feed_partial(wide[1:] + wide)
             self.assertEqual(found, ("\ufffd\u4e00\u4e00".encode(), 3, Status.DONE, 0))
-            decoder = dethrux.Utf8Decoder(order)
+            decoder = dethrux.Encoder(order)
             decoder.feed(b"\xf0\x9f\x98")
             found = decoder.feed_partial(b"ab")
             self.assertEqual(found, ("\ufffdab".encode(codec), 2, Status.DONE, 0))

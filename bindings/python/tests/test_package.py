@@ -144,7 +144,7 @@ class Declarations(unittest.TestCase):
         words = parameter.replace("const ", "").split()
         if not words[1].startswith("*"):
             return self.TYPES[words[0]]
-        is_state = words[0] in ("dethrux_decoder", "dethrux_utf8_decoder")
+        is_state = words[0] in ("dethrux_decoder", "dethrux_encoder")
         return ctypes.POINTER(_library.State) if is_state else ctypes.c_void_p
 
     def test_calls(self):
@@ -172,7 +172,7 @@ class Declarations(unittest.TestCase):
             fields = [field.split() for field in structures[name].split(";") if field.strip()]
             expected = [(field, self.TYPES[declared]) for declared, field in fields]
             self.assertEqual(kind._fields_, expected)
-        for name in ("decoder", "utf8_decoder"):
+        for name in ("decoder", "encoder"):
             fields = structures[name].split()
             self.assertEqual(fields[1::2], ["pending[DETHRUX_PENDING_MAX];", "pending_len;"])
         self.assertEqual(_library.State.pending.size, 3)

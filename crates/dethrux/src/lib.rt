@@ -8,10 +8,10 @@ mod bom;
 mod boundary;
 mod byte_order;
 mod decoder;
+mod encoder;
 mod in_place;
 mod order;
 mod results;
-mod utf8_decoder;
 mod version;
 
 ghost use Rattle.std.specs.Prelude.{◌≡◌, ◌≢◌, ◌↔◌, [], ◌<◌, ◌≤◌, ◌+◌, ◌-◌, ◌*◌, ◌/◌, ◌%◌, All, IsTrue, count_by, drop, encode_utf8_all, length, take};

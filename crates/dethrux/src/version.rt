@@ -5,7 +5,7 @@ ghost use Rattle.dethrux.specs.Numbers.{version_number};
 
 const MAJOR: u32 = 0;
 
-const MINOR: u32 = 1;
+const MINOR: u32 = 2;
 
 const PATCH: u32 = 0;
 
@@ -13,7 +13,7 @@ const PATCH: u32 = 0;
 /// major, plus 1,000 times the minor, plus the patch version.
 #[unsafe(no_mangle)]
 pub extern "C" fn dethrux_version() -> u32
-    ensures { result ≡ version_number 0 1 0 }
+    ensures { result ≡ version_number 0 2 0 }
 {
     MAJOR * 1_000_000 + MINOR * 1_000 + PATCH
 }

@@ -248,7 +248,7 @@ def floor_char_boundary(utf16: ReadableBuffer, byteorder: ByteOrder, at: int) ->
     return boundary
 
 
-def floor_char_boundary_around(around: ReadableBuffer, at: int, byteorder: ByteOrder) -> int:
+def floor_char_boundary_around(around: ReadableBuffer, byteorder: ByteOrder, at: int) -> int:
     """Return the greatest boundary at or before an offset of a file, from the bytes around it.
 
     They are the file's bytes from ``max(at // 2 * 2 - 2, 0)`` on: four of them,
@@ -371,7 +371,7 @@ class Decoder:
         return _run(_library.decoder_finish, 3, self._state)
 
 
-class Utf8Decoder(Decoder):
+class Encoder(Decoder):
     """Decodes a stream of UTF-8, cut anywhere, to UTF-16 in this byte order.
 
     Each ill-formed sequence becomes U+FFFD. One thread at a time may use it.
@@ -381,8 +381,8 @@ class Utf8Decoder(Decoder):
         return length * 2 + 2
 
     def _feed(self, chunk: bytes, capacity: int) -> Progress:
-        call = _library.utf8_decoder_feed
+        call = _library.encoder_feed
         return _run(call, capacity, self._state, self._order, chunk, len(chunk))
 
     def _finish(self) -> Progress:
-        return _run(_library.utf8_decoder_finish, 2, self._state, self._order)
+        return _run(_library.encoder_finish, 2, self._state, self._order)

@@ -7,7 +7,7 @@ from typing import Any
 
 from ._version import __version__
 
-SONAME = "libdethrux.so.0"
+SONAME = "libdethrux.so.0.2"
 
 
 class Progress(ctypes.Structure):
@@ -42,7 +42,7 @@ class Bom(ctypes.Structure):
 
 
 class State(ctypes.Structure):
-    """``dethrux_decoder`` and ``dethrux_utf8_decoder``."""
+    """``dethrux_decoder`` and ``dethrux_encoder``."""
 
     _fields_ = [("pending", ctypes.c_uint8 * 3), ("pending_len", ctypes.c_uint8)]
 
@@ -117,8 +117,8 @@ from_utf8 = _call("from_utf8", Progress, _order, *_buffer, *_buffer)
 from_utf8_lossy = _call("from_utf8_lossy", Progress, _order, *_buffer, *_buffer)
 decoder_feed = _call("decoder_feed", Progress, _state, _order, *_buffer, *_buffer)
 decoder_finish = _call("decoder_finish", Progress, _state, *_buffer)
-utf8_decoder_feed = _call("utf8_decoder_feed", Progress, _state, _order, *_buffer, *_buffer)
-utf8_decoder_finish = _call("utf8_decoder_finish", Progress, _state, _order, *_buffer)
+encoder_feed = _call("encoder_feed", Progress, _state, _order, *_buffer, *_buffer)
+encoder_finish = _call("encoder_finish", Progress, _state, _order, *_buffer)
 is_char_boundary = _call("is_char_boundary", ctypes.c_bool, _order, *_buffer, _size)
 floor_char_boundary = _call("floor_char_boundary", _size, _order, *_buffer, _size)
 floor_char_boundary_around = _call(

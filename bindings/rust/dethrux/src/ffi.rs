@@ -143,7 +143,7 @@ extern "C" {
         to: *mut u8,
         capacity: usize,
     ) -> Progress;
-    pub(crate) fn dethrux_utf8_decoder_feed(
+    pub(crate) fn dethrux_encoder_feed(
         decoder: *mut State,
         order: ByteOrder,
         chunk: *const u8,
@@ -151,7 +151,7 @@ extern "C" {
         to: *mut u8,
         capacity: usize,
     ) -> Progress;
-    pub(crate) fn dethrux_utf8_decoder_finish(
+    pub(crate) fn dethrux_encoder_finish(
         decoder: *mut State,
         order: ByteOrder,
         to: *mut u8,

@@ -187,7 +187,7 @@ impl Encoder {
     /// [`Status::NoSpace`]: crate::Status::NoSpace
     #[must_use]
     pub fn feed<B: Buffer + ?Sized>(&mut self, chunk: &[u8], to: &mut B) -> Progress {
-        self.stream.feed(ffi::dethrux_utf8_decoder_feed, chunk, to)
+        self.stream.feed(ffi::dethrux_encoder_feed, chunk, to)
     }
 
     /// Encodes the next chunk and appends its UTF-16. It allocates at most once.
@@ -223,7 +223,7 @@ impl Encoder {
     fn finish_to(&mut self, to: &mut [u8]) -> usize {
         let (order, state) = (self.stream.order, &mut self.stream.state);
         // SAFETY: the pointer and the length come from a mutable slice.
-        unsafe { ffi::dethrux_utf8_decoder_finish(state, order, to.as_mut_ptr(), to.len()) }.written
+        unsafe { ffi::dethrux_encoder_finish(state, order, to.as_mut_ptr(), to.len()) }.written
     }
 }
 

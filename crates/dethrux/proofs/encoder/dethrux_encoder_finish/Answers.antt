@@ -1,5 +1,5 @@
 use Rattle.std.proofs.Common.{rules}
-use Rattle.dethrux.proofs.utf8_decoder.dethrux_utf8_decoder_finish.Goals as goal
+use Rattle.dethrux.proofs.encoder.dethrux_encoder_finish.Goals as goal
 
 pub returns-clause-done : goal.returns-clause-done
 returns-clause-done c = search rules

@@ -20,7 +20,7 @@ use utf16_units::{BE, LE};
 /// for each byte of the chunk and two more, if the state is one that this call leaves. In time
 /// linear in what is read.
 #[unsafe(no_mangle)]
-pub extern "C" fn dethrux_utf8_decoder_feed(
+pub extern "C" fn dethrux_encoder_feed(
     decoder: &mut Stream,
     byte_order: u32,
     chunk: &[u8],
@@ -55,7 +55,7 @@ pub extern "C" fn dethrux_utf8_decoder_feed(
 /// Ends a stream of UTF-8: writes U+FFFD in UTF-16 if bytes are pending, and otherwise nothing. The
 /// bytes after it are unchanged. If U+FFFD does not fit, nothing changes.
 #[unsafe(no_mangle)]
-pub extern "C" fn dethrux_utf8_decoder_finish(
+pub extern "C" fn dethrux_encoder_finish(
     decoder: &mut Stream,
     byte_order: u32,
     to: &mut [u8],

@@ -1,5 +1,5 @@
 use Rattle.std.proofs.Common.{rules}
-use Rattle.dethrux.proofs.utf8_decoder.dethrux_utf8_decoder_feed.Goals as goal
+use Rattle.dethrux.proofs.encoder.dethrux_encoder_feed.Goals as goal
 
 pub returns-clause-feeds : goal.returns-clause-feeds
 returns-clause-feeds c = search rules
