@@ -101,9 +101,9 @@ numbers() {
     sed -nE "s/$2(MAJOR|MINOR|PATCH).*[^0-9]([0-9]+);?\$/\\2/p" "$top/$1" | paste -sd.
 }
 
-# Prints the versions of the files that packaging/README.md names, each once.
+# Prints the versions of the files that docs/INSTALL.md names, each once.
 named_files() {
-    grep -oE 'dethrux[-0a-z]*[-_ ][0-9]+\.[0-9]+\.[0-9]+' "$top/packaging/README.md" |
+    grep -oE 'dethrux[-0a-z]*[-_ ][0-9]+\.[0-9]+\.[0-9]+' "$top/docs/INSTALL.md" |
         grep -oE '[0-9]+\.[0-9]+\.[0-9]+' | sort -u
 }
 
@@ -119,7 +119,7 @@ check_versions() {
     check 'the version of version.rt' is_version numbers crates/dethrux/src/version.rt '^const '
     check 'the version of README.md' is_version first README.md '^Version ([0-9.]+) of .*'
     check 'the version of CHANGELOG.md' is_version first CHANGELOG.md '^## ([0-9.]+), .*'
-    check 'the version of packaging/README.md' is_version named_files
+    check 'the version of docs/INSTALL.md' is_version named_files
     for file in utf16_cat utf16_enc; do
         check "the version of $file.1" is_version first "crates/$file/$file.1" '^\.Os Dethrux (.*)'
     done

@@ -37,13 +37,13 @@ trap 'rm -rf "$room"' EXIT
 umask 022
 DESTDIR='' LIBDIR=lib "$top/install.sh" "$room/$name" > "$room/said"
 rm -r "$room/$name/share/dethrux"
-cp "$top"/{CHANGELOG.md,LICENSE-APACHE,LICENSE-MIT,VERSION,install.sh} "$here/README.md" \
-    "$room/$name/"
+cp "$top"/{CHANGELOG.md,LICENSE-APACHE,LICENSE-MIT,THIRD-PARTY.md,VERSION,install.sh} \
+    "$here/README.md" "$room/$name/"
 mkdir -p "$room/$name/bindings/python" "$room/$name/docs"
 cp -R "$top"/bindings/python/{build_backend.py,pyproject.toml,src} \
     "$room/$name/bindings/python/"
 find "$room/$name/bindings" -name __pycache__ -exec rm -r {} +
-cp "$top/docs/PYTHON.md" "$room/$name/docs/"
+cp "$top"/docs/{INSTALL,PYTHON}.md "$room/$name/docs/"
 (cd "$room/$name" && find . -type f -printf '%P\0' | LC_ALL=C sort -z | xargs -0 sha256sum) \
     > "$room/sums"
 mv "$room/sums" "$room/$name/SHA256SUMS"
