@@ -77,7 +77,7 @@ put_filled() {
     local from=$1 to=$2 up
     up=$(sed 's/[^/]\+/../g' <<< "${to%/*}")
     make_folder "${to%/*}"
-    sed -e "s|@VERSION@|$version|g" -e "s|@SOVERSION@|${version%%.*}|g" -e "s|@UP@|$up|g" \
+    sed -e "s|@VERSION@|$version|g" -e "s|@SOVERSION@|${version%.*}|g" -e "s|@UP@|$up|g" \
         -e "s|@LIBDIR@|$libdir|g" "$top/packaging/$from.in" > "$room/$from"
     put 644 "$room/$from" "$to"
 }
@@ -94,8 +94,8 @@ put_built() {
     done
     put 644 "$built/libdethrux.a" "$libdir/libdethrux.a"
     put 644 "$built/libdethrux.so" "$libdir/libdethrux.so.$version"
-    put_link "libdethrux.so.$version" "$libdir/libdethrux.so.${version%%.*}"
-    put_link "libdethrux.so.${version%%.*}" "$libdir/libdethrux.so"
+    put_link "libdethrux.so.$version" "$libdir/libdethrux.so.${version%.*}"
+    put_link "libdethrux.so.${version%.*}" "$libdir/libdethrux.so"
     put_filled dethrux.pc "$libdir/pkgconfig/dethrux.pc"
     put_filled dethruxConfig.cmake "$libdir/cmake/dethrux/dethruxConfig.cmake"
     put_filled dethruxConfigVersion.cmake "$libdir/cmake/dethrux/dethruxConfigVersion.cmake"

@@ -715,7 +715,7 @@ static void check_icu_from_utf8(void) {
 typedef void iconv_call(dethrux_byte_order order, const uint8_t *bytes, size_t len,
                         iconv_result *to);
 
-/* glibc takes bytes at the end for incomplete by the first one alone, such as E0 80, or F8 88 80 80
+/* glibc takes bytes at the end for incomplete by the first one, such as E0 80, or F8 88 80 80
  * of a form that Unicode does not have. There its EINVAL agrees with ill-formed bytes too. */
 static bool errno_agrees(int error, dethrux_status status, bool at_end) {
     switch (status) {

@@ -68,11 +68,11 @@ class Library(unittest.TestCase):
         self.assertRegex(
             self.imported(DETHRUX_LIBRARY="/nowhere.so"),
             r"^ImportError: cannot load /nowhere\.so \(.*\): set DETHRUX_LIBRARY to the path of "
-            r"libdethrux\.so\.0, or unset it$",
+            r"libdethrux\.so\.0\.2, or unset it$",
         )
         self.assertRegex(
             self.imported(),
-            r"^ImportError: cannot load libdethrux\.so\.0 \(.*\): install the C library Dethrux, "
+            r"^ImportError: cannot load libdethrux\.so\.0\.2 \(.*\): install the C library Dethrux, "
             r"or set DETHRUX_LIBRARY to its path$",
         )
 

@@ -91,7 +91,7 @@ pub use units::{units_as_bytes, units_as_bytes_mut};
 ///
 /// ```
 /// let (major, minor, _) = dethrux::version();
-/// assert_eq!((major, minor), (0, 1));
+/// assert_eq!((major, minor), (0, 2));
 /// ```
 #[must_use]
 pub fn version() -> (u32, u32, u32) {

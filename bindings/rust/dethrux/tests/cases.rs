@@ -362,6 +362,17 @@ fn call(name: &str, order: ByteOrder, values: &[&str]) -> Option<Vec<Word>> {
             let offset = shard_offset(len.parse().ok()?, count.parse().ok()?, index.parse().ok()?);
             Some(vec![Number(offset.try_into().ok()?)])
         }
+        ("WStrChars::count", [raw, ends]) => {
+            let text = decode(order, &spelled(raw, order)?).ok()?;
+            let mut chars = text.chars();
+            for end in ends.chars() {
+                let _taken = match end {
+                    'f' => chars.next(),
+                    _ => chars.next_back(),
+                };
+            }
+            ask(name, order, &encode(order, chars.as_str()))
+        }
         ("every_room", [by, raw]) => every_room(by, order, &spelled(raw, order)?),
         (_, [raw, room]) => convert(name, order, &spelled(raw, order)?, room),
         (_, [raw]) => ask(name, order, &spelled(raw, order)?),
