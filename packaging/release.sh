@@ -40,7 +40,7 @@ rm -r "$room/$name/share/dethrux"
 cp "$top"/{CHANGELOG.md,LICENSE-APACHE,LICENSE-MIT,THIRD-PARTY.md,VERSION,install.sh} \
     "$here/README.md" "$room/$name/"
 mkdir -p "$room/$name/bindings/python" "$room/$name/docs"
-cp -R "$top"/bindings/python/{build_backend.py,pyproject.toml,src} \
+cp -R "$top"/bindings/python/{README.md,build_backend.py,pyproject.toml,src} \
     "$room/$name/bindings/python/"
 find "$room/$name/bindings" -name __pycache__ -exec rm -r {} +
 cp "$top"/docs/{INSTALL,PYTHON}.md "$room/$name/docs/"

@@ -19,6 +19,16 @@ HERE = Path(__file__).resolve().parent
 SOURCES = HERE / "src"
 TOP = HERE.parent.parent
 SONAME = "libdethrux.so.0.2"
+LICENCES = ("LICENSE-MIT", "LICENSE-APACHE", "THIRD-PARTY.md")
+CLASSIFIERS = (
+    "Development Status :: 4 - Beta",
+    "Intended Audience :: Developers",
+    "Operating System :: POSIX :: Linux",
+    "Programming Language :: Python :: 3",
+    "Topic :: Software Development :: Libraries",
+    "Topic :: Text Processing",
+    "Typing :: Typed",
+)
 # The least time that a ZIP file can have: the same tree gives the same bytes.
 TIME = (1980, 1, 1, 0, 0, 0)
 
@@ -47,15 +57,26 @@ def shared_library():
     return None
 
 
+def licences():
+    """Return the paths of the licences, here in a source distribution, else at the top."""
+    found = (HERE / name if (HERE / name).is_file() else TOP / name for name in LICENCES)
+    return [path for path in found if path.is_file()]
+
+
 def metadata():
-    """Return the core metadata."""
+    """Return the core metadata, which ends with the text of the README."""
     return (
         "Metadata-Version: 2.1\n"
         "Name: dethrux\n"
         f"Version: {version()}\n"
         "Summary: UTF-16 in either byte order, to and from str and UTF-8, by a proved C library\n"
+        "Keywords: utf-16,unicode,transcoding,codec\n"
         "License: MIT OR Apache-2.0\n"
-        "Requires-Python: >=3.9\n"
+        + "".join(f"License-File: {path.name}\n" for path in licences())
+        + "".join(f"Classifier: {line}\n" for line in CLASSIFIERS)
+        + "Requires-Python: >=3.9\n"
+        "Description-Content-Type: text/markdown\n"
+        "\n" + (HERE / "README.md").read_text(encoding="utf-8")
     )
 
 
@@ -69,6 +90,7 @@ def write_wheel(folder, library, files):
     info = f"dethrux-{version()}.dist-info"
     files = {
         **files,
+        **{f"{info}/licenses/{path.name}": path.read_bytes() for path in licences()},
         f"{info}/METADATA": metadata().encode(),
         f"{info}/WHEEL": (
             "Wheel-Version: 1.0\n"
@@ -126,10 +148,12 @@ def build_editable(wheel_directory, config_settings=None, metadata_directory=Non
 def build_sdist(sdist_directory, config_settings=None):
     """Write the source distribution and return its name."""
     base = f"dethrux-{version()}"
-    paths = [HERE / "pyproject.toml", HERE / "build_backend.py", *modules()]
+    paths = [HERE / it for it in ("pyproject.toml", "build_backend.py", "README.md")] + modules()
     with tarfile.open(Path(sdist_directory) / f"{base}.tar.gz", "w:gz") as archive:
         for path in paths:
             archive.add(path, f"{base}/{path.relative_to(HERE)}", filter=plain)
+        for path in licences():
+            archive.add(path, f"{base}/{path.name}", filter=plain)
         entry = tarfile.TarInfo(f"{base}/PKG-INFO")
         entry.size = len(metadata().encode())
         archive.addfile(entry, io.BytesIO(metadata().encode()))

@@ -17,6 +17,8 @@ TOP = Path(os.environ.get("DETHRUX_TOP") or Path(__file__).resolve().parents[3])
 PYTHON = TOP / "bindings" / "python"
 VERSION = (TOP / "VERSION").read_text().strip()
 SONAME = "libdethrux.so.0.2"
+README = (PYTHON / "README.md").read_text(encoding="utf-8")
+LICENCES = ("LICENSE-MIT", "LICENSE-APACHE", "THIRD-PARTY.md")
 MODULES = {
     path.name: path.read_bytes()
     for path in (PYTHON / "src" / "dethrux").iterdir()
@@ -80,6 +82,7 @@ class Backend(unittest.TestCase):
         self.assertEqual(metadata[0], "Metadata-Version: 2.1")
         for line in ("Name: dethrux", f"Version: {VERSION}", "Requires-Python: >=3.9"):
             self.assertIn(line, metadata)
+        self.assertEqual(metadata[metadata.index("") + 1 :], README.splitlines())
         wheel = files.pop(f"dethrux-{VERSION}.dist-info/WHEEL").decode().splitlines()
         is_pure = str(platform == "any").lower()
         self.assertEqual(wheel[0], "Wheel-Version: 1.0")
@@ -155,7 +158,7 @@ class Backend(unittest.TestCase):
         base = f"dethrux-{VERSION}"
         self.assertEqual(name, f"{base}.tar.gz")
         expected = {f"{base}/src/dethrux/{each}": data for each, data in MODULES.items()}
-        for each in ("pyproject.toml", "build_backend.py"):
+        for each in ("pyproject.toml", "build_backend.py", "README.md"):
             expected[f"{base}/{each}"] = (PYTHON / each).read_bytes()
         with tarfile.open(self.out / name) as archive:
             entries = archive.getmembers()
@@ -165,6 +168,26 @@ class Backend(unittest.TestCase):
             self.assertEqual((entry.uname, entry.gname), ("", ""))
         self.assertEqual(files.pop(f"{base}/PKG-INFO").decode(), self.backend.metadata())
         self.assertEqual(files, expected)
+
+    def test_the_licences_of_the_top(self):
+        for name in LICENCES:
+            self.put(name, name.encode())
+        _, files = self.wheel()
+        folder = f"dethrux-{VERSION}.dist-info"
+        metadata = files[f"{folder}/METADATA"].decode().splitlines()
+        for name in LICENCES:
+            self.assertEqual(files[f"{folder}/licenses/{name}"], name.encode())
+            self.assertIn(f"License-File: {name}", metadata)
+        with tarfile.open(self.out / self.backend.build_sdist(str(self.out))) as archive:
+            for name in LICENCES:
+                entry = archive.extractfile(f"dethrux-{VERSION}/{name}")
+                self.assertEqual(entry.read(), name.encode())
+
+    def test_the_licences_of_a_source_distribution(self):
+        self.put("LICENSE-MIT", b"above")
+        self.put("bindings/python/LICENSE-MIT", b"here")
+        _, files = self.wheel()
+        self.assertEqual(files[f"dethrux-{VERSION}.dist-info/licenses/LICENSE-MIT"], b"here")
 
     def test_entries_have_no_owner_and_no_time(self):
         entry = tarfile.TarInfo("name")

@@ -115,6 +115,21 @@ class Version(unittest.TestCase):
             self.assertIn(f"#define DETHRUX_VERSION_{name} {number}\n", header)
 
 
+class Readme(unittest.TestCase):
+    def test_its_program(self):
+        text = (TOP / "bindings" / "python" / "README.md").read_text(encoding="utf-8")
+        program = re.search(r"```python\n(.*?)```", text, re.DOTALL)[1]
+        before, names = os.getcwd(), {}
+        with tempfile.TemporaryDirectory() as folder:
+            (Path(folder) / "export.reg").write_bytes("\ufeffGrüße 😀".encode("utf-16-be"))
+            os.chdir(folder)
+            try:
+                exec(program, names)
+            finally:
+                os.chdir(before)
+        self.assertEqual(names["utf8"], "Grüße 😀".encode())
+
+
 class Declarations(unittest.TestCase):
     """The calls and the structures are declared as the header has them."""
 

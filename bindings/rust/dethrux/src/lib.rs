@@ -103,3 +103,8 @@ pub fn version() -> (u32, u32, u32) {
         version % 1_000,
     )
 }
+
+/// The program of the README runs with the tests.
+#[cfg(all(doctest, feature = "std"))]
+#[doc = include_str!("../README.md")]
+struct Readme;

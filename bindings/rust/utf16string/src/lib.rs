@@ -46,3 +46,8 @@ pub use index::SliceIndex;
 pub use iter::{WStrCharIndices, WStrChars};
 pub use string::WString;
 pub use view::WStr;
+
+/// The program of the README runs with the tests.
+#[cfg(doctest)]
+#[doc = include_str!("../README.md")]
+struct Readme;
