@@ -323,9 +323,10 @@ DETHRUX_NODISCARD int32_t dethrux_compare(
     dethrux_byte_order second_order, const uint8_t *second, size_t second_len);
 
 /* Returns the BOM at the start of a stream (FF FE: little endian, FE FF: big endian) and the byte
- * order: big endian without a BOM, as the Unicode Standard says. The BOM is not part of the text:
- * decode what follows its `len` bytes. With DETHRUX_BOM_UNDECIDED call again with two bytes or
- * more, unless the stream ends. */
+ * order: big endian without a BOM, as the Unicode Standard says. Most files from Windows are little
+ * endian, so choose that yourself for them with DETHRUX_BOM_ABSENT. The BOM is not part of the
+ * text: decode what follows its `len` bytes. With DETHRUX_BOM_UNDECIDED call again with two bytes
+ * or more, unless the stream ends. */
 DETHRUX_NODISCARD dethrux_bom dethrux_detect_bom(const uint8_t *bytes, size_t len);
 
 #ifdef __cplusplus
