@@ -9,13 +9,13 @@
  * Proved for all inputs of up to PTRDIFF_MAX bytes: each result is as described, and no call reads
  * or writes outside the buffers that it is given. The proofs do not cover the caller, so this is
  * trusted: a pointer with a length of n points to n bytes that may be read during the call (for
- * `to`, with a capacity of n, written); `decoder` points to a decoder; and `to` and the decoder
- * overlap no other buffer of the call. A pointer need not be aligned. A null pointer is allowed if
- * the length or the capacity is 0. Null pointers, the macros and the dethrux_u16 calls are tested,
- * not proved.
+ * `to`, with a capacity of n, written); `decoder` points to a decoder, and `encoder` to an encoder;
+ * and they and `to` overlap no other buffer of the call. A pointer need not be aligned. A null
+ * pointer is allowed if the length or the capacity is 0. Null pointers, the macros and the
+ * dethrux_u16 calls are tested, not proved.
  *
  * Threads: the calls share no state, so any call may run in any thread at any time. Only one thread
- * at a time may use a decoder, or a buffer that a call writes to.
+ * at a time may use a decoder, an encoder, or a buffer that a call writes to.
  *
  * Lengths, offsets and capacities count bytes, except in the dethrux_u16 calls at the end. These
  * are for UTF-16 in the machine's byte order, and count code units. A bool is 0 or 1. Only
@@ -79,7 +79,7 @@
 #define DETHRUX_ENCODER_FINISH_MAX 2
 
 /* The most bytes that dethrux_to_utf8_partial leaves unread with DETHRUX_INCOMPLETE, and that a
- * decoder of either kind keeps. */
+ * decoder or an encoder keeps. */
 #define DETHRUX_PENDING_MAX 3
 
 /* The offset of the first of the bytes that dethrux_floor_char_boundary_around takes. */
@@ -165,7 +165,7 @@ typedef struct dethrux_decoder {
 
 #define DETHRUX_DECODER_INIT {{0, 0, 0}, 0}
 
-/* The same for a stream of UTF-8: DETHRUX_ENCODER_INIT begins it. */
+/* The state of an encoder, the same for a stream of UTF-8: DETHRUX_ENCODER_INIT begins it. */
 typedef struct dethrux_encoder {
     uint8_t pending[DETHRUX_PENDING_MAX];
     uint8_t pending_len;
@@ -252,30 +252,30 @@ DETHRUX_NODISCARD dethrux_progress dethrux_decoder_feed(
 
 /* Ends a stream whose last chunk was read: writes U+FFFD, of 3 bytes, if bytes are not decoded yet,
  * else nothing, and the decoder begins a new stream: DETHRUX_DONE. With DETHRUX_NO_SPACE nothing
- * changed. `read` is 0. A capacity of DETHRUX_DECODER_FINISH_MAX suffices. Here the bytes of `to` after
- * `written` stay as they were. */
+ * changed. `read` is 0. A capacity of DETHRUX_DECODER_FINISH_MAX suffices. Here the bytes of `to`
+ * after `written` stay as they were. */
 DETHRUX_NODISCARD dethrux_progress dethrux_decoder_finish(
     dethrux_decoder *decoder, uint8_t *to, size_t capacity);
 
-/* Decodes the next chunk of a stream of UTF-8, cut anywhere, to UTF-16, with U+FFFD as in
+/* Encodes the next chunk of a stream of UTF-8, cut anywhere, in UTF-16, with U+FFFD as in
  * dethrux_from_utf8_lossy for each ill-formed sequence, and keeps an incomplete character at the
- * end in *decoder: DETHRUX_DONE or DETHRUX_NO_SPACE. `read` counts bytes of the chunk. With
+ * end in *encoder: DETHRUX_DONE or DETHRUX_NO_SPACE. `read` counts bytes of the chunk. With
  * DETHRUX_DONE all of it was read. With DETHRUX_NO_SPACE the next character does not fit: call
  * again with the rest; fewer than 4 bytes of `to` were left, so with a capacity of 4 or more
- * something was written. A capacity of DETHRUX_ENCODER_FEED_MAX(len) suffices for a decoder whose
+ * something was written. A capacity of DETHRUX_ENCODER_FEED_MAX(len) suffices for an encoder whose
  * fields only these calls have set, and 2 * (pending_len + len), a `pending_len` above 3 read as 3,
  * for any. However the stream is cut, the same bytes are written in all. Pass one byte order for a
  * whole stream. */
 DETHRUX_NODISCARD dethrux_progress dethrux_encoder_feed(
-    dethrux_encoder *decoder, dethrux_byte_order byte_order, const uint8_t *chunk, size_t len,
+    dethrux_encoder *encoder, dethrux_byte_order byte_order, const uint8_t *chunk, size_t len,
     uint8_t *to, size_t capacity);
 
-/* Ends a stream whose last chunk was read: writes U+FFFD, of 2 bytes, if bytes are not decoded yet,
- * else nothing, and the decoder begins a new stream: DETHRUX_DONE. With DETHRUX_NO_SPACE nothing
+/* Ends a stream whose last chunk was read: writes U+FFFD, of 2 bytes, if bytes are not encoded yet,
+ * else nothing, and the encoder begins a new stream: DETHRUX_DONE. With DETHRUX_NO_SPACE nothing
  * changed. `read` is 0. A capacity of DETHRUX_ENCODER_FINISH_MAX suffices. Here the bytes of `to`
  * after `written` stay as they were. */
 DETHRUX_NODISCARD dethrux_progress dethrux_encoder_finish(
-    dethrux_encoder *decoder, dethrux_byte_order byte_order, uint8_t *to, size_t capacity);
+    dethrux_encoder *encoder, dethrux_byte_order byte_order, uint8_t *to, size_t capacity);
 
 /* Returns whether `at` is a boundary between characters: `len`, or a smaller even offset that is
  * neither inside a surrogate pair nor between a leading surrogate and a single byte at the end. An
@@ -453,19 +453,19 @@ DETHRUX_U16_RESULT dethrux_progress dethrux_u16_from_utf8_lossy(
 
 /* dethrux_encoder_feed. A capacity of len + 1 suffices. */
 DETHRUX_U16_RESULT dethrux_progress dethrux_u16_encoder_feed(
-    dethrux_encoder *decoder, const uint8_t *chunk, size_t len, dethrux_unit *to,
+    dethrux_encoder *encoder, const uint8_t *chunk, size_t len, dethrux_unit *to,
     size_t capacity) {
     dethrux_progress progress = dethrux_encoder_feed(
-        decoder, DETHRUX_NATIVE_ENDIAN, chunk, len, DETHRUX_U16_BYTES_MUT(to), capacity * 2);
+        encoder, DETHRUX_NATIVE_ENDIAN, chunk, len, DETHRUX_U16_BYTES_MUT(to), capacity * 2);
     progress.written /= 2;
     return progress;
 }
 
 /* dethrux_encoder_finish. A capacity of 1 suffices. */
 DETHRUX_U16_RESULT dethrux_progress dethrux_u16_encoder_finish(
-    dethrux_encoder *decoder, dethrux_unit *to, size_t capacity) {
+    dethrux_encoder *encoder, dethrux_unit *to, size_t capacity) {
     dethrux_progress progress = dethrux_encoder_finish(
-        decoder, DETHRUX_NATIVE_ENDIAN, DETHRUX_U16_BYTES_MUT(to), capacity * 2);
+        encoder, DETHRUX_NATIVE_ENDIAN, DETHRUX_U16_BYTES_MUT(to), capacity * 2);
     progress.written /= 2;
     return progress;
 }

@@ -392,14 +392,14 @@ private:
     byte_order order_;
 };
 
-// Decodes a stream of UTF-8 that comes in chunks, cut anywhere, to UTF-16, with U+FFFD for each
+// Encodes a stream of UTF-8 that comes in chunks, cut anywhere, in UTF-16, with U+FFFD for each
 // maximal subpart of an ill-formed sequence. Give one type of string for a whole stream. The string
 // that is appended to must not be the chunk.
 class encoder {
 public:
     explicit encoder(byte_order order = byte_order::native) noexcept : order_(order) {}
 
-    // Appends the text of the next chunk that is certain, in bytes of the decoder's byte order.
+    // Appends the text of the next chunk that is certain, in bytes of the encoder's byte order.
     void feed(bytes chunk, std::string &to) {
         std::size_t size = to.size();
         to.resize(size + DETHRUX_ENCODER_FEED_MAX(chunk.size()));
