@@ -182,7 +182,8 @@ decodes_by_word() {
 
 # The program in the first comment of the header, compiled as it is there.
 in_comment() {
-    sed -n 's|^ \*     ||p' "$top/include/dethrux.h" | sed 's|} \*/$|}|' > "$room/comment.c"
+    sed -n '/^ \* @code/,/^ \* @endcode/p' "$top/include/dethrux.h" |
+        sed '/^ \* @/d; s|^ \* \{0,1\}||' > "$room/comment.c"
     cc -std=c99 "$level" -Wall -Wextra -Wpedantic -Werror "-I$top/include" "$room/comment.c" "$archive" -o "$room/comment"
 }
 

@@ -151,7 +151,7 @@ class Declarations(unittest.TestCase):
 
     def setUp(self):
         header = (TOP / "include" / "dethrux.h").read_text()
-        header = header[: header.index("/* ---- UTF-16 in the machine's byte order")]
+        header = header[: header.index("/**\n * @defgroup dethrux_u16 ")]
         self.header = re.sub(r"/\*.*?\*/", "", header, flags=re.DOTALL)
 
     def declared(self, parameter):
