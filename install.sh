@@ -89,6 +89,9 @@ put_built() {
         put 755 "$built/$program" "bin/$program"
         put 644 "$top/crates/$program/$program.1" "share/man/man1/$program.1"
     done
+    for page in "$built"/man3/*; do
+        put 644 "$page" "share/man/man3/${page##*/}"
+    done
     for header in "$top"/include/*.h*; do
         put 644 "$header" "include/${header##*/}"
     done

@@ -135,16 +135,17 @@ check_versions() {
 
 # == symbols
 
-# Prints the functions that the header below a prefix declares, according to the compiler.
+# Prints the functions that the header below a prefix declares with these words, according to the
+# compiler.
 declared() {
     gcc -fsyntax-only -aux-info "$room/prototypes" -x c "$1/include/dethrux.h" &&
-        sed -nE 's/.*dethrux\.h:.* extern .*[ *](dethrux_[a-z0-9_]+) \(.*/\1/p' "$room/prototypes" |
+        sed -nE "s/.*dethrux\.h:.* ($2) .*[ *](dethrux_[a-z0-9_]+) \(.*/\2/p" "$room/prototypes" |
         sort
 }
 
 # Tests that the symbols that this command lists are the functions of the header.
 exports_header() {
-    declared "$1" > "$room/declared" || return
+    declared "$1" extern > "$room/declared" || return
     "${@:2}" | sed -n 's/.* [A-Z] //p' | sort > "$room/exported"
     [ -s "$room/declared" ] && diff "$room/declared" "$room/exported"
 }
@@ -152,6 +153,20 @@ exports_header() {
 # Tests that a library calls only functions that copy, move, fill and compare memory.
 calls_memory_alone() {
     ! nm --undefined-only "$1" | sed -n 's/.* U //p' | grep -vxE 'mem(cpy|move|set|cmp)'
+}
+
+# == manual pages
+
+# Tests that the library and each function of the header have a page, also those for code units.
+has_pages() {
+    { echo dethrux && declared "$1" 'extern|static'; } > "$room/declared" || return
+    (cd "$1/share/man/man3" && printf '%s\n' *.3) | sed 's/\.3$//' | sort |
+        diff <(sort "$room/declared") -
+}
+
+# Tests that mandoc, if it is installed, finds nothing to warn of in the pages.
+lints_pages() {
+    ! command -v mandoc > /dev/null || mandoc -T lint -W warning "$1"/share/man/man3/*.3
 }
 
 # == programs against a prefix
@@ -396,6 +411,8 @@ check 'the symbols of the shared library' \
 check 'the symbols of the static library' \
     exports_header "$prefix" nm -g --defined-only "$prefix/lib/libdethrux.a"
 check 'what the static library calls' calls_memory_alone "$prefix/lib/libdethrux.a"
+check 'the manual pages' has_pages "$prefix"
+check 'mandoc' lints_pages "$prefix"
 check 'the version of pkg-config' is_version config "$prefix" --modversion
 check 'the file of pkg-config' config "$prefix" --validate
 check 'the shared library by pkg-config' with_shared "$prefix" user.c

@@ -1,7 +1,8 @@
 #!/usr/bin/env bash
-# Builds what install.sh installs, in packaging/out: the static library, the shared library and the
-# two programs. rt proves and builds what is missing or older than its sources; the rest is used
-# unchanged. DETHRUX_ARCHIVE names an archive to use instead of the archive of crates/dethrux.
+# Builds what install.sh installs, in packaging/out: the static library, the shared library, the two
+# programs, and the manual pages of the library. rt proves and builds what is missing or older than
+# its sources; the rest is used unchanged. DETHRUX_ARCHIVE names an archive to use instead of the
+# archive of crates/dethrux.
 #
 #     packaging/build.sh
 set -euo pipefail
@@ -22,8 +23,8 @@ fail() {
     exit 1
 }
 
-for tool in cc ld ar objcopy; do
-    command -v $tool > /dev/null || fail "there is no $tool: install gcc and binutils"
+for tool in cc ld ar objcopy python3; do
+    command -v $tool > /dev/null || fail "there is no $tool: install gcc, binutils and python3"
 done
 
 # Tests that a file exists and no source of a crate is newer.
@@ -84,8 +85,9 @@ fi
 build_crate utf16_cat utf16_cat.o rt run -- le
 build_crate utf16_enc utf16_enc.o rt run -- le
 
-# What was already linked from exactly these inputs is not linked again.
-inputs=("$here/build.sh" "$here/dethrux.map" "$top/VERSION" "$archive")
+# What was already made from exactly these inputs is not made again.
+inputs=("$here/build.sh" "$here/dethrux.map" "$here/man3" "$top/VERSION" "$archive")
+inputs+=("$top/include/dethrux.h" "$top/CHANGELOG.md")
 inputs+=("$top/crates/utf16_cat/out/utf16_cat.o" "$top/crates/utf16_enc/out/utf16_enc.o")
 made=$(cat "${inputs[@]}" | sha256sum)
 if [ "$(cat "$out/made" 2> /dev/null)" != "$made" ]; then
@@ -94,5 +96,7 @@ if [ "$(cat "$out/made" 2> /dev/null)" != "$made" ]; then
     shared_library
     program utf16_cat
     program utf16_enc
+    rm -rf "$out/man3"
+    "$here/man3" "$out/man3"
     echo "$made" > "$out/made"
 fi
