@@ -1,11 +1,11 @@
 # Reads the contracts in the sources of the crates: functions, types and traits, with their clauses
-# and the first sentence of their documentation. .ci/promises looks up what the documents name, and
-# .ci/clauses lists the public ones.
+# and their documentation. .ci/promises looks up what the documents name, .ci/clauses lists the
+# public ones, and docs/html/build.py makes a page of each crate.
 import glob
 import os
 import re
 import sys
-from collections import defaultdict
+from collections import defaultdict, namedtuple
 
 # The crates that a user depends on: no examples, no callers and no tests.
 LIBRARY = re.compile(r"utf16|utf8|dethrux")
@@ -30,6 +30,10 @@ DECLARED = re.compile(r"\b(?:fn|struct|enum|trait|const|mod|type|ghost) (\w+)|pu
 DEFINED = re.compile(r"^ *(?:(?:pub|abbrev|unfoldable|record|data|ruleset) +)*([^\s:({]+)", re.M)
 
 
+# A clause as it is written, with its file; a ghost member has the trait whose impl it is in.
+Clause = namedtuple("Clause", "kind name text path trait")
+
+
 def read(path):
     with open(path, encoding="utf-8") as it:
         return it.read()
@@ -43,19 +47,22 @@ class Item:
     """A function, a type, a trait or a trait's impl, with the texts of its clauses by name."""
 
     def __init__(self, crate, path, name, owner, trait, is_public):
-        self.crate, self.path, self.name = crate, path, name
+        self.crate, self.path, self.name, self.line = crate, path, name, 0
         self.owner, self.trait, self.is_public = owner, trait, is_public
         self.modules = path.split("/src/")[1][: -len(".rt")].split("/")
         self.scope = {crate, trait or owner, *self.modules}
         self.clauses = defaultdict(str)
         # The names in `clauses`, in order and by kind, and "" for each clause without a name.
         self.names = defaultdict(list)
+        self.written = []
         self.is_type = False
-        self.doc = ""
+        # The lines of the documentation, and its first sentence.
+        self.docs, self.doc = [], ""
 
-    def add(self, kind, name, text):
-        self.names[kind].append(name)
-        self.clauses[name] += text
+    def add(self, clause):
+        self.names[clause.kind].append(clause.name)
+        self.clauses[clause.name] += clause.text
+        self.written.append(clause)
 
     def is_at(self, path):
         """Whether it can have this path. A function of a trait's impl has the trait's path."""
@@ -94,13 +101,16 @@ class Crate:
         for at, line in enumerate(lines):
             if found := BLOCK.match(line):
                 block = item = self.add_item(self.block(path, found), doc)
+                item.line = at + 1
             elif found := FUNCTION.match(line):
                 item = self.function(path, found, block if found["deep"] else None)
                 self.add_item(item, doc)
+                item.line = at + 1
             elif item and (found := CLAUSE.match(line)):
                 owner = block if found["member"] else item
                 name = found["name"] or found["member"] or ""
-                owner.add(found["kind"] or "ghost", name, text_of_clause(lines, at))
+                text = text_of_clause(lines, at)
+                owner.add(Clause(found["kind"] or "ghost", name, text, path, owner.trait))
             elif line.startswith("}"):
                 block = item = None
             elif re.match(r"(unsafe )?impl\b", line):
@@ -111,7 +121,7 @@ class Crate:
                 doc = []
 
     def add_item(self, item, doc):
-        item.doc = first_sentence(doc)
+        item.docs, item.doc = doc, first_sentence(doc)
         self.items.append(item)
         return item
 
@@ -139,8 +149,8 @@ class Crate:
             if it.trait in blocks and not blocks[it.trait].is_public:
                 it.is_public = False
             if it.is_public and it.trait and it.trait == it.name and it.owner in blocks:
-                for name, text in it.clauses.items():
-                    blocks[it.owner].add("ghost", name, text)
+                for clause in it.written:
+                    blocks[it.owner].add(clause)
 
     def exports(self, item):
         """Whether another crate can name this item, if it is public.
@@ -153,6 +163,25 @@ class Crate:
         own = {it.name for it in self.items if it.is_type}
         name = item.trait if item.owner and item.owner not in own else item.owner or item.name
         return name in self.reexported or item.modules[0] in self.public_modules
+
+    def public_items(self):
+        """What another crate can name: types, traits and calls.
+
+        What an impl of a trait only repeats is where the trait is.
+        """
+        for it in self.items:
+            is_own = it.name != it.trait and (not it.trait or it.clauses or it.doc)
+            if is_own and it.is_public and self.exports(it):
+                yield it
+
+    def title(self, item):
+        """The name by which another crate calls an item, in Markdown."""
+        if item.trait:
+            return f"`{item.trait}::{item.name}` of `{item.owner}`"
+        if item.owner:
+            return f"`{item.owner}::{item.name}`"
+        is_in_module = self.public_modules and item.name not in self.reexported
+        return f"`{'::'.join([*item.modules, item.name]) if is_in_module else item.name}`"
 
 
 def first_sentence(lines):
@@ -215,7 +244,7 @@ class Crates:
         return [self.only([it for it in its if is_near(it) and is_of(it)])]
 
     def only(self, its):
-        # A trait's own function comes before those of its impls.
+        # A trait's own function comes before the ones of its impls.
         its = [it for it in its if not it.trait] or its
         if not its:
             raise LookupError("is not there")

@@ -1,0 +1,92 @@
+#!/usr/bin/env python3
+# Builds docs/site from the tree: the documents, a page for each crate, and the references for C,
+# C++, Python, Rust and the programs, as HTML. Without a tool the pages that need it are left out.
+# Prints a line for each failure, and for each part that was left out. The status is 0 if all was
+# built, 1 after a failure, and 77 if a part was left out.
+import os
+import shutil
+import sys
+
+sys.dont_write_bytecode = True
+
+import crates
+import pages
+import references
+
+BUILDERS = {
+    "tree": pages.build_documents,
+    "rattle": crates.build_crates,
+    "c": references.build_c,
+    "python": references.build_python,
+    "rust": references.build_rust,
+    "man": references.build_man,
+}
+WORDS = {
+    "tree": "Guides to the library, what it promises and why, and how to change it.",
+    "rattle": "The crates: each public item with its contract, and links to the definitions.",
+    "c": "The headers <code>dethrux.h</code> and <code>dethrux.hpp</code>.",
+    "python": "The package <code>dethrux</code>.",
+    "rust": "The crates <code>dethrux</code> and <code>utf16string</code>.",
+    "man": "The programs <code>utf16_cat</code> and <code>utf16_enc</code>, and each call for C.",
+}
+FIRST = (
+    ("README.md", "What Dethrux is"),
+    ("docs/C.md", "C"),
+    ("docs/CPP.md", "C++"),
+    ("docs/PYTHON.md", "Python"),
+    ("docs/RUST.md", "Rust"),
+    ("docs/CALLING.md", "Rattle"),
+    ("docs/RECIPES.md", "Recipes"),
+    ("docs/PROMISES.md", "Promises"),
+)
+
+
+def build(part, builder, tree):
+    """Builds a part. Returns what failed, and whether it was left out."""
+    (pages.SITE / part).mkdir(parents=True, exist_ok=True)
+    title = pages.PARTS[part]
+    try:
+        return builder(tree) or [], False
+    except pages.Missing as tool:
+        print(f"skipped: {title}: there is no {tool}")
+        words = f"This part was left out: there is no <code>{tool}</code>."
+        pages.write(f"{part}/index.html", title, f"<h1>{title}</h1>\n<p>{words}</p>\n")
+        return [], True
+    except RuntimeError as error:
+        return [str(error)], False
+
+
+def write_index(tree, has_documents):
+    guides = "".join(
+        f'<li><a href="{tree.page(path)}">{words}</a></li>\n' for path, words in FIRST
+    )
+    rows = "".join(
+        f'<dt><a href="{part}/index.html">{title}</a></dt>\n<dd>{WORDS[part]}</dd>\n'
+        for part, title in pages.PARTS.items()
+    )
+    body = "<h1>Dethrux</h1>\n<p>UTF-16 strings and transcoding, proved correct.</p>\n"
+    if has_documents:
+        body += f"<h2>Begin here</h2>\n<ul>\n{guides}</ul>\n"
+    pages.write("index.html", "Index", f"{body}<h2>All of it</h2>\n<dl>\n{rows}</dl>\n")
+
+
+def main():
+    os.chdir(pages.TOP)
+    shutil.rmtree(pages.SITE, ignore_errors=True)
+    pages.SITE.mkdir()
+    shutil.copy("docs/html/style.css", pages.SITE)
+    tree = pages.Tree()
+    failed, left_out = [], []
+    for part, builder in BUILDERS.items():
+        lost, is_left_out = build(part, builder, tree)
+        failed += lost
+        left_out += [part] if is_left_out else []
+    tree.write()
+    write_index(tree, "tree" not in left_out)
+    for it in failed:
+        print(f"failed: {it}")
+    return 1 if failed else 77 if left_out else 0
+
+
+if __name__ == "__main__":
+    sys.exit(main())
