@@ -164,11 +164,6 @@ has_pages() {
         diff <(sort "$room/declared") -
 }
 
-# Tests that mandoc, if it is installed, finds nothing to warn of in the pages.
-lints_pages() {
-    ! command -v mandoc > /dev/null || mandoc -T lint -W warning "$1"/share/man/man3/*.3
-}
-
 # == programs against a prefix
 
 # Runs pkg-config on the file below a prefix.
@@ -412,7 +407,6 @@ check 'the symbols of the static library' \
     exports_header "$prefix" nm -g --defined-only "$prefix/lib/libdethrux.a"
 check 'what the static library calls' calls_memory_alone "$prefix/lib/libdethrux.a"
 check 'the manual pages' has_pages "$prefix"
-check 'mandoc' lints_pages "$prefix"
 check 'the version of pkg-config' is_version config "$prefix" --modversion
 check 'the file of pkg-config' config "$prefix" --validate
 check 'the shared library by pkg-config' with_shared "$prefix" user.c

@@ -1,0 +1,68 @@
+#!/usr/bin/env bash
+# Builds the pages docs/site, checks the manual pages with mandoc, follows each link of the pages,
+# and opens pages of each kind in headless Chromium. A line 'skipped: ..' names what is not checked
+# since a tool is not installed. The last line is 'N passed, M failed'.
+set -uo pipefail
+cd "$(dirname "$0")/.." || exit 1
+room=$(mktemp -d)
+trap 'rm -rf "$room"' EXIT
+passed=0
+failed=0
+
+# Adds the counts of a command, whose last line has them, and prints its other lines.
+counts() {
+    local said
+    said=$("$@" 2>&1)
+    if [[ ${said##*$'\n'} =~ ^([0-9]+)\ passed,\ ([0-9]+)\ failed$ ]]; then
+        passed=$((passed + BASH_REMATCH[1]))
+        failed=$((failed + BASH_REMATCH[2]))
+        [[ $said != *$'\n'* ]] || echo "${said%$'\n'*}"
+    else
+        failed=$((failed + 1))
+        echo "failed: $1:"
+        tail -n 5 <<< "$said"
+    fi
+}
+
+# Prints the first of these programs that is installed.
+first_of() {
+    local name
+    for name in "$@"; do
+        command -v "$name" && return
+    done
+}
+
+docs/html/build.py
+status=$?
+# With 77 it was built without the parts that it named.
+if [ $status = 0 ] || [ $status = 77 ]; then
+    passed=$((passed + 1))
+else
+    failed=$((failed + 1))
+fi
+
+if command -v mandoc > /dev/null; then
+    packaging/man3 "$room"
+    for page in "$room"/*.3 crates/*/*.1; do
+        # Its standard error is about this machine's index of manual pages.
+        if mandoc -T lint -W warning "$page" 2> /dev/null; then
+            passed=$((passed + 1))
+        else
+            failed=$((failed + 1))
+        fi
+    done
+else
+    echo 'skipped: the check of the manual pages: there is no mandoc'
+fi
+
+counts .ci/site_links.py docs/site
+
+CHROMIUM=$(first_of chromium chromium-browser google-chrome)
+export CHROMIUM
+if [ -n "$CHROMIUM" ]; then
+    counts .ci/site_browser.py docs/site
+else
+    echo 'skipped: the pages in a browser: there is no chromium'
+fi
+echo "$passed passed, $failed failed"
+[ $failed = 0 ]

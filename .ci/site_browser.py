@@ -1,0 +1,177 @@
+#!/usr/bin/env python3
+# Opens pages of a folder in headless Chromium: its index.html, and pages of each kind. Each must
+# load without an error on its console, a request that fails and a request to another machine, and
+# it must show its pictures. Except in rustdoc's pages, a dark theme must change the colours, and a
+# page must be no wider than a window of 360 pixels. Prints what is not so, and last a line
+# 'N passed, M failed', which counts pages. CHROMIUM names another program.
+import glob
+import json
+import os
+import pathlib
+import select
+import subprocess
+import sys
+import tempfile
+import time
+
+# The pages of each kind, and how many of them are opened.
+KINDS = (
+    ("index.html", 1),
+    ("*/index.html", 9),
+    ("tree/*.html", 9),
+    ("tree/docs/*.html", 99),
+    ("tree/b*/**/*.html", 9),
+    ("tree/crates/*/s*/*.html", 4),
+    ("rattle/*.html", 4),
+    ("c/*.html", 9),
+    ("man/*.html", 4),
+    ("rust/*/*.html", 6),
+)
+NARROW = 360
+# The seconds that a page, or an answer, may take.
+PATIENCE = 20
+# The errors that Chromium logs, by the events that it sends.
+SAYS = {
+    "Runtime.exceptionThrown": lambda it: it["exceptionDetails"]["text"],
+    "Runtime.consoleAPICalled": lambda it: it["type"] == "error" and str(it["args"]),
+    "Log.entryAdded": lambda it: it["entry"]["level"] == "error" and it["entry"]["text"],
+    "Network.loadingFailed": lambda it: f"a request failed: {it['errorText']}",
+    "Network.requestWillBeSent": lambda it: not it["request"]["url"].startswith(("file:", "data:"))
+    and f"requests {it['request']['url']}",
+}
+# What a page looks like: the pictures that are not shown, its width, and its colours.
+LOOK = """({
+    lost: [...document.images].filter(it => !it.complete || !it.naturalWidth).map(it => it.src),
+    width: document.documentElement.scrollWidth,
+    ground: getComputedStyle(document.body).backgroundColor,
+    text: document.body.innerText.length,
+})"""
+
+
+class Browser:
+    """Chromium, with commands and events as lines that end with a zero byte, by its DevTools."""
+
+    def __init__(self, room):
+        program = os.environ.get("CHROMIUM", "chromium")
+        theirs, self.to = os.pipe()
+        self.come, ours = os.pipe()
+        # The protocol is on the files 3 and 4.
+        command = f'exec "$@" 3<&{theirs} 4>&{ours}'
+        options = ["--headless", "--remote-debugging-pipe", f"--user-data-dir={room}"]
+        options += ["--no-first-run", "--disable-gpu", "--disable-dev-shm-usage"]
+        options += ["--no-sandbox"] if os.geteuid() == 0 else []
+        self.process = subprocess.Popen(
+            ["bash", "-c", command, "bash", program, *options, "about:blank"],
+            pass_fds=(theirs, ours),
+            stdout=subprocess.DEVNULL,
+            stderr=subprocess.DEVNULL,
+        )
+        os.close(theirs)
+        os.close(ours)
+        self.count, self.read, self.events, self.session = 0, b"", [], None
+        target = self.call("Target.createTarget", url="about:blank")["targetId"]
+        found = self.call("Target.attachToTarget", targetId=target, flatten=True)
+        self.session = found["sessionId"]
+        for it in ("Page", "Runtime", "Log", "Network"):
+            self.call(f"{it}.enable")
+
+    def call(self, method, **parameters):
+        """Returns the result of a command; events that come before it are kept."""
+        self.count += 1
+        message = {"id": self.count, "method": method, "params": parameters}
+        if self.session:
+            message["sessionId"] = self.session
+        os.write(self.to, json.dumps(message).encode() + b"\0")
+        while (found := self.next()).get("id") != self.count:
+            self.events.append(found)
+        if "error" in found:
+            raise RuntimeError(f"{method}: {found['error']['message']}")
+        return found["result"]
+
+    def next(self):
+        """Returns the next message."""
+        end = time.monotonic() + PATIENCE
+        while b"\0" not in self.read:
+            ready, _, _ = select.select([self.come], [], [], max(end - time.monotonic(), 0))
+            more = os.read(self.come, 1 << 16) if ready else b""
+            if not more:
+                raise RuntimeError("Chromium does not answer")
+            self.read += more
+        message, _, self.read = self.read.partition(b"\0")
+        return json.loads(message)
+
+    def open(self, address):
+        """Loads a page, and returns what it says in errors."""
+        self.events = []
+        self.call("Page.navigate", url=address)
+        while not any(it.get("method") == "Page.loadEventFired" for it in self.events):
+            self.events.append(self.next())
+
+    def value(self, expression):
+        found = self.call("Runtime.evaluate", expression=expression, returnByValue=True)
+        return found["result"].get("value")
+
+    def errors(self):
+        said = (SAYS[it["method"]](it["params"]) for it in self.events if it.get("method") in SAYS)
+        return [it for it in said if it]
+
+    def close(self):
+        self.process.kill()
+        self.process.wait()
+
+
+def faults(browser, path):
+    """What is wrong with a page."""
+    size = {"height": 800, "deviceScaleFactor": 1, "mobile": False}
+    browser.call("Emulation.setDeviceMetricsOverride", width=NARROW, **size)
+    theme(browser, "light")
+    browser.open(pathlib.Path(path).resolve().as_uri())
+    light = browser.value(LOOK)
+    theme(browser, "dark")
+    dark = browser.value(LOOK)
+    found = browser.errors() + [f"does not show {it}" for it in light["lost"]]
+    if not light["text"]:
+        found.append("is empty")
+    if "/rust/" in path:
+        return found
+    if light["width"] > NARROW:
+        found.append(f"is {light['width']} pixels wide in a window of {NARROW}")
+    if light["ground"] == dark["ground"]:
+        found.append("has the same colours in a dark theme")
+    return found
+
+
+def theme(browser, name):
+    features = [{"name": "prefers-color-scheme", "value": name}]
+    browser.call("Emulation.setEmulatedMedia", features=features)
+
+
+def sample(folder):
+    """The pages that are opened: of each kind some, as far apart as possible."""
+    found = []
+    for pattern, count in KINDS:
+        paths = sorted(glob.glob(f"{folder}/{pattern}", recursive=True))
+        found += paths[:: max(1, -(-len(paths) // count))]
+    return list(dict.fromkeys(found))
+
+
+def main(folder):
+    failed, paths = 0, sample(folder)
+    with tempfile.TemporaryDirectory(ignore_cleanup_errors=True) as room:
+        browser = Browser(room)
+        try:
+            for path in paths:
+                said = faults(browser, path)
+                failed += bool(said)
+                for it in said:
+                    print(f"failed: {path}: {it}")
+        finally:
+            browser.close()
+    print(f"{len(paths) - failed} passed, {failed} failed")
+    return 1 if failed or not paths else 0
+
+
+if __name__ == "__main__":
+    if len(sys.argv) != 2:
+        sys.exit("usage: .ci/site_browser.py FOLDER")
+    sys.exit(main(sys.argv[1]))
