@@ -1,8 +1,8 @@
 #!/usr/bin/env python3
 # Builds docs/site from the tree: the documents, a page for each crate, and the references for C,
 # C++, Python, Rust and the programs, as HTML. Without a tool the pages that need it are left out.
-# Prints a line for each failure, and for each part that was left out. The status is 0 if all was
-# built, 1 after a failure, and 77 if a part was left out.
+# Prints a line for each failure and for each part that was left out, and then the page to open. The
+# status is 0 if all was built, 1 after a failure, and 77 if a part was left out.
 import os
 import shutil
 import sys
@@ -49,11 +49,16 @@ def build(part, builder, tree):
         return builder(tree) or [], False
     except pages.Missing as tool:
         print(f"skipped: {title}: there is no {tool}")
-        words = f"This part was left out: there is no <code>{tool}</code>."
-        pages.write(f"{part}/index.html", title, f"<h1>{title}</h1>\n<p>{words}</p>\n")
+        write_notice(part, f"This part was left out: there is no <code>{tool}</code>.")
         return [], True
     except RuntimeError as error:
+        write_notice(part, "This part could not be built.")
         return [str(error)], False
+
+
+def write_notice(part, words):
+    title = pages.PARTS[part]
+    pages.write(f"{part}/index.html", title, f"<h1>{title}</h1>\n<p>{words}</p>\n")
 
 
 def write_index(tree, has_documents):
@@ -85,6 +90,7 @@ def main():
     write_index(tree, "tree" not in left_out)
     for it in failed:
         print(f"failed: {it}")
+    print("built: docs/site/index.html")
     return 1 if failed else 77 if left_out else 0
 
 

@@ -4,7 +4,7 @@ import html
 import os
 import re
 
-from pages import TOP, Names, link, markdown, write
+from pages import MARKDOWN, Names, link, markdown, need, write
 from contracts import CLAUSE, LIBRARY, Crates, Item, first_sentence, read
 
 # What begins where an item of a module may begin, and has neither clauses nor members.
@@ -16,8 +16,9 @@ REFERENCE = re.compile(r"\[(`([\w:]+)`)\]")
 
 def build_crates(tree):
     """Writes a page for each crate, and one that lists them; returns what is not documented."""
+    need(MARKDOWN)
     crates = {name: it for name, it in Crates().all.items() if LIBRARY.match(name)}
-    names = Anchors(crates)
+    names = Places(crates)
     lost = [it for crate in crates.values() for it in Page(crate, names, tree).write()]
     write_list(crates)
     return lost
@@ -42,7 +43,7 @@ def about(path):
     return [it[1] or "" for it in INNER_DOC.finditer(read(path))] if os.path.isfile(path) else []
 
 
-class Anchors:
+class Places:
     """The page and the anchor of each public item, by its name."""
 
     def __init__(self, crates):
@@ -152,7 +153,7 @@ class Page:
         page = self.names.pages.get(found[2])
         if not page:
             self.lost.append(f"{self.crate.name}: no public item is [`{found[2]}`]")
-        return f"[{found[1]}]({page})"
+        return f"[{found[1]}]({page})" if page else found[1]
 
     def item(self, item):
         """The parts of the page about an item."""

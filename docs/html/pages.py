@@ -15,8 +15,13 @@ sys.path.insert(0, str(TOP / ".ci"))
 
 from contracts import DEFINED, WORD, imports, read  # noqa: E402
 
-DOCUMENTS = ("*.md", "docs/*.md", "*/README.md", "bindings/**/README.md", "bench/results/*.md")
+# The tool that renders Markdown as GitHub does; without it only manual pages can be made.
+MARKDOWN = "cmark-gfm"
+DOCUMENTS = ("*.md", "docs/*.md", "*/README.md", "bindings/*/README.md", "bindings/*/*/README.md")
+DOCUMENTS += ("bench/results/*.md",)
 PICTURES = {".svg", ".png"}
+# Folders that tools write.
+MADE = {"out", "target", "build", "dist", "__pycache__"}
 # The parts of the site, each in a folder with an index.html.
 PARTS = {
     "tree": "Documents",
@@ -84,8 +89,7 @@ def write(page, title, body):
 
 def markdown(text):
     """Returns Markdown as HTML, with the anchors that GitHub gives to headings."""
-    need("cmark-gfm")
-    command = ["cmark-gfm", "--unsafe", "-e", "table", "-e", "autolink", "-e", "strikethrough"]
+    command = [MARKDOWN, "--unsafe", "-e", "table", "-e", "autolink", "-e", "strikethrough"]
     made = run(command, text)
     made = re.sub(r"<table>.*?</table>", r'<div class="wide">\g<0></div>', made, flags=re.S)
     return HEADING.sub(Anchors().heading, made)
@@ -145,8 +149,8 @@ class Tree:
             self.write_text(path, page)
 
     def write_folder(self, path, page):
-        names = sorted(it.name for it in (TOP / path).iterdir() if not it.name.startswith("."))
-        pages = [(it, self.page(f"{path}/{it}")) for it in names]
+        names = {it.name for it in (TOP / path).iterdir() if not it.name.startswith(".")} - MADE
+        pages = [(it, self.page(f"{path}/{it}")) for it in sorted(names)]
         items = (f'<li><a href="{link(page, to)}">{it}</a></li>\n' for it, to in pages)
         write(page, path, f"<h1>{path}</h1>\n<ul>\n{''.join(items)}</ul>\n")
 
@@ -195,6 +199,7 @@ def place(module, name):
 
 def build_documents(tree):
     """Writes a page for each document, and one that lists them."""
+    need(MARKDOWN)
     titles = {path: write_document(tree, path) for path in tree.documents}
     items = "".join(
         f'<li><a href="{link("tree/index.html", tree.page(path))}">{html.escape(title)}</a> '

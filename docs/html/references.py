@@ -8,8 +8,9 @@ import pathlib
 import re
 import shutil
 import tempfile
+from xml.etree import ElementTree
 
-from pages import SITE, TOP, Missing, Names, frame, link, markdown, need, run, write
+from pages import MARKDOWN, SITE, TOP, Missing, frame, link, markdown, need, run, write
 
 # Where Debian has the sources of Rust packages, from which cargo makes them without a network.
 REGISTRY = pathlib.Path("/usr/share/cargo/registry")
@@ -17,6 +18,8 @@ PACKAGE = TOP / "bindings/python/src/dethrux"
 PROGRAMS = ("utf16_cat", "utf16_enc")
 # Doxygen's lists of all names, to which no other page of it leads.
 INDEX = re.compile(r"index|functions|globals|namespace(?:s|members)|files|classes")
+# A name of C, or before one what may have a name: a link, a heading or a tag.
+NAME = re.compile(r"<(a|h[12]|title)\b.*?</\1>|<[^>]*>|\b((?:dethrux|DETHRUX)_\w+)", re.S)
 HEADERS = """# C and C++
 
 - [`dethrux.h`](dethrux_8h.html): the calls between buffers that you own.
@@ -31,19 +34,34 @@ XR = re.compile(r'<a class="Xr"(?: href="[^"]*")?>(\w+)\((\d)\)</a>')
 
 def build_c(tree):
     """Writes the reference for C and C++; a warning of Doxygen is an error."""
-    need("doxygen")
+    need(MARKDOWN, "doxygen")
     with tempfile.TemporaryDirectory() as room:
         before, after = frame("c/index.html", "$title")
         (pathlib.Path(room) / "header.html").write_text(before)
         (pathlib.Path(room) / "footer.html").write_text(after)
         settings = (TOP / "docs/html/Doxyfile").read_text() + f"OUTPUT_DIRECTORY = {room}\n"
         settings += f"HTML_HEADER = {room}/header.html\nHTML_FOOTER = {room}/footer.html\n"
-        run(["doxygen", "-"], settings)
+        run(["doxygen", "-"], settings + f"GENERATE_TAGFILE = {room}/tags\n")
+        members = list(ElementTree.parse(f"{room}/tags").iter("member"))
+        names = {it.find("name").text: it for it in members}
         # Scripts and styles are left out, since the pages have the site's style.
         for path in pathlib.Path(room, "html").glob("*.html"):
             if not INDEX.match(path.name):
-                shutil.copy(path, SITE / "c")
+                (SITE / "c" / path.name).write_text(with_links(path.read_text(), names))
     write("c/index.html", "C and C++", markdown(HEADERS))
+
+
+def with_links(text, names):
+    """Returns a page with a link for each name of C. Doxygen makes them only before `(`."""
+
+    def linked(found):
+        member = names.get(found[2])
+        if member is None:
+            return found[0]
+        address = f"{member.find('anchorfile').text}#{member.find('anchor').text}"
+        return f'<a href="{address}">{found[2]}</a>'
+
+    return NAME.sub(linked, text)
 
 
 def build_man(tree):
@@ -70,12 +88,15 @@ def write_manual(path, names):
         return f'<a href="{name}.html">{found[1]}({found[2]})</a>' if name in names else found[0]
 
     write(f"man/{path.name}.html", path.name, XR.sub(reference, made))
-    return path.name, re.search(r'class="Nd"[^>]*>(.*?)</(?:div|span)>', made, re.S)[1].strip()
+    brief = re.search(r'class="Nd"[^>]*>(.*?)</(?:div|span)>', made, re.S)
+    if not brief:
+        raise RuntimeError(f"{path.name}: its section NAME does not say what it is about")
+    return path.name, brief[1].strip()
 
 
 def build_rust(tree):
     """Writes rustdoc's pages of both crates; a warning of rustdoc is an error."""
-    need("cargo", "rustdoc", "rustc")
+    need(MARKDOWN, "cargo", "rustdoc", "rustc")
     if not list(REGISTRY.glob("byteorder-*")):
         raise Missing("librust-byteorder-dev")
     host = re.search(r"^host: (.*)", run(["rustc", "-vV"]), re.M)[1]
@@ -109,6 +130,7 @@ def ignored(folder, names):
 
 def build_python(tree):
     """Writes a page about the Python package, and returns what is not documented."""
+    need(MARKDOWN)
     modules = {it.stem: ast.parse(it.read_text()) for it in PACKAGE.glob("*.py")}
     package = modules.pop("__init__")
     exported = next(
