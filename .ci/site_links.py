@@ -75,6 +75,9 @@ def main(folder):
     pages = {it: Page(it) for it in sorted(files) if it.endswith(".html")}
     found = reached(os.path.join(folder, "index.html"), pages)
     found |= {it for it in pages if it.startswith(os.path.join(folder, "rust", ""))}
+    if not pages:
+        print(f"failed: {folder} has no pages\n0 passed, 1 failed")
+        return 1
     failed = 0
     for path, page in pages.items():
         faults = [] if path in found else ["no link leads here from index.html"]
@@ -85,7 +88,7 @@ def main(folder):
         for it in faults:
             print(f"failed: {path}: {it}")
     print(f"{len(pages) - failed} passed, {failed} failed")
-    return 1 if failed or not pages else 0
+    return 1 if failed else 0
 
 
 if __name__ == "__main__":
