@@ -1,12 +1,13 @@
 #!/usr/bin/env bash
-# Installs the C library and the programs below PREFIX (by default /usr/local), and prints each
-# path. In a clone it first builds what is not built yet; in an unpacked release archive everything
-# is built. With --uninstall it removes what it installed there, and nothing else.
+# Installs the C library below PREFIX (by default /usr/local), and prints each path. In a clone it
+# first builds the library from the assembly in dist/, and on a machine with rt also the programs;
+# in an unpacked release archive everything is built. With --uninstall it removes what it installed
+# there, and nothing else.
 #
 #     ./install.sh [--uninstall] [PREFIX]
 #
 # For packagers: DESTDIR is put before every path. LIBDIR is the folder of the libraries below
-# PREFIX (by default lib).
+# PREFIX (by default lib). CC and LEVEL are those of dist/Makefile.
 set -euo pipefail
 top=$(cd "$(dirname "${BASH_SOURCE[0]}")" && pwd)
 libdir=${LIBDIR:-lib}
@@ -72,20 +73,36 @@ put_link() {
     record "$2"
 }
 
-# Installs a template of packaging/, with the relative path from its folder up to PREFIX.
+# Installs a template of dist/, with the relative path from its folder up to PREFIX.
 put_filled() {
     local from=$1 to=$2 up
     up=$(sed 's/[^/]\+/../g' <<< "${to%/*}")
     make_folder "${to%/*}"
     sed -e "s|@VERSION@|$version|g" -e "s|@SOVERSION@|${version%.*}|g" -e "s|@UP@|$up|g" \
-        -e "s|@LIBDIR@|$libdir|g" "$top/packaging/$from.in" > "$room/$from"
+        -e "s|@LIBDIR@|$libdir|g" "$top/dist/$from.in" > "$room/$from"
     put 644 "$room/$from" "$to"
 }
 
-# Installs from a clone.
+# Installs the libraries from the folder where make built them.
+put_libraries() {
+    local from=$1 soname=libdethrux.so.${version%.*} level=glibc-hwcaps/x86-64-v3
+    put 644 "$from/libdethrux.a" "$libdir/libdethrux.a"
+    if [ -e "$from/dethrux.dll" ]; then
+        put 644 "$from/libdethrux.dll.a" "$libdir/libdethrux.dll.a"
+        put 755 "$from/dethrux.dll" bin/dethrux.dll
+        return
+    fi
+    put 644 "$from/libdethrux.so.$version" "$libdir/libdethrux.so.$version"
+    put_link "libdethrux.so.$version" "$libdir/$soname"
+    put_link "$soname" "$libdir/libdethrux.so"
+    [ ! -e "$from/$level" ] || put 644 "$from/$level/$soname" "$libdir/$level/$soname"
+}
+
+# Installs from a clone. The argument is the folder of the libraries.
 put_built() {
     local built=$top/packaging/out header page
     for program in utf16_cat utf16_enc; do
+        [ -e "$built/$program" ] || continue
         put 755 "$built/$program" "bin/$program"
         put 644 "$top/crates/$program/$program.1" "share/man/man1/$program.1"
     done
@@ -95,14 +112,11 @@ put_built() {
     for header in "$top"/include/*.h*; do
         put 644 "$header" "include/${header##*/}"
     done
-    put 644 "$built/libdethrux.a" "$libdir/libdethrux.a"
-    put 644 "$built/libdethrux.so" "$libdir/libdethrux.so.$version"
-    put_link "libdethrux.so.$version" "$libdir/libdethrux.so.${version%.*}"
-    put_link "libdethrux.so.${version%.*}" "$libdir/libdethrux.so"
+    put_libraries "$1"
     put_filled dethrux.pc "$libdir/pkgconfig/dethrux.pc"
     put_filled dethruxConfig.cmake "$libdir/cmake/dethrux/dethruxConfig.cmake"
     put_filled dethruxConfigVersion.cmake "$libdir/cmake/dethrux/dethruxConfigVersion.cmake"
-    for page in CHANGELOG.md LICENSE-APACHE LICENSE-MIT docs/C.md docs/CPP.md; do
+    for page in CHANGELOG.md LICENSE-APACHE LICENSE-MIT THIRD-PARTY.md docs/C.md docs/CPP.md; do
         put 644 "$top/$page" "share/doc/dethrux/${page##*/}"
     done
 }
@@ -179,10 +193,10 @@ do_install() {
     version=$(< "$top/VERSION")
     room=$(mktemp -d)
     trap 'rm -rf "$room"' EXIT
-    if [ -d "$top/crates" ]; then
-        "$top/packaging/build.sh"
+    if [ -d "$top/dist" ]; then
+        folder=$("$top/packaging/build.sh")
         make_root
-        put_built
+        put_built "$folder"
     else
         [ "$libdir" = lib ] || fail 'a release archive has its libraries only in lib: unset LIBDIR'
         make_root

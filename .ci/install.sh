@@ -2,8 +2,8 @@
 # Installs what is built into empty folders, with install.sh, from the release archive and from the
 # Debian packages, and compiles and runs programs against each. Compares the version in every file
 # with VERSION, and the symbols of the libraries with the header. rt proves nothing here if the
-# library and the programs are built. If this runs as root, apt-get installs missing tools. Prints
-# each check that fails; the last line is 'N passed, M failed'.
+# programs are built. If this runs as root, apt-get installs missing tools. Prints each check that
+# fails; the last line is 'N passed, M failed'.
 set -uo pipefail
 top=$(cd "$(dirname "$0")/.." && pwd)
 sources=$top/packaging/test
@@ -178,11 +178,22 @@ compile() {
     cc -Wall -Wextra -Werror "$sources/$1" "${words[@]}" "${@:3}" -o "$room/program"
 }
 
-# Compiles a program with the shared library, using pkg-config, and runs it.
+# Prints the file of the shared library that the loader takes below a prefix: the one for x86-64-v3
+# if the processor has that level.
+loaded() {
+    local level=''
+    ! /lib64/ld-linux-x86-64.so.2 --help | grep -q 'x86-64-v3 (supported' ||
+        level=glibc-hwcaps/x86-64-v3/
+    echo "$1/lib/${level}libdethrux.so.${version%.*}"
+}
+
+# Compiles a program with the shared library, using pkg-config, and runs it, also with the file for
+# every processor.
 with_shared() {
     compile "$2" "$(config "$1" --cflags --libs)" || return
-    LD_LIBRARY_PATH=$1/lib "$room/program" && LD_LIBRARY_PATH=$1/lib ldd "$room/program" |
-        grep -F "$1/lib/libdethrux.so"
+    LD_LIBRARY_PATH=$1/lib "$room/program" &&
+        LD_LIBRARY_PATH=$1/lib ldd "$room/program" | grep -F "$(loaded "$1")" &&
+        /lib64/ld-linux-x86-64.so.2 --glibc-hwcaps-mask none --library-path "$1/lib" "$room/program"
 }
 
 # Compiles a program with the static library, using pkg-config, and runs it.
@@ -299,13 +310,18 @@ for_packagers() {
         ! grep -rlF "$room" "$room/packaged"
 }
 
-# Tests install.sh in a clone in which nothing is built, without rt.
-refuses_without_rt() {
-    mkdir -p "$room/clone/crates" "$room/clone/packaging" &&
-        cp "$top/install.sh" "$top/VERSION" "$room/clone/" &&
-        cp "$top"/packaging/*.* "$room/clone/packaging/" &&
-        says 1 'there is no rt' env PATH=/usr/bin:/bin "$room/clone/install.sh" "$room/nowhere" &&
-        [ ! -e "$room/nowhere" ]
+# Installs from a clone in which nothing is built, without rt: all but the programs.
+installs_without_rt() {
+    mkdir "$room/clone" && cp -R "$top"/{install.sh,VERSION,CHANGELOG.md,THIRD-PARTY.md,LICENSE-*} \
+        "$top"/{crates.txt,dist,docs,include,packaging} "$room/clone/" &&
+        rm -rf "$room/clone/dist/out" "$room/clone/packaging/out" &&
+        PATH=/usr/bin:/bin "$room/clone/install.sh" "$room/without rt" &&
+        diff <(cd "$1" && find . -type f | sort) <(cd "$room/without rt" && find . -type f | sort) \
+            > "$room/differing"
+    [ "$(sed -n 's/^[<>] //p' "$room/differing" | LC_ALL=C sort | paste -sd ' ')" = \
+        './bin/utf16_cat ./bin/utf16_enc ./share/man/man1/utf16_cat.1 ./share/man/man1/utf16_enc.1' ] &&
+        cmp "$1/lib/libdethrux.a" "$room/without rt/lib/libdethrux.a" &&
+        cmp "$1/lib/libdethrux.so.$version" "$room/without rt/lib/libdethrux.so.$version"
 }
 
 check_refusals() {
@@ -321,7 +337,6 @@ check_refusals() {
         says 1 'nothing is installed' "$top/install.sh" --uninstall "$room"
     check 'a manifest with an absolute path' keeps_outside "$room/kept"
     check 'a manifest with a path upwards' keeps_outside ../kept
-    check 'a clone without rt' refuses_without_rt
 }
 
 # == the release archive
@@ -437,6 +452,7 @@ check 'uninstalling next to other files' uninstalls_its_own
 check 'uninstalling all' uninstalls_all
 check 'an installation over an older one' drops_old_files
 check 'DESTDIR and LIBDIR' for_packagers
+check 'a clone without rt' installs_without_rt "$moved"
 
 check 'the release archive, twice' makes_same_archive
 if check 'the checksums of the archive' unpacks_archive; then

@@ -51,9 +51,10 @@ def shared_library():
         return released
     script = TOP / "packaging" / "build.sh"
     if script.is_file() and (TOP / "crates").is_dir():
-        if subprocess.run([script], check=False).returncode:
+        done = subprocess.run([script], check=False, stdout=subprocess.PIPE, text=True)
+        if done.returncode:
             raise SystemExit(f"{script} failed: set DETHRUX_LIBRARY to the path of {SONAME}")
-        return script.parent / "out" / "libdethrux.so"
+        return Path(done.stdout.strip()) / "libdethrux.so"
     return None
 
 

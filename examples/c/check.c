@@ -1,6 +1,6 @@
-/* Reads tables of cases/ on standard input and makes the calls that the library has. Prints each
- * case whose result differs, with both results, and finally how many passed. Cases of other calls,
- * and cases with a condition on memory or devices, are skipped. */
+/* Reads tables of cases/, the named files or standard input, and makes the calls that the library
+ * has. Prints each case whose result differs, with both results, and finally how many passed. Cases
+ * of other calls, and cases with a condition on memory or devices, are skipped. */
 #include "dethrux.h"
 
 #include <ctype.h>
@@ -1356,10 +1356,25 @@ static bool is_no_space_fine(void) {
     return is;
 }
 
-int main(void) {
+static void run_table(FILE *table) {
     static char line[LINE];
-    while (fgets(line, sizeof line, stdin) != NULL) {
+    while (fgets(line, sizeof line, table) != NULL) {
         run_line(line);
+    }
+}
+
+int main(int words, char **names) {
+    if (words < 2) {
+        run_table(stdin);
+    }
+    for (int i = 1; i < words; i++) {
+        FILE *table = fopen(names[i], "r");
+        if (table == NULL) {
+            perror(names[i]);
+            return 1;
+        }
+        run_table(table);
+        fclose(table);
     }
     for (size_t i = 0; i < CALLS; i++) {
         if (calls[i].made == 0) {

@@ -23,8 +23,8 @@ if [ -z "$python" ]; then
     exit
 fi
 
-if ! said=$("$top/packaging/build.sh" 2>&1); then
-    echo "failed: the build: $said"
+if ! libraries=$("$top/packaging/build.sh"); then
+    echo 'failed: the build'
     echo '0 passed, 1 failed'
     exit 1
 fi
@@ -34,6 +34,6 @@ if [ "${1:-}" = --small ]; then
 fi
 room=$(mktemp -d -p "${ROOM:-${TMPDIR:-/tmp}}")
 trap 'rm -rf "$room"' EXIT
-export DETHRUX_LIBRARY=$top/packaging/out/libdethrux.so
+export DETHRUX_LIBRARY=$libraries/libdethrux.so
 export PYTHONPATH=$top/bindings/python/src PATH=$top/packaging/out:$PATH
 cd "$room" && "$python" "$here/trial.py" "$@"

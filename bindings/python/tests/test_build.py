@@ -117,7 +117,7 @@ class Backend(unittest.TestCase):
         self.assert_library(b"released")
 
     def test_with_the_library_of_a_clone(self):
-        script = b'#!/bin/sh\nmkdir "${0%/*}/out" && printf built > "${0%/*}/out/libdethrux.so"\n'
+        script = b'#!/bin/sh\necho "${0%/*}" && printf built > "${0%/*}/libdethrux.so"\n'
         self.put("packaging/build.sh", script, 0o755)
         self.put("crates/none", b"")
         self.assert_library(b"built")

@@ -1,0 +1,808 @@
+/* SPDX-License-Identifier: MIT OR Apache-2.0 */
+
+/**
+ * @file
+ * Dethrux: UTF-16 in either byte order, to and from UTF-8, between buffers that the caller owns.
+ *
+ * No call allocates, keeps a pointer or prints anything. The header is C99 and C++11; for C++17
+ * there is dethrux.hpp over it.
+ *
+ * @par Libraries
+ * Link with libdethrux.so (-ldethrux), or with just libdethrux.a. Both are for x86-64-v2 and above
+ * (SSE4.2, POPCNT): the loader refuses to start them on an older processor. A program that is
+ * linked with -static is not checked: an illegal instruction ends it.
+ *
+ * @par Proofs
+ * Proved for all inputs of up to PTRDIFF_MAX bytes: each result is as described, and no call reads
+ * or writes outside the buffers that it is given. The proofs do not cover the caller, so this is
+ * trusted:
+ * - A pointer with a length of n points to n bytes that may be read during the call (for `to`, with
+ *   a capacity of n, written).
+ * - `decoder` points to a decoder, and `encoder` to an encoder.
+ * - They and `to` overlap no other buffer of the call.
+ *
+ * @par Pointers
+ * A pointer need not be aligned. A null pointer is allowed if the length or the capacity is 0. Null
+ * pointers, the macros and the dethrux_u16 calls are tested, not proved.
+ *
+ * @par Threads
+ * The calls share no state, so any call may run in any thread at any time. Only one thread at a
+ * time may use a decoder, an encoder, or a buffer that a call writes to.
+ *
+ * @par Lengths
+ * Lengths, offsets and capacities count bytes, except in the dethrux_u16 calls. These are for
+ * UTF-16 in the machine's byte order, and count code units. A bool is 0 or 1.
+ *
+ * @par Capacities
+ * A conversion that has the capacity of its macro never returns DETHRUX_NO_SPACE, if only these
+ * calls have set the fields of its encoder. With a smaller capacity, call again with the rest as
+ * long as a call returns it. With any buffers of at least 4 bytes, these calls together write the
+ * bytes that one call with enough capacity writes.
+ *
+ * @par Byte order marks
+ * Only dethrux_detect_bom looks for a byte order mark (BOM); to every other call it is the
+ * character U+FEFF.
+ *
+ * @par Example
+ * A program that decodes little-endian UTF-16 of any length with two small buffers:
+ * @code{.c}
+ * #include "dethrux.h"
+ *
+ * #include <stdio.h>
+ *
+ * int main(void) {
+ *     dethrux_decoder decoder = DETHRUX_DECODER_INIT;
+ *     dethrux_progress progress;
+ *     uint8_t utf16[512], utf8[256];
+ *     size_t len, at;
+ *     while ((len = fread(utf16, 1, sizeof utf16, stdin)) != 0) {
+ *         at = 0;
+ *         do {
+ *             progress = dethrux_decoder_feed(&decoder, DETHRUX_LITTLE_ENDIAN, utf16 + at,
+ *                                             len - at, utf8, sizeof utf8);
+ *             if (fwrite(utf8, 1, progress.written, stdout) != progress.written) {
+ *                 return 1;
+ *             }
+ *             at += progress.read;
+ *         } while (progress.status == DETHRUX_NO_SPACE);
+ *     }
+ *     progress = dethrux_decoder_finish(&decoder, utf8, sizeof utf8);
+ *     return fwrite(utf8, 1, progress.written, stdout) != progress.written
+ *         || fflush(stdout) != 0 || ferror(stdin);
+ * }
+ * @endcode
+ */
+#ifndef DETHRUX_H
+#define DETHRUX_H
+
+#include <stdbool.h>
+#include <stddef.h>
+#include <stdint.h>
+
+/** @defgroup dethrux_versions Version */
+/** @defgroup dethrux_capacities Capacities that suffice */
+/** @defgroup dethrux_properties Properties of a text */
+/** @defgroup dethrux_strict Strict calls: up to the first ill-formed sequence */
+/** @defgroup dethrux_lossy Lossy calls: U+FFFD for each ill-formed sequence */
+/** @defgroup dethrux_streams Streams: a text in chunks that are cut anywhere */
+/** @defgroup dethrux_boundaries Boundaries: where a text may be cut */
+/** @defgroup dethrux_in_place In place: changes of a text in its own buffer */
+
+/**
+ * @addtogroup dethrux_versions
+ * @{
+ */
+
+/** The first number of this header's version. */
+#define DETHRUX_VERSION_MAJOR 0
+/** The second number of this header's version. */
+#define DETHRUX_VERSION_MINOR 2
+/** The third number of this header's version. */
+#define DETHRUX_VERSION_PATCH 0
+/** The version of this header as a number; dethrux_version() returns the library's version. */
+#define DETHRUX_VERSION \
+    (DETHRUX_VERSION_MAJOR * 1000000 + DETHRUX_VERSION_MINOR * 1000 + DETHRUX_VERSION_PATCH)
+
+/** @} */
+
+/**
+ * @addtogroup dethrux_capacities
+ * Capacities that suffice for every input of `len` bytes, and that some input needs. No formula
+ * wraps for a `len` below PTRDIFF_MAX.
+ * @{
+ */
+
+/** The capacity for dethrux_to_utf8_lossy. */
+#define DETHRUX_UTF8_MAX(len) (((size_t)(len) + 1) / 2 * 3)
+/** The capacity for the conversions from UTF-8. */
+#define DETHRUX_UTF16_MAX(len) ((size_t)(len) * 2)
+/** The capacity for dethrux_decoder_feed. */
+#define DETHRUX_DECODER_FEED_MAX(len) (((size_t)(len) + 3) / 2 * 3)
+/** The capacity for dethrux_decoder_finish. */
+#define DETHRUX_DECODER_FINISH_MAX 3
+/** The capacity for dethrux_encoder_feed. */
+#define DETHRUX_ENCODER_FEED_MAX(len) ((size_t)(len) * 2 + 2)
+/** The capacity for dethrux_encoder_finish. */
+#define DETHRUX_ENCODER_FINISH_MAX 2
+
+/** @} */
+
+/**
+ * The most bytes that dethrux_to_utf8_partial leaves unread with DETHRUX_INCOMPLETE, and that a
+ * decoder or an encoder keeps.
+ *
+ * @ingroup dethrux_streams
+ */
+#define DETHRUX_PENDING_MAX 3
+
+/**
+ * The offset of the first of the bytes that dethrux_floor_char_boundary_around takes.
+ *
+ * @ingroup dethrux_boundaries
+ */
+#define DETHRUX_AROUND_START(at) ((uint64_t)(at) < 2 ? 0 : (uint64_t)(at) / 2 * 2 - 2)
+
+/**
+ * @def DETHRUX_NODISCARD
+ * Makes the compiler warn if the result of a call is ignored.
+ */
+#if (defined(__cplusplus) && __cplusplus >= 201703L) \
+    || (!defined(__cplusplus) && defined(__STDC_VERSION__) && __STDC_VERSION__ >= 202311L)
+#define DETHRUX_NODISCARD [[nodiscard]]
+#elif defined(__GNUC__)
+#define DETHRUX_NODISCARD __attribute__((warn_unused_result))
+#else
+#define DETHRUX_NODISCARD
+#endif
+
+/* An enum has four bytes. Its type says so if the language allows it; otherwise a test below
+ * does. */
+#if defined(__cplusplus) || (defined(__STDC_VERSION__) && __STDC_VERSION__ >= 202311L)
+#define DETHRUX_ENUM(name) enum name : uint32_t
+#else
+#define DETHRUX_ENUM(name) enum name
+#endif
+
+#ifdef __cplusplus
+extern "C" {
+#endif
+
+/** The byte order of UTF-16. Every other value is read as DETHRUX_LITTLE_ENDIAN. */
+typedef DETHRUX_ENUM(dethrux_byte_order) {
+    DETHRUX_LITTLE_ENDIAN = 0, /**< The low byte of each code unit comes first. */
+    DETHRUX_BIG_ENDIAN = 1     /**< The high byte comes first. */
+} dethrux_byte_order;
+
+/** Why a call stopped. No other values are returned. */
+typedef DETHRUX_ENUM(dethrux_status) {
+    DETHRUX_DONE = 0,       /**< All of the input was read. */
+    DETHRUX_ILL_FORMED = 1, /**< Ill-formed bytes follow: resume `error_len` bytes after `read`. */
+    DETHRUX_INCOMPLETE = 2, /**< The input ends inside a character. */
+    DETHRUX_NO_SPACE = 3    /**< The next character does not fit: call again with the rest. */
+} dethrux_status;
+
+/** Whether a stream begins with a BOM. No other values are returned. */
+typedef DETHRUX_ENUM(dethrux_bom_status) {
+    DETHRUX_BOM_ABSENT = 0,   /**< It begins with something else. */
+    DETHRUX_BOM_PRESENT = 1,  /**< It begins with a BOM. */
+    DETHRUX_BOM_UNDECIDED = 2 /**< Fewer than two bytes have come. */
+} dethrux_bom_status;
+
+#undef DETHRUX_ENUM
+typedef char dethrux_enum_has_four_bytes[sizeof(dethrux_byte_order) == 4 ? 1 : -1];
+
+/**
+ * How far a call came.
+ *
+ * `read` and `written` end between characters. The bytes of `to` after `written` have no meaning
+ * and may have been overwritten.
+ */
+typedef struct dethrux_progress {
+    size_t read;           /**< The number of bytes of the input that were read. */
+    size_t written;        /**< The number of bytes that were written to the start of `to`. */
+    dethrux_status status; /**< Why the call stopped. */
+    uint32_t error_len;    /**< The ill-formed sequence's length with DETHRUX_ILL_FORMED, else 0. */
+} dethrux_progress;
+
+/** The length of the longest well-formed prefix, and what follows it. */
+typedef struct dethrux_validity {
+    size_t valid_up_to;    /**< The length of the longest well-formed prefix. */
+    dethrux_status status; /**< What follows it: DETHRUX_DONE if nothing does. */
+    uint32_t error_len;    /**< The ill-formed sequence's length with DETHRUX_ILL_FORMED, else 0. */
+} dethrux_validity;
+
+/** What the start of a stream says about its byte order. */
+typedef struct dethrux_bom {
+    size_t len;                    /**< The length of the BOM: 2, or 0 if there is none. */
+    dethrux_byte_order byte_order; /**< The byte order of the stream. */
+    dethrux_bom_status status;     /**< Whether the stream begins with a BOM. */
+} dethrux_bom;
+
+/**
+ * The state of a decoder: the bytes of a stream that are not decoded yet.
+ *
+ * All zero, as in `dethrux_decoder decoder = DETHRUX_DECODER_INIT`, it begins a stream. Any values
+ * are allowed: a `pending_len` above 3 is read as 3, and dethrux_decoder_feed never leaves one
+ * above 3.
+ *
+ * @ingroup dethrux_streams
+ */
+typedef struct dethrux_decoder {
+    uint8_t pending[DETHRUX_PENDING_MAX]; /**< Bytes from index `pending_len` on have no meaning. */
+    uint8_t pending_len;                  /**< The number of bytes that are not decoded yet. */
+} dethrux_decoder;
+
+/**
+ * The value of a dethrux_decoder that begins a stream.
+ *
+ * @ingroup dethrux_streams
+ */
+#define DETHRUX_DECODER_INIT {{0, 0, 0}, 0}
+
+/**
+ * The state of an encoder: the bytes of a stream of UTF-8 that are not encoded yet.
+ *
+ * It is like dethrux_decoder: DETHRUX_ENCODER_INIT begins a stream.
+ *
+ * @ingroup dethrux_streams
+ */
+typedef struct dethrux_encoder {
+    uint8_t pending[DETHRUX_PENDING_MAX]; /**< Bytes from index `pending_len` on have no meaning. */
+    uint8_t pending_len;                  /**< The number of bytes that are not encoded yet. */
+} dethrux_encoder;
+
+/**
+ * The value of a dethrux_encoder that begins a stream.
+ *
+ * @ingroup dethrux_streams
+ */
+#define DETHRUX_ENCODER_INIT {{0, 0, 0}, 0}
+
+/**
+ * Returns the version of the library as a number, DETHRUX_VERSION of its header.
+ *
+ * @ingroup dethrux_versions
+ */
+DETHRUX_NODISCARD uint32_t dethrux_version(void);
+
+/**
+ * Returns the length of the longest well-formed prefix, and what follows it.
+ *
+ * @return the length, with one of these statuses:
+ * - DETHRUX_DONE: the bytes are UTF-16
+ * - DETHRUX_ILL_FORMED: an unpaired surrogate follows, of 2 bytes
+ * - DETHRUX_INCOMPLETE: the bytes end inside a character, in their last 1 to 3 bytes
+ * @ingroup dethrux_strict
+ */
+DETHRUX_NODISCARD dethrux_validity dethrux_validate(
+    dethrux_byte_order byte_order, const uint8_t *utf16, size_t len);
+
+/**
+ * Returns the number of characters (scalar values).
+ *
+ * @return the number; for ill-formed input, the number of complete code units that are not trailing
+ *   surrogates
+ * @ingroup dethrux_properties
+ */
+DETHRUX_NODISCARD size_t dethrux_count_chars(
+    dethrux_byte_order byte_order, const uint8_t *utf16, size_t len);
+
+/**
+ * Returns whether the bytes are UTF-16 whose characters are all ASCII, below U+0080.
+ *
+ * @ingroup dethrux_properties
+ */
+DETHRUX_NODISCARD bool dethrux_is_ascii(
+    dethrux_byte_order byte_order, const uint8_t *utf16, size_t len);
+
+/**
+ * Returns the length of what dethrux_to_utf8_lossy writes for the whole input.
+ *
+ * @return at most DETHRUX_UTF8_MAX(len), and at most `len / 2 * 3` for UTF-16
+ * @ingroup dethrux_lossy
+ */
+DETHRUX_NODISCARD size_t dethrux_to_utf8_lossy_len(
+    dethrux_byte_order byte_order, const uint8_t *utf16, size_t len);
+
+/**
+ * Returns the length of what dethrux_from_utf8 writes for the longest well-formed prefix.
+ *
+ * The length is the same in either byte order.
+ *
+ * @return at most DETHRUX_UTF16_MAX(len)
+ * @ingroup dethrux_strict
+ */
+DETHRUX_NODISCARD size_t dethrux_from_utf8_len(const uint8_t *utf8, size_t len);
+
+/**
+ * Returns the length of what dethrux_from_utf8_lossy writes for the whole input.
+ *
+ * The length is the same in either byte order.
+ *
+ * @return at most DETHRUX_UTF16_MAX(len)
+ * @ingroup dethrux_lossy
+ */
+DETHRUX_NODISCARD size_t dethrux_from_utf8_lossy_len(const uint8_t *utf8, size_t len);
+
+/**
+ * Converts UTF-16 to UTF-8, up to the first ill-formed sequence, an unpaired surrogate of 2 bytes.
+ *
+ * @param capacity `len / 2 * 3` suffices, and so does DETHRUX_UTF8_MAX(len)
+ * @return how far the call came, with one of these statuses:
+ * - DETHRUX_DONE: all of the input was read
+ * - DETHRUX_ILL_FORMED: an unpaired surrogate follows `read`
+ * - DETHRUX_INCOMPLETE: the input ends inside a character, which follows `read`
+ * - DETHRUX_NO_SPACE: the next character does not fit: call again with the rest
+ * @ingroup dethrux_strict
+ */
+DETHRUX_NODISCARD dethrux_progress dethrux_to_utf8(
+    dethrux_byte_order byte_order, const uint8_t *utf16, size_t len, uint8_t *to, size_t capacity);
+
+/**
+ * Converts UTF-16 to UTF-8 and replaces what is ill formed by U+FFFD.
+ *
+ * The replacement character U+FFFD replaces each unpaired surrogate, and an incomplete character at
+ * the end.
+ *
+ * @param capacity DETHRUX_UTF8_MAX(len) suffices
+ * @return how far the call came, with one of these statuses:
+ * - DETHRUX_DONE: all of the input was read
+ * - DETHRUX_NO_SPACE: the next character does not fit: call again with the rest
+ * @ingroup dethrux_lossy
+ */
+DETHRUX_NODISCARD dethrux_progress dethrux_to_utf8_lossy(
+    dethrux_byte_order byte_order, const uint8_t *utf16, size_t len, uint8_t *to, size_t capacity);
+
+/**
+ * Converts the next chunk of a stream to UTF-8, without a decoder.
+ *
+ * This is like dethrux_to_utf8_lossy, but does not read an incomplete character at the end. The
+ * stream may be cut anywhere; no state is kept. However the stream is cut, the same bytes are
+ * written in all.
+ *
+ * @param capacity `len / 2 * 3` suffices
+ * @return how far the call came, with one of these statuses:
+ * - DETHRUX_DONE: all of the chunk was read
+ * - DETHRUX_INCOMPLETE: at most DETHRUX_PENDING_MAX bytes follow `read`: put them before the next
+ *   chunk, and at the end of the stream pass them to dethrux_to_utf8_lossy
+ * - DETHRUX_NO_SPACE: the next character does not fit: call again with the rest; with a capacity of
+ *   4 or more, something was written
+ * @ingroup dethrux_streams
+ */
+DETHRUX_NODISCARD dethrux_progress dethrux_to_utf8_partial(
+    dethrux_byte_order byte_order, const uint8_t *utf16, size_t len, uint8_t *to, size_t capacity);
+
+/**
+ * Converts UTF-8 to UTF-16, up to the first ill-formed sequence, of 1 to 3 bytes.
+ *
+ * @param capacity DETHRUX_UTF16_MAX(len) suffices
+ * @return how far the call came, with one of these statuses:
+ * - DETHRUX_DONE: all of the input was read
+ * - DETHRUX_ILL_FORMED: an ill-formed sequence follows `read`
+ * - DETHRUX_INCOMPLETE: the input ends inside a character, which follows `read`
+ * - DETHRUX_NO_SPACE: the next character does not fit: call again with the rest
+ * @ingroup dethrux_strict
+ */
+DETHRUX_NODISCARD dethrux_progress dethrux_from_utf8(
+    dethrux_byte_order byte_order, const uint8_t *utf8, size_t len, uint8_t *to, size_t capacity);
+
+/**
+ * Converts UTF-8 to UTF-16 and replaces what is ill formed by U+FFFD.
+ *
+ * U+FFFD replaces each maximal subpart of an ill-formed subsequence, as the Unicode Standard
+ * recommends and Rust's from_utf8_lossy does, and an incomplete character at the end. `read` never
+ * ends inside a character or an ill-formed sequence, so with DETHRUX_NO_SPACE a call with the rest
+ * continues correctly.
+ *
+ * @param capacity DETHRUX_UTF16_MAX(len) suffices
+ * @return how far the call came, with one of these statuses:
+ * - DETHRUX_DONE: all of the input was read
+ * - DETHRUX_NO_SPACE: the next character does not fit: call again with the rest
+ * @ingroup dethrux_lossy
+ */
+DETHRUX_NODISCARD dethrux_progress dethrux_from_utf8_lossy(
+    dethrux_byte_order byte_order, const uint8_t *utf8, size_t len, uint8_t *to, size_t capacity);
+
+/**
+ * Decodes the next chunk of a stream, cut anywhere, to UTF-8.
+ *
+ * Each unpaired surrogate is replaced by U+FFFD. An incomplete character at the end is kept in the
+ * decoder. However the stream is cut, the same bytes are written in all.
+ *
+ * @param byte_order the same for a whole stream
+ * @param capacity DETHRUX_DECODER_FEED_MAX(len) suffices
+ * @return how far the call came (`read` counts bytes of the chunk), with one of these statuses:
+ * - DETHRUX_DONE: all of the chunk was read
+ * - DETHRUX_NO_SPACE: the next character does not fit: call again with the rest; fewer than 4 bytes
+ *   of `to` were left, so with a capacity of 4 or more something was written
+ * @ingroup dethrux_streams
+ */
+DETHRUX_NODISCARD dethrux_progress dethrux_decoder_feed(
+    dethrux_decoder *decoder, dethrux_byte_order byte_order, const uint8_t *chunk, size_t len,
+    uint8_t *to, size_t capacity);
+
+/**
+ * Ends a stream whose last chunk was read.
+ *
+ * Writes U+FFFD, of 3 bytes, if bytes are not decoded yet, else nothing. The decoder begins a new
+ * stream. Here the bytes of `to` after `written` stay as they were.
+ *
+ * @param capacity DETHRUX_DECODER_FINISH_MAX suffices
+ * @return how much was written; `read` is 0, and the status is one of these:
+ * - DETHRUX_DONE: the stream has ended
+ * - DETHRUX_NO_SPACE: U+FFFD does not fit, and nothing changed
+ * @see dethrux_decoder_feed
+ * @ingroup dethrux_streams
+ */
+DETHRUX_NODISCARD dethrux_progress dethrux_decoder_finish(
+    dethrux_decoder *decoder, uint8_t *to, size_t capacity);
+
+/**
+ * Encodes the next chunk of a stream of UTF-8, cut anywhere, in UTF-16.
+ *
+ * Each ill-formed sequence is replaced by U+FFFD, as in dethrux_from_utf8_lossy. An incomplete
+ * character at the end is kept in the encoder. However the stream is cut, the same bytes are
+ * written in all.
+ *
+ * @param byte_order the same for a whole stream
+ * @param capacity DETHRUX_ENCODER_FEED_MAX(len) suffices for an encoder whose fields only these
+ *   calls have set, and `2 * (pending_len + len)`, a `pending_len` above 3 read as 3, for any
+ * @return how far the call came (`read` counts bytes of the chunk), with one of these statuses:
+ * - DETHRUX_DONE: all of the chunk was read
+ * - DETHRUX_NO_SPACE: the next character does not fit: call again with the rest; fewer than 4 bytes
+ *   of `to` were left, so with a capacity of 4 or more something was written
+ * @ingroup dethrux_streams
+ */
+DETHRUX_NODISCARD dethrux_progress dethrux_encoder_feed(
+    dethrux_encoder *encoder, dethrux_byte_order byte_order, const uint8_t *chunk, size_t len,
+    uint8_t *to, size_t capacity);
+
+/**
+ * Ends a stream of UTF-8 whose last chunk was read.
+ *
+ * Writes U+FFFD, of 2 bytes, if bytes are not encoded yet, else nothing. The encoder begins a new
+ * stream. Here the bytes of `to` after `written` stay as they were.
+ *
+ * @param byte_order the same for a whole stream
+ * @param capacity DETHRUX_ENCODER_FINISH_MAX suffices
+ * @return how much was written; `read` is 0, and the status is one of these:
+ * - DETHRUX_DONE: the stream has ended
+ * - DETHRUX_NO_SPACE: U+FFFD does not fit, and nothing changed
+ * @see dethrux_encoder_feed
+ * @ingroup dethrux_streams
+ */
+DETHRUX_NODISCARD dethrux_progress dethrux_encoder_finish(
+    dethrux_encoder *encoder, dethrux_byte_order byte_order, uint8_t *to, size_t capacity);
+
+/**
+ * Returns whether an offset is a boundary between characters.
+ *
+ * A boundary is `len`, or a smaller even offset that is neither inside a surrogate pair nor between
+ * a leading surrogate and a single byte at the end. An unpaired surrogate counts as a character,
+ * and so does an incomplete one at the end, of 1 to 3 bytes.
+ *
+ * Any bytes may be cut at a boundary: what dethrux_to_utf8_lossy writes for all of them is what it
+ * writes for those before it, then for those from it on.
+ *
+ * @param at the offset; only the two bytes before it and the two from it on are read
+ * @ingroup dethrux_boundaries
+ */
+DETHRUX_NODISCARD bool dethrux_is_char_boundary(
+    dethrux_byte_order byte_order, const uint8_t *utf16, size_t len, size_t at);
+
+/**
+ * Returns the greatest boundary at or before an offset.
+ *
+ * @return a boundary at most 3 bytes before the smaller of `at` and `len`
+ * @see dethrux_is_char_boundary
+ * @ingroup dethrux_boundaries
+ */
+DETHRUX_NODISCARD size_t dethrux_floor_char_boundary(
+    dethrux_byte_order byte_order, const uint8_t *utf16, size_t len, size_t at);
+
+/**
+ * Returns the greatest boundary at or before an offset of a file, from a few of its bytes.
+ *
+ * @param around the 4 bytes of the file from DETHRUX_AROUND_START(at) on, or as many as it has
+ * @param at the offset, at most the length of the file
+ * @return with these bytes the result of dethrux_floor_char_boundary over the whole file; for any
+ *   bytes an offset at most 3 bytes before `at`
+ * @ingroup dethrux_boundaries
+ */
+DETHRUX_NODISCARD uint64_t dethrux_floor_char_boundary_around(
+    dethrux_byte_order byte_order, const uint8_t *around, size_t len, uint64_t at);
+
+/**
+ * Returns the offset where part `index` of `count` parts begins in a file of `len` bytes.
+ *
+ * Each part has `len / 2 / count` code units or one more, and the last one also has an odd byte at
+ * the end.
+ *
+ * @return `len` for `index >= count`, else 0 for part 0; the offset may be inside a surrogate pair:
+ *   move it to a boundary with dethrux_floor_char_boundary_around
+ * @ingroup dethrux_boundaries
+ */
+DETHRUX_NODISCARD uint64_t dethrux_shard_offset(uint64_t len, uint64_t count, uint64_t index);
+
+/**
+ * Swaps the two bytes of each code unit in place: UTF-16 in the other byte order.
+ *
+ * An odd byte at the end stays.
+ *
+ * @ingroup dethrux_in_place
+ */
+void dethrux_swap_byte_order(uint8_t *utf16, size_t len);
+
+/**
+ * Replaces each unpaired surrogate by U+FFFD in place.
+ *
+ * Afterwards the whole code units are well formed. A leading surrogate at the end is unpaired; an
+ * odd byte at the end stays.
+ *
+ * @return how many there were
+ * @ingroup dethrux_in_place
+ */
+size_t dethrux_make_well_formed(dethrux_byte_order byte_order, uint8_t *utf16, size_t len);
+
+/**
+ * Compares two texts by their scalar values, each in its byte order.
+ *
+ * An unpaired surrogate, and an incomplete character at the end, counts as U+FFFD; a text is
+ * greater than each of its prefixes. UTF-8, and so what dethrux_to_utf8_lossy writes, has the same
+ * order by bytes.
+ *
+ * @return -1, 0 or 1 if the first is less than, equal to or greater than the second
+ * @ingroup dethrux_properties
+ */
+DETHRUX_NODISCARD int32_t dethrux_compare(
+    dethrux_byte_order first_order, const uint8_t *first, size_t first_len,
+    dethrux_byte_order second_order, const uint8_t *second, size_t second_len);
+
+/**
+ * Returns the byte order mark (BOM) at the start of a stream, and the byte order.
+ *
+ * FF FE is little endian, and FE FF is big endian. Without a BOM the byte order is big endian, as
+ * the Unicode Standard says. Most files from Windows are little endian, so choose that yourself for
+ * them with DETHRUX_BOM_ABSENT. The BOM is not part of the text: decode what follows its `len`
+ * bytes.
+ *
+ * @return the BOM, with one of these statuses:
+ * - DETHRUX_BOM_ABSENT: there is none
+ * - DETHRUX_BOM_PRESENT: its length is 2
+ * - DETHRUX_BOM_UNDECIDED: call again with two bytes or more, unless the stream ends
+ * @ingroup dethrux_streams
+ */
+DETHRUX_NODISCARD dethrux_bom dethrux_detect_bom(const uint8_t *bytes, size_t len);
+
+#ifdef __cplusplus
+}
+#endif
+
+/**
+ * @defgroup dethrux_u16 Code units: UTF-16 in the machine's byte order
+ * The dethrux_u16 calls are the same calls on code units, as Windows, ICU, Qt and Java hold them.
+ * Code units are of type uint16_t or char16_t in C, which are one type, and of any integral type of
+ * two bytes in C++. Each length, offset and capacity of UTF-16 counts code units, and so do `read`,
+ * `written`, `valid_up_to` and `error_len` if they are about UTF-16; for UTF-8 they count bytes.
+ * Nothing is copied.
+ * @{
+ */
+
+/**
+ * @def DETHRUX_NATIVE_ENDIAN
+ * The byte order of the machine.
+ */
+#if defined(__BYTE_ORDER__) && __BYTE_ORDER__ == 4321
+#define DETHRUX_NATIVE_ENDIAN DETHRUX_BIG_ENDIAN
+#else
+#define DETHRUX_NATIVE_ENDIAN DETHRUX_LITTLE_ENDIAN
+#endif
+
+#ifdef __cplusplus
+#define DETHRUX_U16 template <typename dethrux_unit> inline
+#define DETHRUX_U16_RESULT template <typename dethrux_unit> DETHRUX_NODISCARD inline
+DETHRUX_U16 const uint8_t *dethrux_u16_bytes(const dethrux_unit *utf16) {
+    static_assert(sizeof(dethrux_unit) == 2, "a code unit of UTF-16 has two bytes");
+    return reinterpret_cast<const uint8_t *>(utf16);
+}
+DETHRUX_U16 uint8_t *dethrux_u16_bytes(dethrux_unit *utf16) {
+    static_assert(sizeof(dethrux_unit) == 2, "a code unit of UTF-16 has two bytes");
+    return reinterpret_cast<uint8_t *>(utf16);
+}
+#define DETHRUX_U16_BYTES(utf16) dethrux_u16_bytes(utf16)
+#define DETHRUX_U16_BYTES_MUT(utf16) dethrux_u16_bytes(utf16)
+#else
+#define DETHRUX_U16 static inline
+#define DETHRUX_U16_RESULT DETHRUX_NODISCARD static inline
+/** A code unit. In C++ it is any integral type of two bytes. */
+typedef uint16_t dethrux_unit;
+#define DETHRUX_U16_BYTES(utf16) ((const uint8_t *)(utf16))
+#define DETHRUX_U16_BYTES_MUT(utf16) ((uint8_t *)(utf16))
+#endif
+
+/** Does what dethrux_validate does, on code units. */
+DETHRUX_U16_RESULT dethrux_validity dethrux_u16_validate(
+    const dethrux_unit *utf16, size_t len) {
+    dethrux_validity validity =
+        dethrux_validate(DETHRUX_NATIVE_ENDIAN, DETHRUX_U16_BYTES(utf16), len * 2);
+    validity.valid_up_to /= 2;
+    validity.error_len /= 2;
+    return validity;
+}
+
+/** Does what dethrux_count_chars does, on code units. */
+DETHRUX_U16_RESULT size_t dethrux_u16_count_chars(
+    const dethrux_unit *utf16, size_t len) {
+    return dethrux_count_chars(DETHRUX_NATIVE_ENDIAN, DETHRUX_U16_BYTES(utf16), len * 2);
+}
+
+/** Does what dethrux_is_ascii does, on code units. */
+DETHRUX_U16_RESULT bool dethrux_u16_is_ascii(const dethrux_unit *utf16, size_t len) {
+    return dethrux_is_ascii(DETHRUX_NATIVE_ENDIAN, DETHRUX_U16_BYTES(utf16), len * 2);
+}
+
+/**
+ * Does what dethrux_to_utf8_lossy_len does, on code units.
+ *
+ * @return at most `len * 3`
+ */
+DETHRUX_U16_RESULT size_t dethrux_u16_to_utf8_lossy_len(
+    const dethrux_unit *utf16, size_t len) {
+    return dethrux_to_utf8_lossy_len(DETHRUX_NATIVE_ENDIAN, DETHRUX_U16_BYTES(utf16), len * 2);
+}
+
+/**
+ * Does what dethrux_to_utf8 does, on code units.
+ *
+ * @param capacity `len * 3` suffices
+ */
+DETHRUX_U16_RESULT dethrux_progress dethrux_u16_to_utf8(
+    const dethrux_unit *utf16, size_t len, uint8_t *to, size_t capacity) {
+    dethrux_progress progress =
+        dethrux_to_utf8(DETHRUX_NATIVE_ENDIAN, DETHRUX_U16_BYTES(utf16), len * 2, to, capacity);
+    progress.read /= 2;
+    progress.error_len /= 2;
+    return progress;
+}
+
+/**
+ * Does what dethrux_to_utf8_lossy does, on code units.
+ *
+ * @param capacity `len * 3` suffices
+ */
+DETHRUX_U16_RESULT dethrux_progress dethrux_u16_to_utf8_lossy(
+    const dethrux_unit *utf16, size_t len, uint8_t *to, size_t capacity) {
+    dethrux_progress progress = dethrux_to_utf8_lossy(
+        DETHRUX_NATIVE_ENDIAN, DETHRUX_U16_BYTES(utf16), len * 2, to, capacity);
+    progress.read /= 2;
+    return progress;
+}
+
+/**
+ * Does what dethrux_to_utf8_partial does, on code units.
+ *
+ * With DETHRUX_INCOMPLETE one code unit follows `read`, a leading surrogate.
+ *
+ * @param capacity `len * 3` suffices
+ */
+DETHRUX_U16_RESULT dethrux_progress dethrux_u16_to_utf8_partial(
+    const dethrux_unit *utf16, size_t len, uint8_t *to, size_t capacity) {
+    dethrux_progress progress = dethrux_to_utf8_partial(
+        DETHRUX_NATIVE_ENDIAN, DETHRUX_U16_BYTES(utf16), len * 2, to, capacity);
+    progress.read /= 2;
+    return progress;
+}
+
+/**
+ * Does what dethrux_decoder_feed does, on code units.
+ *
+ * @param decoder one that only this call and dethrux_decoder_finish have changed
+ * @param capacity `(len + 1) * 3` suffices
+ */
+DETHRUX_U16_RESULT dethrux_progress dethrux_u16_decoder_feed(
+    dethrux_decoder *decoder, const dethrux_unit *chunk, size_t len, uint8_t *to,
+    size_t capacity) {
+    dethrux_progress progress = dethrux_decoder_feed(
+        decoder, DETHRUX_NATIVE_ENDIAN, DETHRUX_U16_BYTES(chunk), len * 2, to, capacity);
+    progress.read /= 2;
+    return progress;
+}
+
+/**
+ * Does what dethrux_from_utf8 does, on code units.
+ *
+ * @param capacity `len` suffices
+ */
+DETHRUX_U16_RESULT dethrux_progress dethrux_u16_from_utf8(
+    const uint8_t *utf8, size_t len, dethrux_unit *to, size_t capacity) {
+    dethrux_progress progress = dethrux_from_utf8(
+        DETHRUX_NATIVE_ENDIAN, utf8, len, DETHRUX_U16_BYTES_MUT(to), capacity * 2);
+    progress.written /= 2;
+    return progress;
+}
+
+/**
+ * Does what dethrux_from_utf8_lossy does, on code units.
+ *
+ * @param capacity `len` suffices
+ */
+DETHRUX_U16_RESULT dethrux_progress dethrux_u16_from_utf8_lossy(
+    const uint8_t *utf8, size_t len, dethrux_unit *to, size_t capacity) {
+    dethrux_progress progress = dethrux_from_utf8_lossy(
+        DETHRUX_NATIVE_ENDIAN, utf8, len, DETHRUX_U16_BYTES_MUT(to), capacity * 2);
+    progress.written /= 2;
+    return progress;
+}
+
+/**
+ * Does what dethrux_encoder_feed does, on code units.
+ *
+ * @param capacity `len + 1` suffices
+ */
+DETHRUX_U16_RESULT dethrux_progress dethrux_u16_encoder_feed(
+    dethrux_encoder *encoder, const uint8_t *chunk, size_t len, dethrux_unit *to,
+    size_t capacity) {
+    dethrux_progress progress = dethrux_encoder_feed(
+        encoder, DETHRUX_NATIVE_ENDIAN, chunk, len, DETHRUX_U16_BYTES_MUT(to), capacity * 2);
+    progress.written /= 2;
+    return progress;
+}
+
+/**
+ * Does what dethrux_encoder_finish does, on code units.
+ *
+ * @param capacity 1 suffices
+ */
+DETHRUX_U16_RESULT dethrux_progress dethrux_u16_encoder_finish(
+    dethrux_encoder *encoder, dethrux_unit *to, size_t capacity) {
+    dethrux_progress progress = dethrux_encoder_finish(
+        encoder, DETHRUX_NATIVE_ENDIAN, DETHRUX_U16_BYTES_MUT(to), capacity * 2);
+    progress.written /= 2;
+    return progress;
+}
+
+/** Does what dethrux_is_char_boundary does, on code units. */
+DETHRUX_U16_RESULT bool dethrux_u16_is_char_boundary(
+    const dethrux_unit *utf16, size_t len, size_t at) {
+    return at <= len
+        && dethrux_is_char_boundary(
+            DETHRUX_NATIVE_ENDIAN, DETHRUX_U16_BYTES(utf16), len * 2, at * 2);
+}
+
+/**
+ * Does what dethrux_floor_char_boundary does, on code units.
+ *
+ * @return a boundary at most one code unit before the smaller of `at` and `len`
+ */
+DETHRUX_U16_RESULT size_t dethrux_u16_floor_char_boundary(
+    const dethrux_unit *utf16, size_t len, size_t at) {
+    return dethrux_floor_char_boundary(DETHRUX_NATIVE_ENDIAN, DETHRUX_U16_BYTES(utf16), len * 2,
+               at < len ? at * 2 : len * 2)
+        / 2;
+}
+
+/** Does what dethrux_swap_byte_order does, on code units. */
+DETHRUX_U16 void dethrux_u16_swap_byte_order(dethrux_unit *utf16, size_t len) {
+    dethrux_swap_byte_order(DETHRUX_U16_BYTES_MUT(utf16), len * 2);
+}
+
+/** Does what dethrux_make_well_formed does, on code units. */
+DETHRUX_U16 size_t dethrux_u16_make_well_formed(dethrux_unit *utf16, size_t len) {
+    return dethrux_make_well_formed(DETHRUX_NATIVE_ENDIAN, DETHRUX_U16_BYTES_MUT(utf16), len * 2);
+}
+
+/** Does what dethrux_compare does, on code units. */
+DETHRUX_U16_RESULT int32_t dethrux_u16_compare(const dethrux_unit *first,
+    size_t first_len, const dethrux_unit *second, size_t second_len) {
+    return dethrux_compare(DETHRUX_NATIVE_ENDIAN, DETHRUX_U16_BYTES(first), first_len * 2,
+        DETHRUX_NATIVE_ENDIAN, DETHRUX_U16_BYTES(second), second_len * 2);
+}
+
+/** @} */
+
+#undef DETHRUX_U16
+#undef DETHRUX_U16_RESULT
+#undef DETHRUX_U16_BYTES
+#undef DETHRUX_U16_BYTES_MUT
+
+#endif
