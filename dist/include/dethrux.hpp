@@ -122,10 +122,13 @@ struct error {
     /** Returns whether the input ends inside a character. */
     bool is_incomplete() const noexcept { return error_len == 0; }
 
+    /** @{ */
+    /** Compares both lengths. */
     friend bool operator==(const error &a, const error &b) noexcept {
         return a.valid_up_to == b.valid_up_to && a.error_len == b.error_len;
     }
     friend bool operator!=(const error &a, const error &b) noexcept { return !(a == b); }
+    /** @} */
 };
 
 /**
@@ -146,20 +149,26 @@ public:
     /** Returns whether there is a value. */
     explicit operator bool() const noexcept { return has_value(); }
 
+    /** @{ */
     /** Returns the value, or throws std::bad_variant_access if there is none. */
     T &value() & { return std::get<0>(state_); }
     const T &value() const & { return std::get<0>(state_); }
     T &&value() && { return std::get<0>(std::move(state_)); }
+    /** @} */
     /** Returns the value, or another one if there is none. */
     T value_or(T other) && { return has_value() ? std::move(**this) : std::move(other); }
 
+    /** @{ */
     /** Returns the value, which must be there. */
     T &operator*() &noexcept { return *std::get_if<0>(&state_); }
     const T &operator*() const &noexcept { return *std::get_if<0>(&state_); }
     T &&operator*() &&noexcept { return std::move(*std::get_if<0>(&state_)); }
+    /** @} */
+    /** @{ */
     /** Returns a pointer to the value, which must be there. */
     T *operator->() noexcept { return std::get_if<0>(&state_); }
     const T *operator->() const noexcept { return std::get_if<0>(&state_); }
+    /** @} */
 
     /** Returns the error, or throws std::bad_variant_access if there is none. */
     const dethrux::error &error() const { return std::get<1>(state_); }
