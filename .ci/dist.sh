@@ -11,16 +11,13 @@ trap 'rm -rf "$room"' EXIT
 passed=0
 failed=0
 
-# Runs a step. Its counts are those of its last line, or it counts as one.
+# Runs a step. It counts by the lines 'N passed, 0 failed' of its tests, or as one.
 count() {
-    local name=$1
+    local name=$1 tests
     shift
     if "$@" > "$room/said" 2>&1; then
-        if [[ $(tail -n 1 "$room/said") =~ ^([0-9]+)\ passed,\ 0\ failed$ ]]; then
-            passed=$((passed + BASH_REMATCH[1]))
-        else
-            passed=$((passed + 1))
-        fi
+        tests=$(sed -n 's/^\([0-9]*\) passed, 0 failed\r\?$/\1/p' "$room/said" | paste -sd +)
+        passed=$((passed + ${tests:-1}))
         return
     fi
     failed=$((failed + 1))
