@@ -1,4 +1,4 @@
-//! A decoder of UTF-8 for C, whose state is in memory that the caller owns.
+//! An encoder of UTF-8 in UTF-16 for C, whose state is in memory that the caller owns.
 
 ghost use Rattle.std.specs.Prelude.{◌≡◌, ◌≢◌, ◌↔◌, ◌+◌, ◌-◌, ◌*◌, ◌<◌, ◌≤◌, [], ◌++◌, drop, length, take};
 ghost use Rattle.utf16_units.specs.Encoding.{encode, size};
@@ -13,42 +13,42 @@ use crate::results::{Progress, progress_of};
 use utf16_encode::{Stream, feed_utf8, finish_utf8};
 use utf16_units::{BE, LE};
 
-/// Decodes the next chunk of a stream of UTF-8 and writes its text in UTF-16, as far as whole
-/// characters fit, with U+FFFD for each maximal subpart of an ill-formed subsequence. `read` counts
+/// Encodes the next chunk of a stream of UTF-8 in UTF-16 and writes it, as far as whole characters
+/// fit, with U+FFFD for each maximal subpart of an ill-formed subsequence. `read` counts
 /// bytes of the chunk: all of them, unless the next character does not fit. Any bytes are allowed
 /// in the state; afterwards at most three are pending. The status is 0 with a capacity of two bytes
 /// for each byte of the chunk and two more, if the state is one that this call leaves. In time
 /// linear in what is read.
 #[unsafe(no_mangle)]
 pub extern "C" fn dethrux_encoder_feed(
-    decoder: &mut Stream,
+    encoder: &mut Stream,
     byte_order: u32,
     chunk: &[u8],
     to: &mut [u8],
 ) -> Progress
-    ensures feeds { FeedsUtf8 (is_big byte_order) (stream_pending decoder.old) chunk.now
-        (stream_pending decoder.new) to.new result.read result.written }
-    ensures stop { StopsFeedingUtf8 (is_big byte_order) (stream_pending decoder.old) chunk.now
-        (stream_pending decoder.new) result.read (length to.new - result.written)
+    ensures feeds { FeedsUtf8 (is_big byte_order) (stream_pending encoder.old) chunk.now
+        (stream_pending encoder.new) to.new result.read result.written }
+    ensures stop { StopsFeedingUtf8 (is_big byte_order) (stream_pending encoder.old) chunk.now
+        (stream_pending encoder.new) result.read (length to.new - result.written)
         (stop_of result.status result.error_len) }
     ensures done { (stop_of result.status result.error_len ≡ Done)
-        ↔ (size (decided_text (stream_pending decoder.old ++ chunk.now)) ≤ length to.new) }
+        ↔ (size (decided_text (stream_pending encoder.old ++ chunk.now)) ≤ length to.new) }
     ensures filled { stop_of result.status result.error_len ≡ NoSpace
         → length to.new < result.written + 4 }
-    ensures few { decoder.new.len ≤ 3 }
-    ensures tail { IsTail (stream_pending decoder.old)
-        → IsTail (stream_pending decoder.new) }
-    ensures succeeds { IsTail (stream_pending decoder.old)
+    ensures few { encoder.new.len ≤ 3 }
+    ensures tail { IsTail (stream_pending encoder.old)
+        → IsTail (stream_pending encoder.new) }
+    ensures succeeds { IsTail (stream_pending encoder.old)
         → 2 * length chunk.now + 2 ≤ length to.new
         → stop_of result.status result.error_len ≡ Done }
-    ensures succeeds_always { 2 * (length (stream_pending decoder.old) + length chunk.now)
+    ensures succeeds_always { 2 * (length (stream_pending encoder.old) + length chunk.now)
         ≤ length to.new → stop_of result.status result.error_len ≡ Done }
     ensures numbers { AreNumbers result.status result.error_len }
 {
     progress_of(if is_big_endian(byte_order) {
-        feed_utf8::<BE>(decoder, chunk, to)
+        feed_utf8::<BE>(encoder, chunk, to)
     } else {
-        feed_utf8::<LE>(decoder, chunk, to)
+        feed_utf8::<LE>(encoder, chunk, to)
     })
 }
 
@@ -56,29 +56,29 @@ pub extern "C" fn dethrux_encoder_feed(
 /// bytes after it are unchanged. If U+FFFD does not fit, nothing changes.
 #[unsafe(no_mangle)]
 pub extern "C" fn dethrux_encoder_finish(
-    decoder: &mut Stream,
+    encoder: &mut Stream,
     byte_order: u32,
     to: &mut [u8],
 ) -> Progress
     ensures read { result.read ≡ 0 }
     ensures done { (stop_of result.status result.error_len ≡ Done)
-        ↔ (size (whole_lossy_chars [] (stream_pending decoder.old)) ≤ length to.new) }
+        ↔ (size (whole_lossy_chars [] (stream_pending encoder.old)) ≤ length to.new) }
     ensures text { stop_of result.status result.error_len ≡ Done
         → take result.written to.new
-        ≡ encode (is_big byte_order) (whole_lossy_chars [] (stream_pending decoder.old)) }
+        ≡ encode (is_big byte_order) (whole_lossy_chars [] (stream_pending encoder.old)) }
     ensures within { result.written ≤ length to.new }
     ensures rest { drop result.written to.new ≡ drop result.written to.old }
     ensures pending { stop_of result.status result.error_len ≡ Done
-        → stream_pending decoder.new ≡ [] }
+        → stream_pending encoder.new ≡ [] }
     ensures no_space { stop_of result.status result.error_len ≢ Done
         → (stop_of result.status result.error_len ≡ NoSpace) × (result.written ≡ 0) }
-    ensures unchanged { stop_of result.status result.error_len ≢ Done → (decoder.new ≡ decoder.old)
+    ensures unchanged { stop_of result.status result.error_len ≢ Done → (encoder.new ≡ encoder.old)
         × (to.new ≡ to.old) }
     ensures numbers { AreNumbers result.status result.error_len }
 {
     progress_of(if is_big_endian(byte_order) {
-        finish_utf8::<BE>(decoder, to)
+        finish_utf8::<BE>(encoder, to)
     } else {
-        finish_utf8::<LE>(decoder, to)
+        finish_utf8::<LE>(encoder, to)
     })
 }
