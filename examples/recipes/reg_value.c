@@ -1,4 +1,4 @@
-/* Prints a value of a registry export: reg_value FILE NAME. */
+/* Prints a value of a registry export, which must be smaller than 1 MiB: reg_value FILE NAME. */
 #include <dethrux.h>
 
 #include <stdio.h>
@@ -14,6 +14,10 @@ int main(int argc, char **argv) {
     }
     size_t len = fread(raw, 1, sizeof raw, file);
     fclose(file);
+    if (len == sizeof raw) {
+        fprintf(stderr, "reg_value: the file is not smaller than 1 MiB\n");
+        return 2;
+    }
 
     /* Exports are little endian. Old ones may have no BOM. */
     dethrux_bom bom = dethrux_detect_bom(raw, len);

@@ -36,6 +36,21 @@ prints() {
     done
 }
 
+# Tests that the program in C refuses `input`, with status 2 and one line on standard error. Runs
+# after `prints`, which compiles the program.
+refuses() {
+    local name=$1 status
+    shift
+    "./$name" "$@" < input > found 2> said
+    status=$?
+    if [ $status = 2 ] && [ ! -s found ] && [ "$(wc -l < said)" = 1 ] && grep -q "^$name: " said; then
+        passed=$((passed + 1))
+    else
+        failed=$((failed + 1))
+        echo "failed: $name.c: status $status for an input that fills its buffer"
+    fi
+}
+
 # UTF-8 on standard input becomes UTF-16 in `input`.
 utf16() {
     iconv -f UTF-8 -t "$1" > input
@@ -61,5 +76,8 @@ prints byte_order 'be\n'
 prints byte_order 'unknown\n'
 printf 'a\0\0\xDCb\0\0\xD8c\0\0\xD8' > input
 prints errors 'text "a"\nill formed at byte 2, 2 bytes\ntext "b"\nill formed at byte 6, 2 bytes\ntext "c"\nincomplete at byte 10\n'
+head -c 1048576 /dev/zero > input
+refuses reg_value input Path
+refuses errors
 echo "$passed passed, $failed failed"
 [ $failed = 0 ]
