@@ -195,6 +195,14 @@ comment_decodes() {
     cmp "$room/wanted" "$room/found"
 }
 
+# The program of the README, on a text that is longer than its buffer, with an unpaired surrogate in
+# the middle and half a code unit at the end.
+resumes() {
+    { printf 'abc%.0s' {1..9} | sed 's/./&\x0/g'; printf '\0\xDC\xE4\0\x3D\xD8\0\xDEz'; } > "$room/cut"
+    "$room/resume" < "$room/cut" > "$room/found"
+    [ $? = 1 ] && { printf 'abc%.0s' {1..9}; printf '\xC3\xA4\xF0\x9F\x98\x80'; } | cmp - "$room/found"
+}
+
 shared() {
     cc -shared -o "$room/libdethrux.so" -Wl,--whole-archive "$archive" -Wl,--no-whole-archive
 }
@@ -210,6 +218,7 @@ test_c() {
     count 'the check in C' in_c check && count 'the cases in C' check_c
     count 'the check of code units' in_c units c11 && count 'code units in C' "$room/units"
     count 'the first program in C' in_c first && count 'the page for C' prints_page first C
+    count 'the program of the README' in_c resume && count 'resuming' resumes
     count 'ignored results in C' warns "$here/ignored.c" cc -std=c99
     count 'ignored results in C23' warns "$here/ignored.c" clang -std=c2x -Wno-builtin-macro-redefined \
         -U__STDC_VERSION__ -D__STDC_VERSION__=202311L
