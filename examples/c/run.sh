@@ -235,6 +235,8 @@ memory_in_c() {
     count 'the program of the header under valgrind' is_clean comment "$room/odd"
     count 'the check in C under valgrind' is_clean check "$room/cases"
     count 'code units under valgrind' is_clean units /dev/null
+    head -c -1 "$room/cut" > "$room/whole"
+    count 'the program of the README under valgrind' is_clean resume "$room/whole"
     count 'the first program under valgrind' is_clean first /dev/null
 }
 
