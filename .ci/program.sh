@@ -2,9 +2,9 @@
 # Runs the built programs over tables of cases: what they write, their line on standard error and
 # their status, on plain inputs, on standard streams that are closed, full, broken or no files, and
 # with too little memory. Without arguments it takes each build of utf16_cat and utf16_enc in their
-# crates, and builds one where there is none. A program that is named is run over the cases of
-# utf16_enc if the name of its file begins so. Prints each case that fails, and last a line
-# 'N passed, M failed'.
+# crates; if there is none, it builds one over the crates that rt ci proved. A program that is named
+# is run over the cases of utf16_enc if the name of its file begins so. Prints each case that fails,
+# and last a line 'N passed, M failed'.
 set -uo pipefail
 top=$(cd "$(dirname "$0")/.." && pwd)
 room=$(mktemp -d)
@@ -324,7 +324,7 @@ cases_of_enc() {
 # The builds of a program in its crate.
 builds_of() {
     local built="$top/crates/$1/out/$1"
-    [ -x "$built" ] || (cd "$top/crates/$1" && rt run -- le < /dev/null) > said 2>&1 || tail -n 3 said
+    [ -x "$built" ] || "$top/.ci/compile.sh" llvm "$1" "$built" > said 2>&1 || tail -n 3 said
     programs+=("$built")
     [ ! -x "$built.by-rattle" ] || programs+=("$built.by-rattle")
 }

@@ -8,7 +8,7 @@ cd "$(dirname "$0")/.." || exit 1
 room=$(mktemp -d)
 trap 'rm -rf "$room"' EXIT
 library=$room/libdethrux.a
-if ! .ci/library.sh rattle "$library" > "$room/said" 2>&1; then
+if ! .ci/compile.sh rattle dethrux "$library" > "$room/said" 2>&1; then
     tail -n 20 "$room/said"
     echo '0 passed, 1 failed'
     exit 1

@@ -52,7 +52,7 @@ library_over_ci() {
     if compgen -G "$top/crates/*/out/rlib/stamp" > /dev/null; then
         library
     else
-        "$top/.ci/library.sh" llvm "$archive"
+        "$top/.ci/compile.sh" llvm dethrux "$archive"
     fi
 }
 
