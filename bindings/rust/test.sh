@@ -1,10 +1,11 @@
 #!/usr/bin/env bash
 # Tests the crates of this folder without network: their tests and the examples of their
 # documentation with each set of features, the page docs/RUST.md in an empty project, how the build
-# script finds the library and what it refuses, formatting and lints. With --tests it skips the last
-# two. The last line is 'N passed, M failed'. It needs cargo, cc, pkg-config, the library
-# (crates/dethrux/out/libdethrux.a, or the folder that DETHRUX_LIB_DIR names), and for utf16string
-# the crate byteorder (Debian: librust-byteorder-dev). A missing tool or library is a failure.
+# script finds the library and what it refuses, documentation without the library, formatting and
+# lints. With --tests it skips the last two. The last line is 'N passed, M failed'. It needs cargo,
+# cc, pkg-config, the library (crates/dethrux/out/libdethrux.a, or the folder that DETHRUX_LIB_DIR
+# names), and for utf16string the crate byteorder (Debian: librust-byteorder-dev). A missing tool or
+# library is a failure.
 set -uo pipefail
 here=$(cd "$(dirname "$0")" && pwd)
 top=$(cd "$here/../.." && pwd)
@@ -148,6 +149,12 @@ build_copy() {
     (cd "$copy" && PKG_CONFIG_LIBDIR=$room env -u DETHRUX_LIB_DIR "$@" cargo build --offline)
 }
 
+# Makes the documentation of the copy, which has no library, with words for env.
+document_copy() {
+    (cd "$room/clone/bindings/rust/dethrux" && PKG_CONFIG_LIBDIR=$room PKG_CONFIG_PATH= \
+        env -u DETHRUX_LIB_DIR "$@" cargo doc --offline --no-deps)
+}
+
 # Whether the build script fails with one line.
 refuses() {
     local line=$1
@@ -191,9 +198,12 @@ test_build_script() {
     cp "$library" "$room/installed"
     count 'the installed library' build_copy "$known"
     rm "$clone/libdethrux.a"
-    count 'no library' refuses \
-        'there is no libdethrux.a: install libdethrux, or set DETHRUX_LIB_DIR to its folder' \
-        PKG_CONFIG_PATH=
+    said='there is no libdethrux.a: install libdethrux, or set DETHRUX_LIB_DIR to its folder'
+    count 'no library' refuses "$said" PKG_CONFIG_PATH=
+    count 'the documentation on docs.rs, without a library' document_copy DOCS_RS=1
+    count 'no library after the documentation' refuses "$said" PKG_CONFIG_PATH=
+    count 'the documentation with its cfg, without a library' \
+        document_copy 'RUSTFLAGS=--cfg docsrs'
     cp "$library" "$clone"
     count 'the library of the clone' build_copy PKG_CONFIG_PATH=
 }

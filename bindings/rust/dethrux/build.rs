@@ -1,5 +1,6 @@
 //! Finds the library `libdethrux`, asks it for its version, and says how to link it. If there is
-//! none, or one of another version, the build ends with one line that says what to do.
+//! none, or one of another version, the build ends with one line that says what to do. On docs.rs
+//! nothing is linked, so it does nothing.
 
 use std::env;
 use std::path::{Path, PathBuf};
@@ -13,6 +14,10 @@ fn main() { println!("{}", unsafe { dethrux_version() }); }
 
 fn main() {
     println!("cargo:rerun-if-changed=build.rs");
+    println!("cargo:rerun-if-env-changed=DOCS_RS");
+    if is_documentation() {
+        return;
+    }
     println!("cargo:rerun-if-env-changed=DETHRUX_LIB_DIR");
     println!("cargo:rerun-if-env-changed=PKG_CONFIG_PATH");
     let (kind, file) = match env::var_os("CARGO_FEATURE_DYNAMIC") {
@@ -26,6 +31,14 @@ fn main() {
     }
     println!("cargo:rustc-link-search=native={}", folder.display());
     println!("cargo:rustc-link-lib={}=dethrux", kind);
+}
+
+/// Returns whether only documentation is made, which needs no library: docs.rs sets `DOCS_RS`, and
+/// `RUSTFLAGS="--cfg docsrs"` sets the other.
+fn is_documentation() -> bool {
+    ["DOCS_RS", "CARGO_CFG_DOCSRS"]
+        .iter()
+        .any(|name| env::var_os(name).is_some())
 }
 
 fn fail(message: &str) -> ! {

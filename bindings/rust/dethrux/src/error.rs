@@ -46,3 +46,25 @@ impl fmt::Display for Utf16Error {
 
 #[cfg(feature = "std")]
 impl std::error::Error for Utf16Error {}
+
+/// An error of the kind `InvalidData`. `get_ref` and `downcast_ref` return the [`Utf16Error`].
+///
+/// ```
+/// use dethrux::{decode, ByteOrder::LittleEndian, Utf16Error};
+/// use std::io::ErrorKind;
+///
+/// fn name(utf16: &[u8]) -> std::io::Result<String> {
+///     Ok(decode(LittleEndian, utf16)?)
+/// }
+///
+/// let error = name(b"h\0\0\xDC").unwrap_err();
+/// assert_eq!(error.kind(), ErrorKind::InvalidData);
+/// let inner = error.get_ref().and_then(|inner| inner.downcast_ref::<Utf16Error>());
+/// assert_eq!(inner.unwrap().valid_up_to(), 2);
+/// ```
+#[cfg(feature = "std")]
+impl From<Utf16Error> for std::io::Error {
+    fn from(error: Utf16Error) -> Self {
+        std::io::Error::new(std::io::ErrorKind::InvalidData, error)
+    }
+}

@@ -20,7 +20,7 @@ use std::vec::Vec;
 
 use crate::buffer::append;
 use crate::stream::sealed::Sealed;
-use crate::{Decoder, Encoder};
+use crate::{detect_bom, ByteOrder, Decoder, Encoder};
 
 /// The size of the buffer of an adapter.
 const BUFFER_LEN: usize = 8192;
@@ -118,6 +118,47 @@ impl<R: Read, T: Transcoder> Read for Reader<R, T> {
         let read = (&self.short[self.short_start..self.short_end]).read(to)?;
         self.short_start += read;
         Ok(read)
+    }
+}
+
+impl<R: Read> Reader<R, Decoder> {
+    /// Returns a reader of the text of UTF-16, in the byte order of the byte order mark at its
+    /// start, or in `default_order` if there is none. The mark is not a part of the text. It reads
+    /// at most two bytes here; the stream may be shorter.
+    ///
+    /// # Errors
+    ///
+    /// The errors of the inner reader. What was read before an error is lost. After an interruption
+    /// it reads again, like `read_exact` of std.
+    ///
+    /// ```
+    /// use dethrux::{io::Reader, ByteOrder::LittleEndian};
+    /// use std::io::Read;
+    ///
+    /// let mut text = String::new();
+    /// Reader::with_bom(&b"\xFE\xFF\0h"[..], LittleEndian)?.read_to_string(&mut text)?;
+    /// Reader::with_bom(&b"i\0"[..], LittleEndian)?.read_to_string(&mut text)?;
+    /// assert_eq!(text, "hi");
+    /// # std::io::Result::Ok(())
+    /// ```
+    pub fn with_bom(inner: R, default_order: ByteOrder) -> Result<Self> {
+        let mut reader = Reader::new(inner, Decoder::new(default_order));
+        while reader.end < 2 {
+            match reader.inner.read(&mut reader.input[reader.end..2]) {
+                Ok(0) => break,
+                Ok(read) => reader.end += read,
+                Err(error) if error.kind() == ErrorKind::Interrupted => {}
+                Err(error) => return Err(error),
+            }
+        }
+        match detect_bom(&reader.input[..reader.end]) {
+            Some(bom) if bom.len > 0 => {
+                reader.transcoder = Decoder::new(bom.byte_order);
+                reader.start = bom.len;
+            }
+            _ => {}
+        }
+        Ok(reader)
     }
 }
 

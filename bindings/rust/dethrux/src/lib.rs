@@ -21,11 +21,13 @@
 //!   [`display`].
 //! - Feature `alloc`: [`decode`], [`decode_lossy`], [`encode`] and others that return a `String` or
 //!   a `Vec`.
-//! - Feature `std`, the default: [`io::Reader`] and [`io::Writer`], and `Error` for [`Utf16Error`].
+//! - Feature `std`, the default: [`io::Reader`] and [`io::Writer`]; `Error` for [`Utf16Error`] and
+//!   [`UnitsError`], and conversions of both to `std::io::Error`.
 //! - Feature `dynamic`: links `libdethrux.so` instead of `libdethrux.a`.
 //!
-//! Lengths and offsets count bytes. Only [`detect_bom`] looks for a byte order mark; to every other
-//! call it is the character U+FEFF.
+//! Lengths and offsets count bytes, except in [`UnitsError`]. Only [`detect_bom`] and
+//! [`io::Reader::with_bom`] look for a byte order mark; to every other call it is the character
+//! U+FEFF.
 //!
 //! # Panics and allocation
 //!
@@ -82,8 +84,10 @@ pub use inspect::{
 pub use order::ByteOrder;
 pub use stream::{Decoder, Encoder};
 #[cfg(feature = "alloc")]
-pub use text::{decode, decode_lossy, decode_to, encode, encode_lossy, encode_to, encode_units};
-pub use units::{units_as_bytes, units_as_bytes_mut};
+pub use text::{
+    decode, decode_lossy, decode_to, decode_units, encode, encode_lossy, encode_to, encode_units,
+};
+pub use units::{units_as_bytes, units_as_bytes_mut, validate_units, UnitsError};
 
 /// Returns the version of the library: major, minor and patch.
 ///

@@ -9,7 +9,7 @@ use core::mem::{size_of_val, MaybeUninit};
 use crate::buffer::append;
 use crate::{from_utf8, from_utf8_lossy, from_utf8_max_len};
 use crate::{to_utf8, to_utf8_lossy, to_utf8_max_len};
-use crate::{ByteOrder, Status, Utf16Error};
+use crate::{units_as_bytes, ByteOrder, Status, UnitsError, Utf16Error};
 
 /// Unused elements that are not worth a call of the allocator.
 const FEW: usize = 64;
@@ -123,6 +123,22 @@ pub fn encode_lossy(order: ByteOrder, utf8: &[u8]) -> Vec<u8> {
         })
     };
     trimmed(utf16)
+}
+
+/// Returns the text of code units in the byte order of the machine.
+///
+/// # Errors
+///
+/// Like [`validate_units`](crate::validate_units), if the code units are ill formed.
+///
+/// ```
+/// use dethrux::decode_units;
+///
+/// assert_eq!(decode_units(&[0x68, 0xD83D, 0xDE00]).unwrap(), "h\u{1F600}");
+/// assert_eq!(decode_units(&[0x68, 0xDE00]).unwrap_err().valid_up_to(), 1);
+/// ```
+pub fn decode_units(units: &[u16]) -> Result<String, UnitsError> {
+    decode(ByteOrder::NATIVE, units_as_bytes(units)).map_err(UnitsError::of_bytes)
 }
 
 /// Returns the code units of a text: `str::encode_utf16`, collected.

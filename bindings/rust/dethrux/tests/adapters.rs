@@ -1,7 +1,7 @@
 //! The adapters for `Read` and `Write`: chunks and buffers of any length, and errors.
 
 use dethrux::io::{Reader, Writer};
-use dethrux::ByteOrder::{BigEndian, LittleEndian};
+use dethrux::ByteOrder::{self, BigEndian, LittleEndian};
 use dethrux::{decode_lossy, encode_lossy, Decoder, Encoder};
 use std::io::{Error, ErrorKind, Read, Result, Write};
 
@@ -371,6 +371,123 @@ fn a_reader_returns_the_errors_of_the_inner_one() {
         assert_eq!(read_all(&mut reader, len).0, "\u{FFFD}".as_bytes());
         assert_eq!(reader.get_ref().0, 4);
         assert_eq!(reader.into_inner().0, 4);
+    }
+}
+
+/// A reader that has a result for each call, and ends after the last.
+#[derive(Debug)]
+struct Steps<'a>(Vec<Result<&'a [u8]>>);
+
+impl Read for Steps<'_> {
+    fn read(&mut self, to: &mut [u8]) -> Result<usize> {
+        if self.0.is_empty() {
+            return Ok(0);
+        }
+        let mut bytes = self.0.remove(0)?;
+        let read = bytes.read(to)?;
+        if !bytes.is_empty() {
+            self.0.insert(0, Ok(bytes));
+        }
+        Ok(read)
+    }
+}
+
+/// Texts in a byte order, well formed and ill formed, of even and of odd lengths.
+fn streams(order: ByteOrder) -> Vec<Vec<u8>> {
+    let units: [&[u16]; 7] = [
+        &[],
+        &[0x61],
+        &[0xFEFF, 0x61],
+        &[0xD83D, 0xDE00, 0x2605],
+        &[0xDC00, 0x61, 0x62],
+        &[0x61, 0xD800, 0x62],
+        &[0x61, 0x62, 0xD800],
+    ];
+    let bytes = |unit: &u16| match order {
+        LittleEndian => unit.to_le_bytes(),
+        BigEndian => unit.to_be_bytes(),
+    };
+    let whole = units.map(|units| units.iter().flat_map(bytes).collect::<Vec<u8>>());
+    let odd = whole.clone().map(|utf16| [&utf16[..], b"\xD8"].concat());
+    whole.into_iter().chain(odd).collect()
+}
+
+#[test]
+fn a_mark_says_the_byte_order() {
+    for (order, mark) in [(LittleEndian, b"\xFF\xFE"), (BigEndian, b"\xFE\xFF")] {
+        for (utf16, default_order) in streams(order)
+            .iter()
+            .flat_map(|utf16| [(utf16, LittleEndian), (utf16, BigEndian)])
+        {
+            let stream = [mark, &utf16[..]].concat();
+            let expected = decode_lossy(order, utf16).into_bytes();
+            for len in 1..5 {
+                let steps = stream.chunks(len).map(Ok).collect();
+                let reader = Reader::with_bom(Steps(steps), default_order).unwrap();
+                assert_eq!(read_all(reader, 3).0, expected, "{stream:X?}");
+            }
+        }
+    }
+}
+
+#[test]
+fn a_stream_without_a_mark_is_in_the_default_order() {
+    for order in [LittleEndian, BigEndian] {
+        let marks: [&[u8]; 2] = [b"\xFF\xFE", b"\xFE\xFF"];
+        let has_mark = |utf16: &[u8]| marks.iter().any(|mark| utf16.starts_with(mark));
+        for utf16 in streams(order).iter().filter(|utf16| !has_mark(utf16)) {
+            let expected = decode_lossy(order, utf16).into_bytes();
+            for len in 1..5 {
+                let steps = utf16.chunks(len).map(Ok).collect();
+                let reader = Reader::with_bom(Steps(steps), order).unwrap();
+                assert_eq!(read_all(reader, 3).0, expected, "{utf16:X?}");
+            }
+        }
+        for byte in [b"a", b"\xFE", b"\xFF"] {
+            let reader = Reader::with_bom(&byte[..], order).unwrap();
+            assert_eq!(read_all(reader, 4).0, "\u{FFFD}".as_bytes());
+        }
+    }
+}
+
+#[test]
+fn a_mark_is_looked_for_in_two_bytes() {
+    for stream in [
+        &b""[..],
+        b"a",
+        b"a\0",
+        b"\xFF\xFE",
+        b"\xFE\xFF\0a",
+        b"a\0b\0c\0",
+    ] {
+        let reader = Reader::with_bom(stream, LittleEndian).unwrap();
+        assert_eq!(*reader.get_ref(), &stream[stream.len().min(2)..]);
+    }
+}
+
+#[test]
+fn a_mark_is_read_again_after_an_interruption() {
+    let interrupted = || Err(Error::from(ErrorKind::Interrupted));
+    for (mark, text) in [(b"\xFF\xFE", b"a\0"), (b"\xFE\xFF", b"\0a")] {
+        let steps = vec![
+            interrupted(),
+            Ok(&mark[..1]),
+            interrupted(),
+            interrupted(),
+            Ok(&mark[1..]),
+            Ok(&text[..]),
+        ];
+        let reader = Reader::with_bom(Steps(steps), BigEndian).unwrap();
+        assert_eq!(read_all(reader, 9), (b"a".to_vec(), 0));
+    }
+    for at in 0..2 {
+        let mut steps: Vec<Result<&[u8]>> = vec![Ok(b"\xFF"), Ok(b"\xFE")];
+        steps.insert(at, Err(fault("at the mark")));
+        let error = Reader::with_bom(Steps(steps), LittleEndian).unwrap_err();
+        assert_eq!(
+            (error.kind(), &*error.to_string()),
+            (ErrorKind::PermissionDenied, "at the mark")
+        );
     }
 }
 

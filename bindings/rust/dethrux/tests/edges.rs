@@ -773,6 +773,24 @@ fn units_are_bytes_in_the_byte_order_of_the_machine() {
 }
 
 #[test]
+fn errors_of_units_count_units() {
+    let fields = |error: UnitsError| (error.valid_up_to(), error.error_len());
+    for units in UNITS {
+        let items = utf16_items(ByteOrder::NATIVE, &bytes(ByteOrder::NATIVE, units));
+        let is_well_formed = |item: &&Item| item.character.is_some();
+        let valid = items.iter().take_while(is_well_formed);
+        let valid_up_to = valid.map(|item| item.len / 2).sum::<usize>();
+        let stop = items.iter().find(|item| item.character.is_none());
+        let error = stop.map(|item| (valid_up_to, (!item.is_incomplete).then_some(1)));
+        assert_eq!(validate_units(units).err().map(fields), error);
+        assert_eq!(
+            decode_units(units).map_err(fields),
+            error.map_or(Ok(lossy(&items)), Err)
+        );
+    }
+}
+
+#[test]
 fn the_version_is_that_of_the_crate() {
     let (major, minor, patch) = version();
     assert_eq!(

@@ -113,6 +113,9 @@ fn results_keep_little_memory_that_they_do_not_use() {
             results.push((counts, found.len(), found.capacity()));
             let (counts, found) = counted(|| encode_units(&text));
             results.push((counts, found.len(), found.capacity()));
+            let units = found;
+            let (counts, found) = counted(|| decode_units(&units).unwrap());
+            results.push((counts, found.len(), found.capacity()));
             for (counts, used, capacity) in results {
                 assert_eq!(counts.0, usize::from(len > 0));
                 assert!(capacity <= (3 * used).max(8));
@@ -142,6 +145,8 @@ fn adapters_allocate_one_buffer_each_when_they_are_made() {
     let utf16 = encode(BigEndian, &"a★".repeat(10_000));
     let (counts, mut reader) = counted(|| Reader::new(&utf16[..], Decoder::new(BigEndian)));
     assert_eq!(counts, (1, 0));
+    let with_bom = || Reader::with_bom(&utf16[..], BigEndian).unwrap();
+    assert_eq!(counted(with_bom).0, (1, 0));
     let mut text = Vec::with_capacity(100_000);
     assert_eq!(counted(|| reader.read_to_end(&mut text).unwrap()).0, (0, 0));
     assert_eq!(text.len(), 40_000);

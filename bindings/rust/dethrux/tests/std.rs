@@ -75,6 +75,24 @@ fn decodes_as_std() {
 }
 
 #[test]
+fn decodes_units_as_std() {
+    let mut random = Random(5);
+    for _ in 0..2000 {
+        let units = random.units();
+        let std = String::from_utf16(&units);
+        assert_eq!(validate_units(&units).is_ok(), std.is_ok());
+        assert_eq!(decode_units(&units).ok(), std.ok());
+        if let Err(error) = validate_units(&units) {
+            assert_eq!(decode_units(&units), Err(error));
+            assert!(String::from_utf16(&units[..error.valid_up_to()]).is_ok());
+            assert!(matches!(units[error.valid_up_to()], 0xD800..=0xDFFF));
+        }
+        let text = String::from_utf16_lossy(&units);
+        assert_eq!(decode_units(&encode_units(&text)), Ok(text));
+    }
+}
+
+#[test]
 fn long_texts_are_shown_whole() {
     for text in ["aß★\u{1F600}".repeat(100), "★".repeat(1000)] {
         assert_eq!(
@@ -356,6 +374,33 @@ fn errors_are_shown_as_std_shows_them() {
     );
     let error: Box<dyn std::error::Error + Send + Sync> = Box::new(error);
     assert!(error.is::<Utf16Error>());
+    let error = validate_units(&[0x68, 0x69, 0xDC00]).unwrap_err();
+    assert_eq!(error.to_string(), "unpaired surrogate at code unit 2");
+    let error = validate_units(&[0x68, 0xD800]).unwrap_err();
+    assert_eq!(
+        error.to_string(),
+        "incomplete surrogate pair from code unit 1"
+    );
+}
+
+/// Whether an error of std is `InvalidData`, and has this error in it.
+fn is_of<E: std::error::Error + PartialEq + 'static>(found: &std::io::Error, error: &E) -> bool {
+    let inner = found.get_ref().and_then(|inner| inner.downcast_ref::<E>());
+    found.kind() == std::io::ErrorKind::InvalidData && inner == Some(error)
+}
+
+#[test]
+fn errors_become_those_of_std() {
+    for (order, utf16) in [(LittleEndian, b"h\0\0\xDC"), (BigEndian, b"\0h\xDC\0")] {
+        let error = validate(order, utf16).unwrap_err();
+        assert!(is_of(&std::io::Error::from(error), &error));
+    }
+    for units in [[0x68, 0xDC00], [0x68, 0xD800]] {
+        let error = validate_units(&units).unwrap_err();
+        let found = std::io::Error::from(error);
+        assert!(is_of(&found, &error));
+        assert_eq!(found.to_string(), error.to_string());
+    }
 }
 
 #[test]

@@ -39,3 +39,10 @@ impl fmt::Display for Utf16Error {
 }
 
 impl Error for Utf16Error {}
+
+/// An error of the kind `InvalidData`. `get_ref` and `downcast_ref` return the [`Utf16Error`].
+impl From<Utf16Error> for std::io::Error {
+    fn from(error: Utf16Error) -> Self {
+        std::io::Error::new(std::io::ErrorKind::InvalidData, error)
+    }
+}

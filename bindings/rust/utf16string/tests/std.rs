@@ -4,7 +4,7 @@
 use byteorder::ByteOrder;
 use std::collections::HashSet;
 use std::panic::{catch_unwind, AssertUnwindSafe};
-use utf16string::{WStr, WString, BE, LE};
+use utf16string::{Utf16Error, WStr, WString, BE, LE};
 
 /// Random numbers from the steps of splitmix64.
 struct Random(u64);
@@ -256,6 +256,17 @@ fn errors_have_one_message() {
     assert_eq!(error.to_string(), "Invalid UTF-16LE data in byte slice");
     let error: Box<dyn std::error::Error + Send + Sync> = error.into();
     assert_eq!(error.to_string(), "Invalid UTF-16LE data in byte slice");
+}
+
+#[test]
+fn errors_become_those_of_std() {
+    let error = WStr::<LE>::from_utf16(b"h\0\0\xDC").unwrap_err();
+    let found = std::io::Error::from(error);
+    assert_eq!(found.kind(), std::io::ErrorKind::InvalidData);
+    let inner = found
+        .get_ref()
+        .and_then(|inner| inner.downcast_ref::<Utf16Error>());
+    assert_eq!(inner, Some(&error));
 }
 
 #[test]
