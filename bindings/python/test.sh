@@ -1,7 +1,8 @@
 #!/usr/bin/env bash
 # Installs the package with pip in an empty virtual environment, without network. There it runs the
 # first program of docs/PYTHON.md, the unit tests, CPython's tests of UTF-16 with these codecs, and
-# the tables of cases. The last line is 'N passed, M failed'. PYTHON names another Python.
+# the tables of cases. mypy checks the types, if it is installed. The last line is 'N passed, M
+# failed'. PYTHON names another Python.
 # DETHRUX_LIBRARY names the shared library; without it packaging/build.sh makes one.
 set -uo pipefail
 here=$(cd "$(dirname "${BASH_SOURCE[0]}")" && pwd)
@@ -65,6 +66,15 @@ page_has_program() {
         diff - "$here/examples/first.py"
 }
 
+# Whether the types of the package agree. It is neither passed nor failed without mypy.
+check_types() {
+    if command -v mypy > /dev/null; then
+        count 'mypy --strict' mypy --strict --cache-dir "$room/mypy" "$here/src/dethrux"
+    else
+        echo 'not run: mypy --strict (apt-get install mypy)'
+    fi
+}
+
 # Runs the tests of a module, and counts each by the summary of unittest.
 unit_tests() {
     local module=$1 ran lost
@@ -101,4 +111,5 @@ for module in test_calls test_codecs test_package test_build test_cpython; do
     unit_tests $module
 done
 count 'the tables of cases' cases
+check_types
 finish

@@ -23,7 +23,7 @@ print(text, end="")
 # The functions work on bytes, without a str between.
 utf16 = raw[bom.len :]
 print(order, dethrux.validate(utf16, order))
-path.with_suffix(".utf8").write_bytes(dethrux.to_utf8_lossy(utf16, order).output)
+path.with_suffix(".utf8").write_bytes(dethrux.decode_to_utf8(utf16, order, "replace"))
 
 # A decoder takes a stream in chunks, cut anywhere.
 decoder = dethrux.Decoder(order)

@@ -2,6 +2,8 @@
 
 import array
 import ctypes
+import mmap
+import tempfile
 from typing import NamedTuple, Optional
 
 from dethrux import Status
@@ -39,6 +41,7 @@ UTF8 = (
     b"a\xc3",
     b"\xe4\xb8\xe4\xb8\x80\xe4\xb8",
     b"\xed\xa0\x80\xc0\x80",
+    b"\xed\xa0\x80a\xed\xb0\x80",
     b"a" * 40 + b"\x80" + "\u4e00".encode() * 3,
 )
 
@@ -128,14 +131,58 @@ def units(raw):
     return array.array("B" if len(raw) % 2 else "H", raw)
 
 
+def inside_bytes(raw):
+    """Return a read-only view of the middle of longer bytes."""
+    return memoryview(b"\xaa\xaa" + raw + b"\xaa")[2:-1]
+
+
+def mapped(raw):
+    """Return a read-only mapping of a file, or bytes if there are none."""
+    if not raw:
+        return raw
+    with tempfile.TemporaryFile() as file:
+        file.write(raw)
+        file.flush()
+        return mmap.mmap(file.fileno(), 0, access=mmap.ACCESS_READ)
+
+
+def mapped_memory(raw):
+    """Return a mapping that may be written to, or a bytearray if it were empty."""
+    if not raw:
+        return bytearray()
+    mapping = mmap.mmap(-1, len(raw))
+    mapping[:] = raw
+    return mapping
+
+
+def without_object(raw):
+    """Return a read-only view of memory that belongs to no object of Python."""
+    memory = ctypes.create_string_buffer(raw, len(raw) + 1)
+    _MEMORY.append(memory)
+    make = ctypes.pythonapi["PyMemoryView_FromMemory"]
+    make.restype = ctypes.py_object
+    make.argtypes = (ctypes.c_void_p, ctypes.c_ssize_t, ctypes.c_int)
+    return make(ctypes.addressof(memory), len(raw), _READ)
+
+
+# What keeps that memory, and the flag PyBUF_READ.
+_MEMORY, _READ = [], 0x100
+
 # Buffers that a call may write to.
-WRITABLE = (bytearray, lambda raw: memoryview(bytearray(raw)), inside, units)
+WRITABLE = (bytearray, lambda raw: memoryview(bytearray(raw)), inside, units, mapped_memory)
 WRITABLE += (lambda raw: (ctypes.c_ubyte * len(raw)).from_buffer_copy(raw),)
-READABLE = (*WRITABLE, bytes, Bytes, memoryview, spread)
-READABLE += (lambda raw: memoryview(raw[::-1])[::-1],)
-READABLE += (lambda raw: memoryview(raw).cast("B", [len(raw), 1]) if raw else b"",)
+# Buffers that nobody may write to: they are read in place.
+CONSTANT = (bytes, Bytes, memoryview, inside_bytes, mapped, lambda raw: memoryview(mapped(raw)))
+CONSTANT += (lambda raw: memoryview(raw).cast("B", [len(raw), 1]) if raw else b"",)
+CONSTANT += (lambda raw: memoryview(raw) if len(raw) % 2 else memoryview(raw).cast("H"),)
+# Buffers that are copied.
+COPIED = (*WRITABLE, spread, lambda raw: memoryview(raw[::-1])[::-1])
+COPIED += (lambda raw: memoryview(bytearray(raw)).toreadonly(),)
+COPIED += (lambda raw: memoryview(mapped_memory(raw)).toreadonly(), without_object)
+READABLE = (*CONSTANT, *COPIED)
 # Buffers that a call that writes in place refuses.
-UNWRITABLE = (bytes, memoryview, spread, lambda raw: memoryview(bytearray(raw)).toreadonly())
+UNWRITABLE = (bytes, memoryview, mapped, spread)
+UNWRITABLE += (lambda raw: memoryview(bytearray(raw)).toreadonly(),)
 NOT_BUFFERS = ("a", 5, None, [1], 1.5, object())
 
 

@@ -3,14 +3,20 @@
 import array
 import codecs
 import collections
+import ctypes
+import inspect
 import itertools
+import tracemalloc
 import typing
 import unittest
+from unittest import mock
 
 import dethrux
-from dethrux import BomStatus, Status, _codecs
+from dethrux import BomStatus, Status, _calls, _codecs
 from expected import (
     CODECS,
+    CONSTANT,
+    COPIED,
     LARGEST,
     NOT_BUFFERS,
     ORDERS,
@@ -23,6 +29,7 @@ from expected import (
     boundaries,
     code_units,
     items,
+    mapped,
     progress,
     utf16,
 )
@@ -34,10 +41,9 @@ CONVERSIONS = (*TO_UTF8, *FROM_UTF8)
 DECODERS = (dethrux.Decoder, dethrux.Encoder)
 
 # All calls that read a buffer, as functions of it and of a byte order.
-WITH_ORDER = {
-    name: getattr(dethrux, name)
-    for name in ("validate", "count_chars", "is_ascii", "to_utf8_lossy_len", "decode", *CONVERSIONS)
-}
+NAMES = ("validate", "count_chars", "is_ascii", "to_utf8_lossy_len", *CONVERSIONS)
+NAMES += ("decode", "decode_to_utf8", "encode_from_utf8")
+WITH_ORDER = {name: getattr(dethrux, name) for name in NAMES}
 WITH_ORDER.update(
     {
         "is_char_boundary": lambda data, order: dethrux.is_char_boundary(data, order, 2),
@@ -89,6 +95,10 @@ OFFSETS_OF_FILES = [
 def each_utf16():
     """Return each byte order, each sample and CPython's codec."""
     return [(order, raw, codec) for order, codec in CODECS.items() for raw in utf16(order)]
+
+
+# Error handlers of CPython. ``None`` is not one, since ``bytes.decode`` takes only a ``str``.
+HANDLERS = ("strict", "replace", "ignore", "backslashreplace", "surrogatepass", "surrogateescape")
 
 
 def outcome(call, *arguments):
@@ -157,6 +167,26 @@ class Functions(unittest.TestCase):
                     expected = outcome(text.encode, codec, errors)
                     self.assertEqual(outcome(dethrux.encode, text, order, errors), expected)
                 self.assertEqual(outcome(dethrux.encode, text, order), outcome(text.encode, codec))
+
+    def test_decode_to_utf8(self):
+        for order, raw, codec in each_utf16():
+            with self.subTest(order=order, raw=raw):
+                for errors in HANDLERS:
+                    expected = outcome(lambda: raw.decode(codec, errors).encode("utf-8", errors))
+                    found = outcome(dethrux.decode_to_utf8, raw, order, errors)
+                    self.assertEqual(found, expected, errors)
+                found = outcome(dethrux.decode_to_utf8, raw, order)
+                self.assertEqual(found, outcome(lambda: raw.decode(codec).encode()))
+
+    def test_encode_from_utf8(self):
+        for (order, codec), utf8 in itertools.product(CODECS.items(), UTF8):
+            with self.subTest(order=order, utf8=utf8):
+                for errors in HANDLERS:
+                    expected = outcome(lambda: utf8.decode("utf-8", errors).encode(codec, errors))
+                    found = outcome(dethrux.encode_from_utf8, utf8, order, errors)
+                    self.assertEqual(found, expected, errors)
+                found = outcome(dethrux.encode_from_utf8, utf8, order)
+                self.assertEqual(found, outcome(lambda: utf8.decode().encode(codec)))
 
     def test_boundaries(self):
         for order, raw, _codec in each_utf16():
@@ -282,6 +312,127 @@ class InPlace(unittest.TestCase):
         self.assertEqual(buffer, raw)
 
 
+def address_of(raw):
+    """Return the address of the first of these bytes."""
+    return ctypes.cast(ctypes.c_char_p(raw), ctypes.c_void_p).value
+
+
+# Calls that allocate nothing for their result, as functions of a buffer and a byte order.
+LEAN = {name: call for name, call in READERS.items() if "decode" not in name.lower()}
+LEAN = {name: call for name, call in LEAN.items() if "encode" not in name.lower()}
+LEAN.update(
+    {
+        name: lambda data, order, call=getattr(dethrux, name): call(data, order, 0)
+        for name in CONVERSIONS
+    }
+)
+LEAN.update(
+    {
+        kind.__name__: lambda data, order, kind=kind: kind(order).feed_partial(data, 0)
+        for kind in DECODERS
+    }
+)
+
+
+class Reading(unittest.TestCase):
+    """Which buffers are read in place, and until when they are held."""
+
+    def test_the_bytes_are_those_of_the_buffer(self):
+        for raw, kind in itertools.product((b"", b"a", b"a\0\x3d\xd8"), READABLE):
+            with self.subTest(raw=raw, kind=kind):
+                source = _calls.readable(kind(raw))
+                is_bytes = isinstance(source, bytes)
+                address = address_of(source) if is_bytes else source._as_parameter_
+                self.assertEqual(len(source), len(raw))
+                self.assertEqual(ctypes.string_at(address, len(raw)) if raw else b"", raw)
+
+    def test_in_place(self):
+        raw = b"\xaa\xaaa\0b\0\xaa"
+        for view, at in ((memoryview(raw), 0), (memoryview(raw)[2:-1], 2)):
+            source = _calls.readable(view)
+            self.assertEqual(source._as_parameter_, address_of(raw) + at)
+            self.assertEqual(len(source), len(view))
+        self.assertIs(_calls.readable(raw), raw)
+
+    def peak(self, call, buffer, order):
+        """Return how much memory a call takes."""
+        tracemalloc.start()
+        call(buffer, order)
+        peak = tracemalloc.get_traced_memory()[1]
+        tracemalloc.stop()
+        return peak
+
+    def test_what_is_copied(self):
+        raw = b"a\0" * 50_000
+        buffers = [(kind, kind(raw), False) for kind in CONSTANT]
+        buffers += [(kind, kind(raw), True) for kind in COPIED]
+        for (name, call), (kind, buffer, is_copied) in itertools.product(LEAN.items(), buffers):
+            with self.subTest(name=name, kind=kind):
+                peak = self.peak(call, buffer, "little")
+                self.assertEqual(peak >= len(raw), is_copied, peak)
+
+    def test_held_for_the_call(self):
+        for buffer, change in (
+            (mapped(b"a\0"), lambda mapping: mapping.close()),
+            (bytearray(b"a\0"), lambda array: array.append(0)),
+        ):
+            held = []
+
+            def count(order, source, length):
+                try:
+                    change(buffer)
+                except BufferError:
+                    held.append(ctypes.string_at(source._as_parameter_, length))
+                return 5
+
+            with mock.patch.object(_calls._library, "count_chars", count):
+                self.assertEqual(dethrux.count_chars(buffer, "little"), 5)
+            # A copy needs no hold.
+            self.assertEqual(held, [b"a\0"] if type(buffer) is not bytearray else [])
+            change(buffer)
+
+    def test_let_go_after_the_call(self):
+        for (name, call), order in itertools.product(READERS.items(), ORDERS):
+            for wrong in (order, "middle"):
+                mapping, view = mapped(b"\x00\xd8a"), memoryview(b"\x00\xd8a")
+                with self.subTest(name=name, wrong=wrong):
+                    for buffer in (mapping, view):
+                        try:
+                            call(buffer, wrong)
+                        except ValueError:
+                            # The exception is alive, with its frames.
+                            (mapping.close if buffer is mapping else view.release)()
+                    mapping.close()
+                    view.release()
+
+
+    def test_let_go_after_a_wrong_number(self):
+        calls = [
+            lambda data, call=call, order=order: call(data, order, -1)
+            for call, order in itertools.product(
+                (
+                    dethrux.is_char_boundary,
+                    dethrux.floor_char_boundary,
+                    dethrux.floor_char_boundary_around,
+                    *(getattr(dethrux, name) for name in CONVERSIONS),
+                ),
+                ORDERS,
+            )
+        ]
+        for kind in DECODERS:
+            finished = kind("big")
+            finished.finish()
+            calls.append(finished.feed)
+            calls.append(lambda data, kind=kind: kind("little").feed_partial(data, -1))
+        for call in calls:
+            mapping = mapped(b"a\0")
+            try:
+                call(mapping)
+            except ValueError:
+                mapping.close()
+            self.assertTrue(mapping.closed)
+
+
 class Arguments(unittest.TestCase):
     def test_buffers(self):
         for (name, call), order in itertools.product(READERS.items(), ORDERS):
@@ -324,6 +475,46 @@ class Arguments(unittest.TestCase):
                 with self.subTest(name=name, wrong=wrong):
                     with self.assertRaisesRegex(TypeError, message):
                         call(b"a\0", wrong)
+
+    def test_byteorder_is_a_keyword(self):
+        raw = b"a\0\x3d\xd8\x00\xde\xd8\x3d"
+        extra = {"is_char_boundary": (4,), "floor_char_boundary": (5,)}
+        extra["floor_char_boundary_around"] = (3,)
+        found = set()
+        for name in dethrux.__all__:
+            call = getattr(dethrux, name)
+            if not callable(call) or isinstance(call, type) and call not in DECODERS:
+                continue
+            names = list(inspect.signature(call).parameters)
+            if "byteorder" not in names:
+                continue
+            found.add(name)
+            self.assertEqual(names.index("byteorder"), 0 if call in DECODERS else 1, name)
+            for order in ORDERS:
+                with self.subTest(name=name, order=order):
+                    if call in DECODERS:
+                        self.assertEqual(call(byteorder=order)._order, ORDERS.index(order))
+                        continue
+                    data = "a\ud800" if name == "encode" else bytearray(raw)
+                    also = dict(zip(names[2:], extra.get(name, ())))
+                    by_keyword = outcome(lambda: call(data, byteorder=order, **also))
+                    data = "a\ud800" if name == "encode" else bytearray(raw)
+                    self.assertEqual(by_keyword, outcome(call, data, order, *also.values()))
+        expected = {*WITH_ORDER, "encode", "make_well_formed"}
+        self.assertEqual(found, expected - {"compare, first", "compare, second"})
+
+    def test_the_byte_orders_of_compare_are_keywords(self):
+        names = ["first", "first_byteorder", "second", "second_byteorder"]
+        self.assertEqual(list(inspect.signature(dethrux.compare).parameters), names)
+        for orders in itertools.product(ORDERS, ORDERS):
+            texts = ["\uffff".encode(CODECS[orders[0]]), "\U00010000".encode(CODECS[orders[1]])]
+            found = dethrux.compare(
+                first=texts[0],
+                first_byteorder=orders[0],
+                second=texts[1],
+                second_byteorder=orders[1],
+            )
+            self.assertEqual(found, -1)
 
     def test_numbers(self):
         for name, call in CAPACITIES + OFFSETS + OFFSETS_OF_FILES:

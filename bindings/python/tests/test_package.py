@@ -193,6 +193,26 @@ class Declarations(unittest.TestCase):
         self.assertEqual(_library.State.pending.size, 3)
         self.assertEqual((_library.State.pending.offset, _library.State.pending_len.offset), (0, 3))
 
+    def test_buffers(self):
+        raw = b"abcdef"
+        held = _library.Buffer()
+        _library.get_buffer(memoryview(raw).cast("H"), held, 0)
+        self.assertEqual(ctypes.string_at(held.buf, held.len), raw)
+        self.assertEqual((held.itemsize, held.readonly, held.ndim, held.format), (2, 1, 1, None))
+        _library.release_buffer(held)
+        self.assertIsNone(held.obj)
+        # Py_buffer has eight words and two numbers of four bytes on a machine of 64 bits.
+        self.assertEqual(ctypes.sizeof(_library.Buffer), 80)
+        self.assertEqual(_library.Buffer.internal.offset, 72)
+
+    def test_calls_of_cpython_are_our_own(self):
+        for name, call in (
+            ("PyObject_GetBuffer", _library.get_buffer),
+            ("PyBuffer_Release", _library.release_buffer),
+        ):
+            self.assertEqual(call.__name__, name)
+            self.assertIsNot(getattr(ctypes.pythonapi, name), call)
+
     def test_calls_run_without_the_gil(self):
         self.assertIsInstance(_library._library, ctypes.CDLL)
         self.assertNotIsInstance(_library._library, ctypes.PyDLL)

@@ -38,7 +38,7 @@ from ._calls import (
     to_utf8_partial,
     validate,
 )
-from ._codecs import decode, encode, search
+from ._codecs import decode, decode_to_utf8, encode, encode_from_utf8, search
 from ._version import __version__
 
 __all__ = [
@@ -54,8 +54,10 @@ __all__ = [
     "compare",
     "count_chars",
     "decode",
+    "decode_to_utf8",
     "detect_bom",
     "encode",
+    "encode_from_utf8",
     "floor_char_boundary",
     "floor_char_boundary_around",
     "from_utf8",

@@ -2,14 +2,15 @@
 
 import ctypes
 import enum
+import mmap
 import operator
 from typing import Any, Callable, Literal, NamedTuple, Optional, Union
 
 from . import _library
 
 ByteOrder = Literal["little", "big"]
-ReadableBuffer = Union[bytes, bytearray, memoryview]
-WritableBuffer = Union[bytearray, memoryview]
+ReadableBuffer = Union[bytes, bytearray, memoryview, mmap.mmap]
+WritableBuffer = Union[bytearray, memoryview, mmap.mmap]
 
 
 class Status(enum.IntEnum):
@@ -75,10 +76,42 @@ def order_number(byteorder: str) -> int:
 def as_bytes(data: ReadableBuffer) -> bytes:
     """Return bytes unchanged, and a copy of the bytes of any other buffer.
 
-    It is a copy because the library runs without the GIL, and another thread
-    might change the buffer.
+    It is a copy because another thread might change the buffer: the library
+    runs without the GIL.
     """
     return data if type(data) is bytes else memoryview(data).tobytes()
+
+
+class Held:
+    """A buffer that calls read in place. It cannot be closed or resized as long as this exists."""
+
+    __slots__ = ("_as_parameter_", "_buffer")
+
+    def __init__(self, view: memoryview) -> None:
+        self._buffer = _library.Buffer()
+        _library.get_buffer(view, self._buffer, 0)
+        # ctypes passes this instead of the object.
+        self._as_parameter_ = self._buffer.buf
+
+    def __len__(self) -> int:
+        length: int = self._buffer.len
+        return length
+
+    def __del__(self) -> None:
+        _library.release_buffer(self._buffer)
+
+
+def readable(data: ReadableBuffer) -> Union[bytes, Held]:
+    """Return a buffer in place if nobody may write to it, else a copy of its bytes.
+
+    Test all other arguments first: the frames of an exception hold the buffer.
+    """
+    if type(data) is bytes:
+        return data
+    view = memoryview(data)
+    if view.c_contiguous and view.obj is not None and memoryview(view.obj).readonly:
+        return Held(view)
+    return view.tobytes()
 
 
 def as_size(size: int, name: str) -> int:
@@ -112,15 +145,20 @@ def _run(call: Callable[..., Any], capacity: int, *arguments: object) -> Progres
     return Progress(output, found.read, _STATUSES[found.status], found.error_len)
 
 
+def as_capacity(capacity: Optional[int]) -> Optional[int]:
+    """Return a capacity or None; raise an exception if it is neither."""
+    return None if capacity is None else as_size(capacity, "capacity")
+
+
 def _limited(capacity: Optional[int], sufficient: int) -> int:
     """Return the capacity that a caller gave, but no more than suffices."""
-    return sufficient if capacity is None else min(as_size(capacity, "capacity"), sufficient)
+    return sufficient if capacity is None else min(capacity, sufficient)
 
 
 def validate(utf16: ReadableBuffer, byteorder: ByteOrder) -> Validity:
     """Return the length of the longest well-formed prefix, and what follows it."""
-    utf16 = as_bytes(utf16)
-    found = _library.validate(order_number(byteorder), utf16, len(utf16))
+    order, source = order_number(byteorder), readable(utf16)
+    found = _library.validate(order, source, len(source))
     return Validity(found.valid_up_to, _STATUSES[found.status], found.error_len)
 
 
@@ -130,53 +168,53 @@ def count_chars(utf16: ReadableBuffer, byteorder: ByteOrder) -> int:
     For ill-formed input: the number of complete code units that are not
     trailing surrogates.
     """
-    utf16 = as_bytes(utf16)
-    count: int = _library.count_chars(order_number(byteorder), utf16, len(utf16))
+    order, source = order_number(byteorder), readable(utf16)
+    count: int = _library.count_chars(order, source, len(source))
     return count
 
 
 def is_ascii(utf16: ReadableBuffer, byteorder: ByteOrder) -> bool:
     """Return whether the bytes are UTF-16 whose characters are all ASCII."""
-    utf16 = as_bytes(utf16)
-    found: bool = _library.is_ascii(order_number(byteorder), utf16, len(utf16))
+    order, source = order_number(byteorder), readable(utf16)
+    found: bool = _library.is_ascii(order, source, len(source))
     return found
 
 
 def to_utf8_lossy_len(utf16: ReadableBuffer, byteorder: ByteOrder) -> int:
     """Return the length of what ``to_utf8_lossy`` returns for the whole input."""
-    utf16 = as_bytes(utf16)
-    length: int = _library.to_utf8_lossy_len(order_number(byteorder), utf16, len(utf16))
+    order, source = order_number(byteorder), readable(utf16)
+    length: int = _library.to_utf8_lossy_len(order, source, len(source))
     return length
 
 
 def from_utf8_len(utf8: ReadableBuffer) -> int:
     """Return the length of what ``from_utf8`` returns for the longest well-formed prefix."""
-    utf8 = as_bytes(utf8)
-    length: int = _library.from_utf8_len(utf8, len(utf8))
+    source = readable(utf8)
+    length: int = _library.from_utf8_len(source, len(source))
     return length
 
 
 def from_utf8_lossy_len(utf8: ReadableBuffer) -> int:
     """Return the length of what ``from_utf8_lossy`` returns for the whole input."""
-    utf8 = as_bytes(utf8)
-    length: int = _library.from_utf8_lossy_len(utf8, len(utf8))
+    source = readable(utf8)
+    length: int = _library.from_utf8_lossy_len(source, len(source))
     return length
 
 
 def _to_utf8(
     call: Callable[..., Any], utf16: ReadableBuffer, byteorder: str, capacity: Optional[int]
 ) -> Progress:
-    utf16 = as_bytes(utf16)
-    room = _limited(capacity, (len(utf16) + 1) // 2 * 3)
-    return _run(call, room, order_number(byteorder), utf16, len(utf16))
+    order, capacity, source = order_number(byteorder), as_capacity(capacity), readable(utf16)
+    room = _limited(capacity, (len(source) + 1) // 2 * 3)
+    return _run(call, room, order, source, len(source))
 
 
 def _from_utf8(
     call: Callable[..., Any], utf8: ReadableBuffer, byteorder: str, capacity: Optional[int]
 ) -> Progress:
-    utf8 = as_bytes(utf8)
-    room = _limited(capacity, len(utf8) * 2)
-    return _run(call, room, order_number(byteorder), utf8, len(utf8))
+    order, capacity, source = order_number(byteorder), as_capacity(capacity), readable(utf8)
+    room = _limited(capacity, len(source) * 2)
+    return _run(call, room, order, source, len(source))
 
 
 def to_utf8(
@@ -235,16 +273,15 @@ def is_char_boundary(utf16: ReadableBuffer, byteorder: ByteOrder, at: int) -> bo
     That is the length, or a smaller even offset that is neither inside a
     surrogate pair nor between a leading surrogate and a single byte at the end.
     """
-    utf16 = as_bytes(utf16)
-    order, at = order_number(byteorder), as_size(at, "at")
-    return at <= len(utf16) and bool(_library.is_char_boundary(order, utf16, len(utf16), at))
+    order, at, source = order_number(byteorder), as_size(at, "at"), readable(utf16)
+    return at <= len(source) and bool(_library.is_char_boundary(order, source, len(source), at))
 
 
 def floor_char_boundary(utf16: ReadableBuffer, byteorder: ByteOrder, at: int) -> int:
     """Return the greatest boundary between characters at or before this offset."""
-    utf16 = as_bytes(utf16)
-    order, at = order_number(byteorder), min(as_size(at, "at"), len(utf16))
-    boundary: int = _library.floor_char_boundary(order, utf16, len(utf16), at)
+    order, at, source = order_number(byteorder), as_size(at, "at"), readable(utf16)
+    at = min(at, len(source))
+    boundary: int = _library.floor_char_boundary(order, source, len(source), at)
     return boundary
 
 
@@ -254,9 +291,8 @@ def floor_char_boundary_around(around: ReadableBuffer, byteorder: ByteOrder, at:
     They are the file's bytes from ``max(at // 2 * 2 - 2, 0)`` on: four of them,
     or as many as there are.
     """
-    around = as_bytes(around)
-    order, at = order_number(byteorder), as_offset(at, "at")
-    boundary: int = _library.floor_char_boundary_around(order, around, len(around), at)
+    order, at, source = order_number(byteorder), as_offset(at, "at"), readable(around)
+    boundary: int = _library.floor_char_boundary_around(order, source, len(source), at)
     return boundary
 
 
@@ -298,9 +334,9 @@ def compare(
     second. An unpaired surrogate, and an incomplete character at the end, is
     compared as U+FFFD.
     """
-    first, second = as_bytes(first), as_bytes(second)
     orders = order_number(first_byteorder), order_number(second_byteorder)
-    found: int = _library.compare(orders[0], first, len(first), orders[1], second, len(second))
+    one, two = readable(first), readable(second)
+    found: int = _library.compare(orders[0], one, len(one), orders[1], two, len(two))
     return found
 
 
@@ -309,8 +345,8 @@ def detect_bom(data: ReadableBuffer) -> Bom:
 
     The status is ``BomStatus.UNDECIDED`` for fewer than two bytes.
     """
-    data = as_bytes(data)
-    found = _library.detect_bom(data, len(data))
+    source = readable(data)
+    found = _library.detect_bom(source, len(source))
     return Bom("big" if found.byte_order else "little", found.len, BomStatus(found.status))
 
 
@@ -345,10 +381,10 @@ class Decoder:
         ``Status.NO_SPACE``: call again with the bytes after those that were
         read. With a capacity of four or more, something was written.
         """
-        chunk = as_bytes(chunk)
-        room = _limited(capacity, self._feed_max(len(chunk)))
         self._check_open()
-        return self._feed(chunk, room)
+        capacity, source = as_capacity(capacity), readable(chunk)
+        room = _limited(capacity, self._feed_max(len(source)))
+        return self._feed(source, room)
 
     def finish(self) -> bytes:
         """End the stream, and return U+FFFD if bytes are pending, else nothing."""
@@ -363,7 +399,7 @@ class Decoder:
     def _feed_max(self, length: int) -> int:
         return (length + 3) // 2 * 3
 
-    def _feed(self, chunk: bytes, capacity: int) -> Progress:
+    def _feed(self, chunk: Union[bytes, Held], capacity: int) -> Progress:
         call = _library.decoder_feed
         return _run(call, capacity, self._state, self._order, chunk, len(chunk))
 
@@ -380,7 +416,7 @@ class Encoder(Decoder):
     def _feed_max(self, length: int) -> int:
         return length * 2 + 2
 
-    def _feed(self, chunk: bytes, capacity: int) -> Progress:
+    def _feed(self, chunk: Union[bytes, Held], capacity: int) -> Progress:
         call = _library.encoder_feed
         return _run(call, capacity, self._state, self._order, chunk, len(chunk))
 

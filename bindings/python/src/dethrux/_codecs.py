@@ -13,7 +13,18 @@ import sys
 from typing import Any, Callable, Optional, Union
 
 from . import _library
-from ._calls import ByteOrder, ReadableBuffer, Status, as_bytes, order_number, pointer
+from ._calls import (
+    ByteOrder,
+    ReadableBuffer,
+    Status,
+    as_bytes,
+    from_utf8,
+    from_utf8_lossy,
+    order_number,
+    pointer,
+    to_utf8,
+    to_utf8_lossy,
+)
 
 _LITTLE, _BIG = 0, 1
 _NATIVE = _LITTLE if sys.byteorder == "little" else _BIG
@@ -287,6 +298,32 @@ def encode(text: str, byteorder: ByteOrder, errors: str = "strict") -> bytes:
     """Return the UTF-16 of a text, without a BOM; errors are as in ``str.encode``."""
     order = order_number(byteorder)
     return _encode(text, order, errors, _ENCODINGS[order])
+
+
+def decode_to_utf8(utf16: ReadableBuffer, byteorder: ByteOrder, errors: str = "strict") -> bytes:
+    """Return the UTF-8 of UTF-16: ``decode(utf16, byteorder, errors).encode("utf-8", errors)``.
+
+    A ``str`` is made only of ill-formed input, and not with ``replace``.
+    """
+    if errors == "replace":
+        return to_utf8_lossy(utf16, byteorder).output
+    found = to_utf8(utf16, byteorder)
+    if found.status == Status.DONE:
+        return found.output
+    return decode(utf16, byteorder, errors).encode("utf-8", errors)
+
+
+def encode_from_utf8(utf8: ReadableBuffer, byteorder: ByteOrder, errors: str = "strict") -> bytes:
+    """Return the UTF-16 of UTF-8: ``encode(str(utf8, "utf-8", errors), byteorder, errors)``.
+
+    A ``str`` is made only of ill-formed input, and not with ``replace``.
+    """
+    if errors == "replace":
+        return from_utf8_lossy(utf8, byteorder).output
+    found = from_utf8(utf8, byteorder)
+    if found.status == Status.DONE:
+        return found.output
+    return encode(str(as_bytes(utf8), "utf-8", errors), byteorder, errors)
 
 
 # The classes of each codec.

@@ -47,6 +47,24 @@ class State(ctypes.Structure):
     _fields_ = [("pending", ctypes.c_uint8 * 3), ("pending_len", ctypes.c_uint8)]
 
 
+class Buffer(ctypes.Structure):
+    """``Py_buffer`` of CPython."""
+
+    _fields_ = [
+        ("buf", ctypes.c_void_p),
+        ("obj", ctypes.c_void_p),
+        ("len", ctypes.c_ssize_t),
+        ("itemsize", ctypes.c_ssize_t),
+        ("readonly", ctypes.c_int),
+        ("ndim", ctypes.c_int),
+        ("format", ctypes.c_char_p),
+        ("shape", ctypes.c_void_p),
+        ("strides", ctypes.c_void_p),
+        ("suboffsets", ctypes.c_void_p),
+        ("internal", ctypes.c_void_p),
+    ]
+
+
 def _candidate() -> tuple[str, str]:
     """Return the library to load, and what to do if that fails."""
     named = os.environ.get("DETHRUX_LIBRARY")
@@ -129,3 +147,11 @@ swap_byte_order = _call("swap_byte_order", None, *_buffer)
 make_well_formed = _call("make_well_formed", _size, _order, *_buffer)
 compare = _call("compare", ctypes.c_int32, _order, *_buffer, _order, *_buffer)
 detect_bom = _call("detect_bom", Bom, *_buffer)
+
+# Calls of CPython. An index gives functions of our own: other packages may declare other types for
+# the attributes of ``pythonapi``.
+get_buffer = ctypes.pythonapi["PyObject_GetBuffer"]
+get_buffer.restype = ctypes.c_int
+get_buffer.argtypes = (ctypes.py_object, ctypes.POINTER(Buffer), ctypes.c_int)
+release_buffer = ctypes.pythonapi["PyBuffer_Release"]
+release_buffer.restype, release_buffer.argtypes = None, (ctypes.POINTER(Buffer),)
