@@ -3,6 +3,7 @@
 import array
 import ctypes
 import mmap
+import sys
 import tempfile
 from typing import NamedTuple, Optional
 
@@ -114,6 +115,16 @@ class Bytes(bytes):
     """A subclass, as programs may define one."""
 
 
+class OwnBuffer:
+    """A buffer of a class of Python, which can be one since Python 3.12."""
+
+    def __init__(self, raw):
+        self.raw = raw
+
+    def __buffer__(self, flags):
+        return memoryview(self.raw)
+
+
 def spread(raw):
     """Return a view of every other byte of a longer buffer."""
     longer = bytearray(b"\xaa" * (2 * len(raw)))
@@ -179,6 +190,8 @@ CONSTANT += (lambda raw: memoryview(raw) if len(raw) % 2 else memoryview(raw).ca
 COPIED = (*WRITABLE, spread, lambda raw: memoryview(raw[::-1])[::-1])
 COPIED += (lambda raw: memoryview(bytearray(raw)).toreadonly(),)
 COPIED += (lambda raw: memoryview(mapped_memory(raw)).toreadonly(), without_object)
+if sys.version_info >= (3, 12):
+    COPIED += (OwnBuffer,)
 READABLE = (*CONSTANT, *COPIED)
 # Buffers that a call that writes in place refuses.
 UNWRITABLE = (bytes, memoryview, mapped, spread)

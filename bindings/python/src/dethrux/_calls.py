@@ -101,6 +101,17 @@ class Held:
         _library.release_buffer(self._buffer)
 
 
+def _is_constant(view: memoryview) -> bool:
+    """Return whether a view is in one piece, of an object that nobody may write to."""
+    if not view.c_contiguous:
+        return False
+    try:
+        return memoryview(view.obj).readonly
+    except TypeError:
+        # It has no object, or one that does not tell, as of a class with ``__buffer__``.
+        return False
+
+
 def readable(data: ReadableBuffer) -> Union[bytes, Held]:
     """Return a buffer in place if nobody may write to it, else a copy of its bytes.
 
@@ -109,9 +120,7 @@ def readable(data: ReadableBuffer) -> Union[bytes, Held]:
     if type(data) is bytes:
         return data
     view = memoryview(data)
-    if view.c_contiguous and view.obj is not None and memoryview(view.obj).readonly:
-        return Held(view)
-    return view.tobytes()
+    return Held(view) if _is_constant(view) else view.tobytes()
 
 
 def as_size(size: int, name: str) -> int:
