@@ -89,6 +89,7 @@ put_libraries() {
     put 644 "$from/libdethrux.a" "$libdir/libdethrux.a"
     if [ -e "$from/dethrux.dll" ]; then
         put 644 "$from/libdethrux.dll.a" "$libdir/libdethrux.dll.a"
+        put 644 "$top/dist/src/dethrux.def" "$libdir/dethrux.def"
         put 755 "$from/dethrux.dll" bin/dethrux.dll
         return
     fi
@@ -102,7 +103,7 @@ put_libraries() {
 put_built() {
     local built=$top/packaging/out header page
     for program in utf16_cat utf16_enc; do
-        [ -e "$built/$program" ] || continue
+        [[ -e $built/$program && ${1##*/} == x86_64-linux-gnu* ]] || continue
         put 755 "$built/$program" "bin/$program"
         put 644 "$top/crates/$program/$program.1" "share/man/man1/$program.1"
     done
