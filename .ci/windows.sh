@@ -166,20 +166,24 @@ exports_header() {
         sort | diff "$room/declared" -
 }
 
-# Tests that a DLL needs the C runtime, and the kernel for the start of that runtime.
-imports_runtime() {
-    x86_64-w64-mingw32-objdump -p "$1" | sed -n 's/^\tDLL Name: //p' | sort |
-        diff <(printf '%s\n' KERNEL32.dll msvcrt.dll) -
+# Tests that a DLL needs only functions of the C runtime that copy, move, fill and compare memory.
+imports_memory() {
+    x86_64-w64-mingw32-objdump -p "$1" > "$room/dump" &&
+        sed -n '/^The Import Tables/,/^The Export Tables/p' "$room/dump" |
+        sed -n 's/^\tDLL Name: //p; s/^\t[0-9a-f]\+\t *[0-9]\+  //p' |
+        diff <(printf '%s\n' msvcrt.dll memcmp memcpy memmove memset) -
 }
 
 # Tests that a static library has the functions of the header, each also with the prefix sysv_, and
-# that it calls only functions that copy, move, fill and compare memory.
+# the entry point of the DLL, and that it calls only functions that copy, move, fill and compare
+# memory.
 has_header() {
     x86_64-w64-mingw32-nm -g "$1" > "$room/names" &&
         sed -n 's/.* [TDBR] //p' "$room/names" | sort > "$room/defined" &&
         { cat "$room/declared"
             sed 's/^/sysv_/' "$room/declared"
-            printf 'sysv_%s\n' memcmp memcpy memmove memset; } | sort | diff - "$room/defined" &&
+            printf 'sysv_%s\n' memcmp memcpy memmove memset
+            echo dethrux_dll_entry; } | sort | diff - "$room/defined" &&
         sed -n 's/.* U //p' "$room/names" | sort -u | comm -23 - "$room/defined" |
         diff <(printf '%s\n' memcmp memcpy memmove memset) -
 }
@@ -419,7 +423,8 @@ for_msvc() {
 
 # Tests that the header for C compiles in a language and standard.
 header_for_msvc() {
-    printf '#include <dethrux.h>\n#include <dethrux.h>\n' | for_msvc "-std=$2" -fsyntax-only -x "$1" -
+    printf '#include <dethrux.h>\n#include <dethrux.h>\n' |
+        for_msvc "-std=$2" -fsyntax-only -x "$1" -
 }
 
 # Builds the DLL for MSVC, and its import library from dethrux.def. The C runtime is Wine's.
@@ -435,8 +440,9 @@ links_for_msvc() {
         x86_64-w64-mingw32-dlltool -d msvcrt.def -D msvcrt.dll -l msvcrt.lib &&
         for_msvc -O2 -c "$dist/src/windows.c" -o windows.obj &&
         for_msvc -c "$assembly" -o assembly.obj &&
-        lld-link /dll /noentry windows.obj assembly.obj msvcrt.lib "/def:$dist/src/dethrux.def" \
-            /out:dethrux.dll /implib:dethrux.lib && exports_header dethrux.dll
+        lld-link /dll /entry:dethrux_dll_entry windows.obj assembly.obj msvcrt.lib \
+            "/def:$dist/src/dethrux.def" /out:dethrux.dll /implib:dethrux.lib &&
+        exports_header dethrux.dll && imports_memory dethrux.dll
 }
 
 # Runs the tables with the DLL for MSVC, and a program for MSVC with the import library.
@@ -458,13 +464,13 @@ check 'the tables by clang' build_and_check clang "CC=clang --target=x86_64-w64-
     "LDFLAGS=-L$mingw" || finish
 check 'a program that fails' passes_status
 check 'swapped texts' sees_arguments \
-    's/(first_order, first, first_len, second_order, second, second_len))$/(second_order, second, second_len, first_order, first, first_len))/'
+    's/(\(first_order, .*\), \(second_order, .*\)))$/(\2, \1))/'
 check 'the other byte order' sees_arguments \
-    '/, dethrux_to_utf8, /s/(byte_order, utf16, len, to, capacity))$/(byte_order ^ 1, utf16, len, to, capacity))/'
+    '/, dethrux_to_utf8, /s/(\(byte_order, utf16, len, to\)/(!\1/'
 check 'the functions of the header' declared && cp "$room/said" "$room/declared"
 for built in gcc clang; do
     check "the exports by $built" exports_header "$room/$built/dethrux.dll"
-    check "the imports by $built" imports_runtime "$room/$built/dethrux.dll"
+    check "the imports by $built" imports_memory "$room/$built/dethrux.dll"
     check "the static library by $built" has_header "$room/$built/libdethrux.a"
     check "the registers by $built" keeps_registers $built "$dist/src/windows.c"
 done

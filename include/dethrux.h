@@ -10,7 +10,8 @@
  * @par Libraries
  * Link with libdethrux.so (-ldethrux), or with just libdethrux.a. Both are for x86-64-v2 and above
  * (SSE4.2, POPCNT): the loader refuses to start them on an older processor. A program that is
- * linked with -static is not checked: an illegal instruction ends it.
+ * linked with -static is not checked: an illegal instruction ends it. On Windows the shared library
+ * is dethrux.dll, and no program is checked.
  *
  * @par Proofs
  * Proved for all inputs of up to PTRDIFF_MAX bytes: each result is as described, and no call reads
@@ -581,10 +582,10 @@ DETHRUX_NODISCARD dethrux_bom dethrux_detect_bom(const uint8_t *bytes, size_t le
 /**
  * @defgroup dethrux_u16 Code units: UTF-16 in the machine's byte order
  * The dethrux_u16 calls are the same calls on code units, as Windows, ICU, Qt and Java hold them.
- * Code units are of type uint16_t or char16_t in C, which are one type, and of any integral type of
- * two bytes in C++. Each length, offset and capacity of UTF-16 counts code units, and so do `read`,
- * `written`, `valid_up_to` and `error_len` if they are about UTF-16; for UTF-8 they count bytes.
- * Nothing is copied.
+ * In C, code units are of type uint16_t or char16_t, which are one type, and wchar_t is the same on
+ * Windows. In C++ they are of any integral type of two bytes. Each length, offset and capacity of
+ * UTF-16 counts code units, and so do `read`, `written`, `valid_up_to` and `error_len` if they are
+ * about UTF-16; for UTF-8 they count bytes. Nothing is copied.
  * @{
  */
 

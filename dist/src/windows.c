@@ -47,3 +47,6 @@ SYSV void *sysv_memset(void *to, int byte, size_t len);
 SYSV void *sysv_memset(void *to, int byte, size_t len) { return memset(to, byte, len); }
 SYSV int sysv_memcmp(const void *a, const void *b, size_t len);
 SYSV int sysv_memcmp(const void *a, const void *b, size_t len) { return memcmp(a, b, len); }
+/* The entry point of the DLL: there is nothing to prepare. */
+int dethrux_dll_entry(void);
+int dethrux_dll_entry(void) { return 1; }

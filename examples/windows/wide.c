@@ -17,7 +17,8 @@ static char *to_utf8(LPCWSTR text) {
     return utf8;
 }
 
-/* Writes UTF-8 to a buffer with a NUL after it. Fails if it is ill formed or does not fit. */
+/* Writes UTF-8 and a NUL to a buffer of at least one code unit. Fails if the text is ill formed or
+ * does not fit. */
 static bool to_wide(const char *utf8, LPWSTR to, size_t capacity) {
     dethrux_progress progress =
         dethrux_u16_from_utf8((const uint8_t *)utf8, strlen(utf8), to, capacity - 1);

@@ -69,7 +69,8 @@ __asm__(".text\n"
         "    popq %rsi\n    popq %rdi\n    popq %rbp\n    popq %rbx\n"
         "    retq\n");
 
-typedef char offsets_are_right[offsetof(call, before) == 64 && offsetof(call, after) == 288 ? 1 : -1];
+typedef char before_is_at_64[offsetof(call, before) == 64 ? 1 : -1];
+typedef char after_is_at_288[offsetof(call, after) == 288 ? 1 : -1];
 
 static int changed;
 
