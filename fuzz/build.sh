@@ -1,7 +1,8 @@
 #!/usr/bin/env bash
 # Builds the harness: fuzz/build.sh COMPILER PROGRAM [ARGUMENT..]. The compiler gets the further
-# arguments. LIBRARY may name a static library to use instead of the library in crates/dethrux. If a
-# tool or a file is missing, one line says so.
+# arguments. LIBRARY may name a static library to use instead of the library in crates/dethrux.
+# PEERS=no leaves out ICU and iconv, which another processor's C library may not have. If a tool or
+# a file is missing, one line says so.
 set -euo pipefail
 cd "$(dirname "$0")"
 archive=${LIBRARY:-../crates/dethrux/out/libdethrux.a}
@@ -16,9 +17,14 @@ refuse() {
 
 command -v "$compiler" > /dev/null || refuse "$compiler is missing: install gcc, or afl++ for AFL++"
 [ -e "$archive" ] || refuse "$archive is missing: run rt lib in crates/dethrux"
-echo '#include <unicode/ucnv.h>' | "$compiler" -E - > /dev/null 2>&1 ||
-    refuse 'the headers of ICU are missing: install libicu-dev'
+if [ "${PEERS:-yes}" = no ]; then
+    peers=(-DWITHOUT_PEERS)
+else
+    peers=(peers.c -licuuc)
+    echo '#include <unicode/ucnv.h>' | "$compiler" -E - > /dev/null 2>&1 ||
+        refuse 'the headers of ICU are missing: install libicu-dev'
+fi
 
 mkdir -p "$(dirname "$program")"
 "$compiler" -std=gnu11 -O2 -g -Wall -Wextra -Werror -I../include -o "$program" \
-    checks.c coverage.c guarded.c harness.c input.c peers.c reference.c "$@" "$archive" -licuuc
+    checks.c coverage.c guarded.c harness.c input.c reference.c "$@" "$archive" "${peers[@]}"

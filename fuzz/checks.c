@@ -692,6 +692,7 @@ static void check_compare(void) {
     }
 }
 
+#ifndef WITHOUT_PEERS
 /* The peers. */
 
 typedef size_t icu_call(dethrux_byte_order order, const uint8_t *bytes, size_t len, uint8_t *to,
@@ -746,12 +747,15 @@ static void check_iconv_to_utf8(void) {
 static void check_iconv_from_utf8(void) {
     check_iconv(iconv_utf8_to_utf16, &from_utf8);
 }
+#endif
 
 const check CHECKS[] = {
+#ifndef WITHOUT_PEERS
     {"ICU, UTF-16 to UTF-8", check_icu_to_utf8},
     {"ICU, UTF-8 to UTF-16", check_icu_from_utf8},
     {"iconv, UTF-16 to UTF-8", check_iconv_to_utf8},
     {"iconv, UTF-8 to UTF-16", check_iconv_from_utf8},
+#endif
     {"dethrux_version", check_version},
     {"dethrux_validate", check_validate},
     {"dethrux_count_chars", check_count_chars},

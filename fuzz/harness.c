@@ -7,7 +7,9 @@
  *   harness --seeds DIR SEED COUNT  writes inputs to files that begin a corpus
  *
  * A difference, or an access outside of a buffer, is printed with the input as digits for --hex.
- * Then the process aborts; with --random it continues with the other checks. */
+ * Then the process aborts; with --random it continues with the other checks.
+ *
+ * WITHOUT_PEERS leaves ICU and iconv out, which a cross compiler may not have. */
 #include "checks.h"
 #include "guarded.h"
 #include "peers.h"
@@ -95,7 +97,9 @@ static int run_random(uint64_t seed, time_t seconds) {
     size_t failures = 0;
     current.resumes = true;
     printf("seed %llu\n", (unsigned long long)seed);
+#ifndef WITHOUT_PEERS
     print_peers();
+#endif
     for (time_t end = time(NULL) + seconds; time(NULL) < end; inputs++) {
         run_checks(bytes, generate_input(&seed, bytes), failed);
     }
@@ -178,7 +182,9 @@ static int run_afl(void) {
 int main(int argc, char **argv) {
     program = argv[0];
     guarded_init();
+#ifndef WITHOUT_PEERS
     peers_init();
+#endif
     catch_faults();
     if (argc == 1) {
         return run_afl();

@@ -1,21 +1,26 @@
 #!/usr/bin/env bash
 # Calls libdethrux on random inputs for a minute, and tests that the harness finds the wrong
-# versions of planted.c: fuzz/run.sh [--seconds N] [--seed N] [--library FILE]. FILE is a static
-# library to use instead of the library in crates/dethrux. Each call of the library, each peer and
-# each planted version counts as one in the last line, 'N passed, M failed'.
+# versions of planted.c: fuzz/run.sh [--seconds N] [--seed N] [--library FILE] [--arm64]. FILE is a
+# static library to use instead of the library in crates/dethrux. With --arm64 it is a library for
+# ARM64, and the harness runs under qemu-aarch64, without the peers. Each call of the library, each
+# peer and each planted version counts as one in the last line, 'N passed, M failed'.
 set -uo pipefail
 from=$PWD
 cd "$(dirname "$0")" || exit 1
 built=out
 seconds=60
 seed=1
+compiler=gcc
+# What starts a program.
+start=()
 planted=(dethrux_from_utf8_len dethrux_from_utf8_lossy dethrux_to_utf8 dethrux_encoder_feed
     dethrux_validate)
 passed=0
 failed=0
 
 refuse() {
-    echo "fuzz/run.sh: $1; usage: fuzz/run.sh [--seconds N] [--seed N] [--library FILE]" >&2
+    echo "fuzz/run.sh: $1" >&2
+    echo 'usage: fuzz/run.sh [--seconds N] [--seed N] [--library FILE] [--arm64]' >&2
     echo '0 passed, 1 failed'
     exit 1
 }
@@ -24,7 +29,16 @@ while [ $# != 0 ]; do
     case $1 in
         --seconds) seconds=${2-} ;;
         --seed) seed=${2-} ;;
-        --library) LIBRARY=$(cd "$from" && realpath -e "${2-}" 2> /dev/null) || refuse "$1 needs a file" ;;
+        --library)
+            LIBRARY=$(cd "$from" && realpath -e "${2-}" 2> /dev/null) || refuse "$1 needs a file"
+            ;;
+        --arm64)
+            compiler=aarch64-linux-gnu-gcc
+            start=(qemu-aarch64 -L /usr/aarch64-linux-gnu)
+            export PEERS=no
+            shift
+            continue
+            ;;
         *) refuse "$1 is not an option" ;;
     esac
     [ "$1" = --library ] || [[ ${2-} =~ ^[0-9]+$ ]] || refuse "$1 needs a number"
@@ -34,10 +48,14 @@ if [ -n "${LIBRARY:-}" ]; then
     export LIBRARY
     built=out/library
 fi
+if [ $compiler != gcc ]; then
+    [ -n "${LIBRARY:-}" ] || refuse '--arm64 needs --library'
+    built=out/arm64
+fi
 
 # Runs a program on random inputs, and writes its output to standard output and to the file `said`.
 random() {
-    timeout $(($2 + 60)) "$1" --random "$seed" "$2" 2>&1 | tee "$room/said"
+    timeout $(($2 + 60)) "${start[@]}" "$1" --random "$seed" "$2" 2>&1 | tee "$room/said"
 }
 
 # Adds the counts in the last line of the harness, or one failure if there is no such line.
@@ -73,12 +91,12 @@ check_planted() {
 
 room=$(mktemp -d)
 trap 'rm -rf "$room"' EXIT
-if ./build.sh gcc $built/harness; then
+if ./build.sh $compiler $built/harness; then
     check_library
 else
     failed=$((failed + 1))
 fi
-if ./build.sh gcc $built/planted planted.c "${planted[@]/#/-Wl,--wrap=}"; then
+if ./build.sh $compiler $built/planted planted.c "${planted[@]/#/-Wl,--wrap=}"; then
     check_planted
 else
     failed=$((failed + 1))
