@@ -96,14 +96,16 @@ put_libraries() {
     put 644 "$from/libdethrux.so.$version" "$libdir/libdethrux.so.$version"
     put_link "libdethrux.so.$version" "$libdir/$soname"
     put_link "$soname" "$libdir/libdethrux.so"
-    [ ! -e "$from/$level" ] || put 644 "$from/$level/$soname" "$libdir/$level/$soname"
+    [ -e "$from/$level" ] || return 0
+    put 644 "$from/$level/libdethrux.a" "$libdir/$level/libdethrux.a"
+    put 644 "$from/$level/$soname" "$libdir/$level/$soname"
 }
 
 # Installs from a clone. The argument is the folder of the libraries.
 put_built() {
     local built=$top/packaging/out header page
     for program in utf16_cat utf16_enc; do
-        [[ -e $built/$program && ${1##*/} == x86_64-linux-gnu* ]] || continue
+        [[ ${1##*/} == x86_64-*linux-gnu* && -e $built/$program ]] || continue
         put 755 "$built/$program" "bin/$program"
         put 644 "$top/crates/$program/$program.1" "share/man/man1/$program.1"
     done
@@ -125,7 +127,9 @@ put_built() {
 # Installs from an unpacked release archive, which has the same folders as PREFIX.
 put_unpacked() {
     local file mode files
-    mapfile -d '' files < <(cd "$top" && find bin include lib share ! -type d -print0 | sort -z)
+    mapfile -d '' files < <(
+        cd "$top" && find bin include lib share ! -type d -print0 2> /dev/null | sort -z
+    )
     for file in "${files[@]}"; do
         if [ -L "$top/$file" ]; then
             put_link "$(readlink "$top/$file")" "$file"

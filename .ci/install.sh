@@ -1,18 +1,18 @@
 #!/usr/bin/env bash
-# Installs what is built into empty folders, with install.sh, from the release archive and from the
+# Installs what is built into empty folders, with install.sh, from the release archives and from the
 # Debian packages, and compiles and runs programs against each. Compares the version in every file
-# with VERSION, and the symbols of the libraries with the header. rt proves nothing here if the
-# programs are built. If this runs as root, apt-get installs missing tools. Prints each check that
-# fails; the last line is 'N passed, M failed'.
+# with VERSION, and the symbols of the libraries with the header. Runs the tables of cases over the
+# libraries for x86-64-v2 and x86-64-v3. rt proves nothing here if the programs are built. If this
+# runs as root, apt-get installs missing tools. Prints each check that fails; the last line is
+# 'N passed, M failed'.
 set -uo pipefail
 top=$(cd "$(dirname "$0")/.." && pwd)
 sources=$top/packaging/test
 version=$(< "$top/VERSION")
 archive=dethrux-$version-x86_64-linux-gnu
+with_avx2=glibc-hwcaps/x86-64-v3
 packages=(libdethrux0.2 libdethrux-dev dethrux-tools)
 room=$(mktemp -d)
-passed=0
-failed=0
 purge=false
 
 # Removes what this made, and also the packages if they are installed on this system.
@@ -22,26 +22,7 @@ clean() {
 }
 trap clean EXIT
 
-# Prints the counts and ends.
-finish() {
-    echo "$passed passed, $failed failed"
-    [ $failed = 0 ]
-    exit
-}
-
-# Counts a check by the status of a command, and prints the end of its output if it failed.
-check() {
-    local name=$1
-    shift
-    if "$@" > "$room/said" 2>&1; then
-        passed=$((passed + 1))
-    else
-        failed=$((failed + 1))
-        echo "failed: $name"
-        tail -n 20 "$room/said"
-        return 1
-    fi
-}
+. "$top/.ci/checks.sh"
 
 # Tests that a command ends with this status and prints one line that contains these words.
 says() {
@@ -55,28 +36,16 @@ says() {
 
 # == tools
 
-install_packages() {
-    apt-get -o DPkg::Lock::Timeout=60 install -y -q --no-install-recommends "$@"
-}
-
-# Installs the packages of missing tools, if this runs as root.
+# Installs the packages of missing tools, if this runs as root. The cross compilers are only for the
+# release archives, which can be left out.
 provide_tools() {
-    local pair missing=() wanted=()
-    for pair in gcc:gcc g++:g++ nm:binutils make:make cmake:cmake pkg-config:pkg-config \
-        dh:debhelper dpkg-buildpackage:dpkg-dev lintian:lintian qemu-x86_64:qemu-user; do
-        command -v "${pair%:*}" > /dev/null || { missing+=("${pair%:*}"); wanted+=("${pair#*:}"); }
-    done
-    [ ${#wanted[@]} != 0 ] || return 0
-    if [ $EUID = 0 ]; then
-        echo "installing ${wanted[*]}"
-        install_packages "${wanted[@]}" > "$room/said" 2>&1 < /dev/null ||
-            { apt-get update -q && install_packages "${wanted[@]}"; } > "$room/said" 2>&1 \
-                < /dev/null
-    fi
-    for pair in "${missing[@]}"; do
-        command -v "$pair" > /dev/null && continue
+    local tool
+    provide "${for_arm64[@]}" x86_64-w64-mingw32-gcc:gcc-mingw-w64-x86-64
+    provide gcc:gcc g++:g++ nm:binutils make:make cmake:cmake pkg-config:pkg-config dh:debhelper \
+        dpkg-buildpackage:dpkg-dev lintian:lintian qemu-x86_64:qemu-user
+    for tool in "${missing[@]}"; do
         failed=$((failed + 1))
-        echo "failed: there is no $pair: install ${wanted[*]}"
+        echo "failed: there is no $tool: install ${wanted[*]}"
     done
     [ $failed = 0 ]
 }
@@ -133,33 +102,11 @@ check_versions() {
         is_version first bindings/python/src/dethrux/_version.py '^__version__ = "(.*)"'
 }
 
-# == symbols
-
-# Prints the functions that the header below a prefix declares with these words, according to the
-# compiler.
-declared() {
-    gcc -fsyntax-only -aux-info "$room/prototypes" -x c "$1/include/dethrux.h" &&
-        sed -nE "s/.*dethrux\.h:.* ($2) .*[ *](dethrux_[a-z0-9_]+) \(.*/\2/p" "$room/prototypes" |
-        sort
-}
-
-# Tests that the symbols that this command lists are the functions of the header.
-exports_header() {
-    declared "$1" extern > "$room/declared" || return
-    "${@:2}" | sed -n 's/.* [A-Z] //p' | sort > "$room/exported"
-    [ -s "$room/declared" ] && diff "$room/declared" "$room/exported"
-}
-
-# Tests that a library calls only functions that copy, move, fill and compare memory.
-calls_memory_alone() {
-    ! nm --undefined-only "$1" | sed -n 's/.* U //p' | grep -vxE 'mem(cpy|move|set|cmp)'
-}
-
 # == manual pages
 
 # Tests that the library and each function of the header have a page, also those for code units.
 has_pages() {
-    { echo dethrux && declared "$1" 'extern|static'; } > "$room/declared" || return
+    { echo dethrux && declared "$1/include" 'extern|static'; } > "$room/declared" || return
     (cd "$1/share/man/man3" && printf '%s\n' *.3) | sed 's/\.3$//' | sort |
         diff <(sort "$room/declared") -
 }
@@ -178,12 +125,15 @@ compile() {
     cc -Wall -Wextra -Werror "$sources/$1" "${words[@]}" "${@:3}" -o "$room/program"
 }
 
-# Prints the file of the shared library that the loader takes below a prefix: the one for x86-64-v3
-# if the processor has that level.
+# Tests that the processor has AVX2, and what else x86-64-v3 has.
+has_avx2() {
+    /lib64/ld-linux-x86-64.so.2 --help | grep -q 'x86-64-v3 (supported'
+}
+
+# Prints the file of the shared library that the loader takes below a prefix.
 loaded() {
     local level=''
-    ! /lib64/ld-linux-x86-64.so.2 --help | grep -q 'x86-64-v3 (supported' ||
-        level=glibc-hwcaps/x86-64-v3/
+    ! has_avx2 || level=$with_avx2/
     echo "$1/lib/${level}libdethrux.so.${version%.*}"
 }
 
@@ -238,24 +188,73 @@ programs_run() {
 
 # == processors
 
-# Tests that a GNU property of a file has the level that it needs.
+# Tests that a GNU property of a file has this level as the highest that it needs.
 has_level() {
-    readelf -n "$1" | grep -E 'x86 ISA needed:.*x86-64-v2'
+    readelf -n "$2" | grep 'x86 ISA needed:' | grep -oE 'x86-64-v[0-9]' | tail -n 1 | grep -x "$1"
 }
 
-# Tests that a command does not start on a plain x86-64 processor, and runs on x86-64-v2.
+# Processors that qemu emulates: the best one below each level, and one that has it.
+declare -A below=([x86-64-v2]=qemu64 [x86-64-v3]=Nehalem)
+declare -A enough=([x86-64-v2]=Nehalem [x86-64-v3]=Haswell)
+
+# Runs a program on a processor. qemu warns of features that no program here uses.
+on_processor() {
+    qemu-x86_64 -cpu "$@" 2>&1 < /dev/null | grep -v 'warning: TCG doesn'
+    return "${PIPESTATUS[0]}"
+}
+
+# Tests that a command does not start on a processor below this level, and runs on one that has it.
 is_refused_below() {
-    local status=$1
-    shift
-    says "$status" 'CPU ISA level is lower than required' \
-        qemu-x86_64 -cpu qemu64 "$@" < /dev/null &&
-        qemu-x86_64 -cpu Nehalem "$@" < /dev/null
+    local level=$1 status=$2
+    shift 2
+    says "$status" 'CPU ISA level is lower than required' on_processor ${below[$level]} "$@" &&
+        on_processor ${enough[$level]} "$@"
 }
 
 # Tests the same for the shared library, if a program loads it after it has started.
 shared_is_refused_below() {
     cc -Wall -Wextra -Werror "$sources/load.c" -o "$room/load" &&
-        is_refused_below 1 "$room/load" "$1"
+        is_refused_below "$1" 1 "$room/load" "$2"
+}
+
+# Tests the same for a program with the static library.
+static_is_refused_below() {
+    compile user.c "$(config "$prefix" --cflags)" "$2" && has_level "$1" "$room/program" &&
+        is_refused_below "$1" 127 "$room/program"
+}
+
+# Tests that the loader takes this file of the shared library on a processor, and runs a program.
+is_taken_on() {
+    local loader=("$1" /lib64/ld-linux-x86-64.so.2 --library-path "$prefix/lib")
+    compile user.c "$(config "$prefix" --cflags --libs)" &&
+        on_processor "${loader[@]}" --list "$room/program" > "$room/listed" &&
+        grep -F "=> $prefix/lib/$2 (" "$room/listed" && on_processor "${loader[@]}" "$room/program"
+}
+
+# == the tables of cases
+
+# Compiles a program with this file of the library and runs it. Emulates a processor if this one
+# does not have the level.
+runs_with() {
+    local level=$1 file=$2 source=$3 start=()
+    [ "$level" = x86-64-v2 ] || has_avx2 || start=(qemu-x86_64 -cpu ${enough[$level]})
+    # A folder with this file only, where the loader finds no other one.
+    mkdir -p "$room/only" && cp "$file" "$room/only/libdethrux.so.${version%.*}" &&
+        cc -O2 -Wall -Wextra -Werror "-I$prefix/include" "$source" "$file" -o "$room/over" &&
+        LD_LIBRARY_PATH=$room/only "${start[@]}" "$room/over" "${@:4}"
+}
+
+# Runs the tables of cases over a file of the library, and adds the counts.
+tables() {
+    runs_with "$1" "$2" "$top/examples/c/check.c" "$top"/cases/*.txt > "$room/said" 2>&1
+    if [[ $(tail -n 1 "$room/said") =~ ^([1-9][0-9]*)\ passed,\ ([0-9]+)\ failed$ ]]; then
+        passed=$((passed + BASH_REMATCH[1]))
+        failed=$((failed + BASH_REMATCH[2]))
+    else
+        failed=$((failed + 1))
+        echo "failed: the tables over $2"
+    fi
+    sed '$d' "$room/said"
 }
 
 # == install.sh
@@ -339,24 +338,48 @@ check_refusals() {
     check 'a manifest with a path upwards' keeps_outside ../kept
 }
 
-# == the release archive
+# == the release archives
 
-makes_same_archive() {
-    "$top/packaging/release.sh" "$room/first" && sleep 1 &&
-        "$top/packaging/release.sh" "$room/second" &&
-        cmp "$room/first/$archive.tar.gz" "$room/second/$archive.tar.gz"
+# Tests that release.sh makes the same files again, and leaves out only what has no compiler here.
+makes_same_archives() {
+    local folder tool wanted=0
+    for tool in aarch64-linux-gnu-gcc x86_64-w64-mingw32-gcc "$top/packaging/zip.sh"; do
+        command -v "$tool" > /dev/null || wanted=3
+    done
+    for folder in first second; do
+        "$top/packaging/release.sh" "$room/$folder"
+        [ $? = $wanted ] || return
+        sleep 1
+    done
+    diff -r "$room/first" "$room/second"
 }
 
-unpacks_archive() {
-    (cd "$room/first" && sha256sum -c "$archive.tar.gz.sha256") &&
-        tar -C "$room" -xzf "$room/first/$archive.tar.gz" &&
-        (cd "$room/$archive" && sha256sum -c --quiet SHA256SUMS)
+# Tests that SHA256SUMS has the checksum of each archive that was made.
+has_checksums() {
+    (cd "$room/first" && sha256sum -c SHA256SUMS &&
+        diff <(ls -I SHA256SUMS) <(sed 's/.* //' SHA256SUMS | sort))
+}
+
+# Unpacks an archive and tests its list of checksums.
+unpacks() {
+    tar -C "$room" -xzf "$room/first/$1.tar.gz" &&
+        (cd "$room/$1" && sha256sum -c --quiet SHA256SUMS)
 }
 
 # Tests that the archive's install.sh installs, without rt, what the clone's install.sh did.
 installs_unpacked() {
     env PATH=/usr/bin:/bin:/usr/sbin:/sbin "$room/$archive/install.sh" "$room/from archive" &&
         diff -r "$room/from archive" "$1" && diff <(tree "$room/from archive") <(tree "$1")
+}
+
+# Tests that make builds the library from the archive of the assembly, runs the tables of cases, and
+# installs it, without rt.
+builds_sources() {
+    local make=(env PATH=/usr/bin:/bin make -C "$room/dethrux-$version-dist/dist")
+    "${make[@]}" check > "$room/checked" &&
+        [ "$(grep -cE '^[1-9][0-9]* passed, 0 failed$' "$room/checked")" = 3 ] &&
+        "${make[@]}" install PREFIX="$room/from sources" &&
+        cmp "$room/from sources/lib/libdethrux.so" "$1/lib/libdethrux.so"
 }
 
 # == the Debian packages
@@ -416,11 +439,27 @@ prefix="$room/in stalled"
 check 'an installation' "$top/install.sh" "$prefix" || finish
 cp "$room/said" "$room/printed"
 check 'the paths that are printed' printed_all "$prefix"
-check 'the symbols of the shared library' \
-    exports_header "$prefix" nm -D --defined-only "$prefix/lib/libdethrux.so"
-check 'the symbols of the static library' \
-    exports_header "$prefix" nm -g --defined-only "$prefix/lib/libdethrux.a"
-check 'what the static library calls' calls_memory_alone "$prefix/lib/libdethrux.a"
+for level in x86-64-v2 x86-64-v3; do
+    libraries=$prefix/lib
+    [ $level = x86-64-v2 ] || libraries+=/$with_avx2
+    shared=$libraries/libdethrux.so.${version%.*}
+    static=$libraries/libdethrux.a
+    check "the symbols of the shared library for $level" \
+        exports_header nm -D --defined-only "$shared"
+    check "the symbols of the static library for $level" \
+        exports_header nm -g --defined-only "$static"
+    check "what the static library for $level calls" \
+        calls_memory_alone nm --undefined-only "$static"
+    check "the level of the shared library for $level" has_level $level "$shared"
+    check "the shared library below $level" shared_is_refused_below $level "$shared"
+    check "the static library below $level" static_is_refused_below $level "$static"
+    check "17 MiB on $level" runs_with $level "$static" "$sources/big.c"
+    tables $level "$shared"
+    tables $level "$static"
+done
+check 'the shared library on x86-64-v2' is_taken_on Nehalem "libdethrux.so.${version%.*}"
+check 'the shared library on x86-64-v3' \
+    is_taken_on Haswell "$with_avx2/libdethrux.so.${version%.*}"
 check 'the manual pages' has_pages "$prefix"
 check 'the version of pkg-config' is_version config "$prefix" --modversion
 check 'the file of pkg-config' config "$prefix" --validate
@@ -434,14 +473,10 @@ check 'both libraries by CMake' by_cmake "$prefix"
 check 'a later version by CMake' cmake_refuses "$prefix" "${version%.*}.999"
 check 'another major version by CMake' cmake_refuses "$prefix" $((${version%%.*} + 1)).0
 check 'the programs' programs_run "$prefix/bin"
-for file in lib/libdethrux.so bin/utf16_cat bin/utf16_enc; do
-    check "the level of $file" has_level "$prefix/$file"
+for file in utf16_cat utf16_enc; do
+    check "the level of $file" has_level x86-64-v2 "$prefix/bin/$file"
+    check "$file below its level" is_refused_below x86-64-v2 127 "$prefix/bin/$file" le
 done
-check 'the shared library below its level' shared_is_refused_below "$prefix/lib/libdethrux.so"
-check 'utf16_cat below its level' is_refused_below 127 "$prefix/bin/utf16_cat" le
-check 'utf16_enc below its level' is_refused_below 127 "$prefix/bin/utf16_enc" le
-check 'the static library, again' with_static "$prefix" user.c &&
-    check 'the static library below its level' is_refused_below 127 "$room/program"
 moved="$room/moved here"
 mv "$prefix" "$moved"
 check 'the shared library by pkg-config, moved' with_shared "$moved" user.c
@@ -454,12 +489,17 @@ check 'an installation over an older one' drops_old_files
 check 'DESTDIR and LIBDIR' for_packagers
 check 'a clone without rt' installs_without_rt "$moved"
 
-check 'the release archive, twice' makes_same_archive
-if check 'the checksums of the archive' unpacks_archive; then
+if check 'the release archives, twice' makes_same_archives; then
+    sed -n 's/^release.sh: left out: /skipped: the archive for /p' "$room/said" | sort -u
+    check 'the checksums of the archives' has_checksums
+fi
+if check 'the checksums in the archive' unpacks "$archive"; then
     check 'an installation from the archive' installs_unpacked "$moved"
     check 'the shared library of the archive' with_shared "$room/$archive" user.c
     check 'both libraries of the archive by CMake' by_cmake "$room/$archive"
 fi
+check 'the checksums in the archive of the assembly' unpacks "dethrux-$version-dist" &&
+    check 'the archive of the assembly' builds_sources "$moved"
 
 if check 'the Debian packages, twice' makes_same_packages; then
     for package in "${packages[@]}"; do

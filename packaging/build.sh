@@ -1,8 +1,9 @@
 #!/usr/bin/env bash
 # Builds what install.sh installs: the libraries, from the assembly in dist/, and in packaging/out
 # the manual pages of the library and, on a machine with rt, the two programs. rt proves and builds
-# a program that is missing or older than its sources. CC and LEVEL are those of dist/Makefile; for
-# another machine than this one there are no programs. Prints the folder of the libraries.
+# a program that is missing or older than its sources. CC and LEVEL are the variables of
+# dist/Makefile. The programs need the toolchain's calls of the operating system, which it has only
+# for Linux on x86-64: no other machine gets them. Prints the folder of the libraries.
 #
 #     packaging/build.sh
 set -euo pipefail
@@ -58,9 +59,9 @@ make_dist
 folder=$(make_dist folder)
 rm -rf "$out/man3"
 "$here/man3" "$out/man3"
-if [ "$(${CC:-cc} -dumpmachine)" != x86_64-linux-gnu ]; then
-    : # install.sh leaves out the programs, which are for this machine.
-elif command -v rt > /dev/null; then
+if [[ ${folder##*/} != x86_64-*linux-gnu* ]]; then
+    echo 'build.sh: the programs utf16_cat and utf16_enc are only for Linux on x86-64' >&2
+elif command -v rt > /dev/null && [ -d "$top/crates" ]; then
     program utf16_cat
     program utf16_enc
 elif [ ! -e "$out/utf16_cat" ]; then

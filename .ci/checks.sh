@@ -1,0 +1,81 @@
+# Sourced by .ci/install.sh and .ci/arm.sh: how they count checks, and what a library's symbols must
+# be. They set `top`, the folder of the tree, and `room`, a temporary folder.
+passed=0
+failed=0
+
+# Prints the counts and ends.
+finish() {
+    echo "$passed passed, $failed failed"
+    [ $failed = 0 ]
+    exit
+}
+
+# Counts a check by the status of a command, and prints the end of its output if it failed.
+check() {
+    local name=$1
+    shift
+    if "$@" > "$room/said" 2>&1; then
+        passed=$((passed + 1))
+    else
+        failed=$((failed + 1))
+        echo "failed: $name"
+        tail -n 20 "$room/said"
+        return 1
+    fi
+}
+
+# Installs Debian packages.
+install_packages() {
+    apt-get -o DPkg::Lock::Timeout=60 install -y -q --no-install-recommends "$@"
+}
+
+# Tests that there is a tool or a file.
+is_there() {
+    command -v "$1" > /dev/null || [ -f "$1" ]
+}
+
+# Takes pairs of a tool or a file and its Debian package, and installs the packages of missing ones
+# if this runs as root. What is still missing is in `missing`, and the packages are in `wanted`.
+provide() {
+    local pair
+    wanted=()
+    for pair in "$@"; do
+        is_there "${pair%:*}" || wanted+=("${pair#*:}")
+    done
+    if [ ${#wanted[@]} != 0 ] && [ $EUID = 0 ]; then
+        echo "installing ${wanted[*]}"
+        install_packages "${wanted[@]}" > "$room/said" 2>&1 < /dev/null ||
+            { apt-get update -q && install_packages "${wanted[@]}"; } > "$room/said" 2>&1 \
+                < /dev/null
+    fi
+    missing=()
+    for pair in "$@"; do
+        is_there "${pair%:*}" || missing+=("${pair%:*}")
+    done
+}
+
+# What a cross compiler for ARM64 needs, for `provide`.
+for_arm64=(aarch64-linux-gnu-gcc:gcc-aarch64-linux-gnu)
+for_arm64+=(/usr/aarch64-linux-gnu/include/stdio.h:libc6-dev-arm64-cross)
+
+# Prints the functions that the header in a folder declares with these words, according to the
+# compiler.
+declared() {
+    gcc -fsyntax-only -aux-info "$room/prototypes" -x c "$1/dethrux.h" &&
+        sed -nE "s/.*dethrux\.h:.* ($2) .*[ *](dethrux_[a-z0-9_]+) \(.*/\2/p" "$room/prototypes" |
+        sort
+}
+
+# Tests that the symbols that this command lists are the functions of the header.
+exports_header() {
+    declared "$top/include" extern > "$room/declared" || return
+    "$@" | sed -n 's/.* [A-Z] //p' | sort > "$room/exported"
+    [ -s "$room/declared" ] && diff "$room/declared" "$room/exported"
+}
+
+# Tests that a library calls only functions that copy, move, fill and compare memory, according to
+# this command, which lists what it calls.
+calls_memory_alone() {
+    "$@" > "$room/called" &&
+        ! sed -n 's/.* U //p' "$room/called" | grep -vxE 'mem(cpy|move|set|cmp)'
+}
