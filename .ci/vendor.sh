@@ -36,7 +36,7 @@ are_lines_of_this_tree() {
 }
 
 has_only_what_is_needed() {
-    [ -z "$(find "$1" -name out -o -name must-fail)" ] && diff -rq -x out -x must-fail crates/utf16_str "$1/crates/utf16_str"
+    [ -z "$(find "$1" -name out -o -name must-fail)" ] && diff -rq -x out -x must-fail -x VENDORED crates/utf16_str "$1/crates/utf16_str"
 }
 
 refuses() {
@@ -60,5 +60,32 @@ holds 'and nothing is copied' [ ! -e "$room/one/crates/utf16_tools" ]
 holds 'an unknown crate is refused' refuses 1 "$room/three" utf16
 holds 'and nothing is made' [ ! -e "$room/three" ]
 holds 'no crate is refused' refuses 2 "$room/three"
+holds 'an unknown option is refused' refuses 2 --force "$room/three" utf16string
+
+# Prints a file of a copy.
+stamp() {
+    cat "$room/one/crates/$1/VENDORED"
+}
+
+stamp utf16_str > "$room/stamp"
+holds 'a copy says its version and commit' [ "$(sed -n '1p;2p' "$room/stamp")" = \
+    "$(printf 'Dethrux %s\ncommit: %s' "$(< VERSION)" "$(git describe --always --dirty --abbrev=40 --exclude='*')")" ]
+mkdir "$room/one/crates/utf16_str/out" && echo built > "$room/one/crates/utf16_str/out/built"
+mv "$room/one/crates/utf16string/src/lib.rt" "$room/one/crates/utf16string/src/old.rt"
+holds 'a copy that was changed is not replaced' refuses 1 --update "$room/one" utf16_tools
+holds 'and nothing is copied' [ ! -e "$room/one/crates/utf16_tools" ]
+mv "$room/one/crates/utf16string/src/old.rt" "$room/one/crates/utf16string/src/lib.rt"
+# What an older version had.
+echo old > "$room/one/crates/utf16_str/src/older.rt"
+(cd "$room/one/crates/utf16_str" && find . -path ./out -prune -o -type f ! -name VENDORED -print0 |
+    LC_ALL=C sort -z | xargs -0 sha256sum) | sha256sum | sed 's/^/sum: /; s/ *-$//' > "$room/sum"
+sed -i '$d' "$room/one/crates/utf16_str/VENDORED" && cat "$room/sum" >> "$room/one/crates/utf16_str/VENDORED"
+./vendor.sh --update "$room/one" utf16_tools > "$room/lines"
+holds 'an update copies what is new' [ -d "$room/one/crates/utf16_tools/src" ]
+holds 'an update removes what is gone' [ ! -e "$room/one/crates/utf16_str/src/older.rt" ]
+holds 'an update keeps what was built' [ -e "$room/one/crates/utf16_str/out/built" ]
+holds 'an update prints all lines' stand_on_those_above "$room/lines"
+rm "$room/one/crates/utf16_str/VENDORED"
+holds 'a crate that was not copied is not replaced' refuses 1 --update "$room/one" utf16_str
 echo "$passed passed, $failed failed"
 [ $failed = 0 ]
