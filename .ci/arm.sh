@@ -107,9 +107,11 @@ check_programs() {
 
 # == fuzzing
 
-# Runs the harness for ten seconds, and the planted versions.
+# Runs the harness for ten seconds, and the planted versions, and then the harness with pages of
+# 64 KiB.
 fuzz() {
     "$top/fuzz/run.sh" --arm64 --seconds 10 --library "$folder/libdethrux.a" > "$room/fuzzing" 2>&1
+    QEMU_PAGESIZE=65536 qemu-aarch64 "$top/fuzz/out/arm64/harness" --random 2 5 > "$room/pages" 2>&1
 }
 
 # Adds the counts of the harness.
@@ -123,8 +125,13 @@ add_fuzzing() {
         failed=$((failed + 1))
         tail -n 1 "$room/fuzzing"
     fi
-    check 'the harness with pages of 64 KiB' \
-        env QEMU_PAGESIZE=65536 qemu-aarch64 "$top/fuzz/out/arm64/harness" --random 2 5
+    check 'the harness with pages of 64 KiB' finds_nothing "$room/pages"
+}
+
+# Tests that the harness ended without a failure.
+finds_nothing() {
+    cat "$1"
+    tail -n 1 "$1" | grep -qxE '[1-9][0-9]* passed, 0 failed'
 }
 
 # == packages
