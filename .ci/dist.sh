@@ -62,8 +62,6 @@ refuses() {
 
 count 'tools' provide_tools
 count 'dist/ is what packaging/assembly writes' "$top/packaging/assembly" --check
-count 'the stack of a call' "$top/.ci/stack" "$top/dist/src/linux-x86-64-v2.s"
-count 'the stack of a call of x86-64-v3' "$top/.ci/stack" "$top/dist/src/linux-x86-64-v3.s"
 clone="$room/a clone"
 count 'a clone' git clone -q "$top" "$clone"
 count 'make' with_make gcc
