@@ -254,7 +254,7 @@ tables() {
         failed=$((failed + 1))
         echo "failed: the tables over $2"
     fi
-    sed '$d' "$room/said"
+    sed '$d' "$room/said" | tail -n 20
 }
 
 # == install.sh

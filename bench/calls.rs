@@ -33,12 +33,57 @@ struct Validity {
     error_len: u32,
 }
 
+// The calls of `dethrux.h`, in a build whose names begin with a prefix.
+macro_rules! library {
+    ($name:ident, $prefix:literal) => {
+        mod $name {
+            use super::{Progress, Validity, done};
+
+            mod calls {
+                use super::{Progress, Validity};
+
+                unsafe extern "C" {
+                    #[link_name = concat!($prefix, "validate")]
+                    pub fn validate(order: u32, utf16: *const u8, len: usize) -> Validity;
+                    #[link_name = concat!($prefix, "count_chars")]
+                    pub fn count_chars(order: u32, utf16: *const u8, len: usize) -> usize;
+                    #[link_name = concat!($prefix, "is_ascii")]
+                    pub fn is_ascii(order: u32, utf16: *const u8, len: usize) -> bool;
+                    #[link_name = concat!($prefix, "to_utf8")]
+                    pub fn to_utf8(order: u32, utf16: *const u8, len: usize, to: *mut u8, capacity: usize) -> Progress;
+                    #[link_name = concat!($prefix, "from_utf8")]
+                    pub fn from_utf8(order: u32, utf8: *const u8, len: usize, to: *mut u8, capacity: usize) -> Progress;
+                }
+            }
+
+            pub fn valid_up_to(big: bool, raw: &[u8]) -> usize {
+                super::valid_up_to(unsafe { calls::validate(big.into(), raw.as_ptr(), raw.len()) })
+            }
+
+            pub fn count(big: bool, raw: &[u8], _: &mut [u8]) -> usize {
+                unsafe { calls::count_chars(big.into(), raw.as_ptr(), raw.len()) }
+            }
+
+            pub fn is_ascii(big: bool, raw: &[u8], _: &mut [u8]) -> usize {
+                unsafe { calls::is_ascii(big.into(), raw.as_ptr(), raw.len()) }.into()
+            }
+
+            pub fn to_utf8(big: bool, raw: &[u8], to: &mut [u8]) -> usize {
+                done(unsafe { calls::to_utf8(big.into(), raw.as_ptr(), raw.len(), to.as_mut_ptr(), to.len()) }, raw.len())
+            }
+
+            pub fn from_utf8(big: bool, text: &[u8], to: &mut [u8]) -> usize {
+                done(unsafe { calls::from_utf8(big.into(), text.as_ptr(), text.len(), to.as_mut_ptr(), to.len()) }, text.len())
+            }
+        }
+    };
+}
+
+library!(here, "dethrux_");
+#[cfg(v3)]
+library!(v3, "v3_");
+
 unsafe extern "C" {
-    fn dethrux_validate(order: u32, utf16: *const u8, len: usize) -> Validity;
-    fn dethrux_count_chars(order: u32, utf16: *const u8, len: usize) -> usize;
-    fn dethrux_is_ascii(order: u32, utf16: *const u8, len: usize) -> bool;
-    fn dethrux_to_utf8(order: u32, utf16: *const u8, len: usize, to: *mut u8, capacity: usize) -> Progress;
-    fn dethrux_from_utf8(order: u32, utf8: *const u8, len: usize, to: *mut u8, capacity: usize) -> Progress;
     fn icu_valid_up_to(units: *const u16, len: usize) -> usize;
     fn icu_count(units: *const u16, len: usize) -> usize;
     fn icu_to_utf8(units: *const u16, len: usize, to: *mut u8, room: usize) -> usize;
@@ -121,17 +166,15 @@ fn done(answer: Progress, len: usize) -> usize {
     answer.written
 }
 
-fn here_valid_up_to(big: bool, raw: &[u8]) -> usize {
-    valid_up_to(unsafe { dethrux_validate(big.into(), raw.as_ptr(), raw.len()) })
-}
-
 fn icu_units(units: &[u16]) -> usize {
     unsafe { icu_valid_up_to(units.as_ptr(), units.len()) }
 }
 
 // `plain loop` has the structure of the Rust crate `utf16string`.
 const VALIDATE: &[(&str, Call)] = &[
-    ("here", |big, raw, _| here_valid_up_to(big, raw)),
+    ("here", |big, raw, _| here::valid_up_to(big, raw)),
+    #[cfg(v3)]
+    ("here v3", |big, raw, _| v3::valid_up_to(big, raw)),
     ("plain loop", |big, raw, _| plain!(valid_up_to, big, raw)),
     ("encoding_rs mem", |big, raw, _| 2 * units(big, raw, mem::utf16_valid_up_to)),
     ("ICU", |big, raw, _| 2 * units(big, raw, icu_units)),
@@ -144,7 +187,9 @@ const VALIDATE: &[(&str, Call)] = &[
 // Returns the number of ill-formed sequences in random bytes. Each call starts after the sequence
 // found before.
 const FAULTS: &[(&str, Call)] = &[
-    ("here", |big, raw, _| faults(raw, 2, |rest| here_valid_up_to(big, rest))),
+    ("here", |big, raw, _| faults(raw, 2, |rest| here::valid_up_to(big, rest))),
+    #[cfg(v3)]
+    ("here v3", |big, raw, _| faults(raw, 2, |rest| v3::valid_up_to(big, rest))),
     ("plain loop", |big, raw, _| faults(raw, 2, |rest| plain!(valid_up_to, big, rest))),
     ("encoding_rs mem", |big, raw, _| units(big, raw, |units| faults(units, 1, mem::utf16_valid_up_to))),
     ("ICU", |big, raw, _| units(big, raw, |units| faults(units, 1, icu_units))),
@@ -166,7 +211,9 @@ fn faults<T>(mut rest: &[T], unit: usize, valid_up_to: impl Fn(&[T]) -> usize) -
 }
 
 const COUNT: &[(&str, Call)] = &[
-    ("here", |big, raw, _| unsafe { dethrux_count_chars(big.into(), raw.as_ptr(), raw.len()) }),
+    ("here", here::count),
+    #[cfg(v3)]
+    ("here v3", v3::count),
     ("plain loop", |big, raw, _| plain!(count, big, raw)),
     ("ICU", |big, raw, _| units(big, raw, |units| unsafe { icu_count(units.as_ptr(), units.len()) })),
     #[cfg(simdutf)]
@@ -180,7 +227,9 @@ const READ: &[(&str, Call)] =
     &[("plain loop", |_, raw, _| unsafe { raw.align_to::<u64>().1 }.iter().fold(0, |all, word| all ^ word).min(1) as usize)];
 
 const IS_ASCII: &[(&str, Call)] = &[
-    ("here", |big, raw, _| unsafe { dethrux_is_ascii(big.into(), raw.as_ptr(), raw.len()) }.into()),
+    ("here", here::is_ascii),
+    #[cfg(v3)]
+    ("here v3", v3::is_ascii),
     ("plain loop", |big, raw, _| plain!(is_ascii, big, raw).into()),
     ("encoding_rs mem", |big, raw, _| units(big, raw, mem::is_basic_latin).into()),
 ];
@@ -188,9 +237,9 @@ const IS_ASCII: &[(&str, Call)] = &[
 // `encoding_rs` is its decoder of bytes; `encoding_rs mem` is its call on code units in the
 // machine's byte order.
 const TO_UTF8: &[(&str, Call)] = &[
-    ("here", |big, raw, to| {
-        done(unsafe { dethrux_to_utf8(big.into(), raw.as_ptr(), raw.len(), to.as_mut_ptr(), to.len()) }, raw.len())
-    }),
+    ("here", here::to_utf8),
+    #[cfg(v3)]
+    ("here v3", v3::to_utf8),
     ("plain loop", |big, raw, to| plain!(to_utf8, big, raw, to)),
     ("encoding_rs", |big, raw, to| {
         let mut decoder = encoding(big).new_decoder_without_bom_handling();
@@ -208,9 +257,9 @@ const TO_UTF8: &[(&str, Call)] = &[
 ];
 
 const FROM_UTF8: &[(&str, Call)] = &[
-    ("here", |big, text, to| {
-        done(unsafe { dethrux_from_utf8(big.into(), text.as_ptr(), text.len(), to.as_mut_ptr(), to.len()) }, text.len())
-    }),
+    ("here", here::from_utf8),
+    #[cfg(v3)]
+    ("here v3", v3::from_utf8),
     ("plain loop", |big, text, to| plain!(from_utf8, big, text, to)),
     ("encoding_rs", |big, text, to| {
         let mut decoder = UTF_8.new_decoder_without_bom_handling();
@@ -263,7 +312,8 @@ fn cases(call: &str, text: &str, big: bool, raw: &'static [u8], size: f64, field
         let run = move || black_box(raw).chunks_exact(field).map(|field| f(big, field, &mut to)).sum();
         Case { name, run: Box::new(run), size, times: 1, best: f64::MAX }
     };
-    decoders.iter().filter(|(decoder, _)| *decoder != "simdutf haswell" || is_x86_feature_detected!("avx2")).map(case).collect()
+    let runs = |decoder| !["here v3", "simdutf haswell"].contains(&decoder) || is_x86_feature_detected!("avx2");
+    decoders.iter().filter(|(decoder, _)| runs(*decoder)).map(case).collect()
 }
 
 fn main() {

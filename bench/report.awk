@@ -33,8 +33,8 @@ function is_measured(decoder,    c, t, o) {
     return 0
 }
 
-# Adds to `behind` the rows in which another decoder is faster. A copy decodes nothing, so it is
-# left out.
+# Adds to `behind` the rows in which another decoder is faster. A copy decodes nothing, and `here v3`
+# is the same library, so they are left out.
 function compare(calls, texts, list,    c, t, o, d, others, times) {
     rows_of(calls, texts, list)
     for (c = 1; c in call; c++) for (t = 1; t in text; t++) for (o = 1; o in order; o++) {
@@ -42,7 +42,7 @@ function compare(calls, texts, list,    c, t, o, d, others, times) {
         compared++
         others = ""
         for (d = 1; d in decoders; d++) {
-            if (decoders[d] == "copy" || !((call[c], text[t], order[o], decoders[d]) in value)) continue
+            if (decoders[d] == "copy" || decoders[d] == "here v3" || !((call[c], text[t], order[o], decoders[d]) in value)) continue
             times = factor(call[c], text[t], order[o], decoders[d])
             if (times + 0 < 1) others = others ", " decoders[d] " (" times ")"
         }
@@ -103,9 +103,9 @@ function panel(call, x,    t, d, y, most, width) {
 
 function chart_of(calls, texts, list,    c, d, x, name, names) {
     rows_of(calls, texts, list)
-    colour["here"] = "#c0392b"; colour["simdutf haswell"] = "#6c3483"; colour["simdutf westmere"] = "#bb8fce"
+    colour["here"] = "#c0392b"; colour["here v3"] = "#e67e22"; colour["simdutf haswell"] = "#6c3483"; colour["simdutf westmere"] = "#bb8fce"
     colour["encoding_rs"] = "#2d5f9a"; colour["ICU"] = "#3c8d4f"; colour["iconv"] = "#c9a227"
-    names["here"] = "Dethrux"
+    names["here"] = "Dethrux"; names["here v3"] = "Dethrux, AVX2"
     names["simdutf haswell"] = "simdutf, 256 bits"; names["simdutf westmere"] = "simdutf, 128 bits"
     plain["validate"] = "Validation"; plain["to_utf8"] = "UTF-16 to UTF-8"
     plain["from_utf8"] = "UTF-8 to UTF-16"; plain["utf16_cat"] = "The program utf16_cat"
@@ -131,7 +131,7 @@ END {
     split("ascii,cjk", class, ","); split("2,4,8,16,24,32,40,62,64", size, ",")
     for (c = 1; c in class; c++) for (s = 1; s in size; s++) short = short (short == "" ? "" : ";") class[c] ", " size[s] " bytes"
     calls = "validate,count,is_ascii,read,to_utf8,from_utf8"
-    by_call = "here,plain loop,encoding_rs,encoding_rs mem,ICU,iconv,simdutf westmere,simdutf haswell"
+    by_call = "here,here v3,plain loop,encoding_rs,encoding_rs mem,ICU,iconv,simdutf westmere,simdutf haswell"
     by_program = "here,encoding_rs,iconv,uconv,simdutf westmere,simdutf haswell,copy"
     short_calls = "short validate,short to_utf8,short from_utf8"
     compare(calls, classes, by_call)
@@ -144,5 +144,5 @@ END {
     table("utf16_cat,utf16_enc", filtered, by_program)
     table(short_calls, short, by_call)
     print differs "| From a pipe | Peak, MiB |\n|---|---|" memory
-    chart_of("validate,to_utf8,from_utf8,utf16_cat", classes, "here,simdutf haswell,simdutf westmere,encoding_rs,ICU,iconv")
+    chart_of("validate,to_utf8,from_utf8,utf16_cat", classes, "here,here v3,simdutf haswell,simdutf westmere,encoding_rs,ICU,iconv")
 }
