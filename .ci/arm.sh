@@ -1,14 +1,14 @@
 #!/usr/bin/env bash
 # Tests the library for Linux on ARM64, which cross compilers build from dist/, under qemu-aarch64:
 # the tables of cases, the programs of the documents, a decoder of chunks, big buffers, the fuzzing
-# harness with pages of 4 and of 64 KiB, the symbols, the Debian packages and the release archive.
+# harness with pages of 4 and of 64 KiB, the symbols and the Debian packages. .ci/install.sh tests the
+# release archive.
 # qemu emulates a Cortex-A53, which has no more than what each ARM64 processor has. If this runs as
 # root, apt-get installs missing tools; if one is still missing, this part is skipped. Prints each
 # check that fails; the last line is 'N passed, M failed'.
 set -uo pipefail
 top=$(cd "$(dirname "$0")/.." && pwd)
 version=$(< "$top/VERSION")
-name=dethrux-$version-aarch64-linux-gnu
 room=$(mktemp -d)
 trap 'rm -rf "$room"' EXIT
 . "$top/.ci/checks.sh"
@@ -161,6 +161,11 @@ runs_unpacked() {
     with_files "$room/unpacked/usr/lib/$triplet"
 }
 
+# Tests that the packages have neither programs nor a library for another processor.
+has_no_more() {
+    ! find "$room/unpacked" -path '*/bin/*' -o -path '*hwcaps*' -o -path '*x86*' | grep .
+}
+
 provide "${for_arm64[@]}" $triplet-g++:g++-$triplet qemu-aarch64:qemu-user clang:clang gcc:gcc \
     make:make pkg-config:pkg-config dpkg-buildpackage:dpkg-dev dh:debhelper lintian:lintian
 if [ ${#missing[@]} != 0 ]; then
@@ -182,6 +187,7 @@ check_programs
 if check 'the Debian packages, twice' makes_same_packages; then
     check 'lintian' lintian --allow-root --fail-on error,warning "$room"/debs/*.deb
     check 'the packages unpacked' runs_unpacked
+    check 'no programs in the packages' has_no_more
 fi
 add_fuzzing
 finish

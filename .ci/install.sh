@@ -10,6 +10,7 @@ top=$(cd "$(dirname "$0")/.." && pwd)
 sources=$top/packaging/test
 version=$(< "$top/VERSION")
 archive=dethrux-$version-x86_64-linux-gnu
+for_arm=dethrux-$version-aarch64-linux-gnu
 with_avx2=glibc-hwcaps/x86-64-v3
 packages=(libdethrux0.2 libdethrux-dev dethrux-tools)
 room=$(mktemp -d)
@@ -372,6 +373,16 @@ installs_unpacked() {
         diff -r "$room/from archive" "$1" && diff <(tree "$room/from archive") <(tree "$1")
 }
 
+# Tests that the archive for ARM64 installs what a program for ARM64 can use.
+installs_for_arm64() {
+    local words
+    "$room/$for_arm/install.sh" "$room/for arm64" && [ ! -e "$room/for arm64/bin" ] || return
+    words=$(config "$room/for arm64" --cflags --libs) && eval "words=($words)" &&
+        aarch64-linux-gnu-gcc "$sources/user.c" "${words[@]}" -o "$room/program" &&
+        LD_LIBRARY_PATH="$room/for arm64/lib" \
+            qemu-aarch64 -L /usr/aarch64-linux-gnu "$room/program"
+}
+
 # Tests that make builds the library from the archive of the assembly, runs the tables of cases, and
 # installs it, without rt.
 builds_sources() {
@@ -400,7 +411,8 @@ runs_unpacked() {
     for package in "$room"/debs/*.deb; do
         dpkg-deb -x "$package" "$room/unpacked" || return
     done
-    compile user.c "$(PKG_CONFIG_PATH=$lib/pkgconfig pkg-config --cflags --libs dethrux)" &&
+    [ -e "$lib/$with_avx2/libdethrux.so.${version%.*}" ] &&
+        compile user.c "$(PKG_CONFIG_PATH=$lib/pkgconfig pkg-config --cflags --libs dethrux)" &&
         LD_LIBRARY_PATH=$lib "$room/program" && by_cmake "$room/unpacked/usr" &&
         programs_run "$room/unpacked/usr/bin"
 }
@@ -497,6 +509,10 @@ if check 'the checksums in the archive' unpacks "$archive"; then
     check 'an installation from the archive' installs_unpacked "$moved"
     check 'the shared library of the archive' with_shared "$room/$archive" user.c
     check 'both libraries of the archive by CMake' by_cmake "$room/$archive"
+fi
+if [ -e "$room/first/$for_arm.tar.gz" ]; then
+    check 'the checksums in the archive for ARM64' unpacks "$for_arm" &&
+        check 'an installation from the archive for ARM64' installs_for_arm64
 fi
 check 'the checksums in the archive of the assembly' unpacks "dethrux-$version-dist" &&
     check 'the archive of the assembly' builds_sources "$moved"
