@@ -99,7 +99,7 @@ built x86_64-linux-gnu "${CC:-cc}" docs/PYTHON.md \
 if has aarch64-linux-gnu-gcc 'Linux on ARM64'; then
     built aarch64-linux-gnu aarch64-linux-gnu-gcc
 fi
-if has x86_64-w64-mingw32-gcc Windows && has "$here/zip.sh" Windows; then
+if has x86_64-w64-mingw32-gcc Windows; then
     "$here/zip.sh" "$folder" > "$room/said"
     made+=("dethrux-$version-x86_64-windows.zip")
 fi

@@ -1,7 +1,7 @@
 #!/usr/bin/env bash
-# Makes the release archive for Windows, dethrux-VERSION-x86_64-windows.zip, with MinGW's gcc, and
-# its checksum, in FOLDER (by default packaging/out), and prints their paths. The same tree and the
-# same compiler give the same bytes.
+# Makes the release archive for Windows, dethrux-VERSION-x86_64-windows.zip, with MinGW's gcc in
+# FOLDER (by default packaging/out), and prints its path. The same tree and the same compiler give
+# the same bytes. packaging/release.sh calls this, and writes its checksum.
 #
 #     packaging/zip.sh [FOLDER]
 set -euo pipefail
@@ -45,5 +45,4 @@ with zipfile.ZipFile(target, "w", zipfile.ZIP_DEFLATED) as archive:
             entry.external_attr = (0o100755 if path.suffix == ".dll" else 0o100644) << 16
             archive.writestr(entry, path.read_bytes())
 END
-(cd "$folder" && sha256sum "$name.zip" > "$name.zip.sha256")
-printf '%s\n' "$folder/$name.zip" "$folder/$name.zip.sha256"
+echo "$folder/$name.zip"
