@@ -1,24 +1,52 @@
-"""Builds the wheel and the source distribution (PEP 517 and PEP 660), with nothing but Python.
+"""Builds the wheel and the source distribution (PEP 517 and PEP 660).
 
-The wheel has the shared library: the file that DETHRUX_LIBRARY names, the one in the release
-archive around this folder, or what packaging/build.sh makes in a clone. Otherwise it has none, and
-the package takes the installed library.
+This needs only Python and a C compiler. The wheel has the shared library: the file that
+DETHRUX_LIBRARY names, those of the release archive around this folder, or what the C compiler makes
+of the assembly in dist/. If there is none of these, the wheel has no library, and the package takes
+the installed one.
 """
 
 import base64
+import gzip
 import hashlib
 import io
 import os
 import re
+import shlex
 import subprocess
 import tarfile
+import tempfile
 import zipfile
 from pathlib import Path
 
 HERE = Path(__file__).resolve().parent
 SOURCES = HERE / "src"
-TOP = HERE.parent.parent
+# The top of the clone or of the release archive. A source distribution is its own top: what is
+# around it belongs to something else.
+TOP = HERE if (HERE / "PKG-INFO").is_file() else HERE.parent.parent
+DIST = TOP / "dist"
 SONAME = "libdethrux.so.0.2"
+# The library for processors with AVX2, which the package prefers.
+FAST = "libdethrux-x86-64-v3.so.0.2"
+# The assembly of each machine's libraries.
+ASSEMBLY = {
+    "x86_64": {SONAME: "linux-x86-64-v2.s", FAST: "linux-x86-64-v3.s"},
+    "aarch64": {SONAME: "linux-aarch64.s"},
+}
+# The machines by their numbers in the header of an ELF file.
+MACHINES = {62: "x86_64", 183: "aarch64"}
+# dist/Makefile links with the same words; a test compares the libraries.
+LINK = (
+    "-shared",
+    "-Wl,-z,relro,-z,now",
+    "-Wl,--build-id=sha1",
+    "-Wl,--strip-all",
+    f"-Wl,-soname,{SONAME}",
+    "-Wl,-z,defs",
+)
+# The newest glibc that a wheel for every Linux may need. Older ones do not test whether the
+# processor can run a library.
+GLIBC = (2, 34)
 LICENCES = ("LICENSE-MIT", "LICENSE-APACHE", "THIRD-PARTY.md")
 CLASSIFIERS = (
     "Development Status :: 4 - Beta",
@@ -39,29 +67,54 @@ def version():
     return re.search(r'^__version__ = "([0-9.]+)"$', text, re.MULTILINE)[1]
 
 
-def shared_library():
-    """Return the path of the shared library, or None if there is none to build or to take."""
+def libraries():
+    """Return the shared libraries, by their names in the package, or an empty dictionary."""
     named = os.environ.get("DETHRUX_LIBRARY")
     if named:
         if not Path(named).is_file():
             raise SystemExit(f"DETHRUX_LIBRARY names no file: {named}: set its path, or unset it")
-        return Path(named)
+        return {SONAME: Path(named).read_bytes()}
     released = TOP / "lib" / SONAME
     if released.is_file():
-        return released
-    script = TOP / "packaging" / "build.sh"
-    if script.is_file() and (TOP / "crates").is_dir():
-        done = subprocess.run([script], check=False, stdout=subprocess.PIPE, text=True)
-        if done.returncode:
-            raise SystemExit(f"{script} failed: set DETHRUX_LIBRARY to the path of {SONAME}")
-        return Path(done.stdout.strip()) / "libdethrux.so"
-    return None
+        fast = TOP / "lib" / "glibc-hwcaps" / "x86-64-v3" / SONAME
+        paths = {SONAME: released, FAST: fast}
+        return {name: path.read_bytes() for name, path in paths.items() if path.is_file()}
+    return compiled() if DIST.is_dir() else {}
+
+
+def compiled():
+    """Return the libraries that the C compiler makes of the assembly in dist/."""
+    compiler = shlex.split(os.environ.get("CC") or "cc")
+    target = call(compiler, "-dumpmachine")
+    machine = target.split("-")[0]
+    if machine not in ASSEMBLY or "-linux" not in target or "x32" in target:
+        raise SystemExit(f"there is no library for {target}: only for Linux on x86-64 and ARM64")
+    found = {}
+    with tempfile.TemporaryDirectory() as room:
+        for name, source in ASSEMBLY[machine].items():
+            script = f"--version-script={DIST / 'dethrux.map'}"
+            out = Path(room) / name
+            call(compiler, *LINK, "-Xlinker", script, str(DIST / "src" / source), "-o", str(out))
+            found[name] = out.read_bytes()
+    return found
+
+
+def call(compiler, *words):
+    """Return what the compiler prints, without the end of the line."""
+    try:
+        done = subprocess.run([*compiler, *words], check=False, stdout=subprocess.PIPE, text=True)
+    except OSError:
+        raise SystemExit(
+            f"there is no C compiler {compiler[0]}: install gcc or clang, or set CC"
+        ) from None
+    if done.returncode:
+        raise SystemExit(f"{shlex.join(compiler)} failed: set CC to a gcc or clang of this machine")
+    return done.stdout.strip()
 
 
 def licences():
-    """Return the paths of the licences, here in a source distribution, else at the top."""
-    found = (HERE / name if (HERE / name).is_file() else TOP / name for name in LICENCES)
-    return [path for path in found if path.is_file()]
+    """Return the paths of the licences."""
+    return [TOP / name for name in LICENCES if (TOP / name).is_file()]
 
 
 def metadata():
@@ -81,12 +134,31 @@ def metadata():
     )
 
 
-def tag(library):
-    """Return the tag of the wheel: the library is for x86-64, the modules for any machine."""
-    return "py3-none-linux_x86_64" if library else "py3-none-any"
+def tag(found):
+    """Return the tag of a wheel with these libraries."""
+    if not found:
+        return "py3-none-any"
+    library = found[SONAME]
+    machine = MACHINES.get(int.from_bytes(library[18:20], "little"))
+    if library[:4] != b"\x7fELF" or not machine:
+        raise SystemExit("the library is not for Linux on x86-64 or ARM64: set DETHRUX_LIBRARY")
+    linux = "manylinux_{}_{}".format(*GLIBC) if all(map(is_portable, found.values())) else "linux"
+    return f"py3-none-{linux}_{machine}"
 
 
-def write_wheel(folder, library, files):
+def is_portable(library):
+    """Return whether a library needs glibc, and nothing of it that is newer than GLIBC."""
+    versions = re.findall(rb"\0GLIBC_([^\0]+)", library)
+    return b"\0libc.so.6\0" in library and all(map(is_old, versions))
+
+
+def is_old(version):
+    """Return whether GLIBC has a version of symbols. Only numbers have an order."""
+    found = re.fullmatch(rb"2\.(\d+)(\.\d+)?", version)
+    return found is not None and int(found[1]) <= GLIBC[1]
+
+
+def write_wheel(folder, found, files):
     """Write a wheel of these files, with what its format requires, and return its name."""
     info = f"dethrux-{version()}.dist-info"
     files = {
@@ -96,13 +168,13 @@ def write_wheel(folder, library, files):
         f"{info}/WHEEL": (
             "Wheel-Version: 1.0\n"
             "Generator: dethrux\n"
-            f"Root-Is-Purelib: {str(not library).lower()}\n"
-            f"Tag: {tag(library)}\n"
+            f"Root-Is-Purelib: {str(not found).lower()}\n"
+            f"Tag: {tag(found)}\n"
         ).encode(),
     }
     record = "".join(f"{name},{digest(data)},{len(data)}\n" for name, data in files.items())
     files[f"{info}/RECORD"] = f"{record}{info}/RECORD,,\n".encode()
-    name = f"dethrux-{version()}-{tag(library)}.whl"
+    name = f"dethrux-{version()}-{tag(found)}.whl"
     with zipfile.ZipFile(Path(folder) / name, "w", zipfile.ZIP_DEFLATED) as wheel:
         for path, data in files.items():
             entry = zipfile.ZipInfo(path, TIME)
@@ -134,35 +206,35 @@ get_requires_for_build_sdist = get_requires_for_build_editable = get_requires_fo
 
 def build_wheel(wheel_directory, config_settings=None, metadata_directory=None):
     """Write the wheel and return its name."""
-    library = shared_library()
+    found = libraries()
     files = {f"dethrux/{path.name}": path.read_bytes() for path in modules()}
-    if library:
-        files[f"dethrux/{SONAME}"] = library.read_bytes()
-    return write_wheel(wheel_directory, library, files)
+    files.update({f"dethrux/{name}": library for name, library in found.items()})
+    return write_wheel(wheel_directory, found, files)
 
 
 def build_editable(wheel_directory, config_settings=None, metadata_directory=None):
     """Write a wheel that names this folder; the library is not in it."""
-    return write_wheel(wheel_directory, None, {"dethrux.pth": f"{SOURCES}\n".encode()})
+    return write_wheel(wheel_directory, {}, {"dethrux.pth": f"{SOURCES}\n".encode()})
 
 
 def build_sdist(sdist_directory, config_settings=None):
     """Write the source distribution and return its name."""
     base = f"dethrux-{version()}"
-    paths = [HERE / it for it in ("pyproject.toml", "build_backend.py", "README.md")] + modules()
-    with tarfile.open(Path(sdist_directory) / f"{base}.tar.gz", "w:gz") as archive:
-        for path in paths:
-            archive.add(path, f"{base}/{path.relative_to(HERE)}", filter=plain)
-        for path in licences():
-            archive.add(path, f"{base}/{path.name}", filter=plain)
-        entry = tarfile.TarInfo(f"{base}/PKG-INFO")
-        entry.size = len(metadata().encode())
-        archive.addfile(entry, io.BytesIO(metadata().encode()))
+    own = [HERE / it for it in ("pyproject.toml", "build_backend.py", "README.md")]
+    files = {path.relative_to(HERE): path.read_bytes() for path in own + modules()}
+    files.update({path.relative_to(TOP): path.read_bytes() for path in licences() + assembly()})
+    files["PKG-INFO"] = metadata().encode()
+    with open(Path(sdist_directory) / f"{base}.tar.gz", "wb") as out, gzip.GzipFile(
+        filename="", mode="wb", fileobj=out, mtime=0
+    ) as packed, tarfile.open(fileobj=packed, mode="w") as archive:
+        for name, data in files.items():
+            entry = tarfile.TarInfo(f"{base}/{name}")
+            entry.size = len(data)
+            archive.addfile(entry, io.BytesIO(data))
     return f"{base}.tar.gz"
 
 
-def plain(entry):
-    """Return an archive entry with owner and timestamp cleared."""
-    entry.uid = entry.gid = entry.mtime = 0
-    entry.uname = entry.gname = ""
-    return entry
+def assembly():
+    """Return the files of dist/ that a library is made of, if it is there."""
+    sources = [f"src/{name}" for found in ASSEMBLY.values() for name in found.values()]
+    return [DIST / name for name in ("dethrux.map", *sources) if DIST.is_dir()]

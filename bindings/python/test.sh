@@ -1,9 +1,10 @@
 #!/usr/bin/env bash
-# Installs the package with pip in an empty virtual environment, without network. There it runs the
-# first program of docs/PYTHON.md, the unit tests, CPython's tests of UTF-16 with these codecs, and
-# the tables of cases. mypy checks the types, if it is installed. The last line is 'N passed, M
-# failed'. PYTHON names another Python.
-# DETHRUX_LIBRARY names the shared library; without it packaging/build.sh makes one.
+# Installs the package with pip in an empty virtual environment, without network and without rt.
+# There it runs the first program of docs/PYTHON.md, the unit tests, CPython's tests of UTF-16 with
+# these codecs, and the tables of cases. It installs the wheel and the source distribution that
+# packaging/wheels.sh makes. mypy checks the types, if it is installed. The last line is
+# 'N passed, M failed'. PYTHON names another Python. DETHRUX_LIBRARY names the shared library for
+# the package; without it cc makes one of the assembly in dist/.
 set -uo pipefail
 here=$(cd "$(dirname "${BASH_SOURCE[0]}")" && pwd)
 top=$(cd "$here/../.." && pwd)
@@ -46,10 +47,9 @@ make_environment() {
     "$python" -m venv "$room/venv"
 }
 
-# The package gets the library from DETHRUX_LIBRARY; what runs after this uses the one in the
-# package.
-install_package() {
-    "$room/venv/bin/pip" install --no-index --disable-pip-version-check "$here"
+# Runs pip without network, with the compiler of the system and without rt.
+install_with_pip() {
+    PATH=/usr/bin:/bin "$room/venv/bin/pip" install --no-index --disable-pip-version-check "$@"
 }
 
 # Whether a program prints what its page says, given the bytes that the page makes.
@@ -99,11 +99,106 @@ cases() {
     cat "$top"/cases/*.txt | "$room/venv/bin/python" "$top/examples/c/check.py"
 }
 
+# Makes the wheels and the source distribution, twice: with the same bytes. The compiler for the
+# other machine may be missing.
+make_wheels() {
+    local umask
+    for umask in 022 077; do
+        (umask $umask && "$top/packaging/wheels.sh" "$room/wheels-$umask") ||
+            ! command -v "$other-linux-gnu-gcc" || return
+    done
+    diff -r "$room"/wheels-{022,077}
+}
+
+# Whether wheels.sh leaves out a wheel for this machine that is not for every Linux, and, without a
+# compiler for the other machine, that wheel.
+leaves_out_wheels() {
+    local bin=$room/bin tool
+    mkdir "$bin"
+    for tool in bash dirname env mkdir; do
+        ln -s "$(command -v $tool)" "$bin/$tool"
+    done
+    ln -s "$("$python" -c 'import sys; print(sys.executable)')" "$bin/python3"
+    cat > "$bin/cc" << 'END'
+#!/bin/bash
+[ "$1" != -dumpmachine ] || { echo x86_64-linux-gnu; exit; }
+printf '\177ELF%14s\076\0' '' > "${@: -1}"
+END
+    chmod +x "$bin/cc"
+    local wheel=dethrux-$(< "$top/VERSION")-py3-none-linux_x86_64.whl
+    ! PATH=$bin "$top/packaging/wheels.sh" "$room/left" > "$room/paths" 2> "$room/lines" &&
+        diff - "$room/lines" << END && diff <(echo "$room/left"/*.tar.gz) "$room/paths"
+wheels.sh: $room/left/$wheel needs a newer glibc than 2.34: use an older cc
+wheels.sh: there is no aarch64-linux-gnu-gcc, so there is no wheel for aarch64
+END
+}
+
+# Whether the libraries of all wheels need no newer glibc than the wheels' names say.
+needs_old_glibc() {
+    local wheel library newest
+    for wheel in "$room"/wheels-022/*.whl; do
+        "$python" -m zipfile -e "$wheel" "$room/${wheel##*_2_34_}"
+    done
+    for library in "$room"/*.whl/dethrux/*.so.*; do
+        newest=$(readelf --version-info "$library" | grep -o 'GLIBC_[0-9A-Z_.]*' |
+            sort -V | tail -n 1)
+        echo "$library: $newest"
+        [[ $newest =~ ^GLIBC_2\.([0-9]+)(\.[0-9]+)?$ ]] && ((BASH_REMATCH[1] <= 34)) || return
+    done
+}
+
+# Whether Python takes this library from an installed folder, and calls it. Words before python are
+# those that run it.
+takes_library() {
+    local folder=$1 library=$2
+    shift 2
+    PYTHONPATH=$room/$folder "$@" "$room/venv/bin/python" -c '
+import sys, dethrux
+assert dethrux.to_utf8(b"\0\xe9", "big").output == "é".encode()
+print(dethrux._library._library._name)' | diff - <(echo "$room/$folder/dethrux/$library")
+}
+
+# Whether a program of the other machine loads the library of its wheel, and calls it.
+calls_other_library() {
+    "$other-linux-gnu-gcc" -I"$top/include" "$here/tests/load.c" -o "$room/load" &&
+        "qemu-$other" -L "/usr/$other-linux-gnu" "$room/load" \
+            "$room/$other.whl/dethrux/libdethrux.so.0.2" > "$room/found" &&
+        diff - "$room/found" <<< '2000 Grüße😀'
+}
+
+# What packaging/wheels.sh makes.
+test_wheels() {
+    local machine other=aarch64 best=libdethrux.so.0.2
+    machine=$(uname -m)
+    [ "$machine" = x86_64 ] || other=x86_64
+    ! grep -q -w avx2 /proc/cpuinfo || best=libdethrux-x86-64-v3.so.0.2
+    count 'the wheels, twice' make_wheels
+    count 'wheels that cannot be made' leaves_out_wheels
+    count 'the glibc of the wheels' needs_old_glibc
+    count 'pip install of the wheel' \
+        install_with_pip --target "$room/wheel" "$room"/wheels-022/*_"$machine".whl
+    count 'the library of the wheel' takes_library wheel $best
+    count 'pip install of the sources' \
+        install_with_pip --target "$room/sources" "$room"/wheels-022/*.tar.gz
+    count 'the library of the sources' takes_library sources $best
+    if [ "$machine" = x86_64 ] && command -v qemu-x86_64 > /dev/null; then
+        count 'the wheel without AVX2' \
+            takes_library wheel libdethrux.so.0.2 qemu-x86_64 -cpu Nehalem
+    else
+        echo 'not run: the wheel without AVX2 (on x86-64: apt-get install qemu-user)'
+    fi
+    if command -v "$other-linux-gnu-gcc" "qemu-$other" > /dev/null; then
+        count "the wheel for $other, without Python" calls_other_library
+    else
+        echo "not run: the wheel for $other (apt-get install gcc-${other/_/-}-linux-gnu qemu-user)"
+    fi
+}
+
 python=${PYTHON:-python3}
 count 'Python' has "$python" python3 || finish
 count 'a C compiler for the tests' has cc gcc || finish
 count 'a virtual environment' make_environment || finish
-count 'pip install' install_package || finish
+count 'pip install' install_with_pip "$here" || finish
 unset DETHRUX_LIBRARY
 count 'the first program' first_program
 count 'the page has the first program' page_has_program
@@ -111,5 +206,6 @@ for module in test_calls test_codecs test_package test_build test_cpython; do
     unit_tests $module
 done
 count 'the tables of cases' cases
+test_wheels
 check_types
 finish

@@ -6,6 +6,7 @@ import hashlib
 import importlib.util
 import os
 import shutil
+import subprocess
 import tarfile
 import tempfile
 import unittest
@@ -17,6 +18,7 @@ TOP = Path(os.environ.get("DETHRUX_TOP") or Path(__file__).resolve().parents[3])
 PYTHON = TOP / "bindings" / "python"
 VERSION = (TOP / "VERSION").read_text().strip()
 SONAME = "libdethrux.so.0.2"
+FAST = "libdethrux-x86-64-v3.so.0.2"
 README = (PYTHON / "README.md").read_text(encoding="utf-8")
 LICENCES = ("LICENSE-MIT", "LICENSE-APACHE", "THIRD-PARTY.md")
 MODULES = {
@@ -24,6 +26,14 @@ MODULES = {
     for path in (PYTHON / "src" / "dethrux").iterdir()
     if path.suffix in (".py", ".typed")
 }
+# The number of a machine in the header of an ELF file.
+X86_64, ARM64, I386 = 62, 183, 3
+
+
+def library(name, machine=X86_64, needs=(b"libc.so.6", b"GLIBC_2.14")):
+    """Return what a shared library for a machine begins with, and the names that it needs."""
+    header = b"\x7fELF".ljust(18, b"\0") + machine.to_bytes(2, "little") + name
+    return header + b"".join(b"\0" + need for need in needs) + b"\0"
 
 
 class Backend(unittest.TestCase):
@@ -40,9 +50,18 @@ class Backend(unittest.TestCase):
         environment.start()
         self.addCleanup(environment.stop)
         os.environ.pop("DETHRUX_LIBRARY", None)
-        spec = importlib.util.spec_from_file_location("backend", self.here / "build_backend.py")
-        self.backend = importlib.util.module_from_spec(spec)
-        spec.loader.exec_module(self.backend)
+        os.environ.pop("CC", None)
+        # rt is not in these folders.
+        os.environ["PATH"] = "/usr/bin:/bin"
+        self.backend = self.load(self.here)
+
+    @staticmethod
+    def load(folder):
+        """Return the backend of a folder."""
+        spec = importlib.util.spec_from_file_location("backend", folder / "build_backend.py")
+        backend = importlib.util.module_from_spec(spec)
+        spec.loader.exec_module(backend)
+        return backend
 
     def put(self, path, content, mode=0o644):
         """Write a file below the top folder and return its path."""
@@ -89,51 +108,117 @@ class Backend(unittest.TestCase):
         self.assertEqual(wheel[2:], [f"Root-Is-Purelib: {is_pure}", f"Tag: {tag}"])
         self.assertEqual(files, expected)
 
-    def assert_library(self, library):
-        """Test that a wheel has a library, or none."""
-        files = {f"dethrux/{name}": data for name, data in MODULES.items()}
-        if library is None:
-            self.assert_wheel("build_wheel", "any", files)
-        else:
-            files[f"dethrux/{SONAME}"] = library
-            self.assert_wheel("build_wheel", "linux_x86_64", files)
+    def assert_libraries(self, libraries, platform="manylinux_2_34_x86_64"):
+        """Test that a wheel has these libraries and this tag."""
+        files = {**MODULES, **libraries}
+        files = {f"dethrux/{name}": data for name, data in files.items()}
+        self.assert_wheel("build_wheel", platform if libraries else "any", files)
+
+    def assert_refused(self, message):
+        """Test that no wheel is made, and that a line says why."""
+        with self.assertRaises(SystemExit) as caught:
+            self.backend.build_wheel(str(self.out))
+        self.assertEqual(caught.exception.code, message)
+        self.assertEqual(list(self.out.iterdir()), [])
+
+    def put_assembly(self):
+        """Put dist/ of the clone at the top."""
+        self.top.joinpath("dist").symlink_to(TOP / "dist")
+
+    def put_compiler(self, target):
+        """Make CC a compiler for another machine, whose libraries are the words that it takes."""
+        script = f"""#!/bin/sh
+        [ "$1" != -dumpmachine ] || {{ echo {target}; exit; }}
+        for last; do :; done
+        printf '\\177ELF%14s\\{X86_64 if "x86" in target else ARM64:o}\\0' "" > "$last"
+        echo "$@" >> "$last"
+        """
+        os.environ["CC"] = str(self.put("compiler", script.encode(), 0o755))
 
     def test_without_a_library(self):
-        self.assert_library(None)
-        self.put("packaging/build.sh", b"#!/bin/sh\nexit 1\n", 0o755)
-        self.assert_library(None)
+        self.assert_libraries({})
 
     def test_with_the_library_of_the_environment(self):
-        os.environ["DETHRUX_LIBRARY"] = str(self.put("other", b"named"))
-        self.put(f"lib/{SONAME}", b"released")
-        self.assert_library(b"named")
+        self.put_assembly()
+        self.put(f"lib/{SONAME}", library(b"released"))
+        os.environ["DETHRUX_LIBRARY"] = str(self.put("other", library(b"named")))
+        self.assert_libraries({SONAME: library(b"named")})
         os.environ["DETHRUX_LIBRARY"] = ""
-        self.assert_library(b"released")
+        self.assert_libraries({SONAME: library(b"released")})
 
-    def test_with_the_library_of_a_release(self):
-        self.put(f"lib/{SONAME}", b"released")
-        self.put("packaging/build.sh", b"#!/bin/sh\nexit 1\n", 0o755)
-        self.put("crates/none", b"")
-        self.assert_library(b"released")
+    def test_with_the_libraries_of_a_release(self):
+        self.put_assembly()
+        self.put(f"lib/{SONAME}", library(b"released"))
+        self.put(f"lib/glibc-hwcaps/x86-64-v3/{SONAME}", library(b"fast"))
+        self.assert_libraries({SONAME: library(b"released"), FAST: library(b"fast")})
 
-    def test_with_the_library_of_a_clone(self):
-        script = b'#!/bin/sh\necho "${0%/*}" && printf built > "${0%/*}/libdethrux.so"\n'
-        self.put("packaging/build.sh", script, 0o755)
-        self.put("crates/none", b"")
-        self.assert_library(b"built")
+    def test_with_the_libraries_of_a_clone(self):
+        """They are the ones that dist/Makefile makes."""
+        self.put_assembly()
+        made = self.out.parent / "made"
+        words = ["make", "-s", "-C", str(TOP / "dist"), f"BUILD={made}"]
+        subprocess.run(words, check=True)
+        if os.uname().machine == "x86_64":
+            fast = (made / "glibc-hwcaps" / "x86-64-v3" / SONAME).read_bytes()
+            expected, platform = {FAST: fast}, "manylinux_2_34_x86_64"
+        else:
+            expected, platform = {}, "manylinux_2_34_aarch64"
+        expected[SONAME] = (made / "libdethrux.so").read_bytes()
+        self.assert_libraries(expected, platform)
 
-    def test_no_library_where_there_should_be_one(self):
+    def test_the_machine_is_that_of_the_compiler(self):
+        self.put_assembly()
+        dist = self.top.resolve() / "dist"
+        for target, sources in (
+            ("aarch64-unknown-linux-gnu", {SONAME: "linux-aarch64.s"}),
+            ("x86_64-linux-musl", {SONAME: "linux-x86-64-v2.s", FAST: "linux-x86-64-v3.s"}),
+        ):
+            self.put_compiler(target)
+            found = self.backend.libraries()
+            self.assertEqual(set(found), set(sources))
+            for name, source in sources.items():
+                words = f"--version-script={dist}/dethrux.map {dist}/src/{source} -o /"
+                self.assertIn(f"-Wl,-z,defs -Xlinker {words}".encode(), found[name])
+            # Its libraries do not need glibc.
+            tag = f"py3-none-linux_{target.split('-', 1)[0]}"
+            self.assertEqual(self.backend.tag(found), tag)
+
+    def test_no_library_can_be_made(self):
         os.environ["DETHRUX_LIBRARY"] = "/nowhere.so"
-        message = "^DETHRUX_LIBRARY names no file: /nowhere.so: set its path, or unset it$"
-        with self.assertRaisesRegex(SystemExit, message):
-            self.backend.build_wheel(str(self.out))
+        self.assert_refused(
+            "DETHRUX_LIBRARY names no file: /nowhere.so: set its path, or unset it"
+        )
         del os.environ["DETHRUX_LIBRARY"]
-        self.put("packaging/build.sh", b"#!/bin/sh\nexit 1\n", 0o755)
-        self.put("crates/none", b"")
-        message = rf"build\.sh failed: set DETHRUX_LIBRARY to the path of {SONAME}$"
-        with self.assertRaisesRegex(SystemExit, message):
-            self.backend.build_wheel(str(self.out))
-        self.assertEqual(list(self.out.iterdir()), [])
+        self.put_assembly()
+        with mock.patch.dict(os.environ, {"PATH": str(self.out)}):
+            self.assert_refused("there is no C compiler cc: install gcc or clang, or set CC")
+        os.environ["CC"] = "false --quiet"
+        self.assert_refused("false --quiet failed: set CC to a gcc or clang of this machine")
+        targets = "riscv64-linux-gnu", "x86_64-linux-gnux32", "x86_64-w64-mingw32"
+        for target in targets:
+            self.put_compiler(target)
+            message = f"there is no library for {target}: only for Linux on x86-64 and ARM64"
+            self.assert_refused(message)
+
+    def test_the_tag_is_that_of_the_library(self):
+        many, own = "manylinux_2_34_", "linux_"
+        for expected, machine, needs in (
+            (many, X86_64, (b"libc.so.6", b"GLIBC_2.2.5", b"GLIBC_2.34")),
+            (many, ARM64, (b"libc.so.6", b"GLIBC_2.17")),
+            (own, X86_64, (b"libc.so.6", b"GLIBC_2.14", b"GLIBC_2.35")),
+            (own, X86_64, (b"libc.so.6", b"GLIBC_2.14", b"GLIBC_ABI_DT_RELR")),
+            (own, ARM64, (b"libc.musl-aarch64.so.1",)),
+        ):
+            found = {SONAME: library(b"", machine, needs)}
+            machine = {X86_64: "x86_64", ARM64: "aarch64"}[machine]
+            self.assertEqual(self.backend.tag(found), f"py3-none-{expected}{machine}")
+        found = {SONAME: library(b""), FAST: library(b"", needs=())}
+        self.assertEqual(self.backend.tag(found), "py3-none-linux_x86_64")
+        for data in (b"", b"MZ".ljust(18, b"\0") + b"\x3e\0", library(b"", I386)):
+            os.environ["DETHRUX_LIBRARY"] = str(self.put("other", data))
+            self.assert_refused(
+                "the library is not for Linux on x86-64 or ARM64: set DETHRUX_LIBRARY"
+            )
 
     def test_the_same_tree_gives_the_same_bytes(self):
         name = self.backend.build_wheel(str(self.out))
@@ -143,31 +228,68 @@ class Backend(unittest.TestCase):
         self.assertEqual(self.backend.build_wheel(str(self.out)), name)
         self.assertEqual((self.out / name).read_bytes(), first)
 
+    def test_the_same_tree_gives_the_same_sources(self):
+        name = self.backend.build_sdist(str(self.out))
+        first = (self.out / name).read_bytes()
+        for path in self.here.rglob("*.py"):
+            os.utime(path, (0, 0))
+            path.chmod(0o600)
+        with mock.patch("time.time", return_value=1e9):
+            self.assertEqual(self.backend.build_sdist(str(self.out)), name)
+        self.assertEqual((self.out / name).read_bytes(), first)
+
     def test_only_modules_are_taken(self):
         self.put("bindings/python/src/dethrux/notes.txt", b"")
         self.put("bindings/python/src/dethrux/__pycache__/first.pyc", b"")
-        self.assert_library(None)
+        self.assert_libraries({})
 
     def test_editable(self):
-        os.environ["DETHRUX_LIBRARY"] = str(self.put("other", b"named"))
+        os.environ["DETHRUX_LIBRARY"] = str(self.put("other", library(b"named")))
         path = {"dethrux.pth": f"{self.here.resolve()}/src\n".encode()}
         self.assert_wheel("build_editable", "any", path)
 
     def test_sdist(self):
-        name = self.backend.build_sdist(str(self.out))
         base = f"dethrux-{VERSION}"
-        self.assertEqual(name, f"{base}.tar.gz")
         expected = {f"{base}/src/dethrux/{each}": data for each, data in MODULES.items()}
         for each in ("pyproject.toml", "build_backend.py", "README.md"):
             expected[f"{base}/{each}"] = (PYTHON / each).read_bytes()
+        expected[f"{base}/PKG-INFO"] = self.backend.metadata().encode()
+        self.assertEqual(self.sdist(), expected)
+        self.put_assembly()
+        sources = [path.relative_to(TOP) for path in (TOP / "dist" / "src").glob("linux-*.s")]
+        self.assertEqual(len(sources), 3)
+        for each in ("dist/dethrux.map", *sources):
+            expected[f"{base}/{each}"] = (TOP / each).read_bytes()
+        self.assertEqual(self.sdist(), expected)
+
+    def sdist(self):
+        """Build the sources, and return the files after a test of their entries."""
+        name = self.backend.build_sdist(str(self.out))
+        self.assertEqual(name, f"dethrux-{VERSION}.tar.gz")
         with tarfile.open(self.out / name) as archive:
             entries = archive.getmembers()
             files = {entry.name: archive.extractfile(entry).read() for entry in entries}
         for entry in entries:
             self.assertEqual((entry.uid, entry.gid, entry.mtime), (0, 0, 0))
-            self.assertEqual((entry.uname, entry.gname), ("", ""))
-        self.assertEqual(files.pop(f"{base}/PKG-INFO").decode(), self.backend.metadata())
-        self.assertEqual(files, expected)
+            self.assertEqual((entry.uname, entry.gname, entry.mode), ("", "", 0o644))
+        return files
+
+    def test_the_wheel_of_the_sources(self):
+        """An unpacked sdist makes the same wheel and sdist, and takes nothing from around it."""
+        self.put_assembly()
+        self.put("LICENSE-MIT", b"licence")
+        names = self.backend.build_sdist(str(self.out)), self.backend.build_wheel(str(self.out))
+        place = self.out.parent / "other" / "place"
+        with tarfile.open(self.out / names[0]) as archive:
+            archive.extractall(place)
+        self.top.joinpath("dist").unlink()
+        (place.parent / "lib").mkdir()
+        (place.parent / "lib" / SONAME).write_bytes(library(b"of another program"))
+        (place.parent / "LICENSE-APACHE").write_bytes(b"of another program")
+        backend = self.load(place / f"dethrux-{VERSION}")
+        for name, build in zip(names, (backend.build_sdist, backend.build_wheel)):
+            self.assertEqual(build(str(place)), name)
+            self.assertEqual((place / name).read_bytes(), (self.out / name).read_bytes())
 
     def test_the_licences_of_the_top(self):
         for name in LICENCES:
@@ -182,20 +304,6 @@ class Backend(unittest.TestCase):
             for name in LICENCES:
                 entry = archive.extractfile(f"dethrux-{VERSION}/{name}")
                 self.assertEqual(entry.read(), name.encode())
-
-    def test_the_licences_of_a_source_distribution(self):
-        self.put("LICENSE-MIT", b"above")
-        self.put("bindings/python/LICENSE-MIT", b"here")
-        _, files = self.wheel()
-        self.assertEqual(files[f"dethrux-{VERSION}.dist-info/licenses/LICENSE-MIT"], b"here")
-
-    def test_entries_have_no_owner_and_no_time(self):
-        entry = tarfile.TarInfo("name")
-        entry.uid = entry.gid = entry.mtime = 1000
-        entry.uname = entry.gname = "somebody"
-        self.assertIs(self.backend.plain(entry), entry)
-        self.assertEqual((entry.uid, entry.gid, entry.mtime), (0, 0, 0))
-        self.assertEqual((entry.name, entry.uname, entry.gname), ("name", "", ""))
 
     def test_it_requires_nothing(self):
         for kind in ("wheel", "sdist", "editable"):

@@ -9,6 +9,7 @@ import sys
 import tempfile
 import unittest
 from pathlib import Path
+from unittest import mock
 
 import dethrux
 from dethrux import _library
@@ -31,7 +32,7 @@ class Library(unittest.TestCase):
         """Copy the package without its library."""
         self.folder = tempfile.TemporaryDirectory()
         self.addCleanup(self.folder.cleanup)
-        ignored = shutil.ignore_patterns(_library.SONAME, "__pycache__")
+        ignored = shutil.ignore_patterns(_library.SONAME, _library.FAST, "__pycache__")
         self.package = Path(self.folder.name) / "dethrux"
         shutil.copytree(FOLDER, self.package, ignore=ignored)
 
@@ -59,6 +60,32 @@ class Library(unittest.TestCase):
         shutil.copy(LIBRARY, copy)
         self.assertEqual(self.imported(), str(copy))
         self.assertEqual(self.imported(DETHRUX_LIBRARY=LIBRARY), LIBRARY)
+
+    def test_for_the_processor(self):
+        copy, fast = self.package / _library.SONAME, self.package / _library.FAST
+        shutil.copy(LIBRARY, copy)
+        shutil.copy(LIBRARY, fast)
+        self.assertEqual(self.imported(), str(fast))
+        self.assertEqual(self.imported(DETHRUX_LIBRARY=LIBRARY), LIBRARY)
+        # The loader refuses it, as it does if the processor has no AVX2.
+        fast.write_bytes(b"no library")
+        self.assertEqual(self.imported(), str(copy))
+
+    def test_a_loader_that_does_not_test_the_processor(self):
+        copy, fast = self.package / _library.SONAME, self.package / _library.FAST
+        shutil.copy(LIBRARY, fast)
+        for version, expected in (
+            ("glibc 2.33", fast),
+            ("glibc 3.0", fast),
+            ("glibc 2.9", copy),
+            ("glibc 2.32", copy),
+            ("other 2.34", copy),
+            (None, copy),
+        ):
+            with mock.patch("os.confstr", return_value=version):
+                self.assertEqual(_library._for_processor(copy), expected, version)
+        with mock.patch("os.confstr", side_effect=ValueError):
+            self.assertEqual(_library._for_processor(copy), copy)
 
     def test_by_the_loader(self):
         shutil.copy(LIBRARY, Path(self.folder.name) / _library.SONAME)

@@ -8,6 +8,8 @@ from typing import Any
 from ._version import __version__
 
 SONAME = "libdethrux.so.0.2"
+# The library for x86-64 processors with AVX2, in a wheel.
+FAST = "libdethrux-x86-64-v3.so.0.2"
 
 
 class Progress(ctypes.Structure):
@@ -72,8 +74,32 @@ def _candidate() -> tuple[str, str]:
         return named, f"set DETHRUX_LIBRARY to the path of {SONAME}, or unset it"
     packaged = Path(__file__).with_name(SONAME)
     if packaged.exists():
-        return str(packaged), "install the package dethrux again"
+        return str(_for_processor(packaged)), "install the package dethrux again"
     return SONAME, "install the C library Dethrux, or set DETHRUX_LIBRARY to its path"
+
+
+def _for_processor(packaged: Path) -> Path:
+    """Return the faster library of the package if it loads, else the other one.
+
+    The loader searches ``glibc-hwcaps`` for a name, but not for a path.
+    """
+    fast = packaged.with_name(FAST)
+    if not _loader_tests_processor():
+        return packaged
+    try:
+        ctypes.CDLL(str(fast))
+    except OSError:
+        return packaged
+    return fast
+
+
+def _loader_tests_processor() -> bool:
+    """Return whether the loader refuses a library that the processor cannot run."""
+    try:
+        name, version = (os.confstr("CS_GNU_LIBC_VERSION") or "").split()
+    except ValueError:
+        return False
+    return name == "glibc" and [int(part) for part in version.split(".")] >= [2, 33]
 
 
 def _load() -> ctypes.CDLL:
