@@ -1,11 +1,12 @@
 #!/usr/bin/env bash
 # Tests the crates of this folder without network: their tests and the examples of their
 # documentation with each set of features, the page docs/RUST.md in an empty project, how the build
-# script finds the library and what it refuses, documentation without the library, formatting and
-# lints. With --tests it skips the last two. The last line is 'N passed, M failed'. It needs cargo,
-# cc, pkg-config, the library (crates/dethrux/out/libdethrux.a, or the folder that DETHRUX_LIB_DIR
-# names), and for utf16string the crate byteorder (Debian: librust-byteorder-dev). A missing tool or
-# library is a failure.
+# script finds or compiles the library and what it refuses, the package of dethrux, documentation
+# without the library, formatting and lints. With --tests it skips the last two. The last line is
+# 'N passed, M failed'. It needs cargo, cc, pkg-config, the library (crates/dethrux/out/libdethrux.a,
+# or the folder that DETHRUX_LIB_DIR names), and for utf16string the crate byteorder (Debian:
+# librust-byteorder-dev). A missing tool or library is a failure, except the compilers for other
+# machines.
 set -uo pipefail
 here=$(cd "$(dirname "$0")" && pwd)
 top=$(cd "$here/../.." && pwd)
@@ -146,7 +147,8 @@ test_page() {
 build_copy() {
     local copy=$room/clone/bindings/rust/dethrux
     [ -d "$copy" ] || { mkdir -p "${copy%/*}" && cp -r "$here/dethrux" "$copy"; }
-    (cd "$copy" && PKG_CONFIG_LIBDIR=$room env -u DETHRUX_LIB_DIR "$@" cargo build --offline)
+    (cd "$copy" && PKG_CONFIG_LIBDIR=$room env -u DETHRUX_LIB_DIR "$@" \
+        cargo build --offline --features "$features")
 }
 
 # Makes the documentation of the copy, which has no library, with words for env.
@@ -173,11 +175,18 @@ put_other() {
         ar cr "$1/libdethrux.a" "$room/other.o"
 }
 
+# Whether the build script, after the words for env, compiles the assembly.
+compiles() {
+    rm -rf "$CARGO_TARGET_DIR"/debug/build/dethrux-*
+    build_copy "$@" || return
+    compgen -G "$CARGO_TARGET_DIR/debug/build/dethrux-*/out/linux-*.o"
+}
+
 # Which library the build script takes, and that it looks again after a change. When it must take a
 # library, the ones that come after it in the search have another version.
 test_build_script() {
     local named=$room/named clone=$room/clone/crates/dethrux/out empty=$room/empty
-    local known="PKG_CONFIG_PATH=$room/pkgconfig" said
+    local known="PKG_CONFIG_PATH=$room/pkgconfig" said features=''
     mkdir -p "$named" "$clone" "$empty" "$room/pkgconfig" "$room/installed"
     printf 'libdir=%s\nprefix=/\nName: dethrux\nDescription: UTF-16\nVersion: 0.2.0\n' \
         "$room/installed" > "$room/pkgconfig/dethrux.pc"
@@ -206,10 +215,153 @@ test_build_script() {
         document_copy 'RUSTFLAGS=--cfg docsrs'
     cp "$library" "$clone"
     count 'the library of the clone' build_copy PKG_CONFIG_PATH=
+    ln -s "$top/dist" "$room/clone/dist"
+    count 'the library of the clone before the assembly' fails compiles PKG_CONFIG_PATH=
+    rm "$clone/libdethrux.a"
+    count 'the assembly' compiles PKG_CONFIG_PATH=
+    features=bundled
+    put_other "$room/installed"
+    count 'the assembly although a library is installed' compiles "$known"
+    put_other "$named"
+    said="$named/libdethrux.a has version 0.99.1, this crate $(< "$top/VERSION")"
+    said+=": install that, or set DETHRUX_LIB_DIR to it"
+    count 'the library that is named before the assembly' \
+        refuses "$said" "$known" "DETHRUX_LIB_DIR=$named"
+    said='there is no nowhere to compile the library: install gcc or clang, or set CC'
+    count 'no compiler' refuses "$said" PKG_CONFIG_PATH= CC=nowhere
+    said="false -v failed: set CC to a C compiler for $host, or DETHRUX_LIB_DIR"
+    count 'a compiler that fails' refuses "$said" PKG_CONFIG_PATH= 'CC=false -v'
+    features=bundled,dynamic
+    count 'the assembly instead of a shared library' compiles PKG_CONFIG_PATH=
+    features=dynamic
+    said='there is no libdethrux.so: install libdethrux, or set DETHRUX_LIB_DIR to its folder'
+    count 'no shared library' refuses "$said" PKG_CONFIG_PATH=
+    features=''
+    said="$room/installed/libdethrux.a has version 0.99.1, this crate $(< "$top/VERSION")"
+    said+=": install that, or set DETHRUX_LIB_DIR to it"
+    count 'an installed library of another version' refuses "$said" "$known"
+}
+
+# Succeeds if a step fails.
+fails() {
+    ! "$@"
+}
+
+# The tests of an empty project that takes dethrux from a folder, with the feature bundled and
+# without rt.
+test_bundled() {
+    local project=$room/bundled
+    rm -rf "$project" && mkdir -p "$project/src" || return
+    printf '%s\n' '[package]' 'name = "bundled"' 'version = "0.1.0"' 'edition = "2021"' \
+        '[dependencies]' "dethrux = { path = '$1', features = ['bundled'] }" \
+        > "$project/Cargo.toml"
+    cat > "$project/src/lib.rs" << 'END'
+#[test]
+fn decodes() {
+    let text = dethrux::decode(dethrux::ByteOrder::LittleEndian, b"h\0\x05\x26");
+    assert_eq!(text.unwrap(), "h★");
+}
+END
+    (cd "$project" && PATH=$room/bin:/usr/bin:/bin PKG_CONFIG_LIBDIR=$room \
+        env -u DETHRUX_LIB_DIR cargo test --offline)
+}
+
+# Packages the crate, and unpacks it outside of the clone.
+package() {
+    (cd "$room" && cargo package --offline --allow-dirty --no-verify \
+        --manifest-path "$here/dethrux/Cargo.toml") &&
+        tar -C "$room" -xzf "$CARGO_TARGET_DIR/package/dethrux-$(< "$top/VERSION").crate" &&
+        ls "$room/dethrux-$(< "$top/VERSION")"/{LICENSE-APACHE,LICENSE-MIT,THIRD-PARTY.md}
+}
+
+# Runs the build script for a target as cargo does, with words for env.
+run_build_script() {
+    local target=$1
+    shift
+    rm -rf "$room/made" && mkdir "$room/made" &&
+        env -u DETHRUX_LIB_DIR -u CC -u AR CARGO_MANIFEST_DIR="$here/dethrux" CARGO_FEATURE_BUNDLED= \
+            HOST="$host" TARGET="$target" OUT_DIR="$room/made" "$@" "$room/build_script"
+}
+
+# Whether the build script makes a library for a target, whose files are of a format.
+makes() {
+    local target=$1 format=$2 files=$3
+    shift 3
+    run_build_script "$target" "$@" && (cd "$room/made" && ar t libdethrux.a) | paste -sd ' ' |
+        diff - <(echo "$files") || return
+    "${format%:*}-objdump" -f "$room/made/libdethrux.a" > "$room/formats" &&
+        [ "$(grep -c "file format ${format#*:}\$" "$room/formats")" = "$(wc -w <<< "$files")" ]
+}
+
+# A program with the library that the build script made for ARM64, and one for Windows, which is
+# only linked.
+runs_on_arm() {
+    aarch64-linux-gnu-gcc -static -I"$top/include" "$top/examples/c/units.c" \
+        "$room/made/libdethrux.a" -o "$room/units" && qemu-aarch64 "$room/units"
+}
+links_for_windows() {
+    x86_64-w64-mingw32-gcc -I"$top/include" "$top/examples/c/units.c" \
+        "$room/made/libdethrux.a" -o "$room/units.exe"
+}
+
+# Whether the build script refuses a target with a line.
+refuses_target() {
+    ! run_build_script "$1" > "$room/said.txt" 2> "$room/line" && diff "$room/line" - <<< "error: $2"
+}
+
+# What the build script compiles for other targets than this machine. cargo needs the standard
+# library of a target, so rustc compiles the script, which runs with cargo's variables.
+test_targets() {
+    local arm=aarch64-linux-gnu windows=x86_64-w64-mingw32 target said
+    count 'the build script' rustc --edition 2021 -C panic=abort \
+        "$here/dethrux/build.rs" -o "$room/build_script" || return
+    said='there is no assembly for x86_64-pc-windows-msvc: set DETHRUX_LIB_DIR to the folder of a'
+    count 'a target without assembly' refuses_target x86_64-pc-windows-msvc "$said library"
+    if command -v x86_64-linux-gnu-gcc > /dev/null; then
+        for target in x86_64-unknown-linux-{gnu,musl}; do
+            count "$target" makes $target x86_64-linux-gnu:elf64-x86-64 linux-x86-64-v2.o
+        done
+        count 'x86-64-v3' makes x86_64-unknown-linux-gnu x86_64-linux-gnu:elf64-x86-64 \
+            linux-x86-64-v3.o CARGO_CFG_TARGET_FEATURE="$(rustc --print cfg --target \
+                x86_64-unknown-linux-gnu -C target-cpu=x86-64-v3 |
+                sed -n 's/^target_feature="\(.*\)"$/\1/p' | paste -sd ,)"
+    else
+        echo 'not run: the targets of Linux on x86-64 (apt-get install gcc-x86-64-linux-gnu)'
+    fi
+    if command -v $arm-gcc qemu-aarch64 > /dev/null; then
+        for target in aarch64-unknown-linux-{musl,gnu}; do
+            count "$target" makes $target $arm:elf64-littleaarch64 linux-aarch64.o
+        done
+        count 'a program for ARM64' runs_on_arm
+        test_variables
+    else
+        echo 'not run: the targets on ARM64 (apt-get install gcc-aarch64-linux-gnu qemu-user)'
+    fi
+    if command -v $windows-gcc > /dev/null; then
+        count 'x86_64-pc-windows-gnu' makes x86_64-pc-windows-gnu $windows:pe-x86-64 \
+            'windows-x86-64-v2.o windows.o'
+        count 'a program for Windows' links_for_windows
+    else
+        echo 'not run: the target of Windows (apt-get install gcc-mingw-w64-x86-64)'
+    fi
+}
+
+# Which variable names the compiler, from the last to the first.
+test_variables() {
+    local variables=() name words
+    for name in CC TARGET_CC CC_aarch64_unknown_linux_gnu CC_aarch64-unknown-linux-gnu; do
+        words=("${variables[@]}" "$name=aarch64-linux-gnu-gcc -pipe")
+        count "the compiler of $name" makes aarch64-unknown-linux-gnu \
+            aarch64-linux-gnu:elf64-littleaarch64 linux-aarch64.o "${words[@]}"
+        variables+=("$name=false")
+    done
+    count 'an empty variable' makes aarch64-unknown-linux-gnu \
+        aarch64-linux-gnu:elf64-littleaarch64 linux-aarch64.o CC= 'TARGET_CC= '
+    count 'the archiver of AR' fails run_build_script aarch64-unknown-linux-gnu AR=false
 }
 
 library=${DETHRUX_LIB_DIR:-$top/crates/dethrux/out}/libdethrux.a
-for tool in cargo rustc cc ar pkg-config cmp sed; do
+for tool in cargo rustc cc ar pkg-config cmp sed tar; do
     command -v "$tool" > /dev/null || fail "there is no $tool"
 done
 [ -f "$library" ] || fail "there is no $library: (cd crates/dethrux && rt lib)"
@@ -223,7 +375,13 @@ if [ $failed = 0 ]; then
     count 'dethrux over the shared library' test_dynamic
     test_utf16string
     count 'the page docs/RUST.md' test_page
+    host=$(rustc -vV | sed -n 's/^host: //p')
     test_build_script
+    mkdir "$room/bin" && ln -s "$(command -v cargo)" "$(command -v rustc)" "$room/bin"
+    count 'an empty project with the crate of the clone' test_bundled "$here/dethrux"
+    count 'the package' package
+    count 'an empty project with the package' test_bundled "$room/dethrux-$(< "$top/VERSION")"
+    test_targets
 fi
 echo "$passed passed, $failed failed"
 [ $failed = 0 ]

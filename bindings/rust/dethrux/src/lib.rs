@@ -23,6 +23,7 @@
 //!   a `Vec`.
 //! - Feature `std`, the default: [`io::Reader`] and [`io::Writer`]; `Error` for [`Utf16Error`] and
 //!   [`UnitsError`], and conversions of both to `std::io::Error`.
+//! - Feature `bundled`: compiles the library with the C compiler, even if one is installed.
 //! - Feature `dynamic`: links `libdethrux.so` instead of `libdethrux.a`.
 //!
 //! Lengths and offsets count bytes, except in [`UnitsError`]. Only [`detect_bom`] and
