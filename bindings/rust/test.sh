@@ -268,9 +268,8 @@ END
 
 # Packages the crate, and unpacks it outside of the clone.
 package() {
-    (cd "$room" && cargo package --offline --allow-dirty --no-verify \
-        --manifest-path "$here/dethrux/Cargo.toml") &&
-        tar -C "$room" -xzf "$CARGO_TARGET_DIR/package/dethrux-$(< "$top/VERSION").crate" &&
+    "$top/packaging/crate.sh" "$room" &&
+        tar -C "$room" -xzf "$room/dethrux-$(< "$top/VERSION").crate" &&
         ls "$room/dethrux-$(< "$top/VERSION")"/{LICENSE-APACHE,LICENSE-MIT,THIRD-PARTY.md}
 }
 

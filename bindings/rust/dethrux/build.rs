@@ -117,8 +117,8 @@ fn installed() -> Option<PathBuf> {
     (output.status.success() && !folder.is_empty()).then(|| PathBuf::from(folder))
 }
 
-/// Returns the folder of the assembly: the one of this crate, else of the repository. In a clone
-/// the first is a symbolic link, which Git for Windows does not make.
+/// Returns the folder of the assembly: the one of this crate, which a package has, else the one of
+/// the repository.
 fn assembly() -> Option<PathBuf> {
     ["dist", "../../../dist"]
         .iter()
