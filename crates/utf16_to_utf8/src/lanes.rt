@@ -1,4 +1,7 @@
-//! SIMD operations on eight lanes of sixteen bits, with what each computes per lane.
+//! SIMD operations on lanes of sixteen bits, with what each computes per lane.
+//!
+//! They are generic over the number of lanes: sixteen fill one register of x86-64-v3, and two of
+//! x86-64-v2.
 
 ghost use Rattle.std.specs.Prelude.{◌<◌, ◌/◌, ◌^◌, ◌∷◌, bit_and, if◌then◌else◌, nat_lt, slice_index};
 ghost use Rattle.utf16_units.specs.Lanes.{HasLanes};
@@ -7,68 +10,77 @@ ghost use Rattle.utf16_to_utf8.specs.Lanes.{is_surrogate, plus, up};
 use std::simd::prelude::*;
 
 #[inline(always)]
-pub(crate) fn each(unit: u16) -> u16x8
-    ensures { HasLanes 8 result (λ i. unit) }
+pub(crate) fn each<const N: usize>(unit: u16) -> Simd<u16, N>
+    ensures { HasLanes N result (λ i. unit) }
 {
-    u16x8::splat(unit)
+    Simd::splat(unit)
 }
 
 #[inline(always)]
-pub(crate) fn sum(a: u16x8, b: u16x8) -> u16x8
-    ensures { HasLanes 8 result (λ i. plus (slice_index a i) (slice_index b i)) }
+pub(crate) fn sum<const N: usize>(a: Simd<u16, N>, b: Simd<u16, N>) -> Simd<u16, N>
+    ensures { HasLanes N result (λ i. plus (slice_index a.entry i) (slice_index b.entry i)) }
 {
     a + b
 }
 
 #[inline(always)]
-pub(crate) fn masked(v: u16x8, mask: u16) -> u16x8
-    ensures { HasLanes 8 result (λ i. bit_and (slice_index v i) mask) }
+pub(crate) fn masked<const N: usize>(v: Simd<u16, N>, mask: u16) -> Simd<u16, N>
+    ensures { HasLanes N result (λ i. bit_and (slice_index v.entry i) mask) }
 {
-    v & u16x8::splat(mask)
+    v & Simd::splat(mask)
 }
 
 #[inline(always)]
-pub(crate) fn down(v: u16x8, bits: u16) -> u16x8
+pub(crate) fn down<const N: usize>(v: Simd<u16, N>, bits: u16) -> Simd<u16, N>
     requires { bits < 16 }
-    ensures { HasLanes 8 result (λ i. slice_index v i / 2 ^ bits) }
+    ensures { HasLanes N result (λ i. slice_index v.entry i / 2 ^ bits) }
 {
-    v >> u16x8::splat(bits)
+    v >> Simd::splat(bits)
 }
 
 #[inline(always)]
-pub(crate) fn raised(v: u16x8, bits: u16) -> u16x8
+pub(crate) fn raised<const N: usize>(v: Simd<u16, N>, bits: u16) -> Simd<u16, N>
     requires { bits < 16 }
-    ensures { HasLanes 8 result (λ i. up (slice_index v i) bits) }
+    ensures { HasLanes N result (λ i. up (slice_index v.entry i) bits) }
 {
-    v << u16x8::splat(bits)
+    v << Simd::splat(bits)
 }
 
 // The smaller of the lanes at the same place.
 #[inline(always)]
-pub(crate) fn smaller(a: u16x8, b: u16x8) -> u16x8
-    ensures { HasLanes 8 result (λ i. if nat_lt (slice_index a i) (slice_index b i)
-        then slice_index a i else slice_index b i) }
+pub(crate) fn smaller<const N: usize>(a: Simd<u16, N>, b: Simd<u16, N>) -> Simd<u16, N>
+    ensures { HasLanes N result (λ i. if nat_lt (slice_index a.entry i) (slice_index b.entry i)
+        then slice_index a.entry i else slice_index b.entry i) }
 {
     a.simd_min(b)
 }
 
 // Selects the lane of `a` if the lane of `v` is below `limit`, else the lane of `b`.
 #[inline(always)]
-pub(crate) fn where_below(v: u16x8, limit: u16, a: u16x8, b: u16x8) -> u16x8
-    ensures { HasLanes 8 result (λ i. if nat_lt (slice_index v i) limit then slice_index a i
-        else slice_index b i) }
+pub(crate) fn where_below<const N: usize>(
+    v: Simd<u16, N>,
+    limit: u16,
+    a: Simd<u16, N>,
+    b: Simd<u16, N>,
+) -> Simd<u16, N>
+    ensures { HasLanes N result (λ i. if nat_lt (slice_index v.entry i) limit
+        then slice_index a.entry i else slice_index b.entry i) }
 {
-    v.simd_lt(u16x8::splat(limit)).select(a, b)
+    v.simd_lt(Simd::splat(limit)).select(a, b)
 }
 
 // Selects the lane of `a` if the lane of `v` is a surrogate, else the lane of `b`.
 #[inline(always)]
-pub(crate) fn where_surrogate(v: u16x8, a: u16x8, b: u16x8) -> u16x8
-    ensures { HasLanes 8 result (λ i. if is_surrogate (slice_index v i) then slice_index a i
-        else slice_index b i) }
+pub(crate) fn where_surrogate<const N: usize>(
+    v: Simd<u16, N>,
+    a: Simd<u16, N>,
+    b: Simd<u16, N>,
+) -> Simd<u16, N>
+    ensures { HasLanes N result (λ i. if is_surrogate (slice_index v.entry i)
+        then slice_index a.entry i else slice_index b.entry i) }
 {
-    (v & u16x8::splat(0xF800))
-        .simd_eq(u16x8::splat(0xD800))
+    (v & Simd::splat(0xF800))
+        .simd_eq(Simd::splat(0xD800))
         .select(a, b)
 }
 

@@ -3,4 +3,4 @@ use Rattle.utf16_to_utf8.proofs.BoundLemmas.{lanes_of_choice}
 use Rattle.utf16_to_utf8.proofs.lanes.smaller.Goals as goal
 
 pub returns : goal.returns
-returns c = lanes_of_choice 8 w16 ltb c.args.a c.args.b c.args.a c.args.b c.fits-a.0 c.fits-b.0 c.fits-a.0 c.fits-b.0
+returns g c = lanes_of_choice g.row.N w16 ltb c.args.a c.args.b c.args.a c.args.b c.fits-a.0 c.fits-b.0 c.fits-a.0 c.fits-b.0

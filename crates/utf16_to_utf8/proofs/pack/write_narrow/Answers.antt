@@ -7,7 +7,7 @@ use Rattle.utf16_to_utf8.proofs.ListLemmas.{packed-units}
 use Rattle.utf16_to_utf8.proofs.pack.write_narrow.Goals as goal
 
 pub narrow-requires : goal.narrow-requires
-narrow-requires c none i lt = letter-below (slice_index c.args.units i) (c.requires.none none i lt) (c.requires.narrow i lt)
+narrow-requires c = (omega arith, λ none i lt. letter-below (slice_index c.args.units i) (c.requires.none none i lt) (c.requires.narrow i lt))
 
 pub returns-clause-bytes : goal.returns-clause-bytes
 returns-clause-bytes c =
