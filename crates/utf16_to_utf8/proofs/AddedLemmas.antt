@@ -96,7 +96,7 @@ wide-is : (u : ℕ) → u < 0x1_0000 → wide u ≡ (0xE0 + u / 4096) + 256 * co
 wide-is u below = two_bytes-is 0xE0 (u / 64) (omega arith) ∙ omega arith
 
 -- how many bytes are added, by class
-added_len-three : (u : ℕ) → u < 0x1_0000 → 0x800 ≤ u → (u < 0xD800) ⊎ (0xE000 ≤ u) → added_len u ≡ 3
+pub added_len-three : (u : ℕ) → u < 0x1_0000 → 0x800 ≤ u → (u < 0xD800) ⊎ (0xE000 ≤ u) → added_len u ≡ 3
 added_len-three u below a s =
     let above : 0x80 ≤ u = omega arith in
     rw (le-ltb u 0x80 above, le-ltb u 0x800 a, surrogate-no u below s) refl

@@ -1,5 +1,5 @@
 -- The units of a block, and what the bits of its classes mean.
-use Rattle.std.proofs.Common.{◌≡◌, ℕ, zero, suc, ◌+◌, ◌*◌, ◌/◌, ◌%◌, ◌<◌, ◌≤◌, ◌⊎◌, Bool, true, false, cond, eqb, ltb, inl, inr, List, [], ◌∷◌, ◌++◌, All, length, slice_index, drop, bit_and, refl, sym, ap, ap₂, ◌∙◌, subst, ⊎_elim, arith, eqb-true, eq-eqb, lt-ltb, le-ltb, append-nil, append_assoc, length-drop, take_all}
+use Rattle.std.proofs.Common.{◌≡◌, ℕ, zero, suc, ◌+◌, ◌*◌, ◌/◌, ◌%◌, ◌<◌, ◌≤◌, ◌⊎◌, Bool, true, false, cond, eqb, ltb, inl, inr, List, [], ◌∷◌, ◌++◌, All, length, slice_index, drop, bit_and, refl, sym, ap, ap₂, ◌∙◌, subst, ⊎_elim, arith, eqb-true, eq-eqb, lt-ltb, le-ltb, append-nil, append_assoc, length-drop, take-append-drop, take_all}
 use Rattle.std.proofs.lemmas.Bool.{cases_Bool, cases_lt, eqb-false, false_from_ne_true, true≢false}
 use Rattle.std.proofs.lemmas.List.Elements.{All-head, All-tail}
 use Rattle.std.proofs.lemmas.Nat.Bits.{and_high}
@@ -107,10 +107,36 @@ four_eights units long =
     ∙ ap (λ us. chunk 8 8 units ++ us) (chunk-drop 16 8 units
     ∙ ap (λ us. chunk 16 8 units ++ us) (sym (take_all 8 (drop 24 units) (omega (arith, length-drop 24 units, long))))))
 
--- what holds of each unit of a block holds of eight of them
-pub kind_of-eight : (P : ℕ → Type 0) (units part : List ℕ) (a : ℕ) → length units ≡ 32 → a + 8 ≤ 32 → part ≡ chunk a 8 units
+-- what was written in two steps, each of half of the units
+pub both_halves : (n before : ℕ) (units done next all : List ℕ) → length units ≡ n + 1 + (n + 1) → next ≡ done ++ units_utf8 before (chunk 0 (n + 1) units)
+    → all ≡ next ++ units_utf8 (slice_index units n) (chunk (n + 1) (n + 1) units) → all ≡ done ++ units_utf8 before units
+both_halves n before units done next all long first second =
+    let low = chunk 0 (n + 1) units in
+    let high = chunk (n + 1) (n + 1) units in
+    let split : units ≡ low ++ high = sym (take-append-drop (n + 1) units) ∙ ap (λ us. low ++ us) (sym (take_all (n + 1) (drop (n + 1) units) (omega (arith, length-drop (n + 1) units, long)))) in
+    let here : 0 + n ≡ n = omega arith in
+    second ∙ ap (λ bs. bs ++ units_utf8 (slice_index units n) high) first
+    ∙ append_assoc done (units_utf8 before low) (units_utf8 (slice_index units n) high)
+    ∙ ap (λ bs. done ++ bs) (ap (λ last. units_utf8 before low ++ units_utf8 last high) (sym (get_or-chunk 0 (n + 1) units n 0 (omega arith) ∙ ap (slice_index units) here))
+    ∙ sym (units-append n before low high (length-chunk 0 (n + 1) units (omega (arith, long)))) ∙ ap (units_utf8 before) (sym split))
+
+-- what holds of each unit, the one before it and their lanes holds of eight of them
+module _ (R : ℕ → ℕ → ℕ → ℕ → ℕ → Type 0) (before a : ℕ) (units : List ℕ) where
+  last_of : (i : ℕ) → i < 8 → slice_index (slice_index (before ∷ units) a ∷ chunk a 8 units) i ≡ slice_index (before ∷ units) (a + i)
+  last_of zero lt = let here : a ≡ a + 0 = omega arith in ap (slice_index (before ∷ units)) here
+  last_of (suc i) lt = let next : suc (a + i) ≡ a + suc i = omega arith in get_or-chunk a 8 units i 0 (omega (arith, lt)) ∙ ap (slice_index (before ∷ units)) next
+
+  pub of_eight : a + 8 ≤ length units → (xs ys zs x y z : List ℕ) → x ≡ chunk a 8 xs → y ≡ chunk a 8 ys → z ≡ chunk a 8 zs
+      → ((i : ℕ) → i < length units → R (slice_index (before ∷ units) i) (slice_index units i) (slice_index xs i) (slice_index ys i) (slice_index zs i))
+      → (i : ℕ) → i < 8 → R (slice_index (slice_index (before ∷ units) a ∷ chunk a 8 units) i) (slice_index (chunk a 8 units) i) (slice_index x i) (slice_index y i) (slice_index z i)
+  of_eight room xs ys zs x y z px py pz are i lt =
+      let lane = λ (v vs : List ℕ) (e : v ≡ chunk a 8 vs). ap (λ l. slice_index l i) e ∙ get_or-chunk a 8 vs i 0 lt in
+      rw (last_of i lt, lane _ units refl, lane x xs px, lane y ys py, lane z zs pz) (are (a + i) (omega (arith, lt, room)))
+
+-- what holds of each unit of a block holds of some of them
+pub kind_of-part : (P : ℕ → Type 0) (n a : ℕ) (units part : List ℕ) → a + n ≤ length units → part ≡ chunk a n units
     → ((i : ℕ) → i < length units → P (slice_index units i)) → (i : ℕ) → i < length part → P (slice_index part i)
-kind_of-eight P units part a long room is are i lt =
-    let eight = ap length is ∙ length-chunk a 8 units (omega (arith, long, room)) in
-    let lt8 : i < 8 = omega (arith, lt, eight) in
-    subst P (sym (ap (λ us. slice_index us i) is ∙ get_or-chunk a 8 units i 0 lt8)) (are (a + i) (omega (arith, lt8, room, long)))
+kind_of-part P n a units part room is are i lt =
+    let long = ap length is ∙ length-chunk a n units room in
+    let within : i < n = omega (arith, lt, long) in
+    subst P (sym (ap (λ us. slice_index us i) is ∙ get_or-chunk a n units i 0 within)) (are (a + i) (omega (arith, within, room)))

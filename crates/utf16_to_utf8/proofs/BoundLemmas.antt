@@ -1,5 +1,6 @@
 -- Bounds on the units of a block, by the greatest and the least of its lanes.
-use Rattle.std.proofs.Common.{◌≡◌, ℕ, ◌+◌, ◌-◌, ◌*◌, ◌^◌, ◌<◌, ◌≤◌, ◌⊎◌, Bool, true, false, cond, ltb, ltb-true, ltb-false, inl, inr, List, [], ◌∷◌, ◌++◌, All, length, map, get_or, slice_index, refl, sym, ap, ap₂, ◌∙◌, subst, arith}
+use Rattle.std.proofs.Common.{◌≡◌, ℕ, ◌+◌, ◌-◌, ◌*◌, ◌^◌, ◌<◌, ◌≤◌, ◌⊎◌, Bool, true, false, cond, ltb, ltb-true, ltb-false, inl, inr, List, [], ◌∷◌, ◌++◌, All, length, map, get_or, slice_index, refl, sym, ap, ap₂, ◌∙◌, subst, ⊎_elim, arith}
+use Rattle.std.proofs.lemmas.Bool.{cases_lt}
 use Rattle.std.proofs.lemmas.List.Elements.{All-append, All-cons, All-from_get_or, All-get_or, All-head, All-nil, All-tail}
 use Rattle.std.proofs.lemmas.Simd.{get_or-sel_l, get_or-zip2, length-sel_l, length-zip2, tops_compared}
 use Rattle.std.proofs.Math.Nat.{two-pow-succ}
@@ -7,7 +8,9 @@ use lib.Lanes.{chunk, mask_l, sel_l, top, zip2}
 use mir.Syntax.{Width}
 use mir.Val.{bits, hbits}
 use Rattle.utf16_units.specs.Lanes.{HasLanes}
-use Rattle.utf16_to_utf8.proofs.BlockLemmas.{four_eights}
+use Rattle.utf16_to_utf8.specs.Lanes.{added_len, folded, plus}
+use Rattle.utf16_to_utf8.proofs.AddedLemmas.{added_len-three, surrogate-is}
+use Rattle.utf16_to_utf8.proofs.BlockLemmas.{four_eights, low-is, narrow-kind}
 
 -- a choice by the comparison of the lanes of two vectors
 pub lanes_of_choice : (n : ℕ) (w : Width) (t : ℕ → ℕ → Bool) (x y a b : List ℕ) → length x ≡ n → length y ≡ n → length a ≡ n → length b ≡ n
@@ -101,3 +104,14 @@ all_four P units a b c d long pa pb pc pd low high =
     (All-append P a _ low.0 (All-append P b _ low.1 (All-append P c d high.0 high.1)))
 
 -- ---- the kinds of units
+
+pub folded-wide : (u : ℕ) → u < 0x1_0000 → 0x800 ≤ folded u → added_len u ≡ 3
+folded-wide u below above =
+    let parts = choice-below u (plus u 0x2800) (folded u) 0x800 refl above in
+    let high = parts.1 in
+    added_len-three u below parts.0 (⊎_elim (λ (a : u < 0xD800). inl a) (λ (b : 0xD800 ≤ u). inr (omega (arith, b, below, high))) (cases_lt u 0xD800))
+
+pub folded-narrow : (u : ℕ) → u < 0x1_0000 → folded u < 0x800 → added_len u ≤ 2
+folded-narrow u below low = ⊎_elim (λ (a : u < 0x800). narrow-kind u below (inl (low-is u a)))
+    (λ (b : plus u 0x2800 < 0x800). narrow-kind u below (inr (surrogate-is u below (omega (arith, b, below)) (omega (arith, b, below)))))
+    (choice-one u (plus u 0x2800) (folded u) 0x800 refl low)

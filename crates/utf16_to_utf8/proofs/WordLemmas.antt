@@ -1,13 +1,13 @@
 -- The bytes of words of four bytes, and the table of their source indices.
-use Rattle.std.proofs.Common.{◌≡◌, ℕ, zero, suc, ◌+◌, ◌-◌, ◌*◌, ◌/◌, ◌%◌, ◌^◌, ◌<◌, Bool, true, false, List, [], ◌∷◌, ◌++◌, count_ones, length, slice_index, get_or, take, drop, map, refl, sym, ap, ap₂, ◌∙◌, subst, arith, append_assoc, length-take-le, ltb, add-mul}
-use Rattle.std.proofs.lemmas.List.{get_or-map}
+use Rattle.std.proofs.Common.{◌≡◌, ℕ, zero, suc, ◌+◌, ◌-◌, ◌*◌, ◌/◌, ◌%◌, ◌^◌, ◌<◌, Bool, true, false, List, [], ◌∷◌, ◌++◌, count_ones, length, slice_index, get_or, take, drop, map, refl, sym, ap, ap₂, ◌∙◌, subst, arith, append_assoc, length-drop, length-take-le, ltb, add-mul, take_all}
+use Rattle.std.proofs.lemmas.List.{get_or-map, length-map}
 use Rattle.std.proofs.lemmas.Simd.{mask_l-lt}
 use Rattle.std.proofs.lemmas.Slice.Eq.{bytes_eq-Decides}
 use Rattle.std.specs.List.{range_with_len}
 use Rattle.std.specs.Str.{bytes_eq}
 use Rattle.std.proofs.Math.Nat.{two-pow-succ}
 use lib.Count.{ones}
-use lib.Lanes.{mask_l, pick_l}
+use lib.Lanes.{chunk, mask_l, pick_l}
 use Rattle.utf16_to_utf8.specs.declared.word_places.TheConstants.{WORD_PLACES}
 use Rattle.utf16_to_utf8.specs.Pack.{fours, kept_bytes, packed_words}
 use Rattle.utf16_to_utf8.specs.Utf8.{unit_utf8, units_utf8}
@@ -77,6 +77,24 @@ mask-halves flags bits long is =
     let below = subst (λ n. mask_l (take 8 flags) < 2 ^ n) low (mask_l-lt (take 8 flags)) in
     let parts = is ∙ mask-parts 8 flags in
     (omega (arith, below, parts), omega (arith, below, parts))
+
+drop-map : (f : ℕ → Bool) (n : ℕ) (xs : List ℕ) → drop n (map f xs) ≡ map f (drop n xs)
+drop-map f zero xs = refl
+drop-map f (suc n) [] = refl
+drop-map f (suc n) (x ∷ xs) = drop-map f n xs
+
+take-map : (f : ℕ → Bool) (n : ℕ) (xs : List ℕ) → take n (map f xs) ≡ map f (take n xs)
+take-map f zero xs = refl
+take-map f (suc n) [] = refl
+take-map f (suc n) (x ∷ xs) = ap (λ t. f x ∷ t) (take-map f n xs)
+
+-- the bits of sixteen units
+pub mask-eights : (f : ℕ → Bool) (units : List ℕ) (bits : ℕ) → length units ≡ 16 → bits ≡ mask_l (map f units)
+    → (bits % 256 ≡ mask_l (map f (chunk 0 8 units))) × (bits / 256 ≡ mask_l (map f (chunk 8 8 units)))
+mask-eights f units bits long is =
+    let halves = mask-halves (map f units) bits (length-map units f ∙ long) is in
+    let high = sym (take_all 8 (drop 8 units) (omega (arith, length-drop 8 units, long))) in
+    (halves.0 ∙ ap mask_l (take-map f 8 units), halves.1 ∙ ap mask_l (drop-map f 8 units) ∙ ap (λ us. mask_l (map f us)) high)
 
 -- ---- the UTF-8 of units, each of which has a word
 

@@ -1,5 +1,6 @@
 -- The bytes of lanes, one after another.
-use Rattle.std.specs.Prelude.{◌≡◌, ℕ, zero, suc, ◌+◌, ◌*◌, ◌/◌, ◌%◌, ◌<◌, ◌++◌, Bool, cond, List, [], ◌∷◌, slice_index}
+use Rattle.std.specs.Prelude.{◌≡◌, ℕ, zero, suc, ◌+◌, ◌*◌, ◌/◌, ◌%◌, ◌<◌, ◌++◌, Bool, cond, List, [], ◌∷◌, nat_lt, slice_index}
+use Rattle.utf16_to_utf8.specs.Utf8.{unit_utf8}
 
 -- of two bytes per lane, only the first if the lane's flag is set, else both
 abbrev pub packed : List Bool → List ℕ → List ℕ
@@ -12,6 +13,21 @@ packed (flag ∷ flags) (first ∷ second ∷ bytes) = cond flag (first ∷ []) 
 abbrev pub HasBytes : List ℕ → List ℕ → Type 0
 HasBytes bytes lanes = (i : ℕ) → i < 8 → (slice_index bytes (2 * i) ≡ slice_index lanes i % 256) × (slice_index bytes (2 * i + 1) ≡ slice_index lanes i / 256 % 256)
 
+-- the first three bytes of a word, without the second or the third if its flag is set
+abbrev pub kept_bytes : Bool → Bool → ℕ → ℕ → ℕ → List ℕ
+kept_bytes second third x y z = x ∷ cond second [] (y ∷ []) ++ cond third [] (z ∷ [])
+
+-- a lane has the bytes that a unit adds after the unit before it: one or two, three with the first
+-- byte of another lane, or those that the bytes of a third lane do not leave out
+abbrev pub IsPair : ℕ → ℕ → ℕ → Type 0
+IsPair before unit pair = cond (nat_lt unit 0x80) ((pair % 256) ∷ []) ((pair % 256) ∷ (pair / 256 % 256) ∷ []) ≡ unit_utf8 before unit
+
+abbrev pub IsThree : ℕ → ℕ → ℕ → Type 0
+IsThree unit front third = (before : ℕ) → (front % 256) ∷ (front / 256 % 256) ∷ (third % 256) ∷ [] ≡ unit_utf8 before unit
+
+abbrev pub IsKept : ℕ → ℕ → ℕ → ℕ → ℕ → Type 0
+IsKept before unit front third absence = kept_bytes (nat_lt 0x7F (absence % 256)) (nat_lt 0x7F (absence / 256 % 256)) (front % 256) (front / 256 % 256) (third % 256) ≡ unit_utf8 before unit
+
 -- the indices of the three bytes of n lanes, from lane i on: two among sixteen bytes, the third one
 -- sixteen bytes later
 abbrev pub threes : ℕ → ℕ → List ℕ
@@ -23,10 +39,6 @@ threes i (suc n) = (2 * i) ∷ (2 * i + 1) ∷ (16 + 2 * i) ∷ threes (i + 1) n
 abbrev pub fours : ℕ → ℕ → List ℕ
 fours i zero = []
 fours i (suc n) = (2 * i) ∷ (2 * i + 1) ∷ (16 + 2 * i) ∷ (17 + 2 * i) ∷ fours (i + 1) n
-
--- the first three bytes of a word, without the second or the third if its flag is set
-abbrev pub kept_bytes : Bool → Bool → ℕ → ℕ → ℕ → List ℕ
-kept_bytes second third x y z = x ∷ cond second [] (y ∷ []) ++ cond third [] (z ∷ [])
 
 -- the bytes of words of four bytes, without those that the two flags of a word leave out
 abbrev pub packed_words : List Bool → List ℕ → List ℕ

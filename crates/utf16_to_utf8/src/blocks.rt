@@ -9,6 +9,7 @@ ghost use Rattle.utf16_to_utf8.specs.Lanes.{folded, plus};
 ghost use Rattle.utf16_to_utf8.specs.Utf8.{units_utf8};
 ghost use Rattle.utf16_to_utf8.specs.declared.blocks.Kind.TheVariants.{Ascii};
 
+use crate::lanes::{doubled, sixteens};
 use crate::writers::{BasicWriter, LettersWriter, MixedWriter, PairsWriter, WideWriter, Writer};
 use std::simd::prelude::*;
 use utf16_units::Utf16Order;
@@ -252,7 +253,7 @@ pub(crate) fn eights(units: u16x32) -> (u16x8, u16x8, u16x8, u16x8)
     )
 }
 
-// Writes the UTF-8 that a block adds, group by group.
+// Writes the UTF-8 that a block adds, sixteen units at a time.
 #[inline]
 fn write_groups<W: Writer>(out: &mut [u8], at: usize, previous: u16x8, units: u16x32) -> usize
     requires space { at + 104 ≤ length out.old }
@@ -261,9 +262,7 @@ fn write_groups<W: Writer>(out: &mut [u8], at: usize, previous: u16x8, units: u1
         units }
     ensures written_to { result ≤ at + 96 }
 {
-    let (first, second, third, fourth) = eights(units);
-    let one = W::write_group(out, at, previous, first);
-    let two = W::write_group(out, one, first, second);
-    let three = W::write_group(out, two, second, third);
-    W::write_group(out, three, third, fourth)
+    let (first, second) = sixteens(units);
+    let end = W::write_group(out, at, doubled(previous), first);
+    W::write_group(out, end, first, second)
 }

@@ -13,8 +13,9 @@ ghost use Rattle.utf16_to_utf8.specs.Utf8.{units_utf8};
 ghost use Rattle.utf16_to_utf8.specs.declared.blocks.Kind.TheVariants.{Ascii};
 
 use crate::blocks::{lanes_below, lanes_from};
-use crate::lanes::{each, smaller, sum};
-use crate::pack::{write_any, write_narrow, write_wide};
+use crate::groups::{absences, fronts, narrow, thirds, wide};
+use crate::lanes::{each, previous_eight, smaller, sum};
+use crate::pack::{ascii_bits, write_kept, write_pairs, write_threes};
 use crate::padded::moved_front;
 use crate::runs::Cursor;
 use crate::write::SLACK;
@@ -81,17 +82,19 @@ fn write_eight_units(out: &mut [u8], at: usize, previous: u16x8, units: u16x8) -
         units }
     ensures written_to { result ≤ at + 24 }
 {
+    let preceding = previous_eight(previous, units);
     let folded = folded_eight(units);
     if lanes_below(units, 0x80) {
         write_ascii_units(out, at, units)
     } else if lanes_below(units, 0x800) {
-        write_narrow(out, at, previous, units, false)
+        write_pairs(out, at, narrow(preceding, units, false), ascii_bits(units))
     } else if lanes_from(folded, 0x800) {
-        write_wide(out, at, units)
+        write_threes(out, at, wide(units), thirds(units))
     } else if lanes_below(folded, 0x800) {
-        write_narrow(out, at, previous, units, true)
+        write_pairs(out, at, narrow(preceding, units, true), ascii_bits(units))
     } else {
-        write_any(out, at, previous, units, true)
+        let fronts = fronts(preceding, units, true);
+        write_kept(out, at, fronts, thirds(units), absences(units, true))
     }
 }
 

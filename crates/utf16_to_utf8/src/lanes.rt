@@ -3,7 +3,8 @@
 //! They are generic over the number of lanes: sixteen fill one register of x86-64-v3, and two of
 //! x86-64-v2.
 
-ghost use Rattle.std.specs.Prelude.{◌<◌, ◌/◌, ◌^◌, ◌∷◌, bit_and, if◌then◌else◌, nat_lt, slice_index};
+ghost use Rattle.std.specs.Prelude.{◌≡◌, ◌<◌, ◌/◌, ◌^◌, ◌∷◌, bit_and, if◌then◌else◌, nat_lt, slice_index};
+ghost use Rattle.std.specs.Simd.Lanes.{chunk};
 ghost use Rattle.utf16_units.specs.Lanes.{HasLanes};
 ghost use Rattle.utf16_to_utf8.specs.Lanes.{is_surrogate, plus, up};
 
@@ -86,8 +87,47 @@ pub(crate) fn where_surrogate<const N: usize>(
 
 // The lane before each one; before the first, the last lane of `previous`.
 #[inline(always)]
-pub(crate) fn previous_lanes(previous: u16x8, v: u16x8) -> u16x8
+pub(crate) fn previous_lanes(previous: u16x16, v: u16x16) -> u16x16
+    ensures { HasLanes 16 result (λ i. slice_index (slice_index previous 15 ∷ v) i) }
+{
+    previous.shuffle(
+        v,
+        [
+            15, 16, 17, 18, 19, 20, 21, 22, 23, 24, 25, 26, 27, 28, 29, 30,
+        ],
+    )
+}
+
+// The same of eight lanes.
+#[inline(always)]
+pub(crate) fn previous_eight(previous: u16x8, v: u16x8) -> u16x8
     ensures { HasLanes 8 result (λ i. slice_index (slice_index previous 7 ∷ v) i) }
 {
     previous.shuffle(v, [7, 8, 9, 10, 11, 12, 13, 14])
+}
+
+// Sixteen lanes whose last one is the last of eight.
+#[inline(always)]
+pub(crate) fn doubled(v: u16x8) -> u16x16
+    ensures { slice_index result 15 ≡ slice_index v 7 }
+{
+    v.shuffle(v, [0, 1, 2, 3, 4, 5, 6, 7, 0, 1, 2, 3, 4, 5, 6, 7])
+}
+
+// The lanes in two groups of eight.
+#[inline(always)]
+pub(crate) fn eights(v: u16x16) -> (u16x8, u16x8)
+    ensures low { result.0 ≡ chunk 0 8 v }
+    ensures high { result.1 ≡ chunk 8 8 v }
+{
+    (v.extract::<0, 8>(), v.extract::<8, 8>())
+}
+
+// The lanes in two groups of sixteen.
+#[inline(always)]
+pub(crate) fn sixteens(v: u16x32) -> (u16x16, u16x16)
+    ensures low { result.0 ≡ chunk 0 16 v }
+    ensures high { result.1 ≡ chunk 16 16 v }
+{
+    (v.extract::<0, 16>(), v.extract::<16, 16>())
 }

@@ -1,11 +1,11 @@
 //! The length of a text in UTF-8.
 
-ghost use Rattle.std.specs.Prelude.{◌≡◌, ◌%◌, ◌≤◌, length, map, nat_lt, sum_by};
-ghost use Rattle.std.specs.Simd.Lanes.{mask_l};
+ghost use Rattle.std.specs.Prelude.{◌≡◌, ◌%◌, ◌≤◌, length, sum_by};
 ghost use Rattle.utf16_units.specs.Encoding.{IsUtf16, units_of, utf8_of};
 ghost use Rattle.utf16_to_utf8.specs.Lanes.{added_len};
 
 use crate::blocks::{are_below, filled_units};
+use crate::pack::ascii_bits;
 use std::simd::prelude::*;
 use utf16_units::Utf16Order;
 use utf16_units::blocks::units32;
@@ -65,12 +65,4 @@ fn block_len(units: u16x32) -> usize
     let low = class_bits(units, 0xF8, 0).count_ones() as usize;
     let surrogates = class_bits(units, 0xF8, 0xD8).count_ones() as usize;
     96 - low - surrogates - ascii_bits(units).count_ones() as usize
-}
-
-// A bit for each ASCII unit.
-#[inline(always)]
-fn ascii_bits(units: u16x32) -> u64
-    ensures { result ≡ mask_l (map (λ unit. nat_lt unit 0x80) units) }
-{
-    units.simd_lt(u16x32::splat(0x80)).to_bitmask()
 }

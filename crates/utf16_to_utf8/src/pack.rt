@@ -1,17 +1,17 @@
-//! Writes the UTF-8 that eight units add, one after another.
+//! Writes the UTF-8 that sixteen or eight units add, one after another.
 //!
 //! Each unit gets the most bytes that its kind may add, and a shuffle drops the others. Its table
 //! has 256 rows: by a bit for each of eight units of at most two bytes, or by two bits for each of
 //! four units of any kind. One computed test of all rows proves each table.
 
-ghost use Rattle.std.specs.Prelude.{◌≡◌, ◌+◌, ◌*◌, ◌/◌, ◌%◌, ◌<◌, ◌≤◌, ◌++◌, [], ◌∷◌, ℕ, Bool, List, drop, false, length, map, nat_lt, slice_index, take};
+ghost use Rattle.std.specs.Prelude.{◌≡◌, ◌+◌, ◌*◌, ◌/◌, ◌%◌, ◌^◌, ◌<◌, ◌≤◌, ◌++◌, [], ◌∷◌, ℕ, Bool, List, drop, false, length, map, nat_lt, slice_index, take};
 ghost use Rattle.std.specs.Simd.Lanes.{mask_l, pick_l};
 ghost use Rattle.utf16_to_utf8.specs.Lanes.{added_len, is_surrogate};
-ghost use Rattle.utf16_to_utf8.specs.Pack.{HasBytes, fours, packed, packed_words, threes};
+ghost use Rattle.utf16_to_utf8.specs.Pack.{HasBytes, IsKept, IsPair, IsThree, fours, packed, packed_words, threes};
 ghost use Rattle.utf16_to_utf8.specs.Utf8.{units_utf8};
 
 use crate::groups::{absences, fronts, narrow, thirds, wide};
-use crate::lanes::previous_lanes;
+use crate::lanes::{eights, previous_lanes};
 use crate::places::places;
 use crate::word_places::word_places;
 use std::simd::prelude::*;
@@ -41,32 +41,51 @@ fn write_eight(out: &mut [u8], at: usize, pairs: u8x16, one: usize) -> usize
 
 // A bit for each ASCII unit.
 #[inline(always)]
-fn ascii_bits(units: u16x8) -> usize
-    ensures bits { result ≡ mask_l (map (λ unit. nat_lt unit 0x80) units) }
-    ensures below { result < 256 }
+pub(crate) fn ascii_bits<const N: usize>(units: Simd<u16, N>) -> usize
+    requires { N ≤ 32 }
+    ensures bits { result ≡ mask_l (map (λ unit. nat_lt unit 0x80) units.entry) }
+    ensures below { result < 2 ^ N }
 {
-    units.simd_lt(u16x8::splat(0x80)).to_bitmask() as usize
+    units.simd_lt(Simd::splat(0x80)).to_bitmask() as usize
 }
 
-// Writes the UTF-8 of eight units that add at most two bytes each.
+// Writes the UTF-8 of eight units that add at most two bytes each, with a bit in `one` for each
+// that adds one.
+#[inline(always)]
+pub(crate) fn write_pairs(out: &mut [u8], at: usize, pairs: u16x8, one: usize) -> usize
+    requires space { at + 16 ≤ length out.old }
+    requires bound { one < 256 }
+    ensures bytes { (before : ℕ) (units : List ℕ) → length units ≡ 8
+        → one ≡ mask_l (map (λ unit. nat_lt unit 0x80) units)
+        → ((i : ℕ) → i < 8 → IsPair (slice_index (before ∷ units) i) (slice_index units i)
+        (slice_index pairs i))
+        → take result out.new ≡ take at out.old ++ units_utf8 before units }
+    ensures written_to { result ≤ at + 16 }
+{
+    write_eight(out, at, lane_bytes(pairs), one)
+}
+
+// Writes the UTF-8 of sixteen units that add at most two bytes each.
 #[inline(always)]
 pub(crate) fn write_narrow(
     out: &mut [u8],
     at: usize,
-    previous: u16x8,
-    units: u16x8,
+    previous: u16x16,
+    units: u16x16,
     surrogates: bool,
 ) -> usize
-    requires space { at + 24 ≤ length out.old }
-    requires none { surrogates ≡ false → (i : ℕ) → i < 8
+    requires space { at + 56 ≤ length out.old }
+    requires none { surrogates ≡ false → (i : ℕ) → i < 16
         → is_surrogate (slice_index units i) ≡ false }
-    requires narrow { (i : ℕ) → i < 8 → added_len (slice_index units i) ≤ 2 }
-    ensures bytes { take result out.new ≡ take at out.old ++ units_utf8 (slice_index previous 7)
+    requires narrow { (i : ℕ) → i < 16 → added_len (slice_index units i) ≤ 2 }
+    ensures bytes { take result out.new ≡ take at out.old ++ units_utf8 (slice_index previous 15)
         units }
-    ensures written_to { result ≤ at + 16 }
+    ensures written_to { result ≤ at + 32 }
 {
-    let pairs = lane_bytes(narrow(previous_lanes(previous, units), units, surrogates));
-    write_eight(out, at, pairs, ascii_bits(units))
+    let (low, high) = eights(narrow(previous_lanes(previous, units), units, surrogates));
+    let one = ascii_bits(units);
+    let end = write_pairs(out, at, low, one % 256);
+    write_pairs(out, end, high, one / 256)
 }
 
 // The first sixteen bytes of eight units that add three bytes each, from the first two bytes of
@@ -91,18 +110,34 @@ fn last_threes(fronts: u8x16, thirds: u8x16) -> u8x8
 
 // Writes the UTF-8 of eight units that add three bytes each.
 #[inline(always)]
-pub(crate) fn write_wide(out: &mut [u8], at: usize, units: u16x8) -> usize
+pub(crate) fn write_threes(out: &mut [u8], at: usize, fronts: u16x8, thirds: u16x8) -> usize
     requires space { at + 24 ≤ length out.old }
-    requires wide { (i : ℕ) → i < 8 → added_len (slice_index units i) ≡ 3 }
-    ensures bytes { (before : ℕ) → take result out.new ≡ take at out.old
-        ++ units_utf8 before units }
+    ensures bytes { (before : ℕ) (units : List ℕ) → length units ≡ 8
+        → ((i : ℕ) → i < 8 → IsThree (slice_index units i) (slice_index fronts i)
+        (slice_index thirds i))
+        → take result out.new ≡ take at out.old ++ units_utf8 before units }
     ensures written_to { result ≡ at + 24 }
 {
-    let fronts = lane_bytes(wide(units));
-    let thirds = lane_bytes(thirds(units));
+    let fronts = lane_bytes(fronts);
+    let thirds = lane_bytes(thirds);
     first_threes(fronts, thirds).copy_to_slice(&mut out[at..]);
     last_threes(fronts, thirds).copy_to_slice(&mut out[at + 16..]);
     at + 24
+}
+
+// Writes the UTF-8 of sixteen units that add three bytes each.
+#[inline(always)]
+pub(crate) fn write_wide(out: &mut [u8], at: usize, units: u16x16) -> usize
+    requires space { at + 56 ≤ length out.old }
+    requires wide { (i : ℕ) → i < 16 → added_len (slice_index units i) ≡ 3 }
+    ensures bytes { (before : ℕ) → take result out.new ≡ take at out.old
+        ++ units_utf8 before units }
+    ensures written_to { result ≡ at + 48 }
+{
+    let fronts = eights(wide(units));
+    let thirds = eights(thirds(units));
+    let end = write_threes(out, at, fronts.0, thirds.0);
+    write_threes(out, end, fronts.1, thirds.1)
 }
 
 // Four words of four bytes: for each of the first four lanes, two bytes of `fronts` and two of
@@ -154,24 +189,46 @@ fn write_words(out: &mut [u8], at: usize, words: u8x16, absent: usize) -> usize
 
 // Writes the UTF-8 of any eight units.
 #[inline(always)]
+pub(crate) fn write_kept(
+    out: &mut [u8],
+    at: usize,
+    fronts: u16x8,
+    thirds: u16x8,
+    absences: u16x8,
+) -> usize
+    requires space { at + 32 ≤ length out.old }
+    ensures bytes { (before : ℕ) (units : List ℕ) → length units ≡ 8
+        → ((i : ℕ) → i < 8 → IsKept (slice_index (before ∷ units) i) (slice_index units i)
+        (slice_index fronts i) (slice_index thirds i) (slice_index absences i))
+        → take result out.new ≡ take at out.old ++ units_utf8 before units }
+    ensures written_to { result ≤ at + 24 }
+{
+    let fronts = lane_bytes(fronts);
+    let thirds = lane_bytes(thirds);
+    let absent = upper_bits(lane_bytes(absences));
+    let end = write_words(out, at, low_words(fronts, thirds), absent % 256);
+    write_words(out, end, high_words(fronts, thirds), absent / 256)
+}
+
+// Writes the UTF-8 of any sixteen units.
+#[inline(always)]
 pub(crate) fn write_any(
     out: &mut [u8],
     at: usize,
-    previous: u16x8,
-    units: u16x8,
+    previous: u16x16,
+    units: u16x16,
     surrogates: bool,
 ) -> usize
-    requires space { at + 32 ≤ length out.old }
-    requires none { surrogates ≡ false → (i : ℕ) → i < 8
+    requires space { at + 56 ≤ length out.old }
+    requires none { surrogates ≡ false → (i : ℕ) → i < 16
         → is_surrogate (slice_index units i) ≡ false }
-    ensures bytes { take result out.new ≡ take at out.old ++ units_utf8 (slice_index previous 7)
+    ensures bytes { take result out.new ≡ take at out.old ++ units_utf8 (slice_index previous 15)
         units }
-    ensures written_to { result ≤ at + 24 }
+    ensures written_to { result ≤ at + 48 }
 {
-    let preceding = previous_lanes(previous, units);
-    let fronts = lane_bytes(fronts(preceding, units, surrogates));
-    let thirds = lane_bytes(thirds(units));
-    let absent = upper_bits(lane_bytes(absences(units, surrogates)));
-    let end = write_words(out, at, low_words(fronts, thirds), absent % 256);
-    write_words(out, end, high_words(fronts, thirds), absent / 256)
+    let fronts = eights(fronts(previous_lanes(previous, units), units, surrogates));
+    let thirds = eights(thirds(units));
+    let absences = eights(absences(units, surrogates));
+    let end = write_kept(out, at, fronts.0, thirds.0, absences.0);
+    write_kept(out, end, fronts.1, thirds.1, absences.1)
 }

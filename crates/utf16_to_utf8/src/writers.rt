@@ -1,4 +1,4 @@
-//! How eight units of a block of each kind are written.
+//! How sixteen units of a block of each kind are written.
 
 ghost use Rattle.std.specs.Prelude.{◌≡◌, ◌+◌, ◌≤◌, ◌++◌, length, slice_index, take};
 ghost use Rattle.utf16_to_utf8.specs.Block.{AreOfKind};
@@ -9,17 +9,17 @@ ghost use Rattle.utf16_to_utf8.specs.declared.blocks.Kind.TheVariants.{Basic, Le
 use crate::pack::{write_any, write_narrow, write_wide};
 use std::simd::prelude::*;
 
-// Writes groups of eight units of one kind.
+// Writes groups of sixteen units of one kind.
 pub(crate) trait Writer {
     ghost KIND: { Kind };
 
     // Writes the UTF-8 that a group adds.
-    fn write_group(out: &mut [u8], at: usize, previous: u16x8, units: u16x8) -> usize
-        requires space { at + 32 ≤ length out.old }
+    fn write_group(out: &mut [u8], at: usize, previous: u16x16, units: u16x16) -> usize
+        requires space { at + 56 ≤ length out.old }
         requires kind { AreOfKind KIND units }
-        ensures bytes { take result out.new ≡ take at out.old ++ units_utf8 (slice_index previous 7)
+        ensures bytes { take result out.new ≡ take at out.old ++ units_utf8 (slice_index previous 15)
             units }
-        ensures written_to { result ≤ at + 24 };
+        ensures written_to { result ≤ at + 48 };
 }
 
 pub(crate) struct LettersWriter;
@@ -28,7 +28,7 @@ impl Writer for LettersWriter {
     ghost KIND = { Letters };
 
     #[inline(always)]
-    fn write_group(out: &mut [u8], at: usize, previous: u16x8, units: u16x8) -> usize {
+    fn write_group(out: &mut [u8], at: usize, previous: u16x16, units: u16x16) -> usize {
         write_narrow(out, at, previous, units, false)
     }
 }
@@ -39,7 +39,7 @@ impl Writer for PairsWriter {
     ghost KIND = { Pairs };
 
     #[inline(always)]
-    fn write_group(out: &mut [u8], at: usize, previous: u16x8, units: u16x8) -> usize {
+    fn write_group(out: &mut [u8], at: usize, previous: u16x16, units: u16x16) -> usize {
         write_narrow(out, at, previous, units, true)
     }
 }
@@ -50,7 +50,7 @@ impl Writer for WideWriter {
     ghost KIND = { Wide };
 
     #[inline(always)]
-    fn write_group(out: &mut [u8], at: usize, _previous: u16x8, units: u16x8) -> usize {
+    fn write_group(out: &mut [u8], at: usize, _previous: u16x16, units: u16x16) -> usize {
         write_wide(out, at, units)
     }
 }
@@ -61,7 +61,7 @@ impl Writer for BasicWriter {
     ghost KIND = { Basic };
 
     #[inline(always)]
-    fn write_group(out: &mut [u8], at: usize, previous: u16x8, units: u16x8) -> usize {
+    fn write_group(out: &mut [u8], at: usize, previous: u16x16, units: u16x16) -> usize {
         write_any(out, at, previous, units, false)
     }
 }
@@ -72,7 +72,7 @@ impl Writer for MixedWriter {
     ghost KIND = { Mixed };
 
     #[inline(always)]
-    fn write_group(out: &mut [u8], at: usize, previous: u16x8, units: u16x8) -> usize {
+    fn write_group(out: &mut [u8], at: usize, previous: u16x16, units: u16x16) -> usize {
         write_any(out, at, previous, units, true)
     }
 }

@@ -27,7 +27,7 @@ overflow_sub-result-3 c =
       c.fits-units.0,
       ap count_ones c.class_bits.ensures ∙ ones-mask_l is_low units,
       ap count_ones c.class_bits-2.ensures ∙ ones-mask_l has_surrogate_byte units,
-      ap count_ones c.ascii_bits.ensures ∙ ones-mask_l (λ u. ltb u 0x80) units,
+      ap count_ones c.ascii_bits.ensures.bits ∙ ones-mask_l (λ u. ltb u 0x80) units,
     )
 
 pub returns : goal.returns
@@ -39,5 +39,5 @@ returns c =
       c.fits-units.0,
       ap count_ones c.class_bits.ensures ∙ ones-mask_l is_low units,
       ap count_ones c.class_bits-2.ensures ∙ ones-mask_l has_surrogate_byte units,
-      ap count_ones c.ascii_bits.ensures ∙ ones-mask_l (λ u. ltb u 0x80) units,
+      ap count_ones c.ascii_bits.ensures.bits ∙ ones-mask_l (λ u. ltb u 0x80) units,
     )

@@ -1,44 +1,27 @@
-use Rattle.std.proofs.Common.{◌≡◌, ◌/◌, ◌%◌, ◌<◌, ◌++◌, ◌∷◌, ltb, take, drop, length, map, slice_index, sym, ap, ap₂, ◌∙◌, arith, append_assoc, length-drop, length-take-le, Fits, w16}
-use Rattle.std.proofs.lemmas.List.{length-map, take-append-drop}
-use Rattle.std.proofs.lemmas.Simd.{Each1-get_or}
-use lib.Lanes.{pick_l}
+use Rattle.std.proofs.Common.{◌≡◌, ℕ, ◌<◌, ◌∷◌, slice_index, ap, ◌∙◌, arith, Fits, w16}
+use Rattle.std.proofs.lemmas.Simd.{Each1-get_or, length-chunk}
+use lib.Lanes.{chunk}
 use Rattle.utf16_to_utf8.specs.Lanes.{front}
-use Rattle.utf16_to_utf8.specs.Pack.{fours, packed_words}
+use Rattle.utf16_to_utf8.specs.Pack.{IsKept}
 use Rattle.utf16_to_utf8.proofs.AddedLemmas.{kept-utf8}
-use Rattle.utf16_to_utf8.proofs.WordLemmas.{fours-units, kept-by, mask-halves, packed_words-append}
+use Rattle.utf16_to_utf8.proofs.BlockLemmas.{both_halves, of_eight}
 use Rattle.utf16_to_utf8.proofs.pack.write_any.Goals as goal
 
 pub returns-clause-bytes : goal.returns-clause-bytes
 returns-clause-bytes c =
     let units = c.args.units in
-    let before = slice_index c.args.previous 7 in
-    let fronts = c.lane_bytes-fronts.result in
-    let thirds = c.lane_bytes-thirds.result in
-    let absent = c.lane_bytes.result in
-    let both = fronts ++ thirds in
-    let flags = map (λ byte. ltb 127 byte) absent in
-    let long : length flags ≡ 16 = length-map absent (λ byte. ltb 127 byte) ∙ c.lane_bytes.ensures.len in
-    let halves = mask-halves flags c.upper_bits-absent.result long c.upper_bits-absent.ensures.bits in
-    let low : length (take 8 flags) ≡ 8 = length-take-le 8 flags (omega (arith, long)) in
-    let high : length (drop 8 flags) ≡ 8 = length-drop 8 flags ∙ omega (arith, long) in
-    let start = take c.args.at c.args.out.now in
-    c.write_words.ensures.bytes (drop 8 flags) high halves.1
-    ∙ ap₂ (λ done words. done ++ packed_words (drop 8 flags) words) (c.write_words-end.ensures.bytes (take 8 flags) low halves.0) c.high_words.ensures
-    ∙ append_assoc start (packed_words (take 8 flags) c.low_words.result) (packed_words (drop 8 flags) (pick_l 0 both (fours 4 4)))
-    ∙ ap (λ bs. start ++ bs) (ap (λ words. packed_words (take 8 flags) words ++ packed_words (drop 8 flags) (pick_l 0 both (fours 4 4))) c.low_words.ensures
-    ∙ packed_words-append (take 8 flags) (drop 8 flags) (pick_l 0 both (fours 0 4)) (pick_l 0 both (fours 4 4)) (omega (arith, low)) (omega (arith, low))
-    ∙ ap (λ fs. packed_words fs (pick_l 0 both (fours 0 8))) (take-append-drop 8 flags)
-    ∙ ap (λ n. packed_words flags (pick_l 0 both (fours 0 n))) (sym c.fits-units.0)
-    ∙ fours-units before flags units both 0 (omega (arith, long, c.fits-units.0)) (λ i lt.
-    let lt8 : i < 8 = omega (arith, lt, c.fits-units.0) in
-    let unit = slice_index units i in
-    let last = slice_index (before ∷ units) i in
-    let first = c.lane_bytes-fronts.ensures.bytes i lt8 in
-    let third = c.lane_bytes-thirds.ensures.bytes i lt8 in
-    let flag = c.lane_bytes.ensures.bytes i lt8 in
-    let lane = c.fronts.ensures.lanes i lt8 ∙ ap (λ p. front p unit) (c.previous_lanes-preceding.ensures.lanes i lt8) in
-    let lane' = c.thirds.ensures.lanes i lt8 in
-    let lane'' = c.absences.ensures.lanes i lt8 in
-    kept-by fronts thirds absent i _ _ _ _ _ c.lane_bytes-fronts.ensures.len c.lane_bytes.ensures.len lt8 (first.0 ∙ ap (λ n. n % 256) lane) (first.1 ∙ ap (λ n. n / 256 % 256) lane) (third.0 ∙ ap (λ n. n % 256) lane')
-    (flag.0 ∙ ap (λ n. n % 256) lane'') (flag.1 ∙ ap (λ n. n / 256 % 256) lane'')
-    ∙ kept-utf8 last unit (Each1-get_or (Fits w16) units i 0 lt c.fits-units.1).fits))
+    let before = slice_index c.args.previous 15 in
+    let fronts = c.fronts.result in
+    let thirds = c.thirds.result in
+    let absences = c.absences.result in
+    let long = c.fits-units.0 in
+    let are : (i : ℕ) → i < 16 → IsKept (slice_index (before ∷ units) i) (slice_index units i) (slice_index fronts i) (slice_index thirds i) (slice_index absences i) = λ i lt.
+        let unit = slice_index units i in
+        let last = slice_index (before ∷ units) i in
+        let lane = c.fronts.ensures.lanes i lt ∙ ap (λ p. front p unit) (c.previous_lanes.ensures.lanes i lt) in
+        rw (lane, c.thirds.ensures.lanes i lt, c.absences.ensures.lanes i lt) (kept-utf8 last unit (Each1-get_or (Fits w16) units i 0 (omega (arith, lt, long)) c.fits-units.1).fits) in
+    both_halves 7 before units _ _ _ long
+    (c.write_kept-end.ensures.bytes before (chunk 0 8 units) (length-chunk 0 8 units (omega (arith, long)))
+    (of_eight IsKept before 0 units (omega (arith, long)) fronts thirds absences _ _ _ c.eights-fronts.ensures.low c.eights-thirds.ensures.low c.eights-absences.ensures.low (λ i lt. are i (omega (arith, lt, long)))))
+    (c.write_kept.ensures.bytes (slice_index units 7) (chunk 8 8 units) (length-chunk 8 8 units (omega (arith, long)))
+    (of_eight IsKept before 8 units (omega (arith, long)) fronts thirds absences _ _ _ c.eights-fronts.ensures.high c.eights-thirds.ensures.high c.eights-absences.ensures.high (λ i lt. are i (omega (arith, lt, long)))))

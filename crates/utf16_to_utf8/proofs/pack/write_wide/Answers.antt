@@ -1,33 +1,23 @@
-use Rattle.std.proofs.Common.{◌≡◌, ◌+◌, ◌/◌, ◌%◌, ◌<◌, ◌++◌, Fits, w16, length, take, slice_index, sym, ap, ap₂, ◌∙◌, arith, append_assoc, take-append-drop}
-use Rattle.std.proofs.lemmas.Simd.{Each1-get_or, length-put_chunk, take_more_put_chunk}
-use lib.Lanes.{pick_l, put_chunk}
-use Rattle.utf16_to_utf8.specs.Pack.{threes}
+use Rattle.std.proofs.Common.{◌≡◌, ℕ, ◌/◌, ◌%◌, ◌<◌, [], ◌∷◌, Fits, w16, slice_index, ap₂, ◌∙◌, arith}
+use Rattle.std.proofs.lemmas.Simd.{Each1-get_or, length-chunk}
+use lib.Lanes.{chunk}
+use Rattle.utf16_to_utf8.specs.Pack.{IsThree}
 use Rattle.utf16_to_utf8.proofs.AddedLemmas.{wide-utf8}
-use Rattle.utf16_to_utf8.proofs.ListLemmas.{three_from, threes-units}
+use Rattle.utf16_to_utf8.proofs.BlockLemmas.{both_halves, of_eight}
 use Rattle.utf16_to_utf8.proofs.pack.write_wide.Goals as goal
 
 pub returns-clause-bytes : goal.returns-clause-bytes
 returns-clause-bytes c before =
     let units = c.args.units in
-    let at = c.args.at in
-    let out = c.args.out.now in
-    let fronts = c.lane_bytes-fronts.result in
-    let thirds = c.lane_bytes-thirds.result in
-    let first = c.first_threes.result in
-    let last = c.last_threes.result in
-    let whole = pick_l 0 (fronts ++ thirds) (threes 0 8) in
-    let long : length first ≡ 16 = ap length c.first_threes.ensures in
-    let long' : length last ≡ 8 = ap length c.last_threes.ensures in
-    take_more_put_chunk (at + 16) (put_chunk at out first) last (at + 24) (omega (arith, long')) (omega (arith, length-put_chunk at out first, c.requires.space))
-    ∙ ap (λ bs. bs ++ last) (take_more_put_chunk at out first (at + 16) (omega (arith, long)) (omega (arith, c.requires.space)))
-    ∙ append_assoc (take at out) first last
-    ∙ ap (λ bs. take at out ++ bs) (ap₂ (λ xs ys. xs ++ ys) c.first_threes.ensures c.last_threes.ensures ∙ take-append-drop 16 whole
-    ∙ ap (λ n. pick_l 0 (fronts ++ thirds) (threes 0 n)) (sym c.fits-units.0)
-    ∙ threes-units before units (fronts ++ thirds) 0 (λ i lt before.
-    let lt8 : i < 8 = omega (arith, lt, c.fits-units.0) in
-    let front = c.lane_bytes-fronts.ensures.bytes i lt8 in
-    let third = c.lane_bytes-thirds.ensures.bytes i lt8 in
-    let lane = c.wide.ensures.lanes i lt8 in
-    let lane' = c.thirds.ensures.lanes i lt8 in
-    three_from fronts thirds i _ _ _ c.lane_bytes-fronts.ensures.len lt8 (front.0 ∙ ap (λ n. n % 256) lane) (front.1 ∙ ap (λ n. n / 256 % 256) lane) (third.0 ∙ ap (λ n. n % 256) lane')
-    ∙ wide-utf8 before (slice_index units i) (Each1-get_or (Fits w16) units i 0 lt c.fits-units.1).fits (c.requires.wide i lt8)))
+    let fronts = c.wide.result in
+    let thirds = c.thirds.result in
+    let long = c.fits-units.0 in
+    let are : (i : ℕ) → i < 16 → IsThree (slice_index units i) (slice_index fronts i) (slice_index thirds i) = λ i lt last.
+        let unit = slice_index units i in
+        let fits = Each1-get_or (Fits w16) units i 0 (omega (arith, lt, long)) c.fits-units.1 in
+        ap₂ (λ f t. (f % 256) ∷ (f / 256 % 256) ∷ (t % 256) ∷ []) (c.wide.ensures.lanes i lt) (c.thirds.ensures.lanes i lt) ∙ wide-utf8 last unit fits.fits (c.requires.wide i lt) in
+    both_halves 7 before units _ _ _ long
+    (c.write_threes-end.ensures.bytes before (chunk 0 8 units) (length-chunk 0 8 units (omega (arith, long)))
+    (of_eight (λ _ u x y _. IsThree u x y) before 0 units (omega (arith, long)) fronts thirds thirds _ _ _ c.eights-fronts.ensures.low c.eights-thirds.ensures.low c.eights-thirds.ensures.low (λ i lt. are i (omega (arith, lt, long)))))
+    (c.write_threes.ensures.bytes (slice_index units 7) (chunk 8 8 units) (length-chunk 8 8 units (omega (arith, long)))
+    (of_eight (λ _ u x y _. IsThree u x y) before 8 units (omega (arith, long)) fronts thirds thirds _ _ _ c.eights-fronts.ensures.high c.eights-thirds.ensures.high c.eights-thirds.ensures.high (λ i lt. are i (omega (arith, lt, long)))))
