@@ -3,8 +3,8 @@ use Rattle.std.proofs.Common.{◌≡◌, ℕ, ◌+◌, ◌-◌, ◌*◌, ◌/◌
 use Rattle.std.proofs.lemmas.Bool.{cases_lt, false_from_ne_true}
 use Rattle.std.proofs.lemmas.Nat.{and_mask}
 use Rattle.std.proofs.lemmas.Nat.Bits.{and_high}
-use Rattle.utf16_to_utf8.specs.Lanes.{absence, added_len, front, front_bits, is_surrogate, narrow, plus, surrogate_bits, third, two_bytes, up, wide}
-use Rattle.utf16_to_utf8.specs.Pack.{kept_bytes}
+use Rattle.utf16_to_utf8.specs.Lanes.{absence, added_len, ending, is_surrogate, low, narrow, outer, plus, surrogate_bits, third, two, two_bytes, up, wide}
+use Rattle.utf16_to_utf8.specs.Pack.{IsKept}
 use Rattle.utf16_to_utf8.specs.Utf8.{continuation, unit_utf8}
 use Rattle.utf16_to_utf8.proofs.UnitLemmas.{unit-leading, unit-one, unit-three, unit-trailing, unit-two}
 
@@ -140,58 +140,6 @@ wide-utf8 p u below are = go (class u)
         ap₂ (λ x y. x ∷ y ∷ (third u % 256) ∷ []) is.0 (omega (arith, is.1)) ∙ ap (λ z. (0xE0 + u / 4096) ∷ continuation (u / 64) ∷ z ∷ []) (omega (arith, third-is u))
         ∙ sym (unit-three p u b.0 b.1)
 
--- ---- any unit, by its first two bytes, its third and how many it adds
-
-abbrev any_bytes : ℕ → ℕ → List ℕ
-any_bytes p u = take (added_len u) ((front p u % 256) ∷ (front p u / 256 % 256) ∷ (third u % 256) ∷ [])
-
-any-two : (p u : ℕ) → u < 0x1_0000 → 0x80 ≤ u → added_len u ≡ 2 → front p u ≡ narrow p u → any_bytes p u ≡ unit_utf8 p u
-any-two p u below above two is =
-    ap₂ (λ n f. take n ((f % 256) ∷ (f / 256 % 256) ∷ (third u % 256) ∷ [])) two is
-    ∙ sym (ap (λ flag. one_or_two flag (narrow p u % 256) (narrow p u / 256 % 256)) (le-ltb u 0x80 above))
-    ∙ narrow-utf8 p u below (omega (arith, two))
-
--- the first two bytes of any unit, by class
-front-by : (p u : ℕ) (surrogate low : Bool) → 0x80 ≤ u → is_surrogate u ≡ surrogate → ltb u 0x800 ≡ low
-    → front p u ≡ two_bytes 0x8000 (cond surrogate (surrogate_bits p u) (cond low (plus u 0x3000) (plus (u / 2 ^ 6) 0x3800)))
-front-by p u surrogate low above s l =
-    ap (λ one. cond one u (two_bytes 0x8000 (front_bits p u))) (le-ltb u 0x80 above)
-    ∙ ap₂ (λ a b. two_bytes 0x8000 (cond a (surrogate_bits p u) (cond b (plus u 0x3000) (plus (u / 2 ^ 6) 0x3800)))) s l
-
-front-two : (p u : ℕ) → u < 0x1_0000 → Between 0x80 0x800 u → front p u ≡ narrow p u
-front-two p u below b = front-by p u false true b.0 (surrogate-no u below (inl (omega (arith, b.1)))) (lt-ltb u 0x800 b.1) ∙ sym (two_bits p u b)
-
-front-surrogate : (p u : ℕ) → u < 0x1_0000 → Between 0xD800 0xE000 u → front p u ≡ narrow p u
-front-surrogate p u below b =
-    front-by p u true (ltb u 0x800) (omega (arith, b.0)) (surrogate-is u below b.0 b.1) refl ∙ sym (surrogate_two p u b)
-
-front-three : (p u : ℕ) → u < 0x1_0000 → 0x800 ≤ u → (u < 0xD800) ⊎ (0xE000 ≤ u) → front p u ≡ wide u
-front-three p u below a s =
-    front-by p u false false (omega (arith, a)) (surrogate-no u below s) (le-ltb u 0x800 a)
-    ∙ two_bytes-is 0 (plus (u / 64) 0x3800) (omega (arith, below)) ∙ omega (arith, below) ∙ sym (wide-is u below)
-
-any-surrogate : (p u : ℕ) → u < 0x1_0000 → Between 0xD800 0xE000 u → any_bytes p u ≡ unit_utf8 p u
-any-surrogate p u below b =
-    any-two p u below (omega (arith, b.0)) (added_len-surrogate u b) (front-surrogate p u below b)
-
-pub any-utf8 : (p u : ℕ) → u < 0x1_0000 → any_bytes p u ≡ unit_utf8 p u
-any-utf8 p u below = go (class u)
-  where
-    go : Class u → any_bytes p u ≡ unit_utf8 p u
-    go (inl a) =
-        ap₂ (λ n f. take n ((f % 256) ∷ (f / 256 % 256) ∷ (third u % 256) ∷ []))
-        (ap (λ b. cond b 1 (cond (ltb u 0x800) 2 (cond (is_surrogate u) 2 3))) (lt-ltb u 0x80 a))
-        (ap (λ b. cond b u (two_bytes 0x8000 (front_bits p u))) (lt-ltb u 0x80 a))
-        ∙ ap (λ x. x ∷ []) (omega (arith, a)) ∙ sym (unit-one p u a)
-    go (inr (inl b)) =
-        any-two p u below b.0 (rw (le-ltb u 0x80 b.0, lt-ltb u 0x800 b.1) refl) (front-two p u below b)
-    go (inr (inr (inl b))) = any-surrogate p u below (b.0, omega (arith, b.1))
-    go (inr (inr (inr (inl b)))) = any-surrogate p u below (omega (arith, b.0), b.1)
-    go (inr (inr (inr (inr b)))) =
-        let three = added_len-three u below b.0 b.1 in
-        ap₂ (λ n f. take n ((f % 256) ∷ (f / 256 % 256) ∷ (third u % 256) ∷ [])) three (front-three p u below b.0 b.1)
-        ∙ wide-utf8 p u below three
-
 pub added_len-le : (u : ℕ) → added_len u ≤ 3
 added_len-le u = go (ltb u 0x80) (ltb u 0x800) (is_surrogate u)
   where
@@ -201,16 +149,62 @@ added_len-le u = go (ltb u 0x80) (ltb u 0x800) (is_surrogate u)
     go false false true = omega arith
     go false false false = omega arith
 
--- a word of both lanes, without the bytes that the unit does not add
-pub kept-utf8 : (p u : ℕ) → u < 0x1_0000 → kept_bytes (ltb 127 (absence u % 256)) (ltb 127 (absence u / 256 % 256)) (front p u % 256) (front p u / 256 % 256) (third u % 256) ≡ unit_utf8 p u
-kept-utf8 p u below = go (ltb u 0x80) (ltb u 0x800) (is_surrogate u) (front p u % 256) (front p u / 256 % 256) (third u % 256) ∙ any-utf8 p u below
+-- ---- any unit, by the bytes that its class keeps
+
+upper-bit : (n : ℕ) → bit_and n 0x8000 ≡ n / 0x8000 % 2 * 0x8000
+upper-bit n = and_high n 1 15
+
+-- what is kept if the flags of a unit are known
+kept-two : (p u : ℕ) → u < 0x1_0000 → 0x80 ≤ u → added_len u ≤ 2 → two u ≡ 0x8000 → ending p u ≡ narrow p u → IsKept p u (outer u) (ending p u) (absence u)
+kept-two p u below above few is same =
+    let one : ltb 0x7F (absence u % 256) ≡ false = le-ltb 0x7F _ (omega (arith, is, above)) in
+    let high : ltb 0x7F (absence u / 256 % 256) ≡ true = lt-ltb 0x7F _ (omega (arith, is, above)) in
+    rw (one, high, same) (sym (ap (λ flag. one_or_two flag (narrow p u % 256) (narrow p u / 256 % 256)) (le-ltb u 0x80 above)) ∙ narrow-utf8 p u below few)
+
+kept-surrogate : (p u : ℕ) → u < 0x1_0000 → Between 0xD800 0xE000 u → IsKept p u (outer u) (ending p u) (absence u)
+kept-surrogate p u below b =
+    let is = surrogate-is u below b.0 b.1 in
+    kept-two p u below (omega (arith, b.0)) (omega (arith, added_len-surrogate u b)) (ap (λ s. cond s 0x8000 (low u)) is)
+    (ap (λ s. two_bytes 0x8000 (cond s (surrogate_bits p u) (plus (bit_and u 0xFFF) (plus 0x2000 (low u / 2 ^ 3))))) is ∙ sym (surrogate_two p u b))
+
+-- a unit that is not a surrogate
+two-other : (u : ℕ) → is_surrogate u ≡ false → two u ≡ (0x87FF - u) / 0x8000 % 2 * 0x8000
+two-other u plain = ap (λ s. cond s 0x8000 (low u)) plain ∙ upper-bit (0x87FF - u)
+
+ending-other : (p u : ℕ) → is_surrogate u ≡ false → ending p u ≡ two_bytes 0x8000 (plus (u % 0x1000) (plus 0x2000 ((0x87FF - u) / 0x8000 % 2 * 0x1000)))
+ending-other p u plain =
+    let bits : bit_and u 0xFFF ≡ u % 0x1000 = and_mask u 12 in
+    let tag : low u / 2 ^ 3 ≡ (0x87FF - u) / 0x8000 % 2 * 0x1000 = omega (arith, upper-bit (0x87FF - u)) in
+    ap (λ s. two_bytes 0x8000 (cond s (surrogate_bits p u) (plus (bit_and u 0xFFF) (plus 0x2000 (low u / 2 ^ 3))))) plain
+    ∙ ap₂ (λ a b. two_bytes 0x8000 (plus a (plus 0x2000 b))) bits tag
+
+pub kept-utf8 : (p u : ℕ) → u < 0x1_0000 → IsKept p u (outer u) (ending p u) (absence u)
+kept-utf8 p u below = go (class u)
   where
-    go : (a b c : Bool) (x y z : ℕ) → let lane : ℕ = cond a 0xFFFF (cond b 0xFF00 (cond c 0xFF00 0)) in
-        kept_bytes (ltb 127 (lane % 256)) (ltb 127 (lane / 256 % 256)) x y z ≡ take (cond a 1 (cond b 2 (cond c 2 3))) (x ∷ y ∷ z ∷ [])
-    go true b c x y z = refl
-    go false true c x y z = refl
-    go false false true x y z = refl
-    go false false false x y z = refl
+    go : Class u → IsKept p u (outer u) (ending p u) (absence u)
+    go (inl a) =
+        let is = two-other u (surrogate-no u below (inl (omega (arith, a)))) in
+        let one : ltb 0x7F (absence u % 256) ≡ true = lt-ltb 0x7F _ (omega (arith, is, a)) in
+        let high : ltb 0x7F (absence u / 256 % 256) ≡ true = lt-ltb 0x7F _ (omega (arith, is, a)) in
+        rw (one, high) (ap (λ x. x ∷ []) (omega (arith, a)) ∙ sym (unit-one p u a))
+    go (inr (inl b)) =
+        let plain = surrogate-no u below (inl (omega (arith, b.1))) in
+        let few : added_len u ≤ 2 = grind (arith, b.0, b.1) in
+        let bits : plus (u % 0x1000) (plus 0x2000 ((0x87FF - u) / 0x8000 % 2 * 0x1000)) ≡ plus u 0x3000 = omega (arith, b.1) in
+        kept-two p u below b.0 few (omega (arith, two-other u plain, b.1)) (ending-other p u plain ∙ ap (two_bytes 0x8000) bits ∙ sym (two_bits p u b))
+    go (inr (inr (inl b))) = kept-surrogate p u below (b.0, omega (arith, b.1))
+    go (inr (inr (inr (inl b)))) = kept-surrogate p u below (omega (arith, b.0), b.1)
+    go (inr (inr (inr (inr b)))) =
+        let plain = surrogate-no u below b.1 in
+        let is = two-other u plain in
+        let one : ltb 0x7F (absence u % 256) ≡ false = le-ltb 0x7F _ (omega (arith, is, b.0)) in
+        let high : ltb 0x7F (absence u / 256 % 256) ≡ false = le-ltb 0x7F _ (omega (arith, is, b.0)) in
+        let bits = u % 0x1000 + 0x2000 in
+        let tags : plus (u % 0x1000) (plus 0x2000 ((0x87FF - u) / 0x8000 % 2 * 0x1000)) ≡ bits = omega (arith, b.0) in
+        let both = bytes_of (continuation (u / 64)) (continuation u) _ (omega arith) (omega arith)
+            (ending-other p u plain ∙ ap (two_bytes 0x8000) tags ∙ two_bytes-is 0 bits (omega arith) ∙ omega arith) in
+        let first : outer u % 256 ≡ 0xE0 + u / 4096 = omega (arith, below) in
+        rw (one, high, first) (ap₂ (λ x y. (0xE0 + u / 4096) ∷ x ∷ y ∷ []) both.0 (omega (arith, both.1)) ∙ sym (unit-three p u b.0 b.1))
 
 pub length-unit : (p u : ℕ) → u < 0x1_0000 → length (unit_utf8 p u) ≡ added_len u
 length-unit p u below = go (class u)

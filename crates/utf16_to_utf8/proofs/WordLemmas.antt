@@ -1,6 +1,6 @@
 -- The bytes of words of four bytes, and the table of their source indices.
 use Rattle.std.proofs.Common.{◌≡◌, ℕ, zero, suc, ◌+◌, ◌-◌, ◌*◌, ◌/◌, ◌%◌, ◌^◌, ◌<◌, Bool, true, false, List, [], ◌∷◌, ◌++◌, count_ones, length, slice_index, get_or, take, drop, map, refl, sym, ap, ap₂, ◌∙◌, subst, arith, append_assoc, length-drop, length-take-le, ltb, add-mul, take_all}
-use Rattle.std.proofs.lemmas.List.{get_or-map, length-map}
+use Rattle.std.proofs.lemmas.List.{get_or_append_left, get_or-append-add, get_or-map, length-map}
 use Rattle.std.proofs.lemmas.Simd.{mask_l-lt}
 use Rattle.std.proofs.lemmas.Slice.Eq.{bytes_eq-Decides}
 use Rattle.std.specs.List.{range_with_len}
@@ -11,7 +11,7 @@ use lib.Lanes.{chunk, mask_l, pick_l}
 use Rattle.utf16_to_utf8.specs.declared.word_places.TheConstants.{WORD_PLACES}
 use Rattle.utf16_to_utf8.specs.Pack.{fours, kept_bytes, packed_words}
 use Rattle.utf16_to_utf8.specs.Utf8.{unit_utf8, units_utf8}
-use Rattle.utf16_to_utf8.proofs.ListLemmas.{three_from, units-cons, units-nil}
+use Rattle.utf16_to_utf8.proofs.ListLemmas.{units-cons, units-nil}
 use Rattle.utf16_to_utf8.proofs.PlaceLemmas.{Good, all_flags-each, each-good}
 
 -- ---- the table, row by row
@@ -28,11 +28,11 @@ word_row-good k below = each-good WORD_PLACES k below refl
 
 -- ---- the bytes that are kept
 
-kept-map : (f : ℕ → ℕ) (second third : Bool) (x y z : ℕ) → map f (kept_bytes second third x y z) ≡ kept_bytes second third (f x) (f y) (f z)
-kept-map f true true x y z = refl
-kept-map f true false x y z = refl
-kept-map f false true x y z = refl
-kept-map f false false x y z = refl
+kept-map : (f : ℕ → ℕ) (one two : Bool) (x y z w : ℕ) → map f (kept_bytes one two x y z w) ≡ kept_bytes one two (f x) (f y) (f z) (f w)
+kept-map f true true x y z w = refl
+kept-map f true false x y z w = refl
+kept-map f false true x y z w = refl
+kept-map f false false x y z w = refl
 
 map-append : (f : ℕ → ℕ) (xs ys : List ℕ) → map f (xs ++ ys) ≡ map f xs ++ map f ys
 map-append f [] ys = refl
@@ -46,7 +46,7 @@ packed_words-map f (a ∷ b ∷ flags) (x ∷ []) = refl
 packed_words-map f (a ∷ b ∷ flags) (x ∷ y ∷ []) = refl
 packed_words-map f (a ∷ b ∷ flags) (x ∷ y ∷ z ∷ []) = refl
 packed_words-map f (a ∷ b ∷ flags) (x ∷ y ∷ z ∷ w ∷ xs) =
-    map-append f (kept_bytes a b x y z) (packed_words flags xs) ∙ ap₂ (λ s t. s ++ t) (kept-map f a b x y z) (packed_words-map f flags xs)
+    map-append f (kept_bytes a b x y z w) (packed_words flags xs) ∙ ap₂ (λ s t. s ++ t) (kept-map f a b x y z w) (packed_words-map f flags xs)
 
 pub packed_words-append : (flags more : List Bool) (bytes rest : List ℕ) → length flags % 2 ≡ 0 → length bytes ≡ 2 * length flags
     → packed_words flags bytes ++ packed_words more rest ≡ packed_words (flags ++ more) (bytes ++ rest)
@@ -58,8 +58,8 @@ packed_words-append (a ∷ b ∷ flags) more (x ∷ []) rest even long = absurd 
 packed_words-append (a ∷ b ∷ flags) more (x ∷ y ∷ []) rest even long = absurd (omega arith)
 packed_words-append (a ∷ b ∷ flags) more (x ∷ y ∷ z ∷ []) rest even long = absurd (omega arith)
 packed_words-append (a ∷ b ∷ flags) more (x ∷ y ∷ z ∷ w ∷ bytes) rest even long =
-    append_assoc (kept_bytes a b x y z) (packed_words flags bytes) (packed_words more rest)
-    ∙ ap (λ t. kept_bytes a b x y z ++ t) (packed_words-append flags more bytes rest (omega arith) (omega arith))
+    append_assoc (kept_bytes a b x y z w) (packed_words flags bytes) (packed_words more rest)
+    ∙ ap (λ t. kept_bytes a b x y z w ++ t) (packed_words-append flags more bytes rest (omega arith) (omega arith))
 
 -- the bits of the first n flags and of the other flags
 pub mask-parts : (n : ℕ) (flags : List Bool) → mask_l flags ≡ mask_l (take n flags) + 2 ^ n * mask_l (drop n flags)
@@ -99,7 +99,7 @@ mask-eights f units bits long is =
 -- ---- the UTF-8 of units, each of which has a word
 
 abbrev kept_at : List ℕ → Bool → Bool → ℕ → List ℕ
-kept_at bytes second third i = kept_bytes second third (slice_index bytes (2 * i)) (slice_index bytes (2 * i + 1)) (slice_index bytes (16 + 2 * i))
+kept_at bytes one two i = kept_bytes one two (slice_index bytes (2 * i)) (slice_index bytes (2 * i + 1)) (slice_index bytes (16 + 2 * i)) (slice_index bytes (17 + 2 * i))
 
 pub fours-units : (before : ℕ) (flags : List Bool) (units bytes : List ℕ) (at : ℕ) → length flags ≡ 2 * length units
     → ((i : ℕ) → i < length units → kept_at bytes (get_or flags (2 * i) false) (get_or flags (2 * i + 1) false) (at + i) ≡ unit_utf8 (slice_index (before ∷ units) i) (slice_index units i))
@@ -120,12 +120,19 @@ fours-units before (a ∷ b ∷ flags) (u ∷ units) bytes at long are =
     ∙ sym (units-cons before u units)
 
 -- the bytes of a word by the bytes of its lanes
-pub kept-by : (fronts thirds absent : List ℕ) (i x y z a b : ℕ) → length fronts ≡ 16 → length absent ≡ 16 → i < 8
-    → slice_index fronts (2 * i) ≡ x → slice_index fronts (2 * i + 1) ≡ y → slice_index thirds (2 * i) ≡ z → slice_index absent (2 * i) ≡ a → slice_index absent (2 * i + 1) ≡ b
-    → kept_at (fronts ++ thirds) (get_or (map (λ byte. ltb 127 byte) absent) (2 * i) false) (get_or (map (λ byte. ltb 127 byte) absent) (2 * i + 1) false) (0 + i)
-    ≡ kept_bytes (ltb 127 a) (ltb 127 b) x y z
-kept-by fronts thirds absent i x y z a b long eight lt px py pz pa pb =
+pub kept-by : (outers endings absent : List ℕ) (i x y z w a b : ℕ) → length outers ≡ 16 → length absent ≡ 16 → i < 8
+    → slice_index outers (2 * i) ≡ x → slice_index outers (2 * i + 1) ≡ y → slice_index endings (2 * i) ≡ z → slice_index endings (2 * i + 1) ≡ w
+    → slice_index absent (2 * i) ≡ a → slice_index absent (2 * i + 1) ≡ b
+    → kept_at (outers ++ endings) (get_or (map (λ byte. ltb 127 byte) absent) (2 * i) false) (get_or (map (λ byte. ltb 127 byte) absent) (2 * i + 1) false) (0 + i)
+    ≡ kept_bytes (ltb 127 a) (ltb 127 b) x y z w
+kept-by outers endings absent i x y z w a b long eight lt px py pz pw pa pb =
+    let both = outers ++ endings in
     let far = λ (byte : ℕ). ltb 127 byte in
     let flag = λ (j n : ℕ) (room : j < length absent) (e : slice_index absent j ≡ n). get_or-map far absent j 0 false room ∙ ap far e in
-    ap₂ (λ m n. kept_at (fronts ++ thirds) m n (0 + i)) (flag (2 * i) a (omega (arith, eight)) pa) (flag (2 * i + 1) b (omega (arith, eight)) pb)
-    ∙ ap (λ (bytes : List ℕ). kept_bytes (ltb 127 a) (ltb 127 b) (slice_index bytes 0) (slice_index bytes 1) (slice_index bytes 2)) (three_from fronts thirds i x y z long lt px py pz)
+    let here : 0 + i ≡ i = omega arith in
+    let third : 16 + 2 * i ≡ length outers + 2 * i = omega (arith, long) in
+    let fourth : 17 + 2 * i ≡ length outers + (2 * i + 1) = omega (arith, long) in
+    ap (kept_at both (get_or (map far absent) (2 * i) false) (get_or (map far absent) (2 * i + 1) false)) here
+    ∙ rw (flag (2 * i) a (omega (arith, lt, eight)) pa, flag (2 * i + 1) b (omega (arith, lt, eight)) pb,
+    get_or_append_left outers endings 0 (2 * i) (omega (arith, lt, long)) ∙ px, get_or_append_left outers endings 0 (2 * i + 1) (omega (arith, lt, long)) ∙ py,
+    ap (slice_index both) third ∙ get_or-append-add outers endings (2 * i) 0 ∙ pz, ap (slice_index both) fourth ∙ get_or-append-add outers endings (2 * i + 1) 0 ∙ pw) refl

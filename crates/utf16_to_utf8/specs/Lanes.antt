@@ -1,5 +1,5 @@
 -- What lanes of sixteen bits compute of a unit.
-use Rattle.std.specs.Prelude.{ℕ, ◌+◌, ◌*◌, ◌/◌, ◌%◌, ◌^◌, ◌==◌, Bool, nat_lt, bit_and, if◌then◌else◌}
+use Rattle.std.specs.Prelude.{ℕ, ◌+◌, ◌-◌, ◌*◌, ◌/◌, ◌%◌, ◌^◌, ◌==◌, Bool, nat_lt, bit_and, if◌then◌else◌}
 
 -- `+` and `<<` of a lane wrap
 abbrev pub plus : ℕ → ℕ → ℕ
@@ -33,22 +33,35 @@ wide unit = two_bytes 0x80E0 (unit / 2 ^ 6)
 abbrev pub third : ℕ → ℕ
 third unit = plus (bit_and unit 0x3F) 0x80
 
--- the payload bits of the first two bytes that any unit from U+0080 on adds, with the tag bits of
--- the first above them
-abbrev pub front_bits : ℕ → ℕ → ℕ
-front_bits before unit = if is_surrogate unit then surrogate_bits before unit else (if nat_lt unit 0x800 then plus unit 0x3000 else plus (unit / 2 ^ 6) 0x3800)
+-- the upper bit, if the unit is below U+0800
+abbrev pub low : ℕ → ℕ
+low unit = bit_and (0x87FF - unit) 0x8000
 
--- the first two bytes that any unit adds, and how many bytes it adds
-abbrev pub front : ℕ → ℕ → ℕ
-front before unit = if nat_lt unit 0x80 then unit else two_bytes 0x8000 (front_bits before unit)
+-- the first byte of a unit that adds three, and above it the only byte of an ASCII unit
+abbrev pub outer : ℕ → ℕ
+outer unit = plus (up unit 8) (plus (unit / 2 ^ 12) 0xE0)
 
+-- the payload bits of the last two bytes that a unit from U+0080 on adds, with the tag bits of the
+-- first one above them
+abbrev pub ending_bits : ℕ → ℕ → ℕ
+ending_bits before unit = if is_surrogate unit then surrogate_bits before unit else plus (bit_and unit 0xFFF) (plus 0x2000 (low unit / 2 ^ 3))
+
+-- these two bytes
+abbrev pub ending : ℕ → ℕ → ℕ
+ending before unit = two_bytes 0x8000 (ending_bits before unit)
+
+-- the upper bit, if the unit adds at most two bytes
+abbrev pub two : ℕ → ℕ
+two unit = if is_surrogate unit then 0x8000 else low unit
+
+-- the upper bit of the low half if the unit adds one byte, and of the high half if it adds at most
+-- two
+abbrev pub absence : ℕ → ℕ
+absence unit = plus (two unit) (0xFF - unit)
+
+-- how many bytes a unit adds
 abbrev pub added_len : ℕ → ℕ
 added_len unit = if nat_lt unit 0x80 then 1 else (if nat_lt unit 0x800 then 2 else (if is_surrogate unit then 2 else 3))
-
--- which bytes a unit does not add: the low half of a lane for the second byte, the high half for
--- the third
-abbrev pub absence : ℕ → ℕ
-absence unit = if nat_lt unit 0x80 then 0xFFFF else (if nat_lt unit 0x800 then 0xFF00 else (if is_surrogate unit then 0xFF00 else 0))
 
 -- below 0x800 exactly if the unit adds at most two bytes
 abbrev pub folded : ℕ → ℕ

@@ -13,12 +13,13 @@ packed (flag ∷ flags) (first ∷ second ∷ bytes) = cond flag (first ∷ []) 
 abbrev pub HasBytes : List ℕ → List ℕ → Type 0
 HasBytes bytes lanes = (i : ℕ) → i < 8 → (slice_index bytes (2 * i) ≡ slice_index lanes i % 256) × (slice_index bytes (2 * i + 1) ≡ slice_index lanes i / 256 % 256)
 
--- the first three bytes of a word, without the second or the third if its flag is set
-abbrev pub kept_bytes : Bool → Bool → ℕ → ℕ → ℕ → List ℕ
-kept_bytes second third x y z = x ∷ cond second [] (y ∷ []) ++ cond third [] (z ∷ [])
+-- of the four bytes of a word, the only one of a unit that adds one byte, the last two of a unit
+-- that adds two, or those and the first
+abbrev pub kept_bytes : Bool → Bool → ℕ → ℕ → ℕ → ℕ → List ℕ
+kept_bytes one two x y z w = cond two [] (x ∷ []) ++ cond one (y ∷ []) (z ∷ w ∷ [])
 
--- a lane has the bytes that a unit adds after the unit before it: one or two, three with the first
--- byte of another lane, or those that the bytes of a third lane do not leave out
+-- lanes have the bytes that a unit adds after the unit before it: one or two, three, or those that
+-- the upper bits of the bytes of a third lane choose
 abbrev pub IsPair : ℕ → ℕ → ℕ → Type 0
 IsPair before unit pair = cond (nat_lt unit 0x80) ((pair % 256) ∷ []) ((pair % 256) ∷ (pair / 256 % 256) ∷ []) ≡ unit_utf8 before unit
 
@@ -26,7 +27,7 @@ abbrev pub IsThree : ℕ → ℕ → ℕ → Type 0
 IsThree unit front third = (before : ℕ) → (front % 256) ∷ (front / 256 % 256) ∷ (third % 256) ∷ [] ≡ unit_utf8 before unit
 
 abbrev pub IsKept : ℕ → ℕ → ℕ → ℕ → ℕ → Type 0
-IsKept before unit front third absence = kept_bytes (nat_lt 0x7F (absence % 256)) (nat_lt 0x7F (absence / 256 % 256)) (front % 256) (front / 256 % 256) (third % 256) ≡ unit_utf8 before unit
+IsKept before unit outer ending absence = kept_bytes (nat_lt 0x7F (absence % 256)) (nat_lt 0x7F (absence / 256 % 256)) (outer % 256) (outer / 256 % 256) (ending % 256) (ending / 256 % 256) ≡ unit_utf8 before unit
 
 -- the indices of the three bytes of n lanes, from lane i on: two among sixteen bytes, the third one
 -- sixteen bytes later
@@ -40,12 +41,12 @@ abbrev pub fours : ℕ → ℕ → List ℕ
 fours i zero = []
 fours i (suc n) = (2 * i) ∷ (2 * i + 1) ∷ (16 + 2 * i) ∷ (17 + 2 * i) ∷ fours (i + 1) n
 
--- the bytes of words of four bytes, without those that the two flags of a word leave out
+-- the kept bytes of words of four bytes, with two flags for each word
 abbrev pub packed_words : List Bool → List ℕ → List ℕ
 packed_words [] bytes = []
-packed_words (second ∷ []) bytes = []
-packed_words (second ∷ third ∷ flags) [] = []
-packed_words (second ∷ third ∷ flags) (x ∷ []) = []
-packed_words (second ∷ third ∷ flags) (x ∷ y ∷ []) = []
-packed_words (second ∷ third ∷ flags) (x ∷ y ∷ z ∷ []) = []
-packed_words (second ∷ third ∷ flags) (x ∷ y ∷ z ∷ w ∷ bytes) = kept_bytes second third x y z ++ packed_words flags bytes
+packed_words (one ∷ []) bytes = []
+packed_words (one ∷ two ∷ flags) [] = []
+packed_words (one ∷ two ∷ flags) (x ∷ []) = []
+packed_words (one ∷ two ∷ flags) (x ∷ y ∷ []) = []
+packed_words (one ∷ two ∷ flags) (x ∷ y ∷ z ∷ []) = []
+packed_words (one ∷ two ∷ flags) (x ∷ y ∷ z ∷ w ∷ bytes) = kept_bytes one two x y z w ++ packed_words flags bytes

@@ -13,7 +13,7 @@ ghost use Rattle.utf16_to_utf8.specs.Utf8.{units_utf8};
 ghost use Rattle.utf16_to_utf8.specs.declared.blocks.Kind.TheVariants.{Ascii};
 
 use crate::blocks::{lanes_below, lanes_from};
-use crate::groups::{absences, fronts, narrow, thirds, wide};
+use crate::groups::{absences, endings, narrow, outers, thirds, wide};
 use crate::lanes::{each, previous_eight, smaller, sum};
 use crate::pack::{ascii_bits, write_kept, write_pairs, write_threes};
 use crate::padded::moved_front;
@@ -93,8 +93,8 @@ fn write_eight_units(out: &mut [u8], at: usize, previous: u16x8, units: u16x8) -
     } else if lanes_below(folded, 0x800) {
         write_pairs(out, at, narrow(preceding, units, true), ascii_bits(units))
     } else {
-        let fronts = fronts(preceding, units, true);
-        write_kept(out, at, fronts, thirds(units), absences(units, true))
+        let endings = endings(preceding, units, true);
+        write_kept(out, at, outers(units), endings, absences(units, true))
     }
 }
 

@@ -1,13 +1,13 @@
-//! The UTF-8 that several units add, with SIMD: the first two bytes of each, the third, and which of
-//! these a unit does not add.
+//! The UTF-8 that several units add, with SIMD: the bytes that a unit of some kind adds, and which
+//! of these each unit adds.
 //!
-//! The bits of a unit carry the tag bits of its first byte, so that additions replace two choices.
+//! The bits of a unit carry the tag bits of its bytes, so that additions replace choices.
 
-ghost use Rattle.std.specs.Prelude.{◌≡◌, ◌<◌, ℕ, false, if◌then◌else◌, slice_index};
+ghost use Rattle.std.specs.Prelude.{◌≡◌, ◌<◌, ℕ, false, slice_index};
 ghost use Rattle.utf16_units.specs.Lanes.{HasLanes};
-ghost use Rattle.utf16_to_utf8.specs.Lanes.{absence, front, front_bits, is_surrogate, narrow, surrogate_bits, third, two_bytes, wide};
+ghost use Rattle.utf16_to_utf8.specs.Lanes.{absence, ending, ending_bits, is_surrogate, low, narrow, outer, surrogate_bits, third, two, two_bytes, wide};
 
-use crate::lanes::{down, each, masked, raised, sum, where_below, where_surrogate};
+use crate::lanes::{down, each, left, masked, raised, sum, where_below, where_surrogate};
 use std::simd::prelude::*;
 
 #[inline(always)]
@@ -56,41 +56,6 @@ pub(crate) fn wide<const N: usize>(units: Simd<u16, N>) -> Simd<u16, N>
     two_bytes(each(0x80E0), down(units, 6))
 }
 
-// The payload bits of the first two bytes of units from U+0080 on, with the tag bits of the first.
-#[inline(always)]
-fn front_bits<const N: usize>(
-    preceding: Simd<u16, N>,
-    units: Simd<u16, N>,
-    surrogates: bool,
-) -> Simd<u16, N>
-    requires { surrogates ≡ false → (i : ℕ) → i < N → is_surrogate (slice_index units i) ≡ false }
-    ensures { HasLanes N result
-        (λ i. front_bits (slice_index preceding.entry i) (slice_index units.entry i)) }
-{
-    let letters = sum(units, each(0x3000));
-    let others = sum(down(units, 6), each(0x3800));
-    let bits = where_below(units, 0x800, letters, others);
-    if !surrogates {
-        return bits;
-    }
-    where_surrogate(units, surrogate_bits(preceding, units), bits)
-}
-
-// The first two bytes of any units.
-#[inline(always)]
-pub(crate) fn fronts<const N: usize>(
-    preceding: Simd<u16, N>,
-    units: Simd<u16, N>,
-    surrogates: bool,
-) -> Simd<u16, N>
-    requires { surrogates ≡ false → (i : ℕ) → i < N → is_surrogate (slice_index units i) ≡ false }
-    ensures { HasLanes N result
-        (λ i. front (slice_index preceding.entry i) (slice_index units.entry i)) }
-{
-    let bits = front_bits(preceding, units, surrogates);
-    where_below(units, 0x80, units, two_bytes(each(0x8000), bits))
-}
-
 // The third bytes of units that add three.
 #[inline(always)]
 pub(crate) fn thirds<const N: usize>(units: Simd<u16, N>) -> Simd<u16, N>
@@ -99,27 +64,77 @@ pub(crate) fn thirds<const N: usize>(units: Simd<u16, N>) -> Simd<u16, N>
     sum(masked(units, 0x3F), each(0x80))
 }
 
-// Which bytes a unit does not add: the low half is set if it adds no second byte, the high half if
-// it adds no third.
+// The first byte of units that add three, and above it the only byte of ASCII units.
 #[inline(always)]
-pub(crate) fn absences<const N: usize>(units: Simd<u16, N>, surrogates: bool) -> Simd<u16, N>
-    requires { surrogates ≡ false → (i : ℕ) → i < N → is_surrogate (slice_index units i) ≡ false }
-    ensures { HasLanes N result (λ i. absence (slice_index units.entry i)) }
+pub(crate) fn outers<const N: usize>(units: Simd<u16, N>) -> Simd<u16, N>
+    ensures { HasLanes N result (λ i. outer (slice_index units.entry i)) }
 {
-    let above = absences_above(units, surrogates);
-    let short = where_below(units, 0x800, each(0xFF00), above);
-    where_below(units, 0x80, each(0xFFFF), short)
+    sum(raised(units, 8), sum(down(units, 12), each(0xE0)))
 }
 
-// Which bytes a unit from U+0800 on does not add.
+// The last two bytes of units that add two or three.
 #[inline(always)]
-fn absences_above<const N: usize>(units: Simd<u16, N>, surrogates: bool) -> Simd<u16, N>
-    requires { surrogates ≡ false → (i : ℕ) → i < N → is_surrogate (slice_index units i) ≡ false }
+pub(crate) fn endings<const N: usize>(
+    preceding: Simd<u16, N>,
+    units: Simd<u16, N>,
+    surrogates: bool,
+) -> Simd<u16, N>
+    requires { surrogates ≡ false → (i : ℕ) → i < N
+        → is_surrogate (slice_index units i) ≡ false }
     ensures { HasLanes N result
-        (λ i. if is_surrogate (slice_index units.entry i) then 0xFF00 else 0) }
+        (λ i. ending (slice_index preceding.entry i) (slice_index units.entry i)) }
+{
+    two_bytes(each(0x8000), ending_bits(preceding, units, surrogates))
+}
+
+// The payload bits of these two bytes, with the tag bits of the first one above them.
+#[inline(always)]
+fn ending_bits<const N: usize>(
+    preceding: Simd<u16, N>,
+    units: Simd<u16, N>,
+    surrogates: bool,
+) -> Simd<u16, N>
+    requires { surrogates ≡ false → (i : ℕ) → i < N
+        → is_surrogate (slice_index units i) ≡ false }
+    ensures { HasLanes N result
+        (λ i. ending_bits (slice_index preceding.entry i) (slice_index units.entry i)) }
+{
+    let tags = sum(each(0x2000), down(lows(units), 3));
+    let bits = sum(masked(units, 0xFFF), tags);
+    if !surrogates {
+        return bits;
+    }
+    where_surrogate(units, surrogate_bits(preceding, units), bits)
+}
+
+// The upper bit of each byte: in the low half it is set if the unit adds one byte, in the high half
+// if it adds at most two. The other bits are unspecified.
+#[inline(always)]
+pub(crate) fn absences<const N: usize>(units: Simd<u16, N>, surrogates: bool) -> Simd<u16, N>
+    requires { surrogates ≡ false → (i : ℕ) → i < N
+        → is_surrogate (slice_index units i) ≡ false }
+    ensures { HasLanes N result (λ i. absence (slice_index units.entry i)) }
+{
+    sum(twos(units, surrogates), left(each(0xFF), units))
+}
+
+// The upper bit, if the unit adds at most two bytes.
+#[inline(always)]
+fn twos<const N: usize>(units: Simd<u16, N>, surrogates: bool) -> Simd<u16, N>
+    requires { surrogates ≡ false → (i : ℕ) → i < N
+        → is_surrogate (slice_index units i) ≡ false }
+    ensures { HasLanes N result (λ i. two (slice_index units.entry i)) }
 {
     if !surrogates {
-        return each(0);
+        return lows(units);
     }
-    where_surrogate(units, each(0xFF00), each(0))
+    where_surrogate(units, each(0x8000), lows(units))
+}
+
+// The upper bit, if the unit is below U+0800.
+#[inline(always)]
+fn lows<const N: usize>(units: Simd<u16, N>) -> Simd<u16, N>
+    ensures { HasLanes N result (λ i. low (slice_index units.entry i)) }
+{
+    masked(left(each(0x87FF), units), 0x8000)
 }

@@ -3,7 +3,7 @@
 //! They are generic over the number of lanes: sixteen fill one register of x86-64-v3, and two of
 //! x86-64-v2.
 
-ghost use Rattle.std.specs.Prelude.{◌≡◌, ◌<◌, ◌/◌, ◌^◌, ◌∷◌, bit_and, if◌then◌else◌, nat_lt, slice_index};
+ghost use Rattle.std.specs.Prelude.{◌≡◌, ◌-◌, ◌<◌, ◌/◌, ◌^◌, ◌∷◌, bit_and, if◌then◌else◌, nat_lt, slice_index};
 ghost use Rattle.std.specs.Simd.Lanes.{chunk};
 ghost use Rattle.utf16_units.specs.Lanes.{HasLanes};
 ghost use Rattle.utf16_to_utf8.specs.Lanes.{is_surrogate, plus, up};
@@ -22,6 +22,14 @@ pub(crate) fn sum<const N: usize>(a: Simd<u16, N>, b: Simd<u16, N>) -> Simd<u16,
     ensures { HasLanes N result (λ i. plus (slice_index a.entry i) (slice_index b.entry i)) }
 {
     a + b
+}
+
+// What is left of the lanes of `a` less those of `b`, at least zero.
+#[inline(always)]
+pub(crate) fn left<const N: usize>(a: Simd<u16, N>, b: Simd<u16, N>) -> Simd<u16, N>
+    ensures { HasLanes N result (λ i. slice_index a.entry i - slice_index b.entry i) }
+{
+    a.saturating_sub(b)
 }
 
 #[inline(always)]

@@ -1,6 +1,6 @@
 //! Writes the UTF-8 that sixteen or eight units add, one after another.
 //!
-//! Each unit gets the most bytes that its kind may add, and a shuffle drops the others. Its table
+//! Each unit gets every byte that its kind may add, and a shuffle drops the others. Its table
 //! has 256 rows: by a bit for each of eight units of at most two bytes, or by two bits for each of
 //! four units of any kind. One computed test of all rows proves each table.
 
@@ -10,7 +10,7 @@ ghost use Rattle.utf16_to_utf8.specs.Lanes.{added_len, is_surrogate};
 ghost use Rattle.utf16_to_utf8.specs.Pack.{HasBytes, IsKept, IsPair, IsThree, fours, packed, packed_words, threes};
 ghost use Rattle.utf16_to_utf8.specs.Utf8.{units_utf8};
 
-use crate::groups::{absences, fronts, narrow, thirds, wide};
+use crate::groups::{absences, endings, narrow, outers, thirds, wide};
 use crate::lanes::{eights, previous_lanes};
 use crate::places::places;
 use crate::word_places::word_places;
@@ -140,25 +140,25 @@ pub(crate) fn write_wide(out: &mut [u8], at: usize, units: u16x16) -> usize
     write_threes(out, end, fronts.1, thirds.1)
 }
 
-// Four words of four bytes: for each of the first four lanes, two bytes of `fronts` and two of
-// `thirds`.
+// Four words of four bytes: for each of the first four lanes, two bytes of `outers` and two of
+// `endings`.
 #[inline(always)]
-fn low_words(fronts: u8x16, thirds: u8x16) -> u8x16
-    ensures { result ≡ pick_l 0 (fronts ++ thirds) (fours 0 4) }
+fn low_words(outers: u8x16, endings: u8x16) -> u8x16
+    ensures { result ≡ pick_l 0 (outers ++ endings) (fours 0 4) }
 {
-    fronts.shuffle(
-        thirds,
+    outers.shuffle(
+        endings,
         [0, 1, 16, 17, 2, 3, 18, 19, 4, 5, 20, 21, 6, 7, 22, 23],
     )
 }
 
 // Four words of four bytes, for the last four lanes.
 #[inline(always)]
-fn high_words(fronts: u8x16, thirds: u8x16) -> u8x16
-    ensures { result ≡ pick_l 0 (fronts ++ thirds) (fours 4 4) }
+fn high_words(outers: u8x16, endings: u8x16) -> u8x16
+    ensures { result ≡ pick_l 0 (outers ++ endings) (fours 4 4) }
 {
-    fronts.shuffle(
-        thirds,
+    outers.shuffle(
+        endings,
         [8, 9, 24, 25, 10, 11, 26, 27, 12, 13, 28, 29, 14, 15, 30, 31],
     )
 }
@@ -172,19 +172,19 @@ fn upper_bits(bytes: u8x16) -> usize
     bytes.simd_gt(u8x16::splat(0x7F)).to_bitmask() as usize
 }
 
-// Writes the first three bytes of each of four words, except the bytes that `absent` leaves out. It
-// has two bits for each word: one for the second byte and one for the third.
+// Writes the bytes of four words that `flags` chooses. It has two bits for each word: whether its
+// unit adds one byte, and whether it adds at most two.
 #[inline(always)]
-fn write_words(out: &mut [u8], at: usize, words: u8x16, absent: usize) -> usize
+fn write_words(out: &mut [u8], at: usize, words: u8x16, flags: usize) -> usize
     requires space { at + 16 ≤ length out.old }
-    requires bound { absent < 256 }
-    ensures bytes { (flags : List Bool) → length flags ≡ 8 → absent ≡ mask_l flags
-        → take result out.new ≡ take at out.old ++ packed_words flags words }
+    requires bound { flags < 256 }
+    ensures bytes { (bits : List Bool) → length bits ≡ 8 → flags ≡ mask_l bits
+        → take result out.new ≡ take at out.old ++ packed_words bits words }
     ensures written_to { result ≤ at + 12 }
 {
-    let standing = words.swizzle_dyn(word_places(absent));
+    let standing = words.swizzle_dyn(word_places(flags));
     standing.copy_to_slice(&mut out[at..]);
-    at + (12 - absent.count_ones() as usize)
+    at + (12 - flags.count_ones() as usize)
 }
 
 // Writes the UTF-8 of any eight units.
@@ -192,22 +192,22 @@ fn write_words(out: &mut [u8], at: usize, words: u8x16, absent: usize) -> usize
 pub(crate) fn write_kept(
     out: &mut [u8],
     at: usize,
-    fronts: u16x8,
-    thirds: u16x8,
+    outers: u16x8,
+    endings: u16x8,
     absences: u16x8,
 ) -> usize
     requires space { at + 32 ≤ length out.old }
     ensures bytes { (before : ℕ) (units : List ℕ) → length units ≡ 8
         → ((i : ℕ) → i < 8 → IsKept (slice_index (before ∷ units) i) (slice_index units i)
-        (slice_index fronts i) (slice_index thirds i) (slice_index absences i))
+        (slice_index outers i) (slice_index endings i) (slice_index absences i))
         → take result out.new ≡ take at out.old ++ units_utf8 before units }
     ensures written_to { result ≤ at + 24 }
 {
-    let fronts = lane_bytes(fronts);
-    let thirds = lane_bytes(thirds);
-    let absent = upper_bits(lane_bytes(absences));
-    let end = write_words(out, at, low_words(fronts, thirds), absent % 256);
-    write_words(out, end, high_words(fronts, thirds), absent / 256)
+    let outers = lane_bytes(outers);
+    let endings = lane_bytes(endings);
+    let flags = upper_bits(lane_bytes(absences));
+    let end = write_words(out, at, low_words(outers, endings), flags % 256);
+    write_words(out, end, high_words(outers, endings), flags / 256)
 }
 
 // Writes the UTF-8 of any sixteen units.
@@ -226,9 +226,9 @@ pub(crate) fn write_any(
         units }
     ensures written_to { result ≤ at + 48 }
 {
-    let fronts = eights(fronts(previous_lanes(previous, units), units, surrogates));
-    let thirds = eights(thirds(units));
+    let outers = eights(outers(units));
+    let endings = eights(endings(previous_lanes(previous, units), units, surrogates));
     let absences = eights(absences(units, surrogates));
-    let end = write_kept(out, at, fronts.0, thirds.0, absences.0);
-    write_kept(out, end, fronts.1, thirds.1, absences.1)
+    let end = write_kept(out, at, outers.0, endings.0, absences.0);
+    write_kept(out, end, outers.1, endings.1, absences.1)
 }

@@ -1,7 +1,7 @@
 use Rattle.std.proofs.Common.{◌≡◌, ℕ, ◌<◌, ◌≤◌, ◌∷◌, [], ◌/◌, ◌%◌, Fits, w16, slice_index, sym, ap, ap₂, ◌∙◌, arith, subst, rules}
 use Rattle.std.proofs.lemmas.List.Elements.{All-get_or}
 use Rattle.std.proofs.lemmas.Simd.{Each1-get_or}
-use Rattle.utf16_to_utf8.specs.Lanes.{added_len, front, narrow}
+use Rattle.utf16_to_utf8.specs.Lanes.{added_len, ending, narrow}
 use Rattle.utf16_to_utf8.specs.Pack.{IsPair}
 use Rattle.utf16_to_utf8.proofs.AddedLemmas.{kept-utf8, narrow-utf8, wide-utf8}
 use Rattle.utf16_to_utf8.proofs.BoundLemmas.{folded-narrow, folded-wide}
@@ -47,5 +47,5 @@ returns-else-lanes_below-3-clause-bytes c =
     c.write_kept.ensures.bytes before units c.fits-units.0 (λ i lt.
     let unit = slice_index units i in
     let fits = Each1-get_or (Fits w16) units i 0 (omega (arith, lt, c.fits-units.0)) c.fits-units.1 in
-    let lane = c.fronts-fronts.ensures.lanes i lt ∙ ap (λ p. front p unit) (c.previous_eight-preceding.ensures.lanes i lt) in
-    rw (lane, c.thirds-else-lanes_below-3.ensures.lanes i lt, c.absences.ensures.lanes i lt) (kept-utf8 (slice_index (before ∷ units) i) unit fits.fits))
+    let lane = c.endings-endings.ensures.lanes i lt ∙ ap (λ p. ending p unit) (c.previous_eight-preceding.ensures.lanes i lt) in
+    rw (c.outers.ensures.lanes i lt, lane, c.absences.ensures.lanes i lt) (kept-utf8 (slice_index (before ∷ units) i) unit fits.fits))

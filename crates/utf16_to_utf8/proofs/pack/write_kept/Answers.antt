@@ -7,13 +7,13 @@ use Rattle.utf16_to_utf8.proofs.pack.write_kept.Goals as goal
 
 pub returns-clause-bytes : goal.returns-clause-bytes
 returns-clause-bytes c before units eight are =
-    let fronts = c.lane_bytes-fronts.result in
-    let thirds = c.lane_bytes-thirds.result in
+    let outers = c.lane_bytes-outers.result in
+    let endings = c.lane_bytes-endings.result in
     let absent = c.lane_bytes.result in
-    let both = fronts ++ thirds in
+    let both = outers ++ endings in
     let flags = map (λ byte. ltb 127 byte) absent in
     let long : length flags ≡ 16 = length-map absent (λ byte. ltb 127 byte) ∙ c.lane_bytes.ensures.len in
-    let halves = mask-halves flags c.upper_bits-absent.result long c.upper_bits-absent.ensures.bits in
+    let halves = mask-halves flags c.upper_bits-flags.result long c.upper_bits-flags.ensures.bits in
     let low : length (take 8 flags) ≡ 8 = length-take-le 8 flags (omega (arith, long)) in
     let high : length (drop 8 flags) ≡ 8 = length-drop 8 flags ∙ omega (arith, long) in
     let start = take c.args.at c.args.out.now in
@@ -26,7 +26,7 @@ returns-clause-bytes c before units eight are =
     ∙ ap (λ n. packed_words flags (pick_l 0 both (fours 0 n))) (sym eight)
     ∙ fours-units before flags units both 0 (omega (arith, long, eight)) (λ i lt.
     let lt8 : i < 8 = omega (arith, lt, eight) in
-    let first = c.lane_bytes-fronts.ensures.bytes i lt8 in
-    let third = c.lane_bytes-thirds.ensures.bytes i lt8 in
+    let first = c.lane_bytes-outers.ensures.bytes i lt8 in
+    let last = c.lane_bytes-endings.ensures.bytes i lt8 in
     let flag = c.lane_bytes.ensures.bytes i lt8 in
-    kept-by fronts thirds absent i _ _ _ _ _ c.lane_bytes-fronts.ensures.len c.lane_bytes.ensures.len lt8 first.0 first.1 third.0 flag.0 flag.1 ∙ are i lt8))
+    kept-by outers endings absent i _ _ _ _ _ _ c.lane_bytes-outers.ensures.len c.lane_bytes.ensures.len lt8 first.0 first.1 last.0 last.1 flag.0 flag.1 ∙ are i lt8))

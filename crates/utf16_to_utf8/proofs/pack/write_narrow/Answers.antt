@@ -19,11 +19,11 @@ returns-clause-bytes c =
     let long = c.fits-units.0 in
     let bits = mask-eights (λ (unit : ℕ). ltb unit 0x80) units c.ascii_bits-one.result long c.ascii_bits-one.ensures.bits in
     let are : (i : ℕ) → i < 16 → IsPair (slice_index (before ∷ units) i) (slice_index units i) (slice_index pairs i) = λ i lt.
-        let unit = slice_index units i in
-        let last = slice_index (before ∷ units) i in
-        let lane = c.narrow.ensures.lanes i lt ∙ ap (λ p. narrow p unit) (c.previous_lanes.ensures.lanes i lt) in
-        let fits = Each1-get_or (Fits w16) units i 0 (omega (arith, lt, long)) c.fits-units.1 in
-        subst (IsPair last unit) (sym lane) (narrow-utf8 last unit fits.fits (c.requires.narrow i lt)) in
+    let unit = slice_index units i in
+    let last = slice_index (before ∷ units) i in
+    let lane = c.narrow.ensures.lanes i lt ∙ ap (λ p. narrow p unit) (c.previous_lanes.ensures.lanes i lt) in
+    let fits = Each1-get_or (Fits w16) units i 0 (omega (arith, lt, long)) c.fits-units.1 in
+    subst (IsPair last unit) (sym lane) (narrow-utf8 last unit fits.fits (c.requires.narrow i lt)) in
     both_halves 7 before units _ _ _ long
     (c.write_pairs-end.ensures.bytes before (chunk 0 8 units) (length-chunk 0 8 units (omega (arith, long))) bits.0
     (of_eight (λ p u x _ _. IsPair p u x) before 0 units (omega (arith, long)) pairs pairs pairs _ _ _ c.eights.ensures.low c.eights.ensures.low c.eights.ensures.low (λ i lt. are i (omega (arith, lt, long)))))
