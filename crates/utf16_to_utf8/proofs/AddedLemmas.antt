@@ -202,7 +202,7 @@ kept-utf8 p u below = go (class u)
         let bits = u % 0x1000 + 0x2000 in
         let tags : plus (u % 0x1000) (plus 0x2000 ((0x87FF - u) / 0x8000 % 2 * 0x1000)) ≡ bits = omega (arith, b.0) in
         let both = bytes_of (continuation (u / 64)) (continuation u) _ (omega arith) (omega arith)
-            (ending-other p u plain ∙ ap (two_bytes 0x8000) tags ∙ two_bytes-is 0 bits (omega arith) ∙ omega arith) in
+        (ending-other p u plain ∙ ap (two_bytes 0x8000) tags ∙ two_bytes-is 0 bits (omega arith) ∙ omega arith) in
         let first : outer u % 256 ≡ 0xE0 + u / 4096 = omega (arith, below) in
         rw (one, high, first) (ap₂ (λ x y. (0xE0 + u / 4096) ∷ x ∷ y ∷ []) both.0 (omega (arith, both.1)) ∙ sym (unit-three p u b.0 b.1))
 

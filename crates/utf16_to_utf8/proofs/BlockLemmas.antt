@@ -1,5 +1,5 @@
 -- The units of a block, and what the bits of its classes mean.
-use Rattle.std.proofs.Common.{◌≡◌, ℕ, zero, suc, ◌+◌, ◌*◌, ◌/◌, ◌%◌, ◌<◌, ◌≤◌, ◌⊎◌, Bool, true, false, cond, eqb, ltb, inl, inr, List, [], ◌∷◌, ◌++◌, All, length, slice_index, drop, bit_and, refl, sym, ap, ap₂, ◌∙◌, subst, ⊎_elim, arith, eqb-true, eq-eqb, lt-ltb, le-ltb, append-nil, append_assoc, length-drop, take-append-drop, take_all}
+use Rattle.std.proofs.Common.{◌≡◌, ℕ, zero, suc, ◌+◌, ◌*◌, ◌/◌, ◌%◌, ◌<◌, ◌≤◌, ◌⊎◌, Bool, true, false, cond, eqb, ltb, inl, inr, List, [], ◌∷◌, ◌++◌, All, length, slice_index, take, drop, bit_and, refl, sym, ap, ap₂, ◌∙◌, subst, ⊎_elim, arith, eqb-true, eq-eqb, lt-ltb, le-ltb, append-nil, append_assoc, length-drop, take-append-drop, take_all}
 use Rattle.std.proofs.lemmas.Bool.{cases_Bool, cases_lt, eqb-false, false_from_ne_true, true≢false}
 use Rattle.std.proofs.lemmas.List.Elements.{All-head, All-tail}
 use Rattle.std.proofs.lemmas.Nat.Bits.{and_high}
@@ -100,12 +100,8 @@ wrote_units n done next all units more before long wrote e =
     ∙ append_assoc done (units_utf8 before units) (units_utf8 (slice_index units n) more)
     ∙ ap (λ bs. done ++ bs) (sym (units-append n before units more long)) ∙ e
 
-pub four_eights : (units : List ℕ) → length units ≡ 32 → units ≡ chunk 0 8 units ++ (chunk 8 8 units ++ (chunk 16 8 units ++ chunk 24 8 units))
-four_eights units long =
-    chunk-drop 0 8 units
-    ∙ ap (λ us. chunk 0 8 units ++ us) (chunk-drop 8 8 units
-    ∙ ap (λ us. chunk 8 8 units ++ us) (chunk-drop 16 8 units
-    ∙ ap (λ us. chunk 16 8 units ++ us) (sym (take_all 8 (drop 24 units) (omega (arith, length-drop 24 units, long))))))
+pub halves : (n : ℕ) (units : List ℕ) → length units ≡ n + n → units ≡ chunk 0 n units ++ chunk n n units
+halves n units long = sym (take-append-drop n units) ∙ ap (λ us. take n units ++ us) (sym (take_all n (drop n units) (omega (arith, length-drop n units, long))))
 
 -- what was written in two steps, each of half of the units
 pub both_halves : (n before : ℕ) (units done next all : List ℕ) → length units ≡ n + 1 + (n + 1) → next ≡ done ++ units_utf8 before (chunk 0 (n + 1) units)
@@ -113,12 +109,11 @@ pub both_halves : (n before : ℕ) (units done next all : List ℕ) → length u
 both_halves n before units done next all long first second =
     let low = chunk 0 (n + 1) units in
     let high = chunk (n + 1) (n + 1) units in
-    let split : units ≡ low ++ high = sym (take-append-drop (n + 1) units) ∙ ap (λ us. low ++ us) (sym (take_all (n + 1) (drop (n + 1) units) (omega (arith, length-drop (n + 1) units, long)))) in
     let here : 0 + n ≡ n = omega arith in
     second ∙ ap (λ bs. bs ++ units_utf8 (slice_index units n) high) first
     ∙ append_assoc done (units_utf8 before low) (units_utf8 (slice_index units n) high)
     ∙ ap (λ bs. done ++ bs) (ap (λ last. units_utf8 before low ++ units_utf8 last high) (sym (get_or-chunk 0 (n + 1) units n 0 (omega arith) ∙ ap (slice_index units) here))
-    ∙ sym (units-append n before low high (length-chunk 0 (n + 1) units (omega (arith, long)))) ∙ ap (units_utf8 before) (sym split))
+    ∙ sym (units-append n before low high (length-chunk 0 (n + 1) units (omega (arith, long)))) ∙ ap (units_utf8 before) (sym (halves (n + 1) units long)))
 
 -- what holds of each unit, the one before it and their lanes holds of eight of them
 module _ (R : ℕ → ℕ → ℕ → ℕ → ℕ → Type 0) (before a : ℕ) (units : List ℕ) where

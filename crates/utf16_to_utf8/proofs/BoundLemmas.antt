@@ -10,7 +10,7 @@ use mir.Val.{bits, hbits}
 use Rattle.utf16_units.specs.Lanes.{HasLanes}
 use Rattle.utf16_to_utf8.specs.Lanes.{added_len, folded, plus}
 use Rattle.utf16_to_utf8.proofs.AddedLemmas.{added_len-three, surrogate-is}
-use Rattle.utf16_to_utf8.proofs.BlockLemmas.{four_eights, low-is, narrow-kind}
+use Rattle.utf16_to_utf8.proofs.BlockLemmas.{halves, low-is, narrow-kind}
 
 -- a choice by the comparison of the lanes of two vectors
 pub lanes_of_choice : (n : ℕ) (w : Width) (t : ℕ → ℕ → Bool) (x y a b : List ℕ) → length x ≡ n → length y ≡ n → length a ≡ n → length b ≡ n
@@ -87,21 +87,18 @@ module _ (x y m limit : ℕ) where
       go true e = let is' = is ∙ ap (λ b. cond b x y) e in inl (omega (arith, is', below))
       go false e = let is' = is ∙ ap (λ b. cond b x y) e in inr (omega (arith, is', below))
 
-pub below_greater : (limit : ℕ) (a b m : List ℕ) → length a ≡ 8 → length b ≡ 8 → HasLanes 8 m (λ i. cond (ltb (slice_index a i) (slice_index b i)) (slice_index b i) (slice_index a i))
+pub below_greater : (n limit : ℕ) (a b m : List ℕ) → length a ≡ n → length b ≡ n → HasLanes n m (λ i. cond (ltb (slice_index a i) (slice_index b i)) (slice_index b i) (slice_index a i))
     → All (λ u. u < limit) m → All (λ u. u < limit) a × All (λ u. u < limit) b
-below_greater limit a b m pa pb lanes = both_by (λ u. u < limit) a b m (pa ∙ sym lanes.len) (pb ∙ sym lanes.len) (λ i lt below.
+below_greater n limit a b m pa pb lanes = both_by (λ u. u < limit) a b m (pa ∙ sym lanes.len) (pb ∙ sym lanes.len) (λ i lt below.
     choice-above _ _ _ limit (lanes.lanes i (omega (arith, lt, lanes.len))) below)
 
-pub from_lesser : (limit : ℕ) (a b m : List ℕ) → length a ≡ 8 → length b ≡ 8 → HasLanes 8 m (λ i. cond (ltb (slice_index a i) (slice_index b i)) (slice_index a i) (slice_index b i))
+pub from_lesser : (n limit : ℕ) (a b m : List ℕ) → length a ≡ n → length b ≡ n → HasLanes n m (λ i. cond (ltb (slice_index a i) (slice_index b i)) (slice_index a i) (slice_index b i))
     → All (λ u. limit ≤ u) m → All (λ u. limit ≤ u) a × All (λ u. limit ≤ u) b
-from_lesser limit a b m pa pb lanes = both_by (λ u. limit ≤ u) a b m (pa ∙ sym lanes.len) (pb ∙ sym lanes.len) (λ i lt above.
+from_lesser n limit a b m pa pb lanes = both_by (λ u. limit ≤ u) a b m (pa ∙ sym lanes.len) (pb ∙ sym lanes.len) (λ i lt above.
     choice-below _ _ _ limit (lanes.lanes i (omega (arith, lt, lanes.len))) above)
 
-pub all_four : (P : ℕ → Type 0) (units a b c d : List ℕ) → length units ≡ 32 → a ≡ chunk 0 8 units → b ≡ chunk 8 8 units → c ≡ chunk 16 8 units → d ≡ chunk 24 8 units
-    → All P a × All P b → All P c × All P d → All P units
-all_four P units a b c d long pa pb pc pd low high =
-    subst (All P) (ap₂ (λ x y. x ++ y) pa (ap₂ (λ x y. x ++ y) pb (ap₂ (λ x y. x ++ y) pc pd)) ∙ sym (four_eights units long))
-    (All-append P a _ low.0 (All-append P b _ low.1 (All-append P c d high.0 high.1)))
+pub all_halves : (P : ℕ → Type 0) (n : ℕ) (units a b : List ℕ) → length units ≡ n + n → a ≡ chunk 0 n units → b ≡ chunk n n units → All P a × All P b → All P units
+all_halves P n units a b long pa pb all = subst (All P) (ap₂ (λ x y. x ++ y) pa pb ∙ sym (halves n units long)) (All-append P a b all.0 all.1)
 
 -- ---- the kinds of units
 

@@ -133,6 +133,11 @@ kept-by outers endings absent i x y z w a b long eight lt px py pz pw pa pb =
     let third : 16 + 2 * i ≡ length outers + 2 * i = omega (arith, long) in
     let fourth : 17 + 2 * i ≡ length outers + (2 * i + 1) = omega (arith, long) in
     ap (kept_at both (get_or (map far absent) (2 * i) false) (get_or (map far absent) (2 * i + 1) false)) here
-    ∙ rw (flag (2 * i) a (omega (arith, lt, eight)) pa, flag (2 * i + 1) b (omega (arith, lt, eight)) pb,
-    get_or_append_left outers endings 0 (2 * i) (omega (arith, lt, long)) ∙ px, get_or_append_left outers endings 0 (2 * i + 1) (omega (arith, lt, long)) ∙ py,
-    ap (slice_index both) third ∙ get_or-append-add outers endings (2 * i) 0 ∙ pz, ap (slice_index both) fourth ∙ get_or-append-add outers endings (2 * i + 1) 0 ∙ pw) refl
+    ∙ rw (
+      flag (2 * i) a (omega (arith, lt, eight)) pa,
+      flag (2 * i + 1) b (omega (arith, lt, eight)) pb,
+      get_or_append_left outers endings 0 (2 * i) (omega (arith, lt, long)) ∙ px,
+      get_or_append_left outers endings 0 (2 * i + 1) (omega (arith, lt, long)) ∙ py,
+      ap (slice_index both) third ∙ get_or-append-add outers endings (2 * i) 0 ∙ pz,
+      ap (slice_index both) fourth ∙ get_or-append-add outers endings (2 * i + 1) 0 ∙ pw,
+    ) refl

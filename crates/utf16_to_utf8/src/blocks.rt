@@ -1,7 +1,6 @@
 //! A block of thirty-two code units: its kind, and the UTF-8 that it adds.
 
 ghost use Rattle.std.specs.Prelude.{◌≡◌, ◌↔◌, ◌+◌, ◌-◌, ◌/◌, ◌%◌, ◌<◌, ◌≤◌, ◌++◌, ℕ, All, IsTrue, length, replicate, slice_index, take};
-ghost use Rattle.std.specs.Simd.Lanes.{chunk};
 ghost use Rattle.utf16_units.specs.Encoding.{units_of};
 ghost use Rattle.utf16_units.specs.Lanes.{HasLanes};
 ghost use Rattle.utf16_to_utf8.specs.Block.{AreOfKind, IsPlain};
@@ -9,7 +8,7 @@ ghost use Rattle.utf16_to_utf8.specs.Lanes.{folded, plus};
 ghost use Rattle.utf16_to_utf8.specs.Utf8.{units_utf8};
 ghost use Rattle.utf16_to_utf8.specs.declared.blocks.Kind.TheVariants.{Ascii};
 
-use crate::lanes::{doubled, sixteens};
+use crate::lanes::{doubled, eights, sixteens};
 use crate::writers::{BasicWriter, LettersWriter, MixedWriter, PairsWriter, WideWriter, Writer};
 use std::simd::prelude::*;
 use utf16_units::Utf16Order;
@@ -51,7 +50,7 @@ pub(crate) fn are_both_ascii(first: u16x32, second: u16x32) -> bool
     ensures first { IsTrue result → AreOfKind Ascii first }
     ensures second { IsTrue result → AreOfKind Ascii second }
 {
-    lanes_below(greater(greatest(first), greatest(second)), 0x80)
+    are_below(greater(first, second), 0x80)
 }
 
 // Whether all units are below a limit.
@@ -77,16 +76,17 @@ fn greatest(units: u16x32) -> u16x8
     ensures bound { (limit : ℕ) → All (λ unit. unit < limit) result
         → All (λ unit. unit < limit) units }
 {
-    let (first, second, third, fourth) = eights(units);
-    greater(greater(first, second), greater(third, fourth))
+    let (first, second) = sixteens(units);
+    let (low, high) = eights(greater(first, second));
+    greater(low, high)
 }
 
 // The greater of the lanes at the same place.
 #[inline(always)]
-fn greater(a: u16x8, b: u16x8) -> u16x8
-    ensures len { length result ≡ 8 }
+fn greater<const N: usize>(a: Simd<u16, N>, b: Simd<u16, N>) -> Simd<u16, N>
+    ensures len { length result ≡ N }
     ensures bound { (limit : ℕ) → All (λ unit. unit < limit) result
-        → All (λ unit. unit < limit) a × All (λ unit. unit < limit) b }
+        → All (λ unit. unit < limit) a.entry × All (λ unit. unit < limit) b.entry }
 {
     a.simd_max(b)
 }
@@ -114,16 +114,17 @@ fn least(units: u16x32) -> u16x8
     ensures bound { (limit : ℕ) → All (λ unit. limit ≤ unit) result
         → All (λ unit. limit ≤ unit) units }
 {
-    let (first, second, third, fourth) = eights(units);
-    lesser(lesser(first, second), lesser(third, fourth))
+    let (first, second) = sixteens(units);
+    let (low, high) = eights(lesser(first, second));
+    lesser(low, high)
 }
 
 // The lesser of the lanes at the same place.
 #[inline(always)]
-fn lesser(a: u16x8, b: u16x8) -> u16x8
-    ensures len { length result ≡ 8 }
+fn lesser<const N: usize>(a: Simd<u16, N>, b: Simd<u16, N>) -> Simd<u16, N>
+    ensures len { length result ≡ N }
     ensures bound { (limit : ℕ) → All (λ unit. limit ≤ unit) result
-        → All (λ unit. limit ≤ unit) a × All (λ unit. limit ≤ unit) b }
+        → All (λ unit. limit ≤ unit) a.entry × All (λ unit. limit ≤ unit) b.entry }
 {
     a.simd_min(b)
 }
@@ -235,22 +236,6 @@ fn write_ascii(out: &mut [u8], at: usize, units: u16x32) -> usize
 {
     units.cast::<u8>().copy_to_slice(&mut out[at..]);
     at + 32
-}
-
-// The units of a block in groups of eight.
-#[inline(always)]
-pub(crate) fn eights(units: u16x32) -> (u16x8, u16x8, u16x8, u16x8)
-    ensures low { result.0 ≡ chunk 0 8 units }
-    ensures high { result.1 ≡ chunk 8 8 units }
-    ensures third { result.2 ≡ chunk 16 8 units }
-    ensures fourth { result.3 ≡ chunk 24 8 units }
-{
-    (
-        units.extract::<0, 8>(),
-        units.extract::<8, 8>(),
-        units.extract::<16, 8>(),
-        units.extract::<24, 8>(),
-    )
 }
 
 // Writes the UTF-8 that a block adds, sixteen units at a time.

@@ -15,7 +15,8 @@ ghost use Rattle.utf16_to_utf8.specs.Block.{AreOfKind};
 ghost use Rattle.utf16_to_utf8.specs.Cursor.{Advanced, Reached};
 ghost use Rattle.utf16_to_utf8.specs.declared.blocks.Kind.TheVariants.{Ascii, Basic};
 
-use crate::blocks::{Kind, are_both_ascii, are_of, eights, is_plain, kind_of, write_block};
+use crate::blocks::{Kind, are_both_ascii, are_of, is_plain, kind_of, write_block};
+use crate::lanes::{eights, sixteens};
 use crate::write::SLACK;
 use std::simd::prelude::*;
 use utf16_units::Utf16Order;
@@ -295,6 +296,6 @@ fn write_block_units<E: Utf16Order>(
     Cursor {
         at: from.at + 64,
         end,
-        previous: eights(units).3,
+        previous: eights(sixteens(units).1).1,
     }
 }

@@ -3,8 +3,8 @@ use Rattle.utf16_to_utf8.proofs.BoundLemmas.{below_greater, lanes_of_choice}
 use Rattle.utf16_to_utf8.proofs.blocks.greater.Goals as goal
 
 pub returns-clause-len : goal.returns-clause-len
-returns-clause-len c = (lanes_of_choice 8 w16 ltb c.args.a c.args.b c.args.b c.args.a c.fits-a.0 c.fits-b.0 c.fits-b.0 c.fits-a.0).len
+returns-clause-len g c = (lanes_of_choice g.row.N w16 ltb c.args.a c.args.b c.args.b c.args.a c.fits-a.0 c.fits-b.0 c.fits-b.0 c.fits-a.0).len
 
 pub returns-clause-bound : goal.returns-clause-bound
-returns-clause-bound c limit =
-    below_greater limit c.args.a c.args.b _ c.fits-a.0 c.fits-b.0 (lanes_of_choice 8 w16 ltb c.args.a c.args.b c.args.b c.args.a c.fits-a.0 c.fits-b.0 c.fits-b.0 c.fits-a.0)
+returns-clause-bound g c limit =
+    below_greater g.row.N limit c.args.a c.args.b _ c.fits-a.0 c.fits-b.0 (lanes_of_choice g.row.N w16 ltb c.args.a c.args.b c.args.b c.args.a c.fits-a.0 c.fits-b.0 c.fits-b.0 c.fits-a.0)

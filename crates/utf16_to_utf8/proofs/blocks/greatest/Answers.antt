@@ -1,9 +1,8 @@
 use Rattle.std.proofs.Common.{◌<◌}
-use Rattle.utf16_to_utf8.proofs.BoundLemmas.{all_four}
+use Rattle.utf16_to_utf8.proofs.BoundLemmas.{all_halves}
 use Rattle.utf16_to_utf8.proofs.blocks.greatest.Goals as goal
 
 pub returns-clause-bound : goal.returns-clause-bound
 returns-clause-bound c limit all =
-    let halves = c.greater-3.ensures.bound limit all in
-    all_four (λ u. u < limit) c.args.units _ _ _ _ c.fits-units.0 c.eights.ensures.low c.eights.ensures.high c.eights.ensures.third c.eights.ensures.fourth
-    (c.greater.ensures.bound limit halves.0) (c.greater-2.ensures.bound limit halves.1)
+    let low = all_halves (λ u. u < limit) 8 c.greater.result _ _ c.greater.ensures.len c.eights.ensures.low c.eights.ensures.high (c.greater-2.ensures.bound limit all) in
+    all_halves (λ u. u < limit) 16 c.args.units _ _ c.fits-units.0 c.sixteens.ensures.low c.sixteens.ensures.high (c.greater.ensures.bound limit low)

@@ -1,5 +1,6 @@
 use Rattle.std.proofs.Common.{slice_index, refl, ap, ◌∙◌, subst, arith}
 use Rattle.std.proofs.lemmas.Simd.{get_or-chunk}
+use lib.Lanes.{chunk}
 use Rattle.utf16_units.specs.Lanes.{HasNoSurrogate, Paired}
 use Rattle.utf16_units.proofs.PairLemmas.{PairedTo-next}
 use Rattle.utf16_units.proofs.PlainLemmas.{PairedTo-plain}
@@ -13,7 +14,7 @@ returns-clause-advanced g c =
     let raw = c.args.raw.now in
     let units = c.args.units in
     let put = c.write_block-end in
-    let last = ap (λ us. slice_index us 7) c.eights.ensures.fourth ∙ get_or-chunk 24 8 units 7 0 (omega arith) in
+    let last = ap (λ us. slice_index us 7) (c.eights.ensures.high ∙ ap (chunk 8 8) c.sixteens.ensures.high) ∙ get_or-chunk 8 8 (chunk 16 16 units) 7 0 (omega arith) ∙ get_or-chunk 16 16 units 15 0 (omega arith) in
     record {
       reached = reached-next 31 big raw c.args.out.now _ units c.args.from _ c.requires.reached c.requires.more c.fits-units.0 c.requires.next refl put.ensures.written_to last
           (omega (arith, put.ensures.written_to, put.auto.out, c.requires.space)) put.ensures.bytes;
