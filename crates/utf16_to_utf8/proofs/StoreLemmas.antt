@@ -1,7 +1,7 @@
 -- What a buffer holds where a vector was stored, and which bytes of a vector are picked.
 use Rattle.std.proofs.Common.{◌≡◌, ℕ, zero, suc, ◌+◌, ◌*◌, ◌/◌, ◌<◌, ◌≤◌, Bool, true, false, cond, List, [], ◌∷◌, ◌++◌, length, map, take, drop, get_or, refl, ap, ap₂, ◌∙◌, subst, arith, leb, w8, length-take-le, take_all}
 use Rattle.std.proofs.lemmas.Bool.{lt-leb}
-use Rattle.std.proofs.lemmas.List.{take-append-le}
+use Rattle.std.proofs.lemmas.List.{take-append-le, take-map}
 use Rattle.std.proofs.Math.Seq.{take-append-add}
 use Rattle.std.proofs.lemmas.Simd.{pick_l-range_with_len, put_chunk_is, swz_l}
 use Rattle.std.specs.List.{range_with_len}
@@ -36,11 +36,6 @@ packed-map f (flag ∷ flags) [] = refl
 packed-map f (flag ∷ flags) (x ∷ []) = refl
 packed-map f (true ∷ flags) (x ∷ y ∷ xs) = ap (λ t. f x ∷ t) (packed-map f flags xs)
 packed-map f (false ∷ flags) (x ∷ y ∷ xs) = ap (λ t. f x ∷ f y ∷ t) (packed-map f flags xs)
-
-take-map : (f : ℕ → ℕ) (n : ℕ) (xs : List ℕ) → take n (map f xs) ≡ map f (take n xs)
-take-map f zero xs = refl
-take-map f (suc n) [] = refl
-take-map f (suc n) (x ∷ xs) = ap (λ t. f x ∷ t) (take-map f n xs)
 
 -- the bytes of sixteen that a rule keeps by their places
 pub picked-by : (keep : List ℕ → List ℕ) → ((f : ℕ → ℕ) (xs : List ℕ) → map f (keep xs) ≡ keep (map f xs)) → (bytes places : List ℕ) (n : ℕ) → length bytes ≡ 16

@@ -1,6 +1,6 @@
 -- The bytes of words of four bytes, and the table of their source indices.
 use Rattle.std.proofs.Common.{◌≡◌, ℕ, zero, suc, ◌+◌, ◌-◌, ◌*◌, ◌/◌, ◌%◌, ◌^◌, ◌<◌, Bool, true, false, List, [], ◌∷◌, ◌++◌, count_ones, length, slice_index, get_or, take, drop, map, refl, sym, ap, ap₂, ◌∙◌, subst, arith, append_assoc, length-drop, length-take-le, ltb, add-mul, take_all}
-use Rattle.std.proofs.lemmas.List.{get_or_append_left, get_or-append-add, get_or-map, length-map}
+use Rattle.std.proofs.lemmas.List.{get_or_append_left, get_or-append-add, drop-map, get_or-map, length-map, map-append, take-map}
 use Rattle.std.proofs.lemmas.Simd.{mask_l-lt}
 use Rattle.std.proofs.lemmas.Slice.Eq.{bytes_eq-Decides}
 use Rattle.std.specs.List.{range_with_len}
@@ -33,10 +33,6 @@ kept-map f true true x y z w = refl
 kept-map f true false x y z w = refl
 kept-map f false true x y z w = refl
 kept-map f false false x y z w = refl
-
-map-append : (f : ℕ → ℕ) (xs ys : List ℕ) → map f (xs ++ ys) ≡ map f xs ++ map f ys
-map-append f [] ys = refl
-map-append f (x ∷ xs) ys = ap (λ t. f x ∷ t) (map-append f xs ys)
 
 pub packed_words-map : (f : ℕ → ℕ) (flags : List Bool) (xs : List ℕ) → map f (packed_words flags xs) ≡ packed_words flags (map f xs)
 packed_words-map f [] xs = refl
@@ -77,16 +73,6 @@ mask-halves flags bits long is =
     let below = subst (λ n. mask_l (take 8 flags) < 2 ^ n) low (mask_l-lt (take 8 flags)) in
     let parts = is ∙ mask-parts 8 flags in
     (omega (arith, below, parts), omega (arith, below, parts))
-
-drop-map : (f : ℕ → Bool) (n : ℕ) (xs : List ℕ) → drop n (map f xs) ≡ map f (drop n xs)
-drop-map f zero xs = refl
-drop-map f (suc n) [] = refl
-drop-map f (suc n) (x ∷ xs) = drop-map f n xs
-
-take-map : (f : ℕ → Bool) (n : ℕ) (xs : List ℕ) → take n (map f xs) ≡ map f (take n xs)
-take-map f zero xs = refl
-take-map f (suc n) [] = refl
-take-map f (suc n) (x ∷ xs) = ap (λ t. f x ∷ t) (take-map f n xs)
 
 -- the bits of sixteen units
 pub mask-eights : (f : ℕ → Bool) (units : List ℕ) (bits : ℕ) → length units ≡ 16 → bits ≡ mask_l (map f units)

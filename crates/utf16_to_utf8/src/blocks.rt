@@ -8,7 +8,7 @@ ghost use Rattle.utf16_to_utf8.specs.Lanes.{folded, plus};
 ghost use Rattle.utf16_to_utf8.specs.Utf8.{units_utf8};
 ghost use Rattle.utf16_to_utf8.specs.declared.blocks.Kind.TheVariants.{Ascii};
 
-use crate::lanes::{doubled, eights, sixteens};
+use crate::lanes::{doubled, each, eights, sixteens, smaller, sum};
 use crate::writers::{BasicWriter, LettersWriter, MixedWriter, PairsWriter, WideWriter, Writer};
 use std::simd::prelude::*;
 use utf16_units::Utf16Order;
@@ -131,18 +131,18 @@ fn lesser<const N: usize>(a: Simd<u16, N>, b: Simd<u16, N>) -> Simd<u16, N>
 
 // Units raised so that a unit is below 0x800 exactly if it is a surrogate.
 #[inline(always)]
-fn raised(units: u16x32) -> u16x32
-    ensures { HasLanes 32 result (λ i. plus (slice_index units i) 0x2800) }
+fn raised<const N: usize>(units: Simd<u16, N>) -> Simd<u16, N>
+    ensures { HasLanes N result (λ i. plus (slice_index units.entry i) 0x2800) }
 {
-    units + u16x32::splat(0x2800)
+    sum(units, each(0x2800))
 }
 
 // Units folded so that a unit is below 0x800 exactly if it is below U+0800 or a surrogate.
 #[inline(always)]
-fn folded(units: u16x32) -> u16x32
-    ensures { HasLanes 32 result (λ i. folded (slice_index units i)) }
+pub(crate) fn folded<const N: usize>(units: Simd<u16, N>) -> Simd<u16, N>
+    ensures { HasLanes N result (λ i. folded (slice_index units.entry i)) }
 {
-    units.simd_min(raised(units))
+    smaller(units, raised(units))
 }
 
 // The kind of the units of a block. A kind is tested before the kinds that include it, because it

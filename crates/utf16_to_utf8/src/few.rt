@@ -7,14 +7,12 @@ ghost use Rattle.std.specs.Prelude.{◌≡◌, ◌↔◌, ◌+◌, ◌-◌, ◌*
 ghost use Rattle.utf16_units.specs.Encoding.{IsUtf16, units_of, utf8_of};
 ghost use Rattle.utf16_to_utf8.specs.Block.{AreOfKind};
 ghost use Rattle.utf16_to_utf8.specs.Cursor.{Reached};
-ghost use Rattle.utf16_to_utf8.specs.Lanes.{folded};
-ghost use Rattle.utf16_units.specs.Lanes.{HasLanes};
 ghost use Rattle.utf16_to_utf8.specs.Utf8.{units_utf8};
 ghost use Rattle.utf16_to_utf8.specs.declared.blocks.Kind.TheVariants.{Ascii};
 
-use crate::blocks::{lanes_below, lanes_from};
+use crate::blocks::{folded, lanes_below, lanes_from};
 use crate::groups::{absences, endings, narrow, outers, thirds, wide};
-use crate::lanes::{each, previous_eight, smaller, sum};
+use crate::lanes::previous_eight;
 use crate::pack::{ascii_bits, write_kept, write_pairs, write_threes};
 use crate::padded::moved_front;
 use crate::runs::Cursor;
@@ -66,14 +64,6 @@ fn write_ascii_units(out: &mut [u8], at: usize, units: u16x8) -> usize
     at + 8
 }
 
-// Units folded so that a unit is below 0x800 exactly if it is below U+0800 or a surrogate.
-#[inline(always)]
-fn folded_eight(units: u16x8) -> u16x8
-    ensures { HasLanes 8 result (λ i. folded (slice_index units i)) }
-{
-    smaller(units, sum(units, each(0x2800)))
-}
-
 // Writes the UTF-8 of eight units.
 #[inline(always)]
 fn write_eight_units(out: &mut [u8], at: usize, previous: u16x8, units: u16x8) -> usize
@@ -83,7 +73,7 @@ fn write_eight_units(out: &mut [u8], at: usize, previous: u16x8, units: u16x8) -
     ensures written_to { result ≤ at + 24 }
 {
     let preceding = previous_eight(previous, units);
-    let folded = folded_eight(units);
+    let folded = folded(units);
     if lanes_below(units, 0x80) {
         write_ascii_units(out, at, units)
     } else if lanes_below(units, 0x800) {

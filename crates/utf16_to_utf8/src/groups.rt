@@ -5,7 +5,7 @@
 
 ghost use Rattle.std.specs.Prelude.{◌≡◌, ◌<◌, ℕ, false, slice_index};
 ghost use Rattle.utf16_units.specs.Lanes.{HasLanes};
-ghost use Rattle.utf16_to_utf8.specs.Lanes.{absence, ending, ending_bits, is_surrogate, low, narrow, outer, surrogate_bits, third, two, two_bytes, wide};
+ghost use Rattle.utf16_to_utf8.specs.Lanes.{absence, ending, is_surrogate, low, narrow, outer, surrogate_bits, third, two_bytes, wide};
 
 use crate::lanes::{down, each, left, masked, raised, sum, where_below, where_surrogate};
 use std::simd::prelude::*;
@@ -72,7 +72,8 @@ pub(crate) fn outers<const N: usize>(units: Simd<u16, N>) -> Simd<u16, N>
     sum(raised(units, 8), sum(down(units, 12), each(0xE0)))
 }
 
-// The last two bytes of units that add two or three.
+// The last two bytes of units that add two or three. Their payload bits have the tag bits of the
+// first one above them.
 #[inline(always)]
 pub(crate) fn endings<const N: usize>(
     preceding: Simd<u16, N>,
@@ -84,51 +85,28 @@ pub(crate) fn endings<const N: usize>(
     ensures { HasLanes N result
         (λ i. ending (slice_index preceding.entry i) (slice_index units.entry i)) }
 {
-    two_bytes(each(0x8000), ending_bits(preceding, units, surrogates))
-}
-
-// The payload bits of these two bytes, with the tag bits of the first one above them.
-#[inline(always)]
-fn ending_bits<const N: usize>(
-    preceding: Simd<u16, N>,
-    units: Simd<u16, N>,
-    surrogates: bool,
-) -> Simd<u16, N>
-    requires { surrogates ≡ false → (i : ℕ) → i < N
-        → is_surrogate (slice_index units i) ≡ false }
-    ensures { HasLanes N result
-        (λ i. ending_bits (slice_index preceding.entry i) (slice_index units.entry i)) }
-{
     let tags = sum(each(0x2000), down(lows(units), 3));
     let bits = sum(masked(units, 0xFFF), tags);
     if !surrogates {
-        return bits;
+        return two_bytes(each(0x8000), bits);
     }
-    where_surrogate(units, surrogate_bits(preceding, units), bits)
+    let surrogate_bits = surrogate_bits(preceding, units);
+    two_bytes(each(0x8000), where_surrogate(units, surrogate_bits, bits))
 }
 
 // The upper bit of each byte: in the low half it is set if the unit adds one byte, in the high half
-// if it adds at most two. The other bits are unspecified.
+// if it adds at most two. Only these bits are read.
 #[inline(always)]
 pub(crate) fn absences<const N: usize>(units: Simd<u16, N>, surrogates: bool) -> Simd<u16, N>
     requires { surrogates ≡ false → (i : ℕ) → i < N
         → is_surrogate (slice_index units i) ≡ false }
     ensures { HasLanes N result (λ i. absence (slice_index units.entry i)) }
 {
-    sum(twos(units, surrogates), left(each(0xFF), units))
-}
-
-// The upper bit, if the unit adds at most two bytes.
-#[inline(always)]
-fn twos<const N: usize>(units: Simd<u16, N>, surrogates: bool) -> Simd<u16, N>
-    requires { surrogates ≡ false → (i : ℕ) → i < N
-        → is_surrogate (slice_index units i) ≡ false }
-    ensures { HasLanes N result (λ i. two (slice_index units.entry i)) }
-{
+    let ones = left(each(0xFF), units);
     if !surrogates {
-        return lows(units);
+        return sum(lows(units), ones);
     }
-    where_surrogate(units, each(0x8000), lows(units))
+    sum(where_surrogate(units, each(0x8000), lows(units)), ones)
 }
 
 // The upper bit, if the unit is below U+0800.

@@ -25,20 +25,6 @@ fn lane_bytes(lanes: u16x8) -> u8x16
     lanes.to_le_bytes()
 }
 
-// Writes sixteen bytes, two per unit, without the second byte of units with a bit in `one`.
-#[inline(always)]
-fn write_eight(out: &mut [u8], at: usize, pairs: u8x16, one: usize) -> usize
-    requires space { at + 16 ≤ length out.old }
-    requires bound { one < 256 }
-    ensures bytes { (flags : List Bool) → length flags ≡ 8 → one ≡ mask_l flags
-        → take result out.new ≡ take at out.old ++ packed flags pairs }
-    ensures written_to { result ≤ at + 16 }
-{
-    let standing = pairs.swizzle_dyn(places(one));
-    standing.copy_to_slice(&mut out[at..]);
-    at + (16 - one.count_ones() as usize)
-}
-
 // A bit for each ASCII unit.
 #[inline(always)]
 pub(crate) fn ascii_bits<const N: usize>(units: Simd<u16, N>) -> usize
@@ -62,7 +48,9 @@ pub(crate) fn write_pairs(out: &mut [u8], at: usize, pairs: u16x8, one: usize) -
         → take result out.new ≡ take at out.old ++ units_utf8 before units }
     ensures written_to { result ≤ at + 16 }
 {
-    write_eight(out, at, lane_bytes(pairs), one)
+    let standing = lane_bytes(pairs).swizzle_dyn(places(one));
+    standing.copy_to_slice(&mut out[at..]);
+    at + (16 - one.count_ones() as usize)
 }
 
 // Writes the UTF-8 of sixteen units that add at most two bytes each.

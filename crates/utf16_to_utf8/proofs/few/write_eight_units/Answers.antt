@@ -24,8 +24,8 @@ returns-then-lanes_from-clause-bytes c =
     c.write_threes.ensures.bytes (slice_index c.args.previous 7) units c.fits-units.0 (λ i lt last.
     let unit = slice_index units i in
     let fits = Each1-get_or (Fits w16) units i 0 (omega (arith, lt, c.fits-units.0)) c.fits-units.1 in
-    let above = All-get_or (λ u. 0x800 ≤ u) c.folded_eight-folded.result i 0 (omega (arith, lt, c.folded_eight-folded.ensures.len)) (c.lanes_from.ensures c.if-lanes_from.true) in
-    let wide = folded-wide unit fits.fits (subst (λ n. 0x800 ≤ n) (c.folded_eight-folded.ensures.lanes i lt) above) in
+    let above = All-get_or (λ u. 0x800 ≤ u) c.folded-folded.result i 0 (omega (arith, lt, c.folded-folded.ensures.len)) (c.lanes_from.ensures c.if-lanes_from.true) in
+    let wide = folded-wide unit fits.fits (subst (λ n. 0x800 ≤ n) (c.folded-folded.ensures.lanes i lt) above) in
     ap₂ (λ f t. (f % 256) ∷ (f / 256 % 256) ∷ (t % 256) ∷ []) (c.wide.ensures.lanes i lt) (c.thirds.ensures.lanes i lt) ∙ wide-utf8 last unit fits.fits wide)
 
 pub returns-then-lanes_below-3-clause-bytes : goal.returns-then-lanes_below-3-clause-bytes
@@ -35,8 +35,8 @@ returns-then-lanes_below-3-clause-bytes c =
     c.write_pairs-then-lanes_below-3.ensures.bytes before units c.fits-units.0 c.ascii_bits-then-lanes_below-3.ensures.bits (λ i lt.
     let unit = slice_index units i in
     let fits = Each1-get_or (Fits w16) units i 0 (omega (arith, lt, c.fits-units.0)) c.fits-units.1 in
-    let low = All-get_or (λ u. u < 0x800) c.folded_eight-folded.result i 0 (omega (arith, lt, c.folded_eight-folded.ensures.len)) (c.lanes_below-else-lanes_from.ensures.0 c.if-lanes_below-3.true) in
-    let few = folded-narrow unit fits.fits (subst (λ n. n < 0x800) (c.folded_eight-folded.ensures.lanes i lt) low) in
+    let low = All-get_or (λ u. u < 0x800) c.folded-folded.result i 0 (omega (arith, lt, c.folded-folded.ensures.len)) (c.lanes_below-else-lanes_from.ensures.0 c.if-lanes_below-3.true) in
+    let few = folded-narrow unit fits.fits (subst (λ n. n < 0x800) (c.folded-folded.ensures.lanes i lt) low) in
     subst (IsPair (slice_index (before ∷ units) i) unit) (sym (c.narrow-then-lanes_below-3.ensures.lanes i lt ∙ ap (λ p. narrow p unit) (c.previous_eight-preceding.ensures.lanes i lt)))
     (narrow-utf8 (slice_index (before ∷ units) i) unit fits.fits few))
 
