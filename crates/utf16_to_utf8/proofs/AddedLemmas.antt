@@ -1,10 +1,13 @@
--- What eight lanes compute of a unit is what the unit adds.
-use Rattle.std.proofs.Common.{◌≡◌, ℕ, ◌+◌, ◌-◌, ◌*◌, ◌/◌, ◌%◌, ◌^◌, ◌<◌, ◌≤◌, ◌⊎◌, Bool, true, false, cond, ltb, List, [], ◌∷◌, length, take, bit_and, refl, sym, ap, ap₂, ◌∙◌, ⊎_elim, arith, inl, inr, eq-eqb, eqb-true, lt-ltb, le-ltb}
+-- What lanes compute of a unit is what the unit adds.
+use Rattle.std.proofs.Common.{◌≡◌, ℕ, ◌+◌, ◌-◌, ◌*◌, ◌/◌, ◌%◌, ◌^◌, ◌<◌, ◌≤◌, ◌⊎◌, Bool, true, false, cond, ltb, List, [], ◌∷◌, Fits, w16, length, slice_index, bit_and, refl, sym, ap, ap₂, ◌∙◌, ⊎_elim, arith, inl, inr, eq-eqb, eqb-true, lt-ltb, le-ltb}
 use Rattle.std.proofs.lemmas.Bool.{cases_lt, false_from_ne_true}
 use Rattle.std.proofs.lemmas.Nat.{and_mask}
 use Rattle.std.proofs.lemmas.Nat.Bits.{and_high}
+use Rattle.std.proofs.lemmas.Simd.{Each1-get_or}
+use lib.Lanes.{Each1}
+use Rattle.utf16_units.specs.Lanes.{HasLanes}
 use Rattle.utf16_to_utf8.specs.Lanes.{absence, added_len, ending, is_surrogate, low, narrow, outer, plus, surrogate_bits, third, two, two_bytes, up, wide}
-use Rattle.utf16_to_utf8.specs.Pack.{IsKept}
+use Rattle.utf16_to_utf8.specs.Pack.{IsKept, IsPair, IsThree}
 use Rattle.utf16_to_utf8.specs.Utf8.{continuation, unit_utf8}
 use Rattle.utf16_to_utf8.proofs.UnitLemmas.{unit-leading, unit-one, unit-three, unit-trailing, unit-two}
 
@@ -215,3 +218,24 @@ length-unit p u below = go (class u)
     go (inr (inr (inl b))) = ap length (unit-leading p u b.0 b.1) ∙ sym (added_len-surrogate u (b.0, omega (arith, b.1)))
     go (inr (inr (inr (inl b)))) = ap length (unit-trailing p u b.0 b.1) ∙ sym (added_len-surrogate u (omega (arith, b.0), b.1))
     go (inr (inr (inr (inr b)))) = ap length (unit-three p u b.0 b.1) ∙ sym (added_len-three u below b.0 b.1)
+
+-- ---- the lanes of n units
+
+module _ (n : ℕ) (units : List ℕ) (long : length units ≡ n) (fit : Each1 (Fits w16) units) where
+  below : (i : ℕ) → i < n → slice_index units i < 0x1_0000
+  below i lt = (Each1-get_or (Fits w16) units i 0 (omega (arith, lt, long)) fit).fits
+
+  pub threes-of : (fronts thirds : List ℕ) → HasLanes n fronts (λ i. wide (slice_index units i)) → HasLanes n thirds (λ i. third (slice_index units i))
+      → ((i : ℕ) → i < n → added_len (slice_index units i) ≡ 3) → (i : ℕ) → i < n → IsThree (slice_index units i) (slice_index fronts i) (slice_index thirds i)
+  threes-of fronts thirds x y are i lt last = rw (x.lanes i lt, y.lanes i lt) (wide-utf8 last (slice_index units i) (below i lt) (are i lt))
+
+  module _ (before : ℕ) (preceding : List ℕ) (behind : HasLanes n preceding (λ i. slice_index (before ∷ units) i)) where
+    pub pairs-of : (pairs : List ℕ) → HasLanes n pairs (λ i. narrow (slice_index preceding i) (slice_index units i)) → ((i : ℕ) → i < n → added_len (slice_index units i) ≤ 2)
+        → (i : ℕ) → i < n → IsPair (slice_index (before ∷ units) i) (slice_index units i) (slice_index pairs i)
+    pairs-of pairs x few i lt = rw (x.lanes i lt, behind.lanes i lt) (narrow-utf8 (slice_index (before ∷ units) i) (slice_index units i) (below i lt) (few i lt))
+
+    pub kept-of : (outers endings absences : List ℕ) → HasLanes n outers (λ i. outer (slice_index units i)) → HasLanes n endings (λ i. ending (slice_index preceding i) (slice_index units i))
+        → HasLanes n absences (λ i. absence (slice_index units i))
+        → (i : ℕ) → i < n → IsKept (slice_index (before ∷ units) i) (slice_index units i) (slice_index outers i) (slice_index endings i) (slice_index absences i)
+    kept-of outers endings absences x y z i lt =
+        rw (x.lanes i lt, y.lanes i lt, z.lanes i lt, behind.lanes i lt) (kept-utf8 (slice_index (before ∷ units) i) (slice_index units i) (below i lt))

@@ -3,7 +3,7 @@ use Rattle.std.proofs.Common.{◌≡◌, ℕ, zero, suc, ◌+◌, ◌*◌, ◌/�
 use Rattle.std.proofs.lemmas.Bool.{cases_Bool, cases_lt, eqb-false, false_from_ne_true, true≢false}
 use Rattle.std.proofs.lemmas.List.Elements.{All-head, All-tail}
 use Rattle.std.proofs.lemmas.Nat.Bits.{and_high}
-use Rattle.std.proofs.lemmas.Simd.{chunk-drop, get_or-chunk, length-chunk}
+use Rattle.std.proofs.lemmas.Simd.{get_or-chunk, length-chunk}
 use lib.Lanes.{chunk}
 use Rattle.utf16_units.specs.Lanes.{high_byte}
 use Rattle.utf16_to_utf8.specs.Lanes.{added_len, is_surrogate}
@@ -121,8 +121,8 @@ module _ (R : ℕ → ℕ → ℕ → ℕ → ℕ → Type 0) (before a : ℕ) (
   last_of zero lt = let here : a ≡ a + 0 = omega arith in ap (slice_index (before ∷ units)) here
   last_of (suc i) lt = let next : suc (a + i) ≡ a + suc i = omega arith in get_or-chunk a 8 units i 0 (omega (arith, lt)) ∙ ap (slice_index (before ∷ units)) next
 
-  pub of_eight : a + 8 ≤ length units → (xs ys zs x y z : List ℕ) → x ≡ chunk a 8 xs → y ≡ chunk a 8 ys → z ≡ chunk a 8 zs
-      → ((i : ℕ) → i < length units → R (slice_index (before ∷ units) i) (slice_index units i) (slice_index xs i) (slice_index ys i) (slice_index zs i))
+  pub of_eight : a + 8 ≤ 16 → (xs ys zs x y z : List ℕ) → x ≡ chunk a 8 xs → y ≡ chunk a 8 ys → z ≡ chunk a 8 zs
+      → ((i : ℕ) → i < 16 → R (slice_index (before ∷ units) i) (slice_index units i) (slice_index xs i) (slice_index ys i) (slice_index zs i))
       → (i : ℕ) → i < 8 → R (slice_index (slice_index (before ∷ units) a ∷ chunk a 8 units) i) (slice_index (chunk a 8 units) i) (slice_index x i) (slice_index y i) (slice_index z i)
   of_eight room xs ys zs x y z px py pz are i lt =
       let lane = λ (v vs : List ℕ) (e : v ≡ chunk a 8 vs). ap (λ l. slice_index l i) e ∙ get_or-chunk a 8 vs i 0 lt in
