@@ -73,8 +73,9 @@ narrow-two p u b = two_bits p u b ∙ two_bytes-is 0 (plus u 0x3000) (omega (ari
 
 narrow-leading : (p u : ℕ) → Between 0xD800 0xDC00 u → narrow p u ≡ (0xF0 + (u - 0xD7C0) / 256) + 256 * continuation ((u - 0xD7C0) / 4)
 narrow-leading p u b =
-    let bits = plus u 0x1840 / 4 in
-    let is : surrogate_bits p u ≡ bits = rw (lt-ltb u 0xDC00 b.1) refl in
+    let bits = plus u 0x2400 / 2 ^ 2 - 0x2F0 in
+    let low : bit_and p 3 ≡ p % 4 = and_mask p 2 in
+    let is : surrogate_bits p u ≡ bits = rw (le-ltb bits (plus (up (bit_and p 3) 10) (plus u 0x4400)) (omega (arith, low, b.0, b.1))) refl in
     surrogate_two p u (b.0, omega (arith, b.1)) ∙ ap (two_bytes 0x8000) is ∙ two_bytes-is 0 bits (omega (arith, b.1)) ∙ omega (arith, b.0, b.1)
 
 narrow-trailing : (p u : ℕ) → Between 0xDC00 0xE000 u → narrow p u ≡ continuation (p % 4 * 16 + u % 1024 / 64) + 256 * continuation u
@@ -82,7 +83,7 @@ narrow-trailing p u b =
     let bits = 0x2000 + (p % 4 * 1024 + u % 1024) in
     let low : bit_and p 3 ≡ p % 4 = and_mask p 2 in
     let is : plus (up (bit_and p 3) 10) (plus u 0x4400) ≡ bits = omega (arith, low, b.0, b.1) in
-    let chosen : surrogate_bits p u ≡ plus (up (bit_and p 3) 10) (plus u 0x4400) = rw (le-ltb u 0xDC00 b.0) refl in
+    let chosen : surrogate_bits p u ≡ plus (up (bit_and p 3) 10) (plus u 0x4400) = rw (lt-ltb (plus u 0x2400 / 2 ^ 2 - 0x2F0) (plus (up (bit_and p 3) 10) (plus u 0x4400)) (omega (arith, is, b.0, b.1))) refl in
     surrogate_two p u (omega (arith, b.0), b.1) ∙ ap (two_bytes 0x8000) (chosen ∙ is) ∙ two_bytes-is 0 bits (omega arith) ∙ omega arith
 
 -- a unit that adds at most two bytes and is not a surrogate

@@ -30,13 +30,6 @@ low-is u a =
 pub low-no : (u : ℕ) → u < 0x1_0000 → 0x800 ≤ u → is_low u ≡ false
 low-no u below a = false_from_ne_true (is_low u) (λ e. omega (arith, a, low-below u below e))
 
-low-above : (u : ℕ) → u < 0x1_0000 → is_low u ≡ false → 0x800 ≤ u
-low-above u below e = ⊎_elim
-    (λ (a : u < 0x800).
-    absurd (true≢false (sym (low-is u a) ∙ e)))
-    (λ (b : 0x800 ≤ u). b)
-    (cases_lt u 0x800)
-
 abbrev pub has_surrogate_byte : ℕ → Bool
 has_surrogate_byte unit = eqb (bit_and (high_byte unit) 0xF8) 0xD8
 
@@ -65,12 +58,6 @@ two_at_most false false false (inr e) = absurd (true≢false (sym e))
 pub narrow-kind : (u : ℕ) → u < 0x1_0000 → (is_low u ≡ true) ⊎ (is_surrogate u ≡ true) → added_len u ≤ 2
 narrow-kind u below (inl low) = two_at_most (ltb u 0x80) (ltb u 0x800) (is_surrogate u) (inl (lt-ltb u 0x800 (low-below u below low)))
 narrow-kind u below (inr s) = two_at_most (ltb u 0x80) (ltb u 0x800) (is_surrogate u) (inr s)
-
-pub wide-kind : (u : ℕ) → u < 0x1_0000 → is_low u ≡ false → is_surrogate u ≡ false → added_len u ≡ 3
-wide-kind u below low s =
-    let b = low-above u below low in
-    let a : 0x80 ≤ u = omega (arith, b) in
-    rw (le-ltb u 0x80 a, le-ltb u 0x800 b, s) refl
 
 -- ---- ASCII
 

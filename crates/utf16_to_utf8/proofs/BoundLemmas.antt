@@ -2,7 +2,7 @@
 use Rattle.std.proofs.Common.{◌≡◌, ℕ, ◌+◌, ◌-◌, ◌*◌, ◌^◌, ◌<◌, ◌≤◌, ◌⊎◌, Bool, true, false, cond, ltb, ltb-true, ltb-false, inl, inr, List, [], ◌∷◌, ◌++◌, All, length, map, get_or, slice_index, refl, sym, ap, ap₂, ◌∙◌, subst, ⊎_elim, arith}
 use Rattle.std.proofs.lemmas.Bool.{cases_lt}
 use Rattle.std.proofs.lemmas.List.Elements.{All-append, All-cons, All-from_get_or, All-get_or, All-head, All-nil, All-tail}
-use Rattle.std.proofs.lemmas.Simd.{get_or-sel_l, get_or-zip2, length-sel_l, length-zip2, tops_compared}
+use Rattle.std.proofs.lemmas.Simd.{get_or-sel_l, get_or-zip2, length-chunk, length-sel_l, length-zip2, tops_compared}
 use Rattle.std.proofs.Math.Nat.{two-pow-succ}
 use lib.Lanes.{chunk, mask_l, sel_l, top, zip2}
 use mir.Syntax.{Width}
@@ -92,13 +92,23 @@ pub below_greater : (n limit : ℕ) (a b m : List ℕ) → length a ≡ n → le
 below_greater n limit a b m pa pb lanes = both_by (λ u. u < limit) a b m (pa ∙ sym lanes.len) (pb ∙ sym lanes.len) (λ i lt below.
     choice-above _ _ _ limit (lanes.lanes i (omega (arith, lt, lanes.len))) below)
 
-pub from_lesser : (n limit : ℕ) (a b m : List ℕ) → length a ≡ n → length b ≡ n → HasLanes n m (λ i. cond (ltb (slice_index a i) (slice_index b i)) (slice_index a i) (slice_index b i))
-    → All (λ u. limit ≤ u) m → All (λ u. limit ≤ u) a × All (λ u. limit ≤ u) b
-from_lesser n limit a b m pa pb lanes = both_by (λ u. limit ≤ u) a b m (pa ∙ sym lanes.len) (pb ∙ sym lanes.len) (λ i lt above.
-    choice-below _ _ _ limit (lanes.lanes i (omega (arith, lt, lanes.len))) above)
+-- the halves of some units, and the larger or the smaller ones of their lanes
+module _ (n limit : ℕ) (units a b m : List ℕ) (long : length units ≡ n + n) (pa : a ≡ chunk 0 n units) (pb : b ≡ chunk n n units) where
+  both : (P : ℕ → Type 0) → All P a × All P b → All P units
+  both P all = subst (All P) (ap₂ (λ x y. x ++ y) pa pb ∙ sym (halves n units long)) (All-append P a b all.0 all.1)
 
-pub all_halves : (P : ℕ → Type 0) (n : ℕ) (units a b : List ℕ) → length units ≡ n + n → a ≡ chunk 0 n units → b ≡ chunk n n units → All P a × All P b → All P units
-all_halves P n units a b long pa pb all = subst (All P) (ap₂ (λ x y. x ++ y) pa pb ∙ sym (halves n units long)) (All-append P a b all.0 all.1)
+  length-a : length a ≡ n
+  length-a = ap length pa ∙ length-chunk 0 n units (omega (arith, long))
+
+  length-b : length b ≡ n
+  length-b = ap length pb ∙ length-chunk n n units (omega (arith, long))
+
+  pub below_larger : HasLanes n m (λ i. cond (ltb (slice_index a i) (slice_index b i)) (slice_index b i) (slice_index a i)) → All (λ u. u < limit) m → All (λ u. u < limit) units
+  below_larger lanes all = both (λ u. u < limit) (below_greater n limit a b m length-a length-b lanes all)
+
+  pub from_smaller : HasLanes n m (λ i. cond (ltb (slice_index a i) (slice_index b i)) (slice_index a i) (slice_index b i)) → All (λ u. limit ≤ u) m → All (λ u. limit ≤ u) units
+  from_smaller lanes all = both (λ u. limit ≤ u) (both_by (λ u. limit ≤ u) a b m (length-a ∙ sym lanes.len) (length-b ∙ sym lanes.len)
+      (λ i lt above. choice-below _ _ _ limit (lanes.lanes i (omega (arith, lt, lanes.len))) above) all)
 
 -- ---- the kinds of units
 

@@ -20,7 +20,10 @@ two_bytes marks bits = plus (plus (bits / 2 ^ 6) marks) (up (bit_and bits 0x3F) 
 -- the payload bits of the two bytes that a surrogate adds, with the tag bits of the first above
 -- them
 abbrev pub surrogate_bits : ℕ → ℕ → ℕ
-surrogate_bits before unit = if nat_lt unit 0xDC00 then plus unit 0x1840 / 2 ^ 2 else plus (up (bit_and before 3) 10) (plus unit 0x4400)
+surrogate_bits before unit =
+    let leading = plus unit 0x2400 / 2 ^ 2 - 0x2F0 in
+    let trailing = plus (up (bit_and before 3) 10) (plus unit 0x4400) in
+    if nat_lt leading trailing then trailing else leading
 
 -- the two bytes of a unit that adds at most two
 abbrev pub narrow : ℕ → ℕ → ℕ

@@ -8,7 +8,7 @@ ghost use Rattle.utf16_to_utf8.specs.Lanes.{folded, plus};
 ghost use Rattle.utf16_to_utf8.specs.Utf8.{units_utf8};
 ghost use Rattle.utf16_to_utf8.specs.declared.blocks.Kind.TheVariants.{Ascii};
 
-use crate::lanes::{doubled, each, eights, sixteens, smaller, sum};
+use crate::lanes::{doubled, each, eights, larger, sixteens, smaller, sum};
 use crate::writers::{BasicWriter, LettersWriter, MixedWriter, PairsWriter, WideWriter, Writer};
 use std::simd::prelude::*;
 use utf16_units::Utf16Order;
@@ -50,7 +50,7 @@ pub(crate) fn are_both_ascii(first: u16x32, second: u16x32) -> bool
     ensures first { IsTrue result → AreOfKind Ascii first }
     ensures second { IsTrue result → AreOfKind Ascii second }
 {
-    are_below(greater(first, second), 0x80)
+    are_below(larger(first, second), 0x80)
 }
 
 // Whether all units are below a limit.
@@ -77,18 +77,8 @@ fn greatest(units: u16x32) -> u16x8
         → All (λ unit. unit < limit) units }
 {
     let (first, second) = sixteens(units);
-    let (low, high) = eights(greater(first, second));
-    greater(low, high)
-}
-
-// The greater of the lanes at the same place.
-#[inline(always)]
-fn greater<const N: usize>(a: Simd<u16, N>, b: Simd<u16, N>) -> Simd<u16, N>
-    ensures len { length result ≡ N }
-    ensures bound { (limit : ℕ) → All (λ unit. unit < limit) result
-        → All (λ unit. unit < limit) a.entry × All (λ unit. unit < limit) b.entry }
-{
-    a.simd_max(b)
+    let (low, high) = eights(larger(first, second));
+    larger(low, high)
 }
 
 // Whether no unit is below a limit.
@@ -115,18 +105,8 @@ fn least(units: u16x32) -> u16x8
         → All (λ unit. limit ≤ unit) units }
 {
     let (first, second) = sixteens(units);
-    let (low, high) = eights(lesser(first, second));
-    lesser(low, high)
-}
-
-// The lesser of the lanes at the same place.
-#[inline(always)]
-fn lesser<const N: usize>(a: Simd<u16, N>, b: Simd<u16, N>) -> Simd<u16, N>
-    ensures len { length result ≡ N }
-    ensures bound { (limit : ℕ) → All (λ unit. limit ≤ unit) result
-        → All (λ unit. limit ≤ unit) a.entry × All (λ unit. limit ≤ unit) b.entry }
-{
-    a.simd_min(b)
+    let (low, high) = eights(smaller(first, second));
+    smaller(low, high)
 }
 
 // Units raised so that a unit is below 0x800 exactly if it is a surrogate.

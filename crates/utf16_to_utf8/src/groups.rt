@@ -7,7 +7,7 @@ ghost use Rattle.std.specs.Prelude.{◌≡◌, ◌<◌, ℕ, false, slice_index}
 ghost use Rattle.utf16_units.specs.Lanes.{HasLanes};
 ghost use Rattle.utf16_to_utf8.specs.Lanes.{absence, ending, is_surrogate, low, narrow, outer, surrogate_bits, third, two_bytes, wide};
 
-use crate::lanes::{down, each, left, masked, raised, sum, where_below, where_surrogate};
+use crate::lanes::{down, each, larger, left, masked, raised, sum, where_below, where_surrogate};
 use std::simd::prelude::*;
 
 #[inline(always)]
@@ -19,14 +19,15 @@ fn two_bytes<const N: usize>(marks: Simd<u16, N>, bits: Simd<u16, N>) -> Simd<u1
 }
 
 // The payload bits of the two bytes of surrogates, with the tag bits of the first byte above them.
+// If the unit is leading, `leading` is the larger one, else it is zero.
 #[inline(always)]
 fn surrogate_bits<const N: usize>(preceding: Simd<u16, N>, units: Simd<u16, N>) -> Simd<u16, N>
     ensures { HasLanes N result
         (λ i. surrogate_bits (slice_index preceding.entry i) (slice_index units.entry i)) }
 {
-    let leading = down(sum(units, each(0x1840)), 2);
+    let leading = left(down(sum(units, each(0x2400)), 2), each(0x2F0));
     let trailing = sum(raised(masked(preceding, 3), 10), sum(units, each(0x4400)));
-    where_below(units, 0xDC00, leading, trailing)
+    larger(leading, trailing)
 }
 
 // The two bytes of units that add at most two; unspecified for other units.

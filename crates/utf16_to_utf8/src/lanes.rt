@@ -55,6 +55,15 @@ pub(crate) fn raised<const N: usize>(v: Simd<u16, N>, bits: u16) -> Simd<u16, N>
     v << Simd::splat(bits)
 }
 
+// The larger of the lanes at the same place.
+#[inline(always)]
+pub(crate) fn larger<const N: usize>(a: Simd<u16, N>, b: Simd<u16, N>) -> Simd<u16, N>
+    ensures { HasLanes N result (λ i. if nat_lt (slice_index a.entry i) (slice_index b.entry i)
+        then slice_index b.entry i else slice_index a.entry i) }
+{
+    a.simd_max(b)
+}
+
 // The smaller of the lanes at the same place.
 #[inline(always)]
 pub(crate) fn smaller<const N: usize>(a: Simd<u16, N>, b: Simd<u16, N>) -> Simd<u16, N>

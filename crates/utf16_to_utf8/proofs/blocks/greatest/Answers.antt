@@ -1,8 +1,7 @@
-use Rattle.std.proofs.Common.{◌<◌}
-use Rattle.utf16_to_utf8.proofs.BoundLemmas.{all_halves}
+use Rattle.utf16_to_utf8.proofs.BoundLemmas.{below_larger}
 use Rattle.utf16_to_utf8.proofs.blocks.greatest.Goals as goal
 
 pub returns-clause-bound : goal.returns-clause-bound
 returns-clause-bound c limit all =
-    let low = all_halves (λ u. u < limit) 8 c.greater.result _ _ c.greater.ensures.len c.eights.ensures.low c.eights.ensures.high (c.greater-2.ensures.bound limit all) in
-    all_halves (λ u. u < limit) 16 c.args.units _ _ c.fits-units.0 c.sixteens.ensures.low c.sixteens.ensures.high (c.greater.ensures.bound limit low)
+    let low = below_larger 8 limit c.larger.result _ _ _ c.larger.ensures.len c.eights.ensures.low c.eights.ensures.high c.larger-2.ensures all in
+    below_larger 16 limit c.args.units _ _ _ c.fits-units.0 c.sixteens.ensures.low c.sixteens.ensures.high c.larger.ensures low
