@@ -95,8 +95,8 @@ pub(crate) fn endings<const N: usize>(
     two_bytes(each(0x8000), where_surrogate(units, surrogate_bits, bits))
 }
 
-// The upper bit of each byte: in the low half it is set if the unit adds one byte, in the high half
-// if it adds at most two. Only these bits are read.
+// In the low half of a lane the upper bit is set if the unit adds one byte, in the high half if it
+// adds at most two. No other bit is read.
 #[inline(always)]
 pub(crate) fn absences<const N: usize>(units: Simd<u16, N>, surrogates: bool) -> Simd<u16, N>
     requires { surrogates ≡ false → (i : ℕ) → i < N

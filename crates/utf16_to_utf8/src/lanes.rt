@@ -115,7 +115,7 @@ pub(crate) fn previous_lanes(previous: u16x16, v: u16x16) -> u16x16
     )
 }
 
-// The same of eight lanes.
+// The lane before each one of eight.
 #[inline(always)]
 pub(crate) fn previous_eight(previous: u16x8, v: u16x8) -> u16x8
     ensures { HasLanes 8 result (λ i. slice_index (slice_index previous 7 ∷ v) i) }
