@@ -61,6 +61,8 @@ rm -rf "$out/man3"
 "$here/man3" "$out/man3"
 if [[ ${folder##*/} != x86_64-*linux-gnu* ]]; then
     echo 'build.sh: the programs utf16_cat and utf16_enc are only for Linux on x86-64' >&2
+elif [ "${PROGRAMS-}" = none ]; then
+    : # make -C dist never calls rt.
 elif command -v rt > /dev/null && [ -d "$top/crates" ]; then
     program utf16_cat
     program utf16_enc
