@@ -17,8 +17,8 @@ pub(crate) trait Writer {
     fn write_group(out: &mut [u8], at: usize, previous: u16x16, units: u16x16) -> usize
         requires space { at + 56 ≤ length out.old }
         requires kind { AreOfKind KIND units }
-        ensures bytes { take result out.new ≡ take at out.old ++ units_utf8 (slice_index previous 15)
-            units }
+        ensures bytes { take result out.new
+            ≡ take at out.old ++ units_utf8 (slice_index previous 15) units }
         ensures written_to { result ≤ at + 48 };
 }
 
