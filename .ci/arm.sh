@@ -1,8 +1,8 @@
 #!/usr/bin/env bash
 # Tests the library for Linux on ARM64, which cross compilers build from dist/, under qemu-aarch64:
 # the tables of cases, the programs of the documents, a decoder of chunks, big buffers, the fuzzing
-# harness with pages of 4 and of 64 KiB, the symbols and the Debian packages. .ci/install.sh tests the
-# release archive.
+# harness with pages of 4 and of 64 KiB, the symbols and the Debian packages. .ci/install.sh tests
+# the release archive.
 # qemu emulates a Cortex-A53, which has no more than what each ARM64 processor has. If this runs as
 # root, apt-get installs missing tools; if one is still missing, this part is skipped. Prints each
 # check that fails; the last line is 'N passed, M failed'.

@@ -1,5 +1,6 @@
-# Sourced by .ci/install.sh and .ci/arm.sh: how they count checks, and what a library's symbols must
-# be. They set `top`, the folder of the tree, and `room`, a temporary folder.
+# Sourced by .ci/arm.sh, .ci/dist.sh, .ci/install.sh and .ci/windows.sh: how they count checks and
+# install tools, and what a library's symbols must be. They set `top`, the folder of the tree, and
+# `room`, a temporary folder.
 passed=0
 failed=0
 

@@ -42,7 +42,8 @@ compile() {
 
 mkdir -p "$(dirname "$to")" out
 if ! compile > out/compiled.log 2>&1; then
-    "$kit/bin/rattle" check "${words[@]}" --logic-built "$kit/logic_built" --jobs 4 -o "$checked" $source
+    "$kit/bin/rattle" check "${words[@]}" --logic-built "$kit/logic_built" --jobs 4 \
+        -o "$checked" $source
     compile
 fi
 [ "$made" = "$to" ] || "$kit/bin/rattle-link" --target x86_64-unknown-linux-gnu \

@@ -8,34 +8,17 @@ set -uo pipefail
 top=$(cd "$(dirname "$0")/.." && pwd)
 room=$(mktemp -d)
 trap 'rm -rf "$room"' EXIT
-passed=0
-failed=0
+. "$top/.ci/checks.sh"
+tools=(aarch64-linux-gnu-gcc:gcc-aarch64-linux-gnu cmake:cmake clang:clang)
+tools+=(x86_64-w64-mingw32-gcc:gcc-mingw-w64-x86-64)
 
 # Runs a step. It counts by the lines 'N passed, 0 failed' of its tests, or as one.
 count() {
-    local name=$1 tests
-    shift
-    if "$@" > "$room/said" 2>&1; then
-        tests=$(sed -n 's/^\([0-9]*\) passed, 0 failed\r\?$/\1/p' "$room/said" | paste -sd +)
-        passed=$((passed + ${tests:-1}))
-        return
-    fi
-    failed=$((failed + 1))
-    echo "failed: $name"
-    tail -n 20 "$room/said"
-    return 1
-}
-
-# Installs the packages of missing tools, if this runs as root.
-provide_tools() {
-    local pair missing=()
-    for pair in aarch64-linux-gnu-gcc:gcc-aarch64-linux-gnu cmake:cmake clang:clang \
-        x86_64-w64-mingw32-gcc:gcc-mingw-w64-x86-64; do
-        command -v "${pair%:*}" > /dev/null || missing+=("${pair#*:}")
-    done
-    [ ${#missing[@]} = 0 ] && return
-    [ $EUID = 0 ] && apt-get -o DPkg::Lock::Timeout=60 install -y -q --no-install-recommends \
-        "${missing[@]}"
+    local tests
+    check "$@" || return
+    grep '^skipped: ' "$room/said"
+    tests=$(sed -n 's/^\([0-9]*\) passed, 0 failed\r\?$/\1/p' "$room/said" | paste -sd +)
+    [ -z "$tests" ] || passed=$((passed - 1 + tests))
 }
 
 # Builds and tests dist/ with make, without rt.
@@ -53,14 +36,30 @@ with_cmake() {
         "$room/user/user_shared" && "$room/user/user_static"
 }
 
-# Tests that a processor or a system without assembly is refused with one line.
-refuses() {
-    printf '#!/bin/sh\necho %s\n' "$1" > "$room/other" && chmod +x "$room/other" &&
-        ! make -s -C "$clone/dist" CC="$room/other" 2> "$room/line" &&
-        grep -F "there is no assembly for $1" "$room/line"
+# Installs dist/ in a clone that has not built it, with an rt that must not be called.
+installs() {
+    local prefix=$room/installed
+    mkdir "$room/path" && printf '#!/bin/sh\ntouch "%s/called"\nexit 9\n' "$room" > "$room/path/rt" &&
+        chmod +x "$room/path/rt" && git clone -q "$top" "$room/new" &&
+        PATH=$room/path:/usr/bin:/bin make -C "$room/new/dist" install PREFIX="$prefix" &&
+        [ ! -e "$room/called" ] && [ -s "$prefix/lib/libdethrux.a" ] &&
+        [ -s "$prefix/share/man/man3/dethrux_validate.3" ] && [ ! -e "$prefix/bin" ]
 }
 
-count 'tools' provide_tools
+# Tests that make refuses words with this line.
+refuses() {
+    local line=$1
+    shift
+    ! make -s -C "$clone/dist" "$@" 2> "$room/line" && grep -F "$line" "$room/line"
+}
+
+# Tests that a processor or a system without assembly is refused.
+refuses_target() {
+    printf '#!/bin/sh\necho %s\n' "$1" > "$room/other" && chmod +x "$room/other" &&
+        refuses "there is no assembly for $1" CC="$room/other"
+}
+
+provide "${tools[@]}"
 count 'dist/ is what packaging/assembly writes' "$top/packaging/assembly" --check
 clone="$room/a clone"
 count 'a clone' git clone -q "$top" "$clone"
@@ -71,9 +70,10 @@ if grep -q -w avx2 /proc/cpuinfo; then
 else
     echo 'skipped: x86-64-v3: the processor has no AVX2'
 fi
+count 'make install' installs
 count 'CMake' with_cmake
 for target in i686-linux-gnu x86_64-linux-gnux32 riscv64-linux-gnu x86_64-unknown-freebsd; do
-    count "a compiler for $target" refuses "$target"
+    count "a compiler for $target" refuses_target "$target"
 done
-echo "$passed passed, $failed failed"
-[ $failed = 0 ]
+count 'another level' refuses 'LEVEL=x86-64-v4: take x86-64-v2 or x86-64-v3' LEVEL=x86-64-v4
+finish

@@ -99,7 +99,8 @@ with_little_memory() {
 export -f with_little_memory
 
 # Runs $P with these arguments, and one of its calls fails: the kind of the call, and its number.
-# Descriptor 9 gets a byte if the call is made, and one for each later write to where a write failed.
+# Descriptor 9 gets a byte if the call is made, and one for each later write to where a write
+# failed.
 with_fault() {
     FAULT_KIND=$1 FAULT_AT=$2 LD_PRELOAD=$PWD/faults.so "$P" "${@:3}"
 }

@@ -14,8 +14,7 @@ version=$(< "$top/VERSION")
 archive=dethrux-$version-x86_64-windows
 gcc=x86_64-w64-mingw32-gcc
 room=$(mktemp -d)
-passed=0
-failed=0
+. "$top/.ci/checks.sh"
 
 # Wine keeps its files in the room, prints nothing of its own, and looks for neither .NET nor menus.
 # Without its debugger, a program that ends by a fault has a status other than 0.
@@ -31,27 +30,6 @@ clean() {
 }
 trap clean EXIT
 
-# Prints the counts and ends.
-finish() {
-    echo "$passed passed, $failed failed"
-    [ $failed = 0 ]
-    exit
-}
-
-# Counts a check by the status of a command, and prints the end of its output if it failed.
-check() {
-    local name=$1
-    shift
-    if "$@" > "$room/said" 2>&1; then
-        passed=$((passed + 1))
-    else
-        failed=$((failed + 1))
-        echo "failed: $name"
-        tail -n 20 "$room/said"
-        return 1
-    fi
-}
-
 # Tests that a command fails, and that its output has these words.
 refuses() {
     local words=$1
@@ -61,37 +39,20 @@ refuses() {
 
 # == tools
 
-install_packages() {
-    apt-get -o DPkg::Lock::Timeout=60 install -y -q --no-install-recommends "$@"
-}
+tools=($gcc:gcc-mingw-w64-x86-64 x86_64-w64-mingw32-g++:g++-mingw-w64-x86-64 clang:clang)
+tools+=(lld-link:lld make:make cmake:cmake pkg-config:pkg-config)
+tools+=(/usr/lib/wine/wine64:wine64)
 
 # Prints the path of the program that starts programs of Windows.
 wine_program() {
     command -v wine || command -v wine64 || command -v /usr/lib/wine/wine64
 }
 
-# Prints the packages whose tool is missing.
-missing_packages() {
-    local pair
-    for pair in $gcc:gcc-mingw-w64-x86-64 x86_64-w64-mingw32-g++:g++-mingw-w64-x86-64 \
-        clang:clang lld-link:lld make:make cmake:cmake pkg-config:pkg-config; do
-        command -v "${pair%:*}" > /dev/null || echo "${pair#*:}"
-    done
-    wine_program > /dev/null || echo wine64
-}
-
 # Installs missing tools, if this runs as root. Without one of them nothing is tested.
 provide_tools() {
-    local wanted
-    mapfile -t wanted < <(missing_packages)
-    if [ ${#wanted[@]} != 0 ] && [ $EUID = 0 ]; then
-        echo "installing ${wanted[*]}"
-        install_packages "${wanted[@]}" > /dev/null 2>&1 < /dev/null ||
-            { apt-get update -q && install_packages "${wanted[@]}"; } > /dev/null 2>&1 < /dev/null
-        mapfile -t wanted < <(missing_packages)
-    fi
-    [ ${#wanted[@]} != 0 ] || return 0
-    echo "skipped: Windows: there is no ${wanted[*]}"
+    provide "${tools[@]}"
+    [ ${#missing[@]} != 0 ] || return 0
+    echo "skipped: Windows: there is no ${missing[*]}"
     finish
 }
 
@@ -152,15 +113,8 @@ passes() {
     compile "$1" "$2" && run "$room/program.exe"
 }
 
-# Prints the functions of the header that a library must have, according to the compiler.
-declared() {
-    $gcc -fsyntax-only -aux-info "$room/prototypes" -x c "$dist/include/dethrux.h" &&
-        sed -nE 's/.*dethrux\.h:.* extern .*[ *](dethrux_[a-z0-9_]+) \(.*/\1/p' "$room/prototypes" |
-        sort
-}
-
 # Tests that a DLL exports the functions of the header.
-exports_header() {
+dll_exports_header() {
     x86_64-w64-mingw32-objdump -p "$1" > "$room/dump" &&
         sed -n '/^\[Ordinal\/Name Pointer\] Table/,/^$/s/^\t\[.*\] \(.* \)\?//p' "$room/dump" |
         sort | diff "$room/declared" -
@@ -374,7 +328,7 @@ tests_by_cmake() {
         "-DCMAKE_CROSSCOMPILING_EMULATOR=$wine" && cmake --build "$room/cmake" -j 2 &&
         ctest --test-dir "$room/cmake" --output-on-failure > "$room/tested" &&
         grep -F '100% tests passed, 0 tests failed out of 2' "$room/tested" &&
-        exports_header "$room/cmake/dethrux.dll" && imports_memory "$room/cmake/dethrux.dll"
+        dll_exports_header "$room/cmake/dethrux.dll" && imports_memory "$room/cmake/dethrux.dll"
 }
 
 # Builds a project with dist/ as a part of it.
@@ -441,7 +395,7 @@ links_for_msvc() {
         for_msvc -c "$assembly" -o assembly.obj &&
         lld-link /dll /entry:dethrux_dll_entry windows.obj assembly.obj msvcrt.lib \
             "/def:$dist/src/dethrux.def" /out:dethrux.dll /implib:dethrux.lib &&
-        exports_header dethrux.dll && imports_memory dethrux.dll
+        dll_exports_header dethrux.dll && imports_memory dethrux.dll
 }
 
 # Runs the tables with the DLL for MSVC, and a program for MSVC with the import library.
@@ -466,9 +420,9 @@ check 'swapped texts' sees_arguments \
     's/(\(first_order, .*\), \(second_order, .*\)))$/(\2, \1))/'
 check 'the other byte order' sees_arguments \
     '/, dethrux_to_utf8, /s/(\(byte_order, utf16, len, to\)/(!\1/'
-check 'the functions of the header' declared && cp "$room/said" "$room/declared"
+check 'the functions of the header' declared "$dist/include" extern && cp "$room/said" "$room/declared"
 for built in gcc clang; do
-    check "the exports by $built" exports_header "$room/$built/dethrux.dll"
+    check "the exports by $built" dll_exports_header "$room/$built/dethrux.dll"
     check "the imports by $built" imports_memory "$room/$built/dethrux.dll"
     check "the static library by $built" has_header "$room/$built/libdethrux.a"
     check "the registers by $built" keeps_registers $built "$dist/src/windows.c"

@@ -1,6 +1,6 @@
 #!/usr/bin/env bash
-# Collects the tables that the scripts left in bench/out into bench/results/DATE.md, with the machine
-# and the versions, and copies the chart of run.sh. A script that was not run is left out.
+# Collects the tables that the scripts left in bench/out into bench/results/DATE.md, with the
+# machine and the versions, and copies the chart of run.sh. A script that was not run is left out.
 set -euo pipefail
 cd "$(dirname "$0")"
 date=$(date -u +%F)

@@ -33,8 +33,8 @@ function is_measured(decoder,    c, t, o) {
     return 0
 }
 
-# Adds to `behind` the rows in which another decoder is faster. A copy decodes nothing, and `here v3`
-# is the same library, so they are left out.
+# Adds to `behind` the rows in which another decoder is faster. A copy decodes nothing, and
+# `here v3` is the same library, so they are left out.
 function compare(calls, texts, list,    c, t, o, d, others, times) {
     rows_of(calls, texts, list)
     for (c = 1; c in call; c++) for (t = 1; t in text; t++) for (o = 1; o in order; o++) {

@@ -1,6 +1,7 @@
 #!/usr/bin/env bash
-# Makes the Debian packages libdethrux0.2, libdethrux-dev and dethrux-tools with dpkg-buildpackage in
-# FOLDER (by default packaging/out), and prints their paths. They contain what install.sh installs.
+# Makes the Debian packages libdethrux0.2, libdethrux-dev and dethrux-tools with dpkg-buildpackage
+# in FOLDER (by default packaging/out), and prints their paths. They contain what install.sh
+# installs.
 # With ARCH=arm64 a cross compiler makes them for ARM64, without dethrux-tools.
 #
 #     [ARCH=arm64] packaging/deb.sh [FOLDER]

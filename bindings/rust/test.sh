@@ -3,10 +3,10 @@
 # documentation with each set of features, the page docs/RUST.md in an empty project, how the build
 # script finds or compiles the library and what it refuses, the package of dethrux, documentation
 # without the library, formatting and lints. With --tests it skips the last two. The last line is
-# 'N passed, M failed'. It needs cargo, cc, pkg-config, the library (crates/dethrux/out/libdethrux.a,
-# or the folder that DETHRUX_LIB_DIR names), and for utf16string the crate byteorder (Debian:
-# librust-byteorder-dev). A missing tool or library is a failure, except the compilers for other
-# machines.
+# 'N passed, M failed'. It needs cargo, cc, pkg-config, the library
+# (crates/dethrux/out/libdethrux.a, or the folder that DETHRUX_LIB_DIR names), and for utf16string
+# the crate byteorder (Debian: librust-byteorder-dev). A missing tool or library is a failure,
+# except the compilers for other machines.
 set -uo pipefail
 here=$(cd "$(dirname "$0")" && pwd)
 top=$(cd "$here/../.." && pwd)

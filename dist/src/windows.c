@@ -1,7 +1,7 @@
 /* SPDX-License-Identifier: MIT OR Apache-2.0
- * Dethrux 0.2.0: the calls of the library in the convention of Windows. The proved code
- * keeps the System V convention, to which the compiler converts. packaging/assembly wrote
- * this from the header: do not edit it. */
+ * Dethrux 0.2.0: the calls of the library in the convention of Windows. The proved
+ * code keeps the System V convention, to which the compiler converts. packaging/assembly
+ * wrote this from the header: do not edit it. */
 #include "dethrux.h"
 
 #include <string.h>

@@ -1,5 +1,6 @@
 /* Prints the file names of NTFS on standard input, each after a byte with its number of code units.
- * A name may have unpaired surrogates: these are shown as \uxxxx, so that no two names look alike. */
+ * A name may have unpaired surrogates: these are shown as \uxxxx, so that no two names look
+ * alike. */
 #include <dethrux.h>
 
 #include <stdio.h>

@@ -4,8 +4,8 @@
 
 #include <stdio.h>
 
-/* Writes converted bytes. They are changed byte by byte, since every byte of a character that is not
- * ASCII is 0x80 or above. A field with a comma would need quotes. */
+/* Writes converted bytes. They are changed byte by byte, since every byte of a character that is
+ * not ASCII is 0x80 or above. A field with a comma would need quotes. */
 static void write_fields(const uint8_t *utf8, size_t len) {
     for (size_t i = 0; i < len; i++) {
         if (utf8[i] != '\r') {

@@ -34,8 +34,8 @@ impl<E: Utf16Order, A: Allocator> WString<E, A> {
         ensures len { OnOk result (length (wstring_bytes self.new)
             ≡ length (wstring_bytes self.old) + char_size ch) }
         ensures err { OnErr result (IsUnchanged self.old self.new) }
-        ensures succeeds { length (wstring_bytes self.old) + char_size ch ≤ wstring_capacity self.old
-            → IsOk result }
+        ensures succeeds { length (wstring_bytes self.old) + char_size ch
+            ≤ wstring_capacity self.old → IsOk result }
         ensures stays { length (wstring_bytes self.old) + char_size ch ≤ wstring_capacity self.old
             → wstring_capacity self.new ≡ wstring_capacity self.old }
         ensures grows { wstring_capacity self.old ≤ wstring_capacity self.new }
@@ -86,8 +86,8 @@ impl<E: Utf16Order, A: Allocator> WString<E, A> {
         ensures len { OnOk result (length (wstring_bytes self.new)
             ≡ length (wstring_bytes self.old) + char_size ch) }
         ensures err { OnErr result (IsUnchanged self.old self.new) }
-        ensures succeeds { length (wstring_bytes self.old) + char_size ch ≤ wstring_capacity self.old
-            → IsOk result }
+        ensures succeeds { length (wstring_bytes self.old) + char_size ch
+            ≤ wstring_capacity self.old → IsOk result }
         ensures stays { length (wstring_bytes self.old) + char_size ch ≤ wstring_capacity self.old
             → wstring_capacity self.new ≡ wstring_capacity self.old }
         ensures grows { wstring_capacity self.old ≤ wstring_capacity self.new }
