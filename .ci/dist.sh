@@ -26,6 +26,20 @@ with_make() {
     PATH=/usr/bin:/bin make -C "$clone/dist" BUILD="$room/make-$1" "${@:2}" all check
 }
 
+# Tests that nearly no jump of make's object files crosses or ends a block of 32 bytes. Without the
+# option a tenth of them does; gcc's assembler leaves a few.
+keeps_blocks() {
+    objdump -d -w --no-show-raw-insn "$room/make-$1"/linux-x86-64-v?.o | python3 -c '
+import re, sys
+lines = [it.groups() for it in map(re.compile(r" +([0-9a-f]+):\t(\S+)").match, sys.stdin) if it]
+jumps = [(int(at, 16), int(end, 16)) for (at, name), (end, _) in zip(lines, lines[1:])
+         if name.startswith("j") and int(end, 16) > int(at, 16)]
+crossing = [at for at, end in jumps if at // 32 != end // 32]
+print(f"{len(crossing)} of {len(jumps)} jumps cross or end a block")
+sys.exit(len(crossing) > 3 or len(jumps) < 1000)
+'
+}
+
 # Builds, tests and installs dist/ with CMake, and compiles a program with what it installed.
 with_cmake() {
     local built=$room/cmake
@@ -65,6 +79,9 @@ clone="$room/a clone"
 count 'a clone' git clone -q "$top" "$clone"
 count 'make' with_make gcc
 count 'make with clang' with_make clang CC=clang
+for compiler in gcc clang; do
+    count "jumps by $compiler" keeps_blocks $compiler
+done
 if grep -q -w avx2 /proc/cpuinfo; then
     count 'make for x86-64-v3' with_make v3 LEVEL=x86-64-v3
 else

@@ -80,7 +80,6 @@ macro_rules! library {
 }
 
 library!(here, "dethrux_");
-#[cfg(v3)]
 library!(v3, "v3_");
 
 unsafe extern "C" {
@@ -173,7 +172,6 @@ fn icu_units(units: &[u16]) -> usize {
 // `plain loop` has the structure of the Rust crate `utf16string`.
 const VALIDATE: &[(&str, Call)] = &[
     ("here", |big, raw, _| here::valid_up_to(big, raw)),
-    #[cfg(v3)]
     ("here v3", |big, raw, _| v3::valid_up_to(big, raw)),
     ("plain loop", |big, raw, _| plain!(valid_up_to, big, raw)),
     ("encoding_rs mem", |big, raw, _| 2 * units(big, raw, mem::utf16_valid_up_to)),
@@ -188,7 +186,6 @@ const VALIDATE: &[(&str, Call)] = &[
 // found before.
 const FAULTS: &[(&str, Call)] = &[
     ("here", |big, raw, _| faults(raw, 2, |rest| here::valid_up_to(big, rest))),
-    #[cfg(v3)]
     ("here v3", |big, raw, _| faults(raw, 2, |rest| v3::valid_up_to(big, rest))),
     ("plain loop", |big, raw, _| faults(raw, 2, |rest| plain!(valid_up_to, big, rest))),
     ("encoding_rs mem", |big, raw, _| units(big, raw, |units| faults(units, 1, mem::utf16_valid_up_to))),
@@ -212,7 +209,6 @@ fn faults<T>(mut rest: &[T], unit: usize, valid_up_to: impl Fn(&[T]) -> usize) -
 
 const COUNT: &[(&str, Call)] = &[
     ("here", here::count),
-    #[cfg(v3)]
     ("here v3", v3::count),
     ("plain loop", |big, raw, _| plain!(count, big, raw)),
     ("ICU", |big, raw, _| units(big, raw, |units| unsafe { icu_count(units.as_ptr(), units.len()) })),
@@ -228,7 +224,6 @@ const READ: &[(&str, Call)] =
 
 const IS_ASCII: &[(&str, Call)] = &[
     ("here", here::is_ascii),
-    #[cfg(v3)]
     ("here v3", v3::is_ascii),
     ("plain loop", |big, raw, _| plain!(is_ascii, big, raw).into()),
     ("encoding_rs mem", |big, raw, _| units(big, raw, mem::is_basic_latin).into()),
@@ -238,7 +233,6 @@ const IS_ASCII: &[(&str, Call)] = &[
 // machine's byte order.
 const TO_UTF8: &[(&str, Call)] = &[
     ("here", here::to_utf8),
-    #[cfg(v3)]
     ("here v3", v3::to_utf8),
     ("plain loop", |big, raw, to| plain!(to_utf8, big, raw, to)),
     ("encoding_rs", |big, raw, to| {
@@ -258,7 +252,6 @@ const TO_UTF8: &[(&str, Call)] = &[
 
 const FROM_UTF8: &[(&str, Call)] = &[
     ("here", here::from_utf8),
-    #[cfg(v3)]
     ("here v3", v3::from_utf8),
     ("plain loop", |big, text, to| plain!(from_utf8, big, text, to)),
     ("encoding_rs", |big, text, to| {

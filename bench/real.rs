@@ -34,7 +34,7 @@ struct Validity {
     error_len: u32,
 }
 
-// The calls of `dethrux.h`, in this tree's library and, under other names, in another build's.
+// The calls of `dethrux.h`, in the library of a build, whose names begin with its word.
 macro_rules! library {
     ($name:ident, $validate:literal, $to_utf8:literal, $from_utf8:literal) => {
         mod $name {
@@ -64,7 +64,8 @@ macro_rules! library {
     };
 }
 
-library!(here, "dethrux_validate", "dethrux_to_utf8", "dethrux_from_utf8");
+library!(v2, "v2_validate", "v2_to_utf8", "v2_from_utf8");
+library!(v3, "v3_validate", "v3_to_utf8", "v3_from_utf8");
 #[cfg(before)]
 library!(before, "before_validate", "before_to_utf8", "before_from_utf8");
 
@@ -75,7 +76,8 @@ fn units(raw: &[u8]) -> &[u16] {
 }
 
 const VALIDATE: &[(&str, Call)] = &[
-    ("here", here::valid_up_to),
+    ("v2", v2::valid_up_to),
+    ("v3", v3::valid_up_to),
     #[cfg(before)]
     ("before", before::valid_up_to),
     ("simdutf westmere", |big, raw, _| 2 * simdutf::westmere::valid_up_to(big, units(raw))),
@@ -83,7 +85,8 @@ const VALIDATE: &[(&str, Call)] = &[
 ];
 
 const TO_UTF8: &[(&str, Call)] = &[
-    ("here", here::decoded),
+    ("v2", v2::decoded),
+    ("v3", v3::decoded),
     #[cfg(before)]
     ("before", before::decoded),
     ("simdutf westmere", |big, raw, to| simdutf::westmere::to_utf8(big, units(raw), to)),
@@ -91,7 +94,8 @@ const TO_UTF8: &[(&str, Call)] = &[
 ];
 
 const FROM_UTF8: &[(&str, Call)] = &[
-    ("here", here::encoded),
+    ("v2", v2::encoded),
+    ("v3", v3::encoded),
     #[cfg(before)]
     ("before", before::encoded),
     ("simdutf westmere", |big, text, to| 2 * simdutf::westmere::from_utf8(big, text, to)),
@@ -170,7 +174,7 @@ fn add(all: &mut Vec<Case>, name: &str, big: bool, inputs: &[&'static [u8]], siz
     let longest = inputs.iter().map(|input| input.len()).max().unwrap_or(0);
     let mut wanted = None;
     for (decoder, call) in decoders {
-        if *decoder == "simdutf haswell" && !is_x86_feature_detected!("avx2") {
+        if ["v3", "simdutf haswell"].contains(decoder) && !is_x86_feature_detected!("avx2") {
             continue;
         }
         let mut to = vec![0; 4 * longest + 64];

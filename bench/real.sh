@@ -2,11 +2,11 @@
 # Times the calls of the C library and both programs on real texts, next to simdutf's 128-bit and
 # 256-bit kernels: `SIMDUTF=FOLDER real.sh TEXTS`. SIMDUTF has simdutf.cpp and simdutf.h. TEXTS has
 # a file NAME.txt in UTF-8 for each text, of which at most 1 MiB of UTF-16 is read. A text is
-# converted line by line, and in pieces of 4 KiB and of 64 KiB. BEFORE may name another checkout of
-# this repository, with its libraries and programs built: they are timed in the same run. Everything
-# is linked at two places, 16 bytes apart, and the better time counts, since a branch may cross a
-# 32-byte boundary at only one of them. The table, with the ratio to each kernel and to `before`, is
-# written to bench/out/real.md.
+# converted line by line, and in pieces of 4 KiB and of 64 KiB. The library is built from dist/, for
+# x86-64-v2 and for x86-64-v3. BEFORE may name another checkout of this repository with its programs
+# built: they and its library for x86-64-v2 are timed in the same run. Everything is linked at two
+# places, 16 bytes apart, and the better time counts, since a branch may cross a 32-byte boundary at
+# only one of them. The table is written to bench/out/real.md.
 set -eu
 usage() { echo "usage: SIMDUTF=FOLDER [BEFORE=CHECKOUT] real.sh TEXTS" >&2; exit 2; }
 [ $# = 1 ] && [ -n "${SIMDUTF:-}" ] || usage
@@ -21,18 +21,25 @@ room=$(mktemp -d)
 trap 'rm -rf "$room"' EXIT
 mkdir -p out
 
-(cd ../crates/dethrux && rt lib > "$room/said" 2>&1) || { cat "$room/said" >&2; exit 1; }
 for program in utf16_cat utf16_enc; do
     (cd ../crates/$program && rt run -- le < /dev/null > "$room/said" 2>&1) || { cat "$room/said" >&2; exit 1; }
 done
-# The three calls of another build get other names. Its other symbols become local.
-if [ -n "$before" ]; then
-    ld -r -o "$room/whole.o" --whole-archive "$before/crates/dethrux/out/libdethrux.a"
-    renamed=()
+# Builds the library of a checkout for a level. Its three calls get other names, which begin with a
+# word, and its other symbols become local: build WORD CHECKOUT LEVEL.
+build() {
+    local call words=()
+    make -s -C "$2/dist" > "$room/said" 2>&1 || { cat "$room/said" >&2; exit 1; }
     for call in validate to_utf8 from_utf8; do
-        renamed+=(--redefine-sym "dethrux_$call=before_$call" --keep-global-symbol "before_$call")
+        words+=(--redefine-sym "dethrux_$call=$1_$call" --keep-global-symbol "$1_$call")
     done
-    objcopy "${renamed[@]}" "$room/whole.o" "$room/before.o"
+    objcopy "${words[@]}" "$(make -s -C "$2/dist" folder)/linux-$3.o" "$room/$1.o"
+}
+build v2 .. x86-64-v2
+build v3 .. x86-64-v3
+libraries=("$room/v2.o" "$room/v3.o")
+if [ -n "$before" ]; then
+    build before "$before" x86-64-v2
+    libraries+=("$room/before.o")
 fi
 
 level=x86-64-v2
@@ -58,7 +65,7 @@ for space in 16 32; do
         gcc -c -x assembler -o "$room/pad.o" -
     # simdutf's sections are aligned to 32 bytes, so they come before the padding.
     rust --edition 2024 real.rs ${before:+--cfg before} -C link-args="${kernels[*]} -lstdc++ $room/pad.o \
-        ${before:+$room/before.o} $PWD/../crates/dethrux/out/libdethrux.a $kit/c/liblibc_c.a"
+        ${libraries[*]}"
     "$room/real" "$texts" >> "$room/lines"
     programs=()
     for checkout in .. ${before:+"$before"}; do
@@ -76,19 +83,24 @@ awk -F '\t' '
     if (!(row in seen)) { seen[row] = 1; rows[++n] = row }
     if ($6 > speed[row, $4, $5]) speed[row, $4, $5] = $6
 }
-# Returns the speed in a byte order, and its ratio to each of the others.
-function cells(row, order,    d, other, line) {
-    line = speed[row, order, "here"]
-    for (d = 1; d in others; d++) {
-        other = speed[row, order, others[d]]
-        line = line sprintf(" | %s", other == "" ? "–" : sprintf("%.2f", speed[row, order, "here"] / other))
-    }
-    return line
+# Returns a decoder's speed in a byte order, or its ratio to another's.
+function cell(row, order, decoder, other,    own, others) {
+    own = speed[row, order, decoder]
+    if (other == "") return own == "" ? "–" : own
+    others = speed[row, order, other]
+    return own == "" || others == "" ? "–" : sprintf("%.2f", own / others)
+}
+function cells(row, order) {
+    return cell(row, order, "v2") " | " cell(row, order, "v2", "simdutf westmere") \
+        " | " cell(row, order, "v2", "simdutf haswell") " | " cell(row, order, "v3") \
+        " | " cell(row, order, "v3", "simdutf haswell") " | " cell(row, order, "v2", "copy") \
+        " | " cell(row, order, "v2", "before")
 }
 END {
-    split("simdutf westmere;simdutf haswell;copy;before", others, ";")
-    print "| Call | Text | Form | Little, GB/s | to 128 bits | to 256 bits | to a copy | to before | Big, GB/s | to 128 bits | to 256 bits | to a copy | to before |"
-    print "|---|---|---|---|---|---|---|---|---|---|---|---|---|"
+    columns = "v2, GB/s | to 128 bits | to 256 bits | v3, GB/s | to 256 bits | to a copy | to before |"
+    print "Little endian first, then big endian. v2 and v3 are the library for x86-64-v2 and for x86-64-v3."
+    print "\n| Call | Text | Form | " columns " " columns
+    print "|---|---|---|---:|---:|---:|---:|---:|---:|---:|---:|---:|---:|---:|---:|---:|---:|"
     for (i = 1; i <= n; i++) {
         split(rows[i], name, FS)
         printf "| `%s` | %s | %s | %s | %s |\n", name[1], name[2], name[3], cells(rows[i], "le"), cells(rows[i], "be")

@@ -46,7 +46,7 @@ fn main() {
         for (order, utf16) in [("le", write("le", &le)), ("be", write("be", &be))] {
             for (program, place, from, to) in [("utf16_cat", 0, &utf16, &utf8), ("utf16_enc", 1, &utf8, &utf16)] {
                 let mut cases = Vec::new();
-                for (build, decoder) in builds.chunks_exact(2).zip(["here", "before"]) {
+                for (build, decoder) in builds.chunks_exact(2).zip(["v2", "before"]) {
                     cases.push((decoder, format!("{} {order}", build[place])));
                 }
                 let verb = if place == 0 { order.to_string() } else { format!("enc-{order}") };

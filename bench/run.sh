@@ -1,8 +1,8 @@
 #!/bin/sh
 # Builds the library and its competitors, makes the texts, runs all benchmarks, and writes the
-# tables (run.md) and the chart (chart.svg) to bench/out. If SIMDUTF names a folder with
-# simdutf.cpp and simdutf.h, simdutf's kernels are also timed: westmere and, if the machine has
-# AVX2, haswell. LEVEL=x86-64-v3 also times the library for processors with AVX2, as `here v3`.
+# tables (run.md) and the chart (chart.svg) to bench/out. The library is built from dist/; `here v3`
+# is its code for processors with AVX2. If SIMDUTF names a folder with simdutf.cpp and simdutf.h,
+# simdutf's kernels are also timed: westmere and, if the machine has AVX2, haswell.
 set -eu
 [ -z "${SIMDUTF:-}" ] || SIMDUTF=$(cd "$SIMDUTF" && pwd)
 cd "$(dirname "$0")"
@@ -26,9 +26,9 @@ if [ -n "${SIMDUTF:-}" ]; then
 fi
 [ "$missing" = 0 ] || exit 1
 
-kit=$(dirname "$(rt doc)")
 mkdir -p out
-(cd ../crates/dethrux && rt lib > ../../bench/out/rt.log 2>&1) || { cat out/rt.log >&2; exit 1; }
+make -s -C ../dist > out/make.log 2>&1 || { cat out/make.log >&2; exit 1; }
+dist=$(make -s -C ../dist folder)
 for program in utf16_cat utf16_enc; do
     (cd ../crates/$program && rt run -- le < /dev/null > ../../bench/out/rt.log 2>&1) || { cat out/rt.log >&2; exit 1; }
 done
@@ -37,7 +37,7 @@ done
 # some processors a crossing halves the speed of a loop.
 level=x86-64-v2
 rust() {
-    rustc --check-cfg 'cfg(simdutf, v3)' -C opt-level=3 -C target-cpu=$level -C llvm-args=-x86-branches-within-32B-boundaries --out-dir out -L out "$@"
+    rustc --check-cfg 'cfg(simdutf)' -C opt-level=3 -C target-cpu=$level -C llvm-args=-x86-branches-within-32B-boundaries --out-dir out -L out "$@"
 }
 crate() { rust --edition 2018 --crate-type rlib --cap-lints allow --crate-name "$@"; }
 crate cfg_if $registry/cfg-if-*/src/lib.rs
@@ -57,21 +57,16 @@ if [ -n "${SIMDUTF:-}" ]; then
     simdutf="$simdutf -lstdc++"
 fi
 # The calls of the library for AVX2 get other names. Its other symbols become local.
-v3=''
-if [ "${LEVEL:-}" = x86-64-v3 ]; then
-    make -s -C ../dist > out/make.log 2>&1 || { cat out/make.log >&2; exit 1; }
-    set --
-    for call in validate count_chars is_ascii to_utf8 from_utf8; do
-        set -- "$@" --redefine-sym "dethrux_$call=v3_$call" --keep-global-symbol "v3_$call"
-    done
-    v3=out/v3.o
-    objcopy "$@" "$(make -s -C ../dist folder)/linux-x86-64-v3.o" $v3
-fi
+set --
+for call in validate count_chars is_ascii to_utf8 from_utf8; do
+    set -- "$@" --redefine-sym "dethrux_$call=v3_$call" --keep-global-symbol "v3_$call"
+done
+objcopy "$@" "$dist/linux-x86-64-v3.o" out/v3.o
 rust --edition 2024 texts.rs
 rust --edition 2024 programs.rs
 rust --edition 2024 cat.rs --extern encoding_rs=out/libencoding_rs.rlib
-rust --edition 2024 calls.rs ${simdutf:+--cfg simdutf} ${v3:+--cfg v3} --extern encoding_rs=out/libencoding_rs.rlib -l icuuc \
-    -C link-args="out/icu.o $simdutf $v3 ../crates/dethrux/out/libdethrux.a $kit/c/liblibc_c.a"
+rust --edition 2024 calls.rs ${simdutf:+--cfg simdutf} --extern encoding_rs=out/libencoding_rs.rlib -l icuuc \
+    -C link-args="out/icu.o $simdutf out/v3.o $dist/libdethrux.a"
 
 for encoding in le be utf8; do
     for class in ascii latin_cyrillic cjk emoji random ascii_100 ascii_1000 ascii_5000 cjk_1000; do

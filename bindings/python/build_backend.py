@@ -89,14 +89,28 @@ def compiled():
     machine = target.split("-")[0]
     if machine not in ASSEMBLY or "-linux" not in target or "x32" in target:
         raise SystemExit(f"there is no library for {target}: only for Linux on x86-64 and ARM64")
+    words = padding(compiler) if machine == "x86_64" else []
+    words += [*LINK, "-Xlinker", f"--version-script={DIST / 'dethrux.map'}"]
     found = {}
     with tempfile.TemporaryDirectory() as room:
         for name, source in ASSEMBLY[machine].items():
-            script = f"--version-script={DIST / 'dethrux.map'}"
             out = Path(room) / name
-            call(compiler, *LINK, "-Xlinker", script, str(DIST / "src" / source), "-o", str(out))
+            call(compiler, *words, str(DIST / "src" / source), "-o", str(out))
             found[name] = out.read_bytes()
     return found
+
+
+def padding(compiler):
+    """Return the option of a compiler that moves branches which cross or end a block of 32 bytes.
+
+    On processors from Skylake to Cascade Lake these slow their loops down.
+    """
+    empty = ["-c", "-x", "assembler", os.devnull, "-o", os.devnull]
+    for option in ("-Wa,-mbranches-within-32B-boundaries", "-mbranches-within-32B-boundaries"):
+        words = [*compiler, option, *empty]
+        if subprocess.run(words, check=False, stderr=subprocess.DEVNULL).returncode == 0:
+            return [option]
+    return []
 
 
 def call(compiler, *words):

@@ -292,6 +292,12 @@ makes() {
         [ "$(grep -c "file format ${format#*:}\$" "$room/formats")" = "$(wc -w <<< "$files")" ]
 }
 
+# Whether an object file that the build script made is the one that dist/Makefile makes.
+is_of_dist() {
+    make -s -C "$top/dist" CC=x86_64-linux-gnu-gcc BUILD="$room/dist" &&
+        cmp "$room/dist/$1" "$room/made/$1"
+}
+
 # A program with the library that the build script made for ARM64, and one for Windows, which is
 # only linked.
 runs_on_arm() {
@@ -324,6 +330,7 @@ test_targets() {
             linux-x86-64-v3.o CARGO_CFG_TARGET_FEATURE="$(rustc --print cfg --target \
                 x86_64-unknown-linux-gnu -C target-cpu=x86-64-v3 |
                 sed -n 's/^target_feature="\(.*\)"$/\1/p' | paste -sd ,)"
+        count 'the object file of dist/' is_of_dist linux-x86-64-v3.o
     else
         echo 'not run: the targets of Linux on x86-64 (apt-get install gcc-x86-64-linux-gnu)'
     fi
@@ -360,7 +367,7 @@ test_variables() {
 }
 
 library=${DETHRUX_LIB_DIR:-$top/crates/dethrux/out}/libdethrux.a
-for tool in cargo rustc cc ar pkg-config cmp sed tar; do
+for tool in cargo rustc cc ar make pkg-config cmp sed tar; do
     command -v "$tool" > /dev/null || fail "there is no $tool"
 done
 [ -f "$library" ] || fail "there is no $library: (cd crates/dethrux && rt lib)"

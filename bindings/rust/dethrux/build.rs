@@ -145,20 +145,18 @@ fn compile(dist: &Path) -> Result<PathBuf, String> {
     };
     let compiler = tool("CC").unwrap_or_else(|| vec![usual_compiler(&target).into()]);
     let room = PathBuf::from(env::var_os("OUT_DIR").unwrap_or_default());
+    let padding = padding(&compiler, &target);
     let mut objects = Vec::new();
     for name in sources {
         let source = dist.join("src").join(name);
         let object = room.join(name).with_extension("o");
         println!("cargo:rerun-if-changed={}", source.display());
         let include = dist.join("include");
-        let words = [
-            "-O2".as_ref(),
-            "-I".as_ref(),
-            include.as_os_str(),
-            "-c".as_ref(),
-        ];
-        let files = [source.as_os_str(), "-o".as_ref(), object.as_os_str()];
-        run(&compiler, words.iter().chain(&files))?;
+        let mut words: Vec<&OsStr> = vec!["-O2".as_ref(), "-I".as_ref(), include.as_os_str()];
+        words.extend(padding.map(OsStr::new));
+        words.extend(["-c".as_ref(), source.as_os_str()]);
+        words.extend(["-o".as_ref(), object.as_os_str()]);
+        run(&compiler, words)?;
         objects.push(object);
     }
     let archiver = match tool("AR") {
@@ -176,6 +174,25 @@ fn compile(dist: &Path) -> Result<PathBuf, String> {
             .chain(objects.iter().map(|it| it.as_os_str())),
     )?;
     Ok(room)
+}
+
+/// Returns the option of a compiler that moves branches which cross or end a block of 32 bytes. On
+/// processors from Skylake to Cascade Lake these slow their loops down.
+fn padding(compiler: &[String], target: &str) -> Option<&'static str> {
+    let options = [
+        "-Wa,-mbranches-within-32B-boundaries",
+        "-mbranches-within-32B-boundaries",
+    ];
+    let takes = |option: &&str| {
+        Command::new(&compiler[0])
+            .args(&compiler[1..])
+            .args([option, "-c", "-x", "assembler", "/dev/null"])
+            .args(["-o", "/dev/null"])
+            .output()
+            .map_or(false, |output| output.status.success())
+    };
+    let is_x86 = target.starts_with("x86_64");
+    options.iter().copied().filter(|_| is_x86).find(takes)
 }
 
 /// Returns whether the program is compiled for processors of the level x86-64-v3 only.
