@@ -107,7 +107,7 @@ ascii_utf8 : (cs : List ℕ) → All (λ c. c < 0x80) cs → encode_utf8_all cs 
 ascii_utf8 [] low = refl
 ascii_utf8 (c ∷ cs) low = ap₂ (λ us more. us ++ more) (one c (All-head (λ c. c < 0x80) c cs low)) (ascii_utf8 cs (All-tail (λ c. c < 0x80) c cs low))
 
-ascii_bytes-utf8 : (big : Bool) (bytes : List ℕ) → IsUtf16 big bytes → All (λ unit. unit < 0x80) (units_of big bytes) → units_of big bytes ≡ utf8_of big bytes
+pub ascii_bytes-utf8 : (big : Bool) (bytes : List ℕ) → IsUtf16 big bytes → All (λ unit. unit < 0x80) (units_of big bytes) → units_of big bytes ≡ utf8_of big bytes
 ascii_bytes-utf8 big bytes text ascii =
     let low = (ascii_bytes big bytes text).0 ascii in
     units_of-text big bytes text ∙ ascii_utf16 (text_of big bytes) low ∙ sym (ascii_utf8 (text_of big bytes) low)

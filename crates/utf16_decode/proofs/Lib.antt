@@ -12,3 +12,4 @@ pub mod PrefixLemmas
 pub mod StreamSteps
 pub mod ToUtf8Lemmas
 pub mod AsciiLemmas
+pub mod LastLemmas

@@ -103,15 +103,6 @@ module _ (from into : ℕ → List ℕ) (IsValid : List ℕ → Type 0) (IsIllFo
   stops_there Incomplete here = faults input read None within text (subst (λ r. IsIllFormedAt r None) (take_rest input read) here)
   stops_there NoSpace here = subst (λ r. NextDoesNotFit from into r left) (take_rest input read) here
 
--- why it stopped at the start of the input
-module _ (from into : ℕ → List ℕ) (IsValid : List ℕ → Type 0) (IsIllFormedAt : List ℕ → Option ℕ → Type 0) (IsIllFormed : List ℕ → ℕ → Option ℕ → Type 0)
-    (faults : (input : List ℕ) (read : ℕ) (len : Option ℕ) → read < length input → IsValid (take read input) → IsIllFormedAt (drop read input) len → IsIllFormed input read len)
-    (input : List ℕ) (left : ℕ) (some : 0 < length input) (empty : IsValid []) where
-  pub stops_at_start : (stop : Stop) → StopsHere from into IsIllFormedAt input left stop → Stops from into IsIllFormed input 0 left stop
-  stops_at_start stop here =
-      stops_there from into IsValid IsIllFormedAt IsIllFormed faults input 0 left some empty stop
-      (subst (λ rest. StopsHere from into IsIllFormedAt rest left stop) (sym (take_rest input 0)) here)
-
 -- the number of bytes written is their length, if they fit
 pub long_enough : (n : ℕ) (buf bytes : List ℕ) → take n buf ≡ bytes → n ≤ length buf → n ≡ length bytes
 long_enough n buf bytes is room = sym (length-take-le n buf room) ∙ ap length is

@@ -58,17 +58,10 @@ pub trait Direction {
         ensures char { IfOk result (λ first. BeginsWith from rest.now first.0 first.1) }
         ensures ill_formed { IfErr result (IsIllFormedAt rest.now) };
 
-    /// Begins to write a short input, or an input for which there is little space, to the start of
-    /// a buffer. It may write nothing. Returns `None` if a short input should not be written
-    /// character by character.
-    fn begin_short(input: &[u8], to: &mut [u8]) -> Option<Moved>
-        ensures { IfSome result (λ begun.
-            Wrote (Gives IsValid other) input.now to.new begun.read begun.written) };
-
-    /// Returns the first character and its length in bytes, or `None` if the character is not a
-    /// frequent one. It makes no other calls.
-    fn quick_first_char(rest: &[u8]) -> Option<(char, usize)>
-        ensures { IfSome result (λ first. BeginsWith from rest.now first.0 first.1) };
+    /// Begins to write an input to the start of a buffer: what is written with few tests and no
+    /// calls, which may be nothing, or all of a short input.
+    fn begin(input: &[u8], to: &mut [u8]) -> Moved
+        ensures { Wrote (Gives IsValid other) input.now to.new result.read result.written };
 
     /// Writes a character in the second encoding at `at`, and returns where it ends, or `None` if
     /// it does not fit. The bytes after it may be overwritten.

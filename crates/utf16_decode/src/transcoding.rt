@@ -16,9 +16,6 @@ use crate::direction::{BLOCK_LEN, BLOCK_ROOM, Direction};
 use crate::progress::{Progress, Stop, put};
 use utf16_units::Moved;
 
-// The length in bytes below which an input is first tried character by character.
-const SHORT_LEN: usize = 32;
-
 // The number of bytes below which a piece is written character by character.
 const VERY_FEW: usize = 8;
 
@@ -30,57 +27,40 @@ pub fn transcode<D: Direction>(input: &[u8], to: &mut [u8]) -> Progress
     ensures stop { Stops D.from D.into D.IsIllFormed input.now result.read
         (length to.new - result.written) result.stop }
 {
-    if input.len() < SHORT_LEN
-        && let Some(written) = write_quick_chars::<D>(input, to)
-    {
+    let begun = D::begin(input, to);
+    if begun.read == input.len() {
         return Progress {
-            read: input.len(),
-            written,
+            read: begun.read,
+            written: begun.written,
             stop: Stop::Done,
         };
     }
-    transcode_many::<D>(input, to)
+    transcode_many::<D>(input, to, begun)
 }
 
-// Writes the whole input character by character, and returns where the written bytes end. Returns
-// `None` if not all characters are frequent ones that fit.
-#[inline(always)]
-fn write_quick_chars<D: Direction>(input: &[u8], to: &mut [u8]) -> Option<usize>
-    ensures { IfSome result (Wrote (Gives D.IsValid D.other) input.now to.new (length input.now)) }
-{
-    D::laws();
-    let Moved {
-        mut read,
-        mut written,
-    } = D::begin_short(input, to)?;
-    while read < input.len() {
-        let (c, len) = D::quick_first_char(&input[read..])?;
-        written = D::write_char(c, to, written)?;
-        read += len;
-    }
-    Some(written)
-}
-
-// Transcodes as much at once as surely fits. Not inlined, so that short inputs stay cheap.
+// Goes on from what was begun, and transcodes as much at once as surely fits. Not inlined, so that
+// short inputs stay cheap.
 #[inline(never)]
-fn transcode_many<D: Direction>(input: &[u8], to: &mut [u8]) -> Progress
+fn transcode_many<D: Direction>(input: &[u8], to: &mut [u8], begun: Moved) -> Progress
+    requires some { begun.read < length input.now }
+    requires begun { Wrote (Gives D.IsValid D.other) input.now to.old begun.read begun.written }
     ensures wrote { Wrote (Gives D.IsValid D.other) input.now to.new result.read result.written }
     ensures stop { Stops D.from D.into D.IsIllFormed input.now result.read
         (length to.new - result.written) result.stop }
 {
     D::laws();
+    let Moved {
+        mut read,
+        mut written,
+    } = begun;
     // Tested first, because an ill-formed sequence often follows another.
-    if !input.is_empty()
-        && let Err(stop) = first_char::<D>(input)
-    {
+    if let Err(stop) = first_char::<D>(&input[read..]) {
         return Progress {
-            read: 0,
-            written: 0,
+            read,
+            written,
             stop,
         };
     }
-    let mut read = 0;
-    let mut written = 0;
     while read < input.len() {
         let piece = write_piece::<D>(&input[read..], to, written);
         read += piece.read;
@@ -290,8 +270,8 @@ fn prefix_for<D: Direction>(text: &[u8], written: &[u8], room: usize) -> Moved
     }
 }
 
-// Writes the valid characters at the start of the bytes, as far as they fit. After what
-// `begin_short` writes at once, it goes character by character.
+// Writes the valid characters at the start of the bytes, as far as they fit. After what `begin`
+// writes, it goes character by character.
 fn write_chars<D: Direction>(rest: &[u8], to: &mut [u8], at: usize) -> Moved
     requires { at ≤ length to.old }
     ensures { Puts (Gives D.IsValid D.other) rest.now to.old to.new at result.read result.written }
@@ -300,7 +280,7 @@ fn write_chars<D: Direction>(rest: &[u8], to: &mut [u8], at: usize) -> Moved
     let Moved {
         mut read,
         mut written,
-    } = write_short_start::<D>(rest, to, at);
+    } = write_start::<D>(rest, to, at);
     while read < rest.len() {
         let Ok(next) = write_next_char::<D>(&rest[read..], to, written) else {
             break;
@@ -311,22 +291,16 @@ fn write_chars<D: Direction>(rest: &[u8], to: &mut [u8], at: usize) -> Moved
     Moved { read, written }
 }
 
-// Writes what `begin_short` writes, which may be nothing, at `at`.
+// Writes what `begin` writes, which may be nothing, at `at`.
 #[inline(always)]
-fn write_short_start<D: Direction>(rest: &[u8], to: &mut [u8], at: usize) -> Moved
+fn write_start<D: Direction>(rest: &[u8], to: &mut [u8], at: usize) -> Moved
     requires { at ≤ length to.old }
     ensures { Puts (Gives D.IsValid D.other) rest.now to.old to.new at result.read result.written }
 {
-    D::laws();
-    match D::begin_short(rest, &mut to[at..]) {
-        Some(begun) => Moved {
-            read: begun.read,
-            written: at + begun.written,
-        },
-        None => Moved {
-            read: 0,
-            written: at,
-        },
+    let begun = D::begin(rest, &mut to[at..]);
+    Moved {
+        read: begun.read,
+        written: at + begun.written,
     }
 }
 

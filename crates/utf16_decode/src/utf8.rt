@@ -1,11 +1,11 @@
 //! Conversion of UTF-16 to UTF-8, up to the first ill-formed sequence.
 
 ghost use Rattle.std.specs.Prelude.{◌≡◌, ◌+◌, ◌-◌, ◌*◌, ◌/◌, ◌<◌, ◌≤◌, ◌++◌, IfSome, None, length, take};
-ghost use Rattle.std.specs.Char.{encode_utf8};
+ghost use Rattle.std.specs.Char.{encode_utf8, len_utf8};
 ghost use Rattle.utf16_units.specs.Encoding.{char_bytes, IsUtf16, utf8_of};
 ghost use Rattle.utf16_units.specs.IllFormed.{IsIllFormedAt};
 ghost use Rattle.utf16_decode.specs.Wrote.{TranscodesToUtf8, Wrote};
-ghost use Rattle.utf16_decode.specs.Stops.{IsIllFormedUtf16, StopsDecoding};
+ghost use Rattle.utf16_decode.specs.Stops.{BeginsWith, IsIllFormedUtf16, StopsDecoding};
 
 use crate::direction::Direction;
 use crate::progress::{Progress, put};
@@ -14,6 +14,10 @@ use std::marker::PhantomData;
 use utf16_to_utf8::{SLACK, write_blocks, write_eight_ascii, write_utf8};
 use utf16_units::ends::first_char;
 use utf16_units::{Moved, Utf16Order, first_char_len, utf16_len, validate_raw_utf16};
+
+// The most bytes of ASCII at the start of an input that are written eight code units at a time. In
+// longer inputs blocks follow.
+const BEGIN_LEN: usize = 256;
 
 /// Writes UTF-16 in UTF-8 to the start of a buffer, up to the first ill-formed sequence or as far
 /// as whole characters fit. Any bytes are allowed. Bytes of the buffer after the written ones may
@@ -35,7 +39,7 @@ pub fn to_utf8<E: Utf16Order>(raw: &[u8], to: &mut [u8]) -> Progress
 pub struct ToUtf8<E: Utf16Order>(PhantomData<E>);
 
 impl<E: Utf16Order> Direction for ToUtf8<E> {
-    const FRONT_LEN: usize = 128;
+    const FRONT_LEN: usize = 66;
 
     ghost from = { char_bytes E.BIG };
 
@@ -66,31 +70,14 @@ impl<E: Utf16Order> Direction for ToUtf8<E> {
     }
 
     #[inline(always)]
-    fn begin_short(input: &[u8], to: &mut [u8]) -> Option<Moved> {
+    fn begin(input: &[u8], to: &mut [u8]) -> Moved {
         let nothing = Moved {
             read: 0,
             written: 0,
         };
-        if input.len() < 16 {
-            return Some(nothing);
-        }
-        let ascii = write_ascii_from::<E>(input, to, nothing);
-        if ascii.read == 0 {
-            return None;
-        }
-        Some(ascii)
-    }
-
-    #[inline(always)]
-    fn quick_first_char(rest: &[u8]) -> Option<(char, usize)> {
-        if rest.len() < 2 {
-            return None;
-        }
-        let unit = E::read_unit([rest[0], rest[1]]);
-        if unit / 0x800 == 0x1B {
-            return None;
-        }
-        Some((unsafe { char::from_u32_unchecked(unit as u32) }, 2))
+        let front = &input[..input.len().min(BEGIN_LEN)];
+        let ascii = write_ascii_from::<E>(front, to, nothing);
+        write_few_units::<E>(input, to, ascii)
     }
 
     #[inline(always)]
@@ -132,18 +119,83 @@ fn write_ascii_from<E: Utf16Order>(raw: &[u8], to: &mut [u8], from: Moved) -> Mo
     requires { Wrote (TranscodesToUtf8 E.BIG) raw.now to.old from.read from.written }
     ensures { Wrote (TranscodesToUtf8 E.BIG) raw.now to.new result.read result.written }
 {
+    // The code units that fit if they are ASCII.
+    let units = ((raw.len() - from.read) / 2).min(to.len() - from.written);
+    let end = Moved {
+        read: from.read + 2 * units,
+        written: from.written + units,
+    };
     let Moved {
         mut read,
         mut written,
     } = from;
-    while raw.len() - read >= 16 && to.len() - written >= 8 {
+    while end.read - read >= 16 {
         if !write_eight_ascii::<E>(&raw[read..], &mut to[written..]) {
-            break;
+            return Moved { read, written };
         }
         read += 16;
         written += 8;
     }
+    write_last_ascii::<E>(raw, to, Moved { read, written }, end)
+}
+
+// Writes the last of the code units up to `end`, fewer than eight, if they are ASCII. It writes
+// eight, together with those before them, which are written again.
+#[inline(always)]
+fn write_last_ascii<E: Utf16Order>(raw: &[u8], to: &mut [u8], from: Moved, end: Moved) -> Moved
+    requires wrote { Wrote (TranscodesToUtf8 E.BIG) raw.now to.old from.read from.written }
+    requires few { end.read ≤ from.read + 16 }
+    requires within { end.read ≤ length raw.now }
+    requires space { end.written ≤ length to.old }
+    requires ascii { end.read + 2 * from.written ≡ from.read + 2 * end.written }
+    ensures { Wrote (TranscodesToUtf8 E.BIG) raw.now to.new result.read result.written }
+{
+    if end.read <= from.read || end.read < 16 {
+        return from;
+    }
+    if !write_eight_ascii::<E>(&raw[end.read - 16..], &mut to[end.written - 8..]) {
+        return from;
+    }
+    end
+}
+
+// Writes the rest of a text, if it has fewer than eight code units and these surely fit, one by
+// one, up to the first surrogate.
+#[inline(always)]
+fn write_few_units<E: Utf16Order>(raw: &[u8], to: &mut [u8], from: Moved) -> Moved
+    requires { Wrote (TranscodesToUtf8 E.BIG) raw.now to.old from.read from.written }
+    ensures { Wrote (TranscodesToUtf8 E.BIG) raw.now to.new result.read result.written }
+{
+    let Moved {
+        mut read,
+        mut written,
+    } = from;
+    let left = raw.len() - read;
+    if left >= 16 || to.len() - written < left / 2 * 3 {
+        return from;
+    }
+    while raw.len() - read >= 2 {
+        let Some(c) = plain_first_char::<E>(&raw[read..]) else {
+            break;
+        };
+        written = put_char(c, to, written);
+        read += 2;
+    }
     Moved { read, written }
+}
+
+// Returns the first character, or `None` if the first code unit is a surrogate.
+#[inline(always)]
+fn plain_first_char<E: Utf16Order>(rest: &[u8]) -> Option<char>
+    requires { 2 ≤ length rest.now }
+    ensures char { IfSome result (λ c. BeginsWith (char_bytes E.BIG) rest.now c 2) }
+    ensures one { IfSome result (λ c. c < 0x1_0000) }
+{
+    let unit = E::read_unit([rest[0], rest[1]]);
+    if unit / 0x800 == 0x1B {
+        return None;
+    }
+    Some(unsafe { char::from_u32_unchecked(unit as u32) })
 }
 
 // Returns the length of the longest valid prefix. Kept out of line so that the writer does not pay
@@ -160,7 +212,6 @@ pub(crate) fn valid_up_to<E: Utf16Order>(bytes: &[u8]) -> usize
 }
 
 // Writes a character in UTF-8 at `at`, and returns where it ends, or `None` if it does not fit.
-// Unlike `char::encode_utf8`, its contract says which bytes are unchanged.
 #[inline(always)]
 fn write_char_at(c: char, to: &mut [u8], at: usize) -> Option<usize>
     requires { at ≤ length to.old }
@@ -169,33 +220,33 @@ fn write_char_at(c: char, to: &mut [u8], at: usize) -> Option<usize>
     ensures none { result ≡ None → length to.new - at < length (encode_utf8 c) }
     ensures unchanged { result ≡ None → to.new ≡ to.old }
 {
+    if to.len() - at < c.len_utf8() {
+        return None;
+    }
+    Some(put_char(c, to, at))
+}
+
+// Writes a character that fits in UTF-8 at `at`, and returns where it ends. Unlike
+// `char::encode_utf8`, its contract says which bytes are unchanged.
+#[inline(always)]
+fn put_char(c: char, to: &mut [u8], at: usize) -> usize
+    requires { at + len_utf8 c ≤ length to.old }
+    ensures end { result ≡ at + len_utf8 c }
+    ensures within { result ≤ length to.new }
+    ensures bytes { take result to.new ≡ take at to.old ++ encode_utf8 c }
+{
     let code = c as u32;
     let last = (0x80 + code % 64) as u8;
     if code < 0x80 {
-        write_if_fits(&[code as u8], to, at)
+        put(&[code as u8], to, at)
     } else if code < 0x800 {
-        write_if_fits(&[(0xC0 + code / 64) as u8, last], to, at)
+        put(&[(0xC0 + code / 64) as u8, last], to, at)
     } else if code < 0x1_0000 {
         let middle = (0x80 + code / 64 % 64) as u8;
-        write_if_fits(&[(0xE0 + code / 4096) as u8, middle, last], to, at)
+        put(&[(0xE0 + code / 4096) as u8, middle, last], to, at)
     } else {
         let (second, third) = (0x80 + code / 4096 % 64, 0x80 + code / 64 % 64);
         let first = 0xF0 + code / 262144;
-        write_if_fits(&[first as u8, second as u8, third as u8, last], to, at)
+        put(&[first as u8, second as u8, third as u8, last], to, at)
     }
-}
-
-// Writes bytes at `at`, and returns where they end, or `None` if they do not fit.
-#[inline(always)]
-fn write_if_fits(bytes: &[u8], to: &mut [u8], at: usize) -> Option<usize>
-    requires { at ≤ length to.old }
-    ensures within { IfSome result (λ end. end ≤ length to.new) }
-    ensures bytes { IfSome result (λ end. take end to.new ≡ take at to.old ++ bytes.now) }
-    ensures none { result ≡ None → length to.new - at < length bytes.now }
-    ensures unchanged { result ≡ None → to.new ≡ to.old }
-{
-    if to.len() - at < bytes.len() {
-        return None;
-    }
-    Some(put(bytes, to, at))
 }

@@ -24,6 +24,9 @@ use utf16_from_utf8::{SLACK, write_ascii, write_blocks, write_text};
 use utf16_to_utf8::utf8_len;
 use utf16_units::{Utf16CharExt, Utf16Order, is_trailing_surrogate};
 
+// The length in bytes below which an input is first tried character by character.
+const SHORT_LEN: usize = 32;
+
 /// Writes UTF-8 in UTF-16 to the start of a buffer, up to the first ill-formed sequence or as far
 /// as whole characters fit. Any bytes are allowed. Bytes of the buffer after the written ones may
 /// have been overwritten.
@@ -73,20 +76,20 @@ impl<E: Utf16Order> Direction for FromUtf8<E> {
         first_char(rest)
     }
 
-    // Begins with the ASCII at the start: as `write_ascii` does, and then one by one.
+    // Begins with the ASCII at the start, as `write_ascii` does and then one by one, if the input
+    // is short or there is little space. A short input goes on character by character.
     #[inline(always)]
-    fn begin_short(input: &[u8], to: &mut [u8]) -> Option<Moved> {
+    fn begin(input: &[u8], to: &mut [u8]) -> Moved {
         let most = input.len().min(to.len() / 2);
-        let len = write_ascii::<E>(&input[..most], to);
-        Some(write_ascii_chars::<E>(input, to, len))
-    }
-
-    #[inline(always)]
-    fn quick_first_char(rest: &[u8]) -> Option<(char, usize)> {
-        if rest.is_empty() {
-            return None;
+        if most >= SHORT_LEN {
+            return Moved {
+                read: 0,
+                written: 0,
+            };
         }
-        first_char(rest).ok()
+        let len = write_ascii::<E>(&input[..most], to);
+        let ascii = write_ascii_chars::<E>(input, to, len);
+        write_short_rest::<E>(input, to, ascii)
     }
 
     #[inline(always)]
@@ -156,6 +159,33 @@ fn write_ascii_chars<E: Utf16Order>(bytes: &[u8], to: &mut [u8], from: usize) ->
         read: len,
         written: end,
     }
+}
+
+// Writes the rest of a short input character by character, as far as its characters fit and are
+// well formed.
+#[inline(always)]
+fn write_short_rest<E: Utf16Order>(text: &[u8], to: &mut [u8], from: Moved) -> Moved
+    requires { Wrote (TranscodesToUtf16 E.BIG) text.now to.old from.read from.written }
+    ensures { Wrote (TranscodesToUtf16 E.BIG) text.now to.new result.read result.written }
+{
+    if text.len() >= SHORT_LEN {
+        return from;
+    }
+    let Moved {
+        mut read,
+        mut written,
+    } = from;
+    while read < text.len() {
+        let Ok((c, len)) = first_char(&text[read..]) else {
+            break;
+        };
+        if to.len() - written < c.encoded_utf16_len() {
+            break;
+        }
+        written = write_char::<E>(c, to, written);
+        read += len;
+    }
+    Moved { read, written }
 }
 
 // Writes a character that fits at `at`, and returns where it ends.

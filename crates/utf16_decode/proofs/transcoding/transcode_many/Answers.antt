@@ -1,10 +1,10 @@
 use Rattle.std.proofs.Common.{◌+◌, sym, subst, rules}
 use Rattle.utf16_decode.specs.Wrote.{Gives, Wrote}
-use Rattle.utf16_decode.proofs.WroteLemmas.{Wrote-none, Wrote-then, stops_at_start, stops_there}
+use Rattle.utf16_decode.proofs.WroteLemmas.{Wrote-then, stops_there}
 use Rattle.utf16_decode.proofs.transcoding.transcode_many.Goals as goal
 
 pub loop-read-init : goal.loop-read-init
-loop-read-init g c = Wrote-none c.laws.ensures.of_nothing _ _
+loop-read-init g c = c.requires.begun
 
 pub loop-read-preserved : goal.loop-read-preserved
 loop-read-preserved g c =
@@ -27,8 +27,7 @@ returns-in-Err-write_next_char-clause-stop g c =
 pub returns-then-read-input-clause-wrote : goal.returns-then-read-input-clause-wrote
 returns-then-read-input-clause-wrote g c = Wrote-then c.laws.ensures.joins _ _ _ _ _ _ _ c.loop-read.invariant c.write_piece-piece.ensures
 
-pub returns-clause-stop : goal.returns-clause-stop
-returns-clause-stop g c =
+pub returns-in-Err-clause-stop : goal.returns-in-Err-clause-stop
+returns-in-Err-clause-stop g c =
     let d = g.D.Direction in
-    let laws = c.laws.ensures in
-    stops_at_start d.from d.into d.IsValid d.IsIllFormedAt d.IsIllFormed laws.ill_formed _ _ (search rules) laws.of_nothing.0 c.in-Err.stop (c.in-Err.ensures.stop _)
+    stops_there d.from d.into d.IsValid d.IsIllFormedAt d.IsIllFormed c.laws.ensures.ill_formed _ _ _ c.requires.some c.requires.begun.gives.0 c.in-Err.stop (c.in-Err.ensures.stop _)

@@ -1,9 +1,0 @@
-use Rattle.std.proofs.Common.{rules}
-use Rattle.utf16_from_utf8.proofs.WrittenLemmas.{ascii-first}
-use Rattle.utf16_encode.proofs.FromUtf8Lemmas.{wrote_blocks}
-use Rattle.utf16_encode.proofs.utf16.FromUtf8Direction.begin_short.Goals as goal
-
-pub write_ascii_chars-requires : goal.write_ascii_chars-requires
-write_ascii_chars-requires g c =
-    let ascii = c.write_ascii-len.ensures in
-    wrote_blocks (ascii-first g.E.Utf16Order.BIG c.args.input.now c.write_ascii-len.new.out c.min-most.result c.write_ascii-len.result ascii.within ascii.ascii ascii.bytes (search rules))
