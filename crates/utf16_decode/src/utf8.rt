@@ -1,10 +1,11 @@
 //! Conversion of UTF-16 to UTF-8, up to the first ill-formed sequence.
 
-ghost use Rattle.std.specs.Prelude.{◌≡◌, ◌+◌, ◌-◌, ◌*◌, ◌/◌, ◌<◌, ◌≤◌, ◌++◌, IfSome, None, length, take};
+ghost use Rattle.std.specs.Prelude.{◌≡◌, ◌≢◌, ◌+◌, ◌-◌, ◌*◌, ◌/◌, ◌<◌, ◌≤◌, ◌++◌, IfSome, None, length, slice_index, take};
 ghost use Rattle.std.specs.Char.{encode_utf8, len_utf8};
 ghost use Rattle.utf16_units.specs.Encoding.{char_bytes, IsUtf16, utf8_of};
 ghost use Rattle.utf16_units.specs.IllFormed.{IsIllFormedAt};
-ghost use Rattle.utf16_decode.specs.Wrote.{TranscodesToUtf8, Wrote};
+ghost use Rattle.utf16_units.specs.Unit.{unit_of};
+ghost use Rattle.utf16_decode.specs.Wrote.{Puts, TranscodesToUtf8, Wrote};
 ghost use Rattle.utf16_decode.specs.Stops.{BeginsWith, IsIllFormedUtf16, StopsDecoding};
 
 use crate::direction::Direction;
@@ -13,6 +14,7 @@ use crate::transcoding::transcode;
 use std::marker::PhantomData;
 use utf16_to_utf8::{SLACK, write_blocks, write_eight_ascii, write_utf8};
 use utf16_units::ends::first_char;
+use utf16_units::plain::is_short_plain;
 use utf16_units::{Moved, Utf16Order, first_char_len, utf16_len, validate_raw_utf16};
 
 // The most bytes of ASCII at the start of an input that are written eight code units at a time. In
@@ -60,6 +62,9 @@ impl<E: Utf16Order> Direction for ToUtf8<E> {
 
     #[inline(always)]
     fn valid_len(bytes: &[u8]) -> usize {
+        if is_short_plain::<E>(bytes) {
+            return bytes.len();
+        }
         valid_up_to::<E>(bytes)
     }
 
@@ -71,12 +76,7 @@ impl<E: Utf16Order> Direction for ToUtf8<E> {
 
     #[inline(always)]
     fn begin(input: &[u8], to: &mut [u8]) -> Moved {
-        let nothing = Moved {
-            read: 0,
-            written: 0,
-        };
-        let front = &input[..input.len().min(BEGIN_LEN)];
-        let ascii = write_ascii_from::<E>(front, to, nothing);
+        let ascii = write_ascii_start::<E>(input, to);
         write_few_units::<E>(input, to, ascii)
     }
 
@@ -110,6 +110,21 @@ impl<E: Utf16Order> Direction for ToUtf8<E> {
         let blocks = write_blocks::<E>(rest, to);
         write_ascii_from::<E>(rest, to, blocks)
     }
+}
+
+// Writes the ASCII at the start of an input of eight code units or more.
+#[inline(always)]
+fn write_ascii_start<E: Utf16Order>(raw: &[u8], to: &mut [u8]) -> Moved
+    ensures { Wrote (TranscodesToUtf8 E.BIG) raw.now to.new result.read result.written }
+{
+    let nothing = Moved {
+        read: 0,
+        written: 0,
+    };
+    if raw.len() < 16 {
+        return nothing;
+    }
+    write_ascii_from::<E>(&raw[..raw.len().min(BEGIN_LEN)], to, nothing)
 }
 
 // Writes the ASCII that follows what was written, eight code units at a time. These write no bytes
@@ -175,27 +190,47 @@ fn write_few_units<E: Utf16Order>(raw: &[u8], to: &mut [u8], from: Moved) -> Mov
         return from;
     }
     while raw.len() - read >= 2 {
-        let Some(c) = plain_first_char::<E>(&raw[read..]) else {
+        let Some(end) = write_plain_unit::<E>(&raw[read..], to, written) else {
             break;
         };
-        written = put_char(c, to, written);
+        written = end;
         read += 2;
     }
     Moved { read, written }
 }
 
-// Returns the first character, or `None` if the first code unit is a surrogate.
+// Writes the first code unit at `at`, where it surely fits, and returns where it ends, or `None` if
+// it is a surrogate. Lower units take fewer tests.
 #[inline(always)]
-fn plain_first_char<E: Utf16Order>(rest: &[u8]) -> Option<char>
-    requires { 2 ≤ length rest.now }
-    ensures char { IfSome result (λ c. BeginsWith (char_bytes E.BIG) rest.now c 2) }
-    ensures one { IfSome result (λ c. c < 0x1_0000) }
+fn write_plain_unit<E: Utf16Order>(rest: &[u8], to: &mut [u8], at: usize) -> Option<usize>
+    requires some { 2 ≤ length rest.now }
+    requires space { at + 3 ≤ length to.old }
+    ensures puts { IfSome result (λ end.
+        Puts (TranscodesToUtf8 E.BIG) rest.now to.old to.new at 2 end) }
+    ensures near { IfSome result (λ end. end ≤ at + 3) }
+    ensures unchanged { result ≡ None → to.new ≡ to.old }
 {
     let unit = E::read_unit([rest[0], rest[1]]);
+    if unit < 0x800 {
+        return Some(put_char(plain_first_char::<E>(rest), to, at));
+    }
     if unit / 0x800 == 0x1B {
         return None;
     }
-    Some(unsafe { char::from_u32_unchecked(unit as u32) })
+    Some(put_char(plain_first_char::<E>(rest), to, at))
+}
+
+// Returns the first character, if the first code unit is no surrogate.
+#[inline(always)]
+fn plain_first_char<E: Utf16Order>(rest: &[u8]) -> char
+    requires some { 2 ≤ length rest.now }
+    requires plain { unit_of E.BIG (slice_index rest.now 0) (slice_index rest.now 1) / 0x800
+        ≢ 0x1B }
+    ensures char { BeginsWith (char_bytes E.BIG) rest.now result 2 }
+    ensures one { result < 0x1_0000 }
+{
+    let unit = E::read_unit([rest[0], rest[1]]);
+    unsafe { char::from_u32_unchecked(unit as u32) }
 }
 
 // Returns the length of the longest valid prefix. Kept out of line so that the writer does not pay
