@@ -62,9 +62,6 @@ impl<E: Utf16Order> Direction for ToUtf8<E> {
 
     #[inline(always)]
     fn valid_len(bytes: &[u8]) -> usize {
-        if is_short_plain::<E>(bytes) {
-            return bytes.len();
-        }
         valid_up_to::<E>(bytes)
     }
 
@@ -77,7 +74,8 @@ impl<E: Utf16Order> Direction for ToUtf8<E> {
     #[inline(always)]
     fn begin(input: &[u8], to: &mut [u8]) -> Moved {
         let ascii = write_ascii_start::<E>(input, to);
-        write_few_units::<E>(input, to, ascii)
+        let few = write_few_units::<E>(input, to, ascii);
+        write_short_rest::<E>(input, to, few)
     }
 
     #[inline(always)]
@@ -197,6 +195,25 @@ fn write_few_units<E: Utf16Order>(raw: &[u8], to: &mut [u8], from: Moved) -> Mov
         read += 2;
     }
     Moved { read, written }
+}
+
+// Writes the rest of a text, if it has eight to thirty-two code units without a surrogate and these
+// surely fit.
+#[inline(always)]
+fn write_short_rest<E: Utf16Order>(raw: &[u8], to: &mut [u8], from: Moved) -> Moved
+    requires { Wrote (TranscodesToUtf8 E.BIG) raw.now to.old from.read from.written }
+    ensures { Wrote (TranscodesToUtf8 E.BIG) raw.now to.new result.read result.written }
+{
+    let rest = &raw[from.read..];
+    let room = to.len() - from.written;
+    if rest.len() < 16 || room < rest.len() / 2 * 3 + SLACK || !is_short_plain::<E>(rest) {
+        return from;
+    }
+    let written = write_utf8::<E>(rest, &mut to[from.written..]);
+    Moved {
+        read: raw.len(),
+        written: from.written + written,
+    }
 }
 
 // Writes the first code unit at `at`, where it surely fits, and returns where it ends, or `None` if
