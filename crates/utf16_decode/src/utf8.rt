@@ -17,9 +17,9 @@ use utf16_units::ends::first_char;
 use utf16_units::plain::is_short_plain;
 use utf16_units::{Moved, Utf16Order, first_char_len, utf16_len, validate_raw_utf16};
 
-// The most bytes of ASCII at the start of an input that are written eight code units at a time. In
-// longer inputs blocks follow.
-const BEGIN_LEN: usize = 256;
+// The length in bytes below which an input begins with ASCII, eight code units at a time. Longer
+// ones take less time in blocks.
+const SHORT_LEN: usize = 192;
 
 /// Writes UTF-16 in UTF-8 to the start of a buffer, up to the first ill-formed sequence or as far
 /// as whole characters fit. Any bytes are allowed. Bytes of the buffer after the written ones may
@@ -110,7 +110,7 @@ impl<E: Utf16Order> Direction for ToUtf8<E> {
     }
 }
 
-// Writes the ASCII at the start of an input of eight code units or more.
+// Writes the ASCII at the start of a short input of eight code units or more.
 #[inline(always)]
 fn write_ascii_start<E: Utf16Order>(raw: &[u8], to: &mut [u8]) -> Moved
     ensures { Wrote (TranscodesToUtf8 E.BIG) raw.now to.new result.read result.written }
@@ -119,10 +119,10 @@ fn write_ascii_start<E: Utf16Order>(raw: &[u8], to: &mut [u8]) -> Moved
         read: 0,
         written: 0,
     };
-    if raw.len() < 16 {
+    if raw.len() < 16 || raw.len() >= SHORT_LEN {
         return nothing;
     }
-    write_ascii_from::<E>(&raw[..raw.len().min(BEGIN_LEN)], to, nothing)
+    write_ascii_from::<E>(raw, to, nothing)
 }
 
 // Writes the ASCII that follows what was written, eight code units at a time. These write no bytes

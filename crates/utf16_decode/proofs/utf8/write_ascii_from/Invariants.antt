@@ -1,4 +1,4 @@
-use Rattle.std.proofs.Common.{◌≡◌, ◌+◌, ◌-◌, ◌*◌, ◌≤◌, length}
+use Rattle.std.proofs.Common.{◌≡◌, ◌+◌, ◌-◌, ◌*◌, ◌≤◌}
 use Rattle.utf16_decode.specs.Wrote.{TranscodesToUtf8, Wrote}
 use Rattle.utf16_decode.proofs.utf8.write_ascii_from.Given as goal
 

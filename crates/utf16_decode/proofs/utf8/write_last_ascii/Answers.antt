@@ -1,4 +1,4 @@
-use Rattle.std.proofs.Common.{◌≡◌, ◌+◌, ◌-◌, ◌*◌, ◌/◌, ◌%◌, ◌<◌, ◌≤◌, All, ap, arith, drop, length, length-drop, length-take-le, refl, rules, subst, sym, take, take_all, ◌∙◌}
+use Rattle.std.proofs.Common.{◌≡◌, ◌+◌, ◌-◌, ◌%◌, ◌<◌, All, arith, length, length-take-le, refl, rules, subst, take}
 use borrow.Rule.Slice.PartMut.{put_mid}
 use Rattle.std.proofs.lemmas.List.{take_rest}
 use Rattle.utf16_units.proofs.IllFormedLemmas.{rest_from}
