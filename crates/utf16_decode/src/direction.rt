@@ -58,8 +58,8 @@ pub trait Direction {
         ensures char { IfOk result (λ first. BeginsWith from rest.now first.0 first.1) }
         ensures ill_formed { IfErr result (IsIllFormedAt rest.now) };
 
-    /// Begins to write an input to the start of a buffer: what is written with few tests and no
-    /// calls, which may be nothing, or all of a short input.
+    /// Begins to write an input to the start of a buffer, as far as few tests suffice: mostly all
+    /// of a short input, and nothing of a long one.
     fn begin(input: &[u8], to: &mut [u8]) -> Moved
         ensures { Wrote (Gives IsValid other) input.now to.new result.read result.written };
 

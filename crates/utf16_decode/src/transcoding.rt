@@ -39,7 +39,7 @@ pub fn transcode<D: Direction>(input: &[u8], to: &mut [u8]) -> Progress
 }
 
 // Goes on from what was begun, and transcodes as much at once as surely fits. Not inlined, so that
-// short inputs stay cheap.
+// what `begin` writes stays cheap.
 #[inline(never)]
 fn transcode_many<D: Direction>(input: &[u8], to: &mut [u8], begun: Moved) -> Progress
     requires some { begun.read < length input.now }
