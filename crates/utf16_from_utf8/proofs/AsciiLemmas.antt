@@ -4,16 +4,17 @@ use Rattle.std.proofs.Math.Seq.{take-add}
 use Rattle.std.proofs.lemmas.Bool.{cases_lt}
 use Rattle.std.proofs.lemmas.List.{get_or-take, get_or_past, take-take, take_all, take_at}
 use Rattle.std.proofs.lemmas.Simd.{get_or-chunk, length-chunk}
-use Rattle.std.proofs.lemmas.Str.{IsUtf8-from_ascii, chars-IsAscii}
+use Rattle.std.proofs.lemmas.Str.{chars-IsAscii}
 use Rattle.std.proofs.lemmas.Str.Ascii.{IsAscii-nil}
+use Rattle.std.specs.List.{flat_map}
 use Rattle.std.specs.Simd.Lanes.{chunk, put_chunk}
 use Rattle.std.specs.Str.{IsAscii, chars}
 use Rattle.utf16_units.specs.Encoding.{encode, size}
-use Rattle.utf16_units.proofs.CharLemmas.{char_size_two}
-use Rattle.utf16_units.proofs.EncodingLemmas.{encode-append, encode-nil, length-encode, size-cons, size-nil}
-use Rattle.utf16_from_utf8.specs.Added.{added_bytes}
+use Rattle.utf16_units.specs.Unit.{unit_bytes}
+use Rattle.utf16_units.proofs.CharLemmas.{char_size_two, one_unit_bytes}
+use Rattle.utf16_units.proofs.EncodingLemmas.{encode-append, encode-cons, encode-nil, length-encode, size-cons, size-nil}
 use Rattle.utf16_from_utf8.specs.Ascii.{IsWritten}
-use Rattle.utf16_from_utf8.proofs.TextLemmas.{added_bytes-text}
+use Rattle.utf16_from_utf8.proofs.BlockLemmas.{both_stored, halves}
 
 -- what is after a vector that was stored stays
 after_chunk : {X : Type 0} (at : ℕ) (out v : List X) (m : ℕ) → at + length v ≤ m → drop m (put_chunk at out v) ≡ drop m out
@@ -24,11 +25,18 @@ after_chunk zero (x ∷ out) (y ∷ v) (suc m) over = after_chunk zero out v m (
 after_chunk (suc at) (x ∷ out) v zero over = absurd (omega (arith, over))
 after_chunk (suc at) (x ∷ out) v (suc m) over = after_chunk at out v m (omega (arith, over))
 
-pub after_both : (at : ℕ) (first second out : List ℕ) → length first ≡ 16 → length second ≡ 16
-    → drop (at + 32) (put_chunk (at + 16) (put_chunk at out first) second) ≡ drop (at + 32) out
-after_both at first second out a b =
-    after_chunk (at + 16) (put_chunk at out first) second (at + 32) (omega (arith, b))
-    ∙ after_chunk at out first (at + 32) (omega (arith, a))
+pub after_both : (at : ℕ) (bytes out : List ℕ) → length bytes ≡ 32
+    → drop (at + 32) (put_chunk (at + 16) (put_chunk at out (chunk 0 16 bytes)) (chunk 16 16 bytes)) ≡ drop (at + 32) out
+after_both at bytes out long =
+    after_chunk (at + 16) (put_chunk at out (chunk 0 16 bytes)) (chunk 16 16 bytes) (at + 32) (omega (arith, length-chunk 16 16 bytes (omega (arith, long))))
+    ∙ after_chunk at out (chunk 0 16 bytes) (at + 32) (omega (arith, length-chunk 0 16 bytes (omega (arith, long))))
+
+-- both halves of a vector were stored
+pub halves_stored : (at : ℕ) (bytes out : List ℕ) → length bytes ≡ 32 → at + 32 ≤ length out
+    → take (at + 32) (put_chunk (at + 16) (put_chunk at out (chunk 0 16 bytes)) (chunk 16 16 bytes)) ≡ take at out ++ bytes
+halves_stored at bytes out long room =
+    both_stored at (chunk 0 16 bytes) (chunk 16 16 bytes) out (length-chunk 0 16 bytes (omega (arith, long))) (length-chunk 16 16 bytes (omega (arith, long))) room
+    ∙ ap (λ t. take at out ++ t) (sym (halves bytes long))
 
 -- ---- the next block
 
@@ -56,8 +64,16 @@ block-ascii block long low i = ⊎_elim
     (λ (a : 16 ≤ i). omega (arith, get_or_past block i 0 (omega (arith, a, long))))
     (cases_lt i 16)
 
-pub ascii-text : (big : Bool) (block : List ℕ) → length block ≡ 16 → ((i : ℕ) → i < 16 → slice_index block i < 0x80) → added_bytes big 0 0 block ≡ encode big (chars block)
-ascii-text big block long low = added_bytes-text big block (IsUtf8-from_ascii block (block-ascii block long low))
+-- the units of ASCII are its bytes
+encode-ascii : (big : Bool) (text : List ℕ) → IsAscii text → flat_map (unit_bytes big) text ≡ encode big text
+encode-ascii big [] ascii = sym (encode-nil big)
+encode-ascii big (c ∷ text) ascii =
+    ap₂ (λ x y. x ++ y) (sym (one_unit_bytes big c (omega (arith, ascii 0)))) (encode-ascii big text (λ i. ascii (suc i))) ∙ sym (encode-cons big c text)
+
+pub ascii-text : (big : Bool) (block : List ℕ) → length block ≡ 16 → ((i : ℕ) → i < 16 → slice_index block i < 0x80) → flat_map (unit_bytes big) block ≡ encode big (chars block)
+ascii-text big block long low =
+    let ascii = block-ascii block long low in
+    encode-ascii big block ascii ∙ ap (encode big) (sym (chars-IsAscii block ascii))
 
 -- the next block was written after the others
 pub block-written : (big : Bool) (bytes before old new : List ℕ) (at to : ℕ) → to ≡ at + 16 → at + 16 ≤ length bytes

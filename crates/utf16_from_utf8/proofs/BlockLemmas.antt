@@ -1,16 +1,16 @@
 -- What the lanes of a block hold is what its bytes add.
-use Rattle.std.proofs.Common.{replicate, ◌≡◌, ℕ, zero, suc, ◌+◌, ◌*◌, ◌/◌, ◌%◌, ◌^◌, ◌<◌, ◌≤◌, ◌&&◌, ◌==◌, Bool, true, false, cond, ltb, List, [], ◌∷◌, ◌++◌, length, take, slice_index, append_assoc, bit_and, refl, sym, ap, ap₂, ◌∙◌, ⊎_elim, length-take-le, arith, append-nil, flat_map, lt-ltb, le-ltb, length-append}
+use Rattle.std.proofs.Common.{replicate, ◌≡◌, ℕ, zero, suc, ◌+◌, ◌*◌, ◌/◌, ◌%◌, ◌^◌, ◌<◌, ◌≤◌, ◌&&◌, ◌==◌, Bool, true, false, cond, ltb, List, [], ◌∷◌, ◌++◌, length, length-drop, drop, take, take-append-drop, take_all, slice_index, append_assoc, bit_and, refl, sym, ap, ap₂, ◌∙◌, ⊎_elim, length-take-le, arith, append-nil, flat_map, lt-ltb, le-ltb, length-append}
 use Rattle.std.proofs.lemmas.Bool.{cases_lt}
 use Rattle.std.proofs.lemmas.Nat.Bits.{and_high}
 use Rattle.std.proofs.lemmas.Simd.{length-put_chunk, take_more_put_chunk}
 use Rattle.std.proofs.Math.Nat.{div-div-eq-div-mul, two-pow-succ}
-use lib.Lanes.{put_chunk}
+use lib.Lanes.{chunk, put_chunk}
 use Rattle.utf16_units.specs.Unit.{unit_bytes}
 use Rattle.utf16_from_utf8.specs.Added.{added_bytes, ends_unit, unit_after}
 use Rattle.utf16_from_utf8.specs.Follow.{AreBefore}
 use Rattle.utf16_from_utf8.specs.Lanes.{kept_pairs, pair_bytes, pairs_of}
 use Rattle.utf16_from_utf8.specs.UnitLanes.{short_low, three_high}
-use Rattle.utf16_from_utf8.proofs.AddedLemmas.{added_bytes-cons, added_bytes-nil, adds-none-behind, adds-none-first, adds-one, byte_adds, unit-one, unit-three}
+use Rattle.utf16_from_utf8.proofs.AddedLemmas.{added_bytes-cons, added_bytes-nil, adds-none-behind, adds-none-first, adds-one, byte_adds, unit-three}
 use Rattle.utf16_from_utf8.proofs.LaneByteLemmas.{AreBytes, pair-unit, three-bytes}
 
 -- ---- one byte
@@ -27,22 +27,6 @@ byte-adds-first big b2 b1 b0 a = ap (flat_map (unit_bytes big)) (adds-none-first
 
 pub byte-adds-behind : (big : Bool) (b2 b1 b0 : ℕ) → 0xE0 ≤ b1 → byte_adds big b2 b1 b0 ≡ []
 byte-adds-behind big b2 b1 b0 a = ap (flat_map (unit_bytes big)) (adds-none-behind b2 b1 b0 a)
-
--- ---- characters of one byte
-
-pub ascii-added : (big : Bool) (b2 b1 : ℕ) (highs block : List ℕ) → length highs ≡ length block → b1 < 0xE0
-    → ((i : ℕ) → i < length block → slice_index highs i ≡ 0) → ((i : ℕ) → i < length block → slice_index block i < 0x80) → pairs_of big highs block ≡ added_bytes big b2 b1 block
-ascii-added big b2 b1 [] [] long behind none ascii = sym (added_bytes-nil big b2 b1)
-ascii-added big b2 b1 [] (b0 ∷ block) long behind none ascii = absurd (omega arith)
-ascii-added big b2 b1 (h ∷ highs) [] long behind none ascii = absurd (omega arith)
-ascii-added big b2 b1 (h ∷ highs) (b0 ∷ block) long behind none ascii =
-    let low : b0 < 0x80 = ascii 0 (omega arith) in
-    let unit = unit-one b2 b1 b0 low in
-    let high = none 0 (omega arith) in
-    let pair = pair-unit big (unit_after b2 b1 b0) h b0 (record { is_high = omega (arith, unit, high, low); is_low = omega (arith, unit, low) }) in
-    ap₂ (λ x y. x ++ y) (pair ∙ sym (byte-adds-one big b2 b1 b0 (omega arith) behind))
-    (ascii-added big b1 b0 highs block (omega arith) (omega arith) (λ i below. none (suc i) (omega arith)) (λ i below. ascii (suc i) (omega arith)))
-    ∙ sym (added_bytes-cons big b2 b1 b0 block)
 
 -- ---- any bytes
 
@@ -142,6 +126,9 @@ block-added big before2 before1 block b2 b1 highs lows bits before long high_lon
 })
 
 -- ---- two vectors stored
+
+pub halves : (v : List ℕ) → length v ≡ 32 → v ≡ chunk 0 16 v ++ chunk 16 16 v
+halves v long = sym (take-append-drop 16 v) ∙ ap (λ t. take 16 v ++ t) (sym (take_all 16 (drop 16 v) (omega (arith, length-drop 16 v, long))))
 
 pub both_stored : (at : ℕ) (first second out : List ℕ) → length first ≡ 16 → length second ≡ 16 → at + 32 ≤ length out
     → take (at + 32) (put_chunk (at + 16) (put_chunk at out first) second) ≡ take at out ++ (first ++ second)

@@ -5,11 +5,11 @@ ghost use Rattle.std.specs.Str.{IsAscii, chars};
 ghost use Rattle.utf16_units.specs.Encoding.{encode};
 ghost use Rattle.utf16_from_utf8.specs.Ascii.{IsWritten};
 
-use crate::lanes::{each, masked, set_bits};
+use crate::lanes::{halves, masked, set_bits};
 use crate::limits::{are_below, greatest};
-use crate::pack::paired;
 use std::simd::prelude::*;
 use utf16_units::Utf16Order;
+use utf16_units::blocks::bytes16;
 
 /// Writes the ASCII at the start of the bytes in UTF-16 to the start of `out`, and returns how many
 /// bytes it read. It wrote two bytes for each of them.
@@ -49,7 +49,7 @@ pub fn write_ascii<E: Utf16Order>(bytes: &[u8], out: &mut [u8]) -> usize
 // Writes the ASCII at the start of sixteen bytes or more. Kept out of line so that other texts do
 // not pay for a call.
 #[inline(never)]
-fn write_front<E: Utf16Order>(bytes: &[u8], out: &mut [u8]) -> usize
+pub(crate) fn write_front<E: Utf16Order>(bytes: &[u8], out: &mut [u8]) -> usize
     requires space { 2 * length bytes.now ≤ length out.old }
     requires some { 16 ≤ length bytes.now }
     ensures written { IsWritten E.BIG bytes.now out.old out.new result }
@@ -172,7 +172,9 @@ pub fn write_ascii_block<E: Utf16Order>(out: &mut [u8], at: usize, block: u8x16)
     ensures rest { drop result out.new ≡ drop result out.old }
     ensures written_to { result ≡ at + 32 }
 {
-    let (first, second) = paired::<E>(each(0), block);
+    let units = bytes16::<E>(block.cast::<u16>());
+    // Two stores: on x86-64-v3 they become one, and on x86-64-v2 the first stays first.
+    let (first, second) = halves(units);
     first.copy_to_slice(&mut out[at..]);
     second.copy_to_slice(&mut out[at + 16..]);
     at + 32

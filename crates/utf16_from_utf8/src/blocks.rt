@@ -8,7 +8,7 @@ ghost use Rattle.std.specs.Prelude.{◌≡◌, ◌+◌, ◌*◌, ◌<◌, ◌≤
 ghost use Rattle.utf16_from_utf8.specs.Follow.{AreBelow, IsBlock};
 ghost use Rattle.utf16_from_utf8.specs.Written.{IsWritten};
 
-use crate::ascii::write_ascii;
+use crate::ascii::{write_ascii, write_front};
 use crate::block::write_block;
 use crate::fours::write_fours;
 use crate::limits::{are_below, greatest};
@@ -132,7 +132,7 @@ fn write_ascii_run<E: Utf16Order>(bytes: &[u8], out: &mut [u8], from: Moved) -> 
 {
     let rest = &bytes[from.read..];
     let most = rest.len().min((out.len() - from.written) / 2);
-    let len = write_ascii::<E>(&rest[..most], &mut out[from.written..]);
+    let len = write_front::<E>(&rest[..most], &mut out[from.written..]);
     Moved {
         read: from.read + len,
         written: from.written + 2 * len,

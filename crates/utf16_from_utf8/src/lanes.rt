@@ -1,6 +1,7 @@
 //! SIMD operations on sixteen bytes, each with what it computes in the lane at `i`.
 
 ghost use Rattle.std.specs.Prelude.{◌≡◌, ℕ, ◌+◌, ◌*◌, ◌/◌, ◌%◌, ◌^◌, ◌<◌, ◌==◌, ◌∷◌, bit_and, if◌then◌else◌, nat_lt, slice_index};
+ghost use Rattle.std.specs.Simd.Lanes.{chunk};
 ghost use Rattle.utf16_units.specs.Lanes.{HasLanes};
 
 use std::simd::prelude::*;
@@ -60,6 +61,15 @@ pub(crate) fn greater(a: u8x16, b: u8x16) -> u8x16
         then slice_index b i else slice_index a i) }
 {
     a.simd_max(b)
+}
+
+// The lanes in two groups of sixteen.
+#[inline(always)]
+pub(crate) fn halves(v: u8x32) -> (u8x16, u8x16)
+    ensures first { result.0 ≡ chunk 0 16 v }
+    ensures second { result.1 ≡ chunk 16 16 v }
+{
+    (v.extract::<0, 16>(), v.extract::<16, 16>())
 }
 
 // The byte before each one; before the first, `before`.

@@ -1,4 +1,4 @@
-use Rattle.std.proofs.Common.{◌+◌, ◌≤◌, ◌++◌, length, length-append, subst, sym, ap, ap₂, ◌∙◌, arith, take-append-drop}
+use Rattle.std.proofs.Common.{◌+◌, ◌≤◌, ◌++◌, length-append, subst, sym, ap, ap₂, ◌∙◌, arith, take-append-drop}
 use Rattle.std.proofs.lemmas.Bool.{false≢true}
 use Rattle.std.proofs.lemmas.Str.{IsUtf8-drop, IsUtf8-take}
 use Rattle.std.specs.Str.{IsUtf8, chars}
