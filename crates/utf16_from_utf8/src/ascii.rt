@@ -134,10 +134,16 @@ fn write_wide_block<E: Utf16Order>(bytes: &[u8], out: &mut [u8], at: usize) -> u
         → IsWritten E.BIG bytes.now before out.new result }
     ensures at { result ≡ at + 64 }
 {
-    let second = write_narrow_block::<E>(bytes, out, at);
-    let third = write_narrow_block::<E>(bytes, out, second);
-    let fourth = write_narrow_block::<E>(bytes, out, third);
-    write_narrow_block::<E>(bytes, out, fourth)
+    // All are read before the first is written, which may overwrite what was not read yet as far as
+    // the compiler knows.
+    let a = u8x16::from_slice(&bytes[at..]);
+    let b = u8x16::from_slice(&bytes[at + 16..]);
+    let c = u8x16::from_slice(&bytes[at + 32..]);
+    let d = u8x16::from_slice(&bytes[at + 48..]);
+    let second = write_read_block::<E>(bytes, out, at, a);
+    let third = write_read_block::<E>(bytes, out, second, b);
+    let fourth = write_read_block::<E>(bytes, out, third, c);
+    write_read_block::<E>(bytes, out, fourth, d)
 }
 
 // Writes the next sixteen bytes, and returns where the bytes after them begin.
@@ -150,7 +156,21 @@ fn write_narrow_block<E: Utf16Order>(bytes: &[u8], out: &mut [u8], at: usize) ->
         → IsWritten E.BIG bytes.now before out.new result }
     ensures at { result ≡ at + 16 }
 {
-    write_ascii_block::<E>(out, 2 * at, u8x16::from_slice(&bytes[at..]));
+    write_read_block::<E>(bytes, out, at, u8x16::from_slice(&bytes[at..]))
+}
+
+// Writes the next sixteen bytes, which were read, and returns where the bytes after them begin.
+#[inline(always)]
+fn write_read_block<E: Utf16Order>(bytes: &[u8], out: &mut [u8], at: usize, block: u8x16) -> usize
+    requires space { 2 * length bytes.now ≤ length out.old }
+    requires more { at + 16 ≤ length bytes.now }
+    requires read { block ≡ take 16 (drop at bytes.now) }
+    requires ascii { (i : ℕ) → i < 16 → slice_index bytes.now (at + i) < 0x80 }
+    ensures written { (before : List ℕ) → IsWritten E.BIG bytes.now before out.old at
+        → IsWritten E.BIG bytes.now before out.new result }
+    ensures at { result ≡ at + 16 }
+{
+    write_ascii_block::<E>(out, 2 * at, block);
     at + 16
 }
 
