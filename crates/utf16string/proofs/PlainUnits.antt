@@ -1,7 +1,7 @@
 -- Blocks of units, each of which is a character: their bytes, and the bytes of the units for which
 -- a predicate returns true.
-use Rattle.std.proofs.Common.{◌≡◌, ℕ, ◌+◌, ◌-◌, ◌<◌, ◌≤◌, Bool, true, false, List, [], ◌∷◌, ◌++◌, All, get_or, length, take, drop, refl, sym, ap, ap₂, ◌∙◌, arith, append-nil, append_assoc, length-append, flat_map}
-use Rattle.std.proofs.lemmas.List.{drop-drop, length-take-le, take_more}
+use Rattle.std.proofs.Common.{◌≡◌, ℕ, ◌+◌, ◌*◌, ◌-◌, ◌<◌, ◌≤◌, Bool, true, false, List, [], ◌∷◌, ◌++◌, All, get_or, length, take, drop, refl, sym, ap, ap₂, ◌∙◌, arith, append-nil, append_assoc, length-append, flat_map}
+use Rattle.std.proofs.lemmas.List.{drop-drop, length-take-le, take-append-le, take-take, take_more}
 use Rattle.std.proofs.lemmas.List.Elements.{All-cons, All-head, All-nil, All-tail}
 use Rattle.std.specs.Char.{IsScalar}
 use Rattle.std.specs.List.{items_where_true}
@@ -78,6 +78,25 @@ written-more big front answers units i answer long room is old new so_far more =
 -- if no units are kept, no bytes are written
 pub encode-none : (big : Bool) (front : List ℕ) → front ≡ front ++ encode big []
 encode-none big front = sym (ap (λ l. front ++ l) (encode-nil big) ∙ append-nil front)
+
+-- what is written from an index on leaves what is before it
+pub before : (at n : ℕ) (old new more : List ℕ) → at ≤ length old → take (at + n) new ≡ take at old ++ more → take at new ≡ take at old
+before at n old new more within written =
+    sym (take-take at (at + n) new (omega arith)) ∙ ap (take at) written
+    ∙ take-append-le at (take at old) more (omega (arith, length-take-le at old within)) ∙ take-take at at old (omega arith)
+
+-- a step of writing each unit after the kept ones: it counts as one of them if it is kept
+pub written-next : (big : Bool) (front : List ℕ) (answers : List Bool) (units : List ℕ) (i : ℕ) → i < length answers → i < length units
+    → (answer : Bool) → get_or answers i false ≡ answer → (end : ℕ) (old new : List ℕ) → end ≤ length old
+    → take end old ≡ front ++ encode big (items_where_true (take i answers) (take i units))
+    → take (end + 2) new ≡ take end old ++ encode big (get_or units i 0 ∷ [])
+    → take (end + 2 * bool_byte answer) new ≡ front ++ encode big (items_where_true (take (i + 1) answers) (take (i + 1) units))
+written-next big front answers units i long room true is end old new within so_far more =
+    written-more big front answers units i true long room is (take end old) _ so_far more
+written-next big front answers units i long room false is end old new within so_far more =
+    let none : end + 2 * bool_byte false ≡ end = omega arith in
+    written-more big front answers units i false long room is (take end old) _ so_far
+    (ap (λ n. take n new) none ∙ before end 2 old new _ within more ∙ encode-none big (take end old))
 
 -- lists that agree from one index on agree from each later one on
 pub drop-later : (a b : ℕ) (xs ys : List ℕ) → a ≤ b → drop a xs ≡ drop a ys → drop b xs ≡ drop b ys

@@ -97,8 +97,8 @@ fn char_from<E: Utf16Order>(bytes: &[u8], at: usize) -> (char, usize)
     first_char::<E>(&bytes[at..])
 }
 
-// Calls the predicate on the character at an index, and moves it down if it is kept. Returns the
-// end of the kept characters.
+// Calls the predicate on the character at an index, and moves it down. Returns the end of the kept
+// characters: if it is not one of them, the next is moved over it.
 #[inline(always)]
 fn keep_char<E: Utf16Order, F: FnMut(char) -> bool>(
     bytes: &mut [u8],
@@ -117,12 +117,9 @@ fn keep_char<E: Utf16Order, F: FnMut(char) -> bool>(
         keep.new bytes.new result (read + size) }
     ensures down { result ≤ read + size }
 {
-    if keep(c) {
-        move_down(bytes, kept, read, size);
-        kept + size
-    } else {
-        kept
-    }
+    let stays = keep(c);
+    move_down(bytes, kept, read, size);
+    if stays { kept + size } else { kept }
 }
 
 // Moves the one or two units of a character down, if they are not in place.

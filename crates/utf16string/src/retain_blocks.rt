@@ -121,7 +121,9 @@ fn move_all(bytes: &mut [u8], to: usize, start: usize)
     }
 }
 
-// Writes the kept units one after another. The bytes after the block do not change.
+// Writes the kept units one after another. Each unit is written after the kept ones, and the next
+// is written over it if it is not kept: no branch waits for what the predicate returned. The bytes
+// after the block do not change.
 #[inline]
 fn write_some<E: Utf16Order>(
     bytes: &mut [u8],
@@ -139,10 +141,8 @@ fn write_some<E: Utf16Order>(
 {
     let mut end = to;
     for i in 0..UNITS {
-        if answers[i] {
-            write_unit::<E>(bytes, end, units[i]);
-            end += 2;
-        }
+        write_unit::<E>(bytes, end, units[i]);
+        end += 2 * answers[i] as usize;
     }
     end
 }

@@ -1,6 +1,6 @@
 //! Removal of characters and texts from a string.
 
-ghost use Rattle.std.specs.Prelude.{◌≡◌, ◌≢◌, ◌↔◌, ◌+◌, ◌<◌, ◌≤◌, [], Some, IsOk, IsSome, IfOk, OnErr, OnOk};
+ghost use Rattle.std.specs.Prelude.{◌≡◌, ◌≢◌, ◌↔◌, ◌⊎◌, ◌+◌, ◌<◌, ◌≤◌, [], Some, IsOk, IsSome, IfOk, OnErr, OnOk};
 ghost use Rattle.std.specs.List.{remove_range};
 ghost use Rattle.std.specs.Option.{option_to_list};
 ghost use Rattle.std.specs.Vec.{vec_allocator, vec_capacity, vec_len};
@@ -10,6 +10,7 @@ ghost use Rattle.utf16_units.specs.Encoding.{size};
 
 use crate::WString;
 use std::alloc::{AllocError, Allocator};
+use utf16_units::ends::last_char;
 use utf16_units::{Utf16CharExt, Utf16Order};
 
 impl<E: Utf16Order, A: Allocator> WString<E, A> {
@@ -24,8 +25,13 @@ impl<E: Utf16Order, A: Allocator> WString<E, A> {
             ≡ wstring_text self.old }
         ensures capacity { wstring_capacity self.new ≡ wstring_capacity self.old }
     {
-        let last = self.chars().next_back()?;
-        let front = self.len() - last.encoded_utf16_len();
+        if self.raw.is_empty() {
+            return None;
+        }
+        // The size is that of `last_char`, not computed from the character: the next call does not
+        // wait for a character to be decoded.
+        let (last, size) = last_char::<E>(&self.raw);
+        let front = self.raw.len() - size;
         self.raw.truncate(front);
         Some(last)
     }
@@ -117,15 +123,30 @@ impl<E: Utf16Order, A: Allocator> WString<E, A> {
     }
 }
 
-// Removes the bytes of a range of indices.
+// Removes the bytes of a character. Each length has its own call: the distance is a constant there,
+// so LLVM makes a `memmove` of it.
 #[inline]
 fn remove_bytes<A: Allocator>(raw: &mut Vec<u8, A>, start: usize, end: usize)
-    requires ordered { start ≤ end }
+    requires size { (end ≡ start + 2) ⊎ (end ≡ start + 4) }
     requires within { end ≤ vec_len raw.old }
     ensures items { raw.new.items ≡ remove_range raw.old.items start end }
     ensures capacity { vec_capacity raw.new ≡ vec_capacity raw.old }
 {
-    let len = raw.len();
-    raw.copy_within(end..len, start);
-    raw.truncate(len - (end - start));
+    if end - start == 2 {
+        close_gap(raw, start, 2);
+    } else {
+        close_gap(raw, start, 4);
+    }
+}
+
+// Removes `size` bytes at an index.
+#[inline]
+fn close_gap<A: Allocator>(raw: &mut Vec<u8, A>, start: usize, size: usize)
+    requires { start + size ≤ vec_len raw.old }
+    ensures items { raw.new.items ≡ remove_range raw.old.items start (start + size) }
+    ensures capacity { vec_capacity raw.new ≡ vec_capacity raw.old }
+{
+    let front = raw.len() - size;
+    raw[start..].copy_within(size.., 0);
+    raw.truncate(front);
 }

@@ -221,7 +221,13 @@ fn insert_char<E: Utf16Order, A: Allocator>(
     let mut units = [0; 4];
     let len = ch.encode_utf16_into::<E>(&mut units);
     push_units(raw, units, len)?;
-    move_in(raw, index, &units[..len]);
+    // Each length has its own call: the distance is a constant there, so LLVM makes a `memmove` of
+    // the move.
+    if len == 2 {
+        move_in(raw, index, &units[..2]);
+    } else {
+        move_in(raw, index, &units[..4]);
+    }
     Ok(())
 }
 
@@ -254,7 +260,7 @@ fn move_in<A: Allocator>(raw: &mut Vec<u8, A>, index: usize, bytes: &[u8])
         → raw.new.items ≡ splice text index index bytes.now }
     ensures capacity { vec_capacity raw.new ≡ vec_capacity raw.old }
 {
-    let len = raw.len() - bytes.len();
-    raw.copy_within(index..len, index + bytes.len());
+    let moved = raw.len() - index - bytes.len();
+    raw[index..].copy_within(..moved, bytes.len());
     raw[index..index + bytes.len()].copy_from_slice(bytes);
 }
