@@ -1,8 +1,8 @@
 //! Conversion of UTF-16 to UTF-8, up to the first ill-formed sequence.
 //!
-//! A short text is written by its kind: ASCII eight code units at a time, and what follows it one by
-//! one or, if it is longer, with SIMD after one test for surrogates. Only texts with surrogates, and
-//! those that may not fit, take the steps of long texts.
+//! A short text is written by its kind: ASCII eight code units at a time, and what follows it one
+//! by one or, if it is longer, with SIMD after one test for surrogates. Only texts with surrogates,
+//! and those that may not fit, take the steps of long texts.
 
 ghost use Rattle.std.specs.Prelude.{◌≡◌, ◌≢◌, ◌+◌, ◌-◌, ◌*◌, ◌/◌, ◌<◌, ◌≤◌, ◌++◌, IfSome, None, length, slice_index, take};
 ghost use Rattle.std.specs.Char.{encode_utf8, len_utf8};
@@ -241,7 +241,7 @@ fn write_plain_unit<E: Utf16Order>(rest: &[u8], to: &mut [u8], at: usize) -> Opt
     Some(put_char(plain_first_char::<E>(rest), to, at))
 }
 
-// Returns the first character, if the first code unit is no surrogate.
+// Returns the first character, if the first code unit is not a surrogate.
 #[inline(always)]
 fn plain_first_char<E: Utf16Order>(rest: &[u8]) -> char
     requires some { 2 ≤ length rest.now }
