@@ -83,7 +83,7 @@ awk -F '\t' '
     if (!(row in seen)) { seen[row] = 1; rows[++n] = row }
     if ($6 > speed[row, $4, $5]) speed[row, $4, $5] = $6
 }
-# Returns a decoder's speed in a byte order, or its ratio to another's.
+# Returns the speed of a decoder in a byte order, or its ratio to another one.
 function cell(row, order, decoder, other,    own, others) {
     own = speed[row, order, decoder]
     if (other == "") return own == "" ? "–" : own
