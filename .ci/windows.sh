@@ -225,6 +225,10 @@ check_stack() {
     check 'a stack pointer from a register' sees_stack 'movq' "$first	movq	%rax, %rsp"
     check 'memory below the stack pointer' sees_stack 'below the stack' \
         "$first	movq	%rax, -8(%rsp)"
+    check 'an array below the stack pointer' sees_stack 'below the stack' \
+        "$first	movq	%rax, -8(%rsp,%rbx)"
+    check 'a read far below the stack pointer' sees_stack 'below the stack' \
+        "$first	movq	-40(%rsp,%rbx), %rax"
 }
 
 # == examples/windows
