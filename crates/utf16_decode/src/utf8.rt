@@ -1,8 +1,8 @@
 //! Conversion of UTF-16 to UTF-8, up to the first ill-formed sequence.
 //!
-//! A short text is written by its kind: ASCII eight code units at a time, and what follows it one
-//! by one or, if it is longer, with SIMD after one test for surrogates. Only texts with surrogates,
-//! and those that may not fit, take the steps of long texts.
+//! A short text is written by its kind: ASCII eight code units at a time, fewer than eight code
+//! units one by one, and others eight at a time, validated while they are written. Only longer
+//! texts, and those that may not fit, take the steps of long texts.
 
 ghost use Rattle.std.specs.Prelude.{◌≡◌, ◌≢◌, ◌+◌, ◌-◌, ◌*◌, ◌/◌, ◌<◌, ◌≤◌, ◌++◌, IfSome, None, length, slice_index, take};
 ghost use Rattle.std.specs.Char.{encode_utf8, len_utf8};
@@ -16,13 +16,12 @@ use crate::direction::Direction;
 use crate::progress::{Progress, put};
 use crate::transcoding::transcode;
 use std::marker::PhantomData;
-use utf16_to_utf8::{SLACK, write_blocks, write_eight_ascii, write_utf8};
+use utf16_to_utf8::{SLACK, write_blocks, write_eight_ascii, write_eights, write_utf8};
 use utf16_units::ends::first_char;
-use utf16_units::plain::is_short_plain;
 use utf16_units::{Moved, Utf16Order, first_char_len, utf16_len, validate_raw_utf16};
 
-// The length in bytes below which an input begins with ASCII, eight code units at a time. Longer
-// ones take less time in blocks.
+// The length in bytes below which an input is written eight code units at a time. Longer ones take
+// less time in blocks.
 const SHORT_LEN: usize = 192;
 
 /// Writes UTF-16 in UTF-8 to the start of a buffer, up to the first ill-formed sequence or as far
@@ -201,22 +200,31 @@ fn write_few_units<E: Utf16Order>(raw: &[u8], to: &mut [u8], from: Moved) -> Mov
     Moved { read, written }
 }
 
-// Writes the rest of a text, if it has eight to thirty-two code units without a surrogate and these
-// surely fit.
+// Writes the rest of a short input eight code units at a time, up to an ill-formed sequence or as
+// far as it surely fits.
 #[inline(always)]
 fn write_short_rest<E: Utf16Order>(raw: &[u8], to: &mut [u8], from: Moved) -> Moved
     requires { Wrote (TranscodesToUtf8 E.BIG) raw.now to.old from.read from.written }
     ensures { Wrote (TranscodesToUtf8 E.BIG) raw.now to.new result.read result.written }
 {
-    let rest = &raw[from.read..];
-    let room = to.len() - from.written;
-    if rest.len() < 16 || room < rest.len() / 2 * 3 + SLACK || !is_short_plain::<E>(rest) {
+    if raw.len() >= SHORT_LEN || raw.len() - from.read < 8 {
         return from;
     }
-    let written = write_utf8::<E>(rest, &mut to[from.written..]);
+    write_eights_from::<E>(raw, to, from)
+}
+
+// Writes what follows what was written, eight code units at a time. Not inlined, so that ASCII does
+// not pay for its registers.
+#[inline(never)]
+fn write_eights_from<E: Utf16Order>(raw: &[u8], to: &mut [u8], from: Moved) -> Moved
+    requires many { from.read + 8 ≤ length raw.now }
+    requires wrote { Wrote (TranscodesToUtf8 E.BIG) raw.now to.old from.read from.written }
+    ensures { Wrote (TranscodesToUtf8 E.BIG) raw.now to.new result.read result.written }
+{
+    let rest = write_eights::<E>(&raw[from.read..], &mut to[from.written..]);
     Moved {
-        read: raw.len(),
-        written: from.written + written,
+        read: from.read + rest.read,
+        written: from.written + rest.written,
     }
 }
 
@@ -232,6 +240,9 @@ fn write_plain_unit<E: Utf16Order>(rest: &[u8], to: &mut [u8], at: usize) -> Opt
     ensures unchanged { result ≡ None → to.new ≡ to.old }
 {
     let unit = E::read_unit([rest[0], rest[1]]);
+    if unit < 0x80 {
+        return Some(put_char(plain_first_char::<E>(rest), to, at));
+    }
     if unit < 0x800 {
         return Some(put_char(plain_first_char::<E>(rest), to, at));
     }

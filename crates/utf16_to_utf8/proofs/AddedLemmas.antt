@@ -86,24 +86,21 @@ narrow-trailing p u b =
     let chosen : surrogate_bits p u ≡ plus (up (bit_and p 3) 10) (plus u 0x4400) = rw (lt-ltb (plus u 0x2400 / 2 ^ 2 - 0x2F0) (plus (up (bit_and p 3) 10) (plus u 0x4400)) (omega (arith, is, b.0, b.1))) refl in
     surrogate_two p u (omega (arith, b.0), b.1) ∙ ap (two_bytes 0x8000) (chosen ∙ is) ∙ two_bytes-is 0 bits (omega arith) ∙ omega arith
 
+pub added_len-basic : (u : ℕ) → 0x800 ≤ u → is_surrogate u ≡ false → added_len u ≡ 3
+added_len-basic u from none =
+    let above : 0x80 ≤ u = omega (arith, from) in
+    rw (le-ltb u 0x80 above, le-ltb u 0x800 from, none) refl
+
 -- a unit that adds at most two bytes and is not a surrogate
 pub letter-below : (u : ℕ) → is_surrogate u ≡ false → added_len u ≤ 2 → u < 0x800
-letter-below u none few = ⊎_elim (λ (a : u < 0x800). a) (λ (b : 0x800 ≤ u). absurd (go b)) (cases_lt u 0x800)
-  where
-    go : 0x800 ≤ u → ⊥
-    go b =
-        let above : 0x80 ≤ u = omega arith in
-        let three : added_len u ≡ 3 = rw (le-ltb u 0x80 above, le-ltb u 0x800 b, none) refl in
-        omega (arith, three, few)
+letter-below u none few = ⊎_elim (λ (a : u < 0x800). a) (λ (b : 0x800 ≤ u). absurd (omega (arith, added_len-basic u b none, few))) (cases_lt u 0x800)
 
 wide-is : (u : ℕ) → u < 0x1_0000 → wide u ≡ (0xE0 + u / 4096) + 256 * continuation (u / 64)
 wide-is u below = two_bytes-is 0xE0 (u / 64) (omega arith) ∙ omega arith
 
 -- how many bytes are added, by class
 pub added_len-three : (u : ℕ) → u < 0x1_0000 → 0x800 ≤ u → (u < 0xD800) ⊎ (0xE000 ≤ u) → added_len u ≡ 3
-added_len-three u below a s =
-    let above : 0x80 ≤ u = omega arith in
-    rw (le-ltb u 0x80 above, le-ltb u 0x800 a, surrogate-no u below s) refl
+added_len-three u below a s = added_len-basic u a (surrogate-no u below s)
 
 added_len-surrogate : (u : ℕ) → Between 0xD800 0xE000 u → added_len u ≡ 2
 added_len-surrogate u b =

@@ -1,5 +1,5 @@
 -- What was written up to a leading surrogate, which is the last unit that was read.
-use Rattle.std.proofs.Common.{◌≡◌, ⊎_elim, ◌/◌, ◌%◌, ℕ, ◌+◌, ◌-◌, ◌*◌, ◌<◌, ◌≤◌, Bool, true, false, List, [], ◌∷◌, ◌++◌, length, map, take, drop, slice_index, refl, sym, ap, ap₂, ◌∙◌, subst, arith, append-nil, Fits, w8, drop_at, length-append, length-drop, length-take-le, take_at, take-take}
+use Rattle.std.proofs.Common.{◌≡◌, ⊎_elim, ◌/◌, ◌%◌, ℕ, ◌+◌, ◌-◌, ◌*◌, ◌<◌, ◌≤◌, Bool, true, false, List, [], ◌∷◌, ◌++◌, length, map, take, drop, slice_index, refl, sym, ap, ap₂, ◌∙◌, subst, arith, append-nil, Fits, w8, drop_at, length-append, length-drop, length-take, length-take-le, take_at, take-take}
 use Rattle.std.proofs.lemmas.List.{drop-drop, length-map, map-append}
 use Rattle.std.proofs.lemmas.Bool.{cases_lt}
 use Rattle.std.specs.Prelude.{min}
@@ -33,7 +33,7 @@ last-leading before after units unit p =
     (p ∙ ap (λ bits. before ∷ bits) (map-append is_high_surrogate units (unit ∷ [])))
 
 -- if a block and one more unit are paired, the block is paired
-paired-front : (before after : Bool) (units : List ℕ) (unit : ℕ) → Paired before (units ++ unit ∷ []) after → Paired before units (is_low_surrogate unit)
+pub paired-front : (before after : Bool) (units : List ℕ) (unit : ℕ) → Paired before (units ++ unit ∷ []) after → Paired before units (is_low_surrogate unit)
 paired-front before after units unit p =
     let lows = map is_low_surrogate units ++ is_low_surrogate unit ∷ [] in
     let highs = before ∷ map is_high_surrogate units in
@@ -56,23 +56,31 @@ two-bytes before unit high =
     ap length (units-cons before unit [] ∙ ap (λ bs. unit_utf8 before unit ++ bs) (units-nil unit) ∙ append-nil (unit_utf8 before unit)
     ∙ unit-leading before unit (omega (arith, bounds.0)) (omega (arith, bounds.1)))
 
--- if little of a part of the buffer is left, little is left of all of it
-pub little-left : (len part size at end : ℕ) → part ≡ min len (size / 2 * 3 + 128) → 2 * end ≤ 3 * at → at % 2 ≡ 0 → at ≤ size → part < end + 128 → len < end + 128
-little-left len part size at end is short even within full = ⊎_elim
+-- if little of the first part of the buffer is left, little is left of all of it
+little-left : (space len part size at end : ℕ) → space ≤ 128 → part ≡ min len (size / 2 * 3 + 128) → 2 * end ≤ 3 * at → at % 2 ≡ 0 → at ≤ size → part < end + space → len < end + space
+little-left space len part size at end most is short even within full = ⊎_elim
     (λ (less : len < size / 2 * 3 + 128). omega (arith, is, less, full))
-    (λ (more : size / 2 * 3 + 128 ≤ len). absurd (omega (arith, is, more, short, even, within, full)))
+    (λ (more : size / 2 * 3 + 128 ≤ len). absurd (omega (arith, is, most, more, short, even, within, full)))
     (cases_lt len (size / 2 * 3 + 128))
 
+pub little-behind : (space size end : ℕ) (to new : List ℕ) (room at written : ℕ) → space ≤ 128 → room ≡ min (length to) (size / 2 * 3 + 128) → length new ≡ length (take room to)
+    → 2 * end ≤ 3 * at → at % 2 ≡ 0 → at ≤ size → end ≤ written + 2 → length new < end + space → length (new ++ drop room to) < written + (space + 2)
+little-behind space size end to new room at written most is long short even within near full =
+    let part = length-take room to in
+    let less = little-left space (length to) (length new) size at end most (omega (arith, long, part, is)) short even within full in
+    omega (arith, less, near, length-append new (drop room to), length-drop room to, long, part, is)
+
 -- if the next block is not paired, neither are the block and one more unit
-pub stops-more : (big : Bool) (raw : List ℕ) (at : ℕ) (leading : Bool) → leading ≡ false → BlocksStopAt 64 big raw at leading → BlocksStopAt 66 big raw at false
-stops-more big raw at leading is stops more after p =
+pub stops-more : (big : Bool) (raw : List ℕ) (at : ℕ) (leading : Bool) → leading ≡ false → (size : ℕ) → size % 2 ≡ 0 → BlocksStopAt size big raw at leading
+    → BlocksStopAt (size + 2) big raw at false
+stops-more big raw at leading is size even stops more after p =
     let rest = drop at raw in
     let left = length-drop at raw in
-    let next = one-unit big (take 2 (drop 64 rest)) (length-take-le 2 (drop 64 rest) (omega (arith, more, left, length-drop 64 rest))) in
-    let all : units_of big (take 66 rest) ≡ units_of big (take 64 rest) ++ next.0 ∷ [] =
-    units_of-next big rest 64 2 refl (omega (arith, more, left)) ∙ ap (λ us. units_of big (take 64 rest) ++ us) next.1 in
-    let front = paired-front false after (units_of big (take 64 rest)) next.0 (subst (λ us. Paired false us after) all p) in
-    stops (omega (arith, more)) (is_low_surrogate next.0) (subst (λ b. Paired b (units_of big (take 64 rest)) (is_low_surrogate next.0)) (sym is) front)
+    let next = one-unit big (take 2 (drop size rest)) (length-take-le 2 (drop size rest) (omega (arith, more, left, length-drop size rest))) in
+    let all : units_of big (take (size + 2) rest) ≡ units_of big (take size rest) ++ next.0 ∷ [] =
+    units_of-next big rest size 2 even (omega (arith, more, left)) ∙ ap (λ us. units_of big (take size rest) ++ us) next.1 in
+    let front = paired-front false after (units_of big (take size rest)) next.0 (subst (λ us. Paired false us after) all p) in
+    stops (omega (arith, more)) (is_low_surrogate next.0) (subst (λ b. Paired b (units_of big (take size rest)) (is_low_surrogate next.0)) (sym is) front)
 
 module _ (big : Bool) (raw out : List ℕ) (cursor : Cursor) (fit : (k : ℕ) → Fits w8 (slice_index raw k)) (reached : Reached big raw out cursor)
     (after : Bool) (is : after ≡ true) (paired : PairedTo big raw cursor.at after) where
@@ -119,12 +127,14 @@ module _ (big : Bool) (raw out : List ℕ) (cursor : Cursor) (fit : (k : ℕ) �
       ∙ take_at (units_utf8 0 units) (units_utf8 behind.0 (last.0 ∷ [])) (length (units_utf8 0 units)) refl ∙ bytes-utf8 big (take (cursor.at - 2) raw) text
 
   -- if blocks stop after the last unit, no block and one more unit can be read from that unit on
-  pub stops-before : BlocksStopAt 64 big raw cursor.at after → BlocksStopAt 66 big raw (cursor.at - 2) false
-  stops-before stops more last_leads p =
+  pub stops-before : (size : ℕ) → BlocksStopAt size big raw cursor.at after → BlocksStopAt (size + 2) big raw (cursor.at - 2) false
+  stops-before size stops more last_leads p =
       let rest = drop (cursor.at - 2) raw in
-      let block = units_of big (take 64 (drop cursor.at raw)) in
+      let block = units_of big (take size (drop cursor.at raw)) in
+      let one_more : 2 + size ≡ size + 2 = omega arith in
       let here : drop 2 rest ≡ drop cursor.at raw = drop-drop 2 (cursor.at - 2) raw ∙ ap (λ n. drop n raw) (omega (arith, some)) in
-      let all : units_of big (take 66 rest) ≡ last.0 ∷ block =
-      units_of-next big rest 2 64 refl (omega (arith, more, some, length-drop (cursor.at - 2) raw)) ∙ ap₂ (λ us bs. us ++ units_of big (take 64 bs)) last.1 here in
+      let all : units_of big (take (size + 2) rest) ≡ last.0 ∷ block =
+      ap (λ n. units_of big (take n rest)) (sym one_more)
+      ∙ units_of-next big rest 2 size refl (omega (arith, more, some, length-drop (cursor.at - 2) raw)) ∙ ap₂ (λ us bs. us ++ units_of big (take size bs)) last.1 here in
       let behind_it : Paired (is_high_surrogate last.0) block last_leads = ap (drop 1) (subst (λ us. Paired false us last_leads) all p) in
       stops (omega (arith, more, some)) last_leads (subst (λ b. Paired b block last_leads) (high ∙ sym is) behind_it)

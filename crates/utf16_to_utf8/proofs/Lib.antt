@@ -12,3 +12,5 @@ mod WriterLemmas
 mod BoundLemmas
 mod PlainLemmas
 mod LeadingLemmas
+mod TextPairs
+mod LastLemmas

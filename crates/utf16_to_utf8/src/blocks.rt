@@ -6,7 +6,7 @@ ghost use Rattle.utf16_units.specs.Lanes.{HasLanes};
 ghost use Rattle.utf16_to_utf8.specs.Block.{AreOfKind, IsPlain};
 ghost use Rattle.utf16_to_utf8.specs.Lanes.{folded, plus};
 ghost use Rattle.utf16_to_utf8.specs.Utf8.{units_utf8};
-ghost use Rattle.utf16_to_utf8.specs.declared.blocks.Kind.TheVariants.{Ascii};
+ghost use Rattle.utf16_to_utf8.specs.declared.blocks.Kind.TheVariants.{Ascii, Basic};
 
 use crate::lanes::{doubled, each, eights, larger, sixteens, smaller, sum};
 use crate::writers::{BasicWriter, LettersWriter, MixedWriter, PairsWriter, WideWriter, Writer};
@@ -145,6 +145,15 @@ pub(crate) fn kind_of(units: u16x32) -> Kind
     } else {
         Kind::Mixed
     }
+}
+
+// Whether none of eight units is a surrogate. Units below U+0800 are tested for first, because they
+// are written in other ways.
+#[inline(always)]
+pub(crate) fn eight_are_basic(units: u16x8) -> bool
+    ensures { IsTrue result → AreOfKind Basic units }
+{
+    lanes_below(units, 0x800) || lanes_from(raised(units), 0x800)
 }
 
 // Whether a block of the kind has no surrogate.

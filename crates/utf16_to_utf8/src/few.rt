@@ -1,16 +1,14 @@
 //! Writes eight units at once, in short texts and after the last block of a text.
-//!
-//! Folding moves the surrogates below 0x800, so one comparison says whether all units add at most
-//! two bytes.
 
-ghost use Rattle.std.specs.Prelude.{◌≡◌, ◌↔◌, ◌+◌, ◌-◌, ◌*◌, ◌/◌, ◌%◌, ◌<◌, ◌≤◌, ◌++◌, ℕ, All, IsTrue, drop, false, length, replicate, slice_index, take};
+ghost use Rattle.std.specs.Prelude.{◌≡◌, ◌↔◌, ◌+◌, ◌-◌, ◌*◌, ◌/◌, ◌%◌, ◌<◌, ◌≤◌, ◌++◌, ℕ, All, Bool, IsTrue, drop, false, length, replicate, slice_index, take};
 ghost use Rattle.utf16_units.specs.Encoding.{IsUtf16, units_of, utf8_of};
+ghost use Rattle.utf16_units.specs.Lanes.{Paired, PairedTo};
 ghost use Rattle.utf16_to_utf8.specs.Block.{AreOfKind};
 ghost use Rattle.utf16_to_utf8.specs.Cursor.{Reached};
 ghost use Rattle.utf16_to_utf8.specs.Utf8.{units_utf8};
-ghost use Rattle.utf16_to_utf8.specs.declared.blocks.Kind.TheVariants.{Ascii};
+ghost use Rattle.utf16_to_utf8.specs.declared.blocks.Kind.TheVariants.{Ascii, Basic, Pairs};
 
-use crate::blocks::{folded, lanes_below, lanes_from};
+use crate::blocks::{eight_are_basic, folded, lanes_below, lanes_from};
 use crate::groups::{absences, endings, narrow, outers, thirds, wide};
 use crate::lanes::previous_eight;
 use crate::pack::{ascii_bits, write_kept, write_pairs, write_threes};
@@ -64,41 +62,114 @@ fn write_ascii_units(out: &mut [u8], at: usize, units: u16x8) -> usize
     at + 8
 }
 
-// Writes the UTF-8 of eight units.
+// Writes the UTF-8 of eight units, of which some are surrogates or none.
 #[inline(always)]
-fn write_eight_units(out: &mut [u8], at: usize, previous: u16x8, units: u16x8) -> usize
+fn write_eight_units(
+    out: &mut [u8],
+    at: usize,
+    previous: u16x8,
+    units: u16x8,
+    surrogates: bool,
+) -> usize
     requires space { at + 32 ≤ length out.old }
+    requires none { surrogates ≡ false → AreOfKind Basic units }
     ensures bytes { take result out.new ≡ take at out.old ++ units_utf8 (slice_index previous 7)
         units }
     ensures written_to { result ≤ at + 24 }
 {
-    let preceding = previous_eight(previous, units);
-    let folded = folded(units);
-    if lanes_below(units, 0x80) {
-        write_ascii_units(out, at, units)
+    if surrogates {
+        if lanes_below(folded(units), 0x800) {
+            write_two_at_most(out, at, previous, units, true)
+        } else {
+            write_any_eight(out, at, previous, units, true)
+        }
     } else if lanes_below(units, 0x800) {
-        write_pairs(out, at, narrow(preceding, units, false), ascii_bits(units))
-    } else if lanes_from(folded, 0x800) {
+        if lanes_below(units, 0x80) {
+            write_ascii_units(out, at, units)
+        } else {
+            write_two_at_most(out, at, previous, units, false)
+        }
+    } else if lanes_from(units, 0x800) {
         write_threes(out, at, wide(units), thirds(units))
-    } else if lanes_below(folded, 0x800) {
-        write_pairs(out, at, narrow(preceding, units, true), ascii_bits(units))
     } else {
-        let endings = endings(preceding, units, true);
-        write_kept(out, at, outers(units), endings, absences(units, true))
+        write_any_eight(out, at, previous, units, false)
     }
+}
+
+// Writes the UTF-8 of eight units that add at most two bytes each.
+#[inline(always)]
+fn write_two_at_most(
+    out: &mut [u8],
+    at: usize,
+    previous: u16x8,
+    units: u16x8,
+    surrogates: bool,
+) -> usize
+    requires space { at + 16 ≤ length out.old }
+    requires none { surrogates ≡ false → AreOfKind Basic units }
+    requires narrow { AreOfKind Pairs units }
+    ensures bytes { take result out.new ≡ take at out.old ++ units_utf8 (slice_index previous 7)
+        units }
+    ensures written_to { result ≤ at + 16 }
+{
+    let pairs = narrow(previous_eight(previous, units), units, surrogates);
+    write_pairs(out, at, pairs, ascii_bits(units))
+}
+
+// Writes the UTF-8 of any eight units.
+#[inline(always)]
+fn write_any_eight(
+    out: &mut [u8],
+    at: usize,
+    previous: u16x8,
+    units: u16x8,
+    surrogates: bool,
+) -> usize
+    requires space { at + 32 ≤ length out.old }
+    requires none { surrogates ≡ false → AreOfKind Basic units }
+    ensures bytes { take result out.new ≡ take at out.old ++ units_utf8 (slice_index previous 7)
+        units }
+    ensures written_to { result ≤ at + 24 }
+{
+    let endings = endings(previous_eight(previous, units), units, surrogates);
+    write_kept(out, at, outers(units), endings, absences(units, surrogates))
 }
 
 // Writes the next eight units.
 #[inline(always)]
 pub(crate) fn write_next_eight<E: Utf16Order>(raw: &[u8], out: &mut [u8], from: Cursor) -> Cursor
-    requires space { length raw.now / 2 * 3 + SLACK ≤ length out.old }
+    requires space { from.end + 32 ≤ length out.old }
     requires more { from.at + 16 ≤ length raw.now }
     requires reached { Reached E.BIG raw.now out.old from }
     ensures reached { Reached E.BIG raw.now out.new result }
     ensures at { result.at ≡ from.at + 16 }
 {
     let units = units8::<E>(u8x16::from_slice(&raw[from.at..]));
-    let end = write_eight_units(out, from.end, from.previous, units);
+    write_known_eight::<E>(raw, out, from, units, !eight_are_basic(units))
+}
+
+// Writes the next eight units, of which some are surrogates or none.
+#[inline(always)]
+pub(crate) fn write_known_eight<E: Utf16Order>(
+    raw: &[u8],
+    out: &mut [u8],
+    from: Cursor,
+    units: u16x8,
+    surrogates: bool,
+) -> Cursor
+    requires space { from.end + 32 ≤ length out.old }
+    requires more { from.at + 16 ≤ length raw.now }
+    requires next { units ≡ units_of E.BIG (take 16 (drop from.at raw.now)) }
+    requires none { surrogates ≡ false → AreOfKind Basic units }
+    requires reached { Reached E.BIG raw.now out.old from }
+    ensures reached { Reached E.BIG raw.now out.new result }
+    ensures at { result.at ≡ from.at + 16 }
+    ensures plain { surrogates ≡ false → PairedTo E.BIG raw.now from.at false
+        → PairedTo E.BIG raw.now result.at false }
+    ensures pairs { (before after : Bool) → PairedTo E.BIG raw.now from.at before
+        → Paired before units after → PairedTo E.BIG raw.now result.at after }
+{
+    let end = write_eight_units(out, from.end, from.previous, units, surrogates);
     Cursor {
         at: from.at + 16,
         end,
@@ -124,7 +195,8 @@ pub(crate) fn write_padded<E: Utf16Order>(
         (units_of E.BIG (take len padded)) }
     ensures written_to { result ≤ at + 24 }
 {
-    let end = write_eight_units(out, at, previous, units8::<E>(padded));
+    let units = units8::<E>(padded);
+    let end = write_eight_units(out, at, previous, units, !eight_are_basic(units));
     end - (8 - len / 2)
 }
 

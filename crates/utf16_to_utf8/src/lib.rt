@@ -2,6 +2,7 @@
 #![tactic(auto)]
 
 mod blocks;
+mod eights;
 mod few;
 mod groups;
 mod lanes;
@@ -16,6 +17,7 @@ mod word_places;
 mod write;
 mod writers;
 
+pub use crate::eights::write_eights;
 pub use crate::few::write_eight_ascii;
 pub use crate::lens::utf8_len;
 pub use crate::write::{SLACK, write_blocks, write_utf8};

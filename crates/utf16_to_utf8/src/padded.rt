@@ -1,6 +1,6 @@
 //! At most sixteen bytes of a text, padded with zeros, and their units.
 
-ghost use Rattle.std.specs.Prelude.{◌≡◌, ◌-◌, ◌≤◌, ◌++◌, drop, length, replicate, take};
+ghost use Rattle.std.specs.Prelude.{◌≡◌, ◌-◌, ◌<◌, ◌≤◌, ◌++◌, drop, length, replicate, take};
 ghost use Rattle.std.specs.List.{range_with_len};
 
 use std::simd::prelude::*;
@@ -40,6 +40,24 @@ pub(crate) fn few_bytes(raw: &[u8]) -> u8x16
         moved,
         [0, 1, 2, 3, 4, 5, 6, 7, 16, 17, 18, 19, 20, 21, 22, 23],
     )
+}
+
+// The last bytes of a text of eight bytes or more, padded with zeros: all of them, if there are
+// fewer than sixteen.
+#[inline(always)]
+pub(crate) fn last_bytes(raw: &[u8], len: usize) -> u8x16
+    requires some { 8 ≤ length raw.now }
+    requires few { len ≤ 16 }
+    requires within { len ≤ length raw.now }
+    requires all { length raw.now < 16 → len ≡ length raw.now }
+    ensures len { length result ≡ 16 }
+    ensures last { take len result ≡ drop (length raw.now - len) raw.now }
+    ensures zeros { drop len result ≡ replicate (16 - len) 0 }
+{
+    if raw.len() < 16 {
+        return few_bytes(raw);
+    }
+    moved_front(u8x16::from_slice(&raw[raw.len() - 16..]), len)
 }
 
 static LAST_PLACES: [[u8; 16]; 17] = [

@@ -4,7 +4,7 @@
 //! overlap, more by blocks. Copying a short text to a padded block on the stack takes longer than
 //! the text does.
 
-ghost use Rattle.std.specs.Prelude.{◌≡◌, ◌+◌, ◌*◌, ◌/◌, ◌%◌, ◌<◌, ◌≤◌, ◌⊎◌, ◌++◌, drop, false, length, slice_index, take};
+ghost use Rattle.std.specs.Prelude.{◌≡◌, ◌+◌, ◌*◌, ◌/◌, ◌%◌, ◌<◌, ◌≤◌, ◌⊎◌, ◌++◌, ℕ, drop, false, length, slice_index, take};
 ghost use Rattle.utf16_units.specs.Encoding.{IsUtf16, units_of, utf8_of};
 ghost use Rattle.utf16_units.specs.Lanes.{BlocksStopAt, PairedTo};
 ghost use Rattle.utf16_to_utf8.specs.Utf8.{units_utf8};
@@ -74,19 +74,20 @@ pub fn write_blocks<E: Utf16Order>(raw: &[u8], to: &mut [u8]) -> Moved
     whole_chars::<E>(raw, out, done)
 }
 
-// Returns how far whole characters are read and written.
+// Returns how far whole characters are read and written. If blocks stop after the last unit, blocks
+// of one more unit stop there.
 #[inline(always)]
-fn whole_chars<E: Utf16Order>(raw: &[u8], out: &[u8], done: Tested) -> Moved
+pub(crate) fn whole_chars<E: Utf16Order>(raw: &[u8], out: &[u8], done: Tested) -> Moved
     requires reached { Reached E.BIG raw.now out.now done.cursor }
     requires paired { PairedTo E.BIG raw.now done.cursor.at done.leading }
-    requires stop { BlocksStopAt 64 E.BIG raw.now done.cursor.at done.leading
-        ⊎ (length out.now < done.cursor.end + SLACK) }
     ensures within { result.read ≤ length raw.now }
     ensures fits { result.written ≤ length out.now }
     ensures well_formed { IsUtf16 E.BIG (take result.read raw.now) }
     ensures utf8 { take result.written out.now ≡ utf8_of E.BIG (take result.read raw.now) }
-    ensures stop { BlocksStopAt 66 E.BIG raw.now result.read false
-        ⊎ (length out.now < done.cursor.end + SLACK) }
+    ensures stop { (size : ℕ) → size % 2 ≡ 0
+        → BlocksStopAt size E.BIG raw.now done.cursor.at done.leading
+        → BlocksStopAt (size + 2) E.BIG raw.now result.read false }
+    ensures all { done.leading ≡ false → result.read ≡ done.cursor.at }
     ensures near { done.cursor.end ≤ result.written + 2 }
 {
     let cursor = done.cursor;

@@ -17,9 +17,13 @@ one big rest old new at c end first fits bytes = record {
   bytes = bytes;
 }
 
+pub returns-then-unit-lt128-clause-puts : goal.returns-then-unit-lt128-clause-puts
+returns-then-unit-lt128-clause-puts g c =
+    one g.E.Utf16Order.BIG _ _ _ _ _ _ c.plain_first_char.ensures.char c.put_char.ensures.within c.put_char.ensures.bytes
+
 pub returns-then-unit-lt2048-clause-puts : goal.returns-then-unit-lt2048-clause-puts
 returns-then-unit-lt2048-clause-puts g c =
-    one g.E.Utf16Order.BIG _ _ _ _ _ _ c.plain_first_char.ensures.char c.put_char.ensures.within c.put_char.ensures.bytes
+    one g.E.Utf16Order.BIG _ _ _ _ _ _ c.plain_first_char-then-unit-lt2048.ensures.char c.put_char-then-unit-lt2048.ensures.within c.put_char-then-unit-lt2048.ensures.bytes
 
 pub returns-clause-puts : goal.returns-clause-puts
 returns-clause-puts g c = one g.E.Utf16Order.BIG _ _ _ _ _ _ c.plain_first_char-2.ensures.char c.put_char-2.ensures.within c.put_char-2.ensures.bytes
