@@ -3,11 +3,13 @@
 mod buffers;
 mod bytes;
 mod conversions;
+mod fixed;
 mod questions;
 mod streams;
 mod texts;
 mod utf8;
 mod well_formed;
+mod wtf8;
 
 use crate::buffers::conversions::Conversion;
 use std::alloc::Global;
@@ -44,6 +46,19 @@ pub fn call<E: Utf16Order>(
         | "has_ascii_units"
         | "trailing_units"
         | "first_char_len" => { questions::call::<E>(alloc, name, values, answer) }
+        "to_utf32"
+        | "to_utf32_lossy"
+        | "to_utf32_lossy_len"
+        | "from_utf32"
+        | "from_utf32_lossy"
+        | "from_utf32_lossy_len"
+        | "validate_utf32"
+        | "to_latin1"
+        | "from_latin1"
+        | "inspect" => fixed::call::<E>(alloc, name, values, answer),
+        "to_wtf8" | "to_wtf8_partial" | "from_wtf8" | "from_wtf8_partial" | "feed_wtf8" => {
+            wtf8::call::<E>(alloc, name, values, answer)
+        }
         "swap_byte_order"
         | "make_well_formed"
         | "bytes::compare"

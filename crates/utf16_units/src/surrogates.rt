@@ -75,9 +75,13 @@ pub fn has_no_surrogate<const N: usize>(units: Simd<u16, N>) -> bool
     class_bits(units, 0xF8, 0xD8) == 0
 }
 
-// The number of units before the first surrogate, or of all units if there is none.
+/// Returns the number of units before the first surrogate, or of all units if there is none.
+///
+/// # Precondition
+///
+/// There are at most sixty-four units.
 #[inline(always)]
-pub(crate) fn plain_len<const N: usize>(units: Simd<u16, N>) -> usize
+pub fn plain_len<const N: usize>(units: Simd<u16, N>) -> usize
     requires { N ≤ 64 }
     ensures few { result ≤ N }
     ensures plain { HasNoSurrogate (take result units.entry) }

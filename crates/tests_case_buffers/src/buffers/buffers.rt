@@ -25,11 +25,16 @@ pub fn add_changed(answer: &mut Answer, to: &[u8], written: usize) -> Result<(),
     Ok(())
 }
 
-// Adds how many bytes were read and written, and why the call stopped.
-fn add_progress(answer: &mut Answer, progress: Progress) {
+/// Adds how much was read and written, and why the call stopped.
+pub fn add_progress(answer: &mut Answer, progress: Progress) {
     answer.number(progress.read);
     answer.number(progress.written);
-    match progress.stop {
+    add_stop(answer, progress.stop);
+}
+
+/// Adds why a call stopped.
+pub fn add_stop(answer: &mut Answer, stop: Stop) {
+    match stop {
         Stop::Done => answer.word("end"),
         Stop::IllFormed(len) => {
             answer.word("ill_formed");

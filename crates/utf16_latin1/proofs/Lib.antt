@@ -1,0 +1,8 @@
+pub mod BelowLemmas
+pub mod CharLemmas
+pub mod NarrowLemmas
+pub mod WidenLemmas
+pub mod StopLemmas
+pub mod GreatestLemmas
+pub mod RepertoireLemmas
+pub mod PairedLemmas

@@ -1,0 +1,4 @@
+pub mod Stops
+pub mod Written
+pub mod Repertoire
+pub mod Inspection

@@ -1,0 +1,10 @@
+pub mod TextLemmas
+pub mod RoomLemmas
+pub mod PartLemmas
+pub mod LossyLemmas
+pub mod LenLemmas
+pub mod ValidLemmas
+pub mod FrontLemmas
+pub mod CountLemmas
+pub mod ShowsLemmas
+pub mod PairLemmas

@@ -1,0 +1,3 @@
+pub mod Utf32
+pub mod Stops32
+pub mod Pairs

@@ -1,0 +1,13 @@
+pub mod PointLemmas
+pub mod ToWtf8Lemmas
+pub mod FromUnitsLemmas
+pub mod CodeLemmas
+pub mod UnitsLemmas
+pub mod ScalarLemmas
+pub mod MaximalLemmas
+pub mod ConcatLemmas
+pub mod LawProofs
+pub mod ContinuedLemmas
+pub mod SurrogateLemmas
+pub mod FromWtf8Lemmas
+pub mod PartialLemmas

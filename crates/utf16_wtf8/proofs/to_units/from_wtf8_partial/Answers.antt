@@ -1,0 +1,31 @@
+use Rattle.std.proofs.Common.{inr, subst, true}
+use Rattle.utf16_wtf8.specs.FromWtf8.{EndsLeading, ReadsWtf8}
+use Rattle.utf16_wtf8.proofs.PartialLemmas.{Wrote-before, ended, ends_as_read, leaves_leading, stops_kept, three_read, two_written}
+use Rattle.utf16_wtf8.proofs.to_units.from_wtf8_partial.Given.{Over}
+use Rattle.utf16_wtf8.proofs.to_units.from_wtf8_partial.Goals as goal
+use Rattle.utf16_wtf8.proofs.to_units.from_wtf8_partial.Goals.{In-Done}
+
+pub returns-then-not-after_leading-clause-stop : goal.returns-then-not-after_leading-clause-stop
+returns-then-not-after_leading-clause-stop g c =
+    let call = c.transcode_wtf8-after_leading in
+    stops_kept g.E.Utf16Order.BIG c.args.wtf8.now call.result.0.read _ call.result.0.stop
+    (subst (EndsLeading _) c.if-not-after_leading.true (ends_as_read call.ensures.reads)) call.ensures.stop
+
+-- what was read ends with a leading surrogate
+leading : (g : Over) (c : In-Done g)
+    → ReadsWtf8 g.E.Utf16Order.BIG c.args.wtf8.now c.transcode_wtf8-after_leading.new.to c.transcode_wtf8-after_leading.result.0.read c.transcode_wtf8-after_leading.result.0.written true
+leading g c = subst (ReadsWtf8 _ _ _ _ _) c.if-not-after_leading.false c.transcode_wtf8-after_leading.ensures.reads
+
+pub overflow_sub-result : goal.overflow_sub-result
+overflow_sub-result g c = three_read _ _ _ _ _ (leading g (goal.at.overflow_sub-result g c).In-Done)
+
+pub overflow_sub-result-in-Done : goal.overflow_sub-result-in-Done
+overflow_sub-result-in-Done g c = two_written _ _ _ _ _ (leading g (goal.at.overflow_sub-result-in-Done g c).In-Done)
+
+pub returns-in-Done-clause-wrote : goal.returns-in-Done-clause-wrote
+returns-in-Done-clause-wrote g c = Wrote-before _ _ _ _ _ (leading g (goal.at.returns-in-Done-clause-wrote g c).In-Done)
+
+pub returns-in-Done-clause-stop : goal.returns-in-Done-clause-stop
+returns-in-Done-clause-stop g c =
+    let call = c.transcode_wtf8-after_leading in
+    inr (leaves_leading _ _ _ _ _ (leading g (goal.at.returns-in-Done-clause-stop g c).In-Done) (ended _ _ _ _ call.result.0.stop c.in-Done.is call.ensures.stop))

@@ -1,0 +1,4 @@
+pub mod Wtf8
+pub mod ToWtf8
+pub mod FromWtf8
+pub mod Laws

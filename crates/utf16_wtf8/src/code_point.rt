@@ -1,0 +1,48 @@
+//! A code unit as a code point in WTF-8.
+
+ghost use Rattle.std.specs.Prelude.{◌≡◌, ◌-◌, ◌<◌, ◌≤◌, ◌++◌, IfSome, None, drop, length, take};
+ghost use Rattle.utf16_wtf8.specs.Wtf8.{generalized_utf8};
+
+use utf16_decode::put;
+
+/// Writes a code unit, which may be a surrogate, as one code point in WTF-8 at `at`, and returns
+/// where it ends, or `None` if it does not fit. All other bytes of the buffer are unchanged.
+///
+/// # Precondition
+///
+/// `at` is at most the length of the buffer.
+pub(crate) fn write_unit(unit: u16, to: &mut [u8], at: usize) -> Option<usize>
+    requires { at ≤ length to.old }
+    ensures within { IfSome result (λ end. end ≤ length to.new) }
+    ensures bytes { IfSome result (λ end.
+        take end to.new ≡ take at to.old ++ generalized_utf8 unit) }
+    ensures rest { IfSome result (λ end. drop end to.new ≡ drop end to.old) }
+    ensures none { result ≡ None → length to.new - at < length (generalized_utf8 unit) }
+    ensures unchanged { result ≡ None → to.new ≡ to.old }
+{
+    let last = (0x80 + unit % 64) as u8;
+    if unit < 0x80 {
+        return put_fitting(&[unit as u8], to, at);
+    }
+    if unit < 0x800 {
+        return put_fitting(&[(0xC0 + unit / 64) as u8, last], to, at);
+    }
+    let middle = (0x80 + unit / 64 % 64) as u8;
+    put_fitting(&[(0xE0 + unit / 4096) as u8, middle, last], to, at)
+}
+
+// Writes bytes at `at`, and returns where they end, or `None` if they do not fit.
+#[inline(always)]
+fn put_fitting(bytes: &[u8], to: &mut [u8], at: usize) -> Option<usize>
+    requires { at ≤ length to.old }
+    ensures within { IfSome result (λ end. end ≤ length to.new) }
+    ensures bytes { IfSome result (λ end. take end to.new ≡ take at to.old ++ bytes.now) }
+    ensures rest { IfSome result (λ end. drop end to.new ≡ drop end to.old) }
+    ensures none { result ≡ None → length to.new - at < length bytes.now }
+    ensures unchanged { result ≡ None → to.new ≡ to.old }
+{
+    if to.len() - at < bytes.len() {
+        return None;
+    }
+    Some(put(bytes, to, at))
+}

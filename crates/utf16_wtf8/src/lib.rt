@@ -1,0 +1,14 @@
+//! UTF-16 with unpaired surrogates to WTF-8 and back, without loss, between buffers that the caller
+//! owns. WTF-8 is UTF-8 that may also have unpaired surrogates, three bytes each: "The WTF-8
+//! encoding" by Simon Sapin.
+#![tactic(auto)]
+
+mod code_point;
+mod direction;
+mod from_units;
+pub mod laws;
+mod to_units;
+
+pub use crate::direction::ToWtf8;
+pub use crate::from_units::{finish_wtf8, to_wtf8, to_wtf8_partial};
+pub use crate::to_units::{from_wtf8, from_wtf8_partial};
