@@ -17,7 +17,12 @@ enum { GLIBC_FORM_MAX = 6 };
 static const size_t NO_OUTPUT = SIZE_MAX;
 
 static input in;
-static decoded from_utf16, from_utf8;
+static decoded from_utf16, from_utf8, to_utf32, from_utf32;
+
+/* The start of the text as UTF-32, and its length in code units. */
+enum { UTF32_MOST = GUARDED_MAX / 8 };
+static uint32_t utf32[DETHRUX_PENDING_MAX + TEXT_MAX];
+static size_t utf32_len;
 
 /* Where the buffers of the last call are, for the line of a difference. */
 static struct {
@@ -31,6 +36,10 @@ void checks_begin(const input *next) {
     situation.capacity = NO_OUTPUT;
     decode_utf16(in.order, in.text, in.len, &from_utf16);
     decode_utf8(in.order, in.text, in.len, &from_utf8);
+    decoded_as_utf32(&from_utf16, &to_utf32);
+    utf32_len = utf32_of(&from_utf8, utf32);
+    utf32_len = utf32_len < UTF32_MOST ? utf32_len : UTF32_MOST;
+    decode_utf32(in.order, utf32, utf32_len, &from_utf32);
 }
 
 static void describe_situation(char *to) {
@@ -196,6 +205,179 @@ static void check_from_utf8(void) {
 static void check_from_utf8_lossy(void) {
     check_conversion(dethrux_from_utf8_lossy, &from_utf8, LOSSY, DETHRUX_UTF16_MAX(in.len));
     check_resumed(dethrux_from_utf8_lossy, &from_utf8);
+}
+
+/* UTF-32 and Latin-1. */
+
+typedef dethrux_progress widening(dethrux_byte_order order, const uint8_t *utf16, size_t len,
+                                  uint32_t *to, size_t capacity);
+typedef dethrux_progress narrowing(dethrux_byte_order order, const uint32_t *utf32, size_t len,
+                                   uint8_t *to, size_t capacity);
+
+/* A call to UTF-32; the capacity is in code units. */
+static dethrux_progress widen(widening *call, conversion_mode mode, size_t capacity) {
+    dethrux_progress want = expected_progress(&to_utf32, mode, capacity);
+    for (place at = AT_START; at < place_count_of_both(in.len, capacity); at++) {
+        const uint8_t *from = input_at(at);
+        uint8_t *to = output_at(4 * capacity, at);
+        dethrux_progress got = call(in.order, from, in.len, (uint32_t *)to, capacity);
+        expect_progress(got, want);
+        expect_text(to, to_utf32.out, 4 * got.written);
+    }
+    return want;
+}
+
+static void check_widening(widening *call, conversion_mode mode, size_t enough) {
+    expect_that("the capacity suffices", widen(call, mode, enough).status != DETHRUX_NO_SPACE);
+    widen(call, mode, 0);
+    widen(call, mode, to_utf32.out_len);
+    widen(call, mode, in.capacity % (to_utf32.out_len + 8));
+    if (to_utf32.out_len > 0) {
+        widen(call, mode, to_utf32.out_len - 1);
+    }
+}
+
+static void check_to_utf32(void) {
+    check_widening(dethrux_to_utf32, STRICT, in.len / 2);
+}
+
+static void check_to_utf32_lossy(void) {
+    check_widening(dethrux_to_utf32_lossy, LOSSY, DETHRUX_UTF32_MAX(in.len));
+}
+
+static void check_to_utf32_lossy_len(void) {
+    for (place at = AT_START; at < place_count(in.len); at++) {
+        expect("length", dethrux_to_utf32_lossy_len(in.order, input_at(at), in.len),
+               to_utf32.out_len);
+    }
+}
+
+static const uint32_t *utf32_at(place at) {
+    situation.at = at;
+    situation.capacity = NO_OUTPUT;
+    return (const uint32_t *)guarded_input(0, (const uint8_t *)utf32, 4 * utf32_len, at);
+}
+
+static dethrux_progress narrow(narrowing *call, conversion_mode mode, size_t capacity) {
+    dethrux_progress want = expected_progress(&from_utf32, mode, capacity);
+    for (place at = AT_START; at < place_count_of_both(utf32_len, capacity); at++) {
+        const uint32_t *from = utf32_at(at);
+        uint8_t *to = output_at(capacity, at);
+        dethrux_progress got = call(in.order, from, utf32_len, to, capacity);
+        expect_progress(got, want);
+        expect_text(to, from_utf32.out, got.written);
+    }
+    return want;
+}
+
+static void check_narrowing(narrowing *call, conversion_mode mode) {
+    expect_that("the capacity suffices",
+                narrow(call, mode, DETHRUX_FROM_UTF32_MAX(utf32_len)).status != DETHRUX_NO_SPACE);
+    narrow(call, mode, 0);
+    narrow(call, mode, from_utf32.out_len);
+    narrow(call, mode, in.capacity % (from_utf32.out_len + 8));
+    if (from_utf32.out_len > 0) {
+        narrow(call, mode, from_utf32.out_len - 1);
+    }
+}
+
+static void check_from_utf32(void) {
+    check_narrowing(dethrux_from_utf32, STRICT);
+}
+
+static void check_from_utf32_lossy(void) {
+    check_narrowing(dethrux_from_utf32_lossy, LOSSY);
+}
+
+static void check_from_utf32_lossy_len(void) {
+    for (place at = AT_START; at < place_count(utf32_len); at++) {
+        expect("length", dethrux_from_utf32_lossy_len(utf32_at(at), utf32_len), from_utf32.out_len);
+    }
+}
+
+static void check_validate_utf32(void) {
+    dethrux_progress want = expected_progress(&from_utf32, STRICT, from_utf32.out_len);
+    for (place at = AT_START; at < place_count(utf32_len); at++) {
+        dethrux_validity got = dethrux_validate_utf32(utf32_at(at), utf32_len);
+        expect("valid_up_to", got.valid_up_to, want.read);
+        expect("status", got.status, want.status);
+        expect("error_len", got.error_len, want.error_len);
+    }
+}
+
+/* What a call to Latin-1 returns: it stops before what is ill formed, before a character above
+ * U+00FF, or when `to` is full. */
+static dethrux_progress latin1_progress(size_t capacity, uint8_t *latin1) {
+    dethrux_progress progress = {0, 0, DETHRUX_DONE, 0};
+    for (size_t i = 0; i < from_utf16.item_count; i++) {
+        const item *next = &from_utf16.items[i];
+        if (next->kind != CHARACTER) {
+            progress.status = next->kind == ILL_FORMED ? DETHRUX_ILL_FORMED : DETHRUX_INCOMPLETE;
+            progress.error_len = next->kind == ILL_FORMED ? 2 : 0;
+            break;
+        }
+        if (next->scalar > 0xFF || progress.written == capacity) {
+            progress.status = next->scalar > 0xFF ? DETHRUX_NOT_LATIN1 : DETHRUX_NO_SPACE;
+            break;
+        }
+        latin1[progress.written++] = (uint8_t)next->scalar;
+        progress.read += 2;
+    }
+    return progress;
+}
+
+static void check_to_latin1(void) {
+    static uint8_t latin1[TEXT_MAX];
+    const size_t capacities[] = {in.len / 2, 0, in.capacity % (in.len + 8)};
+    for (size_t i = 0; i < 3; i++) {
+        dethrux_progress want = latin1_progress(capacities[i], latin1);
+        for (place at = AT_START; at < place_count_of_both(in.len, capacities[i]); at++) {
+            const uint8_t *from = input_at(at);
+            uint8_t *to = output_at(capacities[i], at);
+            expect_progress(dethrux_to_latin1(in.order, from, in.len, to, capacities[i]), want);
+            expect_text(to, latin1, want.written);
+            expect_that("the rest of `to` stays", guarded_intact(want.written, true));
+        }
+    }
+}
+
+static void check_from_latin1(void) {
+    static uint8_t utf16[2 * TEXT_MAX];
+    const size_t capacities[] = {DETHRUX_UTF16_MAX(in.len), 0, in.capacity % (2 * in.len + 8)};
+    for (size_t i = 0; i < in.len; i++) {
+        encode_unit(in.order, in.text[i], utf16 + 2 * i);
+    }
+    for (size_t i = 0; i < 3; i++) {
+        size_t most = capacities[i] / 2 < in.len ? capacities[i] / 2 : in.len;
+        dethrux_progress want = {most, 2 * most, most < in.len ? DETHRUX_NO_SPACE : DETHRUX_DONE, 0};
+        for (place at = AT_START; at < place_count_of_both(in.len, capacities[i]); at++) {
+            const uint8_t *from = input_at(at);
+            uint8_t *to = output_at(capacities[i], at);
+            expect_progress(dethrux_from_latin1(in.order, from, in.len, to, capacities[i]), want);
+            expect_text(to, utf16, want.written);
+            expect_that("the rest of `to` stays", guarded_intact(want.written, true));
+        }
+    }
+}
+
+static void check_inspect(void) {
+    dethrux_progress want = expected_progress(&to_utf32, STRICT, to_utf32.out_len);
+    uint32_t most = 0;
+    for (size_t i = 0; i < want.written; i++) {
+        most = to_utf32.items[i].scalar > most ? to_utf32.items[i].scalar : most;
+    }
+    for (place at = AT_START; at < place_count(in.len); at++) {
+        dethrux_inspection got = dethrux_inspect(in.order, input_at(at), in.len);
+        expect("valid_up_to", got.valid_up_to, want.read);
+        expect("chars", got.chars, want.written);
+        expect("status", got.status, want.status);
+        expect("error_len", got.error_len, want.error_len);
+        expect("repertoire", got.repertoire,
+               most < 0x80      ? DETHRUX_ASCII
+               : most < 0x100   ? DETHRUX_LATIN1
+               : most < 0x10000 ? DETHRUX_BMP
+                                : DETHRUX_UNICODE);
+    }
 }
 
 /* The streams. */
@@ -486,10 +668,12 @@ static void check_detect_bom(void) {
                                 : present  ? DETHRUX_BOM_PRESENT
                                            : DETHRUX_BOM_ABSENT;
     for (place at = AT_START; at < place_count(in.len); at++) {
-        dethrux_bom got = dethrux_detect_bom(input_at(at), in.len);
+        dethrux_bom got = dethrux_detect_bom(in.order, input_at(at), in.len);
         expect("len", got.len, present ? 2 : 0);
         expect("byte_order", got.byte_order,
-               first == 0xFFFE ? DETHRUX_LITTLE_ENDIAN : DETHRUX_BIG_ENDIAN);
+               first == 0xFFFE   ? DETHRUX_LITTLE_ENDIAN
+               : first == 0xFEFF ? DETHRUX_BIG_ENDIAN
+                                 : in.order);
         expect("status", got.status, status);
     }
 }
@@ -698,19 +882,37 @@ static void check_compare(void) {
 typedef size_t icu_call(dethrux_byte_order order, const uint8_t *bytes, size_t len, uint8_t *to,
                         size_t capacity);
 
-static void check_icu(icu_call *call, const decoded *text) {
-    static uint8_t out[3 * TEXT_MAX];
-    size_t len = call(in.order, in.text, in.len, out, sizeof out);
-    expect("written", text->out_len, len);
-    expect_bytes("text", text->out, out, len);
+static void check_icu(icu_call *call, const uint8_t *bytes, size_t len, const uint8_t *want,
+                      size_t want_len) {
+    static uint8_t out[4 * TEXT_MAX];
+    size_t out_len = call(in.order, bytes, len, out, sizeof out);
+    expect("written", want_len, out_len);
+    expect_bytes("text", want, out, out_len);
 }
 
 static void check_icu_to_utf8(void) {
-    check_icu(icu_utf16_to_utf8, &from_utf16);
+    check_icu(icu_utf16_to_utf8, in.text, in.len, from_utf16.out, from_utf16.out_len);
 }
 
 static void check_icu_from_utf8(void) {
-    check_icu(icu_utf8_to_utf16, &from_utf8);
+    check_icu(icu_utf8_to_utf16, in.text, in.len, from_utf8.out, from_utf8.out_len);
+}
+
+static void check_icu_to_utf32(void) {
+    check_icu(icu_utf16_to_utf32, in.text, in.len, to_utf32.out, 4 * to_utf32.out_len);
+}
+
+static void check_icu_from_utf32(void) {
+    check_icu(icu_utf32_to_utf16, (const uint8_t *)utf32, 4 * utf32_len, from_utf32.out,
+              from_utf32.out_len);
+}
+
+static void check_icu_from_latin1(void) {
+    static uint8_t utf16[2 * TEXT_MAX];
+    for (size_t i = 0; i < in.len; i++) {
+        encode_unit(in.order, in.text[i], utf16 + 2 * i);
+    }
+    check_icu(icu_latin1_to_utf16, in.text, in.len, utf16, 2 * in.len);
 }
 
 typedef void iconv_call(dethrux_byte_order order, const uint8_t *bytes, size_t len,
@@ -753,6 +955,9 @@ const check CHECKS[] = {
 #ifndef WITHOUT_PEERS
     {"ICU, UTF-16 to UTF-8", check_icu_to_utf8},
     {"ICU, UTF-8 to UTF-16", check_icu_from_utf8},
+    {"ICU, UTF-16 to UTF-32", check_icu_to_utf32},
+    {"ICU, UTF-32 to UTF-16", check_icu_from_utf32},
+    {"ICU, Latin-1 to UTF-16", check_icu_from_latin1},
     {"iconv, UTF-16 to UTF-8", check_iconv_to_utf8},
     {"iconv, UTF-8 to UTF-16", check_iconv_from_utf8},
 #endif
@@ -768,6 +973,16 @@ const check CHECKS[] = {
     {"dethrux_to_utf8_partial", check_to_utf8_partial},
     {"dethrux_from_utf8", check_from_utf8},
     {"dethrux_from_utf8_lossy", check_from_utf8_lossy},
+    {"dethrux_inspect", check_inspect},
+    {"dethrux_to_utf32", check_to_utf32},
+    {"dethrux_to_utf32_lossy", check_to_utf32_lossy},
+    {"dethrux_to_utf32_lossy_len", check_to_utf32_lossy_len},
+    {"dethrux_validate_utf32", check_validate_utf32},
+    {"dethrux_from_utf32", check_from_utf32},
+    {"dethrux_from_utf32_lossy", check_from_utf32_lossy},
+    {"dethrux_from_utf32_lossy_len", check_from_utf32_lossy_len},
+    {"dethrux_to_latin1", check_to_latin1},
+    {"dethrux_from_latin1", check_from_latin1},
     {"dethrux_decoder_feed", check_decoder_feed},
     {"dethrux_decoder_finish", check_decoder_finish},
     {"dethrux_encoder_feed", check_encoder_feed},

@@ -8,7 +8,7 @@
 #include <unicode/ucnv.h>
 #include <unicode/uversion.h>
 
-static UConverter *icu_utf8, *icu_utf16[2];
+static UConverter *icu_utf8, *icu_utf16[2], *icu_utf32, *icu_latin1;
 static iconv_t iconv_to_utf8[2], iconv_from_utf8[2];
 
 static bool is_big(dethrux_byte_order order) {
@@ -38,6 +38,8 @@ static iconv_t open_iconv(const char *to, const char *from) {
 void peers_init(void) {
     static const char *UTF16[] = {"UTF-16LE", "UTF-16BE"};
     icu_utf8 = open_icu("UTF-8");
+    icu_utf32 = open_icu(DETHRUX_NATIVE_ENDIAN == DETHRUX_BIG_ENDIAN ? "UTF-32BE" : "UTF-32LE");
+    icu_latin1 = open_icu("ISO-8859-1");
     for (int order = 0; order < 2; order++) {
         icu_utf16[order] = open_icu(UTF16[order]);
         iconv_to_utf8[order] = open_iconv("UTF-8", UTF16[order]);
@@ -67,6 +69,21 @@ size_t icu_utf16_to_utf8(dethrux_byte_order order, const uint8_t *bytes, size_t 
 size_t icu_utf8_to_utf16(dethrux_byte_order order, const uint8_t *bytes, size_t len, uint8_t *to,
                          size_t capacity) {
     return icu_convert(icu_utf8, icu_utf16[is_big(order)], bytes, len, to, capacity);
+}
+
+size_t icu_utf16_to_utf32(dethrux_byte_order order, const uint8_t *bytes, size_t len, uint8_t *to,
+                          size_t capacity) {
+    return icu_convert(icu_utf16[is_big(order)], icu_utf32, bytes, len, to, capacity);
+}
+
+size_t icu_utf32_to_utf16(dethrux_byte_order order, const uint8_t *bytes, size_t len, uint8_t *to,
+                          size_t capacity) {
+    return icu_convert(icu_utf32, icu_utf16[is_big(order)], bytes, len, to, capacity);
+}
+
+size_t icu_latin1_to_utf16(dethrux_byte_order order, const uint8_t *bytes, size_t len, uint8_t *to,
+                           size_t capacity) {
+    return icu_convert(icu_latin1, icu_utf16[is_big(order)], bytes, len, to, capacity);
 }
 
 static void iconv_convert(iconv_t with, const uint8_t *bytes, size_t len, iconv_result *to) {

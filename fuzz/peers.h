@@ -20,6 +20,14 @@ size_t icu_utf16_to_utf8(dethrux_byte_order order, const uint8_t *bytes, size_t 
 size_t icu_utf8_to_utf16(dethrux_byte_order order, const uint8_t *bytes, size_t len, uint8_t *to,
                          size_t capacity);
 
+/* Convert with ICU from and to UTF-32 in the machine's byte order, and from Latin-1. */
+size_t icu_utf16_to_utf32(dethrux_byte_order order, const uint8_t *bytes, size_t len, uint8_t *to,
+                          size_t capacity);
+size_t icu_utf32_to_utf16(dethrux_byte_order order, const uint8_t *bytes, size_t len, uint8_t *to,
+                          size_t capacity);
+size_t icu_latin1_to_utf16(dethrux_byte_order order, const uint8_t *bytes, size_t len, uint8_t *to,
+                           size_t capacity);
+
 /* Convert with iconv, up to the first sequence that it rejects. */
 void iconv_utf16_to_utf8(dethrux_byte_order order, const uint8_t *bytes, size_t len,
                          iconv_result *to);

@@ -2,6 +2,8 @@
 
 #include "coverage.h"
 
+#include <string.h>
+
 /* An item of the input, before its conversion. */
 typedef struct {
     item_kind kind;
@@ -145,6 +147,38 @@ void decode_utf8(dethrux_byte_order order, const uint8_t *bytes, size_t len, dec
         coverage_class before = coverage_class_of(found.kind, found.scalar, found.len);
         found = next_utf8(order, bytes + at, len - at);
         cover(FROM_UTF8, before, coverage_class_of(found.kind, found.scalar, found.len), at);
+        append_item(to, found, encode_utf16(order, found.scalar, to->out + to->out_len));
+    }
+}
+
+void decoded_as_utf32(const decoded *utf16, decoded *to) {
+    to->item_count = utf16->item_count;
+    to->out_len = utf16->item_count;
+    for (size_t i = 0; i < utf16->item_count; i++) {
+        to->items[i] = utf16->items[i];
+        to->items[i].out_len = 1;
+        memcpy(to->out + 4 * i, &utf16->items[i].scalar, 4);
+    }
+}
+
+size_t utf32_of(const decoded *utf8, uint32_t *to) {
+    static const uint32_t NO_CHARACTERS[] = {0xD800, 0xDBFF,     0xDC00,     0xDFFF,
+                                             0x110000, 0x7FFFFFFF, 0x80000061, 0xFFFFFFFF};
+    for (size_t i = 0; i < utf8->item_count; i++) {
+        const item *next = &utf8->items[i];
+        to[i] = next->kind == CHARACTER ? next->scalar : NO_CHARACTERS[(i + next->len) % 8];
+    }
+    return utf8->item_count;
+}
+
+/* The Unicode Standard, 3.9, D76 and D90. */
+void decode_utf32(dethrux_byte_order order, const uint32_t *units, size_t len, decoded *to) {
+    to->item_count = 0;
+    to->out_len = 0;
+    for (size_t at = 0; at < len; at++) {
+        bool is_character = units[at] <= 0x10FFFF && !is_leading(units[at]) && !is_trailing(units[at]);
+        sequence found = {is_character ? CHARACTER : ILL_FORMED, 1,
+                          is_character ? units[at] : REPLACEMENT};
         append_item(to, found, encode_utf16(order, found.scalar, to->out + to->out_len));
     }
 }

@@ -23,7 +23,7 @@ typedef struct {
     size_t item_count;
     item items[DETHRUX_PENDING_MAX + TEXT_MAX];
     size_t out_len;
-    uint8_t out[3 * TEXT_MAX];
+    uint8_t out[4 * TEXT_MAX];
 } decoded;
 
 /* Where a call stops: STRICT at an ill-formed sequence and at an incomplete end, PARTIAL at an
@@ -32,6 +32,16 @@ typedef enum { STRICT, PARTIAL, LOSSY } conversion_mode;
 
 void decode_utf16(dethrux_byte_order order, const uint8_t *bytes, size_t len, decoded *to);
 void decode_utf8(dethrux_byte_order order, const uint8_t *bytes, size_t len, decoded *to);
+
+/* The same conversion of UTF-16 into UTF-32, whose code units `out_len` counts. */
+void decoded_as_utf32(const decoded *utf16, decoded *to);
+
+/* Writes the characters of a text as UTF-32, with a number above U+10FFFF or a surrogate for each
+ * ill-formed sequence, and returns how many code units these are. */
+size_t utf32_of(const decoded *utf8, uint32_t *to);
+
+/* Decodes UTF-32. The lengths in the input are in code units. */
+void decode_utf32(dethrux_byte_order order, const uint32_t *units, size_t len, decoded *to);
 
 /* Returns what a conversion of the text returns for a capacity. */
 dethrux_progress expected_progress(const decoded *text, conversion_mode mode, size_t capacity);

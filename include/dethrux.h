@@ -2,7 +2,8 @@
 
 /**
  * @file
- * Dethrux: UTF-16 in either byte order, to and from UTF-8, between buffers that the caller owns.
+ * Dethrux: UTF-16 in either byte order, to and from UTF-8, UTF-32 and Latin-1, between buffers that
+ * the caller owns.
  *
  * No call allocates, keeps a pointer or prints anything. The header is C99 and C++11; for C++17
  * there is dethrux.hpp over it.
@@ -23,16 +24,17 @@
  * - They and `to` overlap no other buffer of the call.
  *
  * @par Pointers
- * A pointer need not be aligned. A null pointer is allowed if the length or the capacity is 0. Null
- * pointers, the macros and the dethrux_u16 calls are tested, not proved.
+ * A pointer to bytes need not be aligned. A null pointer is allowed if the length or the capacity
+ * is 0. Null pointers, the macros and the dethrux_u16 calls are tested, not proved.
  *
  * @par Threads
  * The calls share no state, so any call may run in any thread at any time. Only one thread at a
  * time may use a decoder, an encoder, or a buffer that a call writes to.
  *
  * @par Lengths
- * Lengths, offsets and capacities count bytes, except in the dethrux_u16 calls. These are for
- * UTF-16 in the machine's byte order, and count code units. A bool is 0 or 1.
+ * Lengths, offsets and capacities count bytes, with two exceptions. Those of UTF-32 count its code
+ * units, which are code points in the machine's byte order. The dethrux_u16 calls are for UTF-16 in
+ * the machine's byte order, and count code units. A bool is 0 or 1.
  *
  * @par Capacities
  * A conversion that has the capacity of its macro never returns DETHRUX_NO_SPACE, if only these
@@ -86,6 +88,7 @@
 /** @defgroup dethrux_strict Strict calls: up to the first ill-formed sequence */
 /** @defgroup dethrux_lossy Lossy calls: U+FFFD for each ill-formed sequence */
 /** @defgroup dethrux_streams Streams: a text in chunks that are cut anywhere */
+/** @defgroup dethrux_fixed UTF-32 and Latin-1: a code unit for each character */
 /** @defgroup dethrux_boundaries Boundaries: where a text may be cut */
 /** @defgroup dethrux_in_place In place: changes of a text in its own buffer */
 
@@ -109,14 +112,18 @@
 /**
  * @addtogroup dethrux_capacities
  * Capacities that suffice for every input of `len` bytes, and that some input needs. No formula
- * wraps for a `len` below PTRDIFF_MAX.
+ * wraps for a `len` below PTRDIFF_MAX, or for as many code units of UTF-32 as such an input has.
  * @{
  */
 
 /** The capacity for dethrux_to_utf8_lossy. */
 #define DETHRUX_UTF8_MAX(len) (((size_t)(len) + 1) / 2 * 3)
-/** The capacity for the conversions from UTF-8. */
+/** The capacity for the conversions from UTF-8 and from Latin-1. */
 #define DETHRUX_UTF16_MAX(len) ((size_t)(len) * 2)
+/** The capacity for dethrux_to_utf32_lossy, in code units of UTF-32. */
+#define DETHRUX_UTF32_MAX(len) (((size_t)(len) + 1) / 2)
+/** The capacity for the conversions from UTF-32, for `len` code units of it. */
+#define DETHRUX_FROM_UTF32_MAX(len) ((size_t)(len) * 4)
 /** The capacity for dethrux_decoder_feed. */
 #define DETHRUX_DECODER_FEED_MAX(len) (((size_t)(len) + 3) / 2 * 3)
 /** The capacity for dethrux_decoder_finish. */
@@ -179,8 +186,17 @@ typedef DETHRUX_ENUM(dethrux_status) {
     DETHRUX_DONE = 0,       /**< All of the input was read. */
     DETHRUX_ILL_FORMED = 1, /**< Ill-formed bytes follow: resume `error_len` bytes after `read`. */
     DETHRUX_INCOMPLETE = 2, /**< The input ends inside a character. */
-    DETHRUX_NO_SPACE = 3    /**< The next character does not fit: call again with the rest. */
+    DETHRUX_NO_SPACE = 3,   /**< The next character does not fit: call again with the rest. */
+    DETHRUX_NOT_LATIN1 = 4  /**< The next character is above U+00FF (dethrux_to_latin1). */
 } dethrux_status;
+
+/** A repertoire, a set of characters. Each contains the ones before it. */
+typedef DETHRUX_ENUM(dethrux_repertoire) {
+    DETHRUX_ASCII = 0,  /**< U+0000 to U+007F. */
+    DETHRUX_LATIN1 = 1, /**< U+0000 to U+00FF, ISO 8859-1. */
+    DETHRUX_BMP = 2,    /**< U+0000 to U+FFFF, the Basic Multilingual Plane: no surrogate pair. */
+    DETHRUX_UNICODE = 3 /**< U+0000 to U+10FFFF, all characters. */
+} dethrux_repertoire;
 
 /** Whether a stream begins with a BOM. No other values are returned. */
 typedef DETHRUX_ENUM(dethrux_bom_status) {
@@ -199,8 +215,8 @@ typedef char dethrux_enum_has_four_bytes[sizeof(dethrux_byte_order) == 4 ? 1 : -
  * and may have been overwritten.
  */
 typedef struct dethrux_progress {
-    size_t read;           /**< The number of bytes of the input that were read. */
-    size_t written;        /**< The number of bytes that were written to the start of `to`. */
+    size_t read;           /**< The number of bytes (UTF-32: code units) of the input read. */
+    size_t written;        /**< The number of bytes (UTF-32: code units) written to `to`. */
     dethrux_status status; /**< Why the call stopped. */
     uint32_t error_len;    /**< The ill-formed sequence's length with DETHRUX_ILL_FORMED, else 0. */
 } dethrux_progress;
@@ -211,6 +227,15 @@ typedef struct dethrux_validity {
     dethrux_status status; /**< What follows it: DETHRUX_DONE if nothing does. */
     uint32_t error_len;    /**< The ill-formed sequence's length with DETHRUX_ILL_FORMED, else 0. */
 } dethrux_validity;
+
+/** The longest well-formed prefix, what follows it, and what characters it has. */
+typedef struct dethrux_inspection {
+    size_t valid_up_to;            /**< The length of the longest well-formed prefix. */
+    size_t chars;                  /**< The number of its characters. */
+    dethrux_repertoire repertoire; /**< The smallest repertoire that has all of them. */
+    dethrux_status status;         /**< What follows it: DETHRUX_DONE if nothing does. */
+    uint32_t error_len; /**< The ill-formed sequence's length with DETHRUX_ILL_FORMED, else 0. */
+} dethrux_inspection;
 
 /** What the start of a stream says about its byte order. */
 typedef struct dethrux_bom {
@@ -405,6 +430,149 @@ DETHRUX_NODISCARD dethrux_progress dethrux_from_utf8_lossy(
     dethrux_byte_order byte_order, const uint8_t *utf8, size_t len, uint8_t *to, size_t capacity);
 
 /**
+ * Returns the length of the longest well-formed prefix, the number of its characters, and the
+ * smallest repertoire that has them.
+ *
+ * So a caller can choose a form that holds the text, and knows how much memory it takes. For
+ * well-formed input this takes one pass.
+ *
+ * @return the length and the number, with one of these statuses:
+ * - DETHRUX_DONE: the bytes are UTF-16
+ * - DETHRUX_ILL_FORMED: an unpaired surrogate follows, of 2 bytes
+ * - DETHRUX_INCOMPLETE: the bytes end inside a character, in their last 1 to 3 bytes
+ * @ingroup dethrux_fixed
+ */
+DETHRUX_NODISCARD dethrux_inspection dethrux_inspect(
+    dethrux_byte_order byte_order, const uint8_t *utf16, size_t len);
+
+/**
+ * Converts UTF-16 to UTF-32, up to the first ill-formed sequence.
+ *
+ * @param to code points in the machine's byte order
+ * @param capacity counts code units of UTF-32: `len / 2` suffices, and so does
+ *   DETHRUX_UTF32_MAX(len)
+ * @return how far the call came (`written` counts code units of UTF-32), with one of these statuses:
+ * - DETHRUX_DONE: all of the input was read
+ * - DETHRUX_ILL_FORMED: an unpaired surrogate follows `read`
+ * - DETHRUX_INCOMPLETE: the input ends inside a character, which follows `read`
+ * - DETHRUX_NO_SPACE: the next character does not fit: call again with the rest
+ * @ingroup dethrux_fixed
+ */
+DETHRUX_NODISCARD dethrux_progress dethrux_to_utf32(
+    dethrux_byte_order byte_order, const uint8_t *utf16, size_t len, uint32_t *to,
+    size_t capacity);
+
+/**
+ * Converts UTF-16 to UTF-32 and replaces what is ill formed by U+FFFD, as dethrux_to_utf8_lossy
+ * does.
+ *
+ * @param to code points in the machine's byte order
+ * @param capacity counts code units of UTF-32: DETHRUX_UTF32_MAX(len) suffices
+ * @return how far the call came (`written` counts code units of UTF-32), with one of these statuses:
+ * - DETHRUX_DONE: all of the input was read
+ * - DETHRUX_NO_SPACE: the next character does not fit: call again with the rest
+ * @ingroup dethrux_fixed
+ */
+DETHRUX_NODISCARD dethrux_progress dethrux_to_utf32_lossy(
+    dethrux_byte_order byte_order, const uint8_t *utf16, size_t len, uint32_t *to,
+    size_t capacity);
+
+/**
+ * Returns how many code units of UTF-32 dethrux_to_utf32_lossy writes for the whole input.
+ *
+ * For well-formed input this is the number of its characters.
+ *
+ * @return at most DETHRUX_UTF32_MAX(len)
+ * @ingroup dethrux_fixed
+ */
+DETHRUX_NODISCARD size_t dethrux_to_utf32_lossy_len(
+    dethrux_byte_order byte_order, const uint8_t *utf16, size_t len);
+
+/**
+ * Returns how many code units at the start are UTF-32, and what follows them.
+ *
+ * A code unit is ill formed if it is a surrogate, 0xD800 to 0xDFFF, or above 0x10FFFF.
+ *
+ * @param len counts code units
+ * @return the number, with one of these statuses:
+ * - DETHRUX_DONE: all of them are
+ * - DETHRUX_ILL_FORMED: an ill-formed one follows (`error_len` is 1)
+ * @ingroup dethrux_fixed
+ */
+DETHRUX_NODISCARD dethrux_validity dethrux_validate_utf32(const uint32_t *utf32, size_t len);
+
+/**
+ * Converts UTF-32 to UTF-16, up to the first ill-formed code unit.
+ *
+ * @param len counts code units
+ * @param capacity DETHRUX_FROM_UTF32_MAX(len) suffices
+ * @return how far the call came (`read` counts code units of UTF-32), with one of these statuses:
+ * - DETHRUX_DONE: all of the input was read
+ * - DETHRUX_ILL_FORMED: an ill-formed code unit follows `read` (`error_len` is 1)
+ * - DETHRUX_NO_SPACE: the next character does not fit: call again with the rest
+ * @ingroup dethrux_fixed
+ */
+DETHRUX_NODISCARD dethrux_progress dethrux_from_utf32(
+    dethrux_byte_order byte_order, const uint32_t *utf32, size_t len, uint8_t *to,
+    size_t capacity);
+
+/**
+ * Converts UTF-32 to UTF-16 and replaces each ill-formed code unit by U+FFFD.
+ *
+ * @param len counts code units
+ * @param capacity DETHRUX_FROM_UTF32_MAX(len) suffices
+ * @return how far the call came (`read` counts code units of UTF-32), with one of these statuses:
+ * - DETHRUX_DONE: all of the input was read
+ * - DETHRUX_NO_SPACE: the next character does not fit: call again with the rest
+ * @ingroup dethrux_fixed
+ */
+DETHRUX_NODISCARD dethrux_progress dethrux_from_utf32_lossy(
+    dethrux_byte_order byte_order, const uint32_t *utf32, size_t len, uint8_t *to,
+    size_t capacity);
+
+/**
+ * Returns the length in bytes of what dethrux_from_utf32_lossy writes for the whole input.
+ *
+ * @param len counts code units
+ * @return at most DETHRUX_FROM_UTF32_MAX(len)
+ * @ingroup dethrux_fixed
+ */
+DETHRUX_NODISCARD size_t dethrux_from_utf32_lossy_len(const uint32_t *utf32, size_t len);
+
+/**
+ * Converts UTF-16 to Latin-1 (ISO 8859-1), up to the first ill-formed sequence or the first
+ * character above U+00FF.
+ *
+ * Each character is one byte. Here the bytes of `to` after `written` stay as they were.
+ *
+ * @param capacity `len / 2` suffices
+ * @return how far the call came, with one of these statuses:
+ * - DETHRUX_DONE: all of the input was read
+ * - DETHRUX_ILL_FORMED: an unpaired surrogate follows `read`
+ * - DETHRUX_INCOMPLETE: the input ends inside a character, which follows `read`
+ * - DETHRUX_NO_SPACE: the buffer is full: call again with the rest
+ * - DETHRUX_NOT_LATIN1: a character above U+00FF follows `read`
+ * @ingroup dethrux_fixed
+ */
+DETHRUX_NODISCARD dethrux_progress dethrux_to_latin1(
+    dethrux_byte_order byte_order, const uint8_t *utf16, size_t len, uint8_t *to, size_t capacity);
+
+/**
+ * Converts Latin-1 (ISO 8859-1) to UTF-16. Latin-1 is never ill formed.
+ *
+ * Here the bytes of `to` after `written` stay as they were.
+ *
+ * @param capacity DETHRUX_UTF16_MAX(len) suffices
+ * @return how far the call came, with one of these statuses:
+ * - DETHRUX_DONE: all of the input was read
+ * - DETHRUX_NO_SPACE: fewer than 2 bytes of `to` are left: call again with the rest
+ * @ingroup dethrux_fixed
+ */
+DETHRUX_NODISCARD dethrux_progress dethrux_from_latin1(
+    dethrux_byte_order byte_order, const uint8_t *latin1, size_t len, uint8_t *to,
+    size_t capacity);
+
+/**
  * Decodes the next chunk of a stream, cut anywhere, to UTF-8.
  *
  * Each unpaired surrogate is replaced by U+FFFD. An incomplete character at the end is kept in the
@@ -562,18 +730,19 @@ DETHRUX_NODISCARD int32_t dethrux_compare(
 /**
  * Returns the byte order mark (BOM) at the start of a stream, and the byte order.
  *
- * FF FE is little endian, and FE FF is big endian. Without a BOM the byte order is big endian, as
- * the Unicode Standard says. Most files from Windows are little endian, so choose that yourself for
- * them with DETHRUX_BOM_ABSENT. The BOM is not part of the text: decode what follows its `len`
- * bytes.
+ * FF FE is little endian, and FE FF is big endian. The BOM is not part of the text: decode what
+ * follows its `len` bytes.
  *
+ * @param default_order the byte order of a stream without a BOM: the Unicode Standard says big
+ *   endian, and most files from Windows are little endian
  * @return the BOM, with one of these statuses:
  * - DETHRUX_BOM_ABSENT: there is none
  * - DETHRUX_BOM_PRESENT: its length is 2
  * - DETHRUX_BOM_UNDECIDED: call again with two bytes or more, unless the stream ends
  * @ingroup dethrux_streams
  */
-DETHRUX_NODISCARD dethrux_bom dethrux_detect_bom(const uint8_t *bytes, size_t len);
+DETHRUX_NODISCARD dethrux_bom dethrux_detect_bom(
+    dethrux_byte_order default_order, const uint8_t *bytes, size_t len);
 
 #ifdef __cplusplus
 }
@@ -758,6 +927,106 @@ DETHRUX_U16_RESULT dethrux_progress dethrux_u16_encoder_finish(
     dethrux_encoder *encoder, dethrux_unit *to, size_t capacity) {
     dethrux_progress progress = dethrux_encoder_finish(
         encoder, DETHRUX_NATIVE_ENDIAN, DETHRUX_U16_BYTES_MUT(to), capacity * 2);
+    progress.written /= 2;
+    return progress;
+}
+
+/** Does what dethrux_inspect does, on code units. */
+DETHRUX_U16_RESULT dethrux_inspection dethrux_u16_inspect(
+    const dethrux_unit *utf16, size_t len) {
+    dethrux_inspection inspection =
+        dethrux_inspect(DETHRUX_NATIVE_ENDIAN, DETHRUX_U16_BYTES(utf16), len * 2);
+    inspection.valid_up_to /= 2;
+    inspection.error_len /= 2;
+    return inspection;
+}
+
+/**
+ * Does what dethrux_to_utf32 does, on code units.
+ *
+ * @param capacity `len` suffices
+ */
+DETHRUX_U16_RESULT dethrux_progress dethrux_u16_to_utf32(
+    const dethrux_unit *utf16, size_t len, uint32_t *to, size_t capacity) {
+    dethrux_progress progress =
+        dethrux_to_utf32(DETHRUX_NATIVE_ENDIAN, DETHRUX_U16_BYTES(utf16), len * 2, to, capacity);
+    progress.read /= 2;
+    progress.error_len /= 2;
+    return progress;
+}
+
+/**
+ * Does what dethrux_to_utf32_lossy does, on code units.
+ *
+ * @param capacity `len` suffices
+ */
+DETHRUX_U16_RESULT dethrux_progress dethrux_u16_to_utf32_lossy(
+    const dethrux_unit *utf16, size_t len, uint32_t *to, size_t capacity) {
+    dethrux_progress progress = dethrux_to_utf32_lossy(
+        DETHRUX_NATIVE_ENDIAN, DETHRUX_U16_BYTES(utf16), len * 2, to, capacity);
+    progress.read /= 2;
+    return progress;
+}
+
+/**
+ * Does what dethrux_to_utf32_lossy_len does, on code units.
+ *
+ * @return at most `len`
+ */
+DETHRUX_U16_RESULT size_t dethrux_u16_to_utf32_lossy_len(
+    const dethrux_unit *utf16, size_t len) {
+    return dethrux_to_utf32_lossy_len(DETHRUX_NATIVE_ENDIAN, DETHRUX_U16_BYTES(utf16), len * 2);
+}
+
+/**
+ * Does what dethrux_from_utf32 does, on code units.
+ *
+ * @param capacity `len * 2` suffices
+ */
+DETHRUX_U16_RESULT dethrux_progress dethrux_u16_from_utf32(
+    const uint32_t *utf32, size_t len, dethrux_unit *to, size_t capacity) {
+    dethrux_progress progress = dethrux_from_utf32(
+        DETHRUX_NATIVE_ENDIAN, utf32, len, DETHRUX_U16_BYTES_MUT(to), capacity * 2);
+    progress.written /= 2;
+    return progress;
+}
+
+/**
+ * Does what dethrux_from_utf32_lossy does, on code units.
+ *
+ * @param capacity `len * 2` suffices
+ */
+DETHRUX_U16_RESULT dethrux_progress dethrux_u16_from_utf32_lossy(
+    const uint32_t *utf32, size_t len, dethrux_unit *to, size_t capacity) {
+    dethrux_progress progress = dethrux_from_utf32_lossy(
+        DETHRUX_NATIVE_ENDIAN, utf32, len, DETHRUX_U16_BYTES_MUT(to), capacity * 2);
+    progress.written /= 2;
+    return progress;
+}
+
+/**
+ * Does what dethrux_to_latin1 does, on code units.
+ *
+ * @param capacity `len` suffices
+ */
+DETHRUX_U16_RESULT dethrux_progress dethrux_u16_to_latin1(
+    const dethrux_unit *utf16, size_t len, uint8_t *to, size_t capacity) {
+    dethrux_progress progress =
+        dethrux_to_latin1(DETHRUX_NATIVE_ENDIAN, DETHRUX_U16_BYTES(utf16), len * 2, to, capacity);
+    progress.read /= 2;
+    progress.error_len /= 2;
+    return progress;
+}
+
+/**
+ * Does what dethrux_from_latin1 does, on code units.
+ *
+ * @param capacity `len` suffices
+ */
+DETHRUX_U16_RESULT dethrux_progress dethrux_u16_from_latin1(
+    const uint8_t *latin1, size_t len, dethrux_unit *to, size_t capacity) {
+    dethrux_progress progress = dethrux_from_latin1(
+        DETHRUX_NATIVE_ENDIAN, latin1, len, DETHRUX_U16_BYTES_MUT(to), capacity * 2);
     progress.written /= 2;
     return progress;
 }

@@ -2,7 +2,7 @@
 
 /**
  * @file
- * Dethrux for C++17: UTF-16 in either byte order, to and from UTF-8, in strings.
+ * Dethrux for C++17: UTF-16 in either byte order, to and from UTF-8, UTF-32 and Latin-1, in strings.
  *
  * Each function makes a proved call of dethrux.h. What is added here, memory and types, is tested,
  * not proved.
@@ -11,11 +11,12 @@
  * UTF-16 is given as code units in the machine's byte order (dethrux::units: std::u16string and its
  * view, a vector or span of any integral type of two bytes, a pointer and a length), or as bytes
  * and a byte order (dethrux::bytes: std::string and its view, a vector or span of std::byte or
- * unsigned char, a pointer and a length). UTF-8 is given as dethrux::bytes. A pointer without a
- * length is a text that ends with a NUL.
+ * unsigned char, a pointer and a length). UTF-8 and Latin-1 are given as dethrux::bytes, UTF-32 as
+ * dethrux::points: std::u32string and the like. A pointer without a length is a text that ends with
+ * a NUL. A std::wstring is UTF-16 where wchar_t has two bytes, as on Windows, and else UTF-32.
  *
  * @par Lengths
- * Offsets and lengths of `units` count code units, and offsets and lengths of `bytes` count bytes.
+ * Offsets and lengths of `units` and `points` count code units, those of `bytes` count bytes.
  *
  * @par Errors
  * Ill-formed input is a value, dethrux::error, and never an exception. Functions and decoders throw
@@ -23,9 +24,10 @@
  * long. In that case the string that was passed and the decoder are unchanged.
  *
  * @par Memory
- * A result takes the memory of the longest text for its length of input: three bytes for each code
- * unit of UTF-16, and one code unit for each byte of UTF-8. This makes one pass suffice;
- * shrink_to_fit() releases the rest.
+ * A result takes the memory of the longest text for its length of input: three bytes of UTF-8 or
+ * one code unit of UTF-32 for each code unit of UTF-16, one code unit of UTF-16 for each byte of
+ * UTF-8, and two for each code unit of UTF-32. This makes one pass suffice; shrink_to_fit()
+ * releases the rest.
  */
 #ifndef DETHRUX_HPP
 #define DETHRUX_HPP
@@ -34,6 +36,8 @@
 
 #include <cstddef>
 #include <cstdint>
+#include <cstring>
+#include <cwchar>
 #include <optional>
 #include <string>
 #include <string_view>
@@ -41,7 +45,7 @@
 #include <utility>
 #include <variant>
 
-/** UTF-16 in either byte order, to and from UTF-8. */
+/** UTF-16 in either byte order, to and from UTF-8, UTF-32 and Latin-1. */
 namespace dethrux {
 
 /** The byte order of UTF-16 in bytes. */
@@ -111,6 +115,17 @@ using bytes = detail::view<1, char>;
 
 /** Code units of UTF-16 in the machine's byte order that are read during a call. */
 using units = detail::view<2, char16_t>;
+
+/** Code points, UTF-32 in the machine's byte order, that are read during a call. */
+using points = detail::view<4, char32_t>;
+
+/** A repertoire, a set of characters. Each contains the ones before it. */
+enum class repertoire : std::uint32_t {
+    ascii = DETHRUX_ASCII,    /**< U+0000 to U+007F. */
+    latin1 = DETHRUX_LATIN1,  /**< U+0000 to U+00FF, ISO 8859-1. */
+    bmp = DETHRUX_BMP,        /**< U+0000 to U+FFFF, the Basic Multilingual Plane. */
+    unicode = DETHRUX_UNICODE /**< U+0000 to U+10FFFF, all characters. */
+};
 
 /** Why input is not well formed. */
 struct error {
@@ -225,6 +240,68 @@ inline dethrux_progress from_utf8_by(conversion call, bytes utf8, std::u16string
     return progress;
 }
 
+inline const std::uint32_t *points_of(points utf32) noexcept {
+    return reinterpret_cast<const std::uint32_t *>(utf32.data());
+}
+
+using widening = dethrux_progress (*)(
+    dethrux_byte_order, const std::uint8_t *, std::size_t, std::uint32_t *, std::size_t);
+using narrowing = dethrux_progress (*)(
+    dethrux_byte_order, const std::uint32_t *, std::size_t, std::uint8_t *, std::size_t);
+
+// Makes a call to UTF-32 that always has the space that it needs.
+template <class String>
+dethrux_progress to_utf32_by(widening call, byte_order order, const std::uint8_t *utf16,
+    std::size_t len, String &to) {
+    static_assert(sizeof(typename String::value_type) == 4);
+    to.resize(DETHRUX_UTF32_MAX(len));
+    dethrux_progress progress = call(detail::order(order), utf16, len,
+        reinterpret_cast<std::uint32_t *>(to.data()), to.size());
+    to.resize(progress.written);
+    return progress;
+}
+
+// The same from UTF-32, to UTF-16 in bytes and in code units.
+inline dethrux_progress from_utf32_by(
+    narrowing call, byte_order order, points utf32, std::string &to) {
+    to.resize(DETHRUX_FROM_UTF32_MAX(utf32.size()));
+    dethrux_progress progress =
+        call(detail::order(order), points_of(utf32), utf32.size(), data(to), to.size());
+    to.resize(progress.written);
+    return progress;
+}
+
+inline dethrux_progress from_utf32_by(narrowing call, points utf32, std::u16string &to) {
+    to.resize(utf32.size() * 2);
+    dethrux_progress progress = call(DETHRUX_NATIVE_ENDIAN, points_of(utf32), utf32.size(),
+        reinterpret_cast<std::uint8_t *>(to.data()), to.size() * 2);
+    to.resize(progress.written / 2);
+    return progress;
+}
+
+#if WCHAR_MAX <= 0xFFFF
+// The same code units in a std::wstring.
+inline std::wstring wide_of(units utf16) {
+    std::wstring to(utf16.size(), L'\0');
+    if (!to.empty()) {
+        std::memcpy(to.data(), utf16.data(), utf16.size() * 2);
+    }
+    return to;
+}
+#endif
+
+inline std::optional<std::string> latin1_of(
+    byte_order order, const std::uint8_t *utf16, std::size_t len) {
+    std::string to;
+    to.resize(len / 2);
+    dethrux_progress progress =
+        dethrux_to_latin1(detail::order(order), utf16, len, data(to), to.size());
+    if (progress.status != DETHRUX_DONE) {
+        return std::nullopt;
+    }
+    return to;
+}
+
 } // namespace detail
 
 /**
@@ -333,6 +410,43 @@ inline dethrux_progress from_utf8_by(conversion call, bytes utf8, std::u16string
     return dethrux_shard_offset(len, count, index);
 }
 
+/** What a text is. */
+struct inspection {
+    /** The first error, or nothing if the input is UTF-16. */
+    std::optional<dethrux::error> error;
+    /** The number of characters of the longest well-formed prefix. */
+    std::size_t chars = 0;
+    /** The smallest repertoire that has all of them. */
+    dethrux::repertoire repertoire = dethrux::repertoire::ascii;
+};
+
+namespace detail {
+
+inline inspection inspection_of(dethrux_inspection found, std::size_t unit) noexcept {
+    dethrux_validity validity = {found.valid_up_to, found.status, found.error_len};
+    return {error_of(validity, unit), found.chars,
+        static_cast<dethrux::repertoire>(found.repertoire)};
+}
+
+} // namespace detail
+
+/** Returns what a text is: dethrux_inspect. */
+[[nodiscard]] inline inspection inspect(bytes utf16, byte_order order) noexcept {
+    return detail::inspection_of(
+        dethrux_inspect(detail::order(order), utf16.data(), utf16.size()), 1);
+}
+
+/** Does the same for code units in the machine's byte order. */
+[[nodiscard]] inline inspection inspect(units utf16) noexcept {
+    return detail::inspection_of(
+        dethrux_inspect(DETHRUX_NATIVE_ENDIAN, utf16.data(), utf16.size() * 2), 2);
+}
+
+/** Returns the first error, or nothing if the input is UTF-32. */
+[[nodiscard]] inline std::optional<error> validate_utf32(points utf32) noexcept {
+    return detail::error_of(dethrux_validate_utf32(detail::points_of(utf32), utf32.size()), 1);
+}
+
 /** @} */
 
 /**
@@ -410,6 +524,156 @@ inline result<std::u16string> from_utf8(bytes utf8) {
     std::u16string to;
     detail::from_utf8_by(dethrux_from_utf8_lossy, utf8, to);
     return to;
+}
+
+/** @} */
+
+/**
+ * @defgroup dethrux_cxx_fixed C++: UTF-32, Latin-1 and std::wstring
+ * @{
+ */
+
+/** Returns the text in UTF-32, or where the input is ill formed. */
+inline result<std::u32string> to_utf32(bytes utf16, byte_order order) {
+    std::u32string to;
+    dethrux_progress progress =
+        detail::to_utf32_by(dethrux_to_utf32, order, utf16.data(), utf16.size(), to);
+    return detail::text_or_error(std::move(to), progress, 1);
+}
+
+/** Does the same for code units in the machine's byte order. */
+inline result<std::u32string> to_utf32(units utf16) {
+    std::u32string to;
+    dethrux_progress progress = detail::to_utf32_by(
+        dethrux_to_utf32, byte_order::native, utf16.data(), utf16.size() * 2, to);
+    return detail::text_or_error(std::move(to), progress, 2);
+}
+
+/**
+ * Returns the text in UTF-32, with U+FFFD for each unpaired surrogate and for an incomplete
+ * character at the end.
+ */
+[[nodiscard]] inline std::u32string to_utf32_lossy(bytes utf16, byte_order order) {
+    std::u32string to;
+    detail::to_utf32_by(dethrux_to_utf32_lossy, order, utf16.data(), utf16.size(), to);
+    return to;
+}
+
+/** Does the same for code units in the machine's byte order. */
+[[nodiscard]] inline std::u32string to_utf32_lossy(units utf16) {
+    std::u32string to;
+    detail::to_utf32_by(
+        dethrux_to_utf32_lossy, byte_order::native, utf16.data(), utf16.size() * 2, to);
+    return to;
+}
+
+/** Returns the text in UTF-16, in bytes, or where the input is ill formed. */
+inline result<std::string> from_utf32(points utf32, byte_order order) {
+    std::string to;
+    dethrux_progress progress = detail::from_utf32_by(dethrux_from_utf32, order, utf32, to);
+    return detail::text_or_error(std::move(to), progress, 1);
+}
+
+/** Returns the text in UTF-16, in code units, or where the input is ill formed. */
+inline result<std::u16string> from_utf32(points utf32) {
+    std::u16string to;
+    dethrux_progress progress = detail::from_utf32_by(dethrux_from_utf32, utf32, to);
+    return detail::text_or_error(std::move(to), progress, 1);
+}
+
+/** Returns the text in UTF-16, in bytes, with U+FFFD for each ill-formed code unit. */
+[[nodiscard]] inline std::string from_utf32_lossy(points utf32, byte_order order) {
+    std::string to;
+    detail::from_utf32_by(dethrux_from_utf32_lossy, order, utf32, to);
+    return to;
+}
+
+/** Does the same in code units of the machine's byte order. */
+[[nodiscard]] inline std::u16string from_utf32_lossy(points utf32) {
+    std::u16string to;
+    detail::from_utf32_by(dethrux_from_utf32_lossy, utf32, to);
+    return to;
+}
+
+/**
+ * Returns the text in Latin-1, or nothing if the input is ill formed or has a character above
+ * U+00FF. dethrux_to_latin1 says where.
+ */
+[[nodiscard]] inline std::optional<std::string> to_latin1(bytes utf16, byte_order order) {
+    return detail::latin1_of(order, utf16.data(), utf16.size());
+}
+
+/** Does the same for code units in the machine's byte order. */
+[[nodiscard]] inline std::optional<std::string> to_latin1(units utf16) {
+    return detail::latin1_of(byte_order::native, utf16.data(), utf16.size() * 2);
+}
+
+/** Returns the text of Latin-1 in UTF-16, in bytes. */
+[[nodiscard]] inline std::string from_latin1(bytes latin1, byte_order order) {
+    std::string to;
+    detail::from_utf8_by(dethrux_from_latin1, order, latin1, to);
+    return to;
+}
+
+/** Returns the text of Latin-1 in UTF-16, in code units. */
+[[nodiscard]] inline std::u16string from_latin1(bytes latin1) {
+    std::u16string to;
+    detail::from_utf8_by(dethrux_from_latin1, latin1, to);
+    return to;
+}
+
+/**
+ * Returns the text in the form of std::wstring, or where the input is ill formed. That is UTF-16
+ * where wchar_t has two bytes, and else UTF-32.
+ */
+inline result<std::wstring> to_wstring(units utf16) {
+#if WCHAR_MAX > 0xFFFF
+    std::wstring to;
+    dethrux_progress progress = detail::to_utf32_by(
+        dethrux_to_utf32, byte_order::native, utf16.data(), utf16.size() * 2, to);
+    return detail::text_or_error(std::move(to), progress, 2);
+#else
+    if (std::optional<error> found = validate(utf16)) {
+        return *found;
+    }
+    return detail::wide_of(utf16);
+#endif
+}
+
+/** Does the same, with U+FFFD for each unpaired surrogate. */
+[[nodiscard]] inline std::wstring to_wstring_lossy(units utf16) {
+    std::wstring to;
+#if WCHAR_MAX > 0xFFFF
+    detail::to_utf32_by(
+        dethrux_to_utf32_lossy, byte_order::native, utf16.data(), utf16.size() * 2, to);
+#else
+    to = detail::wide_of(utf16);
+    dethrux_u16_make_well_formed(to.data(), to.size());
+#endif
+    return to;
+}
+
+/** Returns the text of a std::wstring in UTF-16, or where it is ill formed. */
+inline result<std::u16string> from_wstring(std::wstring_view wide) {
+#if WCHAR_MAX > 0xFFFF
+    return from_utf32(points(wide));
+#else
+    if (std::optional<error> found = validate(units(wide))) {
+        return *found;
+    }
+    return std::u16string(wide.begin(), wide.end());
+#endif
+}
+
+/** Does the same, with U+FFFD for what is ill formed. */
+[[nodiscard]] inline std::u16string from_wstring_lossy(std::wstring_view wide) {
+#if WCHAR_MAX > 0xFFFF
+    return from_utf32_lossy(points(wide));
+#else
+    std::u16string to(wide.begin(), wide.end());
+    dethrux_u16_make_well_formed(to.data(), to.size());
+    return to;
+#endif
 }
 
 /** @} */

@@ -26,6 +26,16 @@ CALL(dethrux_progress, dethrux_to_utf8_lossy, (dethrux_byte_order byte_order, co
 CALL(dethrux_progress, dethrux_to_utf8_partial, (dethrux_byte_order byte_order, const uint8_t *utf16, size_t len, uint8_t *to, size_t capacity), (byte_order, utf16, len, to, capacity))
 CALL(dethrux_progress, dethrux_from_utf8, (dethrux_byte_order byte_order, const uint8_t *utf8, size_t len, uint8_t *to, size_t capacity), (byte_order, utf8, len, to, capacity))
 CALL(dethrux_progress, dethrux_from_utf8_lossy, (dethrux_byte_order byte_order, const uint8_t *utf8, size_t len, uint8_t *to, size_t capacity), (byte_order, utf8, len, to, capacity))
+CALL(dethrux_inspection, dethrux_inspect, (dethrux_byte_order byte_order, const uint8_t *utf16, size_t len), (byte_order, utf16, len))
+CALL(dethrux_progress, dethrux_to_utf32, (dethrux_byte_order byte_order, const uint8_t *utf16, size_t len, uint32_t *to, size_t capacity), (byte_order, utf16, len, to, capacity))
+CALL(dethrux_progress, dethrux_to_utf32_lossy, (dethrux_byte_order byte_order, const uint8_t *utf16, size_t len, uint32_t *to, size_t capacity), (byte_order, utf16, len, to, capacity))
+CALL(size_t, dethrux_to_utf32_lossy_len, (dethrux_byte_order byte_order, const uint8_t *utf16, size_t len), (byte_order, utf16, len))
+CALL(dethrux_validity, dethrux_validate_utf32, (const uint32_t *utf32, size_t len), (utf32, len))
+CALL(dethrux_progress, dethrux_from_utf32, (dethrux_byte_order byte_order, const uint32_t *utf32, size_t len, uint8_t *to, size_t capacity), (byte_order, utf32, len, to, capacity))
+CALL(dethrux_progress, dethrux_from_utf32_lossy, (dethrux_byte_order byte_order, const uint32_t *utf32, size_t len, uint8_t *to, size_t capacity), (byte_order, utf32, len, to, capacity))
+CALL(size_t, dethrux_from_utf32_lossy_len, (const uint32_t *utf32, size_t len), (utf32, len))
+CALL(dethrux_progress, dethrux_to_latin1, (dethrux_byte_order byte_order, const uint8_t *utf16, size_t len, uint8_t *to, size_t capacity), (byte_order, utf16, len, to, capacity))
+CALL(dethrux_progress, dethrux_from_latin1, (dethrux_byte_order byte_order, const uint8_t *latin1, size_t len, uint8_t *to, size_t capacity), (byte_order, latin1, len, to, capacity))
 CALL(dethrux_progress, dethrux_decoder_feed, (dethrux_decoder *decoder, dethrux_byte_order byte_order, const uint8_t *chunk, size_t len, uint8_t *to, size_t capacity), (decoder, byte_order, chunk, len, to, capacity))
 CALL(dethrux_progress, dethrux_decoder_finish, (dethrux_decoder *decoder, uint8_t *to, size_t capacity), (decoder, to, capacity))
 CALL(dethrux_progress, dethrux_encoder_feed, (dethrux_encoder *encoder, dethrux_byte_order byte_order, const uint8_t *chunk, size_t len, uint8_t *to, size_t capacity), (encoder, byte_order, chunk, len, to, capacity))
@@ -37,7 +47,7 @@ CALL(uint64_t, dethrux_shard_offset, (uint64_t len, uint64_t count, uint64_t ind
 ACTION(dethrux_swap_byte_order, (uint8_t *utf16, size_t len), (utf16, len))
 CALL(size_t, dethrux_make_well_formed, (dethrux_byte_order byte_order, uint8_t *utf16, size_t len), (byte_order, utf16, len))
 CALL(int32_t, dethrux_compare, (dethrux_byte_order first_order, const uint8_t *first, size_t first_len, dethrux_byte_order second_order, const uint8_t *second, size_t second_len), (first_order, first, first_len, second_order, second, second_len))
-CALL(dethrux_bom, dethrux_detect_bom, (const uint8_t *bytes, size_t len), (bytes, len))
+CALL(dethrux_bom, dethrux_detect_bom, (dethrux_byte_order default_order, const uint8_t *bytes, size_t len), (default_order, bytes, len))
 /* What the proved code calls. */
 SYSV void *sysv_memcpy(void *to, const void *from, size_t len);
 SYSV void *sysv_memcpy(void *to, const void *from, size_t len) { return memcpy(to, from, len); }

@@ -260,17 +260,21 @@ static bool wanted(char **words, size_t count, dethrux_byte_order order, text *a
     return true;
 }
 
-static const char *const stops[] = {"end", "ill_formed", "incomplete", "no_space"};
+static const char *const stops[] = {"end", "ill_formed", "incomplete", "no_space", "not_latin1"};
+
+static void add_stop(text *answer, dethrux_status status, uint32_t error_len) {
+    add_word(answer, status <= DETHRUX_NOT_LATIN1 ? stops[status] : "no status");
+    if (status == DETHRUX_ILL_FORMED) {
+        add_number(answer, error_len);
+    } else if (error_len != 0) {
+        add_word(answer, "length of no fault");
+    }
+}
 
 static void add_progress(text *answer, dethrux_progress found) {
     add_number(answer, found.read);
     add_number(answer, found.written);
-    add_word(answer, found.status <= DETHRUX_NO_SPACE ? stops[found.status] : "no status");
-    if (found.status == DETHRUX_ILL_FORMED) {
-        add_number(answer, found.error_len);
-    } else if (found.error_len != 0) {
-        add_word(answer, "length of no fault");
-    }
+    add_stop(answer, found.status, found.error_len);
 }
 
 /* What is at an offset: a character, an ill-formed sequence, or an incomplete character at the end.
@@ -700,7 +704,7 @@ static void ask_every_chunking(dethrux_byte_order order, const text *raw, text *
 }
 
 static void ask_every_any_chunking(dethrux_byte_order order, const text *raw, text *answer) {
-    dethrux_bom bom = dethrux_detect_bom(raw->bytes, raw->len);
+    dethrux_bom bom = dethrux_detect_bom(DETHRUX_BIG_ENDIAN, raw->bytes, raw->len);
     (void)order;
     if (bom.len > raw->len || (bom.status == DETHRUX_BOM_UNDECIDED) != (raw->len < 2)) {
         add_word(answer, "BOM");
@@ -910,6 +914,150 @@ static bool call_shard(dethrux_byte_order order, char **values, size_t count, te
     return count == 3;
 }
 
+/* UTF-32 is spelled by its bytes in big endian. Returns its code units, and makes `count` their
+ * number. */
+static uint32_t *code_points(const text *spelled, size_t *count) {
+    uint32_t *found = malloc(spelled->len + sizeof *found);
+    *count = spelled->len / 4;
+    for (size_t i = 0; found != NULL && i < *count; i++) {
+        const uint8_t *at = spelled->bytes + 4 * i;
+        found[i] = (uint32_t)at[0] << 24 | (uint32_t)at[1] << 16 | (uint32_t)at[2] << 8 | at[3];
+    }
+    return found;
+}
+
+typedef dethrux_progress widen(dethrux_byte_order order, const uint8_t *from, size_t len, uint32_t *to, size_t room);
+
+static bool to_utf32_by(widen *make, dethrux_byte_order order, char **values, size_t count, text *answer) {
+    text from = {0}, big = {0};
+    bool is = count == 2 && bytes_of(values[0], order, &from);
+    if (is) {
+        bool sized = strcmp(values[1], "size") == 0;
+        size_t room = sized ? dethrux_to_utf32_lossy_len(order, from.bytes, from.len) : number_of(values[1]);
+        text to = blank(4 * room);
+        uint32_t *points = malloc(to.len);
+        memcpy(points, to.bytes, to.len);
+        dethrux_progress found = make(order, from.bytes, from.len, points, room);
+        memcpy(to.bytes, points, to.len);
+        add_progress(answer, found);
+        for (size_t i = 0; i < 4 * found.written; i++) {
+            append_byte(&big, points[i / 4] >> (24 - i % 4 * 8) & 0xFF);
+        }
+        add_bytes(answer, big.bytes, big.len);
+        if (!is_blank(&to, 4 * room)) {
+            add_word(answer, "written after the buffer");
+        }
+        free(points);
+        free(to.bytes);
+    }
+    free(big.bytes);
+    free(from.bytes);
+    return is;
+}
+
+static bool call_to_utf32(dethrux_byte_order order, char **values, size_t count, text *answer) {
+    return to_utf32_by(dethrux_to_utf32, order, values, count, answer);
+}
+
+static bool call_to_utf32_lossy(dethrux_byte_order order, char **values, size_t count, text *answer) {
+    return to_utf32_by(dethrux_to_utf32_lossy, order, values, count, answer);
+}
+
+typedef dethrux_progress narrow(dethrux_byte_order order, const uint32_t *from, size_t len, uint8_t *to, size_t room);
+
+static bool from_utf32_by(narrow *make, dethrux_byte_order order, char **values, size_t count, text *answer) {
+    text from = {0};
+    bool is = count == 2 && bytes_of(values[0], order, &from);
+    if (is) {
+        size_t len;
+        uint32_t *points = code_points(&from, &len);
+        bool sized = strcmp(values[1], "size") == 0;
+        size_t room = sized ? dethrux_from_utf32_lossy_len(points, len) : number_of(values[1]);
+        text to = blank(room);
+        dethrux_progress found = make(order, points, len, to.bytes, room);
+        add_progress(answer, found);
+        add_bytes(answer, to.bytes, found.written);
+        if (!is_blank(&to, room)) {
+            add_word(answer, "written after the buffer");
+        }
+        free(to.bytes);
+        free(points);
+    }
+    free(from.bytes);
+    return is;
+}
+
+static bool call_from_utf32(dethrux_byte_order order, char **values, size_t count, text *answer) {
+    return from_utf32_by(dethrux_from_utf32, order, values, count, answer);
+}
+
+static bool call_from_utf32_lossy(dethrux_byte_order order, char **values, size_t count, text *answer) {
+    return from_utf32_by(dethrux_from_utf32_lossy, order, values, count, answer);
+}
+
+static bool latin1_by(convert *make, dethrux_byte_order order, char **values, size_t count, text *answer) {
+    text from = {0};
+    bool is = count == 2 && bytes_of(values[0], order, &from);
+    if (is) {
+        size_t room = number_of(values[1]);
+        text to = blank(room);
+        dethrux_progress found = make(order, from.bytes, from.len, to.bytes, room);
+        add_progress(answer, found);
+        add_bytes(answer, to.bytes, found.written);
+        if (!is_blank(&to, found.written)) {
+            add_word(answer, "changed");
+        }
+        free(to.bytes);
+    }
+    free(from.bytes);
+    return is;
+}
+
+static bool call_to_latin1(dethrux_byte_order order, char **values, size_t count, text *answer) {
+    return latin1_by(dethrux_to_latin1, order, values, count, answer);
+}
+
+static bool call_from_latin1(dethrux_byte_order order, char **values, size_t count, text *answer) {
+    return latin1_by(dethrux_from_latin1, order, values, count, answer);
+}
+
+static void ask_to_utf32_len(dethrux_byte_order order, const text *raw, text *answer) {
+    add_number(answer, dethrux_to_utf32_lossy_len(order, raw->bytes, raw->len));
+}
+
+static void ask_from_utf32_len(dethrux_byte_order order, const text *raw, text *answer) {
+    size_t len;
+    uint32_t *points = code_points(raw, &len);
+    (void)order;
+    add_number(answer, dethrux_from_utf32_lossy_len(points, len));
+    free(points);
+}
+
+static void ask_validate_utf32(dethrux_byte_order order, const text *raw, text *answer) {
+    size_t len;
+    uint32_t *points = code_points(raw, &len);
+    dethrux_validity found = dethrux_validate_utf32(points, len);
+    (void)order;
+    if (found.status == DETHRUX_DONE && found.valid_up_to == len && found.error_len == 0) {
+        add_word(answer, "done");
+    } else {
+        add_number(answer, found.valid_up_to);
+        if (found.status != DETHRUX_ILL_FORMED || found.error_len != 1) {
+            add_word(answer, "no status");
+        }
+    }
+    free(points);
+}
+
+static void ask_inspect(dethrux_byte_order order, const text *raw, text *answer) {
+    static const char *const names[] = {"ascii", "latin1", "bmp", "unicode"};
+    dethrux_inspection found = dethrux_inspect(order, raw->bytes, raw->len);
+    add_number(answer, found.valid_up_to);
+    add_number(answer, found.chars);
+    add_word(answer, found.repertoire <= DETHRUX_UNICODE ? names[found.repertoire] : "no repertoire");
+    add_stop(answer, found.status, found.error_len);
+}
+
 /* The call of a name: on values, or only on bytes. The conversions have a separate table. */
 static struct {
     const char *name;
@@ -929,6 +1077,16 @@ static struct {
     {"bytes::floor_char_boundary", call_floor, NULL, 0},
     {"bytes::floor_char_boundary_around", call_floor_around, NULL, 0},
     {"shard_offset", call_shard, NULL, 0},
+    {"to_utf32", call_to_utf32, NULL, 0},
+    {"to_utf32_lossy", call_to_utf32_lossy, NULL, 0},
+    {"from_utf32", call_from_utf32, NULL, 0},
+    {"from_utf32_lossy", call_from_utf32_lossy, NULL, 0},
+    {"to_latin1", call_to_latin1, NULL, 0},
+    {"from_latin1", call_from_latin1, NULL, 0},
+    {"to_utf32_lossy_len", NULL, ask_to_utf32_len, 0},
+    {"from_utf32_lossy_len", NULL, ask_from_utf32_len, 0},
+    {"validate_utf32", NULL, ask_validate_utf32, 0},
+    {"inspect", NULL, ask_inspect, 0},
     {"count_chars", NULL, ask_count, 0},
     {"is_ascii", NULL, ask_is_ascii, 0},
     {"to_utf8_lossy_len", NULL, ask_utf8_size, 0},
@@ -1016,26 +1174,32 @@ static void run_line(const char *line) {
 
 /* What no case can express: what only C has. */
 
-/* The BOM and the byte order of first bytes. */
+/* The BOM and the byte order of first bytes; without a BOM the default, which is little endian for
+ * every other number. */
 static bool is_bom_detected(void) {
     static const struct {
         const char *bytes;
         dethrux_bom_status status;
         dethrux_byte_order byte_order;
     } rows[] = {
-        {"", DETHRUX_BOM_UNDECIDED, DETHRUX_BIG_ENDIAN},     {"FF", DETHRUX_BOM_UNDECIDED, DETHRUX_BIG_ENDIAN},
-        {"FE", DETHRUX_BOM_UNDECIDED, DETHRUX_BIG_ENDIAN},   {"FFFE", DETHRUX_BOM_PRESENT, DETHRUX_LITTLE_ENDIAN},
+        {"", DETHRUX_BOM_UNDECIDED, 0},     {"FF", DETHRUX_BOM_UNDECIDED, 0},
+        {"FE", DETHRUX_BOM_UNDECIDED, 0},   {"FFFE", DETHRUX_BOM_PRESENT, DETHRUX_LITTLE_ENDIAN},
         {"FFFE41", DETHRUX_BOM_PRESENT, DETHRUX_LITTLE_ENDIAN}, {"FEFF", DETHRUX_BOM_PRESENT, DETHRUX_BIG_ENDIAN},
-        {"FEFF41", DETHRUX_BOM_PRESENT, DETHRUX_BIG_ENDIAN}, {"FFFF", DETHRUX_BOM_ABSENT, DETHRUX_BIG_ENDIAN},
-        {"FEFE", DETHRUX_BOM_ABSENT, DETHRUX_BIG_ENDIAN},    {"4100", DETHRUX_BOM_ABSENT, DETHRUX_BIG_ENDIAN},
+        {"FEFF41", DETHRUX_BOM_PRESENT, DETHRUX_BIG_ENDIAN}, {"FFFF", DETHRUX_BOM_ABSENT, 0},
+        {"FEFE", DETHRUX_BOM_ABSENT, 0},    {"4100", DETHRUX_BOM_ABSENT, 0},
     };
+    static const uint32_t defaults[] = {DETHRUX_LITTLE_ENDIAN, DETHRUX_BIG_ENDIAN, 2, UINT32_MAX};
     bool is = true;
     for (size_t i = 0; i < sizeof rows / sizeof *rows; i++) {
         text raw = {0};
         is = hex(rows[i].bytes, rows[i].bytes + strlen(rows[i].bytes), &raw) && is;
-        dethrux_bom found = dethrux_detect_bom(raw.bytes, raw.len);
-        is = is && found.status == rows[i].status && found.byte_order == rows[i].byte_order
-            && found.len == (rows[i].status == DETHRUX_BOM_PRESENT ? 2 : 0);
+        for (size_t j = 0; j < sizeof defaults / sizeof *defaults; j++) {
+            dethrux_bom found = dethrux_detect_bom((dethrux_byte_order)defaults[j], raw.bytes, raw.len);
+            bool present = rows[i].status == DETHRUX_BOM_PRESENT;
+            dethrux_byte_order otherwise = defaults[j] == DETHRUX_BIG_ENDIAN ? DETHRUX_BIG_ENDIAN : DETHRUX_LITTLE_ENDIAN;
+            is = is && found.status == rows[i].status && found.len == (present ? 2 : 0)
+                && found.byte_order == (present ? rows[i].byte_order : otherwise);
+        }
         free(raw.bytes);
     }
     return is;
@@ -1259,6 +1423,12 @@ static bool are_macros_right(void) {
         {DETHRUX_UTF16_MAX(yes ? 3 : 0), 6},
         {DETHRUX_UTF16_MAX(wide), 8589934590},
         {DETHRUX_UTF16_MAX(most), UINT64_MAX - 3},
+        {DETHRUX_UTF32_MAX(yes ? 3 : 0), 2},
+        {DETHRUX_UTF32_MAX(wide), 2147483648},
+        {DETHRUX_UTF32_MAX(most), 4611686018427387903},
+        {DETHRUX_FROM_UTF32_MAX(yes ? 3 : 0), 12},
+        {DETHRUX_FROM_UTF32_MAX(wide), 17179869180},
+        {DETHRUX_FROM_UTF32_MAX(most / 4), 9223372036854775804},
         {DETHRUX_DECODER_FEED_MAX(yes ? 3 : 0), 9},
         {DETHRUX_DECODER_FEED_MAX(wide), 6442450947},
         {DETHRUX_DECODER_FEED_MAX(most), 13835058055282163712u},
@@ -1336,7 +1506,7 @@ static bool is_empty_fine(void) {
         && dethrux_is_char_boundary(little, NULL, 0, 0) && !dethrux_is_char_boundary(big, NULL, 0, 1)
         && dethrux_floor_char_boundary(little, NULL, 0, 1) == 0 && dethrux_floor_char_boundary_around(big, NULL, 0, 0) == 0
         && dethrux_make_well_formed(big, NULL, 0) == 0 && dethrux_compare(big, NULL, 0, little, NULL, 0) == 0
-        && dethrux_detect_bom(NULL, 0).status == DETHRUX_BOM_UNDECIDED;
+        && dethrux_detect_bom(big, NULL, 0).status == DETHRUX_BOM_UNDECIDED;
 }
 
 /* A null pointer with a capacity of 0, for bytes that need space. */

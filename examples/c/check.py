@@ -128,7 +128,7 @@ def validate(order, raw, *whole):
 
 def every_any_chunking(order, raw):
     raw = spelled(raw, order)
-    found, bom_len, _status = dethrux.detect_bom(raw)
+    found, bom_len, _status = dethrux.detect_bom(raw, "big")
     return cut_anywhere(found, raw[bom_len:])
 
 

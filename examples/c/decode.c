@@ -33,7 +33,7 @@ int main(int argc, char **argv) {
     dethrux_decoder decoder = DETHRUX_DECODER_INIT;
     dethrux_byte_order order = DETHRUX_LITTLE_ENDIAN;
     if (argc == 2 && strcmp(argv[1], "auto") == 0) {
-        dethrux_bom bom = dethrux_detect_bom(raw, len);
+        dethrux_bom bom = dethrux_detect_bom(DETHRUX_BIG_ENDIAN, raw, len);
         order = bom.byte_order;
         read = bom.len;
     } else if (argc == 2 && strcmp(argv[1], "be") == 0) {

@@ -69,9 +69,9 @@ in_c() {
 }
 
 # The same program in C++, where code units have any type of two bytes.
-units_in_cxx() {
-    c++ -std=c++17 "$level" -Wall -Wextra -Wpedantic -Werror "-I$top/include" -x c++ "$here/units.c" \
-        -x none "$archive" -o "$room/units_cxx"
+c_in_cxx() {
+    c++ -std=c++17 "$level" -Wall -Wextra -Wpedantic -Werror "-I$top/include" -x c++ "$here/$1.c" \
+        -x none "$archive" -o "$room/$1_cxx"
 }
 
 # A program of examples/cpp, by a compiler and in a standard.
@@ -217,6 +217,7 @@ test_c() {
     count 'the program of the header' in_comment && count 'the program of the header, in chunks' comment_decodes
     count 'the check in C' in_c check && count 'the cases in C' check_c
     count 'the check of code units' in_c units c11 && count 'code units in C' "$room/units"
+    count 'the check of UTF-32' in_c fixed c11 && count 'UTF-32 and Latin-1 in C' "$room/fixed"
     count 'the first program in C' in_c first && count 'the page for C' prints_page first C
     count 'the program of the README' in_c resume && count 'resuming' resumes
     count 'ignored results in C' warns "$here/ignored.c" cc -std=c99
@@ -235,6 +236,7 @@ memory_in_c() {
     count 'the program of the header under valgrind' is_clean comment "$room/odd"
     count 'the check in C under valgrind' is_clean check "$room/cases"
     count 'code units under valgrind' is_clean units /dev/null
+    count 'UTF-32 under valgrind' is_clean fixed /dev/null
     head -c -1 "$room/cut" > "$room/whole"
     count 'the program of the README under valgrind' is_clean resume "$room/whole"
     count 'the first program under valgrind' is_clean first /dev/null
@@ -245,7 +247,8 @@ test_c_in_cxx() {
     count 'the header in C++' header_in_cxx
     count 'ignored results of the header in C++' warns "$here/ignored.c" c++ -std=c++17 -x c++
     count 'code units of another size in C++' refuses_wide
-    count 'the check of code units in C++' units_in_cxx && count 'code units in C++' "$room/units_cxx"
+    count 'the check of code units in C++' c_in_cxx units && count 'code units in C++' "$room/units_cxx"
+    count 'the check of UTF-32 in C++' c_in_cxx fixed && count 'UTF-32 in C++' "$room/fixed_cxx"
 }
 
 test_cxx() {

@@ -3,6 +3,7 @@
 // is 'N passed, M failed'.
 #include "dethrux.hpp"
 
+#include <algorithm>
 #include <array>
 #include <cstdio>
 #include <cstdlib>
@@ -213,6 +214,129 @@ static void decode(const row &from) {
         }
         return is;
     });
+}
+
+// The code points of well-formed UTF-8.
+static std::u32string points_of(std::string_view utf8) {
+    std::u32string found;
+    for (char byte : utf8) {
+        char32_t bits = static_cast<unsigned char>(byte);
+        if ((bits & 0xC0) == 0x80) {
+            found.back() = found.back() << 6 | (bits & 0x3F);
+        } else {
+            found += bits < 0xC0 ? bits : bits < 0xE0 ? bits & 0x1F : bits < 0xF0 ? bits & 0xF : bits & 7;
+        }
+    }
+    return found;
+}
+
+static std::size_t utf16_len(char32_t point) {
+    return point < 0x10000 ? 2 : 4;
+}
+
+static dethrux::repertoire least(const std::u32string &text) {
+    char32_t most = 0;
+    for (char32_t point : text) {
+        most = point > most ? point : most;
+    }
+    return most < 0x80      ? dethrux::repertoire::ascii
+           : most < 0x100   ? dethrux::repertoire::latin1
+           : most < 0x10000 ? dethrux::repertoire::bmp
+                            : dethrux::repertoire::unicode;
+}
+
+static void inspect(const row &from) {
+    const std::u32string text = points_of(from.utf8);
+    std::size_t end = from.reason ? from.reason->valid_up_to : from.big.size(), count = 0;
+    for (std::size_t at = 0; at < end; at += utf16_len(text[count++])) {
+    }
+    check_forms("inspect", from, [&](std::size_t element, auto... order) {
+        dethrux::inspection found = dethrux::inspect(in_form(from.big, order...), order...);
+        return found.error == in_elements(from.reason, element) && found.chars == count
+               && found.repertoire == least(text.substr(0, count));
+    });
+}
+
+static void to_utf32(const row &from) {
+    const std::u32string text = points_of(from.utf8);
+    check_forms("to_utf32", from, [&](std::size_t element, auto... order) {
+        auto found = dethrux::to_utf32(in_form(from.big, order...), order...);
+        return from.reason ? !found && found.error() == in_elements(from.reason, element)
+                           : found && found.value() == text;
+    });
+    check_forms("to_utf32_lossy", from, [&](std::size_t, auto... order) {
+        return dethrux::to_utf32_lossy(in_form(from.big, order...), order...) == text;
+    });
+    check_forms("from_utf32", from, [&](std::size_t, auto... order) {
+        auto found = dethrux::from_utf32(text, order...);
+        auto lossy = dethrux::from_utf32_lossy(text, order...);
+        return found && *found == lossy
+               && (from.reason || lossy == in_form(from.big, order...))
+               && points_of(dethrux::to_utf8(lossy, order...).value()) == text;
+    });
+}
+
+static void to_latin1(const row &from) {
+    const std::u32string text = points_of(from.utf8);
+    bool is = !from.reason && least(text) <= dethrux::repertoire::latin1;
+    const std::string latin1(text.begin(), text.end());
+    check_forms("to_latin1", from, [&](std::size_t, auto... order) {
+        auto found = dethrux::to_latin1(in_form(from.big, order...), order...);
+        return is ? found && *found == latin1
+                          && dethrux::from_latin1(latin1, order...) == in_form(from.big, order...)
+                  : !found;
+    });
+}
+
+// Not by ==, whose wmemcmp reads after the end, which valgrind takes for a mistake.
+static bool is_same(const std::wstring &a, const std::wstring &b) {
+    return std::equal(a.begin(), a.end(), b.begin(), b.end());
+}
+
+// A std::wstring has code points on Linux, and code units on Windows.
+static void to_wstring(const row &from) {
+    if (from.big.size() % 2 != 0) {
+        return;
+    }
+    const std::u16string units = in_form(from.big), mended = in_form(from.mended);
+    const std::u32string text = points_of(from.utf8);
+    const bool is_utf16 = sizeof(wchar_t) == 2;
+    const std::wstring wide = is_utf16 ? std::wstring(mended.begin(), mended.end())
+                                       : std::wstring(text.begin(), text.end());
+    auto found = dethrux::to_wstring(units);
+    check("to_wstring: "s + from.name,
+        from.reason ? !found && found.error() == in_elements(from.reason, 2)
+                    : found && is_same(*found, wide));
+    auto back = dethrux::from_wstring(wide);
+    check("from_wstring: "s + from.name, back && *back == mended
+                                             && dethrux::from_wstring_lossy(wide) == mended
+                                             && is_same(dethrux::to_wstring_lossy(units), wide));
+}
+
+// What is no character stops a strict call, and a lossy one replaces it.
+static void no_characters() {
+    for (char32_t other : {0xD800u, 0xDFFFu, 0x110000u, 0x80000061u, 0xFFFFFFFFu}) {
+        const std::u32string text = {U'a', other, U'b'};
+        const dethrux::error reason{1, 1};
+        bool is = dethrux::validate_utf32(text) == reason;
+        for (byte_order order : {byte_order::little, byte_order::big}) {
+            auto found = dethrux::from_utf32(text, order);
+            is = is && !found && found.error() == reason
+                 && dethrux::from_utf32_lossy(text, order) == in_form("\0a\xFF\xFD\0b"s, order);
+        }
+        auto found = dethrux::from_utf32(text);
+        check("what is no character",
+            is && !found && found.error() == reason
+                && dethrux::from_utf32_lossy(text) == u"a\uFFFDb"
+                && !dethrux::validate_utf32(U"a\U0001F600"));
+    }
+    const std::wstring wide = {L'a', static_cast<wchar_t>(0xD800), L'b'};
+    auto found = dethrux::from_wstring(wide);
+    check("a surrogate in a std::wstring", !found && found.error() == dethrux::error{1, 1}
+                                               && dethrux::from_wstring_lossy(wide) == u"a\uFFFDb");
+    check("all of Latin-1", dethrux::from_latin1("a\xFF\x80"sv) == u"a\u00FF\u0080"
+                                && dethrux::from_latin1(""sv, byte_order::big).empty()
+                                && dethrux::to_latin1(u"\u00FF\u0100"sv) == std::nullopt);
 }
 
 // A text in UTF-8, where it is ill formed, and what it is in UTF-16 in big endian. `pending` is how
@@ -571,8 +695,9 @@ static bool requests_once(std::size_t bytes, Call call) {
     return is && without_memory(call, [] { return true; });
 }
 
-// A result takes the memory of the longest text for its length of input: three bytes for each code
-// unit of UTF-16, and one code unit for each byte of UTF-8.
+// A result takes the memory of the longest text for its length of input: of UTF-16 three bytes or a
+// code unit of UTF-32 for each code unit, a code unit for each byte of UTF-8 and Latin-1, and two
+// for each code unit of UTF-32.
 static void space() {
     const std::string bytes(2000, 'a');
     const std::u16string units(1000, u'a');
@@ -587,6 +712,27 @@ static void space() {
             && requests_once(4000, [&] { (void)dethrux::from_utf8(bytes, order); })
             && requests_once(4000, [&] { (void)dethrux::from_utf8_lossy(bytes); })
             && requests_once(4000, [&] { (void)dethrux::from_utf8_lossy(bytes, order); }));
+    const std::u32string points(1000, U'a');
+    const std::wstring wide(1000, L'a');
+    check("the memory of UTF-32",
+        requests_once(4000, [&] { (void)dethrux::to_utf32(units); })
+            && requests_once(4000, [&] { (void)dethrux::to_utf32(bytes, order); })
+            && requests_once(4000, [&] { (void)dethrux::to_utf32_lossy(units); })
+            && requests_once(4000, [&] { (void)dethrux::to_utf32_lossy(bytes, order); })
+            && requests_once(4000, [&] { (void)dethrux::from_utf32(points); })
+            && requests_once(4000, [&] { (void)dethrux::from_utf32(points, order); })
+            && requests_once(4000, [&] { (void)dethrux::from_utf32_lossy(points); })
+            && requests_once(4000, [&] { (void)dethrux::from_utf32_lossy(points, order); }));
+    check("the memory of Latin-1",
+        requests_once(1000, [&] { (void)dethrux::to_latin1(units); })
+            && requests_once(1000, [&] { (void)dethrux::to_latin1(bytes, order); })
+            && requests_once(4000, [&] { (void)dethrux::from_latin1(bytes); })
+            && requests_once(4000, [&] { (void)dethrux::from_latin1(bytes, order); }));
+    check("the memory of a std::wstring",
+        requests_once(1000 * sizeof(wchar_t), [&] { (void)dethrux::to_wstring(units); })
+            && requests_once(1000 * sizeof(wchar_t), [&] { (void)dethrux::to_wstring_lossy(units); })
+            && requests_once(4000, [&] { (void)dethrux::from_wstring(wide); })
+            && requests_once(4000, [&] { (void)dethrux::from_wstring_lossy(wide); }));
     check("the memory of decoders", requests_once(3000, [&] {
         std::string to;
         dethrux::decoder(order).feed(bytes, to);
@@ -627,6 +773,9 @@ static void lengths() {
             && is_too_long([&] { (void)dethrux::to_utf8_lossy(units); })
             && is_too_long([&] { (void)dethrux::from_utf8(bytes, order); })
             && is_too_long([&] { (void)dethrux::from_utf8_lossy(bytes); })
+            && is_too_long([&] { (void)dethrux::to_utf32(bytes, order); })
+            && is_too_long([&] { (void)dethrux::to_utf32_lossy(units); })
+            && is_too_long([&] { (void)dethrux::from_latin1(bytes, order); })
             && is_too_long([&] { decoder.feed(bytes, to); })
             && is_too_long([&] { decoder.feed(units, to); })
             && is_too_long([&] { back.feed(bytes, to); })
@@ -643,6 +792,8 @@ static void with_each(const Rows &all, Tests... tests) {
 
 int main() {
     with_each(rows, look, change, cut, to_utf8, decode);
+    with_each(rows, inspect, to_utf32, to_latin1, to_wstring);
+    no_characters();
     with_each(rows8, from_utf8, decode8);
     with_each(pairs, compare);
     others();

@@ -2,9 +2,11 @@
 // the compiler warns of each line of `ignore`.
 #include "dethrux.hpp"
 
-void ignore(dethrux::bytes bytes, dethrux::units units, dethrux::byte_order by);
+void ignore(dethrux::bytes bytes, dethrux::units units, dethrux::points points,
+    std::wstring_view wide, dethrux::byte_order by);
 
-void ignore(dethrux::bytes bytes, dethrux::units units, dethrux::byte_order by) {
+void ignore(dethrux::bytes bytes, dethrux::units units, dethrux::points points,
+    std::wstring_view wide, dethrux::byte_order by) {
     dethrux::validate(bytes, by);
     dethrux::validate(units);
     dethrux::count_chars(bytes, by);
@@ -27,4 +29,23 @@ void ignore(dethrux::bytes bytes, dethrux::units units, dethrux::byte_order by) 
     dethrux::from_utf8(bytes);
     dethrux::from_utf8_lossy(bytes, by);
     dethrux::from_utf8_lossy(bytes);
+    dethrux::inspect(bytes, by);
+    dethrux::inspect(units);
+    dethrux::validate_utf32(points);
+    dethrux::to_utf32(bytes, by);
+    dethrux::to_utf32(units);
+    dethrux::to_utf32_lossy(bytes, by);
+    dethrux::to_utf32_lossy(units);
+    dethrux::from_utf32(points, by);
+    dethrux::from_utf32(points);
+    dethrux::from_utf32_lossy(points, by);
+    dethrux::from_utf32_lossy(points);
+    dethrux::to_latin1(bytes, by);
+    dethrux::to_latin1(units);
+    dethrux::from_latin1(bytes, by);
+    dethrux::from_latin1(bytes);
+    dethrux::to_wstring(units);
+    dethrux::to_wstring_lossy(units);
+    dethrux::from_wstring(wide);
+    dethrux::from_wstring_lossy(wide);
 }

@@ -20,7 +20,7 @@ static size_t spaces(dethrux_byte_order order, const uint8_t *utf16, size_t len)
 int main(void) {
     uint8_t utf16[4096];
     size_t len = fread(utf16, 1, sizeof utf16, stdin);
-    dethrux_bom bom = dethrux_detect_bom(utf16, len);
+    dethrux_bom bom = dethrux_detect_bom(DETHRUX_LITTLE_ENDIAN, utf16, len);
     size_t le = spaces(DETHRUX_LITTLE_ENDIAN, utf16, len);
     size_t be = spaces(DETHRUX_BIG_ENDIAN, utf16, len);
     if (bom.status == DETHRUX_BOM_PRESENT) {

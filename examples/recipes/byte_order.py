@@ -14,7 +14,7 @@ def spaces(utf16: bytes, order: str) -> int:
 
 
 utf16 = sys.stdin.buffer.read(4096)
-bom = dethrux.detect_bom(utf16)
+bom = dethrux.detect_bom(utf16, "little")
 little, big = spaces(utf16, "little"), spaces(utf16, "big")
 if bom.len:
     print("be" if bom.byteorder == "big" else "le")

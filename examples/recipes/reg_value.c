@@ -20,11 +20,9 @@ int main(int argc, char **argv) {
     }
 
     /* Exports are little endian. Old ones may have no BOM. */
-    dethrux_bom bom = dethrux_detect_bom(raw, len);
-    dethrux_byte_order order =
-        bom.status == DETHRUX_BOM_PRESENT ? bom.byte_order : DETHRUX_LITTLE_ENDIAN;
-    dethrux_progress text =
-        dethrux_to_utf8_lossy(order, raw + bom.len, len - bom.len, utf8, sizeof utf8 - 1);
+    dethrux_bom bom = dethrux_detect_bom(DETHRUX_LITTLE_ENDIAN, raw, len);
+    dethrux_progress text = dethrux_to_utf8_lossy(
+        bom.byte_order, raw + bom.len, len - bom.len, utf8, sizeof utf8 - 1);
     utf8[text.written] = 0;
 
     size_t name_len = strlen(argv[2]);

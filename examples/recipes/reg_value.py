@@ -8,9 +8,8 @@ import dethrux
 raw = Path(sys.argv[1]).read_bytes()
 
 # Exports are little endian. Old ones may have no BOM.
-bom = dethrux.detect_bom(raw)
-order = bom.byteorder if bom.len else "little"
-text = dethrux.decode(raw[bom.len :], order, "replace")
+bom = dethrux.detect_bom(raw, "little")
+text = dethrux.decode(raw[bom.len :], bom.byteorder, "replace")
 
 wanted = f'"{sys.argv[2]}"='
 for line in text.splitlines():

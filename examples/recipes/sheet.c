@@ -18,10 +18,10 @@ int main(void) {
     uint8_t raw[4096], utf8[DETHRUX_DECODER_FEED_MAX(sizeof raw)];
     dethrux_decoder decoder = DETHRUX_DECODER_INIT;
     size_t len = fread(raw, 1, sizeof raw, stdin);
-    dethrux_bom bom = dethrux_detect_bom(raw, len);
+    dethrux_bom bom = dethrux_detect_bom(DETHRUX_LITTLE_ENDIAN, raw, len);
     for (size_t skip = bom.len; len != 0; len = fread(raw, 1, sizeof raw, stdin), skip = 0) {
         dethrux_progress part = dethrux_decoder_feed(
-            &decoder, DETHRUX_LITTLE_ENDIAN, raw + skip, len - skip, utf8, sizeof utf8);
+            &decoder, bom.byte_order, raw + skip, len - skip, utf8, sizeof utf8);
         write_fields(utf8, part.written);
     }
     dethrux_progress end = dethrux_decoder_finish(&decoder, utf8, sizeof utf8);

@@ -29,16 +29,13 @@ static bool decode(HANDLE file) {
         return false;
     }
     /* Files of Windows without a BOM are little endian. */
-    dethrux_bom bom = dethrux_detect_bom(chunk, len);
-    dethrux_byte_order order =
-        bom.status == DETHRUX_BOM_PRESENT ? bom.byte_order : DETHRUX_LITTLE_ENDIAN;
+    dethrux_bom bom = dethrux_detect_bom(DETHRUX_LITTLE_ENDIAN, chunk, len);
     dethrux_decoder decoder = DETHRUX_DECODER_INIT;
     size_t start = bom.len;
     while (len != 0) {
-        size_t written =
-            dethrux_decoder_feed(&decoder, order, chunk + start, len - start, utf8, sizeof utf8)
-                .written;
-        if (!write_all(utf8, written) || !fill(file, chunk, sizeof chunk, &len)) {
+        dethrux_progress part = dethrux_decoder_feed(
+            &decoder, bom.byte_order, chunk + start, len - start, utf8, sizeof utf8);
+        if (!write_all(utf8, part.written) || !fill(file, chunk, sizeof chunk, &len)) {
             return false;
         }
         start = 0;

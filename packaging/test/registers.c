@@ -113,11 +113,12 @@ static void watch(const char *name, void (*function)(void), const uint64_t *argu
 
 static uint8_t text[4096];
 static uint8_t to[3 * sizeof text];
+static uint32_t points[sizeof text / 2];
 
 static void watch_all(uint64_t order, size_t len) {
     dethrux_decoder decoder = DETHRUX_DECODER_INIT;
     dethrux_encoder encoder = DETHRUX_ENCODER_INIT;
-    dethrux_progress result;
+    dethrux_inspection result; /* the largest one */
     WATCH(dethrux_version, 0);
     WATCH(dethrux_validate, RESULT, order, AT(text), len);
     WATCH(dethrux_count_chars, order, AT(text), len);
@@ -130,6 +131,16 @@ static void watch_all(uint64_t order, size_t len) {
     WATCH(dethrux_to_utf8_partial, RESULT, order, AT(text), len, AT(to), sizeof to);
     WATCH(dethrux_from_utf8, RESULT, order, AT(text), len, AT(to), sizeof to);
     WATCH(dethrux_from_utf8_lossy, RESULT, order, AT(text), len, AT(to), sizeof to);
+    WATCH(dethrux_inspect, RESULT, order, AT(text), len);
+    WATCH(dethrux_to_utf32, RESULT, order, AT(text), len, AT(points), sizeof points / 4);
+    WATCH(dethrux_to_utf32_lossy, RESULT, order, AT(text), len, AT(points), sizeof points / 4);
+    WATCH(dethrux_to_utf32_lossy_len, order, AT(text), len);
+    WATCH(dethrux_validate_utf32, RESULT, AT(points), len / 2);
+    WATCH(dethrux_from_utf32, RESULT, order, AT(points), len / 2, AT(to), sizeof to);
+    WATCH(dethrux_from_utf32_lossy, RESULT, order, AT(points), len / 2, AT(to), sizeof to);
+    WATCH(dethrux_from_utf32_lossy_len, AT(points), len / 2);
+    WATCH(dethrux_to_latin1, RESULT, order, AT(text), len, AT(to), sizeof to);
+    WATCH(dethrux_from_latin1, RESULT, order, AT(text), len, AT(to), sizeof to);
     WATCH(dethrux_decoder_feed, RESULT, AT(&decoder), order, AT(text), len, AT(to), sizeof to);
     WATCH(dethrux_decoder_finish, RESULT, AT(&decoder), AT(to), sizeof to);
     WATCH(dethrux_encoder_feed, RESULT, AT(&encoder), order, AT(text), len, AT(to), sizeof to);
@@ -139,7 +150,7 @@ static void watch_all(uint64_t order, size_t len) {
     WATCH(dethrux_floor_char_boundary_around, order, AT(text), len < 4 ? len : 4, 2);
     WATCH(dethrux_shard_offset, len, 3, 1);
     WATCH(dethrux_compare, order, AT(text), len, order ^ 1, AT(text), len);
-    WATCH(dethrux_detect_bom, RESULT, AT(text), len);
+    WATCH(dethrux_detect_bom, RESULT, order, AT(text), len);
     WATCH(dethrux_swap_byte_order, AT(text), len);
     WATCH(dethrux_make_well_formed, order, AT(text), len);
 }

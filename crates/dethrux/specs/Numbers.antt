@@ -4,6 +4,10 @@ use Rattle.utf16_units.specs.Encoding.{IsUtf16}
 use Rattle.utf16_units.specs.IllFormed.{IsIllFormed, IsUtf16ValidUpTo}
 use Rattle.utf16_units.specs.Utf16Error.{error_len, valid_up_to}
 use Rattle.utf16_units.specs.declared.error.Utf16Error.{Utf16Error}
+use Rattle.utf16_latin1.specs.declared.progress.Latin1Stop.{Latin1Stop}
+use Rattle.utf16_latin1.specs.declared.progress.Latin1Stop.TheVariants as latin1
+use Rattle.utf16_latin1.specs.declared.repertoire.Repertoire.{Repertoire}
+use Rattle.utf16_latin1.specs.declared.repertoire.Repertoire.TheVariants.{Ascii, Bmp, Latin1, Unicode}
 use Rattle.utf16_decode.specs.declared.progress.Stop.{Stop}
 use Rattle.utf16_decode.specs.declared.progress.Stop.TheVariants.{Incomplete, Done, IllFormed, NoSpace}
 
@@ -15,6 +19,19 @@ is_big byte_order = byte_order == 1
 abbrev pub stop_of : ℕ → ℕ → Stop
 stop_of status error_len =
     if status == 0 then Done else (if status == 1 then IllFormed error_len else (if status == 2 then Incomplete else NoSpace))
+
+-- why a call to Latin-1 stopped: it has one more reason
+abbrev pub latin1_stop_of : ℕ → ℕ → Latin1Stop
+latin1_stop_of status error_len =
+    if status == 0 then latin1.Done else (if status == 1 then latin1.IllFormed error_len else (if status == 2 then latin1.Incomplete else (if status == 3 then latin1.NoSpace else latin1.NotLatin1)))
+
+-- the status of such a call is one of the five
+abbrev pub AreLatin1Numbers : ℕ → ℕ → Type 0
+AreLatin1Numbers status error_len = (status ≤ 4) × (status ≢ 1 → error_len ≡ 0)
+
+-- the repertoire of a number
+abbrev pub repertoire_of : ℕ → Repertoire
+repertoire_of number = if number == 0 then Ascii else (if number == 1 then Latin1 else (if number == 2 then Bmp else Unicode))
 
 -- the status is one of the four, and only an ill-formed sequence has a length
 abbrev pub AreNumbers : ℕ → ℕ → Type 0

@@ -1,8 +1,9 @@
 //! The byte order mark (BOM) at the start of a stream.
 
 ghost use Rattle.std.specs.Prelude.{◌≡◌, ◌≢◌, ◌↔◌, ◌⊎◌, ◌<◌, ◌≤◌, [], ◌∷◌, length, take};
+ghost use Rattle.dethrux.specs.Numbers.{is_big};
 
-use crate::byte_order::{BIG_ENDIAN, LITTLE_ENDIAN};
+use crate::byte_order::{BIG_ENDIAN, LITTLE_ENDIAN, is_big_endian};
 use crate::results::Bom;
 
 const ABSENT: u32 = 0;
@@ -11,25 +12,23 @@ const PRESENT: u32 = 1;
 
 const UNDECIDED: u32 = 2;
 
-/// Returns the BOM at the start of a stream, and the byte order that it gives: big endian without a
-/// BOM. It is undecided if fewer than two bytes have come.
+/// Returns the BOM at the start of a stream, and the byte order: the one that the BOM gives, or the
+/// default without a BOM. It is undecided if fewer than two bytes have come.
 #[unsafe(no_mangle)]
-pub extern "C" fn dethrux_detect_bom(bytes: &[u8]) -> Bom
+pub extern "C" fn dethrux_detect_bom(default_order: u32, bytes: &[u8]) -> Bom
     ensures incomplete { (result.status ≡ 2) ↔ (length bytes.now < 2) }
     ensures present { (result.status ≡ 1)
         ↔ ((take 2 bytes.now ≡ 0xFF ∷ 0xFE ∷ []) ⊎ (take 2 bytes.now ≡ 0xFE ∷ 0xFF ∷ [])) }
     ensures status { result.status ≤ 2 }
-    ensures little { (result.byte_order ≡ 0) ↔ (take 2 bytes.now ≡ 0xFF ∷ 0xFE ∷ []) }
-    ensures big { (result.byte_order ≡ 1) ↔ (result.byte_order ≢ 0) }
+    ensures little { take 2 bytes.now ≡ 0xFF ∷ 0xFE ∷ [] → result.byte_order ≡ 0 }
+    ensures big { take 2 bytes.now ≡ 0xFE ∷ 0xFF ∷ [] → result.byte_order ≡ 1 }
+    ensures default { result.status ≢ 1 → is_big result.byte_order ≡ is_big default_order }
+    ensures order { result.byte_order ≤ 1 }
     ensures len { (result.len ≡ 2) ↔ (result.status ≡ 1) }
     ensures no_len { (result.len ≡ 0) ↔ (result.status ≢ 1) }
 {
     if bytes.len() < 2 {
-        return Bom {
-            len: 0,
-            byte_order: BIG_ENDIAN,
-            status: UNDECIDED,
-        };
+        return without_bom(default_order, UNDECIDED);
     }
     match (bytes[0], bytes[1]) {
         (0xFF, 0xFE) => Bom {
@@ -42,10 +41,26 @@ pub extern "C" fn dethrux_detect_bom(bytes: &[u8]) -> Bom
             byte_order: BIG_ENDIAN,
             status: PRESENT,
         },
-        _ => Bom {
-            len: 0,
-            byte_order: BIG_ENDIAN,
-            status: ABSENT,
-        },
+        _ => without_bom(default_order, ABSENT),
+    }
+}
+
+// The byte order of a stream that has no BOM, or not yet.
+#[inline(always)]
+fn without_bom(default_order: u32, status: u32) -> Bom
+    ensures len { result.len ≡ 0 }
+    ensures status { result.status ≡ status }
+    ensures default { is_big result.byte_order ≡ is_big default_order }
+    ensures order { result.byte_order ≤ 1 }
+{
+    let byte_order = if is_big_endian(default_order) {
+        BIG_ENDIAN
+    } else {
+        LITTLE_ENDIAN
+    };
+    Bom {
+        len: 0,
+        byte_order,
+        status,
     }
 }

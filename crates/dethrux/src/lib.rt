@@ -10,8 +10,10 @@ mod byte_order;
 mod decoder;
 mod encoder;
 mod in_place;
+mod latin1;
 mod order;
 mod results;
+mod utf32;
 mod version;
 
 ghost use Rattle.std.specs.Prelude.{◌≡◌, ◌≢◌, ◌↔◌, [], ◌<◌, ◌≤◌, ◌+◌, ◌-◌, ◌*◌, ◌/◌, ◌%◌, All, IsTrue, count_by, drop, encode_utf8_all, length, take};

@@ -6,9 +6,9 @@ ghost use Rattle.dethrux.specs.Numbers.{AreNumbers, stop_of, validity_stop, vali
 use utf16_encode::Stop;
 use utf16_units::Utf16Error;
 
-const DONE: u32 = 0;
+pub(crate) const DONE: u32 = 0;
 
-const ILL_FORMED: u32 = 1;
+pub(crate) const ILL_FORMED: u32 = 1;
 
 const INCOMPLETE: u32 = 2;
 

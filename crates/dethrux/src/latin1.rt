@@ -1,0 +1,147 @@
+//! Latin-1 and UTF-16, and what kind of text bytes are.
+
+ghost use Rattle.std.specs.Prelude.{◌≡◌, ◌≢◌, ◌-◌, ◌*◌, ◌/◌, ◌≤◌, drop, if◌then◌else◌, length, min, nat_le, take};
+ghost use Rattle.utf16_units.specs.Encoding.{Encodes, text_of};
+ghost use Rattle.utf16_decode.specs.declared.progress.Stop.TheVariants.{Done, NoSpace};
+ghost use Rattle.utf16_latin1.specs.Repertoire.{IsLeast};
+ghost use Rattle.utf16_latin1.specs.Stops.{StopsLatin1};
+ghost use Rattle.utf16_latin1.specs.Inspection.{EndsAt};
+ghost use Rattle.utf16_latin1.specs.declared.progress.Latin1Stop.TheVariants as latin1;
+ghost use Rattle.dethrux.specs.Numbers.{AreLatin1Numbers, AreNumbers, is_big, latin1_stop_of, repertoire_of, stop_of};
+
+use crate::byte_order::is_big_endian;
+use crate::results::{Progress, progress_of, status_of};
+use utf16_latin1::{Latin1Progress, Latin1Stop, Repertoire, from_latin1, inspect, to_latin1};
+use utf16_units::{BE, LE};
+
+const NOT_LATIN1: u32 = 4;
+
+/// What a text is: `dethrux_inspection` of the header.
+#[repr(C)]
+#[derive(Clone, Copy)]
+pub struct Inspection {
+    /// The length of the longest well-formed prefix in bytes.
+    pub valid_up_to: usize,
+    /// The number of its characters.
+    pub chars: usize,
+    /// The smallest repertoire that has all of them: 0 ASCII, 1 Latin-1, 2 the BMP, 3 Unicode.
+    pub repertoire: u32,
+    /// What follows it: 0 nothing, 1 an ill-formed sequence, 2 an incomplete character.
+    pub status: u32,
+    /// The length in bytes of the ill-formed sequence with status 1, and 0 with any other.
+    pub error_len: u32,
+}
+
+/// Converts UTF-16 to Latin-1, up to the first ill-formed sequence or the first character above
+/// U+00FF, or as far as the buffer has space. With status 3 the buffer is full: call again with the
+/// rest. With status 4 a character above U+00FF follows, whether the buffer is full or not. The
+/// bytes after the written ones are unchanged. In time linear in what is read.
+#[unsafe(no_mangle)]
+pub extern "C" fn dethrux_to_latin1(byte_order: u32, utf16: &[u8], to: &mut [u8]) -> Progress
+    ensures read { result.read ≡ 2 * result.written }
+    ensures within { result.read ≤ length utf16.now }
+    ensures fits { result.written ≤ length to.new }
+    ensures encoding { Encodes (is_big byte_order) (take result.written to.new)
+        (take result.read utf16.now) }
+    ensures rest { drop result.written to.new ≡ drop result.written to.old }
+    ensures stop { StopsLatin1 (is_big byte_order) utf16.now result.read
+        (length to.new - result.written) (latin1_stop_of result.status result.error_len) }
+    ensures succeeds { length utf16.now / 2 ≤ length to.old
+        → latin1_stop_of result.status result.error_len ≢ latin1.NoSpace }
+    ensures numbers { AreLatin1Numbers result.status result.error_len }
+{
+    latin1_progress(if is_big_endian(byte_order) {
+        to_latin1::<BE>(utf16, to)
+    } else {
+        to_latin1::<LE>(utf16, to)
+    })
+}
+
+// What C gets as the result of a conversion to Latin-1.
+#[inline(always)]
+fn latin1_progress(progress: Latin1Progress) -> Progress
+    ensures read { result.read ≡ progress.read }
+    ensures written { result.written ≡ progress.written }
+    ensures stop { latin1_stop_of result.status result.error_len ≡ progress.stop }
+    ensures numbers { AreLatin1Numbers result.status result.error_len }
+{
+    let (status, error_len) = match progress.stop {
+        Latin1Stop::Done => (0, 0),
+        Latin1Stop::IllFormed(len) => (1, len as u32),
+        Latin1Stop::Incomplete => (2, 0),
+        Latin1Stop::NoSpace => (3, 0),
+        Latin1Stop::NotLatin1 => (NOT_LATIN1, 0),
+    };
+    Progress {
+        read: progress.read,
+        written: progress.written,
+        status,
+        error_len,
+    }
+}
+
+/// Converts Latin-1 to UTF-16, as far as it fits. The status is 0, or 3 if fewer than two bytes are
+/// left: call again with the rest. The bytes after the written ones are unchanged. In time linear
+/// in what is read.
+#[unsafe(no_mangle)]
+pub extern "C" fn dethrux_from_latin1(byte_order: u32, latin1: &[u8], to: &mut [u8]) -> Progress
+    ensures read { result.read ≡ min (length latin1.now) (length to.old / 2) }
+    ensures written { result.written ≡ 2 * result.read }
+    ensures encoding { Encodes (is_big byte_order) (take result.read latin1.now)
+        (take result.written to.new) }
+    ensures rest { drop result.written to.new ≡ drop result.written to.old }
+    ensures stop { stop_of result.status result.error_len
+        ≡ if nat_le (length latin1.now) (length to.old / 2) then Done else NoSpace }
+    ensures numbers { AreNumbers result.status result.error_len }
+{
+    progress_of(if is_big_endian(byte_order) {
+        from_latin1::<BE>(latin1, to)
+    } else {
+        from_latin1::<LE>(latin1, to)
+    })
+}
+
+/// Returns the length of the longest well-formed prefix, the number of its characters, the smallest
+/// repertoire that has them, and what follows. Two passes, up to the first error.
+#[unsafe(no_mangle)]
+pub extern "C" fn dethrux_inspect(byte_order: u32, utf16: &[u8]) -> Inspection
+    ensures stop { EndsAt (is_big byte_order) utf16.now result.valid_up_to
+        (stop_of result.status result.error_len) }
+    ensures chars { result.chars
+        ≡ length (text_of (is_big byte_order) (take result.valid_up_to utf16.now)) }
+    ensures repertoire { IsLeast (text_of (is_big byte_order) (take result.valid_up_to utf16.now))
+        (repertoire_of result.repertoire) }
+    ensures known { result.repertoire ≤ 3 }
+    ensures numbers { AreNumbers result.status result.error_len }
+{
+    inspection_of(if is_big_endian(byte_order) {
+        inspect::<BE>(utf16)
+    } else {
+        inspect::<LE>(utf16)
+    })
+}
+
+// What C gets as the result of an inspection.
+#[inline(always)]
+fn inspection_of(found: utf16_latin1::Inspection) -> Inspection
+    ensures valid_up_to { result.valid_up_to ≡ found.valid_up_to }
+    ensures chars { result.chars ≡ found.chars }
+    ensures repertoire { repertoire_of result.repertoire ≡ found.repertoire }
+    ensures known { result.repertoire ≤ 3 }
+    ensures stop { stop_of result.status result.error_len ≡ found.stop }
+    ensures numbers { AreNumbers result.status result.error_len }
+{
+    let (status, error_len) = status_of(found.stop);
+    Inspection {
+        valid_up_to: found.valid_up_to,
+        chars: found.chars,
+        repertoire: match found.repertoire {
+            Repertoire::Ascii => 0,
+            Repertoire::Latin1 => 1,
+            Repertoire::Bmp => 2,
+            Repertoire::Unicode => 3,
+        },
+        status,
+        error_len,
+    }
+}
