@@ -1,10 +1,13 @@
-"""Times bindings/python next to CPython's codecs, and prints two tables.
+"""Times bindings/python next to CPython, and prints three tables in Markdown.
 
-    python3 bench/python.py
+    python3 bench/python.py [FAST]
 
-The first is of UTF-16 to UTF-8 and of validation, for which CPython needs a str between; the second
-is of the codecs, to and from a str. The package must be installed. All calls run in turn, in
-rounds, and the best time of each counts. A ratio above 1 means that the package is faster.
+The package must be installed. The first table is of UTF-16 to and from str: by CPython's codec, by
+the codec of this package, and by its functions `decode` and `encode`. The second is of UTF-16 to
+and from UTF-8, for which CPython needs a str between, and of validation. The third is of ill-formed
+UTF-16 to UTF-8 with each error handler. All calls of a row run in turn, in rounds, and the best time
+of each counts. A ratio is CPython's time by that of the package: above 1 the package is faster.
+FAST is a number of rounds instead of 25.
 """
 
 import sys
@@ -15,88 +18,143 @@ import dethrux
 TEXTS = {
     "ASCII": "the quick brown fox jumps over the lazy dog ",
     "Latin": "größe über straße naïve façade ",
+    "Cyrillic": "съешь же ещё этих мягких французских булок ",
     "CJK": "漢字文字列変換速度測定計算機科学言語処理",
     "emoji": "😀😁😂😃😄😅😆😇😈😉",
 }
-SIZES = {"20 bytes": (20, 5000), "1 MiB": (1 << 20, 2)}
-CODECS = ("utf-16-le", "utf-16-be")
-ROUNDS = 15
+# How many bytes of UTF-16, or how many characters, and how many calls of each there are in a round.
+SIZES = {"10 chars": 2000, "100 chars": 2000, "1 MiB": 2}
+ORDERS = {"little": "utf-16-le", "big": "utf-16-be"}
+HANDLERS = ("replace", "ignore", "backslashreplace", "surrogatepass")
+ROUNDS = int(sys.argv[1]) if len(sys.argv) > 1 else 25
 
 
 def text_of(sample, size):
-    """Return a text that has this many bytes in UTF-16."""
-    raw = sample.encode("utf-16-le")
-    return (raw * (size // len(raw) + 1))[:size].decode("utf-16-le")
+    """Return a text of a size."""
+    chars = len(sample)
+    if size == "1 MiB":
+        return sample * ((1 << 20) // len(sample.encode("utf-16-le")))
+    count = int(size.split()[0])
+    return (sample * (count // chars + 1))[:count]
 
 
-def best(calls, number):
-    """Return the least time of each call, in microseconds."""
-    times = [[timeit.timeit(call, number=number) for call in calls] for _ in range(ROUNDS)]
-    return [min(each) / number * 1e6 for each in zip(*times)]
+def best(calls, names, number):
+    """Return the least time of each call of these names, in nanoseconds."""
+    timers = [timeit.Timer(call, globals={"dethrux": dethrux, **names}) for call in calls]
+    times = [[timer.timeit(number) for timer in timers] for _ in range(ROUNDS)]
+    return [min(each) / number * 1e9 for each in zip(*times)]
 
 
-def bytes_row(text, number):
-    """Return the times to UTF-8, from UTF-8 and of validation, each by CPython and here."""
-    raw, utf8 = text.encode("utf-16-le"), text.encode()
-    assert dethrux.to_utf8(raw, "little").output == utf8
-    assert dethrux.from_utf8(utf8, "little").output == raw
-    return best(
-        [
-            lambda: raw.decode("utf-16-le").encode(),
-            lambda: dethrux.to_utf8(raw, "little"),
-            lambda: utf8.decode().encode("utf-16-le"),
-            lambda: dethrux.from_utf8(utf8, "little"),
-            lambda: raw.decode("utf-16-le"),
-            lambda: dethrux.validate(raw, "little"),
-        ],
-        number,
-    )
+def shown(time):
+    """Return a time in microseconds."""
+    return f"{time / 1000:.3g}"
 
 
-def codec_row(text, codec, number):
-    """Return the times of both decoders and both encoders."""
-    raw = text.encode(codec)
-    mine = f"dethrux-{codec}"
-    assert raw.decode(mine) == text and text.encode(mine) == raw
-    return best(
-        [
-            lambda: raw.decode(codec),
-            lambda: raw.decode(mine),
-            lambda: text.encode(codec),
-            lambda: text.encode(mine),
-        ],
-        number,
-    )
+def ratios(times, columns):
+    """Return the first time and the ratios to the others, for each group of times."""
+    groups = [times[at : at + columns] for at in range(0, len(times), columns)]
+    return [cell for group in groups for cell in (shown(group[0]), *(
+        f"{group[0] / time:.2f}" for time in group[1:]
+    ))]
 
 
-def cells(times):
-    """Return a cell for each time, and one for the ratio of each pair."""
-    pairs = zip(times[::2], times[1::2])
-    return " | ".join(f"{theirs:.3g} | {mine:.3g} | {theirs / mine:.2f}" for theirs, mine in pairs)
-
-
-def table(columns, rows):
-    names = " | ".join(f"{it}: CPython | here | ratio" for it in columns)
-    print(f"| Text | Size | {names} |")
-    print("|---|---|" + "---:|" * (3 * len(columns)))
-    for name, sample in TEXTS.items():
-        for size, (length, number) in SIZES.items():
-            for what, times in rows(text_of(sample, length), number):
-                print(f"| {name} | {size}{what} | {cells(times)} |")
+def table(heads, rows):
+    """Print a table."""
+    print("| " + " | ".join(heads) + " |")
+    print("|" + "---|" * 3 + "---:|" * (len(heads) - 3))
+    for row in rows:
+        print("| " + " | ".join(row) + " |", flush=True)
     print()
+
+
+def each_text():
+    for name, sample in TEXTS.items():
+        for size, number in SIZES.items():
+            yield name, size, text_of(sample, size), number
+
+
+def to_and_from_str():
+    for name, size, text, number in each_text():
+        for order, codec in ORDERS.items():
+            raw, mine = text.encode(codec), f"dethrux-{codec}"
+            assert raw.decode(mine) == dethrux.decode(raw, order) == text
+            assert text.encode(mine) == dethrux.encode(text, order) == raw
+            calls = [
+                "raw.decode(codec)",
+                "raw.decode(mine)",
+                "dethrux.decode(raw, order)",
+                "text.encode(codec)",
+                "text.encode(mine)",
+                "dethrux.encode(text, order)",
+            ]
+            yield name, size, order, *ratios(best(calls, locals(), number), 3)
+    # CPython decodes "utf-16" without a search for the codec.
+    for name, size, text, number in each_text():
+        raw, mine = text.encode("utf-16"), "dethrux-utf-16"
+        assert raw.decode(mine) == text and text.encode(mine) == raw
+        calls = [
+            'raw.decode("utf-16")',
+            "raw.decode(mine)",
+            'text.encode("utf-16")',
+            "text.encode(mine)",
+        ]
+        found = ratios(best(calls, locals(), number), 2)
+        yield name, size, "BOM", *found[:2], "", *found[2:], ""
+
+
+def to_and_from_utf8():
+    for name, size, text, number in each_text():
+        utf8 = text.encode()
+        for order, codec in ORDERS.items():
+            raw = text.encode(codec)
+            assert dethrux.decode_to_utf8(raw, order) == utf8
+            assert dethrux.encode_from_utf8(utf8, order) == raw
+            calls = [
+                "raw.decode(codec).encode()",
+                "dethrux.decode_to_utf8(raw, order)",
+                "utf8.decode().encode(codec)",
+                "dethrux.encode_from_utf8(utf8, order)",
+                "raw.decode(codec)",
+                "dethrux.validate(raw, order)",
+            ]
+            yield name, size, order, *ratios(best(calls, locals(), number), 2)
+
+
+def ill_formed():
+    codec = "utf-16-le"
+    for name, size, text, number in each_text():
+        raw = text.encode(codec)
+        middle = len(text) // 2
+        wrong = (text[:middle] + "\udc00" + text[middle:]).encode(codec, "surrogatepass")
+        for errors in HANDLERS:
+            expected = wrong.decode(codec, errors).encode("utf-8", errors)
+            assert dethrux.decode_to_utf8(wrong, "little", errors) == expected
+            calls = [
+                'wrong.decode(codec, errors).encode("utf-8", errors)',
+                'dethrux.decode_to_utf8(wrong, "little", errors)',
+                "wrong.decode(codec, errors)",
+                'dethrux.decode(wrong, "little", errors)',
+            ]
+            yield name, size, errors, *ratios(best(calls, locals(), max(number // 10, 2)), 2)
 
 
 def main():
     version = ".".join(map(str, sys.version_info[:3]))
-    print(f"CPython {version}, dethrux {dethrux.__version__}; microseconds a call, little endian\n")
-    table(
-        ("to UTF-8", "from UTF-8", "validate"),
-        lambda text, number: [("", bytes_row(text, number))],
-    )
-    table(
-        ("decode to str", "encode from str"),
-        lambda text, number: [(f", {it}", codec_row(text, it, number)) for it in CODECS],
-    )
+    implementation = getattr(dethrux, "implementation", "ctypes")
+    print(f"CPython {version}, dethrux {dethrux.__version__} ({implementation}).", end=" ")
+    print("CPython's times in µs, then how many times as fast the package is.\n")
+    ways = [
+        f"{way}: {each}"
+        for way in ("decode", "encode")
+        for each in ("CPython", "codec", "function")
+    ]
+    table(["Text", "Size", "Order", *ways], to_and_from_str())
+    ways = [f"{way}: {each}" for way in ("to UTF-8", "from UTF-8", "validate") for each in (
+        "CPython", "function"
+    )]
+    table(["Text", "Size", "Order", *ways], to_and_from_utf8())
+    ways = [f"{way}: {each}" for way in ("to UTF-8", "to str") for each in ("CPython", "function")]
+    table(["Text", "Size", "Handler", *ways], ill_formed())
 
 
 main()

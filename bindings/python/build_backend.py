@@ -4,6 +4,10 @@ This needs only Python and a C compiler. The wheel has the shared library: the f
 DETHRUX_LIBRARY names, those of the release archive around this folder, or what the C compiler makes
 of the assembly in dist/. If there is none of these, the wheel has no library, and the package takes
 the installed one.
+
+The wheel also has the extension in C for the Python that runs this. If there is no compiler for
+this machine, or no Python.h, the wheel is for every Python, and has no extension. The setting
+extension=no of the frontend also makes such a wheel.
 """
 
 import base64
@@ -14,6 +18,8 @@ import os
 import re
 import shlex
 import subprocess
+import sys
+import sysconfig
 import tarfile
 import tempfile
 import zipfile
@@ -44,6 +50,10 @@ LINK = (
     f"-Wl,-soname,{SONAME}",
     "-Wl,-z,defs",
 )
+# The sources of the extension: the first is compiled, and includes the others.
+EXTENSION = ("_native.c", "_native.h", "_native_text.h")
+# As LINK, without what cannot be for an extension: Python has the symbols that it lacks.
+COMPILE = ("-std=c11", "-O2", "-g0", "-DNDEBUG", "-fPIC", *LINK[:4])
 # The newest glibc that a wheel for every Linux may need. Older ones do not test whether the
 # processor can run a library.
 GLIBC = (2, 34)
@@ -100,6 +110,36 @@ def compiled():
     return found
 
 
+def extension():
+    """Return the extension for this Python, by its name in the package, or an empty dictionary."""
+    header, include = TOP / "include" / "dethrux.h", sysconfig.get_path("include")
+    if sys.implementation.name != "cpython":
+        return without_extension("it is for CPython")
+    for path in (header, Path(include, "Python.h")):
+        if not path.is_file():
+            return without_extension(f"there is no {path}")
+    words = [*COMPILE, f"-I{header.parent}", f"-I{include}"]
+    words += [f"-I{sysconfig.get_path('platinclude')}", str(SOURCES / "dethrux" / EXTENSION[0])]
+    compiler = shlex.split(os.environ.get("CC") or "cc")
+    name = f"_native{sysconfig.get_config_var('EXT_SUFFIX')}"
+    with tempfile.TemporaryDirectory() as room:
+        out = Path(room) / name
+        try:
+            call(compiler, *words, "-o", str(out))
+        except SystemExit as error:
+            return without_extension(error)
+        found = {name: out.read_bytes()}
+    if machine_of(found[name]) != os.uname().machine:
+        return without_extension(f"{shlex.join(compiler)} is for another machine")
+    return found
+
+
+def without_extension(reason):
+    """Say why there is no extension, and return an empty dictionary."""
+    print(f"the wheel has no extension in C: {reason}", file=sys.stderr)
+    return {}
+
+
 def padding(compiler):
     """Return the option of a compiler that moves branches which cross or end a block of 32 bytes.
 
@@ -148,16 +188,25 @@ def metadata():
     )
 
 
-def tag(found):
-    """Return the tag of a wheel with these libraries."""
-    if not found:
-        return "py3-none-any"
-    library = found[SONAME]
-    machine = MACHINES.get(int.from_bytes(library[18:20], "little"))
-    if library[:4] != b"\x7fELF" or not machine:
+def tag(found, native):
+    """Return the tag of a wheel with these libraries and this extension."""
+    python = "py3-none"
+    if native:
+        python = "cp{0}{1}-cp{0}{1}{2}".format(*sys.version_info[:2], sys.abiflags)
+    binaries = [*found.values(), *native.values()]
+    if not binaries:
+        return f"{python}-any"
+    machines = {machine_of(binary) for binary in binaries}
+    if len(machines) > 1 or not machines <= set(MACHINES.values()):
         raise SystemExit("the library is not for Linux on x86-64 or ARM64: set DETHRUX_LIBRARY")
-    linux = "manylinux_{}_{}".format(*GLIBC) if all(map(is_portable, found.values())) else "linux"
-    return f"py3-none-{linux}_{machine}"
+    linux = "manylinux_{}_{}".format(*GLIBC) if all(map(is_portable, binaries)) else "linux"
+    return f"{python}-{linux}_{machines.pop()}"
+
+
+def machine_of(binary):
+    """Return the machine of a shared library, or None."""
+    is_library = binary[:4] == b"\x7fELF"
+    return MACHINES.get(int.from_bytes(binary[18:20], "little")) if is_library else None
 
 
 def is_portable(library):
@@ -172,8 +221,11 @@ def is_old(version):
     return found is not None and int(found[1]) <= GLIBC[1]
 
 
-def write_wheel(folder, found, files):
-    """Write a wheel of these files, with what its format requires, and return its name."""
+def write_wheel(folder, marks, is_pure, files):
+    """Write a wheel with this tag of these files, with what its format requires.
+
+    Return its name.
+    """
     info = f"dethrux-{version()}.dist-info"
     files = {
         **files,
@@ -182,13 +234,13 @@ def write_wheel(folder, found, files):
         f"{info}/WHEEL": (
             "Wheel-Version: 1.0\n"
             "Generator: dethrux\n"
-            f"Root-Is-Purelib: {str(not found).lower()}\n"
-            f"Tag: {tag(found)}\n"
+            f"Root-Is-Purelib: {str(is_pure).lower()}\n"
+            f"Tag: {marks}\n"
         ).encode(),
     }
     record = "".join(f"{name},{digest(data)},{len(data)}\n" for name, data in files.items())
     files[f"{info}/RECORD"] = f"{record}{info}/RECORD,,\n".encode()
-    name = f"dethrux-{version()}-{tag(found)}.whl"
+    name = f"dethrux-{version()}-{marks}.whl"
     with zipfile.ZipFile(Path(folder) / name, "w", zipfile.ZIP_DEFLATED) as wheel:
         for path, data in files.items():
             entry = zipfile.ZipInfo(path, TIME)
@@ -221,22 +273,28 @@ get_requires_for_build_sdist = get_requires_for_build_editable = get_requires_fo
 def build_wheel(wheel_directory, config_settings=None, metadata_directory=None):
     """Write the wheel and return its name."""
     found = libraries()
+    native = {} if (config_settings or {}).get("extension") == "no" else extension()
+    if {*map(machine_of, found.values())} - {*map(machine_of, native.values())}:
+        # DETHRUX_LIBRARY is for another machine.
+        native = {}
     files = {f"dethrux/{path.name}": path.read_bytes() for path in modules()}
-    files.update({f"dethrux/{name}": library for name, library in found.items()})
-    return write_wheel(wheel_directory, found, files)
+    files.update({f"dethrux/{name}": data for name, data in {**found, **native}.items()})
+    return write_wheel(wheel_directory, tag(found, native), not found and not native, files)
 
 
 def build_editable(wheel_directory, config_settings=None, metadata_directory=None):
-    """Write a wheel that names this folder; the library is not in it."""
-    return write_wheel(wheel_directory, {}, {"dethrux.pth": f"{SOURCES}\n".encode()})
+    """Write a wheel that names this folder; neither library nor extension is in it."""
+    path = {"dethrux.pth": f"{SOURCES}\n".encode()}
+    return write_wheel(wheel_directory, tag({}, {}), True, path)
 
 
 def build_sdist(sdist_directory, config_settings=None):
     """Write the source distribution and return its name."""
     base = f"dethrux-{version()}"
     own = [HERE / it for it in ("pyproject.toml", "build_backend.py", "README.md")]
+    own += [SOURCES / "dethrux" / name for name in EXTENSION]
     files = {path.relative_to(HERE): path.read_bytes() for path in own + modules()}
-    files.update({path.relative_to(TOP): path.read_bytes() for path in licences() + assembly()})
+    files.update({path.relative_to(TOP): path.read_bytes() for path in licences() + made_of()})
     files["PKG-INFO"] = metadata().encode()
     with open(Path(sdist_directory) / f"{base}.tar.gz", "wb") as out, gzip.GzipFile(
         filename="", mode="wb", fileobj=out, mtime=0
@@ -248,7 +306,8 @@ def build_sdist(sdist_directory, config_settings=None):
     return f"{base}.tar.gz"
 
 
-def assembly():
-    """Return the files of dist/ that a library is made of, if it is there."""
+def made_of():
+    """Return the files around this folder that the library and the extension are made of."""
     sources = [f"src/{name}" for found in ASSEMBLY.values() for name in found.values()]
-    return [DIST / name for name in ("dethrux.map", *sources) if DIST.is_dir()]
+    found = [DIST / name for name in ("dethrux.map", *sources) if DIST.is_dir()]
+    return found + [path for path in [TOP / "include" / "dethrux.h"] if path.is_file()]

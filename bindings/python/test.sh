@@ -1,10 +1,11 @@
 #!/usr/bin/env bash
 # Installs the package with pip in an empty virtual environment, without network and without rt.
 # There it runs the first program of docs/PYTHON.md, the unit tests, CPython's tests of UTF-16 with
-# these codecs, and the tables of cases. It installs the wheel and the source distribution that
-# packaging/wheels.sh makes. mypy checks the types, if it is installed. The last line is
-# 'N passed, M failed'. PYTHON names another Python. DETHRUX_LIBRARY names the shared library for
-# the package; without it cc makes one of the assembly in dist/.
+# these codecs, and the tables of cases: with the extension in C, and over ctypes. It installs the
+# wheels and the source distribution that packaging/wheels.sh makes. mypy checks the types, if it is
+# installed. The last line is 'N passed, M failed'. PYTHON names another Python, which has its
+# headers. DETHRUX_LIBRARY names the shared library for the package; without it cc makes one of the
+# assembly in dist/. DETHRUX_CALLS is how many calls may not take memory (200000).
 set -uo pipefail
 here=$(cd "$(dirname "${BASH_SOURCE[0]}")" && pwd)
 top=$(cd "$here/../.." && pwd)
@@ -40,6 +41,15 @@ finish() {
 has() {
     command -v "$1" && return
     echo "there is no $1: install $2"
+    return 1
+}
+
+# Whether the extension can be compiled for this Python.
+has_headers() {
+    local include
+    include=$("$python" -c 'import sysconfig; print(sysconfig.get_path("include"))')
+    [ -f "$include/Python.h" ] && return
+    echo "there is no $include/Python.h: install python3-dev"
     return 1
 }
 
@@ -125,10 +135,13 @@ leaves_out_wheels() {
 printf '\177ELF%14s\076\0' '' > "${@: -1}"
 END
     chmod +x "$bin/cc"
-    local wheel=dethrux-$(< "$top/VERSION")-py3-none-linux_x86_64.whl
+    local left=$room/left/dethrux-$(< "$top/VERSION") own
+    own=$("$python" -c 'import sys; print("cp{0}{1}-cp{0}{1}{2}".format(
+        *sys.version_info[:2], sys.abiflags))')
     ! PATH=$bin "$top/packaging/wheels.sh" "$room/left" > "$room/paths" 2> "$room/lines" &&
         diff - "$room/lines" << END && diff <(echo "$room/left"/*.tar.gz) "$room/paths"
-wheels.sh: $room/left/$wheel needs a newer glibc than 2.34: use an older cc
+wheels.sh: $left-py3-none-linux_x86_64.whl needs a newer glibc than 2.34: use an older cc
+wheels.sh: $left-$own-linux_x86_64.whl needs a newer glibc than 2.34: use an older cc
 wheels.sh: there is no aarch64-linux-gnu-gcc, so there is no wheel for aarch64
 END
 }
@@ -136,10 +149,11 @@ END
 # Whether the libraries of all wheels need no newer glibc than the wheels' names say.
 needs_old_glibc() {
     local wheel library newest
-    for wheel in "$room"/wheels-022/*.whl; do
+    for wheel in "$room"/wheels-022/*-py3-*.whl; do
         "$python" -m zipfile -e "$wheel" "$room/${wheel##*_2_34_}"
     done
-    for library in "$room"/*.whl/dethrux/*.so.*; do
+    "$python" -m zipfile -e "$room"/wheels-022/*-cp*.whl "$room/native.whl"
+    for library in "$room"/*.whl/dethrux/*.so*; do
         newest=$(readelf --version-info "$library" | grep -o 'GLIBC_[0-9A-Z_.]*' |
             sort -V | tail -n 1)
         echo "$library: $newest"
@@ -166,9 +180,28 @@ calls_other_library() {
         diff - "$room/found" <<< '2000 Grüße😀'
 }
 
+# Whether the extension compiles without a warning, with every compiler that is installed.
+compile_strictly() {
+    local compiler include
+    include=$("$python" -c 'import sysconfig; print(sysconfig.get_path("include"))')
+    for compiler in gcc clang; do
+        ! command -v $compiler || $compiler -std=c11 -O2 -Wall -Wextra -Wshadow -Wconversion \
+            -Werror -fPIC -c -I"$top/include" -isystem "$include" -o "$room/native.o" \
+            "$here/src/dethrux/_native.c" || return
+    done
+}
+
+# Whether the functions of an installed folder are those of this implementation.
+has_implementation() {
+    PYTHONPATH=$room/$1 "$room/venv/bin/python" -c '
+import sys, dethrux
+sys.exit(dethrux.implementation != sys.argv[1])' "$2"
+}
+
 # What packaging/wheels.sh makes.
 test_wheels() {
-    local machine other=aarch64 best=libdethrux.so.0.2
+    local machine other=aarch64 best=libdethrux.so.0.2 version
+    version=$("$python" -c 'import sys; print("cp%d%d" % sys.version_info[:2])')
     machine=$(uname -m)
     [ "$machine" = x86_64 ] || other=x86_64
     ! grep -q -w avx2 /proc/cpuinfo || best=libdethrux-x86-64-v3.so.0.2
@@ -176,11 +209,17 @@ test_wheels() {
     count 'wheels that cannot be made' leaves_out_wheels
     count 'the glibc of the wheels' needs_old_glibc
     count 'pip install of the wheel' \
-        install_with_pip --target "$room/wheel" "$room"/wheels-022/*_"$machine".whl
+        install_with_pip --target "$room/wheel" "$room"/wheels-022/*-"$version"-*_"$machine".whl
     count 'the library of the wheel' takes_library wheel $best
+    count 'the extension of the wheel' has_implementation wheel c
+    count 'pip install of the wheel for every Python' \
+        install_with_pip --target "$room/pure" "$room"/wheels-022/*-py3-*_"$machine".whl
+    count 'the library of the wheel for every Python' takes_library pure $best
+    count 'no extension in the wheel for every Python' has_implementation pure ctypes
     count 'pip install of the sources' \
         install_with_pip --target "$room/sources" "$room"/wheels-022/*.tar.gz
     count 'the library of the sources' takes_library sources $best
+    count 'the extension of the sources' has_implementation sources c
     if [ "$machine" = x86_64 ] && command -v qemu-x86_64 > /dev/null; then
         count 'the wheel without AVX2' \
             takes_library wheel libdethrux.so.0.2 qemu-x86_64 -cpu Nehalem
@@ -197,15 +236,23 @@ test_wheels() {
 python=${PYTHON:-python3}
 count 'Python' has "$python" python3 || finish
 count 'a C compiler for the tests' has cc gcc || finish
+count 'the headers of Python' has_headers || finish
 count 'a virtual environment' make_environment || finish
 count 'pip install' install_with_pip "$here" || finish
 unset DETHRUX_LIBRARY
 count 'the first program' first_program
 count 'the page has the first program' page_has_program
-for module in test_calls test_codecs test_package test_build test_cpython; do
-    unit_tests $module
+for DETHRUX_IMPLEMENTATION in c ctypes; do
+    export DETHRUX_IMPLEMENTATION
+    for module in test_calls test_codecs test_package test_cpython; do
+        unit_tests $module
+    done
+    count "the tables of cases, $DETHRUX_IMPLEMENTATION" cases
 done
-count 'the tables of cases' cases
+unset DETHRUX_IMPLEMENTATION
+unit_tests test_native
+unit_tests test_build
+count 'the warnings of the C compiler' compile_strictly
 test_wheels
 check_types
 finish

@@ -9,8 +9,8 @@ path = Path(sys.argv[1])
 raw = path.read_bytes()
 
 # The BOM tells the byte order. Without one, Windows means little endian.
-bom = dethrux.detect_bom(raw)
-codec, order = ("dethrux-utf-16", bom.byteorder) if bom.len else ("dethrux-utf-16-le", "little")
+bom = dethrux.detect_bom(raw, "little")
+order, codec = bom.byteorder, "dethrux-utf-16" if bom.len else "dethrux-utf-16-le"
 
 # A codec takes Python's error handlers.
 try:

@@ -186,8 +186,10 @@ WRITABLE += (lambda raw: (ctypes.c_ubyte * len(raw)).from_buffer_copy(raw),)
 CONSTANT = (bytes, Bytes, memoryview, inside_bytes, mapped, lambda raw: memoryview(mapped(raw)))
 CONSTANT += (lambda raw: memoryview(raw).cast("B", [len(raw), 1]) if raw else b"",)
 CONSTANT += (lambda raw: memoryview(raw) if len(raw) % 2 else memoryview(raw).cast("H"),)
-# Buffers that are copied.
-COPIED = (*WRITABLE, spread, lambda raw: memoryview(raw[::-1])[::-1])
+# Buffers that are not in one piece.
+IN_PIECES = (spread, lambda raw: memoryview(raw[::-1])[::-1])
+# Buffers that the functions in Python copy.
+COPIED = (*WRITABLE, *IN_PIECES)
 COPIED += (lambda raw: memoryview(bytearray(raw)).toreadonly(),)
 COPIED += (lambda raw: memoryview(mapped_memory(raw)).toreadonly(), without_object)
 if sys.version_info >= (3, 12):

@@ -1,12 +1,16 @@
 """What the build backend writes: wheels with the library and without it, and the sources."""
 
 import base64
+import contextlib
 import csv
 import hashlib
 import importlib.util
+import io
 import os
 import shutil
 import subprocess
+import sys
+import sysconfig
 import tarfile
 import tempfile
 import unittest
@@ -26,6 +30,10 @@ MODULES = {
     for path in (PYTHON / "src" / "dethrux").iterdir()
     if path.suffix in (".py", ".typed")
 }
+# The extension of this Python, and the tag of a wheel that has it.
+EXTENSION = f"_native{sysconfig.get_config_var('EXT_SUFFIX')}"
+VERSION_TAG = "cp{}{}".format(*sys.version_info[:2])
+PYTHON_TAG = f"{VERSION_TAG}-{VERSION_TAG}{sys.abiflags}"
 # The number of a machine in the header of an ELF file.
 X86_64, ARM64, I386 = 62, 183, 3
 
@@ -54,6 +62,11 @@ class Backend(unittest.TestCase):
         # rt is not in these folders.
         os.environ["PATH"] = "/usr/bin:/bin"
         self.backend = self.load(self.here)
+        # Why a wheel has no extension.
+        self.said = io.StringIO()
+        redirected = contextlib.redirect_stderr(self.said)
+        redirected.__enter__()
+        self.addCleanup(redirected.__exit__, None, None, None)
 
     @staticmethod
     def load(folder):
@@ -92,10 +105,12 @@ class Backend(unittest.TestCase):
         digest = base64.urlsafe_b64encode(hashlib.sha256(data).digest()).decode()
         return "sha256=" + digest.rstrip("=")
 
-    def assert_wheel(self, build, platform, expected):
-        """Test the name, the metadata and the other files of a wheel."""
+    def assert_wheel(self, build, platform, expected, python="py3-none"):
+        """Test the name, the metadata and the other files of a wheel, without the extension."""
         name, files = self.wheel(build)
-        tag = f"py3-none-{platform}"
+        tag = f"{python}-{platform}"
+        self.native = files.pop(f"dethrux/{EXTENSION}", None)
+        self.assertEqual(self.native is not None, python != "py3-none")
         self.assertEqual(name, f"dethrux-{VERSION}-{tag}.whl")
         metadata = files.pop(f"dethrux-{VERSION}.dist-info/METADATA").decode().splitlines()
         self.assertEqual(metadata[0], "Metadata-Version: 2.1")
@@ -108,11 +123,11 @@ class Backend(unittest.TestCase):
         self.assertEqual(wheel[2:], [f"Root-Is-Purelib: {is_pure}", f"Tag: {tag}"])
         self.assertEqual(files, expected)
 
-    def assert_libraries(self, libraries, platform="manylinux_2_34_x86_64"):
+    def assert_libraries(self, libraries, platform="manylinux_2_34_x86_64", **python):
         """Test that a wheel has these libraries and this tag."""
         files = {**MODULES, **libraries}
         files = {f"dethrux/{name}": data for name, data in files.items()}
-        self.assert_wheel("build_wheel", platform if libraries else "any", files)
+        self.assert_wheel("build_wheel", platform if libraries else "any", files, **python)
 
     def assert_refused(self, message):
         """Test that no wheel is made, and that a line says why."""
@@ -124,6 +139,10 @@ class Backend(unittest.TestCase):
     def put_assembly(self):
         """Put dist/ of the clone at the top."""
         self.top.joinpath("dist").symlink_to(TOP / "dist")
+
+    def put_header(self):
+        """Put include/ of the clone at the top: the extension can be compiled."""
+        self.top.joinpath("include").symlink_to(TOP / "include")
 
     def put_compiler(self, target):
         """Make CC a compiler for another machine, whose libraries are the words that it takes."""
@@ -181,7 +200,7 @@ class Backend(unittest.TestCase):
                 self.assertIn(f"-Wl,-z,defs -Xlinker {words}".encode(), found[name])
             # Its libraries do not need glibc.
             tag = f"py3-none-linux_{target.split('-', 1)[0]}"
-            self.assertEqual(self.backend.tag(found), tag)
+            self.assertEqual(self.backend.tag(found, {}), tag)
 
     def test_no_library_can_be_made(self):
         os.environ["DETHRUX_LIBRARY"] = "/nowhere.so"
@@ -211,14 +230,94 @@ class Backend(unittest.TestCase):
         ):
             found = {SONAME: library(b"", machine, needs)}
             machine = {X86_64: "x86_64", ARM64: "aarch64"}[machine]
-            self.assertEqual(self.backend.tag(found), f"py3-none-{expected}{machine}")
-        found = {SONAME: library(b""), FAST: library(b"", needs=())}
-        self.assertEqual(self.backend.tag(found), "py3-none-linux_x86_64")
+            self.assertEqual(self.backend.tag(found, {}), f"py3-none-{expected}{machine}")
+            python = f"{PYTHON_TAG}-{expected}{machine}"
+            self.assertEqual(self.backend.tag({}, found), python)
+            self.assertEqual(self.backend.tag(found, found), python)
+        for needs in ((), (b"libc.so.6", b"GLIBC_2.35")):
+            found = {SONAME: library(b""), FAST: library(b"", needs=needs)}
+            self.assertEqual(self.backend.tag(found, {}), "py3-none-linux_x86_64")
+            native = {EXTENSION: found.pop(FAST)}
+            self.assertEqual(self.backend.tag(found, native), f"{PYTHON_TAG}-linux_x86_64")
         for data in (b"", b"MZ".ljust(18, b"\0") + b"\x3e\0", library(b"", I386)):
             os.environ["DETHRUX_LIBRARY"] = str(self.put("other", data))
             self.assert_refused(
                 "the library is not for Linux on x86-64 or ARM64: set DETHRUX_LIBRARY"
             )
+
+    def put_named_library(self, machine=None):
+        """Make DETHRUX_LIBRARY a library of this machine, or of another one."""
+        machine = machine or {"x86_64": X86_64, "aarch64": ARM64}[os.uname().machine]
+        named = library(b"named", machine)
+        os.environ["DETHRUX_LIBRARY"] = str(self.put("other", named))
+        return {SONAME: named}
+
+    def test_with_the_extension(self):
+        self.put_header()
+        libraries = self.put_named_library()
+        platform = f"manylinux_2_34_{os.uname().machine}"
+        self.assert_libraries(libraries, platform, python=PYTHON_TAG)
+        self.assertEqual(self.said.getvalue(), "")
+        path = self.put(EXTENSION, self.native)
+        names = ("PyInit__native", "dlsym")
+        symbols = subprocess.run(["nm", "-D", path], stdout=subprocess.PIPE, text=True, check=True)
+        for name in names:
+            self.assertRegex(symbols.stdout, rf"\b{name}\b")
+        for way in (bytes(TOP), bytes(self.top)):
+            self.assertFalse(way in self.native)
+        # The same bytes again.
+        first = self.native
+        self.assert_libraries(libraries, platform, python=PYTHON_TAG)
+        self.assertTrue(self.native == first)
+
+    def test_the_extension_without_a_library(self):
+        self.put_header()
+        files = {f"dethrux/{name}": data for name, data in MODULES.items()}
+        platform = f"manylinux_2_34_{os.uname().machine}"
+        self.assert_wheel("build_wheel", platform, files, python=PYTHON_TAG)
+
+    def test_the_extension_is_not_wanted(self):
+        self.put_header()
+        libraries = self.put_named_library()
+        name = self.backend.build_wheel(str(self.out), {"extension": "no"})
+        self.assertEqual(name.split("-")[2], "py3")
+        with zipfile.ZipFile(self.out / name) as wheel:
+            self.assertNotIn(f"dethrux/{EXTENSION}", wheel.namelist())
+            self.assertEqual(wheel.read(f"dethrux/{SONAME}"), libraries[SONAME])
+        name = self.backend.build_wheel(str(self.out), {"other": "no"})
+        self.assertEqual(name.split("-")[2], VERSION_TAG)
+        self.assertEqual(self.said.getvalue(), "")
+
+    def assert_no_extension(self, reason):
+        """Test that the wheel has a library and no extension, and what says why."""
+        platform = f"manylinux_2_34_{os.uname().machine}"
+        self.assert_libraries(self.put_named_library(), platform)
+        self.assertEqual(self.said.getvalue(), f"the wheel has no extension in C: {reason}\n")
+        self.said.truncate(self.said.seek(0))
+
+    def test_no_extension_can_be_made(self):
+        self.assert_no_extension(f"there is no {self.backend.TOP}/include/dethrux.h")
+        self.put_header()
+        with mock.patch.object(sysconfig, "get_path", return_value="/nowhere"):
+            self.assert_no_extension("there is no /nowhere/Python.h")
+        with mock.patch.object(self.backend.sys, "implementation", mock.Mock()):
+            self.backend.sys.implementation.name = "pypy"
+            self.assert_no_extension("it is for CPython")
+        with mock.patch.dict(os.environ, {"PATH": str(self.out)}):
+            self.assert_no_extension("there is no C compiler cc: install gcc or clang, or set CC")
+        os.environ["CC"] = "false --quiet"
+        self.assert_no_extension(
+            "false --quiet failed: set CC to a gcc or clang of this machine"
+        )
+        other = "aarch64" if os.uname().machine == "x86_64" else "x86_64"
+        self.put_compiler(f"{other}-linux-gnu")
+        self.assert_no_extension(f"{os.environ['CC']} is for another machine")
+
+    def test_a_library_of_another_machine(self):
+        self.put_header()
+        other = ARM64 if os.uname().machine == "x86_64" else X86_64
+        machine = {X86_64: "x86_64", ARM64: "aarch64"}[other]
+        self.assert_libraries(self.put_named_library(other), f"manylinux_2_34_{machine}")
 
     def test_the_same_tree_gives_the_same_bytes(self):
         name = self.backend.build_wheel(str(self.out))
@@ -251,7 +350,8 @@ class Backend(unittest.TestCase):
     def test_sdist(self):
         base = f"dethrux-{VERSION}"
         expected = {f"{base}/src/dethrux/{each}": data for each, data in MODULES.items()}
-        for each in ("pyproject.toml", "build_backend.py", "README.md"):
+        sources = [f"src/dethrux/_native{end}" for end in (".c", ".h", "_text.h")]
+        for each in ("pyproject.toml", "build_backend.py", "README.md", *sources):
             expected[f"{base}/{each}"] = (PYTHON / each).read_bytes()
         expected[f"{base}/PKG-INFO"] = self.backend.metadata().encode()
         self.assertEqual(self.sdist(), expected)
@@ -260,6 +360,10 @@ class Backend(unittest.TestCase):
         self.assertEqual(len(sources), 3)
         for each in ("dist/dethrux.map", *sources):
             expected[f"{base}/{each}"] = (TOP / each).read_bytes()
+        self.assertEqual(self.sdist(), expected)
+        self.put_header()
+        each = "include/dethrux.h"
+        expected[f"{base}/{each}"] = (TOP / each).read_bytes()
         self.assertEqual(self.sdist(), expected)
 
     def sdist(self):
@@ -277,19 +381,24 @@ class Backend(unittest.TestCase):
     def test_the_wheel_of_the_sources(self):
         """An unpacked sdist makes the same wheel and sdist, and takes nothing from around it."""
         self.put_assembly()
+        self.put_header()
         self.put("LICENSE-MIT", b"licence")
         names = self.backend.build_sdist(str(self.out)), self.backend.build_wheel(str(self.out))
         place = self.out.parent / "other" / "place"
         with tarfile.open(self.out / names[0]) as archive:
             archive.extractall(place)
-        self.top.joinpath("dist").unlink()
+        for name in ("dist", "include"):
+            self.top.joinpath(name).unlink()
         (place.parent / "lib").mkdir()
         (place.parent / "lib" / SONAME).write_bytes(library(b"of another program"))
         (place.parent / "LICENSE-APACHE").write_bytes(b"of another program")
+        (place.parent / "include").mkdir()
+        (place.parent / "include" / "dethrux.h").write_bytes(b"of another program")
         backend = self.load(place / f"dethrux-{VERSION}")
         for name, build in zip(names, (backend.build_sdist, backend.build_wheel)):
             self.assertEqual(build(str(place)), name)
-            self.assertEqual((place / name).read_bytes(), (self.out / name).read_bytes())
+            is_same = (place / name).read_bytes() == (self.out / name).read_bytes()
+            self.assertTrue(is_same, name)
 
     def test_the_licences_of_the_top(self):
         for name in LICENCES:

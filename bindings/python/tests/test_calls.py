@@ -12,11 +12,12 @@ import unittest
 from unittest import mock
 
 import dethrux
-from dethrux import BomStatus, Status, _calls, _codecs
+from dethrux import BomStatus, Status, _calls, _codecs, _implementation
 from expected import (
     CODECS,
     CONSTANT,
     COPIED,
+    IN_PIECES,
     LARGEST,
     NOT_BUFFERS,
     ORDERS,
@@ -61,7 +62,7 @@ READERS = {
     **WITH_ORDER,
     "from_utf8_len": lambda data, order: dethrux.from_utf8_len(data),
     "from_utf8_lossy_len": lambda data, order: dethrux.from_utf8_lossy_len(data),
-    "detect_bom": lambda data, order: dethrux.detect_bom(data),
+    "detect_bom": lambda data, order: dethrux.detect_bom(data, order),
     "utf_16_le_decode": lambda data, order: _codecs.utf_16_le_decode(data),
     "utf_16_be_decode": lambda data, order: _codecs.utf_16_be_decode(data),
     "utf_16_ex_decode": lambda data, order: _codecs.utf_16_ex_decode(data),
@@ -235,15 +236,17 @@ class Functions(unittest.TestCase):
     def test_detect_bom(self):
         little = ("little", 2, BomStatus.PRESENT)
         big = ("big", 2, BomStatus.PRESENT)
-        absent = ("big", 0, BomStatus.ABSENT)
-        undecided = ("big", 0, BomStatus.UNDECIDED)
         marks = {codecs.BOM_UTF16_LE: little, codecs.BOM_UTF16_BE: big}
-        for length in range(4):
+        for length, default in itertools.product(range(4), ORDERS):
+            absent = (default, 0, BomStatus.ABSENT)
+            undecided = (default, 0, BomStatus.UNDECIDED)
             for data in itertools.product((0xFE, 0xFF, 0x61), repeat=length):
                 expected = marks.get(bytes(data[:2]), absent) if length > 1 else undecided
-                found = dethrux.detect_bom(bytes(data))
+                found = dethrux.detect_bom(bytes(data), default)
                 self.assertEqual(found, expected, data)
                 self.assertIs(type(found.status), BomStatus)
+                if default == "big":
+                    self.assertEqual(dethrux.detect_bom(bytes(data)), expected, data)
 
     def test_fields(self):
         self.assertEqual(typing.get_args(dethrux.ByteOrder), ORDERS)
@@ -333,6 +336,9 @@ LEAN.update(
     }
 )
 
+IN_C = set(_implementation.in_python)
+IN_C |= {"Decoder", "Encoder"} if IN_C else set()
+
 
 class Reading(unittest.TestCase):
     """Which buffers are read in place, and until when they are held."""
@@ -369,6 +375,9 @@ class Reading(unittest.TestCase):
         for (name, call), (kind, buffer, is_copied) in itertools.product(LEAN.items(), buffers):
             with self.subTest(name=name, kind=kind):
                 peak = self.peak(call, buffer, "little")
+                # The extension keeps the GIL if the buffer is writable.
+                if name in IN_C:
+                    is_copied = kind in IN_PIECES
                 self.assertEqual(peak >= len(raw), is_copied, peak)
 
     def test_held_for_the_call(self):
@@ -385,8 +394,9 @@ class Reading(unittest.TestCase):
                     held.append(ctypes.string_at(source._as_parameter_, length))
                 return 5
 
+            call = _implementation.in_python.get("count_chars", dethrux.count_chars)
             with mock.patch.object(_calls._library, "count_chars", count):
-                self.assertEqual(dethrux.count_chars(buffer, "little"), 5)
+                self.assertEqual(call(buffer, "little"), 5)
             # A copy needs no hold.
             self.assertEqual(held, [b"a\0"] if type(buffer) is not bytearray else [])
             change(buffer)

@@ -27,7 +27,7 @@ def compiled(folder, body):
     return str(path)
 
 
-class Library(unittest.TestCase):
+class Copied(unittest.TestCase):
     def setUp(self):
         """Copy the package without its library."""
         self.folder = tempfile.TemporaryDirectory()
@@ -36,12 +36,12 @@ class Library(unittest.TestCase):
         self.package = Path(self.folder.name) / "dethrux"
         shutil.copytree(FOLDER, self.package, ignore=ignored)
 
-    def imported(self, **environment):
-        """Import the copy, and return the status and the last line of the errors, or the path."""
+    def imported(self, found="_library._library._name", **environment):
+        """Import the copy, and return the last line of the errors, or the path of the library."""
         script = (
             "try:\n    import dethrux\nexcept ImportError as error:\n"
             "    assert error.name == 'dethrux', error.name\n    raise\n"
-            "print(dethrux._library._library._name)"
+            f"print(dethrux.{found})"
         )
         run = subprocess.run(
             [sys.executable, "-B", "-c", script],
@@ -52,6 +52,8 @@ class Library(unittest.TestCase):
         )
         return (run.stdout or run.stderr).strip().splitlines()[-1]
 
+
+class Library(Copied):
     def test_by_the_environment(self):
         self.assertEqual(self.imported(DETHRUX_LIBRARY=LIBRARY), LIBRARY)
 
@@ -131,6 +133,47 @@ class Library(unittest.TestCase):
         )
 
 
+class Implementation(Copied):
+    """The functions in C are in use if the extension is there."""
+
+    def setUp(self):
+        super().setUp()
+        shutil.copy(LIBRARY, self.package / _library.SONAME)
+        self.extensions = list(self.package.glob("_native.*.so"))
+
+    def implementation(self, **environment):
+        return self.imported("implementation", **environment)
+
+    def test_chosen(self):
+        best = "c" if self.extensions else "ctypes"
+        self.assertEqual(self.implementation(), best)
+        self.assertEqual(self.implementation(DETHRUX_IMPLEMENTATION=""), best)
+        self.assertEqual(self.implementation(DETHRUX_IMPLEMENTATION="ctypes"), "ctypes")
+        if self.extensions:
+            self.assertEqual(self.implementation(DETHRUX_IMPLEMENTATION="c"), "c")
+        self.assertRegex(
+            self.implementation(DETHRUX_IMPLEMENTATION="rust"),
+            "^ImportError: DETHRUX_IMPLEMENTATION is rust: set it to c or ctypes, or unset it$",
+        )
+
+    def test_without_an_extension_that_loads(self):
+        for extension in self.extensions:
+            extension.write_bytes(b"no extension")
+        for _ in range(2):
+            self.assertEqual(self.implementation(), "ctypes")
+            self.assertRegex(
+                self.implementation(DETHRUX_IMPLEMENTATION="c"),
+                r"^ImportError: the package has no extension in C for this Python \(.*\): install "
+                r"it where there is a C compiler and Python\.h, or unset DETHRUX_IMPLEMENTATION$",
+            )
+            for extension in self.extensions:
+                extension.unlink(missing_ok=True)
+
+    def test_this_one(self):
+        wanted = os.environ.get("DETHRUX_IMPLEMENTATION")
+        self.assertIn(dethrux.implementation, (wanted,) if wanted else ("c", "ctypes"))
+
+
 class Version(unittest.TestCase):
     def test_is_that_of_the_tree(self):
         self.assertEqual(dethrux.__version__, (TOP / "VERSION").read_text().strip())
@@ -173,6 +216,8 @@ class Declarations(unittest.TestCase):
         "dethrux_bom_status": ctypes.c_uint32,
         "dethrux_progress": _library.Progress,
         "dethrux_validity": _library.Validity,
+        "dethrux_inspection": _library.Inspection,
+        "dethrux_repertoire": ctypes.c_uint32,
         "dethrux_bom": _library.Bom,
     }
 
@@ -209,6 +254,7 @@ class Declarations(unittest.TestCase):
         for name, kind in (
             ("progress", _library.Progress),
             ("validity", _library.Validity),
+            ("inspection", _library.Inspection),
             ("bom", _library.Bom),
         ):
             fields = [field.split() for field in structures[name].split(";") if field.strip()]

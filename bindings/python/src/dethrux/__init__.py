@@ -39,6 +39,7 @@ from ._calls import (
     validate,
 )
 from ._codecs import decode, decode_to_utf8, encode, encode_from_utf8, search
+from ._implementation import implementation
 from ._version import __version__
 
 __all__ = [
@@ -64,6 +65,7 @@ __all__ = [
     "from_utf8_len",
     "from_utf8_lossy",
     "from_utf8_lossy_len",
+    "implementation",
     "is_ascii",
     "is_char_boundary",
     "make_well_formed",

@@ -7,6 +7,7 @@ import operator
 from typing import Any, Callable, Literal, NamedTuple, Optional, Union
 
 from . import _library
+from ._implementation import in_c, set_up
 
 ByteOrder = Literal["little", "big"]
 ReadableBuffer = Union[bytes, bytearray, memoryview, mmap.mmap]
@@ -60,6 +61,7 @@ class Bom(NamedTuple):
 
 
 _STATUSES = tuple(Status)
+set_up(Validity, Progress, _STATUSES)
 
 
 def order_number(byteorder: str) -> int:
@@ -164,6 +166,7 @@ def _limited(capacity: Optional[int], sufficient: int) -> int:
     return sufficient if capacity is None else min(capacity, sufficient)
 
 
+@in_c
 def validate(utf16: ReadableBuffer, byteorder: ByteOrder) -> Validity:
     """Return the length of the longest well-formed prefix, and what follows it."""
     order, source = order_number(byteorder), readable(utf16)
@@ -171,6 +174,7 @@ def validate(utf16: ReadableBuffer, byteorder: ByteOrder) -> Validity:
     return Validity(found.valid_up_to, _STATUSES[found.status], found.error_len)
 
 
+@in_c
 def count_chars(utf16: ReadableBuffer, byteorder: ByteOrder) -> int:
     """Return the number of characters.
 
@@ -182,6 +186,7 @@ def count_chars(utf16: ReadableBuffer, byteorder: ByteOrder) -> int:
     return count
 
 
+@in_c
 def is_ascii(utf16: ReadableBuffer, byteorder: ByteOrder) -> bool:
     """Return whether the bytes are UTF-16 whose characters are all ASCII."""
     order, source = order_number(byteorder), readable(utf16)
@@ -189,6 +194,7 @@ def is_ascii(utf16: ReadableBuffer, byteorder: ByteOrder) -> bool:
     return found
 
 
+@in_c
 def to_utf8_lossy_len(utf16: ReadableBuffer, byteorder: ByteOrder) -> int:
     """Return the length of what ``to_utf8_lossy`` returns for the whole input."""
     order, source = order_number(byteorder), readable(utf16)
@@ -196,6 +202,7 @@ def to_utf8_lossy_len(utf16: ReadableBuffer, byteorder: ByteOrder) -> int:
     return length
 
 
+@in_c
 def from_utf8_len(utf8: ReadableBuffer) -> int:
     """Return the length of what ``from_utf8`` returns for the longest well-formed prefix."""
     source = readable(utf8)
@@ -203,6 +210,7 @@ def from_utf8_len(utf8: ReadableBuffer) -> int:
     return length
 
 
+@in_c
 def from_utf8_lossy_len(utf8: ReadableBuffer) -> int:
     """Return the length of what ``from_utf8_lossy`` returns for the whole input."""
     source = readable(utf8)
@@ -226,6 +234,7 @@ def _from_utf8(
     return _run(call, room, order, source, len(source))
 
 
+@in_c
 def to_utf8(
     utf16: ReadableBuffer, byteorder: ByteOrder, capacity: Optional[int] = None
 ) -> Progress:
@@ -237,6 +246,7 @@ def to_utf8(
     return _to_utf8(_library.to_utf8, utf16, byteorder, capacity)
 
 
+@in_c
 def to_utf8_lossy(
     utf16: ReadableBuffer, byteorder: ByteOrder, capacity: Optional[int] = None
 ) -> Progress:
@@ -247,6 +257,7 @@ def to_utf8_lossy(
     return _to_utf8(_library.to_utf8_lossy, utf16, byteorder, capacity)
 
 
+@in_c
 def to_utf8_partial(
     utf16: ReadableBuffer, byteorder: ByteOrder, capacity: Optional[int] = None
 ) -> Progress:
@@ -258,6 +269,7 @@ def to_utf8_partial(
     return _to_utf8(_library.to_utf8_partial, utf16, byteorder, capacity)
 
 
+@in_c
 def from_utf8(
     utf8: ReadableBuffer, byteorder: ByteOrder, capacity: Optional[int] = None
 ) -> Progress:
@@ -265,6 +277,7 @@ def from_utf8(
     return _from_utf8(_library.from_utf8, utf8, byteorder, capacity)
 
 
+@in_c
 def from_utf8_lossy(
     utf8: ReadableBuffer, byteorder: ByteOrder, capacity: Optional[int] = None
 ) -> Progress:
@@ -349,14 +362,34 @@ def compare(
     return found
 
 
-def detect_bom(data: ReadableBuffer) -> Bom:
-    """Return the BOM at the start of a stream and the byte order, big endian without one.
+def detect_bom(data: ReadableBuffer, default: ByteOrder = "big") -> Bom:
+    """Return the BOM at the start of a stream and the byte order, the default without one.
 
     The status is ``BomStatus.UNDECIDED`` for fewer than two bytes.
     """
-    source = readable(data)
-    found = _library.detect_bom(source, len(source))
+    order, source = order_number(default), readable(data)
+    found = _library.detect_bom(order, source, len(source))
     return Bom("big" if found.byte_order else "little", found.len, BomStatus(found.status))
+
+
+@in_c
+def feed_decoder(
+    state: _library.State, order: int, chunk: ReadableBuffer, capacity: Optional[int]
+) -> Progress:
+    """Decode the next chunk of a stream of UTF-16."""
+    capacity, source = as_capacity(capacity), readable(chunk)
+    room = _limited(capacity, (len(source) + 3) // 2 * 3)
+    return _run(_library.decoder_feed, room, state, order, source, len(source))
+
+
+@in_c
+def feed_encoder(
+    state: _library.State, order: int, chunk: ReadableBuffer, capacity: Optional[int]
+) -> Progress:
+    """Decode the next chunk of a stream of UTF-8."""
+    capacity, source = as_capacity(capacity), readable(chunk)
+    room = _limited(capacity, len(source) * 2 + 2)
+    return _run(_library.encoder_feed, room, state, order, source, len(source))
 
 
 class Decoder:
@@ -391,9 +424,7 @@ class Decoder:
         read. With a capacity of four or more, something was written.
         """
         self._check_open()
-        capacity, source = as_capacity(capacity), readable(chunk)
-        room = _limited(capacity, self._feed_max(len(source)))
-        return self._feed(source, room)
+        return self._feed(self._state, self._order, chunk, capacity)
 
     def finish(self) -> bytes:
         """End the stream, and return U+FFFD if bytes are pending, else nothing."""
@@ -405,12 +436,7 @@ class Decoder:
         if self._finished:
             raise ValueError("the decoder is finished: reset() begins a new stream")
 
-    def _feed_max(self, length: int) -> int:
-        return (length + 3) // 2 * 3
-
-    def _feed(self, chunk: Union[bytes, Held], capacity: int) -> Progress:
-        call = _library.decoder_feed
-        return _run(call, capacity, self._state, self._order, chunk, len(chunk))
+    _feed = staticmethod(feed_decoder)
 
     def _finish(self) -> Progress:
         return _run(_library.decoder_finish, 3, self._state)
@@ -422,12 +448,7 @@ class Encoder(Decoder):
     Each ill-formed sequence becomes U+FFFD. One thread at a time may use it.
     """
 
-    def _feed_max(self, length: int) -> int:
-        return length * 2 + 2
-
-    def _feed(self, chunk: Union[bytes, Held], capacity: int) -> Progress:
-        call = _library.encoder_feed
-        return _run(call, capacity, self._state, self._order, chunk, len(chunk))
+    _feed = staticmethod(feed_encoder)
 
     def _finish(self) -> Progress:
         return _run(_library.encoder_finish, 2, self._state, self._order)

@@ -25,6 +25,7 @@ from ._calls import (
     to_utf8,
     to_utf8_lossy,
 )
+from ._implementation import in_c
 
 _LITTLE, _BIG = 0, 1
 _NATIVE = _LITTLE if sys.byteorder == "little" else _BIG
@@ -160,6 +161,7 @@ def _decode_rest(
     return "".join(parts), at
 
 
+@in_c
 def utf_16_le_decode(
     input: ReadableBuffer, errors: Optional[str] = None, final: bool = False
 ) -> tuple[str, int]:
@@ -170,6 +172,7 @@ def utf_16_le_decode(
     return _decode(as_bytes(input), 0, _LITTLE, errors, final)
 
 
+@in_c
 def utf_16_be_decode(
     input: ReadableBuffer, errors: Optional[str] = None, final: bool = False
 ) -> tuple[str, int]:
@@ -263,16 +266,19 @@ def _is_encodable(replacement: Union[bytes, str]) -> bool:
     return len(replacement) % 2 == 0 if isinstance(replacement, bytes) else replacement.isascii()
 
 
+@in_c
 def utf_16_le_encode(input: str, errors: Optional[str] = None) -> tuple[bytes, int]:
     """Encode to UTF-16LE; return the bytes and the length of the text."""
     return _encode(input, _LITTLE, errors, "utf-16-le"), len(input)
 
 
+@in_c
 def utf_16_be_encode(input: str, errors: Optional[str] = None) -> tuple[bytes, int]:
     """Encode to UTF-16BE; return the bytes and the length of the text."""
     return _encode(input, _BIG, errors, "utf-16-be"), len(input)
 
 
+@in_c
 def utf_16_encode(
     input: str, errors: Optional[str] = None, byteorder: int = 0
 ) -> tuple[bytes, int]:
@@ -289,17 +295,20 @@ _NATIVE_DECODE = (utf_16_le_decode, utf_16_be_decode)[_NATIVE]
 _OTHER_DECODE = (utf_16_be_decode, utf_16_le_decode)[_NATIVE]
 
 
+@in_c
 def decode(data: ReadableBuffer, byteorder: ByteOrder, errors: str = "strict") -> str:
     """Return the text of UTF-16; errors are as in ``bytes.decode``. A BOM is a character."""
     return _decode(as_bytes(data), 0, order_number(byteorder), errors, True)[0]
 
 
+@in_c
 def encode(text: str, byteorder: ByteOrder, errors: str = "strict") -> bytes:
     """Return the UTF-16 of a text, without a BOM; errors are as in ``str.encode``."""
     order = order_number(byteorder)
     return _encode(text, order, errors, _ENCODINGS[order])
 
 
+@in_c
 def decode_to_utf8(utf16: ReadableBuffer, byteorder: ByteOrder, errors: str = "strict") -> bytes:
     """Return the UTF-8 of UTF-16: ``decode(utf16, byteorder, errors).encode("utf-8", errors)``.
 
@@ -313,6 +322,7 @@ def decode_to_utf8(utf16: ReadableBuffer, byteorder: ByteOrder, errors: str = "s
     return decode(utf16, byteorder, errors).encode("utf-8", errors)
 
 
+@in_c
 def encode_from_utf8(utf8: ReadableBuffer, byteorder: ByteOrder, errors: str = "strict") -> bytes:
     """Return the UTF-16 of UTF-8: ``encode(str(utf8, "utf-8", errors), byteorder, errors)``.
 
@@ -506,16 +516,19 @@ class Utf16StreamReader(codecs.StreamReader):
 # The names.
 
 
+@in_c
 def utf_16_le_decode_all(input: ReadableBuffer, errors: str = "strict") -> tuple[str, int]:
     """Decode UTF-16LE to its end."""
     return utf_16_le_decode(input, errors, True)
 
 
+@in_c
 def utf_16_be_decode_all(input: ReadableBuffer, errors: str = "strict") -> tuple[str, int]:
     """Decode UTF-16BE to its end."""
     return utf_16_be_decode(input, errors, True)
 
 
+@in_c
 def utf_16_decode_all(input: ReadableBuffer, errors: str = "strict") -> tuple[str, int]:
     """Decode UTF-16 to its end."""
     return utf_16_decode(input, errors, True)

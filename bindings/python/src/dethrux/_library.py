@@ -33,6 +33,18 @@ class Validity(ctypes.Structure):
     ]
 
 
+class Inspection(ctypes.Structure):
+    """``dethrux_inspection``."""
+
+    _fields_ = [
+        ("valid_up_to", ctypes.c_size_t),
+        ("chars", ctypes.c_size_t),
+        ("repertoire", ctypes.c_uint32),
+        ("status", ctypes.c_uint32),
+        ("error_len", ctypes.c_uint32),
+    ]
+
+
 class Bom(ctypes.Structure):
     """``dethrux_bom``."""
 
@@ -163,6 +175,16 @@ decoder_feed = _call("decoder_feed", Progress, _state, _order, *_buffer, *_buffe
 decoder_finish = _call("decoder_finish", Progress, _state, *_buffer)
 encoder_feed = _call("encoder_feed", Progress, _state, _order, *_buffer, *_buffer)
 encoder_finish = _call("encoder_finish", Progress, _state, _order, *_buffer)
+inspect = _call("inspect", Inspection, _order, *_buffer)
+to_utf32 = _call("to_utf32", Progress, _order, *_buffer, *_buffer)
+to_utf32_lossy = _call("to_utf32_lossy", Progress, _order, *_buffer, *_buffer)
+to_utf32_lossy_len = _call("to_utf32_lossy_len", _size, _order, *_buffer)
+validate_utf32 = _call("validate_utf32", Validity, *_buffer)
+from_utf32 = _call("from_utf32", Progress, _order, *_buffer, *_buffer)
+from_utf32_lossy = _call("from_utf32_lossy", Progress, _order, *_buffer, *_buffer)
+from_utf32_lossy_len = _call("from_utf32_lossy_len", _size, *_buffer)
+to_latin1 = _call("to_latin1", Progress, _order, *_buffer, *_buffer)
+from_latin1 = _call("from_latin1", Progress, _order, *_buffer, *_buffer)
 is_char_boundary = _call("is_char_boundary", ctypes.c_bool, _order, *_buffer, _size)
 floor_char_boundary = _call("floor_char_boundary", _size, _order, *_buffer, _size)
 floor_char_boundary_around = _call(
@@ -172,7 +194,7 @@ shard_offset = _call("shard_offset", _offset, _offset, _offset, _offset)
 swap_byte_order = _call("swap_byte_order", None, *_buffer)
 make_well_formed = _call("make_well_formed", _size, _order, *_buffer)
 compare = _call("compare", ctypes.c_int32, _order, *_buffer, _order, *_buffer)
-detect_bom = _call("detect_bom", Bom, *_buffer)
+detect_bom = _call("detect_bom", Bom, _order, *_buffer)
 
 # Calls of CPython. An index gives functions of our own: other packages may declare other types for
 # the attributes of ``pythonapi``.
@@ -181,3 +203,9 @@ get_buffer.restype = ctypes.c_int
 get_buffer.argtypes = (ctypes.py_object, ctypes.POINTER(Buffer), ctypes.c_int)
 release_buffer = ctypes.pythonapi["PyBuffer_Release"]
 release_buffer.restype, release_buffer.argtypes = None, (ctypes.POINTER(Buffer),)
+
+
+def handle() -> int:
+    """Return the handle of the library, as ``dlopen`` returned it."""
+    found: int = _library._handle
+    return found

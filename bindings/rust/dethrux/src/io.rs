@@ -151,12 +151,9 @@ impl<R: Read> Reader<R, Decoder> {
                 Err(error) => return Err(error),
             }
         }
-        match detect_bom(&reader.input[..reader.end]) {
-            Some(bom) if bom.len > 0 => {
-                reader.transcoder = Decoder::new(bom.byte_order);
-                reader.start = bom.len;
-            }
-            _ => {}
+        if let Some(bom) = detect_bom(&reader.input[..reader.end], default_order) {
+            reader.transcoder = Decoder::new(bom.byte_order);
+            reader.start = bom.len;
         }
         Ok(reader)
     }

@@ -204,7 +204,7 @@ fn cut_anywhere(order: ByteOrder, raw: &[u8]) -> Vec<Word> {
 }
 
 fn every_any_chunking(raw: &[u8]) -> Vec<Word> {
-    let bom = detect_bom(raw).unwrap_or(Bom {
+    let bom = detect_bom(raw, BigEndian).unwrap_or(Bom {
         len: 0,
         byte_order: BigEndian,
     });

@@ -463,19 +463,21 @@ fn in_place_calls_leave_an_odd_byte() {
 #[test]
 fn a_byte_order_mark_has_two_bytes() {
     let bom = |len, byte_order| Some(Bom { len, byte_order });
-    for first in [0xFE, 0xFF, b'a'] {
-        assert_eq!(detect_bom(&[first]), None);
-        for second in [0xFE, 0xFF, b'a'] {
-            let expected = match (first, second) {
-                (0xFF, 0xFE) => bom(2, LittleEndian),
-                (0xFE, 0xFF) => bom(2, BigEndian),
-                _ => bom(0, BigEndian),
-            };
-            assert_eq!(detect_bom(&[first, second]), expected);
-            assert_eq!(detect_bom(&[first, second, 0xFE, 0xFF]), expected);
+    for default in [LittleEndian, BigEndian] {
+        for first in [0xFE, 0xFF, b'a'] {
+            assert_eq!(detect_bom(&[first], default), None);
+            for second in [0xFE, 0xFF, b'a'] {
+                let expected = match (first, second) {
+                    (0xFF, 0xFE) => bom(2, LittleEndian),
+                    (0xFE, 0xFF) => bom(2, BigEndian),
+                    _ => bom(0, default),
+                };
+                assert_eq!(detect_bom(&[first, second], default), expected);
+                assert_eq!(detect_bom(&[first, second, 0xFE, 0xFF], default), expected);
+            }
         }
+        assert_eq!(detect_bom(b"", default), None);
     }
-    assert_eq!(detect_bom(b""), None);
 }
 
 #[test]

@@ -1,0 +1,404 @@
+/* SPDX-License-Identifier: MIT OR Apache-2.0 */
+
+/*
+ * What the functions of the extension share, and what those over bytes do.
+ *
+ * A call with a long input runs without the GIL if nobody can write to the input. Otherwise it
+ * keeps the GIL, so that no other thread writes to the bytes that it reads.
+ */
+#ifndef DETHRUX_NATIVE_H
+#define DETHRUX_NATIVE_H
+
+#define PY_SSIZE_T_CLEAN
+#include <Python.h>
+
+#include "dethrux.h"
+
+#include <stdbool.h>
+#include <string.h>
+
+/* The shortest input, in bytes, for which it pays to give up the GIL. */
+#define LONG ((size_t) 1 << 16)
+/* The most bytes that are converted on the stack and then copied. */
+#define SMALL 1024
+/* How many bytes are copied and swapped at a time: they stay in the cache. */
+#define BLOCK ((size_t) 1 << 14)
+
+/* The calls of the library that the functions use. */
+#define EACH_CALL(X) \
+    X(inspect) X(validate) X(count_chars) X(is_ascii) X(to_utf8_lossy_len) X(from_utf8_len) \
+    X(from_utf8_lossy_len) X(to_utf8) X(to_utf8_lossy) X(to_utf8_partial) X(from_utf8) \
+    X(from_utf8_lossy) X(decoder_feed) X(encoder_feed) X(to_latin1) X(from_latin1) X(to_utf32) \
+    X(to_utf32_lossy) X(from_utf32) X(from_utf32_lossy_len) X(swap_byte_order) X(detect_bom)
+
+/* What the functions use. */
+typedef struct {
+#define FIELD(name) __typeof__(&dethrux_##name) name;
+    EACH_CALL(FIELD)
+#undef FIELD
+    PyObject *validity; /* The named tuples `Validity` and `Progress`. */
+    PyObject *progress;
+    PyObject *statuses; /* The members of `Status`, a tuple. */
+    PyObject *little;   /* The words for the byte orders. */
+    PyObject *big;
+    PyObject *strict;         /* The name of the handler that raises. */
+    PyObject *lookup_error;   /* `codecs.lookup_error` and `codecs.replace_errors`. */
+    PyObject *replace_errors;
+} native;
+
+/* The arguments of a function, in the order of its parameters. NULL is one that was not given. */
+typedef PyObject *const *arguments;
+
+/* What a function does. NULL without an exception leaves the call to the function in Python. */
+typedef PyObject *action(const native *it, arguments given);
+
+/* A conversion of bytes to bytes. */
+typedef dethrux_progress conversion(
+    dethrux_byte_order order, const uint8_t *bytes, size_t len, uint8_t *to, size_t capacity);
+
+/* Bytes that a call reads in place. */
+typedef struct {
+    const uint8_t *bytes;
+    size_t len;
+    bool without_gil; /* Whether the calls run without the GIL. */
+    Py_buffer view;   /* Its object is NULL if the bytes are of a bytes object. */
+} input;
+
+/* Returns the byte order of a word, or -1. */
+static int order_of(const native *it, PyObject *word) {
+    if (word == it->little) {
+        return DETHRUX_LITTLE_ENDIAN;
+    }
+    if (word == it->big) {
+        return DETHRUX_BIG_ENDIAN;
+    }
+    if (!PyUnicode_CheckExact(word)) {
+        return -1;
+    }
+    if (PyUnicode_CompareWithASCIIString(word, "little") == 0) {
+        return DETHRUX_LITTLE_ENDIAN;
+    }
+    return PyUnicode_CompareWithASCIIString(word, "big") == 0 ? DETHRUX_BIG_ENDIAN : -1;
+}
+
+/* Returns whether nobody can write to the memory of a buffer: its object is read-only. A read-only
+ * view may be of an object that is not. */
+static bool is_constant(PyObject *object, const Py_buffer *view) {
+    if (!view->readonly || !PyMemoryView_Check(object)) {
+        return view->readonly && view->obj == object;
+    }
+    PyObject *owner = PyMemoryView_GET_BASE(object);
+    Py_buffer whole;
+    if (!owner || PyObject_GetBuffer(owner, &whole, PyBUF_FULL_RO) < 0) {
+        PyErr_Clear();
+        return false;
+    }
+    bool is_readonly = whole.readonly && whole.obj == owner;
+    PyBuffer_Release(&whole);
+    return is_readonly;
+}
+
+/* Holds a buffer for a call. Returns whether it is one in one piece. */
+static bool hold(PyObject *object, input *held) {
+    if (PyBytes_CheckExact(object)) {
+        held->bytes = (const uint8_t *) PyBytes_AS_STRING(object);
+        held->len = (size_t) PyBytes_GET_SIZE(object);
+        held->without_gil = held->len >= LONG;
+        held->view.obj = NULL;
+        return true;
+    }
+    if (PyObject_GetBuffer(object, &held->view, PyBUF_SIMPLE) < 0) {
+        PyErr_Clear();
+        return false;
+    }
+    held->bytes = held->view.buf;
+    held->len = (size_t) held->view.len;
+    held->without_gil = held->len >= LONG && is_constant(object, &held->view);
+    return true;
+}
+
+/* Lets the buffer go. */
+static void release(input *held) {
+    PyBuffer_Release(&held->view);
+}
+
+/* Gives up the GIL, if this is wanted, until `with_gil`. */
+static PyThreadState *without_gil(bool is_wanted) {
+    return is_wanted ? PyEval_SaveThread() : NULL;
+}
+
+/* Takes the GIL again. */
+static void with_gil(PyThreadState *saved) {
+    if (saved) {
+        PyEval_RestoreThread(saved);
+    }
+}
+
+/* Returns a named tuple with these fields, whose references it takes. */
+static PyObject *named_tuple(PyObject *type, PyObject **fields, Py_ssize_t count) {
+    PyObject *made = NULL, *plain = PyTuple_New(count), *packed = NULL;
+    bool is_whole = plain;
+    for (Py_ssize_t at = 0; at < count; at++) {
+        is_whole = is_whole && fields[at];
+        if (plain) {
+            PyTuple_SET_ITEM(plain, at, fields[at]);
+        } else {
+            Py_XDECREF(fields[at]);
+        }
+    }
+    if (is_whole && (packed = PyTuple_Pack(1, plain))) {
+        made = PyTuple_Type.tp_new((PyTypeObject *) type, packed, NULL);
+    }
+    Py_XDECREF(packed);
+    Py_XDECREF(plain);
+    return made;
+}
+
+/* Returns a tuple of an object, whose reference it takes, and a number. */
+static PyObject *pair(PyObject *first, size_t number) {
+    PyObject *second = first ? PyLong_FromSize_t(number) : NULL;
+    PyObject *both = second ? PyTuple_New(2) : NULL;
+    if (!both) {
+        Py_XDECREF(first);
+        Py_XDECREF(second);
+        return NULL;
+    }
+    PyTuple_SET_ITEM(both, 0, first);
+    PyTuple_SET_ITEM(both, 1, second);
+    return both;
+}
+
+/* Returns the member of `Status`. */
+static PyObject *status_of(const native *it, dethrux_status status) {
+    PyObject *member = PyTuple_GET_ITEM(it->statuses, (Py_ssize_t) status);
+    Py_INCREF(member);
+    return member;
+}
+
+/* The properties of a text. */
+
+static PyObject *validate(const native *it, arguments given) {
+    int order = order_of(it, given[1]);
+    input utf16;
+    if (order < 0 || !hold(given[0], &utf16)) {
+        return NULL;
+    }
+    PyThreadState *saved = without_gil(utf16.without_gil);
+    dethrux_validity found =
+        it->validate((dethrux_byte_order) order, utf16.bytes, utf16.len);
+    with_gil(saved);
+    release(&utf16);
+    PyObject *fields[] = {PyLong_FromSize_t(found.valid_up_to), status_of(it, found.status),
+                          PyLong_FromUnsignedLong(found.error_len)};
+    return named_tuple(it->validity, fields, 3);
+}
+
+/* Returns a number that a call has for UTF-16. */
+static PyObject *number_of_utf16(const native *it, arguments given,
+                                 size_t (*number)(dethrux_byte_order, const uint8_t *, size_t)) {
+    int order = order_of(it, given[1]);
+    input utf16;
+    if (order < 0 || !hold(given[0], &utf16)) {
+        return NULL;
+    }
+    PyThreadState *saved = without_gil(utf16.without_gil);
+    size_t found = number((dethrux_byte_order) order, utf16.bytes, utf16.len);
+    with_gil(saved);
+    release(&utf16);
+    return PyLong_FromSize_t(found);
+}
+
+static PyObject *count_chars(const native *it, arguments given) {
+    return number_of_utf16(it, given, it->count_chars);
+}
+
+static PyObject *to_utf8_lossy_len(const native *it, arguments given) {
+    return number_of_utf16(it, given, it->to_utf8_lossy_len);
+}
+
+static PyObject *is_ascii(const native *it, arguments given) {
+    int order = order_of(it, given[1]);
+    input utf16;
+    if (order < 0 || !hold(given[0], &utf16)) {
+        return NULL;
+    }
+    PyThreadState *saved = without_gil(utf16.without_gil);
+    bool found = it->is_ascii((dethrux_byte_order) order, utf16.bytes, utf16.len);
+    with_gil(saved);
+    release(&utf16);
+    return PyBool_FromLong(found);
+}
+
+/* Returns a number that a call has for UTF-8. */
+static PyObject *number_of_utf8(arguments given, size_t (*number)(const uint8_t *, size_t)) {
+    input utf8;
+    if (!hold(given[0], &utf8)) {
+        return NULL;
+    }
+    PyThreadState *saved = without_gil(utf8.without_gil);
+    size_t found = number(utf8.bytes, utf8.len);
+    with_gil(saved);
+    release(&utf8);
+    return PyLong_FromSize_t(found);
+}
+
+static PyObject *from_utf8_len(const native *it, arguments given) {
+    return number_of_utf8(given, it->from_utf8_len);
+}
+
+static PyObject *from_utf8_lossy_len(const native *it, arguments given) {
+    return number_of_utf8(given, it->from_utf8_lossy_len);
+}
+
+/* Bytes to bytes. */
+
+/* Returns what a conversion writes to a buffer of this capacity, and how far it came. */
+static PyObject *converted(conversion *convert, dethrux_byte_order order, const input *from,
+                           size_t capacity, dethrux_progress *done) {
+    if (capacity <= SMALL) {
+        uint8_t small[SMALL];
+        *done = convert(order, from->bytes, from->len, small, capacity);
+        return PyBytes_FromStringAndSize((const char *) small, (Py_ssize_t) done->written);
+    }
+    PyObject *output = PyBytes_FromStringAndSize(NULL, (Py_ssize_t) capacity);
+    if (!output) {
+        return NULL;
+    }
+    PyThreadState *saved = without_gil(from->without_gil);
+    *done = convert(order, from->bytes, from->len, (uint8_t *) PyBytes_AS_STRING(output), capacity);
+    with_gil(saved);
+    if (done->written != capacity) {
+        _PyBytes_Resize(&output, (Py_ssize_t) done->written);
+    }
+    return output;
+}
+
+/* Limits what suffices to the capacity that was given, if one was. Returns whether it is one. */
+static bool limit(PyObject *given, size_t *capacity) {
+    if (!given || given == Py_None) {
+        return true;
+    }
+    if (!PyLong_CheckExact(given)) {
+        return false;
+    }
+    Py_ssize_t number = PyLong_AsSsize_t(given);
+    if (number < 0) {
+        PyErr_Clear();
+        return false;
+    }
+    if ((size_t) number < *capacity) {
+        *capacity = (size_t) number;
+    }
+    return true;
+}
+
+/* Returns a `Progress`. It takes the output. */
+static PyObject *progress_of(const native *it, PyObject *output, const dethrux_progress *done) {
+    if (!output) {
+        return NULL;
+    }
+    PyObject *fields[] = {output, PyLong_FromSize_t(done->read), status_of(it, done->status),
+                          PyLong_FromUnsignedLong(done->error_len)};
+    return named_tuple(it->progress, fields, 4);
+}
+
+/* Returns the progress of a conversion. */
+static PyObject *progress(const native *it, arguments given, conversion *convert, bool is_utf8) {
+    int order = order_of(it, given[1]);
+    input from;
+    if (order < 0 || !hold(given[0], &from)) {
+        return NULL;
+    }
+    size_t capacity = is_utf8 ? DETHRUX_UTF16_MAX(from.len) : DETHRUX_UTF8_MAX(from.len);
+    PyObject *found = NULL;
+    if (limit(given[2], &capacity)) {
+        dethrux_progress done;
+        PyObject *output = converted(convert, (dethrux_byte_order) order, &from, capacity, &done);
+        found = progress_of(it, output, &done);
+    }
+    release(&from);
+    return found;
+}
+
+static PyObject *to_utf8(const native *it, arguments given) {
+    return progress(it, given, it->to_utf8, false);
+}
+
+static PyObject *to_utf8_lossy(const native *it, arguments given) {
+    return progress(it, given, it->to_utf8_lossy, false);
+}
+
+static PyObject *to_utf8_partial(const native *it, arguments given) {
+    return progress(it, given, it->to_utf8_partial, false);
+}
+
+static PyObject *from_utf8(const native *it, arguments given) {
+    return progress(it, given, it->from_utf8, true);
+}
+
+static PyObject *from_utf8_lossy(const native *it, arguments given) {
+    return progress(it, given, it->from_utf8_lossy, true);
+}
+
+/* Streams. */
+
+/* Decodes a chunk with a copy of the state, which becomes the state if nothing fails. */
+static PyObject *feed_held(const native *it, arguments given, const input *chunk, bool is_utf8,
+                           Py_buffer *state) {
+    size_t capacity =
+        is_utf8 ? DETHRUX_ENCODER_FEED_MAX(chunk->len) : DETHRUX_DECODER_FEED_MAX(chunk->len);
+    if (!limit(given[3], &capacity)) {
+        return NULL;
+    }
+    PyObject *output = PyBytes_FromStringAndSize(NULL, (Py_ssize_t) capacity);
+    if (!output) {
+        return NULL;
+    }
+    uint8_t *to = (uint8_t *) PyBytes_AS_STRING(output);
+    dethrux_byte_order order =
+        PyObject_IsTrue(given[1]) ? DETHRUX_BIG_ENDIAN : DETHRUX_LITTLE_ENDIAN;
+    dethrux_decoder decoder;
+    dethrux_encoder encoder;
+    memcpy(&decoder, state->buf, sizeof decoder);
+    memcpy(&encoder, state->buf, sizeof encoder);
+    PyThreadState *saved = without_gil(chunk->without_gil);
+    dethrux_progress done = is_utf8
+        ? it->encoder_feed(&encoder, order, chunk->bytes, chunk->len, to, capacity)
+        : it->decoder_feed(&decoder, order, chunk->bytes, chunk->len, to, capacity);
+    with_gil(saved);
+    if (done.written != capacity) {
+        _PyBytes_Resize(&output, (Py_ssize_t) done.written);
+    }
+    PyObject *found = progress_of(it, output, &done);
+    if (found) {
+        memcpy(state->buf, is_utf8 ? (void *) &encoder : (void *) &decoder, sizeof decoder);
+    }
+    return found;
+}
+
+/* Returns the progress of a decoder, or of an encoder. */
+static PyObject *feed(const native *it, arguments given, bool is_utf8) {
+    Py_buffer state;
+    input chunk;
+    if (PyObject_GetBuffer(given[0], &state, PyBUF_WRITABLE) < 0) {
+        PyErr_Clear();
+        return NULL;
+    }
+    PyObject *found = NULL;
+    if (state.len == sizeof(dethrux_decoder) && hold(given[2], &chunk)) {
+        found = feed_held(it, given, &chunk, is_utf8, &state);
+        release(&chunk);
+    }
+    PyBuffer_Release(&state);
+    return found;
+}
+
+static PyObject *feed_decoder(const native *it, arguments given) {
+    return feed(it, given, false);
+}
+
+static PyObject *feed_encoder(const native *it, arguments given) {
+    return feed(it, given, true);
+}
+
+#endif

@@ -1,0 +1,735 @@
+"""The extension in C: what it does itself and what it leaves to Python, memory, threads."""
+
+import array
+import codecs
+import ctypes
+import gc
+import importlib.machinery
+import importlib.util
+import inspect
+import itertools
+import mmap
+import os
+import pickle
+import random
+import resource
+import subprocess
+import sys
+import tempfile
+import threading
+import unittest
+from pathlib import Path
+
+import dethrux
+from dethrux import _calls, _codecs, _implementation, _library
+from expected import CODECS, ORDERS, UTF8, Index, mapped, utf16
+from test_calls import outcome
+
+# How many calls may not take memory: a million with DETHRUX_CALLS=1000000.
+CALLS = int(os.environ.get("DETHRUX_CALLS") or 200_000)
+PYTHON = _implementation.in_python
+C = {name: getattr(sys.modules[function.__module__], name) for name, function in PYTHON.items()}
+NATIVE = _implementation._native
+# The shortest input for which the GIL is given up, and how much is copied and swapped at a time.
+LONG, BLOCK = 1 << 16, 1 << 14
+# A character of each kind of str, and the greatest and least ones around them.
+CHARS = {1: "a\0\x7f", 2: "\xe9\x80\xff", 3: "\u4e00\u0100\ud7ff\ue000\uffff\ufeff"}
+CHARS[4] = "\U0001f600\U00010000\U0010ffff"
+LENGTHS = (*range(40), 63, 64, 65, 127, 128, 129, 341, 342, 511, 512, 513, 1024)
+LONG_LENGTHS = (BLOCK // 2 + 1, BLOCK + 1, LONG // 4 - 1, LONG // 2 - 1, LONG // 2, LONG + 1)
+
+
+def size(text):
+    """Return what tells the kinds of equal texts apart.
+
+    It is not the size of the text itself: since Python 3.12 those of one character have UTF-8 too.
+    """
+    return sys.getsizeof(text * 2)
+
+
+def texts():
+    """Return texts of each kind, with a character of the kind at each place."""
+    for chars in CHARS.values():
+        for length in LENGTHS:
+            yield (chars * (length // len(chars) + 1))[:length]
+        for length, char in itertools.product((1, 2, 7, 8, 9, 16, 17, 33), chars):
+            for at in range(length):
+                yield "a" * at + char + "a" * (length - at - 1)
+        for length in LONG_LENGTHS:
+            yield "a" * (length - 1) + chars[0]
+            yield (chars * (length // len(chars) + 1))[:length]
+
+
+def of_package(function):
+    """Return how many functions in Python of the package a call enters."""
+    entered = []
+
+    def profile(frame, event, argument):
+        if event == "call" and Path(frame.f_code.co_filename).parent.name == "dethrux":
+            entered.append(frame.f_code.co_name)
+
+    sys.setprofile(profile)
+    try:
+        function()
+    except UnicodeError:
+        pass
+    finally:
+        sys.setprofile(None)
+    return entered
+
+
+def arguments(name, raw=b"a\0b\0", text="ab", utf8=b"ab"):
+    """Return arguments of the right types for a function."""
+    if name.startswith("feed_"):
+        return _library.State(), 0, raw, None
+    names = list(inspect.signature(PYTHON[name]).parameters)
+    first = text if names[0] == "text" or name.endswith("_encode") else raw
+    first = utf8 if names[0] == "utf8" else first
+    return (first, "little") if "byteorder" in names[1:2] else (first,)
+
+
+class Texts(unittest.TestCase):
+    """Every kind of str in both byte orders, compared with CPython."""
+
+    def test_each_kind(self):
+        for text in texts():
+            for order, codec in CODECS.items():
+                raw = text.encode(codec)
+                self.assertEqual(dethrux.encode(text, order), raw)
+                found = dethrux.decode(raw, order)
+                self.assertEqual(found, text)
+                self.assertEqual(size(found), size(raw.decode(codec)))
+                name = codec.replace("-", "_")
+                self.assertEqual(C[f"{name}_encode"](text), (raw, len(text)))
+                self.assertEqual(C[f"{name}_decode"](raw), (text, len(raw)))
+                self.assertEqual(C[f"{name}_decode_all"](raw), (text, len(raw)))
+                self.assertEqual(C["utf_16_decode_all"]("\ufeff".encode(codec) + raw)[0], text)
+            self.assertEqual(C["utf_16_encode"](text), (text.encode("utf-16"), len(text)))
+            native = text.encode(CODECS[sys.byteorder])
+            self.assertEqual(C["utf_16_decode_all"](native), codecs.utf_16_decode(native))
+
+    def test_what_is_after_the_bom_is_counted(self):
+        for raw in (b"\xff\xfea\0", b"\xfe\xff\0a", b"\xff\xfe", b"\xfe\xff", b"\xff\xff", b""):
+            expected = codecs.utf_16_decode(raw, "strict", True)
+            self.assertEqual(C["utf_16_decode_all"](raw), expected)
+
+    def test_surrogates(self):
+        for before, after in itertools.product(("", "a" * 9, "\u4e00", "\U0001f600"), repeat=2):
+            for wrong in ("\ud800", "\udc00", "\ud83d\ude00", "\udfff\ud800", "\udbff"):
+                text = before + wrong + after
+                for (order, codec), errors in itertools.product(
+                    CODECS.items(), ("strict", "surrogatepass", "replace", "ignore")
+                ):
+                    expected = outcome(text.encode, codec, errors)
+                    self.assertEqual(outcome(dethrux.encode, text, order, errors), expected)
+                    raw = text.encode(codec, "surrogatepass")
+                    expected = outcome(raw.decode, codec, errors)
+                    self.assertEqual(outcome(dethrux.decode, raw, order, errors), expected)
+
+    def test_any_units(self):
+        chooser = random.Random(16)
+        kinds = (0x61, 0xE9, 0x4E00, 0xD83D, 0xDE00, 0xFFFD)
+        for _ in range(2000):
+            among = chooser.sample(kinds, chooser.randint(1, 4))
+            units = chooser.choices(among, k=chooser.choice((3, 20, 300)))
+            for order, codec in CODECS.items():
+                raw = b"".join(unit.to_bytes(2, order) for unit in units) + b"\xd8"
+                raw = raw[: len(raw) - chooser.randint(0, 1)]
+                errors = chooser.choice(("strict", "replace", "surrogatepass", "ignore"))
+                expected = outcome(raw.decode, codec, errors)
+                self.assertEqual(outcome(dethrux.decode, raw, order, errors), expected)
+                partial = getattr(codecs, codec.replace("-", "_") + "_decode")
+                found = C[codec.replace("-", "_") + "_decode"]
+                self.assertEqual(outcome(found, raw, errors), outcome(partial, raw, errors))
+
+    def test_many_errors(self):
+        """After some of them `replace` is done by the library."""
+        handlers = ("replace", "ignore", "surrogatepass")
+        for count, after in itertools.product((15, 16, 17, 18, 40), ("", "a", "\u4e00", "\ud83d")):
+            text = "\ud800a" * count + after
+            for (order, codec), errors in itertools.product(CODECS.items(), handlers):
+                raw = text.encode(codec, "surrogatepass")
+                for data in (raw, raw + b"\xd8", raw + raw[:2] + b"\xd8"):
+                    expected = outcome(data.decode, codec, errors)
+                    self.assertEqual(outcome(dethrux.decode, data, order, errors), expected)
+                    name = codec.replace("-", "_") + "_decode"
+                    expected = outcome(getattr(codecs, name), data, errors)
+                    self.assertEqual(outcome(C[name], data, errors), expected)
+
+    def test_subclasses(self):
+        class Text(str):
+            pass
+
+        for text in ("", "a", "\xe9", "\u4e00", "\U0001f600"):
+            self.assertEqual(dethrux.encode(Text(text), "big"), text.encode("utf-16-be"))
+        self.assertEqual(dethrux.decode(b"a\0", Text("little")), "a")
+
+
+class Functions(unittest.TestCase):
+    """Which function does what, and that both have the same interface."""
+
+    def test_all_are_there(self):
+        self.assertEqual(dethrux.implementation, "c")
+        self.assertEqual(len(PYTHON), 25)
+        for name, function in C.items():
+            self.assertTrue(inspect.isbuiltin(function), name)
+            self.assertIs(function, getattr(NATIVE, name))
+            self.assertFalse(inspect.isbuiltin(PYTHON[name]), name)
+
+    def test_the_same_interface(self):
+        for name, function in C.items():
+            ours, theirs = (
+                [(each.name, each.kind, each.default) for each in signature.parameters.values()]
+                for signature in map(inspect.signature, (function, PYTHON[name]))
+            )
+            self.assertEqual(ours, theirs, name)
+            documentation = inspect.getdoc(PYTHON[name]).partition("\n\n")[0].replace("\n", " ")
+            self.assertEqual(inspect.getdoc(function), documentation)
+
+    def test_pickle(self):
+        for name, function in C.items():
+            self.assertIs(pickle.loads(pickle.dumps(function)), function)
+            self.assertEqual(function.__module__, PYTHON[name].__module__)
+
+    def test_common_calls_stay_in_c(self):
+        raws = "a", "\xe9", "\u4e00", "\U0001f600"
+        for name, text in itertools.product(C, raws):
+            raw, utf8 = text.encode("utf-16-le"), text.encode()
+            given = arguments(name, raw, text, utf8)
+            with self.subTest(name=name, text=text):
+                self.assertEqual(of_package(lambda: C[name](*given)), [])
+                parameters = list(inspect.signature(PYTHON[name]).parameters)
+                named = dict(zip(parameters, given))
+                self.assertEqual(of_package(lambda: C[name](**named)), [])
+                if "capacity" in parameters and len(given) < 4:
+                    for capacity in (0, 3, None, 2**40):
+                        self.assertEqual(of_package(lambda: C[name](*given, capacity)), [])
+                if "errors" in parameters:
+                    for errors in ("strict", "replace", "nothing"):
+                        self.assertEqual(of_package(lambda: C[name](*given, errors=errors)), [])
+        for buffer in (bytearray(b"a\0"), memoryview(b"a\0"), array.array("H", b"a\0")):
+            for name in C:
+                if not name.startswith("feed_") and "encode" not in name.split("_")[-1:]:
+                    given = arguments(name, buffer, "a", buffer)
+                    self.assertEqual(of_package(lambda: C[name](*given)), [], name)
+
+    def test_lossy_calls_stay_in_c(self):
+        for raw in (b"\0\xdc", b"a\0\0\xd8b\0", b"a\0b"):
+            self.assertEqual(
+                of_package(lambda: dethrux.decode_to_utf8(raw, "little", "replace")), []
+            )
+            self.assertEqual(
+                of_package(lambda: dethrux.encode_from_utf8(b"\xff", "little", "replace")), []
+            )
+            for name in ("to_utf8", "to_utf8_lossy", "to_utf8_partial", "validate"):
+                self.assertEqual(of_package(lambda: C[name](raw, "little")), [])
+        for raw in (b"a", b"a\0\x3d\xd8", b"a\0\x3d\xd8\0", b"\0\xdc"):
+            for errors in ("replace", "ignore", "surrogatepass", "backslashreplace"):
+                for final in (False, True):
+                    given = raw, errors, final
+                    self.assertEqual(of_package(lambda: C["utf_16_le_decode"](*given)), [])
+                self.assertEqual(of_package(lambda: dethrux.decode(raw, "big", errors)), [])
+                self.assertEqual(of_package(lambda: dethrux.decode_to_utf8(raw, "big", errors)), [])
+        for errors in ("replace", "ignore", "surrogatepass", "backslashreplace"):
+            self.assertEqual(of_package(lambda: dethrux.encode("\udc00", "big", errors)), [])
+            given = b"a\xed\xb0\x80", "big", errors
+            self.assertEqual(of_package(lambda: dethrux.encode_from_utf8(*given)), [])
+
+    def test_the_codecs_stay_in_c(self):
+        text = "a\xe9\u4e00\U0001f600"
+        for name in ("utf-16-le", "utf-16-be", "utf-16"):
+            raw = text.encode(name)
+            codec = f"dethrux-{name}"
+            raw.decode(codec)
+            self.assertEqual(of_package(lambda: raw.decode(codec)), [])
+            self.assertEqual(of_package(lambda: text.encode(codec)), [])
+            self.assertEqual(raw.decode(codec), text)
+            self.assertEqual(text.encode(codec), raw)
+
+    def check_both(self, name, *given, **named):
+        """Both implementations return the same, of the same types, or raise the same."""
+
+        def call(function):
+            try:
+                return function(*given, **named)
+            except Exception as error:
+                return type(error), str(error)
+
+        found, expected = call(C[name]), call(PYTHON[name])
+        self.assertEqual(found, expected, (name, given, named))
+        self.assertIs(type(found), type(expected))
+        if isinstance(found, tuple):
+            self.assertEqual([*map(type, found)], [*map(type, expected)])
+
+    def test_both_return_the_same(self):
+        capacities = (None, 0, 1, 2, 3, 4, 7, 1000, True, Index(3), 2**63, -1, -(2**70), "1", 1.5)
+        handlers = ("strict", "replace", "ignore", "surrogatepass", "surrogateescape", "", 5, None)
+        for name in C:
+            parameters = list(inspect.signature(PYTHON[name]).parameters)
+            if name.startswith("feed_") or name.endswith("encode") or parameters[0] == "text":
+                continue
+            for order in (*ORDERS, "middle", 5):
+                raws = UTF8 if parameters[0] == "utf8" else utf16("little") + utf16("big")
+                for raw in (*raws, *(bytearray(raw) for raw in raws), "a", None):
+                    given = (raw, order) if "byteorder" in parameters else (raw,)
+                    extra = {"capacity": capacities, "errors": handlers}.get(parameters[-1], ())
+                    self.check_both(name, *given)
+                    if raw in (raws[5], raws[8]):
+                        for each in extra:
+                            self.check_both(name, *given, each)
+
+    def test_wrong_arguments(self):
+        for name in C:
+            if name.startswith("feed_"):
+                continue
+            given = arguments(name)
+            self.check_both(name)
+            self.check_both(name, *given, *(None,) * 5)
+            extra = len(inspect.signature(PYTHON[name]).parameters) + 1 - len(given)
+            self.check_both(name, *given, *(None,) * extra)
+            self.check_both(name, *given, other=5)
+            first = next(iter(inspect.signature(PYTHON[name]).parameters))
+            self.check_both(name, *given, **{first: given[0]})
+            self.check_both(name, **{first: given[0]})
+        for final in (0, 1, [], "a", 1.5, None):
+            self.check_both("utf_16_le_decode", b"a\0b", "replace", final)
+            self.check_both("utf_16_le_decode", b"a\0b", final=final)
+        for order in (-1, 0, 1, True, 5):
+            self.check_both("utf_16_encode", "a", "strict", order)
+        for wrong in (b"a", None, 5):
+            self.check_both("encode", wrong, "little")
+            self.check_both("utf_16_le_encode", wrong)
+            self.check_both("utf_16_encode", wrong)
+
+    def test_final_that_has_no_truth(self):
+        class Unknown:
+            def __bool__(self):
+                raise KeyError("unknown")
+
+        with self.assertRaises(KeyError):
+            C["utf_16_le_decode"](b"a\0", "strict", Unknown())
+
+    def test_the_numbers_of_small_buffers(self):
+        """Around the capacity that goes through the stack."""
+        for length in (338, 340, 341, 342, 344, 511, 512, 513, 1024):
+            for text in ("a" * length, "\u4e00" * length):
+                raw, utf8 = text.encode("utf-16-be"), text.encode()
+                self.assertEqual(dethrux.decode_to_utf8(raw, "big"), utf8)
+                self.assertEqual(dethrux.to_utf8(raw, "big"), (utf8, len(raw), 0, 0))
+                self.assertEqual(dethrux.encode_from_utf8(utf8, "big"), raw)
+                for capacity in (0, 3, 1023, 1024, 1025):
+                    self.check_both("to_utf8", raw, "big", capacity)
+                    self.check_both("from_utf8", utf8, "big", capacity)
+
+
+class Buffers(unittest.TestCase):
+    def test_a_released_buffer(self):
+        view = memoryview(b"a\0")
+        view.release()
+        with self.assertRaises(ValueError):
+            dethrux.decode(view, "little")
+
+    def test_not_held_after_the_call(self):
+        raws = (b"a\0" * 5, b"\0\xdc", b"a\0" * LONG)
+        for name, raw in itertools.product(C, raws):
+            buffer = bytearray(raw)
+            try:
+                C[name](*arguments(name, buffer, "a", buffer))
+            except UnicodeError:
+                pass
+            buffer.append(0)
+
+    def test_the_owner_is_not_held_after_the_call(self):
+        mapping = mapped(b"a\0" * LONG)
+        view = memoryview(mapping)
+        for name in C:
+            try:
+                C[name](*arguments(name, view, "a", view))
+            except UnicodeError:
+                pass
+        view.release()
+        mapping.close()
+
+    def test_a_mapped_file(self):
+        text = "a\xe9\u4e00\U0001f600" * LONG
+        for order, codec in CODECS.items():
+            raw = text.encode(codec)
+            with tempfile.TemporaryFile() as file:
+                file.write(raw)
+                file.flush()
+                for access in (mmap.ACCESS_READ, mmap.ACCESS_WRITE, mmap.ACCESS_COPY):
+                    with mmap.mmap(file.fileno(), 0, access=access) as mapping:
+                        self.assertEqual(dethrux.decode(mapping, order), text)
+                        self.assertEqual(dethrux.decode_to_utf8(mapping, order), text.encode())
+                        self.assertEqual(dethrux.count_chars(mapping, order), len(text))
+
+    def test_no_copy(self):
+        """A long text needs no memory except for what is returned."""
+        import tracemalloc
+
+        raw = "\u4e00".encode("utf-16-le") * LONG
+        buffers = raw, bytearray(raw), memoryview(bytearray(raw)), mapped(raw)
+        calls = ("count_chars", "is_ascii", "validate", "to_utf8_lossy_len")
+        for name, buffer in itertools.product(calls, buffers):
+            tracemalloc.start()
+            C[name](buffer, "little")
+            peak = tracemalloc.get_traced_memory()[1]
+            tracemalloc.stop()
+            self.assertLess(peak, 4096, (name, type(buffer)))
+        tracemalloc.start()
+        dethrux.decode(raw, "big")
+        dethrux.encode("\u4e00" * LONG, "big")
+        peak = tracemalloc.get_traced_memory()[1]
+        tracemalloc.stop()
+        self.assertLess(peak, 2 * len(raw) + 4096)
+
+
+# A library whose calls tell whether the thread has the GIL, and need no proof.
+TELLS_GIL = r"""
+#include "dethrux.h"
+int PyGILState_Check(void);
+/* One more than whether each call had the GIL, joined by "or"; and what `inspect` finds. */
+int held, repertoire;
+#define HELD (held |= 1 + PyGILState_Check())
+#define P dethrux_byte_order order, const uint8_t *bytes, size_t len
+#define TO uint8_t *to, size_t capacity
+static dethrux_progress p(size_t len, size_t capacity) {
+    HELD;
+    dethrux_progress done = {len, capacity, DETHRUX_DONE, 0};
+    return done;
+}
+uint32_t dethrux_version(void) { return DETHRUX_VERSION; }
+dethrux_validity dethrux_validate(P) { HELD; dethrux_validity v = {len, 0, 0}; return v; }
+size_t dethrux_count_chars(P) { HELD; return len; }
+bool dethrux_is_ascii(P) { HELD; return len; }
+size_t dethrux_to_utf8_lossy_len(P) { HELD; return len; }
+size_t dethrux_from_utf8_len(const uint8_t *b, size_t len) { HELD; return len; }
+size_t dethrux_from_utf8_lossy_len(const uint8_t *b, size_t len) { HELD; return len; }
+dethrux_progress dethrux_to_utf8(P, TO) { return p(len, capacity); }
+dethrux_progress dethrux_to_utf8_lossy(P, TO) { return p(len, capacity); }
+dethrux_progress dethrux_to_utf8_partial(P, TO) { return p(len, capacity); }
+dethrux_progress dethrux_from_utf8(P, TO) { return p(len, capacity); }
+dethrux_progress dethrux_from_utf8_lossy(P, TO) { return p(len, capacity); }
+dethrux_progress dethrux_decoder_feed(dethrux_decoder *d, P, TO) { return p(len, capacity); }
+dethrux_progress dethrux_encoder_feed(dethrux_encoder *d, P, TO) { return p(len, capacity); }
+dethrux_inspection dethrux_inspect(P) {
+    HELD;
+    dethrux_inspection found = {len, len / 2, (dethrux_repertoire) repertoire, DETHRUX_DONE, 0};
+    return found;
+}
+dethrux_progress dethrux_to_latin1(P, TO) { return p(len, capacity); }
+dethrux_progress dethrux_from_latin1(P, TO) { return p(len, capacity); }
+dethrux_progress dethrux_to_utf32(dethrux_byte_order order, const uint8_t *utf16, size_t len,
+                                  uint32_t *to, size_t capacity) { return p(len, capacity); }
+dethrux_progress dethrux_from_utf32(dethrux_byte_order order, const uint32_t *utf32, size_t len,
+                                    TO) { return p(len, capacity); }
+size_t dethrux_from_utf32_lossy_len(const uint32_t *u, size_t len) { HELD; return 4 * len; }
+void dethrux_swap_byte_order(uint8_t *utf16, size_t len) { HELD; }
+dethrux_bom dethrux_detect_bom(P) { dethrux_bom bom = {0, order, DETHRUX_BOM_ABSENT}; return bom; }
+#define NONE(name) void none_##name(void) __asm__("dethrux_" #name); void none_##name(void) {}
+NONE(decoder_finish) NONE(encoder_finish) NONE(is_char_boundary) NONE(floor_char_boundary)
+NONE(floor_char_boundary_around) NONE(shard_offset) NONE(make_well_formed) NONE(compare)
+NONE(to_utf32_lossy) NONE(to_utf32_lossy_len) NONE(validate_utf32) NONE(from_utf32_lossy)
+"""
+# Prints each call that does not give up the GIL if it should, or gives it up if it should not.
+ASKS_GIL = r"""
+import ctypes, sys
+sys.path.insert(0, sys.argv[1])
+import dethrux
+from test_native import C, LONG, arguments, mapped
+library = dethrux._library._library
+held, repertoire = (ctypes.c_int.in_dll(library, it) for it in ("held", "repertoire"))
+count = 0
+
+def check(is_given_up, name, *given):
+    global count
+    held.value = 0
+    C[name](*given)
+    count += 1
+    if held.value != (1 if is_given_up else 2):
+        print(name, *map(type, given), is_given_up, held.value)
+
+for size in (2, LONG - 2, LONG):
+    raw = b"a\0" * (size // 2)
+    constant = [raw, memoryview(raw), memoryview(raw)[:], mapped(raw), memoryview(mapped(raw))]
+    constant += [memoryview(raw).cast("H")]
+    writable = [bytearray(raw), memoryview(bytearray(raw)).toreadonly()]
+    writable += [memoryview(bytearray(raw)), memoryview(memoryview(bytearray(raw)).toreadonly())]
+    buffers = [(each, size >= LONG) for each in constant] + [(each, False) for each in writable]
+    for kind in range(4):
+        repertoire.value = kind
+        for (buffer, is_given_up), name in ((buffer, name) for buffer in buffers for name in C):
+            if not name.endswith("encode"):
+                check(is_given_up, name, *arguments(name, buffer, "", buffer))
+        check(size >= LONG, "decode", raw, "big")
+    repertoire.value = 2
+    for char, width in (("a", 1), ("\u4e00", 2), ("\U0001f600", 4)):
+        text = char * (size // width)
+        for order in ("little", "big"):
+            check(len(text) * width >= LONG, "encode", text, order)
+        for name in ("utf_16_le_encode", "utf_16_be_encode", "utf_16_encode"):
+            check(len(text) * width >= LONG, name, text)
+print(count)
+"""
+
+
+class Gil(unittest.TestCase):
+    def test_who_gives_it_up(self):
+        """All calls for a long input that nobody can write to, and no other ones."""
+        top = Path(os.environ.get("DETHRUX_TOP") or Path(__file__).resolve().parents[3])
+        with tempfile.TemporaryDirectory() as folder:
+            library = Path(folder) / "libtells.so"
+            words = ["cc", "-shared", "-fPIC", "-w", "-x", "c", "-I", str(top / "include"), "-"]
+            subprocess.run([*words, "-o", str(library)], input=TELLS_GIL.encode(), check=True)
+            run = subprocess.run(
+                [sys.executable, "-B", "-c", ASKS_GIL, str(Path(__file__).parent)],
+                env={**os.environ, "DETHRUX_LIBRARY": str(library)},
+                stdout=subprocess.PIPE,
+                check=True,
+                text=True,
+            )
+        lines = run.stdout.splitlines()
+        self.assertEqual(lines[:-1], [])
+        self.assertGreater(int(lines[-1]), 2000)
+
+
+class Memory(unittest.TestCase):
+    """References, leaks and failures of allocations."""
+
+    def calls(self):
+        """Return calls of each function that succeed, that are left to Python, and that fail."""
+        found = []
+        texts = ["", "ab", "\xe9", "\u4e00" * 400, "\U0001f600", "\ud800", "a" * LONG]
+        raws = [text.encode("utf-16-le", "surrogatepass") for text in texts]
+        for name in C:
+            for raw, text in zip(raws, texts):
+                utf8 = text.encode("utf-8", "surrogatepass")
+                found.append((C[name], arguments(name, raw, text, utf8)))
+            found.append((C[name], arguments(name, bytearray(raws[1]), "a", memoryview(b"ab"))))
+            found.append((C[name], (None, None)))
+            if "errors" in inspect.signature(PYTHON[name]).parameters:
+                for errors in ("replace", "ignore", "surrogatepass", "backslashreplace"):
+                    wrong = "a\udc00b\ud800", b"a\0\0\xdc\0\xd8", b"a\xff\xed\xa0\x80"
+                    given = arguments(name, wrong[1], wrong[0], wrong[2])
+                    found.append((C[name], (*given, errors)))
+        return found
+
+    @staticmethod
+    def run_call(function, given):
+        try:
+            return function(*given)
+        except (UnicodeError, TypeError, ValueError, LookupError) as error:
+            return type(error)
+
+    def test_references(self):
+        for function, given in self.calls():
+            self.run_call(function, given)
+            gc.collect()
+            everything = [*given, *dethrux.Status, dethrux.Progress, dethrux.Validity, function]
+            before = [sys.getrefcount(each) for each in everything]
+            for _ in range(20):
+                self.run_call(function, given)
+            gc.collect()
+            after = [sys.getrefcount(each) for each in everything]
+            self.assertEqual(after, before, (function, given))
+
+    def test_no_leak(self):
+        calls = [each for each in self.calls() if sys.getsizeof(each[1][0]) < LONG]
+
+        def run(times):
+            for _ in range(times):
+                for function, given in calls:
+                    self.run_call(function, given)
+            gc.collect()
+            return resource.getrusage(resource.RUSAGE_SELF).ru_maxrss
+
+        times = CALLS // len(calls) + 1
+        before = run(times // 4)
+        self.assertLess(run(times) - before, 1024, "KiB")
+
+    def test_failures(self):
+        """Each allocation of a call fails: it raises MemoryError, or returns what it does."""
+        try:
+            from _testcapi import remove_mem_hooks, set_nomemory
+        except ImportError:
+            self.skipTest("this Python has no _testcapi")
+        for function, given in self.calls():
+            expected = self.run_call(function, given)
+            if isinstance(expected, type) or isinstance(given[0], _library.State):
+                continue
+            before = [sys.getrefcount(each) for each in given]
+            found = None
+            failed = 0
+            for start in range(12):
+                found = None
+                set_nomemory(start, start + 1)
+                try:
+                    found = function(*given)
+                except MemoryError:
+                    failed += 1
+                finally:
+                    remove_mem_hooks()
+                if found is not None:
+                    self.assertEqual(found, expected)
+            found = None
+            after = [sys.getrefcount(each) for each in given]
+            self.assertEqual(after, before, function)
+            if isinstance(expected, (str, bytes)) and len(expected) > 1:
+                self.assertGreater(failed, 0, (function, given))
+
+    def test_a_decoder_stays_if_memory_fails(self):
+        try:
+            from _testcapi import remove_mem_hooks, set_nomemory
+        except ImportError:
+            self.skipTest("this Python has no _testcapi")
+        for kind, chunk in ((dethrux.Decoder, b"a\0\x3d"), (dethrux.Encoder, b"a\xf0\x9f")):
+            outcomes = set()
+            for start in range(14):
+                decoder = kind("little")
+                failed = False
+                set_nomemory(start, start + 1)
+                try:
+                    decoder.feed(chunk)
+                except MemoryError:
+                    failed = True
+                finally:
+                    remove_mem_hooks()
+                self.assertEqual(decoder.pending == b"", failed, start)
+                outcomes.add(failed)
+            self.assertEqual(outcomes, {False, True})
+
+
+class Threads(unittest.TestCase):
+    def test_long_texts(self):
+        text = "a\xe9\u4e00\U0001f600" * LONG
+        found = []
+
+        def work(order):
+            raw = text.encode(CODECS[order])
+            for _ in range(4):
+                found.append(dethrux.decode(raw, order) == text)
+                found.append(dethrux.encode(text, order) == raw)
+                found.append(dethrux.decode_to_utf8(raw, order) == text.encode())
+
+        threads = [threading.Thread(target=work, args=(order,)) for order in ORDERS * 3]
+        for thread in threads:
+            thread.start()
+        for thread in threads:
+            thread.join()
+        self.assertEqual(found, [True] * 6 * 12)
+
+    def test_a_buffer_that_another_thread_changes(self):
+        """A call sees it as it was before a change, or after it."""
+        texts = "a" * LONG, "\u4e00" * LONG
+        raws = [text.encode("utf-16-le") for text in texts]
+        buffer = bytearray(raws[0])
+        done = threading.Event()
+
+        def change():
+            for raw in itertools.cycle(raws):
+                try:
+                    buffer[:] = raw
+                except BufferError:
+                    pass
+                if done.is_set():
+                    return
+
+        interval = sys.getswitchinterval()
+        sys.setswitchinterval(1e-5)
+        thread = threading.Thread(target=change)
+        thread.start()
+        try:
+            for _ in range(300):
+                self.assertIn(dethrux.decode(buffer, "little"), texts)
+                self.assertIn(dethrux.decode_to_utf8(buffer, "little"), map(str.encode, texts))
+        finally:
+            done.set()
+            thread.join()
+            sys.setswitchinterval(interval)
+
+
+class Interpreters(unittest.TestCase):
+    SCRIPT = (
+        "import sys\n"
+        "try:\n"
+        "    import dethrux\n"
+        "except ImportError as error:\n"
+        "    assert 'interpreter' in str(error), error\n"
+        "else:\n"
+        "    assert dethrux.decode(b'a\\0', 'little') == 'a'\n"
+        "    assert 'a'.encode('dethrux-utf-16-be') == b'\\0a'\n"
+        "    found = dethrux.validate(b'\\0\\xdc', 'little')\n"
+        "    assert type(found) is dethrux.Validity and found.status is dethrux.Status.ILL_FORMED\n"
+        "    assert dethrux.decode(b'\\0\\xdc', 'little', 'replace') == '\\ufffd'\n"
+    )
+
+    def test_each_has_its_own(self):
+        for name in ("_interpreters", "_xxsubinterpreters"):
+            try:
+                interpreters = importlib.import_module(name)
+                break
+            except ImportError:
+                continue
+        else:
+            self.skipTest("this Python has no module for interpreters")
+        path = f"import sys\nsys.path[:] = {sys.path!r}\n"
+        for _ in range(3):
+            interpreter = interpreters.create()
+            try:
+                failed = interpreters.run_string(interpreter, path + self.SCRIPT)
+                self.assertIsNone(failed)
+            finally:
+                interpreters.destroy(interpreter)
+            found = dethrux.validate(b"\0\xdc", "little")
+            self.assertIs(type(found), dethrux.Validity)
+            self.assertEqual(dethrux.decode(b"\0\xdc", "little", "replace"), "\ufffd")
+
+    def other(self):
+        """Return another module of the same extension."""
+        loader = importlib.machinery.ExtensionFileLoader("dethrux._native", NATIVE.__file__)
+        spec = importlib.util.spec_from_loader("dethrux._native", loader)
+        module = importlib.util.module_from_spec(spec)
+        loader.exec_module(module)
+        return module
+
+    def test_a_module_that_is_not_set_up(self):
+        other = self.other()
+        for name in C:
+            with self.assertRaisesRegex(RuntimeError, r"^import dethrux instead of"):
+                getattr(other, name)(*arguments(name))
+        self.assertIs(other.take(PYTHON["validate"]), PYTHON["validate"])
+        self.assertEqual(dethrux.decode(b"a\0", "little"), "a")
+
+    def test_set_up(self):
+        handle, types = _library.handle(), (dethrux.Validity, dethrux.Progress)
+        for wrong in ((), (handle, *types), (handle, *types, []), ("1", *types, ())):
+            with self.assertRaises(TypeError):
+                self.other().set_up(*wrong)
+        with self.assertRaisesRegex(ImportError, "^the library has no dethrux_inspect$"):
+            self.other().set_up(ctypes.CDLL(None)._handle, *types, ())
+        other = self.other()
+        other.set_up(handle, *types, tuple(dethrux.Status))
+        other.set_up(handle, *types, tuple(dethrux.Status))
+        kept = (*types, tuple(dethrux.Status), PYTHON["validate"])
+        other.take(kept[-1])
+        before = [sys.getrefcount(each) for each in kept]
+        for _ in range(10):
+            other.set_up(handle, *kept[:3])
+            other.take(kept[-1])
+        after = [sys.getrefcount(each) for each in kept]
+        self.assertEqual([after[0], after[1], after[3]], [before[0], before[1], before[3]])
+        self.assertEqual(after[2], before[2] + 1)
+        self.assertIs(other.take(len), len)
+        with self.assertRaises(AttributeError):
+            other.take(5)
+        self.assertIs(other.take(PYTHON["validate"]), other.validate)
+        self.assertEqual(other.validate(b"a", "little"), (0, 2, 0))
+        del other
+        gc.collect()
+        gone = [sys.getrefcount(each) for each in kept]
+        # The module has let go of what it kept; the tuple of statuses was another one before.
+        self.assertEqual(gone, [before[0] - 1, before[1] - 1, before[2], before[3] - 1])
+
+
+if __name__ == "__main__":
+    unittest.main()
