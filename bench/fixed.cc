@@ -82,13 +82,13 @@ static std::vector<row> rows_of(const text &of, bool big, bool is_latin1) {
     auto *bytes = reinterpret_cast<uint8_t *>(units.data());
     const auto *from = reinterpret_cast<const uint32_t *>(of.points.data());
     size_t count_of = of.points.size();
-    auto to_wide = [=](const simdutf::implementation *by) {
+    auto to_wide = [=, &of](const simdutf::implementation *by) {
         return [=] {
             return count(big ? by->convert_utf16be_to_utf32_with_errors(utf16, len, points.data())
                              : by->convert_utf16le_to_utf32_with_errors(utf16, len, points.data()));
         };
     };
-    auto from_wide = [=](const simdutf::implementation *by) {
+    auto from_wide = [=, &of](const simdutf::implementation *by) {
         return [=, &of] {
             return 2 * count(big ? by->convert_utf32_to_utf16be_with_errors(of.points.data(), count_of, units.data())
                                  : by->convert_utf32_to_utf16le_with_errors(of.points.data(), count_of, units.data()));
@@ -108,14 +108,14 @@ static std::vector<row> rows_of(const text &of, bool big, bool is_latin1) {
     if (!is_latin1) {
         return rows;
     }
-    auto narrow = [=](const simdutf::implementation *by) {
+    auto narrow = [=, &of](const simdutf::implementation *by) {
         return [=] {
             auto *to = reinterpret_cast<char *>(units.data());
             return count(big ? by->convert_utf16be_to_latin1_with_errors(utf16, len, to)
                              : by->convert_utf16le_to_latin1_with_errors(utf16, len, to));
         };
     };
-    auto widen = [=](const simdutf::implementation *by) {
+    auto widen = [=, &of](const simdutf::implementation *by) {
         return [=, &of] {
             return 2 * (big ? by->convert_latin1_to_utf16be(of.latin1.data(), len, units.data())
                             : by->convert_latin1_to_utf16le(of.latin1.data(), len, units.data()));
@@ -135,11 +135,13 @@ static std::vector<row> rows_of(const text &of, bool big, bool is_latin1) {
 
 // The same count by each: of the bytes or code units that were written.
 static void compare(const row &of) {
+    size_t expected = of.calls[0]();
     for (int i = 0; i < 4; i++) {
         std::memset(points.data(), 0, points.size() * 4);
         std::memset(units.data(), 0, units.size() * 2);
         const void *to = of.name.compare(0, 9, "to UTF-32") == 0 ? static_cast<void *>(points.data()) : units.data();
-        if (of.calls[i]() != of.calls[0]() || std::memcmp(to, of.written, of.written_len) != 0) {
+        size_t count = of.calls[i]();
+        if (count != expected || std::memcmp(to, of.written, of.written_len) != 0) {
             std::fprintf(stderr, "differs: %s, %d\n", of.name.c_str(), i);
             std::exit(1);
         }
