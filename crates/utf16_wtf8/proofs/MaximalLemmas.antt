@@ -1,5 +1,5 @@
--- The length of an ill-formed sequence of WTF-8 is the length of a maximal subpart in the Standard's
--- words.
+-- The length of an ill-formed sequence of WTF-8 is the length of a maximal subpart in the words of
+-- the Standard.
 use Rattle.std.proofs.Common.{◌≡◌, ◌↔◌, inl, inr, ℕ, ◌+◌, ◌-◌, ◌*◌, ◌/◌, ◌%◌, ◌<◌, ◌≤◌, true, false, List, [], ◌∷◌, ◌++◌, None, Some, length, slice_index, take, drop, refl, sym, ap, ap₂, ◌∙◌, subst, ⊎_elim, arith, length-append, length-take, length-take-le, take-append-drop, take_all, true≢false, le-leb}
 use Rattle.std.specs.Prelude.{◌&&◌, ◌==◌}
 use Rattle.std.proofs.lemmas.Bool.{cases_Bool, cases_lt, cases_order, false_from_ne_true}

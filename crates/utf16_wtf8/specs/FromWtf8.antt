@@ -37,8 +37,8 @@ surrogate_begins bytes = (slice_index bytes 0 == 0xED) && is_in_range 0xA0 0xBF 
 
 -- the length of the ill-formed sequence after the longest prefix that is WTF-8, like Rust's
 -- `error_len`: all three bytes of a trailing surrogate, which follows a leading one; two bytes that
--- begin a surrogate that a third does not complete; and otherwise the length that UTF-8 has. `None` if more
--- bytes may complete a code point
+-- begin a surrogate that a third does not complete; and otherwise the length that UTF-8 has. `None`
+-- if more bytes may complete a code point
 abbrev pub wtf8_error_len : List ℕ → Option ℕ
 wtf8_error_len rest =
     if surrogate_begins rest then (if nat_lt (length rest) 3 then None else (if is_in_range 0x80 0xBF (slice_index rest 2) then Some 3 else Some 2))

@@ -92,8 +92,8 @@ pub record BeginsTrailing (bytes : List ℕ) : Type 0 where
   pub trailing : IsTrailing trail
   pub begins : bytes ≡ generalized_utf8 trail ++ more
 
--- WTF-8 and then WTF-8 is WTF-8, unless the first ends with a leading surrogate and the second begins
--- with a trailing one (The WTF-8 encoding: concatenating)
+-- WTF-8 and then WTF-8 is WTF-8, unless the first ends with a leading surrogate and the second
+-- begins with a trailing one (The WTF-8 encoding: concatenating)
 abbrev pub Concatenates : Type 0
 Concatenates = (front back : List ℕ) → IsWtf8 front → IsWtf8 back
     → IsWtf8 (front ++ back) ↔ (EndsLeading front true → ¬ (BeginsTrailing back))

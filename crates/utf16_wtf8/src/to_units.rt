@@ -35,8 +35,8 @@ pub fn from_wtf8<E: Utf16Order>(wtf8: &[u8], to: &mut [u8]) -> Progress
 
 /// Writes a chunk of a stream of WTF-8 in UTF-16 to the start of a buffer, like `from_wtf8`. What
 /// more bytes could change at the end is not read: the beginning of a code point, or a leading
-/// surrogate, or one and then the other, at most five bytes. The call stops with `Incomplete` before
-/// it. Put it before the next chunk, and pass the end of the stream to `from_wtf8`.
+/// surrogate, or one and then the other, at most five bytes. The call stops with `Incomplete`
+/// before it. Put it before the next chunk, and pass the end of the stream to `from_wtf8`.
 ///
 /// # Complexity
 ///

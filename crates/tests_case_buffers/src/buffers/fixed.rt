@@ -60,8 +60,8 @@ fn numbers(alloc: Global, bytes: &[u8]) -> Result<Vec<u32>, AllocError> {
     Ok(numbers)
 }
 
-// Adds how far a call to UTF-32 came with a buffer of this many code units, or of the number that the
-// length call returns, and what it wrote.
+// Adds how far a call to UTF-32 came with a buffer of this many code units, or of the number that
+// the length call returns, and what it wrote.
 fn to_wide<E: Utf16Order>(
     alloc: Global,
     name: &str,
