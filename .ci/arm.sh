@@ -37,7 +37,7 @@ tables() {
         passed=$((passed + BASH_REMATCH[1]))
         failed=$((failed + BASH_REMATCH[2]))
     done < "$room/tables"
-    check "three counts with $compiler" [ $lines = 3 ]
+    check "four counts with $compiler" [ $lines = 4 ]
 }
 
 # Tests that the shared library has its name, needs only libc, and only what glibc 2.17 has, the

@@ -673,7 +673,8 @@ static void check_detect_bom(void) {
         expect("byte_order", got.byte_order,
                first == 0xFFFE   ? DETHRUX_LITTLE_ENDIAN
                : first == 0xFEFF ? DETHRUX_BIG_ENDIAN
-                                 : in.order);
+               : in.order == DETHRUX_BIG_ENDIAN ? DETHRUX_BIG_ENDIAN
+                                                : DETHRUX_LITTLE_ENDIAN);
         expect("status", got.status, status);
     }
 }

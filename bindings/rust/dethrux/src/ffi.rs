@@ -92,11 +92,8 @@ extern "C" {
         second: *const u8,
         second_len: usize,
     ) -> i32;
-    pub(crate) fn dethrux_detect_bom(
-        default_order: ByteOrder,
-        bytes: *const u8,
-        len: usize,
-    ) -> Bom;
+    pub(crate) fn dethrux_detect_bom(default_order: ByteOrder, bytes: *const u8, len: usize)
+        -> Bom;
 
     pub(crate) fn dethrux_to_utf8(
         order: ByteOrder,
