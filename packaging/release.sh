@@ -76,7 +76,7 @@ sources() {
     local name=dethrux-$version-dist
     mkdir "$room/$name"
     copy "$name" CHANGELOG.md LICENSE-APACHE LICENSE-MIT THIRD-PARTY.md VERSION install.sh \
-        cases dist docs/{C,CPP,INSTALL}.md examples/c/{check,decode,first,units}.c include \
+        cases dist docs/{C,CPP,INSTALL}.md examples/c/{check,decode,first,fixed,units}.c include \
         packaging/{build.sh,man3}
     cp "$top/dist/README.md" "$room/$name/"
     pack "$name"
