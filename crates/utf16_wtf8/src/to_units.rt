@@ -33,10 +33,10 @@ pub fn from_wtf8<E: Utf16Order>(wtf8: &[u8], to: &mut [u8]) -> Progress
     progress
 }
 
-/// Writes a chunk of a stream of WTF-8 in UTF-16 to the start of a buffer, like `from_wtf8`. What
-/// more bytes could change at the end is not read: the beginning of a code point, or a leading
-/// surrogate, or one and then the other, at most five bytes. The call stops with `Incomplete`
-/// before it. Put it before the next chunk, and pass the end of the stream to `from_wtf8`.
+/// Writes a chunk of a stream of WTF-8 in UTF-16 to the start of a buffer, like `from_wtf8`. It
+/// stops with `Incomplete` before what more bytes could change at the end: a leading surrogate, or
+/// the beginning of a code point, or both. These are at most six bytes: put them before the next
+/// chunk, and pass those at the end of the stream to `from_wtf8`.
 ///
 /// # Complexity
 ///
