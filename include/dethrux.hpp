@@ -2,7 +2,7 @@
 
 /**
  * @file
- * Dethrux for C++17: UTF-16 in either byte order, to and from UTF-8, UTF-32 and Latin-1, in strings.
+ * Dethrux for C++17: strings of UTF-16 in either byte order, to and from UTF-8, UTF-32, Latin-1.
  *
  * Each function makes a proved call of dethrux.h. What is added here, memory and types, is tested,
  * not proved.

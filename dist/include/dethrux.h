@@ -451,7 +451,7 @@ DETHRUX_NODISCARD dethrux_inspection dethrux_inspect(
  * @param to code points in the machine's byte order
  * @param capacity counts code units of UTF-32: `len / 2` suffices, and so does
  *   DETHRUX_UTF32_MAX(len)
- * @return how far the call came (`written` counts code units of UTF-32), with one of these statuses:
+ * @return how far the call came (`written` counts units of UTF-32), with one of these statuses:
  * - DETHRUX_DONE: all of the input was read
  * - DETHRUX_ILL_FORMED: an unpaired surrogate follows `read`
  * - DETHRUX_INCOMPLETE: the input ends inside a character, which follows `read`
@@ -468,7 +468,7 @@ DETHRUX_NODISCARD dethrux_progress dethrux_to_utf32(
  *
  * @param to code points in the machine's byte order
  * @param capacity counts code units of UTF-32: DETHRUX_UTF32_MAX(len) suffices
- * @return how far the call came (`written` counts code units of UTF-32), with one of these statuses:
+ * @return how far the call came (`written` counts units of UTF-32), with one of these statuses:
  * - DETHRUX_DONE: all of the input was read
  * - DETHRUX_NO_SPACE: the next character does not fit: call again with the rest
  * @ingroup dethrux_fixed

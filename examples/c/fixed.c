@@ -1,5 +1,5 @@
 /* Makes the calls for UTF-32 and Latin-1, and dethrux_inspect, on texts with each character that is
- * at a limit at each place around the blocks of the library, in both byte orders and into buffers of
+ * at a limit at each place around the blocks of the library, in both byte orders, into buffers of
  * telling sizes, and compares with a plain loop over code units. It is C11 and C++17. The last line
  * is 'N passed, M failed'. */
 #include "dethrux.h"
@@ -237,7 +237,7 @@ static bool spell(dethrux_byte_order order, const uint8_t *bytes, const uint16_t
     return true;
 }
 
-/* A strict or a lossy call, and in the machine's byte order the one on code units, into a buffer for
+/* A strict or lossy call, and in the machine's byte order the one on code units, into a buffer for
  * so many bytes. */
 static bool encodes(bool lossy, dethrux_byte_order order, size_t capacity) {
     uint16_t wanted[2 * MOST], native[2 * MOST + 8];

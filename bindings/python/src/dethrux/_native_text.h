@@ -601,7 +601,7 @@ static PyObject *transcoded(const native *it, arguments given, conversion *stric
     return output;
 }
 
-/* Returns the name of an error handler for CPython, or NULL if there is no name. */
+/* Returns the name of an error handler, or NULL if CPython's functions do not take this name. */
 static const char *name_of(PyObject *errors) {
     if (!errors) {
         return "strict";
