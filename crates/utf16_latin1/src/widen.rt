@@ -28,8 +28,7 @@ pub fn from_latin1<E: Utf16Order>(latin1: &[u8], to: &mut [u8]) -> Progress
         else NoSpace }
 {
     let most = latin1.len().min(to.len() / 2);
-    let at = write_wide_blocks::<E>(latin1, to, most);
-    let at = write_narrow_blocks::<E>(latin1, to, at, most);
+    let at = write_blocks::<E>(latin1, to, most);
     write_last_bytes::<E>(latin1, to, at, most);
     Progress {
         read: most,
@@ -42,44 +41,16 @@ pub fn from_latin1<E: Utf16Order>(latin1: &[u8], to: &mut [u8]) -> Progress
     }
 }
 
-// Writes blocks of thirty-two bytes.
+// Writes blocks of sixteen bytes.
 #[inline(always)]
-fn write_wide_blocks<E: Utf16Order>(latin1: &[u8], to: &mut [u8], most: usize) -> usize
+fn write_blocks<E: Utf16Order>(latin1: &[u8], to: &mut [u8], most: usize) -> usize
     requires within { most ≤ length latin1.now }
     requires fits { 2 * most ≤ length to.old }
     ensures widened { IsWidened E.BIG latin1.now to.old to.new result }
     ensures few { result ≤ most }
-{
-    let mut at = 0;
-    while most - at >= 32 {
-        // Both are read before the first is written, which may overwrite what was not read yet as
-        // far as the compiler knows.
-        let first = u8x16::from_slice(&latin1[at..]);
-        let second = u8x16::from_slice(&latin1[at + 16..]);
-        write_block::<E>(first, to, 2 * at);
-        write_block::<E>(second, to, 2 * at + 32);
-        at += 32;
-    }
-    at
-}
-
-// Writes blocks of sixteen bytes, after those that were written.
-#[inline(always)]
-fn write_narrow_blocks<E: Utf16Order>(
-    latin1: &[u8],
-    to: &mut [u8],
-    from: usize,
-    most: usize,
-) -> usize
-    requires within { most ≤ length latin1.now }
-    requires fits { 2 * most ≤ length to.old }
-    requires few { from ≤ most }
-    ensures widened { (before : List ℕ) → IsWidened E.BIG latin1.now before to.old from
-        → IsWidened E.BIG latin1.now before to.new result }
-    ensures few { result ≤ most }
     ensures last { most ≤ result + 16 }
 {
-    let mut at = from;
+    let mut at = 0;
     while most - at >= 16 {
         write_block::<E>(u8x16::from_slice(&latin1[at..]), to, 2 * at);
         at += 16;
@@ -138,5 +109,28 @@ fn write_block<E: Utf16Order>(block: u8x16, to: &mut [u8], at: usize)
     ensures bytes { take (at + 32) to.new ≡ take at to.old ++ encode E.BIG block }
     ensures rest { drop (at + 32) to.new ≡ drop (at + 32) to.old }
 {
-    bytes16::<E>(block.cast::<u16>()).copy_to_slice(&mut to[at..]);
+    let (first, second) = halves(bytes16::<E>(block.cast::<u16>()));
+    // Two stores: on x86-64-v3 they become one. On x86-64-v2 one store becomes two, the later half
+    // first, and then a block takes 1.6 times as long.
+    put_half(to, at, first);
+    put_half(to, at + 16, second);
+}
+
+// The first and the last sixteen bytes.
+#[inline(always)]
+fn halves(bytes: u8x32) -> (u8x16, u8x16)
+    ensures len { (length result.0 ≡ 16) × (length result.1 ≡ 16) }
+    ensures halves { result.0 ++ result.1 ≡ bytes }
+{
+    (bytes.extract::<0, 16>(), bytes.extract::<16, 16>())
+}
+
+// Writes sixteen bytes at `at`.
+#[inline(always)]
+fn put_half(to: &mut [u8], at: usize, half: u8x16)
+    requires { at + 16 ≤ length to.old }
+    ensures bytes { take (at + 16) to.new ≡ take at to.old ++ half }
+    ensures rest { drop (at + 16) to.new ≡ drop (at + 16) to.old }
+{
+    half.copy_to_slice(&mut to[at..]);
 }

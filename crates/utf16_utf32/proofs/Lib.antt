@@ -8,3 +8,8 @@ pub mod FrontLemmas
 pub mod CountLemmas
 pub mod ShowsLemmas
 pub mod PairLemmas
+pub mod PlainLemmas
+pub mod LaneLemmas
+pub mod BasicLemmas
+pub mod CharsLemmas
+pub mod StoreLemmas

@@ -1,22 +1,17 @@
 -- UTF-32 and UTF-16 of the same text: one after another, and blocks without a surrogate.
-use Rattle.std.proofs.Common.{◌≢◌, ◌/◌, ◌≡◌, ℕ, zero, suc, All, ◌+◌, ◌*◌, ◌%◌, ◌<◌, ◌≤◌, Bool, true, false, List, [], ◌∷◌, ◌++◌, bit_and, length, map, replicate, slice_index, take, drop, refl, sym, ap, ap₂, ◌∙◌, subst, arith, Fits, w8, w16, flat_map, length-drop, length-take-le, take-take}
+use Rattle.std.proofs.Common.{◌≡◌, ℕ, zero, suc, All, ◌+◌, ◌*◌, ◌<◌, ◌≤◌, Bool, true, false, List, [], ◌∷◌, ◌++◌, length, slice_index, take, refl, sym, ap, ap₂, ◌∙◌, subst, arith, Fits, w8, flat_map, length-take-le, take-take}
 use Rattle.std.proofs.lemmas.List.Elements.{All-cons, All-head, All-nil, All-tail}
-use Rattle.std.proofs.lemmas.Nat.{and_mask}
-use Rattle.std.proofs.lemmas.List.{get_or-drop, map-id, take_rest}
-use Rattle.utf16_units.proofs.IllFormedLemmas.{rest_from}
-use Rattle.utf16_units.proofs.SplitIllFormed.{AreBytes-drop}
-use Rattle.std.proofs.lemmas.Simd.{chunk-fits, take_more_put_chunk, zip2_splat}
+use Rattle.std.proofs.lemmas.Simd.{chunk-fits}
 use Rattle.std.specs.Char.{IsScalar}
-use lib.Lanes.{Each1, put_chunk, zip2}
+use lib.Lanes.{Each1}
 use Rattle.utf16_units.specs.Encoding.{encode, Encodes, char_bytes, size, units_of}
 use Rattle.utf16_units.specs.Lanes.{HasNoSurrogate, IsNoSurrogate}
 use Rattle.utf16_units.specs.Unit.{unit_bytes, unit_of}
 use Rattle.utf16_units.proofs.BlockUnits.{bytes-units_of}
 use Rattle.utf16_units.proofs.CharLemmas.{char_size_cases, one_unit_bytes}
 use Rattle.utf16_units.proofs.EncodingLemmas.{Encodes-append, encode-cons, encode-nil, encode-one, size-cons, size-nil}
-use Rattle.utf16_units.proofs.FirstChar.{AreBytes, scalar_unit, unit_below}
+use Rattle.utf16_units.proofs.FirstChar.{scalar_unit}
 use Rattle.utf16_units.proofs.PairLemmas.{is_not_of}
-use Rattle.utf16_units.proofs.UnitLemmas.{unit_bytes-unit_of}
 use Rattle.utf16_units.proofs.UnitsUpTo.{units_of-front}
 use Rattle.utf16_decode.specs.Wrote.{Joins}
 use Rattle.utf16_utf32.specs.Utf32.{AreBasic, TranscodesFromUtf32, TranscodesToUtf32, utf32_units}
@@ -108,84 +103,13 @@ units_bytes-front big (suc n) (u ∷ units) =
     past true bytes = refl
     past false bytes = refl
 
--- ---- units below 2^16 among others
-
--- their low halves are the units
-low-front : (n : ℕ) (units : List ℕ) → All IsUnit (take n units) → take n (map (λ unit. unit % 0x1_0000) units) ≡ take n units
-low-front zero units low = refl
-low-front (suc n) [] low = refl
-low-front (suc n) (u ∷ units) low =
-    ap₂ (λ x xs. x ∷ xs) (omega (arith, All-head IsUnit u (take n units) low)) (low-front n units (All-tail IsUnit u (take n units) low))
-
-pub Encodes-low : (big : Bool) (units : List ℕ) (n : ℕ) → All IsUnit (take n units) → HasNoSurrogate (take n (map (λ unit. unit % 0x1_0000) units))
-    → Encodes big (take n units) (take (2 * n) (flat_map (unit_bytes big) (map (λ unit. unit % 0x1_0000) units)))
-Encodes-low big units n low plain =
-    let halves = map (λ unit. unit % 0x1_0000) units in
-    let same = low-front n units low in
-    let two : n + n ≡ 2 * n = omega arith in
-    subst (λ k. Encodes big (take n units) (take k (flat_map (unit_bytes big) halves))) two
-    (subst (Encodes big (take n units)) (ap (flat_map (unit_bytes big)) (sym same) ∙ sym (units_bytes-front big n halves))
-    (Encodes-plain big (take n units) low (subst HasNoSurrogate same plain)))
-
--- the low halves of units below 2^16 are the units
-pub low-all : (units : List ℕ) → All IsUnit units → map (λ unit. unit % 0x1_0000) units ≡ units
-low-all [] low = refl
-low-all (u ∷ units) low =
-    ap₂ (λ x xs. x ∷ xs) (omega (arith, All-head IsUnit u units low)) (low-all units (All-tail IsUnit u units low))
-
-pub Encodes-basic : (big : Bool) (units : List ℕ) → AreBasic units → Encodes big units (flat_map (unit_bytes big) (map (λ unit. unit % 0x1_0000) units))
-Encodes-basic big units basic = record { scalars = basic.valid; spelled = spelled units basic.low ∙ ap (flat_map (unit_bytes big)) (sym (low-all units basic.low)) } where
+-- characters of one unit each
+pub Encodes-basic : (big : Bool) (units : List ℕ) → AreBasic units → Encodes big units (flat_map (unit_bytes big) units)
+Encodes-basic big units basic = record { scalars = basic.valid; spelled = spelled units basic.low } where
   spelled : (units : List ℕ) → All IsUnit units → encode big units ≡ flat_map (unit_bytes big) units
   spelled [] low = encode-nil big
   spelled (u ∷ units) low =
       encode-cons big u units ∙ ap₂ (λ x y. x ++ y) (one_unit_bytes big u (All-head IsUnit u units low)) (spelled units (All-tail IsUnit u units low))
-
--- ---- lanes of low halves
-
-low_halves-lanes : (units : List ℕ) → map (λ (unit : ℕ). bit_and unit 0xFFFF) units ≡ map (λ unit. unit % 0x1_0000) units
-low_halves-lanes [] = refl
-low_halves-lanes (u ∷ units) = ap₂ (λ x xs. x ∷ xs) (and_mask u 16) (low_halves-lanes units)
-
-halves-fit : (units : List ℕ) → Each1 (Fits w16) (map (λ unit. unit % 0x1_0000) units)
-halves-fit [] = tt
-halves-fit (u ∷ units) = (record { fits = omega arith }, halves-fit units)
-
-module _ (units : List ℕ) (long : length units ≡ 16) where
-  pub low_halves-are : zip2 (λ (a b : ℕ). bit_and a b) units (replicate 16 0xFFFF) ≡ map (λ unit. unit % 0x1_0000) units
-  low_halves-are = zip2_splat (λ (a b : ℕ). bit_and a b) units 16 0xFFFF long ∙ low_halves-lanes units
-
-  pub low_halves-fit : Each1 (Fits w16) (zip2 (λ (a b : ℕ). bit_and a b) units (replicate 16 0xFFFF))
-  low_halves-fit = subst (Each1 (Fits w16)) (sym low_halves-are) (halves-fit units)
-
--- ---- a block that was stored
-
--- the first n of m lanes, widened
-pub stored_front : (to lanes : List ℕ) (m n : ℕ) → n ≤ m → length lanes ≡ m → m ≤ length to → take n (put_chunk 0 to (map (λ (u : ℕ). u) lanes)) ≡ take n lanes
-stored_front to lanes m n few long room =
-    sym (take-take n m (put_chunk 0 to (map (λ (u : ℕ). u) lanes)) few)
-    ∙ ap (take n) (take_more_put_chunk 0 to (map (λ (u : ℕ). u) lanes) m (omega (arith, long, ap length (map-id lanes))) room ∙ map-id lanes)
-
--- a unit that is not a surrogate is a character
-plain_first : (big : Bool) (rest : List ℕ) (unit : ℕ) → AreBytes rest → 2 ≤ length rest → unit ≡ unit_of big (slice_index rest 0) (slice_index rest 1) → unit / 0x800 ≢ 0x1B
-    → TranscodesToUtf32 big (take 2 rest) (unit ∷ [])
-plain_first big [] unit are long is none = absurd (omega (arith, long))
-plain_first big (x ∷ []) unit are long is none = absurd (omega (arith, long))
-plain_first big (x ∷ y ∷ rest) unit are long is none =
-    let below : unit_of big x y < 0x1_0000 = unit_below big x y (are 0) (are 1) in
-    let scalar = scalar_unit unit (omega (arith, below, is)) (λ lead. none (omega (arith, lead))) (λ trail. none (omega (arith, trail))) in
-    record {
-      scalars = All-cons IsScalar unit [] scalar (All-nil IsScalar);
-      spelled = encode-one big unit ∙ one_unit_bytes big unit (omega (arith, below, is)) ∙ ap (unit_bytes big) is ∙ unit_bytes-unit_of big x y (are 0) (are 1);
-    }
-
-pub plain_at : (big : Bool) (raw : List ℕ) (read unit : ℕ) → AreBytes raw → read + 2 ≤ length raw
-    → unit ≡ unit_of big (slice_index raw read) (slice_index raw (read + 1)) → unit / 0x800 ≢ 0x1B → TranscodesToUtf32 big (take 2 (rest_from raw read)) (unit ∷ [])
-plain_at big raw read unit are long is none =
-    let same : read + 0 ≡ read = omega arith in
-    let first = get_or-drop read raw 0 0 ∙ ap (slice_index raw) same in
-    subst (λ rest. TranscodesToUtf32 big (take 2 rest) (unit ∷ [])) (sym (take_rest raw read))
-    (plain_first big (drop read raw) unit (AreBytes-drop read raw are) (omega (arith, long, length-drop read raw))
-    (is ∙ sym (ap₂ (unit_of big) first (get_or-drop read raw 1 0))) none)
 
 -- the bytes of the first units of a block
 pub block_bytes : (big : Bool) (raw : List ℕ) (m k : ℕ) → m ≤ length raw → 2 * k ≤ m → ((i : ℕ) → Fits w8 (slice_index raw i))

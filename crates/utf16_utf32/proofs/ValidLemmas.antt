@@ -1,5 +1,5 @@
 -- Well-formed UTF-32, and the first code unit that is not a scalar value.
-use Rattle.std.proofs.Common.{◌≡◌, ◌≢◌, ℕ, All, ◌<◌, ◌≤◌, ◌+◌, ◌-◌, ◌*◌, ◌/◌, ◌%◌, ◌^◌, Bool, true, false, cond, eqb, ap, ◌∙◌, List, [], ◌∷◌, Option, None, Some, length, length-drop, drop-cons, map, replicate, take, drop, slice_index, refl, sym, subst, arith, ⊎_elim, lt-ltb, le-ltb, take-add, true≢false, ◌++◌, bit_or, length-take-le}
+use Rattle.std.proofs.Common.{◌≡◌, ◌≢◌, ℕ, All, ◌<◌, ◌≤◌, ◌+◌, ◌-◌, ◌*◌, ◌/◌, ◌%◌, ◌^◌, Bool, true, false, cond, eqb, ap, ◌∙◌, List, [], ◌∷◌, Option, None, Some, length, length-drop, map, replicate, take, drop, slice_index, refl, sym, subst, arith, ⊎_elim, lt-ltb, le-ltb, take-add, true≢false}
 use mir.Syntax.{Width}
 use mir.Val.{bits, hbits}
 use borrow.Author.Tests.{eq-eqb}
@@ -7,18 +7,13 @@ use lib.Lanes.{mask_l, top, zip2}
 use Rattle.std.proofs.lemmas.Bool.{cases_Bool, cases_lt, le-leb}
 use Rattle.std.proofs.lemmas.List.Elements.{All-append, All-cons, All-head, All-nil, All-tail, All-weaker}
 use Rattle.std.proofs.lemmas.Simd.{bitmask_splat, map-map, zip2_splat}
-use Rattle.std.proofs.lemmas.List.{get_or-drop, length-map, take_more, take_rest}
+use Rattle.std.proofs.lemmas.List.{get_or-drop, length-map, take_more}
 use Rattle.std.specs.Char.{IsScalar}
-use Rattle.utf16_units.specs.Unit.{unit_bytes}
-use Rattle.utf16_units.proofs.CharLemmas.{one_unit_bytes}
-use Rattle.utf16_units.proofs.EncodingLemmas.{encode-one}
 use Rattle.utf16_units.proofs.IllFormedLemmas.{rest_from}
 use Rattle.utf16_decode.proofs.StreamSteps.{rest_after}
 use Rattle.utf16_decode.specs.Stops.{BeginsWith}
 use Rattle.utf16_utf32.specs.Stops32.{IsIllFormedUtf32, IsIllFormedUtf32At}
-use Rattle.utf16_utf32.proofs.TextLemmas.{low-all}
-use Rattle.std.proofs.lemmas.Nat.{le_or_l, le_or_r}
-use Rattle.utf16_utf32.specs.Utf32.{AreBasic, TranscodesFromUtf32, IsUtf32, above, utf32_units}
+use Rattle.utf16_utf32.specs.Utf32.{IsUtf32, above, utf32_units}
 
 -- the first code unit is a character
 pub begins : (rest : List ℕ) → 0 < length rest → IsScalar (slice_index rest 0) → BeginsWith utf32_units rest (slice_index rest 0) 1
@@ -54,7 +49,7 @@ other_after units read n len found =
 -- ---- blocks
 
 -- where no bit is set, no lane passes the test
-none_set : (p : ℕ → Bool) (units : List ℕ) → mask_l (map p units) ≡ 0 → All (λ unit. p unit ≡ false) units
+pub none_set : (p : ℕ → Bool) (units : List ℕ) → mask_l (map p units) ≡ 0 → All (λ unit. p unit ≡ false) units
 none_set p [] zero = All-nil (λ unit. p unit ≡ false)
 none_set p (u ∷ units) zero =
     let sum : cond (p u) 1 0 + 2 * mask_l (map p units) ≡ 0 = zero in
@@ -75,15 +70,15 @@ pub none_above : (limit : ℕ) (units : List ℕ) (bits : ℕ) → bits ≡ mask
 none_above limit units bits are zero = All-weaker (λ unit. above limit unit ≡ false) (λ unit. unit ≤ limit) (at_most limit) units (none_set (above limit) units (sym are ∙ zero))
 
 -- lanes shifted and compared
-pub no_surrogate-lanes : (w : Width) (units : List ℕ) → length units ≡ 16
-    → mask_l (map (top (hbits w)) (zip2 (λ (a b : ℕ). cond (eqb a b) (2 ^ bits w - 1) 0) (zip2 (λ (u bits : ℕ). u / 2 ^ bits) units (replicate 16 11)) (replicate 16 0x1B))) % 2 ^ 64 ≡ 0
+pub no_surrogate-lanes : (w : Width) (n : ℕ) (units : List ℕ) → length units ≡ n → n ≤ 64
+    → mask_l (map (top (hbits w)) (zip2 (λ (a b : ℕ). cond (eqb a b) (2 ^ bits w - 1) 0) (zip2 (λ (u bits : ℕ). u / 2 ^ bits) units (replicate n 11)) (replicate n 0x1B))) % 2 ^ 64 ≡ 0
     → All (λ unit. unit / 0x800 ≢ 0x1B) units
-no_surrogate-lanes w units long zero =
-    let highs = zip2_splat (λ (u bits : ℕ). u / 2 ^ bits) units 16 11 long in
-    let many : length (zip2 (λ (u bits : ℕ). u / 2 ^ bits) units (replicate 16 11)) ≡ 16 = ap length highs ∙ length-map units (λ u. u / 2 ^ 11) ∙ long in
+no_surrogate-lanes w n units long few zero =
+    let highs = zip2_splat (λ (u bits : ℕ). u / 2 ^ bits) units n 11 long in
+    let many : length (zip2 (λ (u bits : ℕ). u / 2 ^ bits) units (replicate n 11)) ≡ n = ap length highs ∙ length-map units (λ u. u / 2 ^ 11) ∙ long in
     let set : mask_l (map (λ unit. eqb (unit / 0x800) 0x1B) units) ≡ 0 =
     ap mask_l (sym (map-map (λ x. eqb x 0x1B) (λ u. u / 0x800) units)) ∙ ap (λ xs. mask_l (map (λ x. eqb x 0x1B) xs)) (sym highs)
-    ∙ sym (bitmask_splat w eqb (zip2 (λ (u bits : ℕ). u / 2 ^ bits) units (replicate 16 11)) 16 0x1B many (omega arith)) ∙ zero in
+    ∙ sym (bitmask_splat w eqb (zip2 (λ (u bits : ℕ). u / 2 ^ bits) units (replicate n 11)) n 0x1B many few) ∙ zero in
     All-weaker (λ unit. eqb (unit / 0x800) 0x1B ≡ false) (λ unit. unit / 0x800 ≢ 0x1B)
     (λ unit none same. true≢false (sym (eq-eqb _ _ same) ∙ none)) units (none_set (λ unit. eqb (unit / 0x800) 0x1B) units set)
 
@@ -106,36 +101,6 @@ scalar_values (u ∷ units) most none =
     All-cons IsScalar u units (scalar_value u (All-head (λ unit. unit ≤ 0x10_FFFF) u units most) (All-head (λ unit. unit / 0x800 ≢ 0x1B) u units none))
     (scalar_values units (All-tail (λ unit. unit ≤ 0x10_FFFF) u units most) (All-tail (λ unit. unit / 0x800 ≢ 0x1B) u units none))
 
--- lanes of two groups, joined by their bits
-or-low : (limit : ℕ) (xs ys : List ℕ) → length xs ≡ length ys → All (λ unit. unit ≤ limit) (zip2 bit_or xs ys) → All (λ unit. unit ≤ limit) (xs ++ ys)
-or-low limit xs ys long all = All-append (λ unit. unit ≤ limit) xs ys (first xs ys long all) (second xs ys long all) where
-  first : (xs ys : List ℕ) → length xs ≡ length ys → All (λ unit. unit ≤ limit) (zip2 bit_or xs ys) → All (λ unit. unit ≤ limit) xs
-  first [] ys long all = All-nil (λ unit. unit ≤ limit)
-  first (x ∷ xs) [] long all = absurd (omega (arith, long))
-  first (x ∷ xs) (y ∷ ys) long all =
-      All-cons (λ unit. unit ≤ limit) x xs (omega (arith, le_or_l x y, All-head (λ unit. unit ≤ limit) (bit_or x y) (zip2 bit_or xs ys) all))
-      (first xs ys (omega (arith, long)) (All-tail (λ unit. unit ≤ limit) (bit_or x y) (zip2 bit_or xs ys) all))
-
-  second : (xs ys : List ℕ) → length xs ≡ length ys → All (λ unit. unit ≤ limit) (zip2 bit_or xs ys) → All (λ unit. unit ≤ limit) ys
-  second [] [] long all = All-nil (λ unit. unit ≤ limit)
-  second [] (y ∷ ys) long all = absurd (omega (arith, long))
-  second (x ∷ xs) [] long all = absurd (omega (arith, long))
-  second (x ∷ xs) (y ∷ ys) long all =
-      All-cons (λ unit. unit ≤ limit) y ys (omega (arith, le_or_r x y, All-head (λ unit. unit ≤ limit) (bit_or x y) (zip2 bit_or xs ys) all))
-      (second xs ys (omega (arith, long)) (All-tail (λ unit. unit ≤ limit) (bit_or x y) (zip2 bit_or xs ys) all))
-
-pub basic_values : (units : List ℕ) → 16 ≤ length units → All (λ unit. unit ≤ 0xFFFF) (zip2 bit_or (take 8 units) (take 8 (drop 8 units)))
-    → All (λ unit. unit / 0x800 ≢ 0x1B) (map (λ unit. unit % 0x1_0000) (take 16 units)) → AreBasic (take 16 units)
-basic_values units long most none =
-    let both = length-take-le 8 units (omega (arith, long)) ∙ sym (length-take-le 8 (drop 8 units) (omega (arith, long, length-drop 8 units))) in
-    let le = subst (All (λ unit. unit ≤ 0xFFFF)) (sym (take-add 8 8 units)) (or-low 0xFFFF (take 8 units) (take 8 (drop 8 units)) both most) in
-    let low = All-weaker (λ unit. unit ≤ 0xFFFF) (λ unit. unit < 0x1_0000) (λ unit le. omega (arith, le)) (take 16 units) le in
-    record {
-      valid = scalar_values (take 16 units) (All-weaker (λ unit. unit ≤ 0xFFFF) (λ unit. unit ≤ 0x10_FFFF) (λ unit le. omega (arith, le)) (take 16 units) le)
-          (subst (All (λ unit. unit / 0x800 ≢ 0x1B)) (low-all (take 16 units) low) none);
-      low = low;
-    }
-
 -- ---- one part after another
 
 pub IsUtf32-next : (units : List ℕ) (at n : ℕ) → IsUtf32 (take at units) → IsUtf32 (take n (drop at units)) → IsUtf32 (take (at + n) units)
@@ -146,14 +111,3 @@ IsUtf32-one units at within front scalar =
     subst IsUtf32 (sym (take_more units at 0 within)) (All-append IsScalar (take at units) (slice_index units at ∷ []) front (All-cons IsScalar _ [] scalar (All-nil IsScalar)))
 
 -- ---- characters of one unit, one by one
-
-pub basic_at : (big : Bool) (units : List ℕ) (read : ℕ) → read < length units → slice_index units read ≤ 0xFFFF → slice_index units read / 0x800 ≢ 0x1B
-    → TranscodesFromUtf32 big (take 1 (rest_from units read)) (unit_bytes big (slice_index units read))
-basic_at big units read within low none =
-    let unit = slice_index units read in
-    let first : take 1 (rest_from units read) ≡ unit ∷ [] = ap (take 1) (take_rest units read ∙ drop-cons units read 0 within) in
-    subst (λ us. TranscodesFromUtf32 big us (unit_bytes big unit)) (sym first)
-    (record {
-      scalars = All-cons IsScalar unit [] (scalar_value unit (omega (arith, low)) none) (All-nil IsScalar);
-      spelled = encode-one big unit ∙ one_unit_bytes big unit (omega (arith, low));
-    })

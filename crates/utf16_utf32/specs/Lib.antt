@@ -1,3 +1,4 @@
 pub mod Utf32
 pub mod Stops32
 pub mod Pairs
+pub mod Progress

@@ -1,13 +1,11 @@
 //! Conversion of UTF-16 to UTF-32, up to the first ill-formed sequence.
 //!
-//! A block without a surrogate is widened. Of other blocks the code units before the first
-//! surrogate count. After a pair come blocks of pairs, of which those before another code unit
-//! count.
+//! Code units without a surrogate are widened in blocks. After a pair come blocks of pairs, of
+//! which those before another code unit count.
 
-ghost use Rattle.std.specs.Prelude.{◌≡◌, ◌≢◌, ◌-◌, ◌*◌, ◌/◌, ◌<◌, ◌≤◌, IfErr, IfOk, IsTrue, length, take};
-ghost use Rattle.utf16_units.specs.Encoding.{char_bytes, units_of};
+ghost use Rattle.std.specs.Prelude.{◌≡◌, ◌≢◌, ◌-◌, ◌*◌, ◌/◌, ◌<◌, ◌≤◌, IfErr, IfOk, length};
+ghost use Rattle.utf16_units.specs.Encoding.{char_bytes};
 ghost use Rattle.utf16_units.specs.IllFormed.{IsIllFormedAt};
-ghost use Rattle.utf16_units.specs.Lanes.{HasNoSurrogate};
 ghost use Rattle.utf16_decode.specs.Stops.{StopsHere};
 ghost use Rattle.utf16_decode.specs.Wrote.{Puts, Wrote};
 ghost use Rattle.utf16_decode.specs.declared.progress.Stop.TheVariants.{NoSpace};
@@ -15,10 +13,8 @@ ghost use Rattle.utf16_utf32.specs.Stops32.{StopsToUtf32};
 ghost use Rattle.utf16_utf32.specs.Utf32.{TranscodesToUtf32, utf32_units};
 
 use crate::pairs::write_pairs;
-use std::simd::prelude::*;
+use crate::plain;
 use utf16_decode::{Direction, Progress, Stop, ToUtf8};
-use utf16_units::blocks::{units16, units32};
-use utf16_units::surrogates::{has_no_surrogate, plain_len};
 use utf16_units::{Moved, Utf16Order};
 
 /// Writes UTF-16 in UTF-32, as code points in the machine's byte order, to the start of a buffer,
@@ -124,115 +120,11 @@ fn write_plain<E: Utf16Order>(raw: &[u8], to: &mut [u32], from: Moved) -> Moved
     ensures wrote { Wrote (TranscodesToUtf32 E.BIG) raw.now to.new result.read result.written }
     ensures after { from.read ≤ result.read }
 {
-    let wide = write_wide_blocks::<E>(raw, to, from);
-    let blocks = write_blocks::<E>(raw, to, wide);
-    write_few_units::<E>(raw, to, blocks)
-}
-
-// Writes blocks of thirty-two code units without a surrogate.
-#[inline(always)]
-fn write_wide_blocks<E: Utf16Order>(raw: &[u8], to: &mut [u32], from: Moved) -> Moved
-    requires { Wrote (TranscodesToUtf32 E.BIG) raw.now to.old from.read from.written }
-    ensures wrote { Wrote (TranscodesToUtf32 E.BIG) raw.now to.new result.read result.written }
-    ensures after { from.read ≤ result.read }
-{
-    let Moved {
-        mut read,
-        mut written,
-    } = from;
-    while raw.len() - read >= 64 && to.len() - written >= 32 && is_plain::<E>(&raw[read..]) {
-        widen::<E>(&raw[read..], &mut to[written..]);
-        read += 64;
-        written += 32;
+    let len = plain::write_plain::<E>(&raw[from.read..], &mut to[from.written..]);
+    Moved {
+        read: from.read + 2 * len,
+        written: from.written + len,
     }
-    Moved { read, written }
-}
-
-// Whether no code unit of a block of thirty-two is a surrogate.
-#[inline(always)]
-fn is_plain<E: Utf16Order>(raw: &[u8]) -> bool
-    requires { 64 ≤ length raw.now }
-    ensures { IsTrue result → HasNoSurrogate (units_of E.BIG (take 64 raw.now)) }
-{
-    has_no_surrogate(units32::<E>(u8x64::from_slice(raw)))
-}
-
-// Writes a block of thirty-two code units without a surrogate to the start of a buffer.
-#[inline(always)]
-fn widen<E: Utf16Order>(raw: &[u8], to: &mut [u32])
-    requires bytes { 64 ≤ length raw.now }
-    requires plain { HasNoSurrogate (units_of E.BIG (take 64 raw.now)) }
-    requires space { 32 ≤ length to.old }
-    ensures { TranscodesToUtf32 E.BIG (take 64 raw.now) (take 32 to.new) }
-{
-    units32::<E>(u8x64::from_slice(raw))
-        .cast::<u32>()
-        .copy_to_slice(to);
-}
-
-// Writes blocks of sixteen code units, up to a surrogate in one.
-#[inline(always)]
-fn write_blocks<E: Utf16Order>(raw: &[u8], to: &mut [u32], from: Moved) -> Moved
-    requires { Wrote (TranscodesToUtf32 E.BIG) raw.now to.old from.read from.written }
-    ensures wrote { Wrote (TranscodesToUtf32 E.BIG) raw.now to.new result.read result.written }
-    ensures after { from.read ≤ result.read }
-{
-    let Moved {
-        mut read,
-        mut written,
-    } = from;
-    while raw.len() - read >= 32 && to.len() - written >= 16 {
-        let len = write_block::<E>(&raw[read..], &mut to[written..]);
-        if len < 16 {
-            return Moved {
-                read: read + 2 * len,
-                written: written + len,
-            };
-        }
-        read += 32;
-        written += 16;
-    }
-    Moved { read, written }
-}
-
-// Writes code units one by one, up to a surrogate, where too few are left for a block.
-#[inline(always)]
-fn write_few_units<E: Utf16Order>(raw: &[u8], to: &mut [u32], from: Moved) -> Moved
-    requires { Wrote (TranscodesToUtf32 E.BIG) raw.now to.old from.read from.written }
-    ensures wrote { Wrote (TranscodesToUtf32 E.BIG) raw.now to.new result.read result.written }
-    ensures after { from.read ≤ result.read }
-{
-    let Moved {
-        mut read,
-        mut written,
-    } = from;
-    if raw.len() - read >= 32 && to.len() - written >= 16 {
-        return from;
-    }
-    while raw.len() - read >= 2 && written < to.len() {
-        let unit = E::read_unit([raw[read], raw[read + 1]]);
-        if unit / 0x800 == 0x1B {
-            break;
-        }
-        to[written] = unit as u32;
-        read += 2;
-        written += 1;
-    }
-    Moved { read, written }
-}
-
-// Writes a block of sixteen code units to the start of a buffer, and returns how many of them are
-// before the first surrogate. Only these count.
-#[inline(always)]
-fn write_block<E: Utf16Order>(raw: &[u8], to: &mut [u32]) -> usize
-    requires bytes { 32 ≤ length raw.now }
-    requires space { 16 ≤ length to.old }
-    ensures few { result ≤ 16 }
-    ensures text { TranscodesToUtf32 E.BIG (take (2 * result) raw.now) (take result to.new) }
-{
-    let units = units16::<E>(u8x32::from_slice(raw));
-    units.cast::<u32>().copy_to_slice(to);
-    plain_len(units)
 }
 
 // Writes the first character at `at`, or returns why it does not.

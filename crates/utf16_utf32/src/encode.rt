@@ -1,22 +1,20 @@
 //! Conversion of UTF-32 to UTF-16, up to the first code unit that is not a scalar value.
 //!
-//! A block of characters of one unit each is narrowed. Of other blocks those before the first other
-//! one count. After a character of two units come blocks of these.
+//! Characters of one unit each are narrowed in blocks. After a character of two units come blocks
+//! of these, and then blocks of both.
 
-ghost use Rattle.std.specs.Prelude.{◌≡◌, ◌≢◌, ◌-◌, ◌*◌, ◌<◌, ◌≤◌, IfErr, IfOk, length, take};
+ghost use Rattle.std.specs.Prelude.{◌≡◌, ◌≢◌, ◌-◌, ◌*◌, ◌<◌, ◌≤◌, IfErr, IfOk, length};
 ghost use Rattle.utf16_units.specs.Encoding.{char_bytes};
 ghost use Rattle.utf16_decode.specs.Stops.{StopsHere};
 ghost use Rattle.utf16_decode.specs.Wrote.{Puts, Wrote};
 ghost use Rattle.utf16_decode.specs.declared.progress.Stop.TheVariants.{NoSpace};
 ghost use Rattle.utf16_utf32.specs.Stops32.{IsIllFormedUtf32At, StopsFromUtf32};
-ghost use Rattle.utf16_utf32.specs.Utf32.{AreBasic, TranscodesFromUtf32, utf32_units};
+ghost use Rattle.utf16_utf32.specs.Utf32.{TranscodesFromUtf32, utf32_units};
 
-use crate::lanes::{are_basic, len_up_to, low_halves};
+use crate::basic;
+use crate::chars::write_char_blocks;
 use crate::pairs::write_as_pairs;
-use std::simd::prelude::*;
-use utf16_decode::{Progress, Stop, put};
-use utf16_units::blocks::bytes16;
-use utf16_units::surrogates::plain_len;
+use utf16_decode::{Progress, Stop};
 use utf16_units::{Moved, Utf16CharExt, Utf16Order};
 
 /// Writes UTF-32, code points in the machine's byte order, in UTF-16 to the start of a buffer, up
@@ -68,8 +66,9 @@ pub fn from_utf32<E: Utf16Order>(utf32: &[u32], to: &mut [u8]) -> Progress
     }
 }
 
-// Writes blocks of characters of two UTF-16 code units each if one is next, or else the characters
-// before the next one. Such a character among others is written by itself, and takes less time so.
+// Writes blocks of characters of two UTF-16 code units each, and then of any, if one of two is
+// next, or else the characters before the next one. Such a character among others is written by
+// itself, and takes less time so.
 #[inline(always)]
 fn write_run<E: Utf16Order>(utf32: &[u32], to: &mut [u8], from: Moved) -> Moved
     requires { Wrote (TranscodesFromUtf32 E.BIG) utf32.now to.old from.read from.written }
@@ -77,7 +76,8 @@ fn write_run<E: Utf16Order>(utf32: &[u32], to: &mut [u8], from: Moved) -> Moved
     ensures after { from.read ≤ result.read }
 {
     if from.read < utf32.len() && utf32[from.read] > 0xFFFF {
-        return write_pair_blocks::<E>(utf32, to, from);
+        let pairs = write_pair_blocks::<E>(utf32, to, from);
+        return write_char_blocks::<E>(utf32, to, pairs);
     }
     write_basic::<E>(utf32, to, from)
 }
@@ -114,104 +114,11 @@ fn write_basic<E: Utf16Order>(utf32: &[u32], to: &mut [u8], from: Moved) -> Move
     ensures wrote { Wrote (TranscodesFromUtf32 E.BIG) utf32.now to.new result.read result.written }
     ensures after { from.read ≤ result.read }
 {
-    let whole = write_whole_blocks::<E>(utf32, to, from);
-    let blocks = write_blocks::<E>(utf32, to, whole);
-    write_few_units::<E>(utf32, to, blocks)
-}
-
-// Writes blocks of sixteen characters of one UTF-16 code unit each.
-#[inline(always)]
-fn write_whole_blocks<E: Utf16Order>(utf32: &[u32], to: &mut [u8], from: Moved) -> Moved
-    requires { Wrote (TranscodesFromUtf32 E.BIG) utf32.now to.old from.read from.written }
-    ensures wrote { Wrote (TranscodesFromUtf32 E.BIG) utf32.now to.new result.read result.written }
-    ensures after { from.read ≤ result.read }
-{
-    let Moved {
-        mut read,
-        mut written,
-    } = from;
-    while utf32.len() - read >= 16 && to.len() - written >= 32 && are_basic(&utf32[read..]) {
-        narrow::<E>(&utf32[read..], &mut to[written..]);
-        read += 16;
-        written += 32;
+    let len = basic::write_basic::<E>(&utf32[from.read..], &mut to[from.written..]);
+    Moved {
+        read: from.read + len,
+        written: from.written + 2 * len,
     }
-    Moved { read, written }
-}
-
-// Writes sixteen characters of one UTF-16 code unit each to the start of a buffer.
-#[inline(always)]
-fn narrow<E: Utf16Order>(utf32: &[u32], to: &mut [u8])
-    requires units { 16 ≤ length utf32.now }
-    requires basic { AreBasic (take 16 utf32.now) }
-    requires space { 32 ≤ length to.old }
-    ensures { TranscodesFromUtf32 E.BIG (take 16 utf32.now) (take 32 to.new) }
-{
-    bytes16::<E>(low_halves(u32x16::from_slice(utf32))).copy_to_slice(to);
-}
-
-// Writes blocks of sixteen code units, up to another character in one.
-#[inline(always)]
-fn write_blocks<E: Utf16Order>(utf32: &[u32], to: &mut [u8], from: Moved) -> Moved
-    requires { Wrote (TranscodesFromUtf32 E.BIG) utf32.now to.old from.read from.written }
-    ensures wrote { Wrote (TranscodesFromUtf32 E.BIG) utf32.now to.new result.read result.written }
-    ensures after { from.read ≤ result.read }
-{
-    let Moved {
-        mut read,
-        mut written,
-    } = from;
-    while utf32.len() - read >= 16 && to.len() - written >= 32 {
-        let len = write_block::<E>(&utf32[read..], &mut to[written..]);
-        if len < 16 {
-            return Moved {
-                read: read + len,
-                written: written + 2 * len,
-            };
-        }
-        read += 16;
-        written += 32;
-    }
-    Moved { read, written }
-}
-
-// Writes characters of one UTF-16 code unit each, one by one, where too few are left for a block.
-#[inline(always)]
-fn write_few_units<E: Utf16Order>(utf32: &[u32], to: &mut [u8], from: Moved) -> Moved
-    requires { Wrote (TranscodesFromUtf32 E.BIG) utf32.now to.old from.read from.written }
-    ensures wrote { Wrote (TranscodesFromUtf32 E.BIG) utf32.now to.new result.read result.written }
-    ensures after { from.read ≤ result.read }
-{
-    let Moved {
-        mut read,
-        mut written,
-    } = from;
-    if utf32.len() - read >= 16 && to.len() - written >= 32 {
-        return from;
-    }
-    while read < utf32.len() && to.len() - written >= 2 {
-        let unit = utf32[read];
-        if unit > 0xFFFF || unit / 0x800 == 0x1B {
-            break;
-        }
-        written = put(&E::write_unit(unit as u16), to, written);
-        read += 1;
-    }
-    Moved { read, written }
-}
-
-// Writes the low halves of sixteen code units to the start of a buffer, and returns how many of
-// these are characters of one UTF-16 code unit, up to another one. Only these count.
-#[inline(always)]
-fn write_block<E: Utf16Order>(utf32: &[u32], to: &mut [u8]) -> usize
-    requires units { 16 ≤ length utf32.now }
-    requires space { 32 ≤ length to.old }
-    ensures few { result ≤ 16 }
-    ensures text { TranscodesFromUtf32 E.BIG (take result utf32.now) (take (2 * result) to.new) }
-{
-    let units = u32x16::from_slice(utf32);
-    let low = low_halves(units);
-    bytes16::<E>(low).copy_to_slice(to);
-    plain_len(low).min(len_up_to(units, 0xFFFF))
 }
 
 // Writes the first character at `at`, and returns where it ends, or why it is not written.

@@ -5,12 +5,15 @@
 //! A `Progress` counts units of either side: bytes of UTF-16, and code units of UTF-32.
 #![tactic(auto)]
 
+mod basic;
+mod chars;
 mod decode;
 mod decode_lossy;
 mod encode;
 mod encode_lossy;
 mod lanes;
 mod pairs;
+mod plain;
 mod validate;
 
 pub use crate::decode::to_utf32;

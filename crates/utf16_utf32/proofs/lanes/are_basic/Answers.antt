@@ -1,8 +1,13 @@
-use Rattle.std.proofs.Common.{◌≢◌, ◌/◌, All, subst}
-use Rattle.utf16_utf32.proofs.ValidLemmas.{basic_values, none_above}
+use Rattle.std.proofs.Common.{◌≤◌, All, subst}
+use Rattle.utf16_utf32.proofs.LaneLemmas.{lows-basic}
 use Rattle.utf16_utf32.proofs.lanes.are_basic.Goals as goal
 
-pub returns-then-bits_above-eq0 : goal.returns-then-bits_above-eq0
-returns-then-bits_above-eq0 c plain =
-    basic_values c.args.utf32.now c.requires (none_above 0xFFFF _ _ c.bits_above.ensures c.if-bits_above-eq0.true)
-    (subst (All (λ unit. unit / 0x800 ≢ 0x1B)) c.low_halves.ensures (c.has_no_low_surrogate.ensures plain))
+pub returns-then-are_below-clause-first : goal.returns-then-are_below-clause-first
+returns-then-are_below-clause-first c past =
+    lows-basic c.args.first (c.greater.ensures 0xFFFF (c.are_below.ensures c.if-are_below.true)).0
+    (subst (All (λ unit. 0x800 ≤ unit)) c.from_surrogates.ensures (c.lesser-least.ensures 0x800 (c.are_from.ensures past)).0)
+
+pub returns-then-are_below-clause-second : goal.returns-then-are_below-clause-second
+returns-then-are_below-clause-second c past =
+    lows-basic c.args.second (c.greater.ensures 0xFFFF (c.are_below.ensures c.if-are_below.true)).1
+    (subst (All (λ unit. 0x800 ≤ unit)) c.from_surrogates-2.ensures (c.lesser-least.ensures 0x800 (c.are_from.ensures past)).1)
