@@ -128,7 +128,7 @@ decided_within big bytes are =
     let within = items_within big (split_items big bytes) in
     omega arith
 
-are_bytes : (front back : List ℕ) → AreBytes front → AreBytes back → AreBytes (front ++ back)
+pub are_bytes : (front back : List ℕ) → AreBytes front → AreBytes back → AreBytes (front ++ back)
 are_bytes [] back first second k = second k
 are_bytes (b ∷ front) back first second zero = first 0
 are_bytes (b ∷ front) back first second (suc k) = are_bytes front back (λ i. first (suc i)) second k

@@ -1,1 +1,2 @@
 mod Bounds
+mod WtfBounds

@@ -1,5 +1,5 @@
 -- The meaning of the numbers that C passes and gets.
-use Rattle.std.specs.Prelude.{◌≡◌, ◌≢◌, ℕ, ◌+◌, ◌*◌, ◌≤◌, ◌==◌, Bool, List, None, Some, Option, Result, Ok, Err, length, if◌then◌else◌}
+use Rattle.std.specs.Prelude.{◌≡◌, ◌≢◌, ℕ, ◌+◌, ◌-◌, ◌*◌, ◌^◌, ◌≤◌, ◌==◌, Bool, List, None, Some, Option, Result, Ok, Err, length, if◌then◌else◌}
 use Rattle.utf16_units.specs.Encoding.{IsUtf16}
 use Rattle.utf16_units.specs.IllFormed.{IsIllFormed, IsUtf16ValidUpTo}
 use Rattle.utf16_units.specs.Utf16Error.{error_len, valid_up_to}
@@ -57,6 +57,11 @@ IsValidity big utf16 valid_up_to Done = (valid_up_to ≡ length utf16) × IsUtf1
 IsValidity big utf16 valid_up_to (IllFormed len) = IsUtf16ValidUpTo big utf16 valid_up_to × IsIllFormed big utf16 (Some len)
 IsValidity big utf16 valid_up_to Incomplete = IsUtf16ValidUpTo big utf16 valid_up_to × IsIllFormed big utf16 None
 IsValidity big utf16 valid_up_to NoSpace = ⊥
+
+-- an offset as C gets it: the greatest number of 64 bits if there is none
+abbrev pub offset_number : Option ℕ → ℕ
+offset_number (Some at) = at
+offset_number None = 2 ^ 64 - 1
 
 -- a version as one number, so that versions can be compared
 abbrev pub version_number : ℕ → ℕ → ℕ → ℕ

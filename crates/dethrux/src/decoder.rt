@@ -71,8 +71,8 @@ pub extern "C" fn dethrux_decoder_finish(decoder: &mut Stream, to: &mut [u8]) ->
     progress_of(decoder.finish::<ToUtf8<LE>>(to))
 }
 
-// States what the proof of `dethrux_decoder_feed` needs, and does nothing.
+// States what the proofs of the calls that feed a decoder need, and does nothing.
 #[inline(always)]
-fn bytes_law(bytes: &[u8])
+pub(crate) fn bytes_law(bytes: &[u8])
     ensures { All (λ b. b < 256) bytes.now }
 {}

@@ -9,12 +9,14 @@ mod boundary;
 mod byte_order;
 mod decoder;
 mod encoder;
+mod find;
 mod in_place;
 mod latin1;
 mod order;
 mod results;
 mod utf32;
 mod version;
+mod wtf8;
 
 ghost use Rattle.std.specs.Prelude.{◌≡◌, ◌≢◌, ◌↔◌, [], ◌<◌, ◌≤◌, ◌+◌, ◌-◌, ◌*◌, ◌/◌, ◌%◌, All, IsTrue, count_by, drop, encode_utf8_all, length, take};
 ghost use Rattle.std.specs.Char.{encode_utf8};

@@ -5,6 +5,7 @@ mod bytes;
 mod conversions;
 mod fixed;
 mod questions;
+mod search;
 mod streams;
 mod texts;
 mod utf8;
@@ -56,15 +57,21 @@ pub fn call<E: Utf16Order>(
         | "to_latin1"
         | "from_latin1"
         | "inspect" => fixed::call::<E>(alloc, name, values, answer),
-        "to_wtf8" | "to_wtf8_partial" | "from_wtf8" | "from_wtf8_partial" | "feed_wtf8" => {
-            wtf8::call::<E>(alloc, name, values, answer)
-        }
+        "to_wtf8"
+        | "to_wtf8_len"
+        | "to_wtf8_partial"
+        | "from_wtf8"
+        | "from_wtf8_partial"
+        | "feed_wtf8" => { wtf8::call::<E>(alloc, name, values, answer) }
         "swap_byte_order"
         | "make_well_formed"
         | "bytes::compare"
         | "bytes::is_char_boundary"
         | "bytes::floor_char_boundary"
         | "bytes::floor_char_boundary_around" => bytes::call::<E>(alloc, name, values, answer),
+        "search::find" | "search::rfind" | "search::find_char" | "search::rfind_char" => {
+            search::call::<E>(alloc, name, values, answer)
+        }
         "shard_offset" => bytes::shard(values, answer),
         "utf8::is_char_boundary" | "utf8::floor_char_boundary" => {
             utf8::call::<E>(alloc, name, values, answer)

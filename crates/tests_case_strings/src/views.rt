@@ -4,6 +4,7 @@ mod compared;
 mod made;
 mod measures;
 mod parts;
+mod search;
 mod shown;
 mod units;
 mod walks;

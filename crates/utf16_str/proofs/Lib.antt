@@ -1,4 +1,5 @@
 pub mod OffsetLemmas
+mod SearchLemmas
 mod SplitLemmas
 pub mod CharSearch
 pub mod Overwritten

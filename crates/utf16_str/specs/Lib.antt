@@ -8,6 +8,7 @@ pub use Rattle.utf16_units.specs.Parts
 pub use Rattle.utf16_units.specs.Numbered
 pub use Rattle.utf16_units.specs.Edit
 pub use Rattle.utf16_units.specs.TextOrder
+pub use Rattle.utf16_search.specs.Occurrence
 pub mod Hash
 pub mod Offsets
 pub mod Splits

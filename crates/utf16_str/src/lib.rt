@@ -6,6 +6,7 @@ mod affixes;
 mod append;
 mod iters;
 mod parts;
+mod search;
 mod slicing;
 mod split;
 mod utf8;
@@ -14,6 +15,7 @@ mod wstr_mut;
 
 pub use crate::append::{append_utf8, to_utf8};
 pub use crate::iters::{WStrCharIndices, WStrChars};
+pub use crate::search::Pattern;
 pub use crate::slicing::SliceIndex;
 pub use crate::split::WStrSplit;
 pub use crate::wstr::WStr;

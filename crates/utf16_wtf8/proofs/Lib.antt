@@ -2,6 +2,7 @@ pub mod PointLemmas
 pub mod ToWtf8Lemmas
 pub mod FromUnitsLemmas
 pub mod CodeLemmas
+pub mod LenLemmas
 pub mod UnitsLemmas
 pub mod ScalarLemmas
 pub mod MaximalLemmas
@@ -11,3 +12,4 @@ pub mod ContinuedLemmas
 pub mod SurrogateLemmas
 pub mod FromWtf8Lemmas
 pub mod PartialLemmas
+pub mod FewLemmas

@@ -1,8 +1,9 @@
 //! WTF-8 to UTF-16: text as UTF-8, and surrogates where that stops.
 
-ghost use Rattle.std.specs.Prelude.{◌≡◌, ◌-◌, true, IfErr, IfOk, length};
+ghost use Rattle.std.specs.Prelude.{◌≡◌, ◌+◌, ◌-◌, ◌≤◌, true, IfErr, IfOk, length};
 ghost use Rattle.std.specs.Int.{is_in_range};
 ghost use Rattle.utf16_decode.specs.Wrote.{Wrote};
+ghost use Rattle.utf16_decode.specs.declared.progress.Stop.TheVariants.{Incomplete};
 ghost use Rattle.utf16_wtf8.specs.FromWtf8.{BeginsWithSurrogate, ReadsWtf8, StopsAfter, StopsFromWtf8, StopsFromWtf8Partial, TranscodesFromWtf8, surrogate_begins};
 
 use utf16_decode::{Progress, Stop, put};
@@ -45,6 +46,7 @@ pub fn from_wtf8_partial<E: Utf16Order>(wtf8: &[u8], to: &mut [u8]) -> Progress
     ensures wrote { Wrote (TranscodesFromWtf8 E.BIG) wtf8.now to.new result.read result.written }
     ensures stop { StopsFromWtf8Partial E.BIG wtf8.now result.read
         (length to.new - result.written) result.stop }
+    ensures few { result.stop ≡ Incomplete → length wtf8.now ≤ result.read + 6 }
 {
     let (progress, after_leading) = transcode_wtf8::<E>(wtf8, to);
     if !after_leading {

@@ -11,6 +11,6 @@ mod wstring;
 
 pub use crate::wstring::WString;
 pub use utf16_str::{
-    BE, BigEndian, LE, LittleEndian, SliceIndex, Utf16Error, Utf16Order, WStr, WStrCharIndices,
-    WStrChars, WStrMut, WStrSplit,
+    BE, BigEndian, LE, LittleEndian, Pattern, SliceIndex, Utf16Error, Utf16Order, WStr,
+    WStrCharIndices, WStrChars, WStrMut, WStrSplit,
 };

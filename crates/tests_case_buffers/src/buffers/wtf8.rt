@@ -5,7 +5,9 @@ use std::alloc::Global;
 use tests_case_lines::{Answer, Trouble, Values};
 use utf16_decode::Stream;
 use utf16_units::Utf16Order;
-use utf16_wtf8::{ToWtf8, finish_wtf8, from_wtf8, from_wtf8_partial, to_wtf8, to_wtf8_partial};
+use utf16_wtf8::{
+    ToWtf8, finish_wtf8, from_wtf8, from_wtf8_partial, to_wtf8, to_wtf8_len, to_wtf8_partial,
+};
 
 /// Makes the call of this name.
 pub fn call<E: Utf16Order>(
@@ -18,6 +20,10 @@ pub fn call<E: Utf16Order>(
         return feed::<E>(alloc, values, answer);
     }
     let from = values.bytes(alloc, E::BIG)?;
+    if name == "to_wtf8_len" {
+        answer.number(to_wtf8_len::<E>(&from));
+        return Ok(());
+    }
     let mut to = buffer(alloc, values.number()?)?;
     let progress = match name {
         "to_wtf8" => to_wtf8::<E>(&from, &mut to),

@@ -1,6 +1,7 @@
 //! What views begin and end with.
 
 use crate::views::made::view;
+use crate::views::search;
 use tests_case_lines::{Answer, Run};
 use utf16string::{Utf16Order, WStr};
 
@@ -12,7 +13,7 @@ pub fn call<E: Utf16Order>(run: &mut Run, text: WStr<E>, name: &str) -> bool {
         | "WStr::strip_prefix"
         | "WStr::strip_suffix"
         | "WStr::common_prefix" => beside(run, text, name),
-        _ => return false,
+        _ => return search::call(run, text, name),
     }
     true
 }

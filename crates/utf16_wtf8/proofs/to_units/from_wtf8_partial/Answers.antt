@@ -1,5 +1,7 @@
-use Rattle.std.proofs.Common.{inr, subst, true}
+use Rattle.std.proofs.Common.{inr, refl, subst, true}
+use Rattle.utf16_decode.specs.declared.progress.Stop.TheVariants.{Incomplete}
 use Rattle.utf16_wtf8.specs.FromWtf8.{EndsLeading, ReadsWtf8}
+use Rattle.utf16_wtf8.proofs.FewLemmas.{few_left}
 use Rattle.utf16_wtf8.proofs.PartialLemmas.{Wrote-before, ended, ends_as_read, leaves_leading, stops_kept, three_read, two_written}
 use Rattle.utf16_wtf8.proofs.to_units.from_wtf8_partial.Given.{Over}
 use Rattle.utf16_wtf8.proofs.to_units.from_wtf8_partial.Goals as goal
@@ -10,6 +12,10 @@ returns-then-not-after_leading-clause-stop g c =
     let call = c.transcode_wtf8-after_leading in
     stops_kept g.E.Utf16Order.BIG c.args.wtf8.now call.result.0.read _ call.result.0.stop
     (subst (EndsLeading _) c.if-not-after_leading.true (ends_as_read call.ensures.reads)) call.ensures.stop
+
+pub returns-then-not-after_leading-clause-few : goal.returns-then-not-after_leading-clause-few
+returns-then-not-after_leading-clause-few g c is =
+    few_left g.E.Utf16Order.BIG c.args.wtf8.now _ _ _ is (returns-then-not-after_leading-clause-stop g c)
 
 -- what was read ends with a leading surrogate
 leading : (g : Over) (c : In-Done g)
@@ -29,3 +35,6 @@ pub returns-in-Done-clause-stop : goal.returns-in-Done-clause-stop
 returns-in-Done-clause-stop g c =
     let call = c.transcode_wtf8-after_leading in
     inr (leaves_leading _ _ _ _ _ (leading g (goal.at.returns-in-Done-clause-stop g c).In-Done) (ended _ _ _ _ call.result.0.stop c.in-Done.is call.ensures.stop))
+
+pub returns-in-Done-clause-few : goal.returns-in-Done-clause-few
+returns-in-Done-clause-few g c is = few_left g.E.Utf16Order.BIG c.args.wtf8.now _ 0 Incomplete refl (returns-in-Done-clause-stop g c)

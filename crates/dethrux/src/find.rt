@@ -1,0 +1,48 @@
+//! Search.
+
+ghost use Rattle.std.specs.Prelude.{◌≡◌, ◌≤◌, ℕ, IfSome, Option, length};
+ghost use Rattle.utf16_search.specs.Occurrence.{IsFirst, IsLast, IsOccurrence};
+ghost use Rattle.dethrux.specs.Numbers.{is_big, offset_number};
+
+use crate::byte_order::is_big_endian;
+use utf16_search::{find, rfind};
+use utf16_units::{BE, LE};
+
+/// Returns the least offset at which a pattern occurs in a text, or `usize::MAX` if it occurs
+/// nowhere. Both may be any bytes, in the same byte order. The pattern occurs at an offset if its
+/// bytes are there, and if the offset and the end of these bytes are boundaries between characters.
+/// Linear in both lengths.
+#[unsafe(no_mangle)]
+pub extern "C" fn dethrux_find(byte_order: u32, utf16: &[u8], pattern: &[u8]) -> usize
+    ensures first { (found : Option ℕ) × (result ≡ offset_number found)
+        × IsFirst (IsOccurrence (is_big byte_order) utf16.now pattern.now) found }
+{
+    let found = if is_big_endian(byte_order) {
+        find::<BE>(utf16, pattern)
+    } else {
+        find::<LE>(utf16, pattern)
+    };
+    offset_of(found)
+}
+
+/// Returns the greatest offset at which a pattern occurs in a text, or `usize::MAX` if it occurs
+/// nowhere. Occurrences are those of `dethrux_find`. Linear in both lengths.
+#[unsafe(no_mangle)]
+pub extern "C" fn dethrux_rfind(byte_order: u32, utf16: &[u8], pattern: &[u8]) -> usize
+    ensures last { (found : Option ℕ) × (result ≡ offset_number found)
+        × IsLast (IsOccurrence (is_big byte_order) utf16.now pattern.now) found }
+{
+    let found = if is_big_endian(byte_order) {
+        rfind::<BE>(utf16, pattern)
+    } else {
+        rfind::<LE>(utf16, pattern)
+    };
+    offset_of(found)
+}
+
+// An offset as C gets it: `usize::MAX` if there is none.
+fn offset_of(found: Option<usize>) -> usize
+    ensures { result ≡ offset_number found }
+{
+    found.unwrap_or(usize::MAX)
+}

@@ -1,0 +1,202 @@
+//! WTF-8 and UTF-16 that may have unpaired surrogates, both ways without loss.
+
+ghost use Rattle.std.specs.Prelude.{◌≡◌, ◌≢◌, ◌↔◌, ◌+◌, ◌-◌, ◌*◌, ◌/◌, ◌%◌, ◌<◌, ◌≤◌, [], ◌++◌, drop, length, take};
+ghost use Rattle.std.specs.List.{flat_map};
+ghost use Rattle.utf16_decode.specs.Decomposition.{decided};
+ghost use Rattle.utf16_decode.specs.Shown.{ShowsWhole};
+ghost use Rattle.utf16_decode.specs.Stream.{FeedsAs, StopsFeedingAs, stream_pending};
+ghost use Rattle.utf16_decode.specs.Wrote.{Wrote};
+ghost use Rattle.utf16_decode.specs.declared.progress.Stop.TheVariants.{Done, Incomplete, NoSpace};
+ghost use Rattle.utf16_wtf8.specs.FromWtf8.{StopsFromWtf8, StopsFromWtf8Partial, TranscodesFromWtf8};
+ghost use Rattle.utf16_wtf8.specs.ToWtf8.{DecodesToWtf8, StopsBeforeTail, StopsToWtf8, points_of, tail_points, wtf8_parts};
+ghost use Rattle.utf16_wtf8.specs.Wtf8.{generalized_utf8};
+ghost use Rattle.dethrux.specs.Numbers.{AreNumbers, is_big, stop_of};
+
+use crate::byte_order::is_big_endian;
+use crate::decoder::bytes_law;
+use crate::results::{Progress, progress_of};
+use utf16_decode::Stream;
+use utf16_units::{BE, LE};
+use utf16_wtf8::{
+    ToWtf8, finish_wtf8, from_wtf8, from_wtf8_partial, to_wtf8, to_wtf8_len, to_wtf8_partial,
+};
+
+/// Converts all code units of UTF-16 to WTF-8, with each unpaired surrogate as itself, as far as
+/// whole characters fit. Any bytes are allowed. The status is 0, or 2 before an odd byte at the
+/// end, which is not a code unit, or 3 if the next character or surrogate does not fit: call again
+/// with the rest. The bytes after the written ones may have been overwritten. In time linear in
+/// what is read.
+#[unsafe(no_mangle)]
+pub extern "C" fn dethrux_to_wtf8(byte_order: u32, utf16: &[u8], to: &mut [u8]) -> Progress
+    ensures shown { ShowsWhole (points_of (is_big byte_order)) generalized_utf8 utf16.now to.new
+        result.read result.written }
+    ensures stop { StopsToWtf8 (is_big byte_order) (drop result.read utf16.now)
+        (length to.new - result.written) (stop_of result.status result.error_len) }
+    ensures between { stop_of result.status result.error_len ≡ NoSpace
+        → DecodesToWtf8 (is_big byte_order) utf16.now to.new result.read result.written }
+    ensures succeeds { length utf16.now / 2 * 3 ≤ length to.new
+        → stop_of result.status result.error_len ≢ NoSpace }
+    ensures numbers { AreNumbers result.status result.error_len }
+{
+    progress_of(if is_big_endian(byte_order) {
+        to_wtf8::<BE>(utf16, to)
+    } else {
+        to_wtf8::<LE>(utf16, to)
+    })
+}
+
+/// Returns the length in bytes of what `dethrux_to_wtf8` writes for the whole input: at most three
+/// for each code unit. Two passes.
+#[unsafe(no_mangle)]
+pub extern "C" fn dethrux_to_wtf8_len(byte_order: u32, utf16: &[u8]) -> usize
+    ensures len { result
+        ≡ length (flat_map generalized_utf8 (points_of (is_big byte_order) utf16.now)) }
+    ensures most { result ≤ length utf16.now / 2 * 3 }
+{
+    if is_big_endian(byte_order) {
+        to_wtf8_len::<BE>(utf16)
+    } else {
+        to_wtf8_len::<LE>(utf16)
+    }
+}
+
+/// Converts the next chunk of a stream like `dethrux_to_wtf8`, but does not read a leading
+/// surrogate at the end, or a leading surrogate and an odd byte: in that case the status is 2.
+#[unsafe(no_mangle)]
+pub extern "C" fn dethrux_to_wtf8_partial(byte_order: u32, utf16: &[u8], to: &mut [u8]) -> Progress
+    ensures decodes { DecodesToWtf8 (is_big byte_order) utf16.now to.new result.read
+        result.written }
+    ensures stop { StopsBeforeTail (is_big byte_order) (drop result.read utf16.now)
+        (length to.new - result.written) (stop_of result.status result.error_len) }
+    ensures succeeds { length utf16.now / 2 * 3 ≤ length to.new
+        → stop_of result.status result.error_len ≢ NoSpace }
+    ensures filled { stop_of result.status result.error_len ≡ NoSpace
+        → length to.new < result.written + 4 }
+    ensures advances { 4 ≤ length to.new → decided (wtf8_parts (is_big byte_order)) utf16.now ≢ []
+        → 0 < result.read }
+    ensures numbers { AreNumbers result.status result.error_len }
+{
+    progress_of(if is_big_endian(byte_order) {
+        to_wtf8_partial::<BE>(utf16, to)
+    } else {
+        to_wtf8_partial::<LE>(utf16, to)
+    })
+}
+
+/// Decodes the next chunk of a stream like `dethrux_decoder_feed`, and writes each unpaired
+/// surrogate as itself, in WTF-8.
+#[unsafe(no_mangle)]
+pub extern "C" fn dethrux_decoder_feed_wtf8(
+    decoder: &mut Stream,
+    byte_order: u32,
+    chunk: &[u8],
+    to: &mut [u8],
+) -> Progress
+    ensures feeds { FeedsAs (wtf8_parts (is_big byte_order)) generalized_utf8
+        (stream_pending decoder.old) chunk.now (stream_pending decoder.new) to.new result.read
+        result.written }
+    ensures stop { StopsFeedingAs (wtf8_parts (is_big byte_order)) generalized_utf8
+        (stream_pending decoder.old) chunk.now (stream_pending decoder.new) result.read
+        (length to.new - result.written) (stop_of result.status result.error_len) }
+    ensures done { (stop_of result.status result.error_len ≡ Done)
+        ↔ (length (flat_map generalized_utf8
+        (decided (wtf8_parts (is_big byte_order)) (stream_pending decoder.old ++ chunk.now)))
+        ≤ length to.new) }
+    ensures filled { stop_of result.status result.error_len ≡ NoSpace
+        → length to.new < result.written + 4 }
+    ensures few { decoder.new.len ≤ 3 }
+    ensures succeeds { (length chunk.now + 3) / 2 * 3 ≤ length to.new
+        → stop_of result.status result.error_len ≡ Done }
+    ensures numbers { AreNumbers result.status result.error_len }
+{
+    bytes_law(decoder.pending());
+    progress_of(if is_big_endian(byte_order) {
+        decoder.feed::<ToWtf8<BE>>(chunk, to)
+    } else {
+        decoder.feed::<ToWtf8<LE>>(chunk, to)
+    })
+}
+
+/// Ends a stream of `dethrux_decoder_feed_wtf8`: writes a pending leading surrogate in WTF-8, and
+/// otherwise nothing. The bytes after it are unchanged. With status 2 an odd byte is pending, which
+/// is not a code unit, and with status 3 the surrogate does not fit: then nothing changes.
+#[unsafe(no_mangle)]
+pub extern "C" fn dethrux_decoder_finish_wtf8(
+    decoder: &mut Stream,
+    byte_order: u32,
+    to: &mut [u8],
+) -> Progress
+    ensures read { result.read ≡ 0 }
+    ensures incomplete { (stop_of result.status result.error_len ≡ Incomplete)
+        ↔ (length (stream_pending decoder.old) % 2 ≡ 1) }
+    ensures done { (stop_of result.status result.error_len ≡ Done)
+        ↔ ((length (stream_pending decoder.old) % 2 ≡ 0)
+        × (length (flat_map generalized_utf8
+        (tail_points (is_big byte_order) (stream_pending decoder.old))) ≤ length to.new)) }
+    ensures text { stop_of result.status result.error_len ≡ Done → take result.written to.new
+        ≡ flat_map generalized_utf8
+        (tail_points (is_big byte_order) (stream_pending decoder.old)) }
+    ensures within { result.written ≤ length to.new }
+    ensures rest { drop result.written to.new ≡ drop result.written to.old }
+    ensures pending { stop_of result.status result.error_len ≡ Done
+        → stream_pending decoder.new ≡ [] }
+    ensures no_space { stop_of result.status result.error_len ≢ Done
+        → stop_of result.status result.error_len ≢ Incomplete
+        → stop_of result.status result.error_len ≡ NoSpace }
+    ensures unchanged { stop_of result.status result.error_len ≢ Done
+        → (result.written ≡ 0) × (decoder.new ≡ decoder.old) × (to.new ≡ to.old) }
+    ensures numbers { AreNumbers result.status result.error_len }
+{
+    progress_of(if is_big_endian(byte_order) {
+        finish_wtf8::<BE>(decoder, to)
+    } else {
+        finish_wtf8::<LE>(decoder, to)
+    })
+}
+
+/// Converts WTF-8 to UTF-16, with each surrogate as one code unit, up to the first ill-formed
+/// sequence or as far as whole characters fit. The three bytes of a trailing surrogate directly
+/// after those of a leading one are ill-formed. An ill-formed sequence and a truncated code point
+/// are not read. With status 3 the next character or surrogate does not fit: call again with the
+/// rest. The bytes after the written ones may have been overwritten. In time linear in what is
+/// read.
+#[unsafe(no_mangle)]
+pub extern "C" fn dethrux_from_wtf8(byte_order: u32, wtf8: &[u8], to: &mut [u8]) -> Progress
+    ensures wrote { Wrote (TranscodesFromWtf8 (is_big byte_order)) wtf8.now to.new result.read
+        result.written }
+    ensures stop { StopsFromWtf8 (is_big byte_order) wtf8.now result.read
+        (length to.new - result.written) (stop_of result.status result.error_len) }
+    ensures succeeds { 2 * length wtf8.now ≤ length to.new
+        → stop_of result.status result.error_len ≢ NoSpace }
+    ensures numbers { AreNumbers result.status result.error_len }
+{
+    progress_of(if is_big_endian(byte_order) {
+        from_wtf8::<BE>(wtf8, to)
+    } else {
+        from_wtf8::<LE>(wtf8, to)
+    })
+}
+
+/// Converts the next chunk of a stream of WTF-8 like `dethrux_from_wtf8`, but does not read what
+/// more bytes could change at the end: a leading surrogate, or the beginning of a code point, or
+/// both, at most six bytes. In that case the status is 2.
+#[unsafe(no_mangle)]
+pub extern "C" fn dethrux_from_wtf8_partial(byte_order: u32, wtf8: &[u8], to: &mut [u8]) -> Progress
+    ensures wrote { Wrote (TranscodesFromWtf8 (is_big byte_order)) wtf8.now to.new result.read
+        result.written }
+    ensures stop { StopsFromWtf8Partial (is_big byte_order) wtf8.now result.read
+        (length to.new - result.written) (stop_of result.status result.error_len) }
+    ensures few { stop_of result.status result.error_len ≡ Incomplete
+        → length wtf8.now ≤ result.read + 6 }
+    ensures succeeds { 2 * length wtf8.now ≤ length to.new
+        → stop_of result.status result.error_len ≢ NoSpace }
+    ensures filled { stop_of result.status result.error_len ≡ NoSpace
+        → length to.new < result.written + 4 }
+    ensures numbers { AreNumbers result.status result.error_len }
+{
+    progress_of(if is_big_endian(byte_order) {
+        from_wtf8_partial::<BE>(wtf8, to)
+    } else {
+        from_wtf8_partial::<LE>(wtf8, to)
+    })
+}

@@ -1,0 +1,4 @@
+pub mod AlikeLemmas
+pub mod FoundLemmas
+pub mod RunLemmas
+pub mod TextLemmas
