@@ -3,13 +3,15 @@
     python3 bench/python.py [FAST]
 
 The package must be installed. The first table is of UTF-16 to and from str: by CPython's codec, by
-the codec of this package, and by its functions `decode` and `encode`. The second is of UTF-16 to
-and from UTF-8, for which CPython needs a str between, and of validation. The third is of ill-formed
-UTF-16 to UTF-8 with each error handler. All calls of a row run in turn, in rounds, and the best time
+the codec of this package, and by its functions `decode` and `encode`, with a BOM by those that
+`codecs.getdecoder` and `getencoder` return. The second is of UTF-16 to and from UTF-8, for which
+CPython needs a str between, and of validation. The third is of ill-formed UTF-16 to UTF-8 with each
+error handler. All calls of a row run in turn, in rounds, and the best time
 of each counts. A ratio is CPython's time by that of the package: above 1 the package is faster.
 FAST is a number of rounds instead of 25.
 """
 
+import codecs
 import sys
 import timeit
 
@@ -88,18 +90,21 @@ def to_and_from_str():
                 "dethrux.encode(text, order)",
             ]
             yield name, size, order, *ratios(best(calls, locals(), number), 3)
-    # CPython decodes "utf-16" without a search for the codec.
+    # CPython decodes "utf-16" without a search for the codec. The functions are those of the codec.
+    decoder, encoder = codecs.getdecoder("dethrux-utf-16"), codecs.getencoder("dethrux-utf-16")
     for name, size, text, number in each_text():
         raw, mine = text.encode("utf-16"), "dethrux-utf-16"
-        assert raw.decode(mine) == text and text.encode(mine) == raw
+        assert raw.decode(mine) == decoder(raw)[0] == text
+        assert text.encode(mine) == encoder(text)[0] == raw
         calls = [
             'raw.decode("utf-16")',
             "raw.decode(mine)",
+            "decoder(raw)[0]",
             'text.encode("utf-16")',
             "text.encode(mine)",
+            "encoder(text)[0]",
         ]
-        found = ratios(best(calls, locals(), number), 2)
-        yield name, size, "BOM", *found[:2], "", *found[2:], ""
+        yield name, size, "BOM", *ratios(best(calls, locals(), number), 3)
 
 
 def to_and_from_utf8():

@@ -18,6 +18,8 @@ static const size_t NO_OUTPUT = SIZE_MAX;
 
 static input in;
 static decoded from_utf16, from_utf8, to_utf32, from_utf32;
+/* All code units in WTF-8, those of a chunk, and WTF-8 in UTF-16. */
+static decoded to_wtf8, chunk_to_wtf8, from_wtf8;
 
 /* The start of the text as UTF-32, and its length in code units. */
 enum { UTF32_MOST = GUARDED_MAX / 8 };
@@ -37,6 +39,9 @@ void checks_begin(const input *next) {
     decode_utf16(in.order, in.text, in.len, &from_utf16);
     decode_utf8(in.order, in.text, in.len, &from_utf8);
     decoded_as_utf32(&from_utf16, &to_utf32);
+    decode_to_wtf8(in.order, in.text, in.len, false, &to_wtf8);
+    decode_to_wtf8(in.order, in.text, in.len, true, &chunk_to_wtf8);
+    decode_wtf8(in.order, in.text, in.len, &from_wtf8);
     utf32_len = utf32_of(&from_utf8, utf32);
     utf32_len = utf32_len < UTF32_MOST ? utf32_len : UTF32_MOST;
     decode_utf32(in.order, utf32, utf32_len, &from_utf32);
@@ -482,6 +487,29 @@ static dethrux_progress finish_utf8(dethrux_decoder *decoder, dethrux_byte_order
     return got;
 }
 
+static dethrux_progress feed_wtf8(dethrux_decoder *decoder, dethrux_byte_order order,
+                                  const uint8_t *chunk, size_t len, uint8_t *to, size_t capacity) {
+    dethrux_decoder *state = guarded_state(decoder, sizeof *decoder, situation.at);
+    dethrux_progress got = dethrux_decoder_feed_wtf8(state, order, chunk, len, to, capacity);
+    memcpy(decoder, state, sizeof *decoder);
+    return got;
+}
+
+static dethrux_progress finish_wtf8(dethrux_decoder *decoder, dethrux_byte_order order, uint8_t *to,
+                                    size_t capacity) {
+    dethrux_decoder *state = guarded_state(decoder, sizeof *decoder, situation.at);
+    dethrux_progress got = dethrux_decoder_finish_wtf8(state, order, to, capacity);
+    memcpy(decoder, state, sizeof *decoder);
+    return got;
+}
+
+static void decode_chunk_to_wtf8(dethrux_byte_order order, const uint8_t *bytes, size_t len,
+                                 decoded *to) {
+    decode_to_wtf8(order, bytes, len, true, to);
+}
+
+static const decoder_calls WTF8_DECODER = {feed_wtf8, finish_wtf8, decode_chunk_to_wtf8,
+                                           &chunk_to_wtf8, DETHRUX_DECODER_FINISH_MAX};
 static const decoder_calls UTF16_DECODER = {feed_utf16, finish_utf16, decode_utf16, &from_utf16,
                                             DETHRUX_DECODER_FINISH_MAX};
 static const decoder_calls UTF8_DECODER = {feed_utf8, finish_utf8, decode_utf8, &from_utf8,
@@ -521,7 +549,8 @@ static void check_feed_any_state(const decoder_calls *calls) {
     memcpy(stream + pending, in.text, in.len);
     calls->decode(in.order, stream, pending + in.len, &text);
     size_t chosen = in.capacity % (text.out_len + 8);
-    size_t enough = calls == &UTF16_DECODER ? DETHRUX_DECODER_FEED_MAX(in.len) : 2 * (pending + in.len);
+    size_t enough =
+        calls == &UTF8_DECODER ? 2 * (pending + in.len) : DETHRUX_DECODER_FEED_MAX(in.len);
     expect_that("the capacity suffices",
                 expected_progress(&text, PARTIAL, enough).status != DETHRUX_NO_SPACE);
     size_t one_less = text.out_len - (text.out_len > 0);
@@ -603,6 +632,103 @@ static void check_encoder_feed(void) {
 
 static void check_encoder_finish(void) {
     check_finish(&UTF8_DECODER);
+}
+
+/* WTF-8. */
+
+static void check_to_wtf8(void) {
+    check_conversion(dethrux_to_wtf8, &to_wtf8, STRICT, DETHRUX_WTF8_MAX(in.len));
+    if (in.len % 2 == 0) {
+        check_resumed(dethrux_to_wtf8, &to_wtf8);
+    }
+}
+
+static void check_to_wtf8_len(void) {
+    for (place at = AT_START; at < place_count(in.len); at++) {
+        expect("length", dethrux_to_wtf8_len(in.order, input_at(at), in.len), to_wtf8.out_len);
+    }
+}
+
+static void check_to_wtf8_partial(void) {
+    check_conversion(dethrux_to_wtf8_partial, &chunk_to_wtf8, PARTIAL, DETHRUX_WTF8_MAX(in.len));
+}
+
+static void check_decoder_feed_wtf8(void) {
+    check_feed(&WTF8_DECODER);
+}
+
+/* A pending code unit is written, in any state; before an odd byte nothing changes. */
+static void check_decoder_finish_wtf8(void) {
+    uint8_t wtf8[3];
+    size_t pending = pending_len(&in.decoder);
+    size_t len = pending == 2 ? encode_utf8(unit_at(in.order, in.decoder.pending, 0), wtf8) : 0;
+    for (size_t capacity = 0; capacity <= DETHRUX_DECODER_FINISH_MAX + 1; capacity++) {
+        for (place at = AT_START; at < place_count(capacity); at++) {
+            dethrux_decoder decoder = in.decoder;
+            uint8_t *to = output_at(capacity, at);
+            dethrux_progress got = finish_wtf8(&decoder, in.order, to, capacity);
+            dethrux_progress want = {0, 0, DETHRUX_DONE, 0};
+            want.status = pending % 2 == 1 ? DETHRUX_INCOMPLETE
+                          : len > capacity ? DETHRUX_NO_SPACE
+                                           : DETHRUX_DONE;
+            want.written = want.status == DETHRUX_DONE ? len : 0;
+            expect_progress(got, want);
+            expect_bytes("text", to, wtf8, got.written);
+            expect_that("the rest of `to` stays", guarded_intact(got.written, true));
+            expect("pending_len", decoder.pending_len,
+                   want.status == DETHRUX_DONE ? 0 : in.decoder.pending_len);
+            if (want.status != DETHRUX_DONE) {
+                expect_bytes("pending", decoder.pending, in.decoder.pending, DETHRUX_PENDING_MAX);
+            }
+        }
+    }
+}
+
+static void check_from_wtf8(void) {
+    check_conversion(dethrux_from_wtf8, &from_wtf8, STRICT, DETHRUX_UTF16_MAX(in.len));
+}
+
+/* Returns whether the last item before an offset is a leading surrogate. */
+static bool is_after_leading(size_t offset) {
+    uint32_t last = 0;
+    for (size_t i = 0, at = 0; at < offset; at += from_wtf8.items[i++].len) {
+        last = from_wtf8.items[i].scalar;
+    }
+    return is_leading(last);
+}
+
+static void check_from_wtf8_partial(void) {
+    const size_t capacities[] = {DETHRUX_UTF16_MAX(in.len), 0, from_wtf8.out_len,
+                                 in.capacity % (from_wtf8.out_len + 8),
+                                 from_wtf8.out_len - (from_wtf8.out_len > 0)};
+    for (size_t i = 0; i < sizeof capacities / sizeof capacities[0]; i++) {
+        dethrux_progress want = expected_progress(&from_wtf8, STRICT, capacities[i]);
+        bool ends = want.status == DETHRUX_DONE || want.status == DETHRUX_INCOMPLETE;
+        if (ends && is_after_leading(want.read)) {
+            want = (dethrux_progress){want.read - 3, want.written - 2, DETHRUX_INCOMPLETE, 0};
+        }
+        for (place at = AT_START; at < place_count_of_both(in.len, capacities[i]); at++) {
+            const uint8_t *from = input_at(at);
+            uint8_t *to = output_at(capacities[i], at);
+            dethrux_progress got =
+                dethrux_from_wtf8_partial(in.order, from, in.len, to, capacities[i]);
+            expect_progress(got, want);
+            expect_text(to, from_wtf8.out, got.written);
+            expect_full(&got, capacities[i]);
+            bool is_few = in.len - got.read <= DETHRUX_WTF8_PENDING_MAX;
+            expect_that("at most 6 bytes are unread", got.status != DETHRUX_INCOMPLETE || is_few);
+        }
+    }
+}
+
+/* What was written in WTF-8 is the same code units again. */
+static void check_wtf8_and_back(void) {
+    static uint8_t utf16[2 * sizeof to_wtf8.out];
+    dethrux_progress got =
+        dethrux_from_wtf8(in.order, to_wtf8.out, to_wtf8.out_len, utf16, sizeof utf16);
+    dethrux_progress want = {to_wtf8.out_len, in.len / 2 * 2, DETHRUX_DONE, 0};
+    expect_progress(got, want);
+    expect_bytes("code units", utf16, in.text, got.written);
 }
 
 /* Questions about a text. */
@@ -877,6 +1003,64 @@ static void check_compare(void) {
     }
 }
 
+/* Search. */
+
+typedef size_t search(dethrux_byte_order order, const uint8_t *utf16, size_t len,
+                      const uint8_t *pattern, size_t pattern_len);
+typedef size_t reference_search(const decoded *text, const uint8_t *bytes, const uint8_t *pattern,
+                                size_t len);
+
+static void search_for(search *call, reference_search *expected, const uint8_t *pattern,
+                       size_t len) {
+    size_t want = expected(&from_utf16, in.text, pattern, len);
+    for (place at = AT_START; at < place_count_of_both(in.len, len); at++) {
+        const uint8_t *utf16 = input_at(at), *guarded = guarded_input(1, pattern, len, at);
+        expect("offset", call(in.order, utf16, in.len, guarded, len), want);
+    }
+}
+
+/* A part of the text, of at most a number of bytes, and the same after one change. */
+static void search_for_part(search *call, reference_search *expected, size_t from, size_t most) {
+    uint8_t other[TEXT_MAX];
+    size_t len = in.len - from < most ? in.len - from : most;
+    search_for(call, expected, in.text + from, len);
+    if (len > 0) {
+        memcpy(other, in.text + from, len);
+        other[in.at % len] ^= in.change;
+        search_for(call, expected, other, len);
+    }
+}
+
+/* Short parts of the text from anywhere, from its start and up to its end; its bytes from an offset
+ * on; nothing, all of it, and all of it and one byte more. */
+static void check_search(search *call, reference_search *expected) {
+    uint8_t longer[TEXT_MAX + 1];
+    size_t at = in.at % (in.len + 1);
+    for (size_t i = 0; i < CUTS; i++) {
+        size_t most = in.cuts[i] % (1U << (2 * i + 2));
+        search_for_part(call, expected, at, most);
+        search_for_part(call, expected, at / (i + 2), most);
+        search_for_part(call, expected, 0, most);
+        search_for_part(call, expected, in.len - (most < in.len ? most : in.len), most);
+    }
+    search_for_part(call, expected, at, in.len);
+    search_for_part(call, expected, 0, in.len);
+    search_for(call, expected, in.text, 0);
+    if (in.len > 0) {
+        memcpy(longer, in.text, in.len);
+    }
+    longer[in.len] = in.change;
+    search_for(call, expected, longer, in.len + 1);
+}
+
+static void check_find(void) {
+    check_search(dethrux_find, find_first);
+}
+
+static void check_rfind(void) {
+    check_search(dethrux_rfind, find_last);
+}
+
 #ifndef WITHOUT_PEERS
 /* The peers. */
 
@@ -988,10 +1172,20 @@ const check CHECKS[] = {
     {"dethrux_decoder_finish", check_decoder_finish},
     {"dethrux_encoder_feed", check_encoder_feed},
     {"dethrux_encoder_finish", check_encoder_finish},
+    {"dethrux_to_wtf8", check_to_wtf8},
+    {"dethrux_to_wtf8_len", check_to_wtf8_len},
+    {"dethrux_to_wtf8_partial", check_to_wtf8_partial},
+    {"dethrux_decoder_feed_wtf8", check_decoder_feed_wtf8},
+    {"dethrux_decoder_finish_wtf8", check_decoder_finish_wtf8},
+    {"dethrux_from_wtf8", check_from_wtf8},
+    {"dethrux_from_wtf8_partial", check_from_wtf8_partial},
+    {"WTF-8 and back", check_wtf8_and_back},
     {"dethrux_is_char_boundary", check_is_char_boundary},
     {"dethrux_floor_char_boundary", check_floor_char_boundary},
     {"dethrux_floor_char_boundary_around", check_floor_char_boundary_around},
     {"dethrux_shard_offset", check_shard_offset},
+    {"dethrux_find", check_find},
+    {"dethrux_rfind", check_rfind},
     {"dethrux_swap_byte_order", check_swap_byte_order},
     {"dethrux_make_well_formed", check_make_well_formed},
     {"dethrux_compare", check_compare},

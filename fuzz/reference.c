@@ -183,6 +183,126 @@ void decode_utf32(dethrux_byte_order order, const uint32_t *units, size_t len, d
     }
 }
 
+static void append_unit(decoded *to, uint32_t unit) {
+    sequence found = {CHARACTER, 2, unit};
+    append_item(to, found, encode_utf8(unit, to->out + to->out_len));
+}
+
+/* The end of a stream: a leading surrogate is a code unit, and an odd byte is not. What is
+ * incomplete is written only if it is one code unit. */
+static void append_end(decoded *to, uint32_t unit, size_t len, bool more_follow) {
+    if (more_follow) {
+        sequence found = {INCOMPLETE, len, unit};
+        append_item(to, found, len == 2 ? encode_utf8(unit, to->out + to->out_len) : 0);
+        return;
+    }
+    if (len >= 2) {
+        append_unit(to, unit);
+    }
+    if (len % 2 == 1) {
+        append_item(to, (sequence){INCOMPLETE, 1, REPLACEMENT}, 0);
+    }
+}
+
+void decode_to_wtf8(dethrux_byte_order order, const uint8_t *bytes, size_t len, bool more_follow,
+                    decoded *to) {
+    to->item_count = 0;
+    to->out_len = 0;
+    sequence found = NO_SEQUENCE;
+    for (size_t at = 0; at < len; at += found.len) {
+        found = next_utf16(order, bytes + at, len - at);
+        uint32_t unit = len - at < 2 ? REPLACEMENT : unit_at(order, bytes, at);
+        if (found.kind == INCOMPLETE) {
+            append_end(to, unit, found.len, more_follow);
+        } else if (found.kind == ILL_FORMED) {
+            append_unit(to, unit);
+        } else {
+            append_item(to, found, encode_utf8(found.scalar, to->out + to->out_len));
+        }
+    }
+}
+
+/* Returns the first item of bytes that are not empty: in WTF-8 a second byte up to BF may follow
+ * ED. */
+static sequence next_wtf8(dethrux_byte_order order, const uint8_t *bytes, size_t len) {
+    if (bytes[0] != 0xED || len < 2 || bytes[1] < 0xA0 || bytes[1] > 0xBF) {
+        return next_utf8(order, bytes, len);
+    }
+    if (len < 3) {
+        return (sequence){INCOMPLETE, len, REPLACEMENT};
+    }
+    if ((bytes[2] & 0xC0) != 0x80) {
+        return (sequence){ILL_FORMED, 2, REPLACEMENT};
+    }
+    return (sequence){CHARACTER, 3, 0xD000 | (uint32_t)(bytes[1] & 0x3F) << 6 | (bytes[2] & 0x3F)};
+}
+
+void decode_wtf8(dethrux_byte_order order, const uint8_t *bytes, size_t len, decoded *to) {
+    to->item_count = 0;
+    to->out_len = 0;
+    sequence found = NO_SEQUENCE, before = NO_SEQUENCE;
+    for (size_t at = 0; at < len; at += found.len) {
+        found = next_wtf8(order, bytes + at, len - at);
+        if (is_leading(before.scalar) && is_trailing(found.scalar)) {
+            found = (sequence){ILL_FORMED, 3, REPLACEMENT};
+        }
+        before = found;
+        append_item(to, found, encode_utf16(order, found.scalar, to->out + to->out_len));
+    }
+}
+
+/* The offsets at which a text may be cut: where its items begin, and its end. */
+typedef struct {
+    size_t count;
+    size_t at[TEXT_MAX + 1];
+    bool is[TEXT_MAX + 1];
+} boundaries;
+
+static void add_boundary(boundaries *to, size_t at) {
+    to->at[to->count++] = at;
+    to->is[at] = true;
+}
+
+static const boundaries *boundaries_of(const decoded *text) {
+    static boundaries found;
+    size_t at = 0;
+    found.count = 0;
+    for (size_t i = 0; i < text->item_count; i++) {
+        memset(found.is + at, false, text->items[i].len);
+        add_boundary(&found, at);
+        at += text->items[i].len;
+    }
+    add_boundary(&found, at);
+    return &found;
+}
+
+static bool occurs(const boundaries *cuts, const uint8_t *bytes, size_t at, const uint8_t *pattern,
+                   size_t len) {
+    size_t end = cuts->at[cuts->count - 1];
+    return len <= end - at && cuts->is[at + len]
+           && (len == 0 || memcmp(bytes + at, pattern, len) == 0);
+}
+
+size_t find_first(const decoded *text, const uint8_t *bytes, const uint8_t *pattern, size_t len) {
+    const boundaries *cuts = boundaries_of(text);
+    for (size_t i = 0; i < cuts->count; i++) {
+        if (occurs(cuts, bytes, cuts->at[i], pattern, len)) {
+            return cuts->at[i];
+        }
+    }
+    return DETHRUX_NOT_FOUND;
+}
+
+size_t find_last(const decoded *text, const uint8_t *bytes, const uint8_t *pattern, size_t len) {
+    const boundaries *cuts = boundaries_of(text);
+    for (size_t i = cuts->count; i > 0; i--) {
+        if (occurs(cuts, bytes, cuts->at[i - 1], pattern, len)) {
+            return cuts->at[i - 1];
+        }
+    }
+    return DETHRUX_NOT_FOUND;
+}
+
 static bool stops(conversion_mode mode, item_kind kind) {
     return (kind == ILL_FORMED && mode == STRICT) || (kind == INCOMPLETE && mode != LOSSY);
 }

@@ -43,8 +43,20 @@ size_t utf32_of(const decoded *utf8, uint32_t *to);
 /* Decodes UTF-32. The lengths in the input are in code units. */
 void decode_utf32(dethrux_byte_order order, const uint32_t *units, size_t len, decoded *to);
 
+/* Decodes UTF-16 to WTF-8 and WTF-8 to UTF-16 ("The WTF-8 encoding" by Simon Sapin). An unpaired
+ * surrogate is a character. If more bytes follow, a leading surrogate at the end is incomplete;
+ * else only an odd byte is. */
+void decode_to_wtf8(dethrux_byte_order order, const uint8_t *bytes, size_t len, bool more_follow,
+                    decoded *to);
+void decode_wtf8(dethrux_byte_order order, const uint8_t *bytes, size_t len, decoded *to);
+
 /* Returns what a conversion of the text returns for a capacity. */
 dethrux_progress expected_progress(const decoded *text, conversion_mode mode, size_t capacity);
+
+/* Returns the first or the last offset at which a pattern occurs in bytes that were decoded to
+ * `text`, or DETHRUX_NOT_FOUND: its bytes are there, and they begin and end at ends of items. */
+size_t find_first(const decoded *text, const uint8_t *bytes, const uint8_t *pattern, size_t len);
+size_t find_last(const decoded *text, const uint8_t *bytes, const uint8_t *pattern, size_t len);
 
 /* Encode a scalar value, and return the length. */
 size_t encode_utf8(uint32_t scalar, uint8_t *to);

@@ -2,7 +2,8 @@
 
 /**
  * @file
- * Dethrux for C++17: strings of UTF-16 in either byte order, to and from UTF-8, UTF-32, Latin-1.
+ * Dethrux for C++17: strings of UTF-16 in either byte order, to and from UTF-8, UTF-32, Latin-1 and
+ * WTF-8.
  *
  * Each function makes a proved call of dethrux.h. What is added here, memory and types, is tested,
  * not proved.
@@ -11,9 +12,10 @@
  * UTF-16 is given as code units in the machine's byte order (dethrux::units: std::u16string and its
  * view, a vector or span of any integral type of two bytes, a pointer and a length), or as bytes
  * and a byte order (dethrux::bytes: std::string and its view, a vector or span of std::byte or
- * unsigned char, a pointer and a length). UTF-8 and Latin-1 are given as dethrux::bytes, UTF-32 as
- * dethrux::points: std::u32string and the like. A pointer without a length is a text that ends with
- * a NUL. A std::wstring is UTF-16 where wchar_t has two bytes, as on Windows, and else UTF-32.
+ * unsigned char, a pointer and a length). UTF-8, WTF-8 and Latin-1 are given as dethrux::bytes,
+ * UTF-32 as dethrux::points: std::u32string and the like. A pointer without a length is a text that
+ * ends with a NUL. A std::wstring is UTF-16 where wchar_t has two bytes, as on Windows, and else
+ * UTF-32.
  *
  * @par Lengths
  * Offsets and lengths of `units` and `points` count code units, those of `bytes` count bytes.
@@ -45,7 +47,7 @@
 #include <utility>
 #include <variant>
 
-/** UTF-16 in either byte order, to and from UTF-8, UTF-32 and Latin-1. */
+/** UTF-16 in either byte order, to and from UTF-8, UTF-32, Latin-1 and WTF-8. */
 namespace dethrux {
 
 /** The byte order of UTF-16 in bytes. */
@@ -410,6 +412,57 @@ inline std::optional<std::string> latin1_of(
     return dethrux_shard_offset(len, count, index);
 }
 
+/**
+ * What find and rfind return if the pattern occurs nowhere. It is std::u16string_view::npos, and
+ * DETHRUX_NOT_FOUND.
+ */
+inline constexpr std::size_t npos = std::u16string_view::npos;
+
+namespace detail {
+
+// An offset in bytes, or npos, in code units.
+inline std::size_t in_units(std::size_t found) noexcept {
+    return found == npos ? npos : found / 2;
+}
+
+} // namespace detail
+
+/**
+ * Returns the least offset at which a pattern occurs in a text, or npos: dethrux_find.
+ *
+ * @param utf16 the text
+ * @param order the byte order of the text and of the pattern
+ * @param pattern what is searched for
+ */
+[[nodiscard]] inline std::size_t find(bytes utf16, byte_order order, bytes pattern) noexcept {
+    return dethrux_find(
+        detail::order(order), utf16.data(), utf16.size(), pattern.data(), pattern.size());
+}
+
+/** Does the same for code units in the machine's byte order. */
+[[nodiscard]] inline std::size_t find(units utf16, units pattern) noexcept {
+    return detail::in_units(dethrux_find(DETHRUX_NATIVE_ENDIAN, utf16.data(), utf16.size() * 2,
+        pattern.data(), pattern.size() * 2));
+}
+
+/**
+ * Returns the greatest offset at which a pattern occurs in a text, or npos: dethrux_rfind.
+ *
+ * @param utf16 the text
+ * @param order the byte order of the text and of the pattern
+ * @param pattern what is searched for
+ */
+[[nodiscard]] inline std::size_t rfind(bytes utf16, byte_order order, bytes pattern) noexcept {
+    return dethrux_rfind(
+        detail::order(order), utf16.data(), utf16.size(), pattern.data(), pattern.size());
+}
+
+/** Does the same for code units in the machine's byte order. */
+[[nodiscard]] inline std::size_t rfind(units utf16, units pattern) noexcept {
+    return detail::in_units(dethrux_rfind(DETHRUX_NATIVE_ENDIAN, utf16.data(), utf16.size() * 2,
+        pattern.data(), pattern.size() * 2));
+}
+
 /** What a text is. */
 struct inspection {
     /** The first error, or nothing if the input is UTF-16. */
@@ -679,6 +732,45 @@ inline result<std::u16string> from_wstring(std::wstring_view wide) {
 /** @} */
 
 /**
+ * @defgroup dethrux_cxx_wtf8 C++: WTF-8, any code units without loss
+ * WTF-8 is UTF-8 that may also have unpaired surrogates, of three bytes each: dethrux_to_wtf8. On
+ * Windows, where a std::wstring is dethrux::units, std::wstring(text.begin(), text.end()) makes one
+ * of the result of from_wtf8.
+ * @{
+ */
+
+/** Returns all code units in WTF-8, or an error at an odd byte at the end. */
+inline result<std::string> to_wtf8(bytes utf16, byte_order order) {
+    std::string to;
+    dethrux_progress progress =
+        detail::to_utf8_by(dethrux_to_wtf8, order, utf16.data(), utf16.size(), to);
+    return detail::text_or_error(std::move(to), progress, 1);
+}
+
+/** Returns code units in the machine's byte order in WTF-8. */
+[[nodiscard]] inline std::string to_wtf8(units utf16) {
+    std::string to;
+    detail::to_utf8_by(dethrux_to_wtf8, byte_order::native, utf16.data(), utf16.size() * 2, to);
+    return to;
+}
+
+/** Returns WTF-8 in UTF-16, in bytes, or where the input is not WTF-8. */
+inline result<std::string> from_wtf8(bytes wtf8, byte_order order) {
+    std::string to;
+    dethrux_progress progress = detail::from_utf8_by(dethrux_from_wtf8, order, wtf8, to);
+    return detail::text_or_error(std::move(to), progress, 1);
+}
+
+/** Returns WTF-8 in UTF-16, in code units, or where the input is not WTF-8. */
+inline result<std::u16string> from_wtf8(bytes wtf8) {
+    std::u16string to;
+    dethrux_progress progress = detail::from_utf8_by(dethrux_from_wtf8, wtf8, to);
+    return detail::text_or_error(std::move(to), progress, 1);
+}
+
+/** @} */
+
+/**
  * @defgroup dethrux_cxx_in_place C++: in place
  * @{
  */
@@ -807,6 +899,140 @@ public:
 
 private:
     dethrux_encoder state_ = DETHRUX_ENCODER_INIT;
+    byte_order order_;
+};
+
+/**
+ * Decodes a stream of UTF-16 that comes in chunks, cut anywhere, to WTF-8, without loss.
+ *
+ * The decoder keeps at most three bytes of the stream. The string that is appended to must not be
+ * the chunk.
+ */
+class wtf8_decoder {
+public:
+    /** Begins a stream of UTF-16 in this byte order. */
+    explicit wtf8_decoder(byte_order order = byte_order::native) noexcept : order_(order) {}
+
+    /** Appends the characters and surrogates of the next chunk that are certain. */
+    void feed(bytes chunk, std::string &to) { feed_bytes(chunk.data(), chunk.size(), order_, to); }
+
+    /** Does the same for code units in the machine's byte order, which the decoder must have. */
+    void feed(units chunk, std::string &to) {
+        feed_bytes(chunk.data(), chunk.size() * 2, byte_order::native, to);
+    }
+
+    /**
+     * Ends the stream: appends a leading surrogate that waits. A new stream begins.
+     *
+     * @return whether the stream had whole code units: false if an odd byte at its end is left out
+     */
+    [[nodiscard]] bool finish(std::string &to) {
+        std::size_t size = to.size();
+        to.resize(size + DETHRUX_DECODER_FINISH_MAX);
+        dethrux_progress progress = dethrux_to_wtf8(detail::order(order_), state_.pending,
+            state_.pending_len, detail::data(to, size), DETHRUX_DECODER_FINISH_MAX);
+        to.resize(size + progress.written);
+        state_ = DETHRUX_DECODER_INIT;
+        return progress.status == DETHRUX_DONE;
+    }
+
+    /** Returns the number of bytes that wait for the rest of their character, at most three. */
+    std::size_t pending() const noexcept { return state_.pending_len; }
+
+private:
+    void feed_bytes(const std::uint8_t *chunk, std::size_t len, byte_order order, std::string &to) {
+        std::size_t size = to.size();
+        to.resize(size + DETHRUX_DECODER_FEED_MAX(len));
+        dethrux_progress progress = dethrux_decoder_feed_wtf8(
+            &state_, detail::order(order), chunk, len, detail::data(to, size), to.size() - size);
+        to.resize(size + progress.written);
+    }
+
+    dethrux_decoder state_ = DETHRUX_DECODER_INIT;
+    byte_order order_;
+};
+
+/**
+ * Encodes a stream of WTF-8 that comes in chunks, cut anywhere, in UTF-16.
+ *
+ * The encoder keeps at most six bytes of the stream. Give one type of string for a whole stream.
+ */
+class wtf8_encoder {
+public:
+    /** Begins a stream; the byte order is the one of the UTF-16 to write. */
+    explicit wtf8_encoder(byte_order order = byte_order::native) noexcept : order_(order) {}
+
+    /** @{ */
+    /**
+     * Appends what is certain of the next chunk, in bytes of the encoder's byte order or in code
+     * units of the machine's.
+     *
+     * @return nothing, or where the stream is not WTF-8, counted from its start: then the stream is
+     *   not read further
+     */
+    [[nodiscard]] std::optional<error> feed(bytes chunk, std::string &to) {
+        return convert(dethrux_from_wtf8_partial, order_, chunk, to);
+    }
+    [[nodiscard]] std::optional<error> feed(bytes chunk, std::u16string &to) {
+        return convert(dethrux_from_wtf8_partial, byte_order::native, chunk, to);
+    }
+    /** @} */
+
+    /** @{ */
+    /**
+     * Ends the stream: appends a leading surrogate that waits. A new stream begins.
+     *
+     * @return nothing, or where the stream is not WTF-8, counted from its start
+     */
+    [[nodiscard]] std::optional<error> finish(std::string &to) {
+        return end(convert(dethrux_from_wtf8, order_, bytes(), to));
+    }
+    [[nodiscard]] std::optional<error> finish(std::u16string &to) {
+        return end(convert(dethrux_from_wtf8, byte_order::native, bytes(), to));
+    }
+    /** @} */
+
+    /** Returns the number of bytes that wait for the ones that follow, at most six. */
+    std::size_t pending() const noexcept { return pending_len_; }
+
+private:
+    template <class String>
+    std::optional<error> convert(
+        detail::conversion call, byte_order order, bytes chunk, String &to) {
+        if (error_) {
+            return error_;
+        }
+        constexpr std::size_t unit = sizeof(typename String::value_type);
+        const std::size_t size = to.size();
+        std::string joined(pending_, pending_len_);
+        joined.append(reinterpret_cast<const char *>(chunk.data()), chunk.size());
+        to.resize(size + DETHRUX_UTF16_MAX(joined.size()) / unit);
+        dethrux_progress progress = call(detail::order(order), detail::data(joined), joined.size(),
+            reinterpret_cast<std::uint8_t *>(to.data() + size), (to.size() - size) * unit);
+        to.resize(size + progress.written / unit);
+        read_ += progress.read;
+        pending_len_ = 0;
+        if (progress.status == DETHRUX_ILL_FORMED) {
+            error_ = error{read_, progress.error_len};
+        } else {
+            pending_len_ = joined.copy(pending_, sizeof pending_, progress.read);
+        }
+        return error_;
+    }
+
+    // The end of a stream of which `found` is the error.
+    std::optional<error> end(std::optional<error> found) noexcept {
+        if (!found && pending_len_ > 0) {
+            found = error{read_, 0};
+        }
+        *this = wtf8_encoder(order_);
+        return found;
+    }
+
+    char pending_[DETHRUX_WTF8_PENDING_MAX] = {};
+    std::size_t pending_len_ = 0;
+    std::size_t read_ = 0;
+    std::optional<error> error_;
     byte_order order_;
 };
 

@@ -5,9 +5,9 @@ DETHRUX_LIBRARY names, those of the release archive around this folder, or what 
 of the assembly in dist/. If there is none of these, the wheel has no library, and the package takes
 the installed one.
 
-The wheel also has the extension in C, for the Python that builds it. If there is no compiler for
-this machine, or no Python.h, the wheel is for every Python, and has no extension. The setting
-extension=no of the frontend also makes such a wheel.
+The wheel also has the extension in C, for the Python that builds it. Without a compiler for this
+machine or without Python.h, and with the frontend's setting extension=no, the wheel lacks the
+extension, and is for every Python.
 """
 
 import base64

@@ -2,8 +2,8 @@
 
 /**
  * @file
- * Dethrux: UTF-16 in either byte order, to and from UTF-8, UTF-32 and Latin-1, between buffers that
- * the caller owns.
+ * Dethrux: UTF-16 in either byte order, to and from UTF-8, UTF-32, Latin-1 and WTF-8, between
+ * buffers that the caller owns.
  *
  * No call allocates, keeps a pointer or prints anything. The header is C99 and C++11; for C++17
  * there is dethrux.hpp over it.
@@ -89,7 +89,9 @@
 /** @defgroup dethrux_lossy Lossy calls: U+FFFD for each ill-formed sequence */
 /** @defgroup dethrux_streams Streams: a text in chunks that are cut anywhere */
 /** @defgroup dethrux_fixed UTF-32 and Latin-1: a code unit for each character */
+/** @defgroup dethrux_wtf8 WTF-8: any code units without loss */
 /** @defgroup dethrux_boundaries Boundaries: where a text may be cut */
+/** @defgroup dethrux_search Search: where a pattern occurs */
 /** @defgroup dethrux_in_place In place: changes of a text in its own buffer */
 
 /**
@@ -118,15 +120,17 @@
 
 /** The capacity for dethrux_to_utf8_lossy. */
 #define DETHRUX_UTF8_MAX(len) (((size_t)(len) + 1) / 2 * 3)
-/** The capacity for the conversions from UTF-8 and from Latin-1. */
+/** The capacity for dethrux_to_wtf8 and dethrux_to_wtf8_partial. */
+#define DETHRUX_WTF8_MAX(len) ((size_t)(len) / 2 * 3)
+/** The capacity for the conversions from UTF-8, from WTF-8 and from Latin-1. */
 #define DETHRUX_UTF16_MAX(len) ((size_t)(len) * 2)
 /** The capacity for dethrux_to_utf32_lossy, in code units of UTF-32. */
 #define DETHRUX_UTF32_MAX(len) (((size_t)(len) + 1) / 2)
 /** The capacity for the conversions from UTF-32, for `len` code units of it. */
 #define DETHRUX_FROM_UTF32_MAX(len) ((size_t)(len) * 4)
-/** The capacity for dethrux_decoder_feed. */
+/** The capacity for dethrux_decoder_feed and dethrux_decoder_feed_wtf8. */
 #define DETHRUX_DECODER_FEED_MAX(len) (((size_t)(len) + 3) / 2 * 3)
-/** The capacity for dethrux_decoder_finish. */
+/** The capacity for dethrux_decoder_finish and dethrux_decoder_finish_wtf8. */
 #define DETHRUX_DECODER_FINISH_MAX 3
 /** The capacity for dethrux_encoder_feed. */
 #define DETHRUX_ENCODER_FEED_MAX(len) ((size_t)(len) * 2 + 2)
@@ -136,12 +140,19 @@
 /** @} */
 
 /**
- * The most bytes that dethrux_to_utf8_partial leaves unread with DETHRUX_INCOMPLETE, and that a
- * decoder or an encoder keeps.
+ * The most bytes that dethrux_to_utf8_partial and dethrux_to_wtf8_partial leave unread with
+ * DETHRUX_INCOMPLETE, and that a decoder or an encoder keeps.
  *
  * @ingroup dethrux_streams
  */
 #define DETHRUX_PENDING_MAX 3
+
+/**
+ * The most bytes that dethrux_from_wtf8_partial leaves unread with DETHRUX_INCOMPLETE.
+ *
+ * @ingroup dethrux_wtf8
+ */
+#define DETHRUX_WTF8_PENDING_MAX 6
 
 /**
  * The offset of the first of the bytes that dethrux_floor_char_boundary_around takes.
@@ -149,6 +160,13 @@
  * @ingroup dethrux_boundaries
  */
 #define DETHRUX_AROUND_START(at) ((uint64_t)(at) < 2 ? 0 : (uint64_t)(at) / 2 * 2 - 2)
+
+/**
+ * What dethrux_find and dethrux_rfind return if the pattern occurs nowhere.
+ *
+ * @ingroup dethrux_search
+ */
+#define DETHRUX_NOT_FOUND SIZE_MAX
 
 /**
  * @def DETHRUX_NODISCARD
@@ -248,8 +266,8 @@ typedef struct dethrux_bom {
  * The state of a decoder: the bytes of a stream that are not decoded yet.
  *
  * All zero, as in `dethrux_decoder decoder = DETHRUX_DECODER_INIT`, it begins a stream. Any values
- * are allowed: a `pending_len` above 3 is read as 3, and dethrux_decoder_feed never leaves one
- * above 3.
+ * are allowed: a `pending_len` above 3 is read as 3, and dethrux_decoder_feed and
+ * dethrux_decoder_feed_wtf8 never leave one above 3.
  *
  * @ingroup dethrux_streams
  */
@@ -573,6 +591,123 @@ DETHRUX_NODISCARD dethrux_progress dethrux_from_latin1(
     size_t capacity);
 
 /**
+ * Converts all code units of UTF-16 to WTF-8, which keeps unpaired surrogates.
+ *
+ * WTF-8 is UTF-8 that may also have unpaired surrogates, of 3 bytes each. dethrux_from_wtf8 returns
+ * the same code units. Well-formed UTF-16 becomes UTF-8.
+ *
+ * @param capacity DETHRUX_WTF8_MAX(len) suffices
+ * @return how far the call came, with one of these statuses:
+ * - DETHRUX_DONE: all of the input was read
+ * - DETHRUX_INCOMPLETE: an odd byte at the end, which is not a code unit, follows `read`
+ * - DETHRUX_NO_SPACE: the next character or surrogate does not fit: call again with the rest
+ * @ingroup dethrux_wtf8
+ */
+DETHRUX_NODISCARD dethrux_progress dethrux_to_wtf8(
+    dethrux_byte_order byte_order, const uint8_t *utf16, size_t len, uint8_t *to, size_t capacity);
+
+/**
+ * Returns the length of what dethrux_to_wtf8 writes for the whole input.
+ *
+ * @return at most DETHRUX_WTF8_MAX(len)
+ * @ingroup dethrux_wtf8
+ */
+DETHRUX_NODISCARD size_t dethrux_to_wtf8_len(
+    dethrux_byte_order byte_order, const uint8_t *utf16, size_t len);
+
+/**
+ * Converts the next chunk of a stream to WTF-8, without a decoder.
+ *
+ * This is like dethrux_to_wtf8, but does not read a leading surrogate at the end, which a trailing
+ * one may follow. The stream may be cut anywhere; no state is kept. However the stream is cut, the
+ * same bytes are written in all.
+ *
+ * @param capacity DETHRUX_WTF8_MAX(len) suffices
+ * @return how far the call came, with one of these statuses:
+ * - DETHRUX_DONE: all of the chunk was read
+ * - DETHRUX_INCOMPLETE: at most DETHRUX_PENDING_MAX bytes follow `read`: put them before the next
+ *   chunk, and at the end of the stream pass them to dethrux_to_wtf8
+ * - DETHRUX_NO_SPACE: the next character or surrogate does not fit: call again with the rest; with
+ *   a capacity of 4 or more, something was written
+ * @ingroup dethrux_wtf8
+ */
+DETHRUX_NODISCARD dethrux_progress dethrux_to_wtf8_partial(
+    dethrux_byte_order byte_order, const uint8_t *utf16, size_t len, uint8_t *to, size_t capacity);
+
+/**
+ * Decodes the next chunk of a stream, cut anywhere, to WTF-8.
+ *
+ * This is like dethrux_decoder_feed, but keeps each unpaired surrogate. End the stream with
+ * dethrux_decoder_finish_wtf8.
+ *
+ * @param byte_order the same for a whole stream
+ * @param capacity DETHRUX_DECODER_FEED_MAX(len) suffices
+ * @return how far the call came (`read` counts bytes of the chunk), with one of these statuses:
+ * - DETHRUX_DONE: all of the chunk was read
+ * - DETHRUX_NO_SPACE: the next character or surrogate does not fit: call again with the rest; fewer
+ *   than 4 bytes of `to` were left, so with a capacity of 4 or more something was written
+ * @ingroup dethrux_wtf8
+ */
+DETHRUX_NODISCARD dethrux_progress dethrux_decoder_feed_wtf8(
+    dethrux_decoder *decoder, dethrux_byte_order byte_order, const uint8_t *chunk, size_t len,
+    uint8_t *to, size_t capacity);
+
+/**
+ * Ends a stream of dethrux_decoder_feed_wtf8 whose last chunk was read.
+ *
+ * Writes a leading surrogate, of 3 bytes, if one waits, else nothing. With DETHRUX_DONE the decoder
+ * begins a new stream. Here the bytes of `to` after `written` stay as they were.
+ *
+ * @param byte_order the same for a whole stream
+ * @param capacity DETHRUX_DECODER_FINISH_MAX suffices
+ * @return how much was written; `read` is 0, and the status is one of these:
+ * - DETHRUX_DONE: the stream has ended
+ * - DETHRUX_INCOMPLETE: the stream ends with an odd byte, and nothing changed: dethrux_to_wtf8
+ *   writes the surrogate that may be before it in `pending`
+ * - DETHRUX_NO_SPACE: the surrogate does not fit, and nothing changed
+ * @ingroup dethrux_wtf8
+ */
+DETHRUX_NODISCARD dethrux_progress dethrux_decoder_finish_wtf8(
+    dethrux_decoder *decoder, dethrux_byte_order byte_order, uint8_t *to, size_t capacity);
+
+/**
+ * Converts WTF-8 to UTF-16, up to the first ill-formed sequence, of 1 to 3 bytes.
+ *
+ * Each surrogate becomes one code unit. A trailing surrogate directly after a leading one is ill
+ * formed: in WTF-8 a pair has the 4 bytes of its character. So join two texts of WTF-8 only as
+ * UTF-16.
+ *
+ * @param capacity DETHRUX_UTF16_MAX(len) suffices
+ * @return how far the call came, with one of these statuses:
+ * - DETHRUX_DONE: all of the input was read
+ * - DETHRUX_ILL_FORMED: an ill-formed sequence follows `read`
+ * - DETHRUX_INCOMPLETE: the input ends inside a character or surrogate, which follows `read`
+ * - DETHRUX_NO_SPACE: the next character or surrogate does not fit: call again with the rest
+ * @ingroup dethrux_wtf8
+ */
+DETHRUX_NODISCARD dethrux_progress dethrux_from_wtf8(
+    dethrux_byte_order byte_order, const uint8_t *wtf8, size_t len, uint8_t *to, size_t capacity);
+
+/**
+ * Converts the next chunk of a stream of WTF-8, cut anywhere, to UTF-16.
+ *
+ * This is like dethrux_from_wtf8, but does not read what more bytes could change at the end: a
+ * leading surrogate, the beginning of a character or surrogate, or both.
+ *
+ * @param capacity DETHRUX_UTF16_MAX(len) suffices
+ * @return how far the call came, with one of these statuses:
+ * - DETHRUX_DONE: all of the chunk was read
+ * - DETHRUX_ILL_FORMED: an ill-formed sequence follows `read`
+ * - DETHRUX_INCOMPLETE: at most DETHRUX_WTF8_PENDING_MAX bytes follow `read`: put them before the
+ *   next chunk, and at the end of the stream pass them to dethrux_from_wtf8
+ * - DETHRUX_NO_SPACE: the next character or surrogate does not fit: call again with the rest; with
+ *   a capacity of 4 or more, something was written
+ * @ingroup dethrux_wtf8
+ */
+DETHRUX_NODISCARD dethrux_progress dethrux_from_wtf8_partial(
+    dethrux_byte_order byte_order, const uint8_t *wtf8, size_t len, uint8_t *to, size_t capacity);
+
+/**
  * Decodes the next chunk of a stream, cut anywhere, to UTF-8.
  *
  * Each unpaired surrogate is replaced by U+FFFD. An incomplete character at the end is kept in the
@@ -694,6 +829,39 @@ DETHRUX_NODISCARD uint64_t dethrux_floor_char_boundary_around(
 DETHRUX_NODISCARD uint64_t dethrux_shard_offset(uint64_t len, uint64_t count, uint64_t index);
 
 /**
+ * Returns the least offset at which a pattern occurs in a text.
+ *
+ * The pattern occurs at a boundary if its bytes are there and end at a boundary. So an occurrence
+ * cuts neither a code unit nor a surrogate pair, and a pattern of odd length occurs only at the end
+ * of a text of odd length. The empty pattern occurs at each boundary.
+ *
+ * The text and the pattern may be any bytes. For all of them the time is linear in both lengths.
+ *
+ * @param pattern what is searched for, in the same byte order
+ * @return the offset, 0 for the empty pattern, or DETHRUX_NOT_FOUND if the pattern occurs nowhere
+ * @see dethrux_is_char_boundary
+ * @ingroup dethrux_search
+ */
+DETHRUX_NODISCARD size_t dethrux_find(
+    dethrux_byte_order byte_order, const uint8_t *utf16, size_t len, const uint8_t *pattern,
+    size_t pattern_len);
+
+/**
+ * Returns the greatest offset at which a pattern occurs in a text.
+ *
+ * It is like dethrux_find, which returns the least one.
+ *
+ * @param pattern what is searched for, in the same byte order
+ * @return the offset, `len` for the empty pattern, or DETHRUX_NOT_FOUND if the pattern occurs
+ *   nowhere
+ * @see dethrux_find
+ * @ingroup dethrux_search
+ */
+DETHRUX_NODISCARD size_t dethrux_rfind(
+    dethrux_byte_order byte_order, const uint8_t *utf16, size_t len, const uint8_t *pattern,
+    size_t pattern_len);
+
+/**
  * Swaps the two bytes of each code unit in place: UTF-16 in the other byte order.
  *
  * An odd byte at the end stays.
@@ -754,7 +922,7 @@ DETHRUX_NODISCARD dethrux_bom dethrux_detect_bom(
  * In C, code units are of type uint16_t or char16_t, which are one type, and wchar_t is the same on
  * Windows. In C++ they are of any integral type of two bytes. Each length, offset and capacity of
  * UTF-16 counts code units, and so do `read`, `written`, `valid_up_to` and `error_len` if they are
- * about UTF-16; for UTF-8 they count bytes. Nothing is copied.
+ * about UTF-16; for UTF-8 and WTF-8 they count bytes. Nothing is copied.
  * @{
  */
 
@@ -1031,6 +1199,85 @@ DETHRUX_U16_RESULT dethrux_progress dethrux_u16_from_latin1(
     return progress;
 }
 
+/**
+ * Does what dethrux_to_wtf8 does, on code units. The status is never DETHRUX_INCOMPLETE.
+ *
+ * @param capacity `len * 3` suffices
+ */
+DETHRUX_U16_RESULT dethrux_progress dethrux_u16_to_wtf8(
+    const dethrux_unit *utf16, size_t len, uint8_t *to, size_t capacity) {
+    dethrux_progress progress =
+        dethrux_to_wtf8(DETHRUX_NATIVE_ENDIAN, DETHRUX_U16_BYTES(utf16), len * 2, to, capacity);
+    progress.read /= 2;
+    return progress;
+}
+
+/**
+ * Does what dethrux_to_wtf8_len does, on code units.
+ *
+ * @return at most `len * 3`
+ */
+DETHRUX_U16_RESULT size_t dethrux_u16_to_wtf8_len(
+    const dethrux_unit *utf16, size_t len) {
+    return dethrux_to_wtf8_len(DETHRUX_NATIVE_ENDIAN, DETHRUX_U16_BYTES(utf16), len * 2);
+}
+
+/**
+ * Does what dethrux_to_wtf8_partial does, on code units.
+ *
+ * With DETHRUX_INCOMPLETE one code unit follows `read`, a leading surrogate.
+ *
+ * @param capacity `len * 3` suffices
+ */
+DETHRUX_U16_RESULT dethrux_progress dethrux_u16_to_wtf8_partial(
+    const dethrux_unit *utf16, size_t len, uint8_t *to, size_t capacity) {
+    dethrux_progress progress = dethrux_to_wtf8_partial(
+        DETHRUX_NATIVE_ENDIAN, DETHRUX_U16_BYTES(utf16), len * 2, to, capacity);
+    progress.read /= 2;
+    return progress;
+}
+
+/**
+ * Does what dethrux_decoder_feed_wtf8 does, on code units.
+ *
+ * @param decoder one that only this call and dethrux_decoder_finish_wtf8 have changed
+ * @param capacity `(len + 1) * 3` suffices
+ */
+DETHRUX_U16_RESULT dethrux_progress dethrux_u16_decoder_feed_wtf8(
+    dethrux_decoder *decoder, const dethrux_unit *chunk, size_t len, uint8_t *to,
+    size_t capacity) {
+    dethrux_progress progress = dethrux_decoder_feed_wtf8(
+        decoder, DETHRUX_NATIVE_ENDIAN, DETHRUX_U16_BYTES(chunk), len * 2, to, capacity);
+    progress.read /= 2;
+    return progress;
+}
+
+/**
+ * Does what dethrux_from_wtf8 does, on code units.
+ *
+ * @param capacity `len` suffices
+ */
+DETHRUX_U16_RESULT dethrux_progress dethrux_u16_from_wtf8(
+    const uint8_t *wtf8, size_t len, dethrux_unit *to, size_t capacity) {
+    dethrux_progress progress = dethrux_from_wtf8(
+        DETHRUX_NATIVE_ENDIAN, wtf8, len, DETHRUX_U16_BYTES_MUT(to), capacity * 2);
+    progress.written /= 2;
+    return progress;
+}
+
+/**
+ * Does what dethrux_from_wtf8_partial does, on code units.
+ *
+ * @param capacity `len` suffices
+ */
+DETHRUX_U16_RESULT dethrux_progress dethrux_u16_from_wtf8_partial(
+    const uint8_t *wtf8, size_t len, dethrux_unit *to, size_t capacity) {
+    dethrux_progress progress = dethrux_from_wtf8_partial(
+        DETHRUX_NATIVE_ENDIAN, wtf8, len, DETHRUX_U16_BYTES_MUT(to), capacity * 2);
+    progress.written /= 2;
+    return progress;
+}
+
 /** Does what dethrux_is_char_boundary does, on code units. */
 DETHRUX_U16_RESULT bool dethrux_u16_is_char_boundary(
     const dethrux_unit *utf16, size_t len, size_t at) {
@@ -1049,6 +1296,30 @@ DETHRUX_U16_RESULT size_t dethrux_u16_floor_char_boundary(
     return dethrux_floor_char_boundary(DETHRUX_NATIVE_ENDIAN, DETHRUX_U16_BYTES(utf16), len * 2,
                at < len ? at * 2 : len * 2)
         / 2;
+}
+
+/**
+ * Does what dethrux_find does, on code units.
+ *
+ * @return an offset in code units, or DETHRUX_NOT_FOUND
+ */
+DETHRUX_U16_RESULT size_t dethrux_u16_find(const dethrux_unit *utf16, size_t len,
+    const dethrux_unit *pattern, size_t pattern_len) {
+    size_t found = dethrux_find(DETHRUX_NATIVE_ENDIAN, DETHRUX_U16_BYTES(utf16), len * 2,
+        DETHRUX_U16_BYTES(pattern), pattern_len * 2);
+    return found == DETHRUX_NOT_FOUND ? found : found / 2;
+}
+
+/**
+ * Does what dethrux_rfind does, on code units.
+ *
+ * @return an offset in code units, or DETHRUX_NOT_FOUND
+ */
+DETHRUX_U16_RESULT size_t dethrux_u16_rfind(const dethrux_unit *utf16, size_t len,
+    const dethrux_unit *pattern, size_t pattern_len) {
+    size_t found = dethrux_rfind(DETHRUX_NATIVE_ENDIAN, DETHRUX_U16_BYTES(utf16), len * 2,
+        DETHRUX_U16_BYTES(pattern), pattern_len * 2);
+    return found == DETHRUX_NOT_FOUND ? found : found / 2;
 }
 
 /** Does what dethrux_swap_byte_order does, on code units. */

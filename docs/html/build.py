@@ -1,6 +1,6 @@
 #!/usr/bin/env python3
-# Builds docs/site from the tree: the documents, a page for each crate, and the references for C,
-# C++, Python, Rust and the programs, as HTML. Without a tool the pages that need it are left out.
+# Builds docs/site from the tree: the page of site/, the documents, a page for each crate, and the
+# references for C, C++, Python, Rust and the programs, as HTML. Without a tool the pages that need it are left out.
 # Prints a line for each failure and for each part that was left out, and then the page to open. The
 # status is 0 if all was built, 1 after a failure, and 77 if a part was left out.
 import os
@@ -13,7 +13,12 @@ import crates
 import pages
 import references
 
+sys.path.insert(0, str(pages.TOP / "site"))
+
+import build as page  # noqa: E402
+
 BUILDERS = {
+    "see": lambda _tree: page.write(pages.SITE / "see/index.html", "../index.html"),
     "tree": pages.build_documents,
     "rattle": crates.build_crates,
     "c": references.build_c,
@@ -22,6 +27,7 @@ BUILDERS = {
     "man": references.build_man,
 }
 WORDS = {
+    "see": "The proved decoder on your bytes, in a page that you can also open without a network.",
     "tree": "Guides to the library, what it promises and why, and how to change it.",
     "rattle": "The crates: each public item with its contract, and links to the definitions.",
     "c": "The headers <code>dethrux.h</code> and <code>dethrux.hpp</code>.",
@@ -35,6 +41,7 @@ FIRST = (
     ("docs/CPP.md", "C++"),
     ("docs/PYTHON.md", "Python"),
     ("docs/RUST.md", "Rust"),
+    ("docs/JS.md", "JavaScript"),
     ("docs/CALLING.md", "Rattle"),
     ("docs/RECIPES.md", "Recipes"),
     ("docs/PROMISES.md", "Promises"),

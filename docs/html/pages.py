@@ -24,6 +24,7 @@ PICTURES = {".svg", ".png"}
 MADE = {"out", "target", "build", "dist", "__pycache__"}
 # The parts of the site, each in a folder with an index.html.
 PARTS = {
+    "see": "See it",
     "tree": "Documents",
     "rattle": "Rattle",
     "c": "C and C++",

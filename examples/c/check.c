@@ -303,14 +303,20 @@ static item item_of_utf16(dethrux_byte_order order, const uint8_t *at, size_t le
     return (item){2, unit < 0x80 ? 1 : unit < 0x800 ? 2 : 3, false};
 }
 
+/* The same in WTF-8: a leading surrogate at the end is an item, and an odd byte is in none. */
+static item item_to_wtf8(dethrux_byte_order order, const uint8_t *at, size_t left) {
+    item found = item_of_utf16(order, at, left);
+    return found.cut ? (item){2, 3, false} : found;
+}
+
 /* As in table 3-7 of the Unicode Standard: an ill-formed sequence is the longest prefix of a
- * character in it, or one byte. */
-static item item_of_utf8(const uint8_t *at, size_t left) {
+ * character in it, or one byte. WTF-8 also has surrogates, after ED. */
+static item item_of_utf8(const uint8_t *at, size_t left, bool wtf8) {
     size_t found = 1;
     uint8_t first = at[0];
     size_t whole = first < 0x80 ? 1 : first < 0xC2 ? 0 : first < 0xE0 ? 2 : first < 0xF0 ? 3 : first < 0xF5 ? 4 : 0;
     uint8_t least = first == 0xE0 ? 0xA0 : first == 0xF0 ? 0x90 : 0x80;
-    uint8_t most = first == 0xED ? 0x9F : first == 0xF4 ? 0x8F : 0xBF;
+    uint8_t most = first == 0xED && !wtf8 ? 0x9F : first == 0xF4 ? 0x8F : 0xBF;
     while (found < whole && found < left && at[found] >= least && at[found] <= most) {
         found++;
         least = 0x80;
@@ -321,16 +327,28 @@ static item item_of_utf8(const uint8_t *at, size_t left) {
 
 typedef dethrux_progress convert(dethrux_byte_order order, const uint8_t *from, size_t len, uint8_t *to, size_t room);
 
+typedef enum { TO_UTF8, FROM_UTF8, TO_WTF8, FROM_WTF8 } way;
+
+static bool is_back(way by) {
+    return by == FROM_UTF8 || by == FROM_WTF8;
+}
+
 typedef struct {
     const char *name;
     convert *make;
-    bool back; /* from UTF-8 */
+    way way;
 } conversion;
 
 static const conversion conversions[] = {
-    {"to_utf8", dethrux_to_utf8, false},           {"to_utf8_partial", dethrux_to_utf8_partial, false},
-    {"to_utf8_lossy", dethrux_to_utf8_lossy, false}, {"from_utf8", dethrux_from_utf8, true},
-    {"from_utf8_lossy", dethrux_from_utf8_lossy, true},
+    {"to_utf8", dethrux_to_utf8, TO_UTF8},
+    {"to_utf8_partial", dethrux_to_utf8_partial, TO_UTF8},
+    {"to_utf8_lossy", dethrux_to_utf8_lossy, TO_UTF8},
+    {"from_utf8", dethrux_from_utf8, FROM_UTF8},
+    {"from_utf8_lossy", dethrux_from_utf8_lossy, FROM_UTF8},
+    {"to_wtf8", dethrux_to_wtf8, TO_WTF8},
+    {"to_wtf8_partial", dethrux_to_wtf8_partial, TO_WTF8},
+    {"from_wtf8", dethrux_from_wtf8, FROM_WTF8},
+    {"from_wtf8_partial", dethrux_from_wtf8_partial, FROM_WTF8},
 };
 
 static const conversion *conversion_of(const char *name) {
@@ -343,21 +361,31 @@ static const conversion *conversion_of(const char *name) {
 }
 
 static size_t size_of(const conversion *by, dethrux_byte_order order, const text *from) {
-    return by->back ? dethrux_from_utf8_lossy_len(from->bytes, from->len) : dethrux_to_utf8_lossy_len(order, from->bytes, from->len);
+    switch (by->way) {
+    case TO_UTF8: return dethrux_to_utf8_lossy_len(order, from->bytes, from->len);
+    case FROM_UTF8: return dethrux_from_utf8_lossy_len(from->bytes, from->len);
+    case TO_WTF8: return dethrux_to_wtf8_len(order, from->bytes, from->len);
+    default: return DETHRUX_UTF16_MAX(from->len);
+    }
 }
 
 /* The capacity that the header says suffices. */
 static size_t most(const conversion *by, size_t len) {
-    return by->back ? DETHRUX_UTF16_MAX(len) : by->make == dethrux_to_utf8_lossy ? DETHRUX_UTF8_MAX(len) : len / 2 * 3;
+    return is_back(by->way) ? DETHRUX_UTF16_MAX(len) : by->make == dethrux_to_utf8_lossy ? DETHRUX_UTF8_MAX(len)
+        : by->way == TO_WTF8 ? DETHRUX_WTF8_MAX(len) : len / 2 * 3;
+}
+
+static item item_at(way by, dethrux_byte_order order, const uint8_t *at, size_t left) {
+    return is_back(by) ? item_of_utf8(at, left, by == FROM_WTF8) : by == TO_WTF8 ? item_to_wtf8(order, at, left) : item_of_utf16(order, at, left);
 }
 
 /* How far a call comes that may read up to an offset, with a buffer of this many bytes: to the
  * offset, or to what does not fit. */
-static dethrux_progress reached(bool back, dethrux_byte_order order, const text *from, size_t end, size_t room) {
+static dethrux_progress reached(way by, dethrux_byte_order order, const text *from, size_t end, size_t room) {
     dethrux_progress found = {0, 0, DETHRUX_DONE, 0};
     while (found.read < end) {
         const uint8_t *at = from->bytes + found.read;
-        item next = back ? item_of_utf8(at, from->len - found.read) : item_of_utf16(order, at, from->len - found.read);
+        item next = item_at(by, order, at, from->len - found.read);
         if (next.to > room - found.written) {
             found.status = DETHRUX_NO_SPACE;
             break;
@@ -368,6 +396,12 @@ static dethrux_progress reached(bool back, dethrux_byte_order order, const text 
     return found;
 }
 
+/* Whether a whole surrogate of WTF-8 follows what was read. A partial call that has no space for it
+ * says so, and with space leaves it. */
+static bool leaves_surrogate(const conversion *by, const text *from, dethrux_progress whole) {
+    return by->make == dethrux_from_wtf8_partial && whole.status == DETHRUX_INCOMPLETE && from->len - whole.read >= 3;
+}
+
 /* Whether a call comes as far in buffers of all sizes, as far as there is capacity, and writes
  * nothing after them. */
 static bool comes_so_far(const conversion *by, dethrux_byte_order order, const text *from, dethrux_progress whole, const uint8_t *written) {
@@ -375,8 +409,10 @@ static bool comes_so_far(const conversion *by, dethrux_byte_order order, const t
     for (size_t room = 0; is && room <= 2 * SHORT; room++) {
         text to = blank(room);
         dethrux_progress found = by->make(order, from->bytes, from->len, to.bytes, room);
-        dethrux_progress should = reached(by->back, order, from, whole.read, room);
-        if (should.status == DETHRUX_DONE) {
+        dethrux_progress should = reached(by->way, order, from, whole.read, room);
+        if (leaves_surrogate(by, from, whole) && room - should.written < 2) {
+            should.status = DETHRUX_NO_SPACE;
+        } else if (should.status == DETHRUX_DONE) {
             should.status = whole.status;
             should.error_len = whole.error_len;
         }
@@ -388,33 +424,40 @@ static bool comes_so_far(const conversion *by, dethrux_byte_order order, const t
     return is;
 }
 
-/* A decoder, of UTF-16 or of UTF-8, and its byte order. */
+/* A decoder, of UTF-16 or of UTF-8, and its byte order. There is none of WTF-8. */
 typedef struct {
-    bool back; /* from UTF-8 */
+    way way;
     dethrux_byte_order order;
     dethrux_decoder utf16;
     dethrux_encoder utf8;
 } decoder;
 
-static decoder new_decoder(bool back, dethrux_byte_order order) {
-    return (decoder){back, order, DETHRUX_DECODER_INIT, DETHRUX_ENCODER_INIT};
+static decoder new_decoder(way by, dethrux_byte_order order) {
+    return (decoder){by, order, DETHRUX_DECODER_INIT, DETHRUX_ENCODER_INIT};
 }
 
 static dethrux_progress feed(decoder *by, const uint8_t *chunk, size_t len, uint8_t *to, size_t room) {
-    return by->back ? dethrux_encoder_feed(&by->utf8, by->order, chunk, len, to, room)
-                    : dethrux_decoder_feed(&by->utf16, by->order, chunk, len, to, room);
+    switch (by->way) {
+    case TO_UTF8: return dethrux_decoder_feed(&by->utf16, by->order, chunk, len, to, room);
+    case TO_WTF8: return dethrux_decoder_feed_wtf8(&by->utf16, by->order, chunk, len, to, room);
+    default: return dethrux_encoder_feed(&by->utf8, by->order, chunk, len, to, room);
+    }
 }
 
 static dethrux_progress finish(decoder *by, uint8_t *to, size_t room) {
-    return by->back ? dethrux_encoder_finish(&by->utf8, by->order, to, room) : dethrux_decoder_finish(&by->utf16, to, room);
+    switch (by->way) {
+    case TO_UTF8: return dethrux_decoder_finish(&by->utf16, to, room);
+    case TO_WTF8: return dethrux_decoder_finish_wtf8(&by->utf16, by->order, to, room);
+    default: return dethrux_encoder_finish(&by->utf8, by->order, to, room);
+    }
 }
 
 static size_t finish_max(const decoder *by) {
-    return by->back ? DETHRUX_ENCODER_FINISH_MAX : DETHRUX_DECODER_FINISH_MAX;
+    return is_back(by->way) ? DETHRUX_ENCODER_FINISH_MAX : DETHRUX_DECODER_FINISH_MAX;
 }
 
 static text pending_of(decoder *by) {
-    return by->back ? (text){by->utf8.pending, by->utf8.pending_len, 0} : (text){by->utf16.pending, by->utf16.pending_len, 0};
+    return is_back(by->way) ? (text){by->utf8.pending, by->utf8.pending_len, 0} : (text){by->utf16.pending, by->utf16.pending_len, 0};
 }
 
 static bool is_unchanged(const decoder *by, const decoder *before) {
@@ -460,8 +503,8 @@ static bool finish_all(decoder *by, text *all) {
 }
 
 /* Decodes in chunks of one length with a decoder, into buffers of one length. */
-static bool in_pieces(bool back, dethrux_byte_order order, const text *from, size_t first, size_t then, size_t room, text *all) {
-    decoder by = new_decoder(back, order);
+static bool in_pieces(way way, dethrux_byte_order order, const text *from, size_t first, size_t then, size_t room, text *all) {
+    decoder by = new_decoder(way, order);
     size_t at = 0, len = first < from->len ? first : from->len;
     bool is = true;
     do {
@@ -472,19 +515,35 @@ static bool in_pieces(bool back, dethrux_byte_order order, const text *from, siz
     return is && finish_all(&by, all);
 }
 
+/* The partial call of a direction, the call for its last bytes, and the most that it leaves. */
+typedef struct {
+    convert *partial;
+    convert *last;
+    size_t most;
+} by_partial;
+
+static by_partial partial_of(way by) {
+    switch (by) {
+    case TO_UTF8: return (by_partial){dethrux_to_utf8_partial, dethrux_to_utf8_lossy, DETHRUX_PENDING_MAX};
+    case TO_WTF8: return (by_partial){dethrux_to_wtf8_partial, dethrux_to_wtf8, DETHRUX_PENDING_MAX};
+    case FROM_WTF8: return (by_partial){dethrux_from_wtf8_partial, dethrux_from_wtf8, DETHRUX_WTF8_PENDING_MAX};
+    default: return (by_partial){NULL, NULL, 0};
+    }
+}
+
 /* Decodes in chunks with the partial call: the caller puts the unread bytes before the next
  * chunk. */
-static bool by_hand(dethrux_byte_order order, const text *from, size_t piece, size_t room, text *all) {
+static bool by_hand(by_partial by, dethrux_byte_order order, const text *from, size_t piece, size_t room, text *all) {
     text waiting = {0};
     size_t at = 0;
     bool at_end = false, is = true, done = false;
     while (is && !done) {
         text to = blank(room);
-        convert *make = at_end ? dethrux_to_utf8_lossy : dethrux_to_utf8_partial;
+        convert *make = at_end ? by.last : by.partial;
         dethrux_progress found = make(order, waiting.bytes, waiting.len, to.bytes, room);
         is = found.read <= waiting.len && found.error_len == 0 && found.written <= room && is_blank(&to, room)
             && (found.status != DETHRUX_NO_SPACE || found.written > 0)
-            && (found.status != DETHRUX_INCOMPLETE || waiting.len - found.read <= DETHRUX_PENDING_MAX);
+            && (found.status != DETHRUX_INCOMPLETE || waiting.len - found.read <= by.most);
         if (is) {
             append(all, to.bytes, found.written);
             waiting.len -= found.read;
@@ -507,14 +566,16 @@ static bool by_hand(dethrux_byte_order order, const text *from, size_t piece, si
 
 /* Whether every chunking gives this text: in two, in chunks of one length, with buffers of several
  * sizes. */
-static bool is_cut_anywhere(bool back, dethrux_byte_order order, const text *from, const text *whole) {
+static bool is_cut_anywhere(way way, dethrux_byte_order order, const text *from, const text *whole) {
+    by_partial by = partial_of(way);
     bool is = true;
     for (size_t room = 4; is && room <= 9; room++) {
         for (size_t at = 0; is && at <= from->len + 1; at++) {
             text kept = {0}, pieces = {0}, hand = {0};
-            is = in_pieces(back, order, from, at, from->len, room, &kept) && same(&kept, whole)
-                && in_pieces(back, order, from, at + 1, at + 1, room, &pieces) && same(&pieces, whole)
-                && (back || (by_hand(order, from, at + 1, room, &hand) && same(&hand, whole)));
+            is = (way == FROM_WTF8
+                     || (in_pieces(way, order, from, at, from->len, room, &kept) && same(&kept, whole)
+                         && in_pieces(way, order, from, at + 1, at + 1, room, &pieces) && same(&pieces, whole)))
+                && (by.partial == NULL || (by_hand(by, order, from, at + 1, room, &hand) && same(&hand, whole)));
             free(kept.bytes);
             free(pieces.bytes);
             free(hand.bytes);
@@ -545,7 +606,8 @@ static bool is_ascii(const text *utf8) {
 /* Returns a word for what a conversion that came to its end contradicts, or NULL. */
 static const char *contradicted(const conversion *by, dethrux_byte_order order, const text *from, dethrux_progress found, const text *to) {
     text written = {to->bytes, found.written, 0};
-    bool strict = by->make == dethrux_to_utf8 || by->make == dethrux_from_utf8;
+    bool wtf8 = by->make == dethrux_to_wtf8 || by->make == dethrux_from_wtf8;
+    bool strict = by->make == dethrux_to_utf8 || by->make == dethrux_from_utf8 || wtf8;
     if (by->make == dethrux_to_utf8 && found.status == DETHRUX_DONE
         && (dethrux_count_chars(order, from->bytes, from->len) != characters(&written)
             || dethrux_is_ascii(order, from->bytes, from->len) != is_ascii(&written))) {
@@ -560,6 +622,9 @@ static const char *contradicted(const conversion *by, dethrux_byte_order order, 
     if (by->make == dethrux_from_utf8 && dethrux_from_utf8_len(from->bytes, from->len) != found.written) {
         return "size";
     }
+    if (by->make == dethrux_to_wtf8 && dethrux_to_wtf8_len(order, from->bytes, from->len) != found.written) {
+        return "size";
+    }
     if (found.written > most(by, from->len)) {
         return "bound";
     }
@@ -570,12 +635,14 @@ static const char *contradicted(const conversion *by, dethrux_byte_order order, 
         return "rooms";
     }
     bool lossy = by->make == dethrux_to_utf8_lossy || by->make == dethrux_from_utf8_lossy;
-    if (lossy && !is_cut_anywhere(by->back, order, from, &written)) {
+    bool whole = lossy || (wtf8 && found.status == DETHRUX_DONE);
+    if (whole && !is_cut_anywhere(by->way, order, from, &written)) {
         return "pieces";
     }
     if (strict && found.status == DETHRUX_DONE) {
         text again = blank(from->len);
-        convert *back = by->back ? dethrux_to_utf8 : dethrux_from_utf8;
+        convert *back = by->way == TO_UTF8 ? dethrux_from_utf8 : by->way == FROM_UTF8 ? dethrux_to_utf8
+            : by->way == TO_WTF8 ? dethrux_from_wtf8 : dethrux_to_wtf8;
         dethrux_progress end = back(order, to->bytes, found.written, again.bytes, from->len);
         again.len = end.written;
         bool is = end.status == DETHRUX_DONE && same(&again, from);
@@ -597,7 +664,7 @@ static bool call_convert(const conversion *by, dethrux_byte_order order, char **
             : found.status == DETHRUX_NO_SPACE    ? NULL
                                                : contradicted(by, order, &from, found, &to);
         add_progress(answer, found);
-        add_found(answer, !by->back, to.bytes, found.written);
+        add_found(answer, by->way == TO_UTF8, to.bytes, found.written);
         if (but != NULL) {
             add_word(answer, but);
         }
@@ -624,7 +691,7 @@ static bool call_every_room(dethrux_byte_order order, char **values, size_t coun
             }
             free(to.bytes);
         }
-        add_found(answer, !by->back, all.bytes, last.written);
+        add_found(answer, by->way == TO_UTF8, all.bytes, last.written);
         free(all.bytes);
     }
     free(from.bytes);
@@ -644,6 +711,10 @@ static void ask_is_ascii(dethrux_byte_order order, const text *raw, text *answer
 
 static void ask_utf8_size(dethrux_byte_order order, const text *raw, text *answer) {
     add_number(answer, dethrux_to_utf8_lossy_len(order, raw->bytes, raw->len));
+}
+
+static void ask_wtf8_size(dethrux_byte_order order, const text *raw, text *answer) {
+    add_number(answer, dethrux_to_wtf8_len(order, raw->bytes, raw->len));
 }
 
 static void ask_utf16_size(dethrux_byte_order order, const text *raw, text *answer) {
@@ -688,11 +759,11 @@ static void ask_from_utf16(dethrux_byte_order order, const text *raw, text *answ
 static void add_decoded(dethrux_byte_order order, const uint8_t *raw, size_t len, text *answer) {
     text from = {0}, utf8 = {0};
     append(&from, raw, len);
-    if (!in_pieces(false, order, &from, len, len, 3 * len + 4, &utf8)) {
+    if (!in_pieces(TO_UTF8, order, &from, len, len, 3 * len + 4, &utf8)) {
         add_word(answer, "stream");
     }
     add_text(answer, utf8.bytes, utf8.len);
-    if (len <= SHORT && !is_cut_anywhere(false, order, &from, &utf8)) {
+    if (len <= SHORT && !is_cut_anywhere(TO_UTF8, order, &from, &utf8)) {
         add_word(answer, "pieces");
     }
     free(from.bytes);
@@ -722,7 +793,7 @@ static bool feed_to_buffer(decoder *by, const text *piece, size_t room, text *an
     dethrux_progress found = feed(by, piece->bytes, piece->len, to.bytes, room);
     (void)all;
     add_progress(answer, found);
-    add_found(answer, !by->back, to.bytes, found.written);
+    add_found(answer, by->way == TO_UTF8, to.bytes, found.written);
     add_bytes(answer, pending_of(by).bytes, pending_of(by).len);
     bool is = is_blank(&to, room);
     free(to.bytes);
@@ -770,7 +841,7 @@ static bool feed_to_buffers(decoder by, char **values, size_t count, text *answe
     text to = blank(room);
     dethrux_progress end = finish(&by, to.bytes, room);
     add_progress(answer, end);
-    add_found(answer, !by.back, to.bytes, end.written);
+    add_found(answer, by.way == TO_UTF8, to.bytes, end.written);
     add_bytes(answer, pending_of(&by).bytes, pending_of(&by).len);
     if (!is_blank(&to, end.written)) {
         add_word(answer, "changed");
@@ -780,15 +851,19 @@ static bool feed_to_buffers(decoder by, char **values, size_t count, text *answe
 }
 
 static bool call_stream_feed(dethrux_byte_order order, char **values, size_t count, text *answer) {
-    return feed_to_buffers(new_decoder(false, order), values, count, answer);
+    return feed_to_buffers(new_decoder(TO_UTF8, order), values, count, answer);
 }
 
 static bool call_utf8_stream_feed(dethrux_byte_order order, char **values, size_t count, text *answer) {
-    return feed_to_buffers(new_decoder(true, order), values, count, answer);
+    return feed_to_buffers(new_decoder(FROM_UTF8, order), values, count, answer);
+}
+
+static bool call_wtf8_feed(dethrux_byte_order order, char **values, size_t count, text *answer) {
+    return feed_to_buffers(new_decoder(TO_WTF8, order), values, count, answer);
 }
 
 static bool call_lossy_feed(dethrux_byte_order order, char **values, size_t count, text *answer) {
-    decoder by = new_decoder(false, order);
+    decoder by = new_decoder(TO_UTF8, order);
     text end = {0};
     if (count > 1 || (count == 1 && !feed_pieces(values[0], feed_and_show, &by, 0, answer, NULL))) {
         return false;
@@ -802,7 +877,7 @@ static bool call_lossy_feed(dethrux_byte_order order, char **values, size_t coun
 }
 
 static bool call_decode_pieces(dethrux_byte_order order, char **values, size_t count, text *answer) {
-    decoder by = new_decoder(false, order);
+    decoder by = new_decoder(TO_UTF8, order);
     text all = {0};
     bool is = count == 0 || (count == 1 && feed_pieces(values[0], feed_only, &by, 0, answer, &all));
     if (!finish_all(&by, &all)) {
@@ -912,6 +987,32 @@ static bool call_shard(dethrux_byte_order order, char **values, size_t count, te
                                number_of(values[0]), number_of(values[1]), number_of(values[2])));
     }
     return count == 3;
+}
+
+typedef size_t search(dethrux_byte_order order, const uint8_t *utf16, size_t len, const uint8_t *pattern, size_t pattern_len);
+
+static bool search_by(search *make, dethrux_byte_order order, char **values, size_t count, text *answer) {
+    text raw = {0}, pattern = {0};
+    bool is = count == 2 && bytes_of(values[0], order, &raw) && bytes_of(values[1], order, &pattern);
+    if (is) {
+        size_t found = make(order, raw.bytes, raw.len, pattern.bytes, pattern.len);
+        if (found == DETHRUX_NOT_FOUND) {
+            add_word(answer, "none");
+        } else {
+            add_number(answer, found);
+        }
+    }
+    free(raw.bytes);
+    free(pattern.bytes);
+    return is;
+}
+
+static bool call_find(dethrux_byte_order order, char **values, size_t count, text *answer) {
+    return search_by(dethrux_find, order, values, count, answer);
+}
+
+static bool call_rfind(dethrux_byte_order order, char **values, size_t count, text *answer) {
+    return search_by(dethrux_rfind, order, values, count, answer);
 }
 
 /* UTF-32 is spelled by its bytes in big endian. Returns its code units, and makes `count` their
@@ -1068,6 +1169,7 @@ static struct {
     {"every_room", call_every_room, NULL, 0},
     {"Stream::feed", call_stream_feed, NULL, 0},
     {"feed_utf8", call_utf8_stream_feed, NULL, 0},
+    {"feed_wtf8", call_wtf8_feed, NULL, 0},
     {"Lossy::feed", call_lossy_feed, NULL, 0},
     {"decode_pieces", call_decode_pieces, NULL, 0},
     {"swap_byte_order", call_swap, NULL, 0},
@@ -1077,6 +1179,8 @@ static struct {
     {"bytes::floor_char_boundary", call_floor, NULL, 0},
     {"bytes::floor_char_boundary_around", call_floor_around, NULL, 0},
     {"shard_offset", call_shard, NULL, 0},
+    {"search::find", call_find, NULL, 0},
+    {"search::rfind", call_rfind, NULL, 0},
     {"to_utf32", call_to_utf32, NULL, 0},
     {"to_utf32_lossy", call_to_utf32_lossy, NULL, 0},
     {"from_utf32", call_from_utf32, NULL, 0},
@@ -1090,6 +1194,7 @@ static struct {
     {"count_chars", NULL, ask_count, 0},
     {"is_ascii", NULL, ask_is_ascii, 0},
     {"to_utf8_lossy_len", NULL, ask_utf8_size, 0},
+    {"to_wtf8_len", NULL, ask_wtf8_size, 0},
     {"from_utf8_len", NULL, ask_utf16_size, 0},
     {"from_utf8_lossy_len", NULL, ask_utf16_marked_size, 0},
     {"validate_raw_utf16", NULL, ask_validate, 0},
@@ -1210,6 +1315,18 @@ static bool is_same(dethrux_progress a, const text *a_to, dethrux_progress b, co
         && memcmp(a_to->bytes, b_to->bytes, a.written) == 0;
 }
 
+/* Whether a search reads a byte order as little endian: the text has the two halves of a surrogate
+ * pair at 10 and at 12, which in big endian are two characters. */
+static bool is_searched_as_little(search *make, dethrux_byte_order order, const text *utf16) {
+    const uint8_t *bytes = utf16->bytes;
+    bool is = make(order, bytes, utf16->len, bytes + 10, 4) == 10;
+    for (size_t at = 10; at < 14; at += 2) {
+        is = is && make(order, bytes, utf16->len, bytes + at, 2) == DETHRUX_NOT_FOUND
+            && make(DETHRUX_BIG_ENDIAN, bytes, utf16->len, bytes + at, 2) == at;
+    }
+    return is;
+}
+
 /* Whether the calls at an offset, and the comparison, read a byte order as little endian. */
 static bool are_cuts_read_as_little(dethrux_byte_order order, const text *utf16) {
     const dethrux_byte_order little = DETHRUX_LITTLE_ENDIAN;
@@ -1226,7 +1343,7 @@ static bool are_cuts_read_as_little(dethrux_byte_order order, const text *utf16)
     return is;
 }
 
-/* The same for the call that changes a text, and for the end of a stream of UTF-8. */
+/* The same for the call that changes a text, and for the end of a stream. */
 static bool is_changed_as_little(dethrux_byte_order order, const text *utf16) {
     text found = {0}, should = {0};
     append(&found, utf16->bytes, utf16->len);
@@ -1237,7 +1354,10 @@ static bool is_changed_as_little(dethrux_byte_order order, const text *utf16) {
     free(should.bytes);
     uint8_t mark[2];
     dethrux_encoder decoder = {{0xC3, 0, 0}, 1};
-    return is && dethrux_encoder_finish(&decoder, order, mark, 2).written == 2 && mark[0] == 0xFD && mark[1] == 0xFF;
+    is = is && dethrux_encoder_finish(&decoder, order, mark, 2).written == 2 && mark[0] == 0xFD && mark[1] == 0xFF;
+    uint8_t lead[3];
+    dethrux_decoder wtf8 = {{0x3D, 0xD8, 0}, 2};
+    return is && dethrux_decoder_finish_wtf8(&wtf8, order, lead, 3).written == 3 && memcmp(lead, "\xED\xA0\xBD", 3) == 0;
 }
 
 /* Whether every call reads a byte order as little endian, on bytes that are another text in big
@@ -1248,21 +1368,23 @@ static bool is_read_as_little(dethrux_byte_order order, const text *utf16, const
     bool is = valid.valid_up_to == wanted.valid_up_to && valid.status == wanted.status && valid.error_len == wanted.error_len
         && dethrux_count_chars(order, utf16->bytes, utf16->len) == dethrux_count_chars(little, utf16->bytes, utf16->len)
         && dethrux_is_ascii(order, utf16->bytes, 2) && !dethrux_is_ascii(DETHRUX_BIG_ENDIAN, utf16->bytes, 2)
-        && dethrux_to_utf8_lossy_len(order, utf16->bytes, utf16->len) == dethrux_to_utf8_lossy_len(little, utf16->bytes, utf16->len);
-    is = is && are_cuts_read_as_little(order, utf16) && is_changed_as_little(order, utf16);
+        && dethrux_to_utf8_lossy_len(order, utf16->bytes, utf16->len) == dethrux_to_utf8_lossy_len(little, utf16->bytes, utf16->len)
+        && dethrux_to_wtf8_len(order, utf16->bytes, utf16->len) == dethrux_to_wtf8_len(little, utf16->bytes, utf16->len);
+    is = is && are_cuts_read_as_little(order, utf16) && is_changed_as_little(order, utf16)
+        && is_searched_as_little(dethrux_find, order, utf16) && is_searched_as_little(dethrux_rfind, order, utf16);
     for (size_t i = 0; i < sizeof conversions / sizeof *conversions; i++) {
         const conversion *by = &conversions[i];
-        const text *from = by->back ? utf8 : utf16;
+        const text *from = is_back(by->way) ? utf8 : utf16;
         text to = blank(64), should = blank(64);
         dethrux_progress found = by->make(order, from->bytes, from->len, to.bytes, 64);
         is = is && is_same(found, &to, by->make(little, from->bytes, from->len, should.bytes, 64), &should);
         free(to.bytes);
         free(should.bytes);
     }
-    for (int back = 0; back < 2; back++) {
-        const text *from = back ? utf8 : utf16;
-        text fed = {0}, should = {0};
-        is = in_pieces(back, order, from, 1, 3, 4, &fed) && in_pieces(back, little, from, 1, 3, 4, &should) && same(&fed, &should) && is;
+    for (int by = TO_UTF8; by <= TO_WTF8; by++) {
+        text from = by == FROM_UTF8 ? *utf8 : *utf16, fed = {0}, should = {0};
+        from.len -= by == TO_WTF8 ? from.len % 2 : 0;
+        is = in_pieces((way)by, order, &from, 1, 3, 4, &fed) && in_pieces((way)by, little, &from, 1, 3, 4, &should) && same(&fed, &should) && is;
         free(fed.bytes);
         free(should.bytes);
     }
@@ -1312,6 +1434,11 @@ static bool is_bound_reached(size_t len) {
         && needs(dethrux_to_utf8_lossy, &three, DETHRUX_UTF8_MAX(len), DETHRUX_DONE)
         && needs(dethrux_to_utf8_lossy, &lone, DETHRUX_UTF8_MAX(len), DETHRUX_DONE)
         && dethrux_to_utf8_lossy_len(DETHRUX_BIG_ENDIAN, lone.bytes, len) == DETHRUX_UTF8_MAX(len)
+        && needs(dethrux_to_wtf8, &three, DETHRUX_WTF8_MAX(len), end) && needs(dethrux_to_wtf8, &lone, DETHRUX_WTF8_MAX(len), end)
+        && needs(dethrux_to_wtf8_partial, &three, DETHRUX_WTF8_MAX(len), end)
+        && dethrux_to_wtf8_len(DETHRUX_BIG_ENDIAN, lone.bytes, len) == DETHRUX_WTF8_MAX(len)
+        && needs(dethrux_from_wtf8, &ascii, DETHRUX_UTF16_MAX(len), DETHRUX_DONE)
+        && needs(dethrux_from_wtf8_partial, &ascii, DETHRUX_UTF16_MAX(len), DETHRUX_DONE)
         && needs(dethrux_from_utf8, &ascii, DETHRUX_UTF16_MAX(len), DETHRUX_DONE)
         && needs(dethrux_from_utf8_lossy, &ascii, DETHRUX_UTF16_MAX(len), DETHRUX_DONE)
         && needs(dethrux_from_utf8_lossy, &never, DETHRUX_UTF16_MAX(len), DETHRUX_DONE)
@@ -1339,9 +1466,9 @@ static bool feed_needs(const decoder *state, const text *chunk, size_t capacity)
 
 /* A state with three bytes, one that a call leaves and one that no call leaves, and a chunk of
  * characters that take three bytes each. */
-static bool is_feed_bound_reached(size_t len) {
+static bool is_feed_bound_reached(way by, size_t len) {
     static const uint8_t left[] = {0xD8, 0x00, 0x4E};
-    decoder by_call = new_decoder(false, DETHRUX_BIG_ENDIAN), by_hand = by_call;
+    decoder by_call = new_decoder(by, DETHRUX_BIG_ENDIAN), by_hand = by_call;
     by_hand.utf16 = (dethrux_decoder){{0x4E, 0x00, 0x4E}, DETHRUX_PENDING_MAX};
     dethrux_progress found = feed(&by_call, left, sizeof left, NULL, 0);
     bool is = found.status == DETHRUX_DONE && by_call.utf16.pending_len == DETHRUX_PENDING_MAX;
@@ -1357,7 +1484,7 @@ static bool is_feed_bound_reached(size_t len) {
 /* The same from UTF-8, with a chunk of ASCII. */
 static bool is_utf8_feed_bound_reached(size_t len) {
     static const uint8_t left[] = {0xF0, 0x9F, 0x98};
-    decoder by_call = new_decoder(true, DETHRUX_BIG_ENDIAN), by_hand = by_call;
+    decoder by_call = new_decoder(FROM_UTF8, DETHRUX_BIG_ENDIAN), by_hand = by_call;
     by_hand.utf8 = (dethrux_encoder){{'a', 'b', 'c'}, DETHRUX_PENDING_MAX};
     dethrux_progress found = feed(&by_call, left, sizeof left, NULL, 0);
     bool is = found.status == DETHRUX_DONE && by_call.utf8.pending_len == DETHRUX_PENDING_MAX;
@@ -1371,12 +1498,23 @@ static bool is_utf8_feed_bound_reached(size_t len) {
     return is;
 }
 
+/* The same for WTF-8. */
+static bool is_wtf8_pending_bound_reached(void) {
+    static const uint8_t lead[] = {0xD8, 0x3D, 0xDE}, two[] = {0xED, 0xA0, 0xBD, 0xF0, 0x9F, 0x98, 0x80};
+    uint8_t to[6];
+    dethrux_progress cut = dethrux_to_wtf8_partial(DETHRUX_BIG_ENDIAN, lead, 3, to, 0);
+    dethrux_progress six = dethrux_from_wtf8_partial(DETHRUX_BIG_ENDIAN, two, DETHRUX_WTF8_PENDING_MAX, to, 6);
+    dethrux_progress seven = dethrux_from_wtf8_partial(DETHRUX_BIG_ENDIAN, two, 7, to, 6);
+    return cut.read == 0 && cut.status == DETHRUX_INCOMPLETE && six.read == 0 && six.status == DETHRUX_INCOMPLETE && six.written == 0
+        && seven.read == 7 && seven.status == DETHRUX_DONE && seven.written == 6 && DETHRUX_WTF8_PENDING_MAX == 6;
+}
+
 /* The most bytes that the partial call and a decoder leave unread, and the most that a character
  * takes. */
 static bool is_pending_bound_reached(void) {
     static const uint8_t pair[] = {0xD8, 0x3D, 0xDE, 0x00}, utf8[] = {0xF0, 0x9F, 0x98, 0x80};
     uint8_t to[4];
-    decoder by = new_decoder(false, DETHRUX_BIG_ENDIAN), back = new_decoder(true, DETHRUX_BIG_ENDIAN);
+    decoder by = new_decoder(TO_UTF8, DETHRUX_BIG_ENDIAN), back = new_decoder(FROM_UTF8, DETHRUX_BIG_ENDIAN);
     dethrux_progress cut = dethrux_to_utf8_partial(DETHRUX_BIG_ENDIAN, pair, 3, to, 0);
     dethrux_progress three = dethrux_to_utf8_partial(DETHRUX_BIG_ENDIAN, pair, 4, to, 3);
     dethrux_progress four = dethrux_to_utf8_partial(DETHRUX_BIG_ENDIAN, pair, 4, to, 4);
@@ -1387,6 +1525,7 @@ static bool is_pending_bound_reached(void) {
     three = feed(&back, utf8, 4, to, 3);
     is = is && three.written == 0 && three.status == DETHRUX_NO_SPACE && pending_of(&back).len == 0;
     dethrux_validity found = dethrux_validate(DETHRUX_BIG_ENDIAN, pair, 3);
+    is = is && is_wtf8_pending_bound_reached();
     return is && found.valid_up_to == 0 && found.status == DETHRUX_INCOMPLETE && DETHRUX_PENDING_MAX == 3;
 }
 
@@ -1394,7 +1533,7 @@ static bool is_pending_bound_reached(void) {
 static bool are_bounds_reached(void) {
     bool is = is_pending_bound_reached();
     for (size_t len = 0; is && len <= 2 * SHORT + 1; len++) {
-        is = is_bound_reached(len) && is_feed_bound_reached(len) && is_utf8_feed_bound_reached(len);
+        is = is_bound_reached(len) && is_feed_bound_reached(TO_UTF8, len) && is_feed_bound_reached(TO_WTF8, len) && is_utf8_feed_bound_reached(len);
     }
     return is;
 }
@@ -1429,6 +1568,9 @@ static bool are_macros_right(void) {
         {DETHRUX_FROM_UTF32_MAX(yes ? 3 : 0), 12},
         {DETHRUX_FROM_UTF32_MAX(wide), 17179869180},
         {DETHRUX_FROM_UTF32_MAX(most / 4), 9223372036854775804},
+        {DETHRUX_WTF8_MAX(yes ? 5 : 0), 6},
+        {DETHRUX_WTF8_MAX(wide), 6442450941},
+        {DETHRUX_WTF8_MAX(most), 13835058055282163709u},
         {DETHRUX_DECODER_FEED_MAX(yes ? 3 : 0), 9},
         {DETHRUX_DECODER_FEED_MAX(wide), 6442450947},
         {DETHRUX_DECODER_FEED_MAX(most), 13835058055282163712u},
@@ -1481,11 +1623,14 @@ static bool feeds(decoder *by, const char *chunk, size_t room, dethrux_status st
 
 /* A state that no call left: three bytes of two characters, and a length above three. */
 static bool is_any_state_fine(void) {
-    decoder by = new_decoder(false, DETHRUX_LITTLE_ENDIAN), back = new_decoder(true, DETHRUX_LITTLE_ENDIAN);
-    by.utf16 = (dethrux_decoder){{0x41, 0x00, 0x42}, 200};
+    decoder by = new_decoder(TO_UTF8, DETHRUX_LITTLE_ENDIAN), back = new_decoder(FROM_UTF8, DETHRUX_LITTLE_ENDIAN);
+    decoder wtf8 = new_decoder(TO_WTF8, DETHRUX_LITTLE_ENDIAN);
+    by.utf16 = wtf8.utf16 = (dethrux_decoder){{0x41, 0x00, 0x42}, 200};
     back.utf8 = (dethrux_encoder){{0x41, 0xE4, 0xB8}, 200};
     return feeds(&by, "-", 4, DETHRUX_DONE, "41", "42") && feeds(&by, "0043", 0, DETHRUX_NO_SPACE, "-", "42")
         && feeds(&by, "0043", 4, DETHRUX_DONE, "42", "43") && feeds(&back, "-", 4, DETHRUX_DONE, "4100", "E4B8")
+        && finish(&wtf8, NULL, 0).status == DETHRUX_INCOMPLETE && wtf8.utf16.pending_len == 200
+        && feeds(&wtf8, "-", 4, DETHRUX_DONE, "41", "42") && feeds(&wtf8, "0000DC00D8", 4, DETHRUX_DONE, "42EDB080", "00D8")
         && feeds(&back, "80C3", 1, DETHRUX_NO_SPACE, "-", "E4B8") && feeds(&back, "80C3", 4, DETHRUX_DONE, "004E", "C3");
 }
 
@@ -1493,8 +1638,14 @@ static bool is_any_state_fine(void) {
 static bool is_empty_fine(void) {
     dethrux_swap_byte_order(NULL, 0);
     const dethrux_byte_order little = DETHRUX_LITTLE_ENDIAN, big = DETHRUX_BIG_ENDIAN;
-    decoder by = new_decoder(false, big), back = new_decoder(true, big);
-    return feed(&by, NULL, 0, NULL, 0).status == DETHRUX_DONE && finish(&by, NULL, 0).status == DETHRUX_DONE
+    const uint8_t letter[] = {'a'};
+    decoder by = new_decoder(TO_UTF8, big), back = new_decoder(FROM_UTF8, big), wtf8 = new_decoder(TO_WTF8, big);
+    return feed(&wtf8, NULL, 0, NULL, 0).status == DETHRUX_DONE && finish(&wtf8, NULL, 0).status == DETHRUX_DONE
+        && dethrux_to_wtf8(big, NULL, 0, NULL, 0).status == DETHRUX_DONE && dethrux_to_wtf8_len(little, NULL, 0) == 0
+        && dethrux_to_wtf8_partial(big, NULL, 0, NULL, 0).status == DETHRUX_DONE
+        && dethrux_from_wtf8(big, NULL, 0, NULL, 0).status == DETHRUX_DONE
+        && dethrux_from_wtf8_partial(big, NULL, 0, NULL, 0).status == DETHRUX_DONE
+        && feed(&by, NULL, 0, NULL, 0).status == DETHRUX_DONE && finish(&by, NULL, 0).status == DETHRUX_DONE
         && feed(&back, NULL, 0, NULL, 0).status == DETHRUX_DONE && finish(&back, NULL, 0).status == DETHRUX_DONE
         && dethrux_validate(little, NULL, 0).status == DETHRUX_DONE && dethrux_count_chars(little, NULL, 0) == 0
         && dethrux_is_ascii(big, NULL, 0) && dethrux_to_utf8_lossy_len(big, NULL, 0) == 0 && dethrux_from_utf8_len(NULL, 0) == 0
@@ -1505,6 +1656,9 @@ static bool is_empty_fine(void) {
         && dethrux_to_utf8_partial(big, NULL, 0, NULL, 0).status == DETHRUX_DONE
         && dethrux_is_char_boundary(little, NULL, 0, 0) && !dethrux_is_char_boundary(big, NULL, 0, 1)
         && dethrux_floor_char_boundary(little, NULL, 0, 1) == 0 && dethrux_floor_char_boundary_around(big, NULL, 0, 0) == 0
+        && dethrux_find(little, NULL, 0, NULL, 0) == 0 && dethrux_find(big, letter, 1, NULL, 0) == 0
+        && dethrux_rfind(little, NULL, 0, NULL, 0) == 0 && dethrux_rfind(big, letter, 1, NULL, 0) == 1
+        && dethrux_find(big, NULL, 0, letter, 1) == DETHRUX_NOT_FOUND && dethrux_rfind(little, NULL, 0, letter, 1) == DETHRUX_NOT_FOUND
         && dethrux_make_well_formed(big, NULL, 0) == 0 && dethrux_compare(big, NULL, 0, little, NULL, 0) == 0
         && dethrux_detect_bom(big, NULL, 0).status == DETHRUX_BOM_UNDECIDED;
 }
@@ -1514,13 +1668,13 @@ static bool is_no_space_fine(void) {
     static const uint8_t letter[] = {'a', 0};
     bool is = true;
     for (size_t i = 0; i < sizeof conversions / sizeof *conversions; i++) {
-        size_t len = conversions[i].back ? 1 : 2;
+        size_t len = is_back(conversions[i].way) ? 1 : 2;
         dethrux_progress found = conversions[i].make(DETHRUX_LITTLE_ENDIAN, letter, len, NULL, 0);
         is = is && found.status == DETHRUX_NO_SPACE && found.read == 0 && found.written == 0;
     }
-    for (int back = 0; back < 2; back++) {
-        decoder by = new_decoder(back, DETHRUX_LITTLE_ENDIAN);
-        dethrux_progress found = feed(&by, letter, back ? 1 : 2, NULL, 0);
+    for (int way_of = TO_UTF8; way_of <= TO_WTF8; way_of++) {
+        decoder by = new_decoder((way)way_of, DETHRUX_LITTLE_ENDIAN);
+        dethrux_progress found = feed(&by, letter, is_back((way)way_of) ? 1 : 2, NULL, 0);
         is = is && found.status == DETHRUX_NO_SPACE && found.read == 0 && found.written == 0;
     }
     return is;

@@ -160,6 +160,16 @@ def compare(order, first, second):
     return [{-1: "less", 0: "equal", 1: "greater"}[found]]
 
 
+def search(call):
+    """A call that returns an offset, or -1."""
+
+    def made(order, utf16, pattern):
+        found = call(spelled(utf16, order), spelled(pattern, order), order)
+        return ["none" if found == -1 else found]
+
+    return made
+
+
 def offset(spelled_offset):
     return sys.maxsize if spelled_offset == "max" else int(spelled_offset)
 
@@ -178,11 +188,18 @@ CALLS = {
         dethrux.floor_char_boundary_around(spelled(raw, order), order, int(at))
     ],
     "shard_offset": lambda _order, *numbers: [dethrux.shard_offset(*map(int, numbers))],
+    "search::find": search(dethrux.find),
+    "search::rfind": search(dethrux.rfind),
     "to_utf8": converted(dethrux.to_utf8, to_utf8_len, True),
     "to_utf8_partial": converted(dethrux.to_utf8_partial, to_utf8_len, True),
     "to_utf8_lossy": converted(dethrux.to_utf8_lossy, to_utf8_len, True),
     "from_utf8": converted(dethrux.from_utf8, from_utf8_len, False),
     "from_utf8_lossy": from_utf8_lossy,
+    "to_wtf8": converted(dethrux.to_wtf8, None, False),
+    "to_wtf8_partial": converted(dethrux.to_wtf8_partial, None, False),
+    "from_wtf8": converted(dethrux.from_wtf8, None, False),
+    "from_wtf8_partial": converted(dethrux.from_wtf8_partial, None, False),
+    "to_wtf8_len": lambda order, raw: [dethrux.to_wtf8_len(spelled(raw, order), order)],
     "count_chars": lambda order, raw: [dethrux.count_chars(spelled(raw, order), order)],
     "is_ascii": lambda order, raw: [str(dethrux.is_ascii(spelled(raw, order), order)).lower()],
     "to_utf8_lossy_len": lambda order, raw: [dethrux.to_utf8_lossy_len(spelled(raw, order), order)],

@@ -33,10 +33,19 @@ void ignore(dethrux_byte_order by, uint8_t *bytes, uint16_t *units, uint32_t *po
     dethrux_decoder_finish(decoder, bytes, len);
     dethrux_encoder_feed(back, by, bytes, len, bytes, len);
     dethrux_encoder_finish(back, by, bytes, len);
+    dethrux_to_wtf8(by, bytes, len, bytes, len);
+    dethrux_to_wtf8_len(by, bytes, len);
+    dethrux_to_wtf8_partial(by, bytes, len, bytes, len);
+    dethrux_decoder_feed_wtf8(decoder, by, bytes, len, bytes, len);
+    dethrux_decoder_finish_wtf8(decoder, by, bytes, len);
+    dethrux_from_wtf8(by, bytes, len, bytes, len);
+    dethrux_from_wtf8_partial(by, bytes, len, bytes, len);
     dethrux_is_char_boundary(by, bytes, len, len);
     dethrux_floor_char_boundary(by, bytes, len, len);
     dethrux_floor_char_boundary_around(by, bytes, len, len);
     dethrux_shard_offset(len, len, len);
+    dethrux_find(by, bytes, len, bytes, len);
+    dethrux_rfind(by, bytes, len, bytes, len);
     dethrux_compare(by, bytes, len, by, bytes, len);
     dethrux_detect_bom(by, bytes, len);
     dethrux_u16_validate(units, len);
@@ -59,7 +68,15 @@ void ignore(dethrux_byte_order by, uint8_t *bytes, uint16_t *units, uint32_t *po
     dethrux_u16_from_utf32_lossy(points, len, units, len);
     dethrux_u16_to_latin1(units, len, bytes, len);
     dethrux_u16_from_latin1(bytes, len, units, len);
+    dethrux_u16_to_wtf8(units, len, bytes, len);
+    dethrux_u16_to_wtf8_len(units, len);
+    dethrux_u16_to_wtf8_partial(units, len, bytes, len);
+    dethrux_u16_decoder_feed_wtf8(decoder, units, len, bytes, len);
+    dethrux_u16_from_wtf8(bytes, len, units, len);
+    dethrux_u16_from_wtf8_partial(bytes, len, units, len);
     dethrux_u16_is_char_boundary(units, len, len);
     dethrux_u16_floor_char_boundary(units, len, len);
+    dethrux_u16_find(units, len, units, len);
+    dethrux_u16_rfind(units, len, units, len);
     dethrux_u16_compare(units, len, units, len);
 }

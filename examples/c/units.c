@@ -351,6 +351,149 @@ static void decode8(const text8 *from) {
     check("encoder_feed of two chunks", from->name, is);
 }
 
+/* Code units and their WTF-8, and whether the last unit is a leading surrogate. */
+typedef struct {
+    const char *name;
+    size_t len;
+    uint16_t units[MOST];
+    const char *wtf8;
+    bool ends_leading;
+} any_units;
+
+static const any_units rows_of_wtf8[] = {
+    {"nothing", 0, {0}, "", false},
+    {"a swapped surrogate", 1, {0x00D8}, "\xC3\x98", false},
+    {"one to four bytes", 5, {0x61, 0xE9, 0x4E2D, 0xD83D, 0xDE00},
+        "a\xC3\xA9\xE4\xB8\xAD\xF0\x9F\x98\x80", false},
+    {"unpaired surrogates", 4, {0x61, 0xDC00, 0x62, 0xD800},
+        "a\xED\xB0\x80"
+        "b\xED\xA0\x80",
+        true},
+    {"halves of pairs before a pair", 5, {0xDFFF, 0xDBFF, 0xD800, 0xDC00, 0x61},
+        "\xED\xBF\xBF\xED\xAF\xBF\xF0\x90\x80\x80"
+        "a",
+        false},
+};
+
+/* How far a call comes, in code units and in bytes. */
+typedef struct {
+    size_t units;
+    size_t bytes;
+    dethrux_status status;
+} reach;
+
+/* How far a call comes that leaves a leading surrogate at the end or writes it, with space for this
+ * many code units, or bytes. A call from WTF-8 needs space also for a surrogate that it leaves. */
+static reach reached_wtf8(const any_units *row, bool leaves, size_t units, size_t bytes) {
+    reach at = {0, 0, DETHRUX_DONE};
+    while (at.units < row->len) {
+        size_t len = char_len(row->wtf8 + at.bytes), count = len == 4 ? 2 : 1;
+        bool is_left = leaves && row->ends_leading && at.units + 1 == row->len;
+        bool needs_space = !is_left || bytes == SIZE_MAX;
+        if (needs_space && (count > units - at.units || len > bytes - at.bytes)) {
+            at.status = DETHRUX_NO_SPACE;
+            return at;
+        }
+        if (is_left) {
+            at.status = DETHRUX_INCOMPLETE;
+            return at;
+        }
+        at.units += count;
+        at.bytes += len;
+    }
+    return at;
+}
+
+static dethrux_progress feed_wtf8(const uint16_t *utf16, size_t len, uint8_t *to, size_t capacity) {
+    dethrux_decoder decoder = DETHRUX_DECODER_INIT;
+    dethrux_progress found = dethrux_u16_decoder_feed_wtf8(&decoder, utf16, len, to, capacity);
+    if (decoder.pending_len == 2 && found.status == DETHRUX_DONE && found.read == len) {
+        found.read--;
+        found.status = DETHRUX_INCOMPLETE;
+    }
+    return found;
+}
+
+static const struct {
+    const char *name;
+    dethrux_progress (*call)(const uint16_t *utf16, size_t len, uint8_t *to, size_t capacity);
+    bool leaves;
+} calls_to_wtf8[] = {
+    {"to_wtf8", dethrux_u16_to_wtf8, false},
+    {"to_wtf8_partial", dethrux_u16_to_wtf8_partial, true},
+    {"decoder_feed_wtf8", feed_wtf8, true},
+};
+
+static const struct {
+    const char *name;
+    dethrux_progress (*call)(const uint8_t *wtf8, size_t len, uint16_t *to, size_t capacity);
+    bool leaves;
+} calls_from_wtf8[] = {
+    {"from_wtf8", dethrux_u16_from_wtf8, false},
+    {"from_wtf8_partial", dethrux_u16_from_wtf8_partial, true},
+};
+
+/* In a buffer of each size, up to the one that the header says suffices. */
+static void to_wtf8(const any_units *row) {
+    const uint16_t *units = row->len == 0 ? NULL : row->units;
+    check("to_wtf8_len", row->name, dethrux_u16_to_wtf8_len(units, row->len) == strlen(row->wtf8));
+    for (size_t i = 0; i < sizeof calls_to_wtf8 / sizeof *calls_to_wtf8; i++) {
+        bool is = true;
+        for (size_t capacity = 0; capacity <= row->len * 3; capacity++) {
+            uint8_t to[BUFFER];
+            memset(to, BLANK, sizeof to);
+            dethrux_progress found =
+                calls_to_wtf8[i].call(units, row->len, capacity == 0 ? NULL : to, capacity);
+            reach wanted = reached_wtf8(row, calls_to_wtf8[i].leaves, SIZE_MAX, capacity);
+            is = is && found.read == wanted.units && found.written == wanted.bytes
+                 && found.status == wanted.status && found.error_len == 0
+                 && (capacity < row->len * 3 || found.status != DETHRUX_NO_SPACE)
+                 && memcmp(to, row->wtf8, found.written) == 0 && is_blank(to, capacity);
+        }
+        check(calls_to_wtf8[i].name, row->name, is);
+    }
+}
+
+static void from_wtf8(const any_units *row) {
+    size_t len = strlen(row->wtf8);
+    const uint8_t *bytes = len == 0 ? NULL : (const uint8_t *)row->wtf8;
+    for (size_t i = 0; i < sizeof calls_from_wtf8 / sizeof *calls_from_wtf8; i++) {
+        bool is = true;
+        for (size_t capacity = 0; capacity <= len; capacity++) {
+            uint16_t to[BUFFER / 2];
+            memset(to, BLANK, sizeof to);
+            dethrux_progress found =
+                calls_from_wtf8[i].call(bytes, len, capacity == 0 ? NULL : to, capacity);
+            reach wanted = reached_wtf8(row, calls_from_wtf8[i].leaves, capacity, SIZE_MAX);
+            is = is && found.read == wanted.bytes && found.written == wanted.units
+                 && found.status == wanted.status && found.error_len == 0
+                 && (capacity < len || found.status != DETHRUX_NO_SPACE)
+                 && memcmp(to, row->units, found.written * 2) == 0 && is_blank(to, capacity * 2);
+        }
+        check(calls_from_wtf8[i].name, row->name, is);
+    }
+}
+
+/* The length of an ill-formed sequence counts bytes, and the pending surrogate of a stream is
+ * written at its end. */
+static void ends_of_wtf8(void) {
+    static const uint8_t pair[] = {0xED, 0xA0, 0x80, 0xED, 0xB0, 0x80};
+    static const uint16_t units[] = {0x61, 0xD83D, 0x62};
+    const dethrux_progress ill_formed = {3, 1, DETHRUX_ILL_FORMED, 3};
+    uint16_t to[6];
+    uint8_t wtf8[12];
+    dethrux_decoder decoder = DETHRUX_DECODER_INIT;
+    check("from_wtf8", "an encoded pair",
+        is_same(dethrux_u16_from_wtf8(pair, 6, to, 6), ill_formed));
+    check("from_wtf8_partial", "an encoded pair",
+        is_same(dethrux_u16_from_wtf8_partial(pair, 6, to, 6), ill_formed));
+    dethrux_progress one = dethrux_u16_decoder_feed_wtf8(&decoder, units, 2, wtf8, 9);
+    dethrux_progress two = dethrux_u16_decoder_feed_wtf8(&decoder, units + 2, 1, wtf8 + 1, 6);
+    check("decoder_feed_wtf8 of two chunks", "a leading surrogate",
+        one.read == 2 && one.written == 1 && two.read == 1 && two.written == 4
+            && memcmp(wtf8, "a\xED\xA0\xBD" "b", 5) == 0);
+}
+
 /* Two texts, and how the first compares with the second. */
 static const struct {
     const char *name;
@@ -379,12 +522,55 @@ static void compare(void) {
     }
 }
 
+/* A text, a pattern, and the first and the last code unit at which it occurs. */
+static const struct {
+    const char *name;
+    size_t len, pattern_len;
+    uint16_t units[MOST], pattern[MOST];
+    size_t first, last;
+} searches[] = {
+    {"nothing in nothing", 0, 0, {0}, {0}, 0, 0},
+    {"nothing in a text", 3, 0, {0x61, 0x62, 0x63}, {0}, 0, 3},
+    {"a text in nothing", 0, 1, {0}, {0x61}, DETHRUX_NOT_FOUND, DETHRUX_NOT_FOUND},
+    {"a text in itself", 3, 3, {0x61, 0x4E2D, 0xE9}, {0x61, 0x4E2D, 0xE9}, 0, 0},
+    {"a text in its first half", 2, 4, {0x61, 0x62}, {0x61, 0x62, 0x61, 0x62}, DETHRUX_NOT_FOUND,
+        DETHRUX_NOT_FOUND},
+    {"a text in others", 3, 2, {0x61, 0x62, 0x63}, {0x61, 0x63}, DETHRUX_NOT_FOUND,
+        DETHRUX_NOT_FOUND},
+    {"a unit that is there twice", 5, 1, {0x61, 0x62, 0x63, 0x62, 0x61}, {0x62}, 1, 3},
+    {"places that overlap", 6, 3, {0x62, 0x61, 0x62, 0x61, 0x62, 0x61}, {0x61, 0x62, 0x61}, 1, 3},
+    {"the end", 6, 2, {0x61, 0x62, 0x63, 0x61, 0x61, 0x62}, {0x61, 0x62}, 0, 4},
+    {"only the end", 6, 2, {0x61, 0x63, 0x61, 0x63, 0x61, 0x62}, {0x61, 0x62}, 4, 4},
+    {"only the start", 6, 2, {0x61, 0x62, 0x61, 0x63, 0x61, 0x63}, {0x61, 0x62}, 0, 0},
+    {"bytes in the other order", 2, 1, {0x6100, 0x0061}, {0x0061}, 1, 1},
+    {"bytes of two units", 2, 1, {0x4161, 0x6141}, {0x4141}, DETHRUX_NOT_FOUND, DETHRUX_NOT_FOUND},
+    {"a pair", 5, 2, {0xD83D, 0xDE00, 0x61, 0xD83D, 0xDE00}, {0xD83D, 0xDE00}, 0, 3},
+    {"the first half of a pair", 3, 1, {0xD83D, 0xDE00, 0xD83D}, {0xD83D}, 2, 2},
+    {"the second half of a pair", 3, 1, {0xDE00, 0xD83D, 0xDE00}, {0xDE00}, 0, 0},
+    {"only half of a pair", 3, 2, {0x61, 0xD83D, 0xDE00}, {0x61, 0xD83D}, DETHRUX_NOT_FOUND,
+        DETHRUX_NOT_FOUND},
+    {"a swapped pair", 4, 1, {0x00DE, 0x3DD8, 0x00DE, 0x3DD8}, {0x00DE}, 0, 2},
+};
+
+static void search(void) {
+    for (size_t i = 0; i < sizeof searches / sizeof *searches; i++) {
+        size_t len = searches[i].len, pattern_len = searches[i].pattern_len;
+        const uint16_t *units = len == 0 ? NULL : searches[i].units;
+        const uint16_t *pattern = pattern_len == 0 ? NULL : searches[i].pattern;
+        check("find", searches[i].name,
+            dethrux_u16_find(units, len, pattern, pattern_len) == searches[i].first);
+        check("rfind", searches[i].name,
+            dethrux_u16_rfind(units, len, pattern, pattern_len) == searches[i].last);
+    }
+}
+
 /* The other type of code units. */
 static void other_type(void) {
     static const char16_t text[] = u"a\U0001F600";
     char16_t to[2];
     dethrux_progress found = dethrux_u16_from_utf8((const uint8_t *)"ab", 2, to, 2);
     check("count_chars", "char16_t", dethrux_u16_count_chars(text, 3) == 2);
+    check("find", "char16_t", dethrux_u16_find(text, 3, text + 1, 2) == 1);
     check("from_utf8", "char16_t", found.written == 2 && to[0] == u'a' && to[1] == u'b');
 }
 
@@ -400,7 +586,13 @@ int main(void) {
         from_utf8(&texts8[i]);
         decode8(&texts8[i]);
     }
+    for (size_t i = 0; i < sizeof rows_of_wtf8 / sizeof *rows_of_wtf8; i++) {
+        to_wtf8(&rows_of_wtf8[i]);
+        from_wtf8(&rows_of_wtf8[i]);
+    }
+    ends_of_wtf8();
     compare();
+    search();
     other_type();
     printf("%d passed, %d failed\n", passed, failed);
     return failed != 0;

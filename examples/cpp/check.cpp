@@ -393,6 +393,127 @@ static void decode8(const row8 &from) {
     });
 }
 
+// Code units in big endian, and their WTF-8. `pending` is how many of the last bytes of the
+// code units, and of the WTF-8, wait for more.
+struct row_of_wtf8 {
+    const char *name;
+    std::string big;
+    std::string wtf8;
+    std::size_t pending;
+    std::size_t pending8;
+};
+
+static const row_of_wtf8 rows_of_wtf8[] = {
+    {"nothing", ""s, "", 0, 0},
+    {"one to four bytes", "\0a\0\xE9\x4E\x2D\xD8\x3D\xDE\0"s,
+        "a\xC3\xA9\xE4\xB8\xAD\xF0\x9F\x98\x80", 0, 0},
+    {"a swapped pair", "\x3D\xD8\0\xDE"s, "\xE3\xB7\x98\xC3\x9E", 0, 0},
+    {"unpaired surrogates", "\0a\xDC\0\0b\xD8\0\0c"s,
+        "a\xED\xB0\x80"
+        "b\xED\xA0\x80"
+        "c",
+        0, 0},
+    {"halves of pairs before a pair", "\xDF\xFF\xDB\xFF\xD8\0\xDC\0"s,
+        "\xED\xBF\xBF\xED\xAF\xBF\xF0\x90\x80\x80", 0, 0},
+    {"the first half of a pair", "\0a\xD8\x3D"s, "a\xED\xA0\xBD", 2, 3},
+};
+
+static void wtf8(const row_of_wtf8 &from) {
+    check_forms("from_wtf8", from, [&](std::size_t, auto... order) {
+        auto found = dethrux::from_wtf8(from.wtf8, order...);
+        return found && *found == in_form(from.big, order...);
+    });
+    bool is = true;
+    for (byte_order order : {byte_order::little, byte_order::big}) {
+        auto found = dethrux::to_wtf8(in_form(from.big, order), order);
+        auto odd = dethrux::to_wtf8(in_form(from.big + "a", order), order);
+        is = is && found && *found == from.wtf8 && !odd
+             && odd.error() == dethrux::error{from.big.size(), 0};
+    }
+    check("to_wtf8: "s + from.name, is && dethrux::to_wtf8(in_form(from.big)) == from.wtf8);
+}
+
+// In two chunks, cut at each offset, appended to a text. One decoder decodes all these streams, and
+// after each of them one with an odd byte at its end.
+static void decode_wtf8(const row_of_wtf8 &from) {
+    check_forms("wtf8_decoder", from, [&](std::size_t element, auto... order) {
+        bool is = true;
+        auto text = in_form(from.big, order...);
+        dethrux::wtf8_decoder decoder(order...);
+        for (std::size_t at = 0; at <= text.size(); at++) {
+            std::string to = "before ";
+            decoder.feed(text.substr(0, at), to);
+            decoder.feed(text.substr(at), to);
+            is = is && decoder.pending() == from.pending && decoder.finish(to)
+                 && decoder.pending() == 0 && to == "before " + from.wtf8;
+            decoder.feed(text, to);
+            decoder.feed("a"sv.substr(element - 1), to);
+            is = is && decoder.pending() == from.pending + (element == 1)
+                 && decoder.finish(to) == (element == 2) && decoder.pending() == 0
+                 && to == "before " + from.wtf8 + from.wtf8;
+        }
+        return is;
+    });
+}
+
+static void encode_wtf8(const row_of_wtf8 &from) {
+    check_forms("wtf8_encoder", from, [&](std::size_t, auto... order) {
+        bool is = true;
+        const auto before = in_form("\0b\0e"s, order...);
+        dethrux::wtf8_encoder encoder(order...);
+        for (std::size_t at = 0; at <= from.wtf8.size(); at++) {
+            auto to = before;
+            is = is && !encoder.feed(from.wtf8.substr(0, at), to)
+                 && !encoder.feed(from.wtf8.substr(at), to) && encoder.pending() == from.pending8
+                 && !encoder.finish(to) && encoder.pending() == 0
+                 && to == before + in_form(from.big, order...);
+        }
+        return is;
+    });
+}
+
+// What is not WTF-8, and where a stream says so, counted from its start. After that the encoder
+// reads nothing, until the stream ends.
+static void not_wtf8() {
+    const struct {
+        std::string wtf8;
+        dethrux::error reason;
+        std::u16string front;
+    } all[] = {
+        {"ab\xED\xA0\x80\xED\xB0\x80", {5, 3}, u"ab\xD800"},
+        {"\xFF", {0, 1}, u""},
+        {"a\xED\xA0\xE4", {1, 2}, u"a"},
+        {"a\xED\xA0\x80\xF0\x9F\x98", {4, 0}, u"a\xD800"},
+        {"\xED", {0, 0}, u""},
+    };
+    for (const auto &one : all) {
+        auto found = dethrux::from_wtf8(one.wtf8);
+        bool is = !found && found.error() == one.reason;
+        for (byte_order order : {byte_order::little, byte_order::big}) {
+            auto bytes = dethrux::from_wtf8(one.wtf8, order);
+            is = is && !bytes && bytes.error() == one.reason;
+        }
+        dethrux::wtf8_encoder encoder;
+        for (std::size_t at = 0; at <= one.wtf8.size(); at++) {
+            std::u16string to;
+            auto first = encoder.feed(one.wtf8.substr(0, at), to);
+            auto second = encoder.feed(one.wtf8.substr(at), to);
+            bool is_cut = one.reason.is_incomplete();
+            is = is && (!first || first == one.reason)
+                 && (is_cut ? !second && encoder.pending() > 0
+                            : second == one.reason && encoder.pending() == 0)
+                 && (is_cut || encoder.feed("after", to) == one.reason)
+                 && encoder.finish(to) == one.reason && to == one.front && encoder.pending() == 0
+                 && !encoder.feed("b", to) && !encoder.finish(to) && to == one.front + u"b";
+        }
+        check("what is not WTF-8", is);
+    }
+    std::u16string to;
+    dethrux::wtf8_encoder six;
+    check("six bytes wait", !six.feed("\xED\xA0\xBD\xF0\x9F\x98", to) && six.pending() == 6
+                                && !six.feed("\x80", to) && to == u"\xD83D\xD83D\xDE00");
+}
+
 // Two texts in big endian, and the sign of their comparison. Each is given in each form.
 struct pair_row {
     const char *name;
@@ -437,6 +558,80 @@ static void compare(const pair_row &from) {
             sign(dethrux::compare(first, second)) == from.wanted
                 && sign(dethrux::compare(second, first)) == -from.wanted);
     }
+}
+
+// A text and a pattern in big endian, and the first and the last byte at which it occurs.
+struct search_row {
+    const char *name;
+    std::string big, pattern;
+    std::size_t first, last;
+};
+
+using dethrux::npos;
+static_assert(npos == std::u16string_view::npos && npos == DETHRUX_NOT_FOUND);
+
+static const search_row searches[] = {
+    {"nothing in nothing", ""s, ""s, 0, 0},
+    {"nothing in a text", "\0a\0b\0c"s, ""s, 0, 6},
+    {"nothing in an odd text", "\0a\0"s, ""s, 0, 3},
+    {"a text in nothing", ""s, "\0a"s, npos, npos},
+    {"a text in itself", "\0a\x4E\x2D\0\xE9"s, "\0a\x4E\x2D\0\xE9"s, 0, 0},
+    {"a text in its first half", "\0a\0b"s, "\0a\0b\0a\0b"s, npos, npos},
+    {"a text in others", "\0a\0b\0c"s, "\0a\0c"s, npos, npos},
+    {"a unit that is there twice", "\0a\0b\0c\0b\0a"s, "\0b"s, 2, 6},
+    {"places that overlap", "\0b\0a\0b\0a\0b\0a"s, "\0a\0b\0a"s, 2, 6},
+    {"only the end", "\0a\0c\0a\0c\0a\0b"s, "\0a\0b"s, 8, 8},
+    {"only the start", "\0a\0b\0a\0c\0a\0c"s, "\0a\0b"s, 0, 0},
+    {"bytes in the other order", "a\0\0a"s, "\0a"s, 2, 2},
+    {"bytes of two units", "Aa" "aA"s, "AA"s, npos, npos},
+    {"a pair", "\xD8\x3D\xDE\0\0a\xD8\x3D\xDE\0"s, "\xD8\x3D\xDE\0"s, 0, 6},
+    {"the first half of a pair", "\xD8\x3D\xDE\0\xD8\x3D"s, "\xD8\x3D"s, 4, 4},
+    {"the second half of a pair", "\xDE\0\xD8\x3D\xDE\0"s, "\xDE\0"s, 0, 0},
+    {"only half of a pair", "\0a\xD8\x3D\xDE\0"s, "\0a\xD8\x3D"s, npos, npos},
+    {"a swapped pair", "\0\xDE\x3D\xD8\0\xDE\x3D\xD8"s, "\0\xDE"s, 0, 4},
+    {"an odd byte", "\0a\0b\0"s, "\0"s, 4, 4},
+    {"an odd byte in whole units", "\0a\0b"s, "\0"s, npos, npos},
+    {"an odd end", "\0a\0b\0a\0b\0"s, "\0b\0"s, 6, 6},
+    {"units before an odd byte", "\0a\0a\0"s, "\0a"s, 0, 2},
+    {"a surrogate before an odd byte", "\xD8\x3D\xD8\x3D\xDE"s, "\xD8\x3D"s, 0, 0},
+    {"an odd text in itself", "\0a\0"s, "\0a\0"s, 0, 0},
+};
+
+// A search for code units has a pattern of whole units.
+static void search(const search_row &from) {
+    auto in_elements = [](std::size_t at, std::size_t element) {
+        return at == npos ? npos : at / element;
+    };
+    auto is_in_units = from.pattern.size() % 2 == 0;
+    check_forms("find", from, [&](std::size_t element, auto... order) {
+        return (element == 2 && !is_in_units)
+               || dethrux::find(
+                      in_form(from.big, order...), order..., in_form(from.pattern, order...))
+                      == in_elements(from.first, element);
+    });
+    check_forms("rfind", from, [&](std::size_t element, auto... order) {
+        return (element == 2 && !is_in_units)
+               || dethrux::rfind(
+                      in_form(from.big, order...), order..., in_form(from.pattern, order...))
+                      == in_elements(from.last, element);
+    });
+}
+
+// A search in no elements, and for none.
+static void search_nothing() {
+    const dethrux::bytes bytes;
+    const dethrux::units units;
+    bool is = dethrux::find(units, units) == 0 && dethrux::rfind(units, units) == 0
+              && dethrux::find(u"ab", units) == 0 && dethrux::rfind(u"ab", units) == 2
+              && dethrux::find(units, u"a") == npos && dethrux::rfind(units, u"a") == npos;
+    for (byte_order order : {byte_order::little, byte_order::big}) {
+        is = is && dethrux::find(bytes, order, bytes) == 0
+             && dethrux::rfind(bytes, order, bytes) == 0 && dethrux::find("abc", order, bytes) == 0
+             && dethrux::rfind("abc", order, bytes) == 3
+             && dethrux::find(bytes, order, "ab") == npos
+             && dethrux::rfind(bytes, order, "ab") == npos;
+    }
+    check("a search without elements", is);
 }
 
 // Parts of a file, and the operators of an error.
@@ -584,6 +779,10 @@ static void types() {
     static_assert(noexcept(dethrux::floor_char_boundary(wide, 0)));
     static_assert(noexcept(dethrux::floor_char_boundary_around(text, order, 0)));
     static_assert(noexcept(dethrux::shard_offset(0, 0, 0)));
+    static_assert(noexcept(dethrux::find(text, order, text)));
+    static_assert(noexcept(dethrux::find(wide, wide)));
+    static_assert(noexcept(dethrux::rfind(text, order, text)));
+    static_assert(noexcept(dethrux::rfind(wide, wide)));
     static_assert(noexcept(dethrux::swap_byte_order(changed)));
     static_assert(noexcept(dethrux::swap_byte_order(changed_wide)));
     static_assert(noexcept(dethrux::make_well_formed(changed, order)));
@@ -592,6 +791,11 @@ static void types() {
     static_assert(noexcept(dethrux::encoder()));
     static_assert(noexcept(dethrux::decoder().pending()));
     static_assert(noexcept(dethrux::encoder().pending()));
+    static_assert(noexcept(dethrux::wtf8_decoder()));
+    static_assert(noexcept(dethrux::wtf8_decoder().pending()));
+    static_assert(noexcept(dethrux::wtf8_encoder().pending()));
+    static_assert(!std::is_convertible_v<byte_order, dethrux::wtf8_decoder>);
+    static_assert(!std::is_convertible_v<byte_order, dethrux::wtf8_encoder>);
     static_assert(!std::is_convertible_v<byte_order, dethrux::decoder>);
     static_assert(!std::is_convertible_v<byte_order, dethrux::encoder>);
     static_assert(!std::is_convertible_v<dethrux::result<std::string>, bool>);
@@ -613,6 +817,18 @@ static void orders() {
     units_in_big.finish(units);
     bytes_without.feed("\xE4\xB8\x80", bytes);
     check("decoders of UTF-8 and the machine's order", units == u"\x4E00\xFFFD" && bytes == native);
+    to.clear();
+    dethrux::wtf8_decoder wtf8_in_big(byte_order::big), wtf8_without;
+    wtf8_in_big.feed(u"\x4E00", to);
+    wtf8_without.feed(native, to);
+    check("decoders to WTF-8 and the machine's order", to == "\xE4\xB8\x80\xE4\xB8\x80");
+    units.clear();
+    bytes.clear();
+    dethrux::wtf8_encoder wtf8_units_in_big(byte_order::big), wtf8_bytes_without;
+    check("encoders of WTF-8 and the machine's order",
+        !wtf8_units_in_big.feed("\xE4\xB8\x80\xED\xA0\xBD", units)
+            && !wtf8_units_in_big.finish(units) && !wtf8_bytes_without.feed("\xE4\xB8\x80", bytes)
+            && units == u"\x4E00\xD83D" && bytes == native);
     check("the native byte order",
         dethrux::to_utf8(native, byte_order::native).value() == "\xE4\xB8\x80"
             && native == std::string(reinterpret_cast<const char *>(u"\x4E00"), 2));
@@ -658,6 +874,12 @@ static bool appends(Decoder decoder, std::size_t pending, const Text &text, Call
 }
 
 // The rest of a character gives it, and the end of the stream gives U+FFFD.
+// A name for the end of a stream, which may return something.
+template <class Decoder, class Text>
+static void finish(Decoder &decoder, Text &to) {
+    (void)decoder.finish(to);
+}
+
 template <class Decoder, class Text>
 static bool keeps(Decoder decoder, std::string_view first, std::string_view rest, const Text &text,
     const Text &mark) {
@@ -665,7 +887,18 @@ static bool keeps(Decoder decoder, std::string_view first, std::string_view rest
     decoder.feed(first, none);
     return none.empty()
            && appends(decoder, first.size(), text, [&](auto &by, auto &to) { by.feed(rest, to); })
-           && appends(decoder, first.size(), mark, [](auto &by, auto &to) { by.finish(to); });
+           && appends(decoder, first.size(), mark, [](auto &by, auto &to) { finish(by, to); });
+}
+
+// The same for the encoder of WTF-8, whose calls return an error. The end of the stream is one.
+template <class Text>
+static bool keeps_wtf8(
+    dethrux::wtf8_encoder encoder, std::string_view first, std::string_view rest, const Text &text) {
+    Text none;
+    return !encoder.feed(first, none) && none.empty()
+           && appends(encoder, first.size(), text,
+               [&](auto &by, auto &to) { (void)by.feed(rest, to); })
+           && encoder.finish(none) == dethrux::error{0, 0};
 }
 
 static void memory() {
@@ -681,6 +914,13 @@ static void memory() {
                 keeps(dethrux::encoder(order), first, rest, text, mark));
             check("encoder to code units" + name,
                 keeps(dethrux::encoder(order), first, rest, in_form(pair), u"\uFFFD"s));
+            const std::string lead = at < 2 ? ""s : "\xED\xA0\xBD"s;
+            check("wtf8_decoder" + name,
+                keeps(dethrux::wtf8_decoder(order), text.substr(0, at), text.substr(at), utf8,
+                    lead));
+            check("wtf8_encoder" + name,
+                keeps_wtf8(dethrux::wtf8_encoder(order), first, rest, text)
+                    && keeps_wtf8(dethrux::wtf8_encoder(order), first, rest, in_form(pair)));
         }
     }
 }
@@ -733,6 +973,15 @@ static void space() {
             && requests_once(1000 * sizeof(wchar_t), [&] { (void)dethrux::to_wstring_lossy(units); })
             && requests_once(4000, [&] { (void)dethrux::from_wstring(wide); })
             && requests_once(4000, [&] { (void)dethrux::from_wstring_lossy(wide); }));
+    check("the memory of WTF-8",
+        requests_once(3000, [&] { (void)dethrux::to_wtf8(units); })
+            && requests_once(3000, [&] { (void)dethrux::to_wtf8(bytes, order); })
+            && requests_once(4000, [&] { (void)dethrux::from_wtf8(bytes); })
+            && requests_once(4000, [&] { (void)dethrux::from_wtf8(bytes, order); })
+            && requests_once(3000, [&] {
+                   std::string to;
+                   dethrux::wtf8_decoder(order).feed(bytes, to);
+               }));
     check("the memory of decoders", requests_once(3000, [&] {
         std::string to;
         dethrux::decoder(order).feed(bytes, to);
@@ -768,6 +1017,14 @@ static void lengths() {
     std::u16string wide = u"before";
     dethrux::decoder decoder(order);
     dethrux::encoder back(order);
+    dethrux::wtf8_decoder wtf8(order);
+    check("texts of WTF-8 that are too long",
+        is_too_long([&] { (void)dethrux::to_wtf8(bytes, order); })
+            && is_too_long([&] { (void)dethrux::to_wtf8(units); })
+            && is_too_long([&] { (void)dethrux::from_wtf8(bytes, order); })
+            && is_too_long([&] { (void)dethrux::from_wtf8(bytes); })
+            && is_too_long([&] { wtf8.feed(bytes, to); })
+            && is_too_long([&] { wtf8.feed(units, to); }) && to == "before" && wtf8.pending() == 0);
     check("texts that are too long",
         is_too_long([&] { (void)dethrux::to_utf8(bytes, order); })
             && is_too_long([&] { (void)dethrux::to_utf8_lossy(units); })
@@ -795,7 +1052,11 @@ int main() {
     with_each(rows, inspect, to_utf32, to_latin1, to_wstring);
     no_characters();
     with_each(rows8, from_utf8, decode8);
+    with_each(rows_of_wtf8, wtf8, decode_wtf8, encode_wtf8);
+    not_wtf8();
     with_each(pairs, compare);
+    with_each(searches, search);
+    search_nothing();
     others();
     results();
     views();

@@ -3,10 +3,10 @@
 #include "dethrux.hpp"
 
 void ignore(dethrux::bytes bytes, dethrux::units units, dethrux::points points,
-    std::wstring_view wide, dethrux::byte_order by);
+    std::wstring_view wide, dethrux::byte_order by, std::string &to, std::u16string &wide_to);
 
 void ignore(dethrux::bytes bytes, dethrux::units units, dethrux::points points,
-    std::wstring_view wide, dethrux::byte_order by) {
+    std::wstring_view wide, dethrux::byte_order by, std::string &to, std::u16string &wide_to) {
     dethrux::validate(bytes, by);
     dethrux::validate(units);
     dethrux::count_chars(bytes, by);
@@ -21,6 +21,10 @@ void ignore(dethrux::bytes bytes, dethrux::units units, dethrux::points points,
     dethrux::floor_char_boundary(units, 0);
     dethrux::floor_char_boundary_around(bytes, by, 0);
     dethrux::shard_offset(0, 0, 0);
+    dethrux::find(bytes, by, bytes);
+    dethrux::find(units, units);
+    dethrux::rfind(bytes, by, bytes);
+    dethrux::rfind(units, units);
     dethrux::to_utf8(bytes, by);
     dethrux::to_utf8(units);
     dethrux::to_utf8_lossy(bytes, by);
@@ -48,4 +52,13 @@ void ignore(dethrux::bytes bytes, dethrux::units units, dethrux::points points,
     dethrux::to_wstring_lossy(units);
     dethrux::from_wstring(wide);
     dethrux::from_wstring_lossy(wide);
+    dethrux::to_wtf8(bytes, by);
+    dethrux::to_wtf8(units);
+    dethrux::from_wtf8(bytes, by);
+    dethrux::from_wtf8(bytes);
+    dethrux::wtf8_decoder(by).finish(to);
+    dethrux::wtf8_encoder(by).feed(bytes, to);
+    dethrux::wtf8_encoder(by).feed(bytes, wide_to);
+    dethrux::wtf8_encoder(by).finish(to);
+    dethrux::wtf8_encoder(by).finish(wide_to);
 }

@@ -1,35 +1,29 @@
-/* Prints the file names of NTFS on standard input, each after a byte with its number of code units.
- * A name may have unpaired surrogates: these are shown as \uxxxx, so that no two names look
- * alike. */
+/* Writes the file names of NTFS on standard input, each after a byte with its number of code units,
+ * as lines of WTF-8. So no two names become the same, and each one can be read back. */
 #include <dethrux.h>
 
 #include <stdio.h>
+#include <string.h>
 
-static void print_name(const uint8_t *name, size_t len) {
-    uint8_t utf8[DETHRUX_UTF8_MAX(2 * 255)];
-    for (;;) {
-        dethrux_progress part =
-            dethrux_to_utf8(DETHRUX_LITTLE_ENDIAN, name, len, utf8, sizeof utf8);
-        printf("%.*s", (int)part.written, (const char *)utf8);
-        if (part.status == DETHRUX_DONE) {
-            break;
-        }
-        /* An unpaired surrogate, also if it is the last unit of the name. */
-        const uint8_t *unit = name + part.read;
-        printf("\\u%02x%02x", unit[1], unit[0]);
-        name = unit + 2;
-        len -= part.read + 2;
-    }
+/* Writes a name, and returns whether its WTF-8 gives the same name again. */
+static bool write_name(const uint8_t *name, size_t len) {
+    uint8_t wtf8[DETHRUX_WTF8_MAX(2 * 255)], again[2 * 255];
+    dethrux_progress there =
+        dethrux_to_wtf8(DETHRUX_LITTLE_ENDIAN, name, len, wtf8, sizeof wtf8);
+    dethrux_progress back =
+        dethrux_from_wtf8(DETHRUX_LITTLE_ENDIAN, wtf8, there.written, again, sizeof again);
+    fwrite(wtf8, 1, there.written, stdout);
     putchar('\n');
+    return back.written == len && memcmp(again, name, len) == 0;
 }
 
 int main(void) {
     uint8_t name[2 * 255];
     for (int units; (units = getchar()) != EOF;) {
-        if (fread(name, 2, (size_t)units, stdin) != (size_t)units) {
+        size_t len = 2 * (size_t)units;
+        if (fread(name, 1, len, stdin) != len || !write_name(name, len)) {
             return 1;
         }
-        print_name(name, 2 * (size_t)units);
     }
     return 0;
 }

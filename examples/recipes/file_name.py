@@ -1,6 +1,5 @@
-"""Prints the file names of NTFS on standard input, each after a byte with its number of code units.
-
-A name may have unpaired surrogates: these are shown as \\uxxxx, so that no two names look alike.
+"""Writes the file names of NTFS on standard input, each after a byte with its number of code units,
+as lines of WTF-8. So no two names become the same, and each one can be read back.
 """
 
 import io
@@ -8,12 +7,9 @@ import sys
 
 import dethrux
 
-
-def shown(name: bytes) -> str:
-    """Return a name with each unpaired surrogate escaped."""
-    return dethrux.decode(name, "little", "surrogatepass").encode("utf-8", "backslashreplace").decode()
-
-
 names = io.BytesIO(sys.stdin.buffer.read())
 while units := names.read(1):
-    print(shown(names.read(2 * units[0])))
+    name = names.read(2 * units[0])
+    wtf8 = dethrux.decode_to_wtf8(name, "little")
+    assert dethrux.encode_from_wtf8(wtf8, "little") == name
+    sys.stdout.buffer.write(wtf8 + b"\n")

@@ -61,7 +61,7 @@ prints reg_value '"C:\\\\Grüße"\n' input Path
 printf '"Path"="without a BOM"\r\n' | utf16 UTF-16LE
 prints reg_value '"without a BOM"\n' input Path
 printf '\3a\0\0\xD8b\0\1\0\xDC\4\x3D\xD8\0\xDE\xE4\0\0\xD8' > input
-prints file_name 'a\\ud800b\n\\udc00\n😀ä\\ud800\n'
+prints file_name 'a\xED\xA0\x80b\n\xED\xB0\x80\n😀ä\xED\xA0\x80\n'
 printf 'a=Gr\\u00fc\\u00DFe\nb\nc=\\uD83D\\uDE00!\nd=\xE4\\uD83D\n' > input
 prints properties 'Grüße\n😀!\nä�\n'
 printf '\xEF\xBB\xBFName\tStadt\r\nÄnne\tKöln 😀\r\n' | utf16 UTF-16LE

@@ -20,6 +20,13 @@ static dethrux::result<std::wstring> to_wide(std::string_view utf8) {
     return std::wstring(text->begin(), text->end());
 }
 
+// Returns whether WTF-8 keeps a name, which may have unpaired surrogates.
+static bool is_kept(const std::wstring &name) {
+    const std::string wtf8 = dethrux::to_wtf8(name);
+    const std::u16string units = dethrux::from_wtf8(wtf8).value();
+    return std::wstring(units.begin(), units.end()) == name;
+}
+
 static void show(const std::wstring &text) {
     auto error = dethrux::validate(text);
     if (error) {
@@ -45,4 +52,5 @@ int main() {
             std::cout << "ill formed at byte " << wide.error().valid_up_to << '\n';
         }
     }
+    std::cout << "names that are kept: " << is_kept(L"a\xD800" L"b") << is_kept(L"\xDC00") << '\n';
 }

@@ -111,6 +111,9 @@ static void test_end(uint8_t *utf16, const uint8_t *sound, uint8_t *to) {
     require(dethrux_to_utf8_lossy_len(ORDER, utf16, len) == len + 1,
         "dethrux_to_utf8_lossy_len, ill formed");
     require(dethrux_compare(ORDER, sound, len, ORDER, utf16, len) == -1, "dethrux_compare");
+    require(dethrux_find(ORDER, utf16, len, utf16 + len - 2, 2) == len - 2, "dethrux_find");
+    require(dethrux_rfind(ORDER, sound, len, utf16 + len - 2, 2) == DETHRUX_NOT_FOUND,
+        "dethrux_rfind");
     require(dethrux_make_well_formed(ORDER, utf16, len) == 1, "dethrux_make_well_formed");
     require(memcmp(utf16 + len - 2, "\xFD\xFF", 2) == 0, "the end that is well formed");
 }

@@ -6,6 +6,7 @@ import collections
 import ctypes
 import inspect
 import itertools
+import random
 import tracemalloc
 import typing
 import unittest
@@ -44,6 +45,8 @@ DECODERS = (dethrux.Decoder, dethrux.Encoder)
 # All calls that read a buffer, as functions of it and of a byte order.
 NAMES = ("validate", "count_chars", "is_ascii", "to_utf8_lossy_len", *CONVERSIONS)
 NAMES += ("decode", "decode_to_utf8", "encode_from_utf8")
+WTF8 = ("to_wtf8", "to_wtf8_partial", "from_wtf8", "from_wtf8_partial")
+NAMES += (*WTF8, "to_wtf8_len", "decode_to_wtf8", "encode_from_wtf8")
 WITH_ORDER = {name: getattr(dethrux, name) for name in NAMES}
 WITH_ORDER.update(
     {
@@ -54,6 +57,10 @@ WITH_ORDER.update(
         ),
         "compare, first": lambda data, order: dethrux.compare(data, order, b"a\0b", "little"),
         "compare, second": lambda data, order: dethrux.compare(b"\0ab", "big", data, order),
+        "find": lambda data, order: dethrux.find(data, b"\0b", order),
+        "rfind": lambda data, order: dethrux.rfind(data, b"a\0", order),
+        "find, pattern": lambda data, order: dethrux.find(b"\0ba\0b", data, order),
+        "rfind, pattern": lambda data, order: dethrux.rfind(b"\0ba\0b", data, order),
         "Decoder": lambda data, order: dethrux.Decoder(order).feed(data),
         "Encoder": lambda data, order: dethrux.Encoder(order).feed(data),
     }
@@ -76,7 +83,7 @@ PAIR = b"\x3d\xd8\x00\xde"
 # All numbers that a call takes: the name, and a function of the number.
 CAPACITIES = [
     ("capacity", lambda number, call=call: call(PAIR, "little", number))
-    for call in (getattr(dethrux, name) for name in CONVERSIONS)
+    for call in (getattr(dethrux, name) for name in (*CONVERSIONS, *WTF8))
 ] + [
     ("capacity", lambda number, kind=kind: kind("little").feed_partial(PAIR, number))
     for kind in DECODERS
@@ -233,6 +240,41 @@ class Functions(unittest.TestCase):
             found = dethrux.compare(raw, order, other, other_order)
             self.assertEqual(found, expected, (order, raw, other_order, other))
 
+    def check_search(self, raw, pattern, order, among):
+        """Compare with the boundaries that have the bytes of the pattern."""
+        found = [at for at in among if raw.startswith(pattern, at) and at + len(pattern) in among]
+        first, last = (found[0], found[-1]) if found else (-1, -1)
+        self.assertEqual(dethrux.find(raw, pattern, order), first, pattern)
+        self.assertEqual(dethrux.rfind(raw, pattern, order), last, pattern)
+
+    def test_search(self):
+        others = {raw for order in ORDERS for raw in utf16(order)}
+        for order, raw, _codec in each_utf16():
+            parts = itertools.combinations_with_replacement(range(len(raw) + 1), 2)
+            patterns = others | {raw[start:end] for start, end in parts}
+            # The odd byte is at the end, or each code unit after it is moved by one.
+            for twice in (raw[: len(raw) // 2 * 2] + raw, raw + raw):
+                with self.subTest(order=order, raw=twice):
+                    among = boundaries(twice, order)
+                    for pattern in patterns:
+                        self.check_search(twice, pattern, order, among)
+
+    def test_search_as_in_a_str(self):
+        numbers = random.Random(1)
+        for _ in range(2000):
+            text = "".join(numbers.choices("aab\u6100\U0001f600", k=numbers.randrange(60)))
+            start = numbers.randrange(len(text) + 1)
+            inside = text[start : start + numbers.randrange(5)]
+            pattern = numbers.choice((inside, "".join(numbers.choices("ab\u6100", k=3))))
+            for order, codec in CODECS.items():
+                raw, sought = text.encode(codec), pattern.encode(codec)
+                for call, at in (
+                    (dethrux.find, text.find(pattern)),
+                    (dethrux.rfind, text.rfind(pattern)),
+                ):
+                    expected = -1 if at < 0 else len(text[:at].encode(codec))
+                    self.assertEqual(call(raw, sought, order), expected, (text, pattern))
+
     def test_detect_bom(self):
         little = ("little", 2, BomStatus.PRESENT)
         big = ("big", 2, BomStatus.PRESENT)
@@ -326,7 +368,7 @@ LEAN = {name: call for name, call in LEAN.items() if "encode" not in name.lower(
 LEAN.update(
     {
         name: lambda data, order, call=getattr(dethrux, name): call(data, order, 0)
-        for name in CONVERSIONS
+        for name in (*CONVERSIONS, *WTF8)
     }
 )
 LEAN.update(
@@ -490,6 +532,7 @@ class Arguments(unittest.TestCase):
         raw = b"a\0\x3d\xd8\x00\xde\xd8\x3d"
         extra = {"is_char_boundary": (4,), "floor_char_boundary": (5,)}
         extra["floor_char_boundary_around"] = (3,)
+        between = {"find": (b"\xd8\x3d",), "rfind": (b"a\0",)}
         found = set()
         for name in dethrux.__all__:
             call = getattr(dethrux, name)
@@ -499,19 +542,30 @@ class Arguments(unittest.TestCase):
             if "byteorder" not in names:
                 continue
             found.add(name)
-            self.assertEqual(names.index("byteorder"), 0 if call in DECODERS else 1, name)
+            before = between.get(name, ())
+            at = 0 if call in DECODERS else 1 + len(before)
+            self.assertEqual(names.index("byteorder"), at, name)
             for order in ORDERS:
                 with self.subTest(name=name, order=order):
                     if call in DECODERS:
                         self.assertEqual(call(byteorder=order)._order, ORDERS.index(order))
                         continue
                     data = "a\ud800" if name == "encode" else bytearray(raw)
-                    also = dict(zip(names[2:], extra.get(name, ())))
-                    by_keyword = outcome(lambda: call(data, byteorder=order, **also))
+                    also = dict(zip(names[at + 1 :], extra.get(name, ())))
+                    by_keyword = outcome(lambda: call(data, *before, byteorder=order, **also))
                     data = "a\ud800" if name == "encode" else bytearray(raw)
-                    self.assertEqual(by_keyword, outcome(call, data, order, *also.values()))
+                    expected = outcome(call, data, *before, order, *also.values())
+                    self.assertEqual(by_keyword, expected)
         expected = {*WITH_ORDER, "encode", "make_well_formed"}
-        self.assertEqual(found, expected - {"compare, first", "compare, second"})
+        expected -= {"compare, first", "compare, second", "find, pattern", "rfind, pattern"}
+        self.assertEqual(found, expected)
+
+    def test_the_buffers_of_a_search_are_keywords(self):
+        for order, codec in CODECS.items():
+            text, pattern = "abab".encode(codec), "ab".encode(codec)
+            for call, expected in ((dethrux.find, 0), (dethrux.rfind, 4)):
+                found = call(byteorder=order, pattern=pattern, utf16=text)
+                self.assertEqual(found, expected)
 
     def test_the_byte_orders_of_compare_are_keywords(self):
         names = ["first", "first_byteorder", "second", "second_byteorder"]

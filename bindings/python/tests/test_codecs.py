@@ -9,7 +9,7 @@ import threading
 import unittest
 
 import dethrux._codecs
-from expected import Index
+from expected import CODECS, Index, spread
 
 NAMES = ("utf-16-le", "utf-16-be", "utf-16")
 UNITS = (0x41, 0xE9, 0x4E00, 0xD83D, 0xDE00, 0xFEFF, 0xFFFE)
@@ -71,6 +71,17 @@ def outcome(call, *arguments):
         return type(error), error.args
     except (TypeError, IndexError, LookupError) as error:
         return type(error), str(error)
+
+
+def utf16_of(text, order):
+    """Return the code units of a text, of which each surrogate is one."""
+    units = ((ord(char),) if ord(char) < 0x10000 else pair_of(ord(char)) for char in text)
+    return b"".join(unit.to_bytes(2, order) for each in units for unit in each)
+
+
+def pair_of(number):
+    """Return the surrogate pair of a character."""
+    return 0xD800 + (number - 0x10000 >> 10), 0xDC00 + (number & 0x3FF)
 
 
 class Functions(unittest.TestCase):
@@ -169,6 +180,194 @@ class Functions(unittest.TestCase):
                 for errors in ("replace", "backslashreplace"):
                     decoded = wrong.decode(f"dethrux-{name}", errors)
                     self.assertEqual(decoded, wrong.decode(name, errors))
+
+
+class Handlers(unittest.TestCase):
+    """Names of handlers that are odd, and buffers that a handler changes."""
+
+    NAMES = ("ignore\0x", "\0", "\ud800", "\xe4", "\xe4\0", 5, 1.5, b"ignore", ["ignore"], "", "no")
+
+    @staticmethod
+    def kind(call):
+        """Return the result of a call, or the class of its exception."""
+        try:
+            return call()
+        except Exception as error:
+            return type(error)
+
+    def assert_same_kind(self, found, expected, *shown):
+        self.assertEqual(self.kind(found), self.kind(expected), shown)
+
+    def test_odd_names(self):
+        """They are refused also for well-formed input, but not if they are just unknown."""
+        raws = b"", b"a\0", b"a\0\0\xdc", b"a\0\0\xd8", b"a"
+        texts = "", "a", "a\udc00", "\u4e00", "\U0001f600"
+        utf8s = b"", b"a", b"\xff", b"a\xed\xb0\x80"
+        own = dethrux._codecs
+        for name, (order, codec) in itertools.product(self.NAMES, CODECS.items()):
+            short = codec.replace("-", "_")
+            functions = f"{short}_decode", f"{short}_encode"
+            decode, encode = ((getattr(own, it), getattr(codecs, it)) for it in functions)
+            for raw in raws:
+                self.assert_same_kind(
+                    lambda: decode[0](raw, name, True),
+                    lambda: decode[1](raw, name, True),
+                    name,
+                    raw,
+                )
+                for call in (
+                    lambda: dethrux.decode(raw, order, name),
+                    lambda: raw.decode(f"dethrux-{codec}", name),
+                ):
+                    self.assert_same_kind(call, lambda: raw.decode(codec, name), name, raw)
+                self.assert_same_kind(
+                    lambda: dethrux.decode_to_utf8(raw, order, name),
+                    lambda: raw.decode(codec, name).encode("utf-8", name),
+                    name,
+                    raw,
+                )
+            for text in texts:
+                self.assert_same_kind(
+                    lambda: encode[0](text, name), lambda: encode[1](text, name), name, text
+                )
+                for call in (
+                    lambda: dethrux.encode(text, order, name),
+                    lambda: text.encode(f"dethrux-{codec}", name),
+                ):
+                    self.assert_same_kind(call, lambda: text.encode(codec, name), name, text)
+                self.assert_same_kind(
+                    lambda: text.encode("dethrux-utf-16", name),
+                    lambda: text.encode("utf-16", name),
+                    name,
+                    text,
+                )
+            for utf8 in utf8s:
+                self.assert_same_kind(
+                    lambda: dethrux.encode_from_utf8(utf8, order, name),
+                    lambda: utf8.decode("utf-8", name).encode(codec, name),
+                    name,
+                    utf8,
+                )
+
+    def test_a_name_that_is_not_ascii(self):
+        codecs.register_error("\xe4", lambda error: ("?", error.end))
+        self.addCleanup(codecs.register_error, "\xe4", codecs.strict_errors)
+        for order, codec in CODECS.items():
+            raw = "a\udc00".encode(codec, "surrogatepass")
+            self.assertEqual(dethrux.decode(raw, order, "\xe4"), "a?")
+            self.assertEqual(dethrux.decode_to_utf8(raw, order, "\xe4"), b"a?")
+            self.assertEqual(dethrux.encode("a\udc00", order, "\xe4"), "a?".encode(codec))
+            self.assertEqual(dethrux.encode_from_utf8(b"a\xff", order, "\xe4"), "a?".encode(codec))
+
+    def test_handlers_of_cpython_under_other_names(self):
+        """A handler is what is registered, whatever its name is."""
+        wrong = "a\udc00\xe9\ud800b\ud800"
+        names = "ignore", "backslashreplace", "surrogatepass"
+        kept = {name: codecs.lookup_error(name) for name in (*names, "replace")}
+        for name, handler in itertools.product(names, kept.values()):
+            self.addCleanup(codecs.register_error, name, kept[name])
+            for function in (handler, lambda error: ("!" * 9, error.end)):
+                codecs.register_error(name, function)
+                codecs.register_error("dethrux.test.alias", function)
+                for (order, codec), each in itertools.product(
+                    CODECS.items(), (name, "dethrux.test.alias")
+                ):
+                    raw = utf16_of(wrong, order)
+                    for data in (raw, raw + b"\xd8"):
+                        self.assertEqual(
+                            outcome(dethrux.decode, data, order, each),
+                            outcome(data.decode, codec, each),
+                        )
+                        self.assertEqual(
+                            outcome(dethrux.decode_to_utf8, data, order, each),
+                            outcome(lambda: data.decode(codec, each).encode("utf-8", each)),
+                        )
+            codecs.register_error(name, kept[name])
+
+    def test_many_errors_of_each_handler(self):
+        """One error, several in a row, and many."""
+        handlers = ("replace", "ignore", "backslashreplace", "surrogatepass", "surrogateescape")
+        for wrong in ("\udc00", "\ud800", "\udfff\udbff", "\ud800\ud83d\ude00", "\udc00\xff"):
+            for count, kind in itertools.product((1, 2, 17, 300), ("", "a", "\xe9", "\u4e00")):
+                for order, codec in CODECS.items():
+                    raw = utf16_of((kind + wrong) * count + kind, order)
+                    for data, errors in itertools.product((raw, raw + b"\xd8"), handlers):
+                        self.assertEqual(
+                            outcome(dethrux.decode, data, order, errors),
+                            outcome(data.decode, codec, errors),
+                        )
+                        self.assertEqual(
+                            outcome(dethrux.decode_to_utf8, data, order, errors),
+                            outcome(lambda: data.decode(codec, errors).encode("utf-8", errors)),
+                        )
+
+    def test_room_for_backslashes(self):
+        """They take more bytes of UTF-8 than any code unit."""
+        for order, codec in CODECS.items():
+            for count, length in itertools.product((1, 2, 3, 40), range(40)):
+                raw = utf16_of("\udc00" * count + "\u4e00" * length, order)
+                expected = raw.decode(codec, "backslashreplace")
+                self.assertEqual(dethrux.decode(raw, order, "backslashreplace"), expected)
+                found = dethrux.decode_to_utf8(raw, order, "backslashreplace")
+                self.assertEqual(found, expected.encode())
+
+    def test_buffers(self):
+        """A handler sees a copy of a buffer, and what it does to the buffer has no effect."""
+        for change in ("write", "grow", "shrink"):
+            for order, codec in CODECS.items():
+                decode = f"{codec.replace('-', '_')}_decode"
+                raw = "a\udc00bc\ud800d".encode(codec, "surrogatepass")
+                found = []
+                for function in (getattr(codecs, decode), getattr(dethrux._codecs, decode)):
+                    buffer = bytearray(raw)
+
+                    def handler(error):
+                        self.assertEqual((type(error.object), error.object), (bytes, raw))
+                        if change == "write":
+                            buffer[:] = bytes(len(raw))
+                        elif change == "grow":
+                            buffer.append(0)
+                        else:
+                            buffer.pop()
+                        return "?", error.end
+
+                    codecs.register_error("dethrux.test.buffer", handler)
+                    try:
+                        found.append(function(buffer, "dethrux.test.buffer", True))
+                    except BufferError:
+                        found.append(BufferError)
+                    if change == "write":
+                        self.assertEqual(buffer, bytes(len(raw)))
+                    buffer.append(0)
+                text = "a?bc?d", len(raw)
+                # With ctypes a buffer that somebody may write to is copied, and not held.
+                held = BufferError if dethrux.implementation == "c" else text
+                expected = [text, text] if change == "write" else [BufferError, held]
+                self.assertEqual(found, expected)
+
+    def test_buffers_in_pieces(self):
+        for order, codec in CODECS.items():
+            for text in ("a\udc00b", "ab", "\udc00" * 20):
+                raw = text.encode(codec, "surrogatepass")
+                for errors in ("strict", "replace", "ignore", "backslashreplace", "surrogatepass"):
+                    self.assertEqual(
+                        outcome(dethrux.decode, spread(raw), order, errors),
+                        outcome(raw.decode, codec, errors),
+                    )
+                    self.assertEqual(
+                        outcome(dethrux.decode_to_utf8, spread(raw), order, errors),
+                        outcome(lambda: raw.decode(codec, errors).encode("utf-8", errors)),
+                    )
+
+    def test_an_exported_buffer(self):
+        """Others may look at a buffer during a call, and a call leaves it free."""
+        buffer = bytearray(b"a\0\0\xdc")
+        with memoryview(buffer) as view:
+            self.assertEqual(dethrux.decode(buffer, "little", "ignore"), "a")
+            self.assertEqual(dethrux.decode(view, "little", "backslashreplace"), "a\\x00\\xdc")
+            self.assertEqual(dethrux.decode_to_utf8(view, "little", "ignore"), b"a")
+        buffer.append(0)
+        self.assertEqual(len(buffer), 5)
 
 
 class Streams(unittest.TestCase):

@@ -11,6 +11,7 @@ import itertools
 import mmap
 import os
 import pickle
+import platform
 import random
 import resource
 import subprocess
@@ -163,6 +164,140 @@ class Texts(unittest.TestCase):
         for text in ("", "a", "\xe9", "\u4e00", "\U0001f600"):
             self.assertEqual(dethrux.encode(Text(text), "big"), text.encode("utf-16-be"))
         self.assertEqual(dethrux.decode(b"a\0", Text("little")), "a")
+
+
+class Blocks(unittest.TestCase):
+    """Texts that change where a block ends, compared with CPython."""
+
+    # The number of code units of a block, and lengths around one and two of them.
+    UNITS = BLOCK // 2
+    LENGTHS = tuple(units + more for units in (UNITS, 2 * UNITS) for more in (-2, -1, 0, 1))
+    KINDS = ("a", "\xe9", "\u4e00", "\U0001f600")
+    ERRORS = ("strict", "replace", "ignore", "backslashreplace", "surrogatepass")
+
+    def check_text(self, text):
+        """Decode and encode a text in both byte orders."""
+        for order, codec in CODECS.items():
+            raw = text.encode(codec)
+            found = dethrux.decode(raw, order)
+            self.assertEqual(found, text)
+            self.assertEqual(size(found), size(raw.decode(codec)))
+            self.assertEqual(dethrux.encode(text, order), raw)
+            self.assertEqual(dethrux.decode_to_utf8(raw, order), text.encode())
+            with_bom = "\ufeff".encode(codec) + raw
+            self.assertEqual(C["utf_16_decode_all"](with_bom), (text, len(with_bom)))
+
+    def check_bytes(self, raw, order, errors):
+        """Decode bytes that may be ill formed, to the end and up to an incomplete character."""
+        codec = CODECS[order]
+        expected, found = outcome(raw.decode, codec, errors), outcome(
+            dethrux.decode, raw, order, errors
+        )
+        self.assertEqual(found, expected)
+        if isinstance(found, str):
+            self.assertEqual(size(found), size(expected))
+        name = codec.replace("-", "_") + "_decode"
+        expected = outcome(getattr(codecs, name), raw, errors)
+        self.assertEqual(outcome(C[name], raw, errors), expected)
+        expected = outcome(lambda: raw.decode(codec, errors).encode("utf-8", errors))
+        self.assertEqual(outcome(dethrux.decode_to_utf8, raw, order, errors), expected)
+
+    def check_handler(self, raw, codec, errors):
+        """Decode with a handler that may resume outside of the input."""
+
+        def call(functions):
+            try:
+                return outcome(functions[codec.replace("-", "_") + "_decode"], raw, errors, True)
+            except IndexError as error:
+                return str(error)
+
+        self.assertEqual(call(C), call(vars(codecs)))
+
+    def test_a_wider_character(self):
+        """The first one is at each place around a border, and the last one or not."""
+        for first, second in itertools.product(self.KINDS, repeat=2):
+            for length, more in itertools.product(self.LENGTHS, (1, 2, self.UNITS)):
+                count = length // len(first.encode("utf-16-le")) * 2
+                self.check_text(first * count + second * more)
+                self.check_text(first * (count - 1) + "b" + second * more)
+
+    def test_each_order_of_kinds(self):
+        for kinds in itertools.permutations(self.KINDS):
+            for length in self.LENGTHS:
+                self.check_text("".join(kind * length for kind in kinds))
+                self.check_text("".join(kind * length + "a" for kind in kinds))
+
+    def test_errors_at_a_border(self):
+        """A surrogate that is not in a pair, and a pair, begin at each place around a border."""
+        wrong = "\udc00", "\ud83d", "\ud83d\ud83d", "\ude00\ud83d\ude00", "\ud83d\ude00"
+        for kind, length in itertools.product(self.KINDS[:3], self.LENGTHS):
+            for unit, after in itertools.product(wrong, ("", "a", kind * 9, kind * self.UNITS)):
+                text = kind * length + unit + after
+                for order, codec in CODECS.items():
+                    raw = text.encode(codec, "surrogatepass")
+                    for errors in self.ERRORS:
+                        self.check_bytes(raw, order, errors)
+                    self.check_bytes(raw + b"\xd8", order, "replace")
+                    self.check_bytes(raw[:-1], order, "ignore")
+
+    def test_errors_among_pairs(self):
+        """The characters that are left are counted, but not all that replaces an error."""
+        for wrong, count in itertools.product(("\udc00", "\ud83d"), (1, 15, 16, 17, 400)):
+            text = "\U0001f600" * 9 + (wrong + "\U0001f600a") * count + "\u4e00" * self.UNITS
+            for order, codec in CODECS.items():
+                raw = text.encode(codec, "surrogatepass")
+                for errors in self.ERRORS:
+                    self.check_bytes(raw, order, errors)
+
+    def test_many_errors(self):
+        """A handler that returns more than it replaces does not copy the text each time."""
+        text = "a\udc00" * (1 << 17)
+        codecs.register_error("dethrux.test.many", lambda error: ("\xe9" * 40, error.end))
+        for order, codec in CODECS.items():
+            raw = text.encode(codec, "surrogatepass")
+            for errors in ("dethrux.test.many", "backslashreplace"):
+                self.check_bytes(raw, order, errors)
+
+    def test_surrogates_at_a_border(self):
+        """Two of them are not a pair in a str, also if a block ends between them."""
+        for length, char in itertools.product(self.LENGTHS, "a\u4e00"):
+            for wrong in ("\ud83d\ude00", "\ud83d", "\ude00"):
+                for text in (char * length + wrong, char * length + wrong + "\u4e00" * length):
+                    for order, codec in CODECS.items():
+                        for errors in ("strict", "ignore", "surrogatepass"):
+                            expected = outcome(text.encode, codec, errors)
+                            self.assertEqual(outcome(dethrux.encode, text, order, errors), expected)
+
+    def test_a_handler_that_jumps(self):
+        """Once it resumes before or after the error, in another block, and at odd offsets."""
+        text = "a" * self.UNITS + "\udc00" + "\u4e00" * self.UNITS + "\ud800" + "\U0001f600" * 9
+        for codec in CODECS.values():
+            raw = text.encode(codec, "surrogatepass")
+            for place in (0, 1, 2, BLOCK - 1, BLOCK, BLOCK + 1, BLOCK + 2, BLOCK + 3, 2 * BLOCK):
+                for at in (place, place - len(raw), len(raw), -1, len(raw) + 1, -len(raw) - 1):
+                    for answer in ("", "?", "\xe9", "\u4e00" * 3, "\U0001f600" * self.UNITS):
+                        places = []
+
+                        def jump(error):
+                            is_first = not places or places[0] is not error
+                            places[:] = [error]
+                            return answer, at if is_first else error.end
+
+                        codecs.register_error("dethrux.test.jump", jump)
+                        self.check_handler(raw, codec, "dethrux.test.jump")
+
+    def test_a_handler_that_changes_the_input(self):
+        for codec in CODECS.values():
+            raw = ("a" * self.UNITS + "\udc00").encode(codec, "surrogatepass")
+            for other in (b"", b"a", raw + b"\0" * BLOCK, ("\u4e00" * BLOCK).encode(codec)):
+                for at in (0, 1, len(raw), -1):
+
+                    def change(error):
+                        first, error.object = error.object == raw, other
+                        return "\xe9", at if first else error.end
+
+                    codecs.register_error("dethrux.test.other", change)
+                    self.check_handler(raw, codec, "dethrux.test.other")
 
 
 class Functions(unittest.TestCase):
@@ -376,12 +511,15 @@ class Buffers(unittest.TestCase):
             peak = tracemalloc.get_traced_memory()[1]
             tracemalloc.stop()
             self.assertLess(peak, 4096, (name, type(buffer)))
-        tracemalloc.start()
-        dethrux.decode(raw, "big")
-        dethrux.encode("\u4e00" * LONG, "big")
-        peak = tracemalloc.get_traced_memory()[1]
-        tracemalloc.stop()
-        self.assertLess(peak, 2 * len(raw) + 4096)
+        for char, (order, codec) in itertools.product("a\xe9\u4e00\U0001f600", CODECS.items()):
+            text = char * LONG
+            raw = text.encode(codec)
+            for call, given, result in (("decode", raw, text), ("encode", text, raw)):
+                tracemalloc.start()
+                C[call](given, order)
+                peak = tracemalloc.get_traced_memory()[1]
+                tracemalloc.stop()
+                self.assertLess(peak, sys.getsizeof(result) + 4096, (call, char))
 
 
 # A library whose calls tell whether the thread has the GIL, and need no proof.
@@ -430,6 +568,8 @@ dethrux_bom dethrux_detect_bom(P) { dethrux_bom bom = {0, order, DETHRUX_BOM_ABS
 NONE(decoder_finish) NONE(encoder_finish) NONE(is_char_boundary) NONE(floor_char_boundary)
 NONE(floor_char_boundary_around) NONE(shard_offset) NONE(make_well_formed) NONE(compare)
 NONE(to_utf32_lossy) NONE(to_utf32_lossy_len) NONE(validate_utf32) NONE(from_utf32_lossy)
+NONE(to_wtf8) NONE(to_wtf8_partial) NONE(to_wtf8_len) NONE(from_wtf8) NONE(from_wtf8_partial)
+NONE(decoder_feed_wtf8) NONE(decoder_finish_wtf8) NONE(find) NONE(rfind)
 """
 # Prints each call that does not give up the GIL if it should, or gives it up if it should not.
 ASKS_GIL = r"""
@@ -500,6 +640,8 @@ class Memory(unittest.TestCase):
         """Return calls of each function that succeed, that are left to Python, and that fail."""
         found = []
         texts = ["", "ab", "\xe9", "\u4e00" * 400, "\U0001f600", "\ud800", "a" * LONG]
+        # Each block of these needs a wider str than the one before.
+        texts += ["a" * BLOCK + "\xe9", "a" * BLOCK + "\u4e00" * BLOCK + "\U0001f600"]
         raws = [text.encode("utf-16-le", "surrogatepass") for text in texts]
         for name in C:
             for raw, text in zip(raws, texts):
@@ -512,6 +654,12 @@ class Memory(unittest.TestCase):
                     wrong = "a\udc00b\ud800", b"a\0\0\xdc\0\xd8", b"a\xff\xed\xa0\x80"
                     given = arguments(name, wrong[1], wrong[0], wrong[2])
                     found.append((C[name], (*given, errors)))
+                    found.append((C[name], (*arguments(name, bytearray(wrong[1])), errors)))
+                    wrong = b"\0\xdc" * 9 + b"\0\xd8\x3d\xd8\0\xde" * 40
+                    found.append((C[name], (*arguments(name, wrong), errors)))
+                for errors in ("dethrux.test.wide", "no", "ignore\0", "\ud800", 5):
+                    given = arguments(name, b"a\0\0\xdc\0\xd8", "a\udc00", b"\xff")
+                    found.append((C[name], (*given, errors)))
         return found
 
     @staticmethod
@@ -521,17 +669,31 @@ class Memory(unittest.TestCase):
         except (UnicodeError, TypeError, ValueError, LookupError) as error:
             return type(error)
 
+    def setUp(self):
+        codecs.register_error("dethrux.test.wide", lambda error: ("\U0001f600" * 9, error.end))
+
     def test_references(self):
+        singletons = [None, True, False, NotImplemented, "", b"", (), "a", b"a", "strict", 0, 1, 2]
+        singletons += ["little", "big", "utf-16-le", "\xe9", str, bytes, tuple, UnicodeDecodeError]
+        singletons += [UnicodeEncodeError, codecs.lookup_error]
+        singletons += map(
+            codecs.lookup_error,
+            ("strict", "replace", "ignore", "backslashreplace", "surrogatepass"),
+        )
         for function, given in self.calls():
             self.run_call(function, given)
             gc.collect()
             everything = [*given, *dethrux.Status, dethrux.Progress, dethrux.Validity, function]
+            others = list(map(sys.getrefcount, singletons))
             before = [sys.getrefcount(each) for each in everything]
             for _ in range(20):
                 self.run_call(function, given)
             gc.collect()
             after = [sys.getrefcount(each) for each in everything]
             self.assertEqual(after, before, (function, given))
+            # Python itself also takes and drops references to these.
+            for each, count in zip(singletons, others):
+                self.assertLess(abs(sys.getrefcount(each) - count), 10, (function, given, each))
 
     def test_no_leak(self):
         calls = [each for each in self.calls() if sys.getsizeof(each[1][0]) < LONG]
@@ -544,8 +706,47 @@ class Memory(unittest.TestCase):
             return resource.getrusage(resource.RUSAGE_SELF).ru_maxrss
 
         times = CALLS // len(calls) + 1
-        before = run(times // 4)
-        self.assertLess(run(times) - before, 1024, "KiB")
+        before, blocks = run(times // 4), sys.getallocatedblocks()
+        after, more = run(times), sys.getallocatedblocks() - blocks
+        self.assertLess(after - before, 1024, "KiB")
+        self.assertLess(more, 100, "blocks")
+
+    def test_no_blocks_are_left(self):
+        """Not one block of memory for each call, also if it raises."""
+
+        def left(function, given):
+            before = sys.getallocatedblocks()
+            for _ in range(100):
+                self.run_call(function, given)
+            gc.collect()
+            return sys.getallocatedblocks() - before
+
+        for function, given in self.calls():
+            # At first Python itself keeps some of them for later.
+            self.assertTrue(any(left(function, given) < 50 for _ in range(4)), (function, given))
+
+    def test_long_results_take_no_new_pages(self):
+        """The kernel gives no pages for a result if one that is as long was freed before."""
+        if platform.libc_ver()[0] != "glibc":
+            self.skipTest("this is not glibc")
+        script = (
+            "import resource, sys\n"
+            "import dethrux\n"
+            "raw, utf8 = b'a\\0' * (1 << 19), 'a\\u4e00'.encode() * (1 << 18)\n"
+            "for call, data in ((dethrux.decode_to_utf8, raw), (dethrux.encode_from_utf8, utf8)):\n"
+            "    call(data, 'little')\n"
+            "    call(data, 'little')\n"
+            "    before = resource.getrusage(resource.RUSAGE_SELF).ru_minflt\n"
+            "    for _ in range(20):\n"
+            "        call(data, 'little')\n"
+            "    print(resource.getrusage(resource.RUSAGE_SELF).ru_minflt - before)\n"
+        )
+        run = subprocess.run(
+            [sys.executable, "-B", "-c", script], stdout=subprocess.PIPE, check=True, text=True
+        )
+        # Without that each call takes more than 128 of them.
+        for found in map(int, run.stdout.split()):
+            self.assertLess(found, 640)
 
     def test_failures(self):
         """Each allocation of a call fails: it raises MemoryError, or returns what it does."""
@@ -560,7 +761,7 @@ class Memory(unittest.TestCase):
             before = [sys.getrefcount(each) for each in given]
             found = None
             failed = 0
-            for start in range(12):
+            for start in range(40):
                 found = None
                 set_nomemory(start, start + 1)
                 try:
@@ -617,6 +818,30 @@ class Threads(unittest.TestCase):
         for thread in threads:
             thread.join()
         self.assertEqual(found, [True] * 6 * 12)
+
+    def test_ill_formed_texts(self):
+        """Threads decode the same bytes, with the handlers of CPython and one in Python."""
+        codecs.register_error("dethrux.test.thread", lambda error: ("\U0001f600", error.end))
+        handlers = ("replace", "ignore", "backslashreplace", "surrogatepass", "dethrux.test.thread")
+        text = ("a" * BLOCK + "\udc00" + "\u4e00" * BLOCK + "\ud800") * 2
+        raws = {codec: text.encode(codec, "surrogatepass") for codec in CODECS.values()}
+        cases = list(itertools.product(CODECS.items(), handlers))
+        expected = [raws[codec].decode(codec, errors) for (_, codec), errors in cases]
+        found = []
+
+        def work():
+            for _ in range(3):
+                decoded = [
+                    dethrux.decode(raws[codec], order, errors) for (order, codec), errors in cases
+                ]
+                found.append(decoded == expected)
+
+        threads = [threading.Thread(target=work) for _ in range(6)]
+        for thread in threads:
+            thread.start()
+        for thread in threads:
+            thread.join()
+        self.assertEqual(found, [True] * 18)
 
     def test_a_buffer_that_another_thread_changes(self):
         """A call sees it as it was before a change, or after it."""
@@ -707,6 +932,10 @@ class Interpreters(unittest.TestCase):
                 self.other().set_up(*wrong)
         with self.assertRaisesRegex(ImportError, "^the library has no dethrux_inspect$"):
             self.other().set_up(ctypes.CDLL(None)._handle, *types, ())
+        gc.collect()
+        handlers = [codecs.lookup_error, codecs.replace_errors, codecs.ignore_errors]
+        handlers += [codecs.backslashreplace_errors, codecs.lookup_error("surrogatepass")]
+        counts = list(map(sys.getrefcount, handlers))
         other = self.other()
         other.set_up(handle, *types, tuple(dethrux.Status))
         other.set_up(handle, *types, tuple(dethrux.Status))
@@ -719,6 +948,7 @@ class Interpreters(unittest.TestCase):
         after = [sys.getrefcount(each) for each in kept]
         self.assertEqual([after[0], after[1], after[3]], [before[0], before[1], before[3]])
         self.assertEqual(after[2], before[2] + 1)
+        self.assertEqual(list(map(sys.getrefcount, handlers)), [each + 1 for each in counts])
         self.assertIs(other.take(len), len)
         with self.assertRaises(AttributeError):
             other.take(5)
@@ -729,6 +959,22 @@ class Interpreters(unittest.TestCase):
         gone = [sys.getrefcount(each) for each in kept]
         # The module has let go of what it kept; the tuple of statuses was another one before.
         self.assertEqual(gone, [before[0] - 1, before[1] - 1, before[2], before[3] - 1])
+        self.assertEqual(list(map(sys.getrefcount, handlers)), counts)
+
+    def test_another_handler_under_the_name_surrogatepass(self):
+        """Only CPython's is known, and a module may be set up when another one is there."""
+        self.addCleanup(
+            codecs.register_error, "surrogatepass", codecs.lookup_error("surrogatepass")
+        )
+        for handler in (codecs.strict_errors, lambda error: codecs.strict_errors(error)):
+            codecs.register_error("surrogatepass", handler)
+            other = self.other()
+            types = dethrux.Validity, dethrux.Progress, tuple(dethrux.Status)
+            other.set_up(_library.handle(), *types)
+            decode = other.take(PYTHON["decode_to_utf8"])
+            for errors in ("surrogatepass", "strict"):
+                with self.assertRaises(UnicodeDecodeError):
+                    decode(b"a\0\0\xdc", "little", errors)
 
 
 if __name__ == "__main__":

@@ -21,6 +21,7 @@ from ._calls import (
     compare,
     count_chars,
     detect_bom,
+    find,
     floor_char_boundary,
     floor_char_boundary_around,
     from_utf8,
@@ -30,6 +31,7 @@ from ._calls import (
     is_ascii,
     is_char_boundary,
     make_well_formed,
+    rfind,
     shard_offset,
     swap_byte_order,
     to_utf8,
@@ -41,6 +43,15 @@ from ._calls import (
 from ._codecs import decode, decode_to_utf8, encode, encode_from_utf8, search
 from ._implementation import implementation
 from ._version import __version__
+from ._wtf8 import (
+    decode_to_wtf8,
+    encode_from_wtf8,
+    from_wtf8,
+    from_wtf8_partial,
+    to_wtf8,
+    to_wtf8_len,
+    to_wtf8_partial,
+)
 
 __all__ = [
     "Bom",
@@ -56,25 +67,34 @@ __all__ = [
     "count_chars",
     "decode",
     "decode_to_utf8",
+    "decode_to_wtf8",
     "detect_bom",
     "encode",
     "encode_from_utf8",
+    "encode_from_wtf8",
+    "find",
     "floor_char_boundary",
     "floor_char_boundary_around",
     "from_utf8",
     "from_utf8_len",
     "from_utf8_lossy",
     "from_utf8_lossy_len",
+    "from_wtf8",
+    "from_wtf8_partial",
     "implementation",
     "is_ascii",
     "is_char_boundary",
     "make_well_formed",
+    "rfind",
     "shard_offset",
     "swap_byte_order",
     "to_utf8",
     "to_utf8_lossy",
     "to_utf8_lossy_len",
     "to_utf8_partial",
+    "to_wtf8",
+    "to_wtf8_len",
+    "to_wtf8_partial",
     "validate",
 ]
 

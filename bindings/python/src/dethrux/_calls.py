@@ -362,6 +362,30 @@ def compare(
     return found
 
 
+def _search(
+    call: Callable[..., Any], utf16: ReadableBuffer, pattern: ReadableBuffer, byteorder: str
+) -> int:
+    order, source, sought = order_number(byteorder), readable(utf16), readable(pattern)
+    offset: int = call(order, source, len(source), sought, len(sought))
+    return -1 if offset == _library.NOT_FOUND else offset
+
+
+def find(utf16: ReadableBuffer, pattern: ReadableBuffer, byteorder: ByteOrder) -> int:
+    """Return the least offset at which a pattern occurs, or -1 if there is none.
+
+    The bytes of the pattern are there, and the offset and the end of these
+    bytes are boundaries between characters, as ``is_char_boundary`` says: unlike
+    with ``bytes.find``, an occurrence cuts neither a code unit nor a surrogate
+    pair. Both buffers are in this byte order, and may be ill formed.
+    """
+    return _search(_library.find, utf16, pattern, byteorder)
+
+
+def rfind(utf16: ReadableBuffer, pattern: ReadableBuffer, byteorder: ByteOrder) -> int:
+    """Return the greatest offset at which a pattern occurs as in ``find``, or -1."""
+    return _search(_library.rfind, utf16, pattern, byteorder)
+
+
 def detect_bom(data: ReadableBuffer, default: ByteOrder = "big") -> Bom:
     """Return the BOM at the start of a stream and the byte order, the default without one.
 

@@ -72,6 +72,19 @@ class _Handler:
         return offset
 
 
+def _check_name(errors: Optional[str]) -> None:
+    """Raise what CPython's codecs raise for what cannot be the name of an error handler.
+
+    They do so also for well-formed input, but not for a name that is not known.
+    """
+    if errors is None or errors == "strict":
+        return
+    try:
+        codecs.lookup_error(errors)
+    except LookupError:
+        pass
+
+
 def _address(data: bytes, offset: int) -> Any:
     """Return the address of a byte, in a form that a call takes."""
     if not offset:
@@ -127,6 +140,7 @@ def _decode(
     utf16: bytes, start: int, order: int, errors: Optional[str], final: bool
 ) -> tuple[str, int]:
     """Decode from an offset; return the text and how many bytes were read."""
+    _check_name(errors)
     source = _Source(utf16, order)
     text, at, status = source.convert(_library.to_utf8, start, len(utf16))
     if status != Status.DONE:
@@ -230,6 +244,7 @@ def _encode(
     """Return the BOM and the UTF-16 of a text."""
     if not isinstance(text, str):
         raise TypeError(f"a str is required, not {type(text).__name__!r}")
+    _check_name(errors)
     try:
         utf8 = text.encode()
     except UnicodeEncodeError:
@@ -317,6 +332,7 @@ def decode_to_utf8(utf16: ReadableBuffer, byteorder: ByteOrder, errors: str = "s
     if errors == "replace":
         return to_utf8_lossy(utf16, byteorder).output
     found = to_utf8(utf16, byteorder)
+    _check_name(errors)
     if found.status == Status.DONE:
         return found.output
     return decode(utf16, byteorder, errors).encode("utf-8", errors)
@@ -331,6 +347,7 @@ def encode_from_utf8(utf8: ReadableBuffer, byteorder: ByteOrder, errors: str = "
     if errors == "replace":
         return from_utf8_lossy(utf8, byteorder).output
     found = from_utf8(utf8, byteorder)
+    _check_name(errors)
     if found.status == Status.DONE:
         return found.output
     return encode(str(as_bytes(utf8), "utf-8", errors), byteorder, errors)

@@ -156,6 +156,8 @@ _library = _load()
 _order = ctypes.c_uint32
 _size = ctypes.c_size_t
 _offset = ctypes.c_uint64
+# What a search returns if there is nothing to find: ``DETHRUX_NOT_FOUND``.
+NOT_FOUND = _size(-1).value
 # A pointer and a length; ctypes passes the address of a bytes object as it is.
 _buffer = (ctypes.c_void_p, _size)
 _state = ctypes.POINTER(State)
@@ -185,6 +187,13 @@ from_utf32_lossy = _call("from_utf32_lossy", Progress, _order, *_buffer, *_buffe
 from_utf32_lossy_len = _call("from_utf32_lossy_len", _size, *_buffer)
 to_latin1 = _call("to_latin1", Progress, _order, *_buffer, *_buffer)
 from_latin1 = _call("from_latin1", Progress, _order, *_buffer, *_buffer)
+to_wtf8 = _call("to_wtf8", Progress, _order, *_buffer, *_buffer)
+to_wtf8_partial = _call("to_wtf8_partial", Progress, _order, *_buffer, *_buffer)
+to_wtf8_len = _call("to_wtf8_len", _size, _order, *_buffer)
+from_wtf8 = _call("from_wtf8", Progress, _order, *_buffer, *_buffer)
+from_wtf8_partial = _call("from_wtf8_partial", Progress, _order, *_buffer, *_buffer)
+decoder_feed_wtf8 = _call("decoder_feed_wtf8", Progress, _state, _order, *_buffer, *_buffer)
+decoder_finish_wtf8 = _call("decoder_finish_wtf8", Progress, _state, _order, *_buffer)
 is_char_boundary = _call("is_char_boundary", ctypes.c_bool, _order, *_buffer, _size)
 floor_char_boundary = _call("floor_char_boundary", _size, _order, *_buffer, _size)
 floor_char_boundary_around = _call(
@@ -194,6 +203,8 @@ shard_offset = _call("shard_offset", _offset, _offset, _offset, _offset)
 swap_byte_order = _call("swap_byte_order", None, *_buffer)
 make_well_formed = _call("make_well_formed", _size, _order, *_buffer)
 compare = _call("compare", ctypes.c_int32, _order, *_buffer, _order, *_buffer)
+find = _call("find", _size, _order, *_buffer, *_buffer)
+rfind = _call("rfind", _size, _order, *_buffer, *_buffer)
 detect_bom = _call("detect_bom", Bom, _order, *_buffer)
 
 # Calls of CPython. An index gives functions of our own: other packages may declare other types for

@@ -146,6 +146,35 @@ static inline PyObject *call(PyObject *module, int number, action *act, const ch
     }
 EACH_FUNCTION(FUNCTION)
 
+/* Keeps the error handlers of CPython that need no exception. Returns whether it did. */
+static bool find_handlers(native *it) {
+    PyObject *codecs = PyImport_ImportModule("codecs");
+    if (!codecs) {
+        return false;
+    }
+    Py_XSETREF(it->lookup_error, PyObject_GetAttrString(codecs, "lookup_error"));
+    Py_XSETREF(it->replace_errors, PyObject_GetAttrString(codecs, "replace_errors"));
+    Py_XSETREF(it->ignore_errors, PyObject_GetAttrString(codecs, "ignore_errors"));
+    Py_XSETREF(it->backslashreplace_errors,
+               PyObject_GetAttrString(codecs, "backslashreplace_errors"));
+    Py_DECREF(codecs);
+    if (!it->lookup_error || !it->replace_errors || !it->ignore_errors
+        || !it->backslashreplace_errors) {
+        return false;
+    }
+    /* The module has no name for this one, and a program may have registered another. */
+    PyObject *found = PyCodec_LookupError("surrogatepass");
+    if (!found) {
+        return false;
+    }
+    if (!PyCFunction_Check(found)
+        || strcmp(((PyCFunctionObject *) found)->m_ml->ml_name, "surrogatepass") != 0) {
+        Py_CLEAR(found);
+    }
+    Py_XSETREF(it->surrogatepass_errors, found);
+    return true;
+}
+
 /* Finds the calls in the library of this handle, and keeps the types of the results. */
 static PyObject *set_up(PyObject *module, PyObject *given) {
     native *it = &((state *) PyModule_GetState(module))->it;
@@ -173,14 +202,7 @@ static PyObject *set_up(PyObject *module, PyObject *given) {
     Py_XSETREF(it->little, PyUnicode_InternFromString("little"));
     Py_XSETREF(it->big, PyUnicode_InternFromString("big"));
     Py_XSETREF(it->strict, PyUnicode_InternFromString("strict"));
-    PyObject *codecs = PyImport_ImportModule("codecs");
-    if (!codecs) {
-        return NULL;
-    }
-    Py_XSETREF(it->lookup_error, PyObject_GetAttrString(codecs, "lookup_error"));
-    Py_XSETREF(it->replace_errors, PyObject_GetAttrString(codecs, "replace_errors"));
-    Py_DECREF(codecs);
-    if (!it->little || !it->big || !it->strict || !it->lookup_error || !it->replace_errors) {
+    if (!it->little || !it->big || !it->strict || !find_handlers(it)) {
         return NULL;
     }
     Py_RETURN_NONE;
@@ -234,6 +256,9 @@ static int traverse(PyObject *module, visitproc visit, void *arg) {
     Py_VISIT(own->it.statuses);
     Py_VISIT(own->it.lookup_error);
     Py_VISIT(own->it.replace_errors);
+    Py_VISIT(own->it.ignore_errors);
+    Py_VISIT(own->it.backslashreplace_errors);
+    Py_VISIT(own->it.surrogatepass_errors);
     for (int number = 0; number < FUNCTIONS; number++) {
         Py_VISIT(own->in_python[number]);
     }
@@ -250,6 +275,9 @@ static int clear(PyObject *module) {
     Py_CLEAR(own->it.strict);
     Py_CLEAR(own->it.lookup_error);
     Py_CLEAR(own->it.replace_errors);
+    Py_CLEAR(own->it.ignore_errors);
+    Py_CLEAR(own->it.backslashreplace_errors);
+    Py_CLEAR(own->it.surrogatepass_errors);
     for (int number = 0; number < FUNCTIONS; number++) {
         Py_CLEAR(own->in_python[number]);
     }

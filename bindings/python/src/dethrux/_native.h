@@ -21,8 +21,10 @@
 #define LONG ((size_t) 1 << 16)
 /* The most bytes that are converted on the stack and then copied. */
 #define SMALL 1024
-/* How many bytes are copied and swapped at a time: they stay in the cache. */
+/* How many bytes are read and converted at a time: they stay in the cache. */
 #define BLOCK ((size_t) 1 << 14)
+/* The shortest block of memory that glibc takes from new pages (M_MMAP_THRESHOLD). */
+#define MAPPED ((size_t) 1 << 17)
 
 /* The calls of the library that the functions use. */
 #define EACH_CALL(X) \
@@ -42,8 +44,11 @@ typedef struct {
     PyObject *little;   /* The words for the byte orders. */
     PyObject *big;
     PyObject *strict;         /* The name of the handler that raises. */
-    PyObject *lookup_error;   /* `codecs.lookup_error` and `codecs.replace_errors`. */
-    PyObject *replace_errors;
+    PyObject *lookup_error;   /* `codecs.lookup_error`. */
+    PyObject *replace_errors; /* The handlers of CPython that need no exception. */
+    PyObject *ignore_errors;
+    PyObject *backslashreplace_errors;
+    PyObject *surrogatepass_errors; /* NULL if a program has put another one there. */
 } native;
 
 /* The arguments of a function, in the order of its parameters. NULL is one that was not given. */
@@ -252,6 +257,19 @@ static PyObject *from_utf8_lossy_len(const native *it, arguments given) {
 
 /* Bytes to bytes. */
 
+/* Returns a bytes object of a capacity, to be cut to what is written.
+ *
+ * glibc takes blocks of 128 KiB and more from new pages, which the kernel clears for each call,
+ * until one that is as long was freed. From then on it keeps the memory. A result that was cut is
+ * too short for that, so this frees a block first, whose pages nobody touches. Any other malloc
+ * makes and frees it in vain. */
+static PyObject *new_bytes(size_t capacity) {
+    if (capacity >= MAPPED) {
+        PyMem_RawFree(PyMem_RawMalloc(capacity + BLOCK));
+    }
+    return PyBytes_FromStringAndSize(NULL, (Py_ssize_t) capacity);
+}
+
 /* Returns what a conversion writes to a buffer of this capacity, and how far it came. */
 static PyObject *converted(conversion *convert, dethrux_byte_order order, const input *from,
                            size_t capacity, dethrux_progress *done) {
@@ -260,7 +278,7 @@ static PyObject *converted(conversion *convert, dethrux_byte_order order, const 
         *done = convert(order, from->bytes, from->len, small, capacity);
         return PyBytes_FromStringAndSize((const char *) small, (Py_ssize_t) done->written);
     }
-    PyObject *output = PyBytes_FromStringAndSize(NULL, (Py_ssize_t) capacity);
+    PyObject *output = new_bytes(capacity);
     if (!output) {
         return NULL;
     }
@@ -350,7 +368,7 @@ static PyObject *feed_held(const native *it, arguments given, const input *chunk
     if (!limit(given[3], &capacity)) {
         return NULL;
     }
-    PyObject *output = PyBytes_FromStringAndSize(NULL, (Py_ssize_t) capacity);
+    PyObject *output = new_bytes(capacity);
     if (!output) {
         return NULL;
     }

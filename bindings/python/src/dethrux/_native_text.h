@@ -34,6 +34,22 @@ static bool find_handler(const native *it, handler *errors, PyObject *name) {
     return errors->function;
 }
 
+/* Returns whether something can be the name of a handler. Otherwise it raises what CPython raises,
+ * also for well-formed input. */
+static bool is_name(const native *it, PyObject *name) {
+    if (!name || name == Py_None || name == it->strict) {
+        return true;
+    }
+    Py_ssize_t len;
+    const char *utf8 = PyUnicode_Check(name) ? PyUnicode_AsUTF8AndSize(name, &len) : NULL;
+    if (utf8 && strlen(utf8) == (size_t) len) {
+        return true;
+    }
+    PyErr_Clear();
+    Py_XDECREF(PyObject_CallFunctionObjArgs(it->lookup_error, name, NULL));
+    return false;
+}
+
 /* Makes the exception, or sets the next place of the one that is there. Returns whether it did. */
 static bool prepare(handler *errors, bool is_decoding, const char *encoding, PyObject *object,
                     size_t start, size_t end, const char *reason) {
@@ -93,79 +109,195 @@ static bool resume_at(Py_ssize_t position, size_t len, size_t *at) {
     return true;
 }
 
-/* Appends a part, whose reference it takes. Returns whether it did. */
-static bool append(PyObject *parts, PyObject *part) {
-    bool is_appended = part && PyList_Append(parts, part) == 0;
-    Py_XDECREF(part);
-    return is_appended;
+/* Gives a text its kind, which one of an old call may lack before CPython 3.12. Returns whether it
+ * has one. */
+static bool is_ready(PyObject *text) {
+#if PY_VERSION_HEX < 0x030C0000
+    return PyUnicode_READY(text) == 0;
+#else
+    return text;
+#endif
 }
 
 /* UTF-16 to str. */
 
-/* Copies UTF-16 from a byte order to the machine's, or from the machine's to it. */
+/* Copies a block of UTF-16 from a byte order to the machine's, or from the machine's to it. */
 static void copy_units(const native *it, dethrux_byte_order order, const uint8_t *from, size_t len,
                        uint8_t *to) {
-    if (order == DETHRUX_NATIVE_ENDIAN) {
-        memcpy(to, from, len);
-        return;
-    }
-    for (size_t at = 0; at < len; at += BLOCK) {
-        size_t part = len - at < BLOCK ? len - at : BLOCK;
-        memcpy(to + at, from + at, part);
-        it->swap_byte_order(to + at, part);
+    memcpy(to, from, len);
+    if (order != DETHRUX_NATIVE_ENDIAN) {
+        it->swap_byte_order(to, len);
     }
 }
 
-/* Fills a new str with the well-formed prefix of UTF-16. Returns whether it is full: it is, unless
- * another process has changed a mapped file since. */
-static bool fill(const native *it, dethrux_byte_order order, const uint8_t *utf16,
-                 const dethrux_inspection *found, PyObject *text) {
-    size_t len = found->valid_up_to;
-    void *to = PyUnicode_DATA(text);
-    if (found->repertoire <= DETHRUX_LATIN1) {
-        return it->to_latin1(order, utf16, len, to, found->chars).written == found->chars;
-    }
-    if (found->repertoire == DETHRUX_BMP) {
-        copy_units(it, order, utf16, len, to);
+/* A str in the making. */
+typedef struct {
+    PyObject *text;                /* Its length is the room that it has. NULL has none. */
+    size_t len;                    /* How many characters are there. */
+    dethrux_repertoire repertoire; /* The characters that its form can have. */
+} writer;
+
+/* Returns whether a str has room for more characters of a repertoire. */
+static bool has_room(const writer *it, size_t more, dethrux_repertoire repertoire) {
+    return it->text && repertoire <= it->repertoire
+        && more <= (size_t) PyUnicode_GET_LENGTH(it->text) - it->len;
+}
+
+/* Makes room for more characters of a repertoire. If that takes a new str, there is also room for
+ * as many later ones. Returns whether there is room. */
+static bool make_room(writer *it, size_t more, size_t later, dethrux_repertoire repertoire) {
+    static const Py_UCS4 GREATEST[] = {0x7F, 0xFF, 0xFFFF, 0x10FFFF};
+    if (has_room(it, more, repertoire)) {
         return true;
     }
-    return it->to_utf32(order, utf16, len, to, found->chars).written == found->chars;
+    size_t room = it->len + more + later;
+    if (it->text && repertoire <= it->repertoire) {
+        /* Else each of many errors with long replacements would copy the text. */
+        room += room / 4;
+        repertoire = it->repertoire;
+    }
+    PyObject *wider = PyUnicode_New((Py_ssize_t) room, GREATEST[repertoire]);
+    if (!wider || (it->text
+            && PyUnicode_CopyCharacters(wider, 0, it->text, 0, (Py_ssize_t) it->len) < 0)) {
+        Py_XDECREF(wider);
+        return false;
+    }
+    Py_XSETREF(it->text, wider);
+    it->repertoire = repertoire;
+    return true;
 }
 
-/* Returns the text of the longest well-formed prefix of bytes. */
-static PyObject *prefix(const native *it, dethrux_byte_order order, const input *utf16,
-                        dethrux_inspection *found) {
-    static const Py_UCS4 GREATEST[] = {0x7F, 0xFF, 0xFFFF, 0x10FFFF};
-    PyThreadState *saved = without_gil(utf16->without_gil);
-    *found = it->inspect(order, utf16->bytes, utf16->len);
+/* Returns the str, cut to its characters, or drops it. */
+static PyObject *finished(writer *it, bool is_wanted) {
+    if (!is_wanted
+        || ((size_t) PyUnicode_GET_LENGTH(it->text) != it->len
+            && PyUnicode_Resize(&it->text, (Py_ssize_t) it->len) < 0)) {
+        Py_CLEAR(it->text);
+    }
+    return it->text;
+}
+
+/* UTF-16 that is decoded. */
+typedef struct {
+    const uint8_t *bytes;
+    size_t len;
+    size_t at; /* How many bytes are decoded. */
+    dethrux_byte_order order;
+    bool without_gil; /* Whether the calls run without the GIL. */
+    writer to;
+} decoding;
+
+/* Returns how many bytes the next block has. */
+static size_t block_len(const decoding *from) {
+    size_t left = from->len - from->at;
+    return left < BLOCK ? left : BLOCK;
+}
+
+/* Returns how many characters the bytes from an offset on have at most, if they are of a
+ * repertoire and well formed. */
+static size_t most_chars(const native *it, const decoding *from, size_t at,
+                         dethrux_repertoire repertoire) {
+    size_t left = from->len - at;
+    if (left == 0 || repertoire != DETHRUX_UNICODE) {
+        return left / 2;
+    }
+    PyThreadState *saved = without_gil(from->without_gil);
+    size_t count = it->count_chars(from->order, from->bytes + at, left);
     with_gil(saved);
-    PyObject *text = PyUnicode_New((Py_ssize_t) found->chars, GREATEST[found->repertoire]);
-    if (text && found->chars) {
-        saved = without_gil(utf16->without_gil);
-        bool is_full = fill(it, order, utf16->bytes, found, text);
+    return count;
+}
+
+/* Writes the well-formed prefix of the next block. Returns whether it did: it does, unless another
+ * process has changed a mapped file since. */
+static bool write_block(const native *it, const decoding *from, const dethrux_inspection *found) {
+    const uint8_t *utf16 = from->bytes + from->at;
+    size_t len = found->valid_up_to, chars = found->chars;
+    PyObject *text = from->to.text;
+    size_t offset = from->to.len * (size_t) PyUnicode_KIND(text);
+    void *to = (uint8_t *) PyUnicode_DATA(text) + offset;
+    if (PyUnicode_KIND(text) == PyUnicode_1BYTE_KIND) {
+        return it->to_latin1(from->order, utf16, len, to, chars).written == chars;
+    }
+    if (PyUnicode_KIND(text) == PyUnicode_2BYTE_KIND) {
+        copy_units(it, from->order, utf16, 2 * chars, to);
+        return true;
+    }
+    return it->to_utf32(from->order, utf16, len, to, chars).written == chars;
+}
+
+/* Writes blocks, of which the first is this one, as long as the str has room. Returns whether it
+ * came to an error or to the end; the last block tells which. */
+static bool write_blocks(const native *it, decoding *from, dethrux_inspection *block) {
+    while (has_room(&from->to, block->chars, block->repertoire) && write_block(it, from, block)) {
+        bool is_last = from->len - from->at <= BLOCK;
+        from->at += block->valid_up_to;
+        from->to.len += block->chars;
+        if (is_last || block->status == DETHRUX_ILL_FORMED) {
+            return true;
+        }
+        /* A character across the border is incomplete in this block, and begins the next one. */
+        *block = it->inspect(from->order, from->bytes + from->at, block_len(from));
+    }
+    return false;
+}
+
+/* Decodes up to an error or the end, and sets the status there. Returns whether it did.
+ *
+ * Most texts are of one repertoire. So the first block decides the form of the str, and each block
+ * is inspected and written while it is in the cache. If a later one needs a wider str, what is
+ * there is copied to one: at most three times. */
+static bool decode_prefix(const native *it, decoding *from, dethrux_status *status) {
+    PyThreadState *saved = without_gil(from->without_gil);
+    dethrux_inspection block =
+        it->inspect(from->order, from->bytes + from->at, block_len(from));
+    with_gil(saved);
+    for (;;) {
+        size_t next = from->at + block.valid_up_to;
+        if (!has_room(&from->to, block.chars, block.repertoire)) {
+            size_t later = most_chars(it, from, next, block.repertoire);
+            if (!make_room(&from->to, block.chars, later, block.repertoire)) {
+                return false;
+            }
+        }
+        saved = without_gil(from->without_gil);
+        bool is_end = write_blocks(it, from, &block);
         with_gil(saved);
-        if (!is_full) {
-            Py_CLEAR(text);
+        if (is_end) {
+            *status = block.status;
+            return true;
+        }
+        if (has_room(&from->to, block.chars, block.repertoire)) {
             PyErr_SetString(PyExc_RuntimeError, "the input changed during the call");
+            return false;
         }
     }
-    return text;
 }
 
-/* Returns the text of bytes with U+FFFD for what is ill formed, as the handler `replace` does. */
-static PyObject *replaced(const native *it, dethrux_byte_order order, const input *utf16) {
-    size_t capacity = DETHRUX_UTF32_MAX(utf16->len);
-    uint32_t *utf32 = PyMem_Malloc(capacity * sizeof *utf32);
-    if (!utf32) {
-        return PyErr_NoMemory();
+/* Returns the smallest repertoire that has the characters of a str. */
+static dethrux_repertoire repertoire_of(PyObject *text) {
+    if (PyUnicode_KIND(text) == PyUnicode_1BYTE_KIND) {
+        return PyUnicode_IS_ASCII(text) ? DETHRUX_ASCII : DETHRUX_LATIN1;
     }
-    PyThreadState *saved = without_gil(utf16->without_gil);
-    dethrux_progress done = it->to_utf32_lossy(order, utf16->bytes, utf16->len, utf32, capacity);
-    with_gil(saved);
-    PyObject *text =
-        PyUnicode_FromKindAndData(PyUnicode_4BYTE_KIND, utf32, (Py_ssize_t) done.written);
-    PyMem_Free(utf32);
-    return text;
+    return PyUnicode_KIND(text) == PyUnicode_2BYTE_KIND ? DETHRUX_BMP : DETHRUX_UNICODE;
+}
+
+/* Writes a text, whose reference it takes, before the bytes that are left. Returns whether it
+ * did. */
+static bool write_text(const native *it, decoding *from, PyObject *text) {
+    bool is_written = text && is_ready(text);
+    if (is_written) {
+        dethrux_repertoire repertoire = repertoire_of(text);
+        Py_ssize_t len = PyUnicode_GET_LENGTH(text);
+        size_t later = has_room(&from->to, (size_t) len, repertoire)
+            ? 0
+            : most_chars(it, from, from->at, from->to.repertoire);
+        is_written = make_room(&from->to, (size_t) len, later, repertoire)
+            && PyUnicode_CopyCharacters(from->to.text, (Py_ssize_t) from->to.len, text, 0, len)
+                >= 0;
+        from->to.len += (size_t) len;
+    }
+    Py_XDECREF(text);
+    return is_written;
 }
 
 /* Makes the exception for what follows the bytes before `at`. Returns whether it did. */
@@ -184,95 +316,157 @@ static bool prepare_decoding(handler *errors, dethrux_byte_order order, PyObject
     return prepare(errors, true, encoding, object, at, end, reason);
 }
 
-/* The number of errors for which `replace` is called. The library replaces all later ones, which is
- * slower for a few of them and faster for many. */
-#define FEW 16
-
-/* A text of which parts are decoded. */
+/* What an error handler has for an error, and how many bytes it reads. */
 typedef struct {
-    dethrux_byte_order order;
-    PyObject *object; /* The bytes object. A handler may set another one. */
-    size_t at;        /* How many bytes of it are decoded. */
-    bool final;       /* Whether an incomplete character at the end is an error. */
-    size_t calls;     /* How often the error handler was called. */
-    PyObject *name;   /* The name of the error handler, NULL or None. */
-    handler errors;
-    PyObject *parts;  /* The texts. */
-} decoding;
+    uint8_t utf8[12]; /* A surrogate has three bytes, as CPython writes it with `surrogatepass`. */
+    size_t len;
+    size_t read;
+} substitute;
 
-/* Returns the bytes that are not decoded yet. The many parts of a long text keep the GIL. */
-static input rest_of(const decoding *it) {
-    const uint8_t *bytes = (const uint8_t *) PyBytes_AS_STRING(it->object);
-    input rest = {.bytes = bytes + it->at, .len = (size_t) PyBytes_GET_SIZE(it->object) - it->at};
-    return rest;
+/* Sets what a handler of CPython has for the error at the start of these bytes. Returns false for
+ * any other handler and for an error that it raises: those need an exception. */
+static bool is_known(const native *it, PyObject *function, dethrux_byte_order order,
+                     const uint8_t *utf16, size_t len, dethrux_status status, substitute *found) {
+    static const char DIGITS[] = "0123456789abcdef";
+    found->len = 0;
+    found->read = status == DETHRUX_INCOMPLETE ? len : 2;
+    if (function == it->ignore_errors) {
+        return true;
+    }
+    if (function == it->replace_errors) {
+        memcpy(found->utf8, "\xEF\xBF\xBD", found->len = 3);
+        return true;
+    }
+    if (function == it->backslashreplace_errors) {
+        for (size_t at = 0; at < found->read; at++) {
+            found->utf8[found->len++] = '\\';
+            found->utf8[found->len++] = 'x';
+            found->utf8[found->len++] = (uint8_t) DIGITS[utf16[at] >> 4];
+            found->utf8[found->len++] = (uint8_t) DIGITS[utf16[at] & 0xF];
+        }
+        return true;
+    }
+    if (function == it->surrogatepass_errors && len >= 2) {
+        bool is_big = order == DETHRUX_BIG_ENDIAN;
+        uint8_t high = utf16[!is_big], low = utf16[is_big];
+        found->utf8[0] = 0xED;
+        found->utf8[1] = (uint8_t) (0x80 | (high & 0xF) << 2 | low >> 6);
+        found->utf8[2] = 0x80 | (low & 0x3F);
+        found->len = 3;
+        found->read = 2;
+        return true;
+    }
+    return false;
 }
 
-/* Appends what the handler has for what follows, and skips that. Returns whether it did. */
-static bool append_decoding(decoding *text, dethrux_status status) {
-    Py_ssize_t position;
-    if (!prepare_decoding(&text->errors, text->order, text->object, text->at, status)
-        || !append(text->parts, replacement(&text->errors, true, &position))) {
-        return false;
+/* The number of errors that `replace` replaces one by one. The library replaces all later ones,
+ * which is slower for a few of them and faster for many. */
+#define FEW 16
+
+/* What the errors of a text need. */
+typedef struct {
+    PyObject *name; /* The name of the handler, NULL or None. */
+    handler errors;
+    PyObject *object;  /* The bytes object of the exception, which a handler may change. */
+    bool is_constant;  /* Whether the bytes are long, and nobody can write to them. */
+    bool final;        /* Whether an incomplete character at the end is an error. */
+    size_t count;      /* How many errors there were. */
+} errors_met;
+
+/* Returns the text of the bytes that are left, with U+FFFD for what is ill formed. */
+static PyObject *replaced(const native *it, const decoding *from, bool is_constant) {
+    size_t len = from->len - from->at, capacity = DETHRUX_UTF32_MAX(len);
+    uint32_t *utf32 = PyMem_Malloc(capacity * sizeof *utf32);
+    if (!utf32) {
+        return PyErr_NoMemory();
     }
-    PyObject *object = PyUnicodeDecodeError_GetObject(text->errors.exception);
+    PyThreadState *saved = without_gil(is_constant && len >= LONG);
+    dethrux_progress done =
+        it->to_utf32_lossy(from->order, from->bytes + from->at, len, utf32, capacity);
+    with_gil(saved);
+    PyObject *text =
+        PyUnicode_FromKindAndData(PyUnicode_4BYTE_KIND, utf32, (Py_ssize_t) done.written);
+    PyMem_Free(utf32);
+    return text;
+}
+
+/* Decodes a bytes object from now on, whose reference it takes. Returns whether it is one. */
+static bool decode_object(decoding *from, errors_met *met, PyObject *object) {
     if (!object) {
         return false;
     }
-    Py_SETREF(text->object, object);
-    return resume_at(position, (size_t) PyBytes_GET_SIZE(object), &text->at);
-}
-
-/* Appends the text from the first error on. Returns whether it did. */
-static bool append_rest(const native *it, decoding *text, dethrux_status status) {
-    while (status == DETHRUX_ILL_FORMED || (status == DETHRUX_INCOMPLETE && text->final)) {
-        if (!find_handler(it, &text->errors, text->name)) {
-            return false;
-        }
-        input rest = rest_of(text);
-        if (text->calls++ >= FEW && text->final && text->errors.function == it->replace_errors) {
-            rest.without_gil = rest.len >= LONG;
-            return append(text->parts, replaced(it, text->order, &rest));
-        }
-        if (!append_decoding(text, status)) {
-            return false;
-        }
-        rest = rest_of(text);
-        dethrux_inspection found;
-        if (!append(text->parts, prefix(it, text->order, &rest, &found))) {
-            return false;
-        }
-        text->at += found.valid_up_to;
-        status = found.status;
-    }
+    Py_XSETREF(met->object, object);
+    from->bytes = (const uint8_t *) PyBytes_AS_STRING(object);
+    from->len = (size_t) PyBytes_GET_SIZE(object);
+    met->is_constant = true;
     return true;
 }
 
-/* Returns the text of ill-formed UTF-16 after this prefix, whose reference it takes. */
-static PyObject *decoded_with_errors(const native *it, decoding *text, PyObject *first,
-                                     dethrux_status status) {
-    PyObject *all = NULL;
-    text->parts = PyList_New(0);
-    if (!text->parts) {
-        Py_DECREF(first);
-        return NULL;
-    }
-    if (append(text->parts, first) && append_rest(it, text, status)) {
-        PyObject *empty = PyUnicode_New(0, 0);
-        all = empty ? PyUnicode_Join(empty, text->parts) : NULL;
-        Py_XDECREF(empty);
-    }
-    drop(&text->errors);
-    Py_DECREF(text->parts);
-    return all;
-}
-
 /* Returns a bytes object of these bytes, which may be the one that has them. */
-static PyObject *as_bytes(PyObject *object, const input *held) {
+static PyObject *as_bytes(PyObject *object, const uint8_t *bytes, size_t len) {
     if (PyBytes_CheckExact(object)) {
         Py_INCREF(object);
         return object;
     }
-    return PyBytes_FromStringAndSize((const char *) held->bytes, (Py_ssize_t) held->len);
+    return PyBytes_FromStringAndSize((const char *) bytes, (Py_ssize_t) len);
+}
+
+/* Writes what the error handler returns for the error that follows, and resumes where it says.
+ * Returns whether it did. */
+static bool call_handler(const native *it, decoding *from, errors_met *met, PyObject *object,
+                         dethrux_status status) {
+    if (!met->object && !decode_object(from, met, as_bytes(object, from->bytes, from->len))) {
+        return false;
+    }
+    Py_ssize_t position;
+    if (!prepare_decoding(&met->errors, from->order, met->object, from->at, status)) {
+        return false;
+    }
+    PyObject *text = replacement(&met->errors, true, &position);
+    if (text && decode_object(from, met, PyUnicodeDecodeError_GetObject(met->errors.exception))
+        && resume_at(position, from->len, &from->at)) {
+        return write_text(it, from, text);
+    }
+    Py_XDECREF(text);
+    return false;
+}
+
+/* Does what the error handler has for the error that follows. Returns whether it did. */
+static bool handle(const native *it, decoding *from, errors_met *met, PyObject *object,
+                   dethrux_status status) {
+    if (!find_handler(it, &met->errors, met->name)) {
+        return false;
+    }
+    if (met->count++ >= FEW && met->final && met->errors.function == it->replace_errors) {
+        PyObject *rest = replaced(it, from, met->is_constant);
+        from->at = from->len;
+        return write_text(it, from, rest);
+    }
+    substitute found;
+    const uint8_t *utf16 = from->bytes + from->at;
+    /* `surrogatepass` may raise its exception, which then also has the place of the first error. */
+    if (met->errors.function == it->surrogatepass_errors
+        || !is_known(it, met->errors.function, from->order, utf16, from->len - from->at, status,
+                     &found)) {
+        return call_handler(it, from, met, object, status);
+    }
+    from->at += found.read;
+    const char *utf8 = (const char *) found.utf8;
+    return found.len == 0
+        || write_text(it, from, PyUnicode_DecodeUTF8(utf8, (Py_ssize_t) found.len, NULL));
+}
+
+/* Decodes from the first error on. Returns whether it did. */
+static bool decode_rest(const native *it, decoding *from, errors_met *met, PyObject *object,
+                        dethrux_status status) {
+    /* The many parts of a long text keep the GIL. */
+    from->without_gil = false;
+    while (status == DETHRUX_ILL_FORMED || (status == DETHRUX_INCOMPLETE && met->final)) {
+        if (!handle(it, from, met, object, status) || !decode_prefix(it, from, &status)) {
+            return false;
+        }
+    }
+    return true;
 }
 
 /* Returns the text of UTF-16 from an offset on, and sets how many bytes were read: all if it is
@@ -280,26 +474,18 @@ static PyObject *as_bytes(PyObject *object, const input *held) {
 static PyObject *decoded(const native *it, dethrux_byte_order order, PyObject *object,
                          const input *utf16, size_t start, PyObject *name, bool final,
                          size_t *read) {
-    input rest = *utf16;
-    rest.bytes += start;
-    rest.len -= start;
-    dethrux_inspection found;
-    PyObject *first = prefix(it, order, &rest, &found);
-    *read = start + found.valid_up_to;
-    if (!first || found.status == DETHRUX_DONE
-        || (found.status == DETHRUX_INCOMPLETE && !final)) {
-        return first;
+    decoding from = {.bytes = utf16->bytes, .len = utf16->len, .at = start, .order = order,
+                     .without_gil = utf16->without_gil};
+    dethrux_status status;
+    bool is_decoded = is_name(it, name) && decode_prefix(it, &from, &status);
+    if (is_decoded && status != DETHRUX_DONE) {
+        errors_met met = {.name = name, .is_constant = utf16->without_gil, .final = final};
+        is_decoded = decode_rest(it, &from, &met, object, status);
+        drop(&met.errors);
+        Py_XDECREF(met.object);
     }
-    decoding text = {.order = order, .object = as_bytes(object, utf16), .at = *read,
-                     .final = final, .name = name};
-    if (!text.object) {
-        Py_DECREF(first);
-        return NULL;
-    }
-    PyObject *all = decoded_with_errors(it, &text, first, found.status);
-    Py_DECREF(text.object);
-    *read = final ? utf16->len : text.at;
-    return all;
+    *read = final ? utf16->len : from.at;
+    return finished(&from.to, is_decoded);
 }
 
 static PyObject *decode(const native *it, arguments given) {
@@ -363,6 +549,13 @@ static PyObject *utf_16_decode_all(const native *it, arguments given) {
     return pair(text, read);
 }
 
+/* Appends a part of the result, whose reference it takes. Returns whether it did. */
+static bool append(PyObject *parts, PyObject *part) {
+    bool is_appended = part && PyList_Append(parts, part) == 0;
+    Py_XDECREF(part);
+    return is_appended;
+}
+
 /* str to UTF-16. */
 
 /* A text that is encoded. */
@@ -372,21 +565,27 @@ typedef struct {
     int kind;   /* The number of bytes of each. */
 } source;
 
-/* Returns the length of the UTF-16 of a text, or SIZE_MAX if it has surrogates. UTF-32 is left to
- * `write_utf16`. */
+/* Returns the length of the UTF-16 of a text without surrogates. */
 static size_t utf16_len(const native *it, const source *text) {
     if (text->kind == PyUnicode_4BYTE_KIND) {
         return it->from_utf32_lossy_len(text->units, text->len);
     }
-    if (text->kind == PyUnicode_2BYTE_KIND) {
-        dethrux_inspection found =
-            it->inspect(DETHRUX_NATIVE_ENDIAN, text->units, text->len * 2);
-        /* Two surrogates in a str are not a pair. */
-        if (found.status != DETHRUX_DONE || found.repertoire == DETHRUX_UNICODE) {
-            return SIZE_MAX;
-        }
-    }
     return text->len * 2;
+}
+
+/* Writes the UTF-16 of a text of two bytes a character, in blocks that stay in the cache. Returns
+ * whether it has no surrogates: two of them in a str are not a pair. */
+static bool write_units(const native *it, dethrux_byte_order order, const uint8_t *units,
+                        size_t len, uint8_t *to) {
+    for (size_t at = 0; at < len; at += BLOCK) {
+        size_t part = len - at < BLOCK ? len - at : BLOCK;
+        dethrux_inspection found = it->inspect(DETHRUX_NATIVE_ENDIAN, units + at, part);
+        if (found.status != DETHRUX_DONE || found.repertoire == DETHRUX_UNICODE) {
+            return false;
+        }
+        copy_units(it, order, units + at, part, to + at);
+    }
+    return true;
 }
 
 /* Writes the UTF-16 of a text. Returns whether it has no surrogates. */
@@ -398,8 +597,7 @@ static bool write_utf16(const native *it, dethrux_byte_order order, const source
     if (text->kind == PyUnicode_1BYTE_KIND) {
         return it->from_latin1(order, text->units, text->len, to, len).status == DETHRUX_DONE;
     }
-    copy_units(it, order, text->units, len, to);
-    return true;
+    return write_units(it, order, text->units, len, to);
 }
 
 /* Returns the UTF-16 of a text, after a BOM of this length, or NULL without an exception if it has
@@ -411,9 +609,6 @@ static PyObject *without_surrogates(const native *it, dethrux_byte_order order, 
     PyThreadState *saved = without_gil(is_long);
     size_t len = utf16_len(it, text);
     with_gil(saved);
-    if (len == SIZE_MAX) {
-        return NULL;
-    }
     PyObject *utf16 = PyBytes_FromStringAndSize(NULL, (Py_ssize_t) (bom_len + len));
     if (!utf16) {
         return NULL;
@@ -444,16 +639,6 @@ static source part_of(const source *text, size_t start, size_t end) {
     const char *units = text->units;
     source part = {units + start * (size_t) text->kind, end - start, text->kind};
     return part;
-}
-
-/* Gives a text its kind, which one of an old call may lack before CPython 3.12. Returns whether it
- * has one. */
-static bool is_ready(PyObject *text) {
-#if PY_VERSION_HEX < 0x030C0000
-    return PyUnicode_READY(text) == 0;
-#else
-    return text;
-#endif
 }
 
 /* Returns a text as a source. */
@@ -534,7 +719,7 @@ static PyObject *encoded_with_errors(const native *it, dethrux_byte_order order,
 /* Returns the UTF-16 of a text, after a BOM of this length. */
 static PyObject *encoded(const native *it, dethrux_byte_order order, PyObject *text, PyObject *name,
                          size_t bom_len) {
-    if (!is_ready(text)) {
+    if (!is_name(it, name) || !is_ready(text)) {
         return NULL;
     }
     source all = source_of(text);
@@ -578,27 +763,10 @@ static PyObject *utf_16_encode(const native *it, arguments given) {
 
 /* UTF-16 to and from UTF-8. */
 
-/* Returns what a conversion writes, the lossy one for the error handler `replace`, or NULL without
- * an exception. */
-static PyObject *transcoded(const native *it, arguments given, conversion *strict,
-                            conversion *lossy, bool is_utf8) {
-    int order = order_of(it, given[1]);
-    PyObject *errors = given[2];
-    bool replaces = errors && PyUnicode_CheckExact(errors)
-        && PyUnicode_CompareWithASCIIString(errors, "replace") == 0;
-    input from;
-    if (order < 0 || !hold(given[0], &from)) {
-        return NULL;
-    }
-    size_t capacity = is_utf8 ? DETHRUX_UTF16_MAX(from.len) : DETHRUX_UTF8_MAX(from.len);
-    dethrux_progress done;
-    PyObject *output =
-        converted(replaces ? lossy : strict, (dethrux_byte_order) order, &from, capacity, &done);
-    release(&from);
-    if (output && done.status != DETHRUX_DONE) {
-        Py_CLEAR(output);
-    }
-    return output;
+/* Returns whether the name of an error handler is this one. */
+static bool is_named(PyObject *errors, const char *name) {
+    return errors && PyUnicode_CheckExact(errors)
+        && PyUnicode_CompareWithASCIIString(errors, name) == 0;
 }
 
 /* Returns the name of an error handler, or NULL if CPython's functions do not take this name. */
@@ -613,8 +781,78 @@ static const char *name_of(PyObject *errors) {
     return name && strlen(name) == (size_t) PyUnicode_GET_LENGTH(errors) ? name : NULL;
 }
 
+/* Makes room for more bytes after those that are written. Returns whether there is. */
+static bool make_bytes_room(PyObject **output, size_t written, size_t more) {
+    size_t needed = written + more, capacity = (size_t) PyBytes_GET_SIZE(*output);
+    /* Some of the new room is for later errors: else each would copy the output. */
+    return needed <= capacity
+        || _PyBytes_Resize(output, (Py_ssize_t) (needed + needed / 4)) == 0;
+}
+
+/* Writes the UTF-8 of UTF-16 after this prefix of it, with what the error handler has. The many
+ * parts of a long text keep the GIL. Returns false for a handler that is not known, and if there is
+ * no memory. */
+static bool write_rest(const native *it, dethrux_byte_order order, const input *utf16,
+                       PyObject *function, dethrux_progress done, PyObject **output) {
+    size_t at = done.read, written = done.written;
+    while (done.status != DETHRUX_DONE) {
+        substitute found;
+        if (!is_known(it, function, order, utf16->bytes + at, utf16->len - at, done.status,
+                      &found)) {
+            return false;
+        }
+        at += found.read;
+        size_t left = utf16->len - at, more = found.len + DETHRUX_UTF8_MAX(left);
+        if (!make_bytes_room(output, written, more)) {
+            return false;
+        }
+        uint8_t *to = (uint8_t *) PyBytes_AS_STRING(*output) + written;
+        memcpy(to, found.utf8, found.len);
+        done = it->to_utf8(order, utf16->bytes + at, left, to + found.len, more - found.len);
+        at += done.read;
+        written += found.len + done.written;
+    }
+    return _PyBytes_Resize(output, (Py_ssize_t) written) == 0;
+}
+
+/* Returns the UTF-8 of ill-formed UTF-16 whose prefix this is, and takes it. Returns NULL without
+ * an exception for an error handler that is not known, and for errors that it raises. */
+static PyObject *utf8_of_rest(const native *it, dethrux_byte_order order, const input *utf16,
+                              PyObject *prefix, dethrux_progress done, PyObject *name) {
+    handler errors = {NULL, NULL};
+    PyObject *output = NULL;
+    /* It encodes surrogates in UTF-8 only by its name. */
+    if (find_handler(it, &errors, name)
+        && (errors.function != it->surrogatepass_errors || is_named(name, "surrogatepass"))) {
+        output = new_bytes(done.written + DETHRUX_UTF8_MAX(utf16->len - done.read));
+    }
+    if (output) {
+        memcpy(PyBytes_AS_STRING(output), PyBytes_AS_STRING(prefix), done.written);
+        if (!write_rest(it, order, utf16, errors.function, done, &output)) {
+            Py_CLEAR(output);
+        }
+    }
+    drop(&errors);
+    Py_DECREF(prefix);
+    return output;
+}
+
 static PyObject *decode_to_utf8(const native *it, arguments given) {
-    PyObject *utf8 = transcoded(it, given, it->to_utf8, it->to_utf8_lossy, false);
+    int order = order_of(it, given[1]);
+    input utf16;
+    if (order < 0 || !hold(given[0], &utf16)) {
+        return NULL;
+    }
+    PyObject *utf8 = NULL;
+    if (is_name(it, given[2])) {
+        dethrux_progress done;
+        utf8 = converted(is_named(given[2], "replace") ? it->to_utf8_lossy : it->to_utf8,
+                         (dethrux_byte_order) order, &utf16, DETHRUX_UTF8_MAX(utf16.len), &done);
+        if (utf8 && done.status != DETHRUX_DONE) {
+            utf8 = utf8_of_rest(it, (dethrux_byte_order) order, &utf16, utf8, done, given[2]);
+        }
+    }
+    release(&utf16);
     const char *name = name_of(given[2]);
     if (utf8 || PyErr_Occurred() || !name) {
         return utf8;
@@ -626,14 +864,27 @@ static PyObject *decode_to_utf8(const native *it, arguments given) {
 }
 
 static PyObject *encode_from_utf8(const native *it, arguments given) {
-    PyObject *utf16 = transcoded(it, given, it->from_utf8, it->from_utf8_lossy, true);
-    const char *name = name_of(given[2]);
     int order = order_of(it, given[1]);
-    if (utf16 || PyErr_Occurred() || !name || order < 0 || !PyBytes_CheckExact(given[0])) {
+    input utf8;
+    if (order < 0 || !hold(given[0], &utf8)) {
+        return NULL;
+    }
+    PyObject *utf16 = NULL;
+    if (is_name(it, given[2])) {
+        dethrux_progress done;
+        utf16 = converted(is_named(given[2], "replace") ? it->from_utf8_lossy : it->from_utf8,
+                          (dethrux_byte_order) order, &utf8, DETHRUX_UTF16_MAX(utf8.len), &done);
+        if (utf16 && done.status != DETHRUX_DONE) {
+            Py_CLEAR(utf16);
+        }
+    }
+    release(&utf8);
+    const char *name = name_of(given[2]);
+    if (utf16 || PyErr_Occurred() || !name || !PyBytes_CheckExact(given[0])) {
         return utf16;
     }
-    const char *utf8 = PyBytes_AS_STRING(given[0]);
-    PyObject *text = PyUnicode_DecodeUTF8(utf8, PyBytes_GET_SIZE(given[0]), name);
+    const char *bytes = PyBytes_AS_STRING(given[0]);
+    PyObject *text = PyUnicode_DecodeUTF8(bytes, PyBytes_GET_SIZE(given[0]), name);
     utf16 = text ? encoded(it, (dethrux_byte_order) order, text, given[2], 0) : NULL;
     Py_XDECREF(text);
     return utf16;

@@ -65,3 +65,50 @@ where
     unsafe { to.set_len(to.len() + progress.written) }
     progress
 }
+
+/// Returns what a conversion writes to a vector of code units with this capacity.
+///
+/// # Safety
+///
+/// The conversion returns as `written` how many bytes of its buffer it initialized: whole units.
+#[cfg(feature = "alloc")]
+pub(crate) unsafe fn units_of<F>(
+    capacity: usize,
+    convert: F,
+) -> (alloc::vec::Vec<u16>, crate::Progress)
+where
+    F: FnOnce(&mut [MaybeUninit<u8>]) -> crate::Progress,
+{
+    let mut units: alloc::vec::Vec<u16> = alloc::vec::Vec::with_capacity(capacity);
+    let spare = units.spare_capacity_mut();
+    // SAFETY: the bytes of units may be written, and a byte needs no alignment.
+    let bytes = unsafe {
+        core::slice::from_raw_parts_mut(
+            spare.as_mut_ptr().cast::<MaybeUninit<u8>>(),
+            core::mem::size_of_val(spare),
+        )
+    };
+    let progress = convert(bytes);
+    // SAFETY: this many units were initialized.
+    unsafe { units.set_len(progress.written / 2) };
+    (units, progress)
+}
+
+/// Unused elements that are not worth a call of the allocator.
+#[cfg(feature = "alloc")]
+const FEW: usize = 64;
+
+/// The capacity from which unused memory is kept: most of its pages were never touched, and a
+/// smaller block may be a copy.
+#[cfg(feature = "alloc")]
+const LARGE: usize = 65536;
+
+/// Returns memory to the allocator if most of the capacity is unused.
+#[cfg(feature = "alloc")]
+pub(crate) fn trimmed<T>(mut vector: alloc::vec::Vec<T>) -> alloc::vec::Vec<T> {
+    let unused = vector.capacity() - vector.len();
+    if unused > vector.len().max(FEW) && vector.capacity() < LARGE {
+        vector.shrink_to_fit();
+    }
+    vector
+}

@@ -43,7 +43,7 @@ impl From<ffi::Progress> for Progress {
 }
 
 /// Calls one of the library's conversions.
-fn convert<B: Buffer + ?Sized>(
+pub(crate) fn convert<B: Buffer + ?Sized>(
     call: ffi::Convert,
     order: ByteOrder,
     from: &[u8],

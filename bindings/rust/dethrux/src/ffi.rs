@@ -2,6 +2,9 @@
 
 use crate::ByteOrder;
 
+/// `DETHRUX_NOT_FOUND`.
+pub(crate) const NOT_FOUND: usize = usize::MAX;
+
 #[repr(C)]
 pub(crate) struct Validity {
     pub(crate) valid_up_to: usize,
@@ -92,6 +95,20 @@ extern "C" {
         second: *const u8,
         second_len: usize,
     ) -> i32;
+    pub(crate) fn dethrux_find(
+        order: ByteOrder,
+        utf16: *const u8,
+        len: usize,
+        pattern: *const u8,
+        pattern_len: usize,
+    ) -> usize;
+    pub(crate) fn dethrux_rfind(
+        order: ByteOrder,
+        utf16: *const u8,
+        len: usize,
+        pattern: *const u8,
+        pattern_len: usize,
+    ) -> usize;
     pub(crate) fn dethrux_detect_bom(default_order: ByteOrder, bytes: *const u8, len: usize)
         -> Bom;
 
@@ -126,6 +143,36 @@ extern "C" {
     pub(crate) fn dethrux_from_utf8_lossy(
         order: ByteOrder,
         utf8: *const u8,
+        len: usize,
+        to: *mut u8,
+        capacity: usize,
+    ) -> Progress;
+
+    pub(crate) fn dethrux_to_wtf8(
+        order: ByteOrder,
+        utf16: *const u8,
+        len: usize,
+        to: *mut u8,
+        capacity: usize,
+    ) -> Progress;
+    pub(crate) fn dethrux_to_wtf8_len(order: ByteOrder, utf16: *const u8, len: usize) -> usize;
+    pub(crate) fn dethrux_to_wtf8_partial(
+        order: ByteOrder,
+        utf16: *const u8,
+        len: usize,
+        to: *mut u8,
+        capacity: usize,
+    ) -> Progress;
+    pub(crate) fn dethrux_from_wtf8(
+        order: ByteOrder,
+        wtf8: *const u8,
+        len: usize,
+        to: *mut u8,
+        capacity: usize,
+    ) -> Progress;
+    pub(crate) fn dethrux_from_wtf8_partial(
+        order: ByteOrder,
+        wtf8: *const u8,
         len: usize,
         to: *mut u8,
         capacity: usize,

@@ -170,3 +170,61 @@ pub fn compare(
     };
     found.cmp(&0)
 }
+
+/// Returns the least offset at which a pattern occurs: its bytes are there, and the offset and the
+/// end of these bytes are boundaries, as [`is_char_boundary`] says. So an occurrence cuts neither a
+/// code unit nor a surrogate pair.
+///
+/// The pattern has the byte order of the text. Both may be any bytes, well formed or not. A pattern
+/// of odd length occurs only at the end of a text of odd length, and the empty one at each
+/// boundary. The time is linear in both lengths for every input.
+///
+/// ```
+/// use dethrux::{find, ByteOrder::LittleEndian};
+///
+/// // U+6100 twice, "a" and U+1F600. The bytes of "a" are also at offset 1, in two code units.
+/// let utf16 = b"\0\x61\0\x61a\0\x3D\xD8\0\xDE";
+/// assert_eq!(find(LittleEndian, utf16, b"a\0"), Some(4));
+/// // Half of a surrogate pair.
+/// assert_eq!(find(LittleEndian, utf16, b"\0\xDE"), None);
+/// ```
+#[must_use]
+pub fn find(order: ByteOrder, utf16: &[u8], pattern: &[u8]) -> Option<usize> {
+    // SAFETY: the pointers and the lengths come from slices.
+    offset(unsafe {
+        ffi::dethrux_find(
+            order,
+            utf16.as_ptr(),
+            utf16.len(),
+            pattern.as_ptr(),
+            pattern.len(),
+        )
+    })
+}
+
+/// Returns the greatest offset at which a pattern occurs as in [`find`]. For the empty pattern it
+/// is the length.
+///
+/// ```
+/// use dethrux::ByteOrder::BigEndian;
+///
+/// assert_eq!(dethrux::rfind(BigEndian, b"\0a\0b\0a\0b", b"\0a"), Some(4));
+/// ```
+#[must_use]
+pub fn rfind(order: ByteOrder, utf16: &[u8], pattern: &[u8]) -> Option<usize> {
+    // SAFETY: the pointers and the lengths come from slices.
+    offset(unsafe {
+        ffi::dethrux_rfind(
+            order,
+            utf16.as_ptr(),
+            utf16.len(),
+            pattern.as_ptr(),
+            pattern.len(),
+        )
+    })
+}
+
+/// The offset that a search returned.
+fn offset(found: usize) -> Option<usize> {
+    (found != ffi::NOT_FOUND).then_some(found)
+}

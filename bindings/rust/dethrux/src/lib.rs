@@ -15,14 +15,16 @@
 //!
 //! # What is here
 //!
-//! - Without a feature, without an allocator: [`validate`], [`count_chars`], [`compare`] and others
-//!   that read; [`swap_byte_order`] and [`make_well_formed`], in place; [`to_utf8`], [`from_utf8`]
-//!   and others between your buffers; [`Decoder`] and [`Encoder`] for streams; [`Utf16Chunks`];
-//!   [`display`].
+//! - Without a feature, without an allocator: [`validate`], [`count_chars`], [`find`], [`compare`]
+//!   and others that read; [`swap_byte_order`] and [`make_well_formed`], in place; [`to_utf8`],
+//!   [`from_utf8`] and others between your buffers; [`Decoder`] and [`Encoder`] for streams;
+//!   [`Utf16Chunks`]; [`display`].
+//! - [`to_wtf8`], [`from_wtf8`] and others for WTF-8, which keeps unpaired surrogates;
+//!   [`os_string_from_units`] and [`units_from_os_str`] with the feature `std`.
 //! - Feature `alloc`: [`decode`], [`decode_lossy`], [`encode`] and others that return a `String` or
 //!   a `Vec`.
-//! - Feature `std`, the default: [`io::Reader`] and [`io::Writer`]; `Error` for [`Utf16Error`] and
-//!   [`UnitsError`], and conversions of both to `std::io::Error`.
+//! - Feature `std`, the default: [`io::Reader`] and [`io::Writer`]; `Error` for [`Utf16Error`],
+//!   [`UnitsError`] and [`Wtf8Error`], and their conversions to `std::io::Error`.
 //! - Feature `bundled`: compiles the library with the C compiler, even if one is installed.
 //! - Feature `dynamic`: links `libdethrux.so` instead of `libdethrux.a`.
 //!
@@ -68,6 +70,7 @@ mod stream;
 #[cfg(feature = "alloc")]
 mod text;
 mod units;
+mod wtf8;
 
 pub use bom::{detect_bom, Bom};
 pub use buffer::Buffer;
@@ -79,8 +82,9 @@ pub use convert::{
 pub use display::{display, Display};
 pub use error::Utf16Error;
 pub use inspect::{
-    compare, count_chars, floor_char_boundary, floor_char_boundary_around, from_utf8_len,
-    from_utf8_lossy_len, is_ascii, is_char_boundary, shard_offset, to_utf8_lossy_len, validate,
+    compare, count_chars, find, floor_char_boundary, floor_char_boundary_around, from_utf8_len,
+    from_utf8_lossy_len, is_ascii, is_char_boundary, rfind, shard_offset, to_utf8_lossy_len,
+    validate,
 };
 pub use order::ByteOrder;
 pub use stream::{Decoder, Encoder};
@@ -89,6 +93,13 @@ pub use text::{
     decode, decode_lossy, decode_to, decode_units, encode, encode_lossy, encode_to, encode_units,
 };
 pub use units::{units_as_bytes, units_as_bytes_mut, validate_units, UnitsError};
+#[cfg(feature = "alloc")]
+pub use wtf8::{decode_to_wtf8, encode_from_wtf8, units_from_wtf8, units_to_wtf8};
+pub use wtf8::{
+    from_wtf8, from_wtf8_partial, to_wtf8, to_wtf8_len, to_wtf8_max_len, to_wtf8_partial, Wtf8Error,
+};
+#[cfg(all(feature = "std", any(unix, windows)))]
+pub use wtf8::{os_string_from_units, units_from_os_str};
 
 /// Returns the version of the library: major, minor and patch.
 ///

@@ -4,28 +4,11 @@
 //! conversion.
 
 use alloc::{string::String, vec::Vec};
-use core::mem::{size_of_val, MaybeUninit};
 
-use crate::buffer::append;
+use crate::buffer::{append, trimmed, units_of};
 use crate::{from_utf8, from_utf8_lossy, from_utf8_max_len};
 use crate::{to_utf8, to_utf8_lossy, to_utf8_max_len};
 use crate::{units_as_bytes, ByteOrder, Status, UnitsError, Utf16Error};
-
-/// Unused elements that are not worth a call of the allocator.
-const FEW: usize = 64;
-
-/// The capacity from which unused memory is kept: most of its pages were never touched, and a
-/// smaller block may be a copy.
-const LARGE: usize = 65536;
-
-/// Returns memory to the allocator if most of the capacity is unused.
-fn trimmed<T>(mut vector: Vec<T>) -> Vec<T> {
-    let unused = vector.capacity() - vector.len();
-    if unused > vector.len().max(FEW) && vector.capacity() < LARGE {
-        vector.shrink_to_fit();
-    }
-    vector
-}
 
 /// Returns the text of UTF-16.
 ///
@@ -149,17 +132,11 @@ pub fn decode_units(units: &[u16]) -> Result<String, UnitsError> {
 #[must_use]
 pub fn encode_units(text: &str) -> Vec<u16> {
     let utf8 = text.as_bytes();
-    let mut units: Vec<u16> = Vec::with_capacity(utf8.len());
-    let spare = units.spare_capacity_mut();
-    // SAFETY: the bytes of units may be written, and a byte needs no alignment.
-    let bytes = unsafe {
-        core::slice::from_raw_parts_mut(
-            spare.as_mut_ptr().cast::<MaybeUninit<u8>>(),
-            size_of_val(spare),
-        )
+    // SAFETY: the library writes whole units, and initializes what it wrote.
+    let (units, _) = unsafe {
+        units_of(utf8.len(), |spare| {
+            from_utf8(ByteOrder::NATIVE, utf8, spare)
+        })
     };
-    let progress = from_utf8(ByteOrder::NATIVE, utf8, bytes);
-    // SAFETY: the library writes whole units, and this many.
-    unsafe { units.set_len(progress.written / 2) };
     trimmed(units)
 }

@@ -118,6 +118,10 @@ fn conversion(name: &str) -> Option<(Convert, bool)> {
         "to_utf8_lossy" => Some((to_utf8_lossy, true)),
         "from_utf8" => Some((from_utf8, false)),
         "from_utf8_lossy" => Some((from_utf8_lossy, false)),
+        "to_wtf8" => Some((to_wtf8, false)),
+        "to_wtf8_partial" => Some((to_wtf8_partial, false)),
+        "from_wtf8" => Some((from_wtf8, false)),
+        "from_wtf8_partial" => Some((from_wtf8_partial, false)),
         _ => None,
     }
 }
@@ -259,6 +263,16 @@ fn compared(order: ByteOrder, first: &str, second: &str) -> Option<Vec<Word>> {
     })])
 }
 
+/// Where a pattern occurs.
+fn searched(name: &str, order: ByteOrder, raw: &str, pattern: &str) -> Option<Vec<Word>> {
+    let (raw, pattern) = (spelled(raw, order)?, spelled(pattern, order)?);
+    let found = match name {
+        "search::find" => find(order, &raw, &pattern),
+        _ => rfind(order, &raw, &pattern),
+    };
+    Some(vec![found.map_or(Plain("none"), Number)])
+}
+
 /// Calls that read bytes.
 fn ask(name: &str, order: ByteOrder, raw: &[u8]) -> Option<Vec<Word>> {
     Some(match name {
@@ -267,6 +281,7 @@ fn ask(name: &str, order: ByteOrder, raw: &[u8]) -> Option<Vec<Word>> {
         "WStr::to_utf8" => vec![Text(decode(order, raw).ok()?.into_bytes())],
         "WString::from_str" => vec![Bytes(encode(order, std::str::from_utf8(raw).ok()?))],
         "to_utf8_lossy_len" => vec![Number(to_utf8_lossy_len(order, raw))],
+        "to_wtf8_len" => vec![Number(to_wtf8_len(order, raw))],
         "from_utf8_len" => vec![Number(from_utf8_len(raw))],
         "from_utf8_lossy_len" => vec![Number(from_utf8_lossy_len(raw))],
         "validate_raw_utf16" => validity(order, raw, Plain("done")),
@@ -303,10 +318,12 @@ fn on_bytes(name: &str, order: ByteOrder, raw: &str, at: Option<&str>) -> Option
     })
 }
 
-const CALLS: [&str; 33] = [
+const CALLS: [&str; 40] = [
     "swap_byte_order",
     "make_well_formed",
     "bytes::compare",
+    "search::find",
+    "search::rfind",
     "bytes::is_char_boundary",
     "bytes::floor_char_boundary",
     "bytes::floor_char_boundary_around",
@@ -316,6 +333,11 @@ const CALLS: [&str; 33] = [
     "to_utf8_lossy",
     "from_utf8",
     "from_utf8_lossy",
+    "to_wtf8",
+    "to_wtf8_partial",
+    "from_wtf8",
+    "from_wtf8_partial",
+    "to_wtf8_len",
     "every_room",
     "count_chars",
     "is_ascii",
@@ -349,6 +371,7 @@ fn call(name: &str, order: ByteOrder, values: &[&str]) -> Option<Vec<Word>> {
         ("compare" | "bytes::compare" | "WStr::cmp" | "WString::cmp", [first, second]) => {
             compared(order, first, second)
         }
+        ("search::find" | "search::rfind", [raw, pattern]) => searched(name, order, raw, pattern),
         ("swap_byte_order" | "make_well_formed", [raw]) => on_bytes(name, order, raw, None),
         (
             "WStr::is_char_boundary"

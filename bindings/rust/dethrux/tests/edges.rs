@@ -363,13 +363,19 @@ fn encoding_calls_are_of_the_items() {
     }
 }
 
+/// The offsets between the parts of UTF-16.
+fn boundaries_of(order: ByteOrder, utf16: &[u8]) -> Vec<usize> {
+    let mut boundaries = vec![0];
+    for item in utf16_items(order, utf16) {
+        boundaries.push(boundaries[boundaries.len() - 1] + item.len);
+    }
+    boundaries
+}
+
 #[test]
 fn boundaries_are_between_the_items() {
     for_utf16(|order, utf16| {
-        let mut boundaries = vec![0];
-        for item in utf16_items(order, utf16) {
-            boundaries.push(boundaries[boundaries.len() - 1] + item.len);
-        }
+        let boundaries = boundaries_of(order, utf16);
         let len = utf16.len();
         let past = [len + 1, 2 * len + 2, 1 << 63, usize::MAX - 1, usize::MAX];
         for at in (0..=len).chain(past) {
@@ -381,6 +387,38 @@ fn boundaries_are_between_the_items() {
                 let around = &utf16[start..len.min(start + 4)];
                 let found = floor_char_boundary_around(order, around, at as u64);
                 assert_eq!(found, floor as u64);
+            }
+        }
+    });
+}
+
+/// Searches for a pattern, and compares with the boundaries that have its bytes.
+fn search(order: ByteOrder, utf16: &[u8], boundaries: &[usize], pattern: &[u8]) {
+    let occurs = |at: &usize| {
+        utf16[*at..].starts_with(pattern) && boundaries.contains(&(at + pattern.len()))
+    };
+    let mut all = boundaries.iter().copied().filter(occurs);
+    let first = all.next();
+    let last = all.next_back().or(first);
+    assert_eq!(find(order, utf16, pattern), first, "{utf16:?} {pattern:?}");
+    assert_eq!(rfind(order, utf16, pattern), last, "{utf16:?} {pattern:?}");
+}
+
+#[test]
+fn occurrences_are_bytes_between_boundaries() {
+    for_utf16(|order, utf16| {
+        let others: Vec<_> = ORDERS.into_iter().flat_map(utf16_samples).collect();
+        // The odd byte is at the end, or each code unit after it is moved by one.
+        for end in [utf16.len() / 2 * 2, utf16.len()] {
+            let twice = [&utf16[..end], utf16].concat();
+            let boundaries = boundaries_of(order, &twice);
+            for start in 0..=twice.len() {
+                for end in start..=twice.len() {
+                    search(order, &twice, &boundaries, &twice[start..end]);
+                }
+            }
+            for other in &others {
+                search(order, &twice, &boundaries, other);
             }
         }
     });

@@ -116,6 +116,14 @@ fn results_keep_little_memory_that_they_do_not_use() {
             let units = found;
             let (counts, found) = counted(|| decode_units(&units).unwrap());
             results.push((counts, found.len(), found.capacity()));
+            let (counts, found) = counted(|| decode_to_wtf8(BigEndian, &utf16).unwrap());
+            results.push((counts, found.len(), found.capacity()));
+            let (counts, found) = counted(|| encode_from_wtf8(BigEndian, text.as_bytes()).unwrap());
+            results.push((counts, found.len(), found.capacity()));
+            let (counts, found) = counted(|| units_to_wtf8(&units));
+            results.push((counts, found.len(), found.capacity()));
+            let (counts, found) = counted(|| units_from_wtf8(text.as_bytes()).unwrap());
+            results.push((counts, found.len(), found.capacity()));
             for (counts, used, capacity) in results {
                 assert_eq!(counts.0, usize::from(len > 0));
                 assert!(capacity <= (3 * used).max(8));

@@ -93,6 +93,34 @@ fn decodes_units_as_std() {
 }
 
 #[test]
+fn finds_as_str() {
+    let mut random = Random(6);
+    for _ in 0..2000 {
+        let letters: Vec<char> = "aab\u{6100}\u{1F600}".chars().collect();
+        let text: Vec<char> = (0..random.below(60))
+            .map(|_| letters[random.below(5) as usize])
+            .collect();
+        let pattern: String = match random.below(2) {
+            0 => text[random.below(text.len() as u64 + 1) as usize..]
+                .iter()
+                .take(random.below(5) as usize)
+                .collect(),
+            _ => (0..random.below(4))
+                .map(|_| letters[random.below(5) as usize])
+                .collect(),
+        };
+        let text: String = text.into_iter().collect();
+        let offset = |at: usize| 2 * text[..at].encode_utf16().count();
+        let (first, last) = (text.find(&pattern), text.rfind(&pattern));
+        for order in [LittleEndian, BigEndian] {
+            let (utf16, wanted) = (encode(order, &text), encode(order, &pattern));
+            assert_eq!(find(order, &utf16, &wanted), first.map(offset));
+            assert_eq!(rfind(order, &utf16, &wanted), last.map(offset));
+        }
+    }
+}
+
+#[test]
 fn long_texts_are_shown_whole() {
     for text in ["aß★\u{1F600}".repeat(100), "★".repeat(1000)] {
         assert_eq!(

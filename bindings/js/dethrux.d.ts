@@ -1,0 +1,256 @@
+// SPDX-License-Identifier: MIT OR Apache-2.0
+
+/**
+ * Dethrux: UTF-16 to and from UTF-8, UTF-32, Latin-1 and WTF-8, by a proved library as WebAssembly.
+ *
+ * UTF-16 is bytes, a `Uint8Array` that a byte order follows, or code units, a `Uint16Array`.
+ * Lengths, offsets and capacities count elements of the array that they are about. No function
+ * keeps an array that it is given, and each returns new ones. A function throws a `TypeError` for a
+ * wrong argument, and a `RangeError` for a wrong number or if there is no memory; then nothing has
+ * changed. `include/dethrux.h` has the whole documentation of each call.
+ */
+
+/** The byte order of UTF-16: little endian or big endian. */
+export type ByteOrder = "le" | "be";
+
+/**
+ * Why a call stopped: all was read; ill-formed input follows, of `errorLen` elements; the input
+ * ends inside a character; the next character does not fit; it is above U+00FF (only `toLatin1`).
+ */
+export type Status = "done" | "ill-formed" | "incomplete" | "no-space" | "not-latin1";
+
+/** The longest well-formed prefix, and what follows it. */
+export interface Validity {
+    /** The length of the longest well-formed prefix. */
+    validUpTo: number;
+    status: Status;
+    /** The length of the ill-formed sequence with "ill-formed", else 0. */
+    errorLen: number;
+}
+
+/** What a conversion wrote, and how far it came. */
+export interface Progress<Output> {
+    output: Output;
+    /** How much of the input was read. */
+    read: number;
+    status: Status;
+    /** The length of the ill-formed sequence with "ill-formed", else 0. */
+    errorLen: number;
+}
+
+/** The longest well-formed prefix, its characters, and what follows it. */
+export interface Inspection extends Validity {
+    /** The number of its characters. */
+    chars: number;
+    /** The smallest repertoire that has all of them. */
+    repertoire: "ascii" | "latin1" | "bmp" | "unicode";
+}
+
+/** What the start of a stream says about its byte order. */
+export interface Bom {
+    /** The length of the BOM: 2, or 0 if there is none. */
+    len: number;
+    order: ByteOrder;
+    /** "undecided" if fewer than two bytes have come. */
+    status: "absent" | "present" | "undecided";
+}
+
+/** A stream of UTF-16 in chunks that are cut anywhere. U+FFFD replaces what is ill formed. */
+export interface Decoder<Chunk> {
+    /** What has come and is not decoded yet: at most 3 bytes. */
+    readonly pending: Chunk;
+    /** Returns the UTF-8 of the next chunk. */
+    feed(chunk: Chunk): Uint8Array;
+    /** Ends the stream: returns U+FFFD if something is pending. The decoder begins a new stream. */
+    finish(): Uint8Array;
+}
+
+/** A stream of UTF-8 in chunks that are cut anywhere. U+FFFD replaces what is ill formed. */
+export interface Encoder<Output> {
+    /** What has come and is not encoded yet: at most 3 bytes. */
+    readonly pending: Uint8Array;
+    /** Returns the UTF-16 of the next chunk. */
+    feed(chunk: Uint8Array): Output;
+    /** Ends the stream: returns U+FFFD if something is pending. The encoder begins a new stream. */
+    finish(): Output;
+}
+
+/** A question about UTF-16. */
+export interface OfUtf16<Result> {
+    (utf16: Uint8Array, order: ByteOrder): Result;
+    (utf16: Uint16Array): Result;
+}
+
+/** A question about UTF-16 at an offset. */
+export interface OfUtf16At<Result> {
+    (utf16: Uint8Array, order: ByteOrder, at: number): Result;
+    (utf16: Uint16Array, at: number): Result;
+}
+
+/** A search in UTF-16 for a pattern of the same form. */
+export interface SearchOfUtf16 {
+    (utf16: Uint8Array, order: ByteOrder, pattern: Uint8Array): number;
+    (utf16: Uint16Array, pattern: Uint16Array): number;
+}
+
+/** A conversion from UTF-16. Without a capacity the output has all that can be written. */
+export interface FromUtf16<Output> {
+    (utf16: Uint8Array, order: ByteOrder, capacity?: number): Progress<Output>;
+    (utf16: Uint16Array, capacity?: number): Progress<Output>;
+}
+
+/** A conversion to UTF-16: to bytes in a byte order, or without one to code units. */
+export interface ToUtf16<Input> {
+    (input: Input, order: ByteOrder, capacity?: number): Progress<Uint8Array>;
+    (input: Input, order?: undefined, capacity?: number): Progress<Uint16Array>;
+}
+
+/** The length of such UTF-16: in bytes with a byte order, else in code units. */
+export type ForUtf16<Input> = (input: Input, order?: ByteOrder) => number;
+
+/** The functions of the library. */
+export interface Dethrux {
+    /** Returns the version: 1000000 for each major number, 1000 for each minor one. */
+    version(): number;
+    /** Returns the length of the longest well-formed prefix, and what follows it. */
+    validate: OfUtf16<Validity>;
+    /** Returns the number of characters. */
+    countChars: OfUtf16<number>;
+    /** Returns whether this is UTF-16 with only ASCII characters. */
+    isAscii: OfUtf16<boolean>;
+    /** Returns the length of the longest well-formed prefix, and what characters it has. */
+    inspect: OfUtf16<Inspection>;
+
+    /** Converts UTF-16 to UTF-8, up to the first ill-formed sequence. */
+    toUtf8: FromUtf16<Uint8Array>;
+    /** Converts UTF-16 to UTF-8, with U+FFFD for what is ill formed. */
+    toUtf8Lossy: FromUtf16<Uint8Array>;
+    /** Converts a chunk like `toUtf8Lossy`, and leaves an incomplete character at its end. */
+    toUtf8Partial: FromUtf16<Uint8Array>;
+    /** Returns the length of what `toUtf8Lossy` writes. */
+    toUtf8LossyLen: OfUtf16<number>;
+    /** Converts UTF-8 to UTF-16, up to the first ill-formed sequence. */
+    fromUtf8: ToUtf16<Uint8Array>;
+    /** Converts UTF-8 to UTF-16, with U+FFFD for what is ill formed. */
+    fromUtf8Lossy: ToUtf16<Uint8Array>;
+    /** Returns the length of what `fromUtf8` writes. */
+    fromUtf8Len: ForUtf16<Uint8Array>;
+    /** Returns the length of what `fromUtf8Lossy` writes. */
+    fromUtf8LossyLen: ForUtf16<Uint8Array>;
+
+    /** Converts all code units to WTF-8, which keeps unpaired surrogates, of 3 bytes each. */
+    toWtf8: FromUtf16<Uint8Array>;
+    /** Converts a chunk like `toWtf8`, but does not read a leading surrogate at its end. */
+    toWtf8Partial: FromUtf16<Uint8Array>;
+    /** Returns the length of what `toWtf8` writes. */
+    toWtf8Len: OfUtf16<number>;
+    /** Converts WTF-8 to UTF-16, up to the first ill-formed sequence. */
+    fromWtf8: ToUtf16<Uint8Array>;
+    /** Converts a chunk like `fromWtf8`, but does not read what more bytes could change. */
+    fromWtf8Partial: ToUtf16<Uint8Array>;
+
+    /** Converts UTF-16 to UTF-32, up to the first ill-formed sequence. */
+    toUtf32: FromUtf16<Uint32Array>;
+    /** Converts UTF-16 to UTF-32, with U+FFFD for what is ill formed. */
+    toUtf32Lossy: FromUtf16<Uint32Array>;
+    /** Returns the length of what `toUtf32Lossy` writes. */
+    toUtf32LossyLen: OfUtf16<number>;
+    /** Returns how many code units at the start are UTF-32, and what follows them. */
+    validateUtf32(utf32: Uint32Array): Validity;
+    /** Converts UTF-32 to UTF-16, up to the first ill-formed code unit. */
+    fromUtf32: ToUtf16<Uint32Array>;
+    /** Converts UTF-32 to UTF-16, with U+FFFD for what is ill formed. */
+    fromUtf32Lossy: ToUtf16<Uint32Array>;
+    /** Returns the length of what `fromUtf32Lossy` writes. */
+    fromUtf32LossyLen: ForUtf16<Uint32Array>;
+    /** Converts UTF-16 to Latin-1, up to what is ill formed or above U+00FF. */
+    toLatin1: FromUtf16<Uint8Array>;
+    /** Converts Latin-1 to UTF-16. */
+    fromLatin1: ToUtf16<Uint8Array>;
+
+    /** Returns whether an offset is a boundary between characters. */
+    isCharBoundary: OfUtf16At<boolean>;
+    /** Returns the greatest boundary at or before an offset. */
+    floorCharBoundary: OfUtf16At<number>;
+    /**
+     * Returns the greatest boundary at or before an offset of a file, from the 4 bytes of the file
+     * from `max(0, at - at % 2 - 2)` on, or as many as it has.
+     */
+    floorCharBoundaryAround<Offset extends number | bigint>(
+        around: Uint8Array,
+        order: ByteOrder,
+        at: Offset,
+    ): Offset extends bigint ? bigint : number;
+    /** Returns where a part of a file of `len` bytes begins, of `count` about equal ones. */
+    shardOffset<Offset extends number | bigint>(
+        len: Offset,
+        count: Offset,
+        index: Offset,
+    ): Offset extends bigint ? bigint : number;
+
+    /** Swaps the two bytes of each code unit in place. */
+    swapByteOrder(utf16: Uint8Array | Uint16Array): void;
+    /** Replaces each unpaired surrogate by U+FFFD in place, and returns their number. */
+    makeWellFormed: OfUtf16<number>;
+    /** Compares two texts by their scalar values: returns -1, 0 or 1. */
+    compare(first: Uint16Array, second: Uint16Array): -1 | 0 | 1;
+    compare(first: Uint16Array, second: Uint8Array, order: ByteOrder): -1 | 0 | 1;
+    compare(first: Uint8Array, order: ByteOrder, second: Uint16Array): -1 | 0 | 1;
+    compare(
+        first: Uint8Array,
+        firstOrder: ByteOrder,
+        second: Uint8Array,
+        secondOrder: ByteOrder,
+    ): -1 | 0 | 1;
+    /**
+     * Returns the least offset at which a pattern occurs, or -1: its elements are there, and both
+     * ends are boundaries between characters. So half of a surrogate pair is not found.
+     */
+    find: SearchOfUtf16;
+    /** Returns the greatest offset at which a pattern occurs as `find` says, or -1. */
+    rfind: SearchOfUtf16;
+    /** Returns the BOM at the start of a stream. Without one the byte order is `otherwise`. */
+    detectBom(bytes: Uint8Array, otherwise?: ByteOrder): Bom;
+
+    /**
+     * Returns a decoder of bytes, or without a byte order of code units. With "bom" the BOM tells
+     * the byte order and is not part of the text; without one it is `otherwise`, by default "be".
+     */
+    decoder(order: ByteOrder): Decoder<Uint8Array>;
+    decoder(order: "bom", otherwise?: ByteOrder): Decoder<Uint8Array>;
+    decoder(): Decoder<Uint16Array>;
+    /** Returns an encoder to bytes, or without a byte order to code units. */
+    encoder(order: ByteOrder): Encoder<Uint8Array>;
+    encoder(): Encoder<Uint16Array>;
+    /**
+     * Returns a decoder to WTF-8, which keeps unpaired surrogates. If the stream ends with an odd
+     * byte, its `finish` throws an `Error` and changes nothing.
+     */
+    wtf8Decoder(order: ByteOrder): Decoder<Uint8Array>;
+    wtf8Decoder(): Decoder<Uint16Array>;
+    /** Returns a stream of the Web that passes its chunks through such a decoder. */
+    wtf8DecoderStream(order: ByteOrder): TransformStream<Uint8Array, Uint8Array>;
+    wtf8DecoderStream(): TransformStream<Uint16Array, Uint8Array>;
+    /** Returns a stream of the Web that passes its chunks through such a decoder. */
+    decoderStream(order: ByteOrder): TransformStream<Uint8Array, Uint8Array>;
+    decoderStream(order: "bom", otherwise?: ByteOrder): TransformStream<Uint8Array, Uint8Array>;
+    decoderStream(): TransformStream<Uint16Array, Uint8Array>;
+    /** Returns a stream of the Web that passes its chunks through such an encoder. */
+    encoderStream(order: ByteOrder): TransformStream<Uint8Array, Uint8Array>;
+    encoderStream(): TransformStream<Uint8Array, Uint16Array>;
+}
+
+/**
+ * Loads the library: the module of the package, or another one at a URL, as bytes or compiled.
+ * Throws an `Error` if the engine has no WebAssembly with 64-bit memory.
+ */
+export function load(source?: URL | BufferSource | WebAssembly.Module): Promise<Dethrux>;
+
+/** Returns whether the engine can run the module. */
+export function isSupported(): boolean;
+
+/** Returns the code units of a string. */
+export function unitsOf(text: string): Uint16Array;
+
+/** Returns the string of code units. */
+export function stringOf(units: Uint16Array): string;

@@ -1,0 +1,21 @@
+// SPDX-License-Identifier: MIT OR Apache-2.0
+
+import { instantiate } from "./load.js";
+
+export { isSupported, stringOf, unitsOf } from "./load.js";
+
+/** Loads the library: the module of the package, or another one at a URL or as bytes. */
+export async function load(source = new URL("./dethrux.wasm", import.meta.url)) {
+    return instantiate(source instanceof URL ? await bytesAt(source) : source);
+}
+
+async function bytesAt(url) {
+    if (url.protocol === "file:" && globalThis.process?.getBuiltinModule) {
+        return process.getBuiltinModule("node:fs/promises").readFile(url);
+    }
+    const found = await fetch(url);
+    if (!found.ok) {
+        throw new Error(`dethrux: ${url} cannot be read: ${found.status}`);
+    }
+    return found.arrayBuffer();
+}

@@ -1,0 +1,239 @@
+// SPDX-License-Identifier: MIT OR Apache-2.0
+
+import { bytesOf, input, ORDERS, room } from "./machine.js";
+
+// Typed arrays are in the byte order of the machine, and so is the memory of the module.
+const NATIVE = new Uint8Array(Uint16Array.of(1).buffer)[0] === 1 ? 0 : 1;
+
+/** Whether a value is an array of this kind, also one of another window. */
+export function isArray(value, kind) {
+    return ArrayBuffer.isView(value) && value[Symbol.toStringTag] === kind;
+}
+
+function shown(value) {
+    return typeof value === "object" && value !== null
+        ? (value[Symbol.toStringTag] ?? "another object")
+        : typeof value === "string"
+          ? JSON.stringify(value)
+          : String(value);
+}
+
+/** Takes an array of one kind from the front of the arguments. */
+function takeArray(words, kind) {
+    const array = words.shift();
+    if (!isArray(array, kind)) {
+        throw new TypeError(`dethrux: give a ${kind}, not ${shown(array)}`);
+    }
+    return array;
+}
+
+/** Takes a byte order from the front of the arguments. */
+export function takeOrder(words) {
+    const order = ORDERS.indexOf(words[0]);
+    if (order < 0) {
+        throw new TypeError(`dethrux: the byte order is "le" or "be", not ${shown(words[0])}`);
+    }
+    words.shift();
+    return order;
+}
+
+/** Takes UTF-16 from the front of the arguments: a byte order follows bytes, but not code units. */
+function takeUtf16(words) {
+    const array = words.shift();
+    if (isArray(array, "Uint16Array")) {
+        return { part: input(bytesOf(array)), order: NATIVE, width: 2 };
+    }
+    if (isArray(array, "Uint8Array")) {
+        return { part: input(array), order: takeOrder(words), width: 1 };
+    }
+    throw new TypeError(`dethrux: give a Uint8Array or a Uint16Array, not ${shown(array)}`);
+}
+
+/** Takes what UTF-16 is written as: bytes in a byte order, or without one code units. */
+export function takeForm(words) {
+    if (words[0] === undefined) {
+        words.shift();
+        return { order: NATIVE, width: 2 };
+    }
+    return { order: takeOrder(words), width: 1 };
+}
+
+/** Takes a number of elements from the front of the arguments. */
+function takeCount(words, otherwise) {
+    const count = words.shift() ?? otherwise;
+    if (typeof count !== "number") {
+        throw new TypeError(`dethrux: give a number, not ${shown(count)}`);
+    }
+    if (!Number.isSafeInteger(count) || count < 0) {
+        throw new RangeError(`dethrux: give a whole number from 0 on, not ${count}`);
+    }
+    return count;
+}
+
+/** Takes an offset of a file, a number or a bigint below 2 to the power of 64, as a bigint. */
+function takeOffset(words) {
+    if (typeof words[0] !== "bigint") {
+        return BigInt(takeCount(words));
+    }
+    const offset = words.shift();
+    if (BigInt.asUintN(64, offset) !== offset) {
+        throw new RangeError(`dethrux: give an offset below 2 ** 64, not ${offset}`);
+    }
+    return offset;
+}
+
+/** Takes a capacity. More than what suffices for every input has no effect. */
+function takeCapacity(words, enough) {
+    return Math.min(takeCount(words, enough), enough);
+}
+
+function end(words) {
+    if (words.some((it) => it !== undefined)) {
+        throw new TypeError(`dethrux: there is an argument too many: ${shown(words[0])}`);
+    }
+}
+
+/** Returns UTF-16 as bytes, or as code units. */
+export const inWidth = (bytes, width) => (width === 2 ? new Uint16Array(bytes.buffer) : bytes);
+
+/** Divides the lengths of UTF-16 among these fields by the width of an element. */
+function counted(result, width, ...names) {
+    const fields = names.filter((it) => it in result).map((it) => [it, result[it] / width]);
+    return { ...result, ...Object.fromEntries(fields) };
+}
+
+/** Returns what a conversion wrote, and how far it came. */
+function progress(output, { read, status, errorLen }) {
+    return { output, read, status, errorLen };
+}
+
+/** From UTF-16 to what has elements of `width` bytes, with the capacity that always suffices. */
+function fromUtf16(call, words, enough, width, made) {
+    const utf16 = takeUtf16(words);
+    const capacity = takeCapacity(words, enough(utf16.part.len));
+    end(words);
+    const { result, bytes } = call([utf16.order, utf16.part, room(capacity, width)]);
+    const output = made(bytes(2, result.written * width));
+    return progress(output, counted(result, utf16.width, "read", "errorLen"));
+}
+
+/** To UTF-16, from an array of which each element gives at most `most` bytes. */
+function toUtf16(call, words, kind, most) {
+    const array = takeArray(words, kind);
+    const { order, width } = takeForm(words);
+    const capacity = takeCapacity(words, (array.length * most) / width) * width;
+    end(words);
+    const { result, bytes } = call([order, input(array), room(capacity)]);
+    return progress(inWidth(bytes(2, result.written), width), result);
+}
+
+/** What is asked of an array that is not UTF-16. */
+function asked(call, words, kind) {
+    const array = takeArray(words, kind);
+    end(words);
+    return call([input(array)]).result;
+}
+
+/** How long UTF-16 for an array is: in bytes with a byte order, else in code units. */
+function measured(call, words, kind) {
+    const array = takeArray(words, kind);
+    const { width } = takeForm(words);
+    end(words);
+    return call([input(array)]).result / width;
+}
+
+// How the arguments of a function become the call's. Each takes the call and the arguments.
+export const SHAPES = {
+    nothing(call, words) {
+        end(words);
+        return call([]).result;
+    },
+    utf16(call, words) {
+        const { part, order, width } = takeUtf16(words);
+        end(words);
+        const { result } = call([order, part]);
+        return typeof result === "object" ? counted(result, width, "validUpTo", "errorLen") : result;
+    },
+    utf16At(call, words) {
+        const { part, order, width } = takeUtf16(words);
+        const at = takeCount(words);
+        end(words);
+        const { result } = call([order, part, BigInt(at * width)]);
+        return typeof result === "number" ? result / width : result;
+    },
+    utf16Pair(call, words) {
+        const first = takeUtf16(words);
+        const second = takeUtf16(words);
+        end(words);
+        return call([first.order, first.part, second.order, second.part]).result;
+    },
+    utf16Search(call, words) {
+        const { part, order, width } = takeUtf16(words);
+        const pattern = takeArray(words, width === 2 ? "Uint16Array" : "Uint8Array");
+        end(words);
+        const { result } = call([order, part, input(bytesOf(pattern))]);
+        return result < 0 ? result : result / width;
+    },
+    utf16ToUtf8(call, words) {
+        return fromUtf16(call, words, (len) => Math.ceil(len / 2) * 3, 1, (it) => it);
+    },
+    utf16ToLatin1(call, words) {
+        return fromUtf16(call, words, (len) => Math.floor(len / 2), 1, (it) => it);
+    },
+    utf16ToUtf32(call, words) {
+        const made = (it) => new Uint32Array(it.buffer);
+        return fromUtf16(call, words, (len) => Math.ceil(len / 2), 4, made);
+    },
+    bytesToUtf16(call, words) {
+        return toUtf16(call, words, "Uint8Array", 2);
+    },
+    utf32ToUtf16(call, words) {
+        return toUtf16(call, words, "Uint32Array", 4);
+    },
+    utf32(call, words) {
+        return asked(call, words, "Uint32Array");
+    },
+    bytesForUtf16(call, words) {
+        return measured(call, words, "Uint8Array");
+    },
+    utf32ForUtf16(call, words) {
+        return measured(call, words, "Uint32Array");
+    },
+    around(call, words) {
+        const around = takeArray(words, "Uint8Array");
+        const order = takeOrder(words);
+        const isBig = typeof words[0] === "bigint";
+        const at = takeOffset(words);
+        end(words);
+        const { result } = call([order, input(around), at]);
+        return isBig ? result : Number(result);
+    },
+    offsets(call, words) {
+        const isBig = typeof words[0] === "bigint";
+        const offsets = [takeOffset(words), takeOffset(words), takeOffset(words)];
+        end(words);
+        const { result } = call(offsets);
+        return isBig ? result : Number(result);
+    },
+    swapped(call, words) {
+        const array = isArray(words[0], "Uint16Array")
+            ? bytesOf(words.shift())
+            : takeArray(words, "Uint8Array");
+        end(words);
+        array.set(call([input(array)]).bytes(0, array.length));
+    },
+    repaired(call, words) {
+        const array = words[0];
+        const { part, order } = takeUtf16(words);
+        end(words);
+        const { result, bytes } = call([order, part]);
+        bytesOf(array).set(bytes(1, part.len));
+        return result;
+    },
+    start(call, words) {
+        const array = takeArray(words, "Uint8Array");
+        const order = words[0] === undefined ? ORDERS.indexOf("be") : takeOrder(words);
+        end(words);
+        return call([order, input(array)]).result;
+    },
+};

@@ -1,0 +1,170 @@
+#!/usr/bin/env bash
+# Packages the package, installs it in an empty folder without network, and there runs the first
+# program of docs/JS.md, the tests and the tables of cases in Node. Then it tests the page of site/
+# in headless Chromium. If this runs as root, apt-get installs a missing Chromium and TypeScript. A
+# line 'skipped: ..' names what is not tested since a tool is missing. With --node it leaves out the
+# page. The last line is 'N passed, M failed'. NODE and CHROMIUM name other programs.
+set -uo pipefail
+here=$(cd "$(dirname "${BASH_SOURCE[0]}")" && pwd)
+top=$(cd "$here/../.." && pwd)
+room=$(mktemp -d)
+trap 'rm -rf "$room"' EXIT
+. "$top/.ci/checks.sh"
+export DETHRUX_TOP=$top
+
+# Adds the counts of a command, whose last line is 'N passed, M failed', and prints its other lines.
+counts() {
+    local name=$1 said
+    shift
+    said=$("$@" 2>&1)
+    if [[ ${said##*$'\n'} =~ ^([0-9]+)\ passed,\ ([0-9]+)\ failed$ ]]; then
+        passed=$((passed + BASH_REMATCH[1]))
+        failed=$((failed + BASH_REMATCH[2]))
+        [[ $said != *$'\n'* ]] || echo "${said%$'\n'*}"
+    else
+        failed=$((failed + 1))
+        echo "failed: $name:"
+        tail -n 20 <<< "$said"
+    fi
+}
+
+# Runs Node with 64-bit memory.
+run_node() {
+    (cd "$room" && "$node" "${flags[@]}" "$@")
+}
+
+# Whether this Node is one that the package is for.
+is_new_enough() {
+    "$node" -e 'const [major, minor] = process.versions.node.split(".").map(Number);
+process.exit(major > 20 || (major === 20 && minor >= 16) ? 0 : 1)'
+}
+
+# Whether Node has 64-bit memory with these flags.
+has_memory64() {
+    "$node" "$@" -e 'process.exit(WebAssembly.validate(
+        Uint8Array.of(0, 0x61, 0x73, 0x6d, 1, 0, 0, 0, 5, 3, 1, 4, 1)) ? 0 : 1)'
+}
+
+# Makes the package twice, with the same bytes.
+make_package() {
+    local umask
+    for umask in 022 077; do
+        (umask $umask && "$top/packaging/npm.sh" "$room/$umask") || return
+    done
+    diff -r "$room/022" "$room/077"
+}
+
+# Installs the package, with npm if there is one.
+install_package() {
+    local package=$room/022/dethrux-$(< "$top/VERSION").tgz
+    if command -v npm > /dev/null; then
+        (cd "$room" && npm install --offline --no-audit --no-fund "$package")
+    else
+        mkdir -p "$room/node_modules/dethrux" &&
+            tar -xzf "$package" --strip-components=1 -C "$room/node_modules/dethrux"
+    fi
+    [ -s "$room/node_modules/dethrux/dethrux.wasm" ] && cp -R "$here/tests" "$room/"
+}
+
+# Prints the counts of a file of tests as a last line.
+unit_tests() {
+    local said lines
+    said=$(run_node --test-reporter=tap "tests/$1")
+    lines=$(sed -n 's/^# \(pass\|fail\) \([0-9]*\)$/\2/p' <<< "$said" | paste -sd ' ')
+    sed -n '/^not ok/,/^  \.\.\./{s/^not ok [0-9]* - /failed: /;p}' <<< "$said"
+    [[ $lines =~ ^([0-9]+)\ ([0-9]+)$ ]] || { tail -n 20 <<< "$said"; return 1; }
+    echo "${BASH_REMATCH[1]} passed, ${BASH_REMATCH[2]} failed"
+}
+
+# Whether `load` says what is missing, if there is no 64-bit memory.
+says_what_is_missing() {
+    ! (cd "$room" && "$node" --input-type=module -e 'import { isSupported, load } from "dethrux";
+WebAssembly.validate = () => false;
+if (isSupported()) process.exit(0);
+await load();') 2> "$room/line" && grep -q 'Error: dethrux: .*memory64' "$room/line"
+}
+
+# Whether a program prints what its page says, given the bytes that the page makes, and writes the
+# UTF-8.
+first_program() {
+    cp "$here/examples/first.mjs" "$room/" &&
+        printf '\xFF\xFEG\0r\0\xFC\0\xDF\0e\0\0\xDC' > "$room/notes.txt" &&
+        run_node first.mjs notes.txt > "$room/found" &&
+        sed -n '/^le {/,/^```$/p' "$top/docs/JS.md" | sed '$d' > "$room/wanted" &&
+        [ -s "$room/wanted" ] && diff "$room/wanted" "$room/found" &&
+        printf 'Grüße\uFFFD' | cmp "$room/notes.txt.utf8"
+}
+
+# Whether the page has the program as it is in the tree.
+page_has_program() {
+    sed -n '/^```js$/,/^```$/p' "$top/docs/JS.md" | sed '1d;/^```$/,$d' |
+        diff - "$here/examples/first.mjs"
+}
+
+# Whether the program of the package's page prints what its comments say.
+program_of_package() {
+    sed -n '/^```js$/,/^```$/p' "$here/README.md" | sed '1d;/^```$/,$d' > "$room/short.mjs" &&
+        run_node short.mjs > "$room/found" && sed -n 's|^// ||p' "$room/short.mjs" > "$room/wanted" &&
+        [ -s "$room/wanted" ] && diff "$room/wanted" "$room/found"
+}
+
+# Whether the types allow what they should, and nothing else that the file has.
+check_types() {
+    (cd "$room" && tsc --strict --noEmit --target es2022 --module nodenext \
+        --moduleResolution nodenext --lib es2022,dom tests/types.mts)
+}
+
+# Whether the page is the same if it is built twice.
+builds_page() {
+    "$top/site/build.py" "$room/first.html" && "$top/site/build.py" "$room/second.html" &&
+        cmp "$room/first.html" "$room/second.html"
+}
+
+test_node() {
+    node=${NODE:-node}
+    if ! command -v "$node" > /dev/null || ! is_new_enough; then
+        echo 'skipped: the JavaScript package: there is no Node 20.16 or later'
+        return
+    fi
+    flags=()
+    has_memory64 || flags=(--experimental-wasm-memory64)
+    check 'the package, twice' make_package || return
+    check 'its installation' install_package || return
+    counts 'the tests of the calls' unit_tests calls.test.mjs
+    counts 'the tests of streams' unit_tests streams.test.mjs
+    counts 'the tables of cases' run_node tests/cases.mjs "$top"/cases/*.txt
+    check 'an engine without 64-bit memory' says_what_is_missing
+    check 'the first program' first_program
+    check 'the page has the first program' page_has_program
+    check "the program of the package's page" program_of_package
+    if command -v tsc > /dev/null; then
+        check 'the types' check_types
+    else
+        echo 'skipped: the types of the JavaScript package: there is no tsc'
+    fi
+}
+
+test_page() {
+    CHROMIUM=${CHROMIUM:-$(first_of chromium chromium-browser google-chrome)}
+    [ -n "$CHROMIUM" ] || { provide chromium:chromium; CHROMIUM=$(first_of chromium); }
+    export CHROMIUM
+    check 'the page, twice' builds_page
+    if [ -n "$CHROMIUM" ]; then
+        counts 'the page in Chromium' "$top/site/test.py"
+    else
+        echo 'skipped: the page in a browser: there is no chromium'
+    fi
+}
+
+# Prints the first of these programs that is installed.
+first_of() {
+    local name
+    for name in "$@"; do
+        command -v "$name" && return
+    done
+}
+
+provide tsc:node-typescript
+test_node
+[ "${1:-}" = --node ] || test_page
+finish

@@ -1,0 +1,322 @@
+import assert from "node:assert/strict";
+import { readFileSync } from "node:fs";
+import { createServer } from "node:http";
+import { test } from "node:test";
+import vm from "node:vm";
+import { isSupported, load, stringOf, unitsOf } from "dethrux";
+import { CALLS } from "../node_modules/dethrux/calls.js";
+
+const dethrux = await load();
+const top = process.env.DETHRUX_TOP;
+const utf8 = (text) => new TextEncoder().encode(text);
+const le = (text) => new Uint8Array(unitsOf(text).buffer);
+const be = (text) => new Uint8Array(Buffer.from(le(text)).swap16());
+
+// What a module of WebAssembly begins with.
+const HEAD = [0, 0x61, 0x73, 0x6d, 1, 0, 0, 0];
+
+// Units that make each kind of sequence: letters of each length in UTF-8, and surrogates.
+const UNITS = [0x61, 0x7f, 0x80, 0x7ff, 0x800, 0xd7ff, 0xd800, 0xdbff, 0xdc00, 0xdfff, 0xe000, 0xffff];
+
+/** Each string of up to three of these units. */
+function* strings() {
+    const units = ["", ...UNITS.map((it) => String.fromCharCode(it))];
+    for (const first of units) {
+        for (const second of units) {
+            for (const third of units) {
+                yield first + second + third;
+            }
+        }
+    }
+}
+
+/** The bytes of a code point, also of a surrogate, by the table of UTF-8 in the Standard. */
+function generalizedUtf8(character) {
+    const point = character.codePointAt(0);
+    const rest = (shift) => 0x80 | ((point >> shift) & 0x3f);
+    if (point < 0x80) {
+        return [point];
+    }
+    if (point < 0x800) {
+        return [0xc0 | (point >> 6), rest(0)];
+    }
+    return point < 0x10000
+        ? [0xe0 | (point >> 12), rest(6), rest(0)]
+        : [0xf0 | (point >> 18), rest(12), rest(6), rest(0)];
+}
+
+/** Random numbers, the same each time. */
+function* random(seed) {
+    for (let state = seed; ; state = (Math.imul(state, 1103515245) + 12345) >>> 0) {
+        yield state >>> 8;
+    }
+}
+
+/** Random bytes, of which many are of surrogates. */
+function bytesOf(len, numbers) {
+    return Uint8Array.from({ length: len }, () => {
+        const number = numbers.next().value;
+        return number % 3 ? number >> 4 : 0xd8 + ((number >> 4) % 8);
+    });
+}
+
+test("the table has the calls of the header, in its order", () => {
+    const header = readFileSync(`${top}/include/dethrux.h`, "utf8");
+    const names = [...header.matchAll(/^(?:DETHRUX_NODISCARD )?\w+ dethrux_(\w+)\(/gm)];
+    assert.deepEqual(Object.keys(CALLS), names.map((it) => it[1]));
+});
+
+test("the module has the calls of the header, and no others", () => {
+    const module = new WebAssembly.Module(readFileSync(new URL(import.meta.resolve("dethrux/dethrux.wasm"))));
+    const names = WebAssembly.Module.exports(module).map((it) => it.name);
+    const wanted = Object.keys(CALLS).map((it) => `dethrux_${it}`);
+    assert.deepEqual(names.sort(), [...wanted, "__heap_base", "memory"].sort());
+    assert.deepEqual(WebAssembly.Module.imports(module), []);
+});
+
+test("each function is in the types, and no others", () => {
+    const types = readFileSync(new URL("./dethrux.d.ts", import.meta.resolve("dethrux")), "utf8");
+    const body = types.slice(types.indexOf("interface Dethrux"));
+    const names = [...body.matchAll(/^    (\w+)(?:: |\(|<)/gm)].map((it) => it[1]);
+    assert.deepEqual([...new Set(names)].sort(), Object.keys(dethrux).sort());
+});
+
+test("the version is that of the tree", () => {
+    const [major, minor, patch] = readFileSync(`${top}/VERSION`, "utf8").trim().split(".").map(Number);
+    assert.equal(dethrux.version(), major * 1000000 + minor * 1000 + patch);
+    const { version } = JSON.parse(readFileSync(new URL("./package.json", import.meta.resolve("dethrux"))));
+    assert.equal(version, `${major}.${minor}.${patch}`);
+});
+
+test("strings: isWellFormed, toWellFormed and Buffer", () => {
+    for (const text of strings()) {
+        const units = unitsOf(text);
+        assert.equal(stringOf(units), text);
+        assert.equal(dethrux.validate(units).status === "done", text.isWellFormed());
+        const repaired = units.slice();
+        dethrux.makeWellFormed(repaired);
+        assert.equal(stringOf(repaired), text.toWellFormed());
+        assert.deepEqual(Buffer.from(dethrux.toUtf8Lossy(units).output), Buffer.from(text));
+        assert.equal(dethrux.toUtf8LossyLen(units), Buffer.byteLength(text));
+        assert.deepEqual(dethrux.toUtf32Lossy(units).output, Uint32Array.from([...text.toWellFormed()], (it) => it.codePointAt(0)));
+    }
+});
+
+test("bytes: TextDecoder, whole and in streams", () => {
+    const numbers = random(7);
+    for (let round = 0; round < 3000; round += 1) {
+        const bytes = bytesOf(numbers.next().value % 40, numbers);
+        for (const [order, label] of [["le", "utf-16le"], ["be", "utf-16be"]]) {
+            const text = new TextDecoder(label, { ignoreBOM: true }).decode(bytes);
+            const found = dethrux.toUtf8Lossy(bytes, order);
+            assert.deepEqual(found.output, utf8(text), `${order} ${Buffer.from(bytes).toString("hex")}`);
+            const cut = numbers.next().value % (bytes.length + 1);
+            const decoder = dethrux.decoder(order);
+            const parts = [decoder.feed(bytes.subarray(0, cut)), decoder.feed(bytes.subarray(cut)), decoder.finish()];
+            assert.deepEqual(new Uint8Array(Buffer.concat(parts)), found.output);
+        }
+    }
+});
+
+test("UTF-8: TextDecoder, whole and in streams", () => {
+    const numbers = random(8);
+    const starts = [0x41, 0x80, 0xbf, 0xc2, 0xe0, 0xed, 0xa0, 0xef, 0xf0, 0x9f, 0xf4, 0x90, 0xff];
+    for (let round = 0; round < 3000; round += 1) {
+        const bytes = Uint8Array.from({ length: numbers.next().value % 20 }, () => starts[numbers.next().value % starts.length]);
+        const text = new TextDecoder("utf-8", { ignoreBOM: true }).decode(bytes);
+        assert.equal(stringOf(dethrux.fromUtf8Lossy(bytes).output), text);
+        assert.deepEqual(dethrux.fromUtf8Lossy(bytes, "be").output, be(text));
+        const isWellFormed = !text.includes("\ufffd");
+        assert.equal(dethrux.fromUtf8(bytes).status === "done", isWellFormed);
+        const cut = numbers.next().value % (bytes.length + 1);
+        const encoder = dethrux.encoder();
+        const parts = [encoder.feed(bytes.subarray(0, cut)), encoder.feed(bytes.subarray(cut)), encoder.finish()];
+        assert.equal(parts.map(stringOf).join(""), text);
+    }
+});
+
+test("WTF-8: the bytes of each code point, which give the strings back", () => {
+    for (const text of strings()) {
+        const units = unitsOf(text);
+        const { output, status } = dethrux.toWtf8(units);
+        assert.equal(status, "done");
+        assert.equal(output.length, dethrux.toWtf8Len(units));
+        assert.deepEqual(output, Uint8Array.from([...text].flatMap(generalizedUtf8)));
+        assert.equal(stringOf(dethrux.fromWtf8(output).output), text);
+        assert.deepEqual(dethrux.fromWtf8(output, "be").output, be(text));
+    }
+});
+
+test("searches: indexOf and lastIndexOf on well-formed strings", () => {
+    const numbers = random(9);
+    const letters = ["a", "a", "b", "\u6100", "\u{1f600}"];
+    const made = (len) => Array.from({ length: len }, () => letters[numbers.next().value % 5]);
+    for (let round = 0; round < 3000; round += 1) {
+        const characters = made(numbers.next().value % 40);
+        const start = numbers.next().value % (characters.length + 1);
+        const part = characters.slice(start, start + (numbers.next().value % 5));
+        const text = characters.join("");
+        const pattern = (round % 2 ? part : made(numbers.next().value % 4)).join("");
+        for (const [name, wanted] of [["find", text.indexOf(pattern)], ["rfind", text.lastIndexOf(pattern)]]) {
+            const inBytes = wanted === -1 ? -1 : wanted * 2;
+            assert.equal(dethrux[name](unitsOf(text), unitsOf(pattern)), wanted, `${text} ${pattern}`);
+            assert.equal(dethrux[name](le(text), "le", le(pattern)), inBytes);
+            assert.equal(dethrux[name](be(text), "be", be(pattern)), inBytes);
+        }
+    }
+});
+
+test("searches: a surrogate pair and a code unit are not cut, and an odd byte is at the end", () => {
+    const units = unitsOf("\u{1f600}\ud83d");
+    assert.equal(dethrux.find(units, unitsOf("\ud83d")), 2);
+    assert.equal(dethrux.rfind(units, unitsOf("\ude00")), -1);
+    assert.equal(dethrux.find(Uint8Array.of(0, 0x61, 0, 0x61, 0x61, 0), "le", Uint8Array.of(0x61, 0)), 4);
+    assert.equal(dethrux.rfind(Uint8Array.of(0x61, 0, 0x61), "le", Uint8Array.of(0x61)), 2);
+    assert.equal(dethrux.find(units.subarray(1, 2), units.subarray(1, 2)), 0);
+    assert.equal(dethrux.rfind(units, units.subarray(3)), 3);
+});
+
+test("an error says where it is, in elements of the array", () => {
+    const text = "Gr\u00fc\udc00";
+    assert.deepEqual(dethrux.validate(le(text), "le"), { validUpTo: 6, status: "ill-formed", errorLen: 2 });
+    assert.deepEqual(dethrux.validate(be(text), "be"), { validUpTo: 6, status: "ill-formed", errorLen: 2 });
+    assert.deepEqual(dethrux.validate(unitsOf(text)), { validUpTo: 3, status: "ill-formed", errorLen: 1 });
+    assert.deepEqual(dethrux.toUtf8(unitsOf(text)), { output: utf8("Grü"), read: 3, status: "ill-formed", errorLen: 1 });
+    assert.deepEqual(dethrux.fromUtf8(Uint8Array.of(0x61, 0xe2, 0x82, 0x28)), { output: Uint16Array.of(0x61), read: 1, status: "ill-formed", errorLen: 2 });
+    assert.deepEqual(dethrux.validate(le("a").subarray(0, 1), "le"), { validUpTo: 0, status: "incomplete", errorLen: 0 });
+});
+
+test("a capacity counts elements of the output", () => {
+    const rest = { read: 1, status: "no-space", errorLen: 0 };
+    assert.deepEqual(dethrux.toUtf8(unitsOf("aé"), 2), { output: utf8("a"), ...rest });
+    assert.deepEqual(dethrux.fromUtf8(utf8("aé"), undefined, 1), { output: Uint16Array.of(0x61), ...rest });
+    assert.deepEqual(dethrux.fromUtf8(utf8("aé"), "be", 3), { output: Uint8Array.of(0, 0x61), ...rest });
+    assert.deepEqual(dethrux.toUtf32(unitsOf("aé"), 1), { output: Uint32Array.of(0x61), ...rest });
+    assert.equal(dethrux.toUtf8(unitsOf("a"), Number.MAX_SAFE_INTEGER).status, "done");
+});
+
+test("a length of UTF-16 counts code units or bytes", () => {
+    assert.equal(dethrux.fromUtf8Len(utf8("a\u00e9")), 2);
+    assert.equal(dethrux.fromUtf8Len(utf8("a\u00e9"), "be"), 4);
+    assert.equal(dethrux.fromUtf8LossyLen(Uint8Array.of(0x61, 0xff)), 2);
+    assert.equal(dethrux.fromUtf32LossyLen(Uint32Array.of(0x1f600)), 2);
+    assert.equal(dethrux.fromUtf32LossyLen(Uint32Array.of(0x1f600), "le"), 4);
+});
+
+test("arrays that begin within a buffer, and those of another window", () => {
+    const bytes = Uint8Array.of(9, 0x61, 0, 0x62, 0, 9).subarray(1, 5);
+    assert.deepEqual(dethrux.toUtf8(bytes, "le").output, utf8("ab"));
+    const units = new Uint16Array(Uint16Array.of(9, 0x61, 0x62, 9).buffer, 2, 2);
+    assert.deepEqual(dethrux.toUtf8(units).output, utf8("ab"));
+    dethrux.swapByteOrder(units);
+    assert.deepEqual(new Uint16Array(units.buffer), Uint16Array.of(9, 0x6100, 0x6200, 9));
+    assert.deepEqual(dethrux.toUtf8(vm.runInNewContext("Uint16Array.of(0x61)")).output, utf8("a"));
+    assert.deepEqual(dethrux.toUtf8(Buffer.from("a\0"), "le").output, utf8("a"));
+});
+
+test("an output is not changed by later calls", () => {
+    const { output } = dethrux.toUtf8(unitsOf("first"));
+    dethrux.toUtf8(unitsOf("later"));
+    assert.deepEqual(output, utf8("first"));
+});
+
+test("offsets of files are numbers or bigints", () => {
+    assert.equal(dethrux.shardOffset(100, 3, 1), 34);
+    assert.equal(dethrux.shardOffset(2n ** 64n - 1n, 1n, 1n), 2n ** 64n - 1n);
+    assert.equal(dethrux.floorCharBoundaryAround(Uint8Array.of(0x3d, 0xd8, 0, 0xde), "le", 2 ** 40 + 2), 2 ** 40);
+    assert.throws(() => dethrux.shardOffset(2n ** 64n, 1n, 1n), RangeError);
+});
+
+test("the byte order of a stream", () => {
+    assert.deepEqual(dethrux.detectBom(Uint8Array.of(0xff, 0xfe, 0x41)), { len: 2, order: "le", status: "present" });
+    assert.deepEqual(dethrux.detectBom(Uint8Array.of(0xfe)), { len: 0, order: "be", status: "undecided" });
+    assert.deepEqual(dethrux.detectBom(Uint8Array.of(0, 0x41), "le"), { len: 0, order: "le", status: "absent" });
+});
+
+test("wrong arguments are refused", () => {
+    const bytes = le("a");
+    const wrong = [
+        () => dethrux.validate(bytes),
+        () => dethrux.validate(bytes, "LE"),
+        () => dethrux.validate(unitsOf("a"), "le"),
+        () => dethrux.validate("a"),
+        () => dethrux.validate(bytes.buffer, "le"),
+        () => dethrux.validate(new Int8Array(2), "le"),
+        () => dethrux.validate(null, "le"),
+        () => dethrux.toUtf8(bytes, "le", "2"),
+        () => dethrux.toUtf8(bytes, "le", 2n),
+        () => dethrux.toUtf8(bytes, "le", 2, 3),
+        () => dethrux.fromUtf8(unitsOf("a")),
+        () => dethrux.fromUtf8(bytes, "utf-16"),
+        () => dethrux.isCharBoundary(bytes, "le"),
+        () => dethrux.find(bytes, "le"),
+        () => dethrux.find(bytes, bytes, "le"),
+        () => dethrux.find(bytes, "le", unitsOf("a")),
+        () => dethrux.rfind(unitsOf("a"), bytes),
+        () => dethrux.rfind(unitsOf("a"), "le", unitsOf("a")),
+        () => dethrux.rfind(bytes, "le", bytes, 1),
+        () => dethrux.detectBom(bytes, "bom"),
+        () => dethrux.decoder("utf-16"),
+        () => dethrux.decoder("bom", "utf-16"),
+        () => dethrux.decoder("le").feed(unitsOf("a")),
+        () => dethrux.decoder().feed(bytes),
+        () => dethrux.encoder("le").feed("a"),
+    ];
+    wrong.forEach((call) => assert.throws(call, TypeError, String(call)));
+    for (const at of [-1, 0.5, NaN, Infinity, 2 ** 53]) {
+        assert.throws(() => dethrux.isCharBoundary(bytes, "le", at), RangeError);
+        assert.throws(() => dethrux.toUtf8(bytes, "le", at), RangeError);
+    }
+});
+
+test("too little memory throws a RangeError, and later calls work", () => {
+    const huge = new Uint8Array(new ArrayBuffer(0, { maxByteLength: 8 }));
+    Object.defineProperty(huge, "length", { value: 2 ** 45 });
+    assert.throws(() => dethrux.toUtf8(huge, "le"), RangeError);
+    assert.deepEqual(dethrux.toUtf8(unitsOf("a")).output, utf8("a"));
+});
+
+test("an input that needs more memory than the module has", async () => {
+    const units = new Uint16Array(3_000_000).fill(0x4e00);
+    const { output, status } = (await load()).toUtf8(units);
+    assert.equal(status, "done");
+    assert.ok(new TextDecoder().decode(output) === "\u4e00".repeat(3_000_000));
+    const utf32 = (await load()).toUtf32(units).output;
+    assert.ok(utf32.length === units.length && utf32.every((it) => it === 0x4e00));
+    const back = (await load()).fromUtf32(utf32).output;
+    assert.ok(back.length === units.length && back.every((it) => it === 0x4e00));
+});
+
+test("a module from a server", async () => {
+    const bytes = readFileSync(new URL(import.meta.resolve("dethrux/dethrux.wasm")));
+    const server = createServer(({ url }, answer) => {
+        answer.writeHead(url === "/dethrux.wasm" ? 200 : 404).end(bytes);
+    });
+    await new Promise((resolve) => server.listen(0, "127.0.0.1", resolve));
+    const at = (path) => new URL(`http://127.0.0.1:${server.address().port}/${path}`);
+    try {
+        assert.equal((await load(at("dethrux.wasm"))).version(), dethrux.version());
+        await assert.rejects(load(at("other.wasm")), /cannot be read: 404/);
+    } finally {
+        server.closeAllConnections();
+        server.close();
+    }
+});
+
+test("a module as bytes, compiled, and at a URL", async () => {
+    const url = new URL(import.meta.resolve("dethrux/dethrux.wasm"));
+    const bytes = readFileSync(url);
+    const data = new URL(`data:application/wasm;base64,${bytes.toString("base64")}`);
+    for (const source of [url, data, bytes, new WebAssembly.Module(bytes)]) {
+        assert.equal((await load(source)).version(), dethrux.version());
+    }
+    assert.ok(isSupported());
+    await assert.rejects(load(Uint8Array.of(...HEAD)), /module is not that/);
+    const ofVersion1 = [
+        ...[...HEAD, 1, 5, 1, 0x60, 0, 1, 0x7f, 3, 2, 1, 0, 7, 19, 1, 15],
+        ...[...utf8("dethrux_version"), 0, 0, 10, 6, 1, 4, 0, 0x41, 1, 0x0b],
+    ];
+    await assert.rejects(load(Uint8Array.from(ofVersion1)), /module is not that/);
+    await assert.rejects(load(new URL("file:///no/such/file")), /ENOENT/);
+    await assert.rejects(load(Uint8Array.of(1, 2, 3)), WebAssembly.CompileError);
+});

@@ -1,0 +1,300 @@
+// Reads the tables of cases/ and makes the calls that the package has: on bytes, and in little
+// endian also on code units. Prints each case whose result differs, with both results, and last
+// 'N passed, M failed'. Cases of other calls, and cases with a condition on memory or devices, are
+// skipped.
+import { readFileSync } from "node:fs";
+import { load } from "dethrux";
+
+const dethrux = await load();
+const ORDERS = { le: ["le"], be: ["be"], both: ["le", "be"] };
+const STOPS = { done: "end", incomplete: "incomplete", "no-space": "no_space", "not-latin1": "not_latin1" };
+const hex = (array) => Buffer.from(array).toString("hex").toUpperCase() || "-";
+const swapped = (bytes) => Buffer.from(bytes, 0).map((_, at, all) => all[at ^ 1] ?? all[at]);
+const unescaped = (it) => it.replace(/\\u\{([0-9A-F]+)\}/g, (_, point) => String.fromCodePoint(parseInt(point, 16)));
+
+/** The bytes that a word without repetitions spells. */
+function part(word, order) {
+    if (word === "-") {
+        return Buffer.alloc(0);
+    }
+    if (word.startsWith("~")) {
+        const bytes = Buffer.from(unescaped(word.slice(2, -1)), "utf16le");
+        return order === "be" ? swapped(bytes) : bytes;
+    }
+    if (word.startsWith('"')) {
+        return Buffer.from(unescaped(word.slice(1, -1)));
+    }
+    if (word.startsWith("^")) {
+        const bytes = Buffer.from(word.slice(1), "hex");
+        return order === "le" ? swapped(bytes) : bytes;
+    }
+    return Buffer.from(word, "hex");
+}
+
+/** The bytes that a word of a case spells. */
+function spelled(word, order) {
+    const parts = /^\d+\*/.test(word) ? word.split("+").map((it) => it.split("*")) : [[1, word]];
+    return Buffer.concat(parts.flatMap(([count, it]) => Array(Number(count)).fill(part(it, order))));
+}
+
+const bytes = (word, order) => new Uint8Array(spelled(word, order));
+const chunks = (words, order) => (words[0] ?? "").split(",").filter(Boolean).map((it) => bytes(it, order));
+
+/** UTF-32, which a case spells in big endian. */
+function points(word) {
+    const raw = spelled(word, "be");
+    return Uint32Array.from({ length: raw.length / 4 }, (_, at) => raw.readUInt32BE(at * 4));
+}
+
+function spelledPoints(array) {
+    const raw = Buffer.alloc(array.length * 4);
+    array.forEach((it, at) => raw.writeUInt32BE(it, at * 4));
+    return raw;
+}
+
+/** Fails if a function on code units gives something else than on bytes in little endian. */
+function agree(found, name, order, raw, divided, ...more) {
+    if (order === "be" || raw.length % 2) {
+        return found;
+    }
+    const onUnits = dethrux[name](new Uint16Array(raw.slice().buffer), ...more);
+    const wanted = typeof found === "object" ? { ...found } : found;
+    for (const field of divided) {
+        wanted[field] /= 2;
+    }
+    if (JSON.stringify(onUnits) !== JSON.stringify(wanted)) {
+        throw new Error(`on code units: ${JSON.stringify(onUnits)}`);
+    }
+    return found;
+}
+
+const stop = ({ status, errorLen }) => (status === "ill-formed" ? ["ill_formed", errorLen] : [STOPS[status]]);
+const text = (array) => ({ isText: true, bytes: Buffer.from(array) });
+const raw = (array) => ({ isText: false, bytes: Buffer.from(array) });
+
+/** A conversion from UTF-16. */
+function fromUtf16(name, size, made) {
+    return (order, [source, room]) => {
+        const utf16 = bytes(source, order);
+        const capacity = room === "size" ? size(utf16, order) : Number(room);
+        const found = dethrux[name](utf16, order, capacity);
+        agree(found, name, order, utf16, ["read", "errorLen"], capacity);
+        return [found.read, found.output.length, ...stop(found), made(found.output)];
+    };
+}
+
+/** A conversion to UTF-16, from what a case spells so. */
+function toUtf16(name, size, spell = bytes) {
+    return (order, [source, room]) => {
+        const array = spell(source, order);
+        const capacity = room === "size" ? dethrux[size](array, order) : Number(room);
+        const found = dethrux[name](array, order, capacity);
+        const units = order === "le" && capacity % 2 === 0 && dethrux[name](array, undefined, capacity / 2);
+        if (units && hex(new Uint8Array(units.output.buffer)) !== hex(found.output)) {
+            throw new Error(`on code units: ${units.output}`);
+        }
+        return [found.read, found.output.length, ...stop(found), raw(found.output)];
+    };
+}
+
+/** What is asked of UTF-16. */
+function asked(name, divided, words) {
+    return (order, [source]) => {
+        const utf16 = bytes(source, order);
+        return words(agree(dethrux[name](utf16, order), name, order, utf16, divided), utf16);
+    };
+}
+
+function validity(found, whole) {
+    if (found.status === "done") {
+        return whole;
+    }
+    return ["error", found.validUpTo, found.status === "incomplete" ? "none" : found.errorLen];
+}
+
+/** What a decoder or an encoder gives for chunks. */
+function fed(coder, parts) {
+    return Buffer.concat([...parts.map((it) => coder.feed(it)), coder.finish()]);
+}
+
+/** A stream cut into single bytes, and in two at each place. */
+function cuttings(array) {
+    const two = Array.from({ length: array.length + 1 }, (_, at) => [array.subarray(0, at), array.subarray(at)]);
+    return [Array.from(array, (it) => Uint8Array.of(it)), ...two];
+}
+
+/** The output for a stream, and any other that a cutting gives. */
+function cutAnywhere(array, made, coder) {
+    const whole = fed(made(coder), [array]);
+    const all = cuttings(array).map((parts) => fed(made(coder), parts));
+    return [whole, ...all.filter((it) => !it.equals(whole))];
+}
+
+function fromUtf8Lossy(order, words) {
+    const found = toUtf16("fromUtf8Lossy", "fromUtf8LossyLen")(order, words);
+    const streams = found[2] === "end" ? cutAnywhere(bytes(words[0], order), dethrux.encoder, order) : [];
+    return [...found, ...streams.filter((it) => !it.equals(found.at(-1).bytes)).map(raw)];
+}
+
+function fedLossy(order, words) {
+    const decoder = dethrux.decoder(order);
+    const found = chunks(words, order).flatMap((it) => [text(decoder.feed(it)), raw(decoder.pending)]);
+    return [...found, decoder.finish().length ? "'\\u{FFFD}'" : "none"];
+}
+
+function compared(order, [first, second]) {
+    const arrays = [bytes(first, order), bytes(second, order)];
+    const found = dethrux.compare(arrays[0], order, arrays[1], order);
+    const other = arrays[1].slice();
+    dethrux.swapByteOrder(other);
+    const isSame = dethrux.compare(arrays[0], order, other, order === "le" ? "be" : "le") === found;
+    return [isSame ? ["less", "equal", "greater"][found + 1] : "differs"];
+}
+
+function searched(name) {
+    return (order, words) => {
+        const [utf16, pattern] = words.map((it) => bytes(it, order));
+        const found = dethrux[name](utf16, order, pattern);
+        if (order === "le" && utf16.length % 2 === 0 && pattern.length % 2 === 0) {
+            const arrays = [utf16, pattern].map((it) => new Uint16Array(it.slice().buffer));
+            const units = dethrux[name](...arrays);
+            if (units !== (found === -1 ? -1 : found / 2)) {
+                throw new Error(`on code units: ${units}`);
+            }
+        }
+        return [found === -1 ? "none" : found];
+    };
+}
+
+function changed(name, isCounted) {
+    return (order, [source]) => {
+        const array = bytes(source, order);
+        const found = isCounted ? dethrux[name](array, order) : dethrux[name](array);
+        return isCounted ? [found, raw(array)] : [raw(array)];
+    };
+}
+
+function atOffset(name, isOffset) {
+    return (order, [source, at]) => {
+        const utf16 = bytes(source, order);
+        const offset = at === "max" ? Number.MAX_SAFE_INTEGER : Number(at);
+        const found = dethrux[name](utf16, order, offset);
+        if (order === "le" && utf16.length % 2 === 0 && offset % 2 === 0) {
+            const units = dethrux[name](new Uint16Array(utf16.slice().buffer), offset / 2);
+            if ((isOffset ? units * 2 : units) !== found) {
+                throw new Error(`on code units: ${units}`);
+            }
+        }
+        return [found];
+    };
+}
+
+const number = (found) => [found];
+const utf8Size = (utf16, order) => dethrux.toUtf8LossyLen(utf16, order);
+const wtf8Size = (utf16, order) => dethrux.toWtf8Len(utf16, order);
+const utf32Size = (utf16, order) => dethrux.toUtf32LossyLen(utf16, order);
+const madePoints = (it) => raw(spelledPoints(it));
+const CALLS = {
+    validate_raw_utf16: asked("validate", ["validUpTo", "errorLen"], (it) => validity(it, ["done"])),
+    "WStr::from_utf16": asked("validate", ["validUpTo", "errorLen"], (it, utf16) => validity(it, [raw(utf16)])),
+    count_chars: asked("countChars", [], number),
+    is_ascii: asked("isAscii", [], number),
+    to_utf8_lossy_len: asked("toUtf8LossyLen", [], number),
+    to_utf32_lossy_len: asked("toUtf32LossyLen", [], number),
+    from_utf8_len: (order, [source]) => [dethrux.fromUtf8Len(bytes(source, order), order)],
+    from_utf8_lossy_len: (order, [source]) => [dethrux.fromUtf8LossyLen(bytes(source, order), order)],
+    from_utf32_lossy_len: (order, [source]) => [dethrux.fromUtf32LossyLen(points(source), order)],
+    inspect: asked("inspect", ["validUpTo", "errorLen"], (it) => [it.validUpTo, it.chars, it.repertoire, ...stop(it)]),
+    validate_utf32: (_order, [source]) => {
+        const { status, validUpTo, errorLen } = dethrux.validateUtf32(points(source));
+        return status === "ill-formed" && errorLen === 1 ? [validUpTo] : [status];
+    },
+    to_utf8: fromUtf16("toUtf8", utf8Size, text),
+    to_utf8_lossy: fromUtf16("toUtf8Lossy", utf8Size, text),
+    to_utf8_partial: fromUtf16("toUtf8Partial", utf8Size, text),
+    to_utf32: fromUtf16("toUtf32", utf32Size, madePoints),
+    to_utf32_lossy: fromUtf16("toUtf32Lossy", utf32Size, madePoints),
+    to_latin1: fromUtf16("toLatin1", (it) => it.length, raw),
+    to_wtf8: fromUtf16("toWtf8", wtf8Size, raw),
+    to_wtf8_partial: fromUtf16("toWtf8Partial", wtf8Size, raw),
+    to_wtf8_len: asked("toWtf8Len", [], number),
+    from_wtf8: toUtf16("fromWtf8"),
+    from_wtf8_partial: toUtf16("fromWtf8Partial"),
+    from_utf8: toUtf16("fromUtf8", "fromUtf8LossyLen"),
+    from_utf8_lossy: fromUtf8Lossy,
+    from_latin1: toUtf16("fromLatin1"),
+    from_utf32: toUtf16("fromUtf32", "fromUtf32LossyLen", points),
+    from_utf32_lossy: toUtf16("fromUtf32Lossy", "fromUtf32LossyLen", points),
+    "bytes::is_char_boundary": atOffset("isCharBoundary", false),
+    "bytes::floor_char_boundary": atOffset("floorCharBoundary", true),
+    "bytes::floor_char_boundary_around": (order, [source, at]) => [
+        dethrux.floorCharBoundaryAround(bytes(source, order), order, BigInt(at)),
+    ],
+    shard_offset: (_order, words) => [dethrux.shardOffset(...words.map(BigInt))],
+    swap_byte_order: changed("swapByteOrder", false),
+    make_well_formed: changed("makeWellFormed", true),
+    "bytes::compare": compared,
+    "search::find": searched("find"),
+    "search::rfind": searched("rfind"),
+    every_chunking: (order, [source]) => cutAnywhere(bytes(source, order), dethrux.decoder, order).map(text),
+    "AnyLossy::every_chunking": (order, [source]) =>
+        cutAnywhere(bytes(source, order), dethrux.decoder, "bom").map(text),
+    "Lossy::feed": fedLossy,
+    decode_pieces: (order, words) => [text(fed(dethrux.decoder(order), chunks(words, order)))],
+};
+
+function isWanted(found, word, order) {
+    if (typeof found !== "object") {
+        return String(found) === word;
+    }
+    const isText = word.includes('"') && !word.includes("~");
+    return found.isText === isText && found.bytes.equals(spelled(word, order));
+}
+
+function shown(found) {
+    return found.map((it) => (typeof it === "object" ? hex(it.bytes) : it)).join(" ");
+}
+
+/** Whether a case holds, or why not. */
+function fault(order, call, values, wanted) {
+    try {
+        const found = CALLS[call](order, values);
+        const holds = found.length === wanted.length && found.every((it, at) => isWanted(it, wanted[at], order));
+        return holds ? undefined : `found in ${order}: ${shown(found)}`;
+    } catch (error) {
+        return `${order}: ${error.message}`;
+    }
+}
+
+const counts = { passed: 0, failed: 0 };
+const made = new Set();
+
+function count(said, line) {
+    counts[said ? "failed" : "passed"] += 1;
+    if (said) {
+        console.log(`JavaScript failed: ${line}\n   ${said}`);
+    }
+}
+
+function runLine(line) {
+    const [, how, call, ...words] = line.trim().split(/\s+/);
+    const equals = words.indexOf("=");
+    if (!line.trim() || line.startsWith("#") || how?.includes(";") || (call && !(call in CALLS))) {
+        return;
+    }
+    if (equals < 0 || !(how in ORDERS)) {
+        count("this is not a case", line);
+        return;
+    }
+    made.add(call);
+    for (const order of ORDERS[how]) {
+        count(fault(order, call, words.slice(0, equals), words.slice(equals + 1)), line);
+    }
+}
+
+process.argv.slice(2).forEach((path) => readFileSync(path, "utf8").split("\n").forEach(runLine));
+for (const call of Object.keys(CALLS).filter((it) => !made.has(it))) {
+    count("there is no case of it", call);
+}
+console.log(`${counts.passed} passed, ${counts.failed} failed`);
+process.exitCode = counts.failed ? 1 : 0;

@@ -1,0 +1,145 @@
+import assert from "node:assert/strict";
+import { test } from "node:test";
+import { load, stringOf, unitsOf } from "dethrux";
+
+const dethrux = await load();
+const utf8 = (text) => new TextEncoder().encode(text);
+const le = (text) => new Uint8Array(unitsOf(text).buffer);
+const TEXT = "a\u00e9\u4e00\u{1f600}\udc00b\ud800";
+
+/** The chunks that a stream gives for these. */
+async function passed(chunks, through) {
+    const found = [];
+    for await (const chunk of ReadableStream.from(chunks).pipeThrough(through)) {
+        found.push(chunk);
+    }
+    return found;
+}
+
+const together = (chunks) => new Uint8Array(Buffer.concat(chunks));
+const singly = (array) => Array.from(array, (_, at) => array.subarray(at, at + 1));
+
+test("a stream of bytes in both byte orders", async () => {
+    for (const order of ["le", "be"]) {
+        const bytes = le(TEXT);
+        if (order === "be") {
+            dethrux.swapByteOrder(bytes);
+        }
+        const found = await passed(singly(bytes), dethrux.decoderStream(order));
+        assert.deepEqual(together(found), utf8(TEXT));
+        assert.ok(found.every((it) => it.length > 0));
+    }
+});
+
+test("a stream of code units", async () => {
+    const found = await passed(singly(unitsOf(TEXT)), dethrux.decoderStream());
+    assert.deepEqual(together(found), utf8(TEXT));
+});
+
+test("a stream with a BOM, and without one", async () => {
+    const bytes = le(`\ufeff${TEXT}`);
+    assert.deepEqual(together(await passed(singly(bytes), dethrux.decoderStream("bom"))), utf8(TEXT));
+    dethrux.swapByteOrder(bytes);
+    assert.deepEqual(together(await passed([bytes], dethrux.decoderStream("bom"))), utf8(TEXT));
+    const without = await passed(singly(le(TEXT)), dethrux.decoderStream("bom", "le"));
+    assert.deepEqual(together(without), utf8(TEXT));
+    assert.deepEqual(await passed([], dethrux.decoderStream("bom")), []);
+    assert.deepEqual(together(await passed([Uint8Array.of(0xff)], dethrux.decoderStream("bom"))), utf8("\ufffd"));
+});
+
+test("streams to WTF-8", async () => {
+    const wanted = dethrux.toWtf8(unitsOf(TEXT)).output;
+    assert.deepEqual(together(await passed(singly(unitsOf(TEXT)), dethrux.wtf8DecoderStream())), wanted);
+    assert.deepEqual(together(await passed(singly(le(TEXT)), dethrux.wtf8DecoderStream("le"))), wanted);
+    const odd = [...le(TEXT), 0x61].map((it) => Uint8Array.of(it));
+    await assert.rejects(passed(odd, dethrux.wtf8DecoderStream("le")), /odd byte/);
+    const decoder = dethrux.wtf8Decoder("le");
+    assert.deepEqual(decoder.feed(Uint8Array.of(0x3d, 0xd8, 0x61)), new Uint8Array());
+    assert.throws(() => decoder.finish(), /odd byte/);
+    assert.deepEqual(decoder.pending, Uint8Array.of(0x3d, 0xd8, 0x61));
+    assert.deepEqual(decoder.feed(Uint8Array.of(0)), Uint8Array.of(0xed, 0xa0, 0xbd, 0x61));
+});
+
+test("streams of UTF-8", async () => {
+    const bytes = Uint8Array.of(...utf8("a\u4e00\u{1f600}"), 0xe2, 0x82);
+    const text = new TextDecoder().decode(bytes);
+    assert.equal((await passed(singly(bytes), dethrux.encoderStream())).map(stringOf).join(""), text);
+    assert.deepEqual(together(await passed(singly(bytes), dethrux.encoderStream("le"))), le(text));
+});
+
+test("what is pending", () => {
+    const decoder = dethrux.decoder("le");
+    assert.deepEqual(decoder.feed(Uint8Array.of(0x61, 0, 0x3d, 0xd8, 0)), utf8("a"));
+    assert.deepEqual(decoder.pending, Uint8Array.of(0x3d, 0xd8, 0));
+    assert.deepEqual(decoder.feed(Uint8Array.of(0xde)), utf8("\u{1f600}"));
+    assert.deepEqual(decoder.pending, new Uint8Array());
+    const ofUnits = dethrux.decoder();
+    ofUnits.feed(Uint16Array.of(0x61, 0xd83d));
+    assert.deepEqual(ofUnits.pending, Uint16Array.of(0xd83d));
+    const encoder = dethrux.encoder("le");
+    encoder.feed(Uint8Array.of(0xf0, 0x9f));
+    assert.deepEqual(encoder.pending, Uint8Array.of(0xf0, 0x9f));
+    const bom = dethrux.decoder("bom");
+    bom.feed(Uint8Array.of(0xff));
+    assert.deepEqual(bom.pending, Uint8Array.of(0xff));
+});
+
+test("a decoder begins a new stream after its end", () => {
+    for (const order of ["le", "bom"]) {
+        const decoder = dethrux.decoder(order, order === "bom" ? "le" : undefined);
+        decoder.feed(Uint8Array.of(0x61, 0, 0x3d));
+        assert.deepEqual(decoder.finish(), utf8("\ufffd"));
+        assert.deepEqual(decoder.feed(Uint8Array.of(0x61, 0)), utf8("a"));
+        assert.deepEqual(decoder.finish(), new Uint8Array());
+    }
+    const decoder = dethrux.decoder("bom");
+    assert.deepEqual(decoder.feed(Uint8Array.of(0xfe, 0xff, 0, 0x61)), utf8("a"));
+    decoder.finish();
+    assert.deepEqual(decoder.feed(Uint8Array.of(0xff, 0xfe, 0x61, 0)), utf8("a"));
+});
+
+test("two decoders at once do not mix", () => {
+    const [first, second] = [dethrux.decoder("le"), dethrux.decoder("be")];
+    first.feed(Uint8Array.of(0x3d, 0xd8));
+    second.feed(Uint8Array.of(0));
+    assert.deepEqual(first.feed(Uint8Array.of(0, 0xde)), utf8("\u{1f600}"));
+    assert.deepEqual(second.feed(Uint8Array.of(0x61)), utf8("a"));
+});
+
+test("a chunk that is larger than a slice", () => {
+    const text = `${"x".repeat(32767)}\u{1f600}`.repeat(5);
+    const decoder = dethrux.decoder();
+    assert.ok(Buffer.from(decoder.feed(unitsOf(text))).equals(utf8(text)));
+    const encoder = dethrux.encoder();
+    assert.ok(stringOf(encoder.feed(utf8(text))) === text);
+});
+
+test("a chunk without memory for its text changes nothing", () => {
+    const decoder = dethrux.decoder("le");
+    decoder.feed(Uint8Array.of(0x3d));
+    const chunk = new Uint8Array(70_000);
+    const typed = Object.getPrototypeOf(Uint8Array.prototype);
+    const { set } = typed;
+    // The text of the whole chunk, 3 bytes for D83D, which is unpaired, and 1 for each unit after.
+    typed.set = function (...words) {
+        if (this.length === 35_002) {
+            throw new RangeError("no memory");
+        }
+        return set.apply(this, words);
+    };
+    chunk[0] = 0xd8;
+    try {
+        assert.throws(() => decoder.feed(chunk), /no memory/);
+    } finally {
+        typed.set = set;
+    }
+    assert.deepEqual(decoder.pending, Uint8Array.of(0x3d));
+    assert.equal(decoder.feed(chunk).length, 35_002);
+});
+
+test("a wrong chunk changes nothing", () => {
+    const decoder = dethrux.decoder("le");
+    decoder.feed(Uint8Array.of(0x3d));
+    assert.throws(() => decoder.feed("a"), TypeError);
+    assert.deepEqual(decoder.pending, Uint8Array.of(0x3d));
+});

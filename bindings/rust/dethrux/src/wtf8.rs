@@ -1,0 +1,256 @@
+//! WTF-8: any code units of UTF-16, unpaired surrogates too, without loss.
+
+#[cfg(feature = "alloc")]
+use alloc::vec::Vec;
+use core::fmt;
+#[cfg(all(feature = "std", any(unix, windows)))]
+use std::ffi::{OsStr, OsString};
+
+use crate::convert::convert;
+#[cfg(feature = "alloc")]
+use crate::{
+    buffer::{append, trimmed, units_of},
+    from_utf8_max_len, units_as_bytes, Status, Utf16Error,
+};
+use crate::{ffi, Buffer, ByteOrder, Progress};
+
+/// Converts all code units of UTF-16 to WTF-8, with each unpaired surrogate as itself. A capacity
+/// of [`to_wtf8_max_len`] suffices. [`Status::Incomplete`](crate::Status::Incomplete) is an odd
+/// byte at the end, which is not read.
+///
+/// ```
+/// use dethrux::{to_wtf8, ByteOrder::LittleEndian};
+///
+/// let mut wtf8 = [0; 8];
+/// let progress = to_wtf8(LittleEndian, b"h\0\x3D\xD8i\0", &mut wtf8);
+/// assert_eq!(wtf8[..progress.written], *b"h\xED\xA0\xBDi");
+/// ```
+#[must_use]
+pub fn to_wtf8<B: Buffer + ?Sized>(order: ByteOrder, utf16: &[u8], to: &mut B) -> Progress {
+    convert(ffi::dethrux_to_wtf8, order, utf16, to)
+}
+
+/// Converts the next chunk of a stream like [`to_wtf8`], but does not read a leading surrogate at
+/// the end, which a trailing one may follow. With
+/// [`Status::Incomplete`](crate::Status::Incomplete) put the 1 to 3 bytes that were not read before
+/// the next chunk, and at the end of the stream pass them to [`to_wtf8`].
+#[must_use]
+pub fn to_wtf8_partial<B: Buffer + ?Sized>(order: ByteOrder, utf16: &[u8], to: &mut B) -> Progress {
+    convert(ffi::dethrux_to_wtf8_partial, order, utf16, to)
+}
+
+/// Converts WTF-8 to UTF-16, up to the first ill-formed sequence, with each surrogate as one code
+/// unit. A capacity of [`from_utf8_max_len`](crate::from_utf8_max_len) suffices. A trailing
+/// surrogate directly after a leading one is ill formed: the WTF-8 of a pair is the four bytes of
+/// its character.
+#[must_use]
+pub fn from_wtf8<B: Buffer + ?Sized>(order: ByteOrder, wtf8: &[u8], to: &mut B) -> Progress {
+    convert(ffi::dethrux_from_wtf8, order, wtf8, to)
+}
+
+/// Converts the next chunk of a stream like [`from_wtf8`], but does not read what more bytes could
+/// change at the end. With [`Status::Incomplete`](crate::Status::Incomplete) put the 1 to 6 bytes
+/// that were not read before the next chunk, and at the end of the stream pass them to
+/// [`from_wtf8`].
+#[must_use]
+pub fn from_wtf8_partial<B: Buffer + ?Sized>(
+    order: ByteOrder,
+    wtf8: &[u8],
+    to: &mut B,
+) -> Progress {
+    convert(ffi::dethrux_from_wtf8_partial, order, wtf8, to)
+}
+
+/// Returns the length of what [`to_wtf8`] writes for the whole input.
+#[must_use]
+pub fn to_wtf8_len(order: ByteOrder, utf16: &[u8]) -> usize {
+    // SAFETY: the pointer and the length come from a slice.
+    unsafe { ffi::dethrux_to_wtf8_len(order, utf16.as_ptr(), utf16.len()) }
+}
+
+/// Returns a capacity in bytes that suffices for the WTF-8 of every input of `len` bytes of UTF-16,
+/// and that some input needs.
+#[must_use]
+pub const fn to_wtf8_max_len(len: usize) -> usize {
+    (len / 2).saturating_mul(3)
+}
+
+/// The bytes are not WTF-8. It has the fields of std's [`Utf8Error`].
+///
+/// [`Utf8Error`]: core::str::Utf8Error
+#[derive(Clone, Copy, Debug, Eq, PartialEq)]
+pub struct Wtf8Error {
+    valid_up_to: usize,
+    error_len: Option<u8>,
+}
+
+impl Wtf8Error {
+    /// Returns the length of the longest prefix that is WTF-8, in bytes.
+    #[must_use]
+    pub fn valid_up_to(&self) -> usize {
+        self.valid_up_to
+    }
+
+    /// Returns the length of the ill-formed sequence after that prefix, in bytes, 1 to 3. Returns
+    /// `None` if the input ends inside a character or surrogate.
+    #[must_use]
+    pub fn error_len(&self) -> Option<usize> {
+        self.error_len.map(usize::from)
+    }
+}
+
+impl fmt::Display for Wtf8Error {
+    fn fmt(&self, f: &mut fmt::Formatter<'_>) -> fmt::Result {
+        let at = self.valid_up_to;
+        match self.error_len {
+            Some(len) => write!(f, "invalid wtf-8 sequence of {len} bytes from index {at}"),
+            None => write!(f, "incomplete wtf-8 byte sequence from index {at}"),
+        }
+    }
+}
+
+#[cfg(feature = "std")]
+impl std::error::Error for Wtf8Error {}
+
+/// An error of the kind `InvalidData`. `get_ref` and `downcast_ref` return the [`Wtf8Error`].
+#[cfg(feature = "std")]
+impl From<Wtf8Error> for std::io::Error {
+    fn from(error: Wtf8Error) -> Self {
+        std::io::Error::new(std::io::ErrorKind::InvalidData, error)
+    }
+}
+
+/// Returns the error of a conversion from WTF-8 that has enough capacity.
+#[cfg(feature = "alloc")]
+fn tested(progress: Progress) -> Result<(), Wtf8Error> {
+    let error_len = match progress.status {
+        Status::Done => return Ok(()),
+        Status::IllFormed(len) => Some(len as u8),
+        Status::Incomplete | Status::NoSpace => None,
+    };
+    Err(Wtf8Error {
+        valid_up_to: progress.read,
+        error_len,
+    })
+}
+
+/// Returns all code units of UTF-16 in WTF-8.
+///
+/// # Errors
+///
+/// If there is an odd byte at the end: `valid_up_to` is its offset, and `error_len` is `None`.
+///
+/// ```
+/// use dethrux::{decode_to_wtf8, ByteOrder::LittleEndian};
+///
+/// assert_eq!(decode_to_wtf8(LittleEndian, b"h\0\x3D\xD8").unwrap(), b"h\xED\xA0\xBD");
+/// assert_eq!(decode_to_wtf8(LittleEndian, b"h\0i").unwrap_err().valid_up_to(), 2);
+/// ```
+#[cfg(feature = "alloc")]
+pub fn decode_to_wtf8(order: ByteOrder, utf16: &[u8]) -> Result<Vec<u8>, Utf16Error> {
+    let mut wtf8 = Vec::new();
+    let max_len = to_wtf8_max_len(utf16.len());
+    // SAFETY: the library initializes what it wrote.
+    let progress = unsafe { append(&mut wtf8, max_len, |spare| to_wtf8(order, utf16, spare)) };
+    match progress.status {
+        Status::Done => Ok(trimmed(wtf8)),
+        _ => Err(Utf16Error {
+            valid_up_to: progress.read,
+            error_len: None,
+        }),
+    }
+}
+
+/// Returns WTF-8 in UTF-16, with each surrogate as one code unit.
+///
+/// # Errors
+///
+/// If the bytes are not WTF-8.
+///
+/// ```
+/// use dethrux::{encode_from_wtf8, ByteOrder::LittleEndian};
+///
+/// assert_eq!(encode_from_wtf8(LittleEndian, b"h\xED\xA0\xBD").unwrap(), b"h\0\x3D\xD8");
+/// let pair = encode_from_wtf8(LittleEndian, b"\xED\xA0\xBD\xED\xB8\x80").unwrap_err();
+/// assert_eq!((pair.valid_up_to(), pair.error_len()), (3, Some(3)));
+/// ```
+#[cfg(feature = "alloc")]
+pub fn encode_from_wtf8(order: ByteOrder, wtf8: &[u8]) -> Result<Vec<u8>, Wtf8Error> {
+    let mut utf16 = Vec::new();
+    let max_len = from_utf8_max_len(wtf8.len());
+    // SAFETY: the library initializes what it wrote.
+    tested(unsafe { append(&mut utf16, max_len, |spare| from_wtf8(order, wtf8, spare)) })?;
+    Ok(trimmed(utf16))
+}
+
+/// Returns code units, in the byte order of the machine, in WTF-8.
+///
+/// ```
+/// assert_eq!(dethrux::units_to_wtf8(&[0x68, 0xD83D]), b"h\xED\xA0\xBD");
+/// ```
+#[cfg(feature = "alloc")]
+#[must_use]
+pub fn units_to_wtf8(units: &[u16]) -> Vec<u8> {
+    let utf16 = units_as_bytes(units);
+    let mut wtf8 = Vec::new();
+    let max_len = to_wtf8_max_len(utf16.len());
+    // SAFETY: the library initializes what it wrote.
+    unsafe {
+        append(&mut wtf8, max_len, |spare| {
+            to_wtf8(ByteOrder::NATIVE, utf16, spare)
+        })
+    };
+    trimmed(wtf8)
+}
+
+/// Returns WTF-8 in code units.
+///
+/// # Errors
+///
+/// If the bytes are not WTF-8.
+///
+/// ```
+/// assert_eq!(dethrux::units_from_wtf8(b"h\xED\xA0\xBD").unwrap(), [0x68, 0xD83D]);
+/// ```
+#[cfg(feature = "alloc")]
+pub fn units_from_wtf8(wtf8: &[u8]) -> Result<Vec<u16>, Wtf8Error> {
+    // SAFETY: the library writes whole units, and initializes what it wrote.
+    let (units, progress) = unsafe {
+        units_of(wtf8.len(), |spare| {
+            from_wtf8(ByteOrder::NATIVE, wtf8, spare)
+        })
+    };
+    tested(progress)?;
+    Ok(trimmed(units))
+}
+
+/// Returns code units, such as a file name of NTFS, as an `OsString`, without loss: on Unix its
+/// bytes are WTF-8, on Windows it is `OsString::from_wide`.
+///
+/// ```
+/// use dethrux::{os_string_from_units, units_from_os_str};
+///
+/// let name = [0x68, 0xD83D, 0x2E, 0x74, 0x78, 0x74];
+/// assert_eq!(units_from_os_str(&os_string_from_units(&name)).unwrap(), name);
+/// ```
+#[cfg(all(feature = "std", any(unix, windows)))]
+#[must_use]
+pub fn os_string_from_units(units: &[u16]) -> OsString {
+    #[cfg(unix)]
+    return std::os::unix::ffi::OsStringExt::from_vec(units_to_wtf8(units));
+    #[cfg(windows)]
+    return std::os::windows::ffi::OsStringExt::from_wide(units);
+}
+
+/// Returns the code units of an `OsStr`: what [`os_string_from_units`] was made of.
+///
+/// # Errors
+///
+/// On Unix, if the bytes are not WTF-8. On Windows the call always succeeds.
+#[cfg(all(feature = "std", any(unix, windows)))]
+pub fn units_from_os_str(text: &OsStr) -> Result<Vec<u16>, Wtf8Error> {
+    #[cfg(unix)]
+    return units_from_wtf8(std::os::unix::ffi::OsStrExt::as_bytes(text));
+    #[cfg(windows)]
+    return Ok(std::os::windows::ffi::OsStrExt::encode_wide(text).collect());
+}
