@@ -27,7 +27,7 @@ check() {
 
 # Installs Debian packages.
 install_packages() {
-    apt-get -o DPkg::Lock::Timeout=60 install -y -q --no-install-recommends "$@"
+    apt-get -o DPkg::Lock::Timeout=600 install -y -q --no-install-recommends "$@"
 }
 
 # Tests that there is a tool or a file.

@@ -36,7 +36,7 @@ jumps = [(int(at, 16), int(end, 16)) for (at, name), (end, _) in zip(lines, line
          if name.startswith("j") and int(end, 16) > int(at, 16)]
 crossing = [at for at, end in jumps if at // 32 != end // 32]
 print(f"{len(crossing)} of {len(jumps)} jumps cross or end a block")
-sys.exit(len(crossing) > 3 or len(jumps) < 1000)
+sys.exit(len(crossing) * 1000 > len(jumps) or len(jumps) < 1000)
 '
 }
 

@@ -4,8 +4,12 @@
 # The last line is 'N passed, M failed'.
 set -uo pipefail
 packages=(pkg-config librust-byteorder-dev libicu-dev)
-# A part that needs one of these is left out if it is missing, and a line says so.
+# A part that needs one of these is left out, or fails, if it is missing, and says so. They are
+# installed here, because the parts after this one run side by side.
 optional=(python3-distributed)
+optional+=(cmake debhelper dpkg-dev lintian lld qemu-user wine64 gcc-aarch64-linux-gnu)
+optional+=(g++-aarch64-linux-gnu libc6-dev-arm64-cross)
+optional+=(gcc-mingw-w64-x86-64 g++-mingw-w64-x86-64)
 passed=0
 failed=0
 
@@ -13,21 +17,28 @@ is_installed() {
     dpkg-query -f '${db:Status-Status}\n' -W "$1" 2> /dev/null | grep -qx installed
 }
 
-missing=()
-for package in "${packages[@]}"; do
-    is_installed "$package" || missing+=("$package")
-done
-if [ ${#missing[@]} != 0 ] && [ $EUID = 0 ]; then
-    apt-get install -y -q --no-install-recommends "${missing[@]}" > /dev/null 2>&1 < /dev/null ||
-        { apt-get update -q && apt-get install -y -q --no-install-recommends "${missing[@]}"; } \
-            > /dev/null 2>&1 < /dev/null
-fi
+# Installs packages, after a new list of packages if the old one does not have them.
+install_packages() {
+    local words=(-y -q --no-install-recommends)
+    apt-get install "${words[@]}" "$@" ||
+        { apt-get update -q && apt-get install "${words[@]}" "$@"; }
+}
+
+# Installs the missing ones among these packages, if this runs as root.
+provide() {
+    missing=()
+    for package in "$@"; do
+        is_installed "$package" || missing+=("$package")
+    done
+    [ ${#missing[@]} = 0 ] || [ $EUID != 0 ] ||
+        install_packages "${missing[@]}" > /dev/null 2>&1 < /dev/null
+}
+
+provide "${optional[@]}"
 for package in "${optional[@]}"; do
-    is_installed "$package" || [ $EUID != 0 ] ||
-        timeout 180 apt-get install -y -q --no-install-recommends "$package" \
-            > /dev/null 2>&1 < /dev/null
-    is_installed "$package" || echo "there is no $package: its part is left out"
+    is_installed "$package" || echo "there is no $package"
 done
+provide "${packages[@]}"
 for package in "${packages[@]}"; do
     if is_installed "$package"; then
         passed=$((passed + 1))

@@ -287,7 +287,7 @@ wide+='ill formed at code unit 0: '\''ï¿½'\''\nill formed at code unit 1: '\''aï
 wide_c='all:\nall: 0047 0072 00FC 00DF 0065\nall: D83D DE00\na part: 0061\n'
 wide_c+='a part: 0061 0062 0063 0064 0065 0066\n'
 wide_cpp='0 code units, the same text again: 1\n8 code units, the same text again: 1\n'
-wide_cpp+='ill formed at byte 1\n'
+wide_cpp+='ill formed at byte 1\nnames that are kept: 11\n'
 
 # == installations
 
