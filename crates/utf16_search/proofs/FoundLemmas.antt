@@ -1,5 +1,5 @@
 -- What a search for bytes says of occurrences.
-use Rattle.std.proofs.Common.{◌≡◌, ◌⊎◌, inl, inr, ⊎_elim, ℕ, ◌+◌, ◌-◌, ◌<◌, ◌≤◌, Bool, true, nat_eq, List, ◌++◌, Option, None, Some, length, take, drop, slice_index, sym, ap, ◌∙◌, subst, arith, get_or-drop, get_or-take, length-drop, length-take-le, refl, take_at, take-append-drop}
+use Rattle.std.proofs.Common.{◌≡◌, ◌⊎◌, inl, inr, ⊎_elim, ℕ, ◌+◌, ◌-◌, ◌<◌, ◌≤◌, Bool, true, min, nat_eq, List, ◌++◌, Option, None, Some, length, take, drop, slice_index, sym, ap, ◌∙◌, subst, arith, get_or-drop, get_or-take, length-drop, length-take-le, refl, take_at, take-append-drop}
 use Rattle.std.specs.List.{starts_with}
 use Rattle.std.proofs.lemmas.Bool.{cases_lt}
 use Rattle.std.proofs.lemmas.Bool.Decides.{Decides-eqb}
@@ -171,3 +171,13 @@ module _ (big : Bool) (text pattern : List ℕ) where
 
     pub near_last : (start at : ℕ) → NoneAfter Occurs start below at × Occurs at → IsLast Occurs (Some at)
     near_last start at found = (found.1, λ i more. above_near (at + 1) found.0.after i (omega (arith, more)))
+
+-- how far an occurrence below an offset reaches
+pub reach : (len below n end : ℕ) → 0 < below → end ≡ min len (below - 1 + n) → (end ≡ len) ⊎ (below + n ≤ end + 1)
+reach len below n end some is = ⊎_elim
+    (λ (less : len < below). inl (omega (arith, is, less)))
+    (λ (not_less : below ≤ len). ⊎_elim
+    (λ (over : len < below - 1 + n). inl (omega (arith, is, over)))
+    (λ (within : below - 1 + n ≤ len). inr (omega (arith, is, within, some)))
+    (cases_lt len (below - 1 + n)))
+    (cases_lt len below)

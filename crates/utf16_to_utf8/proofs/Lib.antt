@@ -14,3 +14,4 @@ mod PlainLemmas
 mod LeadingLemmas
 mod TextPairs
 mod LastLemmas
+mod NarrowLemmas

@@ -1,6 +1,6 @@
 //! A block of thirty-two code units: its kind, and the UTF-8 that it adds.
 
-ghost use Rattle.std.specs.Prelude.{◌≡◌, ◌↔◌, ◌+◌, ◌-◌, ◌/◌, ◌%◌, ◌<◌, ◌≤◌, ◌++◌, ℕ, All, IsTrue, length, replicate, slice_index, take};
+ghost use Rattle.std.specs.Prelude.{◌≡◌, ◌↔◌, ◌+◌, ◌-◌, ◌/◌, ◌%◌, ◌<◌, ◌≤◌, ◌⊎◌, ◌++◌, ℕ, All, IsTrue, length, replicate, slice_index, take};
 ghost use Rattle.utf16_units.specs.Encoding.{units_of};
 ghost use Rattle.utf16_units.specs.Lanes.{HasLanes};
 ghost use Rattle.utf16_to_utf8.specs.Block.{AreOfKind, IsPlain};
@@ -8,7 +8,8 @@ ghost use Rattle.utf16_to_utf8.specs.Lanes.{folded, plus};
 ghost use Rattle.utf16_to_utf8.specs.Utf8.{units_utf8};
 ghost use Rattle.utf16_to_utf8.specs.declared.blocks.Kind.TheVariants.{Ascii, Basic};
 
-use crate::lanes::{doubled, each, eights, larger, sixteens, smaller, sum};
+use crate::lanes::{doubled, each, eights, have_none, sixteens, smaller, sum};
+use crate::pack::write_ascii;
 use crate::writers::{BasicWriter, LettersWriter, MixedWriter, PairsWriter, WideWriter, Writer};
 use std::simd::prelude::*;
 use utf16_units::Utf16Order;
@@ -44,21 +45,14 @@ pub(crate) fn filled_units<E: Utf16Order>(raw: &[u8]) -> u16x32
     units32::<E>(u8x64::from_array(block))
 }
 
-// Whether all units of two blocks are ASCII.
-#[inline(always)]
-pub(crate) fn are_both_ascii(first: u16x32, second: u16x32) -> bool
-    ensures first { IsTrue result → AreOfKind Ascii first }
-    ensures second { IsTrue result → AreOfKind Ascii second }
-{
-    are_below(larger(first, second), 0x80)
-}
-
-// Whether all units are below a limit.
+// Whether all units are below a limit. It tests the bits of the limit and those above, which takes
+// fewer instructions than a comparison.
 #[inline(always)]
 pub(crate) fn are_below(units: u16x32, limit: u16) -> bool
+    requires limit { (limit ≡ 0x80) ⊎ (limit ≡ 0x800) }
     ensures { IsTrue result → All (λ unit. unit < limit) units }
 {
-    lanes_below(greatest(units), limit)
+    have_none(units, !(limit - 1))
 }
 
 // Whether eight lanes are below a limit.
@@ -67,18 +61,6 @@ pub(crate) fn lanes_below(lanes: u16x8, limit: u16) -> bool
     ensures { IsTrue result ↔ All (λ lane. lane < limit) lanes }
 {
     lanes.simd_lt(u16x8::splat(limit)).to_bitmask() == 0xFF
-}
-
-// The greatest of the units at the same place in each group of eight.
-#[inline(always)]
-fn greatest(units: u16x32) -> u16x8
-    ensures len { length result ≡ 8 }
-    ensures bound { (limit : ℕ) → All (λ unit. unit < limit) result
-        → All (λ unit. unit < limit) units }
-{
-    let (first, second) = sixteens(units);
-    let (low, high) = eights(larger(first, second));
-    larger(low, high)
 }
 
 // Whether no unit is below a limit.
@@ -125,16 +107,13 @@ pub(crate) fn folded<const N: usize>(units: Simd<u16, N>) -> Simd<u16, N>
     smaller(units, raised(units))
 }
 
-// The kind of the units of a block. A kind is tested before the kinds that include it, because it
-// is written faster: ASCII units are also letters, and ASCII, letters and wide units are also
-// basic.
+// The kind of the units of a block that is not ASCII, which is of letters too. A kind is tested
+// before the kinds that include it, because it is written faster: letters and wide units are basic.
 #[inline(always)]
 pub(crate) fn kind_of(units: u16x32) -> Kind
     ensures { AreOfKind result units }
 {
-    if are_of(units, Kind::Ascii) {
-        Kind::Ascii
-    } else if are_of(units, Kind::Letters) {
+    if are_of(units, Kind::Letters) {
         Kind::Letters
     } else if are_of(units, Kind::Wide) {
         Kind::Wide
@@ -212,19 +191,6 @@ pub(crate) fn write_block(
         Kind::Basic => write_groups::<BasicWriter>(out, at, previous, units),
         Kind::Mixed => write_groups::<MixedWriter>(out, at, previous, units),
     }
-}
-
-// Writes the low byte of each unit of a block.
-#[inline(always)]
-fn write_ascii(out: &mut [u8], at: usize, units: u16x32) -> usize
-    requires space { at + 32 ≤ length out.old }
-    requires ascii { AreOfKind Ascii units }
-    ensures bytes { (before : ℕ) → take result out.new ≡ take at out.old
-        ++ units_utf8 before units }
-    ensures written_to { result ≡ at + 32 }
-{
-    units.cast::<u8>().copy_to_slice(&mut out[at..]);
-    at + 32
 }
 
 // Writes the UTF-8 that a block adds, sixteen units at a time.

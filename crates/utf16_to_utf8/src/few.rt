@@ -11,7 +11,7 @@ ghost use Rattle.utf16_to_utf8.specs.declared.blocks.Kind.TheVariants.{Ascii, Ba
 use crate::blocks::{eight_are_basic, folded, lanes_below, lanes_from};
 use crate::groups::{absences, endings, narrow, outers, thirds, wide};
 use crate::lanes::previous_eight;
-use crate::pack::{ascii_bits, write_kept, write_pairs, write_threes};
+use crate::pack::{ascii_bits, write_ascii, write_kept, write_pairs, write_threes};
 use crate::padded::moved_front;
 use crate::runs::Cursor;
 use crate::write::SLACK;
@@ -45,21 +45,8 @@ pub fn write_eight_ascii<E: Utf16Order>(raw: &[u8], to: &mut [u8]) -> bool
     if !lanes_below(units, 0x80) {
         return false;
     }
-    write_ascii_units(&mut to[..8], 0, units);
+    write_ascii(&mut to[..8], 0, units);
     true
-}
-
-// Writes the low byte of each of eight units.
-#[inline(always)]
-fn write_ascii_units(out: &mut [u8], at: usize, units: u16x8) -> usize
-    requires space { at + 8 ≤ length out.old }
-    requires ascii { AreOfKind Ascii units }
-    ensures bytes { (before : ℕ) → take result out.new ≡ take at out.old
-        ++ units_utf8 before units }
-    ensures written_to { result ≡ at + 8 }
-{
-    units.cast::<u8>().copy_to_slice(&mut out[at..]);
-    at + 8
 }
 
 // Writes the UTF-8 of eight units, of which some are surrogates or none.
@@ -85,7 +72,7 @@ fn write_eight_units(
         }
     } else if lanes_below(units, 0x800) {
         if lanes_below(units, 0x80) {
-            write_ascii_units(out, at, units)
+            write_ascii(out, at, units)
         } else {
             write_two_at_most(out, at, previous, units, false)
         }

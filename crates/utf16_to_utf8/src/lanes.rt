@@ -3,7 +3,7 @@
 //! They are generic over the number of lanes: sixteen fill one register of x86-64-v3, and two of
 //! x86-64-v2.
 
-ghost use Rattle.std.specs.Prelude.{◌≡◌, ◌-◌, ◌<◌, ◌/◌, ◌^◌, ◌∷◌, bit_and, if◌then◌else◌, nat_lt, slice_index};
+ghost use Rattle.std.specs.Prelude.{◌≡◌, All, ◌-◌, ◌<◌, ◌/◌, ◌^◌, ◌∷◌, IsTrue, bit_and, if◌then◌else◌, nat_lt, slice_index};
 ghost use Rattle.std.specs.Simd.Lanes.{chunk};
 ghost use Rattle.utf16_units.specs.Lanes.{HasLanes};
 ghost use Rattle.utf16_to_utf8.specs.Lanes.{is_surrogate, plus, up};
@@ -53,6 +53,27 @@ pub(crate) fn raised<const N: usize>(v: Simd<u16, N>, bits: u16) -> Simd<u16, N>
     ensures { HasLanes N result (λ i. up (slice_index v.entry i) bits) }
 {
     v << Simd::splat(bits)
+}
+
+// Whether no lane has one of these bits.
+#[inline(always)]
+pub(crate) fn have_none<const N: usize>(v: Simd<u16, N>, bits: u16) -> bool
+    ensures { IsTrue result → All (λ lane. bit_and lane bits ≡ 0) v.entry }
+{
+    (v & Simd::splat(bits)).reduce_or() == 0
+}
+
+// The low bytes of lanes of ASCII. The limits change nothing. With them LLVM narrows two vectors by
+// one instruction, and without them it masks each vector first.
+#[inline(always)]
+pub(crate) fn low_bytes<const N: usize>(v: Simd<u16, N>) -> Simd<u8, N>
+    requires ascii { All (λ unit. unit < 0x80) v }
+    ensures { result ≡ v.entry }
+{
+    v.cast::<i16>()
+        .simd_max(Simd::splat(0))
+        .simd_min(Simd::splat(0xFF))
+        .cast()
 }
 
 // The larger of the lanes at the same place.

@@ -6,12 +6,14 @@
 
 ghost use Rattle.std.specs.Prelude.{◌≡◌, ◌+◌, ◌*◌, ◌/◌, ◌%◌, ◌^◌, ◌<◌, ◌≤◌, ◌++◌, [], ◌∷◌, ℕ, Bool, List, drop, false, length, map, nat_lt, slice_index, take};
 ghost use Rattle.std.specs.Simd.Lanes.{mask_l, pick_l};
+ghost use Rattle.utf16_to_utf8.specs.Block.{AreOfKind};
 ghost use Rattle.utf16_to_utf8.specs.Lanes.{added_len, is_surrogate};
 ghost use Rattle.utf16_to_utf8.specs.Pack.{HasBytes, IsKept, IsPair, IsThree, fours, packed, packed_words, threes};
 ghost use Rattle.utf16_to_utf8.specs.Utf8.{units_utf8};
+ghost use Rattle.utf16_to_utf8.specs.declared.blocks.Kind.TheVariants.{Ascii};
 
 use crate::groups::{absences, endings, narrow, outers, thirds, wide};
-use crate::lanes::{eights, previous_lanes};
+use crate::lanes::{eights, low_bytes, previous_lanes};
 use crate::places::places;
 use crate::word_places::word_places;
 use std::simd::prelude::*;
@@ -33,6 +35,19 @@ pub(crate) fn ascii_bits<const N: usize>(units: Simd<u16, N>) -> usize
     ensures below { result < 2 ^ N }
 {
     units.simd_lt(Simd::splat(0x80)).to_bitmask() as usize
+}
+
+// Writes the UTF-8 of ASCII units.
+#[inline(always)]
+pub(crate) fn write_ascii<const N: usize>(out: &mut [u8], at: usize, units: Simd<u16, N>) -> usize
+    requires space { at + N ≤ length out.old }
+    requires ascii { AreOfKind Ascii units }
+    ensures bytes { (before : ℕ) → take result out.new ≡ take at out.old
+        ++ units_utf8 before units.entry }
+    ensures written_to { result ≡ at + N }
+{
+    low_bytes(units).copy_to_slice(&mut out[at..]);
+    at + N
 }
 
 // Writes the UTF-8 of eight units that add at most two bytes each, with a bit in `one` for each

@@ -4,18 +4,21 @@
 //! The text is read once: the test that decides how a block is written also validates it. If the
 //! writer stops after a leading surrogate, `write.rt` takes its two bytes back.
 //!
+//! Real text is ASCII with other letters between, so a run of ASCII comes before each other block.
+//! The block that ends a run is not tested for ASCII again: a processor predicts where runs end no
+//! better than chance, and would be wrong twice.
+//!
 //! The loops differ in a test that is fixed at compile time; a test chosen at run time would slow
-//! them down. Two blocks of ASCII are written at once only after a second one: texts strewn with
-//! other letters would pay for the test.
+//! them down.
 
-ghost use Rattle.std.specs.Prelude.{◌≡◌, ◌+◌, ◌-◌, ◌*◌, ◌/◌, ◌<◌, ◌≤◌, ◌⊎◌, Bool, IfSome, None, drop, false, length, take};
+ghost use Rattle.std.specs.Prelude.{◌≡◌, ◌+◌, ◌-◌, ◌*◌, ◌/◌, ◌<◌, ◌≤◌, ◌⊎◌, Bool, IfSome, None, drop, false, length, take, true};
 ghost use Rattle.utf16_units.specs.Encoding.{units_of};
 ghost use Rattle.utf16_units.specs.Lanes.{BlocksStopAt, Paired, PairedTo};
 ghost use Rattle.utf16_to_utf8.specs.Block.{AreOfKind};
 ghost use Rattle.utf16_to_utf8.specs.Cursor.{Advanced, Reached};
 ghost use Rattle.utf16_to_utf8.specs.declared.blocks.Kind.TheVariants.{Ascii, Basic};
 
-use crate::blocks::{Kind, are_both_ascii, are_of, is_plain, kind_of, write_block};
+use crate::blocks::{Kind, are_of, is_plain, kind_of, write_block};
 use crate::lanes::{eights, sixteens};
 use crate::write::SLACK;
 use std::simd::prelude::*;
@@ -40,20 +43,6 @@ fn next_units<E: Utf16Order>(raw: &[u8], at: usize) -> u16x32
     ensures units { result ≡ units_of E.BIG (take 64 (drop at raw.now)) }
 {
     units32::<E>(u8x64::from_slice(&raw[at..]))
-}
-
-// Writes the next block. If it is ASCII, wide or of pairs, also writes the blocks of its kind that
-// follow it.
-#[inline(always)]
-pub(crate) fn write_next<E: Utf16Order>(raw: &[u8], out: &mut [u8], from: Cursor) -> Cursor
-    requires space { length raw.now / 2 * 3 + SLACK ≤ length out.old }
-    requires more { from.at + 64 ≤ length raw.now }
-    requires reached { Reached E.BIG raw.now out.old from }
-    ensures reached { Reached E.BIG raw.now out.new result }
-    ensures advances { from.at < result.at }
-{
-    let units = next_units::<E>(raw, from.at);
-    write_known::<E, true>(raw, out, from, units, kind_of(units))
 }
 
 // How far a text is validated and written, and whether the last unit is a leading surrogate. In
@@ -106,21 +95,33 @@ fn write_plain<E: Utf16Order>(raw: &[u8], out: &mut [u8], from: Cursor) -> Curso
     requires reached { Reached E.BIG raw.now out.old from }
     ensures advanced { Advanced E.BIG Basic raw.now out.new from result }
 {
-    let last = raw.len() - 64;
-    let most = out.len() - SLACK;
-    let mut cursor = from;
-    while cursor.at <= last {
-        if cursor.end > most {
-            break;
-        }
-        let units = next_units::<E>(raw, cursor.at);
-        let kind = kind_of(units);
+    let mut run = write_ascii_run::<E>(raw, out, from);
+    while !run.ended {
+        let kind = kind_of(run.units);
         if !is_plain(kind) {
             break;
         }
-        cursor = write_known::<E, false>(raw, out, cursor, units, kind);
+        let next = write_known::<E>(raw, out, run.cursor, run.units, kind);
+        run = write_ascii_run::<E>(raw, out, next);
     }
-    cursor
+    run.cursor
+}
+
+// Writes all blocks, as `out` has room for them.
+#[inline(always)]
+pub(crate) fn write_all<E: Utf16Order>(raw: &[u8], out: &mut [u8], from: Cursor) -> Cursor
+    requires many { 64 ≤ length raw.now }
+    requires space { length raw.now / 2 * 3 + SLACK ≤ length out.old }
+    requires reached { Reached E.BIG raw.now out.old from }
+    ensures reached { Reached E.BIG raw.now out.new result }
+    ensures all { length raw.now < result.at + 64 }
+{
+    let mut run = write_ascii_run::<E>(raw, out, from);
+    while !run.ended {
+        let next = write_known::<E>(raw, out, run.cursor, run.units, kind_of(run.units));
+        run = write_ascii_run::<E>(raw, out, next);
+    }
+    run.cursor
 }
 
 // Writes the next block if its surrogates are paired. If it has only pairs and units below U+0800,
@@ -167,11 +168,10 @@ fn write_surrogates<E: Utf16Order>(
     Some(done)
 }
 
-// Writes the next block, whose kind is known. If it is ASCII, wide or, with `PAIRS`, of pairs, also
-// writes the blocks of its kind that follow it and fit. It is generic over `PAIRS` so that each
-// caller gets a separate copy.
+// Writes the next block, whose kind is known. If it is wide or of pairs, also writes the blocks of
+// its kind that follow it and fit.
 #[inline(always)]
-fn write_known<E: Utf16Order, const PAIRS: bool>(
+fn write_known<E: Utf16Order>(
     raw: &[u8],
     out: &mut [u8],
     from: Cursor,
@@ -188,63 +188,54 @@ fn write_known<E: Utf16Order, const PAIRS: bool>(
 {
     let next = write_block_units::<E>(raw, out, from, units, kind);
     match kind {
-        Kind::Ascii => write_ascii_run::<E>(raw, out, next),
         Kind::Wide => write_run::<E>(raw, out, next, Kind::Wide),
-        Kind::Pairs if PAIRS => write_run::<E>(raw, out, next, Kind::Pairs),
-        Kind::Letters | Kind::Basic | Kind::Pairs | Kind::Mixed => next,
+        Kind::Pairs => write_run::<E>(raw, out, next, Kind::Pairs),
+        Kind::Ascii | Kind::Letters | Kind::Basic | Kind::Mixed => next,
     }
 }
 
-// Writes the ASCII blocks from the cursor on that fit: the first one by itself, and then two at a
-// time.
+// How far blocks of ASCII are written, and whether they ended because no block is left or the next
+// one may not fit. If not, `units` has the units of the next block.
+#[derive(Clone, Copy)]
+struct Run {
+    cursor: Cursor,
+    units: u16x32,
+    ended: bool,
+}
+
+// Writes the blocks of ASCII from the cursor on that fit.
 #[inline(always)]
-fn write_ascii_run<E: Utf16Order>(raw: &[u8], out: &mut [u8], from: Cursor) -> Cursor
+fn write_ascii_run<E: Utf16Order>(raw: &[u8], out: &mut [u8], from: Cursor) -> Run
     requires many { 64 ≤ length raw.now }
     requires space { SLACK ≤ length out.old }
     requires reached { Reached E.BIG raw.now out.old from }
-    ensures advanced { Advanced E.BIG Ascii raw.now out.new from result }
+    ensures advanced { Advanced E.BIG Ascii raw.now out.new from result.cursor }
+    ensures more { result.ended ≡ false → result.cursor.at + 64 ≤ length raw.now }
+    ensures space { result.ended ≡ false → result.cursor.end + SLACK ≤ length out.new }
+    ensures next { result.ended ≡ false
+        → result.units ≡ units_of E.BIG (take 64 (drop result.cursor.at raw.now)) }
+    ensures ended { result.ended ≡ true → (length raw.now < result.cursor.at + 64)
+        ⊎ (length out.new < result.cursor.end + SLACK) }
 {
     let last = raw.len() - 64;
     let most = out.len() - SLACK;
-    let mut cursor = from;
-    while cursor.at <= last {
-        if cursor.end > most {
+    let mut run = Run {
+        cursor: from,
+        units: u16x32::splat(0),
+        ended: true,
+    };
+    while run.cursor.at <= last {
+        if run.cursor.end > most {
             break;
         }
-        let units = next_units::<E>(raw, cursor.at);
-        if !are_of(units, Kind::Ascii) {
+        run.units = next_units::<E>(raw, run.cursor.at);
+        if !are_of(run.units, Kind::Ascii) {
+            run.ended = false;
             break;
         }
-        let next = write_block_units::<E>(raw, out, cursor, units, Kind::Ascii);
-        cursor = write_ascii_pairs::<E>(raw, out, next);
+        run.cursor = write_block_units::<E>(raw, out, run.cursor, run.units, Kind::Ascii);
     }
-    cursor
-}
-
-// Writes the ASCII blocks from the cursor on that fit, two at a time.
-#[inline(always)]
-fn write_ascii_pairs<E: Utf16Order>(raw: &[u8], out: &mut [u8], from: Cursor) -> Cursor
-    requires reached { Reached E.BIG raw.now out.old from }
-    ensures advanced { Advanced E.BIG Ascii raw.now out.new from result }
-{
-    // Two blocks of ASCII take 64 bytes of UTF-8.
-    let space = out.len() - from.end;
-    if raw.len() - from.at < 128 || space < SLACK + 32 {
-        return from;
-    }
-    let most = (raw.len() - from.at - 128).min((space - SLACK - 32).saturating_mul(2));
-    let last = from.at + most;
-    let mut cursor = from;
-    while cursor.at <= last {
-        let first = next_units::<E>(raw, cursor.at);
-        let second = next_units::<E>(raw, cursor.at + 64);
-        if !are_both_ascii(first, second) {
-            break;
-        }
-        let next = write_block_units::<E>(raw, out, cursor, first, Kind::Ascii);
-        cursor = write_block_units::<E>(raw, out, next, second, Kind::Ascii);
-    }
-    cursor
+    run
 }
 
 // Writes the blocks of this kind from the cursor on that fit.

@@ -12,7 +12,7 @@ ghost use Rattle.utf16_to_utf8.specs.Cursor.{Reached};
 
 use crate::few::{write_last_units, write_next_eight, write_padded};
 use crate::padded::few_bytes;
-use crate::runs::{Cursor, Tested, write_next, write_paired};
+use crate::runs::{Cursor, Tested, write_all, write_paired};
 use crate::short::write_each;
 use std::simd::prelude::*;
 use utf16_units::{Moved, Utf16Order};
@@ -133,8 +133,8 @@ fn write_many<E: Utf16Order>(raw: &[u8], out: &mut [u8]) -> usize
         end: 0,
         previous: u16x8::splat(0),
     };
-    while raw.len() - cursor.at >= 64 {
-        cursor = write_next::<E>(raw, out, cursor);
+    if raw.len() >= 64 {
+        cursor = write_all::<E>(raw, out, cursor);
     }
     if cursor.at == raw.len() {
         return cursor.end;

@@ -1,21 +1,11 @@
-use Rattle.std.proofs.Common.{◌≡◌, ◌⊎◌, inl, inr, ⊎_elim, ◌+◌, ◌-◌, ◌<◌, ◌≤◌, ℕ, length, min, None, Some, refl, subst, sym, ◌∙◌, arith}
-use Rattle.std.proofs.lemmas.Bool.{cases_lt, false≢true}
+use Rattle.std.proofs.Common.{◌≡◌, ◌-◌, ◌≤◌, ℕ, length, None, Some, refl, subst, sym, ◌∙◌, arith}
+use Rattle.std.proofs.lemmas.Bool.{false≢true}
 use Rattle.memchr.specs.Find.{FindsLastNeedleBy}
 use Rattle.utf16_search.specs.Occurrence.{IsLast, IsOccurrence}
-use Rattle.utf16_search.proofs.FoundLemmas.{above_near, last_none, more_none, near_last, passed_back}
+use Rattle.utf16_search.proofs.FoundLemmas.{above_near, last_none, more_none, near_last, passed_back, reach}
 use Rattle.utf16_search.proofs.backwards.rfind.Given.{Over}
 use Rattle.utf16_search.proofs.backwards.rfind.Goals as goal
 use Rattle.utf16_search.proofs.backwards.rfind.Goals.{After-previous_below-below}
-
--- how far an occurrence below an offset reaches
-reach : (len below n end : ℕ) → 0 < below → end ≡ min len (below - 1 + n) → (end ≡ len) ⊎ (below + n ≤ end + 1)
-reach len below n end some is = ⊎_elim
-    (λ (less : len < below). inl (omega (arith, is, less)))
-    (λ (not_less : below ≤ len). ⊎_elim
-    (λ (over : len < below - 1 + n). inl (omega (arith, is, over)))
-    (λ (within : below - 1 + n ≤ len). inr (omega (arith, is, within, some)))
-    (cases_lt len (below - 1 + n)))
-    (cases_lt len below)
 
 -- the pattern occurs nowhere from the offset on below which the search goes on
 none_after : (g : Over) (c : After-previous_below-below g) (i : ℕ) → c.previous_below-below.result ≤ i → ¬ (IsOccurrence g.E.Utf16Order.BIG c.args.text.now c.args.pattern.now i)
@@ -33,14 +23,13 @@ none_after g c =
 
 pub returns-in_err-at : goal.returns-in_err-at
 returns-in_err-at g c =
-    let big = g.E.Utf16Order.BIG in
     let text = c.args.text.now in
     let pattern = c.args.pattern.now in
     let below = c.loop-below.below in
     let end = c.min-end.result in
     record {
-      last = subst (IsLast (IsOccurrence big text pattern)) (sym c.from_residual.ensures)
-          (last_none big text pattern below end (reach (length text) below (length pattern) end (omega arith) c.min-end.ensures) c.loop-below.invariant.2
+      last = subst (IsLast (IsOccurrence g.E.Utf16Order.BIG text pattern)) (sym c.from_residual.ensures)
+          (last_none g.E.Utf16Order.BIG text pattern below end (reach (length text) below (length pattern) end (omega arith) c.min-end.ensures) c.loop-below.invariant.2
           (subst (λ needle. FindsLastNeedleBy text needle end None) (c.deref.ensures ∙ c.new-finder.ensures ∙ c.new.ensures) c.in_err-at.ensures));
     }
 
@@ -67,8 +56,4 @@ pub loop-below-preserved : goal.loop-below-preserved
 loop-below-preserved g c =
     let below = c.previous_below-below.result in
     let near = above_near g.E.Utf16Order.BIG c.args.text.now c.args.pattern.now below (none_after g (goal.at.loop-below-preserved g c).After-previous_below-below) (below - 32) c.in_default.ensures in
-    let found = c.in_ok-at.ensures in (
-      omega (arith, found.1.fits),
-      omega (arith, c.previous_below-below.ensures.before),
-      λ i low. near i (omega (arith, low)),
-    )
+    (omega (arith, c.in_ok-at.ensures.1.fits), omega (arith, c.previous_below-below.ensures.before), λ i low. near i (omega (arith, low)))
