@@ -8,7 +8,7 @@ use Rattle.std.specs.Ordering.{MatchOrdering, ordering_then}
 use lib.Count.{count_trailing_zeros, trailing_le, under}
 use lib.Lanes.{chunk, mask_l, top, zip2}
 use mir.Syntax.{w8}
-use Rattle.utf16_units.specs.Compared.{SameTo, ranked_cmp, unit_rank, units_cmp}
+use Rattle.utf16_units.specs.Compared.{SameTo, differing, ranked_cmp, unit_rank, units_cmp}
 use Rattle.utf16_units.specs.Encoding.{units_of}
 use Rattle.utf16_units.specs.Unit.{unit_of}
 use Rattle.utf16_units.proofs.TextOrderLemmas.{common_cmp}
@@ -57,12 +57,8 @@ take_take (suc n) (suc m) (x ∷ xs) le = ap (λ t. x ∷ t) (take_take n m xs (
 
 -- ---- blocks
 
-module _ (bytes other : List ℕ) (at N : ℕ) (s : SameTo bytes other at) (lanes : N ≤ 64) (room : at + N ≤ length bytes) (other_room : at + N ≤ length other) where
-  -- the bits of the bytes that differ in a block
-  abbrev pub differing : ℕ
-  differing = mask_l (map (top 7) (zip2 (λ (a b : ℕ). cond (differ a b) 255 0) (chunk at N bytes) (chunk at N other))) % 2 ^ 64
-
-  differing-is : differing ≡ mask_l (zip2 differ (chunk at N bytes) (chunk at N other))
+module _ (bytes other : List ℕ) (at N : ℕ) (lanes : N ≤ 64) (room : at + N ≤ length bytes) (other_room : at + N ≤ length other) where
+  pub differing-is : mask_l (map (top 7) (zip2 (λ (a b : ℕ). cond (differ a b) 255 0) (chunk at N bytes) (chunk at N other))) % 2 ^ 64 ≡ differing at N bytes other
   differing-is =
       let xs = chunk at N bytes in
       let ys = chunk at N other in
@@ -71,20 +67,26 @@ module _ (bytes other : List ℕ) (at N : ℕ) (s : SameTo bytes other at) (lane
       ap (λ ms. mask_l ms % 2 ^ 64) (tops_compared w8 differ xs ys)
       ∙ mask_l-mod (zip2 differ xs ys) 64 (omega (arith, length-zip2 differ xs ys (one ∙ sym two)))
 
-  -- as many bytes of the block are the same as there are bits below its lowest set bit
-  pub SameTo-block : (n : ℕ) → n % 2 ≡ 0 → n ≤ N → n ≤ count_trailing_zeros 64 differing → SameTo bytes other (at + n)
-  SameTo-block n even le below =
-      let one = length-chunk at N bytes room in
-      let two = length-chunk at N other other_room in
-      let whole = s.even in
-      let lanes_same = same_lanes 64 n (chunk at N bytes) (chunk at N other) (one ∙ sym two) (omega arith) (subst (λ m. n ≤ count_trailing_zeros 64 m) differing-is below) in
-      let same = sym (take_take n N (drop at bytes) le) ∙ lanes_same ∙ take_take n N (drop at other) le in
-      record {
-        within = omega arith;
-        other_within = omega arith;
-        even = omega arith;
-        same = take-add at n bytes ∙ ap₂ (λ xs ys. xs ++ ys) s.same same ∙ sym (take-add at n other);
-      }
+  module _ (s : SameTo bytes other at) where
+    -- as many bytes of the block are the same as there are bits below its lowest set bit
+    pub SameTo-block : (n : ℕ) → n % 2 ≡ 0 → n ≤ N → n ≤ count_trailing_zeros 64 (differing at N bytes other) → SameTo bytes other (at + n)
+    SameTo-block n even le below =
+        let one = length-chunk at N bytes room in
+        let two = length-chunk at N other other_room in
+        let whole = s.even in
+        let lanes_same = same_lanes 64 n (chunk at N bytes) (chunk at N other) (one ∙ sym two) (omega arith) below in
+        let same = sym (take_take n N (drop at bytes) le) ∙ lanes_same ∙ take_take n N (drop at other) le in
+        record {
+          within = omega arith;
+          other_within = omega arith;
+          even = omega arith;
+          same = take-add at n bytes ∙ ap₂ (λ xs ys. xs ++ ys) s.same same ∙ sym (take-add at n other);
+        }
+
+    -- if no bit is set, the whole block is the same
+    pub SameTo-whole : N % 2 ≡ 0 → differing at N bytes other ≡ 0 → SameTo bytes other (at + N)
+    unfolding count_trailing_zeros
+    SameTo-whole even none = SameTo-block N even (omega arith) (subst (λ m. N ≤ count_trailing_zeros 64 m) (sym none) lanes)
 
 -- ---- units
 

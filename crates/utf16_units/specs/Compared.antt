@@ -1,7 +1,8 @@
 -- What the comparison of texts computes, unit by unit. No public clause uses it.
-use Rattle.std.specs.Prelude.{◌≡◌, ℕ, ◌+◌, ◌-◌, ◌%◌, ◌≤◌, Bool, List, length, take, nat_lt, if◌then◌else◌}
+use Rattle.std.specs.Prelude.{◌≡◌, ℕ, ◌+◌, ◌-◌, ◌%◌, ◌≤◌, Bool, not, List, length, take, drop, nat_eq, nat_lt, if◌then◌else◌}
 use Rattle.std.specs.Cmp.Lexicographic.{slice_cmp}
 use Rattle.std.specs.Ordering.{nat_cmp, on}
+use Rattle.std.specs.Simd.Lanes.{mask_l, zip2}
 use Rattle.std.specs.declared.cmp.Ordering.{Ordering}
 use Rattle.utf16_units.specs.Encoding.{units_of}
 
@@ -24,3 +25,7 @@ pub record SameTo (bytes other : List ℕ) (n : ℕ) : Type 0 where
   pub other_within : n ≤ length other
   pub even : n % 2 ≡ 0
   pub same : take n bytes ≡ take n other
+
+-- a bit for each of the n bytes at an offset that differs
+abbrev pub differing : ℕ → ℕ → List ℕ → List ℕ → ℕ
+differing at n bytes other = mask_l (zip2 (λ byte b. not (nat_eq byte b)) (take n (drop at bytes)) (take n (drop at other)))
