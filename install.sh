@@ -104,7 +104,7 @@ put_libraries() {
 # Installs from a clone. The argument is the folder of the libraries.
 put_built() {
     local built=$top/packaging/out header page
-    for program in utf16_cat utf16_enc; do
+    for program in utf16_cat utf16_enc utf16_check; do
         [[ ${1##*/} == x86_64-*linux-gnu* && -e $built/$program ]] || continue
         put 755 "$built/$program" "bin/$program"
         put 644 "$top/crates/$program/$program.1" "share/man/man1/$program.1"

@@ -90,7 +90,7 @@ check_versions() {
     check 'the version of README.md' is_version first README.md '^Version ([0-9.]+) of .*'
     check 'the version of CHANGELOG.md' is_version first CHANGELOG.md '^## ([0-9.]+), .*'
     check 'the version of docs/INSTALL.md' is_version named_files
-    for file in utf16_cat utf16_enc; do
+    for file in utf16_cat utf16_enc utf16_check; do
         check "the version of $file.1" is_version first "crates/$file/$file.1" '^\.Os Dethrux (.*)'
     done
     check 'the version of the Debian changelog' \
@@ -180,11 +180,12 @@ cmake_refuses() {
         > "$room/log" 2>&1 && grep -F "version: $version" "$room/log"
 }
 
-# Tests that the installed programs convert U+20AC and U+1F600.
+# Tests that the installed programs convert and check U+20AC and U+1F600.
 programs_run() {
     local utf8='\xE2\x82\xAC\xF0\x9F\x98\x80'
     printf '\xAC\x20\x3D\xD8\x00\xDE' | "$1/utf16_cat" le | cmp - <(printf "$utf8") &&
-        printf "$utf8" | "$1/utf16_enc" be | cmp - <(printf '\x20\xAC\xD8\x3D\xDE\x00')
+        printf "$utf8" | "$1/utf16_enc" be | cmp - <(printf '\x20\xAC\xD8\x3D\xDE\x00') &&
+        printf '\xAC\x20\x3D\xD8\x00\xDE' | "$1/utf16_check" le
 }
 
 # == processors
@@ -319,7 +320,7 @@ installs_without_rt() {
         diff <(cd "$1" && find . -type f | sort) <(cd "$room/without rt" && find . -type f | sort) \
             > "$room/differing"
     [ "$(sed -n 's/^[<>] //p' "$room/differing" | LC_ALL=C sort | paste -sd ' ')" = \
-        './bin/utf16_cat ./bin/utf16_enc ./share/man/man1/utf16_cat.1 ./share/man/man1/utf16_enc.1' ] &&
+        "./bin/utf16_cat ./bin/utf16_check ./bin/utf16_enc $(echo ./share/man/man1/utf16_{cat,check,enc}.1)" ] &&
         cmp "$1/lib/libdethrux.a" "$room/without rt/lib/libdethrux.a" &&
         cmp "$1/lib/libdethrux.so.$version" "$room/without rt/lib/libdethrux.so.$version"
 }
@@ -485,7 +486,7 @@ check 'both libraries by CMake' by_cmake "$prefix"
 check 'a later version by CMake' cmake_refuses "$prefix" "${version%.*}.999"
 check 'another major version by CMake' cmake_refuses "$prefix" $((${version%%.*} + 1)).0
 check 'the programs' programs_run "$prefix/bin"
-for file in utf16_cat utf16_enc; do
+for file in utf16_cat utf16_enc utf16_check; do
     check "the level of $file" has_level x86-64-v2 "$prefix/bin/$file"
     check "$file below its level" is_refused_below x86-64-v2 127 "$prefix/bin/$file" le
 done

@@ -1,10 +1,10 @@
 #!/usr/bin/env bash
 # Runs the built programs over tables of cases: what they write, their line on standard error and
 # their status, on plain inputs, on standard streams that are closed, full, broken or no files, and
-# with too little memory. Without arguments it takes each build of utf16_cat and utf16_enc in their
-# crates; if there is none, it builds one over the crates that rt ci proved. A program that is named
-# is run over the cases of utf16_enc if the name of its file begins so. Prints each case that fails,
-# and last a line 'N passed, M failed'.
+# with too little memory. Without arguments it takes each build of utf16_cat, utf16_enc and
+# utf16_check in their crates; if there is none, it builds one over the crates that rt ci proved. A
+# program that is named is run over the cases of utf16_enc or utf16_check if the name of its file
+# begins so. Prints each case that fails, and last a line 'N passed, M failed'.
 set -uo pipefail
 top=$(cd "$(dirname "$0")/.." && pwd)
 room=$(mktemp -d)
@@ -36,6 +36,15 @@ mkdir folder
 { head -c 70000 /dev/zero | tr '\0' a; printf '\xF0\x90\x80\x80'; } > letters_utf8
 head -c 3000000 /dev/zero > zeros
 head -c 1500000 /dev/zero > half
+# 100,000 trailing surrogates, in both byte orders, and the first bytes of the report on them.
+head -c 200000 /dev/zero | tr '\0' '\334' > trailing
+head -c 8 trailing > few_trailing
+lines_of_trailing() {
+    seq 0 2 $((2 * $1 - 2)) |
+        awk '{ printf "0x%X (%d): unpaired trailing surrogate DCDC\n", $1, $1 }'
+}
+lines_of_trailing 100 | head -c 1024 > front_report
+lines_of_trailing 2048 > block_report
 head -c 1024 /dev/zero > front
 { printf '\xFF\xFE'; head -c 1022 /dev/zero; } > front_le-bom
 { printf '\xFE\xFF'; head -c 1022 /dev/zero; } > front_be-bom
@@ -108,15 +117,15 @@ export -f with_fault
 
 # Runs $P with these arguments and each allocation failing in turn. Prints once what each such run
 # ends with: its status, the number of bytes that it writes, and its line. Then ends as the run does
-# in which no allocation fails.
+# in which no allocation fails. INPUT names another file than `front` for the standard input.
 with_each_allocation() {
     local at=1 status
-    with_fault alloc $at "$@" > part 2> line 9> met < front
+    with_fault alloc $at "$@" > part 2> line 9> met < "${INPUT-front}"
     status=$?
     while [ -s met ]; do
         echo "$status $(stat -c %s part) $(cat line)"
         at=$((at + 1))
-        with_fault alloc $at "$@" > part 2> line 9> met < front
+        with_fault alloc $at "$@" > part 2> line 9> met < "${INPUT-front}"
         status=$?
     done > ends
     sort -u ends
@@ -180,8 +189,8 @@ writes_nothing() {
     is "$1: nothing to write, a full disk" 0 "$none" "$none" "\$P $1 < empty > /dev/full"
 }
 
-# Cases of standard streams that fail, and of too little memory. Of many zeros the program writes
-# this file first.
+# Cases of standard streams that fail, and of too little memory. For a big input, which is the
+# third argument, the program writes the file that is the second argument first.
 streams() {
     is "$1: all is read" 0 "$none" "$none" "\$P $1 > /dev/null; status=\$?; cat; exit \$status"
     is "$1: out of memory" 1 "$out_of_memory" "$none" "with_little_memory $1"
@@ -192,16 +201,16 @@ streams() {
     is "$1: standard input closed, standard error full" 1 "$none" "$none" "\$P $1 <&- 2> /dev/full"
     is "$1: standard output closed" 1 "$write_failed" "$none" "\$P $1 >&-"
     is "$1: standard output a full disk" 1 "$write_failed" "$none" "\$P $1 > /dev/full"
-    is "$1: many blocks to a full disk" 1 "$write_failed" "$none" "\$P $1 < zeros > /dev/full"
+    is "$1: many blocks to a full disk" 1 "$write_failed" "$none" "\$P $1 < $3 > /dev/full"
     is "$1: standard output for reading" 1 "$write_failed" "$none" "\$P $1 1< empty"
     is "$1: a pipe without a reader" 1 "$write_failed" "$none" \
         "mkfifo pipe; exec 3<> pipe 4> pipe 3>&-; rm pipe; \$P $1 >&4"
     is "$1: a pipe whose reader goes" 1 "$write_failed" "$none" \
-        "set -o pipefail; \$P $1 < zeros | head -c 1 > /dev/null"
+        "set -o pipefail; \$P $1 < $3 | head -c 1 > /dev/null"
     is "$1: a file at its greatest size" 1 "$write_failed" "$none" \
         "set -o pipefail; (trap '' XFSZ; ulimit -f 0; exec \$P $1 > small) 2>&1 | cat >&2"
     is "$1: a file that takes 1,024 bytes" 1 "$write_failed" "$none" \
-        "(trap '' XFSZ; ulimit -f 1; exec \$P $1 < zeros > small); status=\$?; cmp small $2; exit \$status"
+        "(trap '' XFSZ; ulimit -f 1; exec \$P $1 < $3 > small); status=\$?; cmp small $2; exit \$status"
     is "$1: standard output and error closed" 1 "$none" "$none" "\$P $1 >&- 2>&-"
     is "$1: nothing open" 1 "$none" "$none" "\$P $1 <&- >&- 2>&-"
 }
@@ -253,7 +262,7 @@ cases_of_cat() {
     quiet hi
     local order
     for order in le be auto; do
-        streams $order front
+        streams $order front zeros
         writes_nothing $order
     done
 }
@@ -312,13 +321,108 @@ cases_of_enc() {
     quiet 'h\0\0\0i\0\0\0'
     local order
     for order in le be; do
-        streams $order front
+        streams $order front zeros
         writes_nothing $order
     done
     for order in le-bom be-bom; do
-        streams $order front_$order
+        streams $order front_$order zeros
         is "$order: empty, standard output closed" 1 "$write_failed" "$none" "\$P $order < empty >&-"
         is "$order: empty, a full disk" 1 "$write_failed" "$none" "\$P $order < empty > /dev/full"
+    done
+}
+
+# A case that checks these bytes: the byte order, the bytes, the status and the report.
+checks() {
+    printf "$2" > input
+    is "$1 of $2" "$3" "$none" "$4" "\$P $1 < input"
+}
+
+cases_of_check() {
+    lines_of utf16_check 'le|be|auto'
+    local well='bytes: 4, characters: 2, ill-formed: 0\n'
+    checks le '' 0 'bytes: 0, characters: 0, ill-formed: 0\n'
+    checks be '' 0 'bytes: 0, characters: 0, ill-formed: 0\n'
+    checks auto '' 0 'bytes: 0, characters: 0, ill-formed: 0\n'
+    checks le 'h\0i\0' 0 "$well"
+    checks be '\0h\0i' 0 "$well"
+    checks auto 'h\0i\0' 0 "$well"
+    checks le '\0\xD8\0\xDC' 0 'bytes: 4, characters: 1, ill-formed: 0\n'
+    checks be '\xDB\xFF\xDF\xFF' 0 'bytes: 4, characters: 1, ill-formed: 0\n'
+    checks le 'h\0\0\xDC' 1 \
+        '0x2 (2): unpaired trailing surrogate DC00\nbytes: 4, characters: 1, ill-formed: 1\n'
+    checks be '\0h\xDF\xFF' 1 \
+        '0x2 (2): unpaired trailing surrogate DFFF\nbytes: 4, characters: 1, ill-formed: 1\n'
+    checks le '\xFF\xDBh\0' 1 \
+        '0x0 (0): unpaired leading surrogate DBFF\nbytes: 4, characters: 1, ill-formed: 1\n'
+    checks be '\xD8\0\0h' 1 \
+        '0x0 (0): unpaired leading surrogate D800\nbytes: 4, characters: 1, ill-formed: 1\n'
+    # Two leading surrogates and a trailing one: only the first is unpaired.
+    checks le '\0\xD8\1\xD8\0\xDC' 1 \
+        '0x0 (0): unpaired leading surrogate D800\nbytes: 6, characters: 1, ill-formed: 1\n'
+    checks be '\xDC\0\xD8\0' 1 \
+        '0x0 (0): unpaired trailing surrogate DC00\n0x2 (2): incomplete character\nbytes: 4, characters: 0, ill-formed: 2\n'
+    # Incomplete at the end: one byte, a leading surrogate, and one and a byte.
+    checks le 'h' 1 '0x0 (0): incomplete character\nbytes: 1, characters: 0, ill-formed: 1\n'
+    checks be '\0hi' 1 '0x2 (2): incomplete character\nbytes: 3, characters: 1, ill-formed: 1\n'
+    checks le 'h\0\0\xD8' 1 \
+        '0x2 (2): incomplete character\nbytes: 4, characters: 1, ill-formed: 1\n'
+    checks be '\xD8\0\xDC' 1 \
+        '0x0 (0): incomplete character\nbytes: 3, characters: 0, ill-formed: 1\n'
+    # The BOM gives the order, is no character, and counts as two bytes.
+    checks auto '\xFF\xFEh\0' 0 "${well/2,/1,}"
+    checks auto '\xFE\xFF\0h' 0 "${well/2,/1,}"
+    checks auto '\xFF\xFE' 0 'bytes: 2, characters: 0, ill-formed: 0\n'
+    checks auto '\xFF\xFE\xFF\xFE' 0 "${well/2,/1,}"
+    checks auto '\xFE\xFF\0\xD8' 0 "${well/2,/1,}"
+    checks auto '\0\xD8h\0' 1 \
+        '0x0 (0): unpaired leading surrogate D800\nbytes: 4, characters: 1, ill-formed: 1\n'
+    checks auto '\xFE\xFF\xDC\0' 1 \
+        '0x2 (2): unpaired trailing surrogate DC00\nbytes: 4, characters: 0, ill-formed: 1\n'
+    checks auto '\xFF\xFE\0\xDCh' 1 \
+        '0x2 (2): unpaired trailing surrogate DC00\n0x4 (4): incomplete character\nbytes: 5, characters: 0, ill-formed: 2\n'
+    checks auto '\xFF' 1 '0x0 (0): incomplete character\nbytes: 1, characters: 0, ill-formed: 1\n'
+    checks le '\xFF\xFEh\0' 0 "$well"
+    checks be '\xFF\xFEh\0' 0 "$well"
+    # At the boundary of a block of 4,096 bytes: a pair, and each ill-formed sequence.
+    is 'a pair cut by a block' 0 "$none" 'bytes: 4098, characters: 2048, ill-formed: 0\n' \
+        '$P le < long'
+    head -c 4096 long > cut
+    { cat cut; printf 'b\0'; } > cut_leading
+    { head -c 4094 long; printf '\1\xDC\2\xDC'; } > cut_trailing
+    is 'a leading surrogate at the end of a block' 1 "$none" \
+        '0xFFE (4094): unpaired leading surrogate D800\nbytes: 4098, characters: 2048, ill-formed: 1\n' \
+        '$P le < cut_leading'
+    is 'trailing surrogates on both sides of a boundary' 1 "$none" \
+        '0xFFE (4094): unpaired trailing surrogate DC01\n0x1000 (4096): unpaired trailing surrogate DC02\nbytes: 4098, characters: 2047, ill-formed: 2\n' \
+        '$P le < cut_trailing'
+    is 'the input ends with the block' 1 "$none" \
+        '0xFFE (4094): incomplete character\nbytes: 4096, characters: 2047, ill-formed: 1\n' \
+        '$P le < cut'
+    is 'one byte is left after a block' 1 "$none" \
+        '0x1000 (4096): incomplete character\nbytes: 4097, characters: 2048, ill-formed: 1\n' \
+        'head -c 4097 zeros | $P le'
+    is 'many blocks of letters and a pair' 0 "$none" \
+        'bytes: 140004, characters: 70001, ill-formed: 0\n' '$P le < letters'
+    is 'many blocks from a pipe' 0 "$none" \
+        'bytes: 3000000, characters: 1500000, ill-formed: 0\n' 'cat zeros | $P be'
+    is 'many unpaired surrogates' 1 "$none" 'bytes: 200000, characters: 0, ill-formed: 100000\n' \
+        '$P be < trailing > lines; status=$?; head -c 1024 lines | cmp - front_report; tail -n 1 lines; exit $status'
+    is 'bytes that come slowly' 0 "$none" 'bytes: 4, characters: 1, ill-formed: 0\n' \
+        '(printf "\\0"; sleep 0.1; printf "\\330\\0"; sleep 0.1; printf "\\334") | $P le'
+    is 'a BOM that comes slowly' 1 "$none" \
+        '0x2 (2): unpaired leading surrogate D800\nbytes: 6, characters: 1, ill-formed: 1\n' \
+        '(printf "\\376"; sleep 0.1; printf "\\377\\330\\0"; sleep 0.1; printf "\\0h") | $P auto'
+    is 'no input' 0 "$none" 'bytes: 0, characters: 0, ill-formed: 0\n' '$P le < /dev/null'
+    refusals auto
+    quiet "$well"
+    local order
+    for order in le be auto; do
+        streams $order front_report trailing
+        is "$order: empty, standard output closed" 1 "$write_failed" "$none" "\$P $order < empty >&-"
+        is "$order: a read fails after a block" 1 "$read_failed" "$none" \
+            "with_fault read 2 $order < trailing 9> met > lines; status=\$?; cmp lines block_report; exit \$status"
+        is "$order: each allocation, and a line" 1 "$none" "1 0 $out_of_memory" \
+            "INPUT=few_trailing with_each_allocation $order"
     done
 }
 
@@ -334,6 +438,7 @@ programs=("$@")
 if [ $# = 0 ]; then
     builds_of utf16_cat
     builds_of utf16_enc
+    builds_of utf16_check
 fi
 for program in "${programs[@]}"; do
     if [ ! -x "$program" ]; then
@@ -343,6 +448,7 @@ for program in "${programs[@]}"; do
     fi
     case $(basename "$program") in
         utf16_enc*) cases_of_enc ;;
+        utf16_check*) cases_of_check ;;
         *) cases_of_cat ;;
     esac
 done

@@ -60,13 +60,14 @@ folder=$(make_dist folder)
 rm -rf "$out/man3"
 "$here/man3" "$out/man3"
 if [[ ${folder##*/} != x86_64-*linux-gnu* ]]; then
-    echo 'build.sh: the programs utf16_cat and utf16_enc are only for Linux on x86-64' >&2
+    echo 'build.sh: the programs are only for Linux on x86-64' >&2
 elif [ "${PROGRAMS-}" = none ]; then
     : # make -C dist never calls rt.
 elif command -v rt > /dev/null && [ -d "$top/crates" ]; then
     program utf16_cat
     program utf16_enc
+    program utf16_check
 elif [ ! -e "$out/utf16_cat" ]; then
-    echo 'build.sh: there is no rt, so the programs utf16_cat and utf16_enc are not built' >&2
+    echo 'build.sh: there is no rt, so the programs are not built' >&2
 fi
 echo "$folder"

@@ -33,7 +33,7 @@ WORDS = {
     "c": "The headers <code>dethrux.h</code> and <code>dethrux.hpp</code>.",
     "python": "The package <code>dethrux</code>.",
     "rust": "The crates <code>dethrux</code> and <code>utf16string</code>.",
-    "man": "The programs <code>utf16_cat</code> and <code>utf16_enc</code>, and each call for C.",
+    "man": "The programs <code>utf16_cat</code>, <code>utf16_enc</code> and <code>utf16_check</code>, and each call for C.",
 }
 FIRST = (
     ("README.md", "What Dethrux is"),

@@ -15,7 +15,7 @@ from pages import MARKDOWN, SITE, TOP, Missing, frame, link, markdown, need, run
 # Where Debian has the sources of Rust packages, from which cargo makes them without a network.
 REGISTRY = pathlib.Path("/usr/share/cargo/registry")
 PACKAGE = TOP / "bindings/python/src/dethrux"
-PROGRAMS = ("utf16_cat", "utf16_enc")
+PROGRAMS = ("utf16_cat", "utf16_enc", "utf16_check")
 # Doxygen's lists of all names, to which no other page of it leads.
 INDEX = re.compile(r"index|functions|globals|namespace(?:s|members)|files|classes")
 # A name of C, or before one what may have a name: a link, a heading or a tag.

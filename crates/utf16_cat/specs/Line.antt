@@ -1,11 +1,12 @@
 -- The message of a run's outcome, as bytes.
 use Rattle.std.specs.Prelude.{ℕ, List, [], ◌∷◌, ◌++◌, codes}
 use Rattle.utf16_program.specs.declared.outcome.Outcome.{Outcome}
-use Rattle.utf16_program.specs.declared.outcome.Outcome.TheVariants.{Done, Long, Memory, Read, Usage, Write}
+use Rattle.utf16_program.specs.declared.outcome.Outcome.TheVariants.{Done, IllFormed, Long, Memory, Read, Usage, Write}
 
--- the message and a newline; empty if all was decoded
+-- the message and a newline; empty if all was decoded, which is never found ill-formed
 abbrev pub line_of : Outcome → List ℕ
 line_of Done = []
+line_of IllFormed = []
 line_of Read = codes "utf16_cat: read failed" ++ 0x0A ∷ []
 line_of Write = codes "utf16_cat: write failed" ++ 0x0A ∷ []
 line_of Memory = codes "utf16_cat: out of memory" ++ 0x0A ∷ []

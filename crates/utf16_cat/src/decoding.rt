@@ -1,15 +1,17 @@
 //! What the program decodes for each of its words, and its messages.
 
-ghost use Rattle.std.specs.Prelude.{◌≡◌, ◌↔◌, ◌+◌, Some, refl};
-ghost use Rattle.utf16_streams.specs.Filter.{FiltersIn, read_faults, write_faults};
+ghost use Rattle.std.specs.Prelude.{◌≡◌, ◌≢◌, ◌↔◌, ◌+◌, Some, refl};
+ghost use Rattle.utf16_streams.specs.Filter.{FiltersIn};
 ghost use Rattle.utf16_streams.specs.Watched.{watched_faults, watched_inner};
+ghost use Rattle.utf16_program.specs.Outcome.{EndsBy};
+ghost use Rattle.utf16_program.specs.Status.{reads_failed, writes_failed};
 ghost use Rattle.utf16_cat.specs.Line.{line_of};
 ghost use Rattle.utf16_cat.specs.Words.{order_of, word_of};
 
 use std::alloc::Allocator;
 use std::io::{Read, Write};
-use utf16_program::{Choice, Outcome};
-use utf16_streams::{BE, FilterFault, LE, Watched, filter, filter_auto};
+use utf16_program::{Choice, Outcome, outcome_of};
+use utf16_streams::{BE, LE, Watched, filter, filter_auto};
 
 /// The byte order that the argument names.
 #[derive(Clone, Copy, Debug, PartialEq, Eq)]
@@ -25,7 +27,8 @@ pub enum Decoding {
 impl Choice for Decoding {
     ghost word_of = { word_of };
 
-    ghost filters = { λ decoding. FiltersIn (order_of decoding) };
+    ghost filters = { λ decoding input left old new ended.
+        EndsBy ended (FiltersIn (order_of decoding) input left old new) };
 
     ghost line_of = { line_of };
 
@@ -45,17 +48,17 @@ impl Choice for Decoding {
         alloc: A,
         reader: &mut Watched<R>,
         writer: &mut Watched<W>,
-    ) -> Result<(), FilterFault> {
-        match self {
+    ) -> Outcome {
+        outcome_of(match self {
             Decoding::Le => filter::<LE, _, _, _>(alloc, reader, writer),
             Decoding::Be => filter::<BE, _, _, _>(alloc, reader, writer),
             Decoding::Auto => filter_auto(alloc, reader, writer),
-        }
+        })
     }
 
     fn line(outcome: &Outcome) -> &'static str {
         match outcome {
-            Outcome::Done => "",
+            Outcome::Done | Outcome::IllFormed => "",
             Outcome::Read => "utf16_cat: read failed\n",
             Outcome::Write => "utf16_cat: write failed\n",
             Outcome::Memory => "utf16_cat: out of memory\n",

@@ -1,15 +1,16 @@
 //! What the program encodes for each of its words, and its messages.
 
-ghost use Rattle.std.specs.Prelude.{◌≡◌, ◌↔◌, ◌+◌, Some, refl};
-ghost use Rattle.utf16_streams.specs.Filter.{read_faults, write_faults};
+ghost use Rattle.std.specs.Prelude.{◌≡◌, ◌≢◌, ◌↔◌, ◌+◌, Some, refl};
 ghost use Rattle.utf16_streams.specs.Watched.{watched_faults, watched_inner};
+ghost use Rattle.utf16_program.specs.Outcome.{EndsBy};
+ghost use Rattle.utf16_program.specs.Status.{reads_failed, writes_failed};
 ghost use Rattle.utf16_enc.specs.Line.{line_of};
 ghost use Rattle.utf16_enc.specs.Words.{EncodesBy, has_bom, is_big, word_of};
 
 use std::alloc::Allocator;
 use std::io::{Read, Write};
-use utf8_streams::{BE, FilterFault, LE, Watched, encode_stream, encode_stream_with_bom};
-use utf16_program::{Choice, Outcome};
+use utf8_streams::{BE, LE, Watched, encode_stream, encode_stream_with_bom};
+use utf16_program::{Choice, Outcome, outcome_of};
 
 /// The byte order that the argument names, and whether the output begins with a BOM.
 #[derive(Clone, Copy, Debug, PartialEq, Eq)]
@@ -27,7 +28,8 @@ pub enum Encoding {
 impl Choice for Encoding {
     ghost word_of = { word_of };
 
-    ghost filters = { λ encoding. EncodesBy (has_bom encoding) (is_big encoding) };
+    ghost filters = { λ encoding input left old new ended.
+        EndsBy ended (EncodesBy (has_bom encoding) (is_big encoding) input left old new) };
 
     ghost line_of = { line_of };
 
@@ -48,18 +50,18 @@ impl Choice for Encoding {
         alloc: A,
         reader: &mut Watched<R>,
         writer: &mut Watched<W>,
-    ) -> Result<(), FilterFault> {
-        match self {
+    ) -> Outcome {
+        outcome_of(match self {
             Encoding::Le => encode_stream::<LE, _, _, _>(alloc, reader, writer),
             Encoding::Be => encode_stream::<BE, _, _, _>(alloc, reader, writer),
             Encoding::LeBom => encode_stream_with_bom::<LE, _, _, _>(alloc, reader, writer),
             Encoding::BeBom => encode_stream_with_bom::<BE, _, _, _>(alloc, reader, writer),
-        }
+        })
     }
 
     fn line(outcome: &Outcome) -> &'static str {
         match outcome {
-            Outcome::Done => "",
+            Outcome::Done | Outcome::IllFormed => "",
             Outcome::Read => "utf16_enc: read failed\n",
             Outcome::Write => "utf16_enc: write failed\n",
             Outcome::Memory => "utf16_enc: out of memory\n",

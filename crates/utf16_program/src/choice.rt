@@ -1,15 +1,14 @@
 //! What a program defines: the words that it knows, what each of them chooses, and its messages.
 
-ghost use Rattle.std.specs.Prelude.{◌≡◌, ◌↔◌, ◌+◌, ◌-◌, ◌<◌, ◌^◌, [], ℕ, List, Option, Result, Some};
-ghost use Rattle.utf16_streams.specs.Filter.{read_faults, write_faults};
+ghost use Rattle.std.specs.Prelude.{◌≡◌, ◌≢◌, ◌↔◌, ◌+◌, ◌-◌, ◌<◌, ◌^◌, [], ℕ, List, Option, Some};
 ghost use Rattle.utf16_streams.specs.Watched.{watched_faults, watched_inner};
-ghost use Rattle.utf16_streams.specs.declared.filters.FilterFault.{FilterFault};
+ghost use Rattle.utf16_program.specs.Status.{reads_failed, writes_failed};
 ghost use Rattle.utf16_program.specs.declared.outcome.Outcome.{Outcome};
 
 use crate::outcome::Outcome;
 use std::alloc::Allocator;
 use std::io::{Read, Write};
-use utf16_streams::{FilterFault, Watched};
+use utf16_streams::Watched;
 
 /// What the argument of a program chooses: the filter from its input to its output. The type, which
 /// has a value for each word that the program knows, also has the messages of the program.
@@ -17,10 +16,10 @@ pub trait Choice: Sized {
     // The word that names this choice.
     ghost word_of: { Self → List ℕ };
 
-    // What the filter did, for each of its results: to the bytes that remain in the reader and to
+    // What the filter did, for each of its outcomes: to the bytes that remain in the reader and to
     // the bytes that the writer holds, before and after.
     ghost filters: { Self → Option (List ℕ) → Option (List ℕ) → Option (List ℕ) → Option (List ℕ)
-        → Result (Unit {0}) FilterFault → Type 0 };
+        → Outcome → Type 0 };
 
     // The message of an outcome.
     ghost line_of: { Outcome → List ℕ };
@@ -30,11 +29,8 @@ pub trait Choice: Sized {
         ensures { (choice : Self) → (result ≡ Some choice)
             ↔ (word.now ≡ word_of choice) };
 
-    /// Filters a reader to a writer, as this choice says.
-    ///
-    /// # Errors
-    ///
-    /// Like `filter_by` of `utf16_streams`.
+    /// Filters a reader to a writer, as this choice says, and returns how it ended, which is never
+    /// `Usage`.
     ///
     /// # Precondition
     ///
@@ -44,16 +40,17 @@ pub trait Choice: Sized {
         alloc: A,
         reader: &mut Watched<R>,
         writer: &mut Watched<W>,
-    ) -> Result<(), FilterFault>
+    ) -> Outcome
         requires reader { watched_faults reader.old < 2 ^ 64 - 1 }
         requires writer { watched_faults writer.old < 2 ^ 64 - 1 }
         ensures transfers { filters self (R.remaining (watched_inner reader.old))
             (R.remaining (watched_inner reader.new)) (W.contents (watched_inner writer.old))
             (W.contents (watched_inner writer.new)) result }
         ensures reads { watched_faults reader.new
-            ≡ watched_faults reader.old + read_faults result }
+            ≡ watched_faults reader.old + reads_failed result }
         ensures writes { watched_faults writer.new
-            ≡ watched_faults writer.old + write_faults result };
+            ≡ watched_faults writer.old + writes_failed result }
+        ensures chosen { result ≢ Outcome.Usage };
 
     /// Returns the message of an outcome, a line with its newline; empty for `Done`.
     fn line(outcome: &Outcome) -> &'static str

@@ -1,5 +1,5 @@
-//! What the programs `utf16_cat` and `utf16_enc` share: how a run goes and ends, its message and
-//! its exit status.
+//! What the programs `utf16_cat`, `utf16_enc` and `utf16_check` share: how a run goes and ends, its
+//! message and its exit status.
 #![tactic(auto)]
 
 mod arguments;
@@ -10,6 +10,6 @@ mod programs;
 
 pub use arguments::choice_of;
 pub use choice::Choice;
-pub use messages::{report, tell};
+pub use messages::{report, tell, write_all};
 pub use outcome::{Outcome, outcome_of};
 pub use programs::{program, run};

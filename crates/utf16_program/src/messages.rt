@@ -30,8 +30,16 @@ pub fn tell<C: Choice, W: Write>(outcome: &Outcome, to: &mut Watched<W>) -> Resu
     write_all(line, to)
 }
 
-// Writes all of the bytes.
-fn write_all<W: Write>(bytes: &[u8], to: &mut Watched<W>) -> Result<(), DeviceFault>
+/// Writes all of the bytes.
+///
+/// # Errors
+///
+/// If a write fails; the writer is not called again after that.
+///
+/// # Precondition
+///
+/// The error count is not `u64::MAX`.
+pub fn write_all<W: Write>(bytes: &[u8], to: &mut Watched<W>) -> Result<(), DeviceFault>
     requires { watched_faults to.old < 2 ^ 64 - 1 }
     ensures appended { OnOk result (TellsAll W.contents to.old to.new bytes.now) }
     ensures err { OnErr result (TellsPrefix W.contents to.old to.new bytes.now) }
@@ -51,7 +59,7 @@ pub fn report<C: Choice, W: Write>(outcome: &Outcome, to: &mut Watched<W>) -> u8
     let _ = tell::<C, W>(outcome, to);
     match outcome {
         Outcome::Done => 0,
-        Outcome::Read | Outcome::Write | Outcome::Memory | Outcome::Long => 1,
+        Outcome::IllFormed | Outcome::Read | Outcome::Write | Outcome::Memory | Outcome::Long => 1,
         Outcome::Usage => 2,
     }
 }

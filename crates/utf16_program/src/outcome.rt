@@ -8,8 +8,11 @@ use utf16_streams::FilterFault;
 /// How a run ended.
 #[derive(Clone, Copy, Debug, PartialEq, Eq)]
 pub enum Outcome {
-    /// The whole input was converted and written, with U+FFFD for each ill-formed sequence.
+    /// The whole input was converted and written, with U+FFFD for each ill-formed sequence; or all of
+    /// it was checked, and is well formed.
     Done,
+    /// The whole input was checked and reported, and is ill-formed. No conversion ends so.
+    IllFormed,
     /// A read failed. What was read before was converted and written.
     Read,
     /// A write or the flush failed. A prefix of the text was written.

@@ -1,21 +1,19 @@
 //! A run of a program, with any arguments, reader and writers.
 
-ghost use Rattle.std.specs.Prelude.{◌≡◌, ◌⊎◌, ◌+◌, ◌-◌, ◌<◌, ◌≤◌, ◌^◌, [], ◌∷◌, Err, Ok, string_bytes};
+ghost use Rattle.std.specs.Prelude.{◌≡◌, ◌⊎◌, ◌+◌, ◌-◌, ◌<◌, ◌≤◌, ◌^◌, [], ◌∷◌, string_bytes};
 ghost use Rattle.std.specs.IoError.{error_kind};
 ghost use Rattle.std.specs.Process.{exit_status};
 ghost use Rattle.std.specs.Vec.Iter.{into_iter_items};
 ghost use Rattle.utf16_streams.specs.Watched.{watched_faults, watched_inner};
-ghost use Rattle.utf16_streams.specs.declared.filters.FilterFault.{FilterFault};
 ghost use Rattle.utf16_program.specs.Arguments.{IsRefusal, words_of};
-ghost use Rattle.utf16_program.specs.Outcome.{EndsBy};
 ghost use Rattle.utf16_program.specs.Report.{Reports};
 ghost use Rattle.utf16_program.specs.Run.{Runs};
-ghost use Rattle.utf16_program.specs.Status.{reads_failed, writes_failed};
+ghost use Rattle.utf16_program.specs.Status.{reads_failed, status_of, writes_failed};
 
 use crate::arguments::choice_of;
 use crate::choice::Choice;
 use crate::messages::report;
-use crate::outcome::{Outcome, outcome_of};
+use crate::outcome::Outcome;
 use std::alloc::Allocator;
 use std::env::Args;
 use std::io::{self, ErrorKind, Read, Write};
@@ -24,7 +22,8 @@ use utf16_streams::Watched;
 
 /// Runs a program as `run` does, on what `env::args` of std returned, and reports the outcome as
 /// `report` does: it writes the message to `errors` and returns the exit status. The status is 0 if
-/// the whole input was filtered, 2 if the arguments name no choice, and 1 otherwise.
+/// the whole input was filtered and is not found ill-formed, 2 if the arguments name no choice, and
+/// 1 otherwise.
 ///
 /// # Precondition
 ///
@@ -47,14 +46,15 @@ pub fn program<C: Choice, R: Read, W: Write, T: Write, A: Allocator>(
         × Reports T.contents errors.old errors.new C.line_of ended (exit_status result) }
     ensures filtered { exit_status result ≡ 0 → (choice : C) × C.filters choice
         (R.remaining (watched_inner reader.old)) (R.remaining (watched_inner reader.new))
-        (W.contents (watched_inner writer.old)) (W.contents (watched_inner writer.new)) (Ok tt) }
+        (W.contents (watched_inner writer.old)) (W.contents (watched_inner writer.new))
+        Outcome.Done }
     ensures quiet { exit_status result ≡ 0 → errors.new ≡ errors.old }
     ensures failed { exit_status result ≡ 1
         → ((reader.new ≡ reader.old) × (writer.new ≡ writer.old))
-        ⊎ ((choice : C) × (fault : FilterFault)
+        ⊎ ((choice : C) × (ended : Outcome) × (status_of ended ≡ 1)
         × C.filters choice (R.remaining (watched_inner reader.old))
         (R.remaining (watched_inner reader.new)) (W.contents (watched_inner writer.old))
-        (W.contents (watched_inner writer.new)) (Err fault)) }
+        (W.contents (watched_inner writer.new)) ended) }
     ensures usage { exit_status result ≡ 2 → (reader.new ≡ reader.old)
         × (writer.new ≡ writer.old) }
     ensures cases { exit_status result ≤ 2 }
@@ -80,18 +80,20 @@ pub fn run<C: Choice, R: Read, W: Write, A: Allocator>(
     requires writer { watched_faults writer.old < 2 ^ 64 - 1 }
     ensures named { (choice : C)
         → words_of into_iter_items string_bytes args ≡ C.word_of choice ∷ []
-        → EndsBy result (C.filters choice (R.remaining (watched_inner reader.old))
+        → C.filters choice (R.remaining (watched_inner reader.old))
         (R.remaining (watched_inner reader.new)) (W.contents (watched_inner writer.old))
-        (W.contents (watched_inner writer.new))) }
+        (W.contents (watched_inner writer.new)) result }
     ensures refused { ((choice : C)
         × (words_of into_iter_items string_bytes args ≡ C.word_of choice ∷ []))
         ⊎ (IsRefusal (λ error. error_kind error ≡ ErrorKind.OutOfMemory) args result
         × (reader.new ≡ reader.old) × (writer.new ≡ writer.old)) }
     ensures reads { watched_faults reader.new ≡ watched_faults reader.old + reads_failed result }
     ensures writes { watched_faults writer.new ≡ watched_faults writer.old + writes_failed result }
+    ensures usage { result ≡ Outcome.Usage → (reader.new ≡ reader.old)
+        × (writer.new ≡ writer.old) }
 {
     match choice_of::<C>(args) {
-        Ok(choice) => outcome_of(choice.filter(alloc, reader, writer)),
+        Ok(choice) => choice.filter(alloc, reader, writer),
         Err(outcome) => outcome,
     }
 }

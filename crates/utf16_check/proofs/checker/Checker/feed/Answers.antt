@@ -1,0 +1,72 @@
+use Rattle.std.proofs.Common.{◌∙◌, ◌+◌, ◌<◌, ◌++◌, ap, append-nil, string_bytes, subst, sym}
+use Rattle.std.proofs.lemmas.List.{take_rest}
+use Rattle.std.specs.Prelude.{count_by}
+use Rattle.utf16_units.specs.Split.{split_items}
+use Rattle.utf16_check.specs.Report.{is_ill_formed, tail_in}
+use Rattle.utf16_check.specs.Scans.{Scans}
+use Rattle.utf16_check.proofs.FollowLemmas.{Follows-few, fed_few, fed_lines, fed_pending, few_lines, few_tail, more_faults, more_lines, more_report, some_lines}
+use Rattle.utf16_check.proofs.ScanLemmas.{OnErr-always}
+use Rattle.utf16_check.proofs.checker.Checker.feed.Goals as goal
+
+pub returns-in_default-clause-lines : goal.returns-in_default-clause-lines
+returns-in_default-clause-lines g c =
+    let it = c.args.self.now in
+    let undecided = c.in_default.ensures.undecided in
+    sym (append-nil (string_bytes c.args.lines.now))
+    ∙ ap (λ l. string_bytes c.args.lines.now ++ l) (sym (few_lines it.big_endian it.offset c.args.bytes.now undecided.0 undecided.1))
+
+pub returns-in_default-clause-follows : goal.returns-in_default-clause-follows
+returns-in_default-clause-follows g c = Follows-few c.args.self.now c.args.bytes.now c.in_default.ensures.undecided.0 c.in_default.ensures.undecided.1
+
+pub returns-in_default-clause-pending : goal.returns-in_default-clause-pending
+returns-in_default-clause-pending g c =
+    ap (λ o. tail_in o c.args.bytes.now) c.in_default.ensures.undecided.0 ∙ few_tail c.args.bytes.now c.in_default.ensures.undecided.1
+
+pub returns-in_err-found-clause-nothing : goal.returns-in_err-found-clause-nothing
+returns-in_err-found-clause-nothing g c =
+    let it = c.args.self.now in
+    let begins = c.in-Some.ensures in
+    let big = c.in-Some.begins.big_endian in
+    let from = c.in-Some.begins.bom_len in
+    let some = subst (λ t. 0 < count_by is_ill_formed (split_items big t)) (take_rest c.args.bytes.now from) c.in_err-found.ensures.nothing in
+    OnErr-always _ (some_lines it.big_endian big from c.args.bytes.now begins.within begins.order begins.text it.offset some)
+
+pub returns-clause-lines : goal.returns-clause-lines
+returns-clause-lines g c =
+    let it = c.args.self.now in
+    let begins = c.in-Some.ensures in
+    let big = c.in-Some.begins.big_endian in
+    let from = c.in-Some.begins.bom_len in
+    let scans = subst (λ t. Scans big (it.offset + from) t (string_bytes c.args.lines.now) (string_bytes c.scan.new.lines) c.in_ok-found.found) (take_rest c.args.bytes.now from) c.in_ok-found.ensures.found in
+    fed_lines it.big_endian big from c.args.bytes.now begins.within begins.order begins.text it.offset _ _ _ scans
+
+pub returns-clause-few : goal.returns-clause-few
+returns-clause-few g c =
+    let it = c.args.self.now in
+    let begins = c.in-Some.ensures in
+    let big = c.in-Some.begins.big_endian in
+    let from = c.in-Some.begins.bom_len in
+    let scans = subst (λ t. Scans big (it.offset + from) t (string_bytes c.args.lines.now) (string_bytes c.scan.new.lines) c.in_ok-found.found) (take_rest c.args.bytes.now from) c.in_ok-found.ensures.found in
+    fed_few it.big_endian big from c.args.bytes.now begins.within begins.order begins.text it.offset _ _ _ scans
+
+pub returns-clause-pending : goal.returns-clause-pending
+returns-clause-pending g c =
+    let it = c.args.self.now in
+    let begins = c.in-Some.ensures in
+    let big = c.in-Some.begins.big_endian in
+    let from = c.in-Some.begins.bom_len in
+    let scans = subst (λ t. Scans big (it.offset + from) t (string_bytes c.args.lines.now) (string_bytes c.scan.new.lines) c.in_ok-found.found) (take_rest c.args.bytes.now from) c.in_ok-found.ensures.found in
+    fed_pending it.big_endian big from c.args.bytes.now begins.within begins.order begins.text it.offset _ _ _ scans
+
+pub returns-clause-follows : goal.returns-clause-follows
+returns-clause-follows g c =
+    let it = c.args.self.now in
+    let begins = c.in-Some.ensures in
+    let big = c.in-Some.begins.big_endian in
+    let from = c.in-Some.begins.bom_len in
+    let scans = subst (λ t. Scans big (it.offset + from) t (string_bytes c.args.lines.now) (string_bytes c.scan.new.lines) c.in_ok-found.found) (take_rest c.args.bytes.now from) c.in_ok-found.ensures.found in
+    record {
+      lines = λ back. more_lines it.big_endian big from c.args.bytes.now begins.within begins.order begins.text it.offset _ _ _ scans back;
+      report = λ back. more_report it.big_endian big from c.args.bytes.now begins.within begins.order begins.text it.offset _ _ _ scans back it.chars it.unpaired;
+      faults = λ back. more_faults it.big_endian big from c.args.bytes.now begins.within begins.order begins.text it.offset _ _ _ scans back it.unpaired;
+    }

@@ -1,0 +1,130 @@
+//! The check of what a reader has, reported to a writer.
+
+ghost use Rattle.std.specs.Prelude.{◌≡◌, ◌+◌, ◌-◌, ◌<◌, ◌≤◌, ◌^◌, All, IfOk, drop, length, take};
+ghost use Rattle.std.specs.Io.KnownBytes.{ReadConsumes};
+ghost use Rattle.utf16_streams.specs.Watched.{CountsFaults, watched_faults, watched_inner};
+ghost use Rattle.utf16_program.specs.Status.{reads_failed, writes_failed};
+ghost use Rattle.utf16_check.specs.Checker.{IsPending, checker_faults, checker_offset, checker_report};
+ghost use Rattle.utf16_check.specs.Checks.{ChecksBy, EndsBy};
+
+use crate::checker::Checker;
+use std::alloc::Allocator;
+use std::io::{Read, Write};
+use utf16_program::{Outcome, write_all};
+use utf16_streams::{DeviceFault, Watched};
+use utf16_units::laws::are_bytes;
+
+// The length in bytes of the block that is read into, with the pending bytes at its front.
+const BLOCK_LEN: usize = 4096;
+
+/// Checks what a reader has, and writes a line for each ill-formed sequence and a last line that
+/// counts. The byte order is `Some(true)` for big endian, `Some(false)` for little endian, and
+/// `None` if the BOM gives it. It reads until a read returns 0, and flushes once at the end.
+///
+/// Returns `Done` if the input is well formed, and `IllFormed` if not. It stops at the first I/O
+/// error, if allocation fails, or after 2^64 - 1 bytes.
+///
+/// # Precondition
+///
+/// Neither error count is `u64::MAX`.
+///
+/// # Complexity
+///
+/// Linear time. The memory for lines is limited by the length of a block.
+pub fn check<R: Read, W: Write, A: Allocator>(
+    big_endian: Option<bool>,
+    alloc: A,
+    reader: &mut Watched<R>,
+    writer: &mut Watched<W>,
+) -> Outcome
+    requires reader { watched_faults reader.old < 2 ^ 64 - 1 }
+    requires writer { watched_faults writer.old < 2 ^ 64 - 1 }
+    ensures checks { ChecksBy big_endian (R.remaining (watched_inner reader.old))
+        (R.remaining (watched_inner reader.new)) (W.contents (watched_inner writer.old))
+        (W.contents (watched_inner writer.new)) result }
+    ensures reads { watched_faults reader.new ≡ watched_faults reader.old + reads_failed result }
+    ensures writes { watched_faults writer.new ≡ watched_faults writer.old + writes_failed result }
+{
+    let mut checker = Checker::new(big_endian);
+    let mut lines = String::new(alloc);
+    let mut block = [0; BLOCK_LEN];
+    let mut pending = 0;
+    loop {
+        let countable = u64::MAX - checker.offset() - pending as u64;
+        let room = (BLOCK_LEN - pending).min(countable as usize);
+        if room == 0 {
+            return Outcome::Long;
+        }
+        let Ok(count) = read_behind(reader, &mut block, pending, room) else {
+            return Outcome::Read;
+        };
+        if count == 0 {
+            return end(checker, &block[..pending], lines, writer);
+        }
+        let filled = pending + count;
+        lines.clear();
+        let Ok(taken) = checker.feed(&block[..filled], &mut lines) else {
+            return Outcome::Memory;
+        };
+        let Ok(()) = write_all(lines.as_bytes(), writer) else {
+            return Outcome::Write;
+        };
+        block.copy_within(taken..filled, 0);
+        pending = filled - taken;
+    }
+}
+
+// Reads once, at most `room` bytes, into the block behind the pending bytes. Returns the number of
+// bytes read.
+fn read_behind<R: Read>(
+    reader: &mut Watched<R>,
+    block: &mut [u8],
+    pending: usize,
+    room: usize,
+) -> Result<usize, DeviceFault>
+    requires room { pending + room ≤ length block.old }
+    requires reader { watched_faults reader.old < 2 ^ 64 - 1 }
+    ensures before { take pending block.new ≡ take pending block.old }
+    ensures within { IfOk result (λ count. count ≤ room) }
+    ensures transfers { ReadConsumes (R.remaining (watched_inner reader.old))
+        (R.remaining (watched_inner reader.new)) result (take room (drop pending block.new)) }
+    ensures faults { CountsFaults reader.old reader.new result }
+    ensures are_bytes { All (λ b. b < 256) block.new }
+{
+    let count = reader.read(&mut block[pending..pending + room]);
+    are_bytes(block);
+    count
+}
+
+// Writes the lines that are left at the end of the input, and flushes once.
+fn end<W: Write, A: Allocator>(
+    checker: Checker,
+    pending: &[u8],
+    lines: String<A>,
+    writer: &mut Watched<W>,
+) -> Outcome
+    requires pending { IsPending checker pending.now }
+    requires fits { checker_offset checker + length pending.now < 2 ^ 64 }
+    requires writer { watched_faults writer.old < 2 ^ 64 - 1 }
+    ensures ends { EndsBy (W.contents (watched_inner writer.old))
+        (W.contents (watched_inner writer.new)) (checker_report checker pending.now)
+        (checker_faults checker pending.now) result }
+    ensures writes { watched_faults writer.new ≡ watched_faults writer.old + writes_failed result }
+{
+    let mut lines = lines;
+    lines.clear();
+    let Ok(well_formed) = checker.finish(pending, &mut lines) else {
+        return Outcome::Memory;
+    };
+    let Ok(()) = write_all(lines.as_bytes(), writer) else {
+        return Outcome::Write;
+    };
+    let Ok(()) = writer.flush() else {
+        return Outcome::Write;
+    };
+    if well_formed {
+        Outcome::Done
+    } else {
+        Outcome::IllFormed
+    }
+}

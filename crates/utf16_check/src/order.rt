@@ -1,0 +1,42 @@
+//! The byte order in which an input is checked.
+
+ghost use Rattle.std.specs.Prelude.{◌≡◌, ℕ, ◌<◌, ◌≤◌, List, ◌++◌, None, IfNone, IfSome, drop, length};
+ghost use Rattle.utf16_check.specs.Order.{big_in, text_in};
+
+/// Whether the text of an input is big endian, and where it begins.
+#[derive(Clone, Copy)]
+pub struct Beginning {
+    /// Whether the high byte of a code unit comes first.
+    pub big_endian: bool,
+    /// The length of the BOM, in bytes: 2, or 0 if there is none or it is text.
+    pub bom_len: usize,
+}
+
+/// Returns the beginning of the text of an input whose first bytes are `bytes`, or `None` if they
+/// do not decide it. `big_endian` is the byte order if it is given; otherwise the BOM gives it, and
+/// without one it is little endian.
+pub fn beginning_of(big_endian: Option<bool>, bytes: &[u8]) -> Option<Beginning>
+    ensures order { IfSome result (λ begins. (back : List ℕ)
+        → big_in big_endian (bytes.now ++ back) ≡ begins.big_endian) }
+    ensures text { IfSome result (λ begins. (back : List ℕ)
+        → text_in big_endian (bytes.now ++ back) ≡ drop begins.bom_len bytes.now ++ back) }
+    ensures within { IfSome result (λ begins. begins.bom_len ≤ length bytes.now) }
+    ensures undecided { IfNone result ((big_endian ≡ None) × (length bytes.now < 2)) }
+{
+    if let Some(big_endian) = big_endian {
+        return Some(Beginning {
+            big_endian,
+            bom_len: 0,
+        });
+    }
+    let (big_endian, bom_len) = match bytes {
+        [0xFE, 0xFF, ..] => (true, 2),
+        [0xFF, 0xFE, ..] => (false, 2),
+        [_, _, ..] => (false, 0),
+        _ => return None,
+    };
+    Some(Beginning {
+        big_endian,
+        bom_len,
+    })
+}
