@@ -14,6 +14,6 @@ abbrev pub text_in : Option Bool → List ℕ → List ℕ
 text_in (Some big) bytes = bytes
 text_in None bytes = after_bom bytes
 
--- the number of bytes before the text: those of the BOM
+-- the number of bytes before the text: the length of the BOM, or 0
 abbrev pub bom_len : Option Bool → List ℕ → ℕ
 bom_len order bytes = length bytes - length (text_in order bytes)
