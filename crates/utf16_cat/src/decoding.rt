@@ -49,11 +49,11 @@ impl Choice for Decoding {
         reader: &mut Watched<R>,
         writer: &mut Watched<W>,
     ) -> Outcome {
-        outcome_of(match self {
-            Decoding::Le => filter::<LE, _, _, _>(alloc, reader, writer),
-            Decoding::Be => filter::<BE, _, _, _>(alloc, reader, writer),
-            Decoding::Auto => filter_auto(alloc, reader, writer),
-        })
+        match self {
+            Decoding::Le => outcome_of(filter::<LE, _, _, _>(alloc, reader, writer)),
+            Decoding::Be => outcome_of(filter::<BE, _, _, _>(alloc, reader, writer)),
+            Decoding::Auto => outcome_of(filter_auto(alloc, reader, writer)),
+        }
     }
 
     fn line(outcome: &Outcome) -> &'static str {

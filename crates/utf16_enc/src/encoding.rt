@@ -51,12 +51,16 @@ impl Choice for Encoding {
         reader: &mut Watched<R>,
         writer: &mut Watched<W>,
     ) -> Outcome {
-        outcome_of(match self {
-            Encoding::Le => encode_stream::<LE, _, _, _>(alloc, reader, writer),
-            Encoding::Be => encode_stream::<BE, _, _, _>(alloc, reader, writer),
-            Encoding::LeBom => encode_stream_with_bom::<LE, _, _, _>(alloc, reader, writer),
-            Encoding::BeBom => encode_stream_with_bom::<BE, _, _, _>(alloc, reader, writer),
-        })
+        match self {
+            Encoding::Le => outcome_of(encode_stream::<LE, _, _, _>(alloc, reader, writer)),
+            Encoding::Be => outcome_of(encode_stream::<BE, _, _, _>(alloc, reader, writer)),
+            Encoding::LeBom => outcome_of(encode_stream_with_bom::<LE, _, _, _>(
+                alloc, reader, writer,
+            )),
+            Encoding::BeBom => outcome_of(encode_stream_with_bom::<BE, _, _, _>(
+                alloc, reader, writer,
+            )),
+        }
     }
 
     fn line(outcome: &Outcome) -> &'static str {
