@@ -6,6 +6,7 @@ mod measures;
 mod parts;
 mod search;
 mod shown;
+mod spaces;
 mod units;
 mod walks;
 mod written;
@@ -17,7 +18,9 @@ use utf16string::Utf16Order;
 /// not, no value was taken. Each module passes a name that it does not know to the next one.
 pub fn call<E: Utf16Order>(run: &mut Run, name: &str) -> bool {
     match name.split_once("::") {
-        Some(("WStr" | "WStrChars" | "WStrCharIndices", _)) => made::call::<E>(run, name),
+        Some(("WStr" | "WStrChars" | "WStrCharIndices" | "WStrSplit", _)) => made::call::<E>(
+            run, name,
+        ),
         Some(("WStrMut", _)) => written::call::<E>(run, name),
         _ => units::call::<E>(run, name),
     }

@@ -1,13 +1,12 @@
 -- Prefixes and suffixes of a text, by its bytes.
-use Rattle.std.proofs.Common.{◌≡◌, ℕ, ◌+◌, ◌-◌, ◌%◌, Bool, true, nat_eq, ◌↔◌, List, [], ◌∷◌, ◌++◌, length, take, take_all, drop, refl, sym, ap, ◌∙◌, subst, arith, append-nil, length-append, drop_at}
-use Rattle.std.proofs.lemmas.Bool.Decides.{Decides-eqb}
-use Rattle.std.proofs.lemmas.Slice.Eq.{ends_is, starts_is}
-use Rattle.std.specs.List.{ends_with, starts_with}
+use Rattle.std.proofs.Common.{◌≡◌, ℕ, ◌+◌, ◌-◌, ◌%◌, Bool, true, All, ◌↔◌, List, [], ◌∷◌, ◌++◌, length, take, take_all, drop, refl, sym, ap, ◌∙◌, subst, arith, append-nil, length-append, drop_at}
+use Rattle.std.proofs.Math.Seq.{take-append_seam}
+use Rattle.std.specs.Char.{IsScalar}
 use Rattle.utf16_units.specs.Boundary.{IsBoundary, text_between, text_from, text_to}
-use Rattle.utf16_units.specs.Encoding.{IsUtf16, encode, size, text_of}
+use Rattle.utf16_units.specs.Encoding.{Encodes, IsUtf16, encode, is_utf16, size, text_of}
 use Rattle.utf16_units.proofs.BackChar.{length-even}
 use Rattle.utf16_units.proofs.BoundaryLemmas.{text_between-end, text_from-at, text_to-at, text_to-text_from}
-use Rattle.utf16_units.proofs.EncodingLemmas.{Encodes-text_of, encode-append, encode-text_of, length-text, text_of-append}
+use Rattle.utf16_units.proofs.EncodingLemmas.{Encodes-text_of, IsUtf16-encode, IsUtf16-from_Encodes, IsUtf16-from_is_utf16, encode-append, encode-text_of, length-encode, length-text, text_of-Encodes, text_of-append, text_of-encode}
 use Rattle.utf16_units.proofs.LawProofs.{found_exactly}
 use Rattle.utf16_units.proofs.PartLemmas.{IsBoundary-seam}
 
@@ -25,13 +24,6 @@ module _ (big : Bool) (bytes part : List ℕ) (t : IsUtf16 big bytes) (p : IsUtf
   bytes_end front e =
       sym (encode-text_of big bytes t) ∙ ap (encode big) e ∙ encode-append big front (text_of big part)
       ∙ ap (λ b. encode big front ++ b) (encode-text_of big part p)
-
-  pub begins_with : (r : Bool) → r ≡ starts_with nat_eq bytes part → (r ≡ true) ↔ ((rest : List ℕ) × (text_of big bytes ≡ text_of big part ++ rest))
-  begins_with r e =
-      let is = starts_is Decides-eqb bytes part r e in (
-        λ yes. (text_of big (drop (length part) bytes), text_begins (drop (length part) bytes) (is.0 yes)),
-        λ begins. is.1 (encode big begins.0) (bytes_begin begins.0 begins.1),
-      )
 
   -- and bytes that end with the bytes of a part are a text that ends with the part
   pub text_ends : (front : List ℕ) → bytes ≡ front ++ part → (before : List ℕ) × (text_of big bytes ≡ before ++ text_of big part)
@@ -51,13 +43,6 @@ module _ (big : Bool) (bytes part : List ℕ) (t : IsUtf16 big bytes) (p : IsUtf
         ∙ ap (text_between (text_of big bytes) (length front)) (sym whole) ∙ at.between in
         (text_to (text_of big bytes) (length front), sym (text_to-text_from (text_of big bytes) (length front)) ∙ ap (λ x. text_to (text_of big bytes) (length front) ++ x) last)
 
-  pub ends_in : (r : Bool) → r ≡ ends_with nat_eq bytes part → (r ≡ true) ↔ ((front : List ℕ) × (text_of big bytes ≡ front ++ text_of big part))
-  ends_in r e =
-      let is = ends_is Decides-eqb bytes part r e in (
-        λ yes. text_ends (take (length bytes - length part) bytes) (is.0 yes),
-        λ ends. is.1 (encode big ends.0) (bytes_end ends.0 ends.1),
-      )
-
 -- a text split after a prefix, or before a suffix
 pub record IsCutBetween (front back text : List ℕ) (i : ℕ) : Type 0 where
   pub boundary : IsBoundary text i
@@ -70,3 +55,44 @@ cut_between front back text i e at = subst (λ t. IsCutBetween front back t i) (
   to = text_to-at front back (size front) refl;
   from = text_from-at front back (size front) refl;
 }))
+
+-- the bytes after a prefix, and those before a suffix
+module _ (big : Bool) (bytes part : List ℕ) (t : is_utf16 big bytes ≡ true) (p : is_utf16 big part ≡ true) where
+  pub bytes_after : (front : List ℕ) → text_of big bytes ≡ front ++ text_of big part → part ≡ drop (size front) bytes
+  bytes_after front e =
+      let is = bytes_end big bytes part (IsUtf16-from_is_utf16 big bytes t) (IsUtf16-from_is_utf16 big part p) front e in
+      sym (ap (drop (size front)) is ∙ drop_at (encode big front) part (size front) (length-encode big front))
+
+  pub bytes_before : (back : List ℕ) → text_of big bytes ≡ text_of big part ++ back → part ≡ take (length part) bytes
+  bytes_before back e =
+      let is = bytes_begin big bytes part (IsUtf16-from_is_utf16 big bytes t) (IsUtf16-from_is_utf16 big part p) back e in
+      sym (ap (take (length part)) is ∙ take-append_seam part (encode big back))
+
+  pub length-before : (back : List ℕ) → text_of big bytes ≡ text_of big part ++ back → length part ≡ length bytes - size back
+  length-before back e =
+      let is = bytes_begin big bytes part (IsUtf16-from_is_utf16 big bytes t) (IsUtf16-from_is_utf16 big part p) back e in
+      omega (arith, ap length is, length-append part (encode big back), length-encode big back)
+
+-- bytes begin, or end, with the encoding of a part exactly if the text does with the part
+module _ (big : Bool) (text bytes part : List ℕ) (e : Encodes big text bytes) (scalars : All IsScalar part) where
+  pub prefix_text : ((rest : List ℕ) × (bytes ≡ encode big part ++ rest)) ↔ ((rest : List ℕ) × (text ≡ part ++ rest))
+  prefix_text =
+      let whole = IsUtf16-from_Encodes big text bytes e in
+      let formed = IsUtf16-encode big part scalars in
+      let decoded = text_of-Encodes big text bytes e in
+      let is = text_of-encode big part scalars in (
+        λ begins. (text_of big begins.0, sym decoded ∙ text_begins big bytes (encode big part) whole formed begins.0 begins.1 ∙ ap (λ x. x ++ text_of big begins.0) is),
+        λ begins. (encode big begins.0, bytes_begin big bytes (encode big part) whole formed begins.0 (decoded ∙ begins.1 ∙ ap (λ x. x ++ begins.0) (sym is))),
+      )
+
+  pub suffix_text : ((front : List ℕ) × (bytes ≡ front ++ encode big part)) ↔ ((front : List ℕ) × (text ≡ front ++ part))
+  suffix_text =
+      let whole = IsUtf16-from_Encodes big text bytes e in
+      let formed = IsUtf16-encode big part scalars in
+      let decoded = text_of-Encodes big text bytes e in
+      let is = text_of-encode big part scalars in (
+        λ ends.
+            let found = text_ends big bytes (encode big part) whole formed ends.0 ends.1 in
+            (found.0, sym decoded ∙ found.1 ∙ ap (λ x. found.0 ++ x) is),
+        λ ends. (encode big ends.0, bytes_end big bytes (encode big part) whole formed ends.0 (decoded ∙ ends.1 ∙ ap (λ x. ends.0 ++ x) (sym is))),
+      )

@@ -1,81 +1,66 @@
--- A forward search for a character, over the characters with their offsets.
-use Rattle.std.proofs.Common.{◌≡◌, ◌≢◌, ℕ, ◌+◌, List, [], ◌∷◌, ◌++◌, refl, sym, ap, ◌∙◌, subst, append_assoc, append-nil, arith}
-use Rattle.std.proofs.lemmas.List.Elements.{All-head, All-nil, All-push, All-tail}
-use Rattle.utf16_units.specs.Boundary.{IsBoundary, text_from, text_to}
+-- A search for a character says which part of the text lacks it.
+use Rattle.std.proofs.Common.{◌≡◌, ◌≢◌, ℕ, ◌+◌, ◌<◌, ◌≤◌, List, [], ◌∷◌, ◌++◌, Some, None, refl, sym, ap, ◌∙◌, subst, append_assoc, append-nil, arith}
+use Rattle.std.proofs.lemmas.List.Elements.{All-cons, All-head, All-nil, All-tail}
+use Rattle.utf16_units.specs.Boundary.{IsBoundary, OccursIn, text_from, text_to}
 use Rattle.utf16_units.specs.Delimited.{Lacks}
 use Rattle.utf16_units.specs.Encoding.{char_size, size}
-use Rattle.utf16_units.proofs.BoundaryLemmas.{text_to-at}
+use Rattle.utf16_units.proofs.BoundaryLemmas.{char_size-pos, size-text_to}
 use Rattle.utf16_units.proofs.EncodingLemmas.{size-append, size-cons, size-nil}
-use Rattle.utf16_str.specs.Offsets.{IsCharAt, char_offsets}
-use Rattle.utf16_str.proofs.OffsetLemmas.{char_at_size, char_offsets-cons, char_offsets-nil}
+use Rattle.utf16_search.specs.Occurrence.{IsFirst, IsLast}
+use Rattle.utf16_search.proofs.TextLemmas.{text_around}
+use Rattle.utf16_str.proofs.SearchLemmas.{between_parts}
 
--- the characters that were passed are not the wanted one, and the items left are the items of the
--- rest
-pub record IsPassed (wanted : ℕ) (text : List ℕ) (items : List (ℕ × ℕ)) : Type 0 where
-  pub front : List ℕ
-  pub rest : List ℕ
-  pub split : text ≡ front ++ rest
-  pub left : items ≡ char_offsets (size front) rest
-  pub lacks : Lacks wanted front
+-- a part lacks a character that occurs nowhere from the part's start up to its end
+lacks_part : (text before front back : List ℕ) (c : ℕ) → text ≡ (before ++ front) ++ back
+    → ((i : ℕ) → size before ≤ i → i < size (before ++ front) → ¬ (OccursIn text i (c ∷ []))) → Lacks c front
+lacks_part text before [] back c e none = All-nil (λ d. d ≢ c)
+lacks_part text before (d ∷ front) back c e none =
+    let longer : (before ++ d ∷ []) ++ front ≡ before ++ d ∷ front = append_assoc before (d ∷ []) front in
+    let around : text ≡ (before ++ d ∷ []) ++ (front ++ back) =
+    e ∙ ap (λ t. t ++ back) (sym longer) ∙ append_assoc (before ++ d ∷ []) front back in
+    let within : size before < size (before ++ d ∷ front) = omega (arith, size-append before (d ∷ front), size-cons d front, char_size-pos d) in
+    let later : size before ≤ size (before ++ d ∷ []) = omega (arith, size-append before (d ∷ [])) in
+    All-cons (λ x. x ≢ c) d front
+    (λ same. none (size before) (omega arith) within (subst (λ x. OccursIn text (size before) (x ∷ [])) same (between_parts text before (d ∷ []) (front ++ back) around)))
+    (lacks_part text (before ++ d ∷ []) front back c (e ∙ ap (λ t. t ++ back) (sym longer))
+    (λ i from less. none i (omega (arith, from, later)) (subst (λ t. i < size t) longer less)))
 
--- the first occurrence of the character is at the offset
-pub record IsFirstAt (wanted : ℕ) (text : List ℕ) (i : ℕ) : Type 0 where
-  pub start : IsBoundary text i
-  pub end : IsBoundary text (i + char_size wanted)
-  pub split : text ≡ text_to text i ++ wanted ∷ text_from text (i + char_size wanted)
+-- the text around a character that occurs at an offset
+pub record IsAroundChar (text : List ℕ) (i c : ℕ) : Type 0 where
+  pub end : IsBoundary text (i + char_size c)
+  pub split : text ≡ text_to text i ++ c ∷ text_from text (i + char_size c)
   pub offset : size (text_to text i) ≡ i
-  pub lacks : Lacks wanted (text_to text i)
 
-pub passed-start : (wanted : ℕ) (text : List ℕ) (items : List (ℕ × ℕ)) → items ≡ char_offsets 0 text → IsPassed wanted text items
-passed-start wanted text items is =
-    record { front = []; rest = text; split = refl; left = is ∙ ap (λ n. char_offsets n text) (sym size-nil); lacks = All-nil (λ c. c ≢ wanted) }
+pub around_char : (text : List ℕ) (i c : ℕ) → OccursIn text i (c ∷ []) → IsAroundChar text i c
+around_char text i c occurs =
+    let one : i + size (c ∷ []) ≡ i + char_size c = omega (arith, size-cons c [], size-nil) in
+    record {
+      end = subst (IsBoundary text) one occurs.end;
+      split = text_around text (c ∷ []) i occurs ∙ append_assoc (text_to text i) (c ∷ []) (text_from text (i + size (c ∷ [])))
+          ∙ ap (λ n. text_to text i ++ c ∷ text_from text n) one;
+      offset = size-text_to text i occurs.start;
+    }
 
-module _ (wanted : ℕ) (text : List ℕ) (items : List (ℕ × ℕ)) (i c : ℕ) where
-  -- the item is the item of the first character of the rest
-  pub next : (front rest : List ℕ) → (i, c) ∷ items ≡ char_offsets (size front) rest
-      → (more : List ℕ) × (rest ≡ c ∷ more) × (i ≡ size front) × (items ≡ char_offsets (size front + char_size c) more)
-  next front [] is = absurd (cc (is ∙ char_offsets-nil (size front)))
-  next front (d ∷ more) is =
-      let both = is ∙ char_offsets-cons (size front) d more in
-      let pair : (i, c) ≡ (size front, d) = cc in
-      let same : c ≡ d = ap (λ (p : ℕ × ℕ). p.1) pair in
-      let items_same : items ≡ char_offsets (size front + char_size d) more = cc in
-      (more, ap (λ x. x ∷ more) (sym same), ap (λ (p : ℕ × ℕ). p.0) pair, items_same ∙ ap (λ x. char_offsets (size front + char_size x) more) (sym same))
+-- the text before the first occurrence lacks the character
+pub lacks_before : (text : List ℕ) (c i : ℕ) → IsFirst (λ at. OccursIn text at (c ∷ [])) (Some i) → Lacks c (text_to text i)
+lacks_before text c i found =
+    let around = around_char text i c found.0 in
+    lacks_part text [] (text_to text i) (c ∷ text_from text (i + char_size c)) c around.split
+    (λ at from less. found.1 at (subst (λ n. at < n) around.offset less))
 
-  pub passed-step : IsPassed wanted text ((i, c) ∷ items) → c ≢ wanted → IsPassed wanted text items
-  passed-step passed other =
-      let at = next passed.front passed.rest passed.left in
-      let longer : size passed.front + char_size c ≡ size (passed.front ++ c ∷ []) = omega (arith, size-append passed.front (c ∷ []), size-cons c [], size-nil) in
-      record {
-        front = passed.front ++ c ∷ [];
-        rest = at.0;
-        split = passed.split ∙ ap (λ t. passed.front ++ t) at.1 ∙ sym (append_assoc passed.front (c ∷ []) at.0);
-        left = at.3 ∙ ap (λ n. char_offsets n at.0) longer;
-        lacks = All-push (λ d. d ≢ wanted) passed.front c passed.lacks other;
-      }
+-- the text after the last occurrence lacks it
+pub lacks_after : (text : List ℕ) (c i : ℕ) → IsLast (λ at. OccursIn text at (c ∷ [])) (Some i) → Lacks c (text_from text (i + char_size c))
+lacks_after text c i found =
+    let around = around_char text i c found.0 in
+    let front = text_to text i in
+    let back = text_from text (i + char_size c) in
+    let whole : text ≡ ((front ++ c ∷ []) ++ back) ++ [] = around.split ∙ sym (append_assoc front (c ∷ []) back) ∙ sym (append-nil ((front ++ c ∷ []) ++ back)) in
+    lacks_part text (front ++ c ∷ []) back [] c whole
+    (λ at from less. found.1 at (omega (arith, from, around.offset, size-append front (c ∷ []), size-cons c [], char_size-pos c)))
 
-  pub passed-found : IsPassed wanted text ((i, c) ∷ items) → c ≡ wanted → IsFirstAt wanted text i
-  passed-found passed same =
-      let at = next passed.front passed.rest passed.left in
-      let is : passed.front ++ wanted ∷ at.0 ≡ text = ap (λ d. passed.front ++ d ∷ at.0) (sym same) ∙ ap (λ t. passed.front ++ t) (sym at.1) ∙ sym passed.split in
-      let stands = char_at_size passed.front wanted at.0 in
-      let before : text_to text i ≡ passed.front = ap (λ t. text_to t i) (sym is) ∙ text_to-at passed.front (wanted ∷ at.0) i (sym at.2) in
-      let here = subst (λ j. IsCharAt text (j, wanted)) (sym at.2) (subst (λ t. IsCharAt t (size passed.front, wanted)) is stands) in
-      record {
-        start = here.start;
-        end = here.end;
-        split = sym here.split;
-        offset = ap size before ∙ sym at.2;
-        lacks = subst (Lacks wanted) (sym before) passed.lacks;
-      }
-
--- if nothing is left, the character does not occur in the text
-none_left : (wanted : ℕ) (text front rest : List ℕ) → text ≡ front ++ rest → [] ≡ char_offsets (size front) rest → Lacks wanted front → Lacks wanted text
-none_left wanted text front [] is left lacks = subst (Lacks wanted) (sym (is ∙ append-nil front)) lacks
-none_left wanted text front (c ∷ rest) is left lacks = absurd (cc (left ∙ char_offsets-cons (size front) c rest))
-
-pub passed-all : (wanted : ℕ) (text : List ℕ) → IsPassed wanted text [] → Lacks wanted text
-passed-all wanted text passed = none_left wanted text passed.front passed.rest passed.split passed.left passed.lacks
+-- a text in which the character occurs nowhere lacks it
+pub lacks_all : (text : List ℕ) (c : ℕ) → IsFirst (λ i. OccursIn text i (c ∷ [])) None → Lacks c text
+lacks_all text c none = lacks_part text [] text [] c (sym (append-nil text)) (λ i from less. none i)
 
 -- a text in which a character occurs does not lack it
 has : (wanted : ℕ) (front back : List ℕ) → Lacks wanted (front ++ wanted ∷ back) → ⊥
@@ -85,5 +70,5 @@ has wanted (c ∷ front) back lacks = has wanted front back (All-tail (λ c. c �
 pub lacks-not : (wanted : ℕ) (text front back : List ℕ) → text ≡ front ++ wanted ∷ back → Lacks wanted text → ⊥
 lacks-not wanted text front back is lacks = has wanted front back (subst (Lacks wanted) is lacks)
 
--- a loop that continues while the character is another
-pub ruleset passing = (passed-start, passed-step, lacks-not)
+pub lacks_last : (text : List ℕ) (c : ℕ) → IsLast (λ i. OccursIn text i (c ∷ [])) None → Lacks c text
+lacks_last text c none = lacks_all text c none

@@ -7,8 +7,7 @@ use Rattle.utf16_units.proofs.BoundaryLemmas.{text_to-at}
 use Rattle.utf16_units.proofs.EncodingLemmas.{size-append, size-cons, size-nil}
 use Rattle.utf16_str.specs.Common.{IsCommonPrefix}
 use Rattle.utf16_str.specs.Offsets.{char_offsets}
-use Rattle.utf16_str.proofs.CharSearch.{next}
-use Rattle.utf16_str.proofs.OffsetLemmas.{char_offsets-cons}
+use Rattle.utf16_str.proofs.OffsetLemmas.{char_offsets-cons, next}
 
 -- what was read is the same in both: the items left are the items of the rest of one text, and the
 -- characters left are the rest of the other
@@ -26,7 +25,7 @@ shared-start text other theirs items is same =
 pub shared-step : (text other theirs : List ℕ) (items : List (ℕ × ℕ)) (i c : ℕ) → IsShared text other ((i, c) ∷ items) (c ∷ theirs)
     → IsShared text other items theirs
 shared-step text other theirs items i c so_far =
-    let at = next c text items i c so_far.front so_far.rest so_far.left in
+    let at = next items i c so_far.front so_far.rest so_far.left in
     let longer : size so_far.front + char_size c ≡ size (so_far.front ++ c ∷ []) = omega (arith, size-append so_far.front (c ∷ []), size-cons c [], size-nil) in
     record {
       front = so_far.front ++ c ∷ [];
@@ -40,7 +39,7 @@ shared-step text other theirs items i c so_far =
 pub shared-stop : (text other theirs : List ℕ) (items : List (ℕ × ℕ)) (i c : ℕ) → IsShared text other ((i, c) ∷ items) theirs
     → ((more : List ℕ) → ¬ (theirs ≡ c ∷ more)) → IsCommonPrefix text other (text_to text i)
 shared-stop text other theirs items i c so_far differs =
-    let at = next c text items i c so_far.front so_far.rest so_far.left in
+    let at = next items i c so_far.front so_far.rest so_far.left in
     let before : text_to text i ≡ so_far.front =
     ap (λ t. text_to t i) so_far.split ∙ text_to-at so_far.front so_far.rest i (sym at.2) in
     subst (IsCommonPrefix text other) (sym before) (record {

@@ -7,6 +7,10 @@ pub mod StrLemmas
 mod AffixLemmas
 mod CommonLemmas
 pub mod PrefixRules
+mod TrimLemmas
+mod LineLemmas
+mod WordLemmas
+mod CaseLemmas
 mod Lent
 mod LentSteps
 mod LentValues

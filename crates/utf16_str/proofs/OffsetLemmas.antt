@@ -88,6 +88,18 @@ none-left big raw bytes shown test view same tested empty =
     let none = sym view ∙ ap (text_of big) (sym same ∙ nil) ∙ text_of-nil big in
     (none, none)
 
+-- the first item left is the item of the first character left
+module _ (items : List (ℕ × ℕ)) (i c : ℕ) where
+  pub next : (front rest : List ℕ) → (i, c) ∷ items ≡ char_offsets (size front) rest
+      → (more : List ℕ) × (rest ≡ c ∷ more) × (i ≡ size front) × (items ≡ char_offsets (size front + char_size c) more)
+  next front [] is = absurd (cc (is ∙ char_offsets-nil (size front)))
+  next front (d ∷ more) is =
+      let both = is ∙ char_offsets-cons (size front) d more in
+      let items_same : items ≡ char_offsets (size front + char_size d) more = cc in
+      let pair : (i, c) ≡ (size front, d) = cc in
+      let same : c ≡ d = ap (λ (p : ℕ × ℕ). p.1) pair in
+      (more, ap (λ x. x ∷ more) (sym same), ap (λ (p : ℕ × ℕ). p.0) pair, items_same ∙ ap (λ x. char_offsets (size front + char_size x) more) (sym same))
+
 -- a call that returned the first item left, or the last, leaves fewer
 module _ {A : Type 0} (can : List A → Type 0) (always : (items : List A) → can items) (before after : List A) (x : A) where
   pub progress-first : before ≡ x ∷ after → MakesProgress can (item_count (λ rest. rest)) before (Some x) after

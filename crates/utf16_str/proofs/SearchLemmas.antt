@@ -1,11 +1,12 @@
 -- What a search in the bytes of a text says of its characters.
-use Rattle.std.proofs.Common.{◌≡◌, ℕ, ◌+◌, ◌-◌, Bool, List, ◌++◌, Option, None, Some, IfSome, refl, sym, ap, ◌∙◌, subst, arith, append_assoc, IsTrue, ◌↔◌}
+use Rattle.std.proofs.Common.{◌≡◌, ℕ, ◌+◌, ◌-◌, Bool, List, [], ◌∷◌, ◌++◌, length, take, Option, None, Some, IfSome, refl, sym, ap, ◌∙◌, subst, arith, append_assoc, IsTrue, ◌↔◌}
+use Rattle.std.proofs.Math.Seq.{take-append_seam}
 use Rattle.std.specs.Option.{is_some}
 use Rattle.std.proofs.lemmas.Bool.{false≢true}
 use Rattle.utf16_units.specs.Boundary.{OccursIn, text_from, text_to}
-use Rattle.utf16_units.specs.Encoding.{Encodes, size}
+use Rattle.utf16_units.specs.Encoding.{Encodes, char_bytes, char_size, encode, size}
 use Rattle.utf16_units.proofs.BoundaryLemmas.{text_from-at, text_to-at}
-use Rattle.utf16_units.proofs.EncodingLemmas.{size-append}
+use Rattle.utf16_units.proofs.EncodingLemmas.{encode-one, length-encode, size-append, size-cons, size-nil}
 use Rattle.utf16_search.specs.Occurrence.{IsFirst, IsLast, IsOccurrence}
 use Rattle.utf16_search.proofs.TextLemmas.{occurrence_in_text, text_around}
 
@@ -64,3 +65,13 @@ contains_is text part (Some at) b e found = (
   λ yes. (text_to text at, text_from text (at + size part), text_around text part at found.0),
   λ parts. e,
 )
+
+-- the first bytes of a buffer that a character was written to are its encoding
+pub char_part : (big : Bool) (c n : ℕ) (buffer rest : List ℕ) → n ≡ char_size c → buffer ≡ char_bytes big c ++ rest → take n buffer ≡ encode big (c ∷ [])
+char_part big c n buffer rest is written =
+    let one = encode-one big c in
+    let long : n ≡ length (char_bytes big c) = omega (arith, is, ap length one, length-encode big (c ∷ []), size-cons c [], size-nil) in
+    ap (take n) written ∙ ap (λ k. take k (char_bytes big c ++ rest)) long ∙ take-append_seam (char_bytes big c) rest ∙ sym one
+
+pub length-char_part : (big : Bool) (c n : ℕ) (buffer rest : List ℕ) → n ≡ char_size c → buffer ≡ char_bytes big c ++ rest → length (take n buffer) ≡ size (c ∷ [])
+length-char_part big c n buffer rest is written = ap length (char_part big c n buffer rest is written) ∙ length-encode big (c ∷ [])

@@ -1,77 +1,91 @@
 //! Prefixes and suffixes of texts, and the longest common prefix of two.
 
 ghost use Rattle.std.specs.Prelude.{◌≡◌, ◌↔◌, ◌-◌, ◌++◌, IfSome, IsSome, IsTrue, List, ℕ, drop, length, take};
+ghost use Rattle.utf16_units.specs.Encoding.{size};
 ghost use Rattle.utf16_str.specs.Common.{IsCommonPrefix};
 ghost use Rattle.utf16_str.specs.WStr.{wstr_bytes, wstr_text};
 
-use crate::WStr;
+use crate::{Pattern, WStr};
 use utf16_units::Utf16Order;
 
 impl<'a, E: Utf16Order> WStr<'a, E> {
-    /// Returns `true` if the text starts with `prefix`.
+    /// Returns `true` if the text starts with a text or a character.
     ///
     /// # Complexity
     ///
     /// One comparison of bytes.
+    ///
+    /// # Source
+    ///
+    /// `str::starts_with`.
     #[inline]
-    pub fn starts_with(&self, prefix: WStr<E>) -> bool
+    pub fn starts_with<P: Pattern<E>>(&self, prefix: P) -> bool
         ensures { IsTrue result ↔ ((rest : List ℕ)
-            × (wstr_text self.now ≡ wstr_text prefix.entry ++ rest)) }
+            × (wstr_text self.now ≡ P.part prefix ++ rest)) }
     {
-        self.as_bytes().starts_with(prefix.as_bytes())
+        prefix.prefix_len(self.as_bytes()).is_some()
     }
 
-    /// Returns `true` if the text ends with `suffix`.
+    /// Returns `true` if the text ends with a text or a character.
     ///
     /// # Complexity
     ///
     /// One comparison of bytes.
+    ///
+    /// # Source
+    ///
+    /// `str::ends_with`.
     #[inline]
-    pub fn ends_with(&self, suffix: WStr<E>) -> bool
+    pub fn ends_with<P: Pattern<E>>(&self, suffix: P) -> bool
         ensures { IsTrue result ↔ ((front : List ℕ)
-            × (wstr_text self.now ≡ front ++ wstr_text suffix.entry)) }
+            × (wstr_text self.now ≡ front ++ P.part suffix)) }
     {
-        self.as_bytes().ends_with(suffix.as_bytes())
+        suffix.suffix_len(self.as_bytes()).is_some()
     }
 
-    /// Returns the text after `prefix`, or `None` if the text does not start with it.
+    /// Returns the text after `prefix`, a text or a character, or `None` if the text does not start
+    /// with it.
     ///
     /// # Complexity
     ///
     /// One comparison of bytes. Copies nothing.
-    pub fn strip_prefix(self, prefix: WStr<E>) -> Option<WStr<'a, E>>
+    ///
+    /// # Source
+    ///
+    /// `str::strip_prefix`.
+    pub fn strip_prefix<P: Pattern<E>>(self, prefix: P) -> Option<WStr<'a, E>>
         ensures some { IsSome result ↔ ((rest : List ℕ)
-            × (wstr_text self.entry ≡ wstr_text prefix.entry ++ rest)) }
-        ensures text { IfSome result (λ rest. wstr_text self.entry ≡ wstr_text prefix.entry
-            ++ wstr_text rest) }
+            × (wstr_text self.entry ≡ P.part prefix ++ rest)) }
+        ensures text { IfSome result (λ rest. wstr_text self.entry
+            ≡ P.part prefix ++ wstr_text rest) }
         ensures bytes { IfSome result (λ rest.
-            wstr_bytes rest ≡ drop (length (wstr_bytes prefix.entry)) (wstr_bytes self.entry)) }
+            wstr_bytes rest ≡ drop (size (P.part prefix)) (wstr_bytes self.entry)) }
     {
-        if !self.starts_with(prefix) {
-            return None;
-        }
-        Some(self.split_at(prefix.len()).1)
+        let len = prefix.prefix_len(self.as_bytes())?;
+        Some(self.split_at(len).1)
     }
 
-    /// Returns the text before `suffix`, or `None` if the text does not end with it.
+    /// Returns the text before `suffix`, a text or a character, or `None` if the text does not end
+    /// with it.
     ///
     /// # Complexity
     ///
     /// One comparison of bytes. Copies nothing.
-    pub fn strip_suffix(self, suffix: WStr<E>) -> Option<WStr<'a, E>>
+    ///
+    /// # Source
+    ///
+    /// `str::strip_suffix`.
+    pub fn strip_suffix<P: Pattern<E>>(self, suffix: P) -> Option<WStr<'a, E>>
         ensures some { IsSome result ↔ ((front : List ℕ)
-            × (wstr_text self.entry ≡ front ++ wstr_text suffix.entry)) }
+            × (wstr_text self.entry ≡ front ++ P.part suffix)) }
         ensures text { IfSome result (λ front.
-            wstr_text self.entry ≡ wstr_text front ++ wstr_text suffix.entry) }
+            wstr_text self.entry ≡ wstr_text front ++ P.part suffix) }
         ensures bytes { IfSome result (λ front.
-            wstr_bytes front
-            ≡ take (length (wstr_bytes self.entry) - length (wstr_bytes suffix.entry))
+            wstr_bytes front ≡ take (length (wstr_bytes self.entry) - size (P.part suffix))
             (wstr_bytes self.entry)) }
     {
-        if !self.ends_with(suffix) {
-            return None;
-        }
-        Some(self.split_at(self.len() - suffix.len()).0)
+        let len = suffix.suffix_len(self.as_bytes())?;
+        Some(self.split_at(self.len() - len).0)
     }
 
     /// Returns the longest common prefix of the text and `other`, as a prefix of this text.

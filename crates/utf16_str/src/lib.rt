@@ -4,20 +4,26 @@
 
 mod affixes;
 mod append;
+mod ascii;
 mod iters;
+mod lines;
 mod parts;
 mod search;
 mod slicing;
 mod split;
+mod trim;
 mod utf8;
+mod words;
 mod wstr;
 mod wstr_mut;
 
 pub use crate::append::{append_utf8, to_utf8};
 pub use crate::iters::{WStrCharIndices, WStrChars};
+pub use crate::lines::WStrLines;
 pub use crate::search::Pattern;
 pub use crate::slicing::SliceIndex;
 pub use crate::split::WStrSplit;
+pub use crate::words::WStrSplitWhitespace;
 pub use crate::wstr::WStr;
 pub use crate::wstr_mut::WStrMut;
 pub use utf16_units::{BE, BigEndian, LE, LittleEndian, Utf16Error, Utf16Order};

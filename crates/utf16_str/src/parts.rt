@@ -1,7 +1,7 @@
 //! Substrings of a view: by ranges, and by splitting at an offset or at a character.
 
-ghost use Rattle.std.specs.Prelude.{◌≡◌, ◌↔◌, IfSome, IsNone, IsSome, Some, ◌++◌, ◌+◌, ◌∷◌, drop, take};
-ghost use Rattle.utf16_units.specs.Boundary.{IsBoundary, text_between, text_from, text_to};
+ghost use Rattle.std.specs.Prelude.{◌≡◌, ◌↔◌, [], IfSome, IsNone, IsSome, MatchOption, Some, ◌++◌, ◌+◌, ◌∷◌, drop, take};
+ghost use Rattle.utf16_units.specs.Boundary.{IsBoundary, OccursIn, text_between, text_from, text_to};
 ghost use Rattle.utf16_units.specs.Delimited.{Lacks};
 ghost use Rattle.utf16_units.specs.Encoding.{char_size, size};
 ghost use Rattle.utf16_str.specs.Window.{IsRangeOf, IsWindowOf, bytes_between, range_bytes, range_text};
@@ -106,7 +106,6 @@ impl<'a, E: Utf16Order> WStr<'a, E> {
     /// # Complexity
     ///
     /// One pass, up to that character. Copies nothing.
-    #[tactic(auto, using(crate::proofs::CharSearch::passing))]
     pub fn split_once(self, delimiter: char) -> Option<(WStr<'a, E>, WStr<'a, E>)>
         ensures none { IsNone result ↔ Lacks delimiter (wstr_text self.entry) }
         ensures split { IfSome result (λ parts.
@@ -118,14 +117,67 @@ impl<'a, E: Utf16Order> WStr<'a, E> {
             wstr_bytes parts.1 ≡ drop (size (wstr_text parts.0) + char_size delimiter)
             (wstr_bytes self.entry)) }
     {
-        for (at, c) in self.char_indices() {
-            if c == delimiter {
-                let (front, _) = self.split_at(at);
-                let (_, back) = self.split_at(at + c.encoded_utf16_len());
-                return Some((front, back));
-            }
-        }
-        None
+        let at = self.find(delimiter)?;
+        Some(self.split_around(at, delimiter))
+    }
+
+    /// Splits the text at the last occurrence of `delimiter`, and returns the text before it and
+    /// the text after it, or `None` if it does not occur.
+    ///
+    /// # Complexity
+    ///
+    /// One pass, from the end down to that character. Copies nothing.
+    pub fn rsplit_once(self, delimiter: char) -> Option<(WStr<'a, E>, WStr<'a, E>)>
+        ensures none { IsNone result ↔ Lacks delimiter (wstr_text self.entry) }
+        ensures split { IfSome result (λ parts.
+            wstr_text self.entry ≡ wstr_text parts.0 ++ delimiter ∷ wstr_text parts.1) }
+        ensures last { IfSome result (λ parts. Lacks delimiter (wstr_text parts.1)) }
+        ensures front_bytes { IfSome result (λ parts.
+            wstr_bytes parts.0 ≡ take (size (wstr_text parts.0)) (wstr_bytes self.entry)) }
+        ensures back_bytes { IfSome result (λ parts.
+            wstr_bytes parts.1 ≡ drop (size (wstr_text parts.0) + char_size delimiter)
+            (wstr_bytes self.entry)) }
+    {
+        let at = self.rfind(delimiter)?;
+        Some(self.split_around(at, delimiter))
+    }
+
+    // The text before a character that occurs at an offset, and the text after it.
+    fn split_around(self, at: usize, c: char) -> (WStr<'a, E>, WStr<'a, E>)
+        requires { OccursIn (wstr_text self) at (c ∷ []) }
+        ensures split { wstr_text self.entry ≡ wstr_text result.0 ++ c ∷ wstr_text result.1 }
+        ensures front { wstr_text result.0 ≡ text_to (wstr_text self.entry) at }
+        ensures back { wstr_text result.1 ≡ text_from (wstr_text self.entry) (at + char_size c) }
+        ensures front_bytes { wstr_bytes result.0
+            ≡ take (size (wstr_text result.0)) (wstr_bytes self.entry) }
+        ensures back_bytes { wstr_bytes result.1
+            ≡ drop (size (wstr_text result.0) + char_size c) (wstr_bytes self.entry) }
+    {
+        let (front, _) = self.split_at(at);
+        let (_, back) = self.split_at(at + c.encoded_utf16_len());
+        (front, back)
+    }
+
+    // The first character and the text after it, like `split_first` of a slice.
+    #[inline]
+    pub(crate) fn split_first(self) -> Option<(char, WStr<'a, E>)>
+        ensures { MatchOption result (wstr_text self.entry ≡ [])
+            (λ first. wstr_text self.entry ≡ first.0 ∷ wstr_text first.1) }
+    {
+        let mut chars = self.chars();
+        let first = chars.next()?;
+        Some((first, chars.as_wstr()))
+    }
+
+    // The last character and the text before it, like `split_last` of a slice.
+    #[inline]
+    pub(crate) fn split_last(self) -> Option<(char, WStr<'a, E>)>
+        ensures { MatchOption result (wstr_text self.entry ≡ [])
+            (λ last. wstr_text self.entry ≡ wstr_text last.1 ++ last.0 ∷ []) }
+    {
+        let mut chars = self.chars();
+        let last = chars.next_back()?;
+        Some((last, chars.as_wstr()))
     }
 
     // The substring between two offsets, or `None` if they are reversed or one is not a boundary.

@@ -1,6 +1,6 @@
 //! Searches in a text.
 
-ghost use Rattle.std.specs.Prelude.{◌≡◌, ◌↔◌, ◌+◌, ◌++◌, ◌∷◌, [], All, IfSome, IsTrue, List, ℕ};
+ghost use Rattle.std.specs.Prelude.{◌≡◌, ◌↔◌, ◌+◌, ◌++◌, ◌∷◌, [], All, IfSome, IsSome, IsTrue, List, length, ℕ};
 ghost use Rattle.std.specs.Char.{IsScalar};
 ghost use Rattle.utf16_units.specs.Boundary.{OccursIn, text_from, text_to};
 ghost use Rattle.utf16_units.specs.Encoding.{encode, size};
@@ -9,9 +9,10 @@ ghost use Rattle.utf16_str.specs.WStr.{wstr_text};
 
 use crate::WStr;
 use utf16_search::{find, find_char, rfind, rfind_char};
-use utf16_units::Utf16Order;
+use utf16_units::{Utf16CharExt, Utf16Order};
 
-/// What a search looks for: a text in the same byte order, or a character.
+/// What a search looks for, and what a text may begin or end with: a text in the same byte order,
+/// or a character.
 pub trait Pattern<E: Utf16Order> {
     // The characters that are looked for.
     ghost part: { Self → List ℕ };
@@ -25,6 +26,22 @@ pub trait Pattern<E: Utf16Order> {
     fn last_in(self, bytes: &[u8]) -> Option<usize>
         ensures scalars { All IsScalar (part self) }
         ensures last { IsLast (IsOccurrence E.BIG bytes.now (encode E.BIG (part self))) result };
+
+    /// Returns the length of the pattern's encoding, or `None` if bytes of UTF-16 do not begin with
+    /// it.
+    fn prefix_len(self, bytes: &[u8]) -> Option<usize>
+        ensures scalars { All IsScalar (part self) }
+        ensures some { IsSome result ↔ ((rest : List ℕ)
+            × (bytes.now ≡ encode E.BIG (part self) ++ rest)) }
+        ensures len { IfSome result (λ len. len ≡ size (part self)) };
+
+    /// Returns the length of the pattern's encoding, or `None` if bytes of UTF-16 do not end with
+    /// it.
+    fn suffix_len(self, bytes: &[u8]) -> Option<usize>
+        ensures scalars { All IsScalar (part self) }
+        ensures some { IsSome result ↔ ((front : List ℕ)
+            × (bytes.now ≡ front ++ encode E.BIG (part self))) }
+        ensures len { IfSome result (λ len. len ≡ size (part self)) };
 }
 
 impl<'p, E: Utf16Order> Pattern<E> for WStr<'p, E> {
@@ -39,6 +56,16 @@ impl<'p, E: Utf16Order> Pattern<E> for WStr<'p, E> {
     fn last_in(self, bytes: &[u8]) -> Option<usize> {
         rfind::<E>(bytes, self.as_bytes())
     }
+
+    #[inline]
+    fn prefix_len(self, bytes: &[u8]) -> Option<usize> {
+        prefix_len(bytes, self.as_bytes())
+    }
+
+    #[inline]
+    fn suffix_len(self, bytes: &[u8]) -> Option<usize> {
+        suffix_len(bytes, self.as_bytes())
+    }
 }
 
 impl<E: Utf16Order> Pattern<E> for char {
@@ -52,6 +79,44 @@ impl<E: Utf16Order> Pattern<E> for char {
     #[inline]
     fn last_in(self, bytes: &[u8]) -> Option<usize> {
         rfind_char::<E>(bytes, self)
+    }
+
+    #[inline]
+    fn prefix_len(self, bytes: &[u8]) -> Option<usize> {
+        let mut prefix = [0; 4];
+        let len = self.encode_utf16_into::<E>(&mut prefix);
+        prefix_len(bytes, &prefix[..len])
+    }
+
+    #[inline]
+    fn suffix_len(self, bytes: &[u8]) -> Option<usize> {
+        let mut suffix = [0; 4];
+        let len = self.encode_utf16_into::<E>(&mut suffix);
+        suffix_len(bytes, &suffix[..len])
+    }
+}
+
+#[inline]
+fn prefix_len(bytes: &[u8], prefix: &[u8]) -> Option<usize>
+    ensures some { IsSome result ↔ ((rest : List ℕ) × (bytes.now ≡ prefix.now ++ rest)) }
+    ensures len { IfSome result (λ len. len ≡ length prefix.now) }
+{
+    if bytes.starts_with(prefix) {
+        Some(prefix.len())
+    } else {
+        None
+    }
+}
+
+#[inline]
+fn suffix_len(bytes: &[u8], suffix: &[u8]) -> Option<usize>
+    ensures some { IsSome result ↔ ((front : List ℕ) × (bytes.now ≡ front ++ suffix.now)) }
+    ensures len { IfSome result (λ len. len ≡ length suffix.now) }
+{
+    if bytes.ends_with(suffix) {
+        Some(suffix.len())
+    } else {
+        None
     }
 }
 

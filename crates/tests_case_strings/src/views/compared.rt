@@ -10,7 +10,11 @@ use utf16string::{Utf16Order, WStr};
 /// Makes a call that compares or hashes views, or passes the name to `affixes`.
 pub fn call<E: Utf16Order>(run: &mut Run, text: WStr<E>, name: &str) -> bool {
     match name {
-        "WStr::eq" | "WStr::cmp" | "WStr::partial_cmp" | "WStr::hash" => beside(run, text, name),
+        "WStr::eq"
+        | "WStr::eq_ignore_ascii_case"
+        | "WStr::cmp"
+        | "WStr::partial_cmp"
+        | "WStr::hash" => beside(run, text, name),
         "WStr::eq_str" => eq_str(run, text),
         _ => return affixes::call(run, text, name),
     }
@@ -33,6 +37,7 @@ fn eq_str<E: Utf16Order>(run: &mut Run, text: WStr<E>) {
 fn two<E: Utf16Order>(answer: &mut Answer, first: WStr<E>, second: WStr<E>, name: &str) {
     match name {
         "WStr::eq" => answer.truth(first == second),
+        "WStr::eq_ignore_ascii_case" => answer.truth(first.eq_ignore_ascii_case(second)),
         "WStr::cmp" => answer.word(word(Some(first.cmp(&second)))),
         "WStr::partial_cmp" => answer.word(word(first.partial_cmp(&second))),
         _ => answer.truth(hash_of(first) == hash_of(second)),

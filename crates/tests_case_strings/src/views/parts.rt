@@ -20,8 +20,9 @@ fn cut<E: Utf16Order>(run: &mut Run, text: WStr<E>, name: &str) -> bool {
     match name {
         "WStr::split_at" => split_at(run, text),
         "WStr::split_at_checked" => split_at_checked(run, text),
-        "WStr::split_once" => split_once(run, text),
+        "WStr::split_once" | "WStr::rsplit_once" => split_once(run, text, name),
         "WStr::split" => split(run, text),
+        "WStrSplit::rev" => split_back(run, text),
         _ => return walks::call(run, text, name),
     }
     true
@@ -97,13 +98,24 @@ fn split_at_checked<E: Utf16Order>(run: &mut Run, text: WStr<E>) {
     both(&mut run.answer, text.split_at_checked(mid));
 }
 
-fn split_once<E: Utf16Order>(run: &mut Run, text: WStr<E>) {
+fn split_once<E: Utf16Order>(run: &mut Run, text: WStr<E>, name: &str) {
     let delimiter = run.character();
-    both(&mut run.answer, text.split_once(delimiter));
+    let parts = if name == "WStr::split_once" {
+        text.split_once(delimiter)
+    } else {
+        text.rsplit_once(delimiter)
+    };
+    both(&mut run.answer, parts);
 }
 
 fn split<E: Utf16Order>(run: &mut Run, text: WStr<E>) {
     for part in text.split(run.character()) {
+        run.answer.bytes(part.as_bytes());
+    }
+}
+
+fn split_back<E: Utf16Order>(run: &mut Run, text: WStr<E>) {
+    for part in text.split(run.character()).rev() {
         run.answer.bytes(part.as_bytes());
     }
 }

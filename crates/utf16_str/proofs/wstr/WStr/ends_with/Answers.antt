@@ -1,14 +1,11 @@
-use Rattle.std.proofs.Common.{nat_eq, ap₂, ◌∙◌}
-use Rattle.std.specs.List.{ends_with}
-use Rattle.utf16_units.proofs.EncodingLemmas.{IsUtf16-from_is_utf16}
-use Rattle.utf16_str.specs.WStr.{wstr_bytes}
-use Rattle.utf16_str.proofs.AffixLemmas.{ends_in}
+use Rattle.std.proofs.Common.{sym, ◌∙◌}
+use Rattle.utf16_str.specs.WStr.{wstr_text}
+use Rattle.utf16_str.proofs.AffixLemmas.{suffix_text}
 use Rattle.utf16_str.proofs.wstr.WStr.ends_with.Goals as goal
 
 pub returns : goal.returns
 returns g c =
-    let big = g.E.Utf16Order.BIG in
-    let bytes = wstr_bytes c.args.self.now in
-    let part = wstr_bytes c.args.suffix in
-    ends_in big bytes part (IsUtf16-from_is_utf16 big bytes c.args.self.now.well_formed) (IsUtf16-from_is_utf16 big part c.args.suffix.well_formed) c.ends_with.result
-    (c.ends_with.ensures.value ∙ ap₂ (ends_with nat_eq) c.as_bytes.ensures.bytes c.as_bytes-2.ensures.bytes)
+    let is = suffix_text g.E.Utf16Order.BIG (wstr_text c.args.self.now) c.as_bytes.result.now (g.P.Pattern.part c.args.suffix) c.as_bytes.ensures.encoding c.suffix_len.ensures.scalars in (
+      λ yes. is.0 (c.suffix_len.ensures.some.0 (sym c.is_some.ensures ∙ yes)),
+      λ parts. c.is_some.ensures ∙ c.suffix_len.ensures.some.1 (is.1 parts),
+    )

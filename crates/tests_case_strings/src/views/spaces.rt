@@ -1,0 +1,34 @@
+//! Views without the white space at their ends, their lines and their words.
+
+use tests_case_lines::{Answer, Run};
+use utf16string::{Utf16Order, WStr};
+
+/// Makes a call that trims a view or gives its lines or words. Returns whether one has this name.
+pub fn call<E: Utf16Order>(run: &mut Run, text: WStr<E>, name: &str) -> bool {
+    match name {
+        "WStr::trim" | "WStr::trim_start" | "WStr::trim_end" => {
+            trimmed(&mut run.answer, text, name);
+        }
+        "WStr::lines" => {
+            for line in text.lines() {
+                run.answer.bytes(line.as_bytes());
+            }
+        }
+        "WStr::split_whitespace" => {
+            for word in text.split_whitespace() {
+                run.answer.bytes(word.as_bytes());
+            }
+        }
+        _ => return false,
+    }
+    true
+}
+
+fn trimmed<E: Utf16Order>(answer: &mut Answer, text: WStr<E>, name: &str) {
+    let part = match name {
+        "WStr::trim" => text.trim(),
+        "WStr::trim_start" => text.trim_start(),
+        _ => text.trim_end(),
+    };
+    answer.bytes(part.as_bytes());
+}

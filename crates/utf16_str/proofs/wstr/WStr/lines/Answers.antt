@@ -1,0 +1,13 @@
+use Rattle.std.proofs.Common.{arith, eqb}
+use Rattle.utf16_str.specs.WStr.{wstr_bytes, wstr_text}
+use Rattle.std.specs.List.{slice_split}
+use Rattle.utf16_str.proofs.LineLemmas.{length-lines_of_parts}
+use Rattle.utf16_str.proofs.SplitLemmas.{parts-bound, text_runs}
+use Rattle.utf16_str.proofs.wstr.WStr.lines.Goals as goal
+
+pub returns-clause-bound : goal.returns-clause-bound
+returns-clause-bound g c =
+    omega (arith, length-lines_of_parts (slice_split (λ b. eqb b 10) (wstr_text c.args.self)), parts-bound g.E.Utf16Order.BIG (wstr_bytes c.args.self) (λ b. eqb b 10) c.args.self.well_formed (omega arith))
+
+pub returns-clause-runs : goal.returns-clause-runs
+returns-clause-runs g c = text_runs wstr_text

@@ -1,0 +1,13 @@
+use Rattle.std.proofs.Common.{arith}
+use Rattle.std.specs.Char.{is_whitespace}
+use Rattle.utf16_str.specs.WStr.{wstr_bytes, wstr_text}
+use Rattle.utf16_str.proofs.SplitLemmas.{parts-bound, text_runs}
+use Rattle.utf16_str.proofs.WordLemmas.{length-words}
+use Rattle.utf16_str.proofs.wstr.WStr.split_whitespace.Goals as goal
+
+pub returns-clause-bound : goal.returns-clause-bound
+returns-clause-bound g c =
+    omega (arith, length-words (wstr_text c.args.self), parts-bound g.E.Utf16Order.BIG (wstr_bytes c.args.self) is_whitespace c.args.self.well_formed (omega arith))
+
+pub returns-clause-runs : goal.returns-clause-runs
+returns-clause-runs g c = text_runs wstr_text

@@ -1,0 +1,69 @@
+//! The lines of a text.
+
+ghost use Rattle.std.specs.Prelude.{◌≡◌, ◌<◌, ◌^◌, List, length, option_map, ℕ};
+ghost use Rattle.std.specs.Iterator.{YieldsFirstBy, item_count};
+ghost use Rattle.std.specs.Str.Lines.{lines, strip_carriage_return};
+ghost use Rattle.utf16_str.specs.Splits.{YieldsTexts, lines_left};
+ghost use Rattle.utf16_str.specs.WStr.{wstr_text};
+
+use crate::WStr;
+use std::marker::Model;
+use utf16_units::Utf16Order;
+
+/// An iterator over the remaining lines of a [`WStr`]. Each is a view without its line ending. Once
+/// none is left, `next` always returns `None`.
+#[derive(Drop)]
+pub struct WStrLines<'a, E: Utf16Order> {
+    rest: Option<WStr<'a, E>>,
+}
+
+impl<'a, E: Utf16Order> Model for WStrLines<'a, E> {
+    ghost Value = { List (List ℕ) };
+
+    ghost view = { λ it. lines_left (option_map wstr_text it.rest) };
+}
+
+impl<'a, E: Utf16Order> Iterator for WStrLines<'a, E> {
+    type Item = WStr<'a, E>;
+
+    ghost next_gives = { YieldsFirstBy wstr_text (λ rest. rest) };
+
+    ghost remaining = { item_count (λ rest. rest) };
+
+    fn next(&mut self) -> Option<WStr<'a, E>> {
+        let rest = self.rest?;
+        let Some((line, after)) = rest.split_once('\n') else {
+            self.rest = None;
+            return if rest.is_empty() { None } else { Some(rest) };
+        };
+        self.rest = Some(after);
+        Some(line.without_carriage_return())
+    }
+}
+
+impl<'a, E: Utf16Order> WStr<'a, E> {
+    /// Returns an iterator over the lines, in order. A line ends at `\n` or `\r\n`, which is not
+    /// part of it. The last line needs no ending, and nothing follows the last ending.
+    ///
+    /// # Complexity
+    ///
+    /// One pass over the text. Copies nothing and does not allocate.
+    ///
+    /// # Source
+    ///
+    /// The lines are the same as with `str::lines`.
+    pub fn lines(self) -> WStrLines<'a, E>
+        ensures parts { result ≡ lines (wstr_text self.entry) }
+        ensures bound { length result < 2 ^ 64 }
+        ensures runs { YieldsTexts self.entry }
+    {
+        WStrLines { rest: Some(self) }
+    }
+
+    // The line without the one carriage return at its end, if it has one.
+    fn without_carriage_return(self) -> WStr<'a, E>
+        ensures { wstr_text result ≡ strip_carriage_return (wstr_text self.entry) }
+    {
+        self.strip_suffix('\r').unwrap_or(self)
+    }
+}
