@@ -2,7 +2,7 @@
 
 ghost use Rattle.std.specs.Prelude.{◌≡◌, ◌<◌, ◌^◌, List, length, option_map, ℕ};
 ghost use Rattle.std.specs.Iterator.{YieldsFirstBy, item_count};
-ghost use Rattle.std.specs.Str.Lines.{lines, strip_carriage_return};
+ghost use Rattle.std.specs.Str.Lines.{lines};
 ghost use Rattle.utf16_str.specs.Splits.{YieldsTexts, lines_left};
 ghost use Rattle.utf16_str.specs.WStr.{wstr_text};
 
@@ -37,7 +37,8 @@ impl<'a, E: Utf16Order> Iterator for WStrLines<'a, E> {
             return if rest.is_empty() { None } else { Some(rest) };
         };
         self.rest = Some(after);
-        Some(line.without_carriage_return())
+        // Without the one carriage return at its end, if it has one.
+        Some(line.strip_suffix('\r').unwrap_or(line))
     }
 }
 
@@ -58,12 +59,5 @@ impl<'a, E: Utf16Order> WStr<'a, E> {
         ensures runs { YieldsTexts self.entry }
     {
         WStrLines { rest: Some(self) }
-    }
-
-    // The line without the one carriage return at its end, if it has one.
-    fn without_carriage_return(self) -> WStr<'a, E>
-        ensures { wstr_text result ≡ strip_carriage_return (wstr_text self.entry) }
-    {
-        self.strip_suffix('\r').unwrap_or(self)
     }
 }

@@ -1,6 +1,6 @@
 //! Searches in a text.
 
-ghost use Rattle.std.specs.Prelude.{◌≡◌, ◌↔◌, ◌+◌, ◌++◌, ◌∷◌, [], All, IfSome, IsSome, IsTrue, List, length, ℕ};
+ghost use Rattle.std.specs.Prelude.{◌≡◌, ◌↔◌, ◌+◌, ◌++◌, ◌∷◌, [], All, IfSome, IsSome, IsTrue, List, ℕ};
 ghost use Rattle.std.specs.Char.{IsScalar};
 ghost use Rattle.utf16_units.specs.Boundary.{OccursIn, text_from, text_to};
 ghost use Rattle.utf16_units.specs.Encoding.{encode, size};
@@ -59,12 +59,12 @@ impl<'p, E: Utf16Order> Pattern<E> for WStr<'p, E> {
 
     #[inline]
     fn prefix_len(self, bytes: &[u8]) -> Option<usize> {
-        prefix_len(bytes, self.as_bytes())
+        bytes.starts_with(self.as_bytes()).then_some(self.len())
     }
 
     #[inline]
     fn suffix_len(self, bytes: &[u8]) -> Option<usize> {
-        suffix_len(bytes, self.as_bytes())
+        bytes.ends_with(self.as_bytes()).then_some(self.len())
     }
 }
 
@@ -85,38 +85,14 @@ impl<E: Utf16Order> Pattern<E> for char {
     fn prefix_len(self, bytes: &[u8]) -> Option<usize> {
         let mut prefix = [0; 4];
         let len = self.encode_utf16_into::<E>(&mut prefix);
-        prefix_len(bytes, &prefix[..len])
+        bytes.starts_with(&prefix[..len]).then_some(len)
     }
 
     #[inline]
     fn suffix_len(self, bytes: &[u8]) -> Option<usize> {
         let mut suffix = [0; 4];
         let len = self.encode_utf16_into::<E>(&mut suffix);
-        suffix_len(bytes, &suffix[..len])
-    }
-}
-
-#[inline]
-fn prefix_len(bytes: &[u8], prefix: &[u8]) -> Option<usize>
-    ensures some { IsSome result ↔ ((rest : List ℕ) × (bytes.now ≡ prefix.now ++ rest)) }
-    ensures len { IfSome result (λ len. len ≡ length prefix.now) }
-{
-    if bytes.starts_with(prefix) {
-        Some(prefix.len())
-    } else {
-        None
-    }
-}
-
-#[inline]
-fn suffix_len(bytes: &[u8], suffix: &[u8]) -> Option<usize>
-    ensures some { IsSome result ↔ ((front : List ℕ) × (bytes.now ≡ front ++ suffix.now)) }
-    ensures len { IfSome result (λ len. len ≡ length suffix.now) }
-{
-    if bytes.ends_with(suffix) {
-        Some(suffix.len())
-    } else {
-        None
+        bytes.ends_with(&suffix[..len]).then_some(len)
     }
 }
 

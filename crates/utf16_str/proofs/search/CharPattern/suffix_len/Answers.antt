@@ -1,16 +1,14 @@
-use Rattle.std.proofs.Common.{◌≡◌, ◌↔◌, ◌++◌, IfSome, List, ℕ, subst}
-use Rattle.std.specs.Option.{IsSome}
-use Rattle.utf16_str.proofs.SearchLemmas.{char_part, length-char_part}
+use Rattle.std.proofs.Common.{[], arith}
+use Rattle.utf16_units.proofs.EncodingLemmas.{size-cons, size-nil}
+use Rattle.utf16_str.proofs.SearchLemmas.{ends_is_part, char_part, tested-len, tested-some}
 use Rattle.utf16_str.proofs.search.CharPattern.suffix_len.Goals as goal
 
 pub returns-clause-some : goal.returns-clause-some
 returns-clause-some g c =
     let encoded = c.encode_utf16_into-len in
-    subst (λ part. IsSome c.suffix_len.result ↔ ((x : List ℕ) × (c.args.bytes.now ≡ x ++ part)))
-    (char_part g.E.Utf16Order.BIG c.args.self encoded.result encoded.new.buf _ encoded.ensures.len encoded.ensures.bytes) c.suffix_len.ensures.some
+    let part = char_part g.E.Utf16Order.BIG c.args.self encoded.result encoded.new.buf _ encoded.ensures.len encoded.ensures.bytes in
+    tested-some _ _ _ _ c.then_some.ensures (ends_is_part _ _ _ _ c.ends_with.ensures.value part)
 
 pub returns-clause-len : goal.returns-clause-len
 returns-clause-len g c =
-    let encoded = c.encode_utf16_into-len in
-    subst (λ n. IfSome c.suffix_len.result (λ len. len ≡ n))
-    (length-char_part g.E.Utf16Order.BIG c.args.self encoded.result encoded.new.buf _ encoded.ensures.len encoded.ensures.bytes) c.suffix_len.ensures.len
+    tested-len _ _ _ _ c.then_some.ensures (omega (arith, c.encode_utf16_into-len.ensures.len, size-cons c.args.self [], size-nil))

@@ -1,8 +1,12 @@
-use Rattle.std.proofs.Common.{◌≡◌, ◌∙◌, IfSome, ap, length, subst}
-use Rattle.utf16_units.proofs.EncodingLemmas.{IsUtf16-from_is_utf16, length-text}
+use Rattle.std.proofs.Common.{sym, ◌∙◌}
+use Rattle.utf16_units.proofs.EncodingLemmas.{IsUtf16-from_is_utf16, encode-text_of}
+use Rattle.utf16_str.proofs.SearchLemmas.{begins_is, tested-len, tested-some}
 use Rattle.utf16_str.proofs.search.WStrPattern.prefix_len.Goals as goal
 
+pub returns-clause-some : goal.returns-clause-some
+returns-clause-some g c =
+    let encoded = c.as_bytes.ensures.bytes ∙ sym (encode-text_of _ _ (IsUtf16-from_is_utf16 _ _ c.args.self.well_formed)) in
+    tested-some _ _ _ _ c.then_some.ensures (begins_is _ _ _ _ c.starts_with.ensures.value encoded)
+
 pub returns-clause-len : goal.returns-clause-len
-returns-clause-len g c =
-    let long = ap length c.as_bytes.ensures.bytes ∙ length-text _ _ (IsUtf16-from_is_utf16 _ _ c.args.self.well_formed) in
-    subst (λ n. IfSome c.prefix_len.result (λ len. len ≡ n)) long c.prefix_len.ensures.len
+returns-clause-len g c = tested-len _ _ _ _ c.then_some.ensures c.len.ensures.size
