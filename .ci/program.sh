@@ -368,7 +368,7 @@ cases_of_check() {
         '0x2 (2): incomplete character\nbytes: 4, characters: 1, ill-formed: 1\n'
     checks be '\xD8\0\xDC' 1 \
         '0x0 (0): incomplete character\nbytes: 3, characters: 0, ill-formed: 1\n'
-    # The BOM gives the order, is not a character, and counts as two bytes.
+    # The BOM gives the order, counts as two bytes, and is not a character.
     checks auto '\xFF\xFEh\0' 0 "${well/2,/1,}"
     checks auto '\xFE\xFF\0h' 0 "${well/2,/1,}"
     checks auto '\xFF\xFE' 0 'bytes: 2, characters: 0, ill-formed: 0\n'

@@ -32,7 +32,7 @@ pub record Checking (order : Option Bool) (input left old new : Option (List ℕ
   pub report_then : (back : List ℕ) → report order (bytes ++ back) ≡ lines order bytes ++ checker_report checker (pending ++ back)
   pub faults_then : (back : List ℕ) → faults_from order 0 (bytes ++ back) ≡ checker_faults checker (pending ++ back)
 
--- the lines after the items' lines
+-- the lines after the items
 abbrev pub checker_closing : Checker → List ℕ → List ℕ
 checker_closing checker bytes = closing (checker.offset + length bytes) (checker.chars + count_by is_char (items_in checker.big_endian bytes))
     (checker.unpaired + count_by is_ill_formed (items_in checker.big_endian bytes)) (tail_in checker.big_endian bytes)

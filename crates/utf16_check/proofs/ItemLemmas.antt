@@ -61,7 +61,7 @@ pub items_bytes-good : (big : Bool) (text : List ℕ) → items_bytes big (map g
 items_bytes-good big [] = sym (encode-nil big)
 items_bytes-good big (c ∷ text) = ap (λ b. item_bytes big (good c) ++ b) (items_bytes-good big text) ∙ sym (encode-cons big c text)
 
--- those of well-formed bytes
+-- the bytes are well formed
 pub length-good : (big : Bool) (bytes : List ℕ) → IsUtf16 big bytes → length (items_bytes big (map good (text_of big bytes))) ≡ length bytes
 length-good big bytes text = ap length (items_bytes-good big (text_of big bytes) ∙ encode-text_of big bytes text)
 

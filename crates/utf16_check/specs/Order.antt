@@ -1,5 +1,5 @@
--- The byte order of an input, and its text. An order is `Some true` for big endian, `Some false` for
--- little endian, and `None` if the BOM gives it.
+-- The byte order of an input, and its text. An order is `Some true` for big endian, `Some false`
+-- for little endian, and `None` if the BOM gives it.
 use Rattle.std.specs.Prelude.{ℕ, ◌-◌, Bool, List, Option, Some, None, length}
 use Rattle.utf16_streams.specs.Bom.{after_bom, begins_with}
 
@@ -14,6 +14,6 @@ abbrev pub text_in : Option Bool → List ℕ → List ℕ
 text_in (Some big) bytes = bytes
 text_in None bytes = after_bom bytes
 
--- the number of bytes before the text: the length of the BOM, or 0
+-- the length of the BOM before the text
 abbrev pub bom_len : Option Bool → List ℕ → ℕ
 bom_len order bytes = length bytes - length (text_in order bytes)

@@ -49,8 +49,8 @@ abbrev pub tail_faults : List ℕ → ℕ
 tail_faults [] = 0
 tail_faults (first ∷ after) = 1
 
--- the lines after the items' lines: the line of the tail of an input, if there is one, and the
--- last line; `end` is the length of the input
+-- the lines after the items: the line of an input's tail, if there is one, and the last line; `end`
+-- is the length of the input
 abbrev pub closing : ℕ → ℕ → ℕ → List ℕ → List ℕ
 closing end chars unpaired tail = tail_line (end - length tail) tail ++ count_line end chars (unpaired + tail_faults tail)
 

@@ -1,4 +1,4 @@
-use Rattle.std.proofs.Common.{◌∙◌, ◌+◌, ◌<◌, ◌++◌, ap, append-nil, string_bytes, subst, sym}
+use Rattle.std.proofs.Common.{◌∙◌, ◌+◌, ◌<◌, ◌++◌, ap, append-nil, drop, string_bytes, subst, sym}
 use Rattle.std.proofs.lemmas.List.{take_rest}
 use Rattle.std.specs.Prelude.{count_by}
 use Rattle.utf16_units.specs.Split.{split_items}
@@ -6,7 +6,9 @@ use Rattle.utf16_check.specs.Report.{is_ill_formed, tail_in}
 use Rattle.utf16_check.specs.Scans.{Scans}
 use Rattle.utf16_check.proofs.FollowLemmas.{Follows-few, fed_few, fed_lines, fed_pending, few_lines, few_tail, more_faults, more_lines, more_report, some_lines}
 use Rattle.utf16_check.proofs.ScanLemmas.{OnErr-always}
+use Rattle.utf16_check.proofs.checker.Checker.feed.Given.{Over}
 use Rattle.utf16_check.proofs.checker.Checker.feed.Goals as goal
+use Rattle.utf16_check.proofs.checker.Checker.feed.Goals.{In_ok-found}
 
 pub returns-in_default-clause-lines : goal.returns-in_default-clause-lines
 returns-in_default-clause-lines g c =
@@ -31,42 +33,35 @@ returns-in_err-found-clause-nothing g c =
     let some = subst (λ t. 0 < count_by is_ill_formed (split_items big t)) (take_rest c.args.bytes.now from) c.in_err-found.ensures.nothing in
     OnErr-always _ (some_lines it.big_endian big from c.args.bytes.now begins.within begins.order begins.text it.offset some)
 
+-- the scan of the text
+scans : (g : Over) (c : In_ok-found g)
+    → Scans c.in-Some.begins.big_endian (c.args.self.now.offset + c.in-Some.begins.bom_len) (drop c.in-Some.begins.bom_len c.args.bytes.now) (string_bytes c.args.lines.now)
+    (string_bytes c.scan.new.lines) c.in_ok-found.found
+scans g c = subst (λ t. Scans c.in-Some.begins.big_endian (c.args.self.now.offset + c.in-Some.begins.bom_len) t (string_bytes c.args.lines.now) (string_bytes c.scan.new.lines) c.in_ok-found.found)
+    (take_rest c.args.bytes.now c.in-Some.begins.bom_len) c.in_ok-found.ensures.found
+
 pub returns-clause-lines : goal.returns-clause-lines
 returns-clause-lines g c =
-    let it = c.args.self.now in
-    let begins = c.in-Some.ensures in
-    let big = c.in-Some.begins.big_endian in
-    let from = c.in-Some.begins.bom_len in
-    let scans = subst (λ t. Scans big (it.offset + from) t (string_bytes c.args.lines.now) (string_bytes c.scan.new.lines) c.in_ok-found.found) (take_rest c.args.bytes.now from) c.in_ok-found.ensures.found in
-    fed_lines it.big_endian big from c.args.bytes.now begins.within begins.order begins.text it.offset _ _ _ scans
+    let b = c.in-Some.ensures in
+    fed_lines _ _ _ _ b.within b.order b.text _ _ _ _ (scans g (goal.at.returns-clause-lines g c).In_ok-found)
 
 pub returns-clause-few : goal.returns-clause-few
 returns-clause-few g c =
-    let it = c.args.self.now in
-    let begins = c.in-Some.ensures in
-    let big = c.in-Some.begins.big_endian in
-    let from = c.in-Some.begins.bom_len in
-    let scans = subst (λ t. Scans big (it.offset + from) t (string_bytes c.args.lines.now) (string_bytes c.scan.new.lines) c.in_ok-found.found) (take_rest c.args.bytes.now from) c.in_ok-found.ensures.found in
-    fed_few it.big_endian big from c.args.bytes.now begins.within begins.order begins.text it.offset _ _ _ scans
+    let b = c.in-Some.ensures in
+    fed_few _ _ _ _ b.within b.order b.text _ _ _ _ (scans g (goal.at.returns-clause-few g c).In_ok-found)
 
 pub returns-clause-pending : goal.returns-clause-pending
 returns-clause-pending g c =
-    let it = c.args.self.now in
-    let begins = c.in-Some.ensures in
-    let big = c.in-Some.begins.big_endian in
-    let from = c.in-Some.begins.bom_len in
-    let scans = subst (λ t. Scans big (it.offset + from) t (string_bytes c.args.lines.now) (string_bytes c.scan.new.lines) c.in_ok-found.found) (take_rest c.args.bytes.now from) c.in_ok-found.ensures.found in
-    fed_pending it.big_endian big from c.args.bytes.now begins.within begins.order begins.text it.offset _ _ _ scans
+    let b = c.in-Some.ensures in
+    fed_pending _ _ _ _ b.within b.order b.text _ _ _ _ (scans g (goal.at.returns-clause-pending g c).In_ok-found)
 
 pub returns-clause-follows : goal.returns-clause-follows
 returns-clause-follows g c =
     let it = c.args.self.now in
-    let begins = c.in-Some.ensures in
-    let big = c.in-Some.begins.big_endian in
-    let from = c.in-Some.begins.bom_len in
-    let scans = subst (λ t. Scans big (it.offset + from) t (string_bytes c.args.lines.now) (string_bytes c.scan.new.lines) c.in_ok-found.found) (take_rest c.args.bytes.now from) c.in_ok-found.ensures.found in
+    let b = c.in-Some.ensures in
+    let found = scans g (goal.at.returns-clause-follows g c).In_ok-found in
     record {
-      lines = λ back. more_lines it.big_endian big from c.args.bytes.now begins.within begins.order begins.text it.offset _ _ _ scans back;
-      report = λ back. more_report it.big_endian big from c.args.bytes.now begins.within begins.order begins.text it.offset _ _ _ scans back it.chars it.unpaired;
-      faults = λ back. more_faults it.big_endian big from c.args.bytes.now begins.within begins.order begins.text it.offset _ _ _ scans back it.unpaired;
+      lines = more_lines _ _ _ _ b.within b.order b.text _ _ _ _ found;
+      report = λ back. more_report _ _ _ _ b.within b.order b.text _ _ _ _ found back it.chars it.unpaired;
+      faults = λ back. more_faults _ _ _ _ b.within b.order b.text _ _ _ _ found back it.unpaired;
     }
