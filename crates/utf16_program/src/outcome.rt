@@ -8,8 +8,8 @@ use utf16_streams::FilterFault;
 /// How a run ended.
 #[derive(Clone, Copy, Debug, PartialEq, Eq)]
 pub enum Outcome {
-    /// The whole input was converted and written, with U+FFFD for each ill-formed sequence; or all of
-    /// it was checked, and is well formed.
+    /// The whole input was converted and written, with U+FFFD for each ill-formed sequence; or it was
+    /// checked, and is well formed.
     Done,
     /// The whole input was checked and reported, and is ill-formed. No conversion ends so.
     IllFormed,
