@@ -374,8 +374,10 @@ cases_of_check() {
     checks auto '\xFF\xFE' 0 'bytes: 2, characters: 0, ill-formed: 0\n'
     checks auto '\xFF\xFE\xFF\xFE' 0 "${well/2,/1,}"
     checks auto '\xFE\xFF\0\xD8' 0 "${well/2,/1,}"
-    checks auto '\0\xD8h\0' 1 \
+    # Without a BOM it is big endian.
+    checks auto '\xD8\0\0h' 1 \
         '0x0 (0): unpaired leading surrogate D800\nbytes: 4, characters: 1, ill-formed: 1\n'
+    checks auto '\0\xD8h\0' 0 "$well"
     checks auto '\xFE\xFF\xDC\0' 1 \
         '0x2 (2): unpaired trailing surrogate DC00\nbytes: 4, characters: 0, ill-formed: 1\n'
     checks auto '\xFF\xFE\0\xDCh' 1 \

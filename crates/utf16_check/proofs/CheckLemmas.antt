@@ -15,7 +15,7 @@ use Rattle.utf16_program.specs.declared.outcome.Outcome.{Outcome}
 use Rattle.utf16_program.specs.declared.outcome.Outcome.TheVariants.{Done, IllFormed, Long, Memory, Read, Usage, Write}
 use Rattle.utf16_check.specs.Checker.{Follows, StartsIn, checker_faults, checker_lines, checker_offset, checker_report}
 use Rattle.utf16_check.specs.Checks.{ChecksAll, ChecksBefore, ChecksBy, EndsBy, IsWellFormed}
-use Rattle.utf16_check.specs.Order.{big_in, text_in}
+use Rattle.utf16_streams.specs.Bom.{big_in, text_in}
 use Rattle.utf16_check.specs.Report.{closing, faults_from, is_char, is_ill_formed, items_in, lines, lines_from, report, report_from, tail_faults, tail_in}
 use Rattle.utf16_check.specs.declared.checker.Checker.{Checker}
 use Rattle.utf16_check.proofs.FaultLemmas.{from_no_fault, no_fault}

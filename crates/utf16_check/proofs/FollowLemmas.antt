@@ -8,7 +8,8 @@ use Rattle.utf16_units.proofs.SplitUnique.{length-split_tail}
 use Rattle.utf16_decode.proofs.DecodesLemmas.{length-split_tail-le, split_tail-again, undecided_items}
 use Rattle.utf16_streams.specs.Bom.{has_bom}
 use Rattle.utf16_check.specs.Checker.{Follows, IsPending, checker_faults, checker_lines, checker_report}
-use Rattle.utf16_check.specs.Order.{big_in, bom_len, text_in}
+use Rattle.utf16_streams.specs.Bom.{big_in, text_in}
+use Rattle.utf16_check.specs.Order.{bom_len}
 use Rattle.utf16_check.specs.Report.{closing, count_line, fault_lines, faults_from, is_char, is_ill_formed, items_in, lines_from, report_from, tail_faults, tail_in, tail_line}
 use Rattle.utf16_check.specs.Scans.{Scans}
 use Rattle.utf16_check.specs.declared.checker.Checker.{Checker}

@@ -6,7 +6,7 @@ use Rattle.utf16_units.specs.Encoding.{IsUtf16}
 use Rattle.utf16_streams.specs.Filter.{AppendsPrefix, FiltersPrefix, FiltersSome, IsNearEnd}
 use Rattle.utf16_program.specs.declared.outcome.Outcome.{Outcome}
 use Rattle.utf16_program.specs.declared.outcome.Outcome.TheVariants.{Done, IllFormed, Long, Memory, Read, Usage, Write}
-use Rattle.utf16_check.specs.Order.{big_in, text_in}
+use Rattle.utf16_streams.specs.Bom.{big_in, text_in}
 use Rattle.utf16_check.specs.Report.{lines, report}
 
 -- the text of the input is well formed

@@ -4,7 +4,8 @@ use Rattle.std.specs.Prelude.{ℕ, ◌+◌, ◌-◌, Bool, true, false, not, Lis
 use Rattle.std.specs.Fmt.{digits}
 use Rattle.std.specs.List.{flat_map}
 use Rattle.utf16_units.specs.Split.{Item, good, item_bytes, lone_lead, lone_trail, split_items, split_tail}
-use Rattle.utf16_check.specs.Order.{big_in, bom_len, text_in}
+use Rattle.utf16_streams.specs.Bom.{big_in, text_in}
+use Rattle.utf16_check.specs.Order.{bom_len}
 
 -- an offset, in hexadecimal and in decimal
 abbrev pub offset_text : ℕ → List ℕ

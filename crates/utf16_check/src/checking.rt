@@ -20,7 +20,7 @@ pub enum Checking {
     Le,
     /// Big endian: the high byte comes first.
     Be,
-    /// The byte order of the BOM at the beginning of the input; little endian if there is none.
+    /// The byte order of the BOM at the beginning of the input; big endian if there is none.
     Auto,
 }
 

@@ -1,7 +1,7 @@
 //! The byte order in which an input is checked.
 
 ghost use Rattle.std.specs.Prelude.{◌≡◌, ℕ, ◌<◌, ◌≤◌, List, ◌++◌, None, IfNone, IfSome, drop, length};
-ghost use Rattle.utf16_check.specs.Order.{big_in, text_in};
+ghost use Rattle.utf16_streams.specs.Bom.{big_in, text_in};
 
 /// Whether the text of an input is big endian, and where it begins.
 #[derive(Clone, Copy)]
@@ -14,7 +14,7 @@ pub struct Beginning {
 
 /// Returns the beginning of the text of an input whose first bytes are `bytes`, or `None` if they
 /// do not decide it. `big_endian` is the byte order if it is given; otherwise the BOM gives it, and
-/// without one it is little endian.
+/// without one it is big endian, as the Unicode Standard has it (section 3.10).
 pub fn beginning_of(big_endian: Option<bool>, bytes: &[u8]) -> Option<Beginning>
     ensures order { IfSome result (λ begins. (back : List ℕ)
         → big_in big_endian (bytes.now ++ back) ≡ begins.big_endian) }
@@ -32,7 +32,7 @@ pub fn beginning_of(big_endian: Option<bool>, bytes: &[u8]) -> Option<Beginning>
     let (big_endian, bom_len) = match bytes {
         [0xFE, 0xFF, ..] => (true, 2),
         [0xFF, 0xFE, ..] => (false, 2),
-        [_, _, ..] => (false, 0),
+        [_, _, ..] => (true, 0),
         _ => return None,
     };
     Some(Beginning {
