@@ -31,30 +31,30 @@ pub fn compare<E: Utf16Order>(first: &[u8], second: &[u8]) -> Ordering
     ensures computed { result ≡ slice_cmp nat_cmp (text_of E.BIG first.now)
         (text_of E.BIG second.now) }
 {
-    let far = same_pairs(first, second);
-    let near = same_blocks::<VECTOR>(first, second, far);
+    let far = same_pairs::<64>(first, second, 0);
+    let near = same_pairs::<32>(first, second, far);
     let nearest = same_blocks::<16>(first, second, near);
     compare_units::<E>(first, second, nearest)
 }
 
-// The number of bytes of the longest vector.
-const VECTOR: usize = 64;
-
-// The end of a common prefix, found by pairs of vectors. It stops before a pair that differs: to
-// look for the byte in every vector takes nearly twice as long.
+// The end of a common prefix of whole code units, found from `from` on by pairs of blocks of `N`
+// bytes. It stops before a pair that differs: to look for the byte in every block takes nearly
+// twice as long.
 #[inline]
-fn same_pairs(first: &[u8], second: &[u8]) -> usize
+fn same_pairs<const N: usize>(first: &[u8], second: &[u8], from: usize) -> usize
+    requires lanes { (0 < N) × (N ≤ 64) × (N % 2 ≡ 0) }
+    requires same_before { SameTo first.now second.now from }
     ensures { SameTo first.now second.now result }
 {
     let both = first.len().min(second.len());
-    let mut at = 0;
-    while both - at >= 2 * VECTOR {
-        let front = differing::<VECTOR>(first, second, at);
-        let back = differing::<VECTOR>(first, second, at + VECTOR);
+    let mut at = from;
+    while both - at >= 2 * N {
+        let front = differing::<N>(first, second, at);
+        let back = differing::<N>(first, second, at + N);
         if front | back != 0 {
             return at;
         }
-        at += 2 * VECTOR;
+        at += 2 * N;
     }
     at
 }
