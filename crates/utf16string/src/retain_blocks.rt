@@ -117,7 +117,8 @@ fn move_all(bytes: &mut [u8], to: usize, start: usize)
     ensures rest { drop (start + BLOCK_BYTES) bytes.new ≡ drop (start + BLOCK_BYTES) bytes.old }
 {
     if to < start {
-        bytes.copy_within(start..start + BLOCK_BYTES, to);
+        let block = u8x32::from_slice(&bytes[start..]);
+        block.copy_to_slice(&mut bytes[to..]);
     }
 }
 
