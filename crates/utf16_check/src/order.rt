@@ -14,7 +14,7 @@ pub struct Beginning {
 
 /// Returns the beginning of the text of an input whose first bytes are `bytes`, or `None` if they
 /// do not decide it. `big_endian` is the byte order if it is given; otherwise the BOM gives it, and
-/// without one it is big endian, as the Unicode Standard has it (section 3.10).
+/// without one it is big endian (Unicode, section 3.10: UTF-16 encoding scheme).
 pub fn beginning_of(big_endian: Option<bool>, bytes: &[u8]) -> Option<Beginning>
     ensures order { IfSome result (λ begins. (back : List ℕ)
         → big_in big_endian (bytes.now ++ back) ≡ begins.big_endian) }
