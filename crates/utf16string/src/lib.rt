@@ -12,5 +12,5 @@ mod wstring;
 pub use crate::wstring::WString;
 pub use utf16_str::{
     BE, BigEndian, LE, LittleEndian, Pattern, SliceIndex, Utf16Error, Utf16Order, WStr,
-    WStrCharIndices, WStrChars, WStrMut, WStrSplit,
+    WStrCharIndices, WStrChars, WStrLines, WStrMut, WStrSplit, WStrSplitWhitespace,
 };
