@@ -2,6 +2,7 @@ pub mod OffsetLemmas
 mod SearchLemmas
 mod SplitLemmas
 pub mod CharSearch
+pub mod PassedLemmas
 pub mod Overwritten
 pub mod StrLemmas
 mod AffixLemmas

@@ -106,6 +106,7 @@ impl<'a, E: Utf16Order> WStr<'a, E> {
     /// # Complexity
     ///
     /// One pass, up to that character. Copies nothing.
+    #[tactic(auto, using(crate::proofs::PassedLemmas::passing))]
     pub fn split_once(self, delimiter: char) -> Option<(WStr<'a, E>, WStr<'a, E>)>
         ensures none { IsNone result ↔ Lacks delimiter (wstr_text self.entry) }
         ensures split { IfSome result (λ parts.
@@ -117,8 +118,14 @@ impl<'a, E: Utf16Order> WStr<'a, E> {
             wstr_bytes parts.1 ≡ drop (size (wstr_text parts.0) + char_size delimiter)
             (wstr_bytes self.entry)) }
     {
-        let at = self.find(delimiter)?;
-        Some(self.split_around(at, delimiter))
+        for (at, c) in self.char_indices() {
+            if c == delimiter {
+                let (front, _) = self.split_at(at);
+                let (_, back) = self.split_at(at + c.encoded_utf16_len());
+                return Some((front, back));
+            }
+        }
+        None
     }
 
     /// Splits the text at the last occurrence of `delimiter`, and returns the text before it and
