@@ -1,22 +1,21 @@
 -- What a check has read and written so far, and at each of its exits.
-use Rattle.std.proofs.Common.{◌≡◌, ◌≢◌, ◌⊎◌, inl, inr, ℕ, ◌+◌, ◌-◌, ◌^◌, ◌<◌, ◌≤◌, Bool, List, [], ◌++◌, Option, None, Some, length, take, drop, refl, sym, ap, ap₂, ◌∙◌, subst, arith, append-nil, append_assoc, length-append, take_all, take_at, take-append-drop, true, false, if◌then◌else◌}
+use Rattle.std.proofs.Common.{◌≡◌, inl, inr, ℕ, ◌+◌, ◌-◌, ◌^◌, ◌<◌, ◌≤◌, Bool, List, [], ◌++◌, Option, None, Some, length, take, drop, refl, sym, ap, ap₂, ◌∙◌, subst, arith, append-nil, append_assoc, length-append, take_all, take_at, take-append-drop, true, false, if◌then◌else◌}
 use Rattle.std.specs.Prelude.{count_by}
 use Rattle.std.specs.Io.{StartsWith}
 use Rattle.std.specs.Io.KnownBytes.{Appends, Consumes, IsAtEnd, Keeps}
 use Rattle.std.proofs.KnownBytes.{Appends-kept, Appends-nil, Appends-trans, Consumes-kept, Consumes-nil, Consumes-trans}
-use Rattle.utf16_units.specs.Encoding.{IsUtf16}
 use Rattle.utf16_units.specs.Split.{split_items, split_tail}
 use Rattle.utf16_units.proofs.FirstChar.{AreBytes}
 use Rattle.utf16_units.proofs.SplitIllFormed.{AreBytes-drop}
 use Rattle.utf16_streams.proofs.PartLemmas.{AreBytes-append}
-use Rattle.utf16_streams.specs.Bom.{after_bom, has_bom}
-use Rattle.utf16_streams.specs.Filter.{AppendsPrefix, FiltersPrefix, FiltersSome}
+use Rattle.utf16_streams.specs.Bom.{has_bom}
+use Rattle.utf16_streams.specs.Bom.{big_in, text_in}
+use Rattle.utf16_streams.specs.Filter.{AppendsPrefix}
 use Rattle.utf16_program.specs.declared.outcome.Outcome.{Outcome}
 use Rattle.utf16_program.specs.declared.outcome.Outcome.TheVariants.{Done, IllFormed, Long, Memory, Read, Usage, Write}
 use Rattle.utf16_check.specs.Checker.{Follows, StartsIn, checker_faults, checker_lines, checker_offset, checker_report}
-use Rattle.utf16_check.specs.Checks.{ChecksAll, ChecksBefore, ChecksBy, EndsBy, IsWellFormed}
-use Rattle.utf16_streams.specs.Bom.{big_in, text_in}
-use Rattle.utf16_check.specs.Report.{closing, faults_from, is_char, is_ill_formed, items_in, lines, lines_from, report, report_from, tail_faults, tail_in}
+use Rattle.utf16_check.specs.Checks.{ChecksBy, EndsBy}
+use Rattle.utf16_check.specs.Report.{closing, faults_from, is_char, is_ill_formed, items_in, lines, lines_from, report, report_from, tail_in}
 use Rattle.utf16_check.specs.declared.checker.Checker.{Checker}
 use Rattle.utf16_check.proofs.FaultLemmas.{from_no_fault, no_fault}
 

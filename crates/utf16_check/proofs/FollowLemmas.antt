@@ -1,14 +1,13 @@
 -- What a checker reports once more bytes come.
-use Rattle.std.proofs.Common.{◌≡◌, ◌≢◌, ℕ, ◌+◌, ◌-◌, ◌<◌, ◌≤◌, Bool, true, false, List, [], ◌∷◌, ◌++◌, Option, None, Some, length, drop, refl, sym, ap, ap₂, ◌∙◌, subst, arith, add-zero, append-nil, append_assoc, length-append, length-drop, if◌then◌else◌}
+use Rattle.std.proofs.Common.{◌≡◌, ℕ, ◌+◌, ◌-◌, ◌<◌, ◌≤◌, Bool, true, false, List, [], ◌∷◌, ◌++◌, Option, None, Some, length, drop, refl, sym, ap, ap₂, ◌∙◌, subst, arith, append-nil, append_assoc, length-append, length-drop, if◌then◌else◌}
 use Rattle.std.proofs.lemmas.List.{drop-drop, nil_from_length}
 use Rattle.std.specs.Prelude.{count_by}
 use Rattle.utf16_units.specs.Split.{Item, items_bytes, split_items, split_tail}
 use Rattle.utf16_units.proofs.SplitJoin.{split_items-append, split_tail-append}
 use Rattle.utf16_units.proofs.SplitUnique.{length-split_tail}
 use Rattle.utf16_decode.proofs.DecodesLemmas.{length-split_tail-le, split_tail-again, undecided_items}
-use Rattle.utf16_streams.specs.Bom.{has_bom}
-use Rattle.utf16_check.specs.Checker.{Follows, IsPending, checker_faults, checker_lines, checker_report}
-use Rattle.utf16_streams.specs.Bom.{big_in, text_in}
+use Rattle.utf16_streams.specs.Bom.{big_in, has_bom, text_in}
+use Rattle.utf16_check.specs.Checker.{Follows, checker_lines, checker_report}
 use Rattle.utf16_check.specs.Order.{bom_len}
 use Rattle.utf16_check.specs.Report.{closing, count_line, fault_lines, faults_from, is_char, is_ill_formed, items_in, lines_from, report_from, tail_faults, tail_in, tail_line}
 use Rattle.utf16_check.specs.Scans.{Scans}

@@ -8,7 +8,7 @@ use Rattle.utf16_units.proofs.RecipeLemmas.{two}
 use Rattle.utf16_units.proofs.SplitIllFormed.{AreBytes-drop, lone_item}
 use Rattle.utf16_check.specs.Report.{fault_line}
 use Rattle.utf16_check.proofs.ItemLemmas.{few_chars, lone_line}
-use Rattle.utf16_check.proofs.ScanLemmas.{OnErr-always, Scanned-lone, Scanned-start, Scans-incomplete, Scans-valid, has_fault, two_bytes}
+use Rattle.utf16_check.proofs.ScanLemmas.{OnErr-always, Scanned-lone, Scanned-start, Scans-incomplete, Scans-valid, has_fault}
 use Rattle.utf16_check.proofs.scan.scan_in.Goals as goal
 
 pub loop-error-init : goal.loop-error-init
