@@ -8,8 +8,7 @@ use Rattle.utf16_units.specs.Split.{split_items, split_tail}
 use Rattle.utf16_units.proofs.FirstChar.{AreBytes}
 use Rattle.utf16_units.proofs.SplitIllFormed.{AreBytes-drop}
 use Rattle.utf16_streams.proofs.PartLemmas.{AreBytes-append}
-use Rattle.utf16_streams.specs.Bom.{has_bom}
-use Rattle.utf16_streams.specs.Bom.{big_in, text_in}
+use Rattle.utf16_streams.specs.Bom.{big_in, has_bom, text_in}
 use Rattle.utf16_streams.specs.Filter.{AppendsPrefix}
 use Rattle.utf16_program.specs.declared.outcome.Outcome.{Outcome}
 use Rattle.utf16_program.specs.declared.outcome.Outcome.TheVariants.{Done, IllFormed, Long, Memory, Read, Usage, Write}
