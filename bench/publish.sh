@@ -18,7 +18,7 @@ version_of() {
     echo "$(rustc --version | cut -d ' ' -f 1,2), gcc $(gcc -dumpfullversion), encoding_rs $(version_of librust-encoding-rs-dev),"
     echo "ICU $(version_of libicu-dev), glibc $(version_of libc6)${SIMDUTF:+, simdutf $(sed -n 's/^#define SIMDUTF_VERSION "\(.*\)"/\1/p' "$SIMDUTF/simdutf.h")}."
     echo '[The README](../README.md) says what each script compares. Rely on the ratios.'
-    for name in run real fixed short worst walks python instructions retain sort rust; do
+    for name in run real fixed short worst search walks python instructions retain sort rust; do
         [ -s "out/$name.md" ] || continue
         printf '\n## `%s`\n\n' $name
         [ $name != run ] || printf '![GB/s by call, text and library](%s.svg)\n\n' "$date"

@@ -655,8 +655,8 @@ DETHRUX_NODISCARD dethrux_progress dethrux_decoder_feed_wtf8(
 /**
  * Ends a stream of dethrux_decoder_feed_wtf8 whose last chunk was read.
  *
- * Writes a leading surrogate, of 3 bytes, if one waits, else nothing. With DETHRUX_DONE the decoder
- * begins a new stream. Here the bytes of `to` after `written` stay as they were.
+ * Writes the pending leading surrogate, of 3 bytes, or nothing if none is pending. With
+ * DETHRUX_DONE the decoder begins a new stream. Here the bytes of `to` after `written` stay as they were.
  *
  * @param byte_order the same for a whole stream
  * @param capacity DETHRUX_DECODER_FINISH_MAX suffices
@@ -674,8 +674,8 @@ DETHRUX_NODISCARD dethrux_progress dethrux_decoder_finish_wtf8(
  * Converts WTF-8 to UTF-16, up to the first ill-formed sequence, of 1 to 3 bytes.
  *
  * Each surrogate becomes one code unit. A trailing surrogate directly after a leading one is ill
- * formed: in WTF-8 a pair has the 4 bytes of its character. So join two texts of WTF-8 only as
- * UTF-16.
+ * formed: in WTF-8 a pair has the 4 bytes of its character. So do not append one text of WTF-8 to
+ * another: convert both to UTF-16 first.
  *
  * @param capacity DETHRUX_UTF16_MAX(len) suffices
  * @return how far the call came, with one of these statuses:
@@ -1238,7 +1238,8 @@ DETHRUX_U16_RESULT dethrux_progress dethrux_u16_to_wtf8_partial(
 }
 
 /**
- * Does what dethrux_decoder_feed_wtf8 does, on code units.
+ * Does what dethrux_decoder_feed_wtf8 does, on code units. End the stream with
+ * dethrux_decoder_finish_wtf8 and DETHRUX_NATIVE_ENDIAN.
  *
  * @param decoder one that only this call and dethrux_decoder_finish_wtf8 have changed
  * @param capacity `(len + 1) * 3` suffices

@@ -1,6 +1,6 @@
 #!/usr/bin/env bash
 # Builds what install.sh installs: the libraries, from the assembly in dist/, and in packaging/out
-# the manual pages of the library and, on a machine with rt, the two programs. rt proves and builds
+# the manual pages of the library and, on a machine with rt, the programs. rt proves and builds
 # a program that is missing or older than its sources. CC and LEVEL are the variables of
 # dist/Makefile. The programs need the toolchain's calls of the operating system, which it has only
 # for Linux on x86-64: no other machine gets them. Prints the folder of the libraries.

@@ -55,13 +55,16 @@ export interface Bom {
     status: "absent" | "present" | "undecided";
 }
 
-/** A stream of UTF-16 in chunks that are cut anywhere. U+FFFD replaces what is ill formed. */
+/**
+ * A stream of UTF-16 in chunks that are cut anywhere. `decoder` replaces what is ill formed with
+ * U+FFFD; `wtf8Decoder` keeps unpaired surrogates.
+ */
 export interface Decoder<Chunk> {
     /** What has come and is not decoded yet: at most 3 bytes. */
     readonly pending: Chunk;
-    /** Returns the UTF-8 of the next chunk. */
+    /** Returns the UTF-8, or WTF-8, of the next chunk. */
     feed(chunk: Chunk): Uint8Array;
-    /** Ends the stream: returns U+FFFD if something is pending. The decoder begins a new stream. */
+    /** Ends the stream: returns what is written for the pending bytes. A new stream begins. */
     finish(): Uint8Array;
 }
 
@@ -213,7 +216,7 @@ export interface Dethrux {
     detectBom(bytes: Uint8Array, otherwise?: ByteOrder): Bom;
 
     /**
-     * Returns a decoder of bytes, or without a byte order of code units. With "bom" the BOM tells
+     * Returns a decoder of bytes, or without a byte order of code units. With "bom" the BOM gives
      * the byte order and is not part of the text; without one it is `otherwise`, by default "be".
      */
     decoder(order: ByteOrder): Decoder<Uint8Array>;

@@ -27,7 +27,7 @@ export async function instantiate(source) {
     const module = isModule ? source : await WebAssembly.compile(source);
     const { exports } = await WebAssembly.instantiate(module);
     if (exports.dethrux_version?.() !== VERSION) {
-        throw new Error("dethrux: the module is not that of this package's version");
+        throw new Error("dethrux: the module has another version than this package");
     }
     return functionsOf(new Machine(exports));
 }

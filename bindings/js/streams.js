@@ -132,7 +132,7 @@ class Encoder {
     }
 }
 
-/** Decodes UTF-16 whose byte order its BOM tells. */
+/** Decodes UTF-16 whose byte order its BOM gives. */
 class BomDecoder {
     #functions;
     #otherwise;

@@ -36,7 +36,7 @@ run_node() {
 # Whether this Node is one that the package is for.
 is_new_enough() {
     "$node" -e 'const [major, minor] = process.versions.node.split(".").map(Number);
-process.exit(major > 20 || (major === 20 && minor >= 16) ? 0 : 1)'
+process.exit(major > 22 || (major === 22 && minor >= 3) || (major === 20 && minor >= 16) ? 0 : 1)'
 }
 
 # Whether Node has 64-bit memory with these flags.
@@ -123,7 +123,7 @@ builds_page() {
 test_node() {
     node=${NODE:-node}
     if ! command -v "$node" > /dev/null || ! is_new_enough; then
-        echo 'skipped: the JavaScript package: there is no Node 20.16 or later'
+        echo 'skipped: the JavaScript package: there is no Node 20 from 20.16, or from 22.3'
         return
     fi
     flags=()

@@ -831,7 +831,7 @@ public:
         to.resize(size + progress.written);
     }
 
-    /** Returns the number of bytes that wait for the rest of their character, at most three. */
+    /** Returns the number of pending bytes, at most three. */
     std::size_t pending() const noexcept { return state_.pending_len; }
 
 private:
@@ -894,7 +894,7 @@ public:
         to.resize(size + progress.written);
     }
 
-    /** Returns the number of bytes that wait for the rest of their character, at most three. */
+    /** Returns the number of pending bytes, at most three. */
     std::size_t pending() const noexcept { return state_.pending_len; }
 
 private:
@@ -922,7 +922,7 @@ public:
     }
 
     /**
-     * Ends the stream: appends a leading surrogate that waits. A new stream begins.
+     * Ends the stream: appends a pending leading surrogate. A new stream begins.
      *
      * @return whether the stream had whole code units: false if an odd byte at its end is left out
      */
@@ -936,7 +936,7 @@ public:
         return progress.status == DETHRUX_DONE;
     }
 
-    /** Returns the number of bytes that wait for the rest of their character, at most three. */
+    /** Returns the number of pending bytes, at most three. */
     std::size_t pending() const noexcept { return state_.pending_len; }
 
 private:
@@ -980,7 +980,7 @@ public:
 
     /** @{ */
     /**
-     * Ends the stream: appends a leading surrogate that waits. A new stream begins.
+     * Ends the stream: appends a pending leading surrogate. A new stream begins.
      *
      * @return nothing, or where the stream is not WTF-8, counted from its start
      */
@@ -992,7 +992,7 @@ public:
     }
     /** @} */
 
-    /** Returns the number of bytes that wait for the ones that follow, at most six. */
+    /** Returns the number of pending bytes, at most six. */
     std::size_t pending() const noexcept { return pending_len_; }
 
 private:

@@ -6,7 +6,7 @@ import { load, unitsOf } from "dethrux";
 const [path] = process.argv.slice(2);
 const dethrux = await load();
 
-// The BOM tells the byte order. Without one, Windows means little endian.
+// The BOM gives the byte order. Without one, Windows means little endian.
 const raw = readFileSync(path);
 const { order, len } = dethrux.detectBom(raw, "le");
 const utf16 = raw.subarray(len);
@@ -15,7 +15,7 @@ console.log(order, dethrux.validate(utf16, order));
 // The lossy call writes U+FFFD for each ill-formed sequence.
 console.log(new TextDecoder().decode(dethrux.toUtf8Lossy(utf16, order).output));
 
-// Without a byte order, UTF-16 is code units, as strings have them.
+// Without a byte order, UTF-16 is code units, like strings.
 const { output } = dethrux.fromUtf8(new TextEncoder().encode("Grüße"));
 console.log(dethrux.compare(output, unitsOf("Grüße")));
 

@@ -311,12 +311,12 @@ test("a module as bytes, compiled, and at a URL", async () => {
         assert.equal((await load(source)).version(), dethrux.version());
     }
     assert.ok(isSupported());
-    await assert.rejects(load(Uint8Array.of(...HEAD)), /module is not that/);
+    await assert.rejects(load(Uint8Array.of(...HEAD)), /module has another version/);
     const ofVersion1 = [
         ...[...HEAD, 1, 5, 1, 0x60, 0, 1, 0x7f, 3, 2, 1, 0, 7, 19, 1, 15],
         ...[...utf8("dethrux_version"), 0, 0, 10, 6, 1, 4, 0, 0x41, 1, 0x0b],
     ];
-    await assert.rejects(load(Uint8Array.from(ofVersion1)), /module is not that/);
+    await assert.rejects(load(Uint8Array.from(ofVersion1)), /module has another version/);
     await assert.rejects(load(new URL("file:///no/such/file")), /ENOENT/);
     await assert.rejects(load(Uint8Array.of(1, 2, 3)), WebAssembly.CompileError);
 });

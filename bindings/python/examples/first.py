@@ -8,7 +8,7 @@ import dethrux
 path = Path(sys.argv[1])
 raw = path.read_bytes()
 
-# The BOM tells the byte order. Without one, Windows means little endian.
+# The BOM gives the byte order. Without one, Windows means little endian.
 bom = dethrux.detect_bom(raw, "little")
 order, codec = bom.byteorder, "dethrux-utf-16" if bom.len else "dethrux-utf-16-le"
 

@@ -201,7 +201,7 @@ class Readme(unittest.TestCase):
 
 
 class Declarations(unittest.TestCase):
-    """The calls and the structures are declared as the header has them."""
+    """The calls and the structures are declared as in the header."""
 
     TYPES = {
         "void": None,
