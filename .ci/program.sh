@@ -409,12 +409,22 @@ cases_of_check() {
         'bytes: 3000000, characters: 1500000, ill-formed: 0\n' 'cat zeros | $P be'
     is 'many unpaired surrogates' 1 "$none" 'bytes: 200000, characters: 0, ill-formed: 100000\n' \
         '$P be < trailing > lines; status=$?; head -c 1024 lines | cmp - front_report; tail -n 1 lines; exit $status'
+    # Its report has five megabytes, of which a block's lines are in memory at a time.
+    is 'a long report in little memory' 1 "$none" 'bytes: 200000, characters: 0, ill-formed: 100000\n' \
+        '(ulimit -v 8192; exec $P be < trailing) > lines; status=$?; tail -n 1 lines; exit $status'
     is 'bytes that come slowly' 0 "$none" 'bytes: 4, characters: 1, ill-formed: 0\n' \
         '(printf "\\0"; sleep 0.1; printf "\\330\\0"; sleep 0.1; printf "\\334") | $P le'
     is 'a BOM that comes slowly' 1 "$none" \
         '0x2 (2): unpaired leading surrogate D800\nbytes: 6, characters: 1, ill-formed: 1\n' \
         '(printf "\\376"; sleep 0.1; printf "\\377\\330\\0"; sleep 0.1; printf "\\0h") | $P auto'
     is 'no input' 0 "$none" 'bytes: 0, characters: 0, ill-formed: 0\n' '$P le < /dev/null'
+    # The examples of the manual page.
+    is 'no report on well-formed input' 0 "$none" "$none" 'report=$($P auto < hi) || echo "$report"'
+    is 'the report on ill-formed input' 0 "$none" \
+        '0x0 (0): incomplete character\nbytes: 1, characters: 0, ill-formed: 1\n' \
+        'report=$(printf a | $P auto) || echo "$report"'
+    is 'a report without its last line' 0 "$none" '0x0 (0): incomplete character\n' \
+        'printf a | $P le | sed "\$d"'
     refusals auto
     quiet "$well"
     local order

@@ -873,13 +873,13 @@ static bool appends(Decoder decoder, std::size_t pending, const Text &text, Call
            && to == before + text && decoder.pending() == 0;
 }
 
-// The rest of a character gives it, and the end of the stream gives U+FFFD.
 // A name for the end of a stream, which may return something.
 template <class Decoder, class Text>
 static void finish(Decoder &decoder, Text &to) {
     (void)decoder.finish(to);
 }
 
+// The rest of a character gives it, and the end of the stream gives U+FFFD.
 template <class Decoder, class Text>
 static bool keeps(Decoder decoder, std::string_view first, std::string_view rest, const Text &text,
     const Text &mark) {
@@ -905,6 +905,12 @@ static void memory() {
     const std::string pair = "\xD8\x3D\xDE\0"s, utf8 = "\xF0\x9F\x98\x80"s;
     for (byte_order order : {byte_order::little, byte_order::big}) {
         const std::string text = in_form(pair, order), mark = in_form("\xFF\xFD"s, order);
+        dethrux::wtf8_encoder waits(order);
+        std::string none;
+        check("the end of wtf8_encoder without memory",
+            !waits.feed("\xED\xA0\xBD", none)
+                && appends(waits, 3, in_form("\xD8\x3D"s, order),
+                    [](auto &by, auto &to) { finish(by, to); }));
         for (std::size_t at = 1; at < 4; at++) {
             const std::string first = utf8.substr(0, at), rest = utf8.substr(at);
             const std::string name = " without memory, cut at " + std::to_string(at);

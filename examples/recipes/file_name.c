@@ -1,5 +1,5 @@
 /* Writes the file names of NTFS on standard input, each after a byte with its number of code units,
- * as lines of WTF-8. So no two names become the same, and each one can be read back. */
+ * in WTF-8, each with a NUL after it. No two names become the same, and each can be read back. */
 #include <dethrux.h>
 
 #include <stdio.h>
@@ -13,7 +13,7 @@ static bool write_name(const uint8_t *name, size_t len) {
     dethrux_progress back =
         dethrux_from_wtf8(DETHRUX_LITTLE_ENDIAN, wtf8, there.written, again, sizeof again);
     fwrite(wtf8, 1, there.written, stdout);
-    putchar('\n');
+    putchar('\0');
     return back.written == len && memcmp(again, name, len) == 0;
 }
 
@@ -25,5 +25,5 @@ int main(void) {
             return 1;
         }
     }
-    return 0;
+    return ferror(stdin) || fflush(stdout) != 0 || ferror(stdout);
 }

@@ -22,9 +22,9 @@ prints() {
     for language in c py; do
         if [ $language = c ]; then
             cc -std=c99 -O2 -Wall -Wextra -Werror "-I$top/include" "$here/$name.c" "$archive" -o "$name" &&
-                "./$name" "$@" < input > found
+                "./$name" "$@" < input > found || echo "status $?" >> found
         else
-            python3 "$here/$name.py" "$@" < input > found
+            python3 "$here/$name.py" "$@" < input > found 2> said || echo "status $?" >> found
         fi
         # shellcheck disable=SC2059
         if printf "$wanted" | cmp - found; then
@@ -61,7 +61,9 @@ prints reg_value '"C:\\\\Grüße"\n' input Path
 printf '"Path"="without a BOM"\r\n' | utf16 UTF-16LE
 prints reg_value '"without a BOM"\n' input Path
 printf '\3a\0\0\xD8b\0\1\0\xDC\4\x3D\xD8\0\xDE\xE4\0\0\xD8' > input
-prints file_name 'a\xED\xA0\x80b\n\xED\xB0\x80\n😀ä\xED\xA0\x80\n'
+prints file_name 'a\xED\xA0\x80b\0\xED\xB0\x80\0😀ä\xED\xA0\x80\0'
+printf '\1a\0\3b\0c\0' > input
+prints file_name 'a\0status 1\n'
 printf 'a=Gr\\u00fc\\u00DFe\nb\nc=\\uD83D\\uDE00!\nd=\xE4\\uD83D\n' > input
 prints properties 'Grüße\n😀!\nä�\n'
 printf '\xEF\xBB\xBFName\tStadt\r\nÄnne\tKöln 😀\r\n' | utf16 UTF-16LE

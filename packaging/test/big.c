@@ -118,6 +118,18 @@ static void test_end(uint8_t *utf16, const uint8_t *sound, uint8_t *to) {
     require(memcmp(utf16 + len - 2, "\xFD\xFF", 2) == 0, "the end that is well formed");
 }
 
+/* A pattern whose bytes are at each odd offset of the text, where it does not occur. A search that
+ * began again at each of them would compare 4 MiB millions of times. */
+static void test_search(void) {
+    const uint8_t *text = repeated_text((const uint8_t *)"a\0a\0a\0a");
+    const uint8_t *pattern = repeated_text((const uint8_t *)"\0a\0a\0a\0a");
+    const size_t text_len = (size_t)16 * BLOCK, pattern_len = (size_t)4 * BLOCK;
+    require(dethrux_find(ORDER, text, text_len, pattern, pattern_len) == DETHRUX_NOT_FOUND,
+        "dethrux_find at odd offsets");
+    require(dethrux_rfind(ORDER, text, text_len, pattern, pattern_len) == DETHRUX_NOT_FOUND,
+        "dethrux_rfind at odd offsets");
+}
+
 int main(int argc, char **argv) {
     count = argc > 1 ? strtoul(argv[1], NULL, 10) : 17;
     len = count * BLOCK;
@@ -127,6 +139,7 @@ int main(int argc, char **argv) {
     uint8_t *broken = repeated_text(UTF16);
     break_end(broken);
     test_end(broken, utf16, to);
+    test_search();
     /* Each block is swapped an odd number of times. */
     dethrux_swap_byte_order(utf16, len);
     require(memcmp(utf16, "\0a\0\xE9\x4E\0\0\xE9", 8) == 0, "dethrux_swap_byte_order");

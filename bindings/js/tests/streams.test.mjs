@@ -51,6 +51,9 @@ test("streams to WTF-8", async () => {
     const wanted = dethrux.toWtf8(unitsOf(TEXT)).output;
     assert.deepEqual(together(await passed(singly(unitsOf(TEXT)), dethrux.wtf8DecoderStream())), wanted);
     assert.deepEqual(together(await passed(singly(le(TEXT)), dethrux.wtf8DecoderStream("le"))), wanted);
+    const swapped = le(TEXT);
+    dethrux.swapByteOrder(swapped);
+    assert.deepEqual(together(await passed(singly(swapped), dethrux.wtf8DecoderStream("be"))), wanted);
     const odd = [...le(TEXT), 0x61].map((it) => Uint8Array.of(it));
     await assert.rejects(passed(odd, dethrux.wtf8DecoderStream("le")), /odd byte/);
     const decoder = dethrux.wtf8Decoder("le");
