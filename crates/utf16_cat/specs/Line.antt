@@ -3,7 +3,7 @@ use Rattle.std.specs.Prelude.{ℕ, List, [], ◌∷◌, ◌++◌, codes}
 use Rattle.utf16_program.specs.declared.outcome.Outcome.{Outcome}
 use Rattle.utf16_program.specs.declared.outcome.Outcome.TheVariants.{Done, IllFormed, Long, Memory, Read, Usage, Write}
 
--- the message and a newline; empty if all was decoded, which is never found ill-formed
+-- the message and a newline; empty if all was decoded. A conversion never ends with `IllFormed`
 abbrev pub line_of : Outcome → List ℕ
 line_of Done = []
 line_of IllFormed = []

@@ -1,5 +1,5 @@
 -- What a check has read and written so far, and at each of its exits.
-use Rattle.std.proofs.Common.{◌≡◌, inl, inr, ℕ, ◌+◌, ◌-◌, ◌^◌, ◌<◌, ◌≤◌, Bool, List, [], ◌++◌, Option, None, Some, length, take, drop, refl, sym, ap, ap₂, ◌∙◌, subst, arith, append-nil, append_assoc, length-append, take_all, take_at, take-append-drop, true, false, if◌then◌else◌}
+use Rattle.std.proofs.Common.{◌≡◌, inl, inr, ℕ, ◌+◌, ◌-◌, ◌^◌, ◌≤◌, Bool, List, [], ◌++◌, Option, None, Some, length, take, drop, refl, sym, ap, ap₂, ◌∙◌, subst, arith, append-nil, append_assoc, length-append, take_all, take_at, take-append-drop, true, false, if◌then◌else◌}
 use Rattle.std.specs.Prelude.{count_by}
 use Rattle.std.specs.Io.{StartsWith}
 use Rattle.std.specs.Io.KnownBytes.{Appends, Consumes, IsAtEnd, Keeps}
@@ -9,14 +9,13 @@ use Rattle.utf16_units.proofs.FirstChar.{AreBytes}
 use Rattle.utf16_units.proofs.SplitIllFormed.{AreBytes-drop}
 use Rattle.utf16_streams.proofs.PartLemmas.{AreBytes-append}
 use Rattle.utf16_streams.specs.Bom.{big_in, has_bom, text_in}
-use Rattle.utf16_streams.specs.Filter.{AppendsPrefix}
 use Rattle.utf16_program.specs.declared.outcome.Outcome.{Outcome}
 use Rattle.utf16_program.specs.declared.outcome.Outcome.TheVariants.{Done, IllFormed, Long, Memory, Read, Usage, Write}
-use Rattle.utf16_check.specs.Checker.{Follows, StartsIn, checker_faults, checker_lines, checker_offset, checker_report}
-use Rattle.utf16_check.specs.Checks.{ChecksBy, EndsBy}
-use Rattle.utf16_check.specs.Report.{closing, faults_from, is_char, is_ill_formed, items_in, lines, lines_from, report, report_from, tail_in}
+use Rattle.utf16_check.specs.Checker.{Follows, StartsIn, checker_ill_formed, checker_lines, checker_offset, checker_report}
+use Rattle.utf16_check.specs.Checks.{ChecksBy, EndsBy, FailsBy}
+use Rattle.utf16_check.specs.Report.{closing, ill_formed_from, is_char, is_ill_formed, items_in, lines, lines_from, report, report_from, tail_in}
 use Rattle.utf16_check.specs.declared.checker.Checker.{Checker}
-use Rattle.utf16_check.proofs.FaultLemmas.{from_no_fault, no_fault}
+use Rattle.utf16_check.proofs.WellFormedLemmas.{none_ill_formed, well_formed}
 
 -- some bytes were read, and the lines that are certain for them were written; the checker, with
 -- the pending bytes, decides what more bytes add
@@ -28,7 +27,7 @@ pub record Checking (order : Option Bool) (input left old new : Option (List ℕ
   pub long : length bytes ≡ checker_offset checker + length pending
   pub lines_then : (back : List ℕ) → lines order (bytes ++ back) ≡ lines order bytes ++ checker_lines checker (pending ++ back)
   pub report_then : (back : List ℕ) → report order (bytes ++ back) ≡ lines order bytes ++ checker_report checker (pending ++ back)
-  pub faults_then : (back : List ℕ) → faults_from order 0 (bytes ++ back) ≡ checker_faults checker (pending ++ back)
+  pub ill_formed_then : (back : List ℕ) → ill_formed_from order 0 (bytes ++ back) ≡ checker_ill_formed checker (pending ++ back)
 
 -- the lines after the items
 abbrev pub checker_closing : Checker → List ℕ → List ℕ
@@ -55,9 +54,9 @@ Checking-start order input old checker is = record {
   long = omega (arith, is.offset);
   lines_then = λ back. ap₂ (λ o n. lines_from o n back) (sym is.byte_order) (sym is.offset) ∙ ap (λ l. l ++ checker_lines checker back) (sym (no_lines order));
   report_then = λ back. ap₂ (λ o n. report_from o n 0 0 back) (sym is.byte_order) (sym is.offset)
-      ∙ ap₂ (λ c u. report_from checker.big_endian checker.offset c u back) (sym is.chars) (sym is.faults)
+      ∙ ap₂ (λ c u. report_from checker.big_endian checker.offset c u back) (sym is.chars) (sym is.unpaired)
       ∙ ap (λ l. l ++ checker_report checker back) (sym (no_lines order));
-  faults_then = λ back. ap₂ (λ o u. faults_from o u back) (sym is.byte_order) (sym is.faults);
+  ill_formed_then = λ back. ap₂ (λ o u. ill_formed_from o u back) (sym is.byte_order) (sym is.unpaired);
 }
 
 module _ (order : Option Bool) (input left old new : Option (List ℕ)) (checker : Checker) (pending : List ℕ)
@@ -86,45 +85,50 @@ module _ (order : Option Bool) (input left old new : Option (List ℕ)) (checker
     near : length piece ≤ 4096 → length (bytes ++ piece) ≤ length bytes + 4096
     near few = omega (arith, long_more, few)
 
-    -- allocation failed for a line
-    pub Checking-memory : length piece ≤ 4096 → 0 < length (checker_lines checker (pending ++ piece)) → ChecksBy order input after old new Memory
-    Checking-memory few some =
+    -- the run ended at a block: a write failed after a prefix of its lines, or allocation failed for
+    -- one of them
+    pub Checking-fails : (now : Option (List ℕ)) (ended_as : Outcome) → length piece ≤ 4096 → FailsBy new now (checker_lines checker (pending ++ piece)) ended_as
+        → ChecksBy order input after old now ended_as
+    Checking-fails now Done few fails = absurd fails
+    Checking-fails now IllFormed few fails = absurd fails
+    Checking-fails now Read few fails = absurd fails
+    Checking-fails now Write few fails =
+        let output = checker_lines checker (pending ++ piece) in
+        let rest = checker_closing checker (pending ++ piece) in
+        let written = lines order bytes ++ take fails.0 output in (
+          bytes ++ piece,
+          more_read,
+          (
+            written,
+            Appends-trans old new now (lines order bytes) (take fails.0 output) so_far.written fails.1,
+            ap (take (length written))
+                (so_far.report_then piece ∙ ap (λ o. lines order bytes ++ (o ++ rest)) (sym (take-append-drop fails.0 output))
+                ∙ ap (λ o. lines order bytes ++ o) (append_assoc (take fails.0 output) (drop fails.0 output) rest)
+                ∙ sym (append_assoc (lines order bytes) (take fails.0 output) (drop fails.0 output ++ rest)))
+                ∙ take_at written (drop fails.0 output ++ rest) (length written) refl,
+            (
+              length bytes,
+              (omega (arith, long_more), near few),
+              subst (λ b. StartsWith written (lines order b)) (sym before) (take_at (lines order bytes) (take fails.0 output) (length (lines order bytes)) refl),
+            ),
+          ),
+        )
+    Checking-fails now Memory few fails =
         let joined : lines order (take (length bytes) (bytes ++ piece)) ≡ lines order (bytes ++ piece) → ⊥ = λ same. (
         let all = ap length (ap (lines order) (sym before) ∙ same ∙ so_far.lines_then piece) in
-        omega (arith, all, length-append (lines order bytes) (checker_lines checker (pending ++ piece)), some)
+        omega (arith, all, length-append (lines order bytes) (checker_lines checker (pending ++ piece)), fails.1)
         ) in (
           bytes ++ piece,
           more_read,
           (
             length bytes,
             (omega (arith, long_more), near few),
-            subst (λ b. Appends old new (lines order b)) (sym before) so_far.written,
+            subst (λ b. Appends old now (lines order b)) (sym before) (Appends-kept old new now (lines order bytes) so_far.written fails.0),
             inl joined,
           ),
         )
-
-    -- a prefix of the output was written, with which the rest of the report begins, and then a
-    -- write failed
-    pub Checking-write : (output rest : List ℕ) (now : Option (List ℕ)) → length piece ≤ 4096 → checker_report checker (pending ++ piece) ≡ output ++ rest
-        → AppendsPrefix new now output → ChecksBy order input after old now Write
-    Checking-write output rest now few begins wrote =
-        let written = lines order bytes ++ take wrote.0 output in (
-          bytes ++ piece,
-          more_read,
-          (
-            written,
-            Appends-trans old new now (lines order bytes) (take wrote.0 output) so_far.written wrote.1,
-            ap (take (length written))
-                (so_far.report_then piece ∙ ap (λ o. lines order bytes ++ o) (begins ∙ ap (λ o. o ++ rest) (sym (take-append-drop wrote.0 output)) ∙ append_assoc (take wrote.0 output) (drop wrote.0 output) rest)
-                ∙ sym (append_assoc (lines order bytes) (take wrote.0 output) (drop wrote.0 output ++ rest)))
-                ∙ take_at written (drop wrote.0 output ++ rest) (length written) refl,
-            (
-              length bytes,
-              (omega (arith, long_more), near few),
-              subst (λ b. StartsWith written (lines order b)) (sym before) (take_at (lines order bytes) (take wrote.0 output) (length (lines order bytes)) refl),
-            ),
-          ),
-        )
+    Checking-fails now Long few fails = absurd fails
+    Checking-fails now Usage few fails = absurd fails
 
     -- the bytes were checked
     pub Checking-more : (now : Option (List ℕ)) (later : Checker) (kept : List ℕ) → AreBytes piece → Appends new now (checker_lines checker (pending ++ piece))
@@ -139,8 +143,8 @@ module _ (order : Option Bool) (input left old new : Option (List ℕ)) (checker
       long = omega (arith, long_more, so_far.long, at, length-append pending piece);
       lines_then = λ back. both (lines order) (checker_lines checker) (checker_lines later) so_far.lines_then follows.lines back;
       report_then = λ back. both (report order) (checker_report checker) (checker_report later) so_far.report_then follows.report back;
-      faults_then = λ back. ap (faults_from order 0) (append_assoc bytes piece back) ∙ so_far.faults_then (piece ++ back)
-          ∙ ap (checker_faults checker) (sym (append_assoc pending piece back)) ∙ follows.faults back;
+      ill_formed_then = λ back. ap (ill_formed_from order 0) (append_assoc bytes piece back) ∙ so_far.ill_formed_then (piece ++ back)
+          ∙ ap (checker_ill_formed checker) (sym (append_assoc pending piece back)) ∙ follows.ill_formed back;
     } where
       both : (whole next last : List ℕ → List ℕ) → ((back : List ℕ) → whole (bytes ++ back) ≡ lines order bytes ++ next (pending ++ back))
           → ((back : List ℕ) → next ((pending ++ piece) ++ back) ≡ checker_lines checker (pending ++ piece) ++ last (kept ++ back))
@@ -159,8 +163,8 @@ module _ (order : Option Bool) (input left old new : Option (List ℕ)) (checker
     whole_report : report order bytes ≡ lines order bytes ++ checker_report checker pending
     whole_report = ap (report order) (sym (append-nil bytes)) ∙ so_far.report_then [] ∙ ap (λ p. lines order bytes ++ checker_report checker p) (append-nil pending)
 
-    whole_faults : faults_from order 0 bytes ≡ checker_faults checker pending
-    whole_faults = ap (faults_from order 0) (sym (append-nil bytes)) ∙ so_far.faults_then [] ∙ ap (checker_faults checker) (append-nil pending)
+    whole_ill_formed : ill_formed_from order 0 bytes ≡ checker_ill_formed checker pending
+    whole_ill_formed = ap (ill_formed_from order 0) (sym (append-nil bytes)) ∙ so_far.ill_formed_then [] ∙ ap (checker_ill_formed checker) (append-nil pending)
 
     all_bytes : take (length bytes) bytes ≡ bytes
     all_bytes = take_all (length bytes) bytes (omega arith)
@@ -178,10 +182,10 @@ module _ (order : Option Bool) (input left old new : Option (List ℕ)) (checker
       by_order (Some big) = so_far.are
       by_order None = by_bom (has_bom bytes)
 
-    pub Checking-end : (now : Option (List ℕ)) (ended_as : Outcome) → EndsBy new now (checker_report checker pending) (checker_faults checker pending) ended_as
+    pub Checking-end : (now : Option (List ℕ)) (ended_as : Outcome) → EndsBy new now (checker_report checker pending) (checker_ill_formed checker pending) ended_as
         → ChecksBy order input after old now ended_as
-    Checking-end now Done ends = (bytes, all_read, ended, reported now ends.0, from_no_fault (big_in order bytes) (text_in order bytes) text_are (omega (arith, whole_faults, ends.1)))
-    Checking-end now IllFormed ends = (bytes, all_read, ended, reported now ends.0, λ text. ends.1 (omega (arith, whole_faults, no_fault (big_in order bytes) (text_in order bytes) text)))
+    Checking-end now Done ends = (bytes, all_read, ended, reported now ends.0, none_ill_formed (big_in order bytes) (text_in order bytes) text_are (omega (arith, whole_ill_formed, ends.1)))
+    Checking-end now IllFormed ends = (bytes, all_read, ended, reported now ends.0, λ text. ends.1 (omega (arith, whole_ill_formed, well_formed (big_in order bytes) (text_in order bytes) text)))
     Checking-end now Read ends = absurd ends
     Checking-end now Write ends =
         let rest = checker_report checker pending in

@@ -9,11 +9,11 @@ use Rattle.utf16_decode.proofs.DecodesLemmas.{length-split_tail-le, split_tail-a
 use Rattle.utf16_streams.specs.Bom.{big_in, has_bom, text_in}
 use Rattle.utf16_check.specs.Checker.{Follows, checker_lines, checker_report}
 use Rattle.utf16_check.specs.Order.{bom_len}
-use Rattle.utf16_check.specs.Report.{closing, count_line, fault_lines, faults_from, is_char, is_ill_formed, items_in, lines_from, report_from, tail_faults, tail_in, tail_line}
+use Rattle.utf16_check.specs.Report.{closing, count_line, ill_formed_lines, ill_formed_from, is_char, is_ill_formed, items_in, lines_from, report_from, tail_ill_formed, tail_in, tail_line}
 use Rattle.utf16_check.specs.Scans.{Scans}
 use Rattle.utf16_check.specs.declared.checker.Checker.{Checker}
 use Rattle.utf16_check.specs.declared.scan.Found.{Found}
-use Rattle.utf16_check.proofs.ItemLemmas.{count-append, fault_lines-append, some_line}
+use Rattle.utf16_check.proofs.ItemLemmas.{count-append, ill_formed_lines-append, some_line}
 
 -- the text of the bytes, and of all that begin so, begins at `from`, in this byte order
 module _ (order : Option Bool) (big : Bool) (from : ℕ) (bytes : List ℕ) (within : from ≤ length bytes)
@@ -33,16 +33,16 @@ module _ (order : Option Bool) (big : Bool) (from : ℕ) (bytes : List ℕ) (wit
         let long = ap length (is_text back) in
         omega (arith, long, length-append bytes back, length-append text back, length-drop from bytes)
 
-    begun_lines : (offset : ℕ) → lines_from order offset (bytes ++ back) ≡ fault_lines big (offset + from) (split_items big (text ++ back))
+    begun_lines : (offset : ℕ) → lines_from order offset (bytes ++ back) ≡ ill_formed_lines big (offset + from) (split_items big (text ++ back))
     begun_lines offset =
-        ap₂ (λ b n. fault_lines b (offset + n) (items_in order (bytes ++ back))) (is_big back) begun_bom
-        ∙ ap (fault_lines big (offset + from)) begun_items
+        ap₂ (λ b n. ill_formed_lines b (offset + n) (items_in order (bytes ++ back))) (is_big back) begun_bom
+        ∙ ap (ill_formed_lines big (offset + from)) begun_items
 
   -- with nothing after them
-  bytes_lines : (offset : ℕ) → lines_from order offset bytes ≡ fault_lines big (offset + from) (split_items big text)
+  bytes_lines : (offset : ℕ) → lines_from order offset bytes ≡ ill_formed_lines big (offset + from) (split_items big text)
   bytes_lines offset =
       ap (lines_from order offset) (sym (append-nil bytes)) ∙ begun_lines [] offset
-      ∙ ap (λ t. fault_lines big (offset + from) (split_items big t)) (append-nil text)
+      ∙ ap (λ t. ill_formed_lines big (offset + from) (split_items big t)) (append-nil text)
 
   -- they were scanned: what more bytes add
   module _ (offset : ℕ) (old new : List ℕ) (found : Found) (scans : Scans big (offset + from) text old new found) where
@@ -70,15 +70,15 @@ module _ (order : Option Bool) (big : Bool) (from : ℕ) (bytes : List ℕ) (wit
 
       pub more_lines : lines_from order offset (bytes ++ back) ≡ lines_from order offset bytes ++ lines_from (Some big) later (kept ++ back)
       more_lines =
-          begun_lines back offset ∙ ap (fault_lines big (offset + from)) more_items
-          ∙ fault_lines-append big (offset + from) (split_items big text) (split_items big (kept ++ back))
-          ∙ ap₂ (λ l n. l ++ fault_lines big n (split_items big (kept ++ back))) (sym (bytes_lines offset)) at where
+          begun_lines back offset ∙ ap (ill_formed_lines big (offset + from)) more_items
+          ∙ ill_formed_lines-append big (offset + from) (split_items big text) (split_items big (kept ++ back))
+          ∙ ap₂ (λ l n. l ++ ill_formed_lines big n (split_items big (kept ++ back))) (sym (bytes_lines offset)) at where
             at : (offset + from) + length (items_bytes big (split_items big text)) ≡ later + bom_len (Some big) (kept ++ back)
             at = omega (arith, scans.taken)
 
-      pub more_faults : (unpaired : ℕ) → faults_from order unpaired (bytes ++ back) ≡ faults_from (Some big) (unpaired + found.unpaired) (kept ++ back)
-      more_faults unpaired =
-          let tail = ap tail_faults (begun_tail back ∙ more_tail) in
+      pub more_ill_formed : (unpaired : ℕ) → ill_formed_from order unpaired (bytes ++ back) ≡ ill_formed_from (Some big) (unpaired + found.unpaired) (kept ++ back)
+      more_ill_formed unpaired =
+          let tail = ap tail_ill_formed (begun_tail back ∙ more_tail) in
           omega (arith, tail, more_count is_ill_formed, scans.unpaired)
 
       more_closing : (chars unpaired : ℕ)
@@ -137,14 +137,14 @@ few_tail (first ∷ second ∷ bytes) short = absurd (omega arith)
 
 pub few_lines : (order : Option Bool) (offset : ℕ) (bytes : List ℕ) → order ≡ None → length bytes < 2 → lines_from order offset bytes ≡ []
 few_lines order offset bytes none short =
-    ap (λ o. lines_from o offset bytes) none ∙ ap (fault_lines (big_in None bytes) (offset + bom_len None bytes)) (few_items bytes short)
+    ap (λ o. lines_from o offset bytes) none ∙ ap (ill_formed_lines (big_in None bytes) (offset + bom_len None bytes)) (few_items bytes short)
 
 -- a checker that they do not change follows itself
 pub Follows-few : (checker : Checker) (bytes : List ℕ) → checker.big_endian ≡ None → length bytes < 2 → Follows checker checker bytes bytes
 Follows-few checker bytes none short = record {
   lines = λ back. ap (λ l. l ++ checker_lines checker (bytes ++ back)) (sym no_lines);
   report = λ back. ap (λ l. l ++ checker_report checker (bytes ++ back)) (sym no_lines);
-  faults = λ back. refl;
+  ill_formed = λ back. refl;
 } where
   no_lines : checker_lines checker bytes ≡ []
   no_lines = few_lines checker.big_endian checker.offset bytes none short
@@ -165,28 +165,28 @@ pending_items None bytes same = behind_bom (big_in None bytes) (has_bom bytes) b
 module _ (order : Option Bool) (bytes : List ℕ) (same : tail_in order bytes ≡ bytes) where
   -- the report on them
   pub pending_report : (offset chars unpaired : ℕ)
-      → report_from order offset chars unpaired bytes ≡ tail_line offset bytes ++ count_line (offset + length bytes) chars (unpaired + tail_faults bytes)
+      → report_from order offset chars unpaired bytes ≡ tail_line offset bytes ++ count_line (offset + length bytes) chars (unpaired + tail_ill_formed bytes)
   pending_report offset chars unpaired =
       let none = pending_items order bytes same in
       let start : (offset + length bytes) - length (tail_in order bytes) ≡ offset = omega (arith, ap length same) in
       let good : chars + count_by is_char (items_in order bytes) ≡ chars = omega (arith, ap (count_by is_char) none) in
       let bad : unpaired + count_by is_ill_formed (items_in order bytes) ≡ unpaired = omega (arith, ap (count_by is_ill_formed) none) in
-      ap (λ i. fault_lines (big_in order bytes) (offset + bom_len order bytes) i
+      ap (λ i. ill_formed_lines (big_in order bytes) (offset + bom_len order bytes) i
       ++ closing (offset + length bytes) (chars + count_by is_char (items_in order bytes)) (unpaired + count_by is_ill_formed (items_in order bytes)) (tail_in order bytes)) none
       ∙ ap₂ (λ c u. closing (offset + length bytes) c u (tail_in order bytes)) good bad
-      ∙ ap₂ (λ at t. tail_line at t ++ count_line (offset + length bytes) chars (unpaired + tail_faults t)) start same
+      ∙ ap₂ (λ at t. tail_line at t ++ count_line (offset + length bytes) chars (unpaired + tail_ill_formed t)) start same
 
-  pub pending_faults : (unpaired : ℕ) → faults_from order unpaired bytes ≡ unpaired + tail_faults bytes
-  pending_faults unpaired =
+  pub pending_ill_formed : (unpaired : ℕ) → ill_formed_from order unpaired bytes ≡ unpaired + tail_ill_formed bytes
+  pending_ill_formed unpaired =
       let none = ap (count_by is_ill_formed) (pending_items order bytes same) in
-      let tail = ap tail_faults same in
+      let tail = ap tail_ill_formed same in
       omega (arith, none, tail)
 
 -- a tail that is not empty
-pub some_tail : (offset : ℕ) (tail : List ℕ) → ¬ (length tail ≡ 0) → (tail_line offset tail ≡ tail_line offset (0 ∷ [])) × (tail_faults tail ≡ 1)
+pub some_tail : (offset : ℕ) (tail : List ℕ) → ¬ (length tail ≡ 0) → (tail_line offset tail ≡ tail_line offset (0 ∷ [])) × (tail_ill_formed tail ≡ 1)
 some_tail offset [] some = absurd (some refl)
 some_tail offset (first ∷ after) some = (refl, refl)
 
-pub no_tail : (offset : ℕ) (tail : List ℕ) → length tail ≡ 0 → (tail_line offset tail ≡ []) × (tail_faults tail ≡ 0)
+pub no_tail : (offset : ℕ) (tail : List ℕ) → length tail ≡ 0 → (tail_line offset tail ≡ []) × (tail_ill_formed tail ≡ 0)
 no_tail offset [] none = (refl, refl)
 no_tail offset (first ∷ after) none = absurd (omega arith)

@@ -11,9 +11,8 @@ use Rattle.utf16_units.specs.Unit.{IsLeading}
 use Rattle.utf16_units.specs.Split.{Item, good, item_bytes, items_bytes, lone_lead, lone_trail}
 use Rattle.utf16_units.proofs.CountLemmas.{counted_bytes}
 use Rattle.utf16_units.proofs.EncodingLemmas.{encode-cons, encode-nil, encode-text_of}
-use Rattle.utf16_units.proofs.SplitIllFormed.{lone_item}
-use Rattle.utf16_units.proofs.SplitLemmas.{Class, class_of, leading, neither, trailing}
-use Rattle.utf16_check.specs.Report.{fault_line, fault_lines, is_char, is_ill_formed, placed}
+use Rattle.utf16_check.specs.Report.{ill_formed_line, ill_formed_lines, is_char, is_ill_formed, placed}
+use Rattle.utf16_check.specs.Scans.{lone}
 
 -- ---- two lists of items
 
@@ -27,10 +26,10 @@ placed-append big offset (item ∷ items) more =
     (placed-append big (offset + length (item_bytes big item)) items more
     ∙ ap (λ n. placed big (offset + length (item_bytes big item)) items ++ placed big n more) at)
 
-pub fault_lines-append : (big : Bool) (offset : ℕ) (items more : List Item)
-    → fault_lines big offset (items ++ more) ≡ fault_lines big offset items ++ fault_lines big (offset + length (items_bytes big items)) more
-fault_lines-append big offset items more =
-    ap (flat_map (λ (at, item). fault_line at item)) (placed-append big offset items more) ∙ flat_map-append (λ (at, item). fault_line at item) (placed big offset items) (placed big (offset + length (items_bytes big items)) more)
+pub ill_formed_lines-append : (big : Bool) (offset : ℕ) (items more : List Item)
+    → ill_formed_lines big offset (items ++ more) ≡ ill_formed_lines big offset items ++ ill_formed_lines big (offset + length (items_bytes big items)) more
+ill_formed_lines-append big offset items more =
+    ap (flat_map (λ (at, item). ill_formed_line at item)) (placed-append big offset items more) ∙ flat_map-append (λ (at, item). ill_formed_line at item) (placed big offset items) (placed big (offset + length (items_bytes big items)) more)
 
 pub length-items_bytes : (big : Bool) (items more : List Item)
     → length (items_bytes big (items ++ more)) ≡ length (items_bytes big items) + length (items_bytes big more)
@@ -45,17 +44,17 @@ count-cons p item items = sum_by-cons (λ i. cond (p i) 1 0) item items
 
 -- ---- characters
 
-pub fault_lines-good : (big : Bool) (offset : ℕ) (text : List ℕ) → fault_lines big offset (map good text) ≡ []
-fault_lines-good big offset [] = refl
-fault_lines-good big offset (c ∷ text) = fault_lines-good big (offset + length (item_bytes big (good c))) text
+pub ill_formed_lines-good : (big : Bool) (offset : ℕ) (text : List ℕ) → ill_formed_lines big offset (map good text) ≡ []
+ill_formed_lines-good big offset [] = refl
+ill_formed_lines-good big offset (c ∷ text) = ill_formed_lines-good big (offset + length (item_bytes big (good c))) text
 
 pub chars-good : (text : List ℕ) → count_by is_char (map good text) ≡ length text
 chars-good [] = refl
 chars-good (c ∷ text) = omega (arith, chars-good text, count-cons is_char (good c) (map good text))
 
-pub faults-good : (text : List ℕ) → count_by is_ill_formed (map good text) ≡ 0
-faults-good [] = refl
-faults-good (c ∷ text) = omega (arith, faults-good text, count-cons is_ill_formed (good c) (map good text))
+pub ill_formed-good : (text : List ℕ) → count_by is_ill_formed (map good text) ≡ 0
+ill_formed-good [] = refl
+ill_formed-good (c ∷ text) = omega (arith, ill_formed-good text, count-cons is_ill_formed (good c) (map good text))
 
 pub items_bytes-good : (big : Bool) (text : List ℕ) → items_bytes big (map good text) ≡ encode big text
 items_bytes-good big [] = sym (encode-nil big)
@@ -70,12 +69,12 @@ few_chars big bytes text = omega (arith, counted_bytes big bytes text)
 
 -- ---- an unpaired surrogate
 
-pub lone-leading : (unit : ℕ) → IsLeading unit → lone_item unit ≡ lone_lead unit
+pub lone-leading : (unit : ℕ) → IsLeading unit → lone unit ≡ lone_lead unit
 lone-leading unit l =
     let below : unit < 0xDC00 = omega arith in
     rw (le-leb 0xD800 unit l.0, lt-ltb unit 0xDC00 below) refl
 
-pub lone-trailing : (unit : ℕ) → ¬ (IsLeading unit) → lone_item unit ≡ lone_trail unit
+pub lone-trailing : (unit : ℕ) → ¬ (IsLeading unit) → lone unit ≡ lone_trail unit
 lone-trailing unit not_leading = ⊎_elim
     (λ (low : unit < 0xD800). rw (lt-leb 0xD800 unit low) refl)
     (λ (from : 0xD800 ≤ unit). ⊎_elim
@@ -84,39 +83,27 @@ lone-trailing unit not_leading = ⊎_elim
     (cases_lt unit 0xDC00))
     (cases_lt unit 0xD800)
 
--- the line of either kind was appended
-pub lone_line : (unit offset : ℕ) (old new : List ℕ) → (IsLeading unit → new ≡ old ++ fault_line offset (lone_lead unit))
-    → (¬ (IsLeading unit) → new ≡ old ++ fault_line offset (lone_trail unit)) → new ≡ old ++ fault_line offset (lone_item unit)
-lone_line unit offset old new lead trail = by_class (class_of unit) where
-  as_trailing : ¬ (IsLeading unit) → new ≡ old ++ fault_line offset (lone_item unit)
-  as_trailing not_leading = trail not_leading ∙ ap (λ i. old ++ fault_line offset i) (sym (lone-trailing unit not_leading))
-
-  by_class : Class unit → new ≡ old ++ fault_line offset (lone_item unit)
-  by_class (leading l) = lead l ∙ ap (λ i. old ++ fault_line offset i) (sym (lone-leading unit l))
-  by_class (trailing t) = as_trailing (λ l. omega arith)
-  by_class (neither l t) = as_trailing l
-
 -- what holds of both kinds holds of the item
-lone-either : (P : Item → Type 0) (unit : ℕ) → P (lone_lead unit) → P (lone_trail unit) → P (lone_item unit)
+lone-either : (P : Item → Type 0) (unit : ℕ) → P (lone_lead unit) → P (lone_trail unit) → P (lone unit)
 lone-either P unit lead trail = ⊎_elim
     (λ (e : is_high_surrogate unit ≡ true). rw e lead)
     (λ (e : is_high_surrogate unit ≡ false). rw e trail)
     (cases_Bool (is_high_surrogate unit))
 
-pub lone-bytes : (big : Bool) (unit : ℕ) → length (item_bytes big (lone_item unit)) ≡ 2
+pub lone-bytes : (big : Bool) (unit : ℕ) → length (item_bytes big (lone unit)) ≡ 2
 lone-bytes true unit = lone-either (λ i. length (item_bytes true i) ≡ 2) unit refl refl
 lone-bytes false unit = lone-either (λ i. length (item_bytes false i) ≡ 2) unit refl refl
 
-pub lone-chars : (unit : ℕ) → count_by is_char (lone_item unit ∷ []) ≡ 0
+pub lone-chars : (unit : ℕ) → count_by is_char (lone unit ∷ []) ≡ 0
 lone-chars unit = lone-either (λ i. count_by is_char (i ∷ []) ≡ 0) unit refl refl
 
-pub lone-faults : (unit : ℕ) → count_by is_ill_formed (lone_item unit ∷ []) ≡ 1
-lone-faults unit = lone-either (λ i. count_by is_ill_formed (i ∷ []) ≡ 1) unit refl refl
+pub lone-ill_formed : (unit : ℕ) → count_by is_ill_formed (lone unit ∷ []) ≡ 1
+lone-ill_formed unit = lone-either (λ i. count_by is_ill_formed (i ∷ []) ≡ 1) unit refl refl
 
 -- ---- what is reported
 
 -- an unpaired surrogate has a line
-pub some_line : (big : Bool) (offset : ℕ) (items : List Item) → 0 < count_by is_ill_formed items → 0 < length (fault_lines big offset items)
+pub some_line : (big : Bool) (offset : ℕ) (items : List Item) → 0 < count_by is_ill_formed items → 0 < length (ill_formed_lines big offset items)
 some_line big offset [] some = absurd (omega arith)
 some_line big offset (good c ∷ items) some = some_line big (offset + length (item_bytes big (good c))) items (omega (arith, count-cons is_ill_formed (good c) items))
 some_line big offset (lone_trail unit ∷ items) some = omega arith

@@ -1,6 +1,6 @@
 pub mod ItemLemmas
 pub mod ScanLemmas
 pub mod FollowLemmas
-pub mod FaultLemmas
+pub mod WellFormedLemmas
 pub mod CheckLemmas
 pub mod BlockLemmas

@@ -1,21 +1,22 @@
 -- What a scan has found so far, and what the next step adds.
-use Rattle.std.proofs.Common.{◌≡◌, ℕ, ◌+◌, ◌<◌, ◌≤◌, Bool, List, [], ◌∷◌, ◌++◌, None, Some, length, map, take, drop, refl, sym, ap, ap₂, ◌∙◌, subst, ⊎_elim, arith, take_all, append-nil, append_assoc, length-drop}
+use Rattle.std.proofs.Common.{◌≡◌, ℕ, ◌+◌, ◌<◌, ◌≤◌, Bool, List, [], ◌∷◌, ◌++◌, Option, None, Some, length, map, take, drop, refl, sym, ap, ◌∙◌, subst, ⊎_elim, arith, take_all, take-append-drop, append-nil, append_assoc, length-drop}
 use Rattle.std.proofs.lemmas.Bool.{cases_lt}
-use Rattle.std.proofs.lemmas.List.{drop-drop, drop_all, length-take-le}
-use Rattle.std.specs.Prelude.{Err, Ok, OnErr, Result, count_by}
+use Rattle.std.proofs.lemmas.List.{append_cancel_left, drop-drop, drop_all, length-take-le}
+use Rattle.std.specs.Prelude.{Err, MatchOption, Ok, OnErr, Result, count_by}
 use Rattle.utf16_units.specs.Encoding.{IsUtf16, text_of}
 use Rattle.utf16_units.specs.IllFormed.{IsIllFormed, IsIncomplete, IsUtf16ValidUpTo}
 use Rattle.utf16_units.specs.Split.{Item, good, item_bytes, items_bytes, split_items, split_tail}
 use Rattle.utf16_units.proofs.EncodingLemmas.{Encodes-text_of}
 use Rattle.utf16_units.proofs.FirstChar.{AreBytes, first_unit}
 use Rattle.utf16_units.proofs.IllFormedLemmas.{IsUtf16ValidUpTo-unique}
-use Rattle.utf16_units.proofs.RecipeLemmas.{split_text}
-use Rattle.utf16_units.proofs.SplitIllFormed.{lone_item, split_items-fault, split_items-incomplete, split_tail-fault, split_tail-incomplete}
+use Rattle.utf16_units.proofs.SplitIllFormed.{split_items-fault, split_tail-fault, split_tail-incomplete}
+use Rattle.utf16_units.proofs.SplitJoin.{split_items-text, split_tail-text}
 use Rattle.utf16_decode.proofs.DecodesLemmas.{split_tail-again, undecided_items}
-use Rattle.utf16_check.specs.Report.{fault_line, fault_lines, is_char, is_ill_formed}
-use Rattle.utf16_check.specs.Scans.{Scans}
+use Rattle.utf16_check.specs.Report.{ill_formed_line, ill_formed_lines, is_char, is_ill_formed}
+use Rattle.utf16_check.specs.Scans.{BeginsLone, IsFront, Scans, lone}
 use Rattle.utf16_check.specs.declared.scan.Found.{Found}
-use Rattle.utf16_check.proofs.ItemLemmas.{chars-good, count-append, fault_lines-append, fault_lines-good, faults-good, few_chars, length-good, length-items_bytes, lone-bytes, lone-chars, lone-faults}
+use Rattle.utf16_check.specs.declared.scan.Front.{Front}
+use Rattle.utf16_check.proofs.ItemLemmas.{chars-good, count-append, ill_formed_lines-append, ill_formed_lines-good, ill_formed-good, few_chars, length-good, length-items_bytes, lone-bytes, lone-chars, lone-ill_formed}
 
 -- the first `taken` bytes are the items so far, whose lines were appended
 pub record Scanned (big : Bool) (offset : ℕ) (bytes old new : List ℕ) (taken chars unpaired : ℕ) : Type 0 where
@@ -27,7 +28,7 @@ pub record Scanned (big : Bool) (offset : ℕ) (bytes old new : List ℕ) (taken
   pub good : chars ≡ count_by is_char items
   pub bad : unpaired ≡ count_by is_ill_formed items
   pub few : chars + unpaired ≤ taken
-  pub text : new ≡ old ++ fault_lines big offset items
+  pub text : new ≡ old ++ ill_formed_lines big offset items
 
 pub Scanned-start : (big : Bool) (offset : ℕ) (bytes old : List ℕ) → Scanned big offset bytes old old 0 0 0
 Scanned-start big offset bytes old = record {
@@ -75,13 +76,13 @@ record Next (big : Bool) (rest : List ℕ) (more : List Item) (n chars unpaired 
   few : chars + unpaired ≤ n
 
 -- what is left is a tail
-Scans-of : (big : Bool) (offset : ℕ) (bytes old new : List ℕ) (found : Found) → Scanned big offset bytes old new found.taken found.chars found.unpaired
+pub Scans-of : (big : Bool) (offset : ℕ) (bytes old new : List ℕ) (found : Found) → Scanned big offset bytes old new found.taken found.chars found.unpaired
     → split_tail big (drop found.taken bytes) ≡ drop found.taken bytes → Scans big offset bytes old new found
 Scans-of big offset bytes old new found all tail =
     let items : split_items big bytes ≡ all.items =
     all.first ∙ ap (λ i. all.items ++ i) (undecided_items big (drop found.taken bytes) tail) ∙ append-nil all.items in
     record {
-      lines = all.text ∙ ap (λ i. old ++ fault_lines big offset i) (sym items);
+      lines = all.text ∙ ap (λ i. old ++ ill_formed_lines big offset i) (sym items);
       taken = all.long ∙ ap (λ i. length (items_bytes big i)) (sym items);
       left = sym tail ∙ sym all.tail;
       within = all.within;
@@ -98,11 +99,57 @@ no_tail : (big : Bool) → split_tail big [] ≡ []
 unfolding split_tail
 no_tail big = refl
 
+-- the bytes are well formed
+pub IsFront-valid : (big : Bool) (bytes : List ℕ) → IsUtf16 big bytes → (front : Front) → front.len ≡ length bytes → front.chars ≡ length (text_of big bytes) → front.unpaired ≡ None
+    → IsFront big bytes front
+IsFront-valid big bytes valid front len chars none =
+    let all : take front.len bytes ≡ bytes = take_all front.len bytes (omega (arith, len)) in
+    let nothing : drop front.len bytes ≡ [] = drop_all front.len bytes (omega (arith, len)) in
+    record {
+      within = omega (arith, len);
+      valid = subst (IsUtf16 big) (sym all) valid;
+      chars = chars ∙ ap (λ b. length (text_of big b)) (sym all);
+      after = subst (λ u. MatchOption u (split_tail big (drop front.len bytes) ≡ drop front.len bytes) (BeginsLone big (drop front.len bytes))) (sym none)
+          (ap (split_tail big) nothing ∙ no_tail big ∙ sym nothing);
+    }
+
+module _ (big : Bool) (bytes : List ℕ) (n : ℕ) (front : IsUtf16ValidUpTo big bytes n) where
+  pub IsFront-before : (found : Front) → found.len ≡ n → found.chars ≡ length (text_of big (take n bytes))
+      → MatchOption found.unpaired (split_tail big (drop n bytes) ≡ drop n bytes) (BeginsLone big (drop n bytes)) → IsFront big bytes found
+  IsFront-before found len chars after = record {
+    within = omega (arith, len, front.within);
+    valid = subst (λ k. IsUtf16 big (take k bytes)) (sym len) front.valid;
+    chars = chars ∙ ap (λ k. length (text_of big (take k bytes))) (sym len);
+    after = subst (λ k. MatchOption found.unpaired (split_tail big (drop k bytes) ≡ drop k bytes) (BeginsLone big (drop k bytes))) (sym len) after;
+  }
+
+  -- a truncated character is a tail
+  pub is_tail : IsIllFormed big bytes None → split_tail big (drop n bytes) ≡ drop n bytes
+  is_tail fault =
+      let is = split_tail-incomplete big bytes n fault front in
+      ap (split_tail big) (sym is) ∙ split_tail-again big bytes ∙ is
+
+  pub begins_lone : AreBytes bytes → IsIllFormed big bytes (Some 2) → BeginsLone big (drop n bytes) (first_unit big (drop n bytes))
+  begins_lone are fault =
+      let text = text_of big (take n bytes) in
+      let begins = sym (take-append-drop n bytes) in
+      let encodes = Encodes-text_of big (take n bytes) front.valid in
+      let later = drop-drop 2 n bytes in
+      record {
+        items = append_cancel_left (map good text) (split_items big (drop n bytes)) (lone (first_unit big (drop n bytes)) ∷ split_items big (drop 2 (drop n bytes)))
+            (sym (ap (split_items big) begins ∙ split_items-text big text (take n bytes) (drop n bytes) encodes)
+            ∙ split_items-fault big bytes n are fault front
+            ∙ ap (λ b. map good text ++ lone (first_unit big (drop n bytes)) ∷ split_items big b) (sym later));
+        tail = sym (ap (split_tail big) begins ∙ split_tail-text big text (take n bytes) (drop n bytes) encodes)
+            ∙ split_tail-fault big bytes n are fault front ∙ ap (split_tail big) (sym later);
+        long = omega (arith, two_bytes big bytes n front fault, length-drop n bytes);
+      }
+
 module _ (big : Bool) (offset : ℕ) (bytes old mid : List ℕ) (taken chars unpaired : ℕ) (so_far : Scanned big offset bytes old mid taken chars unpaired) where
   abbrev rest : List ℕ
   rest = drop taken bytes
 
-  Scanned-next : (more : List Item) (n c u : ℕ) (new : List ℕ) → Next big rest more n c u → new ≡ mid ++ fault_lines big (offset + taken) more
+  Scanned-next : (more : List Item) (n c u : ℕ) (new : List ℕ) → Next big rest more n c u → new ≡ mid ++ ill_formed_lines big (offset + taken) more
       → (t all_chars all_unpaired : ℕ) → t ≡ taken + n → all_chars ≡ chars + c → all_unpaired ≡ unpaired + u
       → Scanned big offset bytes old new t all_chars all_unpaired
   Scanned-next more n c u new next text t all_chars all_unpaired at is_chars is_unpaired =
@@ -120,119 +167,78 @@ module _ (big : Bool) (offset : ℕ) (bytes old mid : List ℕ) (taken chars unp
         bad = omega (arith, is_unpaired, so_far.bad, next.bad, count-append is_ill_formed so_far.items more);
         few = omega (arith, at, is_chars, is_unpaired, so_far.few, next.few);
         text =
-            text ∙ ap (λ t. t ++ fault_lines big (offset + taken) more) so_far.text
-            ∙ append_assoc old (fault_lines big offset so_far.items) (fault_lines big (offset + taken) more)
-            ∙ ap (λ n. old ++ (fault_lines big offset so_far.items ++ fault_lines big (offset + n) more)) so_far.long
-            ∙ ap (λ l. old ++ l) (sym (fault_lines-append big offset so_far.items more));
-      }
-
-  -- the rest is well formed
-  valid : IsUtf16 big rest → Next big rest (map good (text_of big rest)) (length rest) (length (text_of big rest)) 0
-  valid text =
-      let split = split_text big (text_of big rest) rest (Encodes-text_of big rest text) in
-      let none : drop (length rest) rest ≡ [] = drop_all (length rest) rest (omega arith) in
-      record {
-        items = split.0 ∙ sym (append-nil (map good (text_of big rest))) ∙ ap (λ i. map good (text_of big rest) ++ i) (sym (ap (split_items big) none ∙ no_items big));
-        tail = split.1 ∙ sym (ap (split_tail big) none ∙ no_tail big);
-        long = length-good big rest text;
-        within = omega arith;
-        good = chars-good (text_of big rest);
-        bad = faults-good (text_of big rest);
-        few = omega (arith, few_chars big rest text);
+            text ∙ ap (λ t. t ++ ill_formed_lines big (offset + taken) more) so_far.text
+            ∙ append_assoc old (ill_formed_lines big offset so_far.items) (ill_formed_lines big (offset + taken) more)
+            ∙ ap (λ n. old ++ (ill_formed_lines big offset so_far.items ++ ill_formed_lines big (offset + n) more)) so_far.long
+            ∙ ap (λ l. old ++ l) (sym (ill_formed_lines-append big offset so_far.items more));
       }
 
   -- characters have no line
-  no_lines : (text : List ℕ) → mid ≡ mid ++ fault_lines big (offset + taken) (map good text)
-  no_lines text = sym (append-nil mid) ∙ ap (λ l. mid ++ l) (sym (fault_lines-good big (offset + taken) text))
+  no_lines : (text : List ℕ) → mid ≡ mid ++ ill_formed_lines big (offset + taken) (map good text)
+  no_lines text = sym (append-nil mid) ∙ ap (λ l. mid ++ l) (sym (ill_formed_lines-good big (offset + taken) text))
 
-  module _ (n : ℕ) (front : IsUtf16ValidUpTo big rest n) where
+  module _ (front : Front) (is : IsFront big rest front) where
     abbrev text : List ℕ
-    text = text_of big (take n rest)
+    text = text_of big (take front.len rest)
 
-    abbrev unit : ℕ
-    unit = first_unit big (drop n rest)
+    after_front : drop front.len rest ≡ drop (taken + front.len) bytes
+    after_front = drop-drop front.len taken bytes
 
-    long_front : length (items_bytes big (map good text)) ≡ n
-    long_front = length-good big (take n rest) front.valid ∙ length-take-le n rest front.within
+    then : (unpaired : Option ℕ) → front.unpaired ≡ unpaired
+        → MatchOption unpaired (split_tail big (drop (taken + front.len) bytes) ≡ drop (taken + front.len) bytes) (BeginsLone big (drop (taken + front.len) bytes))
+    then unpaired is_unpaired =
+        subst (λ b. MatchOption unpaired (split_tail big b ≡ b) (BeginsLone big b)) after_front
+        (subst (λ u. MatchOption u (split_tail big (drop front.len rest) ≡ drop front.len rest) (BeginsLone big (drop front.len rest))) is_unpaired is.after)
 
-    few_front : length text ≤ n
-    few_front = omega (arith, few_chars big (take n rest) front.valid, length-take-le n rest front.within)
+    -- nothing comes after it, or an incomplete character
+    pub then_tail : front.unpaired ≡ None → split_tail big (drop (taken + front.len) bytes) ≡ drop (taken + front.len) bytes
+    then_tail = then None
 
-    -- characters, and then an unpaired surrogate
-    lone : AreBytes rest → IsIllFormed big rest (Some 2)
-        → Next big rest (map good text ++ lone_item unit ∷ []) (n + 2) (length text) 1
-    lone are fault = record {
-      items =
-          split_items-fault big rest n are fault front
-          ∙ sym (append_assoc (map good text) (lone_item unit ∷ []) (split_items big (drop (n + 2) rest)));
-      tail = split_tail-fault big rest n are fault front;
-      long = omega (arith, length-items_bytes big (map good text) (lone_item unit ∷ []), long_front, lone_long);
-      within = two_bytes big rest n front fault;
-      good = omega (arith, count-append is_char (map good text) (lone_item unit ∷ []), chars-good text, lone-chars unit);
-      bad = omega (arith, count-append is_ill_formed (map good text) (lone_item unit ∷ []), faults-good text, lone-faults unit);
-      few = omega (arith, few_front);
-    } where
-      lone_long : length (items_bytes big (lone_item unit ∷ [])) ≡ 2
-      lone_long = ap length (append-nil (item_bytes big (lone_item unit))) ∙ lone-bytes big unit
+    -- an unpaired surrogate comes after it
+    pub then_lone : (unit : ℕ) → front.unpaired ≡ Some unit → BeginsLone big (drop (taken + front.len) bytes) unit
+    then_lone unit = then (Some unit)
 
-    lone_lines : fault_lines big (offset + taken) (map good text ++ lone_item unit ∷ []) ≡ fault_line (offset + (taken + n)) (lone_item unit)
-    lone_lines =
-        fault_lines-append big (offset + taken) (map good text) (lone_item unit ∷ [])
-        ∙ ap₂ (λ l at. l ++ fault_lines big at (lone_item unit ∷ [])) (fault_lines-good big (offset + taken) text) at
-        ∙ append-nil (fault_line (offset + (taken + n)) (lone_item unit)) where
-          at : (offset + taken) + length (items_bytes big (map good text)) ≡ offset + (taken + n)
-          at = omega (arith, long_front)
+    characters : Next big rest (map good text) front.len (length text) 0
+    characters =
+        let begins = sym (take-append-drop front.len rest) in
+        let encodes = Encodes-text_of big (take front.len rest) is.valid in
+        let long = length-take-le front.len rest is.within in
+        record {
+          items = ap (split_items big) begins ∙ split_items-text big text (take front.len rest) (drop front.len rest) encodes;
+          tail = ap (split_tail big) begins ∙ split_tail-text big text (take front.len rest) (drop front.len rest) encodes;
+          long = length-good big (take front.len rest) is.valid ∙ long;
+          within = is.within;
+          good = chars-good text;
+          bad = ill_formed-good text;
+          few = omega (arith, few_chars big (take front.len rest) is.valid, long);
+        }
+
+    -- more characters
+    pub Scanned-front : Scanned big offset bytes old mid (taken + front.len) (chars + front.chars) unpaired
+    Scanned-front = Scanned-next (map good text) front.len (length text) 0 mid characters (no_lines text) (taken + front.len) (chars + front.chars) unpaired
+        refl (ap (λ n. chars + n) is.chars) (omega arith)
+
+  module _ (unit : ℕ) (begins : BeginsLone big rest unit) where
+    surrogate : Next big rest (lone unit ∷ []) 2 0 1
+    surrogate = record {
+      items = begins.items;
+      tail = begins.tail;
+      long = ap length (append-nil (item_bytes big (lone unit))) ∙ lone-bytes big unit;
+      within = begins.long;
+      good = lone-chars unit;
+      bad = lone-ill_formed unit;
+      few = omega arith;
+    }
 
     -- one more unpaired surrogate, whose line was appended
-    pub Scanned-lone : AreBytes rest → IsIllFormed big rest (Some 2) → (new : List ℕ) → new ≡ mid ++ fault_line (offset + (taken + n)) (lone_item unit)
-        → (t all_chars all_unpaired : ℕ) → t ≡ taken + (n + 2) → all_chars ≡ chars + length text → all_unpaired ≡ unpaired + 1
-        → Scanned big offset bytes old new t all_chars all_unpaired
-    Scanned-lone are fault new wrote = Scanned-next (map good text ++ lone_item unit ∷ []) (n + 2) (length text) 1 new (lone are fault) (wrote ∙ ap (λ l. mid ++ l) (sym lone_lines))
+    pub Scanned-lone : (new : List ℕ) → new ≡ mid ++ ill_formed_line (offset + taken) (lone unit) → Scanned big offset bytes old new (taken + 2) chars (unpaired + 1)
+    Scanned-lone new wrote = Scanned-next (lone unit ∷ []) 2 0 1 new surrogate
+        (wrote ∙ ap (λ l. mid ++ l) (sym (append-nil (ill_formed_line (offset + taken) (lone unit))))) (taken + 2) chars (unpaired + 1)
+        refl (omega arith) refl
 
     -- there is an ill-formed sequence
-    pub has_fault : AreBytes rest → IsIllFormed big rest (Some 2) → 0 < count_by is_ill_formed (split_items big bytes)
-    has_fault are fault =
-        let behind = lone are fault in
-        let all = ap (count_by is_ill_formed) (so_far.first ∙ ap (λ i. so_far.items ++ i) behind.items) in
-        omega (
-          arith,
-          all,
-          count-append is_ill_formed so_far.items ((map good text ++ lone_item unit ∷ []) ++ split_items big (drop (n + 2) rest)),
-          count-append is_ill_formed (map good text ++ lone_item unit ∷ []) (split_items big (drop (n + 2) rest)),
-          behind.bad,
-        )
-
-    -- characters, and a truncated one
-    incomplete : IsIllFormed big rest None → Next big rest (map good text) n (length text) 0
-    incomplete fault = record {
-      items =
-          split_items-incomplete big rest n fault front ∙ sym (append-nil (map good text))
-          ∙ ap (λ i. map good text ++ i) (sym (undecided_items big (drop n rest) (own_tail fault)));
-      tail = split_tail-incomplete big rest n fault front ∙ sym (own_tail fault);
-      long = long_front;
-      within = front.within;
-      good = chars-good text;
-      bad = faults-good text;
-      few = omega (arith, few_front);
-    } where
-      own_tail : IsIllFormed big rest None → split_tail big (drop n rest) ≡ drop n rest
-      own_tail fault =
-          let is = split_tail-incomplete big rest n fault front in
-          ap (split_tail big) (sym is) ∙ split_tail-again big rest ∙ is
-
-    pub Scans-incomplete : IsIllFormed big rest None → (found : Found) → found.taken ≡ taken + n → found.chars ≡ chars + length text → found.unpaired ≡ unpaired
-        → Scans big offset bytes old mid found
-    Scans-incomplete fault found at c u =
-        let all = Scanned-next (map good text) n (length text) 0 mid (incomplete fault) (no_lines text) found.taken found.chars found.unpaired at c (omega (arith, u)) in
-        let is = split_tail-incomplete big rest n fault front in
-        let same : drop n rest ≡ drop found.taken bytes = drop-drop n taken bytes ∙ ap (λ k. drop k bytes) (sym at) in
-        Scans-of big offset bytes old mid found all (ap (split_tail big) (sym same ∙ sym is) ∙ split_tail-again big rest ∙ is ∙ same)
-
-  pub Scans-valid : IsUtf16 big rest → (found : Found) → found.taken ≡ length bytes → found.chars ≡ chars + length (text_of big rest) → found.unpaired ≡ unpaired
-      → Scans big offset bytes old mid found
-  Scans-valid is found at c u =
-      let text = text_of big rest in
-      let end : found.taken ≡ taken + length rest = omega (arith, at, so_far.within, length-drop taken bytes) in
-      let all = Scanned-next (map good text) (length rest) (length text) 0 mid (valid is) (no_lines text) found.taken found.chars found.unpaired end c (omega (arith, u)) in
-      let none : drop found.taken bytes ≡ [] = drop_all found.taken bytes (omega (arith, at)) in
-      Scans-of big offset bytes old mid found all (ap (split_tail big) none ∙ no_tail big ∙ sym none)
+    pub has_fault : 0 < count_by is_ill_formed (split_items big bytes)
+    has_fault =
+        let all = ap (count_by is_ill_formed) (so_far.first ∙ ap (λ i. so_far.items ++ i) begins.items) in
+        let after = split_items big (drop 2 rest) in
+        omega (arith, all, count-append is_ill_formed so_far.items ((lone unit ∷ []) ++ after), count-append is_ill_formed (lone unit ∷ []) after, lone-ill_formed unit)

@@ -9,8 +9,8 @@ use Rattle.utf16_units.proofs.EncodingLemmas.{Encodes-text_of, IsUtf16-encode}
 use Rattle.utf16_units.proofs.FirstChar.{AreBytes}
 use Rattle.utf16_units.proofs.RecipeLemmas.{split_text}
 use Rattle.utf16_units.proofs.SplitLemmas.{Split-computed}
-use Rattle.utf16_check.specs.Report.{is_ill_formed, tail_faults}
-use Rattle.utf16_check.proofs.ItemLemmas.{count-cons, faults-good, items_bytes-good}
+use Rattle.utf16_check.specs.Report.{is_ill_formed, tail_ill_formed}
+use Rattle.utf16_check.proofs.ItemLemmas.{count-cons, ill_formed-good, items_bytes-good}
 
 -- items without an unpaired surrogate are characters
 all_good : (items : List Item) → count_by is_ill_formed items ≡ 0 → items ≡ map good (lossy_chars items)
@@ -23,13 +23,13 @@ all_scalar : (text : List ℕ) → All IsItem (map good text) → All IsScalar t
 all_scalar [] all = All-nil IsScalar
 all_scalar (c ∷ text) all = All-cons IsScalar c text (All-head IsItem (good c) (map good text) all) (all_scalar text (All-tail IsItem (good c) (map good text) all))
 
-no_tail : (tail : List ℕ) → tail_faults tail ≡ 0 → tail ≡ []
+no_tail : (tail : List ℕ) → tail_ill_formed tail ≡ 0 → tail ≡ []
 no_tail [] none = refl
 no_tail (first ∷ after) none = absurd (omega arith)
 
 module _ (big : Bool) (bytes : List ℕ) where
-  pub from_no_fault : AreBytes bytes → count_by is_ill_formed (split_items big bytes) + tail_faults (split_tail big bytes) ≡ 0 → IsUtf16 big bytes
-  from_no_fault are none =
+  pub none_ill_formed : AreBytes bytes → count_by is_ill_formed (split_items big bytes) + tail_ill_formed (split_tail big bytes) ≡ 0 → IsUtf16 big bytes
+  none_ill_formed are none =
       let s = Split-computed big bytes are in
       let items = split_items big bytes in
       let text = lossy_chars items in
@@ -40,7 +40,7 @@ module _ (big : Bool) (bytes : List ℕ) where
       ∙ ap (λ t. items_bytes big items ++ t) (sym tail) ∙ s.spelled in
       subst (IsUtf16 big) spelled (IsUtf16-encode big text scalars)
 
-  pub no_fault : IsUtf16 big bytes → count_by is_ill_formed (split_items big bytes) + tail_faults (split_tail big bytes) ≡ 0
-  no_fault text =
+  pub well_formed : IsUtf16 big bytes → count_by is_ill_formed (split_items big bytes) + tail_ill_formed (split_tail big bytes) ≡ 0
+  well_formed text =
       let split = split_text big (text_of big bytes) bytes (Encodes-text_of big bytes text) in
-      omega (arith, ap (count_by is_ill_formed) split.0, faults-good (text_of big bytes), ap tail_faults split.1)
+      omega (arith, ap (count_by is_ill_formed) split.0, ill_formed-good (text_of big bytes), ap tail_ill_formed split.1)

@@ -1,6 +1,6 @@
 -- What a check did to the bytes that remain in its reader and to those that its writer holds, if
 -- these are known.
-use Rattle.std.specs.Prelude.{◌≡◌, ◌≢◌, ◌⊎◌, ℕ, ◌-◌, ◌^◌, Bool, List, Option, take}
+use Rattle.std.specs.Prelude.{◌≡◌, ◌≢◌, ◌⊎◌, ℕ, ◌-◌, ◌<◌, ◌^◌, Bool, List, Option, length, take}
 use Rattle.std.specs.Io.KnownBytes.{Appends, Consumes, IsAtEnd, Keeps}
 use Rattle.utf16_units.specs.Encoding.{IsUtf16}
 use Rattle.utf16_streams.specs.Filter.{AppendsPrefix, FiltersPrefix, FiltersSome, IsNearEnd}
@@ -38,13 +38,24 @@ module _ (order : Option Bool) (input left old new : Option (List ℕ)) where
   ChecksBy Long = FiltersSome (lines order) (report order) input left old new (2 ^ 64 - 1)
   ChecksBy Usage = ⊥
 
--- what the end of an input wrote, by its outcome: all lines that are left, of which `faults` are
+-- what the end of an input wrote, by its outcome: all lines that are left, of which `ill_formed` are
 -- the ill-formed sequences of the input; a prefix; or nothing
 abbrev pub EndsBy : Option (List ℕ) → Option (List ℕ) → List ℕ → ℕ → Outcome → Type 0
-EndsBy old new rest faults Done = Appends old new rest × (faults ≡ 0)
-EndsBy old new rest faults IllFormed = Appends old new rest × (faults ≢ 0)
-EndsBy old new rest faults Read = ⊥
-EndsBy old new rest faults Write = AppendsPrefix old new rest
-EndsBy old new rest faults Memory = Keeps old new
-EndsBy old new rest faults Long = ⊥
-EndsBy old new rest faults Usage = ⊥
+EndsBy old new rest ill_formed Done = Appends old new rest × (ill_formed ≡ 0)
+EndsBy old new rest ill_formed IllFormed = Appends old new rest × (ill_formed ≢ 0)
+EndsBy old new rest ill_formed Read = ⊥
+EndsBy old new rest ill_formed Write = AppendsPrefix old new rest
+EndsBy old new rest ill_formed Memory = Keeps old new
+EndsBy old new rest ill_formed Long = ⊥
+EndsBy old new rest ill_formed Usage = ⊥
+
+-- what a block of the input wrote if the run ends there, by the outcome: a prefix of its lines; or
+-- nothing, though it has a line
+abbrev pub FailsBy : Option (List ℕ) → Option (List ℕ) → List ℕ → Outcome → Type 0
+FailsBy old new lines Done = ⊥
+FailsBy old new lines IllFormed = ⊥
+FailsBy old new lines Read = ⊥
+FailsBy old new lines Write = AppendsPrefix old new lines
+FailsBy old new lines Memory = Keeps old new × (0 < length lines)
+FailsBy old new lines Long = ⊥
+FailsBy old new lines Usage = ⊥

@@ -12,10 +12,10 @@ abbrev pub offset_text : ℕ → List ℕ
 offset_text offset = codes "0x" ++ digits 16 true offset ++ codes " (" ++ decimal offset ++ codes ")"
 
 -- the line of the item at an offset; a character has none
-abbrev pub fault_line : ℕ → Item → List ℕ
-fault_line offset (good c) = []
-fault_line offset (lone_trail unit) = offset_text offset ++ codes ": unpaired trailing surrogate " ++ digits 16 true unit ++ codes "\n"
-fault_line offset (lone_lead unit) = offset_text offset ++ codes ": unpaired leading surrogate " ++ digits 16 true unit ++ codes "\n"
+abbrev pub ill_formed_line : ℕ → Item → List ℕ
+ill_formed_line offset (good c) = []
+ill_formed_line offset (lone_trail unit) = offset_text offset ++ codes ": unpaired trailing surrogate " ++ digits 16 true unit ++ codes "\n"
+ill_formed_line offset (lone_lead unit) = offset_text offset ++ codes ": unpaired leading surrogate " ++ digits 16 true unit ++ codes "\n"
 
 -- each item, and the offset of its first byte if the first item is at `offset`
 abbrev pub placed : Bool → ℕ → List Item → List (ℕ × Item)
@@ -23,8 +23,8 @@ placed big offset [] = []
 placed big offset (item ∷ items) = (offset, item) ∷ placed big (offset + length (item_bytes big item)) items
 
 -- the lines of items, the first of which is at `offset`
-abbrev pub fault_lines : Bool → ℕ → List Item → List ℕ
-fault_lines big offset items = flat_map (λ (at, item). fault_line at item) (placed big offset items)
+abbrev pub ill_formed_lines : Bool → ℕ → List Item → List ℕ
+ill_formed_lines big offset items = flat_map (λ (at, item). ill_formed_line at item) (placed big offset items)
 
 -- the line of a truncated character, which is left at an offset at the end
 abbrev pub tail_line : ℕ → List ℕ → List ℕ
@@ -33,7 +33,7 @@ tail_line offset (first ∷ after) = offset_text offset ++ codes ": incomplete c
 
 -- the last line
 abbrev pub count_line : ℕ → ℕ → ℕ → List ℕ
-count_line bytes chars faults = codes "bytes: " ++ decimal bytes ++ codes ", characters: " ++ decimal chars ++ codes ", ill-formed: " ++ decimal faults ++ codes "\n"
+count_line bytes chars ill_formed = codes "bytes: " ++ decimal bytes ++ codes ", characters: " ++ decimal chars ++ codes ", ill-formed: " ++ decimal ill_formed ++ codes "\n"
 
 -- an item that is a character
 abbrev pub is_char : Item → Bool
@@ -46,14 +46,14 @@ abbrev pub is_ill_formed : Item → Bool
 is_ill_formed item = not (is_char item)
 
 -- a tail is one ill-formed sequence more
-abbrev pub tail_faults : List ℕ → ℕ
-tail_faults [] = 0
-tail_faults (first ∷ after) = 1
+abbrev pub tail_ill_formed : List ℕ → ℕ
+tail_ill_formed [] = 0
+tail_ill_formed (first ∷ after) = 1
 
 -- the lines after the items: the line of an input's tail, if there is one, and the last line; `end`
 -- is the length of the input
 abbrev pub closing : ℕ → ℕ → ℕ → List ℕ → List ℕ
-closing end chars unpaired tail = tail_line (end - length tail) tail ++ count_line end chars (unpaired + tail_faults tail)
+closing end chars unpaired tail = tail_line (end - length tail) tail ++ count_line end chars (unpaired + tail_ill_formed tail)
 
 module _ (order : Option Bool) where
   -- the items of the text, and what is left at its end
@@ -68,11 +68,11 @@ module _ (order : Option Bool) where
 
   -- the lines of the items
   abbrev pub lines_from : ℕ → List ℕ → List ℕ
-  lines_from offset bytes = fault_lines (big_in order bytes) (offset + bom_len order bytes) (items_in bytes)
+  lines_from offset bytes = ill_formed_lines (big_in order bytes) (offset + bom_len order bytes) (items_in bytes)
 
   -- the number of ill-formed sequences, if the input ends with these bytes
-  abbrev pub faults_from : ℕ → List ℕ → ℕ
-  faults_from unpaired bytes = (unpaired + count_by is_ill_formed (items_in bytes)) + tail_faults (tail_in bytes)
+  abbrev pub ill_formed_from : ℕ → List ℕ → ℕ
+  ill_formed_from unpaired bytes = (unpaired + count_by is_ill_formed (items_in bytes)) + tail_ill_formed (tail_in bytes)
 
   -- the lines, if the input ends with these bytes
   abbrev pub report_from : ℕ → ℕ → ℕ → List ℕ → List ℕ

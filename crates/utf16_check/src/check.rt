@@ -1,11 +1,11 @@
 //! The check of what a reader has, reported to a writer.
 
-ghost use Rattle.std.specs.Prelude.{◌≡◌, ◌+◌, ◌-◌, ◌<◌, ◌≤◌, ◌^◌, All, IfOk, drop, length, take};
-ghost use Rattle.std.specs.Io.KnownBytes.{ReadConsumes};
+ghost use Rattle.std.specs.Prelude.{◌≡◌, ◌+◌, ◌-◌, ◌<◌, ◌≤◌, ◌^◌, All, IfErr, IfOk, OnOk, drop, length, take};
+ghost use Rattle.std.specs.Io.KnownBytes.{Appends, ReadConsumes};
 ghost use Rattle.utf16_streams.specs.Watched.{CountsFaults, watched_faults, watched_inner};
 ghost use Rattle.utf16_program.specs.Status.{reads_failed, writes_failed};
-ghost use Rattle.utf16_check.specs.Checker.{IsPending, checker_faults, checker_offset, checker_report};
-ghost use Rattle.utf16_check.specs.Checks.{ChecksBy, EndsBy};
+ghost use Rattle.utf16_check.specs.Checker.{IsPending, Takes, checker_ill_formed, checker_lines, checker_offset, checker_report};
+ghost use Rattle.utf16_check.specs.Checks.{ChecksBy, EndsBy, FailsBy};
 
 use crate::checker::Checker;
 use std::alloc::Allocator;
@@ -19,7 +19,7 @@ const BLOCK_LEN: usize = 4096;
 
 /// Checks what a reader has, and writes a line for each ill-formed sequence and a last line that
 /// counts. The byte order is `Some(true)` for big endian, `Some(false)` for little endian, and
-/// `None` if the BOM gives it. It reads until a read returns 0, and flushes once at the end.
+/// `None` if the BOM gives it. It reads until a read returns 0.
 ///
 /// Returns `Done` if the input is well formed, and `IllFormed` if not. It stops at the first I/O
 /// error, if allocation fails, or after 2^64 - 1 bytes.
@@ -62,12 +62,9 @@ pub fn check<R: Read, W: Write, A: Allocator>(
             return end(checker, &block[..pending], lines, writer);
         }
         let filled = pending + count;
-        lines.clear();
-        let Ok(taken) = checker.feed(&block[..filled], &mut lines) else {
-            return Outcome::Memory;
-        };
-        let Ok(()) = write_all(lines.as_bytes(), writer) else {
-            return Outcome::Write;
+        let taken = match check_block(&mut checker, &block[..filled], &mut lines, writer) {
+            Ok(taken) => taken,
+            Err(outcome) => return outcome,
         };
         block.copy_within(taken..filled, 0);
         pending = filled - taken;
@@ -96,6 +93,35 @@ fn read_behind<R: Read>(
     count
 }
 
+// Checks the bytes of a block, the pending ones included, and writes their lines. Returns the
+// number of bytes that are not pending any more, or the outcome if the run ends here.
+fn check_block<W: Write, A: Allocator>(
+    checker: &mut Checker,
+    block: &[u8],
+    lines: &mut String<A>,
+    writer: &mut Watched<W>,
+) -> Result<usize, Outcome>
+    requires fits { checker_offset checker.old + length block.now < 2 ^ 64 }
+    requires writer { watched_faults writer.old < 2 ^ 64 - 1 }
+    ensures takes { IfOk result (Takes checker.old checker.new block.now) }
+    ensures lines { OnOk result (Appends (W.contents (watched_inner writer.old))
+        (W.contents (watched_inner writer.new)) (checker_lines checker.old block.now)) }
+    ensures fails { IfErr result (FailsBy (W.contents (watched_inner writer.old))
+        (W.contents (watched_inner writer.new)) (checker_lines checker.old block.now)) }
+    ensures succeeds { OnOk result (watched_faults writer.new ≡ watched_faults writer.old) }
+    ensures writes { IfErr result (λ outcome.
+        watched_faults writer.new ≡ watched_faults writer.old + writes_failed outcome) }
+{
+    lines.clear();
+    let Ok(taken) = checker.feed(block, lines) else {
+        return Err(Outcome::Memory);
+    };
+    let Ok(()) = write_all(lines.as_bytes(), writer) else {
+        return Err(Outcome::Write);
+    };
+    Ok(taken)
+}
+
 // Writes the lines that are left at the end of the input, and flushes once.
 fn end<W: Write, A: Allocator>(
     checker: Checker,
@@ -108,7 +134,7 @@ fn end<W: Write, A: Allocator>(
     requires writer { watched_faults writer.old < 2 ^ 64 - 1 }
     ensures ends { EndsBy (W.contents (watched_inner writer.old))
         (W.contents (watched_inner writer.new)) (checker_report checker pending.now)
-        (checker_faults checker pending.now) result }
+        (checker_ill_formed checker pending.now) result }
     ensures writes { watched_faults writer.new ≡ watched_faults writer.old + writes_failed result }
 {
     let mut lines = lines;

@@ -1,7 +1,7 @@
 //! A checker of UTF-16 that comes in chunks.
 
-ghost use Rattle.std.specs.Prelude.{◌≡◌, ◌↔◌, ◌+◌, ◌<◌, ◌≤◌, ◌^◌, ◌++◌, IfOk, OnErr, OnOk, IsTrue, drop, length, string_bytes};
-ghost use Rattle.utf16_check.specs.Report.{count_line, tail_faults, tail_line};
+ghost use Rattle.std.specs.Prelude.{◌≡◌, ◌↔◌, ◌+◌, ◌<◌, ◌≤◌, ◌^◌, ◌++◌, IfOk, OnErr, OnOk, IsTrue, length, string_bytes};
+ghost use Rattle.utf16_check.specs.Report.{count_line, tail_ill_formed, tail_line};
 
 use crate::order::beginning_of;
 use crate::scan::scan;
@@ -23,7 +23,7 @@ pub struct Checker {
 }
 
 impl Checker {
-    ghost use Rattle.utf16_check.specs.Checker.{Follows, IsPending, checker_faults, checker_lines, checker_offset, checker_report, StartsIn};
+    ghost use Rattle.utf16_check.specs.Checker.{IsPending, StartsIn, Takes, checker_ill_formed, checker_lines, checker_offset, checker_report};
 
     /// Returns a checker at the beginning of an input, in the given byte order: `Some(true)` for
     /// big endian, `Some(false)` for little endian, and `None` if the BOM gives it.
@@ -64,13 +64,7 @@ impl Checker {
         requires { checker_offset self.old + length bytes.now < 2 ^ 64 }
         ensures lines { OnOk result (string_bytes lines.new ≡ string_bytes lines.old
             ++ checker_lines self.old bytes.now) }
-        ensures within { IfOk result (λ taken. taken ≤ length bytes.now) }
-        ensures few { IfOk result (λ taken. length bytes.now ≤ taken + 3) }
-        ensures offset { IfOk result (λ taken.
-            checker_offset self.new ≡ checker_offset self.old + taken) }
-        ensures follows { IfOk result (λ taken.
-            Follows self.old self.new bytes.now (drop taken bytes.now)) }
-        ensures pending { IfOk result (λ taken. IsPending self.new (drop taken bytes.now)) }
+        ensures takes { IfOk result (Takes self.old self.new bytes.now) }
         ensures nothing { OnErr result (0 < length (checker_lines self.old bytes.now)) }
     {
         let Some(begins) = beginning_of(self.big_endian, bytes) else {
@@ -106,12 +100,12 @@ impl Checker {
         ensures lines { OnOk result (string_bytes lines.new ≡ string_bytes lines.old
             ++ checker_report self pending.now) }
         ensures well_formed { IfOk result (λ well_formed.
-            IsTrue well_formed ↔ (checker_faults self pending.now ≡ 0)) }
+            IsTrue well_formed ↔ (checker_ill_formed self pending.now ≡ 0)) }
     {
         let bytes = self.offset + pending.len() as u64;
-        let faults = self.unpaired + put_tail(self.offset, pending, lines)?;
-        put_counts(bytes, self.chars, faults, lines)?;
-        Ok(faults == 0)
+        let ill_formed = self.unpaired + put_tail(self.offset, pending, lines)?;
+        put_counts(bytes, self.chars, ill_formed, lines)?;
+        Ok(ill_formed == 0)
     }
 }
 
@@ -124,7 +118,7 @@ fn put_tail<A: Allocator>(
 ) -> Result<u64, AllocError>
     ensures lines { OnOk result (string_bytes lines.new
         ≡ string_bytes lines.old ++ tail_line offset tail.now) }
-    ensures count { IfOk result (λ count. count ≡ tail_faults tail.now) }
+    ensures count { IfOk result (λ count. count ≡ tail_ill_formed tail.now) }
 {
     if tail.is_empty() {
         return Ok(0);
@@ -137,14 +131,14 @@ fn put_tail<A: Allocator>(
 fn put_counts<A: Allocator>(
     bytes: u64,
     chars: u64,
-    faults: u64,
+    ill_formed: u64,
     lines: &mut String<A>,
 ) -> Result<(), AllocError>
     ensures { OnOk result (string_bytes lines.new
-        ≡ string_bytes lines.old ++ count_line bytes chars faults) }
+        ≡ string_bytes lines.old ++ count_line bytes chars ill_formed) }
 {
     writeln!(
         lines,
-        "bytes: {bytes}, characters: {chars}, ill-formed: {faults}"
+        "bytes: {bytes}, characters: {chars}, ill-formed: {ill_formed}"
     )
 }

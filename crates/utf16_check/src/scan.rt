@@ -1,10 +1,9 @@
 //! The ill-formed sequences of bytes in a given byte order.
 
 ghost use Rattle.std.specs.Prelude.{◌≡◌, ◌+◌, ◌<◌, ◌^◌, ◌++◌, IfOk, OnErr, OnOk, count_by, length, string_bytes};
-ghost use Rattle.utf16_units.specs.Split.{lone_lead, lone_trail, split_items};
-ghost use Rattle.utf16_units.specs.Unit.{IsLeading};
-ghost use Rattle.utf16_check.specs.Report.{fault_line, is_ill_formed};
-ghost use Rattle.utf16_check.specs.Scans.{Scans};
+ghost use Rattle.utf16_units.specs.Split.{split_items};
+ghost use Rattle.utf16_check.specs.Report.{ill_formed_line, is_ill_formed};
+ghost use Rattle.utf16_check.specs.Scans.{IsFront, Scans, lone};
 
 use std::alloc::{AllocError, Allocator};
 use utf16_units::text::count_chars;
@@ -70,22 +69,47 @@ fn scan_in<E: Utf16Order, A: Allocator>(
         unpaired: 0,
     };
     loop {
-        let rest = &bytes[found.taken..];
-        let Err(error) = validate_raw_utf16::<E>(rest) else {
-            found.chars += count_chars::<E>(rest);
-            found.taken = bytes.len();
+        let front = front_of::<E>(&bytes[found.taken..]);
+        found.chars += front.chars;
+        found.taken += front.len;
+        let Some(unit) = front.unpaired else {
             return Ok(found);
         };
-        let (front, back) = rest.split_at(error.valid_up_to());
-        found.chars += count_chars::<E>(front);
-        found.taken += front.len();
-        let Some(len) = error.error_len() else {
-            return Ok(found);
-        };
-        let unit = E::read_unit([back[0], back[1]]);
         put_unpaired(offset + found.taken as u64, unit, lines)?;
-        found.taken += len;
+        found.taken += 2;
         found.unpaired += 1;
+    }
+}
+
+// What bytes begin with: characters, and an unpaired surrogate if one comes after them.
+#[derive(Clone, Copy)]
+struct Front {
+    len: usize,
+    chars: usize,
+    unpaired: Option<u16>,
+}
+
+// Returns the longest well-formed front of bytes, and the unpaired surrogate after it. If there is
+// none, the bytes after the front are an incomplete character, or there are none.
+fn front_of<E: Utf16Order>(bytes: &[u8]) -> Front
+    ensures { IsFront E.BIG bytes.now result }
+{
+    let Err(error) = validate_raw_utf16::<E>(bytes) else {
+        return Front {
+            len: bytes.len(),
+            chars: count_chars::<E>(bytes),
+            unpaired: None,
+        };
+    };
+    let (front, back) = bytes.split_at(error.valid_up_to());
+    let unpaired = match error.error_len() {
+        Some(_) => Some(E::read_unit([back[0], back[1]])),
+        None => None,
+    };
+    Front {
+        len: front.len(),
+        chars: count_chars::<E>(front),
+        unpaired,
     }
 }
 
@@ -95,10 +119,8 @@ fn put_unpaired<A: Allocator>(
     unit: u16,
     lines: &mut String<A>,
 ) -> Result<(), AllocError>
-    ensures leading { OnOk result (IsLeading unit
-        → string_bytes lines.new ≡ string_bytes lines.old ++ fault_line offset (lone_lead unit)) }
-    ensures trailing { OnOk result (¬ IsLeading unit
-        → string_bytes lines.new ≡ string_bytes lines.old ++ fault_line offset (lone_trail unit)) }
+    ensures { OnOk result (string_bytes lines.new
+        ≡ string_bytes lines.old ++ ill_formed_line offset (lone unit)) }
 {
     if is_leading_surrogate(unit) {
         writeln!(

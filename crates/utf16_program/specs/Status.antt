@@ -3,8 +3,8 @@ use Rattle.std.specs.Prelude.{ℕ}
 use Rattle.utf16_program.specs.declared.outcome.Outcome.{Outcome}
 use Rattle.utf16_program.specs.declared.outcome.Outcome.TheVariants.{Done, IllFormed, Long, Memory, Read, Usage, Write}
 
--- 0 if the whole input was filtered and is not found ill-formed, 2 if the arguments name no choice,
--- otherwise 1
+-- 0 if the whole input was converted, or was checked and is well formed; 2 if the arguments name no
+-- choice; otherwise 1
 abbrev pub status_of : Outcome → ℕ
 status_of Done = 0
 status_of IllFormed = 1

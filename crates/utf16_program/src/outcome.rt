@@ -8,19 +8,21 @@ use utf16_streams::FilterFault;
 /// How a run ended.
 #[derive(Clone, Copy, Debug, PartialEq, Eq)]
 pub enum Outcome {
-    /// The whole input was converted and written, with U+FFFD for each ill-formed sequence; or it was
-    /// checked, and is well formed.
+    /// The whole input was converted and written, with U+FFFD for each ill-formed sequence. Or it
+    /// was checked, and is well formed.
     Done,
-    /// The whole input was checked and reported, and is ill-formed. No conversion ends so.
+    /// The whole input was checked and reported, and is ill-formed. A conversion does not end with
+    /// it.
     IllFormed,
-    /// A read failed. What was read before was converted and written.
+    /// A read failed. The output for what was read before was written.
     Read,
-    /// A write or the flush failed. A prefix of the text was written.
+    /// A write or the flush failed. A prefix of the output was written.
     Write,
-    /// Allocation failed. What was read before the last chunk was converted and written, if
+    /// Allocation failed. The output for what was read before the last chunk was written, if
     /// anything was read.
     Memory,
-    /// 2^64 - 1 reads returned bytes, which were converted and written.
+    /// A conversion made 2^64 - 1 reads that returned bytes, or a check read as many bytes. The
+    /// output for them was written.
     Long,
     /// The arguments do not name a choice. Nothing was read or written.
     Usage,

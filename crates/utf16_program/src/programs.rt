@@ -22,8 +22,8 @@ use utf16_streams::Watched;
 
 /// Runs a program as `run` does, on what `env::args` of std returned, and reports the outcome as
 /// `report` does: it writes the message to `errors` and returns the exit status. The status is 0 if
-/// the whole input was filtered and is not found ill-formed, 2 if the arguments name no choice, and
-/// 1 otherwise.
+/// the whole input was converted, or was checked and is well formed; 2 if the arguments name no
+/// choice; and 1 otherwise.
 ///
 /// # Precondition
 ///

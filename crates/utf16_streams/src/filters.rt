@@ -54,7 +54,6 @@ pub enum FilterFault {
 ///
 /// Allocates once, for the text of one chunk, however long the input is. Allocates nothing if no
 /// read returns more than seven bytes.
-/// read returns more than seven bytes.
 pub fn filter<E: Utf16Order, R: Read, W: Write, A: Allocator>(
     alloc: A,
     reader: &mut Watched<R>,

@@ -68,7 +68,7 @@ fn with_capacity<E: Utf16Order>(run: &mut Run) {
 }
 
 // Adds a string that was made, or the fields of the error.
-fn made_or_error<E: Utf16Order>(run: &mut Run, made: Result<WString<E>, Utf16Error>) {
+fn made_or_error<E: Utf16Order>(run: &mut Run, made: Result<WString<E, Heap>, Utf16Error>) {
     match made {
         Ok(string) => left(run, &string),
         Err(error) => refused(&mut run.answer, error),
@@ -85,11 +85,14 @@ fn refused(answer: &mut Answer, error: Utf16Error) {
     }
 }
 
-// The calls for one byte order are made only in that order.
+// The calls for one byte order are made only in that order. The bytes are in the memory of the case,
+// so a vector that is refused and not freed counts as leaked.
 fn tested<E: Utf16Order>(run: &mut Run, name: &str) {
-    let raw = run.bytes();
+    let Ok(raw) = run.bytes().to_vec(run.heap) else {
+        return run.refuse(Trouble::Memory);
+    };
     match name {
-        "from_utf16" => made_or_error(run, WString::<E>::from_utf16(raw)),
+        "from_utf16" => made_or_error(run, WString::<E, Heap>::from_utf16(raw)),
         "from_utf16le" if !E::BIG => made_or_error(run, WString::from_utf16le(raw)),
         "from_utf16be" if E::BIG => made_or_error(run, WString::from_utf16be(raw)),
         _ => run.unmet(),

@@ -3,9 +3,9 @@ use Rattle.utf16_check.proofs.ScanLemmas.{Scanned}
 use Rattle.utf16_check.proofs.scan.scan_in.Given as goal
 
 -- what was found so far
-abbrev pub invariant-loop-error : goal.invariant-loop-error
-invariant-loop-error g l =
+abbrev pub invariant-loop-unit : goal.invariant-loop-unit
+invariant-loop-unit g l =
     Scanned g.E.Utf16Order.BIG l.offset l.bytes (string_bytes l.fn.lines) (string_bytes l.lines) l.found.taken l.found.chars l.found.unpaired
 
-abbrev pub decreases-loop-error : goal.decreases-loop-error
-decreases-loop-error g l = length l.bytes - l.found.taken
+abbrev pub decreases-loop-unit : goal.decreases-loop-unit
+decreases-loop-unit g l = length l.bytes - l.found.taken

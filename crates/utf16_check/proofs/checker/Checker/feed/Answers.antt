@@ -1,10 +1,10 @@
-use Rattle.std.proofs.Common.{◌∙◌, ◌+◌, ◌<◌, ◌++◌, ap, append-nil, drop, string_bytes, subst, sym}
+use Rattle.std.proofs.Common.{◌∙◌, ◌+◌, ◌<◌, ◌++◌, ap, append-nil, arith, drop, length-drop, string_bytes, subst, sym}
 use Rattle.std.proofs.lemmas.List.{take_rest}
 use Rattle.std.specs.Prelude.{count_by}
 use Rattle.utf16_units.specs.Split.{split_items}
 use Rattle.utf16_check.specs.Report.{is_ill_formed, tail_in}
 use Rattle.utf16_check.specs.Scans.{Scans}
-use Rattle.utf16_check.proofs.FollowLemmas.{Follows-few, fed_few, fed_lines, fed_pending, few_lines, few_tail, more_faults, more_lines, more_report, some_lines}
+use Rattle.utf16_check.proofs.FollowLemmas.{Follows-few, fed_few, fed_lines, fed_pending, few_lines, few_tail, more_ill_formed, more_lines, more_report, some_lines}
 use Rattle.utf16_check.proofs.ScanLemmas.{OnErr-always}
 use Rattle.utf16_check.proofs.checker.Checker.feed.Given.{Over}
 use Rattle.utf16_check.proofs.checker.Checker.feed.Goals as goal
@@ -17,12 +17,16 @@ returns-in_default-clause-lines g c =
     sym (append-nil (string_bytes c.args.lines.now))
     ∙ ap (λ l. string_bytes c.args.lines.now ++ l) (sym (few_lines it.big_endian it.offset c.args.bytes.now undecided.0 undecided.1))
 
-pub returns-in_default-clause-follows : goal.returns-in_default-clause-follows
-returns-in_default-clause-follows g c = Follows-few c.args.self.now c.args.bytes.now c.in_default.ensures.undecided.0 c.in_default.ensures.undecided.1
-
-pub returns-in_default-clause-pending : goal.returns-in_default-clause-pending
-returns-in_default-clause-pending g c =
-    ap (λ o. tail_in o c.args.bytes.now) c.in_default.ensures.undecided.0 ∙ few_tail c.args.bytes.now c.in_default.ensures.undecided.1
+pub returns-in_default-clause-takes : goal.returns-in_default-clause-takes
+returns-in_default-clause-takes g c =
+    let undecided = c.in_default.ensures.undecided in
+    record {
+      within = omega arith;
+      few = omega (arith, undecided.1);
+      offset = omega arith;
+      follows = Follows-few c.args.self.now c.args.bytes.now undecided.0 undecided.1;
+      pending = ap (λ o. tail_in o c.args.bytes.now) undecided.0 ∙ few_tail c.args.bytes.now undecided.1;
+    }
 
 pub returns-in_err-found-clause-nothing : goal.returns-in_err-found-clause-nothing
 returns-in_err-found-clause-nothing g c =
@@ -45,23 +49,19 @@ returns-clause-lines g c =
     let b = c.in-Some.ensures in
     fed_lines _ _ _ _ b.within b.order b.text _ _ _ _ (scans g (goal.at.returns-clause-lines g c).In_ok-found)
 
-pub returns-clause-few : goal.returns-clause-few
-returns-clause-few g c =
-    let b = c.in-Some.ensures in
-    fed_few _ _ _ _ b.within b.order b.text _ _ _ _ (scans g (goal.at.returns-clause-few g c).In_ok-found)
-
-pub returns-clause-pending : goal.returns-clause-pending
-returns-clause-pending g c =
-    let b = c.in-Some.ensures in
-    fed_pending _ _ _ _ b.within b.order b.text _ _ _ _ (scans g (goal.at.returns-clause-pending g c).In_ok-found)
-
-pub returns-clause-follows : goal.returns-clause-follows
-returns-clause-follows g c =
+pub returns-clause-takes : goal.returns-clause-takes
+returns-clause-takes g c =
     let it = c.args.self.now in
     let b = c.in-Some.ensures in
-    let found = scans g (goal.at.returns-clause-follows g c).In_ok-found in
+    let found = scans g (goal.at.returns-clause-takes g c).In_ok-found in
     record {
-      lines = more_lines _ _ _ _ b.within b.order b.text _ _ _ _ found;
-      report = λ back. more_report _ _ _ _ b.within b.order b.text _ _ _ _ found back it.chars it.unpaired;
-      faults = λ back. more_faults _ _ _ _ b.within b.order b.text _ _ _ _ found back it.unpaired;
+      within = omega (arith, b.within, found.within, length-drop c.in-Some.begins.bom_len c.args.bytes.now);
+      few = fed_few _ _ _ _ b.within b.order b.text _ _ _ _ found;
+      offset = omega arith;
+      follows = record {
+        lines = more_lines _ _ _ _ b.within b.order b.text _ _ _ _ found;
+        report = λ back. more_report _ _ _ _ b.within b.order b.text _ _ _ _ found back it.chars it.unpaired;
+        ill_formed = λ back. more_ill_formed _ _ _ _ b.within b.order b.text _ _ _ _ found back it.unpaired;
+      };
+      pending = fed_pending _ _ _ _ b.within b.order b.text _ _ _ _ found;
     }
