@@ -8,3 +8,16 @@ pub mod Asked
 pub mod PlainUnits
 pub mod NextChar
 pub mod Retained
+mod FirstMatch
+mod Matches
+mod Replacing
+mod ReplacedAll
+mod ReplaceRows
+mod Ranged
+mod ChangedUnits
+mod Cased
+mod ChangedTo
+mod Joined
+mod Repeated
+mod Written
+mod EmptyPart

@@ -17,3 +17,6 @@ pub use Rattle.utf16string.specs.Retain
 pub mod WString
 pub mod Retain
 pub mod Kept
+pub mod AsciiCase
+pub mod Ranges
+pub mod Replace

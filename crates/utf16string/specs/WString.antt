@@ -1,11 +1,24 @@
 -- What contracts can say of a `WString`: its vector, bytes, text and capacity.
+use Rattle.std.specs.Borrow.{Bor}
+use Rattle.std.specs.List.{flat_map}
 use Rattle.std.specs.Prelude.{◌≡◌, ℕ, List}
 use Rattle.std.specs.Prelude.{Vec}
+use Rattle.std.specs.Str.{chars}
 use Rattle.std.specs.Vec.{vec_capacity, vec_items}
 use Rattle.utf16_units.specs.declared.byte_order.Utf16Order.{Ghosts}
 use Rattle.utf16_units.specs.Edit.{push_text}
-use Rattle.utf16_units.specs.Encoding.{text_of}
+use Rattle.utf16_units.specs.Encoding.{text_of, utf8_of}
+use Rattle.utf16_str.specs.WStr.{wstr_text}
+use Rattle.utf16_str.specs.declared.wstr.WStr.{WStr}
 use Rattle.utf16string.specs.declared.wstring.WString.{WString}
+
+-- the texts of views, one after another
+abbrev pub view_texts : {E : Type 0} {order : Ghosts E} → List (WStr E order) → List ℕ
+view_texts views = flat_map wstr_text views
+
+-- the characters of UTF-8 strings, one string after another
+abbrev pub str_texts : List (Bor (List ℕ)) → List ℕ
+str_texts strings = flat_map (λ s. chars s.now) strings
 
 module _ {E Z : Type 0} {order : Ghosts E} where
   -- `s.into_bytes()`
@@ -31,3 +44,15 @@ module _ {E Z : Type 0} {order : Ghosts E} where
   -- `new` has the text of `old`, followed by these characters
   abbrev pub Extends : WString E Z order → List ℕ → WString E Z order → Type 0
   Extends old text new = wstring_text new ≡ push_text (wstring_text old) text
+
+  -- that text in UTF-8
+  abbrev pub wstring_utf8 : WString E Z order → List ℕ
+  wstring_utf8 s = utf8_of order.BIG (wstring_bytes s)
+
+  -- `new` has the text of `old`, followed by the texts of these views
+  abbrev pub ExtendsViews : WString E Z order → List (WStr E order) → WString E Z order → Type 0
+  ExtendsViews old views new = Extends old (view_texts views) new
+
+  -- `new` has the text of `old`, followed by the characters of these strings
+  abbrev pub ExtendsStrs : WString E Z order → List (Bor (List ℕ)) → WString E Z order → Type 0
+  ExtendsStrs old strings new = Extends old (str_texts strings) new

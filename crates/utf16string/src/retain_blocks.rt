@@ -150,7 +150,7 @@ fn write_some<E: Utf16Order>(
 
 // Writes a character of one unit at an index.
 #[inline]
-fn write_unit<E: Utf16Order>(bytes: &mut [u8], at: usize, unit: u16)
+pub(crate) fn write_unit<E: Utf16Order>(bytes: &mut [u8], at: usize, unit: u16)
     requires { at + 2 ≤ length bytes.old }
     ensures bytes { take (at + 2) bytes.new ≡ take at bytes.old ++ encode E.BIG (unit ∷ []) }
     ensures rest { drop (at + 2) bytes.new ≡ drop (at + 2) bytes.old }

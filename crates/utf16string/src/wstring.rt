@@ -1,5 +1,6 @@
 //! An owned UTF-16 string.
 
+mod ascii;
 mod byte_order;
 mod capacity;
 mod cmp;
@@ -8,8 +9,12 @@ mod cuts;
 mod extends;
 mod inserts;
 mod overwrites;
+mod ranges;
+mod repeats;
+mod replaces;
 mod retains;
 mod utf8;
+mod writes;
 
 ghost use Rattle.std.specs.Prelude.{◌≡◌, ◌↔◌, ℕ, [], length, IsTrue, IsOk, IfOk, IfErr, IsSome, IfSome, Some, All, ◌<◌, ◌≤◌, ◌^◌, List, chars, nat_eq, encode_utf8_all, string_bytes, true, false};
 ghost use Rattle.std.specs.Cmp.{on_equiv, on_per, partial_equiv_from_equiv};

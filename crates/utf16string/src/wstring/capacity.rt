@@ -1,6 +1,6 @@
 //! The capacity of a string.
 
-ghost use Rattle.std.specs.Prelude.{◌≡◌, ◌↔◌, ◌+◌, ◌≤◌, [], length, IsOk, OnErr, OnOk};
+ghost use Rattle.std.specs.Prelude.{◌≡◌, ◌↔◌, ◌+◌, ◌≤◌, [], length, max, min, IsOk, OnErr, OnOk};
 ghost use Rattle.std.specs.Vec.{VecUnchanged, vec_capacity, vec_len};
 
 use crate::WString;
@@ -34,6 +34,30 @@ impl<E: Utf16Order, A: Allocator> WString<E, A> {
         reserve_bytes(&mut self.raw, additional)
     }
 
+    /// Reserves capacity for exactly `additional` more bytes.
+    ///
+    /// # Errors
+    ///
+    /// `AllocError`, if allocation fails. The string is unchanged.
+    ///
+    /// # Complexity
+    ///
+    /// Allocates nothing and leaves the capacity as it is, if it is already enough.
+    ///
+    /// # Source
+    ///
+    /// `String::reserve_exact` and `String::try_reserve_exact`.
+    pub fn reserve_exact(&mut self, additional: usize) -> Result<(), AllocError>
+        ensures bytes { wstring_bytes self.new ≡ wstring_bytes self.old }
+        ensures exact { OnOk result (wstring_capacity self.new
+            ≡ max (wstring_capacity self.old) (length (wstring_bytes self.old) + additional)) }
+        ensures err { OnErr result (IsUnchanged self.old self.new) }
+        ensures succeeds { length (wstring_bytes self.old) + additional ≤ wstring_capacity self.old
+            → IsOk result }
+    {
+        self.raw.reserve_exact(additional)
+    }
+
     /// Shrinks the capacity to the length of the text in bytes.
     ///
     /// # Errors
@@ -55,6 +79,36 @@ impl<E: Utf16Order, A: Allocator> WString<E, A> {
             return Err(AllocError);
         }
         Ok(())
+    }
+
+    /// Shrinks the capacity to `min_capacity` or the length of the text, whichever is greater. Does
+    /// nothing if the capacity is at most that.
+    ///
+    /// # Errors
+    ///
+    /// `AllocError`, if the smaller block cannot be allocated. The text is unchanged.
+    ///
+    /// # Complexity
+    ///
+    /// Allocates nothing if the capacity is already small enough, or if it becomes 0.
+    ///
+    /// # Source
+    ///
+    /// `String::shrink_to`, which ignores a failed allocation.
+    pub fn shrink_to(&mut self, min_capacity: usize) -> Result<(), AllocError>
+        ensures bytes { wstring_bytes self.new ≡ wstring_bytes self.old }
+        ensures ok { IsOk result ↔ (wstring_capacity self.new
+            ≤ max min_capacity (length (wstring_bytes self.new))) }
+        ensures least { min min_capacity (wstring_capacity self.old) ≤ wstring_capacity self.new }
+        ensures shrinks { wstring_capacity self.new ≤ wstring_capacity self.old }
+        ensures nothing { wstring_bytes self.old ≡ [] → min_capacity ≡ 0 → IsOk result }
+    {
+        self.raw.shrink_to(min_capacity);
+        if self.raw.capacity() > self.raw.len().max(min_capacity) {
+            Err(AllocError)
+        } else {
+            Ok(())
+        }
     }
 }
 

@@ -1,4 +1,4 @@
-//! The characters of an iterator, appended to a string or collected into one.
+//! The characters or the texts of an iterator, appended to a string or collected into one.
 
 ghost use Rattle.std.specs.Prelude.{◌≡◌, ◌+◌, ◌<◌, ◌≤◌, [], List, ℕ, Some, length, IfOk, OnErr, OnOk};
 ghost use Rattle.std.specs.Iterator.{Drains, ExtendsWithItems, IsFinite, YieldsThen};
@@ -7,6 +7,7 @@ ghost use Rattle.utf16_units.specs.Encoding.{char_size};
 
 use crate::WString;
 use std::alloc::{AllocError, Allocator};
+use utf16_str::WStr;
 use utf16_units::Utf16Order;
 
 impl<E: Utf16Order, A: Allocator> WString<E, A> {
@@ -98,6 +99,87 @@ impl<E: Utf16Order, A: Allocator> FromIterator<char> for WString<E, A> {
     {
         let mut text = Self::new(alloc);
         text.extend(iter)?;
+        Ok(text)
+    }
+}
+
+impl<'x, E: Utf16Order, A: Allocator> Extend<WStr<'x, E>> for WString<E, A> {
+    ghost use Rattle.utf16string.specs.WString.{ExtendsViews};
+
+    ghost extend_gives = { ExtendsViews };
+
+    /// Appends the texts of an iterator, in order, like `push_wstr`.
+    ///
+    /// # Errors
+    ///
+    /// `AllocError`, if allocation fails for a text. The texts appended so far stay, and the
+    /// iterator is not advanced further.
+    fn extend<U: IntoIterator<Item = WStr<'x, E>>>(&mut self, iter: U) -> Result<(), AllocError> {
+        for text in iter {
+            self.push_wstr(text)?;
+        }
+        Ok(())
+    }
+}
+
+impl<'x, E: Utf16Order, A: Allocator> FromIterator<WStr<'x, E>> for WString<E, A> {
+    ghost use Rattle.utf16string.specs.WString.{view_texts, wstring_text};
+
+    type Alloc = A;
+
+    ghost from_iter_gives = { λ views s. wstring_text s ≡ view_texts views };
+
+    /// Collects the texts of an iterator into a new string.
+    ///
+    /// # Errors
+    ///
+    /// `AllocError`, if allocation fails for a text. The iterator is not advanced further. Nothing is
+    /// allocated if all texts are empty.
+    fn from_iter<U: IntoIterator<Item = WStr<'x, E>>>(
+        alloc: A,
+        iter: U,
+    ) -> Result<Self, AllocError> {
+        let mut text = Self::new(alloc);
+        Extend::extend(&mut text, iter)?;
+        Ok(text)
+    }
+}
+
+impl<'x, E: Utf16Order, A: Allocator> Extend<&'x str> for WString<E, A> {
+    ghost use Rattle.utf16string.specs.WString.{ExtendsStrs};
+
+    ghost extend_gives = { ExtendsStrs };
+
+    /// Appends the characters of UTF-8 strings, in order, like `push_str`.
+    ///
+    /// # Errors
+    ///
+    /// `AllocError`, if allocation fails for a string. The characters of the strings before it
+    /// stay, and the iterator is not advanced further.
+    fn extend<U: IntoIterator<Item = &'x str>>(&mut self, iter: U) -> Result<(), AllocError> {
+        for string in iter {
+            self.push_str(string)?;
+        }
+        Ok(())
+    }
+}
+
+impl<'x, E: Utf16Order, A: Allocator> FromIterator<&'x str> for WString<E, A> {
+    ghost use Rattle.utf16string.specs.WString.{str_texts, wstring_text};
+
+    type Alloc = A;
+
+    ghost from_iter_gives = { λ strings s. wstring_text s ≡ str_texts strings };
+
+    /// Collects the characters of UTF-8 strings into a new string.
+    ///
+    /// # Errors
+    ///
+    /// `AllocError`, if allocation fails for a string. The iterator is not advanced further. Nothing
+    /// is allocated if all strings are empty.
+    fn from_iter<U: IntoIterator<Item = &'x str>>(alloc: A, iter: U) -> Result<Self, AllocError> {
+        let mut text = Self::new(alloc);
+        Extend::extend(&mut text, iter)?;
         Ok(text)
     }
 }

@@ -191,7 +191,7 @@ fn write_units<A: Allocator>(raw: &mut Vec<u8, A>, units: [u8; 4], len: usize)
 
 // Appends bytes. Reserves capacity for them first; if that fails, nothing has changed.
 #[inline]
-fn append<A: Allocator>(raw: &mut Vec<u8, A>, bytes: &[u8]) -> Result<(), AllocError>
+pub(super) fn append<A: Allocator>(raw: &mut Vec<u8, A>, bytes: &[u8]) -> Result<(), AllocError>
     ensures items { OnOk result (raw.new.items ≡ raw.old.items ++ bytes.now) }
     ensures err { OnErr result (VecUnchanged raw.old raw.new
         × (vec_capacity raw.new ≡ vec_capacity raw.old)) }

@@ -1,11 +1,15 @@
-//! Strings made from UTF-8, and UTF-8 appended to a string.
+//! Strings made from UTF-8, and UTF-8 appended to a string or inserted into it.
 
 ghost use Rattle.std.specs.Prelude.{◌≡◌, ◌+◌, ◌≤◌, [], length, IfOk, IsOk, OnErr, OnOk};
+ghost use Rattle.std.specs.List.{splice};
 ghost use Rattle.std.specs.Str.{chars};
-ghost use Rattle.utf16_units.specs.Edit.{push_text};
-ghost use Rattle.utf16_units.specs.Encoding.{size};
+ghost use Rattle.std.specs.Vec.{VecUnchanged, vec_capacity, vec_len};
+ghost use Rattle.utf16_units.specs.Boundary.{IsBoundary};
+ghost use Rattle.utf16_units.specs.Edit.{insert_at, push_text};
+ghost use Rattle.utf16_units.specs.Encoding.{encode, size};
 
 use super::inserts::write_char;
+use super::ranges::turn_in;
 use crate::WString;
 use std::alloc::{AllocError, Allocator};
 use utf16_from_utf8::{SLACK, append_utf16, extend_utf16, write_text};
@@ -100,4 +104,58 @@ impl<E: Utf16Order, A: Allocator> WString<E, A> {
     {
         append_utf16::<E, A>(&mut self.raw, string)
     }
+
+    /// Inserts the characters of a UTF-8 string at a byte offset.
+    ///
+    /// # Errors
+    ///
+    /// `AllocError`, if allocation fails. The string is unchanged.
+    ///
+    /// # Precondition
+    ///
+    /// The offset is a character boundary (check with `is_char_boundary`).
+    ///
+    /// # Complexity
+    ///
+    /// As of `push_str`. Moves the bytes after the offset in blocks.
+    ///
+    /// # Source
+    ///
+    /// `String::insert_str`.
+    pub fn insert_str(&mut self, idx: usize, string: &str) -> Result<(), AllocError>
+        requires { IsBoundary (wstring_text self.old) idx }
+        ensures text { OnOk result (wstring_text self.new
+            ≡ insert_at (wstring_text self.old) idx (chars string.now)) }
+        ensures len { OnOk result (length (wstring_bytes self.new)
+            ≡ length (wstring_bytes self.old) + size (chars string.now)) }
+        ensures err { OnErr result (IsUnchanged self.old self.new) }
+        ensures succeeds { length (wstring_bytes self.old) + size (chars string.now)
+            ≤ wstring_capacity self.old → IsOk result }
+        ensures grows { wstring_capacity self.old ≤ wstring_capacity self.new }
+    {
+        insert_utf8::<E, A>(&mut self.raw, idx, string)
+    }
+}
+
+// Inserts the characters of a UTF-8 string at an index. If allocation fails, nothing has changed.
+// They are appended first, since a vector grows only at its end.
+fn insert_utf8<E: Utf16Order, A: Allocator>(
+    raw: &mut Vec<u8, A>,
+    index: usize,
+    string: &str,
+) -> Result<(), AllocError>
+    requires { index ≤ vec_len raw.old }
+    ensures items { OnOk result (raw.new.items
+        ≡ splice raw.old.items index index (encode E.BIG (chars string.now))) }
+    ensures err { OnErr result (VecUnchanged raw.old raw.new
+        × (vec_capacity raw.new ≡ vec_capacity raw.old)) }
+    ensures succeeds { vec_len raw.old + size (chars string.now) ≤ vec_capacity raw.old
+        → IsOk result }
+    ensures grows { vec_capacity raw.old ≤ vec_capacity raw.new }
+{
+    let len = raw.len();
+    append_utf16::<E, A>(raw, string)?;
+    let added = raw.len() - len;
+    turn_in(raw, index, added);
+    Ok(())
 }

@@ -1,0 +1,7 @@
+use Rattle.std.proofs.Common.{◌≤◌}
+use Rattle.utf16string.specs.WString.{ExtendsViews, wstring_capacity}
+use Rattle.utf16string.proofs.wstring.extends.WStringExtendWStr.extend.Given as goal
+
+-- the texts so far are appended to the old one
+abbrev pub invariant-loop-text : goal.invariant-loop-text
+invariant-loop-text g l = ExtendsViews l.fn.self l.yielded l.self × (wstring_capacity l.fn.self ≤ wstring_capacity l.self)

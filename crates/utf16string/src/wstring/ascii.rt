@@ -1,0 +1,114 @@
+//! ASCII letters of a string in lower or upper case, in place.
+
+ghost use Rattle.std.specs.Prelude.{◌≡◌, ◌+◌, ◌≤◌, ◌++◌, length, drop, map, slice_index, take};
+ghost use Rattle.std.specs.Char.{to_ascii_lowercase, to_ascii_uppercase};
+ghost use Rattle.utf16_units.specs.Encoding.{Encodes, IsUtf16, text_of};
+ghost use Rattle.utf16_units.specs.Unit.{unit_bytes, unit_of};
+ghost use Rattle.utf16string.specs.AsciiCase.{in_case};
+
+use crate::WString;
+use crate::retain_blocks::write_unit;
+use std::alloc::Allocator;
+use utf16_units::Utf16Order;
+
+/// The case that ASCII letters are converted to.
+#[derive(Clone, Copy)]
+enum AsciiCase {
+    Lower,
+    Upper,
+}
+
+impl AsciiCase {
+    // The code unit, in this case if it is an ASCII letter.
+    #[inline(always)]
+    fn of(self, unit: u16) -> u16
+        ensures { result ≡ in_case self unit }
+    {
+        match self {
+            AsciiCase::Lower => lower(unit),
+            AsciiCase::Upper => upper(unit),
+        }
+    }
+}
+
+#[inline(always)]
+fn lower(unit: u16) -> u16
+    ensures { result ≡ to_ascii_lowercase unit }
+{
+    if 0x41 <= unit && unit <= 0x5A {
+        unit + 0x20
+    } else {
+        unit
+    }
+}
+
+#[inline(always)]
+fn upper(unit: u16) -> u16
+    ensures { result ≡ to_ascii_uppercase unit }
+{
+    if 0x61 <= unit && unit <= 0x7A {
+        unit - 0x20
+    } else {
+        unit
+    }
+}
+
+impl<E: Utf16Order, A: Allocator> WString<E, A> {
+    ghost use Rattle.utf16string.specs.WString.{wstring_capacity, wstring_text};
+
+    /// Converts each ASCII letter to lower case. Other characters and the capacity stay.
+    ///
+    /// # Complexity
+    ///
+    /// One pass, in place.
+    ///
+    /// # Source
+    ///
+    /// `str::make_ascii_lowercase`.
+    pub fn make_ascii_lowercase(&mut self)
+        ensures text { wstring_text self.new ≡ map to_ascii_lowercase (wstring_text self.old) }
+        ensures capacity { wstring_capacity self.new ≡ wstring_capacity self.old }
+    {
+        change_case::<E>(self.raw.as_mut_slice(), AsciiCase::Lower);
+    }
+
+    /// Converts each ASCII letter to upper case. Other characters and the capacity stay.
+    ///
+    /// # Complexity
+    ///
+    /// One pass, in place.
+    ///
+    /// # Source
+    ///
+    /// `str::make_ascii_uppercase`.
+    pub fn make_ascii_uppercase(&mut self)
+        ensures text { wstring_text self.new ≡ map to_ascii_uppercase (wstring_text self.old) }
+        ensures capacity { wstring_capacity self.new ≡ wstring_capacity self.old }
+    {
+        change_case::<E>(self.raw.as_mut_slice(), AsciiCase::Upper);
+    }
+}
+
+// Converts the ASCII letters of a text.
+fn change_case<E: Utf16Order>(raw: &mut [u8], case: AsciiCase)
+    requires { IsUtf16 E.BIG raw.old }
+    ensures { Encodes E.BIG (map (in_case case) (text_of E.BIG raw.old)) raw.new }
+{
+    let mut at = 0;
+    while raw.len() - at >= 2 {
+        change_unit::<E>(raw, at, case);
+        at += 2;
+    }
+}
+
+// Converts the code unit at an index, if it is an ASCII letter.
+#[inline(always)]
+fn change_unit<E: Utf16Order>(raw: &mut [u8], at: usize, case: AsciiCase)
+    requires { at + 2 ≤ length raw.old }
+    ensures unit { take (at + 2) raw.new ≡ take at raw.old ++ unit_bytes E.BIG (in_case case
+        (unit_of E.BIG (slice_index raw.old at) (slice_index raw.old (at + 1)))) }
+    ensures rest { drop (at + 2) raw.new ≡ drop (at + 2) raw.old }
+{
+    let unit = E::read_unit([raw[at], raw[at + 1]]);
+    write_unit::<E>(raw, at, case.of(unit));
+}

@@ -1,0 +1,149 @@
+//! New strings with the matches of a pattern replaced.
+
+ghost use Rattle.std.specs.Prelude.{◌≡◌, ◌≢◌, ◌↔◌, [], IfOk, IsTrue, OnOk, option_map};
+ghost use Rattle.utf16_units.specs.Edit.{push_text};
+ghost use Rattle.utf16_str.specs.WStr.{wstr_text};
+ghost use Rattle.utf16string.specs.Replace.{around_match, replaced, replaced_first};
+ghost use Rattle.utf16string.specs.WString.{wstring_text};
+
+use crate::WString;
+use std::alloc::{AllocError, Allocator};
+use utf16_str::{Pattern, WStr};
+use utf16_units::Utf16Order;
+
+impl<E: Utf16Order, A: Allocator> WString<E, A> {
+    /// Returns a new string with each match of a text or a character replaced by the text `to`. The
+    /// matches are found from the front, and do not overlap. The empty text matches before each
+    /// character and at the end.
+    ///
+    /// # Errors
+    ///
+    /// `AllocError`, if allocation fails.
+    ///
+    /// # Complexity
+    ///
+    /// Linear in the lengths of this text, the pattern and the result. Allocates as many bytes as
+    /// this text has, and again only if the result has more.
+    ///
+    /// # Source
+    ///
+    /// `str::replace`, for a text or a character.
+    pub fn replace<P: Pattern<E> + Copy, B: Allocator>(
+        &self,
+        alloc: B,
+        from: P,
+        to: WStr<E>,
+    ) -> Result<WString<E, B>, AllocError>
+        ensures text { IfOk result (λ s.
+            wstring_text s ≡ replaced (P.part from) (wstr_text to.entry) (wstring_text self.now)) }
+    {
+        self.replacen(alloc, from, to, usize::MAX)
+    }
+
+    /// Replaces the first `count` matches like `replace`, or all if there are fewer.
+    ///
+    /// # Errors
+    ///
+    /// `AllocError`, if allocation fails.
+    ///
+    /// # Complexity
+    ///
+    /// As of `replace`.
+    ///
+    /// # Source
+    ///
+    /// `str::replacen`, for a text or a character.
+    pub fn replacen<P: Pattern<E> + Copy, B: Allocator>(
+        &self,
+        alloc: B,
+        from: P,
+        to: WStr<E>,
+        count: usize,
+    ) -> Result<WString<E, B>, AllocError>
+        ensures text { IfOk result (λ s. wstring_text s
+            ≡ replaced_first count (P.part from) (wstr_text to.entry) (wstring_text self.now)) }
+    {
+        let mut made = WString::with_capacity(alloc, self.len())?;
+        push_replaced(&mut made, self.as_wstr(), from, to, count)?;
+        Ok(made)
+    }
+}
+
+// Appends a text with the first `count` matches of a pattern replaced.
+fn push_replaced<E: Utf16Order, P: Pattern<E> + Copy, A: Allocator>(
+    made: &mut WString<E, A>,
+    text: WStr<E>,
+    from: P,
+    to: WStr<E>,
+    count: usize,
+) -> Result<(), AllocError>
+    ensures { OnOk result (wstring_text made.new ≡ push_text (wstring_text made.old)
+        (replaced_first count (P.part from) (wstr_text to.entry) (wstr_text text.entry))) }
+{
+    if from.prefix_len(&[]).is_some() {
+        push_between(made, text, to, count)
+    } else {
+        push_around(made, text, from, to, count)
+    }
+}
+
+// Appends a text with the first `count` matches of the empty text replaced: another is put before
+// each character and at the end.
+fn push_between<E: Utf16Order, A: Allocator>(
+    made: &mut WString<E, A>,
+    text: WStr<E>,
+    to: WStr<E>,
+    count: usize,
+) -> Result<(), AllocError>
+    ensures { OnOk result (wstring_text made.new ≡ push_text (wstring_text made.old)
+        (replaced_first count [] (wstr_text to.entry) (wstr_text text.entry))) }
+{
+    let mut chars = text.chars();
+    for _ in 0..count {
+        made.push_wstr(to)?;
+        let Some(c) = chars.next() else {
+            return Ok(());
+        };
+        made.push(c)?;
+    }
+    made.push_wstr(chars.as_wstr())
+}
+
+// Appends a text with the first `count` matches of a pattern, which is not empty, replaced.
+fn push_around<E: Utf16Order, P: Pattern<E> + Copy, A: Allocator>(
+    made: &mut WString<E, A>,
+    text: WStr<E>,
+    from: P,
+    to: WStr<E>,
+    count: usize,
+) -> Result<(), AllocError>
+    requires { P.part from ≢ [] }
+    ensures { OnOk result (wstring_text made.new ≡ push_text (wstring_text made.old)
+        (replaced_first count (P.part from) (wstr_text to.entry) (wstr_text text.entry))) }
+{
+    let mut rest = text;
+    for _ in 0..count {
+        let Some((before, after)) = split_around(rest, from) else {
+            return made.push_wstr(rest);
+        };
+        made.push_wstr(before)?;
+        made.push_wstr(to)?;
+        rest = after;
+    }
+    made.push_wstr(rest)
+}
+
+// The text before the first match of a pattern and the text after that match, if there is one.
+#[inline]
+fn split_around<'a, E: Utf16Order, P: Pattern<E> + Copy>(
+    text: WStr<'a, E>,
+    pattern: P,
+) -> Option<(WStr<'a, E>, WStr<'a, E>)>
+    ensures { option_map (λ around. (wstr_text around.0, wstr_text around.1)) result
+        ≡ around_match (P.part pattern) (wstr_text text.entry) }
+{
+    let at = text.find(pattern)?;
+    let (before, matched) = text.split_at(at);
+    let after = matched.strip_prefix(pattern).unwrap();
+    Some((before, after))
+}
