@@ -2,11 +2,15 @@
 //! the case says, and counts.
 mod compared;
 mod cut;
+mod filled;
 mod grown;
 mod held;
+mod joined;
 mod made;
 mod parts;
+mod ranged;
 mod read;
+mod replaced;
 mod retained;
 mod taken;
 

@@ -1,4 +1,4 @@
-//! Strings shortened and overwritten.
+//! Strings shortened and overwritten, and their letters in the other case.
 
 use crate::strings::held::{Heap, part};
 use crate::strings::retained::retain;
@@ -12,6 +12,8 @@ pub fn call<E: Utf16Order>(run: &mut Run, string: &mut WString<E, Heap>, name: &
         "truncate" => truncate(run, string),
         "overwrite" => overwrite(run, string),
         "retain" => retain(run, string),
+        "make_ascii_lowercase" => string.make_ascii_lowercase(),
+        "make_ascii_uppercase" => string.make_ascii_uppercase(),
         _ => return false,
     }
     true

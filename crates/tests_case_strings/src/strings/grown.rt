@@ -1,6 +1,6 @@
 //! Strings that grow.
 
-use crate::strings::cut;
+use crate::strings::filled;
 use crate::strings::held::{Heap, part};
 use std::alloc::AllocError;
 use tests_case_lines::Run;
@@ -23,7 +23,7 @@ pub fn call<E: Utf16Order>(
     })
 }
 
-// Makes a call that changes the capacity of a string, or passes the name to `cut`.
+// Makes a call that changes the capacity of a string, or passes the name to `filled`.
 fn sized<E: Utf16Order>(
     run: &mut Run,
     string: &mut WString<E, Heap>,
@@ -32,13 +32,7 @@ fn sized<E: Utf16Order>(
     Some(match name {
         "reserve" => reserve(run, string),
         "shrink_to_fit" => string.shrink_to_fit(),
-        _ => {
-            return if cut::call(run, string, name) {
-                Some(Ok(()))
-            } else {
-                None
-            };
-        }
+        _ => return filled::call(run, string, name),
     })
 }
 

@@ -4,7 +4,7 @@ ghost use Rattle.std.specs.Prelude.{IfSome};
 ghost use Rattle.utf16string.specs.Encoding.{IsUtf16};
 
 use crate::strings::held::{Heap, left, made, part, string};
-use crate::strings::{grown, read, taken};
+use crate::strings::{grown, joined, read, taken};
 use std::alloc::AllocError;
 use tests_case_lines::{Answer, Run, Trouble};
 use utf16string::{BigEndian, LittleEndian, Utf16Error, Utf16Order, WStr, WString};
@@ -29,6 +29,8 @@ fn of_text<E: Utf16Order>(run: &mut Run, name: &str) -> bool {
         "from_str" => from_str::<E>(run),
         "from_wstr" => from_wstr::<E>(run),
         "from_iter" => from_iter::<E>(run),
+        "from_iter_wstr" => joined::from_views::<E>(run),
+        "from_iter_str" => joined::from_strs::<E>(run),
         "into_byte_order" => into_byte_order::<E>(run),
         "into_bytes" => into_bytes::<E>(run),
         _ => return on_string::<E>(run, name),

@@ -1,7 +1,7 @@
 //! Calls that read a string.
 
 use crate::strings::held::{Heap, made, part, refused};
-use crate::strings::{compared, parts};
+use crate::strings::{parts, replaced};
 use tests_case_lines::{Answer, By, Run, Trouble, add_written};
 use utf16string::{Utf16Order, WString};
 
@@ -24,7 +24,7 @@ pub fn call<'a, E: Utf16Order>(
     true
 }
 
-// Makes a call that takes values or a part of the string, or passes the name to `compared`.
+// Makes a call that takes values or a part of the string, or passes the name to `replaced`.
 fn asked<'a, E: Utf16Order>(run: &mut Run<'a>, string: &WString<E, Heap<'a>>, name: &str) -> bool {
     match name {
         "is_char_boundary" => is_char_boundary(run, string),
@@ -33,7 +33,7 @@ fn asked<'a, E: Utf16Order>(run: &mut Run<'a>, string: &WString<E, Heap<'a>>, na
         "get_unchecked" => parts::part(run, string, By::GetUnchecked),
         "index" => parts::part(run, string, By::Index),
         "fmt" => fmt(run, string),
-        _ => return compared::call(run, string, name),
+        _ => return replaced::call(run, string, name),
     }
     true
 }

@@ -1,6 +1,7 @@
 //! Strings of which something is taken, and those that say how they were changed.
 
 use crate::strings::held::Heap;
+use crate::strings::ranged::drain;
 use crate::strings::retained::retain_by;
 use tests_case_lines::Run;
 use utf16string::{Utf16Order, WString};
@@ -11,6 +12,7 @@ pub fn call<E: Utf16Order>(run: &mut Run, string: &mut WString<E, Heap>, name: &
         "pop" => pop(run, string),
         "remove" => remove(run, string),
         "split_off" => split_off(run, string),
+        "drain" => drain(run, string),
         "extend" | "Extend::extend" => extend(run, string, name == "extend"),
         "retain_by" => retain_by(run, string),
         _ => return false,
