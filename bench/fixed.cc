@@ -31,12 +31,13 @@ struct text {
     std::u16string units[2];
 };
 
-// About 64 KiB of UTF-16 of one kind of text, the same in each run.
-static text made(const char *name, char32_t first, char32_t last, unsigned ascii_of_eight) {
+// About 64 KiB of UTF-16 of one kind of text, the same in each run. Of 64 characters so many are ASCII
+// letters.
+static text made(const char *name, char32_t first, char32_t last, unsigned letters) {
     std::mt19937 random(1);
     text of = {name, {}, {}, {}};
     while (of.units[0].size() < BYTES / 2 - 1) {
-        char32_t c = random() % 8 < ascii_of_eight ? 'a' + random() % 26
+        char32_t c = random() % 64 < letters ? 'a' + random() % 26
                                                    : first + random() % (last - first + 1);
         of.points += c;
         of.latin1 += static_cast<char>(c);
@@ -164,9 +165,9 @@ static void time(const row &of, double *best) {
 }
 
 int main() {
-    const text texts[] = {made("ASCII", 'a', 'z', 8), made("Latin-1", 0xC0, 0xFF, 6),
-        made("Cyrillic", 0x430, 0x44F, 1), made("Chinese", 0x4E00, 0x9FFF, 0),
-        made("emoji", 0x1F300, 0x1F64F, 2)};
+    const text texts[] = {made("ASCII", 'a', 'z', 64), made("Latin-1", 0xC0, 0xFF, 48),
+        made("Cyrillic", 0x430, 0x44F, 8), made("Chinese", 0x4E00, 0x9FFF, 0),
+        made("emoji", 0x1F300, 0x1F64F, 16), made("one emoji in 64", 0x1F300, 0x1F64F, 63)};
     std::printf("| Call and text | here, v2 | simdutf, 128 bits | ratio | here, v3 | simdutf, 256 bits | ratio |\n"
                 "|---|---:|---:|---:|---:|---:|---:|\n");
     for (const text &of : texts) {
