@@ -31,8 +31,8 @@ struct text {
     std::u16string units[2];
 };
 
-// About 64 KiB of UTF-16 of one kind of text, the same in each run. Of 64 characters so many are ASCII
-// letters.
+// About 64 KiB of UTF-16 of one kind of text, the same in each run. `letters` of 64 characters are
+// ASCII.
 static text made(const char *name, char32_t first, char32_t last, unsigned letters) {
     std::mt19937 random(1);
     text of = {name, {}, {}, {}};
