@@ -3,7 +3,6 @@ mod SearchLemmas
 mod SplitLemmas
 pub mod CharSearch
 pub mod PassedLemmas
-pub mod Overwritten
 pub mod StrLemmas
 mod AffixLemmas
 mod CommonLemmas
@@ -12,7 +11,3 @@ mod TrimLemmas
 mod LineLemmas
 mod WordLemmas
 mod CaseLemmas
-mod Lent
-mod LentSteps
-mod LentValues
-mod LentResults

@@ -14,6 +14,4 @@ pub mod Offsets
 pub mod Splits
 pub mod Window
 pub mod WStr
-pub mod WStrMut
 pub mod Common
-pub mod Append

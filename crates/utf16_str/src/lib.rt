@@ -1,9 +1,7 @@
-//! Views of UTF-16 strings in either byte order: what `&str` and `&mut str` are for UTF-8. Also
-//! converts a text to UTF-8, into a new `String` or appended to one.
+//! Views of UTF-16 strings in either byte order: what `&str` is for UTF-8.
 #![tactic(auto)]
 
 mod affixes;
-mod append;
 mod ascii;
 mod iters;
 mod lines;
@@ -15,9 +13,7 @@ mod trim;
 mod utf8;
 mod words;
 mod wstr;
-mod wstr_mut;
 
-pub use crate::append::{append_utf8, to_utf8};
 pub use crate::iters::{WStrCharIndices, WStrChars};
 pub use crate::lines::WStrLines;
 pub use crate::search::Pattern;
@@ -25,5 +21,5 @@ pub use crate::slicing::SliceIndex;
 pub use crate::split::WStrSplit;
 pub use crate::words::WStrSplitWhitespace;
 pub use crate::wstr::WStr;
-pub use crate::wstr_mut::WStrMut;
+pub use utf16_to_string::{append_utf8, to_utf8};
 pub use utf16_units::{BE, BigEndian, LE, LittleEndian, Utf16Error, Utf16Order};

@@ -4,8 +4,9 @@ ghost use Rattle.std.specs.Prelude.{◌≡◌, ◌+◌, ◌≤◌, [], ◌++◌,
 ghost use Rattle.std.specs.String.{string_capacity, string_len};
 ghost use Rattle.utf16_str.specs.WStr.{wstr_text};
 
-use crate::{WStr, append_utf8};
+use crate::WStr;
 use std::alloc::{AllocError, Allocator};
+use utf16_to_string::{append_utf8, to_utf8};
 use utf16_units::Utf16Order;
 
 impl<'a, E: Utf16Order> WStr<'a, E> {
@@ -24,7 +25,7 @@ impl<'a, E: Utf16Order> WStr<'a, E> {
         ensures text { IfOk result (λ s. string_bytes s ≡ encode_utf8_all (wstr_text self.now)) }
         ensures nothing { wstr_text self.now ≡ [] → IsOk result }
     {
-        crate::to_utf8::<E, A>(self.as_bytes(), alloc)
+        to_utf8::<E, A>(self.as_bytes(), alloc)
     }
 
     /// Appends the text, in UTF-8, to a `String`.

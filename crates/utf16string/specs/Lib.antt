@@ -12,7 +12,7 @@ pub use Rattle.utf16_str.specs.Common
 pub use Rattle.utf16_str.specs.Offsets
 pub use Rattle.utf16_str.specs.Window
 pub use Rattle.utf16_str.specs.WStr
-pub use Rattle.utf16_str.specs.WStrMut
+pub use Rattle.utf16_str_mut.specs.WStrMut
 pub use Rattle.utf16string.specs.Retain
 pub mod WString
 pub mod Retain

@@ -1,0 +1,5 @@
+pub mod Overwritten
+mod Lent
+mod LentSteps
+mod LentValues
+mod LentResults
