@@ -47,7 +47,7 @@ refuses() {
 }
 
 ./vendor.sh "$room/one" utf16string > "$room/lines"
-holds 'nine crates of a string' [ "$(cut -d: -f1 "$room/lines" | paste -sd' ')" = 'utf16_units utf16_bytes utf16_search utf16_to_utf8 utf16_from_utf8 utf16_to_string utf16_str utf16_str_mut utf16string' ]
+holds 'ten crates of a string' [ "$(cut -d: -f1 "$room/lines" | paste -sd' ')" = 'utf16_units utf16_bytes utf16_search utf16_to_utf8 utf16_from_utf8 utf16_to_string utf16_pattern utf16_str utf16_str_mut utf16string' ]
 holds 'each is copied' [ "$(cut -d: -f1 "$room/lines" | sort)" = "$(ls "$room/one/crates")" ]
 holds 'each crate comes after those it depends on' stand_on_those_above "$room/lines"
 holds 'each line is in crates.txt' are_lines_of_this_tree "$room/lines"

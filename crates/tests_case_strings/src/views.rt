@@ -3,6 +3,7 @@ mod affixes;
 mod compared;
 mod made;
 mod measures;
+mod occurrences;
 mod parts;
 mod search;
 mod shown;
@@ -18,10 +19,8 @@ use utf16string::Utf16Order;
 /// not, no value was taken. Each module passes a name that it does not know to the next one.
 pub fn call<E: Utf16Order>(run: &mut Run, name: &str) -> bool {
     match name.split_once("::") {
-        Some(("WStr" | "WStrChars" | "WStrCharIndices" | "WStrSplit", _)) => made::call::<E>(
-            run, name,
-        ),
         Some(("WStrMut", _)) => written::call::<E>(run, name),
+        Some((kind, _)) if kind.starts_with("WStr") => made::call::<E>(run, name),
         _ => units::call::<E>(run, name),
     }
 }

@@ -8,7 +8,7 @@ use Rattle.utf16_units.proofs.BoundaryLemmas.{char_size-pos, size-text_to}
 use Rattle.utf16_units.proofs.EncodingLemmas.{size-append, size-cons, size-nil}
 use Rattle.utf16_search.specs.Occurrence.{IsFirst, IsLast}
 use Rattle.utf16_search.proofs.TextLemmas.{text_around}
-use Rattle.utf16_str.proofs.SearchLemmas.{between_parts}
+use Rattle.utf16_pattern.proofs.Around.{between_parts}
 
 -- a part lacks a character that occurs nowhere from the part's start up to its end
 lacks_part : (text before front back : List ℕ) (c : ℕ) → text ≡ (before ++ front) ++ back

@@ -2,7 +2,6 @@ pub mod OffsetLemmas
 mod SearchLemmas
 mod SplitLemmas
 pub mod CharSearch
-pub mod PassedLemmas
 pub mod StrLemmas
 mod AffixLemmas
 mod CommonLemmas
@@ -11,3 +10,21 @@ mod TrimLemmas
 mod LineLemmas
 mod WordLemmas
 mod CaseLemmas
+mod PartLemmas
+mod PartCounts
+mod PartAbsent
+mod CutFront
+mod CutBack
+mod CutResults
+mod FirstLemmas
+mod CountLemmas
+mod JoinLemmas
+mod MatchLemmas
+mod NextLemmas
+mod BackNext
+mod AroundLemmas
+mod BackLines
+mod WhiteAfter
+mod BackWords
+mod LastWord
+mod TrimMatches

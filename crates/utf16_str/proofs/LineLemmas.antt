@@ -44,7 +44,7 @@ strip-or v None line some text = sym (strip-other (v line) (λ front e. false≢
 strip-or v (Some x) line some text = sym (ap strip_carriage_return text ∙ strip-ended (v x))
 
 -- ---- the first line, and the last one
-lines_of_parts-cons : (part : List ℕ) (parts : List (List ℕ)) → 0 < length parts → lines_of_parts (part ∷ parts) ≡ strip_carriage_return part ∷ lines_of_parts parts
+pub lines_of_parts-cons : (part : List ℕ) (parts : List (List ℕ)) → 0 < length parts → lines_of_parts (part ∷ parts) ≡ strip_carriage_return part ∷ lines_of_parts parts
 lines_of_parts-cons part [] some = absurd (omega arith)
 lines_of_parts-cons part (next ∷ parts) some = refl
 

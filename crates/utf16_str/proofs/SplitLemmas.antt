@@ -1,6 +1,6 @@
 -- The substrings of a text that is split at each delimiter: how many there are, and what an
 -- iterator over them yields.
-use Rattle.std.proofs.Common.{◌≡◌, ◌+◌, ◌^◌, ◌<◌, ℕ, Bool, true, false, cond, eq-eqb, eqb, List, [], ◌∷◌, ◌++◌, length, length-append, Some, refl, sym, subst, arith, ap, ◌∙◌}
+use Rattle.std.proofs.Common.{◌≡◌, ◌+◌, ◌^◌, ◌<◌, ◌≤◌, ℕ, Bool, true, false, cond, eq-eqb, eqb, List, [], ◌∷◌, ◌++◌, length, length-append, Some, refl, sym, subst, arith, ap, ◌∙◌}
 use Rattle.std.specs.Iterator.{MakesProgress, YieldsFirstBy, YieldsLastBy, item_count}
 use Rattle.std.specs.Iterator.Runs.{EveryRun, ItemsMapTo, ItemsMapToReversed}
 use Rattle.std.specs.List.{onto_first, slice_split}
@@ -62,3 +62,8 @@ parts-bound big bytes p checked long =
     let text = text_of big bytes in
     let size = length-text big bytes (IsUtf16-from_is_utf16 big bytes checked) in
     omega (arith, long, size, length-le-size text, length-slice_split p text, count_by-le-length p text)
+
+-- lists that are at most two longer than the text are not longer than that either
+pub few-parts : (big : Bool) (bytes : List ℕ) (n : ℕ) → is_utf16 big bytes ≡ true → length bytes + 2 < 2 ^ 64 → n ≤ length (text_of big bytes) + 2 → n < 2 ^ 64
+few-parts big bytes n checked long few =
+    omega (arith, long, few, length-text big bytes (IsUtf16-from_is_utf16 big bytes checked), length-le-size (text_of big bytes))

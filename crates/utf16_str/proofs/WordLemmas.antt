@@ -9,7 +9,7 @@ use Rattle.std.specs.List.{filter, slice_split}
 use Rattle.std.specs.Str.{skip_leading_whitespace}
 use Rattle.utf16_str.specs.Splits.{words}
 
-abbrev not_empty : List ℕ → Bool
+abbrev pub not_empty : List ℕ → Bool
 not_empty word = nat_lt 0 (length word)
 
 -- ---- white space before a word
@@ -38,7 +38,7 @@ skip-stops [] c more e = absurd (cc e)
 skip-stops (d ∷ text) c more e = stopped (is_whitespace d) d c text more refl (skip-stops text c more) e
 
 -- ---- the first word
-kept : (word : List ℕ) (parts : List (List ℕ)) → word ≢ [] → filter not_empty (word ∷ parts) ≡ word ∷ filter not_empty parts
+pub kept : (word : List ℕ) (parts : List (List ℕ)) → word ≢ [] → filter not_empty (word ∷ parts) ≡ word ∷ filter not_empty parts
 kept [] parts some = absurd (some refl)
 kept (c ∷ word) parts some =
     let filled : nat_lt 0 (length (c ∷ word)) ≡ true = grind arith in

@@ -12,6 +12,8 @@ pub use Rattle.utf16_search.specs.Occurrence
 pub mod Hash
 pub mod Offsets
 pub mod Splits
+pub mod Matches
+pub mod Trims
 pub mod Window
 pub mod WStr
 pub mod Common

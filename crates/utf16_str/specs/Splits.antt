@@ -1,18 +1,91 @@
--- The substrings of a text that is split at each delimiter, its lines, and its words.
-use Rattle.std.specs.Prelude.{◌==◌, ℕ, List, [], Option, None, Some, filter, length, nat_lt}
+-- The substrings of a text that is split at each occurrence of a part, its lines, and its words.
+use Rattle.std.specs.Prelude.{◌≡◌, ◌==◌, ℕ, zero, suc, ◌-◌, ◌≤◌, ⊤, All, Bool, false, List, [], ◌∷◌, ◌++◌, Option, None, Some, filter, length, map, nat_eq, nat_lt, reverse, if◌then◌else◌}
 use Rattle.std.specs.Char.{is_whitespace}
 use Rattle.std.specs.Iterator.{YieldsFirstBy, YieldsLastBy}
 use Rattle.std.specs.Iterator.Runs.{EveryRun, ItemsMapTo, ItemsMapToReversed}
-use Rattle.std.specs.List.{slice_split}
+use Rattle.std.specs.List.{join_by, join_with_byte, onto_first, slice_split, starts_with}
 use Rattle.std.specs.Str.Lines.{lines}
+use Rattle.utf16_units.specs.Delimited.{Lacks}
 use Rattle.utf16_units.specs.declared.byte_order.Utf16Order.{Ghosts}
 use Rattle.utf16_str.specs.WStr.{wstr_text}
 use Rattle.utf16_str.specs.declared.wstr.WStr.{WStr}
 
--- the substrings of what is left of a text: none if nothing is left
-abbrev pub parts_left : ℕ → Option (List ℕ) → List (List ℕ)
-parts_left delimiter None = []
-parts_left delimiter (Some rest) = slice_split (λ c. c == delimiter) rest
+-- ---- where a part occurs. A part of one character is said by the characters of the text
+
+-- the part occurs nowhere in the text; the empty part occurs everywhere
+abbrev pub LacksPart : List ℕ → List ℕ → Type 0
+LacksPart [] text = ⊥
+LacksPart (c ∷ []) text = Lacks c text
+LacksPart (c ∷ d ∷ part) text = (front back : List ℕ) → ¬ (text ≡ front ++ (c ∷ d ∷ (part ++ back)))
+
+-- the first occurrence of the part is after `front`
+abbrev pub IsBeforeFirst : List ℕ → List ℕ → List ℕ → Type 0
+IsBeforeFirst [] text front = front ≡ []
+IsBeforeFirst (c ∷ []) text front = Lacks c front
+IsBeforeFirst (c ∷ d ∷ part) text front = (other back : List ℕ) → text ≡ other ++ (c ∷ d ∷ (part ++ back)) → length front ≤ length other
+
+-- the last occurrence of the part is before `back`
+abbrev pub IsAfterLast : List ℕ → List ℕ → List ℕ → Type 0
+IsAfterLast [] text back = back ≡ []
+IsAfterLast (c ∷ []) text back = Lacks c back
+IsAfterLast (c ∷ d ∷ part) text back = (front other : List ℕ) → text ≡ front ++ (c ∷ d ∷ (part ++ other)) → length back ≤ length other
+
+-- ---- the substrings between occurrences
+
+-- the substrings of a text between occurrences of a part that is not empty. An occurrence begins
+-- wherever the part is, except within another one; the first `inside` characters are in one
+unfoldable pub parts_between : List ℕ → ℕ → List ℕ → List (List ℕ)
+parts_between part inside [] = [] ∷ []
+parts_between part (suc inside) (c ∷ text) = parts_between part inside text
+parts_between part zero (c ∷ text) = if starts_with nat_eq (c ∷ text) part then [] ∷ parts_between part (length part - 1) text else onto_first c (parts_between part 0 text)
+
+-- each character of a text, and the empty substring at its end
+abbrev pub single_chars : List ℕ → List (List ℕ)
+single_chars text = map (λ c. c ∷ []) text ++ [] ∷ []
+
+-- the substrings of what is left of a text, where `begun` says whether an occurrence was passed. The
+-- empty part occurs at the start of a text and after each of its characters
+abbrev pub parts_from : List ℕ → Bool → List ℕ → List (List ℕ)
+parts_from [] begun text = if begun then single_chars text else [] ∷ single_chars text
+parts_from (c ∷ []) begun text = slice_split (λ d. d == c) text
+parts_from (c ∷ d ∷ part) begun text = parts_between (c ∷ d ∷ part) 0 text
+
+-- the same from the end, the last first: an occurrence ends wherever the part is, except within
+-- another one
+abbrev pub rparts_from : List ℕ → Bool → List ℕ → List (List ℕ)
+rparts_from [] begun text = map reverse (parts_from [] begun (reverse text))
+rparts_from (c ∷ []) begun text = reverse (slice_split (λ d. d == c) text)
+rparts_from (c ∷ d ∷ part) begun text = map reverse (parts_between (reverse (c ∷ d ∷ part)) 0 (reverse text))
+
+-- what `split` and `rsplit` give
+abbrev pub split_by : List ℕ → List ℕ → List (List ℕ)
+split_by part text = parts_from part false text
+
+abbrev pub rsplit_by : List ℕ → List ℕ → List (List ℕ)
+rsplit_by part text = rparts_from part false text
+
+-- the same for what is left of a text: none if nothing is left
+abbrev pub parts_left : List ℕ → Bool → Option (List ℕ) → List (List ℕ)
+parts_left part begun None = []
+parts_left part begun (Some rest) = parts_from part begun rest
+
+abbrev pub rparts_left : List ℕ → Bool → Option (List ℕ) → List (List ℕ)
+rparts_left part begun None = []
+rparts_left part begun (Some rest) = rparts_from part begun rest
+
+-- the substrings with the part between each two
+abbrev pub joined_with : List ℕ → List (List ℕ) → List ℕ
+joined_with [] parts = join_by (λ text. text) [] parts
+joined_with (c ∷ []) parts = join_with_byte c parts
+joined_with (c ∷ d ∷ part) parts = join_by (λ text. text) (c ∷ d ∷ part) parts
+
+abbrev pub rjoined_with : List ℕ → List (List ℕ) → List ℕ
+rjoined_with part parts = joined_with part (reverse parts)
+
+-- no substring has the part, unless it is empty
+abbrev pub EachLacks : List ℕ → List (List ℕ) → Type 0
+EachLacks [] parts = ⊤
+EachLacks (c ∷ part) parts = All (LacksPart (c ∷ part)) parts
 
 -- the lines of what is left of a text: none if nothing is left
 abbrev pub lines_left : Option (List ℕ) → List (List ℕ)
@@ -23,6 +96,10 @@ lines_left (Some rest) = lines rest
 -- the text split at each white space, without those that are empty
 abbrev pub words : List ℕ → List (List ℕ)
 words text = filter (λ word. nat_lt 0 (length word)) (slice_split is_whitespace text)
+
+-- a text is empty, or its last character has a property
+abbrev pub EndsWithAny : (ℕ → Type 0) → List ℕ → Type 0
+EndsWithAny P text = (front : List ℕ) (c : ℕ) → text ≡ front ++ c ∷ [] → P c
 
 -- an iterator whose model is the list of the texts that are left yields views of them, in order;
 -- the view given determines their type

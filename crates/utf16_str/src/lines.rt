@@ -1,17 +1,18 @@
 //! The lines of a text.
 
-ghost use Rattle.std.specs.Prelude.{◌≡◌, ◌<◌, ◌^◌, List, length, option_map, ℕ};
-ghost use Rattle.std.specs.Iterator.{YieldsFirstBy, item_count};
+ghost use Rattle.std.specs.Prelude.{◌≡◌, ◌<◌, ◌^◌, ◌++◌, List, length, option_map, ℕ};
+ghost use Rattle.utf16_units.specs.Delimited.{Lacks};
+ghost use Rattle.std.specs.Iterator.{YieldsFirstBy, YieldsLastBy, item_count};
 ghost use Rattle.std.specs.Str.Lines.{lines};
-ghost use Rattle.utf16_str.specs.Splits.{YieldsTexts, lines_left};
+ghost use Rattle.utf16_str.specs.Splits.{EndsWithAny, YieldsTexts, YieldsTextsBack, lines_left};
 ghost use Rattle.utf16_str.specs.WStr.{wstr_text};
 
 use crate::WStr;
 use std::marker::Model;
 use utf16_units::Utf16Order;
 
-/// An iterator over the remaining lines of a [`WStr`]. Each is a view without its line ending. Once
-/// none is left, `next` always returns `None`.
+/// An iterator over the remaining lines of a [`WStr`], from either end. Each is a view without its
+/// line ending. Once none is left, `next` and `next_back` always return `None`.
 #[derive(Drop)]
 pub struct WStrLines<'a, E: Utf16Order> {
     rest: Option<WStr<'a, E>>,
@@ -42,6 +43,23 @@ impl<'a, E: Utf16Order> Iterator for WStrLines<'a, E> {
     }
 }
 
+impl<'a, E: Utf16Order> DoubleEndedIterator for WStrLines<'a, E> {
+    ghost next_back_gives = { YieldsLastBy wstr_text (λ rest. rest) };
+
+    fn next_back(&mut self) -> Option<WStr<'a, E>> {
+        let rest = self.rest?;
+        let Some(closed) = rest.strip_suffix('\n') else {
+            let (before, line) = rest.split_last_line();
+            self.rest = Some(before);
+            return if line.is_empty() { None } else { Some(line) };
+        };
+        let (before, line) = closed.split_last_line();
+        self.rest = Some(before);
+        let line = line.strip_suffix('\r').unwrap_or(line);
+        Some(line)
+    }
+}
+
 impl<'a, E: Utf16Order> WStr<'a, E> {
     /// Returns an iterator over the lines, in order. A line ends at `\n` or `\r\n`, which is not
     /// part of it. The last line needs no ending, and nothing follows the last ending.
@@ -57,7 +75,20 @@ impl<'a, E: Utf16Order> WStr<'a, E> {
         ensures parts { result ≡ lines (wstr_text self.entry) }
         ensures bound { length result < 2 ^ 64 }
         ensures runs { YieldsTexts self.entry }
+        ensures runs_back { YieldsTextsBack self.entry }
     {
         WStrLines { rest: Some(self) }
+    }
+
+    // The text up to its last newline, and the text after that.
+    fn split_last_line(self) -> (WStr<'a, E>, WStr<'a, E>)
+        ensures joined { wstr_text self.entry ≡ wstr_text result.0 ++ wstr_text result.1 }
+        ensures line { Lacks 10 (wstr_text result.1) }
+        ensures ended { EndsWithAny (λ c. c ≡ 10) (wstr_text result.0) }
+    {
+        let Some((_, line)) = self.rsplit_once('\n') else {
+            return self.split_at(0);
+        };
+        self.split_at(self.len() - line.len())
     }
 }

@@ -1,14 +1,14 @@
-//! Substrings of a view: by ranges, and by splitting at an offset or at a character.
+//! Substrings of a view: by ranges, and by splitting at an offset or around a pattern.
 
 ghost use Rattle.std.specs.Prelude.{◌≡◌, ◌↔◌, [], IfSome, IsNone, IsSome, MatchOption, Some, ◌++◌, ◌+◌, ◌∷◌, drop, take};
 ghost use Rattle.utf16_units.specs.Boundary.{IsBoundary, OccursIn, text_between, text_from, text_to};
-ghost use Rattle.utf16_units.specs.Delimited.{Lacks};
-ghost use Rattle.utf16_units.specs.Encoding.{char_size, size};
+ghost use Rattle.utf16_units.specs.Encoding.{size};
+ghost use Rattle.utf16_str.specs.Splits.{IsAfterLast, IsBeforeFirst, LacksPart};
 ghost use Rattle.utf16_str.specs.Window.{IsRangeOf, IsWindowOf, bytes_between, range_bytes, range_text};
 ghost use Rattle.utf16_str.specs.WStr.{wstr_bytes, wstr_text};
 
-use crate::{SliceIndex, WStr};
-use utf16_units::{Utf16CharExt, Utf16Order};
+use crate::{Pattern, SliceIndex, WStr};
+use utf16_units::Utf16Order;
 
 impl<'a, E: Utf16Order> WStr<'a, E> {
     /// Returns the substring at a range, or `None` if there is none.
@@ -100,68 +100,76 @@ impl<'a, E: Utf16Order> WStr<'a, E> {
         }
     }
 
-    /// Splits the text at the first occurrence of `delimiter`, and returns the text before it and
-    /// the text after it, or `None` if it does not occur.
+    /// Splits the text at the first occurrence of `delimiter`, a text or a character, and returns the
+    /// text before it and the text after it, or `None` if it does not occur. The empty text occurs
+    /// at the start.
     ///
     /// # Complexity
     ///
-    /// One pass, up to that character. Copies nothing.
-    #[tactic(auto, using(crate::proofs::PassedLemmas::passing))]
-    pub fn split_once(self, delimiter: char) -> Option<(WStr<'a, E>, WStr<'a, E>)>
-        ensures none { IsNone result ↔ Lacks delimiter (wstr_text self.entry) }
-        ensures split { IfSome result (λ parts.
-            wstr_text self.entry ≡ wstr_text parts.0 ++ delimiter ∷ wstr_text parts.1) }
-        ensures first { IfSome result (λ parts. Lacks delimiter (wstr_text parts.0)) }
+    /// One pass, up to that occurrence. Copies nothing.
+    ///
+    /// # Source
+    ///
+    /// `str::split_once`.
+    #[inline]
+    pub fn split_once<P: Pattern<E>>(self, delimiter: P) -> Option<(WStr<'a, E>, WStr<'a, E>)>
+        ensures none { IsNone result ↔ LacksPart (P.part delimiter) (wstr_text self.entry) }
+        ensures split { IfSome result (λ parts. wstr_text self.entry
+            ≡ wstr_text parts.0 ++ (P.part delimiter ++ wstr_text parts.1)) }
+        ensures first { IfSome result (λ parts.
+            IsBeforeFirst (P.part delimiter) (wstr_text self.entry) (wstr_text parts.0)) }
         ensures front_bytes { IfSome result (λ parts.
             wstr_bytes parts.0 ≡ take (size (wstr_text parts.0)) (wstr_bytes self.entry)) }
         ensures back_bytes { IfSome result (λ parts.
-            wstr_bytes parts.1 ≡ drop (size (wstr_text parts.0) + char_size delimiter)
+            wstr_bytes parts.1 ≡ drop (size (wstr_text parts.0) + size (P.part delimiter))
             (wstr_bytes self.entry)) }
     {
-        for (at, c) in self.char_indices() {
-            if c == delimiter {
-                let (front, _) = self.split_at(at);
-                let (_, back) = self.split_at(at + c.encoded_utf16_len());
-                return Some((front, back));
-            }
-        }
-        None
+        let at = delimiter.next_in(self.as_bytes())?;
+        Some(self.split_around(at, delimiter))
     }
 
-    /// Splits the text at the last occurrence of `delimiter`, and returns the text before it and
-    /// the text after it, or `None` if it does not occur.
+    /// Splits the text at the last occurrence of `delimiter`, a text or a character, and returns the
+    /// text before it and the text after it, or `None` if it does not occur. The empty text occurs
+    /// last at the end.
     ///
     /// # Complexity
     ///
-    /// One pass, from the end down to that character. Copies nothing.
-    pub fn rsplit_once(self, delimiter: char) -> Option<(WStr<'a, E>, WStr<'a, E>)>
-        ensures none { IsNone result ↔ Lacks delimiter (wstr_text self.entry) }
-        ensures split { IfSome result (λ parts.
-            wstr_text self.entry ≡ wstr_text parts.0 ++ delimiter ∷ wstr_text parts.1) }
-        ensures last { IfSome result (λ parts. Lacks delimiter (wstr_text parts.1)) }
+    /// One pass, from the end down to that occurrence. Copies nothing.
+    ///
+    /// # Source
+    ///
+    /// `str::rsplit_once`.
+    pub fn rsplit_once<P: Pattern<E>>(self, delimiter: P) -> Option<(WStr<'a, E>, WStr<'a, E>)>
+        ensures none { IsNone result ↔ LacksPart (P.part delimiter) (wstr_text self.entry) }
+        ensures split { IfSome result (λ parts. wstr_text self.entry
+            ≡ wstr_text parts.0 ++ (P.part delimiter ++ wstr_text parts.1)) }
+        ensures last { IfSome result (λ parts.
+            IsAfterLast (P.part delimiter) (wstr_text self.entry) (wstr_text parts.1)) }
         ensures front_bytes { IfSome result (λ parts.
             wstr_bytes parts.0 ≡ take (size (wstr_text parts.0)) (wstr_bytes self.entry)) }
         ensures back_bytes { IfSome result (λ parts.
-            wstr_bytes parts.1 ≡ drop (size (wstr_text parts.0) + char_size delimiter)
+            wstr_bytes parts.1 ≡ drop (size (wstr_text parts.0) + size (P.part delimiter))
             (wstr_bytes self.entry)) }
     {
         let at = self.rfind(delimiter)?;
         Some(self.split_around(at, delimiter))
     }
 
-    // The text before a character that occurs at an offset, and the text after it.
-    fn split_around(self, at: usize, c: char) -> (WStr<'a, E>, WStr<'a, E>)
-        requires { OccursIn (wstr_text self) at (c ∷ []) }
-        ensures split { wstr_text self.entry ≡ wstr_text result.0 ++ c ∷ wstr_text result.1 }
+    // The text before an occurrence of a pattern, and the text after it.
+    fn split_around<P: Pattern<E>>(self, at: usize, pattern: P) -> (WStr<'a, E>, WStr<'a, E>)
+        requires { OccursIn (wstr_text self) at (P.part pattern) }
+        ensures split { wstr_text self.entry
+            ≡ wstr_text result.0 ++ (P.part pattern ++ wstr_text result.1) }
         ensures front { wstr_text result.0 ≡ text_to (wstr_text self.entry) at }
-        ensures back { wstr_text result.1 ≡ text_from (wstr_text self.entry) (at + char_size c) }
+        ensures back { wstr_text result.1
+            ≡ text_from (wstr_text self.entry) (at + size (P.part pattern)) }
         ensures front_bytes { wstr_bytes result.0
             ≡ take (size (wstr_text result.0)) (wstr_bytes self.entry) }
         ensures back_bytes { wstr_bytes result.1
-            ≡ drop (size (wstr_text result.0) + char_size c) (wstr_bytes self.entry) }
+            ≡ drop (size (wstr_text result.0) + size (P.part pattern)) (wstr_bytes self.entry) }
     {
         let (front, _) = self.split_at(at);
-        let (_, back) = self.split_at(at + c.encoded_utf16_len());
+        let (_, back) = self.split_at(at + pattern.encoded_len());
         (front, back)
     }
 

@@ -2,8 +2,8 @@
 
 ghost use Rattle.std.specs.Prelude.{◌≡◌, ◌++◌, ◌∷◌, ◌<◌, ◌^◌, All, List, false, length, true, ℕ};
 ghost use Rattle.std.specs.Char.{is_whitespace};
-ghost use Rattle.std.specs.Iterator.{YieldsFirstBy, item_count};
-ghost use Rattle.utf16_str.specs.Splits.{YieldsTexts, words};
+ghost use Rattle.std.specs.Iterator.{YieldsFirstBy, YieldsLastBy, item_count};
+ghost use Rattle.utf16_str.specs.Splits.{EndsWithAny, YieldsTexts, YieldsTextsBack, words};
 ghost use Rattle.utf16_str.specs.WStr.{wstr_text};
 
 use crate::WStr;
@@ -11,7 +11,8 @@ use std::marker::Model;
 use utf16_units::Utf16Order;
 
 /// An iterator over the remaining words of a [`WStr`], the substrings between white space that are
-/// not empty. Each is a view. Once none is left, `next` always returns `None`.
+/// not empty, from either end. Each is a view. Once none is left, `next` and `next_back` always
+/// return `None`.
 #[derive(Drop)]
 pub struct WStrSplitWhitespace<'a, E: Utf16Order> {
     rest: WStr<'a, E>,
@@ -40,6 +41,19 @@ impl<'a, E: Utf16Order> Iterator for WStrSplitWhitespace<'a, E> {
     }
 }
 
+impl<'a, E: Utf16Order> DoubleEndedIterator for WStrSplitWhitespace<'a, E> {
+    ghost next_back_gives = { YieldsLastBy wstr_text (λ rest. rest) };
+
+    fn next_back(&mut self) -> Option<WStr<'a, E>> {
+        let (before, word) = self.rest.trim_end().split_last_word();
+        self.rest = before;
+        if word.is_empty() {
+            return None;
+        }
+        Some(word)
+    }
+}
+
 impl<'a, E: Utf16Order> WStr<'a, E> {
     /// Returns an iterator over the words, in order: the substrings between white space that are
     /// not empty. White space is what has the property `White_Space` of Unicode.
@@ -55,6 +69,7 @@ impl<'a, E: Utf16Order> WStr<'a, E> {
         ensures parts { result ≡ words (wstr_text self.entry) }
         ensures bound { length result < 2 ^ 64 }
         ensures runs { YieldsTexts self.entry }
+        ensures runs_back { YieldsTextsBack self.entry }
     {
         WStrSplitWhitespace { rest: self }
     }
@@ -74,5 +89,21 @@ impl<'a, E: Utf16Order> WStr<'a, E> {
             rest = more;
         }
         (self, rest)
+    }
+
+    // The text up to its last white space, and the text after that.
+    fn split_last_word(self) -> (WStr<'a, E>, WStr<'a, E>)
+        ensures joined { wstr_text self.entry ≡ wstr_text result.0 ++ wstr_text result.1 }
+        ensures word { All (λ c. is_whitespace c ≡ false) (wstr_text result.1) }
+        ensures rest { EndsWithAny (λ c. is_whitespace c ≡ true) (wstr_text result.0) }
+    {
+        let mut rest = self;
+        while let Some((c, front)) = rest.split_last() {
+            if c.is_whitespace() {
+                return self.split_at(rest.len());
+            }
+            rest = front;
+        }
+        (rest, self)
     }
 }

@@ -74,7 +74,8 @@ fn range<E: Utf16Order>(run: &mut Run, text: WStr<E>, by: By) {
     }
 }
 
-fn both<E: Utf16Order>(answer: &mut Answer, parts: Option<(WStr<E>, WStr<E>)>) {
+/// Adds two parts of a view, if there are any.
+pub fn both<E: Utf16Order>(answer: &mut Answer, parts: Option<(WStr<E>, WStr<E>)>) {
     match parts {
         Some((front, back)) => {
             answer.bytes(front.as_bytes());

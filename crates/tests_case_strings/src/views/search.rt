@@ -1,11 +1,11 @@
 //! Where a text or a character occurs in a view.
 
 use crate::views::made::view;
-use crate::views::spaces;
+use crate::views::occurrences;
 use tests_case_lines::{Answer, Run};
 use utf16string::{Pattern, Utf16Order, WStr};
 
-/// Makes a call that searches in a view, or passes the name to `spaces`.
+/// Makes a call that searches in a view, or passes the name to `occurrences`.
 pub fn call<E: Utf16Order>(run: &mut Run, text: WStr<E>, name: &str) -> bool {
     match name {
         "WStr::find" | "WStr::rfind" | "WStr::contains" => {
@@ -18,7 +18,7 @@ pub fn call<E: Utf16Order>(run: &mut Run, text: WStr<E>, name: &str) -> bool {
             let pattern = run.character();
             answer(&mut run.answer, text, pattern, name);
         }
-        _ => return spaces::call(run, text, name),
+        _ => return occurrences::call(run, text, name),
     }
     true
 }

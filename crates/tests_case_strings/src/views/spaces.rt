@@ -14,6 +14,16 @@ pub fn call<E: Utf16Order>(run: &mut Run, text: WStr<E>, name: &str) -> bool {
                 run.answer.bytes(line.as_bytes());
             }
         }
+        "WStrLines::rev" => {
+            for line in text.lines().rev() {
+                run.answer.bytes(line.as_bytes());
+            }
+        }
+        "WStrSplitWhitespace::rev" => {
+            for word in text.split_whitespace().rev() {
+                run.answer.bytes(word.as_bytes());
+            }
+        }
         "WStr::split_whitespace" => {
             for word in text.split_whitespace() {
                 run.answer.bytes(word.as_bytes());

@@ -1,22 +1,9 @@
-use Rattle.std.proofs.Common.{◌≡◌, Some, rules, sym, ap, ◌∙◌, option_map}
-use Rattle.utf16_units.specs.Delimited.{Lacks}
-use Rattle.utf16_units.proofs.DelimitedLemmas.{parts-first, parts-last}
-use Rattle.utf16_str.specs.Splits.{parts_left}
-use Rattle.utf16_str.specs.WStr.{wstr_text}
+use Rattle.std.proofs.Common.{sym, ◌∙◌}
 use Rattle.utf16_str.proofs.SplitLemmas.{progress-part}
 use Rattle.utf16_str.proofs.split.WStrSplitIterator.next.Goals as goal
 
-pub returns-in_default-clause-steps : goal.returns-in_default-clause-steps
-returns-in_default-clause-steps g c =
-    let rest : c.self.inside.rest ≡ Some c.in_ok-rest.rest = search rules in
-    let lacks : Lacks c.self.inside.delimiter (wstr_text c.in_ok-rest.rest) = search rules in
-    sym c.self.view_is ∙ ap (λ o. parts_left c.self.inside.delimiter (option_map wstr_text o)) rest ∙ parts-last _ _ lacks
-
 pub returns-clause-steps : goal.returns-clause-steps
-returns-clause-steps g c =
-    let rest : c.self.inside.rest ≡ Some c.in_ok-rest.rest = search rules in
-    sym c.self.view_is ∙ ap (λ o. parts_left c.self.inside.delimiter (option_map wstr_text o)) rest
-    ∙ parts-first _ _ _ _ c.in-Some.ensures.split c.in-Some.ensures.first
+returns-clause-steps g c = sym c.self.view_is ∙ c.in_ok-part.ensures.parts
 
 pub returns-clause-goes : goal.returns-clause-goes
 returns-clause-goes g c = progress-part _ (λ _. tt) _ _ _ _ (returns-clause-steps g c)

@@ -2,7 +2,7 @@ use Rattle.std.proofs.Common.{arith, eqb}
 use Rattle.utf16_str.specs.WStr.{wstr_bytes, wstr_text}
 use Rattle.std.specs.List.{slice_split}
 use Rattle.utf16_str.proofs.LineLemmas.{length-lines_of_parts}
-use Rattle.utf16_str.proofs.SplitLemmas.{parts-bound, text_runs}
+use Rattle.utf16_str.proofs.SplitLemmas.{parts-bound, text_runs, text_runs_back}
 use Rattle.utf16_str.proofs.wstr.WStr.lines.Goals as goal
 
 pub returns-clause-bound : goal.returns-clause-bound
@@ -11,3 +11,6 @@ returns-clause-bound g c =
 
 pub returns-clause-runs : goal.returns-clause-runs
 returns-clause-runs g c = text_runs wstr_text
+
+pub returns-clause-runs_back : goal.returns-clause-runs_back
+returns-clause-runs_back g c = text_runs_back wstr_text

@@ -1,48 +1,45 @@
-use Rattle.std.proofs.Common.{◌≡◌, ◌∙◌, ◌+◌, ◌++◌, ◌∷◌, ap, arith, drop, refl, sym, subst, take}
-use Rattle.utf16_units.specs.Boundary.{text_from}
-use Rattle.utf16_units.specs.Delimited.{Lacks}
-use Rattle.utf16_units.specs.Encoding.{char_size, size}
-use Rattle.utf16_units.proofs.BoundaryLemmas.{IsBoundary-within}
-use Rattle.utf16_units.proofs.EncodingLemmas.{IsUtf16-from_is_utf16, length-text}
-use Rattle.utf16_str.specs.WStr.{wstr_bytes, wstr_text}
-use Rattle.utf16_str.proofs.PassedLemmas.{IsFirstAt, IsPassed, passed-all, passed-found}
+use Rattle.std.proofs.Common.{◌↔◌, None, Some, refl, subst, sym}
+use Rattle.std.specs.Option.{IsNone}
+use Rattle.utf16_units.specs.Boundary.{OccursIn}
+use Rattle.utf16_units.specs.Encoding.{encode}
+use Rattle.utf16_units.proofs.EncodingLemmas.{IsUtf16-from_Encodes}
+use Rattle.utf16_search.specs.Occurrence.{IsFirst}
+use Rattle.utf16_str.specs.Splits.{IsBeforeFirst, LacksPart}
+use Rattle.utf16_str.specs.WStr.{wstr_text}
+use Rattle.utf16_str.proofs.FirstLemmas.{before_first, lacks_part, lacks_part-not}
+use Rattle.utf16_str.proofs.SearchLemmas.{first_in_text}
 use Rattle.utf16_str.proofs.wstr.WStr.split_once.Given.{Over}
 use Rattle.utf16_str.proofs.wstr.WStr.split_once.Goals as goal
-use Rattle.utf16_str.proofs.wstr.WStr.split_once.Goals.{After-split_at}
+use Rattle.utf16_str.proofs.wstr.WStr.split_once.Goals.{In_ok-at}
 
-first : (g : Over) (c : After-split_at g) → IsFirstAt c.args.delimiter (wstr_text c.args.self) c.in-Some.at
-first g c = passed-found _ _ _ _ _ (subst (IsPassed c.args.delimiter (wstr_text c.args.self)) c.in-Some.ensures.steps c.loop-at.invariant) c.if-c-delimiter.true
+in_text : (g : Over) (c : In_ok-at g) → IsFirst (λ i. OccursIn (wstr_text c.args.self) i (g.P.Pattern.part c.args.delimiter)) (Some c.in_ok-at.at)
+in_text g c =
+    let big = g.E.Utf16Order.BIG in
+    let part = g.P.Pattern.part c.args.delimiter in
+    first_in_text big (wstr_text c.args.self) part c.as_bytes.result.now (encode big part) c.as_bytes.ensures.encoding
+    (record { scalars = c.in_ok-at.ensures.scalars; spelled = refl }) (Some c.in_ok-at.at) c.in_ok-at.ensures.first
 
-offset : (g : Over) (c : After-split_at g) → size (wstr_text c.split_at.result.0) ≡ c.in-Some.at
-offset g c = ap size c.split_at.ensures.front ∙ (first g c).offset
+pub next_in-requires : goal.next_in-requires
+next_in-requires g c = IsUtf16-from_Encodes _ _ _ c.as_bytes.ensures.encoding
 
-pub overflow_add-at : goal.overflow_add-at
-overflow_add-at g c =
-    let within = IsBoundary-within (wstr_text c.args.self) _ (first g (goal.at.overflow_add-at g c).After-split_at).end in
-    omega (arith, within, length-text _ _ (IsUtf16-from_is_utf16 _ _ c.args.self.well_formed), c.encoded_utf16_len.ensures, ap char_size c.if-c-delimiter.true, c.ranges.self.0)
+pub split_around-requires : goal.split_around-requires
+split_around-requires g c = (in_text g c).0
 
-pub returns-then-c-delimiter-clause-first : goal.returns-then-c-delimiter-clause-first
-returns-then-c-delimiter-clause-first g c =
-    subst (Lacks c.args.delimiter) (sym c.split_at.ensures.front) (first g (goal.at.returns-then-c-delimiter-clause-first g c).After-split_at).lacks
-
-pub returns-then-c-delimiter-clause-front_bytes : goal.returns-then-c-delimiter-clause-front_bytes
-returns-then-c-delimiter-clause-front_bytes g c =
-    c.split_at.ensures.front_bytes ∙ ap (λ n. take n (wstr_bytes c.args.self)) (sym (offset g (goal.at.returns-then-c-delimiter-clause-front_bytes g c).After-split_at))
-
-pub returns-then-c-delimiter-clause-back_bytes : goal.returns-then-c-delimiter-clause-back_bytes
-returns-then-c-delimiter-clause-back_bytes g c =
-    let at = offset g (goal.at.returns-then-c-delimiter-clause-back_bytes g c).After-split_at in
-    let behind : c.in-Some.at + c.encoded_utf16_len.result ≡ size (wstr_text c.split_at.result.0) + char_size c.args.delimiter =
-    omega (arith, at, c.encoded_utf16_len.ensures, ap char_size c.if-c-delimiter.true) in
-    c.split_at-then-c-delimiter.ensures.back_bytes ∙ ap (λ n. drop n (wstr_bytes c.args.self)) behind
+pub returns-in_err-at-clause-none : goal.returns-in_err-at-clause-none
+returns-in_err-at-clause-none g c =
+    let big = g.E.Utf16Order.BIG in
+    let text = wstr_text c.args.self in
+    let part = g.P.Pattern.part c.args.delimiter in
+    let none = first_in_text big text part c.as_bytes.result.now (encode big part) c.as_bytes.ensures.encoding
+    (record { scalars = c.in_err-at.ensures.scalars; spelled = refl }) None c.in_err-at.ensures.first in
+    subst (λ o. IsNone o ↔ LacksPart part text) (sym c.from_residual.ensures) (λ _. lacks_part part text none, λ lacks. refl)
 
 pub returns-clause-none : goal.returns-clause-none
 returns-clause-none g c =
-    (λ none. passed-all _ _ (subst (IsPassed c.args.delimiter (wstr_text c.args.self)) c.in-None.ensures.steps.0 c.loop-at.invariant), λ lacks. refl)
+    (λ none. absurd (cc none), λ lacks. absurd (lacks_part-not (g.P.Pattern.part c.args.delimiter) (wstr_text c.args.self) _ _ c.split_around.ensures.split lacks))
 
-pub returns-then-c-delimiter-clause-split : goal.returns-then-c-delimiter-clause-split
-returns-then-c-delimiter-clause-split g c =
-    let at = first g (goal.at.returns-then-c-delimiter-clause-split g c).After-split_at in
-    let back = c.split_at-then-c-delimiter.ensures.back ∙ ap (λ n. text_from (wstr_text c.args.self) (c.in-Some.at + n)) (c.encoded_utf16_len.ensures ∙ ap char_size c.if-c-delimiter.true) in
-    at.split ∙ ap (λ t. t ++ c.args.delimiter ∷ text_from (wstr_text c.args.self) (c.in-Some.at + char_size c.args.delimiter)) (sym c.split_at.ensures.front)
-    ∙ ap (λ t. wstr_text c.split_at.result.0 ++ c.args.delimiter ∷ t) (sym back)
+pub returns-clause-first : goal.returns-clause-first
+returns-clause-first g c =
+    let part = g.P.Pattern.part c.args.delimiter in
+    let text = wstr_text c.args.self in
+    subst (IsBeforeFirst part text) (sym c.split_around.ensures.front) (before_first part text _ (in_text g (goal.at.returns-clause-first g c).In_ok-at))

@@ -1,7 +1,7 @@
 use Rattle.std.proofs.Common.{arith}
 use Rattle.std.specs.Char.{is_whitespace}
 use Rattle.utf16_str.specs.WStr.{wstr_bytes, wstr_text}
-use Rattle.utf16_str.proofs.SplitLemmas.{parts-bound, text_runs}
+use Rattle.utf16_str.proofs.SplitLemmas.{parts-bound, text_runs, text_runs_back}
 use Rattle.utf16_str.proofs.WordLemmas.{length-words}
 use Rattle.utf16_str.proofs.wstr.WStr.split_whitespace.Goals as goal
 
@@ -11,3 +11,6 @@ returns-clause-bound g c =
 
 pub returns-clause-runs : goal.returns-clause-runs
 returns-clause-runs g c = text_runs wstr_text
+
+pub returns-clause-runs_back : goal.returns-clause-runs_back
+returns-clause-runs_back g c = text_runs_back wstr_text

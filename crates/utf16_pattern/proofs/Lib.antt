@@ -1,0 +1,3 @@
+pub mod AffixTests
+pub mod Around
+mod PassedBytes

@@ -1,0 +1,35 @@
+use Rattle.std.proofs.Common.{◌-◌, ◌∙◌, List, ℕ, ap, arith, option_map, refl, subst, sym}
+use Rattle.std.specs.Iterator.{YieldsFirstBy}
+use Rattle.utf16_str.specs.Matches.{limited}
+use Rattle.utf16_str.specs.Splits.{joined_with, parts_left}
+use Rattle.utf16_str.specs.WStr.{wstr_text}
+use Rattle.utf16_str.proofs.CountLemmas.{count-parts}
+use Rattle.utf16_str.proofs.JoinLemmas.{join-parts}
+use Rattle.utf16_str.proofs.MatchLemmas.{limited-more}
+use Rattle.utf16_str.proofs.NextLemmas.{limited-rest, progress-any}
+use Rattle.utf16_str.proofs.SplitLemmas.{progress-part}
+use Rattle.utf16_str.proofs.splitn.WStrSplitNIterator.next.Goals as goal
+
+pub returns-then-self-eq0-2-clause-steps : goal.returns-then-self-eq0-2-clause-steps
+returns-then-self-eq0-2-clause-steps g c =
+    let part = g.P.Pattern.part c.self.inside.pattern in
+    let begun = c.self.inside.left.begun in
+    let count = c.self.inside.count in
+    subst (λ items. YieldsFirstBy wstr_text (λ (rest : List (List ℕ)). rest) items c.self.inside.left.rest
+    (limited (joined_with part) (count - 1) (parts_left part begun (option_map wstr_text c.self.inside.left.rest)))) c.self.view_is
+    (limited-rest wstr_text (joined_with part) (parts_left part begun) refl (λ text. (count-parts part begun text).0) (λ text. join-parts part begun text)
+    c.self.inside.left.rest count (count - 1) (omega (arith, c.if-self-eq0.false, c.if-self-eq0-2.true)) c.if-self-eq0-2.true)
+
+pub returns-then-self-eq0-2-clause-goes : goal.returns-then-self-eq0-2-clause-goes
+returns-then-self-eq0-2-clause-goes g c = progress-any wstr_text _ (λ _. tt) _ _ _ (returns-then-self-eq0-2-clause-steps g c)
+
+pub returns-clause-steps : goal.returns-clause-steps
+returns-clause-steps g c =
+    let part = g.P.Pattern.part c.self.inside.pattern in
+    let count = c.self.inside.count in
+    let more = parts_left part c.next_part.new.self.begun (option_map wstr_text c.next_part.new.self.rest) in
+    sym c.self.view_is ∙ ap (limited (joined_with part) count) c.in_ok-part.ensures.parts
+    ∙ limited-more (joined_with part) count (count - 1) (wstr_text c.in_ok-part.part) more (omega (arith, c.if-self-eq0.false)) (omega (arith, c.if-self-eq0-2.false))
+
+pub returns-clause-goes : goal.returns-clause-goes
+returns-clause-goes g c = progress-part _ (λ _. tt) _ _ _ _ (returns-clause-steps g c)

@@ -1,0 +1,21 @@
+use Rattle.std.proofs.Common.{◌≡◌, ◌∙◌, [], None, ap, option_map, sym}
+use Rattle.std.proofs.lemmas.Bool.{false≢true}
+use Rattle.utf16_str.specs.Matches.{without_empty_last}
+use Rattle.utf16_str.specs.WStr.{wstr_text}
+use Rattle.utf16_str.proofs.NextLemmas.{mapped-some, without-next}
+use Rattle.utf16_str.proofs.SplitLemmas.{progress-part}
+use Rattle.utf16_str.proofs.terminators.WStrSplitTerminatorIterator.next.Goals as goal
+use Rattle.utf16_str.proofs.terminators.WStrSplitTerminatorIterator.next.Goals.{else-is_none-via-then-is_none+else-is_empty, else-is_none-via-else-is_none}
+
+pub returns-clause-steps : goal.returns-clause-steps
+returns-clause-steps g c =
+    let rest = c.next_part.new.self.rest in
+    let some : option_map wstr_text rest ≡ None → ¬ (wstr_text c.in_ok-part.part ≡ []) = elim c.else-is_none.branch [
+      | else-is_none-via-then-is_none+else-is_empty w ↦ λ none nil. false≢true (sym w.if-is_empty.false ∙ w.is_empty.ensures.1 nil)
+      | else-is_none-via-else-is_none w ↦ λ none. absurd (mapped-some wstr_text rest _ c.is_none.ensures w.if-is_none.false none)
+    ] in
+    sym c.self.view_is ∙ ap without_empty_last c.in_ok-part.ensures.parts
+    ∙ without-next (g.P.Pattern.part c.self.inside.pattern) c.next_part.new.self.begun (wstr_text c.in_ok-part.part) (option_map wstr_text rest) some
+
+pub returns-clause-goes : goal.returns-clause-goes
+returns-clause-goes g c = progress-part _ (λ _. tt) _ _ _ _ (returns-clause-steps g c)

@@ -1,0 +1,17 @@
+use Rattle.std.proofs.Common.{arith, false}
+use Rattle.utf16_units.specs.Encoding.{size}
+use Rattle.utf16_str.specs.Splits.{rsplit_by}
+use Rattle.utf16_str.specs.WStr.{wstr_bytes, wstr_text}
+use Rattle.utf16_str.proofs.CountLemmas.{count-rparts}
+use Rattle.utf16_str.proofs.MatchLemmas.{length-roffsets}
+use Rattle.utf16_str.proofs.SplitLemmas.{few-parts, text_runs}
+use Rattle.utf16_str.proofs.wstr.WStr.rmatch_indices.Goals as goal
+
+pub returns-clause-bound : goal.returns-clause-bound
+returns-clause-bound g c =
+    let text = wstr_text c.args.self in
+    let part = g.P.Pattern.part c.args.pattern in
+    few-parts g.E.Utf16Order.BIG (wstr_bytes c.args.self) _ c.args.self.well_formed (omega arith) (omega (arith, length-roffsets part (size text) (rsplit_by part text), (count-rparts part false text).1))
+
+pub returns-clause-runs : goal.returns-clause-runs
+returns-clause-runs g c = text_runs (λ at. (at.0, wstr_text at.1))

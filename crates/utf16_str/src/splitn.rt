@@ -1,0 +1,142 @@
+//! The first or the last `n` substrings of a text: the last one that comes has the rest.
+
+ghost use Rattle.std.specs.Prelude.{◌≡◌, ◌≤◌, ℕ, List, length, option_map, reverse};
+ghost use Rattle.std.specs.Iterator.{YieldsFirstBy, item_count};
+ghost use Rattle.utf16_str.specs.Matches.{limited};
+ghost use Rattle.utf16_str.specs.Splits.{YieldsTexts, joined_with, parts_left, rjoined_with, rparts_left, rsplit_by, split_by};
+ghost use Rattle.utf16_str.specs.WStr.{wstr_text};
+
+use crate::remaining::Remaining;
+use crate::{Pattern, WStr};
+use std::marker::Model;
+use utf16_units::Utf16Order;
+
+/// An iterator over at most a number of remaining substrings of a [`WStr`] separated by a
+/// delimiter. Each is a view; the last one has the rest of the text. Once none is left, `next`
+/// always returns `None`.
+#[derive(Drop)]
+pub struct WStrSplitN<'a, E: Utf16Order, P: Pattern<E>> {
+    left: Remaining<'a, E>,
+    pattern: P,
+    count: usize,
+}
+
+impl<'a, E: Utf16Order, P: Pattern<E>> Model for WStrSplitN<'a, E, P> {
+    ghost Value = { List (List ℕ) };
+
+    ghost view = { λ it. limited (joined_with (P.part it.pattern)) it.count
+        (parts_left (P.part it.pattern) it.left.begun (option_map wstr_text it.left.rest)) };
+}
+
+impl<'a, E: Utf16Order, P: Pattern<E>> Iterator for WStrSplitN<'a, E, P> {
+    type Item = WStr<'a, E>;
+
+    ghost next_gives = { YieldsFirstBy wstr_text (λ rest. rest) };
+
+    ghost remaining = { item_count (λ rest. rest) };
+
+    #[inline]
+    fn next(&mut self) -> Option<WStr<'a, E>> {
+        if self.count == 0 {
+            return None;
+        }
+        self.count -= 1;
+        if self.count == 0 {
+            return self.left.rest;
+        }
+        let (part, _) = self.left.next_part(self.pattern)?;
+        Some(part)
+    }
+}
+
+/// An iterator over at most a number of remaining substrings of a [`WStr`] separated by a
+/// delimiter, the last first. Each is a view; the last one that it gives has the rest of the text.
+/// Once none is left, `next` always returns `None`.
+#[derive(Drop)]
+pub struct WStrRSplitN<'a, E: Utf16Order, P: Pattern<E>> {
+    left: Remaining<'a, E>,
+    pattern: P,
+    count: usize,
+}
+
+impl<'a, E: Utf16Order, P: Pattern<E>> Model for WStrRSplitN<'a, E, P> {
+    ghost Value = { List (List ℕ) };
+
+    ghost view = { λ it. limited (rjoined_with (P.part it.pattern)) it.count
+        (rparts_left (P.part it.pattern) it.left.begun (option_map wstr_text it.left.rest)) };
+}
+
+impl<'a, E: Utf16Order, P: Pattern<E>> Iterator for WStrRSplitN<'a, E, P> {
+    type Item = WStr<'a, E>;
+
+    ghost next_gives = { YieldsFirstBy wstr_text (λ rest. rest) };
+
+    ghost remaining = { item_count (λ rest. rest) };
+
+    #[inline]
+    fn next(&mut self) -> Option<WStr<'a, E>> {
+        if self.count == 0 {
+            return None;
+        }
+        self.count -= 1;
+        if self.count == 0 {
+            return self.left.rest;
+        }
+        let (part, _) = self.left.last_part(self.pattern)?;
+        Some(part)
+    }
+}
+
+impl<'a, E: Utf16Order> WStr<'a, E> {
+    /// Returns an iterator over the substrings that `split` gives, but over at most `n`: the last of
+    /// `n` has the rest of the text, with the delimiters in it.
+    ///
+    /// # Complexity
+    ///
+    /// One pass, up to the last delimiter that it takes. Copies nothing and does not allocate.
+    ///
+    /// # Source
+    ///
+    /// The substrings are the same as with `str::splitn`.
+    pub fn splitn<P: Pattern<E>>(self, n: usize, delimiter: P) -> WStrSplitN<'a, E, P>
+        ensures parts { result ≡ limited (joined_with (P.part delimiter)) n
+            (split_by (P.part delimiter) (wstr_text self.entry)) }
+        ensures bound { length result ≤ n }
+        ensures runs { YieldsTexts self.entry }
+    {
+        WStrSplitN {
+            left: Remaining {
+                rest: Some(self),
+                begun: false,
+            },
+            pattern: delimiter,
+            count: n,
+        }
+    }
+
+    /// Returns an iterator over the substrings that `rsplit` gives, the last first, but over at most
+    /// `n`: the last of `n` has the rest of the text, with the delimiters in it.
+    ///
+    /// # Complexity
+    ///
+    /// One pass, down to the last delimiter that it takes. Copies nothing and does not allocate.
+    ///
+    /// # Source
+    ///
+    /// The substrings are the same as with `str::rsplitn`.
+    pub fn rsplitn<P: Pattern<E>>(self, n: usize, delimiter: P) -> WStrRSplitN<'a, E, P>
+        ensures parts { result ≡ limited (rjoined_with (P.part delimiter)) n
+            (rsplit_by (P.part delimiter) (wstr_text self.entry)) }
+        ensures bound { length result ≤ n }
+        ensures runs { YieldsTexts self.entry }
+    {
+        WStrRSplitN {
+            left: Remaining {
+                rest: Some(self),
+                begun: false,
+            },
+            pattern: delimiter,
+            count: n,
+        }
+    }
+}
