@@ -39,7 +39,7 @@ from_utf16le_spec 𝓤 𝓛 𝓜 𝓡 wired =
     let z : G.Ghost = ((ρs, (qs.0, (full_share, tt)), tt, a, (mut_slice_vals r, tt)), tt) in
     -- [the new token; the token of κ; nothing; the bytes; nothing]
     move ! (1 ∷ 0 ∷ 2 ∷ 3 ∷ 4 ∷ []) $ group ! 3 $ join ! $ move ! (1 ∷ []) $ known ! (⊑_static (α ∷ [])) $ move ! (1 ∷ 0 ∷ []) $ use2 𝓛 (raw (G.pre z)) (id⊢ 𝓤 _) $
-    calls_at ! (framed 𝓤 𝓛.H 𝓜 𝓣) G (g-thm.met 𝓤 𝓛 𝓜 𝓡 (code.calls-utf16_str::wstr_mut::WStrMut::from_utf16 𝓡.env wired) Y Y-laws ghosts dict
+    calls_at ! (framed 𝓤 𝓛.H 𝓜 𝓣) G (g-thm.met 𝓤 𝓛 𝓜 𝓡 (code.calls-utf16_str_mut::wstr_mut::WStrMut::from_utf16 𝓡.env wired) Y Y-laws ghosts dict
     (passed 𝓡.env (code.calls-utf16_units::byte_order::LittleEndianUtf16Order::BIG 𝓡.env wired) (code.calls-utf16_units::byte_order::LittleEndianUtf16Order::read_unit 𝓡.env wired) (code.calls-utf16_units::byte_order::LittleEndianUtf16Order::write_unit 𝓡.env wired) _ 𝓤 𝓛 𝓜 𝓡)) z
     (and_then ! (get ! refl) (no_more !)) (λ v.
     let Ends = λ (x : Answer Y ghosts). raw ((c κs a).ensures tt x (at_exit F.ended κs a (tt, tt))) in

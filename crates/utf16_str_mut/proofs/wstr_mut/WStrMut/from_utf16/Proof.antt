@@ -29,7 +29,7 @@ from_utf16_spec 𝓤 𝓛 𝓜 𝓡 wired Y L o d met =
     let E = env here.locals l in let Then : Post 𝓤 𝓛.H = any_q (after_seq 𝓤 𝓛.H (Wp 𝓤 𝓛.H 𝓣.C 𝓣.Λ E (after 4 here.body) (at_return 𝓤 𝓛.H E (W.post y))) (at_return 𝓤 𝓛.H E (W.post y))) in
     sets ! (addr ! (from ! (fld ! refl (hop ! (look_in_at ! 1 (sub ! 0 refl (whole !))) (stop !))))) refl (tt, tt) $
     sets ! (agg ! (and_then ! (get ! refl) (and_then ! (get_in ! (fld ! refl (stop !)) (sub ! 1 refl (whole !))) (no_more !)))) refl (tt, (tt, (record { fits = count }, tt))) $
-    calls_at ! (framed 𝓤 𝓛.H 𝓜 𝓣) G (g-thm.met 𝓤 𝓛 𝓜 𝓡 (code.calls-utf16_str::wstr_mut::tested 𝓡.env wired) Y L o d (record { BIG = met.BIG; read_unit = met.read_unit; write_unit = met.write_unit })) z (and_then ! (get ! refl) (no_more !)) (λ v.
+    calls_at ! (framed 𝓤 𝓛.H 𝓜 𝓣) G (g-thm.met 𝓤 𝓛 𝓜 𝓡 (code.calls-utf16_str_mut::wstr_mut::tested 𝓡.env wired) Y L o d (record { BIG = met.BIG; read_unit = met.read_unit; write_unit = met.write_unit })) z (and_then ! (get ! refl) (no_more !)) (λ v.
     use1 𝓛 (later (some (λ (x : Result (Unit {0}) Utf16Error × MutBor (List ℕ)). (Tokens ⊛ ‵ ((Pair κ).own_val x (v ∷ []))) ⊛
     some (λ (ws : Unit {0} × Unit {0}). ‵ (lasts (g.ended Y o d) κs a ws) ⊛ raw (fact 𝓤 (x.1.ghost_name ≡ r.ghost_name)) ⊛ raw (fact 𝓤 (x.1.now ≡ r.now)) ⊛
     raw (fact 𝓤 (IsOk x.0 ↔ IsUtf16 o.BIG r.now)) ⊛ raw (fact 𝓤 (IfErr x.0 (IsErrorOf o.BIG r.now))))))) (id⊢ 𝓤 _) $ await ! tt $ pick ! (λ x. split ! $ split ! $
