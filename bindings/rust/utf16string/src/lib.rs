@@ -9,7 +9,7 @@
 //! utf16string = { path = "dethrux/bindings/rust/utf16string" }
 //! ```
 //!
-//! Validation, boundaries, counts, conversions and comparison are calls of the C library
+//! Validation, boundaries, counts, conversions, comparison and `find` are calls of the C library
 //! `libdethrux`, which are proved. What is written in Rust is thin and tested, not proved: slicing
 //! with brackets, `Deref`, the iterators, and the moving of bytes within a vector.
 //!
@@ -35,6 +35,7 @@ mod error;
 mod index;
 mod iter;
 mod order;
+mod search;
 mod string;
 mod utf16;
 mod view;
@@ -44,6 +45,7 @@ pub use byteorder::{BigEndian, LittleEndian, BE, LE};
 pub use error::Utf16Error;
 pub use index::SliceIndex;
 pub use iter::{WStrCharIndices, WStrChars};
+pub use search::Pattern;
 pub use string::WString;
 pub use view::WStr;
 
