@@ -166,16 +166,12 @@ fn first_of<'a, E: Utf16Order>(table: WStr<'a, E>) -> Option<(WStr<'a, E>, WStr<
     ensures some { IfSome result (λ parts. texts_in (wstr_text table.entry)
         ≡ wstr_text parts.0 ∷ texts_in (wstr_text parts.1)) }
 {
-    if let Some((first, rest)) = table.split_once('\0') {
-        return if first.is_empty() {
-            None
-        } else {
-            Some((first, rest))
-        };
-    }
-    if table.is_empty() {
+    let (first, rest) = table
+        .split_once('\0')
+        .unwrap_or(table.split_at(table.len()));
+    if first.is_empty() {
         None
     } else {
-        Some(table.split_at(table.len()))
+        Some((first, rest))
     }
 }
