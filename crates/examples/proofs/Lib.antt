@@ -1,1 +1,3 @@
+pub mod FirstLemmas
 pub mod Rules
+pub mod TableLemmas

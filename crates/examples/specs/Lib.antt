@@ -1,8 +1,10 @@
 pub mod Counts
 pub mod Json
+pub mod Log
 pub mod MultiSz
 pub mod Interner
 pub mod Records
 pub mod Registry
+pub mod Table
 pub mod Fields
 pub mod Transcode

@@ -1,11 +1,13 @@
-//! Tests of the examples: records, transcoders, tables of texts and of names, and how much memory a
-//! name requests.
+//! Tests of the examples: records, transcoders, tables of texts, of names and of keys and values,
+//! lines of a log, and how much memory a name requests.
 #![tactic(auto)]
 
 #[cfg(test)]
 mod checks;
 #[cfg(test)]
 mod interner;
+#[cfg(test)]
+mod log;
 #[cfg(test)]
 mod multi_sz;
 #[cfg(test)]
@@ -14,5 +16,7 @@ mod names;
 mod records;
 #[cfg(test)]
 mod splits;
+#[cfg(test)]
+mod table;
 #[cfg(test)]
 mod transcode;
