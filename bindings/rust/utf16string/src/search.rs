@@ -1,5 +1,5 @@
-//! Searches: calls of `libdethrux` with the bytes of a pattern. Rust writes the bytes of a character,
-//! and compares the bytes at both ends of a string.
+//! Searches: calls of `libdethrux` with the bytes of a pattern. Rust writes the bytes of a
+//! character, and compares the bytes at both ends of a string.
 
 use byteorder::ByteOrder;
 
