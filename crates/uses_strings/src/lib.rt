@@ -5,6 +5,7 @@
 pub mod copies;
 pub mod edited;
 pub mod edits;
+pub mod found;
 pub mod laws;
 pub mod made;
 pub mod order_laws;

@@ -92,8 +92,8 @@ abbrev pub lines_left : Option (List ℕ) → List (List ℕ)
 lines_left None = []
 lines_left (Some rest) = lines rest
 
--- the words of a text, as the documentation of `str::split_whitespace` has them: the substrings of
--- the text split at each white space, without those that are empty
+-- the words of a text, as in the documentation of `str::split_whitespace`: the substrings of the
+-- text split at each white space, without those that are empty
 abbrev pub words : List ℕ → List (List ℕ)
 words text = filter (λ word. nat_lt 0 (length word)) (slice_split is_whitespace text)
 

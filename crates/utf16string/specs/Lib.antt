@@ -8,8 +8,12 @@ pub use Rattle.utf16_units.specs.Parts
 pub use Rattle.utf16_units.specs.Numbered
 pub use Rattle.utf16_units.specs.Edit
 pub use Rattle.utf16_units.specs.TextOrder
+pub use Rattle.utf16_search.specs.Occurrence
 pub use Rattle.utf16_str.specs.Common
+pub use Rattle.utf16_str.specs.Matches
 pub use Rattle.utf16_str.specs.Offsets
+pub use Rattle.utf16_str.specs.Splits
+pub use Rattle.utf16_str.specs.Trims
 pub use Rattle.utf16_str.specs.Window
 pub use Rattle.utf16_str.specs.WStr
 pub use Rattle.utf16_str_mut.specs.WStrMut
