@@ -1,9 +1,8 @@
 //! Strings that grow by UTF-8, by a range, and by several texts.
 
-use crate::strings::cut;
 use crate::strings::held::{Heap, part};
-use crate::strings::joined;
 use crate::strings::ranged::replace_range;
+use crate::strings::{cut, joined};
 use std::alloc::AllocError;
 use std::fmt::Write;
 use tests_case_lines::Run;
@@ -19,7 +18,9 @@ pub fn call<E: Utf16Order>(
     Some(match name {
         "insert_str" => insert_str(run, string),
         "replace_range" => replace_range(run, string),
-        "write_str" => string.write_str(run.text().as_str()).map_err(|_| AllocError),
+        "write_str" => string
+            .write_str(run.text().as_str())
+            .map_err(|_| AllocError),
         "write_fmt" => write_fmt(run, string),
         _ => return sized(run, string, name),
     })

@@ -57,10 +57,7 @@ pub fn views<E: Utf16Order>(
 }
 
 /// Appends texts in UTF-8.
-pub fn strs<E: Utf16Order>(
-    run: &mut Run,
-    string: &mut WString<E, Heap>,
-) -> Result<(), AllocError> {
+pub fn strs<E: Utf16Order>(run: &mut Run, string: &mut WString<E, Heap>) -> Result<(), AllocError> {
     let pieces = pieces::<E>(run);
     let strs = strs_of(run, &pieces);
     Extend::extend(string, strs)
