@@ -33,6 +33,5 @@ pub fn entry<'a, E: Utf16Order>(line: WStr<'a, E>) -> Option<(WStr<'a, E>, WStr<
 fn is_equals_sign<E: Utf16Order>(text: WStr<E>) -> bool
     ensures { IsTrue result ↔ (wstr_text text.entry ≡ 0x3D ∷ []) }
 {
-    let mut chars = text.chars();
-    chars.next() == Some('=') && chars.next().is_none()
+    text.strip_prefix('=').is_some_and(|rest| rest.is_empty())
 }
