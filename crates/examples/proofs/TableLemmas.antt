@@ -1,5 +1,5 @@
 -- The sizes of the lines of a text, each with its line feed.
-use Rattle.std.proofs.Common.{◌≡◌, ℕ, ◌+◌, eqb, List, [], ◌∷◌, ◌++◌, arith, refl, ap, sym, ◌∙◌}
+use Rattle.std.proofs.Common.{◌≡◌, ℕ, ◌+◌, eqb, List, [], ◌∷◌, ◌++◌, arith, ap, sym, ◌∙◌}
 use Rattle.std.proofs.lemmas.List.{append-nil}
 use Rattle.std.proofs.lemmas.Grind.{flat_map-append}
 use Rattle.std.specs.List.{slice_split}
@@ -25,5 +25,3 @@ size-lines text front line rest split =
     let each = λ (t : List ℕ). t ++ 10 ∷ [] in
     let whole = ap size (sym (flat_map-append each front (line ∷ rest)) ∙ ap (ended 10) split ∙ parts_ended 10 text) in
     omega (arith, whole, size-append (ended 10 front) (ended 10 (line ∷ rest)), size-append (line ++ 10 ∷ []) (ended 10 rest), size-append line (10 ∷ []), size-append text (10 ∷ []), line_feed)
-
-pub ruleset lines = (size-line, size-lines)

@@ -1,4 +1,4 @@
-use Rattle.std.proofs.Common.{◌≡◌, ◌+◌, ◌∷◌, [], append-nil, append_assoc, ap, arith, inl, length, refl, subst, sym}
+use Rattle.std.proofs.Common.{◌+◌, ◌∷◌, [], append-nil, append_assoc, ap, arith, inl, length, refl, subst, sym}
 use Rattle.std.proofs.lemmas.List.{map_push}
 use Rattle.utf16string.specs.WStr.{wstr_text}
 use Rattle.examples.specs.Log.{AreMatches}

@@ -1,11 +1,11 @@
-use Rattle.std.proofs.Common.{◌≡◌, ◌∙◌, ◌++◌, ◌∷◌, ap, arith, map, rules, sym}
+use Rattle.std.proofs.Common.{◌∙◌, ◌++◌, ap, arith, map, rules, sym}
 use Rattle.std.proofs.lemmas.Grind.{common_steps, flat_map-append}
-use Rattle.std.proofs.lemmas.List.{length-map, map_push}
+use Rattle.std.proofs.lemmas.List.{map_push}
 use Rattle.std.proofs.lemmas.List.Elements.{All-push}
 use Rattle.utf16_units.proofs.EncodingLemmas.{size-nil}
 use Rattle.utf16_units.proofs.Rules.{length-checked}
 use Rattle.utf16string.specs.WStr.{wstr_bytes, wstr_text}
-use Rattle.examples.specs.Table.{IsBad, table_lines}
+use Rattle.examples.specs.Table.{IsBad}
 use Rattle.examples.proofs.TableLemmas.{size-line, size-lines}
 use Rattle.examples.proofs.table.entries.Goals as goal
 
