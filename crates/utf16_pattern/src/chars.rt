@@ -20,7 +20,7 @@ impl<E: Utf16Order> Pattern<E> for char {
         find_char::<E>(bytes, self)
     }
 
-    // The parts of a text are often short: a loop over characters is then twice as fast as a search.
+    // Parts are often short: on words a loop takes half of the time of a search.
     #[inline]
     fn next_in(self, bytes: &[u8]) -> Option<usize> {
         let mut rest = bytes;
