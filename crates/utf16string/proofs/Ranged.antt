@@ -31,7 +31,7 @@ pub length-inserted : (bytes : List ℕ) (i : ℕ) → i ≤ length bytes → (m
 length-inserted bytes i within more =
     omega (arith, length-append (take i bytes) (more ++ drop i bytes), length-append more (drop i bytes), length-take-le i bytes within, length-drop i bytes)
 
--- a part replaced by fewer bytes: they are written over its start, and what is left of it is removed
+-- a part replaced by fewer bytes: they are written over its start, and the rest of it is removed
 pub put-cut_out : (old bytes : List ℕ) (start end : ℕ) → start + length bytes ≤ end → end ≤ length old
     → remove_range (splice old start (start + length bytes) bytes) (start + length bytes) end ≡ splice old start end bytes
 put-cut_out old bytes start end fits within =

@@ -12,8 +12,8 @@ around_match part (c ∷ text) =
     then Some ([], drop (length part) (c ∷ text))
     else option_map (λ around. (c ∷ around.0, around.1)) (around_match part text)
 
--- the text before a match, the text that replaces it, and what becomes of the text after it. Without
--- a match, the text
+-- the text before a match, the text that replaces it, and what becomes of the text after it.
+-- Without a match, the text
 abbrev pub put_around : List ℕ → (List ℕ → List ℕ) → List ℕ → Option (List ℕ × List ℕ) → List ℕ
 put_around to after text None = text
 put_around to after text (Some around) = around.0 ++ (to ++ after around.1)

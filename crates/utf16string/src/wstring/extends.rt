@@ -133,8 +133,7 @@ impl<'x, E: Utf16Order, A: Allocator> FromIterator<WStr<'x, E>> for WString<E, A
     ///
     /// # Errors
     ///
-    /// `AllocError`, if allocation fails for a text. The iterator is not advanced further. Nothing is
-    /// allocated if all texts are empty.
+    /// `AllocError`, if allocation fails for a text. The iterator is not advanced further.
     fn from_iter<U: IntoIterator<Item = WStr<'x, E>>>(
         alloc: A,
         iter: U,
@@ -175,8 +174,7 @@ impl<'x, E: Utf16Order, A: Allocator> FromIterator<&'x str> for WString<E, A> {
     ///
     /// # Errors
     ///
-    /// `AllocError`, if allocation fails for a string. The iterator is not advanced further. Nothing
-    /// is allocated if all strings are empty.
+    /// `AllocError`, if allocation fails for a string. The iterator is not advanced further.
     fn from_iter<U: IntoIterator<Item = &'x str>>(alloc: A, iter: U) -> Result<Self, AllocError> {
         let mut text = Self::new(alloc);
         Extend::extend(&mut text, iter)?;

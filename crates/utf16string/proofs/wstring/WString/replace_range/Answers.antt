@@ -1,4 +1,4 @@
-use Rattle.std.proofs.Common.{◌≡◌, ◌∙◌, ◌++◌, ap, arith, length, subst, sym, Some}
+use Rattle.std.proofs.Common.{◌≡◌, ◌∙◌, ◌++◌, ◌≤◌, ap, arith, length, subst, sym, Some}
 use Rattle.std.proofs.lemmas.Result.{on_ok_weaker}
 use Rattle.std.specs.List.{splice}
 use Rattle.utf16_units.specs.Boundary.{text_from, text_to}
@@ -21,6 +21,9 @@ module _ (g : Over) (c : After-as_bytes g) where
   window : IsWindowOf (wstring_text c.args.self.now) (Some c.unwrap-start.result)
   window = subst (IsWindowOf (wstring_text c.args.self.now)) there c.requires
 
+  within : c.unwrap-start.result.1 ≤ length (wstring_bytes c.args.self.now)
+  within = boundary-within _ _ _ c.args.self.now.well_formed window.2
+
   put : Encodes g.E.Utf16Order.BIG
       (text_to (wstring_text c.args.self.now) c.unwrap-start.result.0 ++ (wstr_text c.args.replace_with ++ text_from (wstring_text c.args.self.now) c.unwrap-start.result.1))
       (splice (wstring_bytes c.args.self.now) c.unwrap-start.result.0 c.unwrap-start.result.1 c.as_bytes.result.now)
@@ -30,14 +33,13 @@ pub replace_bytes-requires-clause-ordered : goal.replace_bytes-requires-clause-o
 replace_bytes-requires-clause-ordered g c = (window g (goal.at.replace_bytes-requires-clause-ordered g c).After-as_bytes).0
 
 pub replace_bytes-requires-clause-within : goal.replace_bytes-requires-clause-within
-replace_bytes-requires-clause-within g c =
-    let window = window g (goal.at.replace_bytes-requires-clause-within g c).After-as_bytes in
-    omega (arith, boundary-within _ _ _ c.args.self.now.well_formed window.2, c.args.self.now.raw.ok.0)
+replace_bytes-requires-clause-within g c = omega (arith, within g (goal.at.replace_bytes-requires-clause-within g c).After-as_bytes, c.args.self.now.raw.ok.0)
 
 pub invariant_of-self : goal.invariant_of-self
-invariant_of-self g c =
-    let put = put g (goal.at.invariant_of-self g c).After-as_bytes in
-    record { well_formed = still_text _ _ _ _ _ c.args.self.now.well_formed put (λ left. left.0.0) c.replace_bytes.result c.replace_bytes.ensures.items c.replace_bytes.ensures.err }
+invariant_of-self g c = record {
+  well_formed =
+      still_text _ _ _ _ _ c.args.self.now.well_formed (put g (goal.at.invariant_of-self g c).After-as_bytes) (λ left. left.0.0) c.replace_bytes.result c.replace_bytes.ensures.items c.replace_bytes.ensures.err;
+}
 
 pub returns-clause-text : goal.returns-clause-text
 returns-clause-text g c =
@@ -48,17 +50,12 @@ returns-clause-text g c =
 pub returns-clause-len : goal.returns-clause-len
 returns-clause-len g c =
     let at = (goal.at.returns-clause-len g c).After-as_bytes in
-    let window = window g at in
     let old = wstring_bytes c.args.self.now in
-    let within = boundary-within _ _ _ c.args.self.now.well_formed window.2 in
-    let put = length-put old _ _ window.0 within c.as_bytes.result.now in
+    let put = length-put old _ _ (window g at).0 (within g at) c.as_bytes.result.now in
     on_ok_weaker c.replace_bytes.result (λ e. omega (arith, ap length e, put, ap (λ w. length (window_bytes old w)) (there g at), ap length c.as_bytes.ensures.bytes)) c.replace_bytes.ensures.items
 
 pub returns-clause-succeeds : goal.returns-clause-succeeds
 returns-clause-succeeds g c fits =
     let at = (goal.at.returns-clause-succeeds g c).After-as_bytes in
-    let window = window g at in
-    let old = wstring_bytes c.args.self.now in
-    let within = boundary-within _ _ _ c.args.self.now.well_formed window.2 in
     c.replace_bytes.ensures.succeeds
-    (omega (arith, fits, length-part old _ _ window.0 within, ap (λ w. length (window_bytes old w)) (there g at), ap length c.as_bytes.ensures.bytes, c.args.self.now.raw.ok.0))
+    (omega (arith, fits, length-part (wstring_bytes c.args.self.now) _ _ (window g at).0 (within g at), ap (λ w. length (window_bytes (wstring_bytes c.args.self.now) w)) (there g at), ap length c.as_bytes.ensures.bytes, c.args.self.now.raw.ok.0))
