@@ -36,10 +36,9 @@ pub replace_bytes-requires-clause-within : goal.replace_bytes-requires-clause-wi
 replace_bytes-requires-clause-within g c = omega (arith, within g (goal.at.replace_bytes-requires-clause-within g c).After-as_bytes, c.args.self.now.raw.ok.0)
 
 pub invariant_of-self : goal.invariant_of-self
-invariant_of-self g c = record {
-  well_formed =
-      still_text _ _ _ _ _ c.args.self.now.well_formed (put g (goal.at.invariant_of-self g c).After-as_bytes) (λ left. left.0.0) c.replace_bytes.result c.replace_bytes.ensures.items c.replace_bytes.ensures.err;
-}
+invariant_of-self g c =
+    let put = put g (goal.at.invariant_of-self g c).After-as_bytes in
+    record { well_formed = still_text _ _ _ _ _ c.args.self.now.well_formed put (λ left. left.0.0) c.replace_bytes.result c.replace_bytes.ensures.items c.replace_bytes.ensures.err }
 
 pub returns-clause-text : goal.returns-clause-text
 returns-clause-text g c =
