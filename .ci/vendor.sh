@@ -53,7 +53,7 @@ holds 'each crate comes after those it depends on' stand_on_those_above "$room/l
 holds 'each line is in crates.txt' are_lines_of_this_tree "$room/lines"
 holds 'only sources are copied' has_only_what_is_needed "$room/one"
 ./vendor.sh "$room/two" dethrux utf16_tools > "$room/lines"
-holds 'crates of two, each once' [ "$(sort "$room/lines" | uniq -d | wc -l) $(wc -l < "$room/lines")" = '0 16' ]
+holds 'crates of two, each once' [ "$(sort "$room/lines" | uniq -d | wc -l) $(wc -l < "$room/lines")" = '0 19' ]
 holds 'each of these comes after those it depends on' stand_on_those_above "$room/lines"
 holds 'a crate that already exists is refused' refuses 1 "$room/one" utf16_tools
 holds 'and nothing is copied' [ ! -e "$room/one/crates/utf16_tools" ]
