@@ -50,10 +50,7 @@ pub fn ends_with_char<E: Utf16Order>(text: WStr<E>, c: char) -> bool
 }
 
 /// Returns the text after a prefix, if there is one.
-pub fn without_prefix<'a, E: Utf16Order>(
-    text: WStr<'a, E>,
-    prefix: WStr<E>,
-) -> Option<WStr<'a, E>>
+pub fn without_prefix<'a, E: Utf16Order>(text: WStr<'a, E>, prefix: WStr<E>) -> Option<WStr<'a, E>>
     ensures some { IsSome result ↔ ((rest : List ℕ)
         × (wstr_text text.entry ≡ wstr_text prefix.entry ++ rest)) }
     ensures text { IfSome result (λ rest.

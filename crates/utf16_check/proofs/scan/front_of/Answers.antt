@@ -23,13 +23,13 @@ returns g c =
     let ends : c.split_at.result.1.now ≡ drop n bytes = c.split_at.ensures.back ∙ ap (λ k. drop k bytes) c.valid_up_to.ensures in
     let after : MatchOption c.match-error_len.unpaired (split_tail big (drop n bytes) ≡ drop n bytes) (BeginsLone big (drop n bytes)) =
     elim c.match-error_len.branch [
-      in-Some w ↦
-        let lone = begins_lone big bytes n error.front (λ k. omega (arith, c.type_inv.bytes k)) (two (subst (IsIllFormed big bytes) (sym c.error_len.ensures ∙ w.in-Some.is) error.fault)) in
-        subst (λ u. MatchOption u (split_tail big (drop n bytes) ≡ drop n bytes) (BeginsLone big (drop n bytes))) (sym w.unpaired-is)
-        (subst (BeginsLone big (drop n bytes)) (sym (w.read_unit.ensures ∙ ap (first_unit big) ends)) lone)
+      | in-Some w ↦
+          let lone = begins_lone big bytes n error.front (λ k. omega (arith, c.type_inv.bytes k)) (two (subst (IsIllFormed big bytes) (sym c.error_len.ensures ∙ w.in-Some.is) error.fault)) in
+          subst (λ u. MatchOption u (split_tail big (drop n bytes) ≡ drop n bytes) (BeginsLone big (drop n bytes))) (sym w.unpaired-is)
+          (subst (BeginsLone big (drop n bytes)) (sym (w.read_unit.ensures ∙ ap (first_unit big) ends)) lone)
       | in-None w ↦
-        let tail = is_tail big bytes n error.front (subst (IsIllFormed big bytes) (sym c.error_len.ensures ∙ w.in-None.is) error.fault) in
-        subst (λ u. MatchOption u (split_tail big (drop n bytes) ≡ drop n bytes) (BeginsLone big (drop n bytes))) (sym w.unpaired-is) tail
+          let tail = is_tail big bytes n error.front (subst (IsIllFormed big bytes) (sym c.error_len.ensures ∙ w.in-None.is) error.fault) in
+          subst (λ u. MatchOption u (split_tail big (drop n bytes) ≡ drop n bytes) (BeginsLone big (drop n bytes))) (sym w.unpaired-is) tail
     ] in
     IsFront-before big bytes n error.front _ (c.split_at.ensures.front_len ∙ c.valid_up_to.ensures)
     (c.count_chars-2.ensures ∙ ap (λ b. length (text_of big b)) begins) after
