@@ -1,3 +1,1 @@
-pub mod FirstLemmas
 pub mod Rules
-pub mod TableLemmas

@@ -1,6 +1,6 @@
-//! Code that uses the strings and streams: tables of texts, of names, and of keys and values, fields
-//! of records, transcoders, lines of a registry export and of a log, JSON strings, common prefixes,
-//! and counts of a stream.
+//! Code that uses the strings and streams: tables of texts, of names, and of keys and values,
+//! fields of records, transcoders, lines of a registry export and of a log, JSON strings, common
+//! prefixes, and counts of a stream.
 #![tactic(auto)]
 
 pub mod counts;

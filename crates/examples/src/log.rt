@@ -1,9 +1,9 @@
 //! The lines of a log that contain a text.
 
-ghost use Rattle.std.specs.Prelude.{◌≡◌, ◌↔◌, ◌++◌, ◌∷◌, [], IfOk, IsTrue, List, OnOk, map, ℕ};
+ghost use Rattle.std.specs.Prelude.{◌≡◌, IfOk, map};
 ghost use Rattle.std.specs.Char.{to_ascii_lowercase as lower_case};
 ghost use Rattle.std.specs.Str.Lines.{lines};
-ghost use Rattle.examples.specs.Log.{AreMatches, Occurs, folded, match_parts};
+ghost use Rattle.examples.specs.Log.{folded, match_parts, matches_in};
 ghost use Rattle.utf16string.specs.WStr.{wstr_text};
 ghost use Rattle.utf16string.specs.WString.{wstring_text};
 
@@ -22,8 +22,8 @@ pub enum Case {
 /// A line that contains the text.
 #[derive(Drop)]
 pub struct Match<'a, E: Utf16Order> {
-    /// The number of the line, counted from 1.
-    pub number: usize,
+    /// The index of the line, counted from 0.
+    pub index: usize,
     /// The line without its ending, a view of the log.
     pub line: WStr<'a, E>,
 }
@@ -36,63 +36,44 @@ pub struct Match<'a, E: Utf16Order> {
 ///
 /// # Complexity
 ///
-/// One pass over the log. If case is ignored, each line is copied.
+/// One pass over the log. If case is ignored, the log is copied.
 pub fn search<'a, E: Utf16Order, A: Allocator + Clone>(
     alloc: A,
     log: WStr<'a, E>,
     wanted: WStr<E>,
     case: Case,
 ) -> Result<Vec<Match<'a, E>, A>, AllocError>
-    ensures { IfOk result (λ found. AreMatches case (folded case (wstr_text wanted.entry)) 1
-        (lines (wstr_text log.entry)) (map match_parts found.items)) }
+    ensures { IfOk result (λ found. map match_parts found.items
+        ≡ matches_in (folded case (wstr_text wanted.entry)) (lines (wstr_text log.entry))
+        (lines (folded case (wstr_text log.entry)))) }
 {
     match case {
-        Case::Exact => lines_with(alloc, log, wanted, case),
+        Case::Exact => matches(alloc, log, log, wanted),
         Case::IgnoreAscii => {
+            let lower = to_ascii_lowercase(alloc.clone()?, log)?;
             let wanted = to_ascii_lowercase(alloc.clone()?, wanted)?;
-            lines_with(alloc, log, wanted.as_wstr(), case)
+            matches(alloc, log, lower.as_wstr(), wanted.as_wstr())
         }
     }
 }
 
-// Returns the lines in which a part occurs, after the lines are brought to the case.
-fn lines_with<'a, E: Utf16Order, A: Allocator + Clone>(
+// Returns the lines of a log for which the line of the folded log contains a text.
+fn matches<'a, E: Utf16Order, A: Allocator>(
     alloc: A,
     log: WStr<'a, E>,
-    part: WStr<E>,
-    case: Case,
+    folded: WStr<E>,
+    wanted: WStr<E>,
 ) -> Result<Vec<Match<'a, E>, A>, AllocError>
-    ensures { IfOk result (λ found. AreMatches case (wstr_text part.entry) 1
-        (lines (wstr_text log.entry)) (map match_parts found.items)) }
+    ensures { IfOk result (λ found. map match_parts found.items
+        ≡ matches_in (wstr_text wanted.entry) (lines (wstr_text log.entry))
+        (lines (wstr_text folded.entry))) }
 {
-    let mut found = Vec::new(alloc.clone()?);
-    let mut number = 0;
-    for line in log.lines() {
-        number += 1;
-        if has(alloc.clone()?, line, part, case)? {
-            found.push(Match { number, line })?;
-        }
-    }
-    Ok(found)
-}
-
-// Returns whether a part occurs in a line, after the line is brought to the case.
-fn has<E: Utf16Order, A: Allocator>(
-    alloc: A,
-    line: WStr<E>,
-    part: WStr<E>,
-    case: Case,
-) -> Result<bool, AllocError>
-    ensures { IfOk result (λ has. IsTrue has ↔ Occurs (wstr_text part.entry)
-        (folded case (wstr_text line.entry))) }
-{
-    match case {
-        Case::Exact => Ok(line.contains(part)),
-        Case::IgnoreAscii => {
-            let line = to_ascii_lowercase(alloc, line)?;
-            Ok(line.as_wstr().contains(part))
-        }
-    }
+    log.lines()
+        .zip(folded.lines())
+        .enumerate()
+        .filter(|(_, (_, folded))| folded.contains(wanted))
+        .map(|(index, (line, _))| Match { index, line })
+        .collect(alloc)
 }
 
 fn to_ascii_lowercase<E: Utf16Order, A: Allocator>(

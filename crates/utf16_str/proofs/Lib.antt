@@ -17,6 +17,8 @@ mod CutFront
 mod CutBack
 mod CutResults
 mod FirstLemmas
+mod CharFound
+mod FoundLemmas
 mod CountLemmas
 mod JoinLemmas
 mod MatchLemmas

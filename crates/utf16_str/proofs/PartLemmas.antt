@@ -17,7 +17,7 @@ pub begins : (part text : List ℕ) (test : Bool) → starts_with nat_eq text pa
     → (test ≡ true → text ≡ part ++ drop (length part) text) × ((rest : List ℕ) → text ≡ part ++ rest → test ≡ true)
 begins part text test is = starts_is Decides-eqb text part test (sym is)
 
-not_begun : (part text : List ℕ) → ((rest : List ℕ) → ¬ (text ≡ part ++ rest)) → (test : Bool) → starts_with nat_eq text part ≡ test → test ≡ false
+pub not_begun : (part text : List ℕ) → ((rest : List ℕ) → ¬ (text ≡ part ++ rest)) → (test : Bool) → starts_with nat_eq text part ≡ test → test ≡ false
 not_begun part text none true is = absurd (none (drop (length part) text) ((begins part text true is).0 refl))
 not_begun part text none false is = refl
 

@@ -12,6 +12,7 @@ pub use Rattle.utf16_search.specs.Occurrence
 pub mod Hash
 pub mod Offsets
 pub mod Splits
+pub mod Found
 pub mod Matches
 pub mod Trims
 pub mod Window

@@ -1,6 +1,7 @@
 //! Prefixes and suffixes of texts, and the longest common prefix of two.
 
-ghost use Rattle.std.specs.Prelude.{◌≡◌, ◌↔◌, ◌-◌, ◌++◌, IfSome, IsSome, IsTrue, List, ℕ, drop, length, take};
+ghost use Rattle.std.specs.Prelude.{◌≡◌, ◌↔◌, ◌-◌, ◌++◌, IfSome, IsSome, IsTrue, List, ℕ, drop, length, nat_eq, take};
+ghost use Rattle.std.specs.List.{ends_with, starts_with};
 ghost use Rattle.utf16_units.specs.Encoding.{size};
 ghost use Rattle.utf16_str.specs.Common.{IsCommonPrefix};
 ghost use Rattle.utf16_str.specs.WStr.{wstr_bytes, wstr_text};
@@ -20,8 +21,9 @@ impl<'a, E: Utf16Order> WStr<'a, E> {
     /// `str::starts_with`.
     #[inline]
     pub fn starts_with<P: Pattern<E>>(&self, prefix: P) -> bool
-        ensures { IsTrue result ↔ ((rest : List ℕ)
+        ensures begins { IsTrue result ↔ ((rest : List ℕ)
             × (wstr_text self.now ≡ P.part prefix ++ rest)) }
+        ensures value { result ≡ starts_with nat_eq (wstr_text self.now) (P.part prefix) }
     {
         prefix.prefix_len(self.as_bytes()).is_some()
     }
@@ -37,8 +39,9 @@ impl<'a, E: Utf16Order> WStr<'a, E> {
     /// `str::ends_with`.
     #[inline]
     pub fn ends_with<P: Pattern<E>>(&self, suffix: P) -> bool
-        ensures { IsTrue result ↔ ((front : List ℕ)
+        ensures ends { IsTrue result ↔ ((front : List ℕ)
             × (wstr_text self.now ≡ front ++ P.part suffix)) }
+        ensures value { result ≡ ends_with nat_eq (wstr_text self.now) (P.part suffix) }
     {
         suffix.suffix_len(self.as_bytes()).is_some()
     }

@@ -3,6 +3,8 @@
 ghost use Rattle.std.specs.Prelude.{◌≡◌, ◌↔◌, [], IfSome, IsNone, IsSome, MatchOption, Some, ◌++◌, ◌+◌, ◌∷◌, drop, take};
 ghost use Rattle.utf16_units.specs.Boundary.{IsBoundary, OccursIn, text_between, text_from, text_to};
 ghost use Rattle.utf16_units.specs.Encoding.{size};
+ghost use Rattle.std.specs.Option.{is_some};
+ghost use Rattle.utf16_str.specs.Found.{after_part, before_part, has_part};
 ghost use Rattle.utf16_str.specs.Splits.{IsAfterLast, IsBeforeFirst, LacksPart};
 ghost use Rattle.utf16_str.specs.Window.{IsRangeOf, IsWindowOf, bytes_between, range_bytes, range_text};
 ghost use Rattle.utf16_str.specs.WStr.{wstr_bytes, wstr_text};
@@ -100,9 +102,9 @@ impl<'a, E: Utf16Order> WStr<'a, E> {
         }
     }
 
-    /// Splits the text at the first occurrence of `delimiter`, a text or a character, and returns the
-    /// text before it and the text after it, or `None` if it does not occur. The empty text occurs
-    /// at the start.
+    /// Splits the text at the first occurrence of `delimiter`, a text or a character, and returns
+    /// the text before it and the text after it, or `None` if it does not occur. The empty text
+    /// occurs at the start.
     ///
     /// # Complexity
     ///
@@ -118,6 +120,14 @@ impl<'a, E: Utf16Order> WStr<'a, E> {
             ≡ wstr_text parts.0 ++ (P.part delimiter ++ wstr_text parts.1)) }
         ensures first { IfSome result (λ parts.
             IsBeforeFirst (P.part delimiter) (wstr_text self.entry) (wstr_text parts.0)) }
+        ensures value { is_some result ≡ has_part (P.part delimiter) (wstr_text self.entry) }
+        ensures before { IfSome result (λ parts.
+            wstr_text parts.0 ≡ before_part (P.part delimiter) (wstr_text self.entry)) }
+        ensures after { IfSome result (λ parts.
+            wstr_text parts.1 ≡ after_part (P.part delimiter) (wstr_text self.entry)) }
+        ensures whole { IsNone result →
+            (before_part (P.part delimiter) (wstr_text self.entry) ≡ wstr_text self.entry)
+            × (after_part (P.part delimiter) (wstr_text self.entry) ≡ []) }
         ensures front_bytes { IfSome result (λ parts.
             wstr_bytes parts.0 ≡ take (size (wstr_text parts.0)) (wstr_bytes self.entry)) }
         ensures back_bytes { IfSome result (λ parts.
@@ -128,9 +138,9 @@ impl<'a, E: Utf16Order> WStr<'a, E> {
         Some(self.split_around(at, delimiter))
     }
 
-    /// Splits the text at the last occurrence of `delimiter`, a text or a character, and returns the
-    /// text before it and the text after it, or `None` if it does not occur. The empty text occurs
-    /// last at the end.
+    /// Splits the text at the last occurrence of `delimiter`, a text or a character, and returns
+    /// the text before it and the text after it, or `None` if it does not occur. The empty text
+    /// occurs last at the end.
     ///
     /// # Complexity
     ///

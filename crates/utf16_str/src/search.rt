@@ -4,6 +4,7 @@ ghost use Rattle.std.specs.Prelude.{◌≡◌, ◌↔◌, ◌+◌, ◌++◌, IfS
 ghost use Rattle.utf16_units.specs.Boundary.{OccursIn, text_from, text_to};
 ghost use Rattle.utf16_units.specs.Encoding.{size};
 ghost use Rattle.utf16_search.specs.Occurrence.{IsFirst, IsLast};
+ghost use Rattle.utf16_str.specs.Found.{has_part};
 ghost use Rattle.utf16_str.specs.WStr.{wstr_text};
 
 use crate::WStr;
@@ -90,8 +91,9 @@ impl<'a, E: Utf16Order> WStr<'a, E> {
     ///
     /// Linear in both lengths. Does not allocate.
     pub fn contains<P: Pattern<E>>(self, pattern: P) -> bool
-        ensures { IsTrue result ↔ ((front : List ℕ) × (back : List ℕ)
+        ensures occurs { IsTrue result ↔ ((front : List ℕ) × (back : List ℕ)
             × (wstr_text self.entry ≡ front ++ P.part pattern ++ back)) }
+        ensures value { result ≡ has_part (P.part pattern) (wstr_text self.entry) }
     {
         self.find(pattern).is_some()
     }

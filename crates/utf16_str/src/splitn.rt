@@ -88,8 +88,8 @@ impl<'a, E: Utf16Order, P: Pattern<E>> Iterator for WStrRSplitN<'a, E, P> {
 }
 
 impl<'a, E: Utf16Order> WStr<'a, E> {
-    /// Returns an iterator over the substrings that `split` gives, but over at most `n`: the last of
-    /// `n` has the rest of the text, with the delimiters in it.
+    /// Returns an iterator over the substrings that `split` gives, but over at most `n`: the last
+    /// of `n` has the rest of the text, with the delimiters in it.
     ///
     /// # Complexity
     ///
@@ -114,8 +114,8 @@ impl<'a, E: Utf16Order> WStr<'a, E> {
         }
     }
 
-    /// Returns an iterator over the substrings that `rsplit` gives, the last first, but over at most
-    /// `n`: the last of `n` has the rest of the text, with the delimiters in it.
+    /// Returns an iterator over the substrings that `rsplit` gives, the last first, but over at
+    /// most `n`: the last of `n` has the rest of the text, with the delimiters in it.
     ///
     /// # Complexity
     ///

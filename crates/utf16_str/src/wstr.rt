@@ -1,6 +1,6 @@
 //! A borrowed UTF-16 string slice.
 
-ghost use Rattle.std.specs.Prelude.{◌≡◌, ◌↔◌, ⊤, [], true, false, length, IsTrue, IsOk, IfOk, IfErr, Some, All, ◌+◌, ◌<◌, ◌^◌, ℕ, List, chars, nat_eq, encode_utf8_all};
+ghost use Rattle.std.specs.Prelude.{◌≡◌, ◌==◌, ◌↔◌, ⊤, [], true, false, length, IsTrue, IsOk, IfOk, IfErr, Some, All, ◌+◌, ◌<◌, ◌^◌, ℕ, List, chars, nat_eq, encode_utf8_all};
 ghost use Rattle.std.specs.Cmp.{on_equiv, on_per, on_total, partial_equiv_from_equiv, po};
 ghost use Rattle.std.specs.Cmp.Lexicographic.{nat_list_cmp_total, nat_list_eq_equiv, pointwise, slice_cmp};
 ghost use Rattle.std.specs.Cmp.Rules.{hashing};
@@ -102,7 +102,8 @@ impl<'a, E: Utf16Order> WStr<'a, E> {
     /// Returns `true` if the text has no characters.
     #[inline]
     pub fn is_empty(&self) -> bool
-        ensures { IsTrue result ↔ (wstr_text self.now ≡ []) }
+        ensures empty { IsTrue result ↔ (wstr_text self.now ≡ []) }
+        ensures value { result ≡ (length (wstr_text self.now) == 0) }
     {
         self.as_bytes().is_empty()
     }

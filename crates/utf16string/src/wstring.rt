@@ -16,7 +16,7 @@ mod retains;
 mod utf8;
 mod writes;
 
-ghost use Rattle.std.specs.Prelude.{◌≡◌, ◌↔◌, ℕ, [], length, IsTrue, IsOk, IfOk, IfErr, IsSome, IfSome, Some, All, ◌<◌, ◌≤◌, ◌^◌, List, chars, nat_eq, encode_utf8_all, string_bytes, true, false};
+ghost use Rattle.std.specs.Prelude.{◌≡◌, ◌==◌, ◌↔◌, ℕ, [], length, IsTrue, IsOk, IfOk, IfErr, IsSome, IfSome, Some, All, ◌<◌, ◌≤◌, ◌^◌, List, chars, nat_eq, encode_utf8_all, string_bytes, true, false};
 ghost use Rattle.std.specs.Cmp.{on_equiv, on_per, partial_equiv_from_equiv};
 ghost use Rattle.std.specs.Cmp.Lexicographic.{nat_list_eq_equiv, pointwise};
 ghost use Rattle.std.specs.Cmp.Rules.{hashing};
@@ -161,7 +161,8 @@ impl<E: Utf16Order, A: Allocator> WString<E, A> {
     /// Returns whether the text is empty.
     #[inline]
     pub fn is_empty(&self) -> bool
-        ensures { IsTrue result ↔ (wstring_text self.now ≡ []) }
+        ensures empty { IsTrue result ↔ (wstring_text self.now ≡ []) }
+        ensures value { result ≡ (length (wstring_text self.now) == 0) }
     {
         self.as_wstr().is_empty()
     }

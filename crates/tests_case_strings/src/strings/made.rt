@@ -87,8 +87,8 @@ fn refused(answer: &mut Answer, error: Utf16Error) {
     }
 }
 
-// The calls for one byte order are made only in that order. The bytes are in the memory of the case,
-// so a vector that is refused and not freed counts as leaked.
+// The calls for one byte order are made only in that order. The bytes are in the memory of the
+// case, so a vector that is refused and not freed counts as leaked.
 fn tested<E: Utf16Order>(run: &mut Run, name: &str) {
     let Ok(raw) = run.bytes().to_vec(run.heap) else {
         return run.refuse(Trouble::Memory);

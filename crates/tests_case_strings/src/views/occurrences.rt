@@ -6,8 +6,8 @@ use crate::views::spaces;
 use tests_case_lines::{Answer, Run};
 use utf16string::{Pattern, Utf16Order, WStr};
 
-/// Makes a call whose pattern is a text, or a character if the name ends with `_char`. Or passes the
-/// name to `spaces`.
+/// Makes a call whose pattern is a text, or a character if the name ends with `_char`. Or passes
+/// the name to `spaces`.
 pub fn call<E: Utf16Order>(run: &mut Run, text: WStr<E>, name: &str) -> bool {
     let call = name.strip_suffix("_char").unwrap_or(name);
     let count = match call {

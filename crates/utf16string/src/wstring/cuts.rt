@@ -90,7 +90,8 @@ impl<E: Utf16Order, A: Allocator> WString<E, A> {
     ///
     /// # Errors
     ///
-    /// `AllocError`, if allocation fails or the allocator cannot be cloned. The string is unchanged.
+    /// `AllocError`, if allocation fails or the allocator cannot be cloned. The string is
+    /// unchanged.
     ///
     /// # Precondition
     ///

@@ -5,5 +5,5 @@ use Rattle.utf8_decoder.proofs.parts.append_part.Goals as goal
 
 pub returns-else-not-is_empty-clause-len : goal.returns-else-not-is_empty-clause-len
 returns-else-not-is_empty-clause-len g c =
-    let none = ap size (sym c.decode_part.ensures.text ∙ c.is_empty.ensures.0 c.if-not-is_empty.false) ∙ size-nil in
+    let none = ap size (sym c.decode_part.ensures.text ∙ c.is_empty.ensures.empty.0 c.if-not-is_empty.false) ∙ size-nil in
     omega (arith, none)

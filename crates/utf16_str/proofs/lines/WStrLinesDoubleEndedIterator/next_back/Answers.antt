@@ -20,12 +20,12 @@ returns-in_default-clause-steps g c =
     let line = wstr_text c.split_last_line.result.1 in
     elim c.if-is_empty.branch [
       | then-is_empty w ↦
-          let none : line ≡ [] = c.is_empty.ensures.0 w.if-is_empty.true in
+          let none : line ≡ [] = c.is_empty.ensures.empty.0 w.if-is_empty.true in
           let nothing = lines-none (wstr_text c.in_ok-rest.rest) before line parts.joined parts.ended none (λ front e. false≢true (c.in_default.ensures.some.1 (front, e))) in
           subst (λ r. YieldsLastBy wstr_text (λ (texts : List (List ℕ)). texts) c.args.self.now r (lines before)) (sym w.result-is)
           (all ∙ lines-nil _ nothing.0, lines-nil _ nothing.1)
       | else-is_empty w ↦
-          let some : line ≢ [] = λ nil. false≢true (sym w.if-is_empty.false ∙ c.is_empty.ensures.1 nil) in
+          let some : line ≢ [] = λ nil. false≢true (sym w.if-is_empty.false ∙ c.is_empty.ensures.empty.1 nil) in
           subst (λ r. YieldsLastBy wstr_text (λ (texts : List (List ℕ)). texts) c.args.self.now r (lines before)) (sym w.result-is)
           (all ∙ lines-rest (wstr_text c.in_ok-rest.rest) before line parts.joined parts.ended parts.line some)
     ]

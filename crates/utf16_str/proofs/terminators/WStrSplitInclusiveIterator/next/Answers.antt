@@ -12,7 +12,7 @@ returns-clause-steps g c =
     let part = g.P.Pattern.part c.self.inside.pattern in
     let rest = c.next_part.new.self.rest in
     let some : option_map wstr_text rest ≡ None → ¬ (wstr_text c.in_ok-part.part ≡ []) = elim c.else-is_none.branch [
-      | else-is_none-via-then-is_none+else-is_empty w ↦ λ none nil. false≢true (sym w.if-is_empty.false ∙ w.is_empty.ensures.1 nil)
+      | else-is_none-via-then-is_none+else-is_empty w ↦ λ none nil. false≢true (sym w.if-is_empty.false ∙ w.is_empty.ensures.empty.1 nil)
       | else-is_none-via-else-is_none w ↦ λ none. absurd (mapped-some wstr_text rest _ c.is_none.ensures w.if-is_none.false none)
     ] in
     sym c.self.view_is ∙ ap (with_terminators part) c.in_ok-part.ensures.parts

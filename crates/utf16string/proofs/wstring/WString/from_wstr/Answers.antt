@@ -4,7 +4,7 @@ use Rattle.utf16string.proofs.wstring.WString.from_wstr.Goals as goal
 
 pub returns-then-is_empty-clause-bytes : goal.returns-then-is_empty-clause-bytes
 returns-then-is_empty-clause-bytes g c =
-    c.new.ensures.bytes ∙ sym (nil-from_text _ _ (IsUtf16-from_is_utf16 _ _ c.args.text.well_formed) (c.is_empty.ensures.0 c.if-is_empty.true))
+    c.new.ensures.bytes ∙ sym (nil-from_text _ _ (IsUtf16-from_is_utf16 _ _ c.args.text.well_formed) (c.is_empty.ensures.empty.0 c.if-is_empty.true))
 
 pub from_utf16_unchecked-requires : goal.from_utf16_unchecked-requires
 from_utf16_unchecked-requires g c = search rules
