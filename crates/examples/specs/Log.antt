@@ -3,7 +3,7 @@ use Rattle.std.specs.Prelude.{ℕ, List, filter, map, zip}
 use Rattle.std.specs.Char.{to_ascii_lowercase}
 use Rattle.std.specs.List.{enumerate_from}
 use Rattle.utf16_units.specs.declared.byte_order.Utf16Order.{Ghosts}
-use Rattle.utf16_str.specs.Found.{has_part}
+use Rattle.utf16string.specs.Found.{has_part}
 use Rattle.utf16string.specs.WStr.{wstr_text}
 use Rattle.examples.specs.declared.log.Case.{Case}
 use Rattle.examples.specs.declared.log.Case.TheVariants.{Exact, IgnoreAscii}

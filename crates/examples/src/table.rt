@@ -89,12 +89,12 @@ fn good_lines<'a, E: Utf16Order, A: Allocator>(
         .lines()
         .map(|line| said(line))
         .filter(|text| !text.is_empty())
-        .map(|text| entry(text, separator))
+        .map(|text| entry_of(text, separator))
         .collect(alloc)
 }
 
 // Returns the key and the value of a line. A text without the separator is all key.
-fn entry<'a, E: Utf16Order>(text: WStr<'a, E>, separator: char) -> Entry<'a, E>
+fn entry_of<'a, E: Utf16Order>(text: WStr<'a, E>, separator: char) -> Entry<'a, E>
     ensures { entry_texts result ≡ entry_in separator (wstr_text text.entry) }
 {
     let (key, value) = text

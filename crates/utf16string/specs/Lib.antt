@@ -13,6 +13,7 @@ pub use Rattle.utf16_str.specs.Common
 pub use Rattle.utf16_str.specs.Matches
 pub use Rattle.utf16_str.specs.Offsets
 pub use Rattle.utf16_str.specs.Splits
+pub use Rattle.utf16_str.specs.Found
 pub use Rattle.utf16_str.specs.Trims
 pub use Rattle.utf16_str.specs.Window
 pub use Rattle.utf16_str.specs.WStr
