@@ -81,7 +81,8 @@ fn memory_is_refused(rt: HostRuntime) {
     let heap = Refusing::new(rt.alloc());
     let (log, text) = (string::<BE>(&rt, "A\nb\nba"), string::<BE>(&rt, "a"));
     for k in 0..20 {
-        heap.refuse_one(k);
+        // `collect` asks for less room after a refusal, so all after it are refused too.
+        heap.refuse_from(k);
         let found = match search(&heap, log.as_wstr(), text.as_wstr(), Case::IgnoreAscii) {
             Ok(found) => Some(found.len()),
             Err(_) => None,

@@ -98,7 +98,8 @@ fn memory_is_refused(rt: HostRuntime) {
     let heap = Refusing::new(rt.alloc());
     let table = string::<BE>(&rt, "# note\na=1\nb=2\n");
     for k in 0..10 {
-        heap.refuse_one(k);
+        // `collect` asks for less room after a refusal, so all after it are refused too.
+        heap.refuse_from(k);
         let read = match entries(&heap, table.as_wstr(), '=') {
             Ok(found) => Ok(found.len()),
             Err(error) => Err(error),
