@@ -1,0 +1,14 @@
+use Rattle.std.proofs.Common.{arith, refl}
+use Rattle.std.specs.Char.{is_ascii_whitespace}
+use Rattle.utf16_str.specs.WStr.{wstr_bytes, wstr_text}
+use Rattle.utf16_str_ext.specs.AsciiWords.{words_left}
+use Rattle.utf16_str_ext.proofs.WordRuns.{few-chars, few-words, text_runs}
+use Rattle.utf16_str_ext.proofs.ascii.split_ascii_whitespace.Goals as goal
+
+pub returns-clause-bound : goal.returns-clause-bound
+returns-clause-bound g c =
+    let few = few-chars g.E.Utf16Order.BIG (wstr_bytes c.args.text) c.args.text.well_formed in
+    omega (arith, few-words is_ascii_whitespace (wstr_text c.args.text))
+
+pub returns-clause-runs : goal.returns-clause-runs
+returns-clause-runs g c = text_runs wstr_text (words_left wstr_text) _ _ refl

@@ -1,0 +1,13 @@
+use Rattle.std.proofs.Common.{arith, refl}
+use Rattle.utf16_str.specs.WStr.{wstr_bytes, wstr_text}
+use Rattle.utf16_str_ext.proofs.SplitRuns.{split_runs}
+use Rattle.utf16_str_ext.proofs.WordRuns.{few-chars}
+use Rattle.utf16_str_ext.proofs.split.split_with.Goals as goal
+
+pub returns-clause-bound : goal.returns-clause-bound
+returns-clause-bound g c =
+    let few = few-chars g.E.Utf16Order.BIG (wstr_bytes c.args.text) c.args.text.well_formed in
+    omega arith
+
+pub returns-clause-runs : goal.returns-clause-runs
+returns-clause-runs g c = split_runs wstr_text (goal.F-post g) _ c.args.predicate c.args.text refl refl

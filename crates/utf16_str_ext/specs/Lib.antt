@@ -1,0 +1,4 @@
+pub mod Predicates
+pub mod SplitWith
+pub mod AsciiWords
+pub mod Parse

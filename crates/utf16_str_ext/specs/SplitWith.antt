@@ -1,0 +1,30 @@
+-- The parts that a `WStrSplitWith` gives. `text` is what a clause sees of a view: its characters.
+use Rattle.std.specs.Prelude.{◌≡◌, ℕ, ◌+◌, Bool, List, Option, None, Some, length, option_map}
+use Rattle.std.specs.Iterator.Runs.{ItemsMapTo, Run}
+use Rattle.std.specs.List.{slice_split}
+use Rattle.utf16_str_ext.specs.Predicates.{AnswersBy, GivesPart}
+use Rattle.utf16_str_ext.specs.declared.split.WStrSplitWith.{WStrSplitWith}
+
+-- at most so many parts are left of a text
+abbrev pub parts_left : Option (List ℕ) → ℕ
+parts_left None = 0
+parts_left (Some text) = length text + 1
+
+module _ {S F : Type 0} where
+  -- the view that is left, or `None` after the last part
+  abbrev pub split_rest : WStrSplitWith S F → Option S
+  split_rest it = it.rest
+
+  abbrev pub split_predicate : WStrSplitWith S F → F
+  split_predicate it = it.predicate
+
+  -- a call of `next` gave the next part; the predicate stays
+  abbrev pub split_steps : (S → List ℕ) → (F → ℕ → Bool → Type 0) → WStrSplitWith S F → Option S → WStrSplitWith S F → Type 0
+  split_steps text post s r t =
+      GivesPart (post (split_predicate s)) (option_map text (split_rest s)) (option_map text r) (option_map text (split_rest t))
+      × (split_predicate t ≡ split_predicate s)
+
+-- a run gives the parts that `str::split` gives for a function with the same answers as the
+-- predicate: the first ones, and all of them if it ended
+abbrev pub SplitsText : {T S : Type 0} {steps : T → Option S → T → Type 0} → Run steps → (S → List ℕ) → (ℕ → Bool → Type 0) → List ℕ → Type 0
+SplitsText p text says whole = (k : ℕ → Bool) → AnswersBy says k → ItemsMapTo p text (slice_split k whole)
