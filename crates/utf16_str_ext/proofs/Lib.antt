@@ -8,3 +8,4 @@ mod Words
 mod WordRuns
 mod WordEnds
 mod Utf8Size
+pub mod Restated

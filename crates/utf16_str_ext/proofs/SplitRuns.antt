@@ -5,7 +5,7 @@ use Rattle.std.proofs.iter.runs.Sources.{lists}
 use Rattle.std.proofs.lemmas.List.Elements.{All-weaker}
 use Rattle.std.proofs.lemmas.List.Splits.{slice_split_at, slice_split_none}
 use Rattle.std.specs.Iterator.{Yields}
-use Rattle.std.specs.Iterator.Runs.{EachRunFrom}
+use Rattle.std.specs.Iterator.Runs.{EachRunFrom, ItemsMapTo}
 use Rattle.std.specs.List.{slice_split}
 use Rattle.utf16_str_ext.specs.Predicates.{AnswersBy, GivesPart}
 use Rattle.utf16_str_ext.specs.SplitWith.{SplitsText, split_predicate, split_rest, split_steps}
@@ -37,9 +37,9 @@ module _ {S F : Type 0} (view : S → List ℕ) (post : F → ℕ → Bool → T
       gives-some (post (split_predicate s)) k by (option_map view (split_rest s)) (view x) (option_map view (split_rest y.0)) y.1.0
       ∙ ap (λ l. view x ∷ l) (fronts k xs y.0 t (subst (λ f. AnswersBy (post f) k) (sym y.1.1) by) y.2)
 
-  pub split_runs : (s : WStrSplitWith S F) (f : F) (text : S) → split_rest s ≡ Some text → split_predicate s ≡ f
-      → EachRunFrom (split_steps view post) s (λ p. SplitsText p view (post f) (view text))
-  split_runs s f text is same p _ from k by =
+  parts_run : (s : WStrSplitWith S F) (f : F) (text : S) → split_rest s ≡ Some text → split_predicate s ≡ f → (k : ℕ → Bool) → AnswersBy (post f) k
+      → EachRunFrom (split_steps view post) s (λ p. ItemsMapTo p view (slice_split k (view text)))
+  parts_run s f text is same k by p _ from =
       let kept : AnswersBy (post (split_predicate p.from)) k = subst (λ g. AnswersBy (post g) k) (sym (ap split_predicate from ∙ same)) by in
       let left = (took p).0 in
       let none : p.whole ≡ true → length (parts_of k (option_map view (split_rest left))) ≡ 0 =
@@ -47,3 +47,9 @@ module _ {S F : Type 0} (view : S → List ℕ) (post : F → ℕ → Bool → T
       let cut : slice_split k (view text) ≡ map view p.items ++ parts_of k (option_map view (split_rest left)) =
       sym (ap (λ o. parts_of k (option_map view o)) (ap split_rest from ∙ is)) ∙ fronts k p.items p.from left kept (took p).1 in
       lists p view (slice_split k (view text)) (parts_of k (option_map view (split_rest left))) none cut
+
+  pub split_runs : (s : WStrSplitWith S F) (f : F) (text : S) → split_rest s ≡ Some text → split_predicate s ≡ f
+      → EachRunFrom (split_steps view post) s (λ p. SplitsText p view (post f) (view text))
+  split_runs s f text is same p seen from =
+      let all = λ (k : ℕ → Bool) (by : AnswersBy (post f) k). parts_run s f text is same k by p seen from in
+      (λ k by. (all k by).4, λ k by. (all k by).1, all)

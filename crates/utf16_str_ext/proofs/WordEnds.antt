@@ -16,23 +16,23 @@ pub record IsWordEnd (p : ℕ → Bool) (text : List ℕ) (at : ℕ) : Type 0 wh
   pub begins : (c : ℕ) (more : List ℕ) → rest ≡ c ∷ more → p c ≡ true
 
 pub word-end : (p : ℕ → Bool) (text : List ℕ) (o : Option ℕ) → IsFirstWith (λ c b. b ≡ p c) text o → IsWordEnd p text (unwrap_or o (size text))
-word-end p text None all = record {
+word-end p text None says = record {
   word = text;
   rest = [];
   split = sym (append-nil text);
   offset = refl;
-  lacks = All-weaker (λ c. false ≡ p c) (λ c. p c ≡ false) (λ c is. sym is) text all;
+  lacks = All-weaker (λ c. false ≡ p c) (λ c. p c ≡ false) (λ c is. sym is) text says.found;
   begins = λ c more is. absurd (cc is);
 }
-word-end p text (Some at) found = record {
-  word = found.front;
-  rest = found.found ∷ found.back;
-  split = found.split;
-  offset = found.offset;
-  lacks = All-weaker (λ c. false ≡ p c) (λ c. p c ≡ false) (λ c is. sym is) found.front found.before;
+word-end p text (Some at) says = record {
+  word = says.found.front;
+  rest = says.found.found ∷ says.found.back;
+  split = says.found.split;
+  offset = says.found.offset;
+  lacks = All-weaker (λ c. false ≡ p c) (λ c. p c ≡ false) (λ c is. sym is) says.found.front says.found.before;
   begins = λ c more is.
-      let same : found.found ≡ c = cc in
-      sym (found.here ∙ ap p same);
+      let same : says.found.found ≡ c = cc in
+      sym (says.found.here ∙ ap p same);
 }
 
 module _ (p : ℕ → Bool) (text part after : List ℕ) (at : ℕ) (ended : IsWordEnd p text at) where

@@ -34,12 +34,13 @@ pub record IsLastAt (says : ℕ → Bool → Type 0) (text : List ℕ) (at : ℕ
   pub here : says found true
   pub after : SaysOfEach says false back
 
--- a search from the start, or from the end: it found nothing only if each answer was false
-abbrev pub IsFirstWith : (ℕ → Bool → Type 0) → List ℕ → Option ℕ → Type 0
-IsFirstWith says text result = MatchOption result (SaysOfEach says false text) (IsFirstAt says text)
+-- what a search from the start found: nothing, if each answer was false
+pub record IsFirstWith (says : ℕ → Bool → Type 0) (text : List ℕ) (result : Option ℕ) : Type 0 where
+  pub found : MatchOption result (SaysOfEach says false text) (IsFirstAt says text)
 
-abbrev pub IsLastWith : (ℕ → Bool → Type 0) → List ℕ → Option ℕ → Type 0
-IsLastWith says text result = MatchOption result (SaysOfEach says false text) (IsLastAt says text)
+-- what a search from the end found
+pub record IsLastWith (says : ℕ → Bool → Type 0) (text : List ℕ) (result : Option ℕ) : Type 0 where
+  pub found : MatchOption result (SaysOfEach says false text) (IsLastAt says text)
 
 -- ---- trims
 

@@ -1,5 +1,5 @@
 -- The parts that a `WStrSplitWith` gives. `text` is what a clause sees of a view: its characters.
-use Rattle.std.specs.Prelude.{◌≡◌, ℕ, ◌+◌, Bool, List, Option, None, Some, length, option_map}
+use Rattle.std.specs.Prelude.{◌≡◌, ℕ, ◌+◌, Bool, true, List, Option, None, Some, length, map, option_map}
 use Rattle.std.specs.Iterator.Runs.{ItemsMapTo, Run}
 use Rattle.std.specs.List.{slice_split}
 use Rattle.utf16_str_ext.specs.Predicates.{AnswersBy, GivesPart}
@@ -25,6 +25,10 @@ module _ {S F : Type 0} where
       × (split_predicate t ≡ split_predicate s)
 
 -- a run gives the parts that `str::split` gives for a function with the same answers as the
--- predicate: the first ones, and all of them if it ended
+-- predicate: the first ones, and all of them if it ended. The last part has the others in it, which
+-- stand alone because a caller's proof finds them there
 abbrev pub SplitsText : {T S : Type 0} {steps : T → Option S → T → Type 0} → Run steps → (S → List ℕ) → (ℕ → Bool → Type 0) → List ℕ → Type 0
-SplitsText p text says whole = (k : ℕ → Bool) → AnswersBy says k → ItemsMapTo p text (slice_split k whole)
+SplitsText p text says whole =
+    ((k : ℕ → Bool) → AnswersBy says k → p.whole ≡ true → map text p.items ≡ slice_split k whole)
+    × ((k : ℕ → Bool) → AnswersBy says k → p.whole ≡ true → p.len ≡ length (slice_split k whole))
+    × ((k : ℕ → Bool) → AnswersBy says k → ItemsMapTo p text (slice_split k whole))

@@ -236,9 +236,9 @@ pub trait WStrExt: Copy {
 }
 
 impl<'a, E: Utf16Order> WStrExt for WStr<'a, E> {
-    ghost text = { λ s. wstr_text s };
+    ghost text = { wstr_text };
 
-    ghost bytes = { λ s. wstr_bytes s };
+    ghost bytes = { wstr_bytes };
 
     #[inline]
     fn find_with<F: Fn(char) -> bool>(self, predicate: F) -> Option<usize> {

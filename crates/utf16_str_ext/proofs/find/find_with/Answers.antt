@@ -12,8 +12,10 @@ loop-at-preserved g c =
 
 pub returns-then-predicate : goal.returns-then-predicate
 returns-then-predicate g c =
-    searched-found _ _ _ _ _ _ c.loop-at.invariant c.in-Some.ensures.steps
-    (subst (goal.F-post g c.args.predicate.now c.in-Some.c) c.if-predicate.true c.predicate.ensures)
+    let says = goal.F-post g c.args.predicate.now in record {
+      found = searched-found _ _ _ _ _ _ c.loop-at.invariant c.in-Some.ensures.steps
+          (subst (says c.in-Some.c) c.if-predicate.true c.predicate.ensures);
+    }
 
 pub returns : goal.returns
-returns g c = searched-all _ _ _ c.loop-at.invariant c.in-None.ensures.steps.0
+returns g c = record { found = searched-all _ _ _ c.loop-at.invariant c.in-None.ensures.steps.0 }

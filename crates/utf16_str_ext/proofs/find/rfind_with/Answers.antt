@@ -14,8 +14,10 @@ loop-c-preserved g c =
 
 pub returns-then-predicate : goal.returns-then-predicate
 returns-then-predicate g c =
-    found-back _ _ _ _ _ _ c.loop-c.invariant c.in-Some.ensures.steps (c.len.ensures.size ∙ ap size c.as_wstr.ensures)
-    (subst (goal.F-post g c.args.predicate.now c.in-Some.c) c.if-predicate.true c.predicate.ensures)
+    let says = goal.F-post g c.args.predicate.now in record {
+      found = found-back _ _ _ _ _ _ c.loop-c.invariant c.in-Some.ensures.steps (c.len.ensures.size ∙ ap size c.as_wstr.ensures)
+          (subst (says c.in-Some.c) c.if-predicate.true c.predicate.ensures);
+    }
 
 pub returns : goal.returns
-returns g c = passed_back-all _ _ _ _ c.loop-c.invariant c.in_default.ensures.steps.0
+returns g c = record { found = passed_back-all _ _ _ _ c.loop-c.invariant c.in_default.ensures.steps.0 }
