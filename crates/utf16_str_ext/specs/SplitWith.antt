@@ -5,7 +5,7 @@ use Rattle.std.specs.List.{slice_split}
 use Rattle.utf16_str_ext.specs.Predicates.{AnswersBy, GivesPart}
 use Rattle.utf16_str_ext.specs.declared.split.WStrSplitWith.{WStrSplitWith}
 
--- at most so many parts are left of a text
+-- the most parts that are left of a text
 abbrev pub parts_left : Option (List ℕ) → ℕ
 parts_left None = 0
 parts_left (Some text) = length text + 1
@@ -25,8 +25,8 @@ module _ {S F : Type 0} where
       × (split_predicate t ≡ split_predicate s)
 
 -- a run gives the parts that `str::split` gives for a function with the same answers as the
--- predicate: the first ones, and all of them if it ended. The last part has the others in it, which
--- stand alone because a caller's proof finds them there
+-- predicate: the first ones, and all of them if it ended. The first two members follow from the
+-- third; they are there because a caller's proof finds them
 abbrev pub SplitsText : {T S : Type 0} {steps : T → Option S → T → Type 0} → Run steps → (S → List ℕ) → (ℕ → Bool → Type 0) → List ℕ → Type 0
 SplitsText p text says whole =
     ((k : ℕ → Bool) → AnswersBy says k → p.whole ≡ true → map text p.items ≡ slice_split k whole)
