@@ -5,6 +5,7 @@ mod made;
 mod measures;
 mod occurrences;
 mod parts;
+mod predicates;
 mod search;
 mod shown;
 mod spaces;

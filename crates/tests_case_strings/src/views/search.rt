@@ -36,7 +36,8 @@ fn answer<E: Utf16Order, P: Pattern<E>>(
     }
 }
 
-fn offset(answer: &mut Answer, at: Option<usize>) {
+/// Adds an offset, if there is one.
+pub fn offset(answer: &mut Answer, at: Option<usize>) {
     match at {
         Some(at) => answer.number(at),
         None => answer.word("none"),

@@ -1,9 +1,10 @@
 //! Views without the white space at their ends, their lines and their words.
 
+use crate::views::predicates;
 use tests_case_lines::{Answer, Run};
 use utf16string::{Utf16Order, WStr};
 
-/// Makes a call that trims a view or gives its lines or words. Returns whether one has this name.
+/// Makes a call that trims a view or gives its lines or words, or passes the name to `predicates`.
 pub fn call<E: Utf16Order>(run: &mut Run, text: WStr<E>, name: &str) -> bool {
     match name {
         "WStr::trim" | "WStr::trim_start" | "WStr::trim_end" => {
@@ -29,7 +30,7 @@ pub fn call<E: Utf16Order>(run: &mut Run, text: WStr<E>, name: &str) -> bool {
                 run.answer.bytes(word.as_bytes());
             }
         }
-        _ => return false,
+        _ => return predicates::call(run, text, name),
     }
     true
 }
