@@ -10,6 +10,7 @@ pub mod laws;
 pub mod made;
 pub mod order_laws;
 pub mod parts;
+pub mod predicates;
 pub mod ranges;
 pub mod readme;
 pub mod retains;

@@ -66,10 +66,10 @@ pub record IsTrimmedWith (says : ℕ → Bool → Type 0) (text rest : List ℕ)
   pub end : IsTrimmedEndWith says middle rest
 
 -- a part of the bytes of a text begins where the trimmed start ends
-pub record LiesAfterTrimmedStart (says : ℕ → Bool → Type 0) (text bytes part : List ℕ) : Type 0 where
+pub record LiesAfterTrim (says : ℕ → Bool → Type 0) (text bytes part : List ℕ) : Type 0 where
   pub rest : List ℕ
   pub start : IsTrimmedStartWith says text rest
-  pub lies : part ≡ bytes_between bytes (size text - size rest) (size text - size rest + length part)
+  pub is : part ≡ bytes_between bytes (size text - size rest) (size text - size rest + length part)
 
 -- ---- splits
 

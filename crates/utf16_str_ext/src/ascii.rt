@@ -11,8 +11,9 @@ use crate::find::find_with;
 use crate::trim::trim_start_with;
 use utf16_str::{Utf16Order, WStr};
 
-/// An iterator over the remaining words of a view, the substrings between the white space of ASCII
-/// that are not empty. Each is a view. Once none is left, `next` always returns `None`.
+/// An iterator over the remaining words of a [`WStr`], the substrings between the white space of
+/// ASCII that are not empty. Each is a view. Once none is left, `next` always returns `None`. `S`
+/// is the type of the view.
 #[derive(Drop)]
 pub struct WStrSplitAsciiWhitespace<S> {
     rest: S,

@@ -6,7 +6,7 @@ ghost use Rattle.utf16_units.specs.Boundary.{IsBoundary};
 ghost use Rattle.utf16_str.specs.WStr.{wstr_bytes, wstr_text};
 ghost use Rattle.utf16_str_ext.specs.AsciiWords.{SaysIsAsciiWhitespace, ascii_words, word_steps, words_left};
 ghost use Rattle.utf16_str_ext.specs.Parse.{ParsesTo};
-ghost use Rattle.utf16_str_ext.specs.Predicates.{IsFirstWith, IsLastWith, IsTrimmedEndWith, IsTrimmedStartWith, IsTrimmedWith, LiesAfterTrimmedStart};
+ghost use Rattle.utf16_str_ext.specs.Predicates.{IsFirstWith, IsLastWith, IsTrimmedEndWith, IsTrimmedStartWith, IsTrimmedWith, LiesAfterTrim};
 ghost use Rattle.utf16_str_ext.specs.SplitWith.{SplitsText, parts_left, split_predicate, split_rest, split_steps};
 
 use crate::ascii::{WStrSplitAsciiWhitespace, is_space, split_ascii_whitespace};
@@ -130,7 +130,7 @@ pub trait WStrExt: Copy {
     fn trim_with<F: Fn(char) -> bool>(self, predicate: F) -> Self
         requires { F.IsAlwaysCallable predicate }
         ensures text { IsTrimmedWith (F.post predicate) (text self) (text result) }
-        ensures bytes { LiesAfterTrimmedStart (F.post predicate) (text self) (bytes self)
+        ensures bytes { LiesAfterTrim (F.post predicate) (text self) (bytes self)
             (bytes result) };
 
     /// Returns an iterator over the substrings between the characters for which the predicate is
@@ -197,7 +197,7 @@ pub trait WStrExt: Copy {
     /// `str::trim_ascii`.
     fn trim_ascii(self) -> Self
         ensures text { IsTrimmedWith SaysIsAsciiWhitespace (text self) (text result) }
-        ensures bytes { LiesAfterTrimmedStart SaysIsAsciiWhitespace (text self) (bytes self)
+        ensures bytes { LiesAfterTrim SaysIsAsciiWhitespace (text self) (bytes self)
             (bytes result) };
 
     /// Returns an iterator over the words, in order: the substrings between the white space of

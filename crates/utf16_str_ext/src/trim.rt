@@ -2,7 +2,7 @@
 
 ghost use Rattle.std.specs.Prelude.{◌≡◌, ◌-◌, drop, length, take};
 ghost use Rattle.utf16_str.specs.WStr.{wstr_bytes, wstr_text};
-ghost use Rattle.utf16_str_ext.specs.Predicates.{IsTrimmedEndWith, IsTrimmedStartWith, IsTrimmedWith, LiesAfterTrimmedStart};
+ghost use Rattle.utf16_str_ext.specs.Predicates.{IsTrimmedEndWith, IsTrimmedStartWith, IsTrimmedWith, LiesAfterTrim};
 
 use utf16_str::{Utf16Order, WStr};
 
@@ -56,7 +56,7 @@ pub(crate) fn trim_with<'a, E: Utf16Order, F: Fn(char) -> bool>(
     requires { F.IsAlwaysCallable predicate.now }
     ensures text { IsTrimmedWith (F.post predicate.now) (wstr_text text.entry)
         (wstr_text result) }
-    ensures bytes { LiesAfterTrimmedStart (F.post predicate.now) (wstr_text text.entry)
+    ensures bytes { LiesAfterTrim (F.post predicate.now) (wstr_text text.entry)
         (wstr_bytes text.entry) (wstr_bytes result) }
 {
     trim_end_with(trim_start_with(text, predicate), predicate)

@@ -20,5 +20,5 @@ returns-clause-bytes g c =
     record {
       rest = wstr_text rest;
       start = c.trim_start_with.ensures.text;
-      lies = bytes-lie (wstr_bytes text) (wstr_bytes rest) (wstr_bytes c.trim_end_with.result) _ cut c.trim_start_with.ensures.bytes c.trim_end_with.ensures.bytes;
+      is = bytes-lie (wstr_bytes text) (wstr_bytes rest) (wstr_bytes c.trim_end_with.result) _ cut c.trim_start_with.ensures.bytes c.trim_end_with.ensures.bytes;
     }
