@@ -12,7 +12,7 @@ use utf16_str::{Utf16Order, WStr};
 
 /// An iterator over the remaining substrings of a [`WStr`] separated by the characters for which a
 /// predicate is true. Each is a view without the character. Once none is left, `next` always
-/// returns `None`. `S` is the type of the view, and `F` that of the predicate.
+/// returns `None`. `S` is the type of the view, and `F` the predicate's.
 #[derive(Drop)]
 pub struct WStrSplitWith<S, F> {
     rest: Option<S>,
