@@ -3,6 +3,7 @@
 mod calls;
 mod edits;
 mod streams;
+mod strings;
 
 use crate::checks::equal;
 use crate::memory::calls::{Call, Held, Text, make};
@@ -29,6 +30,8 @@ enum Needs {
     Utf16,
     // The text in UTF-8, at least eight bytes.
     Utf8,
+    // Twice the text in UTF-16.
+    Twice,
     // Three bytes for each code unit, at least eight.
     Units,
     // Two bytes for each byte of UTF-8, and two for a pending one.
@@ -42,10 +45,15 @@ enum Needs {
 // The most allocations of a call whose result grows while it is made.
 const MANY: u64 = 24;
 
+// Numbers of characters around powers of two.
+const AROUND_POWERS: [usize; 12] = [
+    511, 512, 513, 1_023, 1_024, 1_025, 4_095, 4_096, 4_097, 65_535, 65_536, 65_537,
+];
+
 // A call, what grows, what it needs memory for, and the most allocations that it makes.
 type Row = (Call, Grows, Needs, u64);
 
-const ROWS: [Row; 35] = [
+const ROWS: [Row; 49] = [
     (Call::WithCapacity, Grows::Nothing, Needs::Utf16, 1),
     (Call::FromStr, Grows::Nothing, Needs::Utf16, 1),
     (Call::FromWstr, Grows::Nothing, Needs::Utf16, 1),
@@ -53,6 +61,7 @@ const ROWS: [Row; 35] = [
     (Call::Clone, Grows::Nothing, Needs::Utf16, 1),
     (Call::SplitOff, Grows::Nothing, Needs::Utf16, 1),
     (Call::ShrinkToFit, Grows::Nothing, Needs::Utf16, 1),
+    (Call::ShrinkTo, Grows::Nothing, Needs::Utf16, 1),
     (Call::ToUtf8, Grows::Nothing, Needs::Utf8, 1),
     (Call::ViewToUtf8, Grows::Nothing, Needs::Utf8, 1),
     (Call::Push, Grows::Utf16, Needs::Char, 1),
@@ -64,6 +73,19 @@ const ROWS: [Row; 35] = [
     (Call::ExtendByTrait, Grows::Utf16, Needs::Utf16, MANY),
     (Call::Reserve, Grows::Utf16, Needs::Utf16, 1),
     (Call::PushUtf8, Grows::Utf8, Needs::Utf8, 1),
+    (Call::InsertStr, Grows::Utf16, Needs::Utf16, 1),
+    (Call::ReplaceRange, Grows::Utf16, Needs::Utf16, 1),
+    (Call::ExtendViews, Grows::Utf16, Needs::Utf16, MANY),
+    (Call::ExtendStrs, Grows::Utf16, Needs::Utf16, MANY),
+    (Call::WriteStr, Grows::Utf16, Needs::Utf16, 1),
+    (Call::ReserveExact, Grows::Utf16, Needs::Utf16, 1),
+    (Call::CollectViews, Grows::Nothing, Needs::Utf16, MANY),
+    (Call::CollectStrs, Grows::Nothing, Needs::Utf16, MANY),
+    (Call::Replace, Grows::Nothing, Needs::Utf16, 1),
+    (Call::Replacen, Grows::Nothing, Needs::Twice, MANY),
+    (Call::Repeat, Grows::Nothing, Needs::Twice, 1),
+    (Call::Drain, Grows::Nothing, Needs::Utf16, 1),
+    (Call::CloneByTrait, Grows::Nothing, Needs::Utf16, 1),
     (Call::EditPush, Grows::Utf16, Needs::Char, 1),
     (Call::EditPushText, Grows::Utf16, Needs::Utf16, 1),
     (Call::EditInsert, Grows::Utf16, Needs::Char, 1),
@@ -96,6 +118,7 @@ impl Needs {
             Needs::Char => text.first.len_utf16() as u64 * 2,
             Needs::Utf16 => utf16,
             Needs::Utf8 => utf8.max(8),
+            Needs::Twice => utf16.saturating_mul(2),
             Needs::Units => (utf16 / 2).saturating_mul(3).max(8),
             Needs::Bytes => utf8.saturating_mul(2).saturating_add(2).max(8),
             Needs::Replies => (text.count as u64).saturating_mul(64),
@@ -167,10 +190,13 @@ fn all_requested<E: Utf16Order>(rt: &(impl Abort + AllocGlobal), chars: &str, co
 }
 
 fn at_each_length<E: Utf16Order>(rt: &(impl Abort + AllocGlobal), chars: &str) {
-    for count in 0..=70 {
+    for count in 0..=300 {
         all_requested::<E>(rt, chars, count);
     }
-    for count in (71..5_000).step_by(97) {
+    for count in (301..5_000).step_by(97) {
+        all_requested::<E>(rt, chars, count);
+    }
+    for count in AROUND_POWERS {
         all_requested::<E>(rt, chars, count);
     }
 }

@@ -1,6 +1,6 @@
 //! Callers that pass a predicate over characters, and one that parses a text.
 
-ghost use Rattle.std.specs.Prelude.{◌≡◌, ◌==◌, ◌||◌, IfOk, IfSome, encode_utf8_all, length, map, nat_lt, not};
+ghost use Rattle.std.specs.Prelude.{◌≡◌, ◌==◌, ◌||◌, IfOk, IfSome, encode_utf8_all, length, map, nat_lt, not, reverse};
 ghost use Rattle.std.specs.List.{slice_split};
 ghost use Rattle.std.specs.Str.Parse.{digits_value, without_leading_plus};
 ghost use Rattle.utf16_str_ext.specs.AsciiWords.{ascii_words};
@@ -20,6 +20,19 @@ pub fn items_of<'a, E: Utf16Order, A: Allocator>(
         ≡ slice_split (λ c. (c == 44) || (c == 59)) (wstr_text list.entry)) }
 {
     list.split_with(|c| c == ',' || c == ';').collect(alloc)
+}
+
+/// Collects the items of a list, the last first.
+pub fn items_from_the_back<'a, E: Utf16Order, A: Allocator>(
+    alloc: A,
+    list: WStr<'a, E>,
+) -> Result<Vec<WStr<'a, E>, A>, AllocError>
+    ensures { IfOk result (λ items. map wstr_text items.items
+        ≡ reverse (slice_split (λ c. (c == 44) || (c == 59)) (wstr_text list.entry))) }
+{
+    list.split_with(|c| c == ',' || c == ';')
+        .rev()
+        .collect(alloc)
 }
 
 /// Returns the number of items of a list.
@@ -52,6 +65,17 @@ pub fn ascii_words_of<'a, E: Utf16Order, A: Allocator>(
         map wstr_text found.items ≡ ascii_words (wstr_text text.entry)) }
 {
     text.split_ascii_whitespace().collect(alloc)
+}
+
+/// Collects the words between the white space of ASCII, the last first.
+pub fn ascii_words_from_the_back<'a, E: Utf16Order, A: Allocator>(
+    alloc: A,
+    text: WStr<'a, E>,
+) -> Result<Vec<WStr<'a, E>, A>, AllocError>
+    ensures { IfOk result (λ found.
+        map wstr_text found.items ≡ reverse (ascii_words (wstr_text text.entry))) }
+{
+    text.split_ascii_whitespace().rev().collect(alloc)
 }
 
 /// Returns the number that a text spells in decimal, if it is below 2 ^ 32.

@@ -3,9 +3,9 @@ mod Bytes
 mod Finds
 mod Trims
 mod Cuts
+mod Around
 mod SplitRuns
 mod Words
 mod WordRuns
-mod WordEnds
 mod Utf8Size
 pub mod Restated

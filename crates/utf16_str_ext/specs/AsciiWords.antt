@@ -1,7 +1,7 @@
 -- The white space of ASCII, and the words between it.
 use Rattle.std.specs.Prelude.{◌≡◌, ℕ, Bool, List, Option, filter, length, nat_lt}
 use Rattle.std.specs.Char.{is_ascii_whitespace}
-use Rattle.std.specs.Iterator.{YieldsFirstBy}
+use Rattle.std.specs.Iterator.{YieldsFirstBy, YieldsLastBy}
 use Rattle.std.specs.List.{slice_split}
 use Rattle.utf16_str_ext.specs.declared.ascii.WStrSplitAsciiWhitespace.{WStrSplitAsciiWhitespace}
 
@@ -24,3 +24,7 @@ module _ {S : Type 0} (text : S → List ℕ) where
   -- a call of `next` gave the first word that was left, or no word was left
   abbrev pub word_steps : WStrSplitAsciiWhitespace S → Option S → WStrSplitAsciiWhitespace S → Type 0
   word_steps = YieldsFirstBy text words_left
+
+  -- a call of `next_back` gave the last word that was left, or no word was left
+  abbrev pub word_steps_back : WStrSplitAsciiWhitespace S → Option S → WStrSplitAsciiWhitespace S → Type 0
+  word_steps_back = YieldsLastBy text words_left

@@ -1,5 +1,5 @@
--- What `parse` returns.
-use Rattle.std.specs.Prelude.{ℕ, ◌<◌, ◌≤◌, List, Result, Ok, Err, length}
+-- What `parse` returns, and what `Display` writes for its errors.
+use Rattle.std.specs.Prelude.{ℕ, ◌<◌, ◌≤◌, List, Option, Some, Result, Ok, Err, codes, length}
 use Rattle.utf16_str_ext.specs.declared.parse.ParseError.{ParseError}
 use Rattle.utf16_str_ext.specs.declared.parse.ParseError.TheVariants.{Long, Value}
 
@@ -9,3 +9,8 @@ abbrev pub ParsesTo : {T X : Type 0} → (List ℕ → Result T X → Type 0) �
 ParsesTo gives utf8 (Ok value) = (length utf8 ≤ 256) × gives utf8 (Ok value)
 ParsesTo gives utf8 (Err Long) = 256 < length utf8
 ParsesTo gives utf8 (Err (Value error)) = (length utf8 ≤ 256) × gives utf8 (Err error)
+
+-- `output` says what `Display` writes for the error of `from_str`
+abbrev pub parse_error_text : {X : Type 0} → (X → Option (List ℕ)) → ParseError X → Option (List ℕ)
+parse_error_text output Long = Some (codes "text longer than 256 bytes in UTF-8")
+parse_error_text output (Value error) = output error

@@ -81,6 +81,13 @@ pub record IsCutWith (says : ℕ → Bool → Type 0) (text part after : List �
   pub before : SaysOfEach says false part
   pub here : says delimiter true
 
+-- the text is cut at the last character for which the predicate answered true
+pub record IsLastCutWith (says : ℕ → Bool → Type 0) (text before part : List ℕ) : Type 0 where
+  pub delimiter : ℕ
+  pub split : text ≡ before ++ delimiter ∷ part
+  pub here : says delimiter true
+  pub after : SaysOfEach says false part
+
 -- a call of `next` gave a part of what was left of a text, and left the rest. The part ends at the
 -- first character for which the predicate answered true; if there is none, it is the last part
 abbrev pub GivesPart : (ℕ → Bool → Type 0) → Option (List ℕ) → Option (List ℕ) → Option (List ℕ) → Type 0
@@ -88,3 +95,11 @@ GivesPart says None part left = (part ≡ None) × (left ≡ None)
 GivesPart says (Some text) None left = ⊥
 GivesPart says (Some text) (Some part) None = (part ≡ text) × SaysOfEach says false text
 GivesPart says (Some text) (Some part) (Some after) = IsCutWith says text part after
+
+-- the same of `next_back`: the part begins after the last character for which the predicate
+-- answered true
+abbrev pub GivesLastPart : (ℕ → Bool → Type 0) → Option (List ℕ) → Option (List ℕ) → Option (List ℕ) → Type 0
+GivesLastPart says None part left = (part ≡ None) × (left ≡ None)
+GivesLastPart says (Some text) None left = ⊥
+GivesLastPart says (Some text) (Some part) None = (part ≡ text) × SaysOfEach says false text
+GivesLastPart says (Some text) (Some part) (Some before) = IsLastCutWith says text before part

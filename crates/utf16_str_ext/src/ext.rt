@@ -1,13 +1,13 @@
 //! The extension of `WStr`.
 
 ghost use Rattle.std.specs.Prelude.{◌≡◌, ◌-◌, ◌<◌, ◌^◌, IfSome, List, Some, drop, encode_utf8_all, length, option_map, take, ℕ};
-ghost use Rattle.std.specs.Iterator.Runs.{EachRunFrom, ItemsMapTo};
+ghost use Rattle.std.specs.Iterator.Runs.{EachRunFrom, ItemsMapTo, ItemsMapToReversed};
 ghost use Rattle.utf16_units.specs.Boundary.{IsBoundary};
 ghost use Rattle.utf16_str.specs.WStr.{wstr_bytes, wstr_text};
-ghost use Rattle.utf16_str_ext.specs.AsciiWords.{SaysIsAsciiWhitespace, ascii_words, word_steps, words_left};
+ghost use Rattle.utf16_str_ext.specs.AsciiWords.{SaysIsAsciiWhitespace, ascii_words, word_steps, word_steps_back, words_left};
 ghost use Rattle.utf16_str_ext.specs.Parse.{ParsesTo};
 ghost use Rattle.utf16_str_ext.specs.Predicates.{IsFirstWith, IsLastWith, IsTrimmedEndWith, IsTrimmedStartWith, IsTrimmedWith, LiesAfterTrim};
-ghost use Rattle.utf16_str_ext.specs.SplitWith.{SplitsText, parts_left, split_predicate, split_rest, split_steps};
+ghost use Rattle.utf16_str_ext.specs.SplitWith.{SplitsText, SplitsTextBack, parts_left, split_predicate, split_rest, split_steps, split_steps_back};
 
 use crate::ascii::{WStrSplitAsciiWhitespace, is_space, split_ascii_whitespace};
 use crate::find::{find_with, rfind_with};
@@ -150,14 +150,17 @@ pub trait WStrExt: Copy {
     ///
     /// # Source
     ///
-    /// The substrings are the same as with `str::split` and a closure.
+    /// The substrings are the same as with `str::split` and a closure, and with `rev` as with
+    /// `str::rsplit`.
     fn split_with<F: Fn(char) -> bool>(self, predicate: F) -> WStrSplitWith<Self, F>
         requires { F.IsAlwaysCallable predicate }
         ensures rest { split_rest result ≡ Some self }
         ensures predicate { split_predicate result ≡ predicate }
         ensures bound { parts_left (option_map text (split_rest result)) < 2 ^ 64 }
         ensures runs { EachRunFrom (split_steps text F.post) result
-            (λ p. SplitsText p text (F.post predicate) (text self)) };
+            (λ p. SplitsText p text (F.post predicate) (text self)) }
+        ensures runs_back { EachRunFrom (split_steps_back text F.post) result
+            (λ p. SplitsTextBack p text (F.post predicate) (text self)) };
 
     /// Returns the text without the white space of ASCII at its start.
     ///
@@ -214,7 +217,9 @@ pub trait WStrExt: Copy {
         ensures parts { words_left text result ≡ ascii_words (text self) }
         ensures bound { length (words_left text result) < 2 ^ 64 }
         ensures runs { EachRunFrom (word_steps text) result
-            (λ p. ItemsMapTo p text (ascii_words (text self))) };
+            (λ p. ItemsMapTo p text (ascii_words (text self))) }
+        ensures runs_back { EachRunFrom (word_steps_back text) result
+            (λ p. ItemsMapToReversed p text (ascii_words (text self))) };
 
     /// Returns the value that the text spells.
     ///

@@ -2,8 +2,10 @@
 
 ghost use Rattle.std.specs.Prelude.{encode_utf8_all};
 ghost use Rattle.utf16_str.specs.WStr.{wstr_text};
-ghost use Rattle.utf16_str_ext.specs.Parse.{ParsesTo};
+ghost use Rattle.utf16_str_ext.specs.Parse.{ParsesTo, parse_error_text};
 
+use std::error::Error;
+use std::fmt;
 use std::str::FromStr;
 use utf16_str::{Utf16Order, WStr};
 use utf16_to_utf8::{SLACK, write_utf8};
@@ -11,14 +13,28 @@ use utf16_to_utf8::{SLACK, write_utf8};
 // The most bytes of UTF-8 that are parsed.
 const MAX_LEN: usize = 256;
 
-/// The error of `parse`.
-#[derive(Debug, Drop)]
+/// The error of `parse`. `Display` writes the text of the type's error, or for `Long` a text of its
+/// own.
+#[derive(Debug, Drop, PartialEq, Eq)]
 pub enum ParseError<E> {
     /// The text takes more than 256 bytes in UTF-8.
     Long,
     /// The text does not spell a value: the error of the type's `from_str`.
     Value(E),
 }
+
+impl<E: fmt::Display> fmt::Display for ParseError<E> {
+    ghost output = { parse_error_text E.output };
+
+    fn fmt<W: fmt::Write>(&self, f: &mut fmt::Formatter<W>) -> fmt::Result {
+        match self {
+            ParseError::Long => f.write_str("text longer than 256 bytes in UTF-8"),
+            ParseError::Value(error) => fmt::Display::fmt(error, f),
+        }
+    }
+}
+
+impl<E: Error> Error for ParseError<E> {}
 
 pub(crate) fn parse<E: Utf16Order, T: FromStr>(text: WStr<E>) -> Result<T, ParseError<T::Err>>
     ensures { ParsesTo T.from_str_gives (encode_utf8_all (wstr_text text.entry)) result }

@@ -15,12 +15,14 @@ pub fn call<E: Utf16Order>(run: &mut Run, text: WStr<E>, name: &str) -> bool {
         | "WStr::trim_with"
         | "WStr::trim_start_with"
         | "WStr::trim_end_with"
-        | "WStr::split_with" => {
+        | "WStr::split_with"
+        | "WStrSplitWith::rev" => {
             let set = run.bytes();
             if let Some(set) = view::<E>(run, &set) {
                 by_predicate(&mut run.answer, text, set, name);
             }
         }
+        "ParseError::fmt" => parse_error(run, text),
         _ => return without_predicate(&mut run.answer, text, name),
     }
     true
@@ -32,6 +34,11 @@ fn by_predicate<E: Utf16Order>(answer: &mut Answer, text: WStr<E>, set: WStr<E>,
         "WStr::rfind_with" => offset(answer, text.rfind_with(|c| set.contains(c))),
         "WStr::split_with" => {
             for part in text.split_with(|c| set.contains(c)) {
+                answer.bytes(part.as_bytes());
+            }
+        }
+        "WStrSplitWith::rev" => {
+            for part in text.split_with(|c| set.contains(c)).rev() {
                 answer.bytes(part.as_bytes());
             }
         }
@@ -48,6 +55,15 @@ fn trimmed<E: Utf16Order>(answer: &mut Answer, text: WStr<E>, set: WStr<E>, name
     answer.bytes(part.as_bytes());
 }
 
+// Adds what is written for the error of a text that does not spell a number.
+fn parse_error<E: Utf16Order>(run: &mut Run, text: WStr<E>) {
+    let format = run.word();
+    match text.parse::<u32>() {
+        Ok(_) => run.unmet(),
+        Err(error) => run.written(&error, format),
+    }
+}
+
 // Makes a call that takes only a view. Returns whether one has this name.
 fn without_predicate<E: Utf16Order>(answer: &mut Answer, text: WStr<E>, name: &str) -> bool {
     match name {
@@ -56,6 +72,11 @@ fn without_predicate<E: Utf16Order>(answer: &mut Answer, text: WStr<E>, name: &s
         "WStr::trim_ascii_end" => answer.bytes(text.trim_ascii_end().as_bytes()),
         "WStr::split_ascii_whitespace" => {
             for word in text.split_ascii_whitespace() {
+                answer.bytes(word.as_bytes());
+            }
+        }
+        "WStrSplitAsciiWhitespace::rev" => {
+            for word in text.split_ascii_whitespace().rev() {
                 answer.bytes(word.as_bytes());
             }
         }

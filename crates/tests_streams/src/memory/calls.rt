@@ -2,6 +2,7 @@
 
 use crate::memory::edits::edit;
 use crate::memory::streams::stream;
+use crate::memory::strings::{copied, put};
 use std::alloc::{AllocError, Global};
 use tests_support::refusing::Refusing;
 use utf16string::{Utf16Order, WString};
@@ -29,7 +30,21 @@ pub enum Call {
     ExtendByTrait,
     Reserve,
     ShrinkToFit,
+    ShrinkTo,
     PushUtf8,
+    InsertStr,
+    ReplaceRange,
+    ExtendViews,
+    ExtendStrs,
+    WriteStr,
+    ReserveExact,
+    CollectViews,
+    CollectStrs,
+    Replace,
+    Replacen,
+    Repeat,
+    Drain,
+    CloneByTrait,
     EditPush,
     EditPushText,
     EditInsert,
@@ -157,7 +172,7 @@ fn grow<'a, E: Utf16Order>(
     }
 }
 
-// Makes a call at the start of a string or on its capacity, or passes the call to `edit`.
+// Makes a call at the start of a string or on its capacity, or passes the call to `others`.
 fn change<'a, E: Utf16Order>(
     alloc: Global,
     heap: Heap<'a>,
@@ -183,9 +198,31 @@ fn change<'a, E: Utf16Order>(
             heap.refuse_none();
             held.utf16.shrink_to_fit()
         }
-        _ => match edit(heap, call, text, held) {
-            Some(done) => done,
-            None => stream(alloc, heap, call, text, &mut held.utf16),
-        },
+        Call::ShrinkTo => {
+            held.utf16.reserve(64)?;
+            heap.refuse_none();
+            held.utf16.shrink_to(0)
+        }
+        _ => others(alloc, heap, call, text, held),
+    }
+}
+
+// Makes a call of another module.
+fn others<'a, E: Utf16Order>(
+    alloc: Global,
+    heap: Heap<'a>,
+    call: Call,
+    text: &Text<E>,
+    held: &mut Held<'a, E>,
+) -> Result<(), AllocError> {
+    if let Some(done) = put(call, text, held) {
+        return done;
+    }
+    if let Some(done) = copied(heap, call, text, held) {
+        return done;
+    }
+    match edit(heap, call, text, held) {
+        Some(done) => done,
+        None => stream(alloc, heap, call, text, &mut held.utf16),
     }
 }

@@ -2,7 +2,7 @@ use Rattle.std.proofs.Common.{arith, refl}
 use Rattle.std.specs.Char.{is_ascii_whitespace}
 use Rattle.utf16_str.specs.WStr.{wstr_bytes, wstr_text}
 use Rattle.utf16_str_ext.specs.AsciiWords.{words_left}
-use Rattle.utf16_str_ext.proofs.WordRuns.{few-chars, few-words, text_runs}
+use Rattle.utf16_str_ext.proofs.WordRuns.{few-chars, few-words, text_runs, text_runs_back}
 use Rattle.utf16_str_ext.proofs.ascii.split_ascii_whitespace.Goals as goal
 
 pub returns-clause-bound : goal.returns-clause-bound
@@ -12,3 +12,6 @@ returns-clause-bound g c =
 
 pub returns-clause-runs : goal.returns-clause-runs
 returns-clause-runs g c = text_runs wstr_text (words_left wstr_text) _ _ refl
+
+pub returns-clause-runs_back : goal.returns-clause-runs_back
+returns-clause-runs_back g c = text_runs_back wstr_text (words_left wstr_text) _ _ refl

@@ -1,6 +1,6 @@
 use Rattle.std.proofs.Common.{arith, refl}
 use Rattle.utf16_str.specs.WStr.{wstr_bytes, wstr_text}
-use Rattle.utf16_str_ext.proofs.SplitRuns.{split_runs}
+use Rattle.utf16_str_ext.proofs.SplitRuns.{split_runs, split_runs_back}
 use Rattle.utf16_str_ext.proofs.WordRuns.{few-chars}
 use Rattle.utf16_str_ext.proofs.split.split_with.Goals as goal
 
@@ -11,3 +11,6 @@ returns-clause-bound g c =
 
 pub returns-clause-runs : goal.returns-clause-runs
 returns-clause-runs g c = split_runs wstr_text (goal.F-post g) _ c.args.predicate c.args.text refl refl
+
+pub returns-clause-runs_back : goal.returns-clause-runs_back
+returns-clause-runs_back g c = split_runs_back wstr_text (goal.F-post g) _ c.args.predicate c.args.text refl refl
