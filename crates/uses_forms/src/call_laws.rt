@@ -1,0 +1,60 @@
+//! Laws of calls one after another, each given the rest that the call before left, in buffers of
+//! any capacities: together they do what one call does that is given the whole input. The laws hold
+//! for every call that keeps the contract of the function that they name, and so for each call for C
+//! in `dethrux`.
+
+ghost use Rattle.uses_forms.specs.Calls.{Composes};
+ghost use Rattle.uses_forms.specs.Forms.{from_latin1, from_utf32, from_utf32_lossy, from_wtf8, from_wtf8_partial, to_latin1, to_utf32, to_utf32_lossy, to_wtf8};
+
+use uses_streams::small_buffer::StrictDirection;
+use utf16_decode::ToUtf8;
+use utf16_units::Utf16Order;
+
+/// Calls of `to_utf32`.
+pub fn to_utf32_calls<E: Utf16Order>()
+    ensures { Composes (to_utf32 E.BIG) }
+{
+    ToUtf8::<E>::strict_laws();
+}
+
+/// Calls of `to_utf32_lossy`.
+pub fn to_utf32_lossy_calls<E: Utf16Order>()
+    ensures { Composes (to_utf32_lossy E.BIG) }
+{}
+
+/// Calls of `from_utf32`.
+pub fn from_utf32_calls<E: Utf16Order>()
+    ensures { Composes (from_utf32 E.BIG) }
+{}
+
+/// Calls of `from_utf32_lossy`.
+pub fn from_utf32_lossy_calls<E: Utf16Order>()
+    ensures { Composes (from_utf32_lossy E.BIG) }
+{}
+
+/// Calls of `to_latin1`.
+pub fn to_latin1_calls<E: Utf16Order>()
+    ensures { Composes (to_latin1 E.BIG) }
+{
+    ToUtf8::<E>::strict_laws();
+}
+
+/// Calls of `from_latin1`.
+pub fn from_latin1_calls<E: Utf16Order>()
+    ensures { Composes (from_latin1 E.BIG) }
+{}
+
+/// Calls of `to_wtf8`.
+pub fn to_wtf8_calls<E: Utf16Order>()
+    ensures { Composes (to_wtf8 E.BIG) }
+{}
+
+/// Calls of `from_wtf8`.
+pub fn from_wtf8_calls<E: Utf16Order>()
+    ensures { Composes (from_wtf8 E.BIG) }
+{}
+
+/// Calls of `from_wtf8_partial`.
+pub fn from_wtf8_partial_calls<E: Utf16Order>()
+    ensures { Composes (from_wtf8_partial E.BIG) }
+{}
