@@ -1,4 +1,4 @@
--- The conversions between UTF-16 and UTF-32, Latin-1 and WTF-8, each with the words of its contract.
+-- The conversions between UTF-16 and UTF-32, Latin-1 and WTF-8, each in the words of its contract.
 use Rattle.std.specs.Prelude.{◌≡◌, ℕ, ◌<◌, Bool, List, ◌++◌, length, take, drop}
 use Rattle.std.specs.List.{flat_map}
 use Rattle.utf16_units.specs.Encoding.{Encodes, char_bytes}
