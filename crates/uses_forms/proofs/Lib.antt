@@ -4,3 +4,4 @@ pub mod Latin1Lemmas
 pub mod Wtf8Lemmas
 pub mod SeamLemmas
 pub mod StreamLemmas
+pub mod CutLemmas

@@ -1,5 +1,5 @@
 -- WTF-8 that is read in two calls: what the second one reads continues what the first one read.
-use Rattle.std.proofs.Common.{◌≡◌, inl, inr, ℕ, ◌+◌, ◌-◌, ◌<◌, ◌≤◌, Bool, true, List, [], ◌∷◌, ◌++◌, All, Option, None, length, take, drop, refl, sym, ap, ap₂, ◌∙◌, subst, ⊎_elim, arith, append-nil, append_assoc, length-append, length-drop, length-take-le, take-add, take-append-drop, take_at}
+use Rattle.std.proofs.Common.{◌≡◌, ◌⊎◌, inl, inr, ℕ, ◌+◌, ◌-◌, ◌<◌, ◌≤◌, Bool, true, false, List, [], ◌∷◌, ◌++◌, All, Option, None, length, take, drop, refl, sym, ap, ap₂, ◌∙◌, subst, ⊎_elim, arith, append-nil, append_assoc, length-append, length-drop, length-take-le, take-add, take-append-drop, take_at}
 use Rattle.std.proofs.lemmas.Bool.{cases_lt}
 use Rattle.std.proofs.lemmas.List.{drop-drop}
 use Rattle.std.proofs.lemmas.List.Concat.{flat_map-append}
@@ -38,6 +38,27 @@ is_wtf8 given = record { points = given.points; spells = given.spells }
 abbrev pub Apart : List ℕ → ℕ → Type 0
 Apart input at = (n : ℕ) → EndsLeading (take at input) true → ¬ (BeginsTrailing (take n (drop at input)))
 
+-- a code point begins the bytes
+pub record Begins (bytes : List ℕ) : Type 0 where
+  pub point : ℕ
+  pub more : List ℕ
+  pub code_point : IsCodePoint point
+  pub begins : bytes ≡ generalized_utf8 point ++ more
+
+-- so there are some, and they begin with WTF-8
+pub begins_some : (bytes : List ℕ) → Begins bytes → 0 < length bytes
+begins_some bytes here = omega (arith, ap length here.begins, length-append (generalized_utf8 here.point) here.more, some_bytes here.point)
+
+pub begins_valid : (bytes : List ℕ) → Begins bytes → (n : ℕ) (len : Option ℕ) → IsIllFormedWtf8 bytes n len → 0 < n
+begins_valid bytes here n len found = ⊎_elim
+    (λ (none : n < 1).
+    let size = length (generalized_utf8 here.point) in
+    let some = some_bytes here.point in
+    let front : take size bytes ≡ generalized_utf8 here.point = ap (take size) here.begins ∙ take_at (generalized_utf8 here.point) here.more size refl in
+    absurd (found.0.longest size (omega (arith, none, some)) (subst IsWtf8 (sym front) (one_point here.point here.code_point))))
+    (λ (some : 1 ≤ n). omega (arith, some))
+    (cases_lt n 1)
+
 -- ---- a call stopped before a code point that does not fit
 
 module _ (big : Bool) (input : List ℕ) (at left : ℕ) (front : IsWtf8 (take at input)) (full : NextPointDoesNotFit big input at left) where
@@ -59,17 +80,9 @@ module _ (big : Bool) (input : List ℕ) (at left : ℕ) (front : IsWtf8 (take a
       apart (take at input) (generalized_utf8 full.point) front with_point ends
       (record { trail = full.point; more = []; trailing = subst IsTrailing same.0 trail.trailing; begins = sym (append-nil (generalized_utf8 full.point)) })
 
-  pub some_rest : 0 < length (drop at input)
-  some_rest = omega (arith, ap length full.begins, length-append (generalized_utf8 full.point) full.more, some_bytes full.point)
-
-  -- so WTF-8 begins the rest
-  pub not_at_start : (n : ℕ) (len : Option ℕ) → IsIllFormedWtf8 (drop at input) n len → 0 < n
-  not_at_start n len found = ⊎_elim
-      (λ (none : n < 1).
-      let some = some_bytes full.point in
-      absurd (found.0.longest (length (generalized_utf8 full.point)) (omega (arith, none, some)) (subst IsWtf8 (sym begins_rest) (one_point full.point full.code_point))))
-      (λ (some : 1 ≤ n). omega (arith, some))
-      (cases_lt n 1)
+  -- so something can be read of the rest
+  pub goes_on : Begins (drop at input)
+  goes_on = record { point = full.point; more = full.more; code_point = full.code_point; begins = full.begins }
 
 -- ---- the rest is read
 
@@ -153,3 +166,15 @@ module _ (big : Bool) (input out : List ℕ) (at : ℕ) (within : at ≤ length 
           last : (points : List ℕ) → spelled points ≡ take read rest → ends_leading (given.points ++ points) ≡ ends_leading points
           last [] e = absurd (omega (arith, ap length e, length-take-le read rest read_within, some))
           last (point ∷ points) e = ends_leading-back given.points point points
+
+    -- the first call's, if the second read none
+    pub ends_or_stays : (0 < read) ⊎ EndsLeading (take at input) false → EndsLeading (take read rest) false → EndsLeading (take (at + read) input) false
+    ends_or_stays either ends = ⊎_elim
+        (λ (none : read < 1).
+        let same : at ≡ at + read = omega (arith, none) in
+        ⊎_elim
+        (λ (some : 0 < read). ends_later false some ends)
+        (λ (stays : EndsLeading (take at input) false). subst (λ n. EndsLeading (take n input) false) same stays)
+        either)
+        (λ (some : 1 ≤ read). ends_later false (omega (arith, some)) ends)
+        (cases_lt read 1)

@@ -1,5 +1,5 @@
 -- The conversions between UTF-16 and UTF-32, Latin-1 and WTF-8, each in the words of its contract.
-use Rattle.std.specs.Prelude.{◌≡◌, ℕ, ◌<◌, Bool, List, ◌++◌, length, take, drop}
+use Rattle.std.specs.Prelude.{◌≡◌, ◌⊎◌, ℕ, ◌+◌, ◌<◌, Bool, List, ◌++◌, length, take, drop}
 use Rattle.std.specs.List.{flat_map}
 use Rattle.utf16_units.specs.Encoding.{Encodes, char_bytes}
 use Rattle.utf16_units.specs.Split.{lossy_text}
@@ -14,7 +14,7 @@ use Rattle.utf16_latin1.specs.declared.progress.Latin1Stop.TheVariants as latin1
 use Rattle.utf16_wtf8.specs.FromWtf8.{StopsFromWtf8, StopsFromWtf8Partial, TranscodesFromWtf8}
 use Rattle.utf16_wtf8.specs.ToWtf8.{StopsToWtf8, points_of}
 use Rattle.utf16_wtf8.specs.Wtf8.{generalized_utf8}
-use Rattle.uses_forms.specs.Calls.{Conversion}
+use Rattle.uses_forms.specs.Calls.{Conversion, IsCall}
 
 -- `to_utf32`
 abbrev pub to_utf32 : Bool → Conversion
@@ -103,3 +103,10 @@ from_wtf8_partial big = record {
   Writes = λ wtf8 out n. TranscodesFromWtf8 big (take n wtf8) out;
   Stops = StopsFromWtf8Partial big;
 }
+
+-- a call of `from_wtf8_partial` stopped at the end of a chunk, and a call is given what it left and
+-- then more bytes: together they did what one call does that is given the chunk and these bytes
+abbrev pub Cuts : Bool → Conversion → Type 0
+Cuts big next = (chunk bytes out more : List ℕ) (at read left room : ℕ) (stop : Stop) (last : next.Reason)
+    → IsCall (from_wtf8_partial big) chunk out at left stop → (stop ≡ Done) ⊎ (stop ≡ Incomplete)
+    → IsCall next (drop at chunk ++ bytes) more read room last → IsCall next (chunk ++ bytes) (out ++ more) (at + read) room last

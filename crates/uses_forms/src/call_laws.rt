@@ -5,7 +5,7 @@
 //! and `stream_calls` of `uses_streams`, in the direction `ToWtf8`.
 
 ghost use Rattle.uses_forms.specs.Calls.{Composes};
-ghost use Rattle.uses_forms.specs.Forms.{from_latin1, from_utf32, from_utf32_lossy, from_wtf8, from_wtf8_partial, to_latin1, to_utf32, to_utf32_lossy, to_wtf8};
+ghost use Rattle.uses_forms.specs.Forms.{Cuts, from_latin1, from_utf32, from_utf32_lossy, from_wtf8, from_wtf8_partial, to_latin1, to_utf32, to_utf32_lossy, to_wtf8};
 
 use uses_streams::small_buffer::StrictDirection;
 use utf16_decode::ToUtf8;
@@ -58,4 +58,12 @@ pub fn from_wtf8_calls<E: Utf16Order>()
 /// Calls of `from_wtf8_partial`.
 pub fn from_wtf8_partial_calls<E: Utf16Order>()
     ensures { Composes (from_wtf8_partial E.BIG) }
+{}
+
+/// A stream of WTF-8 in chunks: calls of `from_wtf8_partial`, each given what the call before left
+/// and then the next chunk, do what one call does, for any chunks. At the end `from_wtf8` is given
+/// what is left, and all do what one call of it does that is given the whole stream.
+pub fn from_wtf8_cuts<E: Utf16Order>()
+    ensures chunk { Cuts E.BIG (from_wtf8_partial E.BIG) }
+    ensures end { Cuts E.BIG (from_wtf8 E.BIG) }
 {}
