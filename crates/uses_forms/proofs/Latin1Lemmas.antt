@@ -1,5 +1,5 @@
 -- Calls of the conversions from and to Latin-1, one after another.
-use Rattle.std.proofs.Common.{◌≡◌, ◌≢◌, ℕ, ◌+◌, ◌-◌, ◌*◌, ◌/◌, ◌<◌, Bool, true, false, cond, List, [], ◌++◌, None, Some, length, take, drop, refl, sym, ap, ◌∙◌, subst, ⊎_elim, arith, length-drop, take_all}
+use Rattle.std.proofs.Common.{◌≡◌, ◌≢◌, ℕ, ◌+◌, ◌-◌, ◌*◌, ◌/◌, ◌<◌, ◌≤◌, Bool, true, false, cond, List, [], ◌++◌, None, Some, length, take, drop, refl, sym, ap, ◌∙◌, subst, ⊎_elim, arith, length-drop, take_all}
 use Rattle.std.specs.Prelude.{min, nat_le}
 use Rattle.std.proofs.lemmas.Bool.{cases_Bool}
 use Rattle.std.proofs.lemmas.Bool.Decides.{nat_tests}
@@ -76,7 +76,7 @@ pub from_latin1_nothing : (big : Bool) (input out : List ℕ) → Encodes big (t
 from_latin1_nothing big input out given = sym given.spelled ∙ encode-nil big
 
 -- why a call stopped
-pub from_latin1_stops : (latin1 : List ℕ) (room read written : ℕ) (why : Stop) → read ≡ min (length latin1) (room / 2) → written ≡ 2 * read
+from_latin1_stops : (latin1 : List ℕ) (room read written : ℕ) (why : Stop) → read ≡ min (length latin1) (room / 2) → written ≡ 2 * read
     → why ≡ cond (nat_le (length latin1) (room / 2)) stop.Done stop.NoSpace → StopsFromLatin1 latin1 read (room - written) why
 from_latin1_stops latin1 room read written why is two because = ⊎_elim
     (λ (fits : nat_le (length latin1) (room / 2) ≡ true).
@@ -87,6 +87,19 @@ from_latin1_stops latin1 room read written why is two because = ⊎_elim
     let long : room / 2 < length latin1 = grind (arith, nat_tests) in
     subst (StopsFromLatin1 latin1 read (room - written)) (sym stopped) (omega (arith, is, long), omega (arith, is, two, long)))
     (cases_Bool (nat_le (length latin1) (room / 2)))
+
+-- a call, by the clauses of its contract
+pub from_latin1_call : (big : Bool) (latin1 old to : List ℕ) (read written : ℕ) (why : Stop) → length old ≡ length to → read ≡ min (length latin1) (length old / 2) → written ≡ 2 * read
+    → why ≡ cond (nat_le (length latin1) (length old / 2)) stop.Done stop.NoSpace → Encodes big (take read latin1) (take written to)
+    → (written ≤ length to) × IsCall (from_latin1 big) latin1 (take written to) read (length to - written) why
+from_latin1_call big latin1 old to read written why long is two because text = (
+  omega (arith, long, is, two),
+  record {
+    within = omega (arith, is);
+    writes = text;
+    stops = subst (λ room. StopsFromLatin1 latin1 read (room - written) why) long (from_latin1_stops latin1 (length old) read written why is two because);
+  },
+)
 
 pub from_latin1_end : (big : Bool) (input out : List ℕ) (n left : ℕ) (why : Stop) → why ≢ stop.NoSpace → IsCall (from_latin1 big) input out n left why → Encodes big input out
 from_latin1_end big input out n left why other call =
