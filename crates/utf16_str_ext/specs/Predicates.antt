@@ -96,7 +96,7 @@ GivesPart says (Some text) None left = ⊥
 GivesPart says (Some text) (Some part) None = (part ≡ text) × SaysOfEach says false text
 GivesPart says (Some text) (Some part) (Some after) = IsCutWith says text part after
 
--- the same of `next_back`: the part begins after the last character for which the predicate
+-- the same for `next_back`: the part begins after the last character for which the predicate
 -- answered true
 abbrev pub GivesLastPart : (ℕ → Bool → Type 0) → Option (List ℕ) → Option (List ℕ) → Option (List ℕ) → Type 0
 GivesLastPart says None part left = (part ≡ None) × (left ≡ None)
