@@ -739,6 +739,70 @@ class Decoders(unittest.TestCase):
                 decoder.feed(None)
             self.assertEqual(decoder.finish(), REPLACEMENT.encode(target))
 
+    def fails_without_memory(self, made, call, wanted, left=b""):
+        """Make each allocation of a call fail in turn: nothing changes, and again it succeeds."""
+        try:
+            from _testcapi import remove_mem_hooks, set_nomemory
+        except ImportError:
+            self.skipTest("this Python has no _testcapi")
+        outcomes = []
+        for start in range(60):
+            decoder, found = made(), None
+            pending = decoder.pending
+            set_nomemory(start, start + 1)
+            try:
+                found = call(decoder)
+            except (MemoryError, ctypes.ArgumentError):
+                # ctypes raises the second one if there is no memory for an argument.
+                pass
+            finally:
+                remove_mem_hooks()
+            outcomes.append(found is None)
+            if found is None:
+                self.assertEqual(decoder.pending, pending, start)
+                found = call(decoder)
+            self.assertEqual(found, wanted, start)
+            self.assertEqual(decoder.pending, left, start)
+        self.assertEqual({*outcomes}, {False, True})
+        # All allocations of the call had their turn.
+        self.assertNotIn(True, outcomes[-9:])
+
+    def test_without_memory(self):
+        for kind, order, source, target in each_decoder():
+            raw, text = "\U0001f600".encode(source), "\U0001f600".encode(target)
+            for pending in unfinished(kind, order):
+                rest = raw[len(pending) :]
+
+                def made():
+                    decoder = kind(order)
+                    decoder.feed(pending)
+                    return decoder
+
+                calls = (
+                    (lambda it: it.finish(), REPLACEMENT.encode(target), b""),
+                    (lambda it: it.feed(rest), text, b""),
+                    (lambda it: it.feed(bytearray(rest)), text, b""),
+                    (lambda it: it.feed(rest + pending), text, pending),
+                    (lambda it: it.feed_partial(rest, 4), (text, len(rest), Status.DONE, 0), b""),
+                )
+                for call, wanted, left in calls:
+                    with self.subTest(target=target, pending=pending):
+                        self.fails_without_memory(made, call, wanted, left)
+
+    def test_an_end_without_memory_is_none(self):
+        """A decoder whose end failed is not finished, and takes more of the stream."""
+        for kind, order, source, target in each_decoder():
+            for pending in unfinished(kind, order):
+                decoder = kind(order)
+                decoder.feed(pending)
+                with mock.patch.object(_calls, "Progress", side_effect=MemoryError):
+                    with self.assertRaises(MemoryError):
+                        decoder.finish()
+                self.assertEqual(decoder.pending, pending)
+                rest = "\U0001f600".encode(source)[len(pending) :]
+                self.assertEqual(decoder.feed(rest), "\U0001f600".encode(target))
+                self.assertEqual(decoder.finish(), b"")
+
     def test_decoders_are_apart(self):
         for kind, order, source, target in each_decoder():
             first, second = kind(order), kind(order)

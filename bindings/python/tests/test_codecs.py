@@ -1,6 +1,7 @@
 """The codecs, compared with CPython's: results, errors, streams, files and threads."""
 
 import codecs
+import ctypes
 import io
 import itertools
 import os
@@ -437,6 +438,35 @@ class Streams(unittest.TestCase):
             for name, errors in itertools.product(NAMES, ("strict", "replace", "surrogatepass")):
                 self.run_both(name, lambda info: info.incrementaldecoder(errors), steps)
                 self.run_both(name, lambda info: info.incrementaldecoder(), steps)
+
+    def test_without_memory(self):
+        """Each allocation of a call fails: nothing changes, and the next call does all of it."""
+        try:
+            from _testcapi import remove_mem_hooks, set_nomemory
+        except ImportError:
+            self.skipTest("this Python has no _testcapi")
+        text = "a\U0001f600"
+        for name in NAMES:
+            raw, info = text.encode(name), codecs.lookup(f"dethrux-{name}")
+            # Three bytes of the last character stay for the next call.
+            calls = (
+                (info.incrementaldecoder, "decode", raw[:-1], text[:-1]),
+                (info.incrementalencoder, "encode", text, raw),
+            )
+            for (kind, method, chunk, wanted), start in itertools.product(calls, range(120)):
+                coder, found = kind(), None
+                before = coder.getstate()
+                set_nomemory(start, start + 1)
+                try:
+                    found = getattr(coder, method)(chunk)
+                except (MemoryError, ctypes.ArgumentError):
+                    pass
+                finally:
+                    remove_mem_hooks()
+                if found is None:
+                    self.assertEqual(coder.getstate(), before, (name, method, start))
+                    found = getattr(coder, method)(chunk)
+                self.assertEqual(found, wanted, (name, method, start))
 
     def test_no_bom(self):
         for raw in (b"a\0b", b"\0a", b"\0\xdc"):

@@ -778,27 +778,6 @@ class Memory(unittest.TestCase):
             if isinstance(expected, (str, bytes)) and len(expected) > 1:
                 self.assertGreater(failed, 0, (function, given))
 
-    def test_a_decoder_stays_if_memory_fails(self):
-        try:
-            from _testcapi import remove_mem_hooks, set_nomemory
-        except ImportError:
-            self.skipTest("this Python has no _testcapi")
-        for kind, chunk in ((dethrux.Decoder, b"a\0\x3d"), (dethrux.Encoder, b"a\xf0\x9f")):
-            outcomes = set()
-            for start in range(14):
-                decoder = kind("little")
-                failed = False
-                set_nomemory(start, start + 1)
-                try:
-                    decoder.feed(chunk)
-                except MemoryError:
-                    failed = True
-                finally:
-                    remove_mem_hooks()
-                self.assertEqual(decoder.pending == b"", failed, start)
-                outcomes.add(failed)
-            self.assertEqual(outcomes, {False, True})
-
 
 class Threads(unittest.TestCase):
     def test_long_texts(self):

@@ -156,6 +156,17 @@ def _run(call: Callable[..., Any], capacity: int, *arguments: object) -> Progres
     return Progress(output, found.read, _STATUSES[found.status], found.error_len)
 
 
+def _run_with(
+    state: _library.State, call: Callable[..., Any], capacity: int, *arguments: object
+) -> Progress:
+    """Make a call with a copy of a state, which becomes the state if nothing fails."""
+    after = _library.State.from_buffer_copy(state)
+    progress = _run(call, capacity, after, *arguments)
+    # Once the bytes are there, this takes no more memory.
+    memoryview(state).cast("B")[:] = memoryview(after).cast("B")
+    return progress
+
+
 def as_capacity(capacity: Optional[int]) -> Optional[int]:
     """Return a capacity or None; raise an exception if it is neither."""
     return None if capacity is None else as_size(capacity, "capacity")
@@ -403,7 +414,7 @@ def feed_decoder(
     """Decode the next chunk of a stream of UTF-16."""
     capacity, source = as_capacity(capacity), readable(chunk)
     room = _limited(capacity, (len(source) + 3) // 2 * 3)
-    return _run(_library.decoder_feed, room, state, order, source, len(source))
+    return _run_with(state, _library.decoder_feed, room, order, source, len(source))
 
 
 @in_c
@@ -413,7 +424,7 @@ def feed_encoder(
     """Decode the next chunk of a stream of UTF-8."""
     capacity, source = as_capacity(capacity), readable(chunk)
     room = _limited(capacity, len(source) * 2 + 2)
-    return _run(_library.encoder_feed, room, state, order, source, len(source))
+    return _run_with(state, _library.encoder_feed, room, order, source, len(source))
 
 
 class Decoder:
@@ -453,8 +464,9 @@ class Decoder:
     def finish(self) -> bytes:
         """End the stream, and return U+FFFD if bytes are pending, else nothing."""
         self._check_open()
+        output = self._finish().output
         self._finished = True
-        return self._finish().output
+        return output
 
     def _check_open(self) -> None:
         if self._finished:
@@ -463,7 +475,7 @@ class Decoder:
     _feed = staticmethod(feed_decoder)
 
     def _finish(self) -> Progress:
-        return _run(_library.decoder_finish, 3, self._state)
+        return _run_with(self._state, _library.decoder_finish, 3)
 
 
 class Encoder(Decoder):
@@ -475,4 +487,4 @@ class Encoder(Decoder):
     _feed = staticmethod(feed_encoder)
 
     def _finish(self) -> Progress:
-        return _run(_library.encoder_finish, 2, self._state, self._order)
+        return _run_with(self._state, _library.encoder_finish, 2, self._order)

@@ -470,6 +470,16 @@ class Utf16IncrementalDecoder(codecs.BufferedIncrementalDecoder):
         super().__init__(errors)
         self._decoder = _BomDecoder()
 
+    def decode(self, input: Any, final: bool = False) -> str:
+        """Return the text of the next chunk. After an exception nothing has changed."""
+        function = self._decoder.function
+        try:
+            return super().decode(input, final)
+        except BaseException:
+            # There was memory for the text, but not for the bytes after it.
+            self._decoder.function = function
+            raise
+
     def _buffer_decode(self, input: Any, errors: str, final: bool) -> tuple[str, int]:
         return self._decoder.decode(input, errors, final)
 
