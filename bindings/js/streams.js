@@ -35,15 +35,19 @@ class Stream {
         return this.#state.slice(0, this.#state[3]);
     }
 
-    /** Makes a call with this many bytes for its output, and returns the output. */
+    /**
+     * Makes a call with this many bytes for its output, and returns the output. If there is no
+     * memory for it, nothing changes.
+     */
     made(name, parts, capacity) {
         const all = [state(this.#state), ...parts, room(capacity)];
         const { result, bytes } = this.#call(name, "progress", all);
         if (result.status === "incomplete") {
             throw new Error("dethrux: the stream ends with an odd byte, which WTF-8 cannot keep");
         }
+        const output = bytes(all.length - 1, result.written);
         this.#state = bytes(0, 4);
-        return bytes(all.length - 1, result.written);
+        return output;
     }
 
     /** Returns what the calls for a chunk wrote. If there is no memory for it, nothing changes. */
@@ -163,10 +167,11 @@ class BomDecoder {
     }
 
     finish() {
-        if (!this.#decoder) {
-            this.#begin(this.#head, { order: this.#otherwise, len: 0 });
-        }
-        const text = this.#decoder.finish();
+        const decoder = this.#decoder ?? this.#functions.decoder(this.#otherwise);
+        // At most one byte, so it has no text yet.
+        decoder.feed(this.#head);
+        const text = decoder.finish();
+        this.#head = new Uint8Array();
         this.#decoder = undefined;
         return text;
     }

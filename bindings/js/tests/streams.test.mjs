@@ -82,9 +82,24 @@ test("what is pending", () => {
     const encoder = dethrux.encoder("le");
     encoder.feed(Uint8Array.of(0xf0, 0x9f));
     assert.deepEqual(encoder.pending, Uint8Array.of(0xf0, 0x9f));
+    const toUnits = dethrux.encoder();
+    toUnits.feed(Uint8Array.of(0xf0, 0x9f, 0x98));
+    assert.deepEqual(toUnits.pending, Uint8Array.of(0xf0, 0x9f, 0x98));
     const bom = dethrux.decoder("bom");
+    assert.deepEqual(bom.pending, new Uint8Array());
     bom.feed(Uint8Array.of(0xff));
     assert.deepEqual(bom.pending, Uint8Array.of(0xff));
+    bom.feed(Uint8Array.of(0xfe, 0x3d, 0xd8, 0));
+    assert.deepEqual(bom.pending, Uint8Array.of(0x3d, 0xd8, 0));
+});
+
+test("a change of what was pending changes no stream", () => {
+    const [decoder, encoder, bom] = [dethrux.decoder("le"), dethrux.encoder(), dethrux.decoder("bom")];
+    for (const [coder, byte] of [[decoder, 0x3d], [encoder, 0xf0], [bom, 0xff]]) {
+        coder.feed(Uint8Array.of(byte));
+        coder.pending.fill(0x41);
+        assert.deepEqual(coder.pending, Uint8Array.of(byte));
+    }
 });
 
 test("a decoder begins a new stream after its end", () => {
@@ -138,6 +153,62 @@ test("a chunk without memory for its text changes nothing", () => {
     }
     assert.deepEqual(decoder.pending, Uint8Array.of(0x3d));
     assert.equal(decoder.feed(chunk).length, 35_002);
+});
+
+/** Whether a call fails that has memory for this many copies. */
+function fails(copies, call) {
+    const typed = Object.getPrototypeOf(Uint8Array.prototype);
+    const { slice } = typed;
+    let left = copies;
+    typed.slice = function (...words) {
+        left -= 1;
+        if (left < 0) {
+            throw new RangeError("no memory");
+        }
+        return slice.apply(this, words);
+    };
+    try {
+        call();
+        return false;
+    } catch (error) {
+        assert.match(error.message, /no memory/);
+        return true;
+    } finally {
+        typed.slice = slice;
+    }
+}
+
+test("an end without memory for its text changes nothing", () => {
+    const [character, mark, none] = [utf8("\u{1f600}"), utf8("\ufffd"), new Uint8Array()];
+    const cases = [
+        [() => dethrux.decoder("le"), le("\u{1f600}"), [mark, mark, mark], character],
+        [() => dethrux.encoder("le"), character, [1, 2, 3].map(() => le("\ufffd")), le("\u{1f600}")],
+        [() => dethrux.encoder(), character, [1, 2, 3].map(() => unitsOf("\ufffd")), unitsOf("\u{1f600}")],
+        [() => dethrux.wtf8Decoder("le"), le("\u{1f600}"), [, Uint8Array.of(0xed, 0xa0, 0xbd)], character],
+        [() => dethrux.decoder("bom"), le("\ufeffa"), [mark, none, mark], utf8("a")],
+    ];
+    for (const [coderOf, bytes, ends, text] of cases) {
+        ends.forEach((end, at) => {
+            const begun = () => {
+                const coder = coderOf();
+                coder.feed(bytes.subarray(0, at + 1));
+                return coder;
+            };
+            const { pending } = begun();
+            for (let copies = 0; ; copies += 1) {
+                const [first, second] = [begun(), begun()];
+                if (!fails(copies, () => first.finish())) {
+                    assert.ok(copies > 1);
+                    break;
+                }
+                assert.deepEqual(first.pending, pending);
+                assert.deepEqual(first.finish(), end);
+                assert.deepEqual(first.pending, none);
+                assert.ok(fails(copies, () => second.finish()));
+                assert.deepEqual(second.feed(bytes.subarray(at + 1)), text);
+            }
+        });
+    }
 });
 
 test("a wrong chunk changes nothing", () => {
