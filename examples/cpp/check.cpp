@@ -676,6 +676,13 @@ static void results() {
                                        && *found == "text" && found->size() == 4
                                        && found_const.value() == "text" && *found_const == "text"
                                        && found_const->size() == 4);
+    check("the place of a value", &*found == &found.value() && found.operator->() == &found.value()
+                                      && &*found_const == &found_const.value()
+                                      && found_const.operator->() == &found_const.value());
+    *found += "+";
+    found->append("-");
+    found.value() += "=";
+    check("a value that is changed", *found == "text+-=" && *found_const == "text");
     check("a result without a value",
         !lost.has_value() && !lost && lost_const.error() == dethrux::error{0, 1});
     check("a value or another", dethrux::to_utf8(u"\xDC00").value_or("other") == "other"
@@ -683,8 +690,11 @@ static void results() {
     check("the value of an error", has_no_value([&] { (void)lost.value(); }) && has_no_value([&] {
         (void)lost_const.value();
     }) && has_no_value([&] { (void)std::move(lost).value(); }));
+    check("the error of a value", has_no_value([&] { (void)found_const.error(); }));
+    const dethrux::result<std::string> made = dethrux::error{3, 2};
+    check("a result that is made of an error", !made && made.error() == dethrux::error{3, 2});
     std::string moved = std::move(found).value(), also = *dethrux::to_utf8(u"text");
-    check("a value that is moved", moved == "text" && also == "text");
+    check("a value that is moved", moved == "text+-=" && also == "text");
 }
 
 // What can be given as bytes and as code units, and what cannot.
@@ -716,13 +726,31 @@ static bool is_taken_as_units() {
     return is;
 }
 
+template <class Element>
+static bool is_taken_as_points() {
+    const std::array<Element, 3> text{Element{'a'}, Element{0x1F600}, Element{0}};
+    const std::vector<Element> more(text.begin(), text.end());
+    bool is = dethrux::from_utf32(text).value() == u"a\U0001F600\0"sv
+              && dethrux::from_utf32(more).value() == u"a\U0001F600\0"sv
+              && dethrux::from_utf32({text.data(), 2}).value() == u"a\U0001F600";
+#if __cplusplus >= 202002L
+    is = is && dethrux::from_utf32(std::span(more)).value() == u"a\U0001F600\0"sv
+         && dethrux::from_utf32(std::span<const Element>(text)).value() == u"a\U0001F600\0"sv;
+#endif
+    return is;
+}
+
 enum class letter : char {};
 enum class unit : std::uint16_t {};
+enum class point : std::uint32_t {};
 struct one_byte {
     char of;
 };
 struct two_bytes {
     char of[2];
+};
+struct four_bytes {
+    char of[4];
 };
 
 template <class View, class Element>
@@ -738,20 +766,116 @@ static void views() {
                        && is_taken_as_bytes<letter>());
     check("code units", is_taken_as_units<char16_t>() && is_taken_as_units<std::uint16_t>()
                             && is_taken_as_units<short>() && is_taken_as_units<unit>());
+    check("code points", is_taken_as_points<char32_t>() && is_taken_as_points<std::uint32_t>()
+                             && is_taken_as_points<int>() && is_taken_as_points<point>());
     check("strings",
         dethrux::from_utf8("ab"s).value() == u"ab" && dethrux::from_utf8("ab"sv).value() == u"ab"
             && dethrux::from_utf8("ab").value() == u"ab" && dethrux::to_utf8(u"ab"s).value() == "ab"
             && dethrux::to_utf8(u"ab"sv).value() == "ab"
-            && dethrux::to_utf8(u"ab").value() == "ab");
-    check("no elements", dethrux::bytes().size() == 0 && dethrux::bytes().data() == nullptr
-                             && dethrux::units().size() == 0 && dethrux::units().data() == nullptr
-                             && dethrux::to_utf8(dethrux::units()).value().empty()
-                             && dethrux::from_utf8(dethrux::bytes()).value().empty());
+            && dethrux::to_utf8(u"ab").value() == "ab"
+            && dethrux::from_utf32(U"ab"s).value() == u"ab"
+            && dethrux::from_utf32(U"ab"sv).value() == u"ab"
+            && dethrux::from_utf32(U"ab").value() == u"ab");
+    const std::u32string text = U"ab";
+    const dethrux::points all = text;
+    check("what a view has", all.size() == 2
+                                 && all.data() == static_cast<const void *>(text.data())
+                                 && dethrux::units(u"abc").size() == 3
+                                 && dethrux::bytes("abcd").size() == 4
+                                 && *dethrux::bytes("abcd").data() == 'a');
 #if __cplusplus >= 202002L
     check("char8_t", is_taken_as_bytes<char8_t>());
 #endif
     static_assert(!takes_any<dethrux::bytes, char16_t, char32_t, one_byte, float>);
     static_assert(!takes_any<dethrux::units, char, char32_t, two_bytes, float>);
+    static_assert(!takes_any<dethrux::points, char, char16_t, four_bytes, float>);
+}
+
+// What each call that reads finds in no elements.
+template <class Text, class... Order>
+static bool reads_nothing(Text none, Order... order) {
+    const dethrux::inspection found = dethrux::inspect(none, order...);
+    return none.size() == 0 && none.data() == nullptr && !dethrux::validate(none, order...)
+           && dethrux::count_chars(none, order...) == 0 && dethrux::is_ascii(none, order...)
+           && dethrux::is_char_boundary(none, order..., 0)
+           && !dethrux::is_char_boundary(none, order..., 1)
+           && dethrux::floor_char_boundary(none, order..., 0) == 0
+           && dethrux::floor_char_boundary(none, order..., 1) == 0
+           && dethrux::compare(none, order..., none, order...) == 0
+           && dethrux::find(none, order..., none) == 0 && dethrux::rfind(none, order..., none) == 0
+           && !found.error && found.chars == 0 && found.repertoire == dethrux::repertoire::ascii;
+}
+
+// What each call to another encoding makes of no elements, and then each call from one.
+template <class Text, class... Order>
+static bool converts_nothing(Text none, Order... order) {
+    const dethrux::bytes bytes;
+    const dethrux::points points;
+    bool is = dethrux::to_utf8(none, order...).value().empty()
+              && dethrux::to_utf8_lossy(none, order...).empty()
+              && dethrux::to_utf32(none, order...).value().empty()
+              && dethrux::to_utf32_lossy(none, order...).empty()
+              && dethrux::to_latin1(none, order...).value().empty();
+    if constexpr (sizeof...(order) == 0) {
+        is = is && dethrux::to_wtf8(none).empty() && dethrux::to_wstring(none).value().empty()
+             && dethrux::to_wstring_lossy(none).empty()
+             && dethrux::from_wstring(std::wstring_view()).value().empty()
+             && dethrux::from_wstring_lossy(std::wstring_view()).empty();
+    } else {
+        is = is && dethrux::to_wtf8(none, order...).value().empty();
+    }
+    return is && dethrux::from_utf8(bytes, order...).value().empty()
+           && dethrux::from_utf8_lossy(bytes, order...).empty()
+           && dethrux::from_utf32(points, order...).value().empty()
+           && dethrux::from_utf32_lossy(points, order...).empty()
+           && dethrux::from_latin1(bytes, order...).empty()
+           && dethrux::from_wtf8(bytes, order...).value().empty();
+}
+
+// No elements, as bytes and as code units, leave a stream where it is.
+static bool streams_nothing(byte_order order) {
+    const dethrux::bytes bytes;
+    const dethrux::units units;
+    std::string to;
+    std::u16string wide;
+    dethrux::decoder decoder(order);
+    dethrux::encoder encoder(order);
+    dethrux::wtf8_decoder wtf8_decoder(order);
+    dethrux::wtf8_encoder wtf8_encoder(order);
+    auto stays = [&](std::size_t pending) {
+        decoder.feed(bytes, to);
+        decoder.feed(units, to);
+        encoder.feed(bytes, to);
+        encoder.feed(bytes, wide);
+        wtf8_decoder.feed(bytes, to);
+        wtf8_decoder.feed(units, to);
+        return !wtf8_encoder.feed(bytes, to) && !wtf8_encoder.feed(bytes, wide) && to.empty()
+               && wide.empty() && decoder.pending() == pending && encoder.pending() == pending
+               && wtf8_decoder.pending() == pending && wtf8_encoder.pending() == pending;
+    };
+    bool is = stays(0);
+    decoder.feed("\xD8"sv, to);
+    encoder.feed("\xE4"sv, to);
+    wtf8_decoder.feed("\xD8"sv, to);
+    return is && !wtf8_encoder.feed("\xE4"sv, to) && stays(1);
+}
+
+// Every call that takes a view, with one that was made of nothing: its pointer is null.
+static void no_elements() {
+    const dethrux::bytes bytes;
+    const dethrux::units units;
+    const dethrux::points points;
+    check("no elements in code units", reads_nothing(units) && converts_nothing(units));
+    check("no code points", points.size() == 0 && points.data() == nullptr
+                                && dethrux::points().data() == nullptr
+                                && !dethrux::validate_utf32(points));
+    for (byte_order order : {byte_order::little, byte_order::big}) {
+        check("no elements in bytes",
+            reads_nothing(bytes, order) && converts_nothing(bytes, order));
+        check("no elements in a part of a file",
+            dethrux::floor_char_boundary_around(bytes, order, 0) == 0);
+        check("no elements in a stream", streams_nothing(order));
+    }
 }
 
 // What the compiler tests: no call on a text throws, no conversion is implicit, and a byte order
@@ -792,6 +916,7 @@ static void types() {
     static_assert(noexcept(dethrux::decoder().pending()));
     static_assert(noexcept(dethrux::encoder().pending()));
     static_assert(noexcept(dethrux::wtf8_decoder()));
+    static_assert(noexcept(dethrux::wtf8_encoder()));
     static_assert(noexcept(dethrux::wtf8_decoder().pending()));
     static_assert(noexcept(dethrux::wtf8_encoder().pending()));
     static_assert(!std::is_convertible_v<byte_order, dethrux::wtf8_decoder>);
@@ -799,6 +924,19 @@ static void types() {
     static_assert(!std::is_convertible_v<byte_order, dethrux::decoder>);
     static_assert(!std::is_convertible_v<byte_order, dethrux::encoder>);
     static_assert(!std::is_convertible_v<dethrux::result<std::string>, bool>);
+    // What `*` and `->` give for a result, for a constant one and for one that is moved.
+    using result = dethrux::result<std::string>;
+    static_assert(std::is_same_v<decltype(*std::declval<result &>()), std::string &>);
+    static_assert(std::is_same_v<decltype(*std::declval<const result &>()), const std::string &>);
+    static_assert(std::is_same_v<decltype(*std::declval<result>()), std::string &&>);
+    static_assert(noexcept(*std::declval<result &>()));
+    static_assert(noexcept(*std::declval<const result &>()));
+    static_assert(noexcept(*std::declval<result>()));
+    static_assert(std::is_same_v<decltype(std::declval<result &>().operator->()), std::string *>);
+    static_assert(std::is_same_v<decltype(std::declval<const result &>().operator->()),
+        const std::string *>);
+    static_assert(noexcept(std::declval<result &>().operator->()));
+    static_assert(noexcept(std::declval<const result &>().operator->()));
 }
 
 // A decoder in any order decodes code units of the machine's, and one that is made without an order
@@ -910,6 +1048,8 @@ static void memory() {
         check("the end of wtf8_encoder without memory",
             !waits.feed("\xED\xA0\xBD", none)
                 && appends(waits, 3, in_form("\xD8\x3D"s, order),
+                    [](auto &by, auto &to) { finish(by, to); })
+                && appends(waits, 3, u"\xD83D"s,
                     [](auto &by, auto &to) { finish(by, to); }));
         for (std::size_t at = 1; at < 4; at++) {
             const std::string first = utf8.substr(0, at), rest = utf8.substr(at);
@@ -931,14 +1071,19 @@ static void memory() {
     }
 }
 
-// Whether a call allocates once, at most this many bytes and a few that the string adds, and fails
-// without memory.
+// Whether a call allocates this often, each time at most this many bytes and a few that the string
+// adds, and fails without memory.
 template <class Call>
-static bool requests_once(std::size_t bytes, Call call) {
+static bool requests_times(std::size_t times, std::size_t bytes, Call call) {
     requests = largest_request = 0;
     call();
-    bool is = requests == 1 && largest_request <= bytes + 64;
+    bool is = requests == times && largest_request <= bytes + 64;
     return is && without_memory(call, [] { return true; });
+}
+
+template <class Call>
+static bool requests_once(std::size_t bytes, Call call) {
+    return requests_times(1, bytes, call);
 }
 
 // A result takes the memory of the longest text for its length of input: of UTF-16 three bytes or a
@@ -988,6 +1133,14 @@ static void space() {
                    std::string to;
                    dethrux::wtf8_decoder(order).feed(bytes, to);
                }));
+    // Once for what it reads, and once for what it writes.
+    check("the memory of wtf8_encoder", requests_times(2, 4000, [&] {
+        std::string to;
+        (void)dethrux::wtf8_encoder(order).feed(bytes, to);
+    }) && requests_times(2, 4000, [&] {
+        std::u16string to;
+        (void)dethrux::wtf8_encoder().feed(bytes, to);
+    }));
     check("the memory of decoders", requests_once(3000, [&] {
         std::string to;
         dethrux::decoder(order).feed(bytes, to);
@@ -1066,6 +1219,7 @@ int main() {
     others();
     results();
     views();
+    no_elements();
     types();
     orders();
     memory();
