@@ -521,6 +521,23 @@ class Buffers(unittest.TestCase):
                 tracemalloc.stop()
                 self.assertLess(peak, sys.getsizeof(result) + 4096, (call, char))
 
+    def test_room(self):
+        """A conversion takes the memory of the longest output for its length of input, no more."""
+        import tracemalloc
+
+        raw, utf8 = "\u4e00".encode("utf-16-le") * LONG, "\u4e00".encode() * LONG
+        names = "to_utf8", "to_utf8_lossy", "to_utf8_partial", "decode_to_utf8"
+        calls = [(name, raw, len(raw) // 2 * 3) for name in names]
+        names = "from_utf8", "from_utf8_lossy", "encode_from_utf8"
+        calls += [(name, utf8, len(utf8) * 2) for name in names]
+        for name, data, room in calls:
+            tracemalloc.start()
+            C[name](data, "little")
+            peak = tracemalloc.get_traced_memory()[1]
+            tracemalloc.stop()
+            # A block is freed first that is longer: `new_bytes` says why.
+            self.assertLess(peak, room + BLOCK + 4096, name)
+
 
 # A library whose calls tell whether the thread has the GIL, and need no proof.
 TELLS_GIL = r"""
