@@ -5,3 +5,4 @@ pub mod Wtf8Lemmas
 pub mod SeamLemmas
 pub mod StreamLemmas
 pub mod CutLemmas
+pub mod ChunkLemmas

@@ -6,4 +6,5 @@ pub mod call_laws;
 pub mod latin1;
 pub mod utf32;
 pub mod wtf8;
+pub mod wtf8_chunks;
 pub mod wtf8_stream;
