@@ -26,9 +26,9 @@ pub struct Converted<A: Allocator> {
     pub stop: Stop,
 }
 
-/// Converts a stream of WTF-8 to UTF-16, up to the first ill-formed sequence, like one call of
-/// `from_wtf8` that is given the chunks together. The stream comes in chunks, cut anywhere, and
-/// goes through a buffer of four bytes or more.
+/// Converts a stream of WTF-8 to UTF-16, through a buffer of four bytes or more. The stream comes
+/// in chunks, cut anywhere. The result is that of one call of `from_wtf8` that is given the chunks
+/// together: all of them, or those up to the one in which an ill-formed sequence was found.
 ///
 /// # Precondition
 ///
