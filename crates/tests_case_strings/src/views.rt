@@ -22,7 +22,9 @@ pub fn call<E: Utf16Order>(run: &mut Run, name: &str) -> bool {
     match name.split_once("::") {
         Some(("WStrMut", _)) => written::call::<E>(run, name),
         Some(("WString", _)) => false,
-        Some((kind, _)) if kind.starts_with("WStr") || kind == "ParseError" => made::call::<E>(run, name),
+        Some((kind, _)) if kind.starts_with("WStr") || kind == "ParseError" => made::call::<E>(
+            run, name,
+        ),
         _ => units::call::<E>(run, name),
     }
 }
