@@ -83,7 +83,5 @@ fn to_ascii_lowercase<E: Utf16Order, A: Allocator>(
     ensures { IfOk result (λ lower.
         wstring_text lower ≡ map lower_case (wstr_text text.entry)) }
 {
-    let mut lower = WString::from_wstr(alloc, text)?;
-    lower.make_ascii_lowercase();
-    Ok(lower)
+    text.chars().map(|c| c.to_ascii_lowercase()).collect(alloc)
 }
