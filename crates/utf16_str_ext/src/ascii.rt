@@ -69,7 +69,8 @@ pub(crate) fn is_space(c: char) -> bool
     c.is_ascii_whitespace()
 }
 
-// The first word, and a text with the other words. Both are empty if there is no word.
+// Returns the first word, and a text that has the other words. If there are no words, both are
+// empty.
 fn split_first_word<'a, E: Utf16Order>(text: WStr<'a, E>) -> (WStr<'a, E>, WStr<'a, E>)
     ensures some { wstr_text result.0 ≢ [] → ascii_words (wstr_text text.entry)
         ≡ wstr_text result.0 ∷ ascii_words (wstr_text result.1) }
@@ -83,7 +84,8 @@ fn split_first_word<'a, E: Utf16Order>(text: WStr<'a, E>) -> (WStr<'a, E>, WStr<
     }
 }
 
-// A text with the other words, and the last word. Both are empty if there is no word.
+// Returns a text that has the other words, and the last word. If there are no words, both are
+// empty.
 fn split_last_word<'a, E: Utf16Order>(text: WStr<'a, E>) -> (WStr<'a, E>, WStr<'a, E>)
     ensures some { wstr_text result.1 ≢ [] → ascii_words (wstr_text text.entry)
         ≡ ascii_words (wstr_text result.0) ++ wstr_text result.1 ∷ [] }
