@@ -1,10 +1,10 @@
 -- Limits of lanes that are within them already.
-use Rattle.std.proofs.Common.{◌≡◌, ℕ, All, ◌-◌, ◌<◌, ◌^◌, ◌≤◌, ◌⊎◌, ⊎_elim, slice_index, bit_and, bit_or, Bool, true, false, cond, List, [], ◌∷◌, length, map, replicate, refl, sym, ap, ap₂, ◌∙◌, subst, arith, Fits, w8, w16, ltb, le-ltb, lt-ltb}
+use Rattle.std.proofs.Common.{◌≡◌, ℕ, All, ◌-◌, ◌<◌, ◌^◌, ◌≤◌, ◌⊎◌, ⊎_elim, slice_index, bit_and, bit_or, Bool, cond, List, [], ◌∷◌, length, map, replicate, refl, sym, ap, ap₂, ◌∙◌, subst, arith, Fits, w8, w16, le-ltb, lt-ltb}
 use Rattle.std.proofs.lemmas.Int.{to_z_pos}
 use Rattle.std.proofs.lemmas.List.Elements.{All-cons, All-from_get_or, All-get_or, All-head, All-nil, All-tail}
 use Rattle.std.proofs.lemmas.Nat.{le_or_l, le_or_r}
 use Rattle.std.proofs.lemmas.Nat.Bits.{and_high}
-use Rattle.std.proofs.lemmas.Simd.{Each1-from_get_or, Each1-get_or, tops_compared}
+use Rattle.std.proofs.lemmas.Simd.{Each1-get_or, tops_compared}
 use lib.Dec.{T}
 use lib.IntN.{nat_abs, pos}
 use lib.Lanes.{Each1, fold_l, sel_l, top, zip2}

@@ -162,7 +162,13 @@ pub(crate) fn are_of(units: u16x32, kind: Kind) -> bool
             }
             are_below(folded(units), 0x800)
         }
-        Kind::Basic => are_from(raised(units), 0x800),
+        Kind::Basic => {
+            // A block of letters ends a run of basic units.
+            if are_below(units, 0x800) {
+                return false;
+            }
+            are_from(raised(units), 0x800)
+        }
         Kind::Mixed => true,
     }
 }

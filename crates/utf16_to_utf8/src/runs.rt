@@ -168,8 +168,8 @@ fn write_surrogates<E: Utf16Order>(
     Some(done)
 }
 
-// Writes the next block, whose kind is known. If it is wide or of pairs, also writes the blocks of
-// its kind that follow it and fit.
+// Writes the next block, whose kind is known. If it is wide, basic or of pairs, also writes the
+// blocks of its kind that follow it and fit.
 #[inline(always)]
 fn write_known<E: Utf16Order>(
     raw: &[u8],
@@ -189,8 +189,9 @@ fn write_known<E: Utf16Order>(
     let next = write_block_units::<E>(raw, out, from, units, kind);
     match kind {
         Kind::Wide => write_run::<E>(raw, out, next, Kind::Wide),
+        Kind::Basic => write_run::<E>(raw, out, next, Kind::Basic),
         Kind::Pairs => write_run::<E>(raw, out, next, Kind::Pairs),
-        Kind::Ascii | Kind::Letters | Kind::Basic | Kind::Mixed => next,
+        Kind::Ascii | Kind::Letters | Kind::Mixed => next,
     }
 }
 

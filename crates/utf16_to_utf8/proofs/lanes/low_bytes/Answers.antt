@@ -1,4 +1,4 @@
-use Rattle.std.proofs.Common.{◌≡◌, ℕ, Fits, map, subst, sym, ap, ◌∙◌, w8, w16}
+use Rattle.std.proofs.Common.{ℕ, Fits, map, subst, sym, ap, ◌∙◌, w8, w16}
 use lib.Dec.{T}
 use lib.IntN.{nat_abs}
 use lib.Lanes.{Each1}
