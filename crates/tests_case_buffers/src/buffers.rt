@@ -19,7 +19,8 @@ use utf16_encode::{FromUtf8, ToUtf8};
 use utf16_units::Utf16Order;
 
 /// Makes a call on these values and adds its result. `Call` if no call over buffers has this name;
-/// in that case no value was taken.
+/// in that case no value was taken. Several functions share the names, because the proof of a
+/// function takes much longer with more of them.
 pub fn call<E: Utf16Order>(
     alloc: Global,
     name: &str,
@@ -39,14 +40,18 @@ pub fn call<E: Utf16Order>(
         "Stream::pending" => streams::pending(alloc, values, answer),
         "Stream::feed" => streams::feed::<E, ToUtf8<E>>(alloc, values, answer, true),
         "feed_utf8" => streams::feed::<E, FromUtf8<E>>(alloc, values, answer, false),
-        "count_chars"
-        | "is_ascii"
-        | "to_utf8_lossy_len"
-        | "from_utf8_len"
-        | "from_utf8_lossy_len"
-        | "has_ascii_units"
-        | "trailing_units"
-        | "first_char_len" => { questions::call::<E>(alloc, name, values, answer) }
+        _ => in_other_forms::<E>(alloc, name, values, answer),
+    }
+}
+
+// Makes a call of UTF-32, Latin-1 or WTF-8, or of another module.
+fn in_other_forms<E: Utf16Order>(
+    alloc: Global,
+    name: &str,
+    values: &mut Values,
+    answer: &mut Answer,
+) -> Result<(), Trouble> {
+    match name {
         "to_utf32"
         | "to_utf32_lossy"
         | "to_utf32_lossy_len"
@@ -63,6 +68,18 @@ pub fn call<E: Utf16Order>(
         | "from_wtf8"
         | "from_wtf8_partial"
         | "feed_wtf8" => { wtf8::call::<E>(alloc, name, values, answer) }
+        _ => on_bytes::<E>(alloc, name, values, answer),
+    }
+}
+
+// Makes a call on bytes as they are, or of another module.
+fn on_bytes<E: Utf16Order>(
+    alloc: Global,
+    name: &str,
+    values: &mut Values,
+    answer: &mut Answer,
+) -> Result<(), Trouble> {
+    match name {
         "swap_byte_order"
         | "make_well_formed"
         | "bytes::compare"
@@ -76,6 +93,26 @@ pub fn call<E: Utf16Order>(
         "utf8::is_char_boundary" | "utf8::floor_char_boundary" => {
             utf8::call::<E>(alloc, name, values, answer)
         }
+        _ => about_bytes::<E>(alloc, name, values, answer),
+    }
+}
+
+// Makes a call that measures or tests bytes, or of another module.
+fn about_bytes<E: Utf16Order>(
+    alloc: Global,
+    name: &str,
+    values: &mut Values,
+    answer: &mut Answer,
+) -> Result<(), Trouble> {
+    match name {
+        "count_chars"
+        | "is_ascii"
+        | "to_utf8_lossy_len"
+        | "from_utf8_len"
+        | "from_utf8_lossy_len"
+        | "has_ascii_units"
+        | "trailing_units"
+        | "first_char_len" => { questions::call::<E>(alloc, name, values, answer) }
         _ => texts::call::<E>(alloc, name, values, answer),
     }
 }

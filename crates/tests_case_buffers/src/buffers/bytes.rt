@@ -18,28 +18,38 @@ pub fn call<E: Utf16Order>(
     answer: &mut Answer,
 ) -> Result<(), Trouble> {
     let mut bytes = values.bytes(alloc, E::BIG)?;
+    if name == "bytes::compare" {
+        let other = values.bytes(alloc, E::BIG)?;
+        compared::<E>(&bytes, other, answer);
+        return Ok(());
+    }
+    on_bytes::<E>(name, bytes.as_mut_slice(), values, answer)
+}
+
+fn on_bytes<E: Utf16Order>(
+    name: &str,
+    bytes: &mut [u8],
+    values: &mut Values,
+    answer: &mut Answer,
+) -> Result<(), Trouble> {
     match name {
         "swap_byte_order" => {
-            swap_byte_order(bytes.as_mut_slice());
-            answer.bytes(&bytes);
+            swap_byte_order(bytes);
+            answer.bytes(bytes);
         }
         "make_well_formed" => {
-            answer.number(make_well_formed::<E>(bytes.as_mut_slice()));
-            answer.bytes(&bytes);
+            answer.number(make_well_formed::<E>(bytes));
+            answer.bytes(bytes);
         }
         "bytes::is_char_boundary" => {
-            answer.truth(is_char_boundary::<E>(&bytes, values.number()?));
+            answer.truth(is_char_boundary::<E>(bytes, values.number()?));
         }
         "bytes::floor_char_boundary" => {
-            answer.number(floor_char_boundary::<E>(&bytes, values.number()?));
-        }
-        "bytes::floor_char_boundary_around" => {
-            let at = values.number()? as u64;
-            answer.number(floor_char_boundary_around::<E>(&bytes, at) as usize);
+            answer.number(floor_char_boundary::<E>(bytes, values.number()?));
         }
         _ => {
-            let other = values.bytes(alloc, E::BIG)?;
-            compared::<E>(&bytes, other, answer);
+            let at = values.number()? as u64;
+            answer.number(floor_char_boundary_around::<E>(bytes, at) as usize);
         }
     }
     Ok(())
