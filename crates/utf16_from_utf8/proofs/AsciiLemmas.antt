@@ -58,7 +58,7 @@ next-ascii bytes at ascii i below =
     omega (arith, ascii (at + i), get_or-take (at + 16) bytes (at + i) 0 (omega (arith, below)), get_or-chunk at 16 bytes i 0 below)
 
 -- sixteen bytes of ASCII are a text, and add its encoding
-block-ascii : (block : List ℕ) → length block ≡ 16 → ((i : ℕ) → i < 16 → slice_index block i < 0x80) → IsAscii block
+pub block-ascii : (block : List ℕ) → length block ≡ 16 → ((i : ℕ) → i < 16 → slice_index block i < 0x80) → IsAscii block
 block-ascii block long low i = ⊎_elim
     (λ (a : i < 16). low i a)
     (λ (a : 16 ≤ i). omega (arith, get_or_past block i 0 (omega (arith, a, long))))

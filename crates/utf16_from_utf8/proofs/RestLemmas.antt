@@ -1,10 +1,12 @@
 -- The rest of a text, sixteen bytes at a time, and its last bytes as the end of a block.
-use Rattle.std.proofs.Common.{◌≡◌, ℕ, zero, suc, ◌+◌, ◌-◌, ◌*◌, ◌/◌, ◌%◌, ◌^◌, ◌<◌, ◌≤◌, ◌==◌, Bool, true, false, cond, List, [], ◌∷◌, ◌++◌, length, length-append, length-drop, length-take-le, take, drop, slice_index, subst, refl, sym, ap, ap₂, ◌∙◌, arith}
+use Rattle.std.proofs.Common.{◌≡◌, ℕ, zero, suc, ◌+◌, ◌-◌, ◌*◌, ◌/◌, ◌%◌, ◌^◌, ◌<◌, ◌≤◌, ◌==◌, Bool, true, false, cond, List, [], ◌∷◌, ◌++◌, length, length-append, length-drop, length-take-le, take, drop, slice_index, subst, refl, sym, ap, ap₂, ◌∙◌, ⊎_elim, inl, arith}
 use Rattle.std.proofs.Math.Nat.{div-div-eq-div-mul, div-mul-le_self, two-pow-succ}
 use Rattle.std.proofs.Math.Seq.{take-add}
+use Rattle.std.proofs.lemmas.Bool.{cases_lt}
 use Rattle.std.proofs.lemmas.List.{get_or-drop, get_or-take, take-append-drop}
 use Rattle.std.proofs.lemmas.Nat.{pow-add}
-use Rattle.std.proofs.lemmas.Simd.{get_or-chunk}
+use Rattle.std.proofs.lemmas.Simd.{get_or-chunk, length-chunk}
+use Rattle.std.proofs.lemmas.Str.{IsUtf8-from_ascii}
 use Rattle.std.specs.Simd.Lanes.{chunk}
 use Rattle.std.specs.Str.{IsUtf8, chars}
 use Rattle.utf16_units.specs.Encoding.{encode}
@@ -14,11 +16,12 @@ use Rattle.utf16_from_utf8.specs.Follow.{AreBefore, FollowAnyLanes, FollowsAny}
 use Rattle.utf16_from_utf8.specs.Lanes.{kept_pairs, pair_bytes, pairs_of}
 use Rattle.utf16_from_utf8.specs.UnitLanes.{four_high, four_low}
 use Rattle.utf16_from_utf8.proofs.AddedLemmas.{added_bytes-append, byte_adds, last_but_one, last_but_one-get, last_of, last_of-get}
+use Rattle.utf16_from_utf8.proofs.AsciiLemmas.{block-ascii}
 use Rattle.utf16_from_utf8.proofs.BlockLemmas.{kept-added, unit-added}
 use Rattle.utf16_from_utf8.proofs.FollowLemmas.{FollowAt, follow-next, follows-any, next-lanes, same-three}
 use Rattle.utf16_from_utf8.proofs.LaneByteLemmas.{bytes-by}
 use Rattle.utf16_from_utf8.proofs.PackLemmas.{kept_pairs-eight}
-use Rattle.utf16_from_utf8.proofs.TextLemmas.{added_bytes-text}
+use Rattle.utf16_from_utf8.proofs.TextLemmas.{added_bytes-after, added_bytes-text}
 use Rattle.utf16_from_utf8.proofs.UnitLemmas.{four-unit}
 use Rattle.utf16_from_utf8.proofs.WellFormedLemmas.{text-any, text-follows}
 
@@ -71,6 +74,20 @@ text-lanes text b2 b1 at utf8 some more before =
     subst (λ n. FollowAnyLanes b2 b1 (chunk n 16 text)) here
     (next-lanes FollowsAny text b2 b1 0 (length text) at some more (follows-any text 0 (length text) (text-follows text 0 (length text) utf8 (omega arith)))
     (subst (λ n. AreBefore (before_two text n) (before_one text n) (chunk n 16 text) b2 b1) (sym here) before))
+
+-- a block of ASCII adds its encoding, since the byte before it ends a character
+pub ascii-added : (big : Bool) (text : List ℕ) (at : ℕ) → IsUtf8 text → 3 ≤ at → at + 16 ≤ length text → ((i : ℕ) → i < 16 → slice_index (chunk at 16 text) i < 0x80)
+    → encode big (chars (chunk at 16 text)) ≡ added_bytes big (before_two text at) (before_one text at) (chunk at 16 text)
+ascii-added big text at utf8 some more low =
+    let block = chunk at 16 text in
+    let follows = text-follow text at utf8 some more 0 (omega arith) in
+    let here : at - 1 + 0 ≡ at - 1 = omega arith in
+    let next : slice_index text (at + 0) < 0x80 = omega (arith, low 0 (omega arith), get_or-chunk at 16 text 0 0 (omega arith)) in
+    let behind : before_one text at < 0xE0 = ⊎_elim
+    (λ (low : before_one text at < 0xC0). omega (arith, low))
+    (λ (high : 0xC0 ≤ before_one text at). absurd (omega (arith, next, (follows.continues.0 (inl (omega (arith, high, ap (slice_index text) here)))).0)))
+    (cases_lt (before_one text at) 0xC0) in
+    sym (added_bytes-after big (before_two text at) (before_one text at) block behind (IsUtf8-from_ascii block (block-ascii block (length-chunk at 16 text more) low)))
 
 -- ---- the pairs after the first ones
 

@@ -121,9 +121,12 @@ bytes-of-units big (c ∷ text) =
     ∙ ap (λ t. flat_map (unit_bytes big) (encode_utf16 c) ++ t) (bytes-of-units big text)
     ∙ sym (encode-cons big c text)
 
--- what all bytes of a text add is its encoding
-pub added_bytes-text : (big : Bool) (bytes : List ℕ) → IsUtf8 bytes → added_bytes big 0 0 bytes ≡ encode big (chars bytes)
-added_bytes-text big bytes utf8 =
-    ap (added_bytes big 0 0) (sym (encodes-chars bytes utf8))
-    ∙ ap (flat_map (unit_bytes big)) (all_added-text 0 0 (chars bytes) (omega arith) (scalars-of bytes utf8))
+-- what all bytes of a text add is its encoding, also after other characters
+pub added_bytes-after : (big : Bool) (b2 b1 : ℕ) (bytes : List ℕ) → b1 < 0xE0 → IsUtf8 bytes → added_bytes big b2 b1 bytes ≡ encode big (chars bytes)
+added_bytes-after big b2 b1 bytes behind utf8 =
+    ap (added_bytes big b2 b1) (sym (encodes-chars bytes utf8))
+    ∙ ap (flat_map (unit_bytes big)) (all_added-text b2 b1 (chars bytes) behind (scalars-of bytes utf8))
     ∙ bytes-of-units big (chars bytes)
+
+pub added_bytes-text : (big : Bool) (bytes : List ℕ) → IsUtf8 bytes → added_bytes big 0 0 bytes ≡ encode big (chars bytes)
+added_bytes-text big bytes utf8 = added_bytes-after big 0 0 bytes (omega arith) utf8

@@ -1,8 +1,9 @@
 //! Writes the rest of a text after its first blocks, sixteen bytes at a time, wherever characters
 //! begin.
 //!
-//! A byte needs only those before it, so nothing branches on the end of a character. The last bytes
-//! are read with those before them, and the bits of units that were written are cleared.
+//! Blocks of ASCII are frequent in most texts, and are written as they are. In other blocks, a byte
+//! needs only those before it, so nothing branches on the end of a character. The last bytes are
+//! read with those before them, and the bits of units that were written are cleared.
 
 ghost use Rattle.std.specs.Prelude.{◌≡◌, ◌+◌, ◌-◌, ◌*◌, ◌<◌, ◌≤◌, ◌++◌, ℕ, drop, length, slice_index, take};
 ghost use Rattle.std.specs.Str.{IsUtf8, chars};
@@ -11,6 +12,7 @@ ghost use Rattle.utf16_from_utf8.specs.Added.{added_bytes};
 ghost use Rattle.utf16_from_utf8.specs.Follow.{AreBefore, FollowAnyLanes, Follows};
 ghost use Rattle.utf16_from_utf8.specs.Written.{IsWritten};
 
+use crate::ascii::{is_ascii, write_ascii_block};
 use crate::block::{before, before_at};
 use crate::lanes::{greater, previous_lanes};
 use crate::limits::are_below;
@@ -29,6 +31,7 @@ pub(crate) fn write_rest<E: Utf16Order>(text: &[u8], out: &mut [u8], from: Moved
     requires some { 16 < length text.now }
     requires space { 2 * length text.now + SLACK ≤ length out.old }
     requires written { IsWritten E.BIG text.now out.old from.read from.written }
+    requires more { from.read < length text.now }
     ensures bytes { take result out.new ≡ encode E.BIG (chars text.now) }
     ensures written_to { result ≤ 2 * length text.now }
 {
@@ -53,13 +56,14 @@ fn write_begun<E: Utf16Order>(text: &[u8], out: &mut [u8], from: Moved) -> Moved
     requires some { 16 < length text.now }
     requires space { 2 * length text.now + SLACK ≤ length out.old }
     requires written { IsWritten E.BIG text.now out.old from.read from.written }
+    requires more { from.read < length text.now }
     ensures bytes { take result.written out.new
         ≡ added_bytes E.BIG 0 0 (take result.read text.now) }
     ensures some { 16 ≤ result.read }
     ensures within { result.read ≤ length text.now }
     ensures written_to { result.written ≤ 2 * result.read }
 {
-    let next = write_threes::<E>(text, out, from);
+    let next = write_next_threes::<E>(text, out, from);
     if next.read >= 16 {
         return next;
     }
@@ -67,6 +71,19 @@ fn write_begun<E: Utf16Order>(text: &[u8], out: &mut [u8], from: Moved) -> Moved
         read: 16,
         written: write_first::<E>(text, out),
     }
+}
+
+// Writes the next characters of three bytes, or nothing if another character is next.
+#[inline(always)]
+fn write_next_threes<E: Utf16Order>(text: &[u8], out: &mut [u8], from: Moved) -> Moved
+    requires more { from.read < length text.now }
+    requires written { IsWritten E.BIG text.now out.old from.read from.written }
+    ensures { IsWritten E.BIG text.now out.new result.read result.written }
+{
+    if !(0xE0..0xF0).contains(&text[from.read]) {
+        return from;
+    }
+    write_threes::<E>(text, out, from)
 }
 
 // Writes the first sixteen bytes, and returns where what was written ends.
@@ -83,7 +100,8 @@ fn write_first<E: Utf16Order>(text: &[u8], out: &mut [u8]) -> usize
     write_shortest::<E>(out, 0, previous_lanes(b2, 0), b2, b1, block)
 }
 
-// Writes the next sixteen bytes, and returns where what was written ends.
+// Writes the next sixteen bytes, and returns where what was written ends. ASCII needs no bytes
+// before it, since they end a character.
 #[inline(always)]
 fn write_next<E: Utf16Order>(text: &[u8], out: &mut [u8], at: usize, end: usize) -> usize
     requires well_formed { IsUtf8 text.now }
@@ -96,6 +114,9 @@ fn write_next<E: Utf16Order>(text: &[u8], out: &mut [u8], at: usize, end: usize)
     ensures written_to { result ≤ end + 32 }
 {
     let block = u8x16::from_slice(&text[at..]);
+    if is_ascii(block) {
+        return write_ascii_block::<E>(out, end, block);
+    }
     let (b2, b1) = before_at(text, at);
     write_shortest::<E>(out, end, u8x16::from_slice(&text[at - 3..]), b2, b1, block)
 }

@@ -4,5 +4,5 @@ use Rattle.utf16_from_utf8.proofs.rest.write_begun.Goals as goal
 
 pub returns-then-next-ge16-clause-bytes : goal.returns-then-next-ge16-clause-bytes
 returns-then-next-ge16-clause-bytes g c =
-    let done = c.write_threes-next.ensures.written in
-    done.wrote ∙ sym (added_bytes-text g.E.Utf16Order.BIG (take c.write_threes-next.result.read c.args.text.now) done.well_formed)
+    let done = c.write_next_threes-next.ensures in
+    done.wrote ∙ sym (added_bytes-text g.E.Utf16Order.BIG (take c.write_next_threes-next.result.read c.args.text.now) done.well_formed)

@@ -1,8 +1,14 @@
-use Rattle.std.proofs.Common.{◌-◌, ◌∙◌, arith}
+use Rattle.std.proofs.Common.{◌-◌, ◌++◌, ◌∙◌, ap, arith, take}
 use Rattle.std.proofs.lemmas.Simd.{get_or-chunk}
 use Rattle.utf16_from_utf8.proofs.FollowLemmas.{before-one, before-two, follows-at}
-use Rattle.utf16_from_utf8.proofs.RestLemmas.{text-follow, text-lanes}
+use Rattle.utf16_from_utf8.proofs.RestLemmas.{ascii-added, text-follow, text-lanes}
 use Rattle.utf16_from_utf8.proofs.rest.write_next.Goals as goal
+
+pub returns-then-is_ascii-clause-bytes : goal.returns-then-is_ascii-clause-bytes
+returns-then-is_ascii-clause-bytes g c =
+    c.write_ascii_block.ensures.bytes
+    ∙ ap (λ t. take c.args.end c.args.out.now ++ t)
+    (ascii-added g.E.Utf16Order.BIG c.args.text.now c.args.at c.requires.well_formed (omega (arith, c.requires.some)) c.requires.more (c.is_ascii.ensures.0 c.if-is_ascii.true))
 
 pub write_shortest-requires-clause-follow : goal.write_shortest-requires-clause-follow
 write_shortest-requires-clause-follow g c i below =
