@@ -47,3 +47,4 @@ pub mod NumberedLemmas
 pub mod Utf8Lemmas
 pub mod PrefixLemmas
 pub mod SizeLemmas
+pub mod EndPairs

@@ -77,7 +77,7 @@ class_bits-units m (unit ∷ units) few fit = ap₂ (λ b bits. cond b 1 0 + 2 *
 
 -- ---- pairs, by bits
 
-mask_l-last : (bits : List Bool) (last : Bool) → mask_l (bits ++ last ∷ []) ≡ mask_l bits + cond last (2 ^ length bits) 0
+pub mask_l-last : (bits : List Bool) (last : Bool) → mask_l (bits ++ last ∷ []) ≡ mask_l bits + cond last (2 ^ length bits) 0
 mask_l-last [] true = refl
 mask_l-last [] false = refl
 mask_l-last (b ∷ bits) true = omega (arith, mask_l-last bits true, two-pow-succ (length bits))
@@ -89,7 +89,7 @@ same_bit true false m n e = absurd (omega arith)
 same_bit false true m n e = absurd (omega arith)
 same_bit false false m n e = (refl, omega arith)
 
-mask_l-injective : (xs ys : List Bool) → length xs ≡ length ys → mask_l xs ≡ mask_l ys → xs ≡ ys
+pub mask_l-injective : (xs ys : List Bool) → length xs ≡ length ys → mask_l xs ≡ mask_l ys → xs ≡ ys
 mask_l-injective [] [] long e = refl
 mask_l-injective [] (y ∷ ys) long e = absurd (omega arith)
 mask_l-injective (x ∷ xs) [] long e = absurd (omega arith)

@@ -5,7 +5,7 @@
 //! of the trailing ones are those of the leading ones, moved by one. So one comparison of integers
 //! tests all pairs of a block.
 
-ghost use Rattle.std.specs.Prelude.{◌≡◌, ◌↔◌, ◌<◌, ◌≤◌, ◌==◌, IfNone, IfSome, IsTrue, bit_and, map, slice_index, take};
+ghost use Rattle.std.specs.Prelude.{◌≡◌, ◌↔◌, ◌<◌, ◌≤◌, ◌==◌, IfNone, IfSome, IsTrue, bit_and, drop, false, map, slice_index, take};
 ghost use Rattle.std.specs.Char.Utf16.{is_high_surrogate, is_low_surrogate};
 ghost use Rattle.std.specs.Simd.Lanes.{mask_l};
 ghost use Rattle.utf16_units.specs.Lanes.{HasNoSurrogate, IsNoSurrogate, Paired, Unpaired, high_byte};
@@ -64,6 +64,16 @@ pub fn paired<const N: usize>(units: Simd<u16, N>, before: bool) -> Option<bool>
     } else {
         None
     }
+}
+
+// Whether the surrogates of the units from `from` on are paired, by themselves.
+#[inline(always)]
+pub(crate) fn paired_from<const N: usize>(units: Simd<u16, N>, from: usize) -> bool
+    requires few { N ≤ 32 }
+    requires within { from ≤ N }
+    ensures { IsTrue result ↔ Paired false (drop from units.entry) false }
+{
+    trailing_bits(units) >> from == 2 * (leading_bits(units) >> from)
 }
 
 /// Returns whether no unit is a surrogate.

@@ -8,15 +8,15 @@
 //! again every 256 bytes, so that pairs rarely pay for both tests. If the first surrogate is
 //! unpaired, no pairs are looked for: random bytes take a third less time.
 
-ghost use Rattle.std.specs.Prelude.{◌≡◌, ◌↔◌, ◌+◌, ◌<◌, ◌≤◌, false, length, take, IsOk, IfOk, IfErr, IsTrue};
+ghost use Rattle.std.specs.Prelude.{◌≡◌, ◌↔◌, ◌+◌, ◌%◌, ◌<◌, ◌≤◌, false, length, drop, take, IsOk, IfOk, IfErr, IsTrue};
 ghost use Rattle.utf16_units.specs.Encoding.{IsUtf16, units_of};
 ghost use Rattle.utf16_units.specs.IllFormed.{BeginsWithChar, BeginsWithNoChar, IsIllFormedAt, IsTextUpTo};
-ghost use Rattle.utf16_units.specs.Lanes.{HasNoSurrogate, PairedTo, PassedTo, BlocksStopAt};
+ghost use Rattle.utf16_units.specs.Lanes.{HasNoSurrogate, Paired, PairedTo, PassedTo, BlocksStopAt};
 ghost use Rattle.utf16_units.specs.Utf16Error.{IsErrorOf};
 
 use crate::blocks::{units16, units32};
 use crate::plain::{is_short_plain, plain_prefix_len};
-use crate::surrogates::{has_no_surrogate, leading_bits, paired};
+use crate::surrogates::{has_no_surrogate, leading_bits, paired, paired_from};
 use crate::{Utf16Error, Utf16Order, is_trailing_surrogate};
 use std::simd::prelude::*;
 
@@ -61,7 +61,8 @@ fn error_len<E: Utf16Order>(rest: &[u8]) -> Option<u8>
 }
 
 // The length of the longest valid prefix. Kept out of line so that short texts do not pay for its
-// registers. It does not look for pairs if the first surrogate is unpaired.
+// registers. It does not look for pairs if the first surrogate is unpaired. The bytes after the
+// last block are tested at once: unit by unit they took a third of the time of a line.
 #[inline(never)]
 fn valid_len<E: Utf16Order>(raw: &[u8]) -> usize
     ensures { IsTextUpTo E.BIG raw.now result }
@@ -77,6 +78,9 @@ fn valid_len<E: Utf16Order>(raw: &[u8]) -> usize
         }
     }
     let passed = passed_blocks::<E>(raw, front);
+    if raw.len() - passed <= 32 && is_text_to_end::<E>(raw, passed) {
+        return raw.len();
+    }
     let plain = plain_prefix_len::<E>(&raw[passed..]);
     valid_len_from::<E>(raw, passed + plain)
 }
@@ -198,6 +202,22 @@ fn paired_half_block<E: Utf16Order>(raw: &[u8], at: usize, leading: bool) -> (us
         Some(last) => (at + 32, last),
         None => (at, leading),
     }
+}
+
+// Whether the bytes from `from` on, at most 32, are whole units whose surrogates are paired. They
+// are the end of the last block of 32 bytes, which is read as a whole.
+#[inline(always)]
+fn is_text_to_end<E: Utf16Order>(raw: &[u8], from: usize) -> bool
+    requires long { 32 ≤ length raw.now }
+    requires within { from ≤ length raw.now }
+    requires near { length raw.now ≤ from + 32 }
+    ensures paired { IsTrue result ↔ ((length (drop from raw.now) % 2 ≡ 0)
+        × Paired false (units_of E.BIG (drop from raw.now)) false) }
+    ensures text { IsTrue result → IsUtf16 E.BIG (drop from raw.now) }
+{
+    let before = 32 - (raw.len() - from);
+    let last = u8x32::from_slice(&raw[raw.len() - 32..]);
+    before % 2 == 0 && paired_from(units16::<E>(last), before / 2)
 }
 
 // The length of the longest valid prefix, found unit by unit from the end of a well-formed prefix.

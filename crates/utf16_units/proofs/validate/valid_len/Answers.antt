@@ -3,6 +3,7 @@ use Rattle.std.proofs.lemmas.List.{take_rest}
 use Rattle.utf16_units.specs.Encoding.{IsUtf16}
 use Rattle.utf16_units.specs.IllFormed.{BeginsWithNoChar}
 use Rattle.utf16_units.proofs.EncodingLemmas.{IsUtf16-append, IsUtf16-nil}
+use Rattle.utf16_units.proofs.EndPairs.{text-to_end}
 use Rattle.utf16_units.proofs.IllFormedLemmas.{rest_from}
 use Rattle.utf16_units.proofs.PairLemmas.{PairedTo-text}
 use Rattle.utf16_units.proofs.validate.valid_len.Goals as goal
@@ -31,3 +32,8 @@ returns-in-Err g c =
       text = both big raw front.result first.result (PairedTo-text big raw front.result c.type_inv.raw false refl front.ensures) first.ensures.text;
       stops = λ more. subst (λ rest. BeginsWithNoChar big rest) (take_rest raw (front.result + first.result)) c.in-Err.ensures.ill_formed.0;
     }
+
+pub returns-then-is_text_to_end : goal.returns-then-is_text_to_end
+returns-then-is_text_to_end g c =
+    text-to_end g.E.Utf16Order.BIG c.args.raw.now c.passed_blocks-passed.result c.passed_blocks-passed.ensures.well_formed
+    (c.is_text_to_end.ensures.text c.if-is_text_to_end.true)
