@@ -24,10 +24,10 @@ use utf16_from_utf8::{SLACK, write_ascii, write_blocks, write_text};
 use utf16_to_utf8::utf8_len;
 use utf16_units::{Utf16CharExt, Utf16Order, is_trailing_surrogate};
 
-// The number of bytes below which a text goes on character by character.
-const SHORT_LEN: usize = 36;
+// The length in bytes below which an input is first tried character by character.
+const SHORT_LEN: usize = 32;
 
-// The same if the next character has three bytes. Blocks take as long as some seventeen characters.
+// The same if a character of three bytes is next: in as many bytes there are fewer characters.
 const SHORT_LEN_OF_THREES: usize = 48;
 
 /// Writes UTF-8 in UTF-16 to the start of a buffer, up to the first ill-formed sequence or as far
@@ -79,14 +79,14 @@ impl<E: Utf16Order> Direction for FromUtf8<E> {
         first_char(rest)
     }
 
-    // Begins with the ASCII at the start, as `write_ascii` does. So an input that is all ASCII takes
-    // no more steps, also a long one. If the input is short or there is little space, the ASCII goes
-    // on one by one, and then a short input goes on character by character.
+    // Begins with the ASCII at the start, as `write_ascii` does, which is all of an input of ASCII.
+    // If the input is short or there is little space, the ASCII goes on one by one. A short input
+    // then goes on character by character.
     #[inline(always)]
     fn begin(input: &[u8], to: &mut [u8]) -> Moved {
         let most = input.len().min(to.len() / 2);
         let len = write_ascii::<E>(&input[..most], to);
-        if most >= SHORT_LEN_OF_THREES {
+        if most >= SHORT_LEN && !are_few_threes(input, len) {
             return Moved {
                 read: len,
                 written: 2 * len,
@@ -165,14 +165,14 @@ fn write_ascii_chars<E: Utf16Order>(bytes: &[u8], to: &mut [u8], from: usize) ->
     }
 }
 
-// Writes the rest of an input, if it is short, character by character, as far as its characters fit
-// and are well formed.
+// Writes the rest of a short input character by character, as far as its characters fit and are
+// well formed.
 #[inline(always)]
 fn write_short_rest<E: Utf16Order>(text: &[u8], to: &mut [u8], from: Moved) -> Moved
     requires { Wrote (TranscodesToUtf16 E.BIG) text.now to.old from.read from.written }
     ensures { Wrote (TranscodesToUtf16 E.BIG) text.now to.new result.read result.written }
 {
-    if from.read < text.len() && !is_short(&text[from.read..]) {
+    if text.len() >= SHORT_LEN && !are_few_threes(text, from.read) {
         return from;
     }
     let Moved {
@@ -192,15 +192,10 @@ fn write_short_rest<E: Utf16Order>(text: &[u8], to: &mut [u8], from: Moved) -> M
     Moved { read, written }
 }
 
-// Whether the bytes are fewer than what is faster in blocks. Only speed depends on the answer.
+// Whether a character of three bytes is next in a short text. Only speed depends on the answer.
 #[inline(always)]
-fn is_short(rest: &[u8]) -> bool
-    requires { 0 < length rest.now }
-{
-    if (0xE0..0xF0).contains(&rest[0]) {
-        return rest.len() < SHORT_LEN_OF_THREES;
-    }
-    rest.len() < SHORT_LEN
+fn are_few_threes(text: &[u8], at: usize) -> bool {
+    at < text.len() && text.len() < SHORT_LEN_OF_THREES && (0xE0..0xF0).contains(&text[at])
 }
 
 // Writes a character that fits at `at`, and returns where it ends.
