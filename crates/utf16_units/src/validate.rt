@@ -62,7 +62,7 @@ fn error_len<E: Utf16Order>(rest: &[u8]) -> Option<u8>
 
 // The length of the longest valid prefix. Kept out of line so that short texts do not pay for its
 // registers. It does not look for pairs if the first surrogate is unpaired. The bytes after the
-// last block are tested at once: unit by unit they took a third of the time of a line.
+// last block are tested at once: unit by unit they cost a third of the instructions for a line.
 #[inline(never)]
 fn valid_len<E: Utf16Order>(raw: &[u8]) -> usize
     ensures { IsTextUpTo E.BIG raw.now result }
