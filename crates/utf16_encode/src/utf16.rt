@@ -27,9 +27,6 @@ use utf16_units::{Utf16CharExt, Utf16Order, is_trailing_surrogate};
 // The length in bytes below which an input is first tried character by character.
 const SHORT_LEN: usize = 32;
 
-// The same if a character of three bytes is next: in as many bytes there are fewer characters.
-const SHORT_LEN_OF_THREES: usize = 48;
-
 /// Writes UTF-8 in UTF-16 to the start of a buffer, up to the first ill-formed sequence or as far
 /// as whole characters fit. Any bytes are allowed. Bytes of the buffer after the written ones may
 /// have been overwritten.
@@ -86,7 +83,7 @@ impl<E: Utf16Order> Direction for FromUtf8<E> {
     fn begin(input: &[u8], to: &mut [u8]) -> Moved {
         let most = input.len().min(to.len() / 2);
         let len = write_ascii::<E>(&input[..most], to);
-        if most >= SHORT_LEN && !are_few_threes(input, len) {
+        if most >= SHORT_LEN {
             return Moved {
                 read: len,
                 written: 2 * len,
@@ -172,7 +169,7 @@ fn write_short_rest<E: Utf16Order>(text: &[u8], to: &mut [u8], from: Moved) -> M
     requires { Wrote (TranscodesToUtf16 E.BIG) text.now to.old from.read from.written }
     ensures { Wrote (TranscodesToUtf16 E.BIG) text.now to.new result.read result.written }
 {
-    if text.len() >= SHORT_LEN && !are_few_threes(text, from.read) {
+    if text.len() >= SHORT_LEN {
         return from;
     }
     let Moved {
@@ -190,12 +187,6 @@ fn write_short_rest<E: Utf16Order>(text: &[u8], to: &mut [u8], from: Moved) -> M
         read += len;
     }
     Moved { read, written }
-}
-
-// Whether a character of three bytes is next in a short text. Only speed depends on the answer.
-#[inline(always)]
-fn are_few_threes(text: &[u8], at: usize) -> bool {
-    at < text.len() && text.len() < SHORT_LEN_OF_THREES && (0xE0..0xF0).contains(&text[at])
 }
 
 // Writes a character that fits at `at`, and returns where it ends.

@@ -3,8 +3,8 @@ use Rattle.utf16_from_utf8.proofs.WrittenLemmas.{ascii-first}
 use Rattle.utf16_encode.proofs.FromUtf8Lemmas.{wrote_blocks}
 use Rattle.utf16_encode.proofs.utf16.FromUtf8Direction.begin.Goals as goal
 
-pub returns-then-not-are_few_threes : goal.returns-then-not-are_few_threes
-returns-then-not-are_few_threes g c =
+pub returns-then-most-ge-SHORT_LEN : goal.returns-then-most-ge-SHORT_LEN
+returns-then-most-ge-SHORT_LEN g c =
     let ascii = c.write_ascii-len.ensures in
     wrote_blocks (ascii-first g.E.Utf16Order.BIG c.args.input.now c.write_ascii-len.new.out c.min-most.result c.write_ascii-len.result ascii.within ascii.ascii ascii.bytes (search rules))
 
