@@ -53,7 +53,10 @@ const AROUND_POWERS: [usize; 12] = [
 // A call, what grows, what it needs memory for, and the most allocations that it makes.
 type Row = (Call, Grows, Needs, u64);
 
-const ROWS: [Row; 49] = [
+// The calls are in several short tables: one long table takes many times as long to prove.
+
+// Calls that return a new string or make a string's capacity smaller.
+const MADE: [Row; 10] = [
     (Call::WithCapacity, Grows::Nothing, Needs::Utf16, 1),
     (Call::FromStr, Grows::Nothing, Needs::Utf16, 1),
     (Call::FromWstr, Grows::Nothing, Needs::Utf16, 1),
@@ -64,6 +67,10 @@ const ROWS: [Row; 49] = [
     (Call::ShrinkTo, Grows::Nothing, Needs::Utf16, 1),
     (Call::ToUtf8, Grows::Nothing, Needs::Utf8, 1),
     (Call::ViewToUtf8, Grows::Nothing, Needs::Utf8, 1),
+];
+
+// Calls that append to a string or insert into it.
+const GROWN: [Row; 9] = [
     (Call::Push, Grows::Utf16, Needs::Char, 1),
     (Call::PushStr, Grows::Utf16, Needs::Utf16, 1),
     (Call::PushWstr, Grows::Utf16, Needs::Utf16, 1),
@@ -73,12 +80,20 @@ const ROWS: [Row; 49] = [
     (Call::ExtendByTrait, Grows::Utf16, Needs::Utf16, MANY),
     (Call::Reserve, Grows::Utf16, Needs::Utf16, 1),
     (Call::PushUtf8, Grows::Utf8, Needs::Utf8, 1),
+];
+
+// More of them, which `put` makes.
+const PUT: [Row; 6] = [
     (Call::InsertStr, Grows::Utf16, Needs::Utf16, 1),
     (Call::ReplaceRange, Grows::Utf16, Needs::Utf16, 1),
     (Call::ExtendViews, Grows::Utf16, Needs::Utf16, MANY),
     (Call::ExtendStrs, Grows::Utf16, Needs::Utf16, MANY),
     (Call::WriteStr, Grows::Utf16, Needs::Utf16, 1),
     (Call::ReserveExact, Grows::Utf16, Needs::Utf16, 1),
+];
+
+// Calls that return a new string, which `copied` makes.
+const COPIED: [Row; 7] = [
     (Call::CollectViews, Grows::Nothing, Needs::Utf16, MANY),
     (Call::CollectStrs, Grows::Nothing, Needs::Utf16, MANY),
     (Call::Replace, Grows::Nothing, Needs::Utf16, 1),
@@ -86,12 +101,20 @@ const ROWS: [Row; 49] = [
     (Call::Repeat, Grows::Nothing, Needs::Twice, 1),
     (Call::Drain, Grows::Nothing, Needs::Utf16, 1),
     (Call::CloneByTrait, Grows::Nothing, Needs::Utf16, 1),
+];
+
+// Edits.
+const EDITED: [Row; 6] = [
     (Call::EditPush, Grows::Utf16, Needs::Char, 1),
     (Call::EditPushText, Grows::Utf16, Needs::Utf16, 1),
     (Call::EditInsert, Grows::Utf16, Needs::Char, 1),
     (Call::EditInsertText, Grows::Utf16, Needs::Utf16, 1),
     (Call::EditSplitOff, Grows::Nothing, Needs::Utf16, 1),
     (Call::Run, Grows::Nothing, Needs::Replies, 1),
+];
+
+// Calls of decoders.
+const DECODED: [Row; 7] = [
     (Call::Feed, Grows::Nothing, Needs::Units, 1),
     (Call::FeedAny, Grows::Nothing, Needs::Units, 1),
     (Call::FeedUtf8, Grows::Utf16, Needs::Bytes, 1),
@@ -104,6 +127,10 @@ const ROWS: [Row; 49] = [
         Needs::Bytes,
         MANY,
     ),
+];
+
+// Calls of filters.
+const FILTERED: [Row; 4] = [
     (Call::Filter, Grows::Nothing, Needs::Chunk, 1),
     (Call::FilterAuto, Grows::Nothing, Needs::Chunk, 1),
     (Call::EncodeStream, Grows::Nothing, Needs::Chunk, 1),
@@ -178,15 +205,27 @@ fn requested<E: Utf16Order>(
     equal(rt, heap.live_blocks(), 0);
 }
 
-// Makes each call on a text: with strings that have it, and also with empty ones if they grow.
-fn all_requested<E: Utf16Order>(rt: &(impl Abort + AllocGlobal), chars: &str, count: usize) {
-    let text = Text::<E>::new(rt.alloc(), chars, count).expect(rt, "memory");
-    for row in ROWS {
-        requested(rt, row, &text, true);
+// Makes each of these calls on a text: with strings that have it, and also with empty ones if they
+// grow.
+fn each_requested<E: Utf16Order>(rt: &(impl Abort + AllocGlobal), rows: &[Row], text: &Text<E>) {
+    for row in rows {
+        requested(rt, *row, text, true);
         if !matches!(row.1, Grows::Nothing) {
-            requested(rt, row, &text, false);
+            requested(rt, *row, text, false);
         }
     }
+}
+
+// Makes each call on a text.
+fn all_requested<E: Utf16Order>(rt: &(impl Abort + AllocGlobal), chars: &str, count: usize) {
+    let text = Text::<E>::new(rt.alloc(), chars, count).expect(rt, "memory");
+    each_requested(rt, &MADE, &text);
+    each_requested(rt, &GROWN, &text);
+    each_requested(rt, &PUT, &text);
+    each_requested(rt, &COPIED, &text);
+    each_requested(rt, &EDITED, &text);
+    each_requested(rt, &DECODED, &text);
+    each_requested(rt, &FILTERED, &text);
 }
 
 fn at_each_length<E: Utf16Order>(rt: &(impl Abort + AllocGlobal), chars: &str) {
@@ -230,16 +269,28 @@ fn grows_seldom<E: Utf16Order>(rt: &(impl Abort + AllocGlobal), call: Call, text
     equal(rt, (call, requests <= 12), (call, true));
 }
 
-// Texts of one character, of a few that are converted at once, and of many. A call that appends
-// characters one by one takes the first only: it begins with eight bytes.
+// Checks those of these calls that append. A call that appends characters one by one takes the
+// first only: it begins with eight bytes.
+fn each_grows_seldom<E: Utf16Order>(rt: &(impl Abort + AllocGlobal), rows: &[Row], text: &Text<E>) {
+    for row in rows {
+        let (call, grows, _, requests) = *row;
+        if !matches!(grows, Grows::Nothing) && (requests == 1 || text.count == 1) {
+            grows_seldom(rt, call, text);
+        }
+    }
+}
+
+// Texts of one character, of a few that are converted at once, and of many.
 fn all_grow_seldom<E: Utf16Order>(rt: &(impl Abort + AllocGlobal), chars: &str) {
     for count in [1, 20, 300] {
         let text = Text::<E>::new(rt.alloc(), chars, count).expect(rt, "memory");
-        for (call, grows, _, requests) in ROWS {
-            if !matches!(grows, Grows::Nothing) && (requests == 1 || count == 1) {
-                grows_seldom(rt, call, &text);
-            }
-        }
+        each_grows_seldom(rt, &MADE, &text);
+        each_grows_seldom(rt, &GROWN, &text);
+        each_grows_seldom(rt, &PUT, &text);
+        each_grows_seldom(rt, &COPIED, &text);
+        each_grows_seldom(rt, &EDITED, &text);
+        each_grows_seldom(rt, &DECODED, &text);
+        each_grows_seldom(rt, &FILTERED, &text);
     }
 }
 
