@@ -9,20 +9,20 @@ use Rattle.std.specs.Char.{encode_utf8}
 use Rattle.std.specs.List.{flat_map}
 use Rattle.std.specs.Str.{IsUtf8, chars, is_utf8}
 use Rattle.std.specs.Str.Lossy.{utf8_valid_len, valid_len_up_to}
-use Rattle.utf16_decode.specs.Decodes.{utf16_parts}
-use Rattle.utf16_decode.specs.Decomposition.{Decomposition, IsSplitInChunks, decided}
-use Rattle.utf16_decode.specs.Shown.{ShowsWhole}
-use Rattle.utf16_decode.specs.Stops.{StopsDecoding, StopsLossyAs, StopsLossyWhole}
-use Rattle.utf16_decode.specs.Wrote.{DecodesAsTo, TranscodesToUtf8, Wrote}
-use Rattle.utf16_decode.specs.declared.progress.Stop.{Stop}
-use Rattle.utf16_decode.specs.declared.progress.Stop.TheVariants.{Incomplete, Done, IllFormed, NoSpace}
-use Rattle.utf16_decode.proofs.DecodesSteps.{written_for, written_for-append}
-use Rattle.utf16_decode.proofs.LossyLemmas.{DecodesTo-front, stops_lossy}
-use Rattle.utf16_encode.specs.FromUtf8.{StopsEncoding, TranscodesToUtf16, text_of_utf8}
-use Rattle.utf16_encode.specs.Utf8Stream.{utf8_parts}
-use Rattle.utf16_encode.proofs.DecodesUtf8.{DecodesUtf8To-text, stops_text}
-use Rattle.utf16_encode.proofs.FeedsUtf8.{flat_size}
-use Rattle.utf16_encode.proofs.LossyLemmas.{chunk-most}
+use Rattle.utf16_transcode.specs.Decodes.{utf16_parts}
+use Rattle.utf16_transcode.specs.Decomposition.{Decomposition, IsSplitInChunks, decided}
+use Rattle.utf16_transcode.specs.Shown.{ShowsWhole}
+use Rattle.utf16_transcode.specs.Stops.{StopsDecoding, StopsLossyAs, StopsLossyWhole}
+use Rattle.utf16_transcode.specs.Wrote.{DecodesAsTo, TranscodesToUtf8, Wrote}
+use Rattle.utf16_transcode.specs.declared.progress.Stop.{Stop}
+use Rattle.utf16_transcode.specs.declared.progress.Stop.TheVariants.{Incomplete, Done, IllFormed, NoSpace}
+use Rattle.utf16_transcode.proofs.DecodesSteps.{written_for, written_for-append}
+use Rattle.utf16_transcode.proofs.DecodeLossyLemmas.{DecodesTo-front, stops_lossy}
+use Rattle.utf16_transcode.specs.FromUtf8.{StopsEncoding, TranscodesToUtf16, text_of_utf8}
+use Rattle.utf16_transcode.specs.Utf8Stream.{utf8_parts}
+use Rattle.utf16_transcode.proofs.DecodesUtf8.{DecodesUtf8To-text, stops_text}
+use Rattle.utf16_transcode.proofs.FeedsUtf8.{flat_size}
+use Rattle.utf16_transcode.proofs.EncodeLossyLemmas.{chunk-most}
 use Rattle.utf16_units.specs.Encoding.{char_bytes, size}
 use Rattle.utf16_units.specs.Split.{Item, decided_text, whole_lossy_chars, good, item_bytes, items_bytes, lone_lead, lone_trail, lossy_text, lossy_char, lossy_chars, split_items, split_tail}
 use Rattle.utf16_units.proofs.CharLemmas.{char_size_four, char_size_two, length-char_bytes}

@@ -2,13 +2,13 @@
 
 ghost use Rattle.std.specs.Prelude.{◌≡◌, ◌≢◌, ◌↔◌, ◌+◌, ◌-◌, ◌*◌, ◌/◌, ◌<◌, ◌≤◌, [], ◌++◌, All, drop, length, take, encode_utf8_all};
 ghost use Rattle.utf16_units.specs.Split.{decided_text, whole_lossy_chars};
-ghost use Rattle.utf16_decode.specs.Stream.{Feeds, StopsFeeding, stream_pending};
-ghost use Rattle.utf16_decode.specs.declared.progress.Stop.TheVariants.{Done, NoSpace};
+ghost use Rattle.utf16_transcode.specs.Stream.{Feeds, StopsFeeding, stream_pending};
+ghost use Rattle.utf16_transcode.specs.declared.progress.Stop.TheVariants.{Done, NoSpace};
 ghost use Rattle.dethrux.specs.Numbers.{AreNumbers, is_big, stop_of};
 
 use crate::byte_order::is_big_endian;
 use crate::results::{Progress, progress_of};
-use utf16_decode::{Stream, ToUtf8};
+use utf16_transcode::{Stream, ToUtf8};
 use utf16_units::{BE, LE};
 
 /// Decodes the next chunk of a stream and writes its text in UTF-8, as far as whole characters fit,

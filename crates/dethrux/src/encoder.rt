@@ -3,14 +3,14 @@
 ghost use Rattle.std.specs.Prelude.{◌≡◌, ◌≢◌, ◌↔◌, ◌+◌, ◌-◌, ◌*◌, ◌<◌, ◌≤◌, [], ◌++◌, drop, length, take};
 ghost use Rattle.utf16_units.specs.Encoding.{encode, size};
 ghost use Rattle.utf8_bytes.specs.Split.{IsTail, decided_text, whole_lossy_chars};
-ghost use Rattle.utf16_decode.specs.Stream.{stream_pending};
-ghost use Rattle.utf16_encode.specs.Utf8Stream.{FeedsUtf8, StopsFeedingUtf8};
-ghost use Rattle.utf16_decode.specs.declared.progress.Stop.TheVariants.{Done, NoSpace};
+ghost use Rattle.utf16_transcode.specs.Stream.{stream_pending};
+ghost use Rattle.utf16_transcode.specs.Utf8Stream.{FeedsUtf8, StopsFeedingUtf8};
+ghost use Rattle.utf16_transcode.specs.declared.progress.Stop.TheVariants.{Done, NoSpace};
 ghost use Rattle.dethrux.specs.Numbers.{AreNumbers, is_big, stop_of};
 
 use crate::byte_order::is_big_endian;
 use crate::results::{Progress, progress_of};
-use utf16_encode::{Stream, feed_utf8, finish_utf8};
+use utf16_transcode::{Stream, feed_utf8, finish_utf8};
 use utf16_units::{BE, LE};
 
 /// Encodes the next chunk of a stream of UTF-8 in UTF-16 and writes it, as far as whole characters

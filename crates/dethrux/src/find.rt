@@ -1,11 +1,11 @@
 //! Search.
 
 ghost use Rattle.std.specs.Prelude.{◌≡◌, ◌≤◌, ℕ, IfSome, Option, length};
-ghost use Rattle.utf16_search.specs.Occurrence.{IsFirst, IsLast, IsOccurrence};
+ghost use Rattle.utf16_bytes.specs.Occurrence.{IsFirst, IsLast, IsOccurrence};
 ghost use Rattle.dethrux.specs.Numbers.{is_big, offset_number};
 
 use crate::byte_order::is_big_endian;
-use utf16_search::{find, rfind};
+use utf16_bytes::{find, rfind};
 use utf16_units::{BE, LE};
 
 /// Returns the least offset at which a pattern occurs in a text, or `usize::MAX` if it occurs

@@ -4,12 +4,12 @@ ghost use Rattle.std.specs.Prelude.{◌≡◌, ◌*◌, ◌/◌, ◌++◌, ℕ, 
 ghost use Rattle.utf16_units.specs.Encoding.{Encodes, encode};
 ghost use Rattle.utf16_units.specs.Laws.{swap_bytes};
 ghost use Rattle.utf16_units.specs.Split.{lossy_text};
-ghost use Rattle.utf16_decode.specs.Unpaired.{unpaired};
+ghost use Rattle.utf16_transcode.specs.Unpaired.{unpaired};
 ghost use Rattle.dethrux.specs.Numbers.{is_big};
 
 use crate::byte_order::is_big_endian;
 use utf16_bytes::swap_byte_order;
-use utf16_decode::make_well_formed;
+use utf16_transcode::make_well_formed;
 use utf16_units::{BE, LE};
 
 /// Swaps the two bytes of each code unit in place: UTF-16 becomes the same text in the other byte

@@ -2,16 +2,16 @@
 
 ghost use Rattle.std.specs.Prelude.{◌≡◌, ◌≢◌, ◌-◌, ◌*◌, ◌/◌, ◌≤◌, drop, if◌then◌else◌, length, min, nat_le, take};
 ghost use Rattle.utf16_units.specs.Encoding.{Encodes, text_of};
-ghost use Rattle.utf16_decode.specs.declared.progress.Stop.TheVariants.{Done, NoSpace};
-ghost use Rattle.utf16_latin1.specs.Repertoire.{IsLeast};
-ghost use Rattle.utf16_latin1.specs.Stops.{StopsLatin1};
-ghost use Rattle.utf16_latin1.specs.Inspection.{EndsAt};
-ghost use Rattle.utf16_latin1.specs.declared.progress.Latin1Stop.TheVariants as latin1;
+ghost use Rattle.utf16_transcode.specs.declared.progress.Stop.TheVariants.{Done, NoSpace};
+ghost use Rattle.utf16_fixed.specs.Repertoire.{IsLeast};
+ghost use Rattle.utf16_fixed.specs.StopsLatin1.{StopsLatin1};
+ghost use Rattle.utf16_fixed.specs.Inspection.{EndsAt};
+ghost use Rattle.utf16_fixed.specs.declared.latin1_progress.Latin1Stop.TheVariants as latin1;
 ghost use Rattle.dethrux.specs.Numbers.{AreLatin1Numbers, AreNumbers, is_big, latin1_stop_of, repertoire_of, stop_of};
 
 use crate::byte_order::is_big_endian;
 use crate::results::{Progress, progress_of, status_of};
-use utf16_latin1::{Latin1Progress, Latin1Stop, Repertoire, from_latin1, inspect, to_latin1};
+use utf16_fixed::{Latin1Progress, Latin1Stop, Repertoire, from_latin1, inspect, to_latin1};
 use utf16_units::{BE, LE};
 
 const NOT_LATIN1: u32 = 4;
@@ -123,7 +123,7 @@ pub extern "C" fn dethrux_inspect(byte_order: u32, utf16: &[u8]) -> Inspection
 
 // What C gets as the result of an inspection.
 #[inline(always)]
-fn inspection_of(found: utf16_latin1::Inspection) -> Inspection
+fn inspection_of(found: utf16_fixed::Inspection) -> Inspection
     ensures valid_up_to { result.valid_up_to ≡ found.valid_up_to }
     ensures chars { result.chars ≡ found.chars }
     ensures repertoire { repertoire_of result.repertoire ≡ found.repertoire }

@@ -27,18 +27,19 @@ ghost use Rattle.std.specs.Str.Lossy.{utf8_valid_len};
 ghost use Rattle.utf16_units.specs.Encoding.{IsUtf16, char_bytes, size, text_of, units_of};
 ghost use Rattle.utf16_units.specs.IllFormed.{IsUtf16ValidUpTo};
 ghost use Rattle.utf16_units.specs.Split.{decided_text, lossy_text};
-ghost use Rattle.utf16_encode.specs.FromUtf8.{TranscodesToUtf16, StopsEncoding, text_of_utf8};
-ghost use Rattle.utf16_decode.specs.Shown.{ShowsWhole};
-ghost use Rattle.utf16_decode.specs.Stops.{StopsDecoding, StopsLossy, StopsLossyWhole};
-ghost use Rattle.utf16_decode.specs.Wrote.{DecodesTo, TranscodesToUtf8, Wrote};
+ghost use Rattle.utf16_transcode.specs.FromUtf8.{TranscodesToUtf16, StopsEncoding, text_of_utf8};
+ghost use Rattle.utf16_transcode.specs.Shown.{ShowsWhole};
+ghost use Rattle.utf16_transcode.specs.Stops.{StopsDecoding, StopsLossy, StopsLossyWhole};
+ghost use Rattle.utf16_transcode.specs.Wrote.{DecodesTo, TranscodesToUtf8, Wrote};
 ghost use Rattle.dethrux.specs.Numbers.{AreNumbers, IsValidity, is_big, stop_of};
-ghost use Rattle.utf16_decode.specs.declared.progress.Stop.TheVariants.{Done, NoSpace};
+ghost use Rattle.utf16_transcode.specs.declared.progress.Stop.TheVariants.{Done, NoSpace};
 
 use crate::byte_order::is_big_endian;
 use crate::results::{Progress, Validity, progress_of, validity_of};
-use utf16_encode::{
-    count_chars, from_utf8, from_utf8_len, from_utf8_lossy, from_utf8_lossy_len, is_ascii, to_utf8,
-    to_utf8_lossy, to_utf8_lossy_len, to_utf8_partial,
+use utf16_bytes::{count_chars, is_ascii};
+use utf16_transcode::{
+    from_utf8, from_utf8_len, from_utf8_lossy, from_utf8_lossy_len, to_utf8, to_utf8_lossy,
+    to_utf8_lossy_len, to_utf8_partial,
 };
 use utf16_units::plain::is_short_plain;
 use utf16_units::{BE, LE, Utf16Order, validate_raw_utf16};

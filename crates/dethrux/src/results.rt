@@ -3,7 +3,7 @@
 ghost use Rattle.std.specs.Prelude.{◌≡◌};
 ghost use Rattle.dethrux.specs.Numbers.{AreNumbers, stop_of, validity_stop, validity_up_to};
 
-use utf16_encode::Stop;
+use utf16_transcode::Stop;
 use utf16_units::Utf16Error;
 
 pub(crate) const DONE: u32 = 0;
@@ -56,7 +56,7 @@ pub struct Bom {
 
 // What C gets as the result of a call of the library.
 #[inline(always)]
-pub(crate) fn progress_of(progress: utf16_encode::Progress) -> Progress
+pub(crate) fn progress_of(progress: utf16_transcode::Progress) -> Progress
     ensures read { result.read ≡ progress.read }
     ensures written { result.written ≡ progress.written }
     ensures stop { stop_of result.status result.error_len ≡ progress.stop }

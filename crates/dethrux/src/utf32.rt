@@ -3,21 +3,21 @@
 ghost use Rattle.std.specs.Prelude.{◌≡◌, ◌≢◌, ◌↔◌, ◌+◌, ◌-◌, ◌*◌, ◌/◌, ◌≤◌, drop, length};
 ghost use Rattle.utf16_units.specs.Encoding.{char_bytes, size};
 ghost use Rattle.utf16_units.specs.Split.{lossy_text};
-ghost use Rattle.utf16_decode.specs.Shown.{ShowsWhole};
-ghost use Rattle.utf16_decode.specs.Stops.{StopsLossyWhole};
-ghost use Rattle.utf16_decode.specs.Wrote.{Wrote};
-ghost use Rattle.utf16_decode.specs.declared.progress.Stop.TheVariants.{Done, NoSpace};
-ghost use Rattle.utf16_utf32.specs.Stops32.{DecodesToUtf32, StopsFromUtf32, StopsToUtf32};
-ghost use Rattle.utf16_utf32.specs.Utf32.{IsUtf32, IsUtf32ValidUpTo, ShowsInUtf16, TranscodesFromUtf32, TranscodesToUtf32, lossy_utf32, utf32_units};
+ghost use Rattle.utf16_transcode.specs.Shown.{ShowsWhole};
+ghost use Rattle.utf16_transcode.specs.Stops.{StopsLossyWhole};
+ghost use Rattle.utf16_transcode.specs.Wrote.{Wrote};
+ghost use Rattle.utf16_transcode.specs.declared.progress.Stop.TheVariants.{Done, NoSpace};
+ghost use Rattle.utf16_fixed.specs.Stops32.{DecodesToUtf32, StopsFromUtf32, StopsToUtf32};
+ghost use Rattle.utf16_fixed.specs.Utf32.{IsUtf32, IsUtf32ValidUpTo, ShowsInUtf16, TranscodesFromUtf32, TranscodesToUtf32, lossy_utf32, utf32_units};
 ghost use Rattle.dethrux.specs.Numbers.{AreNumbers, is_big, stop_of};
 
 use crate::byte_order::is_big_endian;
 use crate::results::{DONE, ILL_FORMED, Progress, Validity, progress_of};
-use utf16_units::{BE, LE};
-use utf16_utf32::{
+use utf16_fixed::{
     from_utf32, from_utf32_lossy, from_utf32_lossy_len, to_utf32, to_utf32_lossy,
     to_utf32_lossy_len, validate_utf32,
 };
+use utf16_units::{BE, LE};
 
 /// Converts UTF-16 to UTF-32, code points in the machine's byte order, up to the first ill-formed
 /// sequence or as far as it fits. An ill-formed sequence and an incomplete character are not read.

@@ -2,11 +2,11 @@
 
 ghost use Rattle.std.specs.Prelude.{◌≡◌, ◌≢◌, ◌↔◌, ◌+◌, ◌-◌, ◌*◌, ◌/◌, ◌%◌, ◌<◌, ◌≤◌, [], ◌++◌, drop, length, take};
 ghost use Rattle.std.specs.List.{flat_map};
-ghost use Rattle.utf16_decode.specs.Decomposition.{decided};
-ghost use Rattle.utf16_decode.specs.Shown.{ShowsWhole};
-ghost use Rattle.utf16_decode.specs.Stream.{FeedsAs, StopsFeedingAs, stream_pending};
-ghost use Rattle.utf16_decode.specs.Wrote.{Wrote};
-ghost use Rattle.utf16_decode.specs.declared.progress.Stop.TheVariants.{Done, Incomplete, NoSpace};
+ghost use Rattle.utf16_transcode.specs.Decomposition.{decided};
+ghost use Rattle.utf16_transcode.specs.Shown.{ShowsWhole};
+ghost use Rattle.utf16_transcode.specs.Stream.{FeedsAs, StopsFeedingAs, stream_pending};
+ghost use Rattle.utf16_transcode.specs.Wrote.{Wrote};
+ghost use Rattle.utf16_transcode.specs.declared.progress.Stop.TheVariants.{Done, Incomplete, NoSpace};
 ghost use Rattle.utf16_wtf8.specs.FromWtf8.{StopsFromWtf8, StopsFromWtf8Partial, TranscodesFromWtf8};
 ghost use Rattle.utf16_wtf8.specs.ToWtf8.{DecodesToWtf8, StopsBeforeTail, StopsToWtf8, points_of, tail_points, wtf8_parts};
 ghost use Rattle.utf16_wtf8.specs.Wtf8.{generalized_utf8};
@@ -15,7 +15,7 @@ ghost use Rattle.dethrux.specs.Numbers.{AreNumbers, is_big, stop_of};
 use crate::byte_order::is_big_endian;
 use crate::decoder::bytes_law;
 use crate::results::{Progress, progress_of};
-use utf16_decode::Stream;
+use utf16_transcode::Stream;
 use utf16_units::{BE, LE};
 use utf16_wtf8::{
     ToWtf8, finish_wtf8, from_wtf8, from_wtf8_partial, to_wtf8, to_wtf8_len, to_wtf8_partial,

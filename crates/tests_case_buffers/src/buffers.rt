@@ -14,8 +14,8 @@ mod wtf8;
 
 use crate::buffers::conversions::Conversion;
 use std::alloc::Global;
-use tests_case_lines::{Answer, Trouble, Values};
-use utf16_encode::{FromUtf8, ToUtf8};
+use tests_support::{Answer, Trouble, Values};
+use utf16_transcode::{FromUtf8, ToUtf8};
 use utf16_units::Utf16Order;
 
 /// Makes a call on these values and adds its result. `Call` if no call over buffers has this name;

@@ -9,7 +9,7 @@ mod sweeps;
 
 use crate::streams::filtered::FilterCall;
 use std::alloc::Global;
-use tests_case_lines::{Answer, How, Trouble, Values};
+use tests_support::{Answer, How, Trouble, Values};
 use utf16_streams::{AnyLossy, Lossy, Utf16Order};
 
 /// Makes a call on these values and adds its result. `Call` if no call of streams has this name; in

@@ -1,7 +1,7 @@
 //! The calls of `utf16_tools`, as cases name them.
 mod edits;
 
-use tests_case_lines::Run;
+use tests_support::Run;
 use utf16string::Utf16Order;
 
 /// Does the edits of a case and adds what they gave. Returns whether the name is `apply` or `run`.

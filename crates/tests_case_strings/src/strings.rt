@@ -15,7 +15,7 @@ mod retained;
 mod taken;
 
 pub use crate::strings::held::{Heap, left, part, string};
-use tests_case_lines::Run;
+use tests_support::Run;
 use utf16string::Utf16Order;
 
 /// Makes a call and adds what it gave. Returns whether a call of strings has this name; if none

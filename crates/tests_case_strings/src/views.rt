@@ -13,7 +13,7 @@ mod units;
 mod walks;
 mod written;
 
-use tests_case_lines::Run;
+use tests_support::Run;
 use utf16string::Utf16Order;
 
 /// Makes a call and adds what it gave. Returns whether a call of units and views has this name; if

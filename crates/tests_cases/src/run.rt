@@ -2,8 +2,8 @@
 
 use std::alloc::Global;
 use std::io;
-use tests_case_lines::{Answer, Case, How, Run, Trouble};
 use tests_support::refusing::Refusing;
+use tests_support::{Answer, Case, How, Run, Trouble};
 use utf16string::{BigEndian, LittleEndian, Utf16Order};
 
 /// The number of cases that passed and failed.

@@ -10,7 +10,7 @@ use Rattle.utf16_units.proofs.SplitJoin.{BeginsNoTrail-split_items, put_leading-
 use Rattle.utf16_units.proofs.SplitLemmas.{cut_tail, put_unit-leading, whole_items, whole_tail}
 use Rattle.utf16_bytes.proofs.TextLemmas.{nil_text, whole_lossy_chars-append}
 use Rattle.utf16_bytes.specs.Boundary.{EndsLeading}
-use Rattle.utf16_bytes.specs.Laws.{CutText}
+use Rattle.utf16_bytes.specs.CutLaws.{CutText}
 
 -- ---- what whole code units leave
 

@@ -5,3 +5,10 @@ pub mod FloorLemmas
 pub mod PartsLemmas
 pub mod ShardLemmas
 pub mod WindowLemmas
+pub mod AffixTests
+pub mod PatternLemmas
+mod PassedBytes
+pub mod AlikeLemmas
+pub mod FoundLemmas
+pub mod RunLemmas
+pub mod OccurrenceLemmas

@@ -7,7 +7,7 @@ use Rattle.std.specs.List.{flat_map}
 use Rattle.std.specs.List.Sorted.{IsSortedBy}
 use Rattle.utf16_units.specs.Split.{BeginsUnpaired, lossy_text}
 use Rattle.utf16_bytes.specs.Boundary.{EndsLeading, IsBetween, IsCut}
-use Rattle.utf16_bytes.specs.Laws.{CutsText}
+use Rattle.utf16_bytes.specs.CutLaws.{CutsText}
 use Rattle.utf16_units.specs.Cuts.{parts_from}
 use Rattle.utf16_bytes.proofs.CutLemmas.{cut_text}
 use Rattle.utf16_bytes.proofs.WindowLemmas.{EndsLeading-append}

@@ -1,4 +1,6 @@
 pub mod Boundary
 pub mod File
-pub mod Laws
+pub mod CutLaws
 pub mod Shards
+pub mod SearchLaws
+pub mod Occurrence

@@ -5,7 +5,7 @@ use Rattle.std.specs.Prelude.{count_by}
 use Rattle.utf16_units.specs.Split.{Item, items_bytes, split_items, split_tail}
 use Rattle.utf16_units.proofs.SplitJoin.{split_items-append, split_tail-append}
 use Rattle.utf16_units.proofs.SplitUnique.{length-split_tail}
-use Rattle.utf16_decode.proofs.DecodesLemmas.{length-split_tail-le, split_tail-again, undecided_items}
+use Rattle.utf16_transcode.proofs.DecodesLemmas.{length-split_tail-le, split_tail-again, undecided_items}
 use Rattle.utf16_streams.specs.Bom.{big_in, has_bom, text_in}
 use Rattle.utf16_check.specs.Checker.{Follows, checker_lines, checker_report}
 use Rattle.utf16_check.specs.Order.{bom_len}

@@ -11,7 +11,7 @@ use Rattle.utf16_units.proofs.FirstChar.{AreBytes, first_unit}
 use Rattle.utf16_units.proofs.IllFormedLemmas.{IsUtf16ValidUpTo-unique}
 use Rattle.utf16_units.proofs.SplitIllFormed.{split_items-fault, split_tail-fault, split_tail-incomplete}
 use Rattle.utf16_units.proofs.SplitJoin.{split_items-text, split_tail-text}
-use Rattle.utf16_decode.proofs.DecodesLemmas.{split_tail-again, undecided_items}
+use Rattle.utf16_transcode.proofs.DecodesLemmas.{split_tail-again, undecided_items}
 use Rattle.utf16_check.specs.Report.{ill_formed_line, ill_formed_lines, is_char, is_ill_formed}
 use Rattle.utf16_check.specs.Scans.{BeginsLone, IsFront, Scans, lone}
 use Rattle.utf16_check.specs.declared.scan.Found.{Found}

@@ -2,7 +2,7 @@
 use Rattle.std.specs.Prelude.{ℕ, Bool, true, false, List, Option, Result, codes}
 use Rattle.utf16_streams.specs.Filter.{FiltersBy}
 use Rattle.utf16_streams.specs.declared.filters.FilterFault.{FilterFault}
-use Rattle.utf8_streams.specs.Utf16.{certain, entire}
+use Rattle.utf16_streams.specs.Encoder.{certain, entire}
 use Rattle.utf16_enc.specs.declared.encoding.Encoding.{Encoding}
 use Rattle.utf16_enc.specs.declared.encoding.Encoding.TheVariants.{Be, BeBom, Le, LeBom}
 

@@ -9,8 +9,8 @@ ghost use Rattle.utf16_enc.specs.Words.{EncodesBy, has_bom, is_big, word_of};
 
 use std::alloc::Allocator;
 use std::io::{Read, Write};
-use utf8_streams::{BE, LE, Watched, encode_stream, encode_stream_with_bom};
 use utf16_program::{Choice, Outcome, outcome_of};
+use utf16_streams::{BE, LE, Watched, encode_stream, encode_stream_with_bom};
 
 /// The byte order that the argument names, and whether the output begins with a BOM.
 #[derive(Clone, Copy, Debug, PartialEq, Eq)]

@@ -7,8 +7,8 @@ mod encoding;
 use crate::encoding::Encoding;
 use std::env;
 use std::process::ExitCode;
-use utf8_streams::Watched;
 use utf16_program::program;
+use utf16_streams::Watched;
 
 fn main(rt: HostRuntime) -> ExitCode {
     let mut input = Watched::new(rt.stdin());

@@ -6,9 +6,9 @@ use Rattle.utf16_units.specs.Delimited.{Lacks}
 use Rattle.utf16_units.specs.Encoding.{char_size, size}
 use Rattle.utf16_units.proofs.BoundaryLemmas.{char_size-pos, size-text_to}
 use Rattle.utf16_units.proofs.EncodingLemmas.{size-append, size-cons, size-nil}
-use Rattle.utf16_search.specs.Occurrence.{IsFirst, IsLast}
-use Rattle.utf16_search.proofs.TextLemmas.{text_around}
-use Rattle.utf16_pattern.proofs.Around.{between_parts}
+use Rattle.utf16_bytes.specs.Occurrence.{IsFirst, IsLast}
+use Rattle.utf16_bytes.proofs.OccurrenceLemmas.{text_around}
+use Rattle.utf16_bytes.proofs.PatternLemmas.{between_parts}
 
 -- a part lacks a character that occurs nowhere from the part's start up to its end
 lacks_part : (text before front back : List ℕ) (c : ℕ) → text ≡ (before ++ front) ++ back

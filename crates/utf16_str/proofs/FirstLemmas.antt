@@ -5,9 +5,9 @@ use Rattle.utf16_units.specs.Encoding.{char_size, size}
 use Rattle.utf16_units.proofs.BoundaryLemmas.{IsBoundary-within, char_size-pos, size-text_to, text_to-at}
 use Rattle.utf16_units.proofs.DelimitedLemmas.{text_from-whole}
 use Rattle.utf16_units.proofs.EncodingLemmas.{size-cons, size-nil}
-use Rattle.utf16_search.specs.Occurrence.{IsFirst, IsLast}
-use Rattle.utf16_search.proofs.TextLemmas.{text_around}
-use Rattle.utf16_pattern.proofs.Around.{between_parts}
+use Rattle.utf16_bytes.specs.Occurrence.{IsFirst, IsLast}
+use Rattle.utf16_bytes.proofs.OccurrenceLemmas.{text_around}
+use Rattle.utf16_bytes.proofs.PatternLemmas.{between_parts}
 use Rattle.utf16_str.specs.Splits.{IsAfterLast, IsBeforeFirst, LacksPart}
 use Rattle.utf16_str.proofs.CharSearch.{lacks-not, lacks_after, lacks_all, lacks_before}
 

@@ -7,8 +7,8 @@ use Rattle.std.specs.List.{starts_with}
 use Rattle.std.specs.Option.{is_some}
 use Rattle.utf16_units.specs.Boundary.{OccursIn, text_from, text_to}
 use Rattle.utf16_units.specs.Encoding.{size}
-use Rattle.utf16_search.specs.Occurrence.{IsFirst}
-use Rattle.utf16_search.proofs.TextLemmas.{text_around}
+use Rattle.utf16_bytes.specs.Occurrence.{IsFirst}
+use Rattle.utf16_bytes.proofs.OccurrenceLemmas.{text_around}
 use Rattle.utf16_str.specs.Found.{after_part, before_part, has_part, occurs, text_before}
 use Rattle.utf16_str.specs.Splits.{IsBeforeFirst, LacksPart}
 use Rattle.utf16_str.proofs.CharFound.{around, found, lacks-any, or-true, whole}

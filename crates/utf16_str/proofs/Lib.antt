@@ -30,3 +30,19 @@ mod WhiteAfter
 mod BackWords
 mod LastWord
 mod TrimMatches
+mod PredicatePassed
+mod PredicateBytes
+mod PredicateFinds
+mod PredicateTrims
+mod PredicateCuts
+mod PredicateAround
+mod PredicateSplitRuns
+mod AsciiWordLemmas
+mod AsciiWordRuns
+mod Utf8Size
+pub mod PredicateRestated
+pub mod Overwritten
+mod Lent
+mod LentSteps
+mod LentValues
+mod LentResults

@@ -4,9 +4,9 @@ use Rattle.std.specs.Option.{is_some}
 use Rattle.std.proofs.lemmas.Bool.{false≢true}
 use Rattle.utf16_units.specs.Boundary.{OccursIn, text_from, text_to}
 use Rattle.utf16_units.specs.Encoding.{Encodes, size}
-use Rattle.utf16_search.specs.Occurrence.{IsFirst, IsLast, IsOccurrence}
-use Rattle.utf16_search.proofs.TextLemmas.{occurrence_in_text, text_around}
-use Rattle.utf16_pattern.proofs.Around.{between_parts}
+use Rattle.utf16_bytes.specs.Occurrence.{IsFirst, IsLast, IsOccurrence}
+use Rattle.utf16_bytes.proofs.OccurrenceLemmas.{occurrence_in_text, text_around}
+use Rattle.utf16_bytes.proofs.PatternLemmas.{between_parts}
 
 module _ (big : Bool) (text part bytes part_bytes : List ℕ) (e : Encodes big text bytes) (p : Encodes big part part_bytes) where
   abbrev InText : ℕ → Type 0

@@ -8,7 +8,7 @@ pub use Rattle.utf16_units.specs.Parts
 pub use Rattle.utf16_units.specs.Numbered
 pub use Rattle.utf16_units.specs.Edit
 pub use Rattle.utf16_units.specs.TextOrder
-pub use Rattle.utf16_search.specs.Occurrence
+pub use Rattle.utf16_bytes.specs.Occurrence
 pub mod Hash
 pub mod Offsets
 pub mod Splits
@@ -18,3 +18,8 @@ pub mod Trims
 pub mod Window
 pub mod WStr
 pub mod Common
+pub mod Predicates
+pub mod SplitWith
+pub mod AsciiWords
+pub mod Parse
+pub mod WStrMut

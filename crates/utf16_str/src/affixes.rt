@@ -6,7 +6,8 @@ ghost use Rattle.utf16_units.specs.Encoding.{size};
 ghost use Rattle.utf16_str.specs.Common.{IsCommonPrefix};
 ghost use Rattle.utf16_str.specs.WStr.{wstr_bytes, wstr_text};
 
-use crate::{Pattern, WStr};
+use crate::WStr;
+use utf16_bytes::Pattern;
 use utf16_units::Utf16Order;
 
 impl<'a, E: Utf16Order> WStr<'a, E> {

@@ -7,9 +7,10 @@ ghost use Rattle.utf16_str.specs.Matches.{YieldsTextsAt, left_size, match_offset
 ghost use Rattle.utf16_str.specs.Splits.{YieldsTexts, parts_left, rparts_left, rsplit_by, split_by};
 ghost use Rattle.utf16_str.specs.WStr.{wstr_text};
 
+use crate::WStr;
 use crate::remaining::Remaining;
-use crate::{Pattern, WStr};
 use std::marker::Model;
+use utf16_bytes::Pattern;
 use utf16_units::Utf16Order;
 
 /// An iterator over the remaining occurrences of a pattern in a [`WStr`], each a view with its byte

@@ -9,7 +9,8 @@ ghost use Rattle.utf16_str.specs.Splits.{IsAfterLast, IsBeforeFirst, LacksPart};
 ghost use Rattle.utf16_str.specs.Window.{IsRangeOf, IsWindowOf, bytes_between, range_bytes, range_text};
 ghost use Rattle.utf16_str.specs.WStr.{wstr_bytes, wstr_text};
 
-use crate::{Pattern, SliceIndex, WStr};
+use crate::{SliceIndex, WStr};
+use utf16_bytes::Pattern;
 use utf16_units::Utf16Order;
 
 impl<'a, E: Utf16Order> WStr<'a, E> {

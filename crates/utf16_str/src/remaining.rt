@@ -5,7 +5,8 @@ ghost use Rattle.utf16_str.specs.Matches.{closing, left_text};
 ghost use Rattle.utf16_str.specs.Splits.{parts_from, parts_left, rparts_from, rparts_left};
 ghost use Rattle.utf16_str.specs.WStr.{wstr_text};
 
-use crate::{Pattern, WStr};
+use crate::WStr;
+use utf16_bytes::Pattern;
 use utf16_units::Utf16Order;
 
 // What is left of a text that is split at each occurrence of a pattern.

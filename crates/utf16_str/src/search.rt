@@ -3,13 +3,12 @@
 ghost use Rattle.std.specs.Prelude.{◌≡◌, ◌↔◌, ◌+◌, ◌++◌, IfSome, IsTrue, List, ℕ};
 ghost use Rattle.utf16_units.specs.Boundary.{OccursIn, text_from, text_to};
 ghost use Rattle.utf16_units.specs.Encoding.{size};
-ghost use Rattle.utf16_search.specs.Occurrence.{IsFirst, IsLast};
+ghost use Rattle.utf16_bytes.specs.Occurrence.{IsFirst, IsLast};
 ghost use Rattle.utf16_str.specs.Found.{has_part};
 ghost use Rattle.utf16_str.specs.WStr.{wstr_text};
 
 use crate::WStr;
-use utf16_pattern::Pattern;
-use utf16_search::{find, rfind};
+use utf16_bytes::{Pattern, find, rfind};
 use utf16_units::Utf16Order;
 
 impl<'p, E: Utf16Order> Pattern<E> for WStr<'p, E> {

@@ -5,9 +5,10 @@ ghost use Rattle.std.specs.Iterator.{YieldsFirstBy, YieldsLastBy, item_count};
 ghost use Rattle.utf16_str.specs.Splits.{EachLacks, YieldsTexts, YieldsTextsBack, joined_with, parts_left, rparts_left, rsplit_by, split_by};
 ghost use Rattle.utf16_str.specs.WStr.{wstr_text};
 
+use crate::WStr;
 use crate::remaining::Remaining;
-use crate::{Pattern, WStr};
 use std::marker::Model;
+use utf16_bytes::Pattern;
 use utf16_units::Utf16Order;
 
 /// An iterator over the remaining substrings of a [`WStr`] separated by a delimiter, for a `char`

@@ -6,9 +6,10 @@ ghost use Rattle.utf16_str.specs.Matches.{limited};
 ghost use Rattle.utf16_str.specs.Splits.{YieldsTexts, joined_with, parts_left, rjoined_with, rparts_left, rsplit_by, split_by};
 ghost use Rattle.utf16_str.specs.WStr.{wstr_text};
 
+use crate::WStr;
 use crate::remaining::Remaining;
-use crate::{Pattern, WStr};
 use std::marker::Model;
+use utf16_bytes::Pattern;
 use utf16_units::Utf16Order;
 
 /// An iterator over at most a number of remaining substrings of a [`WStr`] separated by a

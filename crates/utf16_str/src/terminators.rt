@@ -6,9 +6,10 @@ ghost use Rattle.utf16_str.specs.Matches.{with_terminators, without_empty_last};
 ghost use Rattle.utf16_str.specs.Splits.{YieldsTexts, parts_left, split_by};
 ghost use Rattle.utf16_str.specs.WStr.{wstr_text};
 
+use crate::WStr;
 use crate::remaining::Remaining;
-use crate::{Pattern, WStr};
 use std::marker::Model;
+use utf16_bytes::Pattern;
 use utf16_units::Utf16Order;
 
 /// An iterator over the remaining substrings of a [`WStr`] that each end with a terminator. Each is

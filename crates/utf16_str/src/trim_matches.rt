@@ -4,7 +4,8 @@ ghost use Rattle.std.specs.Prelude.{◌≡◌, ◌-◌, drop, length, take};
 ghost use Rattle.utf16_str.specs.Trims.{IsTrimmed, IsTrimmedEnd, IsTrimmedStart};
 ghost use Rattle.utf16_str.specs.WStr.{wstr_bytes, wstr_text};
 
-use crate::{Pattern, WStr};
+use crate::WStr;
+use utf16_bytes::Pattern;
 use utf16_units::Utf16Order;
 
 impl<'a, E: Utf16Order> WStr<'a, E> {

@@ -6,7 +6,7 @@ ghost use Rattle.utf16_str.specs.WStr.{wstr_text};
 
 use crate::WStr;
 use std::alloc::{AllocError, Allocator};
-use utf16_to_string::{append_utf8, to_utf8};
+use utf16_to_utf8::{append_utf8, to_utf8};
 use utf16_units::Utf16Order;
 
 impl<'a, E: Utf16Order> WStr<'a, E> {

@@ -9,9 +9,9 @@ use Rattle.utf16_units.proofs.FirstChar.{AreBytes}
 use Rattle.utf16_units.proofs.ShownLemmas.{split_within}
 use Rattle.utf16_units.proofs.SplitLemmas.{Split-computed}
 use Rattle.utf16_units.proofs.SplitJoin.{split_items-append}
-use Rattle.utf16_decode.specs.Decodes.{Decodes}
-use Rattle.utf16_decode.proofs.DecodesLemmas.{Decodes-piece, shown}
-use Rattle.utf16_decode.proofs.DecidedLemmas.{decided_scalars}
+use Rattle.utf16_transcode.specs.Decodes.{Decodes}
+use Rattle.utf16_transcode.proofs.DecodesLemmas.{Decodes-piece, shown}
+use Rattle.utf16_transcode.proofs.DecidedLemmas.{decided_scalars}
 
 pub AreBytes-append : (front back : List ℕ) → AreBytes front → AreBytes back → AreBytes (front ++ back)
 AreBytes-append front back before behind k = ⊎_elim

@@ -4,8 +4,8 @@ use Rattle.std.proofs.lemmas.List.Concat.{flat_map-append}
 use Rattle.std.specs.Char.{encode_utf8}
 use Rattle.utf16_units.specs.Split.{whole_lossy_chars, split_items, split_tail}
 use Rattle.utf16_units.proofs.SplitJoin.{split_tail-append}
-use Rattle.utf16_decode.proofs.DecodesLemmas.{shown}
-use Rattle.utf16_decode.proofs.StreamLemmas.{whole_lossy_chars-some, joined-more, shown-piece}
+use Rattle.utf16_transcode.proofs.DecodesLemmas.{shown}
+use Rattle.utf16_transcode.proofs.StreamLemmas.{whole_lossy_chars-some, joined-more, shown-piece}
 
 -- a prefix of an empty list is empty
 front-nil : (front back : List ℕ) → front ++ back ≡ [] → front ≡ []

@@ -16,8 +16,8 @@ use Rattle.utf16_units.proofs.SplitJoin.{split_items-append, split_tail-append}
 use Rattle.utf16_streams.specs.declared.lossy.Lossy.{Lossy}
 use Rattle.utf16_streams.specs.Bom.{big_in, has_bom, items_in, text_in}
 use Rattle.utf16_streams.specs.Lossy.{lossy_pending}
-use Rattle.utf16_decode.proofs.DecidedLemmas.{decided_scalars}
-use Rattle.utf16_decode.proofs.StreamLemmas.{joined-more}
+use Rattle.utf16_transcode.proofs.DecidedLemmas.{decided_scalars}
+use Rattle.utf16_transcode.proofs.StreamLemmas.{joined-more}
 
 abbrev pub IsByte : ℕ → Type 0
 IsByte b = b < 256

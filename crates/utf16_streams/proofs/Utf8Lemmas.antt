@@ -7,8 +7,8 @@ use Rattle.utf16_units.specs.Split.{Item, lossy_char, lossy_chars, whole_lossy_c
 use Rattle.utf16_streams.specs.Bom.{has_bom, is_big, items_in, byte_order_after, tail_in}
 use Rattle.utf16_streams.specs.Filter.{ContinuesUtf8, FiltersBy, FiltersIn, decided_utf8, whole_utf8}
 use Rattle.utf16_streams.specs.declared.filters.FilterFault.{FilterFault}
-use Rattle.utf16_decode.proofs.DecodesLemmas.{four_decide, length-split_tail-le, shown, shown-append, undecided_items}
-use Rattle.utf16_decode.proofs.StreamLemmas.{whole_lossy_chars-some, whole_lossy_chars-none}
+use Rattle.utf16_transcode.proofs.DecodesLemmas.{four_decide, length-split_tail-le, shown, shown-append, undecided_items}
+use Rattle.utf16_transcode.proofs.StreamLemmas.{whole_lossy_chars-some, whole_lossy_chars-none}
 use Rattle.utf16_streams.proofs.BomLemmas.{items_in-append, tail_in-append}
 
 -- the UTF-8 of what a tail adds to the whole text: U+FFFD, or nothing

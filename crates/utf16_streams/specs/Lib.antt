@@ -1,8 +1,10 @@
 pub use Rattle.utf16_units.specs.Split
-pub use Rattle.utf16_decode.specs.Decodes
+pub use Rattle.utf16_transcode.specs.Decodes
 pub mod Bom
 pub mod Watched
 pub mod Lossy
 pub mod AnyLossy
 pub mod Continues
 pub mod Filter
+pub mod Encoder
+pub mod BomLaws

@@ -1,7 +1,7 @@
 -- What contracts can say about a `Lossy`: its pending bytes.
 use Rattle.std.specs.Prelude.{ℕ, List}
 use Rattle.utf16_units.specs.declared.byte_order.Utf16Order.{Ghosts}
-use Rattle.utf16_decode.specs.Stream.{stream_pending}
+use Rattle.utf16_transcode.specs.Stream.{stream_pending}
 use Rattle.utf16_streams.specs.declared.lossy.Lossy.{Lossy}
 
 module _ {E : Type 0} {order : Ghosts E} where

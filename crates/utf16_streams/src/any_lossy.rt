@@ -11,7 +11,7 @@ use crate::decoder::{Decoder, SHORT_BUFFER, feed};
 use crate::lossy::Lossy;
 use crate::transcoder::Transcoder;
 use std::alloc::{AllocError, Allocator};
-use utf16_decode::{REPLACEMENT, put};
+use utf16_transcode::{REPLACEMENT, put};
 use utf16_units::laws::are_bytes;
 use utf16_units::{BE, LE};
 

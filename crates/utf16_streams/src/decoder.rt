@@ -5,7 +5,7 @@ ghost use Rattle.utf16_units.specs.Split.{lossy_chars};
 ghost use Rattle.utf16_streams.specs.Bom.{items_in, byte_order_after, tail_in};
 
 use std::alloc::{AllocError, Allocator};
-use utf16_decode::{CHUNK_LEN, FEED_SLACK, SHORT_CHUNK};
+use utf16_transcode::{CHUNK_LEN, FEED_SLACK, SHORT_CHUNK};
 
 /// The length, in bytes, of the buffer that decoded text is written to: three bytes for each code
 /// unit of `CHUNK_LEN` bytes, and `FEED_SLACK` more.

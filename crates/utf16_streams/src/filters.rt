@@ -11,7 +11,7 @@ use crate::transcoder::Transcoder;
 use crate::watched::{DeviceFault, Watched};
 use std::alloc::{AllocError, Allocator};
 use std::io::{Read, Write};
-use utf16_decode::{CHUNK_LEN, FEED_SLACK};
+use utf16_transcode::{CHUNK_LEN, FEED_SLACK};
 use utf16_units::Utf16Order;
 
 // A chunk of at least this many bytes always adds to the output.

@@ -7,15 +7,15 @@ ghost use Rattle.std.specs.Str.{IsUtf8};
 ghost use Rattle.std.specs.String.{string_capacity};
 ghost use Rattle.std.specs.Vec.{vec_items};
 ghost use Rattle.utf16_units.specs.Split.{decided_text, IsTail, lossy_text, split_items, split_tail};
-ghost use Rattle.utf16_decode.specs.Decodes.{Decodes};
-ghost use Rattle.utf16_decode.specs.Stream.{stream_pending};
+ghost use Rattle.utf16_transcode.specs.Decodes.{Decodes};
+ghost use Rattle.utf16_transcode.specs.Stream.{stream_pending};
 ghost use Rattle.utf16_streams.specs.Filter.{ContinuesUtf8, decided_utf8, whole_utf8};
 
 use crate::decoder::{BUFFER_LEN, Decoder, SHORT_BUFFER, feed};
 use crate::transcoder::Transcoder;
 use std::alloc::{AllocError, Allocator};
 use std::marker::PhantomData;
-use utf16_decode::{FEED_SLACK, REPLACEMENT, Stream, ToUtf8, put};
+use utf16_transcode::{FEED_SLACK, REPLACEMENT, Stream, ToUtf8, put};
 use utf16_units::Utf16Order;
 use utf16_units::laws::are_bytes;
 

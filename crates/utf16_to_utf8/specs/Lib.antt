@@ -1,3 +1,4 @@
+pub mod Append
 pub mod Utf8
 pub mod Lanes
 pub mod Pack

@@ -1,6 +1,8 @@
-//! Conversion of UTF-16 to UTF-8 with SIMD: the length, and writers into a buffer that you own.
+//! The kernel from UTF-16 to UTF-8, with SIMD: the length, writers into a buffer that you own, and
+//! a text's bytes in a new `String` or appended to one.
 #![tactic(auto)]
 
+mod append;
 mod blocks;
 mod eights;
 mod few;
@@ -17,6 +19,7 @@ mod word_places;
 mod write;
 mod writers;
 
+pub use crate::append::{append_utf8, to_utf8};
 pub use crate::eights::write_eights;
 pub use crate::few::write_eight_ascii;
 pub use crate::lens::utf8_len;

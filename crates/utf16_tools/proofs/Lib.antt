@@ -9,3 +9,5 @@ pub mod Runs
 pub mod EditedLemmas
 pub mod Rows
 pub mod Served
+pub mod Utf8PartLemmas
+pub mod Utf8PiecesLemmas

@@ -9,3 +9,4 @@ pub use Rattle.utf16_streams.specs.Filter
 pub use Rattle.utf16_streams.specs.Decodes
 pub mod Step
 pub mod Edited
+pub mod Utf8Decoder

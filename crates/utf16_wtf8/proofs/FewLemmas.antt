@@ -4,8 +4,8 @@ use Rattle.std.proofs.lemmas.Bool.{cases_lt}
 use Rattle.std.specs.Prelude.{◌==◌, if◌then◌else◌, nat_lt, slice_index}
 use Rattle.std.specs.Int.{is_in_range}
 use Rattle.std.specs.Str.Lossy.{second_byte_max, second_byte_min, utf8_error_len}
-use Rattle.utf16_decode.specs.declared.progress.Stop.{Stop}
-use Rattle.utf16_decode.specs.declared.progress.Stop.TheVariants.{Incomplete, Done, IllFormed, NoSpace}
+use Rattle.utf16_transcode.specs.declared.progress.Stop.{Stop}
+use Rattle.utf16_transcode.specs.declared.progress.Stop.TheVariants.{Incomplete, Done, IllFormed, NoSpace}
 use Rattle.utf16_wtf8.specs.FromWtf8.{EndsLeading, IsIllFormedWtf8, LeavesLeading, StopsFromWtf8Partial, surrogate_begins, wtf8_error_len}
 
 some : (n : ℕ) → Some n ≢ None

@@ -6,10 +6,10 @@ use Rattle.std.specs.List.{flat_map}
 use Rattle.utf16_units.specs.Split.{split_tail}
 use Rattle.utf16_units.proofs.IllFormedLemmas.{rest_from}
 use Rattle.utf16_units.proofs.SplitUnique.{length-split_tail}
-use Rattle.utf16_decode.specs.Shown.{ShowsWhole}
-use Rattle.utf16_decode.specs.declared.progress.Stop.{Stop}
-use Rattle.utf16_decode.specs.declared.progress.Stop.TheVariants.{Incomplete, Done, IllFormed, NoSpace}
-use Rattle.utf16_decode.proofs.WholeLemmas.{ShowsWhole-decoded, stops_whole, whole_tail, whole_text}
+use Rattle.utf16_transcode.specs.Shown.{ShowsWhole}
+use Rattle.utf16_transcode.specs.declared.progress.Stop.{Stop}
+use Rattle.utf16_transcode.specs.declared.progress.Stop.TheVariants.{Incomplete, Done, IllFormed, NoSpace}
+use Rattle.utf16_transcode.proofs.WholeLemmas.{ShowsWhole-decoded, stops_whole, whole_tail, whole_text}
 use Rattle.utf16_wtf8.specs.ToWtf8.{DecodesToWtf8, StopsBeforeTail, StopsToWtf8, points_of, tail_points, wtf8_parts}
 use Rattle.utf16_wtf8.specs.Wtf8.{code_points, generalized_utf8}
 use Rattle.utf16_wtf8.proofs.PointLemmas.{points-nil, units-none}

@@ -19,12 +19,12 @@ use Rattle.utf16_units.proofs.EncodingLemmas.{All-from_all_scalars}
 use Rattle.utf16_units.proofs.IllFormedLemmas.{rest_from}
 use Rattle.utf16_units.proofs.UnitLemmas.{length-unit_bytes}
 use Rattle.utf8_bytes.proofs.ValidLemmas.{none_at}
-use Rattle.utf16_decode.specs.Wrote.{Wrote}
-use Rattle.utf16_decode.specs.declared.progress.Stop.{Stop}
-use Rattle.utf16_decode.specs.declared.progress.Stop.TheVariants.{Incomplete, Done, IllFormed, NoSpace}
-use Rattle.utf16_decode.proofs.WroteLemmas.{put_end-long, take-end}
-use Rattle.utf16_encode.specs.FromUtf8.{IsIllFormedUtf8, StopsEncoding, TranscodesToUtf16}
-use Rattle.utf16_encode.proofs.DecodesUtf8.{flat_encode}
+use Rattle.utf16_transcode.specs.Wrote.{Wrote}
+use Rattle.utf16_transcode.specs.declared.progress.Stop.{Stop}
+use Rattle.utf16_transcode.specs.declared.progress.Stop.TheVariants.{Incomplete, Done, IllFormed, NoSpace}
+use Rattle.utf16_transcode.proofs.WroteLemmas.{put_end-long, take-end}
+use Rattle.utf16_transcode.specs.FromUtf8.{IsIllFormedUtf8, StopsEncoding, TranscodesToUtf16}
+use Rattle.utf16_transcode.proofs.DecodesUtf8.{flat_encode}
 use Rattle.utf16_wtf8.specs.FromWtf8.{BeginsWithSurrogate, IsIllFormedAfter, IsIllFormedWtf8, NextPointDoesNotFit, NoPointContinues, ReadsWtf8, StopsAfter, StopsFromWtf8, TranscodesFromWtf8, surrogate_begins, wtf8_error_len}
 use Rattle.utf16_wtf8.specs.Wtf8.{IsCodePoint, IsWtf8, SpellsWtf8, ends_leading, generalized_utf8}
 use Rattle.utf16_wtf8.proofs.CodeLemmas.{spelled-nil}

@@ -8,9 +8,9 @@ use Rattle.utf16_units.proofs.CharLemmas.{one_unit_bytes}
 use Rattle.utf16_units.proofs.EncodingLemmas.{All-front}
 use Rattle.utf16_units.proofs.PairLemmas.{is_of}
 use Rattle.utf16_units.proofs.UnitLemmas.{length-unit_bytes}
-use Rattle.utf16_decode.specs.Wrote.{Wrote}
-use Rattle.utf16_decode.specs.declared.progress.Stop.{Stop}
-use Rattle.utf16_decode.specs.declared.progress.Stop.TheVariants.{Incomplete, Done, IllFormed, NoSpace}
+use Rattle.utf16_transcode.specs.Wrote.{Wrote}
+use Rattle.utf16_transcode.specs.declared.progress.Stop.{Stop}
+use Rattle.utf16_transcode.specs.declared.progress.Stop.TheVariants.{Incomplete, Done, IllFormed, NoSpace}
 use Rattle.utf16_wtf8.specs.FromWtf8.{EndsLeading, IsIllFormedWtf8, LeavesLeading, ReadsWtf8, StopsFromWtf8, StopsFromWtf8Partial, TranscodesFromWtf8}
 use Rattle.utf16_wtf8.specs.Wtf8.{HasNoPair, IsCodePoint, ends_leading, generalized_utf8}
 use Rattle.utf16_wtf8.proofs.CodeLemmas.{spelled, spelled-unique}

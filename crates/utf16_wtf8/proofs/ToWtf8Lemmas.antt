@@ -13,14 +13,14 @@ use Rattle.utf16_units.proofs.FirstChar.{AreBytes, first_unit}
 use Rattle.utf16_units.proofs.RecipeLemmas.{two}
 use Rattle.utf16_units.proofs.SplitIllFormed.{lone_item, split_items-fault, split_tail-fault}
 use Rattle.utf16_units.proofs.SplitJoin.{split_items-text, split_tail-text}
-use Rattle.utf16_decode.specs.Decomposition.{IsSplitInChunks}
-use Rattle.utf16_decode.specs.Stops.{IsIllFormedUtf16, StopsDecoding, TextDoesNotFit}
-use Rattle.utf16_decode.specs.Wrote.{TranscodesToUtf8, Wrote}
-use Rattle.utf16_decode.specs.declared.progress.Stop.{Stop}
-use Rattle.utf16_decode.specs.declared.progress.Stop.TheVariants.{Incomplete, Done, IllFormed, NoSpace}
-use Rattle.utf16_decode.proofs.LossyLemmas.{stops_lossy}
-use Rattle.utf16_decode.proofs.ToUtf8Lemmas.{faults_there}
-use Rattle.utf16_decode.proofs.ToUtf8Parts.{utf16_chunks}
+use Rattle.utf16_transcode.specs.Decomposition.{IsSplitInChunks}
+use Rattle.utf16_transcode.specs.Stops.{IsIllFormedUtf16, StopsDecoding, TextDoesNotFit}
+use Rattle.utf16_transcode.specs.Wrote.{TranscodesToUtf8, Wrote}
+use Rattle.utf16_transcode.specs.declared.progress.Stop.{Stop}
+use Rattle.utf16_transcode.specs.declared.progress.Stop.TheVariants.{Incomplete, Done, IllFormed, NoSpace}
+use Rattle.utf16_transcode.proofs.DecodeLossyLemmas.{stops_lossy}
+use Rattle.utf16_transcode.proofs.ToUtf8Lemmas.{faults_there}
+use Rattle.utf16_transcode.proofs.ToUtf8Parts.{utf16_chunks}
 use Rattle.utf16_wtf8.specs.ToWtf8.{DecodesToWtf8, StopsBeforeTail, item_point, tail_points, wtf8_parts}
 use Rattle.utf16_wtf8.specs.Wtf8.{generalized_utf8}
 use Rattle.utf16_wtf8.proofs.PointLemmas.{points_of-split}

@@ -3,11 +3,11 @@ use Rattle.std.specs.Prelude.{◌≡◌, ℕ, Bool, List, [], ◌∷◌, length}
 use Rattle.utf16_units.specs.Encoding.{units_of}
 use Rattle.utf16_units.specs.Split.{Item, good, lone_lead, lone_trail, split_items, split_tail}
 use Rattle.utf16_units.specs.Unit.{unit_of}
-use Rattle.utf16_decode.specs.Decomposition.{Decomposition}
-use Rattle.utf16_decode.specs.Stops.{StopsLossyAs, TextDoesNotFit}
-use Rattle.utf16_decode.specs.Wrote.{DecodesAsTo}
-use Rattle.utf16_decode.specs.declared.progress.Stop.{Stop}
-use Rattle.utf16_decode.specs.declared.progress.Stop.TheVariants.{Incomplete, Done, IllFormed, NoSpace}
+use Rattle.utf16_transcode.specs.Decomposition.{Decomposition}
+use Rattle.utf16_transcode.specs.Stops.{StopsLossyAs, TextDoesNotFit}
+use Rattle.utf16_transcode.specs.Wrote.{DecodesAsTo}
+use Rattle.utf16_transcode.specs.declared.progress.Stop.{Stop}
+use Rattle.utf16_transcode.specs.declared.progress.Stop.TheVariants.{Incomplete, Done, IllFormed, NoSpace}
 use Rattle.utf16_wtf8.specs.Wtf8.{code_points, generalized_utf8}
 
 -- the code point of an item of UTF-16: of a character itself, and of an unpaired surrogate itself

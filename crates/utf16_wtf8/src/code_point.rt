@@ -3,7 +3,7 @@
 ghost use Rattle.std.specs.Prelude.{◌≡◌, ◌-◌, ◌<◌, ◌≤◌, ◌++◌, IfSome, None, drop, length, take};
 ghost use Rattle.utf16_wtf8.specs.Wtf8.{generalized_utf8};
 
-use utf16_decode::put;
+use utf16_transcode::put;
 
 /// Writes a code unit, which may be a surrogate, as one code point in WTF-8 at `at`, and returns
 /// where it ends, or `None` if it does not fit. All other bytes of the buffer are unchanged.

@@ -4,13 +4,13 @@
 ghost use Rattle.std.specs.Prelude.{◌+◌, ◌*◌, ◌/◌};
 ghost use Rattle.utf16_units.specs.Encoding.{char_bytes, IsUtf16, utf8_of};
 ghost use Rattle.utf16_units.specs.IllFormed.{IsIllFormedAt};
-ghost use Rattle.utf16_decode.specs.Stops.{IsIllFormedUtf16};
+ghost use Rattle.utf16_transcode.specs.Stops.{IsIllFormedUtf16};
 ghost use Rattle.utf16_wtf8.specs.ToWtf8.{wtf8_parts};
 ghost use Rattle.utf16_wtf8.specs.Wtf8.{generalized_utf8};
 
 use crate::code_point::write_unit;
 use std::marker::PhantomData;
-use utf16_decode::{Direction, LossyDirection, Moved, ToUtf8};
+use utf16_transcode::{Direction, LossyDirection, Moved, ToUtf8};
 use utf16_units::Utf16Order;
 
 /// The direction from UTF-16 in byte order `E`, which may have unpaired surrogates, to WTF-8. As a

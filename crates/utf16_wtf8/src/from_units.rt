@@ -2,14 +2,14 @@
 
 ghost use Rattle.std.specs.Prelude.{◌≡◌, ◌≢◌, ◌↔◌, ◌-◌, ◌%◌, ◌≤◌, [], drop, length, take};
 ghost use Rattle.std.specs.List.{flat_map};
-ghost use Rattle.utf16_decode.specs.Shown.{ShowsWhole};
-ghost use Rattle.utf16_decode.specs.Stream.{stream_pending};
-ghost use Rattle.utf16_decode.specs.declared.progress.Stop.TheVariants.{Done, Incomplete, NoSpace};
+ghost use Rattle.utf16_transcode.specs.Shown.{ShowsWhole};
+ghost use Rattle.utf16_transcode.specs.Stream.{stream_pending};
+ghost use Rattle.utf16_transcode.specs.declared.progress.Stop.TheVariants.{Done, Incomplete, NoSpace};
 ghost use Rattle.utf16_wtf8.specs.ToWtf8.{DecodesToWtf8, StopsBeforeTail, StopsToWtf8, points_of, tail_points};
 ghost use Rattle.utf16_wtf8.specs.Wtf8.{generalized_utf8};
 
 use crate::direction::ToWtf8;
-use utf16_decode::{LossyDirection, Progress, Stop, Stream, transcode_partial};
+use utf16_transcode::{LossyDirection, Progress, Stop, Stream, transcode_partial};
 use utf16_units::Utf16Order;
 
 /// Writes UTF-16 in WTF-8 to the start of a buffer, as far as whole characters fit, with each

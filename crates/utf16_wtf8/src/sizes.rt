@@ -5,7 +5,7 @@ ghost use Rattle.std.specs.List.{flat_map};
 ghost use Rattle.utf16_wtf8.specs.ToWtf8.{points_of};
 ghost use Rattle.utf16_wtf8.specs.Wtf8.{generalized_utf8};
 
-use utf16_encode::to_utf8_lossy_len;
+use utf16_transcode::to_utf8_lossy_len;
 use utf16_units::Utf16Order;
 
 /// Returns the length in bytes of the output of `to_wtf8` for the whole input. Any bytes are

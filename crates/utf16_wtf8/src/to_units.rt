@@ -2,12 +2,11 @@
 
 ghost use Rattle.std.specs.Prelude.{◌≡◌, ◌+◌, ◌-◌, ◌≤◌, true, IfErr, IfOk, length};
 ghost use Rattle.std.specs.Int.{is_in_range};
-ghost use Rattle.utf16_decode.specs.Wrote.{Wrote};
-ghost use Rattle.utf16_decode.specs.declared.progress.Stop.TheVariants.{Incomplete};
+ghost use Rattle.utf16_transcode.specs.Wrote.{Wrote};
+ghost use Rattle.utf16_transcode.specs.declared.progress.Stop.TheVariants.{Incomplete};
 ghost use Rattle.utf16_wtf8.specs.FromWtf8.{BeginsWithSurrogate, ReadsWtf8, StopsAfter, StopsFromWtf8, StopsFromWtf8Partial, TranscodesFromWtf8, surrogate_begins};
 
-use utf16_decode::{Progress, Stop, put};
-use utf16_encode::from_utf8;
+use utf16_transcode::{Progress, Stop, from_utf8, put};
 use utf16_units::{Utf16Order, is_leading_surrogate, is_trailing_surrogate};
 
 // The length in bytes of a surrogate in WTF-8.

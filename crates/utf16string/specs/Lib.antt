@@ -8,7 +8,7 @@ pub use Rattle.utf16_units.specs.Parts
 pub use Rattle.utf16_units.specs.Numbered
 pub use Rattle.utf16_units.specs.Edit
 pub use Rattle.utf16_units.specs.TextOrder
-pub use Rattle.utf16_search.specs.Occurrence
+pub use Rattle.utf16_bytes.specs.Occurrence
 pub use Rattle.utf16_str.specs.Common
 pub use Rattle.utf16_str.specs.Matches
 pub use Rattle.utf16_str.specs.Offsets
@@ -17,7 +17,7 @@ pub use Rattle.utf16_str.specs.Found
 pub use Rattle.utf16_str.specs.Trims
 pub use Rattle.utf16_str.specs.Window
 pub use Rattle.utf16_str.specs.WStr
-pub use Rattle.utf16_str_mut.specs.WStrMut
+pub use Rattle.utf16_str.specs.WStrMut
 pub use Rattle.utf16string.specs.Retain
 pub mod WString
 pub mod Retain

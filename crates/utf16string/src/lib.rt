@@ -12,8 +12,7 @@ mod wstring;
 pub use crate::wstring::WString;
 pub use utf16_str::{
     BE, BigEndian, LE, LittleEndian, Pattern, SliceIndex, Utf16Error, Utf16Order, WStr,
-    WStrCharIndices, WStrChars, WStrLines, WStrMatchIndices, WStrMatches, WStrRMatchIndices,
-    WStrRSplit, WStrRSplitN, WStrSplit, WStrSplitInclusive, WStrSplitN, WStrSplitTerminator,
-    WStrSplitWhitespace,
+    WStrCharIndices, WStrChars, WStrLines, WStrMatchIndices, WStrMatches, WStrMut,
+    WStrRMatchIndices, WStrRSplit, WStrRSplitN, WStrSplit, WStrSplitInclusive, WStrSplitN,
+    WStrSplitTerminator, WStrSplitWhitespace,
 };
-pub use utf16_str_mut::WStrMut;

@@ -1,8 +1,8 @@
 use Rattle.std.proofs.Common.{◌-◌, length, drop, arith, rules}
 use Rattle.utf16_units.specs.Encoding.{char_bytes}
-use Rattle.utf16_decode.specs.Shown.{ShowsWhole}
-use Rattle.utf16_decode.specs.Stops.{StopsLossyWhole}
-use Rattle.utf16_encode.specs.FromUtf8.{text_of_utf8}
+use Rattle.utf16_transcode.specs.Shown.{ShowsWhole}
+use Rattle.utf16_transcode.specs.Stops.{StopsLossyWhole}
+use Rattle.utf16_transcode.specs.FromUtf8.{text_of_utf8}
 use Rattle.dethrux.specs.Numbers.{is_big, stop_of}
 use Rattle.dethrux.proofs.Bounds.{lossy_utf8_within, whole_is_done}
 use Rattle.dethrux.proofs.dethrux_from_utf8_lossy.Goals as goal

@@ -3,8 +3,8 @@
 ghost use Rattle.std.specs.Prelude.{◌≡◌, IfOk, length};
 
 use std::alloc::{AllocError, Global};
-use tests_case_lines::{Answer, Trouble};
-use utf16_encode::{Progress, Stop};
+use tests_support::{Answer, Trouble};
+use utf16_transcode::{Progress, Stop};
 
 // Each byte of a buffer before a call.
 const BEFORE: u8 = 0xEE;

@@ -2,12 +2,12 @@
 
 use std::alloc::Global;
 use std::cmp::Ordering;
-use tests_case_lines::{Answer, Trouble, Values};
+use tests_support::{Answer, Trouble, Values};
 use utf16_bytes::{
     compare, floor_char_boundary, floor_char_boundary_around, is_char_boundary, shard_offset,
     swap_byte_order,
 };
-use utf16_decode::make_well_formed;
+use utf16_transcode::make_well_formed;
 use utf16_units::{BE, LE, Utf16Order};
 
 /// Makes the call of this name.

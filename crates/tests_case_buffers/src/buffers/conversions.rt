@@ -2,8 +2,8 @@
 
 use crate::buffers::buffers::{add_written, buffer, written};
 use std::alloc::Global;
-use tests_case_lines::{Answer, Trouble, Values};
-use utf16_encode::{
+use tests_support::{Answer, Trouble, Values};
+use utf16_transcode::{
     Progress, from_utf8, from_utf8_lossy, from_utf8_lossy_len, from_utf8_partial, to_utf8,
     to_utf8_lossy, to_utf8_lossy_len, to_utf8_partial,
 };
@@ -75,7 +75,7 @@ pub fn convert<E: Utf16Order>(
     let from = values.bytes(alloc, E::BIG)?;
     let room = match values.word()? {
         "size" => conversion.size::<E>(&from),
-        word => tests_case_lines::number_of(word)?,
+        word => tests_support::number_of(word)?,
     };
     let mut to = buffer(alloc, room)?;
     let progress = conversion.make::<E>(&from, &mut to);

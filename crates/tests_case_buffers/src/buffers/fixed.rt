@@ -3,14 +3,14 @@
 
 use crate::buffers::buffers::{add_progress, add_stop, add_written, buffer};
 use std::alloc::{AllocError, Global};
-use tests_case_lines::{Answer, Trouble, Values};
-use utf16_encode::{Progress, Stop};
-use utf16_latin1::{Latin1Progress, Latin1Stop, Repertoire, from_latin1, inspect, to_latin1};
-use utf16_units::Utf16Order;
-use utf16_utf32::{
-    from_utf32, from_utf32_lossy, from_utf32_lossy_len, to_utf32, to_utf32_lossy,
-    to_utf32_lossy_len, validate_utf32,
+use tests_support::{Answer, Trouble, Values};
+use utf16_fixed::{
+    Latin1Progress, Latin1Stop, Repertoire, from_latin1, from_utf32, from_utf32_lossy,
+    from_utf32_lossy_len, inspect, to_latin1, to_utf32, to_utf32_lossy, to_utf32_lossy_len,
+    validate_utf32,
 };
+use utf16_transcode::{Progress, Stop};
+use utf16_units::Utf16Order;
 
 /// Makes the call of this name.
 pub fn call<E: Utf16Order>(
@@ -71,7 +71,7 @@ fn to_wide<E: Utf16Order>(
 ) -> Result<(), Trouble> {
     let room = match values.word()? {
         "size" => to_utf32_lossy_len::<E>(bytes),
-        word => tests_case_lines::number_of(word)?,
+        word => tests_support::number_of(word)?,
     };
     let mut to: Vec<u32> = vec![in alloc; 0; room]?;
     let progress = if name == "to_utf32" {
@@ -100,7 +100,7 @@ fn from_wide<E: Utf16Order>(
     let numbers = numbers(alloc, bytes)?;
     let room = match values.word()? {
         "size" => from_utf32_lossy_len(&numbers),
-        word => tests_case_lines::number_of(word)?,
+        word => tests_support::number_of(word)?,
     };
     let mut to = buffer(alloc, room)?;
     let progress = if name == "from_utf32" {

@@ -1,8 +1,9 @@
 //! Calls that measure or test bytes.
 
 use std::alloc::Global;
-use tests_case_lines::{Answer, Trouble, Values};
-use utf16_encode::{count_chars, from_utf8_len, from_utf8_lossy_len, is_ascii, to_utf8_lossy_len};
+use tests_support::{Answer, Trouble, Values};
+use utf16_bytes::{count_chars, is_ascii};
+use utf16_transcode::{from_utf8_len, from_utf8_lossy_len, to_utf8_lossy_len};
 use utf16_units::text::{has_ascii_units, trailing_units};
 use utf16_units::{Utf16Order, first_char_len};
 

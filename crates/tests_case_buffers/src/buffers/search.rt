@@ -1,8 +1,8 @@
 //! Searches in any bytes of UTF-16.
 
 use std::alloc::Global;
-use tests_case_lines::{Answer, Trouble, Values};
-use utf16_search::{find, find_char, rfind, rfind_char};
+use tests_support::{Answer, Trouble, Values};
+use utf16_bytes::{find, find_char, rfind, rfind_char};
 use utf16_units::Utf16Order;
 
 /// Makes the call of this name.

@@ -2,8 +2,8 @@
 
 use crate::buffers::buffers::{add_changed, add_written, buffer};
 use std::alloc::Global;
-use tests_case_lines::{Answer, Trouble, Values};
-use utf16_decode::{LossyDirection, Stream};
+use tests_support::{Answer, Trouble, Values};
+use utf16_transcode::{LossyDirection, Stream};
 use utf16_units::Utf16Order;
 
 /// Adds the pending bytes of a new stream.

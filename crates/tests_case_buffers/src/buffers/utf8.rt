@@ -1,7 +1,7 @@
 //! Calls on any bytes of UTF-8 as they are.
 
 use std::alloc::Global;
-use tests_case_lines::{Answer, Trouble, Values};
+use tests_support::{Answer, Trouble, Values};
 use utf8_bytes::{floor_char_boundary, is_char_boundary};
 use utf16_units::Utf16Order;
 

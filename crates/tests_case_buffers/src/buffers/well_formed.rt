@@ -2,7 +2,7 @@
 
 use crate::buffers::buffers::{add_bytes, add_changed, buffer};
 use std::alloc::Global;
-use tests_case_lines::{Answer, Trouble, Values};
+use tests_support::{Answer, Trouble, Values};
 use utf16_units::Utf16Order;
 
 /// Adds the number of bytes written to a buffer of this many bytes, and the bytes.
@@ -17,7 +17,7 @@ pub fn write_well_formed<E: Utf16Order>(
     if to.len() < raw.len() {
         return Err(Trouble::Condition);
     }
-    let len = utf16_encode::write_well_formed::<E>(&raw, &mut to);
+    let len = utf16_transcode::write_well_formed::<E>(&raw, &mut to);
     add_bytes(answer, &to, len)?;
     add_changed(answer, &to, len)
 }

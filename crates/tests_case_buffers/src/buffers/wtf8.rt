@@ -2,8 +2,8 @@
 
 use crate::buffers::buffers::{add_changed, add_written, buffer};
 use std::alloc::Global;
-use tests_case_lines::{Answer, Trouble, Values};
-use utf16_decode::Stream;
+use tests_support::{Answer, Trouble, Values};
+use utf16_transcode::Stream;
 use utf16_units::Utf16Order;
 use utf16_wtf8::{
     ToWtf8, finish_wtf8, from_wtf8, from_wtf8_partial, to_wtf8, to_wtf8_len, to_wtf8_partial,

@@ -3,7 +3,7 @@
 use crate::streams::fed::Decoder;
 use std::alloc::{AllocError, Global};
 use std::marker::PhantomData;
-use tests_case_lines::{Answer, Trouble, Values};
+use tests_support::{Answer, Trouble, Values};
 use utf16_streams::{AnyLossy, Lossy, Utf16Order, decode_pieces};
 
 // The longest stream, in bytes, that is cut in every way, and the longest one that is cut at all.

@@ -2,8 +2,8 @@
 
 use crate::streams::pieces::pieces;
 use std::alloc::Global;
-use tests_case_lines::{Answer, Device, How, Odd, Trouble, Values};
 use tests_support::stepped::{Giver, Manner, Oddity, Taker};
+use tests_support::{Answer, Device, How, Odd, Trouble, Values};
 use utf16_streams::{DeviceFault, Utf16Order, Watched};
 
 /// Returns how the reader or the writer of a case behaves, and that it misbehaves at that call.

@@ -3,7 +3,7 @@
 use crate::streams::memory::{end, heap};
 use crate::streams::pieces::pieces;
 use std::alloc::{AllocError, Allocator, Global};
-use tests_case_lines::{Answer, How, Trouble, Values};
+use tests_support::{Answer, How, Trouble, Values};
 use utf16_streams::{AnyLossy, Lossy, Utf16Order};
 
 /// The calls that both decoders have.

@@ -3,11 +3,12 @@
 use crate::streams::devices::manner;
 use crate::streams::memory::{add_kept, heap};
 use std::alloc::Global;
-use tests_case_lines::{Answer, How, Trouble, Values};
 use tests_support::refusing::Refusing;
 use tests_support::stepped::{Giver, Taker};
-use utf8_streams::{encode_stream, encode_stream_with_bom};
-use utf16_streams::{FilterFault, Utf16Order, Watched, filter_auto};
+use tests_support::{Answer, How, Trouble, Values};
+use utf16_streams::{
+    FilterFault, Utf16Order, Watched, encode_stream, encode_stream_with_bom, filter_auto,
+};
 
 /// The calls of filters.
 #[derive(Clone, Copy, Drop)]

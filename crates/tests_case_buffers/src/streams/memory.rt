@@ -1,8 +1,8 @@
 //! Allocations that fail as a case says, and are counted.
 
 use std::alloc::Global;
-use tests_case_lines::{Answer, How, Refuse};
 use tests_support::refusing::Refusing;
+use tests_support::{Answer, How, Refuse};
 
 /// Returns an allocator whose allocations fail as the case says.
 pub fn heap(alloc: Global, how: &How) -> Refusing<Global> {

@@ -2,7 +2,7 @@
 
 use crate::streams::memory::{end, heap};
 use std::alloc::{AllocError, Global};
-use tests_case_lines::{Answer, How, Trouble, Values};
+use tests_support::{Answer, How, Trouble, Values};
 use utf16_streams::Utf16Order;
 
 /// Takes bytes in chunks, the last value of a case. If no value remains there are no chunks.

@@ -3,7 +3,7 @@
 use crate::streams::filtered::{Ended, FilterCall, add_result, run};
 use crate::streams::memory::heap;
 use std::alloc::Global;
-use tests_case_lines::{Answer, How, Trouble, Values};
+use tests_support::{Answer, How, Trouble, Values};
 use utf16_streams::Utf16Order;
 
 // The most calls that are tried.

@@ -1,7 +1,7 @@
 //! Edits as values, one by one and as a list.
 
 use crate::strings::{Heap, left, part, string};
-use tests_case_lines::{Answer, Run, Trouble};
+use tests_support::{Answer, Run, Trouble};
 use utf16_tools::{Edit, Reply, apply, run};
 use utf16string::{Utf16Order, WString};
 

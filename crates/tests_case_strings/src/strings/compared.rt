@@ -3,7 +3,7 @@
 use crate::strings::held::{Heap, part, string};
 use std::cmp::Ordering;
 use std::hash::{FoldHasher, Hash, Hasher};
-use tests_case_lines::{Answer, Run};
+use tests_support::{Answer, Run};
 use utf16string::{Utf16Order, WString};
 
 /// Makes a call that compares two strings. Returns whether one has this name.

@@ -2,7 +2,7 @@
 
 use crate::strings::held::{Heap, part};
 use crate::strings::retained::retain;
-use tests_case_lines::Run;
+use tests_support::Run;
 use utf16string::{Utf16Order, WString};
 
 /// Makes a call that is always done. Returns whether one has this name.

@@ -5,7 +5,7 @@ use crate::strings::ranged::replace_range;
 use crate::strings::{cut, joined};
 use std::alloc::AllocError;
 use std::fmt::Write;
-use tests_case_lines::Run;
+use tests_support::Run;
 use utf16string::{Utf16Order, WString};
 
 /// Makes a call that is done or whose allocation fails, and returns which. `None` if no call has

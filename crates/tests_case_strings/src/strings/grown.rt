@@ -3,7 +3,7 @@
 use crate::strings::filled;
 use crate::strings::held::{Heap, part};
 use std::alloc::AllocError;
-use tests_case_lines::Run;
+use tests_support::Run;
 use utf16string::{Utf16Order, WString};
 
 /// Makes a call that is done or whose allocation fails, and returns which. `None` if no call has

@@ -1,8 +1,8 @@
 //! The strings of a case, and what the result says about them.
 
 use std::alloc::{AllocError, Allocator, Global};
-use tests_case_lines::{Run, Trouble};
 use tests_support::refusing::Refusing;
+use tests_support::{Run, Trouble};
 use utf16string::{Utf16Order, WStr, WString};
 
 /// The allocator of a case's strings.

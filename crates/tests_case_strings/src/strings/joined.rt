@@ -2,7 +2,7 @@
 
 use crate::strings::held::{Heap, made};
 use std::alloc::AllocError;
-use tests_case_lines::{Run, Trouble};
+use tests_support::{Run, Trouble};
 use utf16string::{Utf16Order, WStr, WString};
 
 // Takes texts, separated by commas.

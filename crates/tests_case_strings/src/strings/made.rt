@@ -6,7 +6,7 @@ ghost use Rattle.utf16string.specs.Encoding.{IsUtf16};
 use crate::strings::held::{Heap, left, made, part, string};
 use crate::strings::{grown, joined, read, taken};
 use std::alloc::AllocError;
-use tests_case_lines::{Answer, Run, Trouble};
+use tests_support::{Answer, Run, Trouble};
 use utf16string::{BigEndian, LittleEndian, Utf16Error, Utf16Order, WStr, WString};
 
 /// Makes a call that makes a string of no text or of bytes, or passes the name to `of_text`.

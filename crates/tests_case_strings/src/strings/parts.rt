@@ -1,7 +1,7 @@
 //! The substrings of a string, by each kind of range.
 
 use crate::strings::held::Heap;
-use tests_case_lines::{By, Run, Span};
+use tests_support::{By, Run, Span};
 use utf16string::{Utf16Order, WStr, WString};
 
 /// Takes a part of a string. The range has the kind that the word has.

@@ -2,7 +2,7 @@
 
 use crate::strings::held::{Heap, part};
 use std::alloc::AllocError;
-use tests_case_lines::{Run, Span};
+use tests_support::{Run, Span};
 use utf16string::{Utf16Order, WStr, WString};
 
 /// Replaces the substring at a range.

@@ -2,7 +2,7 @@
 
 use crate::strings::held::{Heap, made, part, refused};
 use crate::strings::{parts, replaced};
-use tests_case_lines::{Answer, By, Run, Trouble, add_written};
+use tests_support::{Answer, By, Run, Trouble, add_written};
 use utf16string::{Utf16Order, WString};
 
 /// Makes a call that reads a string, or passes the name to `asked`.

@@ -2,7 +2,7 @@
 
 use crate::strings::compared;
 use crate::strings::held::{Heap, made, part};
-use tests_case_lines::Run;
+use tests_support::Run;
 use utf16string::{Pattern, Utf16Order, WString};
 
 /// Makes a call that makes a string of another one, or passes the name to `compared`.

@@ -1,7 +1,7 @@
 //! Characters kept by a predicate, whose results the case gives one by one.
 
 use crate::strings::held::Heap;
-use tests_case_lines::{Run, Trouble};
+use tests_support::{Run, Trouble};
 use utf16string::{Utf16Order, WString};
 
 // Takes the results of the predicate: a `y` or an `n` for each character, or `-` for none.

@@ -3,7 +3,7 @@
 use crate::strings::held::Heap;
 use crate::strings::ranged::drain;
 use crate::strings::retained::retain_by;
-use tests_case_lines::Run;
+use tests_support::Run;
 use utf16string::{Utf16Order, WString};
 
 /// Makes a call that changes a string, and adds what it returns. Returns whether one has this name.

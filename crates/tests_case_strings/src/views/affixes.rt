@@ -2,7 +2,7 @@
 
 use crate::views::made::view;
 use crate::views::search;
-use tests_case_lines::{Answer, Run};
+use tests_support::{Answer, Run};
 use utf16string::{Pattern, Utf16Order, WStr};
 
 /// Makes a call that asks what a view begins or ends with, or passes the name to `search`.

@@ -4,7 +4,7 @@ use crate::views::affixes;
 use crate::views::made::view;
 use std::cmp::Ordering;
 use std::hash::{FoldHasher, Hash, Hasher};
-use tests_case_lines::{Answer, Run};
+use tests_support::{Answer, Run};
 use utf16string::{Utf16Order, WStr};
 
 /// Makes a call that compares or hashes views, or passes the name to `affixes`.

@@ -4,7 +4,7 @@ ghost use Rattle.std.specs.Prelude.{IsSome};
 ghost use Rattle.utf16_units.specs.Encoding.{IsUtf16};
 
 use crate::views::shown;
-use tests_case_lines::{Answer, Run};
+use tests_support::{Answer, Run};
 use utf16string::{Utf16Error, Utf16Order, WStr};
 
 /// Makes a call that makes a view, in the byte order that its name says, or passes the name to

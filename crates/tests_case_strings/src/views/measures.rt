@@ -2,7 +2,7 @@
 
 use crate::views::made::view;
 use crate::views::parts;
-use tests_case_lines::{Answer, Run, Trouble};
+use tests_support::{Answer, Run, Trouble};
 use utf16string::{Utf16Order, WStr};
 
 /// Makes a call that measures a view or asks about an offset, or passes the name to `parts`.

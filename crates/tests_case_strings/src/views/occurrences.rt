@@ -3,7 +3,7 @@
 use crate::views::made::view;
 use crate::views::parts::both;
 use crate::views::spaces;
-use tests_case_lines::{Answer, Run};
+use tests_support::{Answer, Run};
 use utf16string::{Pattern, Utf16Order, WStr};
 
 /// Makes a call whose pattern is a text, or a character if the name ends with `_char`. Or passes

@@ -1,7 +1,7 @@
 //! Parts of views: at ranges, before and after an offset or a character, and between delimiters.
 
 use crate::views::walks;
-use tests_case_lines::{Answer, By, Run, Span};
+use tests_support::{Answer, By, Run, Span};
 use utf16string::{Utf16Order, WStr};
 
 /// Makes a call that takes the part at a range, or passes the name to `cut`.

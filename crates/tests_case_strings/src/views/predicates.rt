@@ -2,8 +2,8 @@
 
 use crate::views::made::view;
 use crate::views::search::offset;
-use tests_case_lines::{Answer, Run};
-use utf16_str_ext::{ParseError, WStrExt};
+use tests_support::{Answer, Run};
+use utf16_str::{ParseError, WStrExt};
 use utf16string::{Utf16Order, WStr};
 
 /// Makes a call with the predicate that is true of the characters of a text, or passes the name to

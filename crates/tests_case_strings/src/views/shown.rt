@@ -2,8 +2,8 @@
 
 use crate::views::measures;
 use std::alloc::{AllocError, Global};
-use tests_case_lines::{Run, Trouble, add_debug};
 use tests_support::refusing::Refusing;
+use tests_support::{Run, Trouble, add_debug};
 use utf16string::{Utf16Order, WStr};
 
 /// Makes a call that shows a view in UTF-8, or writes it or one of its iterators, or passes the

@@ -1,7 +1,7 @@
 //! Views without the white space at their ends, their lines and their words.
 
 use crate::views::predicates;
-use tests_case_lines::{Answer, Run};
+use tests_support::{Answer, Run};
 use utf16string::{Utf16Order, WStr};
 
 /// Makes a call that trims a view or gives its lines or words, or passes the name to `predicates`.

@@ -1,7 +1,7 @@
 //! Code units, byte orders, single characters and errors.
 
 use crate::views::made;
-use tests_case_lines::{Run, Trouble};
+use tests_support::{Run, Trouble};
 use utf16_units::{
     Utf16CharExt, decode_surrogates, is_leading_surrogate, is_trailing_surrogate,
     validate_raw_utf16,

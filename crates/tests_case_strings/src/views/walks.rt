@@ -1,7 +1,7 @@
 //! Iteration over views from both ends.
 
 use crate::views::compared;
-use tests_case_lines::{Answer, Run, Trouble};
+use tests_support::{Answer, Run, Trouble};
 use utf16string::{Utf16Order, WStr};
 
 /// Makes a call of an iterator over a view, or passes the name to `compared`.

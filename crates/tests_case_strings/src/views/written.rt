@@ -1,7 +1,7 @@
 //! Views that are written to: `WStrMut`.
 
 use crate::views::made::{refused, view};
-use tests_case_lines::{Answer, Run};
+use tests_support::{Answer, Run};
 use utf16string::{Utf16Order, WStr, WStrMut};
 
 /// Makes a call of a view that writes, and adds the bytes as they are after it. Returns whether a

@@ -9,8 +9,7 @@ ghost use Rattle.utf16_str.specs.WStr.{wstr_bytes, wstr_text};
 
 use crate::WString;
 use std::alloc::Allocator;
-use utf16_str::WStr;
-use utf16_str_mut::WStrMut;
+use utf16_str::{WStr, WStrMut};
 use utf16_units::Utf16Order;
 
 impl<E: Utf16Order, A: Allocator> WString<E, A> {

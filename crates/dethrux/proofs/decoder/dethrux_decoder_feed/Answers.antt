@@ -1,8 +1,8 @@
 use Rattle.std.proofs.Common.{◌≡◌, ◌↔◌, ◌≤◌, ◌++◌, true, false, encode_utf8_all, length, ap, subst, arith, rules}
 use Rattle.utf16_units.specs.Split.{decided_text}
 use Rattle.utf16_units.proofs.FirstChar.{AreBytes, AreBytes-from_All}
-use Rattle.utf16_decode.specs.Stream.{stream_pending}
-use Rattle.utf16_decode.specs.declared.progress.Stop.TheVariants.{Done}
+use Rattle.utf16_transcode.specs.Stream.{stream_pending}
+use Rattle.utf16_transcode.specs.declared.progress.Stop.TheVariants.{Done}
 use Rattle.dethrux.specs.Numbers.{is_big}
 use Rattle.dethrux.proofs.Bounds.{fed_within}
 use Rattle.dethrux.proofs.decoder.dethrux_decoder_feed.Goals as goal

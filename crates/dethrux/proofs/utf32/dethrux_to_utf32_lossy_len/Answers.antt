@@ -1,5 +1,5 @@
 use Rattle.std.proofs.Common.{true, false, arith}
-use Rattle.utf16_utf32.proofs.LenLemmas.{lossy_text-most}
+use Rattle.utf16_fixed.proofs.LenLemmas.{lossy_text-most}
 use Rattle.dethrux.proofs.utf32.dethrux_to_utf32_lossy_len.Goals as goal
 
 pub returns-then-is_big_endian-clause-most : goal.returns-then-is_big_endian-clause-most

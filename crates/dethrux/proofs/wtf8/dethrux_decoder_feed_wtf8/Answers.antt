@@ -1,8 +1,8 @@
 use Rattle.std.proofs.Common.{◌≡◌, ◌↔◌, ◌≤◌, ◌++◌, true, false, flat_map, length, ap, subst, arith, rules}
 use Rattle.utf16_units.proofs.FirstChar.{AreBytes, AreBytes-from_All}
-use Rattle.utf16_decode.specs.Decomposition.{decided}
-use Rattle.utf16_decode.specs.Stream.{stream_pending}
-use Rattle.utf16_decode.specs.declared.progress.Stop.TheVariants.{Done}
+use Rattle.utf16_transcode.specs.Decomposition.{decided}
+use Rattle.utf16_transcode.specs.Stream.{stream_pending}
+use Rattle.utf16_transcode.specs.declared.progress.Stop.TheVariants.{Done}
 use Rattle.utf16_wtf8.specs.ToWtf8.{wtf8_parts}
 use Rattle.utf16_wtf8.specs.Wtf8.{generalized_utf8}
 use Rattle.dethrux.specs.Numbers.{is_big}

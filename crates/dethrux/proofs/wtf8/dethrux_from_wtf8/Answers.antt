@@ -1,5 +1,5 @@
 use Rattle.std.proofs.Common.{◌-◌, length, rules}
-use Rattle.utf16_decode.specs.Wrote.{Wrote}
+use Rattle.utf16_transcode.specs.Wrote.{Wrote}
 use Rattle.utf16_wtf8.specs.FromWtf8.{StopsFromWtf8, TranscodesFromWtf8}
 use Rattle.dethrux.specs.Numbers.{is_big, stop_of}
 use Rattle.dethrux.proofs.WtfBounds.{from_wtf8_fits}

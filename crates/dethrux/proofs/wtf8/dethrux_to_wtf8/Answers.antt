@@ -1,5 +1,5 @@
 use Rattle.std.proofs.Common.{◌-◌, length, drop, arith, rules}
-use Rattle.utf16_decode.specs.Shown.{ShowsWhole}
+use Rattle.utf16_transcode.specs.Shown.{ShowsWhole}
 use Rattle.utf16_wtf8.specs.ToWtf8.{StopsToWtf8, points_of}
 use Rattle.utf16_wtf8.specs.Wtf8.{generalized_utf8}
 use Rattle.dethrux.specs.Numbers.{is_big, stop_of}

@@ -1,5 +1,5 @@
 use Rattle.std.proofs.Common.{◌-◌, length, drop, arith, rules}
-use Rattle.utf16_decode.proofs.ToUtf8Parts.{utf8_short}
+use Rattle.utf16_transcode.proofs.ToUtf8Parts.{utf8_short}
 use Rattle.utf16_wtf8.specs.ToWtf8.{DecodesToWtf8, StopsBeforeTail, wtf8_parts}
 use Rattle.utf16_wtf8.specs.Wtf8.{generalized_utf8}
 use Rattle.utf16_wtf8.proofs.ToWtf8Lemmas.{wtf8_chunks}

@@ -1,5 +1,5 @@
 use Rattle.std.proofs.Common.{rules}
-use Rattle.utf16_str_ext.proofs.Restated.{first-restated}
+use Rattle.utf16_str.proofs.PredicateRestated.{first-restated}
 use Rattle.uses_strings.proofs.predicates.first_beyond_ascii.Goals as goal
 
 pub returns : goal.returns

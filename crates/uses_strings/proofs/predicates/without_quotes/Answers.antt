@@ -1,5 +1,5 @@
 use Rattle.std.proofs.Common.{rules}
-use Rattle.utf16_str_ext.proofs.Restated.{both-restated}
+use Rattle.utf16_str.proofs.PredicateRestated.{both-restated}
 use Rattle.uses_strings.proofs.predicates.without_quotes.Goals as goal
 
 pub returns : goal.returns

@@ -3,8 +3,8 @@ use Rattle.std.proofs.lemmas.List.Elements.{All-nil}
 use Rattle.std.specs.Char.{encode_utf8}
 use Rattle.std.specs.Vec.{vec_items}
 use Rattle.utf16_units.specs.Split.{split_items, split_tail}
-use Rattle.utf16_decode.proofs.StreamLemmas.{finished}
-use Rattle.utf16_decode.proofs.DecodesLemmas.{shown}
+use Rattle.utf16_transcode.proofs.StreamLemmas.{finished}
+use Rattle.utf16_transcode.proofs.DecodesLemmas.{shown}
 use Rattle.utf16_streams.specs.Lossy.{lossy_pending}
 use Rattle.utf16_streams.proofs.PiecesLemmas.{pieces-end, pieces-shown, pieces-tail, pieces-whole, pieces_decide_nothing, pieces_leave_nothing}
 use Rattle.utf16_streams.proofs.StreamRules.{IsByte, bytes-all, bytes-more}

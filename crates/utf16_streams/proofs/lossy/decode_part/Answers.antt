@@ -2,11 +2,11 @@ use Rattle.std.proofs.Common.{◌≡◌, ◌+◌, ◌-◌, ◌<◌, ◌≤◌, �
 use Rattle.std.specs.Str.{IsUtf8}
 use Rattle.std.specs.String.{string_capacity, string_len}
 use Rattle.utf16_units.specs.Split.{split_items, split_tail}
-use Rattle.utf16_decode.proofs.DecodesLemmas.{shown, split_tail-again}
-use Rattle.utf16_decode.proofs.StreamSteps.{fed_text}
-use Rattle.utf16_decode.proofs.ToUtf8Parts.{utf16_chunks}
-use Rattle.utf16_decode.specs.Stream.{StopsFeeding, stream_pending}
-use Rattle.utf16_decode.specs.declared.progress.Stop.TheVariants.{Done}
+use Rattle.utf16_transcode.proofs.DecodesLemmas.{shown, split_tail-again}
+use Rattle.utf16_transcode.proofs.StreamSteps.{fed_text}
+use Rattle.utf16_transcode.proofs.ToUtf8Parts.{utf16_chunks}
+use Rattle.utf16_transcode.specs.Stream.{StopsFeeding, stream_pending}
+use Rattle.utf16_transcode.specs.declared.progress.Stop.TheVariants.{Done}
 use Rattle.utf16_streams.proofs.PartLemmas.{Decodes-part, part_none}
 use Rattle.utf16_streams.proofs.lossy.decode_part.Given.{Over}
 use Rattle.utf16_streams.proofs.lossy.decode_part.Goals as goal

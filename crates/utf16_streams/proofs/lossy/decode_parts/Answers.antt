@@ -1,9 +1,9 @@
 use Rattle.std.proofs.Common.{◌≡◌, ◌++◌, [], sym, ap, ◌∙◌, append-nil, rules, true≢false}
 use Rattle.std.proofs.lemmas.List.{nil_from_length}
 use Rattle.utf16_units.specs.Split.{split_items}
-use Rattle.utf16_decode.specs.Stream.{stream_pending}
-use Rattle.utf16_decode.proofs.DecodesLemmas.{undecided_items}
-use Rattle.utf16_decode.proofs.DecodesSteps.{Decodes-empty, Decodes-end, Decodes-none, Decodes-then}
+use Rattle.utf16_transcode.specs.Stream.{stream_pending}
+use Rattle.utf16_transcode.proofs.DecodesLemmas.{undecided_items}
+use Rattle.utf16_transcode.proofs.DecodesSteps.{Decodes-empty, Decodes-end, Decodes-none, Decodes-then}
 use Rattle.utf16_streams.proofs.lossy.decode_parts.Goals as goal
 
 pub loop-rest-init : goal.loop-rest-init

@@ -1,7 +1,7 @@
 use Rattle.std.proofs.Common.{◌≡◌, ◌++◌, length, string_bytes}
 use Rattle.utf16_units.specs.Split.{split_tail}
-use Rattle.utf16_decode.specs.Decodes.{Decodes}
-use Rattle.utf16_decode.specs.Stream.{stream_pending}
+use Rattle.utf16_transcode.specs.Decodes.{Decodes}
+use Rattle.utf16_transcode.specs.Stream.{stream_pending}
 use Rattle.utf16_streams.proofs.lossy.decode_parts.Given as goal
 
 -- everything before the pending bytes and the rest is decoded

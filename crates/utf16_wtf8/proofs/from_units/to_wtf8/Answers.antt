@@ -1,7 +1,7 @@
 use Rattle.std.proofs.Common.{◌-◌, ◌<◌, ◌≢◌, ◌≡◌, [], drop, flat_map, length, sym, subst}
 use Rattle.std.proofs.lemmas.List.{take_rest}
 use Rattle.utf16_units.specs.Split.{split_tail}
-use Rattle.utf16_decode.proofs.WholeLemmas.{end_does_not_fit}
+use Rattle.utf16_transcode.proofs.WholeLemmas.{end_does_not_fit}
 use Rattle.utf16_wtf8.specs.ToWtf8.{DecodesToWtf8, StopsBeforeTail, StopsToWtf8, tail_points, wtf8_parts}
 use Rattle.utf16_wtf8.specs.Wtf8.{generalized_utf8}
 use Rattle.utf16_wtf8.proofs.FromUnitsLemmas.{ShowsWhole-certain, ShowsWhole-tail, all_left, odd_left, stops_certain}

@@ -1,5 +1,5 @@
 use Rattle.std.proofs.Common.{inr, refl, subst, true}
-use Rattle.utf16_decode.specs.declared.progress.Stop.TheVariants.{Incomplete}
+use Rattle.utf16_transcode.specs.declared.progress.Stop.TheVariants.{Incomplete}
 use Rattle.utf16_wtf8.specs.FromWtf8.{EndsLeading, ReadsWtf8}
 use Rattle.utf16_wtf8.proofs.FewLemmas.{few_left}
 use Rattle.utf16_wtf8.proofs.PartialLemmas.{Wrote-before, ended, ends_as_read, leaves_leading, stops_kept, three_read, two_written}

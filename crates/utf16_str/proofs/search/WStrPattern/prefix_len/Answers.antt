@@ -1,6 +1,6 @@
 use Rattle.std.proofs.Common.{sym, ◌∙◌}
 use Rattle.utf16_units.proofs.EncodingLemmas.{IsUtf16-from_is_utf16, encode-text_of}
-use Rattle.utf16_pattern.proofs.AffixTests.{begins_is, tested-len, tested-some}
+use Rattle.utf16_bytes.proofs.AffixTests.{begins_is, tested-len, tested-some}
 use Rattle.utf16_str.proofs.search.WStrPattern.prefix_len.Goals as goal
 
 pub returns-clause-some : goal.returns-clause-some

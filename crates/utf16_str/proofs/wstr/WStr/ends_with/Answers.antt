@@ -1,6 +1,6 @@
 use Rattle.std.proofs.Common.{◌≡◌, ◌↔◌, ◌++◌, ◌∙◌, IsTrue, List, ℕ, nat_eq, refl, sym}
 use Rattle.std.specs.List.{ends_with}
-use Rattle.utf16_pattern.proofs.AffixTests.{ends_is_part}
+use Rattle.utf16_bytes.proofs.AffixTests.{ends_is_part}
 use Rattle.utf16_str.specs.WStr.{wstr_text}
 use Rattle.utf16_str.proofs.AffixLemmas.{suffix_text}
 use Rattle.utf16_str.proofs.FoundLemmas.{same_answer}

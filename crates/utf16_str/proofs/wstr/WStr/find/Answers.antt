@@ -1,7 +1,7 @@
 use Rattle.std.proofs.Common.{refl}
 use Rattle.utf16_units.specs.Boundary.{OccursIn}
 use Rattle.utf16_units.specs.Encoding.{encode}
-use Rattle.utf16_search.specs.Occurrence.{IsFirst}
+use Rattle.utf16_bytes.specs.Occurrence.{IsFirst}
 use Rattle.utf16_str.specs.WStr.{wstr_text}
 use Rattle.utf16_str.proofs.SearchLemmas.{around_first, first_in_text}
 use Rattle.utf16_str.proofs.wstr.WStr.find.Given.{Over}

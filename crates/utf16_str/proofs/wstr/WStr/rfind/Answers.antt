@@ -1,7 +1,7 @@
 use Rattle.std.proofs.Common.{refl}
 use Rattle.utf16_units.specs.Boundary.{OccursIn}
 use Rattle.utf16_units.specs.Encoding.{encode}
-use Rattle.utf16_search.specs.Occurrence.{IsLast}
+use Rattle.utf16_bytes.specs.Occurrence.{IsLast}
 use Rattle.utf16_str.specs.WStr.{wstr_text}
 use Rattle.utf16_str.proofs.SearchLemmas.{around_last, last_in_text}
 use Rattle.utf16_str.proofs.wstr.WStr.rfind.Given.{Over}

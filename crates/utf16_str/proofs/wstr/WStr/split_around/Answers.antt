@@ -3,7 +3,7 @@ use Rattle.utf16_units.specs.Boundary.{IsBoundary, text_from, text_to}
 use Rattle.utf16_units.specs.Encoding.{size}
 use Rattle.utf16_units.proofs.BoundaryLemmas.{IsBoundary-within, size-text_to}
 use Rattle.utf16_units.proofs.EncodingLemmas.{IsUtf16-from_is_utf16, length-text}
-use Rattle.utf16_search.proofs.TextLemmas.{text_around}
+use Rattle.utf16_bytes.proofs.OccurrenceLemmas.{text_around}
 use Rattle.utf16_str.specs.WStr.{wstr_bytes, wstr_text}
 use Rattle.utf16_str.proofs.wstr.WStr.split_around.Goals as goal
 

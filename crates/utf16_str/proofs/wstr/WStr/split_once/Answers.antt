@@ -3,7 +3,7 @@ use Rattle.std.specs.Option.{IsNone, is_some}
 use Rattle.utf16_units.specs.Boundary.{OccursIn, text_to}
 use Rattle.utf16_units.specs.Encoding.{encode}
 use Rattle.utf16_units.proofs.EncodingLemmas.{IsUtf16-from_Encodes}
-use Rattle.utf16_search.specs.Occurrence.{IsFirst}
+use Rattle.utf16_bytes.specs.Occurrence.{IsFirst}
 use Rattle.utf16_str.specs.Found.{has_part}
 use Rattle.utf16_str.specs.Splits.{IsBeforeFirst, LacksPart}
 use Rattle.utf16_str.specs.WStr.{wstr_text}

@@ -1,6 +1,6 @@
 use Rattle.std.proofs.Common.{◌≡◌, ◌↔◌, ◌++◌, ◌∙◌, IsTrue, List, ℕ, nat_eq, refl, sym}
 use Rattle.std.specs.List.{starts_with}
-use Rattle.utf16_pattern.proofs.AffixTests.{begins_is}
+use Rattle.utf16_bytes.proofs.AffixTests.{begins_is}
 use Rattle.utf16_str.specs.WStr.{wstr_text}
 use Rattle.utf16_str.proofs.AffixLemmas.{prefix_text}
 use Rattle.utf16_str.proofs.FoundLemmas.{same_answer}

@@ -1,5 +1,5 @@
 use Rattle.std.proofs.Common.{◌≡◌, sym, ◌∙◌, subst}
-use Rattle.utf16_decode.proofs.StreamLemmas.{finished}
+use Rattle.utf16_transcode.proofs.StreamLemmas.{finished}
 use Rattle.utf16_streams.specs.AnyLossy.{any_byte_order, any_pending}
 use Rattle.utf16_streams.specs.Bom.{tail_in}
 use Rattle.utf16_streams.proofs.Utf8Lemmas.{whole_utf8-none, whole_utf8-some}

@@ -1,5 +1,5 @@
 use Rattle.std.proofs.Common.{◌++◌, append-nil, sym, ap, ◌∙◌, string_bytes}
-use Rattle.utf16_decode.proofs.DecodesLemmas.{shown}
+use Rattle.utf16_transcode.proofs.DecodesLemmas.{shown}
 use Rattle.utf16_streams.specs.AnyLossy.{state_byte_order, state_pending}
 use Rattle.utf16_streams.proofs.BomLemmas.{still_items, still_tail}
 use Rattle.utf16_streams.proofs.any_lossy.State.feed_into.Goals as goal

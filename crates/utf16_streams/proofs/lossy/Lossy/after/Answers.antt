@@ -1,7 +1,7 @@
 use Rattle.std.proofs.Common.{◌≡◌, sym, ap, ◌∙◌, rules}
 use Rattle.std.specs.Option.{option_to_list}
 use Rattle.utf16_units.specs.Split.{split_tail}
-use Rattle.utf16_decode.specs.Stream.{stream_pending}
+use Rattle.utf16_transcode.specs.Stream.{stream_pending}
 use Rattle.utf16_streams.proofs.BomLemmas.{first_waits}
 use Rattle.utf16_streams.proofs.lossy.Lossy.after.Goals as goal
 

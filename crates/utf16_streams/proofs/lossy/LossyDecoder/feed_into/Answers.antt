@@ -1,5 +1,5 @@
 use Rattle.std.proofs.Common.{◌+◌, ◌<◌, ◌≤◌, ◌++◌, length, ⊎_elim, sym, ap, ◌∙◌, arith, length-append, true≢false}
-use Rattle.utf16_decode.proofs.DecodesLemmas.{four_decide, split_tail-again}
+use Rattle.utf16_transcode.proofs.DecodesLemmas.{four_decide, split_tail-again}
 use Rattle.std.proofs.lemmas.Bool.{cases_lt}
 use Rattle.utf16_units.specs.Split.{split_tail}
 use Rattle.utf16_streams.specs.Lossy.{lossy_pending}

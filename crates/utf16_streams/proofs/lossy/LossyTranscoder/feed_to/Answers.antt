@@ -1,11 +1,11 @@
 use Rattle.std.proofs.Common.{Some, refl, ◌-◌, ◌*◌, ◌≤◌, ◌++◌, length, length-append, ap, sym, ◌∙◌, subst, arith}
 use Rattle.utf16_units.proofs.FirstChar.{AreBytes, AreBytes-from_All}
 use Rattle.utf16_units.specs.Split.{split_items, split_tail}
-use Rattle.utf16_decode.proofs.DecodesLemmas.{shown, split_tail-again}
-use Rattle.utf16_decode.proofs.StreamSteps.{fed_text}
-use Rattle.utf16_decode.proofs.ToUtf8Parts.{utf16_chunks}
-use Rattle.utf16_decode.specs.Stream.{StopsFeeding, stream_pending}
-use Rattle.utf16_decode.specs.declared.progress.Stop.TheVariants.{Done}
+use Rattle.utf16_transcode.proofs.DecodesLemmas.{shown, split_tail-again}
+use Rattle.utf16_transcode.proofs.StreamSteps.{fed_text}
+use Rattle.utf16_transcode.proofs.ToUtf8Parts.{utf16_chunks}
+use Rattle.utf16_transcode.specs.Stream.{StopsFeeding, stream_pending}
+use Rattle.utf16_transcode.specs.declared.progress.Stop.TheVariants.{Done}
 use Rattle.utf16_streams.proofs.PartLemmas.{AreBytes-append, shown_most}
 use Rattle.utf16_streams.proofs.Utf8Lemmas.{Continues-utf8}
 use Rattle.utf16_streams.proofs.lossy.LossyTranscoder.feed_to.Given.{Over}

@@ -1,5 +1,5 @@
 use Rattle.std.proofs.Common.{Some, sym, ◌∙◌}
-use Rattle.utf16_decode.proofs.StreamLemmas.{finished}
+use Rattle.utf16_transcode.proofs.StreamLemmas.{finished}
 use Rattle.utf16_streams.specs.Lossy.{lossy_pending}
 use Rattle.utf16_streams.proofs.Utf8Lemmas.{whole_utf8-none, whole_utf8-some}
 use Rattle.utf16_streams.proofs.lossy.LossyTranscoder.finish_to.Goals as goal

@@ -1,5 +1,5 @@
-use Rattle.utf16_decode.proofs.LossyLemmas.{ill_formed_there, some_left}
-use Rattle.utf16_decode.proofs.ToUtf8Parts.{utf8_short}
+use Rattle.utf16_transcode.proofs.DecodeLossyLemmas.{ill_formed_there, some_left}
+use Rattle.utf16_transcode.proofs.ToUtf8Parts.{utf8_short}
 use Rattle.utf16_wtf8.proofs.ToWtf8Lemmas.{DecodesToWtf8-text, stops_before_tail, wtf8_chunks}
 use Rattle.utf16_wtf8.proofs.direction.ToWtf8LossyDirection.lossy_laws.Goals as goal
 

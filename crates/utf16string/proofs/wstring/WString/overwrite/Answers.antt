@@ -5,7 +5,7 @@ use Rattle.utf16_units.specs.Encoding.{Encodes, IsUtf16}
 use Rattle.utf16_units.proofs.EditLemmas.{Encodes-checked, checked-Encodes}
 use Rattle.utf16_units.proofs.EncodingLemmas.{IsUtf16-from_is_utf16, text_of-Encodes}
 use Rattle.utf16_str.specs.WStr.{wstr_text}
-use Rattle.utf16_str_mut.proofs.Overwritten.{Encodes-over}
+use Rattle.utf16_str.proofs.Overwritten.{Encodes-over}
 use Rattle.utf16string.specs.WString.{wstring_bytes, wstring_text}
 use Rattle.utf16string.proofs.Edited.{written_back}
 use Rattle.utf16string.proofs.wstring.WString.overwrite.Given.{Over}

@@ -1,0 +1,111 @@
+-- Calls of the conversions from and to Latin-1, one after another.
+use Rattle.std.proofs.Common.{◌≡◌, ◌≢◌, ℕ, ◌+◌, ◌-◌, ◌*◌, ◌/◌, ◌<◌, ◌≤◌, Bool, true, false, cond, List, [], ◌++◌, None, Some, length, take, drop, refl, sym, ap, ◌∙◌, subst, ⊎_elim, arith, length-drop, take_all}
+use Rattle.std.specs.Prelude.{min, nat_le}
+use Rattle.std.proofs.lemmas.Bool.{cases_Bool}
+use Rattle.std.proofs.lemmas.Bool.Decides.{nat_tests}
+use Rattle.std.proofs.lemmas.List.{drop-drop}
+use Rattle.utf16_units.specs.Encoding.{Encodes, IsUtf16}
+use Rattle.utf16_units.proofs.EncodingLemmas.{Encodes-append, Encodes-unique, IsUtf16-from_Encodes, encode-nil}
+use Rattle.utf16_transcode.specs.declared.progress.Stop.{Stop}
+use Rattle.utf16_transcode.specs.declared.progress.Stop.TheVariants as stop
+use Rattle.utf16_fixed.specs.StopsLatin1.{BeginsWithA, StopsLatin1}
+use Rattle.utf16_fixed.specs.declared.latin1_progress.Latin1Stop.{Latin1Stop}
+use Rattle.utf16_fixed.specs.declared.latin1_progress.Latin1Stop.TheVariants.{Done, IllFormed, Incomplete, NoSpace, NotLatin1}
+use Rattle.utf16_fixed.proofs.TextLemmas.{utf32_empty}
+use Rattle.uses_buffers.specs.FormCalls.{IsCall}
+use Rattle.uses_buffers.specs.Forms.{StopsFromLatin1, from_latin1, to_latin1}
+use Rattle.uses_buffers.proofs.LoopLemmas.{Joined, both_done, both_given, both_within}
+use Rattle.uses_buffers.proofs.Utf32Lemmas.{FoundThere, ill_formed_later}
+
+-- ---- to Latin-1
+
+pub to_latin1_joined : (big : Bool) → FoundThere big → Joined (to_latin1 big)
+to_latin1_joined big there input out more at read left room stop first second = record {
+  within = both_within input at read first.within second.within;
+  writes = given;
+  stops = why stop second.stops;
+} where
+  given : Encodes big (out ++ more) (take (at + read) input)
+  given = both_given (λ raw latin1. Encodes big latin1 raw) (λ front back into more. Encodes-append big into more front back) input out more at read first.writes second.writes
+
+  text : IsUtf16 big (take (at + read) input)
+  text = IsUtf16-from_Encodes big (out ++ more) (take (at + read) input) given
+
+  later : (Kind : ℕ → Type 0) → BeginsWithA Kind big (drop read (drop at input)) → BeginsWithA Kind big (drop (at + read) input)
+  later Kind = subst (BeginsWithA Kind big) (drop-drop read at input)
+
+  why : (stop : Latin1Stop) → StopsLatin1 big (drop at input) read room stop → StopsLatin1 big input (at + read) room stop
+  why Done here = both_done input at read first.within here
+  why (IllFormed len) here = ill_formed_later big there input at read (Some len) first.within text here
+  why Incomplete here = ill_formed_later big there input at read None first.within text here
+  why NoSpace here = (here.0, later _ here.1)
+  why NotLatin1 here = later _ here
+
+pub to_latin1_short : (big : Bool) (input : List ℕ) (n left : ℕ) → StopsLatin1 big input n left NoSpace → left < 1
+to_latin1_short big input n left here = omega (arith, here.0)
+
+pub to_latin1_nothing : (big : Bool) (input out : List ℕ) → Encodes big out (take 0 input) → out ≡ []
+to_latin1_nothing big input out given = Encodes-unique big out [] [] given (utf32_empty big)
+
+-- why a call stopped, if not for lack of space, does not depend on the space
+pub to_latin1_left : (big : Bool) (input : List ℕ) (n left : ℕ) (stop : Latin1Stop) → stop ≢ NoSpace → StopsLatin1 big input n left stop → StopsLatin1 big input n 0 stop
+to_latin1_left big input n left Done other here = here
+to_latin1_left big input n left (IllFormed len) other here = here
+to_latin1_left big input n left Incomplete other here = here
+to_latin1_left big input n left NoSpace other here = absurd (other refl)
+to_latin1_left big input n left NotLatin1 other here = here
+
+-- ---- from Latin-1
+
+pub from_latin1_joined : (big : Bool) → Joined (from_latin1 big)
+from_latin1_joined big input out more at read left room why first second = record {
+  within = both_within input at read first.within second.within;
+  writes = both_given (Encodes big) (λ front back into more. Encodes-append big front back into more) input out more at read first.writes second.writes;
+  stops = later why second.stops;
+} where
+  later : (why : Stop) → StopsFromLatin1 (drop at input) read room why → StopsFromLatin1 input (at + read) room why
+  later stop.Done here = both_done input at read first.within here
+  later (stop.IllFormed len) here = here
+  later stop.Incomplete here = here
+  later stop.NoSpace here = (omega (arith, here.0, length-drop at input), here.1)
+
+pub from_latin1_short : (input : List ℕ) (n left : ℕ) → StopsFromLatin1 input n left stop.NoSpace → left < 2
+from_latin1_short input n left here = here.1
+
+pub from_latin1_nothing : (big : Bool) (input out : List ℕ) → Encodes big (take 0 input) out → out ≡ []
+from_latin1_nothing big input out given = sym given.spelled ∙ encode-nil big
+
+-- why a call stopped
+from_latin1_stops : (latin1 : List ℕ) (room read written : ℕ) (why : Stop) → read ≡ min (length latin1) (room / 2) → written ≡ 2 * read
+    → why ≡ cond (nat_le (length latin1) (room / 2)) stop.Done stop.NoSpace → StopsFromLatin1 latin1 read (room - written) why
+from_latin1_stops latin1 room read written why is two because = ⊎_elim
+    (λ (fits : nat_le (length latin1) (room / 2) ≡ true).
+    let done : why ≡ stop.Done = because ∙ ap (λ t. cond t stop.Done stop.NoSpace) fits in
+    subst (StopsFromLatin1 latin1 read (room - written)) (sym done) (grind (arith, nat_tests)))
+    (λ (full : nat_le (length latin1) (room / 2) ≡ false).
+    let stopped : why ≡ stop.NoSpace = because ∙ ap (λ t. cond t stop.Done stop.NoSpace) full in
+    let long : room / 2 < length latin1 = grind (arith, nat_tests) in
+    subst (StopsFromLatin1 latin1 read (room - written)) (sym stopped) (omega (arith, is, long), omega (arith, is, two, long)))
+    (cases_Bool (nat_le (length latin1) (room / 2)))
+
+-- a call, by the clauses of its contract
+pub from_latin1_call : (big : Bool) (latin1 old to : List ℕ) (read written : ℕ) (why : Stop) → length old ≡ length to → read ≡ min (length latin1) (length old / 2) → written ≡ 2 * read
+    → why ≡ cond (nat_le (length latin1) (length old / 2)) stop.Done stop.NoSpace → Encodes big (take read latin1) (take written to)
+    → (written ≤ length to) × IsCall (from_latin1 big) latin1 (take written to) read (length to - written) why
+from_latin1_call big latin1 old to read written why long is two because text = (
+  omega (arith, long, is, two),
+  record {
+    within = omega (arith, is);
+    writes = text;
+    stops = subst (λ room. StopsFromLatin1 latin1 read (room - written) why) long (from_latin1_stops latin1 (length old) read written why is two because);
+  },
+)
+
+pub from_latin1_end : (big : Bool) (input out : List ℕ) (n left : ℕ) (why : Stop) → why ≢ stop.NoSpace → IsCall (from_latin1 big) input out n left why → Encodes big input out
+from_latin1_end big input out n left why other call =
+    subst (λ b. Encodes big b out) (take_all n input (omega (arith, all why other call.stops))) call.writes where
+      all : (why : Stop) → why ≢ stop.NoSpace → StopsFromLatin1 input n left why → n ≡ length input
+      all stop.Done other here = here
+      all (stop.IllFormed len) other here = absurd here
+      all stop.Incomplete other here = absurd here
+      all stop.NoSpace other here = absurd (other refl)

@@ -1,0 +1,19 @@
+pub mod LoopLemmas
+pub mod Utf32Lemmas
+pub mod Latin1Lemmas
+pub mod Wtf8Lemmas
+pub mod SeamLemmas
+pub mod StreamLemmas
+pub mod CutLemmas
+pub mod ChunkLemmas
+pub mod ReadLemmas
+mod CutsJoined
+mod CutsStarts
+mod Utf8Both
+mod Utf8Cuts
+mod Utf8Ends
+mod Utf8Joined
+mod BlockLaw
+mod CallLemmas
+mod StdLemmas
+mod StrictLemmas

@@ -1,0 +1,158 @@
+-- Calls of the conversions from and to UTF-32, one after another.
+use Rattle.std.proofs.Common.{◌≡◌, ◌≢◌, ℕ, ◌+◌, ◌<◌, ◌≤◌, Bool, List, [], ◌++◌, Option, None, Some, length, take, drop, refl, sym, ap, ◌∙◌, subst, arith, append-nil, length-drop, take_all}
+use Rattle.std.proofs.lemmas.List.{drop-drop, get_or-drop}
+use Rattle.std.specs.Char.{IsScalar}
+use Rattle.std.specs.List.{flat_map}
+use Rattle.utf16_units.specs.Encoding.{IsUtf16, char_bytes, encode}
+use Rattle.utf16_units.specs.IllFormed.{IsIllFormedAt}
+use Rattle.utf16_units.specs.Split.{lossy_text}
+use Rattle.utf16_units.proofs.CharLemmas.{char_size_cases, length-char_bytes}
+use Rattle.utf16_units.proofs.EncodingLemmas.{Encodes-unique, IsUtf16-from_Encodes, encode-nil}
+use Rattle.utf16_transcode.specs.Stops.{IsIllFormedUtf16, Stops, StopsLossyWhole}
+use Rattle.utf16_transcode.specs.declared.progress.Stop.{Stop}
+use Rattle.utf16_transcode.specs.declared.progress.Stop.TheVariants.{Incomplete, Done, IllFormed, NoSpace}
+use Rattle.utf16_transcode.proofs.ToUtf8Lemmas.{faults_there}
+use Rattle.utf16_transcode.proofs.ToUtf8Parts.{nil_text}
+use Rattle.utf16_fixed.specs.Stops32.{IsIllFormedUtf32, StopsFromUtf32, StopsToUtf32}
+use Rattle.utf16_fixed.specs.Utf32.{IsUtf32, ShowsInUtf16, TranscodesFromUtf32, TranscodesToUtf32, lossy_utf32, utf32_units}
+use Rattle.utf16_fixed.proofs.LossyLemmas.{units_of_text}
+use Rattle.utf16_fixed.proofs.ShowsLemmas.{shown_joins}
+use Rattle.utf16_fixed.proofs.TextLemmas.{utf16_joins, utf32_empty, utf32_joins}
+use Rattle.utf16_fixed.proofs.ValidLemmas.{IsUtf32-next}
+use Rattle.uses_buffers.specs.FormCalls.{IsCall}
+use Rattle.uses_buffers.specs.Forms.{from_utf32, from_utf32_lossy, to_utf32, to_utf32_lossy}
+use Rattle.uses_buffers.proofs.LoopLemmas.{Joined, both_done, both_given, both_shown, both_within, none_shown}
+
+-- ---- ill-formed sequences
+
+-- an ill-formed sequence of UTF-16 is there without the prefix before it
+abbrev pub FoundThere : Bool → Type 0
+FoundThere big = (input : List ℕ) (n : ℕ) (len : Option ℕ) → IsIllFormedUtf16 big input n len → (n < length input) × IsIllFormedAt big (drop n input) len
+
+-- what follows the longest prefix of the rest follows that of the whole input
+pub ill_formed_later : (big : Bool) → FoundThere big → (input : List ℕ) (at read : ℕ) (len : Option ℕ) → at ≤ length input → IsUtf16 big (take (at + read) input)
+    → IsIllFormedUtf16 big (drop at input) read len → IsIllFormedUtf16 big input (at + read) len
+ill_formed_later big there input at read len within text found =
+    let here = there (drop at input) read len found in
+    faults_there big input (at + read) len (omega (arith, here.0, length-drop at input)) text (subst (λ b. IsIllFormedAt big b len) (drop-drop read at input) here.1)
+
+-- the same for UTF-32
+utf32_later : (units : List ℕ) (at read : ℕ) (len : Option ℕ) → IsUtf32 (take at units) → IsIllFormedUtf32 (drop at units) read len → IsIllFormedUtf32 units (at + read) len
+utf32_later units at read None valid here = here
+utf32_later units at read (Some len) valid here = (
+  here.0,
+  record {
+    within = omega (arith, here.1.within, length-drop at units);
+    valid = IsUtf32-next units at read valid here.1.valid;
+    ill_formed = λ scalar. here.1.ill_formed (subst IsScalar (sym (get_or-drop at units read 0)) scalar);
+  },
+)
+
+-- why a call stopped, if not for lack of space, does not depend on the space
+stops_left : (from into : ℕ → List ℕ) (IsIllFormedOf : List ℕ → ℕ → Option ℕ → Type 0) (input : List ℕ) (n left : ℕ) (stop : Stop) → stop ≢ NoSpace
+    → Stops from into IsIllFormedOf input n left stop → Stops from into IsIllFormedOf input n 0 stop
+stops_left from into IsIllFormedOf input n left Done other here = here
+stops_left from into IsIllFormedOf input n left (IllFormed len) other here = here
+stops_left from into IsIllFormedOf input n left Incomplete other here = here
+stops_left from into IsIllFormedOf input n left NoSpace other here = absurd (other refl)
+
+-- ---- to UTF-32
+
+pub to_utf32_joined : (big : Bool) → FoundThere big → Joined (to_utf32 big)
+to_utf32_joined big there input out more at read left room stop first second = record { within = within; writes = given; stops = why stop second.stops } where
+  within : at + read ≤ length input
+  within = both_within input at read first.within second.within
+
+  given : TranscodesToUtf32 big (take (at + read) input) (out ++ more)
+  given = both_given (TranscodesToUtf32 big) (utf32_joins big) input out more at read first.writes second.writes
+
+  text : IsUtf16 big (take (at + read) input)
+  text = IsUtf16-from_Encodes big (out ++ more) (take (at + read) input) given
+
+  why : (stop : Stop) → StopsToUtf32 big (drop at input) read room stop → StopsToUtf32 big input (at + read) room stop
+  why Done here = both_done input at read first.within here
+  why (IllFormed len) here = ill_formed_later big there input at read (Some len) first.within text here
+  why Incomplete here = ill_formed_later big there input at read None first.within text here
+  why NoSpace here = record { char = here.char; more = here.more; scalar = here.scalar; begins = sym (drop-drop read at input) ∙ here.begins; too_long = here.too_long }
+
+pub to_utf32_short : (big : Bool) (input : List ℕ) (n left : ℕ) → StopsToUtf32 big input n left NoSpace → left < 1
+to_utf32_short big input n left here = here.too_long
+
+pub to_utf32_nothing : (big : Bool) (input out : List ℕ) → TranscodesToUtf32 big (take 0 input) out → out ≡ []
+to_utf32_nothing big input out given = Encodes-unique big out [] [] given (utf32_empty big)
+
+pub to_utf32_left : (big : Bool) (input : List ℕ) (n left : ℕ) (stop : Stop) → stop ≢ NoSpace → StopsToUtf32 big input n left stop → StopsToUtf32 big input n 0 stop
+to_utf32_left big input n left stop = stops_left (char_bytes big) utf32_units (IsIllFormedUtf16 big) input n left stop
+
+-- ---- to UTF-32, lossy
+
+pub to_utf32_lossy_joined : (big : Bool) → Joined (to_utf32_lossy big)
+to_utf32_lossy_joined big input out more at read left room stop first second = record {
+  within = both_within input at read first.within second.within;
+  writes = both_shown (lossy_text big) utf32_units input out more at read first.writes second.writes;
+  stops = subst (λ r. StopsLossyWhole (lossy_text big) utf32_units r room stop) (drop-drop read at input) second.stops;
+}
+
+pub to_utf32_lossy_short : (big : Bool) (input : List ℕ) (n left : ℕ) → StopsLossyWhole (lossy_text big) utf32_units (drop n input) left NoSpace → left < 1
+to_utf32_lossy_short big input n left here = here.too_long
+
+pub to_utf32_lossy_nothing : (big : Bool) (input out : List ℕ) → flat_map utf32_units (lossy_text big input) ≡ out ++ flat_map utf32_units (lossy_text big (drop 0 input)) → out ≡ []
+to_utf32_lossy_nothing big input out same = none_shown (lossy_text big) utf32_units input out same
+
+-- nothing is left if a lossy call did not stop for lack of space
+nothing_left : (text : List ℕ → List ℕ) (into : ℕ → List ℕ) (rest : List ℕ) (left : ℕ) (stop : Stop) → stop ≢ NoSpace → StopsLossyWhole text into rest left stop → rest ≡ []
+nothing_left text into rest left Done other here = here
+nothing_left text into rest left (IllFormed len) other here = absurd here
+nothing_left text into rest left Incomplete other here = absurd here
+nothing_left text into rest left NoSpace other here = absurd (other refl)
+
+pub to_utf32_lossy_end : (big : Bool) (input out : List ℕ) (n left : ℕ) (stop : Stop) → stop ≢ NoSpace → IsCall (to_utf32_lossy big) input out n left stop → out ≡ lossy_text big input
+to_utf32_lossy_end big input out n left stop other call =
+    let none = nothing_left (lossy_text big) utf32_units (drop n input) left stop other call.stops in
+    sym
+    (sym (units_of_text (lossy_text big input)) ∙ call.writes ∙ ap (λ r. out ++ flat_map utf32_units (lossy_text big r)) none
+    ∙ ap (λ t. out ++ flat_map utf32_units t) (nil_text big) ∙ append-nil out)
+
+-- ---- from UTF-32
+
+pub from_utf32_joined : (big : Bool) → Joined (from_utf32 big)
+from_utf32_joined big input out more at read left room stop first second = record {
+  within = both_within input at read first.within second.within;
+  writes = both_given (TranscodesFromUtf32 big) (utf16_joins big) input out more at read first.writes second.writes;
+  stops = why stop second.stops;
+} where
+  why : (stop : Stop) → StopsFromUtf32 big (drop at input) read room stop → StopsFromUtf32 big input (at + read) room stop
+  why Done here = both_done input at read first.within here
+  why (IllFormed len) here = utf32_later input at read (Some len) first.writes.scalars here
+  why Incomplete here = utf32_later input at read None first.writes.scalars here
+  why NoSpace here = record { char = here.char; more = here.more; scalar = here.scalar; begins = sym (drop-drop read at input) ∙ here.begins; too_long = here.too_long }
+
+pub from_utf32_short : (big : Bool) (input : List ℕ) (n left : ℕ) → StopsFromUtf32 big input n left NoSpace → left < 4
+from_utf32_short big input n left here = omega (arith, here.too_long, length-char_bytes big here.char, char_size_cases here.char)
+
+pub from_utf32_nothing : (big : Bool) (input out : List ℕ) → TranscodesFromUtf32 big (take 0 input) out → out ≡ []
+from_utf32_nothing big input out given = sym given.spelled ∙ encode-nil big
+
+pub from_utf32_left : (big : Bool) (input : List ℕ) (n left : ℕ) (stop : Stop) → stop ≢ NoSpace → StopsFromUtf32 big input n left stop → StopsFromUtf32 big input n 0 stop
+from_utf32_left big input n left stop = stops_left utf32_units (char_bytes big) IsIllFormedUtf32 input n left stop
+
+-- ---- from UTF-32, lossy
+
+pub from_utf32_lossy_joined : (big : Bool) → Joined (from_utf32_lossy big)
+from_utf32_lossy_joined big input out more at read left room stop first second = record {
+  within = both_within input at read first.within second.within;
+  writes = both_given (ShowsInUtf16 big) (shown_joins big) input out more at read first.writes second.writes;
+  stops = subst (λ r. StopsLossyWhole lossy_utf32 (char_bytes big) r room stop) (drop-drop read at input) second.stops;
+}
+
+pub from_utf32_lossy_short : (big : Bool) (input : List ℕ) (n left : ℕ) → StopsLossyWhole lossy_utf32 (char_bytes big) (drop n input) left NoSpace → left < 4
+from_utf32_lossy_short big input n left here = omega (arith, here.too_long, length-char_bytes big here.char, char_size_cases here.char)
+
+pub from_utf32_lossy_nothing : (big : Bool) (input out : List ℕ) → ShowsInUtf16 big (take 0 input) out → out ≡ []
+from_utf32_lossy_nothing big input out same = same ∙ encode-nil big
+
+pub from_utf32_lossy_end : (big : Bool) (input out : List ℕ) (n left : ℕ) (stop : Stop) → stop ≢ NoSpace → IsCall (from_utf32_lossy big) input out n left stop
+    → out ≡ encode big (lossy_utf32 input)
+from_utf32_lossy_end big input out n left stop other call =
+    let none = nothing_left lossy_utf32 (char_bytes big) (drop n input) left stop other call.stops in
+    call.writes ∙ ap (λ b. encode big (lossy_utf32 b)) (take_all n input (omega (arith, ap length none, length-drop n input)))

@@ -1,0 +1,39 @@
+use Rattle.std.proofs.Common.{◌≡◌, ◌-◌, ◌≤◌, ◌++◌, inl, refl, arith, length, rules, take}
+use Rattle.std.specs.Vec.{vec_items}
+use Rattle.uses_buffers.specs.Forms.{from_wtf8_partial}
+use Rattle.uses_buffers.proofs.LoopLemmas.{fewer, next, stopped}
+use Rattle.uses_buffers.proofs.Wtf8Lemmas.{from_wtf8_nothing, from_wtf8_partial_joined, from_wtf8_partial_left, from_wtf8_partial_short}
+use Rattle.uses_buffers.proofs.wtf8.from_wtf8_partial_through.Goals as goal
+
+pub loop-all-init : goal.loop-all-init
+loop-all-init g c = (omega arith, omega arith, inl (refl, search rules))
+
+pub loop-all-preserved : goal.loop-all-preserved
+loop-all-preserved g c =
+    let big = g.E.Utf16Order.BIG in
+    let call = c.from_wtf8_partial-progress in
+    let grown : vec_items c.extend_from_slice.new.self ≡ vec_items c.loop-all.all ++ take call.result.written call.new.to = search rules in
+    let room : 4 ≤ length call.new.to = omega arith in
+    let all = next (from_wtf8_partial big) (from_wtf8_partial_joined big) c.args.wtf8.now (vec_items c.loop-all.all) call.new.to (vec_items c.extend_from_slice.new.self) c.loop-all.at
+    call.result.read call.result.written (length call.new.to - call.result.written) call.result.stop c.loop-all.invariant.2
+    (record { within = call.ensures.wrote.within; writes = call.ensures.wrote.gives; stops = call.ensures.stop }) grown in
+    (room, all.within, stopped (from_wtf8_partial big) _ _ _ _ _ c.in-NoSpace.is all)
+
+pub loop-all-smaller : goal.loop-all-smaller
+loop-all-smaller g c =
+    let big = g.E.Utf16Order.BIG in
+    let call = c.from_wtf8_partial-progress in
+    let room : 4 ≤ length call.new.to = omega arith in
+    let less = fewer (from_wtf8_partial big) 4 (from_wtf8_partial_short big) (from_wtf8_nothing big) c.args.wtf8.now call.new.to c.loop-all.at call.result.read call.result.written call.result.stop
+    (omega (arith, room)) call.ensures.wrote.fits c.in-NoSpace.is (record { within = call.ensures.wrote.within; writes = call.ensures.wrote.gives; stops = call.ensures.stop }) in
+    omega (arith, less)
+
+pub returns-in_default : goal.returns-in_default
+returns-in_default g c =
+    let big = g.E.Utf16Order.BIG in
+    let call = c.from_wtf8_partial-progress in
+    let grown : vec_items c.extend_from_slice.new.self ≡ vec_items c.loop-all.all ++ take call.result.written call.new.to = search rules in
+    let all = next (from_wtf8_partial big) (from_wtf8_partial_joined big) c.args.wtf8.now (vec_items c.loop-all.all) call.new.to (vec_items c.extend_from_slice.new.self) c.loop-all.at
+    call.result.read call.result.written (length call.new.to - call.result.written) call.result.stop c.loop-all.invariant.2
+    (record { within = call.ensures.wrote.within; writes = call.ensures.wrote.gives; stops = call.ensures.stop }) grown in
+    record { within = all.within; text = all.writes; stop = from_wtf8_partial_left big _ _ _ _ c.in_default.not-NoSpace all.stops; whole = c.in_default.not-NoSpace }

@@ -1,0 +1,10 @@
+use Rattle.std.proofs.Common.{◌≡◌, ◌≤◌, length, take}
+use Rattle.std.specs.List.{flat_map}
+use Rattle.std.specs.Vec.{vec_items}
+use Rattle.uses_buffers.proofs.ChunkLemmas.{Kept}
+use Rattle.uses_buffers.proofs.wtf8_chunks.from_wtf8_chunks_through.Given as goal
+
+-- the chunks so far did what one call does
+abbrev pub invariant-loop-chunk : goal.invariant-loop-chunk
+invariant-loop-chunk g l =
+    (4 ≤ length l.buffer) × (l.used ≡ l.chunk-index) × Kept g.E.Utf16Order.BIG (flat_map vec_items (take l.chunk-index l.chunks)) (vec_items l.utf16) (vec_items l.unread)

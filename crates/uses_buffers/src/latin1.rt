@@ -1,0 +1,78 @@
+//! Conversions from and to Latin-1 through a small buffer, in the loop that a program in C has.
+
+ghost use Rattle.std.specs.Prelude.{◌≢◌, ◌<◌, ◌≤◌, IfOk, length, take};
+ghost use Rattle.std.specs.Vec.{vec_items};
+ghost use Rattle.utf16_units.specs.Encoding.{Encodes};
+ghost use Rattle.utf16_fixed.specs.StopsLatin1.{StopsLatin1};
+ghost use Rattle.utf16_fixed.specs.declared.latin1_progress.Latin1Stop.TheVariants.{NoSpace};
+
+use crate::small_buffer::StrictDirection;
+use std::alloc::{AllocError, Allocator};
+use utf16_fixed::{Latin1Stop, from_latin1, to_latin1};
+use utf16_transcode::{Stop, ToUtf8};
+use utf16_units::Utf16Order;
+
+/// Converts UTF-16 to Latin-1, up to the first ill-formed sequence or the first character above
+/// U+00FF, like one call of `to_latin1` with enough space. Returns the Latin-1, the number of bytes
+/// read, and why it stopped.
+///
+/// # Precondition
+///
+/// The buffer is not empty.
+///
+/// # Errors
+///
+/// If allocation fails.
+pub fn to_latin1_through<E: Utf16Order, A: Allocator>(
+    alloc: A,
+    utf16: &[u8],
+    buffer: &mut [u8],
+) -> Result<(Vec<u8, A>, usize, Latin1Stop), AllocError>
+    requires { 0 < length buffer.old }
+    ensures within { IfOk result (λ done. done.1 ≤ length utf16.now) }
+    ensures encoding { IfOk result (λ done.
+        Encodes E.BIG (vec_items done.0) (take done.1 utf16.now)) }
+    ensures stop { IfOk result (λ done. StopsLatin1 E.BIG utf16.now done.1 0 done.2) }
+    ensures whole { IfOk result (λ done. done.2 ≢ NoSpace) }
+{
+    ToUtf8::<E>::strict_laws();
+    let mut all = Vec::new(alloc);
+    let mut at = 0;
+    loop {
+        let progress = to_latin1::<E>(&utf16[at..], buffer);
+        all.extend_from_slice(&buffer[..progress.written])?;
+        at += progress.read;
+        let Latin1Stop::NoSpace = progress.stop else {
+            return Ok((all, at, progress.stop));
+        };
+    }
+}
+
+/// Converts Latin-1 to UTF-16.
+///
+/// # Precondition
+///
+/// The buffer has at least two bytes.
+///
+/// # Errors
+///
+/// If allocation fails.
+pub fn from_latin1_through<E: Utf16Order, A: Allocator>(
+    alloc: A,
+    latin1: &[u8],
+    buffer: &mut [u8],
+) -> Result<Vec<u8, A>, AllocError>
+    requires { 2 ≤ length buffer.old }
+    ensures { IfOk result (λ all. Encodes E.BIG latin1.now (vec_items all)) }
+{
+    let mut all = Vec::new(alloc);
+    let mut at = 0;
+    loop {
+        let progress = from_latin1::<E>(&latin1[at..], buffer);
+        all.extend_from_slice(&buffer[..progress.written])?;
+        at += progress.read;
+        let Stop::NoSpace = progress.stop else {
+            return Ok(all);
+        };
+    }
+}

@@ -1,0 +1,189 @@
+//! Conversions through a small buffer, in the loop that a program in C has: it calls again with the
+//! rest as long as the next character does not fit. Each call for C in `dethrux` is one of these
+//! calls in the byte order that it is passed.
+
+ghost use Rattle.std.specs.Prelude.{◌≡◌, ◌<◌, ◌≤◌, ◌++◌, ℕ, List, Option, IfOk, OnOk, length, drop};
+ghost use Rattle.std.specs.List.{flat_map};
+ghost use Rattle.std.specs.Vec.{vec_items};
+ghost use Rattle.utf16_transcode.specs.Decomposition.{decided};
+ghost use Rattle.utf16_transcode.specs.Stream.{stream_pending};
+ghost use Rattle.uses_buffers.specs.Calls.{ConvertsUpTo};
+
+use std::alloc::{AllocError, Allocator};
+use utf16_transcode::{
+    FromUtf8, LossyDirection, Stop, Stream, ToUtf8, transcode, transcode_lossy, transcode_partial,
+};
+use utf16_units::Utf16Order;
+
+/// Returns the whole text of the input in the other encoding, with the replacement of each
+/// ill-formed sequence and of a tail at the end, through a buffer of four bytes or more.
+///
+/// # Precondition
+///
+/// The buffer has at least four bytes.
+///
+/// # Errors
+///
+/// If allocation fails.
+pub fn lossy_through<D: LossyDirection, A: Allocator>(
+    alloc: A,
+    input: &[u8],
+    buffer: &mut [u8],
+) -> Result<Vec<u8, A>, AllocError>
+    requires { 4 ≤ length buffer.old }
+    ensures { IfOk result (λ all. vec_items all ≡ flat_map D.into (D.parts.whole input.now)) }
+{
+    D::lossy_laws();
+    let mut all = Vec::new(alloc);
+    let mut rest = input;
+    loop {
+        let progress = transcode_lossy::<D>(rest, buffer);
+        all.extend_from_slice(&buffer[..progress.written])?;
+        rest = &rest[progress.read..];
+        let Stop::NoSpace = progress.stop else {
+            return Ok(all);
+        };
+    }
+}
+
+/// Returns the whole text of a stream in the other encoding, with the replacement of each
+/// ill-formed sequence and of a tail at the end, through a buffer of four bytes or more. The stream
+/// comes in chunks, cut anywhere.
+///
+/// # Precondition
+///
+/// The buffer has at least four bytes.
+///
+/// # Errors
+///
+/// If allocation fails.
+pub fn stream_through<D: LossyDirection, A: Allocator, B: Allocator>(
+    alloc: A,
+    chunks: &[Vec<u8, B>],
+    buffer: &mut [u8],
+) -> Result<Vec<u8, A>, AllocError>
+    requires { 4 ≤ length buffer.old }
+    ensures { IfOk result (λ all. vec_items all
+        ≡ flat_map D.into (D.parts.whole (flat_map vec_items chunks.now))) }
+{
+    D::lossy_laws();
+    let mut all = Vec::new(alloc);
+    let mut stream = Stream::new();
+    for chunk in chunks {
+        feed_through::<D, A>(&mut stream, chunk, buffer, &mut all)?;
+    }
+    let progress = stream.finish::<D>(buffer);
+    all.extend_from_slice(&buffer[..progress.written])?;
+    Ok(all)
+}
+
+/// Returns what is certain of the input in the other encoding, with the replacement of each
+/// ill-formed sequence, through a buffer of four bytes or more; and the number of bytes read. The
+/// rest is the tail of the input.
+///
+/// # Precondition
+///
+/// The buffer has at least four bytes.
+///
+/// # Errors
+///
+/// If allocation fails.
+pub fn partial_through<D: LossyDirection, A: Allocator>(
+    alloc: A,
+    input: &[u8],
+    buffer: &mut [u8],
+) -> Result<(Vec<u8, A>, usize), AllocError>
+    requires { 4 ≤ length buffer.old }
+    ensures text { IfOk result (λ done. vec_items done.0
+        ≡ flat_map D.into (decided D.parts input.now)) }
+    ensures tail { IfOk result (λ done. drop done.1 input.now ≡ D.parts.tail input.now) }
+    ensures within { IfOk result (λ done. done.1 ≤ length input.now) }
+{
+    D::lossy_laws();
+    let mut all = Vec::new(alloc);
+    let mut at = 0;
+    loop {
+        let progress = transcode_partial::<D>(&input[at..], buffer);
+        all.extend_from_slice(&buffer[..progress.written])?;
+        at += progress.read;
+        let Stop::NoSpace = progress.stop else {
+            return Ok((all, at));
+        };
+    }
+}
+
+/// A direction that finds an error again after the text before it is taken away.
+pub trait StrictDirection: LossyDirection {
+    /// States what the proof of `strict_through` needs, and does nothing: what follows the longest
+    /// valid prefix is an ill-formed sequence, or an incomplete character, where it begins.
+    fn strict_laws()
+        ensures { (input : List ℕ) (n : ℕ) (len : Option ℕ) → Self.IsIllFormed input n len
+            → (n < length input) × Self.IsIllFormedAt (drop n input) len };
+}
+
+impl<E: Utf16Order> StrictDirection for ToUtf8<E> {
+    fn strict_laws() {}
+}
+
+impl<E: Utf16Order> StrictDirection for FromUtf8<E> {
+    fn strict_laws() {}
+}
+
+/// Returns the text of the input in the other encoding, up to the first ill-formed sequence,
+/// through a buffer of four bytes or more; the number of bytes read; and what follows them.
+///
+/// # Precondition
+///
+/// The buffer has at least four bytes.
+///
+/// # Errors
+///
+/// If allocation fails.
+pub fn strict_through<D: StrictDirection, A: Allocator>(
+    alloc: A,
+    input: &[u8],
+    buffer: &mut [u8],
+) -> Result<(Vec<u8, A>, usize, Stop), AllocError>
+    requires { 4 ≤ length buffer.old }
+    ensures { IfOk result (λ done. ConvertsUpTo D.IsValid D.other D.IsIllFormed input.now
+        (vec_items done.0) done.1 done.2) }
+{
+    D::laws();
+    D::lossy_laws();
+    D::strict_laws();
+    let mut all = Vec::new(alloc);
+    let mut at = 0;
+    loop {
+        let progress = transcode::<D>(&input[at..], buffer);
+        all.extend_from_slice(&buffer[..progress.written])?;
+        at += progress.read;
+        let Stop::NoSpace = progress.stop else {
+            return Ok((all, at, progress.stop));
+        };
+    }
+}
+
+// Appends the text of the next chunk of a stream.
+fn feed_through<D: LossyDirection, A: Allocator>(
+    stream: &mut Stream,
+    chunk: &[u8],
+    buffer: &mut [u8],
+    all: &mut Vec<u8, A>,
+) -> Result<(), AllocError>
+    requires { 4 ≤ length buffer.old }
+    ensures text { OnOk result (vec_items all.new ≡ vec_items all.old
+        ++ flat_map D.into (decided D.parts (stream_pending stream.old ++ chunk.now))) }
+    ensures pending { OnOk result (stream_pending stream.new
+        ≡ D.parts.tail (stream_pending stream.old ++ chunk.now)) }
+{
+    D::lossy_laws();
+    let mut rest = chunk;
+    loop {
+        let progress = stream.feed::<D>(rest, buffer);
+        all.extend_from_slice(&buffer[..progress.written])?;
+        rest = &rest[progress.read..];
+        let Stop::NoSpace = progress.stop else {
+            return Ok(());
+        };
+    }
+}

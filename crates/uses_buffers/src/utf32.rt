@@ -1,0 +1,144 @@
+//! Conversions from and to UTF-32 through a small buffer, in the loop that a program in C has: it
+//! calls again with the rest as long as the next character does not fit.
+
+ghost use Rattle.std.specs.Prelude.{◌≡◌, ◌≢◌, ◌<◌, ◌≤◌, IfOk, length, take};
+ghost use Rattle.std.specs.Vec.{vec_items};
+ghost use Rattle.utf16_units.specs.Encoding.{encode};
+ghost use Rattle.utf16_units.specs.Split.{lossy_text};
+ghost use Rattle.utf16_transcode.specs.declared.progress.Stop.TheVariants.{NoSpace};
+ghost use Rattle.utf16_fixed.specs.Stops32.{StopsFromUtf32, StopsToUtf32};
+ghost use Rattle.utf16_fixed.specs.Utf32.{TranscodesFromUtf32, TranscodesToUtf32, lossy_utf32};
+
+use crate::small_buffer::StrictDirection;
+use std::alloc::{AllocError, Allocator};
+use utf16_fixed::{from_utf32, from_utf32_lossy, to_utf32, to_utf32_lossy};
+use utf16_transcode::{Stop, ToUtf8};
+use utf16_units::Utf16Order;
+
+/// Converts UTF-16 to UTF-32, up to the first ill-formed sequence, like one call of `to_utf32` with
+/// enough space. Returns the code units, the number of bytes read, and why it stopped.
+///
+/// # Precondition
+///
+/// The buffer has at least one code unit.
+///
+/// # Errors
+///
+/// If allocation fails.
+pub fn to_utf32_through<E: Utf16Order, A: Allocator>(
+    alloc: A,
+    utf16: &[u8],
+    buffer: &mut [u32],
+) -> Result<(Vec<u32, A>, usize, Stop), AllocError>
+    requires { 0 < length buffer.old }
+    ensures within { IfOk result (λ done. done.1 ≤ length utf16.now) }
+    ensures text { IfOk result (λ done.
+        TranscodesToUtf32 E.BIG (take done.1 utf16.now) (vec_items done.0)) }
+    ensures stop { IfOk result (λ done. StopsToUtf32 E.BIG utf16.now done.1 0 done.2) }
+    ensures whole { IfOk result (λ done. done.2 ≢ NoSpace) }
+{
+    ToUtf8::<E>::strict_laws();
+    let mut all = Vec::new(alloc);
+    let mut at = 0;
+    loop {
+        let progress = to_utf32::<E>(&utf16[at..], buffer);
+        all.extend_from_slice(&buffer[..progress.written])?;
+        at += progress.read;
+        let Stop::NoSpace = progress.stop else {
+            return Ok((all, at, progress.stop));
+        };
+    }
+}
+
+/// Converts UTF-16 to UTF-32, with U+FFFD for each ill-formed sequence.
+///
+/// # Precondition
+///
+/// The buffer has at least one code unit.
+///
+/// # Errors
+///
+/// If allocation fails.
+pub fn to_utf32_lossy_through<E: Utf16Order, A: Allocator>(
+    alloc: A,
+    utf16: &[u8],
+    buffer: &mut [u32],
+) -> Result<Vec<u32, A>, AllocError>
+    requires { 0 < length buffer.old }
+    ensures { IfOk result (λ all. vec_items all ≡ lossy_text E.BIG utf16.now) }
+{
+    let mut all = Vec::new(alloc);
+    let mut at = 0;
+    loop {
+        let progress = to_utf32_lossy::<E>(&utf16[at..], buffer);
+        all.extend_from_slice(&buffer[..progress.written])?;
+        at += progress.read;
+        let Stop::NoSpace = progress.stop else {
+            return Ok(all);
+        };
+    }
+}
+
+/// Converts UTF-32 to UTF-16, up to the first code unit that is not a scalar value, like one call
+/// of `from_utf32` with enough space. Returns the bytes, the number of code units read, and why it
+/// stopped.
+///
+/// # Precondition
+///
+/// The buffer has at least four bytes.
+///
+/// # Errors
+///
+/// If allocation fails.
+pub fn from_utf32_through<E: Utf16Order, A: Allocator>(
+    alloc: A,
+    utf32: &[u32],
+    buffer: &mut [u8],
+) -> Result<(Vec<u8, A>, usize, Stop), AllocError>
+    requires { 4 ≤ length buffer.old }
+    ensures within { IfOk result (λ done. done.1 ≤ length utf32.now) }
+    ensures text { IfOk result (λ done.
+        TranscodesFromUtf32 E.BIG (take done.1 utf32.now) (vec_items done.0)) }
+    ensures stop { IfOk result (λ done. StopsFromUtf32 E.BIG utf32.now done.1 0 done.2) }
+    ensures whole { IfOk result (λ done. done.2 ≢ NoSpace) }
+{
+    let mut all = Vec::new(alloc);
+    let mut at = 0;
+    loop {
+        let progress = from_utf32::<E>(&utf32[at..], buffer);
+        all.extend_from_slice(&buffer[..progress.written])?;
+        at += progress.read;
+        let Stop::NoSpace = progress.stop else {
+            return Ok((all, at, progress.stop));
+        };
+    }
+}
+
+/// Converts UTF-32 to UTF-16, with U+FFFD for each code unit that is not a scalar value.
+///
+/// # Precondition
+///
+/// The buffer has at least four bytes.
+///
+/// # Errors
+///
+/// If allocation fails.
+pub fn from_utf32_lossy_through<E: Utf16Order, A: Allocator>(
+    alloc: A,
+    utf32: &[u32],
+    buffer: &mut [u8],
+) -> Result<Vec<u8, A>, AllocError>
+    requires { 4 ≤ length buffer.old }
+    ensures { IfOk result (λ all. vec_items all ≡ encode E.BIG (lossy_utf32 utf32.now)) }
+{
+    let mut all = Vec::new(alloc);
+    let mut at = 0;
+    loop {
+        let progress = from_utf32_lossy::<E>(&utf32[at..], buffer);
+        all.extend_from_slice(&buffer[..progress.written])?;
+        at += progress.read;
+        let Stop::NoSpace = progress.stop else {
+            return Ok(all);
+        };
+    }
+}

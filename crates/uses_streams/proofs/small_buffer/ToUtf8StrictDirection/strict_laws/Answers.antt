@@ -1,5 +1,0 @@
-use Rattle.uses_streams.proofs.StrictLemmas.{fault_there}
-use Rattle.uses_streams.proofs.small_buffer.ToUtf8StrictDirection.strict_laws.Goals as goal
-
-pub returns : goal.returns
-returns g c = fault_there g.E.Utf16Order.BIG

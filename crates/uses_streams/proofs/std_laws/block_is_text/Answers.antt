@@ -1,5 +1,0 @@
-use Rattle.uses_streams.proofs.BlockLaw.{block_is_text}
-use Rattle.uses_streams.proofs.std_laws.block_is_text.Goals as goal
-
-pub returns : goal.returns
-returns c = block_is_text

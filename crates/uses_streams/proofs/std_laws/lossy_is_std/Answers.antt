@@ -1,5 +1,0 @@
-use Rattle.uses_streams.proofs.StdLemmas.{lossy_is_std}
-use Rattle.uses_streams.proofs.std_laws.lossy_is_std.Goals as goal
-
-pub returns : goal.returns
-returns c = lossy_is_std

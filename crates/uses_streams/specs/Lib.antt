@@ -1,5 +1,0 @@
-pub mod Block
-pub mod Calls
-pub mod Given
-pub mod OneSplit
-pub mod Utf8Parts

@@ -1,5 +1,0 @@
-use Rattle.utf16_decode.proofs.WroteLemmas.{Puts-then}
-use Rattle.utf16_decode.proofs.transcoding.write_chars.Goals as goal
-
-pub loop-read-preserved : goal.loop-read-preserved
-loop-read-preserved g c = Puts-then c.laws.ensures.joins _ _ _ _ _ _ _ _ _ c.loop-read.invariant c.in-Ok.ensures.wrote

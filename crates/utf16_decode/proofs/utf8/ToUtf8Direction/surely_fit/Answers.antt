@@ -1,5 +1,0 @@
-use Rattle.std.proofs.Common.{arith}
-use Rattle.utf16_decode.proofs.utf8.ToUtf8Direction.surely_fit.Goals as goal
-
-pub returns : goal.returns
-returns g c = omega arith

@@ -1,6 +1,0 @@
-use Rattle.utf16_encode.proofs.DecodedText.{between-lossy}
-use Rattle.utf16_encode.proofs.encode.from_utf8_lossy.Goals as goal
-
-pub returns-clause-between : goal.returns-clause-between
-returns-clause-between g c =
-    between-lossy g.E.Utf16Order.BIG c.args.text.now _ _ _ _ c.transcode_lossy.result.stop c.transcode_lossy.ensures.shown c.transcode_lossy.ensures.stop c.transcode_lossy.ensures.between

@@ -1,6 +1,0 @@
-use Rattle.std.proofs.Common.{arith}
-use Rattle.utf16_decode.proofs.WroteLemmas.{long_enough}
-use Rattle.utf16_encode.proofs.utf16.FromUtf8Direction.write.Goals as goal
-
-pub returns-clause-len : goal.returns-clause-len
-returns-clause-len g c = long_enough _ _ _ c.write_text.ensures.bytes (omega (arith, c.write_text.ensures.written_to, c.requires.space))

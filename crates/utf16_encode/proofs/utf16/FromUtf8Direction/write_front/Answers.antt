@@ -1,5 +1,0 @@
-use Rattle.utf16_encode.proofs.FromUtf8Lemmas.{wrote_blocks}
-use Rattle.utf16_encode.proofs.utf16.FromUtf8Direction.write_front.Goals as goal
-
-pub returns : goal.returns
-returns g c = wrote_blocks c.write_blocks.ensures.written

@@ -1,2 +1,0 @@
-pub mod FromUtf8
-pub mod Utf8Stream

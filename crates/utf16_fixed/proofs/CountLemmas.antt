@@ -1,0 +1,84 @@
+-- Code units counted by a test, and the size of their text in UTF-16.
+use Rattle.std.proofs.Common.{◌≡◌, ℕ, ◌+◌, ◌*◌, ◌<◌, ◌≤◌, Bool, true, false, cond, List, [], ◌∷◌, length, take, drop, slice_index, refl, subst, sym, ap, ◌∙◌, arith, count_by, ⊎_elim, lt-ltb, le-ltb, take-add}
+use Rattle.std.proofs.lemmas.Bool.{cases_lt}
+use Rattle.std.proofs.lemmas.List.{take_more}
+use Rattle.std.proofs.lemmas.List.Sums.{sum_by-append, sum_by-cons}
+use Rattle.std.specs.Char.{IsScalar}
+use mir.Val.{bool_byte}
+use Rattle.utf16_units.specs.Encoding.{char_size, size}
+use Rattle.utf16_units.proofs.CharLemmas.{char_size_four, char_size_two, no_surrogate}
+use Rattle.utf16_units.proofs.EncodingLemmas.{size-cons, size-nil}
+use Rattle.utf16_fixed.specs.Utf32.{above, lossy_unit, lossy_utf32}
+use Rattle.utf16_fixed.proofs.ShowsLemmas.{lossy_unit-other, lossy_unit-scalar, scalar_or_not}
+use Rattle.utf16_fixed.proofs.ValidLemmas.{high_scalar}
+
+module _ (p : ℕ → Bool) where
+  -- the next n units are counted
+  pub counted-next : (units : List ℕ) (at n count more : ℕ) → count ≡ count_by p (take at units) → more ≡ count_by p (take n (drop at units))
+      → count + more ≡ count_by p (take (at + n) units)
+  counted-next units at n count more is next =
+      let both = ap (count_by p) (take-add at n units) ∙ sum_by-append (λ u. cond (p u) 1 0) (take at units) (take n (drop at units)) in
+      omega (arith, is, next, both)
+
+  bit-cond : (b : Bool) → bool_byte b ≡ cond b 1 0
+  bit-cond true = refl
+  bit-cond false = refl
+
+  -- one more unit
+  pub counted-one : (units : List ℕ) (at count : ℕ) → at < length units → count ≡ count_by p (take at units)
+      → count + bool_byte (p (slice_index units at)) ≡ count_by p (take (at + 1) units)
+  counted-one units at count within is =
+      let both = ap (count_by p) (take_more units at 0 within) ∙ sum_by-append (λ u. cond (p u) 1 0) (take at units) (slice_index units at ∷ []) in
+      omega (arith, is, both, bit-cond (p (slice_index units at)))
+
+bit-above : (limit unit : ℕ) → limit < unit → ◌≡◌ {A = ℕ} (cond (above limit unit) 1 0) 1
+bit-above limit unit more = rw (lt-ltb limit unit more) refl
+
+bit-below : (limit unit : ℕ) → unit ≤ limit → ◌≡◌ {A = ℕ} (cond (above limit unit) 1 0) 0
+bit-below limit unit le = rw (le-ltb limit unit le) refl
+
+counted-cons : (limit unit : ℕ) (units : List ℕ) → count_by (above limit) (unit ∷ units) ≡ cond (above limit unit) 1 0 + count_by (above limit) units
+counted-cons limit unit units = sum_by-cons (λ u. cond (above limit u) 1 0) unit units
+
+-- fewer are above a higher limit
+pub above-fewer : (low high : ℕ) (units : List ℕ) → low ≤ high → count_by (above high) units ≤ count_by (above low) units
+above-fewer low high [] le = omega arith
+above-fewer low high (u ∷ units) le = omega (arith, above-fewer low high units le, counted-cons low u units, counted-cons high u units, one) where
+  one : cond (above high u) 1 0 ≤ cond (above low u) 1 0
+  one = ⊎_elim
+      (λ (more : high < u). omega (arith, bit-above high u more, bit-above low u (omega (arith, more, le))))
+      (λ (few : u ≤ high). omega (arith, bit-below high u few))
+      (cases_lt high u)
+
+lossy_unit-small : (unit : ℕ) → unit < 0x1_0000 → lossy_unit unit < 0x1_0000
+lossy_unit-small unit small = ⊎_elim
+    (λ (scalar : IsScalar unit). subst (λ c. c < 0x1_0000) (sym (lossy_unit-scalar unit scalar)) small)
+    (λ (other : ¬ IsScalar unit). subst (λ c. c < 0x1_0000) (sym (lossy_unit-other unit other)) (omega arith))
+    (scalar_or_not unit)
+
+-- a unit that is not a scalar value takes as much space as U+FFFD
+lossy_unit-size : (u : ℕ) → char_size (lossy_unit u) + 2 * cond (above 0x10_FFFF u) 1 0 ≡ 2 + 2 * cond (above 0xFFFF u) 1 0
+lossy_unit-size u = ⊎_elim
+    (λ (one : u < 0x1_0000).
+    omega (arith, char_size_two (lossy_unit u) (lossy_unit-small u one), bit-below 0x10_FFFF u (omega (arith, one)), bit-below 0xFFFF u (omega (arith, one))))
+    (λ (more : 0x1_0000 ≤ u). ⊎_elim
+    (λ (two : u < 0x11_0000).
+    let same = lossy_unit-scalar u (high_scalar u (omega (arith, more)) two) in
+    omega (arith, ap char_size same, char_size_four u more, bit-below 0x10_FFFF u (omega (arith, two)), bit-above 0xFFFF u (omega (arith, more))))
+    (λ (none : 0x11_0000 ≤ u).
+    let same = lossy_unit-other u (λ scalar. omega (arith, none, no_surrogate u scalar)) in
+    omega (arith, ap char_size same, char_size_two 0xFFFD (omega arith), bit-above 0x10_FFFF u (omega (arith, none)), bit-above 0xFFFF u (omega (arith, more))))
+    (cases_lt u 0x11_0000))
+    (cases_lt u 0x1_0000)
+
+pub lossy_utf32-size : (units : List ℕ) → size (lossy_utf32 units) + 2 * count_by (above 0x10_FFFF) units ≡ 2 * length units + 2 * count_by (above 0xFFFF) units
+lossy_utf32-size [] = omega (arith, size-nil)
+lossy_utf32-size (u ∷ units) =
+    omega (
+      arith,
+      size-cons (lossy_unit u) (lossy_utf32 units),
+      lossy_unit-size u,
+      lossy_utf32-size units,
+      counted-cons 0x10_FFFF u units,
+      counted-cons 0xFFFF u units,
+    )

@@ -1,0 +1,11 @@
+use Rattle.std.proofs.Common.{arith, w32}
+use Rattle.std.proofs.lemmas.Bool.{eqb-true}
+use Rattle.std.proofs.lemmas.Simd.{shifts_fit_splat}
+use Rattle.utf16_fixed.proofs.ValidLemmas.{no_surrogate-lanes}
+use Rattle.utf16_fixed.proofs.lanes.has_no_surrogate.Goals as goal
+
+pub overflow_shr-result : goal.overflow_shr-result
+overflow_shr-result g c = shifts_fit_splat 32 c.args.units _ 11 (omega arith)
+
+pub returns : goal.returns
+returns g c none = no_surrogate-lanes w32 g.row.N c.args.units c.fits-units.0 c.requires (eqb-true _ _ none)

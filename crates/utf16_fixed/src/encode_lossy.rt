@@ -1,0 +1,93 @@
+//! Lossy conversion of UTF-32 to UTF-16, with U+FFFD for each code unit that is not a scalar value,
+//! and the length of its result.
+
+ghost use Rattle.std.specs.Prelude.{◌≡◌, ◌-◌, ◌*◌, ◌≤◌, count_by, drop, length};
+ghost use Rattle.utf16_units.specs.Encoding.{char_bytes, size};
+ghost use Rattle.utf16_transcode.specs.Stops.{StopsLossyWhole};
+ghost use Rattle.utf16_transcode.specs.Wrote.{Wrote};
+ghost use Rattle.utf16_transcode.specs.declared.progress.Stop.TheVariants.{Done};
+ghost use Rattle.utf16_fixed.specs.Utf32.{ShowsInUtf16, above, lossy_utf32};
+
+use crate::encode::from_utf32;
+use crate::lanes::bits_above;
+use std::simd::prelude::*;
+use utf16_transcode::{Progress, Stop, put};
+use utf16_units::Utf16Order;
+
+// U+FFFD, the replacement character.
+const REPLACEMENT: u16 = 0xFFFD;
+
+/// Writes UTF-32, code points in the machine's byte order, in UTF-16 to the start of a buffer, as
+/// far as whole characters fit, with U+FFFD for each code unit that is not a scalar value. Any code
+/// units are allowed. `read` counts code units of UTF-32, `written` counts bytes. Bytes of the
+/// buffer after the written ones may have been overwritten.
+///
+/// All fits if the buffer has four bytes for every code unit.
+///
+/// # Complexity
+///
+/// Linear time in the number of code units read.
+pub fn from_utf32_lossy<E: Utf16Order>(utf32: &[u32], to: &mut [u8]) -> Progress
+    ensures wrote { Wrote (ShowsInUtf16 E.BIG) utf32.now to.new result.read result.written }
+    ensures stop { StopsLossyWhole lossy_utf32 (char_bytes E.BIG) (drop result.read utf32.now)
+        (length to.new - result.written) result.stop }
+    ensures succeeds { 4 * length utf32.now ≤ length to.new → result.stop ≡ Done }
+{
+    let replacement = E::write_unit(REPLACEMENT);
+    let mut read = 0;
+    let mut written = 0;
+    loop {
+        let front = from_utf32::<E>(&utf32[read..], &mut to[written..]);
+        read += front.read;
+        written += front.written;
+        let Stop::IllFormed(_) = front.stop else {
+            return Progress {
+                read,
+                written,
+                stop: front.stop,
+            };
+        };
+        if to.len() - written < 2 {
+            return Progress {
+                read,
+                written,
+                stop: Stop::NoSpace,
+            };
+        }
+        written = put(&replacement, to, written);
+        read += 1;
+    }
+}
+
+/// Returns the length in bytes of the output of `from_utf32_lossy` for the whole input. Any code
+/// units are allowed.
+///
+/// # Complexity
+///
+/// Two passes, with SIMD.
+pub fn from_utf32_lossy_len(utf32: &[u32]) -> usize
+    ensures len { result ≡ size (lossy_utf32 utf32.now) }
+    ensures most { result ≤ 4 * length utf32.now }
+{
+    // Only those from 0x10000 to 0x10FFFF take two UTF-16 code units.
+    let pairs = count_above(utf32, 0xFFFF) - count_above(utf32, 0x10_FFFF);
+    2 * (utf32.len() + pairs)
+}
+
+// The number of code units above a limit.
+fn count_above(utf32: &[u32], limit: u32) -> usize
+    ensures { result ≡ count_by (above limit) utf32.now }
+{
+    let mut at = 0;
+    let mut count: usize = 0;
+    while utf32.len() - at >= 16 {
+        let block = u32x16::from_slice(&utf32[at..]);
+        count += bits_above(block, limit).count_ones() as usize;
+        at += 16;
+    }
+    while at < utf32.len() {
+        count += (utf32[at] > limit) as usize;
+        at += 1;
+    }
+    count
+}

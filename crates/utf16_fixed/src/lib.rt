@@ -1,0 +1,37 @@
+//! Conversion between UTF-16 in either byte order and the encodings that have one code unit for each
+//! character, into buffers that you own, without allocation: UTF-32 in the machine's byte order, up
+//! to the first ill-formed sequence or lossy with U+FFFD for each, and Latin-1 (ISO 8859-1), whose
+//! bytes are the characters U+0000 to U+00FF. Also the length of each lossy result, a validator of
+//! UTF-32, and what kind of text bytes are.
+//!
+//! A `Progress` counts units of either side: bytes of UTF-16, and code units of UTF-32.
+#![tactic(auto)]
+
+mod basic;
+mod below;
+mod chars;
+mod decode;
+mod decode_lossy;
+mod encode;
+mod encode_lossy;
+mod lanes;
+mod latin1_progress;
+mod narrow;
+mod pairs;
+mod plain;
+mod repertoire;
+mod scan;
+mod validate;
+mod widen;
+
+pub use crate::decode::to_utf32;
+pub use crate::decode_lossy::{to_utf32_lossy, to_utf32_lossy_len};
+pub use crate::encode::from_utf32;
+pub use crate::encode_lossy::{from_utf32_lossy, from_utf32_lossy_len};
+pub use crate::latin1_progress::{Latin1Progress, Latin1Stop};
+pub use crate::narrow::to_latin1;
+pub use crate::repertoire::Repertoire;
+pub use crate::scan::{Inspection, inspect};
+pub use crate::validate::validate_utf32;
+pub use crate::widen::from_latin1;
+pub use utf16_transcode::{Progress, Stop};

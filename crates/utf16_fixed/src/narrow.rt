@@ -1,0 +1,161 @@
+//! From UTF-16 to Latin-1: each code unit up to 0xFF becomes the byte with its number.
+//!
+//! A block is written only if all its code units are such. So the bytes after the written ones are
+//! unchanged, and code units are tested one by one only at the end and before another character.
+
+ghost use Rattle.std.specs.Prelude.{◌≡◌, ◌≢◌, ◌+◌, ◌-◌, ◌*◌, ◌/◌, ◌<◌, ◌≤◌, All, List, ℕ, length, slice_index, take, drop};
+ghost use Rattle.utf16_units.specs.Encoding.{Encodes, IsUtf16, text_of};
+ghost use Rattle.utf16_units.specs.Unit.{unit_of};
+ghost use Rattle.utf16_fixed.specs.Repertoire.{HasAll};
+ghost use Rattle.utf16_fixed.specs.StopsLatin1.{StopsLatin1, StopsLatin1Here};
+ghost use Rattle.utf16_fixed.specs.Written.{IsNarrowed};
+ghost use Rattle.utf16_fixed.specs.declared.repertoire.Repertoire.TheVariants.{Latin1};
+ghost use Rattle.utf16_fixed.specs.declared.latin1_progress.Latin1Stop.TheVariants.{Done, NoSpace};
+
+use crate::below::are_below;
+use crate::latin1_progress::{Latin1Progress, Latin1Stop};
+use std::simd::prelude::*;
+use utf16_units::blocks::{units8, units32};
+use utf16_units::{Utf16Order, first_char_len};
+
+/// Writes UTF-16 in Latin-1 to the start of a buffer, up to the first ill-formed sequence or the
+/// first character above U+00FF, or as far as the buffer has space. Any bytes are allowed. The
+/// other bytes of the buffer are unchanged.
+///
+/// A buffer of half as many bytes as the input is large enough. With such a buffer, a text that is
+/// Latin-1, as `inspect` says, is written whole.
+///
+/// # Complexity
+///
+/// Linear time in the number of bytes read, in blocks.
+pub fn to_latin1<E: Utf16Order>(raw: &[u8], to: &mut [u8]) -> Latin1Progress
+    ensures read { result.read ≡ 2 * result.written }
+    ensures within { result.read ≤ length raw.now }
+    ensures fits { result.written ≤ length to.new }
+    ensures encoding { Encodes E.BIG (take result.written to.new) (take result.read raw.now) }
+    ensures rest { drop result.written to.new ≡ drop result.written to.old }
+    ensures stop { StopsLatin1 E.BIG raw.now result.read (length to.new - result.written)
+        result.stop }
+    ensures space { length raw.now / 2 ≤ length to.old → result.stop ≢ NoSpace }
+    ensures succeeds { IsUtf16 E.BIG raw.now → HasAll Latin1 (text_of E.BIG raw.now)
+        → length raw.now / 2 ≤ length to.old → result.stop ≡ Done }
+{
+    let written = write_units::<E>(raw, to);
+    Latin1Progress {
+        read: 2 * written,
+        written,
+        stop: stop_before::<E>(&raw[2 * written..]),
+    }
+}
+
+// Why a call stops before the rest. The buffer is full if a character that Latin-1 has follows.
+#[inline(always)]
+fn stop_before<E: Utf16Order>(rest: &[u8]) -> Latin1Stop
+    ensures { StopsLatin1Here E.BIG rest.now result }
+{
+    if rest.is_empty() {
+        return Latin1Stop::Done;
+    }
+    match first_char_len::<E>(rest) {
+        Err(Some(len)) => Latin1Stop::IllFormed(len),
+        Err(None) => Latin1Stop::Incomplete,
+        Ok(_) => {
+            if E::read_unit([rest[0], rest[1]]) < 0x100 {
+                Latin1Stop::NoSpace
+            } else {
+                Latin1Stop::NotLatin1
+            }
+        }
+    }
+}
+
+// Writes the code units up to 0xFF at the start of the bytes, as far as they fit, and returns how
+// many.
+#[inline(always)]
+fn write_units<E: Utf16Order>(raw: &[u8], to: &mut [u8]) -> usize
+    ensures narrowed { IsNarrowed E.BIG raw.now to.old to.new result }
+    ensures stop { 2 * result + 2 ≤ length raw.now → result < length to.new
+        → 0x100 ≤ unit_of E.BIG (slice_index raw.now (2 * result))
+        (slice_index raw.now (2 * result + 1)) }
+{
+    let most = (raw.len() / 2).min(to.len());
+    let at = write_wide_blocks::<E>(raw, to, most);
+    let at = write_narrow_blocks::<E>(raw, to, at, most);
+    write_single_units::<E>(raw, to, at, most)
+}
+
+// Writes blocks of thirty-two code units.
+#[inline(always)]
+fn write_wide_blocks<E: Utf16Order>(raw: &[u8], to: &mut [u8], most: usize) -> usize
+    requires within { 2 * most ≤ length raw.now }
+    requires fits { most ≤ length to.old }
+    ensures narrowed { IsNarrowed E.BIG raw.now to.old to.new result }
+    ensures few { result ≤ most }
+{
+    let mut at = 0;
+    while most - at >= 32 {
+        let units = units32::<E>(u8x64::from_slice(&raw[2 * at..]));
+        if !are_below(units, 0x100) {
+            break;
+        }
+        low_bytes(units).copy_to_slice(&mut to[at..]);
+        at += 32;
+    }
+    at
+}
+
+// Writes blocks of eight code units, after those that were written.
+#[inline(always)]
+fn write_narrow_blocks<E: Utf16Order>(raw: &[u8], to: &mut [u8], from: usize, most: usize) -> usize
+    requires within { 2 * most ≤ length raw.now }
+    requires fits { most ≤ length to.old }
+    requires few { from ≤ most }
+    ensures narrowed { (before : List ℕ) → IsNarrowed E.BIG raw.now before to.old from
+        → IsNarrowed E.BIG raw.now before to.new result }
+    ensures few { result ≤ most }
+{
+    let mut at = from;
+    while most - at >= 8 {
+        let units = units8::<E>(u8x16::from_slice(&raw[2 * at..]));
+        if !are_below(units, 0x100) {
+            break;
+        }
+        low_bytes(units).copy_to_slice(&mut to[at..]);
+        at += 8;
+    }
+    at
+}
+
+// Writes code units one by one, after those that were written.
+#[inline(always)]
+fn write_single_units<E: Utf16Order>(raw: &[u8], to: &mut [u8], from: usize, most: usize) -> usize
+    requires within { 2 * most ≤ length raw.now }
+    requires fits { most ≤ length to.old }
+    requires few { from ≤ most }
+    ensures narrowed { (before : List ℕ) → IsNarrowed E.BIG raw.now before to.old from
+        → IsNarrowed E.BIG raw.now before to.new result }
+    ensures few { result ≤ most }
+    ensures stop { result < most
+        → 0x100 ≤ unit_of E.BIG (slice_index raw.now (2 * result))
+        (slice_index raw.now (2 * result + 1)) }
+{
+    let mut at = from;
+    while at < most {
+        let unit = E::read_unit([raw[2 * at], raw[2 * at + 1]]);
+        if unit >= 0x100 {
+            break;
+        }
+        to[at] = unit as u8;
+        at += 1;
+    }
+    at
+}
+
+// The code units as bytes.
+#[inline(always)]
+fn low_bytes<const N: usize>(units: Simd<u16, N>) -> Simd<u8, N>
+    requires { All (λ unit. unit < 0x100) units }
+    ensures { result ≡ units.entry }
+{
+    units.cast::<u8>()
+}

@@ -1,0 +1,103 @@
+//! Blocks of eight surrogate pairs, read and written.
+//!
+//! A pair is one lane, with the leading surrogate in its low half. Less 0xDC00_D800, the halves are
+//! the ten bits of each surrogate, and one is above 0x3FF exactly if it is not a pair.
+
+ghost use Rattle.std.specs.Prelude.{◌≡◌, ◌*◌, ◌≤◌, length, map, take};
+ghost use Rattle.utf16_units.specs.Encoding.{units_of};
+ghost use Rattle.utf16_fixed.specs.Pairs.{halved, joined, pair_bits, pair_char, pair_of, pair_offset, pair_test};
+ghost use Rattle.utf16_fixed.specs.Utf32.{TranscodesFromUtf32, TranscodesToUtf32};
+
+use crate::lanes::len_up_to;
+use std::simd::prelude::*;
+use utf16_units::Utf16Order;
+use utf16_units::blocks::{bytes16, units16};
+
+// Writes the characters of eight surrogate pairs to the start of a buffer, and returns how many of
+// them are pairs, up to the first that is not. Only these count.
+#[inline(always)]
+pub(crate) fn write_pairs<E: Utf16Order>(raw: &[u8], to: &mut [u32]) -> usize
+    requires bytes { 32 ≤ length raw.now }
+    requires space { 8 ≤ length to.old }
+    ensures few { result ≤ 8 }
+    ensures text { TranscodesToUtf32 E.BIG (take (4 * result) raw.now) (take result to.new) }
+{
+    let bits = bits_of(joined::<E>(u8x32::from_slice(raw)));
+    chars_of(bits).copy_to_slice(to);
+    len_up_to(tests_of(bits), 0x3FF)
+}
+
+// Two code units in each lane, the first in the low half.
+#[inline(always)]
+fn joined<E: Utf16Order>(block: u8x32) -> u32x8
+    ensures len { length result ≡ 8 }
+    ensures units { result ≡ joined (units_of E.BIG block) }
+{
+    u32x8::from_le_bytes(units16::<E>(block).to_le_bytes())
+}
+
+// The ten bits of each surrogate, if they are a pair.
+#[inline(always)]
+fn bits_of(pairs: u32x8) -> u32x8
+    ensures { result ≡ map pair_bits pairs }
+{
+    pairs - u32x8::splat(0xDC00_D800)
+}
+
+// The characters of these bits.
+#[inline(always)]
+fn chars_of(bits: u32x8) -> u32x8
+    ensures { result ≡ map pair_char bits }
+{
+    ((bits & u32x8::splat(0xFFFF)) << u32x8::splat(10))
+        + (bits >> u32x8::splat(16))
+        + u32x8::splat(0x1_0000)
+}
+
+// Both halves together, which are at most 0x3FF if each is.
+#[inline(always)]
+fn tests_of(bits: u32x8) -> u32x8
+    ensures { result ≡ map pair_test bits }
+{
+    (bits & u32x8::splat(0xFFFF)) | (bits >> u32x8::splat(16))
+}
+
+// Writes eight characters of two UTF-16 code units each to the start of a buffer, and returns how
+// many of them are such, up to the first that is not. Only these count.
+#[inline(always)]
+pub(crate) fn write_as_pairs<E: Utf16Order>(utf32: &[u32], to: &mut [u8]) -> usize
+    requires units { 8 ≤ length utf32.now }
+    requires space { 32 ≤ length to.old }
+    ensures few { result ≤ 8 }
+    ensures text { TranscodesFromUtf32 E.BIG (take result utf32.now) (take (4 * result) to.new) }
+{
+    let offsets = offsets_of(u32x8::from_slice(utf32));
+    bytes16::<E>(halved(pairs_of(offsets))).copy_to_slice(to);
+    len_up_to(offsets, 0xF_FFFF)
+}
+
+// The offsets of characters from U+10000, the first that takes two UTF-16 code units.
+#[inline(always)]
+fn offsets_of(chars: u32x8) -> u32x8
+    ensures { result ≡ map pair_offset chars }
+{
+    chars - u32x8::splat(0x1_0000)
+}
+
+// The pairs of these offsets.
+#[inline(always)]
+fn pairs_of(offsets: u32x8) -> u32x8
+    ensures { result ≡ map pair_of offsets }
+{
+    ((offsets & u32x8::splat(0x3FF)) << u32x8::splat(16))
+        + (offsets >> u32x8::splat(10))
+        + u32x8::splat(0xDC00_D800)
+}
+
+// The halves of each lane, the low one first.
+#[inline(always)]
+fn halved(pairs: u32x8) -> u16x16
+    ensures { result ≡ halved pairs }
+{
+    u16x16::from_le_bytes(pairs.to_le_bytes())
+}

@@ -1,4 +1,0 @@
-pub mod Stops
-pub mod Written
-pub mod Repertoire
-pub mod Inspection

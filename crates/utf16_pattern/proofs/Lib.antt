@@ -1,3 +1,0 @@
-pub mod AffixTests
-pub mod Around
-mod PassedBytes

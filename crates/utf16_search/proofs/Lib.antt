@@ -1,4 +1,0 @@
-pub mod AlikeLemmas
-pub mod FoundLemmas
-pub mod RunLemmas
-pub mod TextLemmas

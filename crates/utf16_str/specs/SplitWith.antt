@@ -1,0 +1,46 @@
+-- The parts that a `WStrSplitWith` gives. `text` is what a clause sees of a view: its characters.
+use Rattle.std.specs.Prelude.{◌≡◌, ℕ, ◌+◌, Bool, true, List, Option, None, Some, length, map, option_map, reverse}
+use Rattle.std.specs.Iterator.Runs.{ItemsMapTo, ItemsMapToReversed, Run}
+use Rattle.std.specs.List.{slice_split}
+use Rattle.utf16_str.specs.Predicates.{AnswersBy, GivesLastPart, GivesPart}
+use Rattle.utf16_str.specs.declared.split_with.WStrSplitWith.{WStrSplitWith}
+
+-- the most parts that are left of a text
+abbrev pub parts_left : Option (List ℕ) → ℕ
+parts_left None = 0
+parts_left (Some text) = length text + 1
+
+module _ {S F : Type 0} where
+  -- the view that is left, or `None` after the last part
+  abbrev pub split_rest : WStrSplitWith S F → Option S
+  split_rest it = it.rest
+
+  abbrev pub split_predicate : WStrSplitWith S F → F
+  split_predicate it = it.predicate
+
+  -- a call of `next` gave the next part; the predicate stays
+  abbrev pub split_steps : (S → List ℕ) → (F → ℕ → Bool → Type 0) → WStrSplitWith S F → Option S → WStrSplitWith S F → Type 0
+  split_steps text post s r t =
+      GivesPart (post (split_predicate s)) (option_map text (split_rest s)) (option_map text r) (option_map text (split_rest t))
+      × (split_predicate t ≡ split_predicate s)
+
+  -- a call of `next_back` gave the last part; the predicate stays
+  abbrev pub split_steps_back : (S → List ℕ) → (F → ℕ → Bool → Type 0) → WStrSplitWith S F → Option S → WStrSplitWith S F → Type 0
+  split_steps_back text post s r t =
+      GivesLastPart (post (split_predicate s)) (option_map text (split_rest s)) (option_map text r) (option_map text (split_rest t))
+      × (split_predicate t ≡ split_predicate s)
+
+-- a run gives the parts that `str::split` gives for a function with the same answers as the
+-- predicate: the first ones, and all of them if it ended. The first two members follow from the
+-- third; they are there because a caller's proof finds them
+abbrev pub SplitsText : {T S : Type 0} {steps : T → Option S → T → Type 0} → Run steps → (S → List ℕ) → (ℕ → Bool → Type 0) → List ℕ → Type 0
+SplitsText p text says whole =
+    ((k : ℕ → Bool) → AnswersBy says k → p.whole ≡ true → map text p.items ≡ slice_split k whole)
+    × ((k : ℕ → Bool) → AnswersBy says k → p.whole ≡ true → p.len ≡ length (slice_split k whole))
+    × ((k : ℕ → Bool) → AnswersBy says k → ItemsMapTo p text (slice_split k whole))
+
+-- the same from the back: the last parts, and all of them in reverse if the run ended
+abbrev pub SplitsTextBack : {T S : Type 0} {steps : T → Option S → T → Type 0} → Run steps → (S → List ℕ) → (ℕ → Bool → Type 0) → List ℕ → Type 0
+SplitsTextBack p text says whole =
+    ((k : ℕ → Bool) → AnswersBy says k → p.whole ≡ true → map text p.items ≡ reverse (slice_split k whole))
+    × ((k : ℕ → Bool) → AnswersBy says k → ItemsMapToReversed p text (slice_split k whole))

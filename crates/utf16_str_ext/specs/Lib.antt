@@ -1,4 +1,0 @@
-pub mod Predicates
-pub mod SplitWith
-pub mod AsciiWords
-pub mod Parse

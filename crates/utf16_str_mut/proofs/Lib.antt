@@ -1,5 +1,0 @@
-pub mod Overwritten
-mod Lent
-mod LentSteps
-mod LentValues
-mod LentResults

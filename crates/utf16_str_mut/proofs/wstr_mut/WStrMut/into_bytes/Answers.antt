@@ -1,5 +1,0 @@
-use Rattle.utf16_units.proofs.EditLemmas.{Encodes-checked}
-use Rattle.utf16_str_mut.proofs.wstr_mut.WStrMut.into_bytes.Goals as goal
-
-pub returns-clause-encoding : goal.returns-clause-encoding
-returns-clause-encoding g c = Encodes-checked _ _ c.args.self.well_formed

@@ -1,0 +1,9 @@
+pub mod Unpaired
+pub mod Decomposition
+pub mod Decodes
+pub mod Wrote
+pub mod Stops
+pub mod Shown
+pub mod Stream
+pub mod FromUtf8
+pub mod Utf8Stream

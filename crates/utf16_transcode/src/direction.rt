@@ -1,0 +1,128 @@
+//! What differs between the two directions of transcoding.
+
+ghost use Rattle.std.specs.Prelude.{◌≡◌, ◌≤◌, ◌<◌, ◌+◌, ◌-◌, ◌++◌, ℕ, List, Option, [], IfErr, IfOk, IfSome, None, length, take, drop};
+ghost use Rattle.std.specs.Char.{IsScalar};
+ghost use Rattle.utf16_transcode.specs.Stops.{BeginsWith};
+ghost use Rattle.utf16_transcode.specs.Wrote.{Gives, Joins, Wrote};
+
+use utf16_units::Moved;
+
+/// The number of bytes in a block that passes through a buffer on the stack.
+pub const BLOCK_LEN: usize = 64;
+
+/// The length of the buffer on the stack. `Direction::write` needs no more space for a block, and
+/// two blocks also fit.
+pub const BLOCK_ROOM: usize = 260;
+
+/// One of the two directions: how the bytes of the first encoding are validated, and how a text is
+/// written in the second.
+pub trait Direction {
+    /// The shortest input, in bytes, that is validated while it is written.
+    const FRONT_LEN: usize;
+
+    // The bytes of a character in the first encoding.
+    ghost from: { ℕ → List ℕ };
+
+    // The bytes of a character in the second encoding.
+    ghost into: { ℕ → List ℕ };
+
+    // Whether bytes are a text in the first encoding.
+    ghost IsValid: { List ℕ → Type 0 };
+
+    // The bytes of such a text in the second encoding.
+    ghost other: { List ℕ → List ℕ };
+
+    // What an `error_len` says about bytes that do not begin with a character.
+    ghost IsIllFormedAt: { List ℕ → Option ℕ → Type 0 };
+
+    // What an `error_len` says about the bytes after the longest valid prefix.
+    ghost IsIllFormed: { List ℕ → ℕ → Option ℕ → Type 0 };
+
+    // The number of bytes of space that `write` needs for this many bytes of input.
+    ghost room_for: { ℕ → ℕ };
+
+    /// Returns the length in bytes of a valid prefix: the bytes before the first ill-formed
+    /// sequence.
+    fn valid_len(bytes: &[u8]) -> usize
+        ensures within { result ≤ length bytes.now }
+        ensures valid { IsValid (take result bytes.now) };
+
+    /// Returns the first character and its length in bytes, or the `error_len` of the bytes if they
+    /// do not begin with a character.
+    ///
+    /// # Precondition
+    ///
+    /// There is at least one byte.
+    fn first_char(rest: &[u8]) -> Result<(char, usize), Option<u8>>
+        requires { 0 < length rest.now }
+        ensures char { IfOk result (λ first. BeginsWith from rest.now first.0 first.1) }
+        ensures ill_formed { IfErr result (IsIllFormedAt rest.now) };
+
+    /// Begins to write an input to the start of a buffer, as far as few tests suffice: mostly all
+    /// of a short input, and nothing of a long one.
+    fn begin(input: &[u8], to: &mut [u8]) -> Moved
+        ensures { Wrote (Gives IsValid other) input.now to.new result.read result.written };
+
+    /// Writes a character in the second encoding at `at`, and returns where it ends, or `None` if
+    /// it does not fit. The bytes after it may be overwritten.
+    ///
+    /// # Precondition
+    ///
+    /// `at` is at most the length of the buffer.
+    fn write_char(c: char, to: &mut [u8], at: usize) -> Option<usize>
+        requires { at ≤ length to.old }
+        ensures within { IfSome result (λ end. end ≤ length to.new) }
+        ensures bytes { IfSome result (λ end. take end to.new ≡ take at to.old ++ into c) }
+        ensures none { result ≡ None → length to.new - at < length (into c) }
+        ensures unchanged { result ≡ None → to.new ≡ to.old };
+
+    /// Returns how much of a text fits in `room` bytes of the second encoding.
+    ///
+    /// # Precondition
+    ///
+    /// `written` is the text in the second encoding, and longer than `room`.
+    fn fitting_prefix(text: &[u8], written: &[u8], room: usize) -> Moved
+        requires text { Gives IsValid other text.now written.now }
+        requires long { room < length written.now }
+        ensures prefix { Wrote (Gives IsValid other) text.now written.now result.read
+            result.written }
+        ensures fits { result.written ≤ room }
+        ensures most { room < result.written + 4 };
+
+    /// Returns a number of bytes, which may be 0, for which `write` needs at most `room` bytes of
+    /// space.
+    fn surely_fit(room: usize) -> usize
+        ensures fits { 0 < result → room_for result ≤ room }
+        ensures most { room < room_for (result + 2) };
+
+    /// Writes a text in the second encoding to the start of a buffer, and returns the number of
+    /// bytes written.
+    ///
+    /// # Precondition
+    ///
+    /// The text is valid, and the buffer has as many bytes as `room_for` gives.
+    fn write(text: &[u8], to: &mut [u8]) -> usize
+        requires well_formed { IsValid text.now }
+        requires space { room_for (length text.now) ≤ length to.old }
+        ensures bytes { take result to.new ≡ other text.now }
+        ensures len { result ≡ length (other text.now) };
+
+    /// Writes a valid prefix, which may be empty, in the second encoding to the start of a buffer,
+    /// as far as it fits, and validates it at the same time.
+    fn write_front(rest: &[u8], to: &mut [u8]) -> Moved
+        ensures { Wrote (Gives IsValid other) rest.now to.new result.read result.written };
+
+    /// States what the proof of `transcode` needs, and does nothing. Fewer bytes need no more
+    /// space, and a block fits in the buffer on the stack. Two texts together are a text, and so is
+    /// each character. An ill-formed sequence after a text is an ill-formed sequence of the whole
+    /// input.
+    fn laws()
+        ensures monotone { (m n : ℕ) → m ≤ n → room_for m ≤ room_for n }
+        ensures buffered { room_for BLOCK_LEN ≤ BLOCK_ROOM }
+        ensures of_nothing { Gives IsValid other [] [] }
+        ensures joins { Joins (Gives IsValid other) }
+        ensures each_char { (c : ℕ) → IsScalar c → Gives IsValid other (from c) (into c) }
+        ensures ill_formed { (input : List ℕ) (read : ℕ) (len : Option ℕ) → read < length input
+            → IsValid (take read input) → IsIllFormedAt (drop read input) len
+            → IsIllFormed input read len };
+}

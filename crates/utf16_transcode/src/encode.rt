@@ -1,0 +1,318 @@
+//! UTF-8 to UTF-16, up to the first ill-formed sequence.
+//!
+//! `simdutf8` reads 64 bytes or more to the end before it looks for the error, but in fewer bytes
+//! it stops at the error. So at most 63 bytes are validated first, and an error costs about as much
+//! as the bytes before it. The frequent first bytes are tested by ranges, because a `match` of five
+//! cases compiles to a jump table.
+
+ghost use Rattle.std.specs.Prelude.{◌≡◌, ◌&&◌, ◌+◌, ◌-◌, ◌*◌, ◌<◌, ◌≤◌, [], ◌∷◌, ◌++◌, IfErr, IfOk, IfSome, length, take};
+ghost use Rattle.std.specs.Char.{encode_utf8};
+ghost use Rattle.std.specs.Int.{is_in_range};
+ghost use Rattle.std.specs.Str.{IsUtf8, chars};
+ghost use Rattle.std.specs.Str.Lossy.{second_byte_max, second_byte_min};
+ghost use Rattle.utf16_units.specs.Boundary.{IsBoundary};
+ghost use Rattle.utf16_units.specs.Encoding.{IsUtf16, char_bytes, char_size, encode, text_of};
+ghost use Rattle.utf16_transcode.specs.FromUtf8.{TranscodesToUtf16, IsIllFormedUtf8, IsIllFormedUtf8At, StopsEncoding};
+ghost use Rattle.utf16_transcode.specs.Wrote.{Wrote};
+ghost use Rattle.utf16_transcode.specs.Stops.{BeginsWith};
+
+use crate::chars::{char_of_four, char_of_three, char_of_two, is_continuation};
+use crate::direction::{BLOCK_LEN, Direction};
+use crate::progress::Progress;
+use crate::transcoding::transcode;
+use crate::valid::valid_prefix;
+use std::marker::PhantomData;
+use utf16_from_utf8::{SLACK, write_ascii, write_blocks, write_text};
+use utf16_to_utf8::utf8_len;
+use utf16_units::{Moved, Utf16CharExt, Utf16Order, is_trailing_surrogate};
+
+// The length in bytes below which an input is first tried character by character.
+const SHORT_LEN: usize = 32;
+
+/// Writes UTF-8 in UTF-16 to the start of a buffer, up to the first ill-formed sequence or as far
+/// as whole characters fit. Any bytes are allowed. Bytes of the buffer after the written ones may
+/// have been overwritten.
+///
+/// # Complexity
+///
+/// Linear time in the number of bytes read.
+#[inline(always)]
+pub fn from_utf8<E: Utf16Order>(text: &[u8], to: &mut [u8]) -> Progress
+    ensures wrote { Wrote (TranscodesToUtf16 E.BIG) text.now to.new result.read result.written }
+    ensures stop { StopsEncoding E.BIG text.now result.read (length to.new - result.written)
+        result.stop }
+{
+    transcode::<FromUtf8<E>>(text, to)
+}
+
+/// From UTF-8 to UTF-16 in byte order `E`, with U+FFFD for each ill-formed subpart.
+pub struct FromUtf8<E: Utf16Order>(PhantomData<E>);
+
+impl<E: Utf16Order> Direction for FromUtf8<E> {
+    const FRONT_LEN: usize = 16;
+
+    ghost from = { encode_utf8 };
+
+    ghost into = { char_bytes E.BIG };
+
+    ghost IsValid = { IsUtf8 };
+
+    ghost other = { λ text. encode E.BIG (chars text) };
+
+    ghost IsIllFormedAt = { IsIllFormedUtf8At };
+
+    ghost IsIllFormed = { IsIllFormedUtf8 };
+
+    ghost room_for = { λ n. 2 * n + 16 };
+
+    #[inline(always)]
+    fn laws() {}
+
+    #[inline(always)]
+    fn valid_len(bytes: &[u8]) -> usize {
+        valid_len(bytes)
+    }
+
+    #[inline(always)]
+    fn first_char(rest: &[u8]) -> Result<(char, usize), Option<u8>> {
+        first_char(rest)
+    }
+
+    // Begins with the ASCII at the start, as `write_ascii` does, which is all of an input of ASCII.
+    // If the input is short or there is little space, the ASCII goes on one by one. A short input
+    // then goes on character by character.
+    #[inline(always)]
+    fn begin(input: &[u8], to: &mut [u8]) -> Moved {
+        let most = input.len().min(to.len() / 2);
+        let len = write_ascii::<E>(&input[..most], to);
+        if most >= SHORT_LEN {
+            return Moved {
+                read: len,
+                written: 2 * len,
+            };
+        }
+        let ascii = write_ascii_chars::<E>(input, to, len);
+        write_short_rest::<E>(input, to, ascii)
+    }
+
+    #[inline(always)]
+    fn write_char(c: char, to: &mut [u8], at: usize) -> Option<usize> {
+        if to.len() - at < c.encoded_utf16_len() {
+            return None;
+        }
+        Some(write_char::<E>(c, to, at))
+    }
+
+    #[inline(always)]
+    fn fitting_prefix(_text: &[u8], written: &[u8], room: usize) -> Moved {
+        let end = last_boundary::<E>(written, room);
+        Moved {
+            read: utf8_len::<E>(&written[..end]),
+            written: end,
+        }
+    }
+
+    #[inline(always)]
+    fn surely_fit(room: usize) -> usize {
+        room.saturating_sub(SLACK) / 2
+    }
+
+    #[inline(always)]
+    fn write(text: &[u8], to: &mut [u8]) -> usize {
+        write_text::<E>(text, to)
+    }
+
+    #[inline(always)]
+    fn write_front(rest: &[u8], to: &mut [u8]) -> Moved {
+        write_blocks::<E>(rest, to)
+    }
+}
+
+// Returns the last boundary between characters of a text at or before an offset.
+#[inline(always)]
+fn last_boundary<E: Utf16Order>(utf16: &[u8], at: usize) -> usize
+    requires text { IsUtf16 E.BIG utf16.now }
+    requires inside { at < length utf16.now }
+    ensures boundary { IsBoundary (text_of E.BIG utf16.now) result }
+    ensures before { result ≤ at }
+    ensures near { at < result + 4 }
+{
+    let whole = at / 2 * 2;
+    if is_trailing_surrogate(E::read_unit([utf16[whole], utf16[whole + 1]])) {
+        return whole - 2;
+    }
+    whole
+}
+
+// Writes the ASCII after the first bytes, which were written and are ASCII too, character by
+// character, as far as it fits.
+#[inline(always)]
+fn write_ascii_chars<E: Utf16Order>(bytes: &[u8], to: &mut [u8], from: usize) -> Moved
+    requires { Wrote (TranscodesToUtf16 E.BIG) bytes.now to.old from (2 * from) }
+    ensures { Wrote (TranscodesToUtf16 E.BIG) bytes.now to.new result.read result.written }
+{
+    let most = bytes.len().min(to.len() / 2);
+    let mut len = from;
+    let mut end = 2 * from;
+    while len < most && bytes[len] < 0x80 {
+        end = write_char::<E>(bytes[len] as char, to, end);
+        len += 1;
+    }
+    Moved {
+        read: len,
+        written: end,
+    }
+}
+
+// Writes the rest of a short input character by character, as far as its characters fit and are
+// well formed.
+#[inline(always)]
+fn write_short_rest<E: Utf16Order>(text: &[u8], to: &mut [u8], from: Moved) -> Moved
+    requires { Wrote (TranscodesToUtf16 E.BIG) text.now to.old from.read from.written }
+    ensures { Wrote (TranscodesToUtf16 E.BIG) text.now to.new result.read result.written }
+{
+    if text.len() >= SHORT_LEN {
+        return from;
+    }
+    let Moved {
+        mut read,
+        mut written,
+    } = from;
+    while read < text.len() {
+        let Ok((c, len)) = first_char(&text[read..]) else {
+            break;
+        };
+        if to.len() - written < c.encoded_utf16_len() {
+            break;
+        }
+        written = write_char::<E>(c, to, written);
+        read += len;
+    }
+    Moved { read, written }
+}
+
+// Writes a character that fits at `at`, and returns where it ends.
+#[inline(always)]
+pub(crate) fn write_char<E: Utf16Order>(c: char, to: &mut [u8], at: usize) -> usize
+    requires { at + char_size c ≤ length to.old }
+    ensures within { result ≤ length to.new }
+    ensures end { result ≡ at + char_size c }
+    ensures bytes { take result to.new ≡ take at to.old ++ char_bytes E.BIG c }
+{
+    at + c.encode_utf16_into::<E>(&mut to[at..])
+}
+
+// Returns the length of the longest valid prefix. Validation of a block or more reads all of it
+// before it looks for the error, but validation of fewer bytes stops at the error. So a few bytes
+// are validated first.
+fn valid_len(text: &[u8]) -> usize
+    ensures within { result ≤ length text.now }
+    ensures well_formed { IsUtf8 (take result text.now) }
+{
+    if text.len() < BLOCK_LEN {
+        return valid_prefix(text);
+    }
+    let first = first_len(text);
+    let len = valid_prefix(&text[..first]);
+    if len < first {
+        return len;
+    }
+    len + valid_prefix(&text[len..])
+}
+
+// Returns how many bytes to validate first: without the last character, which may be incomplete and
+// is left for the next ones.
+fn first_len(text: &[u8]) -> usize
+    requires { BLOCK_LEN ≤ length text.now }
+    ensures { result ≤ length text.now }
+{
+    let mut len = BLOCK_LEN - 1;
+    while len > BLOCK_LEN - 4 && text[len - 1] & 0xC0 == 0x80 {
+        len -= 1;
+    }
+    if text[len - 1] < 0xC0 { len } else { len - 1 }
+}
+
+// Whether a character of two bytes or more can begin with these two (Unicode Standard, table 3-7).
+#[inline(always)]
+fn can_begin(lead: u8, second: u8) -> bool
+    ensures { result ≡ (is_in_range 0xC2 0xF4 lead
+        && is_in_range (second_byte_min lead) (second_byte_max lead) second) }
+{
+    // The upper two bits of both bytes, in one test that few other pairs pass.
+    if lead / 0x40 * 4 + second / 0x40 != 0b1110 {
+        return false;
+    }
+    // The frequent first bytes, which take few comparisons.
+    if (0xE1..=0xEC).contains(&lead) || (0xC2..=0xDF).contains(&lead) {
+        return true;
+    }
+    let (least, most) = match lead {
+        0xE0 => (0xA0, 0xBF),
+        0xED => (0x80, 0x9F),
+        0xF0 => (0x90, 0xBF),
+        0xF4 => (0x80, 0x8F),
+        _ => (0x80, 0xBF),
+    };
+    (0xC2..=0xF4).contains(&lead) && (least..=most).contains(&second)
+}
+
+// Returns the first character and its length in bytes, or the `error_len` of what is there instead
+// (Unicode Standard, table 3-7).
+#[inline(always)]
+pub(crate) fn first_char(rest: &[u8]) -> Result<(char, usize), Option<u8>>
+    requires { 0 < length rest.now }
+    ensures char { IfOk result (λ first. BeginsWith encode_utf8 rest.now first.0 first.1) }
+    ensures ill_formed { IfErr result (IsIllFormedUtf8At rest.now) }
+{
+    let lead = rest[0];
+    if lead < 0x80 {
+        return Ok((lead as char, 1));
+    }
+    // Most characters of three bytes, with the fewest tests.
+    if rest.len() >= 3
+        && (0xE1..=0xEC).contains(&lead)
+        && is_continuation(rest[1])
+        && is_continuation(rest[2])
+    {
+        return Ok((char_of_three(lead, rest[1], rest[2]), 3));
+    }
+    if rest.len() < 2 {
+        return Err(error_len_of_one(lead));
+    }
+    if !can_begin(lead, rest[1]) {
+        return Err(Some(1));
+    }
+    if lead < 0xE0 {
+        return Ok((char_of_two(lead, rest[1]), 2));
+    }
+    if rest.len() < 3 {
+        return Err(None);
+    }
+    if !is_continuation(rest[2]) {
+        return Err(Some(2));
+    }
+    if lead < 0xF0 {
+        return Ok((char_of_three(lead, rest[1], rest[2]), 3));
+    }
+    if rest.len() < 4 {
+        return Err(None);
+    }
+    if !is_continuation(rest[3]) {
+        return Err(Some(3));
+    }
+    Ok((char_of_four(lead, rest[1], rest[2], rest[3]), 4))
+}
+
+// Returns the `error_len` of a single byte that is not ASCII: `None` if it can begin a character.
+#[inline(always)]
+fn error_len_of_one(lead: u8) -> Option<u8>
+    requires { 0x80 ≤ lead }
+    ensures { IsIllFormedUtf8At (lead ∷ []) result }
+{
+    if (0xC2..=0xF4).contains(&lead) {
+        None
+    } else {
+        Some(1)
+    }
+}

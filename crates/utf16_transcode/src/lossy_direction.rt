@@ -1,0 +1,69 @@
+//! What a direction needs to continue after ill-formed sequences: which bytes are pending, and what
+//! is written for each ill-formed sequence.
+
+ghost use Rattle.std.specs.Prelude.{◌≡◌, ◌-◌, ◌<◌, ◌≤◌, ◌++◌, ℕ, List, IfSome, None, Some, drop, length, take};
+ghost use Rattle.std.specs.List.{flat_map};
+ghost use Rattle.utf16_transcode.specs.Decomposition.{Decomposition, IsSplitInChunks, decided};
+ghost use Rattle.utf16_transcode.specs.Stops.{Stops, StopsLossyAs, TextDoesNotFit};
+ghost use Rattle.utf16_transcode.specs.Wrote.{DecodesAsTo, Gives, Wrote};
+ghost use Rattle.utf16_transcode.specs.declared.progress.Stop.{Stop};
+ghost use Rattle.utf16_transcode.specs.declared.progress.Stop.TheVariants.{IllFormed};
+
+use crate::direction::Direction;
+use utf16_units::Moved;
+
+/// A direction that continues after ill-formed sequences.
+pub trait LossyDirection: Direction {
+    // The items and the tail of any bytes, and the code points that are written for them.
+    ghost parts: { Decomposition };
+
+    /// Writes the replacement of the ill-formed sequence at the start of the input to the start of
+    /// a buffer. It may also write what is certain of the bytes after it. Returns `None` if the
+    /// first character does not fit. The bytes of the buffer after the written ones may be
+    /// overwritten.
+    ///
+    /// # Precondition
+    ///
+    /// The input begins with an ill-formed sequence of `len` bytes.
+    fn write_ill_formed(input: &[u8], len: u8, to: &mut [u8]) -> Option<Moved>
+        requires some { 0 < length input.now }
+        requires ill_formed { Self.IsIllFormedAt input.now (Some len) }
+        ensures decodes { IfSome result (λ done.
+            DecodesAsTo parts Self.into input.now to.new done.read done.written) }
+        ensures advances { IfSome result (λ done. 0 < done.read) }
+        ensures none { result ≡ None
+            → TextDoesNotFit Self.into (decided parts input.now) (length to.new) };
+
+    /// Writes the replacement of a tail at the end of the input at `at`, and returns where it ends,
+    /// or `None` if it does not fit. All other bytes of the buffer are unchanged.
+    ///
+    /// # Precondition
+    ///
+    /// `at` is at most the length of the buffer.
+    fn write_end(tail: &[u8], to: &mut [u8], at: usize) -> Option<usize>
+        requires { at ≤ length to.old }
+        ensures within { IfSome result (λ end. end ≤ length to.new) }
+        ensures bytes { IfSome result (λ end.
+            take end to.new ≡ take at to.old ++ flat_map Self.into (parts.at_end tail.now)) }
+        ensures rest { IfSome result (λ end. drop end to.new ≡ drop end to.old) }
+        ensures none { result ≡ None
+            → length to.new - at < length (flat_map Self.into (parts.at_end tail.now)) }
+        ensures unchanged { result ≡ None → to.new ≡ to.old };
+
+    /// States what the proofs of lossy calls and of a stream need, and does nothing. Bytes may come
+    /// in chunks. A character takes at most four bytes. A text is decoded as itself. If `transcode`
+    /// stops for another reason than an ill-formed sequence, a lossy call stops for the same
+    /// reason.
+    fn lossy_laws()
+        ensures chunks { IsSplitInChunks parts }
+        ensures short { (c : ℕ) → length (Self.into c) ≤ 4 }
+        ensures text { (input to : List ℕ) (n w : ℕ)
+            → Wrote (Gives Self.IsValid Self.other) input to n w
+            → DecodesAsTo parts Self.into input to n w }
+        ensures stops { (input : List ℕ) (n left : ℕ) (stop : Stop)
+            → ((len : ℕ) → ¬ (stop ≡ IllFormed len))
+            → Stops Self.from Self.into Self.IsIllFormed input n left stop
+            → StopsLossyAs parts Self.into (drop n input) left stop }
+        ensures there { (input : List ℕ) (n len : ℕ) → Self.IsIllFormed input n (Some len)
+            → (n < length input) × Self.IsIllFormedAt (drop n input) (Some len) };
+}

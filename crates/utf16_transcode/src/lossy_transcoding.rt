@@ -1,0 +1,73 @@
+//! Transcoding that continues after ill-formed sequences, and replaces each of them.
+
+ghost use Rattle.std.specs.Prelude.{◌≡◌, ◌-◌, drop, length};
+ghost use Rattle.utf16_transcode.specs.Shown.{ShowsWhole};
+ghost use Rattle.utf16_transcode.specs.Stops.{StopsLossyAs, StopsLossyWhole};
+ghost use Rattle.utf16_transcode.specs.Wrote.{DecodesAsTo};
+ghost use Rattle.utf16_transcode.specs.declared.progress.Stop.TheVariants.{NoSpace};
+
+use crate::lossy_direction::LossyDirection;
+use crate::progress::{Progress, Stop};
+use crate::transcoding::transcode;
+
+/// Writes what is certain of the input to the start of a buffer, as far as whole characters fit,
+/// and replaces each ill-formed sequence. A tail that more bytes could change is not read.
+#[inline(always)]
+pub fn transcode_partial<D: LossyDirection>(input: &[u8], to: &mut [u8]) -> Progress
+    ensures decodes { DecodesAsTo D.parts D.into input.now to.new result.read result.written }
+    ensures stop { StopsLossyAs D.parts D.into (drop result.read input.now)
+        (length to.new - result.written) result.stop }
+{
+    D::lossy_laws();
+    let mut read = 0;
+    let mut written = 0;
+    loop {
+        let front = transcode::<D>(&input[read..], &mut to[written..]);
+        read += front.read;
+        written += front.written;
+        let Stop::IllFormed(len) = front.stop else {
+            return Progress {
+                read,
+                written,
+                stop: front.stop,
+            };
+        };
+        let Some(next) = D::write_ill_formed(&input[read..], len, &mut to[written..]) else {
+            return Progress {
+                read,
+                written,
+                stop: Stop::NoSpace,
+            };
+        };
+        read += next.read;
+        written += next.written;
+    }
+}
+
+/// Writes the whole input to the start of a buffer, as far as whole characters fit, and replaces
+/// each ill-formed sequence and a tail at the end.
+pub fn transcode_lossy<D: LossyDirection>(input: &[u8], to: &mut [u8]) -> Progress
+    ensures shown { ShowsWhole D.parts.whole D.into input.now to.new result.read result.written }
+    ensures stop { StopsLossyWhole D.parts.whole D.into (drop result.read input.now)
+        (length to.new - result.written) result.stop }
+    ensures between { result.stop ≡ NoSpace
+        → DecodesAsTo D.parts D.into input.now to.new result.read result.written }
+{
+    D::lossy_laws();
+    let front = transcode_partial::<D>(input, to);
+    let Stop::Incomplete = front.stop else {
+        return front;
+    };
+    match D::write_end(&input[front.read..], to, front.written) {
+        Some(written) => Progress {
+            read: input.len(),
+            written,
+            stop: Stop::Done,
+        },
+        None => Progress {
+            read: front.read,
+            written: front.written,
+            stop: Stop::NoSpace,
+        },
+    }
+}

@@ -1,0 +1,343 @@
+//! Transcoding from one encoding to the other, up to the first ill-formed sequence or as far as
+//! whole characters fit.
+//!
+//! The writers with SIMD need more space than the text takes. Near the end, one or two blocks go
+//! through a buffer on the stack, and whole characters that fit are copied. The last boundary is at
+//! most three bytes back, so the cut takes a few steps.
+//!
+//! Few bytes go character by character, and so does text that begins near an ill-formed sequence:
+//! otherwise strict calls into 32 to 256 bytes take up to 3.6 times as long.
+
+ghost use Rattle.std.specs.Prelude.{◌≡◌, ◌≤◌, ◌<◌, ◌+◌, ◌-◌, ◌⊎◌, ℕ, IfErr, IfOk, IfSome, length};
+ghost use Rattle.utf16_transcode.specs.Stops.{BeginsWith, Stops, StopsHere};
+ghost use Rattle.utf16_transcode.specs.Wrote.{Gives, Puts, Wrote};
+
+use crate::direction::{BLOCK_LEN, BLOCK_ROOM, Direction};
+use crate::progress::{Progress, Stop, put};
+use utf16_units::Moved;
+
+// The number of bytes below which a piece is written character by character.
+const VERY_FEW: usize = 8;
+
+/// Writes the longest valid prefix in the second encoding to the start of a buffer, as far as whole
+/// characters fit.
+#[inline(always)]
+pub fn transcode<D: Direction>(input: &[u8], to: &mut [u8]) -> Progress
+    ensures wrote { Wrote (Gives D.IsValid D.other) input.now to.new result.read result.written }
+    ensures stop { Stops D.from D.into D.IsIllFormed input.now result.read
+        (length to.new - result.written) result.stop }
+{
+    let begun = D::begin(input, to);
+    if begun.read == input.len() {
+        return Progress {
+            read: begun.read,
+            written: begun.written,
+            stop: Stop::Done,
+        };
+    }
+    transcode_many::<D>(input, to, begun)
+}
+
+// Goes on from what was begun, and transcodes as much at once as surely fits. Not inlined, so that
+// what `begin` writes stays cheap.
+#[inline(never)]
+fn transcode_many<D: Direction>(input: &[u8], to: &mut [u8], begun: Moved) -> Progress
+    requires some { begun.read < length input.now }
+    requires begun { Wrote (Gives D.IsValid D.other) input.now to.old begun.read begun.written }
+    ensures wrote { Wrote (Gives D.IsValid D.other) input.now to.new result.read result.written }
+    ensures stop { Stops D.from D.into D.IsIllFormed input.now result.read
+        (length to.new - result.written) result.stop }
+{
+    D::laws();
+    let Moved {
+        mut read,
+        mut written,
+    } = begun;
+    // Tested first, because an ill-formed sequence often follows another.
+    if let Err(stop) = first_char::<D>(&input[read..]) {
+        return Progress {
+            read,
+            written,
+            stop,
+        };
+    }
+    while read < input.len() {
+        let piece = write_piece::<D>(&input[read..], to, written);
+        read += piece.read;
+        written = piece.written;
+        if read == input.len() {
+            break;
+        }
+        match write_next_char::<D>(&input[read..], to, written) {
+            Ok(next) => {
+                read += next.read;
+                written = next.written;
+            }
+            Err(stop) => {
+                return Progress {
+                    read,
+                    written,
+                    stop,
+                };
+            }
+        }
+    }
+    Progress {
+        read,
+        written,
+        stop: Stop::Done,
+    }
+}
+
+// Writes a valid prefix of the bytes, which may be empty, at `at`. It first writes bytes that it
+// validates at the same time, as far as possible, and then a few that it validates before it writes
+// them.
+fn write_piece<D: Direction>(rest: &[u8], to: &mut [u8], at: usize) -> Moved
+    requires { at ≤ length to.old }
+    ensures { Puts (Gives D.IsValid D.other) rest.now to.old to.new at result.read result.written }
+{
+    D::laws();
+    let front = write_validating::<D>(rest, to, at);
+    if front.read == rest.len() {
+        return front;
+    }
+    let tail = write_validated_tail::<D>(&rest[front.read..], to, front.written);
+    Moved {
+        read: front.read + tail.read,
+        written: tail.written,
+    }
+}
+
+// Writes a valid prefix of the bytes at `at`, and validates it at the same time.
+#[inline(always)]
+fn write_validating<D: Direction>(rest: &[u8], to: &mut [u8], at: usize) -> Moved
+    requires { at ≤ length to.old }
+    ensures { Puts (Gives D.IsValid D.other) rest.now to.old to.new at result.read result.written }
+{
+    D::laws();
+    if rest.len() < D::FRONT_LEN {
+        return Moved {
+            read: 0,
+            written: at,
+        };
+    }
+    let front = D::write_front(rest, &mut to[at..]);
+    Moved {
+        read: front.read,
+        written: at + front.written,
+    }
+}
+
+// Writes a valid prefix of a few bytes, and validates it first. It writes directly to the buffer if
+// all bytes surely fit.
+fn write_validated_tail<D: Direction>(rest: &[u8], to: &mut [u8], at: usize) -> Moved
+    requires { at ≤ length to.old }
+    ensures { Puts (Gives D.IsValid D.other) rest.now to.old to.new at result.read result.written }
+{
+    D::laws();
+    if rest.len() < VERY_FEW {
+        return write_chars::<D>(rest, to, at);
+    }
+    let len = rest.len().min(2 * BLOCK_LEN);
+    if len <= D::surely_fit(to.len() - at) {
+        return write_valid::<D>(&rest[..len], to, at);
+    }
+    write_last_bytes::<D>(rest, to, at)
+}
+
+// Writes a valid prefix of bytes that surely fit.
+#[inline(always)]
+fn write_valid<D: Direction>(rest: &[u8], to: &mut [u8], at: usize) -> Moved
+    requires { at + D.room_for (length rest.now) ≤ length to.old }
+    ensures { Puts (Gives D.IsValid D.other) rest.now to.old to.new at result.read result.written }
+{
+    D::laws();
+    let len = D::valid_len(rest);
+    if len == 0 {
+        return Moved {
+            read: 0,
+            written: at,
+        };
+    }
+    let written = D::write(&rest[..len], &mut to[at..]);
+    Moved {
+        read: len,
+        written: at + written,
+    }
+}
+
+// Writes a valid prefix of bytes that may not all fit. It goes character by character if there is
+// little space, or if an ill-formed sequence is near, since a block would stop there.
+fn write_last_bytes<D: Direction>(rest: &[u8], to: &mut [u8], at: usize) -> Moved
+    requires some { 0 < length rest.now }
+    requires within { at ≤ length to.old }
+    ensures { Puts (Gives D.IsValid D.other) rest.now to.old to.new at result.read result.written }
+{
+    D::laws();
+    if to.len() - at < 3 * VERY_FEW {
+        return write_chars::<D>(rest, to, at);
+    }
+    let mut buf = [0; BLOCK_ROOM];
+    if rest.len() < BLOCK_LEN {
+        return write_short_text::<D>(rest, &mut buf, to, at);
+    }
+    if is_near_ill_formed::<D>(rest) {
+        return write_chars::<D>(rest, to, at);
+    }
+    let block = write_block::<D>(rest, &mut buf, to, at);
+    if block.read > 0 {
+        return block;
+    }
+    let few = write_short_text::<D>(&rest[block.read..], &mut buf, to, block.written);
+    Moved {
+        read: block.read + few.read,
+        written: few.written,
+    }
+}
+
+// Whether the first or the second character is missing or ill formed. Only speed depends on the
+// answer.
+#[inline(always)]
+fn is_near_ill_formed<D: Direction>(rest: &[u8]) -> bool
+    requires { 0 < length rest.now }
+{
+    match D::first_char(rest) {
+        Ok((_, len)) => len < rest.len() && D::first_char(&rest[len..]).is_err(),
+        Err(_) => true,
+    }
+}
+
+// Writes a valid prefix through `buf`, and validates it at the same time: a block, or two blocks if
+// more space than a block takes is left. A block of UTF-16 needs the code unit after it.
+#[inline(always)]
+fn write_block<D: Direction>(rest: &[u8], buf: &mut [u8], to: &mut [u8], at: usize) -> Moved
+    requires { at ≤ length to.old }
+    ensures { Puts (Gives D.IsValid D.other) rest.now to.old to.new at result.read result.written }
+{
+    let most = if to.len() - at <= BLOCK_LEN {
+        BLOCK_LEN
+    } else {
+        2 * BLOCK_LEN
+    };
+    let front = D::write_front(&rest[..rest.len().min(most + 2)], buf);
+    write_fitting::<D>(&rest[..front.read], &buf[..front.written], to, at)
+}
+
+// Writes a valid prefix of a few bytes through `buf`, and validates it first.
+fn write_short_text<D: Direction>(rest: &[u8], buf: &mut [u8], to: &mut [u8], at: usize) -> Moved
+    requires space { BLOCK_ROOM ≤ length buf.old }
+    requires within { at ≤ length to.old }
+    ensures { Puts (Gives D.IsValid D.other) rest.now to.old to.new at result.read result.written }
+{
+    D::laws();
+    let len = D::valid_len(&rest[..rest.len().min(BLOCK_LEN)]);
+    let end = D::write(&rest[..len], buf);
+    write_fitting::<D>(&rest[..len], &buf[..end], to, at)
+}
+
+// Copies a text in the second encoding to `at`, as far as it fits.
+#[inline(always)]
+fn write_fitting<D: Direction>(text: &[u8], written: &[u8], to: &mut [u8], at: usize) -> Moved
+    requires text { Gives D.IsValid D.other text.now written.now }
+    requires within { at ≤ length to.old }
+    ensures bytes { Puts (Gives D.IsValid D.other) text.now to.old to.new at result.read
+        result.written }
+    ensures most { (result.read ≡ length text.now) ⊎ (length to.new - result.written < 4) }
+{
+    let front = prefix_for::<D>(text, written, to.len() - at);
+    Moved {
+        read: front.read,
+        written: put(&written[..front.written], to, at),
+    }
+}
+
+// Returns how much of a text fits in `room` bytes in the second encoding.
+#[inline(always)]
+fn prefix_for<D: Direction>(text: &[u8], written: &[u8], room: usize) -> Moved
+    requires { Gives D.IsValid D.other text.now written.now }
+    ensures prefix { Wrote (Gives D.IsValid D.other) text.now written.now result.read
+        result.written }
+    ensures fits { result.written ≤ room }
+    ensures most { (result.read ≡ length text.now) ⊎ (room < result.written + 4) }
+{
+    if written.len() <= room {
+        Moved {
+            read: text.len(),
+            written: written.len(),
+        }
+    } else {
+        D::fitting_prefix(text, written, room)
+    }
+}
+
+// Writes the valid characters at the start of the bytes, as far as they fit. After what `begin`
+// writes, it goes character by character.
+fn write_chars<D: Direction>(rest: &[u8], to: &mut [u8], at: usize) -> Moved
+    requires { at ≤ length to.old }
+    ensures { Puts (Gives D.IsValid D.other) rest.now to.old to.new at result.read result.written }
+{
+    D::laws();
+    let Moved {
+        mut read,
+        mut written,
+    } = write_start::<D>(rest, to, at);
+    while read < rest.len() {
+        let Ok(next) = write_next_char::<D>(&rest[read..], to, written) else {
+            break;
+        };
+        read += next.read;
+        written = next.written;
+    }
+    Moved { read, written }
+}
+
+// Writes what `begin` writes, which may be nothing, at `at`.
+#[inline(always)]
+fn write_start<D: Direction>(rest: &[u8], to: &mut [u8], at: usize) -> Moved
+    requires { at ≤ length to.old }
+    ensures { Puts (Gives D.IsValid D.other) rest.now to.old to.new at result.read result.written }
+{
+    let begun = D::begin(rest, &mut to[at..]);
+    Moved {
+        read: begun.read,
+        written: at + begun.written,
+    }
+}
+
+// Writes the first character at `at`, or returns why it does not.
+#[inline(always)]
+fn write_next_char<D: Direction>(rest: &[u8], to: &mut [u8], at: usize) -> Result<Moved, Stop>
+    requires not_empty { 0 < length rest.now }
+    requires within { at ≤ length to.old }
+    ensures wrote { IfOk result (λ r.
+        Puts (Gives D.IsValid D.other) rest.now to.old to.new at r.read r.written) }
+    ensures advances { IfOk result (λ r. 0 < r.read) }
+    ensures stop { IfErr result (StopsHere D.from D.into D.IsIllFormedAt rest.now
+        (length to.new - at)) }
+    ensures unchanged { IfErr result (λ _. to.new ≡ to.old) }
+{
+    D::laws();
+    let (c, len) = first_char::<D>(rest)?;
+    match D::write_char(c, to, at) {
+        Some(end) => Ok(Moved {
+            read: len,
+            written: end,
+        }),
+        None => Err(Stop::NoSpace),
+    }
+}
+
+// Returns the first character and its length in bytes, or why a call stops before it.
+#[inline(always)]
+fn first_char<D: Direction>(rest: &[u8]) -> Result<(char, usize), Stop>
+    requires { 0 < length rest.now }
+    ensures char { IfOk result (λ first. BeginsWith D.from rest.now first.0 first.1) }
+    ensures stop { IfErr result (λ stop. (left : ℕ)
+        → StopsHere D.from D.into D.IsIllFormedAt rest.now left stop) }
+{
+    match D::first_char(rest) {
+        Ok(first) => Ok(first),
+        Err(Some(len)) => Err(Stop::IllFormed(len)),
+        Err(None) => Err(Stop::Incomplete),
+    }
+}

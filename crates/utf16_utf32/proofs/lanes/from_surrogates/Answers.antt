@@ -1,5 +1,0 @@
-use Rattle.utf16_utf32.proofs.LaneLemmas.{from_surrogates-lanes}
-use Rattle.utf16_utf32.proofs.lanes.from_surrogates.Goals as goal
-
-pub returns : goal.returns
-returns c = from_surrogates-lanes c.args.units c.fits-units.0

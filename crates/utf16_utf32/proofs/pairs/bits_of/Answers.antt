@@ -1,5 +1,0 @@
-use Rattle.utf16_utf32.proofs.PairLemmas.{bits-lanes}
-use Rattle.utf16_utf32.proofs.pairs.bits_of.Goals as goal
-
-pub returns : goal.returns
-returns c = bits-lanes c.args.pairs c.fits-pairs.0

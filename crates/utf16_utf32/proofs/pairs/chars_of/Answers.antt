@@ -1,5 +1,0 @@
-use Rattle.utf16_utf32.proofs.PairLemmas.{chars-lanes}
-use Rattle.utf16_utf32.proofs.pairs.chars_of.Goals as goal
-
-pub returns : goal.returns
-returns c = chars-lanes c.args.bits c.fits-bits.0

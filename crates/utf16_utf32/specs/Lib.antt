@@ -1,4 +1,0 @@
-pub mod Utf32
-pub mod Stops32
-pub mod Pairs
-pub mod Progress

@@ -1,2 +1,0 @@
-pub mod PartLemmas
-pub mod PiecesLemmas

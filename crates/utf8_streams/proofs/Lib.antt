@@ -1,3 +1,0 @@
-pub mod EncoderLemmas
-pub mod Utf16Rows
-pub mod LawProofs

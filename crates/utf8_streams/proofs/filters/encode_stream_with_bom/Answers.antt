@@ -1,6 +1,0 @@
-use Rattle.std.proofs.Common.{true}
-use Rattle.utf8_streams.proofs.EncoderLemmas.{from_start}
-use Rattle.utf8_streams.proofs.filters.encode_stream_with_bom.Goals as goal
-
-pub returns-clause-transfers : goal.returns-clause-transfers
-returns-clause-transfers g c = from_start g.E.Utf16Order.BIG true _ _ _ _ _ _ _ c.new.ensures.bom_due c.new.ensures.pending c.filter_by.ensures.transfers
