@@ -3,12 +3,11 @@
 ghost use Rattle.std.specs.Prelude.{◌≡◌, ◌==◌, ◌||◌, IfOk, IfSome, encode_utf8_all, length, map, nat_lt, not, reverse};
 ghost use Rattle.std.specs.List.{slice_split};
 ghost use Rattle.std.specs.Str.Parse.{digits_value, without_leading_plus};
-ghost use Rattle.utf16_str.specs.AsciiWords.{ascii_words};
-ghost use Rattle.utf16_str.specs.Predicates.{IsFirstWith, IsTrimmedWith};
+ghost use Rattle.utf16string.specs.AsciiWords.{ascii_words};
+ghost use Rattle.utf16string.specs.Predicates.{IsFirstWith, IsTrimmedWith};
 ghost use Rattle.utf16string.specs.WStr.{wstr_text};
 
 use std::alloc::{AllocError, Allocator};
-use utf16_str::WStrExt;
 use utf16string::{Utf16Order, WStr};
 
 /// Collects the items of a list, separated by commas and semicolons.

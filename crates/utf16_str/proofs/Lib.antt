@@ -38,7 +38,7 @@ mod PredicateCuts
 mod PredicateAround
 mod PredicateSplitRuns
 mod AsciiWordLemmas
-mod AsciiWordRuns
+mod PartsCount
 mod Utf8Size
 pub mod PredicateRestated
 pub mod Overwritten

@@ -10,7 +10,10 @@ use Rattle.std.specs.Iterator.Runs.{EachRunFrom, ItemsMapTo, ItemsMapToReversed}
 use Rattle.std.specs.List.{slice_split}
 use Rattle.utf16_str.specs.Predicates.{AnswersBy, GivesLastPart, GivesPart, SaysOfEach}
 use Rattle.utf16_str.specs.SplitWith.{SplitsText, SplitsTextBack, split_predicate, split_rest, split_steps, split_steps_back}
+use Rattle.utf16_str.specs.WStr.{wstr_text}
 use Rattle.utf16_str.specs.declared.split_with.WStrSplitWith.{WStrSplitWith}
+use Rattle.utf16_str.specs.declared.wstr.WStr.{WStr}
+use Rattle.utf16_units.specs.declared.byte_order.Utf16Order.{Ghosts}
 use Rattle.utf16_str.proofs.PredicateAround.{split-around}
 
 -- the parts of what is left of a text: none after the last part
@@ -45,54 +48,54 @@ module _ (says : ℕ → Bool → Type 0) (k : ℕ → Bool) (by : AnswersBy say
       ∙ split-around k before gives.delimiter part (sym (by gives.delimiter true gives.here))
       ∙ ap (λ parts. slice_split k before ++ parts) (one part gives.after)
 
-module _ {S F : Type 0} (view : S → List ℕ) (post : F → ℕ → Bool → Type 0) where
-  fronts : (k : ℕ → Bool) (xs : List S) (s t : WStrSplitWith S F) → AnswersBy (post (split_predicate s)) k → Yields (split_steps view post) s xs t
-      → parts_of k (option_map view (split_rest s)) ≡ map view xs ++ parts_of k (option_map view (split_rest t))
-  fronts k [] s t by y = ap (λ it. parts_of k (option_map view (split_rest it))) y
+module _ {E F : Type 0} {order : Ghosts E} (post : F → ℕ → Bool → Type 0) where
+  fronts : (k : ℕ → Bool) (xs : List (WStr E order)) (s t : WStrSplitWith E F order) → AnswersBy (post (split_predicate s)) k → Yields (split_steps post) s xs t
+      → parts_of k (option_map wstr_text (split_rest s)) ≡ map wstr_text xs ++ parts_of k (option_map wstr_text (split_rest t))
+  fronts k [] s t by y = ap (λ it. parts_of k (option_map wstr_text (split_rest it))) y
   fronts k (x ∷ xs) s t by y =
-      gives-some (post (split_predicate s)) k by (option_map view (split_rest s)) (view x) (option_map view (split_rest y.0)) y.1.0
-      ∙ ap (λ l. view x ∷ l) (fronts k xs y.0 t (subst (λ f. AnswersBy (post f) k) (sym y.1.1) by) y.2)
+      gives-some (post (split_predicate s)) k by (option_map wstr_text (split_rest s)) (wstr_text x) (option_map wstr_text (split_rest y.0)) y.1.0
+      ∙ ap (λ l. wstr_text x ∷ l) (fronts k xs y.0 t (subst (λ f. AnswersBy (post f) k) (sym y.1.1) by) y.2)
 
-  parts_run : (s : WStrSplitWith S F) (f : F) (text : S) → split_rest s ≡ Some text → split_predicate s ≡ f → (k : ℕ → Bool) → AnswersBy (post f) k
-      → EachRunFrom (split_steps view post) s (λ p. ItemsMapTo p view (slice_split k (view text)))
+  parts_run : (s : WStrSplitWith E F order) (f : F) (text : WStr E order) → split_rest s ≡ Some text → split_predicate s ≡ f → (k : ℕ → Bool) → AnswersBy (post f) k
+      → EachRunFrom (split_steps post) s (λ p. ItemsMapTo p wstr_text (slice_split k (wstr_text text)))
   parts_run s f text is same k by p _ from =
       let kept : AnswersBy (post (split_predicate p.from)) k = subst (λ g. AnswersBy (post g) k) (sym (ap split_predicate from ∙ same)) by in
       let left = (took p).0 in
-      let none : p.whole ≡ true → length (parts_of k (option_map view (split_rest left))) ≡ 0 =
-      λ w. ap length (gives-none (post (split_predicate left)) k (option_map view (split_rest left)) (option_map view (split_rest ((took p).2 w).0)) ((took p).2 w).1.0) in
-      let cut : slice_split k (view text) ≡ map view p.items ++ parts_of k (option_map view (split_rest left)) =
-      sym (ap (λ o. parts_of k (option_map view o)) (ap split_rest from ∙ is)) ∙ fronts k p.items p.from left kept (took p).1 in
-      lists p view (slice_split k (view text)) (parts_of k (option_map view (split_rest left))) none cut
+      let none : p.whole ≡ true → length (parts_of k (option_map wstr_text (split_rest left))) ≡ 0 =
+      λ w. ap length (gives-none (post (split_predicate left)) k (option_map wstr_text (split_rest left)) (option_map wstr_text (split_rest ((took p).2 w).0)) ((took p).2 w).1.0) in
+      let cut : slice_split k (wstr_text text) ≡ map wstr_text p.items ++ parts_of k (option_map wstr_text (split_rest left)) =
+      sym (ap (λ o. parts_of k (option_map wstr_text o)) (ap split_rest from ∙ is)) ∙ fronts k p.items p.from left kept (took p).1 in
+      lists p wstr_text (slice_split k (wstr_text text)) (parts_of k (option_map wstr_text (split_rest left))) none cut
 
-  pub split_runs : (s : WStrSplitWith S F) (f : F) (text : S) → split_rest s ≡ Some text → split_predicate s ≡ f
-      → EachRunFrom (split_steps view post) s (λ p. SplitsText p view (post f) (view text))
+  pub split_runs : (s : WStrSplitWith E F order) (f : F) (text : WStr E order) → split_rest s ≡ Some text → split_predicate s ≡ f
+      → EachRunFrom (split_steps post) s (λ p. SplitsText p wstr_text (post f) (wstr_text text))
   split_runs s f text is same p seen from =
       let all = λ (k : ℕ → Bool) (by : AnswersBy (post f) k). parts_run s f text is same k by p seen from in
       (λ k by. (all k by).4, λ k by. (all k by).1, all)
 
   -- ---- from the back
-  backs : (k : ℕ → Bool) (xs : List S) (s t : WStrSplitWith S F) → AnswersBy (post (split_predicate s)) k → Yields (split_steps_back view post) s xs t
-      → parts_of k (option_map view (split_rest s)) ≡ parts_of k (option_map view (split_rest t)) ++ reverse (map view xs)
-  backs k [] s t by y = ap (λ it. parts_of k (option_map view (split_rest it))) y ∙ sym (append-nil (parts_of k (option_map view (split_rest t))))
+  backs : (k : ℕ → Bool) (xs : List (WStr E order)) (s t : WStrSplitWith E F order) → AnswersBy (post (split_predicate s)) k → Yields (split_steps_back post) s xs t
+      → parts_of k (option_map wstr_text (split_rest s)) ≡ parts_of k (option_map wstr_text (split_rest t)) ++ reverse (map wstr_text xs)
+  backs k [] s t by y = ap (λ it. parts_of k (option_map wstr_text (split_rest it))) y ∙ sym (append-nil (parts_of k (option_map wstr_text (split_rest t))))
   backs k (x ∷ xs) s t by y =
-      gives_last-some (post (split_predicate s)) k by (option_map view (split_rest s)) (view x) (option_map view (split_rest y.0)) y.1.0
-      ∙ ap (λ l. l ++ view x ∷ []) (backs k xs y.0 t (subst (λ f. AnswersBy (post f) k) (sym y.1.1) by) y.2)
-      ∙ append_assoc (parts_of k (option_map view (split_rest t))) (reverse (map view xs)) (view x ∷ [])
-      ∙ ap (λ l. parts_of k (option_map view (split_rest t)) ++ l) (sym (reverse-append (view x ∷ []) (map view xs)))
+      gives_last-some (post (split_predicate s)) k by (option_map wstr_text (split_rest s)) (wstr_text x) (option_map wstr_text (split_rest y.0)) y.1.0
+      ∙ ap (λ l. l ++ wstr_text x ∷ []) (backs k xs y.0 t (subst (λ f. AnswersBy (post f) k) (sym y.1.1) by) y.2)
+      ∙ append_assoc (parts_of k (option_map wstr_text (split_rest t))) (reverse (map wstr_text xs)) (wstr_text x ∷ [])
+      ∙ ap (λ l. parts_of k (option_map wstr_text (split_rest t)) ++ l) (sym (reverse-append (wstr_text x ∷ []) (map wstr_text xs)))
 
-  parts_run_back : (s : WStrSplitWith S F) (f : F) (text : S) → split_rest s ≡ Some text → split_predicate s ≡ f → (k : ℕ → Bool) → AnswersBy (post f) k
-      → EachRunFrom (split_steps_back view post) s (λ p. ItemsMapToReversed p view (slice_split k (view text)))
+  parts_run_back : (s : WStrSplitWith E F order) (f : F) (text : WStr E order) → split_rest s ≡ Some text → split_predicate s ≡ f → (k : ℕ → Bool) → AnswersBy (post f) k
+      → EachRunFrom (split_steps_back post) s (λ p. ItemsMapToReversed p wstr_text (slice_split k (wstr_text text)))
   parts_run_back s f text is same k by p _ from =
       let kept : AnswersBy (post (split_predicate p.from)) k = subst (λ g. AnswersBy (post g) k) (sym (ap split_predicate from ∙ same)) by in
       let left = (took p).0 in
-      let none : p.whole ≡ true → length (parts_of k (option_map view (split_rest left))) ≡ 0 =
-      λ w. ap length (gives_last-none (post (split_predicate left)) k (option_map view (split_rest left)) (option_map view (split_rest ((took p).2 w).0)) ((took p).2 w).1.0) in
-      let cut : slice_split k (view text) ≡ parts_of k (option_map view (split_rest left)) ++ reverse (map view p.items) =
-      sym (ap (λ o. parts_of k (option_map view o)) (ap split_rest from ∙ is)) ∙ backs k p.items p.from left kept (took p).1 in
-      lists_back p view (slice_split k (view text)) (parts_of k (option_map view (split_rest left))) none cut
+      let none : p.whole ≡ true → length (parts_of k (option_map wstr_text (split_rest left))) ≡ 0 =
+      λ w. ap length (gives_last-none (post (split_predicate left)) k (option_map wstr_text (split_rest left)) (option_map wstr_text (split_rest ((took p).2 w).0)) ((took p).2 w).1.0) in
+      let cut : slice_split k (wstr_text text) ≡ parts_of k (option_map wstr_text (split_rest left)) ++ reverse (map wstr_text p.items) =
+      sym (ap (λ o. parts_of k (option_map wstr_text o)) (ap split_rest from ∙ is)) ∙ backs k p.items p.from left kept (took p).1 in
+      lists_back p wstr_text (slice_split k (wstr_text text)) (parts_of k (option_map wstr_text (split_rest left))) none cut
 
-  pub split_runs_back : (s : WStrSplitWith S F) (f : F) (text : S) → split_rest s ≡ Some text → split_predicate s ≡ f
-      → EachRunFrom (split_steps_back view post) s (λ p. SplitsTextBack p view (post f) (view text))
+  pub split_runs_back : (s : WStrSplitWith E F order) (f : F) (text : WStr E order) → split_rest s ≡ Some text → split_predicate s ≡ f
+      → EachRunFrom (split_steps_back post) s (λ p. SplitsTextBack p wstr_text (post f) (wstr_text text))
   split_runs_back s f text is same p seen from =
       let all = λ (k : ℕ → Bool) (by : AnswersBy (post f) k). parts_run_back s f text is same k by p seen from in
       (λ k by. (all k by).4, all)

@@ -1,33 +1,36 @@
--- The parts that a `WStrSplitWith` gives. `text` is what a clause sees of a view: its characters.
+-- The parts that a `WStrSplitWith` gives.
 use Rattle.std.specs.Prelude.{◌≡◌, ℕ, ◌+◌, Bool, true, List, Option, None, Some, length, map, option_map, reverse}
 use Rattle.std.specs.Iterator.Runs.{ItemsMapTo, ItemsMapToReversed, Run}
 use Rattle.std.specs.List.{slice_split}
+use Rattle.utf16_units.specs.declared.byte_order.Utf16Order.{Ghosts}
 use Rattle.utf16_str.specs.Predicates.{AnswersBy, GivesLastPart, GivesPart}
+use Rattle.utf16_str.specs.WStr.{wstr_text}
 use Rattle.utf16_str.specs.declared.split_with.WStrSplitWith.{WStrSplitWith}
+use Rattle.utf16_str.specs.declared.wstr.WStr.{WStr}
 
 -- the most parts that are left of a text
-abbrev pub parts_left : Option (List ℕ) → ℕ
-parts_left None = 0
-parts_left (Some text) = length text + 1
+abbrev pub most_parts : Option (List ℕ) → ℕ
+most_parts None = 0
+most_parts (Some text) = length text + 1
 
-module _ {S F : Type 0} where
+module _ {E F : Type 0} {order : Ghosts E} where
   -- the view that is left, or `None` after the last part
-  abbrev pub split_rest : WStrSplitWith S F → Option S
+  abbrev pub split_rest : WStrSplitWith E F order → Option (WStr E order)
   split_rest it = it.rest
 
-  abbrev pub split_predicate : WStrSplitWith S F → F
+  abbrev pub split_predicate : WStrSplitWith E F order → F
   split_predicate it = it.predicate
 
   -- a call of `next` gave the next part; the predicate stays
-  abbrev pub split_steps : (S → List ℕ) → (F → ℕ → Bool → Type 0) → WStrSplitWith S F → Option S → WStrSplitWith S F → Type 0
-  split_steps text post s r t =
-      GivesPart (post (split_predicate s)) (option_map text (split_rest s)) (option_map text r) (option_map text (split_rest t))
+  abbrev pub split_steps : (F → ℕ → Bool → Type 0) → WStrSplitWith E F order → Option (WStr E order) → WStrSplitWith E F order → Type 0
+  split_steps post s r t =
+      GivesPart (post (split_predicate s)) (option_map wstr_text (split_rest s)) (option_map wstr_text r) (option_map wstr_text (split_rest t))
       × (split_predicate t ≡ split_predicate s)
 
   -- a call of `next_back` gave the last part; the predicate stays
-  abbrev pub split_steps_back : (S → List ℕ) → (F → ℕ → Bool → Type 0) → WStrSplitWith S F → Option S → WStrSplitWith S F → Type 0
-  split_steps_back text post s r t =
-      GivesLastPart (post (split_predicate s)) (option_map text (split_rest s)) (option_map text r) (option_map text (split_rest t))
+  abbrev pub split_steps_back : (F → ℕ → Bool → Type 0) → WStrSplitWith E F order → Option (WStr E order) → WStrSplitWith E F order → Type 0
+  split_steps_back post s r t =
+      GivesLastPart (post (split_predicate s)) (option_map wstr_text (split_rest s)) (option_map wstr_text r) (option_map wstr_text (split_rest t))
       × (split_predicate t ≡ split_predicate s)
 
 -- a run gives the parts that `str::split` gives for a function with the same answers as the

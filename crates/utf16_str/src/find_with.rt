@@ -1,40 +1,85 @@
 //! The first and the last character for which a predicate is true.
 
+ghost use Rattle.std.specs.Prelude.{IfSome};
+ghost use Rattle.utf16_units.specs.Boundary.{IsBoundary};
 ghost use Rattle.utf16_str.specs.WStr.{wstr_text};
 ghost use Rattle.utf16_str.specs.Predicates.{IsFirstWith, IsLastWith};
 
-use crate::wstr::WStr;
+use crate::WStr;
 use utf16_units::Utf16Order;
 
-// The least byte offset of a character for which the predicate is true.
-pub(crate) fn find_with<E: Utf16Order, F: Fn(char) -> bool>(
-    text: WStr<E>,
-    predicate: &F,
-) -> Option<usize>
-    requires { F.IsAlwaysCallable predicate.now }
-    ensures { IsFirstWith (F.post predicate.now) (wstr_text text.entry) result }
-{
-    for (at, c) in text.char_indices() {
-        if predicate(c) {
-            return Some(at);
-        }
+impl<'a, E: Utf16Order> WStr<'a, E> {
+    /// Returns the least byte offset of a character for which the predicate is true, or `None` if
+    /// there is none.
+    ///
+    /// # Precondition
+    ///
+    /// The predicate may be called on any character.
+    ///
+    /// # Complexity
+    ///
+    /// One pass, up to that character. Calls the predicate once for each character that it passes.
+    ///
+    /// # Source
+    ///
+    /// `str::find` with a closure, with offsets in bytes of UTF-16.
+    #[inline]
+    pub fn find_with<F: Fn(char) -> bool>(self, predicate: F) -> Option<usize>
+        requires { F.IsAlwaysCallable predicate }
+        ensures first { IsFirstWith (F.post predicate) (wstr_text self.entry) result }
+        ensures boundary { IfSome result (IsBoundary (wstr_text self.entry)) }
+    {
+        self.find_by(&predicate)
     }
-    None
-}
 
-// The greatest byte offset of a character for which the predicate is true.
-pub(crate) fn rfind_with<E: Utf16Order, F: Fn(char) -> bool>(
-    text: WStr<E>,
-    predicate: &F,
-) -> Option<usize>
-    requires { F.IsAlwaysCallable predicate.now }
-    ensures { IsLastWith (F.post predicate.now) (wstr_text text.entry) result }
-{
-    let mut chars = text.chars();
-    while let Some(c) = chars.next_back() {
-        if predicate(c) {
-            return Some(chars.as_wstr().len());
-        }
+    /// Returns the greatest byte offset of a character for which the predicate is true, or `None`
+    /// if there is none.
+    ///
+    /// # Precondition
+    ///
+    /// The predicate may be called on any character.
+    ///
+    /// # Complexity
+    ///
+    /// One pass, from the end down to that character. Calls the predicate once for each character
+    /// that it passes.
+    ///
+    /// # Source
+    ///
+    /// `str::rfind` with a closure, with offsets in bytes of UTF-16.
+    #[inline]
+    pub fn rfind_with<F: Fn(char) -> bool>(self, predicate: F) -> Option<usize>
+        requires { F.IsAlwaysCallable predicate }
+        ensures last { IsLastWith (F.post predicate) (wstr_text self.entry) result }
+        ensures boundary { IfSome result (IsBoundary (wstr_text self.entry)) }
+    {
+        self.rfind_by(&predicate)
     }
-    None
+
+    // The least byte offset of a character for which the predicate is true.
+    pub(crate) fn find_by<F: Fn(char) -> bool>(self, predicate: &F) -> Option<usize>
+        requires { F.IsAlwaysCallable predicate.now }
+        ensures { IsFirstWith (F.post predicate.now) (wstr_text self.entry) result }
+    {
+        for (at, c) in self.char_indices() {
+            if predicate(c) {
+                return Some(at);
+            }
+        }
+        None
+    }
+
+    // The greatest byte offset of a character for which the predicate is true.
+    pub(crate) fn rfind_by<F: Fn(char) -> bool>(self, predicate: &F) -> Option<usize>
+        requires { F.IsAlwaysCallable predicate.now }
+        ensures { IsLastWith (F.post predicate.now) (wstr_text self.entry) result }
+    {
+        let mut chars = self.chars();
+        while let Some(c) = chars.next_back() {
+            if predicate(c) {
+                return Some(chars.as_wstr().len());
+            }
+        }
+        None
+    }
 }

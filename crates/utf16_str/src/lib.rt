@@ -4,8 +4,7 @@
 
 mod affixes;
 mod ascii;
-mod ascii_words;
-mod ext;
+mod ascii_whitespace;
 mod find_with;
 mod iters;
 mod lines;
@@ -27,8 +26,7 @@ mod words;
 mod wstr;
 mod wstr_mut;
 
-pub use crate::ascii_words::WStrSplitAsciiWhitespace;
-pub use crate::ext::WStrExt;
+pub use crate::ascii_whitespace::WStrSplitAsciiWhitespace;
 pub use crate::iters::{WStrCharIndices, WStrChars};
 pub use crate::lines::WStrLines;
 pub use crate::matches::{WStrMatchIndices, WStrMatches, WStrRMatchIndices};

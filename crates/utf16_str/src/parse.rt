@@ -37,22 +37,39 @@ impl<E: fmt::Display> fmt::Display for ParseError<E> {
 
 impl<E: Error> Error for ParseError<E> {}
 
-pub(crate) fn parse<E: Utf16Order, T: FromStr>(text: WStr<E>) -> Result<T, ParseError<T::Err>>
-    ensures { ParsesTo T.from_str_gives (encode_utf8_all (wstr_text text.entry)) result }
-{
-    let raw = text.as_bytes();
-    // Each code unit takes at least one byte.
-    if raw.len() > 2 * MAX_LEN {
-        return Err(ParseError::Long);
-    }
-    let mut buffer = [0; MAX_LEN * 3 + SLACK];
-    let len = write_utf8::<E>(raw, &mut buffer);
-    if len > MAX_LEN {
-        return Err(ParseError::Long);
-    }
-    let utf8 = unsafe { str::from_utf8_unchecked(&buffer[..len]) };
-    match utf8.parse() {
-        Ok(value) => Ok(value),
-        Err(error) => Err(ParseError::Value(error)),
+impl<'a, E: Utf16Order> WStr<'a, E> {
+    /// Returns the value that the text spells.
+    ///
+    /// # Errors
+    ///
+    /// [`ParseError::Long`], exactly if the text takes more than 256 bytes in UTF-8.
+    /// [`ParseError::Value`], with the error of `from_str`, if that returns one.
+    ///
+    /// # Complexity
+    ///
+    /// One pass over the text, and `from_str`. Does not allocate: the UTF-8 is written to the
+    /// stack.
+    ///
+    /// # Source
+    ///
+    /// `str::parse`.
+    pub fn parse<T: FromStr>(self) -> Result<T, ParseError<T::Err>>
+        ensures { ParsesTo T.from_str_gives (encode_utf8_all (wstr_text self.entry)) result }
+    {
+        let raw = self.as_bytes();
+        // Each code unit takes at least one byte.
+        if raw.len() > 2 * MAX_LEN {
+            return Err(ParseError::Long);
+        }
+        let mut buffer = [0; MAX_LEN * 3 + SLACK];
+        let len = write_utf8::<E>(raw, &mut buffer);
+        if len > MAX_LEN {
+            return Err(ParseError::Long);
+        }
+        let utf8 = unsafe { str::from_utf8_unchecked(&buffer[..len]) };
+        match utf8.parse() {
+            Ok(value) => Ok(value),
+            Err(error) => Err(ParseError::Value(error)),
+        }
     }
 }

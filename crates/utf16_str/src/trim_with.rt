@@ -4,61 +4,131 @@ ghost use Rattle.std.specs.Prelude.{◌≡◌, ◌-◌, drop, length, take};
 ghost use Rattle.utf16_str.specs.WStr.{wstr_bytes, wstr_text};
 ghost use Rattle.utf16_str.specs.Predicates.{IsTrimmedEndWith, IsTrimmedStartWith, IsTrimmedWith, LiesAfterTrim};
 
-use crate::wstr::WStr;
+use crate::WStr;
 use utf16_units::Utf16Order;
 
-pub(crate) fn trim_start_with<'a, E: Utf16Order, F: Fn(char) -> bool>(
-    text: WStr<'a, E>,
-    predicate: &F,
-) -> WStr<'a, E>
-    requires { F.IsAlwaysCallable predicate.now }
-    ensures text { IsTrimmedStartWith (F.post predicate.now) (wstr_text text.entry)
-        (wstr_text result) }
-    ensures bytes { wstr_bytes result
-        ≡ drop (length (wstr_bytes text.entry) - length (wstr_bytes result))
-        (wstr_bytes text.entry) }
-{
-    let mut rest = text;
-    let mut chars = text.chars();
-    while let Some(c) = chars.next() {
-        if !predicate(c) {
-            return rest;
-        }
-        rest = chars.as_wstr();
+impl<'a, E: Utf16Order> WStr<'a, E> {
+    /// Returns the text without the characters at its start for which the predicate is true: it
+    /// begins with the first one for which the predicate is false.
+    ///
+    /// # Precondition
+    ///
+    /// The predicate may be called on any character.
+    ///
+    /// # Complexity
+    ///
+    /// One pass over what it takes off, and one character more. Copies nothing.
+    ///
+    /// # Source
+    ///
+    /// `str::trim_start_matches` with a closure. The name is that of `ByteSlice::trim_start_with`
+    /// of the crate `bstr`.
+    #[inline]
+    pub fn trim_start_with<F: Fn(char) -> bool>(self, predicate: F) -> Self
+        requires { F.IsAlwaysCallable predicate }
+        ensures text { IsTrimmedStartWith (F.post predicate) (wstr_text self.entry) (wstr_text result) }
+        ensures bytes { wstr_bytes result
+            ≡ drop (length (wstr_bytes self.entry) - length (wstr_bytes result)) (wstr_bytes self.entry) }
+    {
+        self.trim_start_by(&predicate)
     }
-    rest
-}
 
-pub(crate) fn trim_end_with<'a, E: Utf16Order, F: Fn(char) -> bool>(
-    text: WStr<'a, E>,
-    predicate: &F,
-) -> WStr<'a, E>
-    requires { F.IsAlwaysCallable predicate.now }
-    ensures text { IsTrimmedEndWith (F.post predicate.now) (wstr_text text.entry)
-        (wstr_text result) }
-    ensures bytes { wstr_bytes result
-        ≡ take (length (wstr_bytes result)) (wstr_bytes text.entry) }
-{
-    let mut front = text;
-    let mut chars = text.chars();
-    while let Some(c) = chars.next_back() {
-        if !predicate(c) {
-            return front;
-        }
-        front = chars.as_wstr();
+    /// Returns the text without the characters at its end for which the predicate is true: it ends
+    /// with the last one for which the predicate is false.
+    ///
+    /// # Precondition
+    ///
+    /// The predicate may be called on any character.
+    ///
+    /// # Complexity
+    ///
+    /// One pass over what it takes off, and one character more. Copies nothing.
+    ///
+    /// # Source
+    ///
+    /// `str::trim_end_matches` with a closure. The name is that of `ByteSlice::trim_end_with` of
+    /// the crate `bstr`.
+    #[inline]
+    pub fn trim_end_with<F: Fn(char) -> bool>(self, predicate: F) -> Self
+        requires { F.IsAlwaysCallable predicate }
+        ensures text { IsTrimmedEndWith (F.post predicate) (wstr_text self.entry) (wstr_text result) }
+        ensures bytes { wstr_bytes result ≡ take (length (wstr_bytes result)) (wstr_bytes self.entry) }
+    {
+        self.trim_end_by(&predicate)
     }
-    front
-}
 
-pub(crate) fn trim_with<'a, E: Utf16Order, F: Fn(char) -> bool>(
-    text: WStr<'a, E>,
-    predicate: &F,
-) -> WStr<'a, E>
-    requires { F.IsAlwaysCallable predicate.now }
-    ensures text { IsTrimmedWith (F.post predicate.now) (wstr_text text.entry)
-        (wstr_text result) }
-    ensures bytes { LiesAfterTrim (F.post predicate.now) (wstr_text text.entry)
-        (wstr_bytes text.entry) (wstr_bytes result) }
-{
-    trim_end_with(trim_start_with(text, predicate), predicate)
+    /// Returns the text without the characters at its start, and then at its end, for which the
+    /// predicate is true.
+    ///
+    /// # Precondition
+    ///
+    /// The predicate may be called on any character.
+    ///
+    /// # Complexity
+    ///
+    /// One pass over what it takes off, and two characters more. Copies nothing.
+    ///
+    /// # Source
+    ///
+    /// `str::trim_matches` with a closure. The name is that of `ByteSlice::trim_with` of the crate
+    /// `bstr`.
+    #[inline]
+    pub fn trim_with<F: Fn(char) -> bool>(self, predicate: F) -> Self
+        requires { F.IsAlwaysCallable predicate }
+        ensures text { IsTrimmedWith (F.post predicate) (wstr_text self.entry) (wstr_text result) }
+        ensures bytes { LiesAfterTrim (F.post predicate) (wstr_text self.entry) (wstr_bytes self.entry)
+            (wstr_bytes result) }
+    {
+        self.trim_by(&predicate)
+    }
+
+    // The text without the characters at its start for which the predicate is true.
+    pub(crate) fn trim_start_by<F: Fn(char) -> bool>(self, predicate: &F) -> Self
+        requires { F.IsAlwaysCallable predicate.now }
+        ensures text { IsTrimmedStartWith (F.post predicate.now) (wstr_text self.entry)
+            (wstr_text result) }
+        ensures bytes { wstr_bytes result
+            ≡ drop (length (wstr_bytes self.entry) - length (wstr_bytes result))
+            (wstr_bytes self.entry) }
+    {
+        let mut rest = self;
+        let mut chars = self.chars();
+        while let Some(c) = chars.next() {
+            if !predicate(c) {
+                return rest;
+            }
+            rest = chars.as_wstr();
+        }
+        rest
+    }
+
+    // The text without the characters at its end for which the predicate is true.
+    pub(crate) fn trim_end_by<F: Fn(char) -> bool>(self, predicate: &F) -> Self
+        requires { F.IsAlwaysCallable predicate.now }
+        ensures text { IsTrimmedEndWith (F.post predicate.now) (wstr_text self.entry)
+            (wstr_text result) }
+        ensures bytes { wstr_bytes result
+            ≡ take (length (wstr_bytes result)) (wstr_bytes self.entry) }
+    {
+        let mut front = self;
+        let mut chars = self.chars();
+        while let Some(c) = chars.next_back() {
+            if !predicate(c) {
+                return front;
+            }
+            front = chars.as_wstr();
+        }
+        front
+    }
+
+    // The text without the characters at its ends for which the predicate is true.
+    pub(crate) fn trim_by<F: Fn(char) -> bool>(self, predicate: &F) -> Self
+        requires { F.IsAlwaysCallable predicate.now }
+        ensures text { IsTrimmedWith (F.post predicate.now) (wstr_text self.entry)
+            (wstr_text result) }
+        ensures bytes { LiesAfterTrim (F.post predicate.now) (wstr_text self.entry)
+            (wstr_bytes self.entry) (wstr_bytes result) }
+    {
+        self.trim_start_by(predicate).trim_end_by(predicate)
+    }
 }

@@ -10,9 +10,13 @@ pub use Rattle.utf16_units.specs.Edit
 pub use Rattle.utf16_units.specs.TextOrder
 pub use Rattle.utf16_bytes.specs.Occurrence
 pub use Rattle.utf16_str.specs.Common
+pub use Rattle.utf16_str.specs.AsciiWords
 pub use Rattle.utf16_str.specs.Matches
 pub use Rattle.utf16_str.specs.Offsets
+pub use Rattle.utf16_str.specs.Parse
+pub use Rattle.utf16_str.specs.Predicates
 pub use Rattle.utf16_str.specs.Splits
+pub use Rattle.utf16_str.specs.SplitWith
 pub use Rattle.utf16_str.specs.Found
 pub use Rattle.utf16_str.specs.Trims
 pub use Rattle.utf16_str.specs.Window

@@ -1,8 +1,8 @@
 //! UTF-16 strings in either byte order: `WStr` and `WString` are to UTF-16 bytes what `str` and
 //! `String` are to UTF-8.
 //!
-//! This crate holds the owned string. It re-exports all of `utf16_str`, `WStrMut` and the byte
-//! orders, so that you need to name only this crate.
+//! This crate holds the owned string. It re-exports the views of `utf16_str` and the byte orders, so
+//! that you need to name only this crate.
 #![tactic(auto)]
 
 mod retain;
@@ -11,8 +11,8 @@ mod wstring;
 
 pub use crate::wstring::WString;
 pub use utf16_str::{
-    BE, BigEndian, LE, LittleEndian, Pattern, SliceIndex, Utf16Error, Utf16Order, WStr,
+    BE, BigEndian, LE, LittleEndian, ParseError, Pattern, SliceIndex, Utf16Error, Utf16Order, WStr,
     WStrCharIndices, WStrChars, WStrLines, WStrMatchIndices, WStrMatches, WStrMut,
-    WStrRMatchIndices, WStrRSplit, WStrRSplitN, WStrSplit, WStrSplitInclusive, WStrSplitN,
-    WStrSplitTerminator, WStrSplitWhitespace,
+    WStrRMatchIndices, WStrRSplit, WStrRSplitN, WStrSplit, WStrSplitAsciiWhitespace,
+    WStrSplitInclusive, WStrSplitN, WStrSplitTerminator, WStrSplitWhitespace, WStrSplitWith,
 };

@@ -3,8 +3,7 @@
 use crate::views::made::view;
 use crate::views::search::offset;
 use tests_support::{Answer, Run};
-use utf16_str::{ParseError, WStrExt};
-use utf16string::{Utf16Order, WStr};
+use utf16string::{ParseError, Utf16Order, WStr};
 
 /// Makes a call with the predicate that is true of the characters of a text, or passes the name to
 /// `without_predicate`.

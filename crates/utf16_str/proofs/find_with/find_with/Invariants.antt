@@ -1,7 +1,0 @@
-use Rattle.utf16_str.specs.WStr.{wstr_text}
-use Rattle.utf16_str.proofs.PredicateFinds.{IsSearched}
-use Rattle.utf16_str.proofs.find_with.find_with.Given as goal
-
--- the predicate is false for what was passed
-abbrev pub invariant-loop-at : goal.invariant-loop-at
-invariant-loop-at g l = IsSearched (goal.F-post g l.predicate) (wstr_text l.fn.text) l.at-iterator

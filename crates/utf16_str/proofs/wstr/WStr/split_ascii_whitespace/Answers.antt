@@ -1,0 +1,17 @@
+use Rattle.std.proofs.Common.{arith}
+use Rattle.std.specs.Char.{is_ascii_whitespace}
+use Rattle.utf16_str.specs.WStr.{wstr_bytes, wstr_text}
+use Rattle.utf16_str.proofs.PartsCount.{few-chars, few-words}
+use Rattle.utf16_str.proofs.SplitLemmas.{text_runs, text_runs_back}
+use Rattle.utf16_str.proofs.wstr.WStr.split_ascii_whitespace.Goals as goal
+
+pub returns-clause-bound : goal.returns-clause-bound
+returns-clause-bound g c =
+    let few = few-chars g.E.Utf16Order.BIG (wstr_bytes c.args.self) c.args.self.well_formed in
+    omega (arith, few-words is_ascii_whitespace (wstr_text c.args.self))
+
+pub returns-clause-runs : goal.returns-clause-runs
+returns-clause-runs g c = text_runs wstr_text
+
+pub returns-clause-runs_back : goal.returns-clause-runs_back
+returns-clause-runs_back g c = text_runs_back wstr_text
