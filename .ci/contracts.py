@@ -239,7 +239,7 @@ class Crates:
             return [self.only([it for it in its if it.is_of(place)]) for place in places]
         crates = [it for it in (*scope, *heading) if it in self.all]
         types = [] if scope else [it for it in heading if it in self.places and it not in self.all]
-        is_near = lambda it: it.crate in crates if crates else not it.crate.startswith("tests_")
+        is_near = lambda it: it.crate in crates if crates else not it.crate.startswith("tests")
         is_of = lambda it: not types or not it.owner or it.owner in types
         return [self.only([it for it in its if is_near(it) and is_of(it)])]
 

@@ -5,7 +5,7 @@
 # nanoseconds per byte that the call passed. The tables are written to bench/out/search.md.
 set -eu
 . "$(dirname "$0")/program.sh"
-build search utf16_search utf16_units memchr
+build search utf16_bytes utf16_units memchr
 awk -F '\t' '
 {
     passed = $5 > $3 ? $3 : $1 ~ /rfind/ ? $3 - $5 : $5

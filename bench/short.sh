@@ -7,7 +7,7 @@
 # tables are written to bench/out/short.md.
 set -eu
 . "$(dirname "$0")/program.sh"
-build short utf16_encode utf16_decode utf16_units
+build short utf16_transcode utf16_units
 # The program is linked at two places, 16 bytes apart: a branch may cross a 32-byte boundary at only
 # one of them.
 kit=$(dirname "$(rt doc)")

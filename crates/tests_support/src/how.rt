@@ -12,7 +12,7 @@ pub enum Refuse {
     From(u64),
 }
 
-/// What a reader or a writer does at the one call where it misbehaves.
+/// What a reader or a writer does in the one call in which it misbehaves.
 #[derive(Clone, Copy, Drop)]
 pub enum Odd {
     Fails,
@@ -25,7 +25,7 @@ pub enum Odd {
 pub struct Device {
     /// The most bytes that it moves, call by call, over and over. With an empty list it moves all.
     pub sizes: Vec<usize>,
-    /// The call where it misbehaves, counted from 1, or 0 for none.
+    /// The call in which it misbehaves, counted from 1, or 0 for none.
     pub odd_at: usize,
     /// What it does at that call.
     pub odd: Odd,
@@ -47,7 +47,7 @@ impl Device {
         Ok(())
     }
 
-    // Reads what it does at the call where it misbehaves, such as `fails@3`.
+    // Reads what it does in the call in which it misbehaves, such as `fails@3`.
     fn read_odd(&mut self, word: &str) -> Result<(), Trouble> {
         let (odd, at) = word.split_once('@').ok_or(Trouble::Form)?;
         self.odd = match odd {

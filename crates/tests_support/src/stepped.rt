@@ -6,7 +6,7 @@ ghost use Rattle.std.specs.Prelude.{◌≤◌, IfOk};
 use std::alloc::Global;
 use std::io::{self, Error, ErrorKind, Read, Write};
 
-/// What a reader or a writer does at the one call where it does not move bytes as its list says.
+/// What a reader or a writer does in the one call in which it does not move bytes as its list says.
 #[derive(Clone, Copy)]
 pub enum Oddity {
     Fails,
@@ -20,7 +20,7 @@ pub enum Oddity {
 pub struct Manner<'a> {
     /// The most bytes that it moves, call by call, over and over. With an empty list it moves all.
     pub sizes: &'a [usize],
-    /// The call where it misbehaves, or 0 for none.
+    /// The call in which it misbehaves, or 0 for none.
     pub odd_at: usize,
     /// What it does at that call.
     pub oddity: Oddity,
