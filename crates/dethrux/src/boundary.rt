@@ -6,11 +6,10 @@ ghost use Rattle.utf16_bytes.specs.File.{IsLastCutAround, IsLastCutOfFile, aroun
 ghost use Rattle.utf16_bytes.specs.Shards.{shard_start};
 ghost use Rattle.dethrux.specs.Numbers.{is_big};
 
-use crate::byte_order::is_big_endian;
+use crate::byte_order::in_order;
 use utf16_bytes::{
     floor_char_boundary, floor_char_boundary_around, is_char_boundary, shard_offset,
 };
-use utf16_units::{BE, LE};
 
 /// Returns whether an offset is a boundary between characters: the end of the bytes, or an offset
 /// between two code units that are not a surrogate pair. An unpaired surrogate counts as a
@@ -19,11 +18,7 @@ use utf16_units::{BE, LE};
 pub extern "C" fn dethrux_is_char_boundary(byte_order: u32, utf16: &[u8], at: usize) -> bool
     ensures { IsTrue result ↔ IsCut (is_big byte_order) utf16.now at }
 {
-    if is_big_endian(byte_order) {
-        is_char_boundary::<BE>(utf16, at)
-    } else {
-        is_char_boundary::<LE>(utf16, at)
-    }
+    in_order!(byte_order, is_char_boundary(utf16, at))
 }
 
 /// Returns the greatest boundary at or before an offset: at most three bytes before the smaller of
@@ -33,11 +28,7 @@ pub extern "C" fn dethrux_floor_char_boundary(byte_order: u32, utf16: &[u8], at:
     ensures last { IsLastCut (is_big byte_order) utf16.now at result }
     ensures near { (at ≤ result + 3) ⊎ (length utf16.now ≤ result + 3) }
 {
-    if is_big_endian(byte_order) {
-        floor_char_boundary::<BE>(utf16, at)
-    } else {
-        floor_char_boundary::<LE>(utf16, at)
-    }
+    in_order!(byte_order, floor_char_boundary(utf16, at))
 }
 
 /// Returns the greatest boundary at or before an offset of a file, from only the bytes around it:
@@ -50,11 +41,7 @@ pub extern "C" fn dethrux_floor_char_boundary_around(byte_order: u32, around: &[
     ensures around { IsLastCutAround (is_big byte_order) around.now at result }
     ensures file { IsLastCutOfFile (is_big byte_order) around.now at result }
 {
-    if is_big_endian(byte_order) {
-        floor_char_boundary_around::<BE>(around, at)
-    } else {
-        floor_char_boundary_around::<LE>(around, at)
-    }
+    in_order!(byte_order, floor_char_boundary_around(around, at))
 }
 
 /// Returns the offset where part `index` of `count` parts begins in a file of `len` bytes: `len`

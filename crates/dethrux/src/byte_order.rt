@@ -3,6 +3,8 @@
 ghost use Rattle.std.specs.Prelude.{◌≡◌};
 ghost use Rattle.dethrux.specs.Numbers.{is_big};
 
+pub(crate) use utf16_units::{BE, LE};
+
 pub(crate) const LITTLE_ENDIAN: u32 = 0;
 
 pub(crate) const BIG_ENDIAN: u32 = 1;
@@ -14,3 +16,23 @@ pub(crate) fn is_big_endian(byte_order: u32) -> bool
 {
     byte_order == BIG_ENDIAN
 }
+
+// Makes a call in the byte order that a caller in C passes.
+macro_rules! in_order {
+    ($byte_order:expr, $call:ident($($argument:expr),*)) => {
+        if $crate::byte_order::is_big_endian($byte_order) {
+            $call::<$crate::byte_order::BE>($($argument),*)
+        } else {
+            $call::<$crate::byte_order::LE>($($argument),*)
+        }
+    };
+    ($byte_order:expr, $stream:ident.$call:ident::<$direction:ident>($($argument:expr),*)) => {
+        if $crate::byte_order::is_big_endian($byte_order) {
+            $stream.$call::<$direction<$crate::byte_order::BE>>($($argument),*)
+        } else {
+            $stream.$call::<$direction<$crate::byte_order::LE>>($($argument),*)
+        }
+    };
+}
+
+pub(crate) use in_order;

@@ -6,7 +6,7 @@ ghost use Rattle.utf16_transcode.specs.Stream.{Feeds, StopsFeeding, stream_pendi
 ghost use Rattle.utf16_transcode.specs.declared.progress.Stop.TheVariants.{Done, NoSpace};
 ghost use Rattle.dethrux.specs.Numbers.{AreNumbers, is_big, stop_of};
 
-use crate::byte_order::is_big_endian;
+use crate::byte_order::in_order;
 use crate::results::{Progress, progress_of};
 use utf16_transcode::{Stream, ToUtf8};
 use utf16_units::{BE, LE};
@@ -39,11 +39,7 @@ pub extern "C" fn dethrux_decoder_feed(
     ensures numbers { AreNumbers result.status result.error_len }
 {
     bytes_law(decoder.pending());
-    progress_of(if is_big_endian(byte_order) {
-        decoder.feed::<ToUtf8<BE>>(chunk, to)
-    } else {
-        decoder.feed::<ToUtf8<LE>>(chunk, to)
-    })
+    progress_of(in_order!(byte_order, decoder.feed::<ToUtf8>(chunk, to)))
 }
 
 /// Ends a stream: writes U+FFFD in UTF-8 if bytes are pending, and otherwise nothing. The bytes

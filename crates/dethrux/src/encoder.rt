@@ -8,10 +8,9 @@ ghost use Rattle.utf16_transcode.specs.Utf8Stream.{FeedsUtf8, StopsFeedingUtf8};
 ghost use Rattle.utf16_transcode.specs.declared.progress.Stop.TheVariants.{Done, NoSpace};
 ghost use Rattle.dethrux.specs.Numbers.{AreNumbers, is_big, stop_of};
 
-use crate::byte_order::is_big_endian;
+use crate::byte_order::in_order;
 use crate::results::{Progress, progress_of};
 use utf16_transcode::{Stream, feed_utf8, finish_utf8};
-use utf16_units::{BE, LE};
 
 /// Encodes the next chunk of a stream of UTF-8 in UTF-16 and writes it, as far as whole characters
 /// fit, with U+FFFD for each maximal subpart of an ill-formed subsequence. `read` counts
@@ -45,11 +44,7 @@ pub extern "C" fn dethrux_encoder_feed(
         ≤ length to.new → stop_of result.status result.error_len ≡ Done }
     ensures numbers { AreNumbers result.status result.error_len }
 {
-    progress_of(if is_big_endian(byte_order) {
-        feed_utf8::<BE>(encoder, chunk, to)
-    } else {
-        feed_utf8::<LE>(encoder, chunk, to)
-    })
+    progress_of(in_order!(byte_order, feed_utf8(encoder, chunk, to)))
 }
 
 /// Ends a stream of UTF-8: writes U+FFFD in UTF-16 if bytes are pending, and otherwise nothing. The
@@ -76,9 +71,5 @@ pub extern "C" fn dethrux_encoder_finish(
         × (to.new ≡ to.old) }
     ensures numbers { AreNumbers result.status result.error_len }
 {
-    progress_of(if is_big_endian(byte_order) {
-        finish_utf8::<BE>(encoder, to)
-    } else {
-        finish_utf8::<LE>(encoder, to)
-    })
+    progress_of(in_order!(byte_order, finish_utf8(encoder, to)))
 }

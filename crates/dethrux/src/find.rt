@@ -4,9 +4,8 @@ ghost use Rattle.std.specs.Prelude.{◌≡◌, ◌≤◌, ℕ, IfSome, Option, l
 ghost use Rattle.utf16_bytes.specs.Occurrence.{IsFirst, IsLast, IsOccurrence};
 ghost use Rattle.dethrux.specs.Numbers.{is_big, offset_number};
 
-use crate::byte_order::is_big_endian;
+use crate::byte_order::in_order;
 use utf16_bytes::{find, rfind};
-use utf16_units::{BE, LE};
 
 /// Returns the least offset at which a pattern occurs in a text, or `usize::MAX` if it occurs
 /// nowhere. Both may be any bytes, in the same byte order. The pattern occurs at an offset if its
@@ -17,11 +16,7 @@ pub extern "C" fn dethrux_find(byte_order: u32, utf16: &[u8], pattern: &[u8]) ->
     ensures first { (found : Option ℕ) × (result ≡ offset_number found)
         × IsFirst (IsOccurrence (is_big byte_order) utf16.now pattern.now) found }
 {
-    let found = if is_big_endian(byte_order) {
-        find::<BE>(utf16, pattern)
-    } else {
-        find::<LE>(utf16, pattern)
-    };
+    let found = in_order!(byte_order, find(utf16, pattern));
     offset_of(found)
 }
 
@@ -32,11 +27,7 @@ pub extern "C" fn dethrux_rfind(byte_order: u32, utf16: &[u8], pattern: &[u8]) -
     ensures last { (found : Option ℕ) × (result ≡ offset_number found)
         × IsLast (IsOccurrence (is_big byte_order) utf16.now pattern.now) found }
 {
-    let found = if is_big_endian(byte_order) {
-        rfind::<BE>(utf16, pattern)
-    } else {
-        rfind::<LE>(utf16, pattern)
-    };
+    let found = in_order!(byte_order, rfind(utf16, pattern));
     offset_of(found)
 }
 

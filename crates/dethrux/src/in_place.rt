@@ -7,10 +7,9 @@ ghost use Rattle.utf16_units.specs.Split.{lossy_text};
 ghost use Rattle.utf16_transcode.specs.Unpaired.{unpaired};
 ghost use Rattle.dethrux.specs.Numbers.{is_big};
 
-use crate::byte_order::is_big_endian;
+use crate::byte_order::in_order;
 use utf16_bytes::swap_byte_order;
 use utf16_transcode::make_well_formed;
-use utf16_units::{BE, LE};
 
 /// Swaps the two bytes of each code unit in place: UTF-16 becomes the same text in the other byte
 /// order. An odd byte at the end is unchanged. One pass.
@@ -34,9 +33,5 @@ pub extern "C" fn dethrux_make_well_formed(byte_order: u32, utf16: &mut [u8]) ->
     ensures count { result
         ≡ unpaired (is_big byte_order) (take (length utf16.old / 2 * 2) utf16.old) }
 {
-    if is_big_endian(byte_order) {
-        make_well_formed::<BE>(utf16)
-    } else {
-        make_well_formed::<LE>(utf16)
-    }
+    in_order!(byte_order, make_well_formed(utf16))
 }

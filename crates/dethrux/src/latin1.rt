@@ -9,10 +9,9 @@ ghost use Rattle.utf16_fixed.specs.Inspection.{EndsAt};
 ghost use Rattle.utf16_fixed.specs.declared.latin1_progress.Latin1Stop.TheVariants as latin1;
 ghost use Rattle.dethrux.specs.Numbers.{AreLatin1Numbers, AreNumbers, is_big, latin1_stop_of, repertoire_of, stop_of};
 
-use crate::byte_order::is_big_endian;
+use crate::byte_order::in_order;
 use crate::results::{Progress, progress_of, status_of};
 use utf16_fixed::{Latin1Progress, Latin1Stop, Repertoire, from_latin1, inspect, to_latin1};
-use utf16_units::{BE, LE};
 
 const NOT_LATIN1: u32 = 4;
 
@@ -50,11 +49,7 @@ pub extern "C" fn dethrux_to_latin1(byte_order: u32, utf16: &[u8], to: &mut [u8]
         → latin1_stop_of result.status result.error_len ≢ latin1.NoSpace }
     ensures numbers { AreLatin1Numbers result.status result.error_len }
 {
-    latin1_progress(if is_big_endian(byte_order) {
-        to_latin1::<BE>(utf16, to)
-    } else {
-        to_latin1::<LE>(utf16, to)
-    })
+    latin1_progress(in_order!(byte_order, to_latin1(utf16, to)))
 }
 
 // What C gets as the result of a conversion to Latin-1.
@@ -94,11 +89,7 @@ pub extern "C" fn dethrux_from_latin1(byte_order: u32, latin1: &[u8], to: &mut [
         ≡ if nat_le (length latin1.now) (length to.old / 2) then Done else NoSpace }
     ensures numbers { AreNumbers result.status result.error_len }
 {
-    progress_of(if is_big_endian(byte_order) {
-        from_latin1::<BE>(latin1, to)
-    } else {
-        from_latin1::<LE>(latin1, to)
-    })
+    progress_of(in_order!(byte_order, from_latin1(latin1, to)))
 }
 
 /// Returns the length of the longest well-formed prefix, the number of its characters, the smallest
@@ -114,11 +105,7 @@ pub extern "C" fn dethrux_inspect(byte_order: u32, utf16: &[u8]) -> Inspection
     ensures known { result.repertoire ≤ 3 }
     ensures numbers { AreNumbers result.status result.error_len }
 {
-    inspection_of(if is_big_endian(byte_order) {
-        inspect::<BE>(utf16)
-    } else {
-        inspect::<LE>(utf16)
-    })
+    inspection_of(in_order!(byte_order, inspect(utf16)))
 }
 
 // What C gets as the result of an inspection.

@@ -11,13 +11,12 @@ ghost use Rattle.utf16_fixed.specs.Stops32.{DecodesToUtf32, StopsFromUtf32, Stop
 ghost use Rattle.utf16_fixed.specs.Utf32.{IsUtf32, IsUtf32ValidUpTo, ShowsInUtf16, TranscodesFromUtf32, TranscodesToUtf32, lossy_utf32, utf32_units};
 ghost use Rattle.dethrux.specs.Numbers.{AreNumbers, is_big, stop_of};
 
-use crate::byte_order::is_big_endian;
+use crate::byte_order::in_order;
 use crate::results::{DONE, ILL_FORMED, Progress, Validity, progress_of};
 use utf16_fixed::{
     from_utf32, from_utf32_lossy, from_utf32_lossy_len, to_utf32, to_utf32_lossy,
     to_utf32_lossy_len, validate_utf32,
 };
-use utf16_units::{BE, LE};
 
 /// Converts UTF-16 to UTF-32, code points in the machine's byte order, up to the first ill-formed
 /// sequence or as far as it fits. An ill-formed sequence and an incomplete character are not read.
@@ -33,11 +32,7 @@ pub extern "C" fn dethrux_to_utf32(byte_order: u32, utf16: &[u8], to: &mut [u32]
         → stop_of result.status result.error_len ≢ NoSpace }
     ensures numbers { AreNumbers result.status result.error_len }
 {
-    progress_of(if is_big_endian(byte_order) {
-        to_utf32::<BE>(utf16, to)
-    } else {
-        to_utf32::<LE>(utf16, to)
-    })
+    progress_of(in_order!(byte_order, to_utf32(utf16, to)))
 }
 
 /// Converts UTF-16 to UTF-32 like `dethrux_to_utf32`, and replaces each unpaired surrogate, and an
@@ -56,11 +51,7 @@ pub extern "C" fn dethrux_to_utf32_lossy(byte_order: u32, utf16: &[u8], to: &mut
         → stop_of result.status result.error_len ≡ Done }
     ensures numbers { AreNumbers result.status result.error_len }
 {
-    progress_of(if is_big_endian(byte_order) {
-        to_utf32_lossy::<BE>(utf16, to)
-    } else {
-        to_utf32_lossy::<LE>(utf16, to)
-    })
+    progress_of(in_order!(byte_order, to_utf32_lossy(utf16, to)))
 }
 
 /// Returns the number of code units that `dethrux_to_utf32_lossy` writes for the whole input: at
@@ -70,11 +61,7 @@ pub extern "C" fn dethrux_to_utf32_lossy_len(byte_order: u32, utf16: &[u8]) -> u
     ensures len { result ≡ length (lossy_text (is_big byte_order) utf16.now) }
     ensures most { result ≤ (length utf16.now + 1) / 2 }
 {
-    if is_big_endian(byte_order) {
-        to_utf32_lossy_len::<BE>(utf16)
-    } else {
-        to_utf32_lossy_len::<LE>(utf16)
-    }
+    in_order!(byte_order, to_utf32_lossy_len(utf16))
 }
 
 /// Returns how many code units at the start are UTF-32, and what follows them: nothing, or one that
@@ -114,11 +101,7 @@ pub extern "C" fn dethrux_from_utf32(byte_order: u32, utf32: &[u32], to: &mut [u
         → stop_of result.status result.error_len ≢ NoSpace }
     ensures numbers { AreNumbers result.status result.error_len }
 {
-    progress_of(if is_big_endian(byte_order) {
-        from_utf32::<BE>(utf32, to)
-    } else {
-        from_utf32::<LE>(utf32, to)
-    })
+    progress_of(in_order!(byte_order, from_utf32(utf32, to)))
 }
 
 /// Converts UTF-32 to UTF-16 like `dethrux_from_utf32`, and replaces each code unit that is not a
@@ -139,11 +122,7 @@ pub extern "C" fn dethrux_from_utf32_lossy(
         → stop_of result.status result.error_len ≡ Done }
     ensures numbers { AreNumbers result.status result.error_len }
 {
-    progress_of(if is_big_endian(byte_order) {
-        from_utf32_lossy::<BE>(utf32, to)
-    } else {
-        from_utf32_lossy::<LE>(utf32, to)
-    })
+    progress_of(in_order!(byte_order, from_utf32_lossy(utf32, to)))
 }
 
 /// Returns the length in bytes of what `dethrux_from_utf32_lossy` writes for the whole input, in

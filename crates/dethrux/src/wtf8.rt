@@ -12,11 +12,10 @@ ghost use Rattle.utf16_wtf8.specs.ToWtf8.{DecodesToWtf8, StopsBeforeTail, StopsT
 ghost use Rattle.utf16_wtf8.specs.Wtf8.{generalized_utf8};
 ghost use Rattle.dethrux.specs.Numbers.{AreNumbers, is_big, stop_of};
 
-use crate::byte_order::is_big_endian;
+use crate::byte_order::in_order;
 use crate::decoder::bytes_law;
 use crate::results::{Progress, progress_of};
 use utf16_transcode::Stream;
-use utf16_units::{BE, LE};
 use utf16_wtf8::{
     ToWtf8, finish_wtf8, from_wtf8, from_wtf8_partial, to_wtf8, to_wtf8_len, to_wtf8_partial,
 };
@@ -38,11 +37,7 @@ pub extern "C" fn dethrux_to_wtf8(byte_order: u32, utf16: &[u8], to: &mut [u8]) 
         → stop_of result.status result.error_len ≢ NoSpace }
     ensures numbers { AreNumbers result.status result.error_len }
 {
-    progress_of(if is_big_endian(byte_order) {
-        to_wtf8::<BE>(utf16, to)
-    } else {
-        to_wtf8::<LE>(utf16, to)
-    })
+    progress_of(in_order!(byte_order, to_wtf8(utf16, to)))
 }
 
 /// Returns the length in bytes of what `dethrux_to_wtf8` writes for the whole input: at most three
@@ -53,11 +48,7 @@ pub extern "C" fn dethrux_to_wtf8_len(byte_order: u32, utf16: &[u8]) -> usize
         ≡ length (flat_map generalized_utf8 (points_of (is_big byte_order) utf16.now)) }
     ensures most { result ≤ length utf16.now / 2 * 3 }
 {
-    if is_big_endian(byte_order) {
-        to_wtf8_len::<BE>(utf16)
-    } else {
-        to_wtf8_len::<LE>(utf16)
-    }
+    in_order!(byte_order, to_wtf8_len(utf16))
 }
 
 /// Converts the next chunk of a stream like `dethrux_to_wtf8`, but does not read a leading
@@ -76,11 +67,7 @@ pub extern "C" fn dethrux_to_wtf8_partial(byte_order: u32, utf16: &[u8], to: &mu
         → 0 < result.read }
     ensures numbers { AreNumbers result.status result.error_len }
 {
-    progress_of(if is_big_endian(byte_order) {
-        to_wtf8_partial::<BE>(utf16, to)
-    } else {
-        to_wtf8_partial::<LE>(utf16, to)
-    })
+    progress_of(in_order!(byte_order, to_wtf8_partial(utf16, to)))
 }
 
 /// Decodes the next chunk of a stream like `dethrux_decoder_feed`, and writes each unpaired
@@ -110,11 +97,7 @@ pub extern "C" fn dethrux_decoder_feed_wtf8(
     ensures numbers { AreNumbers result.status result.error_len }
 {
     bytes_law(decoder.pending());
-    progress_of(if is_big_endian(byte_order) {
-        decoder.feed::<ToWtf8<BE>>(chunk, to)
-    } else {
-        decoder.feed::<ToWtf8<LE>>(chunk, to)
-    })
+    progress_of(in_order!(byte_order, decoder.feed::<ToWtf8>(chunk, to)))
 }
 
 /// Ends a stream of `dethrux_decoder_feed_wtf8`: writes a pending leading surrogate in WTF-8, and
@@ -147,11 +130,7 @@ pub extern "C" fn dethrux_decoder_finish_wtf8(
         → (result.written ≡ 0) × (decoder.new ≡ decoder.old) × (to.new ≡ to.old) }
     ensures numbers { AreNumbers result.status result.error_len }
 {
-    progress_of(if is_big_endian(byte_order) {
-        finish_wtf8::<BE>(decoder, to)
-    } else {
-        finish_wtf8::<LE>(decoder, to)
-    })
+    progress_of(in_order!(byte_order, finish_wtf8(decoder, to)))
 }
 
 /// Converts WTF-8 to UTF-16, with each surrogate as one code unit, up to the first ill-formed
@@ -170,11 +149,7 @@ pub extern "C" fn dethrux_from_wtf8(byte_order: u32, wtf8: &[u8], to: &mut [u8])
         → stop_of result.status result.error_len ≢ NoSpace }
     ensures numbers { AreNumbers result.status result.error_len }
 {
-    progress_of(if is_big_endian(byte_order) {
-        from_wtf8::<BE>(wtf8, to)
-    } else {
-        from_wtf8::<LE>(wtf8, to)
-    })
+    progress_of(in_order!(byte_order, from_wtf8(wtf8, to)))
 }
 
 /// Converts the next chunk of a stream of WTF-8 like `dethrux_from_wtf8`, but does not read what
@@ -194,9 +169,5 @@ pub extern "C" fn dethrux_from_wtf8_partial(byte_order: u32, wtf8: &[u8], to: &m
         → length to.new < result.written + 4 }
     ensures numbers { AreNumbers result.status result.error_len }
 {
-    progress_of(if is_big_endian(byte_order) {
-        from_wtf8_partial::<BE>(wtf8, to)
-    } else {
-        from_wtf8_partial::<LE>(wtf8, to)
-    })
+    progress_of(in_order!(byte_order, from_wtf8_partial(wtf8, to)))
 }

@@ -1,6 +1,6 @@
 use Rattle.std.proofs.Common.{arith, rules}
 use Rattle.dethrux.proofs.Bounds.{valid_within}
-use Rattle.dethrux.proofs.dethrux_from_utf8_len.Goals as goal
+use Rattle.dethrux.proofs.from_utf8.dethrux_from_utf8_len.Goals as goal
 
 pub returns-clause-len : goal.returns-clause-len
 returns-clause-len c = search rules

@@ -1,6 +1,6 @@
 use Rattle.std.proofs.Common.{true, false, arith, rules}
 use Rattle.dethrux.proofs.Bounds.{lossy_within}
-use Rattle.dethrux.proofs.dethrux_to_utf8_lossy_len.Goals as goal
+use Rattle.dethrux.proofs.to_utf8.dethrux_to_utf8_lossy_len.Goals as goal
 
 pub returns-then-is_big_endian-clause-len : goal.returns-then-is_big_endian-clause-len
 returns-then-is_big_endian-clause-len c = search rules

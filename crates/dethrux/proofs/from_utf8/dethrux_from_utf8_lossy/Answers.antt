@@ -5,7 +5,7 @@ use Rattle.utf16_transcode.specs.Stops.{StopsLossyWhole}
 use Rattle.utf16_transcode.specs.FromUtf8.{text_of_utf8}
 use Rattle.dethrux.specs.Numbers.{is_big, stop_of}
 use Rattle.dethrux.proofs.Bounds.{lossy_utf8_within, whole_is_done}
-use Rattle.dethrux.proofs.dethrux_from_utf8_lossy.Goals as goal
+use Rattle.dethrux.proofs.from_utf8.dethrux_from_utf8_lossy.Goals as goal
 
 pub returns-clause-shown : goal.returns-clause-shown
 returns-clause-shown c = search rules

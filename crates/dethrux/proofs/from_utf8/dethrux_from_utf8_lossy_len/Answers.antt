@@ -1,5 +1,5 @@
 use Rattle.std.proofs.Common.{rules}
-use Rattle.dethrux.proofs.dethrux_from_utf8_lossy_len.Goals as goal
+use Rattle.dethrux.proofs.from_utf8.dethrux_from_utf8_lossy_len.Goals as goal
 
 pub returns-clause-size : goal.returns-clause-size
 returns-clause-size c = search rules

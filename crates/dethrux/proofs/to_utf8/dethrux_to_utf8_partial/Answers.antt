@@ -6,7 +6,7 @@ use Rattle.utf16_transcode.specs.Wrote.{DecodesTo}
 use Rattle.utf16_transcode.proofs.ToUtf8Parts.{utf16_chunks, utf8_short}
 use Rattle.dethrux.specs.Numbers.{is_big, stop_of}
 use Rattle.dethrux.proofs.Bounds.{decided_advances, decided_filled, decided_fits, decided_within}
-use Rattle.dethrux.proofs.dethrux_to_utf8_partial.Goals as goal
+use Rattle.dethrux.proofs.to_utf8.dethrux_to_utf8_partial.Goals as goal
 
 pub returns-clause-decodes : goal.returns-clause-decodes
 returns-clause-decodes c = search rules

@@ -5,7 +5,7 @@ use Rattle.utf16_transcode.specs.Shown.{ShowsWhole}
 use Rattle.utf16_transcode.specs.Stops.{StopsLossyWhole}
 use Rattle.dethrux.specs.Numbers.{is_big, stop_of}
 use Rattle.dethrux.proofs.Bounds.{lossy_within, whole_is_done}
-use Rattle.dethrux.proofs.dethrux_to_utf8_lossy.Goals as goal
+use Rattle.dethrux.proofs.to_utf8.dethrux_to_utf8_lossy.Goals as goal
 
 pub returns-clause-stop : goal.returns-clause-stop
 returns-clause-stop c = search rules
