@@ -16,7 +16,7 @@ pub struct Utf16Error {
 }
 
 impl Utf16Error {
-    ghost use Rattle.utf16_units.specs.Utf16Error.{error_len, valid_up_to};
+    ghost use Rattle.utf16_units.specs.Utf16Error.{detail, error_len, valid_up_to};
 
     /// Returns the length in bytes of the longest prefix that is well-formed UTF-16.
     #[inline]
@@ -36,6 +36,35 @@ impl Utf16Error {
         ensures { result ≡ error_len self.now }
     {
         self.error_len.map(usize::from)
+    }
+
+    /// Returns a form of the error whose `Display` says which sequence is ill-formed and where.
+    #[inline]
+    pub fn detail(&self) -> Detail
+        ensures { result ≡ detail self.now }
+    {
+        Detail { error: *self }
+    }
+}
+
+/// The form of a [`Utf16Error`] that says which sequence is ill-formed and where: "unpaired
+/// surrogate of 2 bytes at byte 6", or "incomplete character at byte 6".
+#[derive(Clone, Copy, Debug, PartialEq, Eq)]
+pub struct Detail {
+    error: Utf16Error,
+}
+
+impl fmt::Display for Detail {
+    ghost use Rattle.utf16_units.specs.Utf16Error.{detail_text};
+
+    ghost output = { λ it. Some (detail_text it) };
+
+    fn fmt<W: fmt::Write>(&self, f: &mut fmt::Formatter<W>) -> fmt::Result {
+        let at = self.error.valid_up_to;
+        match self.error.error_len {
+            Some(_) => write!(f, "unpaired surrogate of 2 bytes at byte {at}"),
+            None => write!(f, "incomplete character at byte {at}"),
+        }
     }
 }
 

@@ -22,7 +22,7 @@ mod validate;
 
 pub use crate::byte_order::{BE, BigEndian, LE, LittleEndian, Utf16Order};
 pub use crate::char::Utf16CharExt;
-pub use crate::error::Utf16Error;
+pub use crate::error::{Detail, Utf16Error};
 pub use crate::moved::Moved;
 pub use crate::size::utf16_len;
 pub use crate::unit::{decode_surrogates, is_leading_surrogate, is_trailing_surrogate};

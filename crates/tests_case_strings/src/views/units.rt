@@ -28,6 +28,7 @@ fn by_character<E: Utf16Order>(run: &mut Run, name: &str) -> bool {
         "Utf16CharExt::encode_utf16_into" => encode_utf16_into::<E>(run),
         "validate_raw_utf16" => validate::<E>(run),
         "Utf16Error::fmt" => fmt::<E>(run),
+        "Utf16Error::detail" => detail::<E>(run),
         _ => return false,
     }
     true
@@ -101,5 +102,15 @@ fn fmt<E: Utf16Order>(run: &mut Run) {
     match validate_raw_utf16::<E>(&raw) {
         Ok(()) => run.unmet(),
         Err(error) => run.written(&error, format),
+    }
+}
+
+// Adds what a format writes for the detail of that error.
+fn detail<E: Utf16Order>(run: &mut Run) {
+    let raw = run.bytes();
+    let format = run.word();
+    match validate_raw_utf16::<E>(&raw) {
+        Ok(()) => run.unmet(),
+        Err(error) => run.written(&error.detail(), format),
     }
 }
