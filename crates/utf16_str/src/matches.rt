@@ -17,16 +17,15 @@ use utf16_units::Utf16Order;
 /// offset. Once none is left, `next` always returns `None`.
 #[derive(Drop)]
 pub struct WStrMatchIndices<'a, E: Utf16Order, P: Pattern<E>> {
-    left: Remaining<'a, E>,
-    pattern: P,
+    left: Remaining<'a, E, P>,
     offset: usize,
 }
 
 impl<'a, E: Utf16Order, P: Pattern<E>> Model for WStrMatchIndices<'a, E, P> {
     ghost Value = { List (ℕ × List ℕ) };
 
-    ghost view = { λ it. match_offsets (P.part it.pattern) it.offset
-        (parts_left (P.part it.pattern) it.left.begun (option_map wstr_text it.left.rest)) };
+    ghost view = { λ it. match_offsets (P.part it.left.pattern) it.offset
+        (parts_left (P.part it.left.pattern) it.left.begun (option_map wstr_text it.left.rest)) };
 
     ghost invariant = { λ it. it.offset + left_size (option_map wstr_text it.left.rest) < 2 ^ 64 };
 }
@@ -40,7 +39,7 @@ impl<'a, E: Utf16Order, P: Pattern<E>> Iterator for WStrMatchIndices<'a, E, P> {
 
     #[inline]
     fn next(&mut self) -> Option<(usize, WStr<'a, E>)> {
-        let (part, closed) = self.left.next_part(self.pattern)?;
+        let (part, closed) = self.left.next_part()?;
         if self.left.rest.is_none() {
             return None;
         }
@@ -82,16 +81,15 @@ impl<'a, E: Utf16Order, P: Pattern<E>> Iterator for WStrMatches<'a, E, P> {
 /// view with its byte offset. Once none is left, `next` always returns `None`.
 #[derive(Drop)]
 pub struct WStrRMatchIndices<'a, E: Utf16Order, P: Pattern<E>> {
-    left: Remaining<'a, E>,
-    pattern: P,
+    left: Remaining<'a, E, P>,
 }
 
 impl<'a, E: Utf16Order, P: Pattern<E>> Model for WStrRMatchIndices<'a, E, P> {
     ghost Value = { List (ℕ × List ℕ) };
 
-    ghost view = { λ it. rmatch_offsets (P.part it.pattern)
+    ghost view = { λ it. rmatch_offsets (P.part it.left.pattern)
         (left_size (option_map wstr_text it.left.rest))
-        (rparts_left (P.part it.pattern) it.left.begun (option_map wstr_text it.left.rest)) };
+        (rparts_left (P.part it.left.pattern) it.left.begun (option_map wstr_text it.left.rest)) };
 }
 
 impl<'a, E: Utf16Order, P: Pattern<E>> Iterator for WStrRMatchIndices<'a, E, P> {
@@ -103,7 +101,7 @@ impl<'a, E: Utf16Order, P: Pattern<E>> Iterator for WStrRMatchIndices<'a, E, P> 
 
     #[inline]
     fn next(&mut self) -> Option<(usize, WStr<'a, E>)> {
-        let (part, closed) = self.left.last_part(self.pattern)?;
+        let (part, closed) = self.left.last_part()?;
         let before = self.left.rest?;
         let (found, _) = closed.split_at(closed.len() - part.len());
         Some((before.len(), found))
@@ -129,11 +127,7 @@ impl<'a, E: Utf16Order> WStr<'a, E> {
         ensures runs { YieldsTextsAt self.entry }
     {
         WStrMatchIndices {
-            left: Remaining {
-                rest: Some(self),
-                begun: false,
-            },
-            pattern,
+            left: Remaining::new(self, pattern),
             offset: 0,
         }
     }
@@ -176,11 +170,7 @@ impl<'a, E: Utf16Order> WStr<'a, E> {
         ensures runs { YieldsTextsAt self.entry }
     {
         WStrRMatchIndices {
-            left: Remaining {
-                rest: Some(self),
-                begun: false,
-            },
-            pattern,
+            left: Remaining::new(self, pattern),
         }
     }
 }

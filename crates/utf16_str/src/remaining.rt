@@ -1,6 +1,6 @@
 //! The parts of a text between occurrences of a pattern, one by one from either end.
 
-ghost use Rattle.std.specs.Prelude.{◌≡◌, ◌++◌, ◌∷◌, [], IfSome, IsNone, MatchOption, None, option_map, true};
+ghost use Rattle.std.specs.Prelude.{◌≡◌, ◌++◌, ◌∷◌, [], IfSome, IsNone, MatchOption, None, Some, false, option_map, true};
 ghost use Rattle.utf16_str.specs.Matches.{closing, left_text};
 ghost use Rattle.utf16_str.specs.Splits.{parts_from, parts_left, rparts_from, rparts_left};
 ghost use Rattle.utf16_str.specs.WStr.{wstr_text};
@@ -11,35 +11,48 @@ use utf16_units::Utf16Order;
 
 // What is left of a text that is split at each occurrence of a pattern.
 #[derive(Drop)]
-pub(crate) struct Remaining<'a, E: Utf16Order> {
+pub(crate) struct Remaining<'a, E: Utf16Order, P: Pattern<E>> {
     // `None` once the last part was taken.
     pub(crate) rest: Option<WStr<'a, E>>,
     // Whether an occurrence was passed.
     pub(crate) begun: bool,
+    pub(crate) pattern: P,
 }
 
-impl<'a, E: Utf16Order> Remaining<'a, E> {
+impl<'a, E: Utf16Order, P: Pattern<E>> Remaining<'a, E, P> {
+    // All of a text.
+    #[inline]
+    pub(crate) fn new(text: WStr<'a, E>, pattern: P) -> Self
+        ensures rest { result.rest ≡ Some text.entry }
+        ensures begun { result.begun ≡ false }
+        ensures pattern { result.pattern ≡ pattern }
+    {
+        Remaining {
+            rest: Some(text),
+            begun: false,
+            pattern,
+        }
+    }
+
     // Takes the next part: without the occurrence that ends it, and with it.
     #[inline]
-    pub(crate) fn next_part<P: Pattern<E>>(
-        &mut self,
-        pattern: P,
-    ) -> Option<(WStr<'a, E>, WStr<'a, E>)>
+    pub(crate) fn next_part(&mut self) -> Option<(WStr<'a, E>, WStr<'a, E>)>
+        ensures pattern { self.new.pattern ≡ self.old.pattern }
         ensures parts { MatchOption result
-            (parts_left (P.part pattern) self.old.begun
+            (parts_left (P.part self.old.pattern) self.old.begun
             (option_map wstr_text self.old.rest) ≡ [])
-            (λ part. parts_left (P.part pattern) self.old.begun
+            (λ part. parts_left (P.part self.old.pattern) self.old.begun
             (option_map wstr_text self.old.rest)
-            ≡ wstr_text part.0 ∷ parts_left (P.part pattern) self.new.begun
+            ≡ wstr_text part.0 ∷ parts_left (P.part self.new.pattern) self.new.begun
             (option_map wstr_text self.new.rest)) }
         ensures done { IsNone result → self.new.rest ≡ None }
         ensures closed { IfSome result (λ part. wstr_text part.1 ≡ wstr_text part.0
-            ++ closing (P.part pattern) (option_map wstr_text self.new.rest)) }
+            ++ closing (P.part self.new.pattern) (option_map wstr_text self.new.rest)) }
         ensures joined { IfSome result (λ part. left_text (option_map wstr_text self.old.rest)
             ≡ wstr_text part.1 ++ left_text (option_map wstr_text self.new.rest)) }
     {
         let rest = self.rest?;
-        let Some((part, after)) = rest.cut(pattern, self.begun) else {
+        let Some((part, after)) = rest.cut(self.pattern, self.begun) else {
             self.rest = None;
             return Some((rest, rest));
         };
@@ -51,26 +64,24 @@ impl<'a, E: Utf16Order> Remaining<'a, E> {
 
     // Takes the last part: without the occurrence before it, and with it.
     #[inline]
-    pub(crate) fn last_part<P: Pattern<E>>(
-        &mut self,
-        pattern: P,
-    ) -> Option<(WStr<'a, E>, WStr<'a, E>)>
+    pub(crate) fn last_part(&mut self) -> Option<(WStr<'a, E>, WStr<'a, E>)>
+        ensures pattern { self.new.pattern ≡ self.old.pattern }
         ensures parts { MatchOption result
-            (rparts_left (P.part pattern) self.old.begun
+            (rparts_left (P.part self.old.pattern) self.old.begun
             (option_map wstr_text self.old.rest) ≡ [])
-            (λ part. rparts_left (P.part pattern) self.old.begun
+            (λ part. rparts_left (P.part self.old.pattern) self.old.begun
             (option_map wstr_text self.old.rest)
-            ≡ wstr_text part.0 ∷ rparts_left (P.part pattern) self.new.begun
+            ≡ wstr_text part.0 ∷ rparts_left (P.part self.new.pattern) self.new.begun
             (option_map wstr_text self.new.rest)) }
         ensures done { IsNone result → self.new.rest ≡ None }
         ensures closed { IfSome result (λ part. wstr_text part.1
-            ≡ closing (P.part pattern) (option_map wstr_text self.new.rest)
+            ≡ closing (P.part self.new.pattern) (option_map wstr_text self.new.rest)
             ++ wstr_text part.0) }
         ensures joined { IfSome result (λ part. left_text (option_map wstr_text self.old.rest)
             ≡ left_text (option_map wstr_text self.new.rest) ++ wstr_text part.1) }
     {
         let rest = self.rest?;
-        let Some((before, part)) = rest.rcut(pattern, self.begun) else {
+        let Some((before, part)) = rest.rcut(self.pattern, self.begun) else {
             self.rest = None;
             return Some((rest, rest));
         };

@@ -16,14 +16,13 @@ use utf16_units::Utf16Order;
 /// always return `None`.
 #[derive(Drop)]
 pub struct WStrSplit<'a, E: Utf16Order, P: Pattern<E>> {
-    left: Remaining<'a, E>,
-    pattern: P,
+    left: Remaining<'a, E, P>,
 }
 
 impl<'a, E: Utf16Order, P: Pattern<E>> Model for WStrSplit<'a, E, P> {
     ghost Value = { List (List ℕ) };
 
-    ghost view = { λ it. parts_left (P.part it.pattern) it.left.begun
+    ghost view = { λ it. parts_left (P.part it.left.pattern) it.left.begun
         (option_map wstr_text it.left.rest) };
 }
 
@@ -36,7 +35,7 @@ impl<'a, E: Utf16Order, P: Pattern<E>> Iterator for WStrSplit<'a, E, P> {
 
     #[inline]
     fn next(&mut self) -> Option<WStr<'a, E>> {
-        let (part, _) = self.left.next_part(self.pattern)?;
+        let (part, _) = self.left.next_part()?;
         Some(part)
     }
 }
@@ -46,7 +45,7 @@ impl<'a, E: Utf16Order> DoubleEndedIterator for WStrSplit<'a, E, char> {
 
     #[inline]
     fn next_back(&mut self) -> Option<WStr<'a, E>> {
-        let (part, _) = self.left.last_part(self.pattern)?;
+        let (part, _) = self.left.last_part()?;
         Some(part)
     }
 }
@@ -55,14 +54,13 @@ impl<'a, E: Utf16Order> DoubleEndedIterator for WStrSplit<'a, E, char> {
 /// first. Each is a view without the delimiter. Once none is left, `next` always returns `None`.
 #[derive(Drop)]
 pub struct WStrRSplit<'a, E: Utf16Order, P: Pattern<E>> {
-    left: Remaining<'a, E>,
-    pattern: P,
+    left: Remaining<'a, E, P>,
 }
 
 impl<'a, E: Utf16Order, P: Pattern<E>> Model for WStrRSplit<'a, E, P> {
     ghost Value = { List (List ℕ) };
 
-    ghost view = { λ it. rparts_left (P.part it.pattern) it.left.begun
+    ghost view = { λ it. rparts_left (P.part it.left.pattern) it.left.begun
         (option_map wstr_text it.left.rest) };
 }
 
@@ -75,7 +73,7 @@ impl<'a, E: Utf16Order, P: Pattern<E>> Iterator for WStrRSplit<'a, E, P> {
 
     #[inline]
     fn next(&mut self) -> Option<WStr<'a, E>> {
-        let (part, _) = self.left.last_part(self.pattern)?;
+        let (part, _) = self.left.last_part()?;
         Some(part)
     }
 }
@@ -105,11 +103,7 @@ impl<'a, E: Utf16Order> WStr<'a, E> {
         ensures runs_back { YieldsTextsBack self.entry }
     {
         WStrSplit {
-            left: Remaining {
-                rest: Some(self),
-                begun: false,
-            },
-            pattern: delimiter,
+            left: Remaining::new(self, delimiter),
         }
     }
 
@@ -129,11 +123,7 @@ impl<'a, E: Utf16Order> WStr<'a, E> {
         ensures runs { YieldsTexts self.entry }
     {
         WStrRSplit {
-            left: Remaining {
-                rest: Some(self),
-                begun: false,
-            },
-            pattern: delimiter,
+            left: Remaining::new(self, delimiter),
         }
     }
 }

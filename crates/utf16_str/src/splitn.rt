@@ -17,16 +17,15 @@ use utf16_units::Utf16Order;
 /// always returns `None`.
 #[derive(Drop)]
 pub struct WStrSplitN<'a, E: Utf16Order, P: Pattern<E>> {
-    left: Remaining<'a, E>,
-    pattern: P,
+    left: Remaining<'a, E, P>,
     count: usize,
 }
 
 impl<'a, E: Utf16Order, P: Pattern<E>> Model for WStrSplitN<'a, E, P> {
     ghost Value = { List (List ℕ) };
 
-    ghost view = { λ it. limited (joined_with (P.part it.pattern)) it.count
-        (parts_left (P.part it.pattern) it.left.begun (option_map wstr_text it.left.rest)) };
+    ghost view = { λ it. limited (joined_with (P.part it.left.pattern)) it.count
+        (parts_left (P.part it.left.pattern) it.left.begun (option_map wstr_text it.left.rest)) };
 }
 
 impl<'a, E: Utf16Order, P: Pattern<E>> Iterator for WStrSplitN<'a, E, P> {
@@ -45,7 +44,7 @@ impl<'a, E: Utf16Order, P: Pattern<E>> Iterator for WStrSplitN<'a, E, P> {
         if self.count == 0 {
             return self.left.rest;
         }
-        let (part, _) = self.left.next_part(self.pattern)?;
+        let (part, _) = self.left.next_part()?;
         Some(part)
     }
 }
@@ -55,16 +54,15 @@ impl<'a, E: Utf16Order, P: Pattern<E>> Iterator for WStrSplitN<'a, E, P> {
 /// Once none is left, `next` always returns `None`.
 #[derive(Drop)]
 pub struct WStrRSplitN<'a, E: Utf16Order, P: Pattern<E>> {
-    left: Remaining<'a, E>,
-    pattern: P,
+    left: Remaining<'a, E, P>,
     count: usize,
 }
 
 impl<'a, E: Utf16Order, P: Pattern<E>> Model for WStrRSplitN<'a, E, P> {
     ghost Value = { List (List ℕ) };
 
-    ghost view = { λ it. limited (rjoined_with (P.part it.pattern)) it.count
-        (rparts_left (P.part it.pattern) it.left.begun (option_map wstr_text it.left.rest)) };
+    ghost view = { λ it. limited (rjoined_with (P.part it.left.pattern)) it.count
+        (rparts_left (P.part it.left.pattern) it.left.begun (option_map wstr_text it.left.rest)) };
 }
 
 impl<'a, E: Utf16Order, P: Pattern<E>> Iterator for WStrRSplitN<'a, E, P> {
@@ -83,7 +81,7 @@ impl<'a, E: Utf16Order, P: Pattern<E>> Iterator for WStrRSplitN<'a, E, P> {
         if self.count == 0 {
             return self.left.rest;
         }
-        let (part, _) = self.left.last_part(self.pattern)?;
+        let (part, _) = self.left.last_part()?;
         Some(part)
     }
 }
@@ -106,11 +104,7 @@ impl<'a, E: Utf16Order> WStr<'a, E> {
         ensures runs { YieldsTexts self.entry }
     {
         WStrSplitN {
-            left: Remaining {
-                rest: Some(self),
-                begun: false,
-            },
-            pattern: delimiter,
+            left: Remaining::new(self, delimiter),
             count: n,
         }
     }
@@ -132,11 +126,7 @@ impl<'a, E: Utf16Order> WStr<'a, E> {
         ensures runs { YieldsTexts self.entry }
     {
         WStrRSplitN {
-            left: Remaining {
-                rest: Some(self),
-                begun: false,
-            },
-            pattern: delimiter,
+            left: Remaining::new(self, delimiter),
             count: n,
         }
     }

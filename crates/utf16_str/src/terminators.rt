@@ -16,14 +16,13 @@ use utf16_units::Utf16Order;
 /// a view without it. Once none is left, `next` always returns `None`.
 #[derive(Drop)]
 pub struct WStrSplitTerminator<'a, E: Utf16Order, P: Pattern<E>> {
-    left: Remaining<'a, E>,
-    pattern: P,
+    left: Remaining<'a, E, P>,
 }
 
 impl<'a, E: Utf16Order, P: Pattern<E>> Model for WStrSplitTerminator<'a, E, P> {
     ghost Value = { List (List ℕ) };
 
-    ghost view = { λ it. without_empty_last (parts_left (P.part it.pattern) it.left.begun
+    ghost view = { λ it. without_empty_last (parts_left (P.part it.left.pattern) it.left.begun
         (option_map wstr_text it.left.rest)) };
 }
 
@@ -36,7 +35,7 @@ impl<'a, E: Utf16Order, P: Pattern<E>> Iterator for WStrSplitTerminator<'a, E, P
 
     #[inline]
     fn next(&mut self) -> Option<WStr<'a, E>> {
-        let (part, _) = self.left.next_part(self.pattern)?;
+        let (part, _) = self.left.next_part()?;
         if self.left.rest.is_none() && part.is_empty() {
             return None;
         }
@@ -48,15 +47,14 @@ impl<'a, E: Utf16Order, P: Pattern<E>> Iterator for WStrSplitTerminator<'a, E, P
 /// a view with it. Once none is left, `next` always returns `None`.
 #[derive(Drop)]
 pub struct WStrSplitInclusive<'a, E: Utf16Order, P: Pattern<E>> {
-    left: Remaining<'a, E>,
-    pattern: P,
+    left: Remaining<'a, E, P>,
 }
 
 impl<'a, E: Utf16Order, P: Pattern<E>> Model for WStrSplitInclusive<'a, E, P> {
     ghost Value = { List (List ℕ) };
 
-    ghost view = { λ it. with_terminators (P.part it.pattern)
-        (parts_left (P.part it.pattern) it.left.begun (option_map wstr_text it.left.rest)) };
+    ghost view = { λ it. with_terminators (P.part it.left.pattern)
+        (parts_left (P.part it.left.pattern) it.left.begun (option_map wstr_text it.left.rest)) };
 }
 
 impl<'a, E: Utf16Order, P: Pattern<E>> Iterator for WStrSplitInclusive<'a, E, P> {
@@ -68,7 +66,7 @@ impl<'a, E: Utf16Order, P: Pattern<E>> Iterator for WStrSplitInclusive<'a, E, P>
 
     #[inline]
     fn next(&mut self) -> Option<WStr<'a, E>> {
-        let (_, part) = self.left.next_part(self.pattern)?;
+        let (_, part) = self.left.next_part()?;
         if self.left.rest.is_none() && part.is_empty() {
             return None;
         }
@@ -94,11 +92,7 @@ impl<'a, E: Utf16Order> WStr<'a, E> {
         ensures runs { YieldsTexts self.entry }
     {
         WStrSplitTerminator {
-            left: Remaining {
-                rest: Some(self),
-                begun: false,
-            },
-            pattern: terminator,
+            left: Remaining::new(self, terminator),
         }
     }
 
@@ -119,11 +113,7 @@ impl<'a, E: Utf16Order> WStr<'a, E> {
         ensures runs { YieldsTexts self.entry }
     {
         WStrSplitInclusive {
-            left: Remaining {
-                rest: Some(self),
-                begun: false,
-            },
-            pattern: terminator,
+            left: Remaining::new(self, terminator),
         }
     }
 }

@@ -17,20 +17,20 @@ use Rattle.utf16_str.proofs.matches.WStrMatchIndicesIterator.next.Goals.{After-l
 some : (g : Over) (c : After-len g) → option_map wstr_text c.next_part.new.self.rest ≡ None → ⊥
 some g c = mapped-some wstr_text c.next_part.new.self.rest _ c.is_none.ensures c.if-is_none.false
 
-closed : (g : Over) (c : After-len g) → wstr_text c.in_ok-part.closed ≡ wstr_text c.in_ok-part.part ++ g.P.Pattern.part c.self.inside.pattern
+closed : (g : Over) (c : After-len g) → wstr_text c.in_ok-part.closed ≡ wstr_text c.in_ok-part.part ++ g.P.Pattern.part c.next_part.new.self.pattern
 closed g c =
     c.in_ok-part.ensures.closed
-    ∙ ap (λ t. wstr_text c.in_ok-part.part ++ t) (closing-some (g.P.Pattern.part c.self.inside.pattern) c.self.inside.left.begun (option_map wstr_text c.next_part.new.self.rest) (some g c))
+    ∙ ap (λ t. wstr_text c.in_ok-part.part ++ t) (closing-some (g.P.Pattern.part c.next_part.new.self.pattern) c.self.inside.left.begun (option_map wstr_text c.next_part.new.self.rest) (some g c))
 
-long : (g : Over) (c : After-len g) → size (wstr_text c.in_ok-part.closed) ≡ size (wstr_text c.in_ok-part.part) + size (g.P.Pattern.part c.self.inside.pattern)
-long g c = ap size (closed g c) ∙ size-append (wstr_text c.in_ok-part.part) (g.P.Pattern.part c.self.inside.pattern)
+long : (g : Over) (c : After-len g) → size (wstr_text c.in_ok-part.closed) ≡ size (wstr_text c.in_ok-part.part) + size (g.P.Pattern.part c.next_part.new.self.pattern)
+long g c = ap size (closed g c) ∙ size-append (wstr_text c.in_ok-part.part) (g.P.Pattern.part c.next_part.new.self.pattern)
 
 sizes : (g : Over) (c : After-len g) → left_size (option_map wstr_text c.self.inside.left.rest) ≡ size (wstr_text c.in_ok-part.closed) + left_size (option_map wstr_text c.next_part.new.self.rest)
 sizes g c =
     let left = option_map wstr_text c.next_part.new.self.rest in
     omega (arith, size-left (option_map wstr_text c.self.inside.left.rest), ap size c.in_ok-part.ensures.joined, size-append (wstr_text c.in_ok-part.closed) (left_text left), size-left left)
 
-cut : (g : Over) (c : After-len g) → IsCutBetween (wstr_text c.in_ok-part.part) (g.P.Pattern.part c.self.inside.pattern) (wstr_text c.in_ok-part.closed) c.len.result
+cut : (g : Over) (c : After-len g) → IsCutBetween (wstr_text c.in_ok-part.part) (g.P.Pattern.part c.next_part.new.self.pattern) (wstr_text c.in_ok-part.closed) c.len.result
 cut g c = cut_between _ _ _ _ (closed g c) (sym c.len.ensures.size)
 
 pub overflow_add-offset : goal.overflow_add-offset
@@ -49,13 +49,15 @@ invariant_of-self-2 g c =
 pub returns-clause-steps : goal.returns-clause-steps
 returns-clause-steps g c =
     let at = (goal.at.returns-clause-steps g c).After-len in
-    let part = g.P.Pattern.part c.self.inside.pattern in
+    let part = g.P.Pattern.part c.next_part.new.self.pattern in
     let offset = c.self.inside.offset in
     let more = parts_left part c.next_part.new.self.begun (option_map wstr_text c.next_part.new.self.rest) in
     let again : c.len-3.result ≡ c.len.result = c.len-3.ensures.size ∙ sym c.len.ensures.size in
     let found : wstr_text c.split_at.result.1 ≡ part = c.split_at.ensures.back ∙ ap (text_from (wstr_text c.in_ok-part.closed)) again ∙ (cut g at).from in
     let past : offset + size (wstr_text c.in_ok-part.part) + size part ≡ offset + c.len-2.result = omega (arith, long g at, c.len-2.ensures.size) in
-    sym c.self.view_is ∙ ap (match_offsets part offset) c.in_ok-part.ensures.parts
+    sym c.self.view_is
+    ∙ ap (λ p. match_offsets (g.P.Pattern.part p) offset (parts_left (g.P.Pattern.part c.self.inside.left.pattern) c.self.inside.left.begun (option_map wstr_text c.self.inside.left.rest))) (sym c.in_ok-part.ensures.pattern)
+    ∙ ap (match_offsets part offset) c.in_ok-part.ensures.parts
     ∙ offsets-more part offset (wstr_text c.in_ok-part.part) more (left-some part c.next_part.new.self.begun (option_map wstr_text c.next_part.new.self.rest) (some g at))
     ∙ ap (λ n. (offset + n, part) ∷ match_offsets part (offset + size (wstr_text c.in_ok-part.part) + size part) more) (sym c.len.ensures.size)
     ∙ ap (λ t. (offset + c.len.result, t) ∷ match_offsets part (offset + size (wstr_text c.in_ok-part.part) + size part) more) (sym found)

@@ -16,11 +16,11 @@ use Rattle.utf16_str.proofs.matches.WStrRMatchIndicesIterator.next.Goals.{In_ok-
 rest : (g : Over) (c : In_ok-before g) → c.last_part.new.self.rest ≡ Some c.in_ok-before.before
 rest g c = search rules
 
-closed : (g : Over) (c : In_ok-before g) → wstr_text c.in_ok-part.closed ≡ g.P.Pattern.part c.self.inside.pattern ++ wstr_text c.in_ok-part.part
-closed g c = c.in_ok-part.ensures.closed ∙ ap (λ o. closing (g.P.Pattern.part c.self.inside.pattern) (option_map wstr_text o) ++ wstr_text c.in_ok-part.part) (rest g c)
+closed : (g : Over) (c : In_ok-before g) → wstr_text c.in_ok-part.closed ≡ g.P.Pattern.part c.last_part.new.self.pattern ++ wstr_text c.in_ok-part.part
+closed g c = c.in_ok-part.ensures.closed ∙ ap (λ o. closing (g.P.Pattern.part c.last_part.new.self.pattern) (option_map wstr_text o) ++ wstr_text c.in_ok-part.part) (rest g c)
 
-long : (g : Over) (c : In_ok-before g) → size (wstr_text c.in_ok-part.closed) ≡ size (g.P.Pattern.part c.self.inside.pattern) + size (wstr_text c.in_ok-part.part)
-long g c = ap size (closed g c) ∙ size-append (g.P.Pattern.part c.self.inside.pattern) (wstr_text c.in_ok-part.part)
+long : (g : Over) (c : In_ok-before g) → size (wstr_text c.in_ok-part.closed) ≡ size (g.P.Pattern.part c.last_part.new.self.pattern) + size (wstr_text c.in_ok-part.part)
+long g c = ap size (closed g c) ∙ size-append (g.P.Pattern.part c.last_part.new.self.pattern) (wstr_text c.in_ok-part.part)
 
 now : (g : Over) (c : In_ok-before g) → left_size (option_map wstr_text c.last_part.new.self.rest) ≡ size (wstr_text c.in_ok-before.before)
 now g c = ap (λ o. left_size (option_map wstr_text o)) (rest g c)
@@ -36,14 +36,14 @@ overflow_sub-len g c = omega (arith, long g (goal.at.overflow_sub-len g c).In_ok
 pub split_at-requires : goal.split_at-requires
 split_at-requires g c =
     let at = (goal.at.split_at-requires g c).In_ok-before in
-    let part = g.P.Pattern.part c.self.inside.pattern in
+    let part = g.P.Pattern.part c.last_part.new.self.pattern in
     let start : size part ≡ c.len.result - c.len-2.result = omega (arith, long g at, c.len.ensures.size, c.len-2.ensures.size) in
     (cut_between part (wstr_text c.in_ok-part.part) (wstr_text c.in_ok-part.closed) (c.len.result - c.len-2.result) (closed g at) start).boundary
 
 pub returns-clause-steps : goal.returns-clause-steps
 returns-clause-steps g c =
     let at = (goal.at.returns-clause-steps g c).In_ok-before in
-    let part = g.P.Pattern.part c.self.inside.pattern in
+    let part = g.P.Pattern.part c.last_part.new.self.pattern in
     let text = wstr_text c.in_ok-part.part in
     let new = c.last_part.new.self in
     let end = left_size (option_map wstr_text c.self.inside.left.rest) in
@@ -54,7 +54,9 @@ returns-clause-steps g c =
     let found : wstr_text c.split_at.result.0 ≡ part = c.split_at.ensures.front ∙ cut.to in
     let offset : end - size text - size part ≡ c.len-3.result = omega (arith, sizes g at, long g at, c.len-3.ensures.size) in
     let left : end - size text - size part ≡ left_size (option_map wstr_text new.rest) = omega (arith, sizes g at, long g at, now g at) in
-    sym c.self.view_is ∙ ap (rmatch_offsets part end) c.in_ok-part.ensures.parts
+    sym c.self.view_is
+    ∙ ap (λ p. rmatch_offsets (g.P.Pattern.part p) end (rparts_left (g.P.Pattern.part c.self.inside.left.pattern) c.self.inside.left.begun (option_map wstr_text c.self.inside.left.rest))) (sym c.in_ok-part.ensures.pattern)
+    ∙ ap (rmatch_offsets part end) c.in_ok-part.ensures.parts
     ∙ roffsets-more part end text more (rleft-some part new.begun (option_map wstr_text new.rest) some)
     ∙ ap (λ n. (n, part) ∷ rmatch_offsets part (end - size text - size part) more) offset
     ∙ ap (λ t. (c.len-3.result, t) ∷ rmatch_offsets part (end - size text - size part) more) (sym found)

@@ -6,9 +6,9 @@ use Rattle.utf16_str.proofs.remaining.Remaining.last_part.Given.{Over}
 use Rattle.utf16_str.proofs.remaining.Remaining.last_part.Goals as goal
 use Rattle.utf16_str.proofs.remaining.Remaining.last_part.Goals.{After-len}
 
-cut : (g : Over) (c : After-len g) → IsCutBetween (wstr_text c.in-Some.before) (g.P.Pattern.part c.args.pattern ++ wstr_text c.in-Some.part) (wstr_text c.in_ok-rest.rest) c.len.result
+cut : (g : Over) (c : After-len g) → IsCutBetween (wstr_text c.in-Some.before) (g.P.Pattern.part c.args.self.now.pattern ++ wstr_text c.in-Some.part) (wstr_text c.in_ok-rest.rest) c.len.result
 cut g c =
-    cut_between (wstr_text c.in-Some.before) (g.P.Pattern.part c.args.pattern ++ wstr_text c.in-Some.part) (wstr_text c.in_ok-rest.rest) c.len.result
+    cut_between (wstr_text c.in-Some.before) (g.P.Pattern.part c.args.self.now.pattern ++ wstr_text c.in-Some.part) (wstr_text c.in_ok-rest.rest) c.len.result
     c.in-Some.ensures.joined (sym c.len.ensures.size)
 
 pub split_at-requires : goal.split_at-requires

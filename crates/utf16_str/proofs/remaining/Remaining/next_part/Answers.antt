@@ -8,16 +8,16 @@ use Rattle.utf16_str.proofs.remaining.Remaining.next_part.Given.{Over}
 use Rattle.utf16_str.proofs.remaining.Remaining.next_part.Goals as goal
 use Rattle.utf16_str.proofs.remaining.Remaining.next_part.Goals.{After-len-2}
 
-joined : (g : Over) (c : After-len-2 g) → wstr_text c.in_ok-rest.rest ≡ (wstr_text c.in-Some.part ++ g.P.Pattern.part c.args.pattern) ++ wstr_text c.in-Some.after
-joined g c = c.in-Some.ensures.joined ∙ sym (append_assoc (wstr_text c.in-Some.part) (g.P.Pattern.part c.args.pattern) (wstr_text c.in-Some.after))
+joined : (g : Over) (c : After-len-2 g) → wstr_text c.in_ok-rest.rest ≡ (wstr_text c.in-Some.part ++ g.P.Pattern.part c.args.self.now.pattern) ++ wstr_text c.in-Some.after
+joined g c = c.in-Some.ensures.joined ∙ sym (append_assoc (wstr_text c.in-Some.part) (g.P.Pattern.part c.args.self.now.pattern) (wstr_text c.in-Some.after))
 
-sizes : (g : Over) (c : After-len-2 g) → c.len.result ≡ size (wstr_text c.in-Some.part ++ g.P.Pattern.part c.args.pattern) + c.len-2.result
+sizes : (g : Over) (c : After-len-2 g) → c.len.result ≡ size (wstr_text c.in-Some.part ++ g.P.Pattern.part c.args.self.now.pattern) + c.len-2.result
 sizes g c =
-    omega (arith, c.len.ensures.size, c.len-2.ensures.size, ap size (joined g c), size-append (wstr_text c.in-Some.part ++ g.P.Pattern.part c.args.pattern) (wstr_text c.in-Some.after))
+    omega (arith, c.len.ensures.size, c.len-2.ensures.size, ap size (joined g c), size-append (wstr_text c.in-Some.part ++ g.P.Pattern.part c.args.self.now.pattern) (wstr_text c.in-Some.after))
 
-cut : (g : Over) (c : After-len-2 g) → IsCutBetween (wstr_text c.in-Some.part ++ g.P.Pattern.part c.args.pattern) (wstr_text c.in-Some.after) (wstr_text c.in_ok-rest.rest) (c.len.result - c.len-2.result)
+cut : (g : Over) (c : After-len-2 g) → IsCutBetween (wstr_text c.in-Some.part ++ g.P.Pattern.part c.args.self.now.pattern) (wstr_text c.in-Some.after) (wstr_text c.in_ok-rest.rest) (c.len.result - c.len-2.result)
 cut g c =
-    cut_between (wstr_text c.in-Some.part ++ g.P.Pattern.part c.args.pattern) (wstr_text c.in-Some.after) (wstr_text c.in_ok-rest.rest) (c.len.result - c.len-2.result)
+    cut_between (wstr_text c.in-Some.part ++ g.P.Pattern.part c.args.self.now.pattern) (wstr_text c.in-Some.after) (wstr_text c.in_ok-rest.rest) (c.len.result - c.len-2.result)
     (joined g c) (omega (arith, sizes g c))
 
 pub overflow_sub-len : goal.overflow_sub-len

@@ -1,16 +1,16 @@
-use Rattle.std.proofs.Common.{◌∙◌, ◌∷◌, [], List, ap, option_map, refl, subst, sym, ℕ}
+use Rattle.std.proofs.Common.{◌∙◌, ◌∷◌, ◌++◌, [], List, ap, option_map, refl, subst, sym, ℕ}
 use Rattle.std.specs.Iterator.{YieldsLastBy}
-use Rattle.utf16_str.specs.Splits.{parts_left}
+use Rattle.utf16_str.specs.Splits.{parts_left, rparts_left}
 use Rattle.utf16_str.specs.WStr.{wstr_text}
 use Rattle.utf16_str.proofs.BackNext.{back-none, back-some}
 use Rattle.utf16_str.proofs.split.WStrSplitCharDoubleEndedIterator.next_back.Goals as goal
 
 pub returns-in_err-part-clause-steps : goal.returns-in_err-part-clause-steps
 returns-in_err-part-clause-steps g c =
-    let delimiter = c.self.inside.pattern in
     let left = c.self.inside.left in
     let new = c.last_part.new.self in
-    let none = sym c.self.view_is ∙ back-none delimiter left.begun (option_map wstr_text left.rest) c.in_err-part.ensures.parts in
+    let delimiter = new.pattern in
+    let none = sym c.self.view_is ∙ back-none left.pattern left.begun (option_map wstr_text left.rest) c.in_err-part.ensures.parts in
     let done = ap (λ o. parts_left (delimiter ∷ []) new.begun (option_map wstr_text o)) (c.in_err-part.ensures.done refl) in
     subst (λ r. YieldsLastBy wstr_text (λ (rest : List (List ℕ)). rest) c.args.self.now r (parts_left (delimiter ∷ []) new.begun (option_map wstr_text new.rest))) (sym c.from_residual.ensures) (none, done)
 
@@ -18,4 +18,9 @@ pub returns-clause-steps : goal.returns-clause-steps
 returns-clause-steps g c =
     let left = c.self.inside.left in
     let new = c.last_part.new.self in
-    sym c.self.view_is ∙ back-some c.self.inside.pattern left.begun new.begun (option_map wstr_text left.rest) (option_map wstr_text new.rest) (wstr_text c.in_ok-part.part) c.in_ok-part.ensures.parts
+    let rest = option_map wstr_text new.rest in
+    let text = wstr_text c.in_ok-part.part in
+    let same = c.in_ok-part.ensures.pattern in
+    let parts = c.in_ok-part.ensures.parts ∙ ap (λ p. text ∷ rparts_left (p ∷ []) new.begun rest) same in
+    sym c.self.view_is ∙ back-some left.pattern left.begun new.begun (option_map wstr_text left.rest) rest text parts
+    ∙ ap (λ p. parts_left (p ∷ []) new.begun rest ++ text ∷ []) (sym same)

@@ -12,7 +12,7 @@ use Rattle.utf16_str.proofs.splitn.WStrSplitNIterator.next.Goals as goal
 
 pub returns-then-self-eq0-2-clause-steps : goal.returns-then-self-eq0-2-clause-steps
 returns-then-self-eq0-2-clause-steps g c =
-    let part = g.P.Pattern.part c.self.inside.pattern in
+    let part = g.P.Pattern.part c.self.inside.left.pattern in
     let begun = c.self.inside.left.begun in
     let count = c.self.inside.count in
     subst (λ items. YieldsFirstBy wstr_text (λ (rest : List (List ℕ)). rest) items c.self.inside.left.rest
@@ -25,10 +25,12 @@ returns-then-self-eq0-2-clause-goes g c = progress-any wstr_text _ (λ _. tt) _ 
 
 pub returns-clause-steps : goal.returns-clause-steps
 returns-clause-steps g c =
-    let part = g.P.Pattern.part c.self.inside.pattern in
+    let part = g.P.Pattern.part c.next_part.new.self.pattern in
     let count = c.self.inside.count in
     let more = parts_left part c.next_part.new.self.begun (option_map wstr_text c.next_part.new.self.rest) in
-    sym c.self.view_is ∙ ap (limited (joined_with part) count) c.in_ok-part.ensures.parts
+    sym c.self.view_is
+    ∙ ap (λ p. limited (joined_with (g.P.Pattern.part p)) count (parts_left (g.P.Pattern.part c.self.inside.left.pattern) c.self.inside.left.begun (option_map wstr_text c.self.inside.left.rest))) (sym c.in_ok-part.ensures.pattern)
+    ∙ ap (limited (joined_with part) count) c.in_ok-part.ensures.parts
     ∙ limited-more (joined_with part) count (count - 1) (wstr_text c.in_ok-part.part) more (omega (arith, c.if-self-eq0.false)) (omega (arith, c.if-self-eq0-2.false))
 
 pub returns-clause-goes : goal.returns-clause-goes

@@ -15,7 +15,7 @@ returns-clause-steps g c =
       | else-is_none-via-else-is_none w ↦ λ none. absurd (mapped-some wstr_text rest _ c.is_none.ensures w.if-is_none.false none)
     ] in
     sym c.self.view_is ∙ ap without_empty_last c.in_ok-part.ensures.parts
-    ∙ without-next (g.P.Pattern.part c.self.inside.pattern) c.next_part.new.self.begun (wstr_text c.in_ok-part.part) (option_map wstr_text rest) some
+    ∙ without-next (g.P.Pattern.part c.next_part.new.self.pattern) c.next_part.new.self.begun (wstr_text c.in_ok-part.part) (option_map wstr_text rest) some
 
 pub returns-clause-goes : goal.returns-clause-goes
 returns-clause-goes g c = progress-part _ (λ _. tt) _ _ _ _ (returns-clause-steps g c)

@@ -1,6 +1,6 @@
-use Rattle.std.proofs.Common.{arith, false}
-use Rattle.utf16_units.specs.Encoding.{size}
-use Rattle.utf16_str.specs.Splits.{rsplit_by}
+use Rattle.std.proofs.Common.{◌≡◌, ap, arith, false, length, option_map, rules}
+use Rattle.utf16_str.specs.Matches.{left_size}
+use Rattle.utf16_str.specs.Splits.{rparts_left, rsplit_by}
 use Rattle.utf16_str.specs.WStr.{wstr_bytes, wstr_text}
 use Rattle.utf16_str.proofs.CountLemmas.{count-rparts}
 use Rattle.utf16_str.proofs.MatchLemmas.{length-roffsets}
@@ -9,9 +9,9 @@ use Rattle.utf16_str.proofs.wstr.WStr.rmatch_indices.Goals as goal
 
 pub returns-clause-bound : goal.returns-clause-bound
 returns-clause-bound g c =
-    let text = wstr_text c.args.self in
-    let part = g.P.Pattern.part c.args.pattern in
-    few-parts g.E.Utf16Order.BIG (wstr_bytes c.args.self) _ c.args.self.well_formed (omega arith) (omega (arith, length-roffsets part (size text) (rsplit_by part text), (count-rparts part false text).1))
+    let made : rparts_left (g.P.Pattern.part c.new.result.pattern) c.new.result.begun (option_map wstr_text c.new.result.rest) ≡ rsplit_by (g.P.Pattern.part c.args.pattern) (wstr_text c.args.self) = search rules in
+    let parts = rparts_left (g.P.Pattern.part c.new.result.pattern) c.new.result.begun (option_map wstr_text c.new.result.rest) in
+    few-parts g.E.Utf16Order.BIG (wstr_bytes c.args.self) _ c.args.self.well_formed (omega arith) (omega (arith, length-roffsets (g.P.Pattern.part c.new.result.pattern) (left_size (option_map wstr_text c.new.result.rest)) parts, ap length made, (count-rparts (g.P.Pattern.part c.args.pattern) false (wstr_text c.args.self)).1))
 
 pub returns-clause-runs : goal.returns-clause-runs
 returns-clause-runs g c = text_runs (λ at. (at.0, wstr_text at.1))

@@ -1,4 +1,5 @@
-use Rattle.utf16_str.specs.Splits.{rjoined_with, rsplit_by}
+use Rattle.std.proofs.Common.{option_map}
+use Rattle.utf16_str.specs.Splits.{rjoined_with, rparts_left}
 use Rattle.utf16_str.specs.WStr.{wstr_text}
 use Rattle.utf16_str.proofs.MatchLemmas.{length-limited}
 use Rattle.utf16_str.proofs.SplitLemmas.{text_runs}
@@ -6,8 +7,8 @@ use Rattle.utf16_str.proofs.wstr.WStr.rsplitn.Goals as goal
 
 pub returns-clause-bound : goal.returns-clause-bound
 returns-clause-bound g c =
-    let part = g.P.Pattern.part c.args.delimiter in
-    length-limited (rjoined_with part) c.args.n (rsplit_by part (wstr_text c.args.self))
+    let part = g.P.Pattern.part c.new.result.pattern in
+    length-limited (rjoined_with part) c.args.n (rparts_left part c.new.result.begun (option_map wstr_text c.new.result.rest))
 
 pub returns-clause-runs : goal.returns-clause-runs
 returns-clause-runs g c = text_runs wstr_text
