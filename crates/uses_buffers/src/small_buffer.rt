@@ -11,7 +11,8 @@ ghost use Rattle.uses_buffers.specs.Calls.{ConvertsUpTo};
 
 use std::alloc::{AllocError, Allocator};
 use utf16_transcode::{
-    FromUtf8, LossyDirection, Stop, Stream, ToUtf8, transcode, transcode_lossy, transcode_partial,
+    Direction, FromUtf8, LossyDirection, Stop, Stream, ToUtf8, transcode, transcode_lossy,
+    transcode_partial,
 };
 use utf16_units::Utf16Order;
 
@@ -113,7 +114,11 @@ pub fn partial_through<D: LossyDirection, A: Allocator>(
 }
 
 /// A direction that finds an error again after the text before it is taken away.
-pub trait StrictDirection: LossyDirection {
+pub trait StrictDirection: Direction {
+    /// States that a character takes at most four bytes, and does nothing.
+    fn short_law()
+        ensures { (c : ℕ) → length (Self.into c) ≤ 4 };
+
     /// States what the proof of `strict_through` needs, and does nothing: what follows the longest
     /// valid prefix is an ill-formed sequence, or an incomplete character, where it begins.
     fn strict_laws()
@@ -122,10 +127,14 @@ pub trait StrictDirection: LossyDirection {
 }
 
 impl<E: Utf16Order> StrictDirection for ToUtf8<E> {
+    fn short_law() {}
+
     fn strict_laws() {}
 }
 
 impl<E: Utf16Order> StrictDirection for FromUtf8<E> {
+    fn short_law() {}
+
     fn strict_laws() {}
 }
 
@@ -149,7 +158,7 @@ pub fn strict_through<D: StrictDirection, A: Allocator>(
         (vec_items done.0) done.1 done.2) }
 {
     D::laws();
-    D::lossy_laws();
+    D::short_law();
     D::strict_laws();
     let mut all = Vec::new(alloc);
     let mut at = 0;

@@ -64,7 +64,11 @@ pub fn to_utf8_lossy<E: Utf16Order>(raw: &[u8], to: &mut [u8]) -> Progress
 }
 
 impl<E: Utf16Order> LossyDirection for ToUtf8<E> {
+    type Text = Self;
+
     ghost parts = { utf16_parts E.BIG };
+
+    ghost into = { encode_utf8 };
 
     #[inline(always)]
     fn lossy_laws() {}

@@ -105,7 +105,11 @@ pub fn from_utf8_lossy<E: Utf16Order>(text: &[u8], to: &mut [u8]) -> Progress
 }
 
 impl<E: Utf16Order> LossyDirection for FromUtf8<E> {
+    type Text = Self;
+
     ghost parts = { utf8_parts };
+
+    ghost into = { char_bytes E.BIG };
 
     #[inline(always)]
     fn lossy_laws() {}

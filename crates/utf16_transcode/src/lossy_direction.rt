@@ -1,5 +1,5 @@
-//! What a direction needs to continue after ill-formed sequences: which bytes are pending, and what
-//! is written for each ill-formed sequence.
+//! What a call needs to continue after ill-formed sequences: how text is written, which bytes are
+//! pending, and what is written for each ill-formed sequence.
 
 ghost use Rattle.std.specs.Prelude.{◌≡◌, ◌-◌, ◌<◌, ◌≤◌, ◌++◌, ℕ, List, IfSome, None, Some, drop, length, take};
 ghost use Rattle.std.specs.List.{flat_map};
@@ -13,9 +13,15 @@ use crate::direction::Direction;
 use utf16_units::Moved;
 
 /// A direction that continues after ill-formed sequences.
-pub trait LossyDirection: Direction {
+pub trait LossyDirection {
+    /// The direction in which the text between ill-formed sequences is written.
+    type Text: Direction;
+
     // The items and the tail of any bytes, and the code points that are written for them.
     ghost parts: { Decomposition };
+
+    // The bytes of such a code point in the second encoding.
+    ghost into: { ℕ → List ℕ };
 
     /// Writes the replacement of the ill-formed sequence at the start of the input to the start of
     /// a buffer. It may also write what is certain of the bytes after it. Returns `None` if the
@@ -27,12 +33,12 @@ pub trait LossyDirection: Direction {
     /// The input begins with an ill-formed sequence of `len` bytes.
     fn write_ill_formed(input: &[u8], len: u8, to: &mut [u8]) -> Option<Moved>
         requires some { 0 < length input.now }
-        requires ill_formed { Self.IsIllFormedAt input.now (Some len) }
+        requires ill_formed { Self.Text.IsIllFormedAt input.now (Some len) }
         ensures decodes { IfSome result (λ done.
-            DecodesAsTo parts Self.into input.now to.new done.read done.written) }
+            DecodesAsTo parts into input.now to.new done.read done.written) }
         ensures advances { IfSome result (λ done. 0 < done.read) }
         ensures none { result ≡ None
-            → TextDoesNotFit Self.into (decided parts input.now) (length to.new) };
+            → TextDoesNotFit into (decided parts input.now) (length to.new) };
 
     /// Writes the replacement of a tail at the end of the input at `at`, and returns where it ends,
     /// or `None` if it does not fit. All other bytes of the buffer are unchanged.
@@ -44,10 +50,10 @@ pub trait LossyDirection: Direction {
         requires { at ≤ length to.old }
         ensures within { IfSome result (λ end. end ≤ length to.new) }
         ensures bytes { IfSome result (λ end.
-            take end to.new ≡ take at to.old ++ flat_map Self.into (parts.at_end tail.now)) }
+            take end to.new ≡ take at to.old ++ flat_map into (parts.at_end tail.now)) }
         ensures rest { IfSome result (λ end. drop end to.new ≡ drop end to.old) }
         ensures none { result ≡ None
-            → length to.new - at < length (flat_map Self.into (parts.at_end tail.now)) }
+            → length to.new - at < length (flat_map into (parts.at_end tail.now)) }
         ensures unchanged { result ≡ None → to.new ≡ to.old };
 
     /// States what the proofs of lossy calls and of a stream need, and does nothing. Bytes may come
@@ -56,14 +62,14 @@ pub trait LossyDirection: Direction {
     /// reason.
     fn lossy_laws()
         ensures chunks { IsSplitInChunks parts }
-        ensures short { (c : ℕ) → length (Self.into c) ≤ 4 }
+        ensures short { (c : ℕ) → length (into c) ≤ 4 }
         ensures text { (input to : List ℕ) (n w : ℕ)
-            → Wrote (Gives Self.IsValid Self.other) input to n w
-            → DecodesAsTo parts Self.into input to n w }
+            → Wrote (Gives Self.Text.IsValid Self.Text.other) input to n w
+            → DecodesAsTo parts into input to n w }
         ensures stops { (input : List ℕ) (n left : ℕ) (stop : Stop)
             → ((len : ℕ) → ¬ (stop ≡ IllFormed len))
-            → Stops Self.from Self.into Self.IsIllFormed input n left stop
-            → StopsLossyAs parts Self.into (drop n input) left stop }
-        ensures there { (input : List ℕ) (n len : ℕ) → Self.IsIllFormed input n (Some len)
-            → (n < length input) × Self.IsIllFormedAt (drop n input) (Some len) };
+            → Stops Self.Text.from Self.Text.into Self.Text.IsIllFormed input n left stop
+            → StopsLossyAs parts into (drop n input) left stop }
+        ensures there { (input : List ℕ) (n len : ℕ) → Self.Text.IsIllFormed input n (Some len)
+            → (n < length input) × Self.Text.IsIllFormedAt (drop n input) (Some len) };
 }

@@ -22,7 +22,7 @@ pub fn transcode_partial<D: LossyDirection>(input: &[u8], to: &mut [u8]) -> Prog
     let mut read = 0;
     let mut written = 0;
     loop {
-        let front = transcode::<D>(&input[read..], &mut to[written..]);
+        let front = transcode::<D::Text>(&input[read..], &mut to[written..]);
         read += front.read;
         written += front.written;
         let Stop::IllFormed(len) = front.stop else {

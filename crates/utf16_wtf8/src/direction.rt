@@ -1,16 +1,12 @@
-//! The direction from UTF-16 to WTF-8. It is the one to UTF-8, except that an unpaired surrogate is
-//! written as itself.
+//! The direction from UTF-16 to WTF-8: text is written as in UTF-8, and an unpaired surrogate as
+//! itself.
 
-ghost use Rattle.std.specs.Prelude.{◌+◌, ◌*◌, ◌/◌};
-ghost use Rattle.utf16_units.specs.Encoding.{char_bytes, IsUtf16, utf8_of};
-ghost use Rattle.utf16_units.specs.IllFormed.{IsIllFormedAt};
-ghost use Rattle.utf16_transcode.specs.Stops.{IsIllFormedUtf16};
 ghost use Rattle.utf16_wtf8.specs.ToWtf8.{wtf8_parts};
 ghost use Rattle.utf16_wtf8.specs.Wtf8.{generalized_utf8};
 
 use crate::code_point::write_unit;
 use std::marker::PhantomData;
-use utf16_transcode::{Direction, LossyDirection, Moved, ToUtf8};
+use utf16_transcode::{LossyDirection, Moved, ToUtf8};
 use utf16_units::Utf16Order;
 
 /// The direction from UTF-16 in byte order `E`, which may have unpaired surrogates, to WTF-8. As a
@@ -18,71 +14,12 @@ use utf16_units::Utf16Order;
 /// `finish_wtf8`: `Stream::finish` would leave out a last odd byte.
 pub struct ToWtf8<E: Utf16Order>(PhantomData<E>);
 
-impl<E: Utf16Order> Direction for ToWtf8<E> {
-    const FRONT_LEN: usize = ToUtf8::<E>::FRONT_LEN;
+impl<E: Utf16Order> LossyDirection for ToWtf8<E> {
+    type Text = ToUtf8<E>;
 
-    ghost from = { char_bytes E.BIG };
+    ghost parts = { wtf8_parts E.BIG };
 
     ghost into = { generalized_utf8 };
-
-    ghost IsValid = { IsUtf16 E.BIG };
-
-    ghost other = { λ raw. utf8_of E.BIG raw };
-
-    ghost IsIllFormedAt = { IsIllFormedAt E.BIG };
-
-    ghost IsIllFormed = { IsIllFormedUtf16 E.BIG };
-
-    ghost room_for = { λ n. n / 2 * 3 + 128 };
-
-    #[inline(always)]
-    fn laws() {
-        ToUtf8::<E>::laws();
-    }
-
-    #[inline(always)]
-    fn valid_len(bytes: &[u8]) -> usize {
-        ToUtf8::<E>::valid_len(bytes)
-    }
-
-    #[inline(always)]
-    fn first_char(rest: &[u8]) -> Result<(char, usize), Option<u8>> {
-        ToUtf8::<E>::first_char(rest)
-    }
-
-    #[inline(always)]
-    fn begin(input: &[u8], to: &mut [u8]) -> Moved {
-        ToUtf8::<E>::begin(input, to)
-    }
-
-    #[inline(always)]
-    fn write_char(c: char, to: &mut [u8], at: usize) -> Option<usize> {
-        ToUtf8::<E>::write_char(c, to, at)
-    }
-
-    #[inline(always)]
-    fn fitting_prefix(text: &[u8], written: &[u8], room: usize) -> Moved {
-        ToUtf8::<E>::fitting_prefix(text, written, room)
-    }
-
-    #[inline(always)]
-    fn surely_fit(room: usize) -> usize {
-        ToUtf8::<E>::surely_fit(room)
-    }
-
-    #[inline(always)]
-    fn write(text: &[u8], to: &mut [u8]) -> usize {
-        ToUtf8::<E>::write(text, to)
-    }
-
-    #[inline(always)]
-    fn write_front(rest: &[u8], to: &mut [u8]) -> Moved {
-        ToUtf8::<E>::write_front(rest, to)
-    }
-}
-
-impl<E: Utf16Order> LossyDirection for ToWtf8<E> {
-    ghost parts = { wtf8_parts E.BIG };
 
     #[inline(always)]
     fn lossy_laws() {}

@@ -6,7 +6,7 @@ use Rattle.uses_buffers.proofs.small_buffer.lossy_through.Goals as goal
 
 pub loop-all-smaller : goal.loop-all-smaller
 loop-all-smaller g c =
-    let into = g.D.Direction.into in
+    let into = g.D.LossyDirection.into in
     let text = g.D.LossyDirection.parts.whole in
     let rest = c.loop-all.rest.now in
     let call = c.transcode_lossy-progress in

@@ -17,7 +17,7 @@ loop-all-preserved g c =
 pub loop-all-smaller : goal.loop-all-smaller
 loop-all-smaller g c =
     let parts = g.D.LossyDirection.parts in
-    let into = g.D.Direction.into in
+    let into = g.D.LossyDirection.into in
     let call = c.transcode_partial-progress in
     let grown : vec_items c.extend_from_slice.new.self ≡ vec_items c.loop-all.all ++ take call.result.written call.new.to = search rules in
     let room : 4 ≤ length call.new.to = omega arith in

@@ -10,7 +10,7 @@ use Rattle.uses_buffers.proofs.small_buffer.stream_through.Goals as goal
 pub loop-chunk-preserved : goal.loop-chunk-preserved
 loop-chunk-preserved g c =
     let parts = g.D.LossyDirection.parts in
-    let into = g.D.Direction.into in
+    let into = g.D.LossyDirection.into in
     let front = flat_map vec_items (take c.loop-chunk.chunk-index c.args.chunks.now) in
     let more = joined-more vec_items c.args.chunks.now c.loop-chunk.chunk-index c.chunk-item.result c.loop-chunk-test.true c.chunk-item.is in
     let same = c.deref.ensures.value in
@@ -32,7 +32,7 @@ loop-chunk-preserved g c =
 pub returns : goal.returns
 returns g c =
     let parts = g.D.LossyDirection.parts in
-    let into = g.D.Direction.into in
+    let into = g.D.LossyDirection.into in
     let call = c.finish-progress in
     let chunks = take_all c.loop-chunk.chunk-index c.args.chunks.now c.loop-chunk-test.false in
     let room : 4 ≤ length call.new.to = omega arith in

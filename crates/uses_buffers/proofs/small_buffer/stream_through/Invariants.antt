@@ -10,4 +10,4 @@ abbrev pub invariant-loop-chunk : goal.invariant-loop-chunk
 invariant-loop-chunk g l =
     let parts = g.D.LossyDirection.parts in
     let front = flat_map vec_items (take l.chunk-index l.chunks) in
-    (4 ≤ length l.buffer) × (vec_items l.all ≡ flat_map g.D.Direction.into (decided parts front)) × (stream_pending l.stream ≡ parts.tail front)
+    (4 ≤ length l.buffer) × (vec_items l.all ≡ flat_map g.D.LossyDirection.into (decided parts front)) × (stream_pending l.stream ≡ parts.tail front)

@@ -9,5 +9,5 @@ returns-in-None-clause-stop g c =
     let parts = g.D.LossyDirection.parts in
     let cut = subst (StopsLossyAs parts _ _ _) c.in-Incomplete.is c.transcode_partial-front.ensures.stop in
     end_does_not_fit parts _ c.lossy_laws.ensures.chunks _ _ cut.1
-    (subst (λ tail. length c.write_end.new.to - c.transcode_partial-front.result.written < length (flat_map g.D.Direction.into (parts.at_end tail)))
+    (subst (λ tail. length c.write_end.new.to - c.transcode_partial-front.result.written < length (flat_map g.D.LossyDirection.into (parts.at_end tail)))
     (take_rest c.args.input.now c.transcode_partial-front.result.read) (c.write_end.ensures.none c.in-None.is))

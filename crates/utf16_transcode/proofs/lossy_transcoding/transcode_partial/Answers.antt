@@ -13,7 +13,7 @@ loop-len-init g c = DecodesTo-none _ _ _ _
 
 -- the text that was written is decoded
 after : (g : Over) (c : After-transcode-front g)
-    → DecodesAsTo g.D.LossyDirection.parts g.D.Direction.into c.args.input.now
+    → DecodesAsTo g.D.LossyDirection.parts g.D.LossyDirection.into c.args.input.now
     (put_mid c.loop-len.written (length c.loop-len.to - c.loop-len.written) c.loop-len.to c.transcode-front.new.to)
     (c.loop-len.read + c.transcode-front.result.read) (c.loop-len.written + c.transcode-front.result.written)
 after g c =
@@ -30,9 +30,9 @@ returns-in_default g c = record {
 }
 
 -- the ill-formed sequence after it
-found : (g : Over) (c : In-IllFormed g) → g.D.Direction.IsIllFormed (rest_from c.args.input.now c.loop-len.read) c.transcode-front.result.read (Some c.in-IllFormed.len)
+found : (g : Over) (c : In-IllFormed g) → g.D.Text.Direction.IsIllFormed (rest_from c.args.input.now c.loop-len.read) c.transcode-front.result.read (Some c.in-IllFormed.len)
 found g c =
-    subst (Stops g.D.Direction.from g.D.Direction.into g.D.Direction.IsIllFormed (rest_from c.args.input.now c.loop-len.read) c.transcode-front.result.read
+    subst (Stops g.D.Text.Direction.from g.D.Text.Direction.into g.D.Text.Direction.IsIllFormed (rest_from c.args.input.now c.loop-len.read) c.transcode-front.result.read
     (length c.transcode-front.new.to - c.transcode-front.result.written)) c.in-IllFormed.is c.transcode-front.ensures.stop
 
 pub write_ill_formed-requires-clause-some : goal.write_ill_formed-requires-clause-some
@@ -42,7 +42,7 @@ write_ill_formed-requires-clause-some g c =
 
 pub write_ill_formed-requires-clause-ill_formed : goal.write_ill_formed-requires-clause-ill_formed
 write_ill_formed-requires-clause-ill_formed g c =
-    subst (λ b. g.D.Direction.IsIllFormedAt b (Some c.in-IllFormed.len)) (rest_after c.args.input.now c.loop-len.read c.transcode-front.result.read)
+    subst (λ b. g.D.Text.Direction.IsIllFormedAt b (Some c.in-IllFormed.len)) (rest_after c.args.input.now c.loop-len.read c.transcode-front.result.read)
     (c.lossy_laws.ensures.there _ _ _ (found g (goal.at.write_ill_formed-requires-clause-ill_formed g c).In-IllFormed)).1
 
 pub returns-in_default-write_ill_formed-clause-decodes : goal.returns-in_default-write_ill_formed-clause-decodes
