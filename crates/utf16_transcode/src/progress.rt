@@ -17,9 +17,10 @@ pub enum Stop {
     NoSpace,
 }
 
-/// How much a call read and wrote, and why it stopped. Offsets and lengths are in bytes.
+/// How much a call read and wrote, and why it stopped. Offsets and lengths are in bytes. A call that
+/// can stop for other reasons than those of `Stop` has a type for them as `S`.
 #[derive(Clone, Copy, Debug, PartialEq, Eq)]
-pub struct Progress {
+pub struct Progress<S = Stop> {
     /// The number of bytes of the input that were read: whole characters, and in a lossy call the
     /// ill-formed sequences among them.
     pub read: usize,
@@ -27,7 +28,7 @@ pub struct Progress {
     /// encoding. The bytes after them are unspecified.
     pub written: usize,
     /// Why the call stopped.
-    pub stop: Stop,
+    pub stop: S,
 }
 
 /// Writes bytes at `at`, and returns where they end.
