@@ -96,14 +96,10 @@ fn low_bytes(units: u16x32) -> u8x32
     units.cast::<u8>()
 }
 
-/// Returns the number of bytes before the first byte that is not ASCII, or of all bytes if all are
-/// ASCII.
-///
-/// # Precondition
-///
-/// There are at most sixty-four bytes.
+// Returns the number of bytes before the first byte that is not ASCII, or of all bytes if all are
+// ASCII.
 #[inline(always)]
-pub fn ascii_len<const N: usize>(bytes: Simd<u8, N>) -> usize
+pub(crate) fn ascii_len<const N: usize>(bytes: Simd<u8, N>) -> usize
     requires { N ≤ 64 }
     ensures few { result ≤ N }
     ensures ascii { All (λ byte. byte < 0x80) (take result bytes.entry) }

@@ -7,12 +7,12 @@ ghost use Rattle.utf16_transcode.specs.Wrote.{Gives, Joins, Wrote};
 
 use utf16_units::Moved;
 
-/// The number of bytes in a block that passes through a buffer on the stack.
-pub const BLOCK_LEN: usize = 64;
+// The number of bytes in a block that passes through a buffer on the stack.
+pub(crate) const BLOCK_LEN: usize = 64;
 
-/// The length of the buffer on the stack. `Direction::write` needs no more space for a block, and
-/// two blocks also fit.
-pub const BLOCK_ROOM: usize = 260;
+// The length of the buffer on the stack. `Direction::write` needs no more space for a block, and
+// two blocks also fit.
+pub(crate) const BLOCK_ROOM: usize = 260;
 
 /// One of the two directions: how the bytes of the first encoding are validated, and how a text is
 /// written in the second.

@@ -1,16 +1,12 @@
 //! Pending bytes and a chunk after them, as if they were contiguous.
 //!
 //! Only the first four bytes are copied, to an array on the stack: no character is longer, and no
-//! unpaired surrogate with the bytes that decide it. The rest of the chunk is decoded in place.
+//! unpaired surrogate with the bytes that decide it. The rest of the chunk is transcoded in place.
 
 ghost use Rattle.std.specs.Prelude.{◌≡◌, ◌+◌, ◌-◌, ◌≤◌, ◌++◌, length, take, drop};
 
-/// Returns the parts of the pending bytes and of the chunk that follow offset `at`.
-///
-/// # Precondition
-///
-/// `at` is at most the number of pending bytes and bytes of the chunk.
-pub fn rest_of<'a>(pending: &'a [u8], piece: &'a [u8], at: usize) -> (&'a [u8], &'a [u8])
+// Returns the parts of the pending bytes and of the chunk that follow offset `at`.
+pub(crate) fn rest_of<'a>(pending: &'a [u8], piece: &'a [u8], at: usize) -> (&'a [u8], &'a [u8])
     requires { at ≤ length pending.now + length piece.now }
     ensures left { result.0.now ≡ drop at pending.now }
     ensures piece { result.1.now ≡ drop (at - length pending.now) piece.now }
@@ -21,13 +17,9 @@ pub fn rest_of<'a>(pending: &'a [u8], piece: &'a [u8], at: usize) -> (&'a [u8], 
     )
 }
 
-/// Returns the first four bytes of the pending bytes and the chunk, or all of them if there are
-/// fewer, and their number.
-///
-/// # Precondition
-///
-/// At most three bytes are pending.
-pub fn joined_start(pending: &[u8], piece: &[u8]) -> ([u8; 4], usize)
+// Returns the first four bytes of the pending bytes and the chunk, or all of them if there are
+// fewer, and their number.
+pub(crate) fn joined_start(pending: &[u8], piece: &[u8]) -> ([u8; 4], usize)
     requires { length pending.now ≤ 3 }
     ensures few { result.1 ≤ 4 }
     ensures bytes { take result.1 result.0 ≡ take 4 (pending.now ++ piece.now) }

@@ -22,14 +22,12 @@ mod transcoding;
 mod valid;
 mod well_formed;
 
-pub use crate::ascii::ascii_len;
 pub use crate::decode::{ToUtf8, to_utf8};
 pub use crate::decode_lossy::{REPLACEMENT, to_utf8_lossy, to_utf8_partial};
-pub use crate::direction::{BLOCK_LEN, BLOCK_ROOM, Direction};
+pub use crate::direction::Direction;
 pub use crate::encode::{FromUtf8, from_utf8};
 pub use crate::encode_lossy::{from_utf8_lossy, from_utf8_lossy_len, from_utf8_partial};
 pub use crate::encode_stream::{feed_utf8, finish_utf8};
-pub use crate::joined::{joined_start, rest_of};
 pub use crate::lossy_direction::LossyDirection;
 pub use crate::lossy_transcoding::{transcode_lossy, transcode_partial};
 pub use crate::progress::{Progress, Stop, put};
