@@ -48,11 +48,3 @@ pub(crate) fn char_of_four(lead: u8, second: u8, third: u8, fourth: u8) -> char
         + (fourth as u32 - 0x80);
     unsafe { char::from_u32_unchecked(code) }
 }
-
-// Whether a byte can be the third or fourth of a character.
-#[inline(always)]
-pub(crate) fn is_continuation(byte: u8) -> bool
-    ensures { result ≡ is_in_range 0x80 0xBF byte }
-{
-    (0x80..=0xBF).contains(&byte)
-}

@@ -19,6 +19,7 @@ use crate::decode::ToUtf8;
 use crate::lossy_direction::LossyDirection;
 use crate::lossy_transcoding::{transcode_lossy, transcode_partial};
 use crate::progress::{Progress, put};
+use crate::replacement::REPLACEMENT;
 use crate::stream::FEED_SLACK;
 use crate::well_formed::write_well_formed;
 use utf16_to_utf8::{SLACK, write_utf8};
@@ -26,9 +27,6 @@ use utf16_units::{Moved, Utf16Order};
 
 // The shortest run of ASCII with ill-formed sequences, in bytes, that is written without a copy.
 const ASCII_LEN: usize = 128;
-
-/// U+FFFD, the replacement character, in UTF-8.
-pub const REPLACEMENT: [u8; 3] = [0xEF, 0xBF, 0xBD];
 
 /// Writes the text of the bytes in UTF-8 to the start of a buffer, as far as whole characters fit,
 /// with U+FFFD for each unpaired surrogate. An incomplete character at the end is not read. Any

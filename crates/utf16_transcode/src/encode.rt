@@ -16,12 +16,13 @@ ghost use Rattle.utf16_transcode.specs.FromUtf8.{TranscodesToUtf16, IsIllFormedU
 ghost use Rattle.utf16_transcode.specs.Wrote.{Wrote};
 ghost use Rattle.utf16_transcode.specs.Stops.{BeginsWith};
 
-use crate::chars::{char_of_four, char_of_three, char_of_two, is_continuation};
+use crate::chars::{char_of_four, char_of_three, char_of_two};
 use crate::direction::{BLOCK_LEN, Direction};
 use crate::progress::Progress;
 use crate::transcoding::transcode;
 use crate::valid::valid_prefix;
 use std::marker::PhantomData;
+use utf8_bytes::is_continuation;
 use utf16_from_utf8::{SLACK, write_ascii, write_blocks, write_text};
 use utf16_to_utf8::utf8_len;
 use utf16_units::{Moved, Utf16CharExt, Utf16Order, is_trailing_surrogate};
@@ -227,7 +228,7 @@ fn first_len(text: &[u8]) -> usize
     ensures { result ≤ length text.now }
 {
     let mut len = BLOCK_LEN - 1;
-    while len > BLOCK_LEN - 4 && text[len - 1] & 0xC0 == 0x80 {
+    while len > BLOCK_LEN - 4 && is_continuation(text[len - 1]) {
         len -= 1;
     }
     if text[len - 1] < 0xC0 { len } else { len - 1 }

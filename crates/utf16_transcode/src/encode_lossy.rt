@@ -14,11 +14,9 @@ use crate::items::{ITEM_LEN, write_items};
 use crate::lossy_direction::LossyDirection;
 use crate::lossy_transcoding::{transcode_lossy, transcode_partial};
 use crate::progress::{Progress, put};
+use crate::replacement::REPLACEMENT_UNIT;
 use utf16_from_utf8::write_blocks;
 use utf16_units::{Moved, Utf16Order, utf16_len};
-
-// U+FFFD, the replacement character.
-const REPLACEMENT: u16 = 0xFFFD;
 
 // The length of U+FFFD in bytes of UTF-16.
 const REPLACEMENT_LEN: usize = 2;
@@ -47,7 +45,7 @@ fn write_replacement_and_more<E: Utf16Order>(text: &[u8], len: usize, to: &mut [
     ensures decodes { DecodesUtf8To E.BIG text.now to.new result.read result.written }
     ensures some { 0 < result.read }
 {
-    let written = put(&E::write_unit(REPLACEMENT), to, 0);
+    let written = put(&E::write_unit(REPLACEMENT_UNIT), to, 0);
     let more = write_after_ill_formed::<E>(&text[len..], &mut to[written..]);
     Moved {
         read: len + more.read,
@@ -130,7 +128,7 @@ impl<E: Utf16Order> LossyDirection for FromUtf8<E> {
         if to.len() - at < REPLACEMENT_LEN {
             return None;
         }
-        Some(put(&E::write_unit(REPLACEMENT), to, at))
+        Some(put(&E::write_unit(REPLACEMENT_UNIT), to, at))
     }
 }
 

@@ -12,7 +12,7 @@ use crate::progress::Progress;
 use crate::stream::Stream;
 use utf16_units::Utf16Order;
 
-/// Decodes the next chunk and writes the text that is now certain, in UTF-16, to the start of a
+/// Transcodes the next chunk and writes the text that is now certain, in UTF-16, to the start of a
 /// buffer, as far as whole characters fit: the characters, and U+FFFD for each ill-formed sequence,
 /// one for each maximal subpart. `read` counts the bytes of the chunk that were taken. Pass the
 /// same byte order for all chunks of a stream.

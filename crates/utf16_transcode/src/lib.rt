@@ -1,6 +1,6 @@
-//! Conversion between UTF-16 and UTF-8 into buffers that you own, without allocation. Each direction
-//! converts up to the first ill-formed sequence, lossy with U+FFFD for each ill-formed sequence, and
-//! as a stream that comes in chunks. Also the length of each result.
+//! Conversion between UTF-16 and UTF-8 into buffers that you own, without allocation. Each
+//! direction converts up to the first ill-formed sequence, lossy with U+FFFD for each ill-formed
+//! sequence, and as a stream that comes in chunks. Also the length of each result.
 #![tactic(auto)]
 
 mod ascii;
@@ -16,6 +16,7 @@ mod joined;
 mod lossy_direction;
 mod lossy_transcoding;
 mod progress;
+mod replacement;
 mod sizes;
 mod stream;
 mod transcoding;
@@ -23,7 +24,7 @@ mod valid;
 mod well_formed;
 
 pub use crate::decode::{ToUtf8, to_utf8};
-pub use crate::decode_lossy::{REPLACEMENT, to_utf8_lossy, to_utf8_partial};
+pub use crate::decode_lossy::{to_utf8_lossy, to_utf8_partial};
 pub use crate::direction::Direction;
 pub use crate::encode::{FromUtf8, from_utf8};
 pub use crate::encode_lossy::{from_utf8_lossy, from_utf8_lossy_len, from_utf8_partial};
@@ -31,6 +32,7 @@ pub use crate::encode_stream::{feed_utf8, finish_utf8};
 pub use crate::lossy_direction::LossyDirection;
 pub use crate::lossy_transcoding::{transcode_lossy, transcode_partial};
 pub use crate::progress::{Progress, Stop, put};
+pub use crate::replacement::REPLACEMENT;
 pub use crate::sizes::{from_utf8_len, to_utf8_lossy_len};
 pub use crate::stream::{CHUNK_LEN, FEED_SLACK, SHORT_CHUNK, Stream};
 pub use crate::transcoding::transcode;

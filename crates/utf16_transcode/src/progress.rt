@@ -17,8 +17,8 @@ pub enum Stop {
     NoSpace,
 }
 
-/// How much a call read and wrote, and why it stopped. Offsets and lengths are in bytes. A call that
-/// can stop for other reasons than those of `Stop` has a type for them as `S`.
+/// How much a call read and wrote, and why it stopped. Offsets and lengths are in bytes. `S` is the
+/// type of the reasons: `Stop`, unless a call can stop for others.
 #[derive(Clone, Copy, Debug, PartialEq, Eq)]
 pub struct Progress<S = Stop> {
     /// The number of bytes of the input that were read: whole characters, and in a lossy call the

@@ -9,7 +9,7 @@ ghost use Rattle.std.specs.Str.Lossy.{utf8_valid_len};
 ghost use Rattle.utf16_units.specs.Encoding.{size};
 ghost use Rattle.utf16_units.specs.Split.{lossy_text};
 
-use crate::decode_lossy::REPLACEMENT;
+use crate::replacement::REPLACEMENT;
 use utf16_to_utf8::utf8_len;
 use utf16_units::{Utf16Order, utf16_len, validate_raw_utf16};
 

@@ -74,8 +74,8 @@ impl Stream {
         &self.bytes[..(self.len as usize).min(3)]
     }
 
-    /// Decodes the next chunk. Writes what is now certain, in the second encoding, to the start of
-    /// a buffer, as far as whole characters fit: the characters, and the replacement of each
+    /// Transcodes the next chunk. Writes what is now certain, in the second encoding, to the start
+    /// of a buffer, as far as whole characters fit: the characters, and the replacement of each
     /// ill-formed sequence. `read` counts the bytes of the chunk that were taken. Use the same
     /// direction for all chunks of a stream.
     ///
@@ -137,8 +137,8 @@ impl Stream {
     }
 }
 
-// Decodes a chunk after pending bytes, like `feed`. Returns the progress, and the stream with the
-// bytes that are pending afterwards.
+// Transcodes a chunk after pending bytes, like `feed`. Returns the progress, and the stream with
+// the bytes that are pending afterwards.
 fn feed_after<D: LossyDirection>(pending: &[u8], piece: &[u8], to: &mut [u8]) -> (Progress, Stream)
     requires { length pending.now ≤ 3 }
     ensures feeds { FeedsAs D.parts D.into pending.now piece.now (stream_pending result.1) to.new
@@ -152,7 +152,7 @@ fn feed_after<D: LossyDirection>(pending: &[u8], piece: &[u8], to: &mut [u8]) ->
     ensures few { result.1.len ≤ 3 }
 {
     D::lossy_laws();
-    let front = decode_joined::<D>(pending, piece, to);
+    let front = transcode_joined::<D>(pending, piece, to);
     let (pending, rest) = rest_of(pending, piece, front.read);
     if let Stop::NoSpace = front.stop {
         let full = Progress {
@@ -171,9 +171,9 @@ fn feed_after<D: LossyDirection>(pending: &[u8], piece: &[u8], to: &mut [u8]) ->
     (done, Stream::holding(&tail[..len]))
 }
 
-// Decodes pending bytes and a chunk after them like `transcode_partial`, as if they were
+// Transcodes pending bytes and a chunk after them like `transcode_partial`, as if they were
 // contiguous. Four bytes at the chunk boundary pass through a buffer on the stack.
-fn decode_joined<D: LossyDirection>(pending: &[u8], piece: &[u8], to: &mut [u8]) -> Progress
+fn transcode_joined<D: LossyDirection>(pending: &[u8], piece: &[u8], to: &mut [u8]) -> Progress
     requires { length pending.now ≤ 3 }
     ensures decodes { DecodesAsTo D.parts D.into (pending.now ++ piece.now) to.new result.read
         result.written }

@@ -10,11 +10,9 @@ ghost use Rattle.utf16_units.specs.Split.{lossy_chars, lossy_text, split_items, 
 ghost use Rattle.utf16_transcode.specs.Unpaired.{unpaired};
 
 use crate::decode::valid_up_to;
+use crate::replacement::REPLACEMENT_UNIT;
 use utf16_units::laws::are_bytes;
 use utf16_units::{Utf16Order, first_char_len, is_leading_surrogate};
-
-// U+FFFD, the replacement character.
-const REPLACEMENT: u16 = 0xFFFD;
 
 /// Replaces each unpaired surrogate by U+FFFD in place, and returns how many there were. After that
 /// the whole code units are well formed. A leading surrogate at the end is unpaired. An odd byte at
@@ -83,7 +81,7 @@ fn mend<E: Utf16Order>(utf16: &mut [u8]) -> usize
     ensures count { result ≡ unpaired E.BIG utf16.old }
 {
     are_bytes(utf16);
-    let replacement = E::write_unit(REPLACEMENT);
+    let replacement = E::write_unit(REPLACEMENT_UNIT);
     let mut at = 0;
     let mut count = 0;
     while at < utf16.len() {

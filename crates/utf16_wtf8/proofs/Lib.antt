@@ -1,6 +1,6 @@
 pub mod PointLemmas
 pub mod ToWtf8Lemmas
-pub mod FromUnitsLemmas
+pub mod DecodeLemmas
 pub mod CodeLemmas
 pub mod LenLemmas
 pub mod UnitsLemmas

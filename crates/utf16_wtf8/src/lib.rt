@@ -4,13 +4,13 @@
 #![tactic(auto)]
 
 mod code_point;
+mod decode;
 mod direction;
-mod from_units;
+mod encode;
 pub mod laws;
 mod sizes;
-mod to_units;
 
+pub use crate::decode::{finish_wtf8, to_wtf8, to_wtf8_partial};
 pub use crate::direction::ToWtf8;
-pub use crate::from_units::{finish_wtf8, to_wtf8, to_wtf8_partial};
+pub use crate::encode::{from_wtf8, from_wtf8_partial};
 pub use crate::sizes::to_wtf8_len;
-pub use crate::to_units::{from_wtf8, from_wtf8_partial};

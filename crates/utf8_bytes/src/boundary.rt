@@ -1,20 +1,19 @@
 //! Boundaries between characters in any bytes of UTF-8.
 
 ghost use Rattle.std.specs.Prelude.{◌≡◌, ◌↔◌, ◌+◌, ◌<◌, ◌≤◌, ◌⊎◌, ℕ, IsTrue, length};
-ghost use Rattle.utf8_bytes.specs.Boundary.{FollowsThree, IsContinuation, IsCut};
+ghost use Rattle.std.specs.Int.{is_in_range};
+ghost use Rattle.utf8_bytes.specs.Boundary.{FollowsThree, IsCut};
 
-/// Returns whether a byte is a continuation byte, 0x80 to 0xBF.
-fn is_continuation(byte: u8) -> bool
-    ensures { IsTrue result ↔ IsContinuation byte }
+/// Returns whether a byte is a continuation byte, 0x80 to 0xBF: the second, third or fourth of a
+/// character.
+#[inline(always)]
+pub fn is_continuation(byte: u8) -> bool
+    ensures { result ≡ is_in_range 0x80 0xBF byte }
 {
-    byte >= 0x80 && byte < 0xC0
+    (0x80..=0xBF).contains(&byte)
 }
 
-/// Returns whether the three bytes before an offset are continuation bytes.
-///
-/// # Precondition
-///
-/// The offset is at most the length.
+// Whether the three bytes before an offset are continuation bytes.
 fn follows_three(utf8: &[u8], at: usize) -> bool
     requires within { at ≤ length utf8.now }
     ensures { IsTrue result ↔ FollowsThree utf8.now at }

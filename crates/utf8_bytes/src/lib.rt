@@ -6,4 +6,4 @@ mod boundary;
 pub mod cut_laws;
 pub mod laws;
 
-pub use crate::boundary::{floor_char_boundary, is_char_boundary};
+pub use crate::boundary::{floor_char_boundary, is_char_boundary, is_continuation};

@@ -7,8 +7,8 @@ use Rattle.utf16_transcode.proofs.stream.feed_after.Goals.{After-joined_start-le
 
 pub returns-in-NoSpace : goal.returns-in-NoSpace
 returns-in-NoSpace g c =
-    let front = c.decode_joined-front.ensures.decodes in
-    let full = subst (StopsLossyAs g.D.LossyDirection.parts _ _ _) c.in-NoSpace.is c.decode_joined-front.ensures.stop in
+    let front = c.transcode_joined-front.ensures.decodes in
+    let full = subst (StopsLossyAs g.D.LossyDirection.parts _ _ _) c.in-NoSpace.is c.transcode_joined-front.ensures.stop in
     let read = ap (λ r. length c.args.piece.now - length r) c.rest_of.ensures.piece in
     let left = c.holding.ensures.pending ∙ c.rest_of.ensures.left in
     record {
@@ -21,16 +21,16 @@ returns-in-NoSpace g c =
 
 module _ (g : Over) (c : After-joined_start-len g) where
   abbrev rest : List ℕ
-  rest = drop c.decode_joined-front.result.read (c.args.pending.now ++ c.args.piece.now)
+  rest = drop c.transcode_joined-front.result.read (c.args.pending.now ++ c.args.piece.now)
 
   undecided : g.D.LossyDirection.parts.tail rest ≡ rest
-  undecided = rest_undecided g.D.LossyDirection.parts _ c.lossy_laws.ensures.chunks _ _ c.decode_joined-front.result.stop c.in_default.not-NoSpace c.decode_joined-front.ensures.stop
+  undecided = rest_undecided g.D.LossyDirection.parts _ c.lossy_laws.ensures.chunks _ _ c.transcode_joined-front.result.stop c.in_default.not-NoSpace c.transcode_joined-front.ensures.stop
 
   both : c.rest_of.result.0.now ++ c.rest_of.result.1.now ≡ rest
-  both = ap₂ (λ h p. h ++ p) c.rest_of.ensures.left c.rest_of.ensures.piece ∙ join_drop c.args.pending.now c.args.piece.now c.decode_joined-front.result.read
+  both = ap₂ (λ h p. h ++ p) c.rest_of.ensures.left c.rest_of.ensures.piece ∙ join_drop c.args.pending.now c.args.piece.now c.transcode_joined-front.result.read
 
   few : length (c.rest_of.result.0.now ++ c.rest_of.result.1.now) ≤ 3
-  few = subst (λ b. length b ≤ 3) (sym both) (few_left g.D.LossyDirection.parts _ c.lossy_laws.ensures.chunks c.args.pending.now c.args.piece.now _ _ _ c.decode_joined-front.ensures.decodes undecided)
+  few = subst (λ b. length b ≤ 3) (sym both) (few_left g.D.LossyDirection.parts _ c.lossy_laws.ensures.chunks c.args.pending.now c.args.piece.now _ _ _ c.transcode_joined-front.ensures.decodes undecided)
 
   tail : take c.joined_start-len.result.1 c.joined_start-len.result.0 ≡ c.rest_of.result.0.now ++ c.rest_of.result.1.now
   tail = c.joined_start-len.ensures.bytes ∙ take_all 4 _ (omega (arith, few))
@@ -43,7 +43,7 @@ holding-requires-2 g c =
 pub returns : goal.returns
 returns g c =
     let before = (goal.at.returns g c).After-joined_start-len in
-    let front = c.decode_joined-front.ensures.decodes in
+    let front = c.transcode_joined-front.ensures.decodes in
     let pending = c.holding-2.ensures.pending ∙ tail g before ∙ both g before in
     record {
       feeds = Feeds-done g.D.LossyDirection.parts _ c.lossy_laws.ensures.chunks _ _ _ _ _ front (undecided g before) _ pending;

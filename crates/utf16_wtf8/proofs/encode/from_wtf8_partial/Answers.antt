@@ -3,9 +3,9 @@ use Rattle.utf16_transcode.specs.declared.progress.Stop.TheVariants.{Incomplete}
 use Rattle.utf16_wtf8.specs.FromWtf8.{EndsLeading, ReadsWtf8}
 use Rattle.utf16_wtf8.proofs.FewLemmas.{few_left}
 use Rattle.utf16_wtf8.proofs.PartialLemmas.{Wrote-before, ended, ends_as_read, leaves_leading, stops_kept, three_read, two_written}
-use Rattle.utf16_wtf8.proofs.to_units.from_wtf8_partial.Given.{Over}
-use Rattle.utf16_wtf8.proofs.to_units.from_wtf8_partial.Goals as goal
-use Rattle.utf16_wtf8.proofs.to_units.from_wtf8_partial.Goals.{In-Done}
+use Rattle.utf16_wtf8.proofs.encode.from_wtf8_partial.Given.{Over}
+use Rattle.utf16_wtf8.proofs.encode.from_wtf8_partial.Goals as goal
+use Rattle.utf16_wtf8.proofs.encode.from_wtf8_partial.Goals.{In-Done}
 
 pub returns-then-not-after_leading-clause-stop : goal.returns-then-not-after_leading-clause-stop
 returns-then-not-after_leading-clause-stop g c =

@@ -1,6 +1,6 @@
 use Rattle.std.proofs.Common.{◌-◌, ◌++◌, length}
 use Rattle.utf16_transcode.specs.Wrote.{DecodesAsTo}
-use Rattle.utf16_transcode.proofs.stream.decode_joined.Given as goal
+use Rattle.utf16_transcode.proofs.stream.transcode_joined.Given as goal
 
 -- what was read so far is decoded and written
 abbrev pub invariant-loop-read : goal.invariant-loop-read

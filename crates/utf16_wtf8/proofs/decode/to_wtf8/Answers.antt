@@ -4,11 +4,11 @@ use Rattle.utf16_units.specs.Split.{split_tail}
 use Rattle.utf16_transcode.proofs.WholeLemmas.{end_does_not_fit}
 use Rattle.utf16_wtf8.specs.ToWtf8.{DecodesToWtf8, StopsBeforeTail, StopsToWtf8, tail_points, wtf8_parts}
 use Rattle.utf16_wtf8.specs.Wtf8.{generalized_utf8}
-use Rattle.utf16_wtf8.proofs.FromUnitsLemmas.{ShowsWhole-certain, ShowsWhole-tail, all_left, odd_left, stops_certain}
+use Rattle.utf16_wtf8.proofs.DecodeLemmas.{ShowsWhole-certain, ShowsWhole-tail, all_left, odd_left, stops_certain}
 use Rattle.utf16_wtf8.proofs.ToWtf8Lemmas.{wtf8_chunks}
-use Rattle.utf16_wtf8.proofs.from_units.to_wtf8.Given.{Over}
-use Rattle.utf16_wtf8.proofs.from_units.to_wtf8.Goals as goal
-use Rattle.utf16_wtf8.proofs.from_units.to_wtf8.Goals.{In-Incomplete, then-tail-eq2, else-tail-eq2}
+use Rattle.utf16_wtf8.proofs.decode.to_wtf8.Given.{Over}
+use Rattle.utf16_wtf8.proofs.decode.to_wtf8.Goals as goal
+use Rattle.utf16_wtf8.proofs.decode.to_wtf8.Goals.{In-Incomplete, then-tail-eq2, else-tail-eq2}
 
 pub returns-in_default : goal.returns-in_default
 returns-in_default g c =

@@ -1,6 +1,6 @@
 use Rattle.std.proofs.Common.{◌-◌, length}
 use Rattle.utf16_wtf8.specs.FromWtf8.{ReadsWtf8}
-use Rattle.utf16_wtf8.proofs.to_units.transcode_wtf8.Given as goal
+use Rattle.utf16_wtf8.proofs.encode.transcode_wtf8.Given as goal
 
 -- what was read so far is WTF-8, and its UTF-16 is written
 abbrev pub invariant-loop-after_leading : goal.invariant-loop-after_leading

@@ -2,9 +2,9 @@ use Rattle.std.proofs.Common.{◌+◌, ◌-◌, ◌∙◌, arith, eq-eqb, length
 use borrow.Rule.Slice.PartMut.{put_mid}
 use Rattle.utf16_wtf8.specs.FromWtf8.{ReadsWtf8}
 use Rattle.utf16_wtf8.proofs.FromWtf8Lemmas.{Reads-surrogate, Reads-text, short_of, stops_after, stops_after_text, surrogate_does_not_fit}
-use Rattle.utf16_wtf8.proofs.to_units.transcode_wtf8.Given.{Over}
-use Rattle.utf16_wtf8.proofs.to_units.transcode_wtf8.Goals as goal
-use Rattle.utf16_wtf8.proofs.to_units.transcode_wtf8.Goals.{After-begins_surrogate, then-after_leading, else-after_leading}
+use Rattle.utf16_wtf8.proofs.encode.transcode_wtf8.Given.{Over}
+use Rattle.utf16_wtf8.proofs.encode.transcode_wtf8.Goals as goal
+use Rattle.utf16_wtf8.proofs.encode.transcode_wtf8.Goals.{After-begins_surrogate, then-after_leading, else-after_leading}
 
 -- the text was read and written
 after : (g : Over) (c : After-begins_surrogate g)

@@ -1,7 +1,7 @@
 use Rattle.std.proofs.Common.{sym, ◌∙◌, true≢false}
 use Rattle.utf16_wtf8.proofs.SurrogateLemmas.{cut_off_surrogate, no_third, paired_surrogate, surrogate_here}
-use Rattle.utf16_wtf8.proofs.to_units.first_surrogate.Goals as goal
-use Rattle.utf16_wtf8.proofs.to_units.first_surrogate.Goals.{else-after_leading-via-then-after_leading+else-is_trailing_surrogate, else-after_leading-via-else-after_leading}
+use Rattle.utf16_wtf8.proofs.encode.first_surrogate.Goals as goal
+use Rattle.utf16_wtf8.proofs.encode.first_surrogate.Goals.{else-after_leading-via-then-after_leading+else-is_trailing_surrogate, else-after_leading-via-else-after_leading}
 
 pub returns-then-rest-lt-SURROGATE_LEN-clause-stop :
     goal.returns-then-rest-lt-SURROGATE_LEN-clause-stop

@@ -1,11 +1,11 @@
 //! WTF-8 to UTF-16: text as UTF-8, and surrogates where that stops.
 
 ghost use Rattle.std.specs.Prelude.{◌≡◌, ◌+◌, ◌-◌, ◌≤◌, true, IfErr, IfOk, length};
-ghost use Rattle.std.specs.Int.{is_in_range};
 ghost use Rattle.utf16_transcode.specs.Wrote.{Wrote};
 ghost use Rattle.utf16_transcode.specs.declared.progress.Stop.TheVariants.{Incomplete};
 ghost use Rattle.utf16_wtf8.specs.FromWtf8.{BeginsWithSurrogate, ReadsWtf8, StopsAfter, StopsFromWtf8, StopsFromWtf8Partial, TranscodesFromWtf8, surrogate_begins};
 
+use utf8_bytes::is_continuation;
 use utf16_transcode::{Progress, Stop, from_utf8, put};
 use utf16_units::{Utf16Order, is_leading_surrogate, is_trailing_surrogate};
 
@@ -136,11 +136,4 @@ fn first_surrogate(rest: &[u8], after_leading: bool) -> Result<u16, Stop>
         return Err(Stop::IllFormed(3));
     }
     Ok(unit)
-}
-
-// Whether a byte can be the third of a surrogate.
-fn is_continuation(byte: u8) -> bool
-    ensures { result ≡ is_in_range 0x80 0xBF byte }
-{
-    (0x80..=0xBF).contains(&byte)
 }

@@ -1,8 +1,8 @@
 use Rattle.std.proofs.Common.{◌≡◌, ◌⊎◌, ◌≤◌, inl, inr, [], ◌++◌, length, drop, refl, rules}
 use Rattle.utf16_transcode.specs.declared.progress.Stop.TheVariants.{NoSpace}
 use Rattle.utf16_transcode.proofs.StreamSteps.{DecodesTo-window, piece_joined, start_joined, start_stops, stops_window}
-use Rattle.utf16_transcode.proofs.stream.decode_joined.Goals as goal
-use Rattle.utf16_transcode.proofs.stream.decode_joined.Goals.{then-front-eq0-via-else-front-eq0+then-eq, then-front-eq0-via-then-front-eq0}
+use Rattle.utf16_transcode.proofs.stream.transcode_joined.Goals as goal
+use Rattle.utf16_transcode.proofs.stream.transcode_joined.Goals.{then-front-eq0-via-else-front-eq0+then-eq, then-front-eq0-via-then-front-eq0}
 
 pub returns-then-front-eq0-clause-decodes : goal.returns-then-front-eq0-clause-decodes
 returns-then-front-eq0-clause-decodes g c =
